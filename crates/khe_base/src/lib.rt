@@ -1,0 +1,18 @@
+//! What every layer of the engine stands on: texts and lists that contracts see as plain lists,
+//! numbers with a type of their own, costs, totals, and the limits of an instance.
+#![tactic(auto)]
+
+mod costs;
+pub mod limits;
+mod memory;
+mod numbers;
+mod sequences;
+mod sums;
+mod texts;
+
+pub use costs::{CostFn, cost};
+pub use memory::NoMemory;
+pub use numbers::{EventId, GroupId, MeetId, MonitorId, ResourceId, TaskId, TimeId};
+pub use sequences::Seq;
+pub use sums::Totals;
+pub use texts::Text;
