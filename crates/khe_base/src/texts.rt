@@ -1,5 +1,6 @@
-ghost use Rattle.std.specs.Prelude.{◌≡◌, ◌++◌, [], OnOk, OnErr, IfOk, encode_utf8_all};
-ghost use Rattle.khe_base.specs.Text.{characters};
+ghost use Rattle.std.specs.Prelude.{◌≡◌, ◌++◌, ◌∷◌, [], OnOk, OnErr, IfOk, encode_utf8_all};
+ghost use Rattle.std.specs.Fmt.{decimal};
+ghost use Rattle.khe_base.specs.Text.{characters, IsAsciiText};
 
 use crate::NoMemory;
 use std::alloc::Global;
@@ -53,5 +54,41 @@ impl Text {
     {
         self.items.push_str(text)?;
         Ok(())
+    }
+
+    /// Adds one character at the end. Where memory is refused, the text stays as it was.
+    pub fn push(&mut self, character: char) -> Result<(), NoMemory>
+        ensures ok { OnOk result (self.new ≡ self.old ++ character ∷ []) }
+        ensures err { OnErr result (self.new ≡ self.old) }
+    {
+        self.items.push(character)?;
+        Ok(())
+    }
+
+    /// Adds a text of ASCII characters, whose bytes are its characters. Where memory is refused,
+    /// the text stays as it was.
+    pub fn push_literal(&mut self, text: &str) -> Result<(), NoMemory>
+        requires ascii { IsAsciiText text.now }
+        ensures ok { OnOk result (self.new ≡ self.old ++ text.now) }
+        ensures err { OnErr result (self.new ≡ self.old) }
+    {
+        self.push_str(text)
+    }
+
+    /// Adds a text at the end. Where memory is refused, the text stays as it was.
+    pub fn push_text(&mut self, text: &Text) -> Result<(), NoMemory>
+        ensures ok { OnOk result (self.new ≡ self.old ++ text.now) }
+        ensures err { OnErr result (self.new ≡ self.old) }
+    {
+        self.push_str(text.as_str())
+    }
+
+    /// Adds a number in decimal digits. Where memory is refused, the text stays as it was.
+    pub fn push_number(&mut self, number: u128) -> Result<(), NoMemory>
+        ensures ok { OnOk result (self.new ≡ self.old ++ decimal number) }
+        ensures err { OnErr result (self.new ≡ self.old) }
+    {
+        let mut digits = itoa::Buffer::new();
+        self.push_str(digits.format(number))
     }
 }

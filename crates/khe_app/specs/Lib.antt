@@ -1,0 +1,7 @@
+pub mod Deviation
+pub mod FirstForm
+pub mod Lines
+pub mod Outcome
+pub mod Report
+pub mod Resolved
+pub mod Words
