@@ -63,5 +63,5 @@ monitor_cost meets m = cost_of m.constraint.cost m.constraint.weight (deviation 
 abbrev pub totals : List Meet → List Monitor → Totals
 totals meets ms = record {
   hard = sum_by (monitor_cost meets) (filter (λ m. m.constraint.required) ms);
-  soft = sum_by (monitor_cost meets) (filter (λ m. not m.constraint.required) ms)
+  soft = sum_by (monitor_cost meets) (filter (λ m. not m.constraint.required) ms);
 }

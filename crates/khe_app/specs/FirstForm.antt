@@ -79,7 +79,7 @@ value_after before (c ∷ more) = value_after (before * 10 + (c - 48)) more
 abbrev pub number_between : ℕ → ℕ → List ℕ → Option ℕ
 number_between least greatest bytes =
     if list_all is_digit bytes && nat_lt 0 (length bytes) && nat_le (length bytes) 10
-      && nat_le least (value_after 0 bytes) && nat_le (value_after 0 bytes) greatest
+    && nat_le least (value_after 0 bytes) && nat_le (value_after 0 bytes) greatest
     then Some (value_after 0 bytes) else None
 
 abbrev pub truth_of : List ℕ → Option Bool
@@ -171,7 +171,7 @@ abbrev pub archive : Info → Forest → Option Archive
 archive i kids =
     if is_plain (codes "HighSchoolTimetableArchive") i
     then then_row (around_one (codes "Instances") instance) kids (λ a kids. then_row (around_one (codes "SolutionGroups") group) kids (λ g kids.
-      at_end kids (record { instance = a; group = g })))
+    at_end kids (record { instance = a; group = g })))
     else None
 
 -- the archive that a tree says, where it has the first form's elements

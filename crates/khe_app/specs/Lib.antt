@@ -1,7 +1,1 @@
-pub mod Deviation
-pub mod FirstForm
 pub mod Lines
-pub mod Outcome
-pub mod Report
-pub mod Resolved
-pub mod Words

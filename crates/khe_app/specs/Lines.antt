@@ -21,12 +21,17 @@ abbrev pub hardness : Bool → List ℕ
 hardness true = codes " hard "
 hardness false = codes " soft "
 
+-- the end of a monitor's line
+abbrev pub cost_end : ℕ → Bool → ℕ → List ℕ
+cost_end deviation required cost =
+    codes " deviation " ++ decimal deviation ++ hardness required ++ decimal cost ++ codes "\n"
+
 -- an Assign Time monitor at an event: its number, its constraint's Id, its event's Id, its
 -- deviation, and its cost
 abbrev pub monitor_line : ℕ → List ℕ → List ℕ → ℕ → Bool → ℕ → List ℕ
 monitor_line number constraint event deviation required cost =
     codes "monitor " ++ decimal number ++ codes " AssignTime " ++ quoted constraint ++ codes " event " ++ quoted event
-    ++ codes " deviation " ++ decimal deviation ++ hardness required ++ decimal cost ++ codes "\n"
+    ++ cost_end deviation required cost
 
 abbrev pub total_line : Totals → List ℕ
 total_line t = codes "total hard " ++ decimal t.hard ++ codes " soft " ++ decimal t.soft ++ codes "\n"

@@ -14,7 +14,7 @@ abbrev pub monitor_text : RawInstance → List Meet → ℕ × Monitor → List 
 monitor_text inst meets (number, m) =
     if deviation meets m.event == 0 then []
     else monitor_line number m.constraint.id (slice_index_or (event_ids inst) m.event []) (deviation meets m.event)
-      m.constraint.required (monitor_cost meets m)
+    m.constraint.required (monitor_cost meets m)
 
 -- the lines of a completed solution's monitors, and its totals
 abbrev pub evaluation : RawInstance → List Meet → List ℕ
