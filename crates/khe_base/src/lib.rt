@@ -5,6 +5,7 @@
 mod costs;
 pub mod limits;
 mod memory;
+mod names;
 mod numbers;
 mod sequences;
 mod sums;
@@ -12,6 +13,7 @@ mod texts;
 
 pub use costs::{CostFn, cost};
 pub use memory::NoMemory;
+pub use names::{Names, numbered};
 pub use numbers::{EventId, GroupId, MeetId, MonitorId, ResourceId, TaskId, TimeId};
 pub use sequences::Seq;
 pub use sums::Totals;

@@ -1,8 +1,9 @@
-ghost use Rattle.std.specs.Prelude.{◌≡◌, ◌++◌, ◌∷◌, [], OnOk, OnErr, IfOk, encode_utf8_all};
-ghost use Rattle.std.specs.Fmt.{decimal};
-ghost use Rattle.khe_base.specs.Text.{characters, IsAsciiText};
+ghost use Rattle.std.specs.Prelude.{◌≡◌, ◌++◌, ◌∷◌, [], OnOk, OnErr, IfOk, IsTrue, encode_utf8_all, decimal};
+ghost use Rattle.std.specs.Str.{bytes_eq};
+ghost use Rattle.khe_base.specs.Text.{characters, text_of, is_ascii};
 
 use crate::NoMemory;
+use itoa::Buffer;
 use std::alloc::Global;
 use std::marker::Model;
 
@@ -40,11 +41,47 @@ impl Text {
         })
     }
 
+    /// A copy of the text that these bytes spell, or `None` where they are not UTF-8. It takes
+    /// time and memory in proportion to the bytes.
+    pub fn from_utf8(alloc: Global, bytes: &[u8]) -> Result<Option<Text>, NoMemory>
+        ensures { IfOk result (λ t. t ≡ text_of bytes.now) }
+    {
+        match str::from_utf8(bytes) {
+            Ok(text) => Ok(Some(Text::from_str(alloc, text)?)),
+            Err(_) => Ok(None),
+        }
+    }
+
+    /// A copy of this text in memory of its own. It takes time and memory in proportion to the
+    /// text.
+    pub fn copy(&self, alloc: Global) -> Result<Text, NoMemory>
+        ensures { IfOk result (λ t. t ≡ self.now) }
+    {
+        Ok(Text {
+            items: String::from_str(alloc, self.items.as_str())?,
+        })
+    }
+
     /// Its bytes in UTF-8. It takes constant time.
     pub fn as_str(&self) -> &str
         ensures { result.now ≡ encode_utf8_all self.now }
     {
         self.items.as_str()
+    }
+
+    /// Its bytes in UTF-8, as a list of bytes. It takes constant time.
+    pub fn as_bytes(&self) -> &[u8]
+        ensures { result.now ≡ encode_utf8_all self.now }
+    {
+        self.items.as_bytes()
+    }
+
+    /// Whether the two texts have the same characters in the same order. It takes at most time in
+    /// proportion to the shorter one, and no memory.
+    pub fn is_same(&self, other: &Text) -> bool
+        ensures { result ≡ bytes_eq self.now other.now }
+    {
+        self.items.as_str() == other.items.as_str()
     }
 
     /// Adds a text at the end. Where memory is refused, the text stays as it was.
@@ -65,30 +102,32 @@ impl Text {
         Ok(())
     }
 
-    /// Adds a text of ASCII characters, whose bytes are its characters. Where memory is refused,
+    /// Adds a text of ASCII at the end, whose bytes are its characters. Where memory is refused,
     /// the text stays as it was.
     pub fn push_literal(&mut self, text: &str) -> Result<(), NoMemory>
-        requires ascii { IsAsciiText text.now }
+        requires { IsTrue (is_ascii text.now) }
         ensures ok { OnOk result (self.new ≡ self.old ++ text.now) }
         ensures err { OnErr result (self.new ≡ self.old) }
     {
         self.push_str(text)
     }
 
-    /// Adds a text at the end. Where memory is refused, the text stays as it was.
-    pub fn push_text(&mut self, text: &Text) -> Result<(), NoMemory>
-        ensures ok { OnOk result (self.new ≡ self.old ++ text.now) }
+    /// Adds another text at the end. Where memory is refused, the text stays as it was.
+    pub fn push_text(&mut self, other: &Text) -> Result<(), NoMemory>
+        ensures ok { OnOk result (self.new ≡ self.old ++ other.now) }
         ensures err { OnErr result (self.new ≡ self.old) }
     {
-        self.push_str(text.as_str())
+        let text = other.items.as_str();
+        self.push_str(text)
     }
 
-    /// Adds a number in decimal digits. Where memory is refused, the text stays as it was.
+    /// Adds a number in decimal digits at the end, with no leading zero. Where memory is refused,
+    /// the text stays as it was.
     pub fn push_number(&mut self, number: u128) -> Result<(), NoMemory>
         ensures ok { OnOk result (self.new ≡ self.old ++ decimal number) }
         ensures err { OnErr result (self.new ≡ self.old) }
     {
-        let mut digits = itoa::Buffer::new();
+        let mut digits = Buffer::new();
         self.push_str(digits.format(number))
     }
 }

@@ -1,7 +1,11 @@
--- The digits of a number are ASCII characters.
-use Rattle.std.proofs.Common.{◌∙◌}
+-- Digits are ASCII, so the characters of a number are its bytes.
+use Rattle.std.proofs.Common.{◌≡◌, ◌++◌, ◌∙◌, ap, decimal}
+use Rattle.std.proofs.lemmas.Result.{IfOk-equal}
 use Rattle.std.proofs.lemmas.Str.{chars-IsAscii}
+use Rattle.khe_base.specs.Text.{characters}
 use Rattle.khe_base.proofs.texts.Text.push_number.Goals as goal
 
 pub returns-clause-ok : goal.returns-clause-ok
-returns-clause-ok c = rw (chars-IsAscii _ c.format.ensures.ascii ∙ c.format.ensures.text) at c.push_str.ensures.ok
+returns-clause-ok c =
+    IfOk-equal _ _ _ _ c.push_str.ensures.ok
+    (ap (λ t. c.args.self.now ++ t) (chars-IsAscii _ c.format.ensures.ascii ∙ c.format.ensures.text))

@@ -1,8 +1,10 @@
 -- The bytes of a text spell its characters.
-use Rattle.std.proofs.Common.{◌∙◌}
-use Rattle.std.proofs.lemmas.Str.{encodes_same, encodes-chars}
+use Rattle.std.proofs.Common.{◌++◌, ◌∙◌, ap}
+use Rattle.std.proofs.lemmas.Result.{IfOk-equal}
+use Rattle.khe_base.specs.Text.{characters}
 use Rattle.khe_base.proofs.texts.Text.push_text.Goals as goal
 
 pub returns-clause-ok : goal.returns-clause-ok
 returns-clause-ok c =
-    rw (encodes_same _ _ (encodes-chars _ c.as_str.utf8 ∙ c.as_str.ensures)) at c.push_str.ensures.ok
+    IfOk-equal _ _ _ _ c.push_str.ensures.ok
+    (ap (λ t. c.args.self.now ++ t) (ap characters c.as_str-text.ensures.value ∙ c.other.view_is))
