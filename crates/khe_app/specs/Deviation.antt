@@ -4,7 +4,7 @@ use Rattle.std.specs.List.{filter, sum_by, flat_map, filter_map, find, enumerate
 use Rattle.std.specs.Option.{option_map, option_and_then}
 use Rattle.std.specs.Str.{bytes_eq}
 use Rattle.khe_base.specs.Costs.{cost_of}
-use Rattle.khe_base.specs.Names.{is_among, number_of}
+use Rattle.khe_base.specs.Names.{is_among_names, number_of}
 use Rattle.khe_base.specs.declared.sums.Totals.{Totals}
 use Rattle.khe_app.specs.declared.archive.RawInstance.{RawInstance}
 use Rattle.khe_app.specs.declared.archive.RawEvent.{RawEvent}
@@ -20,7 +20,7 @@ event_ids inst = map (λ e. e.id) inst.events
 abbrev pub first_mentions : List (List ℕ) → List (List ℕ) → List (List ℕ)
 first_mentions seen [] = []
 first_mentions seen (name ∷ names) =
-    if is_among name seen then first_mentions seen names else name ∷ first_mentions (seen ++ name ∷ []) names
+    if is_among_names name seen then first_mentions seen names else name ∷ first_mentions (seen ++ name ∷ []) names
 
 -- the events that a constraint applies to, each once
 abbrev pub points : RawInstance → RawConstraint → List ℕ

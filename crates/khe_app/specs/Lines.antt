@@ -21,6 +21,10 @@ abbrev pub hardness : Bool → List ℕ
 hardness true = codes " hard "
 hardness false = codes " soft "
 
+-- what a monitor's line is about: a constraint, and an event as its point
+abbrev pub subject : List ℕ → List ℕ → List ℕ
+subject constraint event = quoted constraint ++ codes " event " ++ quoted event
+
 -- the end of a monitor's line
 abbrev pub cost_end : ℕ → Bool → ℕ → List ℕ
 cost_end deviation required cost =
@@ -30,8 +34,7 @@ cost_end deviation required cost =
 -- deviation, and its cost
 abbrev pub monitor_line : ℕ → List ℕ → List ℕ → ℕ → Bool → ℕ → List ℕ
 monitor_line number constraint event deviation required cost =
-    codes "monitor " ++ decimal number ++ codes " AssignTime " ++ quoted constraint ++ codes " event " ++ quoted event
-    ++ cost_end deviation required cost
+    codes "monitor " ++ decimal number ++ codes " AssignTime " ++ subject constraint event ++ cost_end deviation required cost
 
 abbrev pub total_line : Totals → List ℕ
 total_line t = codes "total hard " ++ decimal t.hard ++ codes " soft " ++ decimal t.soft ++ codes "\n"

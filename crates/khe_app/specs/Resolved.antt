@@ -1,5 +1,5 @@
 -- Which archives have all their references, distinct Ids and bounded sizes.
-use Rattle.std.specs.Prelude.{ℕ, ◌+◌, ◌≡◌, ◌≤◌, Bool, true, cond, ◌&&◌, if◌then◌else◌, nat_le, Option, Some, None, is_some, List, map, length, IsTrue, slice_index, sum}
+use Rattle.std.specs.Prelude.{ℕ, ◌+◌, ◌≡◌, ◌≤◌, Bool, true, false, cond, ◌&&◌, if◌then◌else◌, nat_le, Option, Some, None, is_some, List, map, length, IsTrue, slice_index, sum}
 use Rattle.std.specs.List.{list_all, sum_by}
 use Rattle.std.specs.Option.{option_map_or}
 use Rattle.std.specs.Str.{bytes_eq}

@@ -1,5 +1,5 @@
 ghost use Rattle.std.specs.Prelude.{◌≡◌, ◌++◌, OnOk, OnErr, IfOk};
-ghost use Rattle.khe_app.specs.Lines.{quoted, header_line, solution_line, monitor_line, total_line, cost_end};
+ghost use Rattle.khe_app.specs.Lines.{quoted, header_line, solution_line, monitor_line, total_line, subject, cost_end};
 
 use khe_base::{NoMemory, Text, Totals};
 use std::alloc::Global;
@@ -73,11 +73,23 @@ pub(crate) fn monitor_line(
     line.push_literal("monitor ")?;
     line.push_number(u128::from(found.number))?;
     line.push_literal(" AssignTime ")?;
-    push_quoted(alloc, &mut line, constraint)?;
-    line.push_literal(" event ")?;
-    push_quoted(alloc, &mut line, event)?;
+    push_subject(alloc, &mut line, constraint, event)?;
     push_cost(&mut line, found)?;
     Ok(line)
+}
+
+/// Adds the Ids of a monitor's constraint and event.
+fn push_subject(
+    alloc: Global,
+    line: &mut Text,
+    constraint: &Text,
+    event: &Text,
+) -> Result<(), NoMemory>
+    ensures { OnOk result (line.new ≡ line.old ++ subject constraint.now event.now) }
+{
+    push_quoted(alloc, line, constraint)?;
+    line.push_literal(" event ")?;
+    push_quoted(alloc, line, event)
 }
 
 /// Adds the end of a monitor's line.
