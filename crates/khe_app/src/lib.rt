@@ -3,6 +3,11 @@
 #![tactic(auto)]
 
 mod archive;
+mod completion;
 mod lines;
+mod meets;
+mod numbered;
 
 pub use archive::{Archive, RawConstraint, RawEntry, RawEvent, RawGroup, RawInstance, RawSolution};
+pub use meets::Meet;
+pub use numbered::{Numbered, NumberedMonitor};
