@@ -24,7 +24,7 @@ next_reference entries i entry l e d =
     let r = entry.reference in
     let within : i < length (references entries) = subst (λ n. i < n) (sym (length-map entries (λ x. x.reference))) l in
     let at : r ≡ get_or (references entries) i r =
-        ap (λ x. x.reference) e ∙ sym (get_or-map (λ x. x.reference) entries i entry r l) in
+    ap (λ x. x.reference) e ∙ sym (get_or-map (λ x. x.reference) entries i entry r l) in
     ap (with_name r) (sym (take-map (λ x. x.reference) i entries))
     ∙ next_name (references entries) i r within at d
     ∙ ap (λ x. take i (references entries) ++ x ∷ []) at

@@ -1,6 +1,7 @@
 pub mod Deviation
 pub mod FirstForm
 pub mod Lines
+pub mod Meets
 pub mod Numbered
 pub mod Report
 pub mod Resolved

@@ -5,6 +5,7 @@
 mod archive;
 mod completion;
 mod lines;
+mod measures;
 mod meets;
 mod numbered;
 
