@@ -1,5 +1,5 @@
 -- What the numbers of an instance's names stand for.
-use Rattle.std.specs.Prelude.{ℕ, ◌≡◌, Option, Some, List, map, slice_get}
+use Rattle.std.specs.Prelude.{ℕ, ◌≡◌, Option, Some, List, map, slice_get, All, length, ◌<◌}
 use Rattle.std.specs.Option.{option_map}
 use Rattle.khe_app.specs.Deviation.{Monitor, monitors, event_ids}
 use Rattle.khe_app.specs.declared.archive.RawInstance.{RawInstance}
@@ -15,4 +15,5 @@ monitor_at constraints m = option_map (λ c. record { constraint = c; event = m.
 pub record IsNumbered (inst : RawInstance) (numbers : Numbered) : Type 0 where
   pub times : numbers.times ≡ inst.times
   pub events : numbers.events ≡ event_ids inst
+  pub points : All (λ m. m.event < length inst.events) numbers.monitors
   pub monitors : map (monitor_at inst.constraints) numbers.monitors ≡ map Some (monitors inst)

@@ -8,6 +8,7 @@ mod lines;
 mod measures;
 mod meets;
 mod numbered;
+mod report;
 
 pub use archive::{Archive, RawConstraint, RawEntry, RawEvent, RawGroup, RawInstance, RawSolution};
 pub use meets::Meet;
