@@ -34,8 +34,8 @@ stands cs (n ∷ ns) (m ∷ ms) (suc i) d e l =
 pub constraint-within : (constraints : List RawConstraint) (n : NumberedMonitor) (m : Monitor) → monitor_at constraints n ≡ Some m → n.constraint < length constraints
 constraint-within cs n m e =
     elim (slice_get_cases cs n.constraint).1 [
-      inl w ↦ w.1
-    | inr w ↦ absurd (let k : monitor_at cs n ≡ None = ap (option_map (λ c. record { constraint = c; event = n.event })) w.1 in let g : ⊥ = cc in g)
+      | inl w ↦ w.1
+      | inr w ↦ absurd (let k : monitor_at cs n ≡ None = ap (option_map (λ c. record { constraint = c; event = n.event })) w.1 in let g : ⊥ = cc in g)
     ]
 
 -- the first monitor's part of the totals, and the part of the others
@@ -44,7 +44,7 @@ pub hard-cons : (meets : List Meet) (m : Monitor) (ms : List Monitor)
 hard-cons meets m ms = by m.constraint.required
   where
     by : (b : Bool) → sum_by (monitor_cost meets) (if b then m ∷ filter (λ x. x.constraint.required) ms else filter (λ x. x.constraint.required) ms)
-      ≡ (if b then monitor_cost meets m else 0) + (totals meets ms).hard
+        ≡ (if b then monitor_cost meets m else 0) + (totals meets ms).hard
     by true = sum_by-cons (monitor_cost meets) m (filter (λ x. x.constraint.required) ms)
     by false = sym (zero-add _)
 
@@ -53,7 +53,7 @@ pub soft-cons : (meets : List Meet) (m : Monitor) (ms : List Monitor)
 soft-cons meets m ms = by m.constraint.required
   where
     by : (b : Bool) → sum_by (monitor_cost meets) (if not b then m ∷ filter (λ x. not x.constraint.required) ms else filter (λ x. not x.constraint.required) ms)
-      ≡ (if b then 0 else monitor_cost meets m) + (totals meets ms).soft
+        ≡ (if b then 0 else monitor_cost meets m) + (totals meets ms).soft
     by true = sym (zero-add _)
     by false = sum_by-cons (monitor_cost meets) m (filter (λ x. not x.constraint.required) ms)
 

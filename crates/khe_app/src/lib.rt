@@ -8,7 +8,7 @@ mod lines;
 mod measures;
 mod meets;
 mod numbered;
-mod report;
+mod reports;
 
 pub use archive::{Archive, RawConstraint, RawEntry, RawEvent, RawGroup, RawInstance, RawSolution};
 pub use meets::Meet;

@@ -6,7 +6,7 @@ ghost use Rattle.khe_app.specs.Deviation.{Monitor, monitors, references, deviati
 ghost use Rattle.khe_app.specs.Meets.{NumberedFrom};
 ghost use Rattle.khe_app.specs.Numbered.{IsNumbered, monitor_at};
 ghost use Rattle.khe_app.specs.Report.{monitor_text, evaluation, solution_text, report};
-ghost use Rattle.khe_app.specs.Resolved.{Resolves, IsWithinLimits};
+ghost use Rattle.khe_app.specs.Resolved.{Resolves, IsWithinLimits, is_solution};
 ghost use Rattle.khe_app.specs.declared.meets.Meet.{Meet};
 ghost use Rattle.khe_app.specs.declared.measures.TheConstants.{GREATEST_COST};
 
@@ -113,4 +113,44 @@ fn push_evaluation(
         totals = push_measured(alloc, text, totals, instance, number, *monitor, meets)?;
     }
     text.push_text(&total_line(alloc, totals)?)
+}
+
+/// Adds the part of a report on one solution.
+fn push_solution(
+    alloc: Global,
+    text: &mut Text,
+    archive: &Archive,
+    numbered: &Numbered,
+    number: usize,
+    solution: &RawSolution,
+) -> Result<(), NoMemory>
+    requires numbered { IsNumbered archive.now.instance numbered.now }
+    requires limits { IsWithinLimits archive.now.instance }
+    requires solution { is_solution archive.now.instance solution.now ≡ true }
+    ensures { OnOk result (text.new ≡ text.old ++ solution_text archive.now (number, solution.now)) }
+{
+    let instance = &archive.instance;
+    text.push_text(&solution_line(alloc, number, &archive.group.id, &instance.id)?)?;
+    let meets = completed(alloc, instance, &numbered.times, solution)?;
+    push_evaluation(alloc, text, instance, numbered, meets.as_slice())
+}
+
+/// The report of an archive: its header, and for each solution its monitors' lines and totals.
+///
+/// It takes time in proportion to the events, entries and monitors of each solution, and memory
+/// in proportion to the report.
+pub(crate) fn report(
+    alloc: Global,
+    archive: &Archive,
+    numbered: &Numbered,
+) -> Result<Text, NoMemory>
+    requires resolves { Resolves archive.now }
+    requires numbered { IsNumbered archive.now.instance numbered.now }
+    ensures { IfOk result (λ text. text ≡ report archive.now) }
+{
+    let mut text = header_line(alloc, 1, archive.group.solutions.len())?;
+    for (number, solution) in archive.group.solutions.as_slice().iter().enumerate() {
+        push_solution(alloc, &mut text, archive, numbered, number, solution)?;
+    }
+    Ok(text)
 }

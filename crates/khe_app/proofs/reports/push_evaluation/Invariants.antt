@@ -5,7 +5,7 @@ use Rattle.std.specs.List.{enumerate_from, flat_map, filter, sum_by}
 use Rattle.khe_app.specs.Deviation.{monitors, monitor_cost, totals}
 use Rattle.khe_app.specs.Report.{monitor_text}
 use Rattle.khe_app.specs.declared.measures.TheConstants.{GREATEST_COST}
-use Rattle.khe_app.proofs.report.push_evaluation.Given as goal
+use Rattle.khe_app.proofs.reports.push_evaluation.Given as goal
 
 abbrev pub invariant-loop-number : goal.invariant-loop-number
 invariant-loop-number l =
