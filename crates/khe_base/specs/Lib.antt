@@ -1,3 +1,4 @@
 pub mod Costs
 pub mod Names
 pub mod Text
+pub mod Units

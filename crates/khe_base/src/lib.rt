@@ -10,6 +10,7 @@ mod numbers;
 mod sequences;
 mod sums;
 mod texts;
+mod units;
 
 pub use costs::{CostFn, cost};
 pub use memory::NoMemory;
@@ -18,3 +19,4 @@ pub use numbers::{EventId, GroupId, MeetId, MonitorId, ResourceId, TaskId, TimeI
 pub use sequences::Seq;
 pub use sums::Totals;
 pub use texts::Text;
+pub use units::common_unit;
