@@ -9,6 +9,8 @@ mod names;
 mod numbers;
 mod sequences;
 mod sums;
+#[cfg(test)]
+mod tests;
 mod texts;
 mod units;
 
