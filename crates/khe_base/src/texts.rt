@@ -1,4 +1,4 @@
-ghost use Rattle.std.specs.Prelude.{◌≡◌, ◌++◌, [], OnOk, OnErr, IfOk, IsTrue, encode_utf8_all, decimal};
+ghost use Rattle.std.specs.Prelude.{◌≡◌, ◌++◌, ◌∷◌, [], OnOk, OnErr, IfOk, IsTrue, encode_utf8_all, decimal};
 ghost use Rattle.std.specs.Str.{bytes_eq};
 ghost use Rattle.khe_base.specs.Text.{characters, text_of, is_ascii};
 
@@ -90,6 +90,15 @@ impl Text {
         ensures err { OnErr result (self.new ≡ self.old) }
     {
         self.items.push_str(text)?;
+        Ok(())
+    }
+
+    /// Adds one character at the end. Where memory is refused, the text stays as it was.
+    pub fn push(&mut self, character: char) -> Result<(), NoMemory>
+        ensures ok { OnOk result (self.new ≡ self.old ++ character ∷ []) }
+        ensures err { OnErr result (self.new ≡ self.old) }
+    {
+        self.items.push(character)?;
         Ok(())
     }
 

@@ -1,0 +1,6 @@
+pub mod Deviation
+pub mod FirstForm
+pub mod Lines
+pub mod Report
+pub mod Resolved
+pub mod Words

@@ -1,0 +1,19 @@
+-- How a text is written in an attribute's value or between tags.
+use Rattle.std.specs.Prelude.{ℕ, List, [], ◌∷◌, ◌==◌, if◌then◌else◌, codes}
+use Rattle.std.specs.List.{flat_map}
+
+-- what one character is written as
+abbrev pub escaped_character : ℕ → List ℕ
+escaped_character c =
+    if c == 38 then codes "&amp;"
+    else if c == 60 then codes "&lt;"
+    else if c == 62 then codes "&gt;"
+    else if c == 34 then codes "&quot;"
+    else if c == 9 then codes "&#9;"
+    else if c == 10 then codes "&#10;"
+    else if c == 13 then codes "&#13;"
+    else c ∷ []
+
+-- what a text is written as
+abbrev pub escaped : List ℕ → List ℕ
+escaped text = flat_map escaped_character text

@@ -1,0 +1,36 @@
+ghost use Rattle.std.specs.Prelude.{◌≡◌, ◌++◌, OnOk, OnErr, IfOk};
+ghost use Rattle.xhstt_text.specs.Escape.{escaped, escaped_character};
+
+use khe_base::{NoMemory, Text};
+use std::alloc::Global;
+
+/// A text as it is written in an attribute's value or between tags: `&`, `<`, `>`, `"`, the tab,
+/// the line feed and the carriage return as references, each other character as it is.
+///
+/// It takes time and memory linear in the text.
+pub fn escape(alloc: Global, text: &Text) -> Result<Text, NoMemory>
+    ensures { IfOk result (λ t. t ≡ escaped text.now) }
+{
+    let mut written = Text::new(alloc);
+    for character in text.as_str().chars() {
+        push_escaped(&mut written, character)?;
+    }
+    Ok(written)
+}
+
+/// Adds what one character is written as.
+fn push_escaped(written: &mut Text, character: char) -> Result<(), NoMemory>
+    ensures ok { OnOk result (written.new ≡ written.old ++ escaped_character character) }
+    ensures err { OnErr result (written.new ≡ written.old) }
+{
+    match character {
+        '&' => written.push_literal("&amp;"),
+        '<' => written.push_literal("&lt;"),
+        '>' => written.push_literal("&gt;"),
+        '"' => written.push_literal("&quot;"),
+        '\t' => written.push_literal("&#9;"),
+        '\n' => written.push_literal("&#10;"),
+        '\r' => written.push_literal("&#13;"),
+        other => written.push(other),
+    }
+}
