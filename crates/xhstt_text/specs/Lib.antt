@@ -1,1 +1,3 @@
+pub mod FlatTable
 pub mod Forest
+pub mod Handles
