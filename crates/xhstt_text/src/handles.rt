@@ -101,10 +101,10 @@ impl<'t, 'a> Element<'t, 'a> {
 
     /// Whether it has this name. It takes time in the length of the name.
     pub fn is_named(&self, name: &[u8]) -> bool
-        ensures value { result ≡ bytes_eq self.now.info.name name.now }
+        ensures value { result ≡ bytes_eq name.now self.now.info.name }
         ensures named { IsTrue result ↔ (self.now.info.name ≡ name.now) }
     {
-        self.name() == name
+        name == self.name()
     }
 
     /// The bytes between its tags where it has no children, as they are spelled; none where it
@@ -184,3 +184,6 @@ impl<'t, 'a> Children<'t, 'a> {
         Some(element)
     }
 }
+
+#[cfg(test)]
+mod tests;
