@@ -4,5 +4,6 @@
 
 mod archive;
 mod lines;
+mod reading;
 
 pub use archive::{Archive, RawConstraint, RawEntry, RawEvent, RawGroup, RawInstance, RawSolution};
