@@ -3,7 +3,10 @@
 #![tactic(auto)]
 
 mod archive;
+mod first_form;
+mod instance_form;
 mod lines;
 mod reading;
+mod values;
 
 pub use archive::{Archive, RawConstraint, RawEntry, RawEvent, RawGroup, RawInstance, RawSolution};
