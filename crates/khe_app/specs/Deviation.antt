@@ -1,11 +1,12 @@
 -- Monitors, meets, and what a timetable costs.
-use Rattle.std.specs.Prelude.{ℕ, ◌==◌, Bool, true, cond, not, ◌&&◌, if◌then◌else◌, Option, Some, None, is_none, List, [], ◌∷◌, ◌++◌, map}
-use Rattle.std.specs.List.{filter, sum_by, flat_map, filter_map, find, enumerate_from}
+use Rattle.std.specs.Prelude.{ℕ, ◌==◌, Bool, true, cond, not, ◌&&◌, if◌then◌else◌, Option, Some, None, is_none, List, [], ◌∷◌, ◌++◌, map, slice_get}
+use Rattle.std.specs.List.{filter, sum_by, flat_map, filter_map, enumerate_from}
 use Rattle.std.specs.Option.{option_map, option_and_then}
 use Rattle.std.specs.Str.{bytes_eq}
 use Rattle.khe_base.specs.Costs.{cost_of}
 use Rattle.khe_base.specs.Names.{is_among_names, number_of}
 use Rattle.khe_base.specs.declared.sums.Totals.{Totals}
+use Rattle.khe_app.specs.declared.meets.Meet.{Meet}
 use Rattle.khe_app.specs.declared.archive.RawInstance.{RawInstance}
 use Rattle.khe_app.specs.declared.archive.RawEvent.{RawEvent}
 use Rattle.khe_app.specs.declared.archive.RawConstraint.{RawConstraint}
@@ -35,21 +36,25 @@ pub record Monitor : Type 0 where
 abbrev pub monitors : RawInstance → List Monitor
 monitors inst = flat_map (λ c. map (λ e. record { constraint = c; event = e }) (points inst c)) inst.constraints
 
--- a meet of an event
-pub record Meet : Type 0 where
-  pub event : ℕ
-  pub duration : ℕ
-  pub start : Option ℕ
+-- the references of a solution's entries, in order
+abbrev pub references : List RawEntry → List (List ℕ)
+references entries = map (λ entry. entry.reference) entries
 
--- the start that a solution's entry gives to the event with this Id
-abbrev pub given_start : RawInstance → RawSolution → List ℕ → Option ℕ
-given_start inst s id =
-    option_and_then (λ entry. option_and_then (λ t. number_of t inst.times) entry.time) (find (λ entry. bytes_eq id entry.reference) s.entries)
+-- the start that the entry with this number gives
+abbrev pub start_at : RawInstance → List RawEntry → ℕ → Option ℕ
+start_at inst entries k = option_and_then (λ entry. option_and_then (λ t. number_of t inst.times) entry.time) (slice_get entries k)
 
--- the completed solution: one meet for each event, of its whole duration
+-- the start that a solution's entries give to the event with this Id
+abbrev pub given_start : RawInstance → List RawEntry → List ℕ → Option ℕ
+given_start inst entries id = option_and_then (start_at inst entries) (number_of id (references entries))
+
+-- the meet of an event with this number, of the event's whole duration
+abbrev pub meet_of : RawInstance → List RawEntry → ℕ × RawEvent → Meet
+meet_of inst entries (e, event) = record { event = e; duration = event.duration; start = given_start inst entries event.id }
+
+-- the completed solution: one meet for each event
 abbrev pub completed : RawInstance → RawSolution → List Meet
-completed inst s =
-    map (λ p. record { event = p.0; duration = p.1.duration; start = given_start inst s p.1.id }) (enumerate_from 0 inst.events)
+completed inst s = map (meet_of inst s.entries) (enumerate_from 0 inst.events)
 
 -- Assign Time at an event: the total duration of its meets without a start
 abbrev pub deviation : List Meet → ℕ → ℕ

@@ -1,8 +1,9 @@
 -- The report of an archive.
 use Rattle.std.specs.Prelude.{ℕ, ◌==◌, Bool, true, cond, if◌then◌else◌, List, [], ◌++◌, length, slice_index_or}
 use Rattle.std.specs.List.{flat_map, enumerate_from}
-use Rattle.khe_app.specs.Deviation.{Monitor, Meet, monitors, completed, deviation, monitor_cost, totals, event_ids}
+use Rattle.khe_app.specs.Deviation.{Monitor, monitors, completed, deviation, monitor_cost, totals, event_ids}
 use Rattle.khe_app.specs.Lines.{header_line, solution_line, monitor_line, total_line}
+use Rattle.khe_app.specs.declared.meets.Meet.{Meet}
 use Rattle.khe_app.specs.declared.archive.Archive.{Archive}
 use Rattle.khe_app.specs.declared.archive.RawInstance.{RawInstance}
 use Rattle.khe_app.specs.declared.archive.RawConstraint.{RawConstraint}

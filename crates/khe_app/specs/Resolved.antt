@@ -5,8 +5,8 @@ use Rattle.std.specs.Option.{option_map_or}
 use Rattle.std.specs.Str.{bytes_eq}
 use Rattle.khe_base.specs.Names.{are_distinct, number_of}
 use Rattle.khe_base.specs.Units.{IsUnit}
-use Rattle.khe_base.specs.declared.limits.TheConstants.{TIMES, EVENTS, CONSTRAINTS, DURATION, MONITORS, UNIT, SOLUTIONS}
-use Rattle.khe_app.specs.Deviation.{monitors, event_ids}
+use Rattle.khe_base.specs.declared.limits.TheConstants.{TIMES, EVENTS, CONSTRAINTS, DURATION, MONITORS, UNIT, SOLUTIONS, WEIGHT}
+use Rattle.khe_app.specs.Deviation.{monitors, event_ids, references}
 use Rattle.khe_app.specs.declared.archive.Archive.{Archive}
 use Rattle.khe_app.specs.declared.archive.RawInstance.{RawInstance}
 use Rattle.khe_app.specs.declared.archive.RawEvent.{RawEvent}
@@ -38,14 +38,15 @@ is_entry inst entry = option_map_or (λ e. starts_in_time inst e entry.time) (nu
 -- whether a solution is one of the instance: its entries are, and no two are of one event
 abbrev pub is_solution : RawInstance → RawSolution → Bool
 is_solution inst s =
-    bytes_eq s.reference inst.id && list_all (is_entry inst) s.entries && are_distinct (map (λ e. e.reference) s.entries)
+    bytes_eq s.reference inst.id && list_all (is_entry inst) s.entries && are_distinct (references s.entries)
 
--- the limits on the sizes of an instance
+-- the limits on the sizes and weights of an instance
 pub record IsWithinLimits (inst : RawInstance) : Type 0 where
   pub times : length inst.times ≤ TIMES
   pub events : length inst.events ≤ EVENTS
   pub constraints : length inst.constraints ≤ CONSTRAINTS
   pub duration : sum (durations inst) ≤ DURATION
+  pub weights : list_all (λ c. nat_le c.weight WEIGHT) inst.constraints ≡ true
   pub monitors : length (monitors inst) ≤ MONITORS
   pub unit : (u : ℕ) × IsUnit (durations inst) u × (u ≤ UNIT)
 

@@ -3,10 +3,16 @@
 #![tactic(auto)]
 
 mod archive;
+mod completion;
 mod first_form;
 mod instance_form;
 mod lines;
+mod measures;
+mod meets;
+mod numbered;
 mod reading;
 mod values;
 
 pub use archive::{Archive, RawConstraint, RawEntry, RawEvent, RawGroup, RawInstance, RawSolution};
+pub use meets::Meet;
+pub use numbered::{Numbered, NumberedMonitor};

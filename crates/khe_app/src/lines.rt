@@ -1,6 +1,7 @@
 ghost use Rattle.std.specs.Prelude.{◌≡◌, ◌++◌, OnOk, OnErr, IfOk};
 ghost use Rattle.khe_app.specs.Lines.{quoted, header_line, solution_line, monitor_line, total_line, subject, cost_end};
 
+use crate::measures::Measured;
 use khe_base::{NoMemory, Text, Totals};
 use std::alloc::Global;
 use xhstt_text::escape;
@@ -16,14 +17,18 @@ fn push_quoted(alloc: Global, line: &mut Text, id: &Text) -> Result<(), NoMemory
 }
 
 /// The first line of a report: how many instances and solutions the archive has.
-pub(crate) fn header_line(alloc: Global, instances: u32, solutions: u32) -> Result<Text, NoMemory>
+pub(crate) fn header_line(
+    alloc: Global,
+    instances: usize,
+    solutions: usize,
+) -> Result<Text, NoMemory>
     ensures { IfOk result (λ t. t ≡ header_line instances solutions) }
 {
     let mut line = Text::new(alloc);
     line.push_literal("archive instances ")?;
-    line.push_number(u128::from(instances))?;
+    line.push_number(instances as u128)?;
     line.push_literal(" solutions ")?;
-    line.push_number(u128::from(solutions))?;
+    line.push_number(solutions as u128)?;
     line.push_literal("\n")?;
     Ok(line)
 }
@@ -31,7 +36,7 @@ pub(crate) fn header_line(alloc: Global, instances: u32, solutions: u32) -> Resu
 /// The first line of a solution: its number, and the Ids of its group and its instance.
 pub(crate) fn solution_line(
     alloc: Global,
-    number: u32,
+    number: usize,
     group: &Text,
     instance: &Text,
 ) -> Result<Text, NoMemory>
@@ -39,7 +44,7 @@ pub(crate) fn solution_line(
 {
     let mut line = Text::new(alloc);
     line.push_literal("solution ")?;
-    line.push_number(u128::from(number))?;
+    line.push_number(number as u128)?;
     line.push_literal(" group ")?;
     push_quoted(alloc, &mut line, group)?;
     line.push_literal(" instance ")?;
@@ -48,33 +53,23 @@ pub(crate) fn solution_line(
     Ok(line)
 }
 
-/// What a monitor's line says beside the Ids.
-#[derive(Clone, Copy)]
-pub(crate) struct Found {
-    /// The monitor's number.
-    pub number: u32,
-    pub deviation: u64,
-    /// Whether the cost is hard.
-    pub required: bool,
-    pub cost: u128,
-}
-
 /// The line of an Assign Time monitor: its number, the Ids of its constraint and its event, its
 /// deviation and its cost.
 pub(crate) fn monitor_line(
     alloc: Global,
-    found: Found,
+    number: usize,
+    measured: Measured,
     constraint: &Text,
     event: &Text,
 ) -> Result<Text, NoMemory>
-    ensures { IfOk result (λ t. t ≡ monitor_line found.number constraint.now event.now found.deviation found.required found.cost) }
+    ensures { IfOk result (λ t. t ≡ monitor_line number constraint.now event.now measured.deviation measured.required measured.cost) }
 {
     let mut line = Text::new(alloc);
     line.push_literal("monitor ")?;
-    line.push_number(u128::from(found.number))?;
+    line.push_number(number as u128)?;
     line.push_literal(" AssignTime ")?;
     push_subject(alloc, &mut line, constraint, event)?;
-    push_cost(&mut line, found)?;
+    push_cost(&mut line, measured)?;
     Ok(line)
 }
 
@@ -93,17 +88,17 @@ fn push_subject(
 }
 
 /// Adds the end of a monitor's line.
-fn push_cost(line: &mut Text, found: Found) -> Result<(), NoMemory>
-    ensures { OnOk result (line.new ≡ line.old ++ cost_end found.deviation found.required found.cost) }
+fn push_cost(line: &mut Text, measured: Measured) -> Result<(), NoMemory>
+    ensures { OnOk result (line.new ≡ line.old ++ cost_end measured.deviation measured.required measured.cost) }
 {
     line.push_literal(" deviation ")?;
-    line.push_number(u128::from(found.deviation))?;
-    if found.required {
+    line.push_number(u128::from(measured.deviation))?;
+    if measured.required {
         line.push_literal(" hard ")?;
     } else {
         line.push_literal(" soft ")?;
     }
-    line.push_number(found.cost)?;
+    line.push_number(measured.cost)?;
     line.push_literal("\n")
 }
 
