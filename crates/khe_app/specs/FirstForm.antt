@@ -36,6 +36,10 @@ only_attribute name (a ∷ more) = if bytes_eq name a.name && has_no_attributes 
 abbrev pub label_of : List ℕ → List ℕ → Info → Option (List ℕ)
 label_of name attribute i = if bytes_eq name i.name && is_none i.loose then only_attribute attribute i.attributes else None
 
+-- the same of an element without children
+abbrev pub childless_label : List ℕ → List ℕ → Info → Forest → Option (List ℕ)
+childless_label name attribute i kids = if is_empty kids then label_of name attribute i else None
+
 -- whether an element has this name, no attribute and no text
 abbrev pub is_plain : List ℕ → Info → Bool
 is_plain name i = bytes_eq name i.name && has_no_attributes i.attributes && is_none i.loose
@@ -44,10 +48,14 @@ is_plain name i = bytes_eq name i.name && has_no_attributes i.attributes && is_n
 abbrev pub leaf_of : List ℕ → Info → Forest → Option (List ℕ)
 leaf_of name i kids = if bytes_eq name i.name && has_no_attributes i.attributes && is_empty kids then Some i.value else None
 
+-- a row's first element by a reading of one, and the rest
+abbrev pub first_of_row : {A : Type 0} → (Info → Forest → Option A) → Forest → Option (A × Forest)
+first_of_row one empty = None
+first_of_row one (node i kids rest) = option_map (λ a. (a, rest)) (one i kids)
+
 -- a row's first element by a reading of one, and then the rest
 abbrev pub then_row : {A B : Type 0} → (Info → Forest → Option A) → Forest → (A → Forest → Option B) → Option B
-then_row one empty go_on = None
-then_row one (node i kids rest) go_on = option_and_then (λ a. go_on a rest) (one i kids)
+then_row one row go_on = option_and_then (λ (a, rest). go_on a rest) (first_of_row one row)
 
 -- a value, where no element is left in the row
 abbrev pub at_end : {A : Type 0} → Forest → A → Option A
@@ -94,11 +102,11 @@ cost_function_of bytes =
 
 -- <NAME Reference="..."/>
 abbrev pub reference : List ℕ → Info → Forest → Option (List ℕ)
-reference name i kids = if is_empty kids then label_of name (codes "Reference") i else None
+reference name i kids = childless_label name (codes "Reference") i kids
 
 -- <Time Id="..."/>
 abbrev pub time : Info → Forest → Option (List ℕ)
-time i kids = if is_empty kids then label_of (codes "Time") (codes "Id") i else None
+time i kids = childless_label (codes "Time") (codes "Id") i kids
 
 abbrev pub duration : Info → Forest → Option ℕ
 duration i kids = option_and_then (number_between 1 1_000_000) (leaf_of (codes "Duration") i kids)

@@ -4,11 +4,15 @@
 
 mod archive;
 mod completion;
+mod first_form;
+mod instance_form;
 mod lines;
 mod measures;
 mod meets;
 mod numbered;
+mod reading;
 mod reports;
+mod values;
 
 pub use archive::{Archive, RawConstraint, RawEntry, RawEvent, RawGroup, RawInstance, RawSolution};
 pub use meets::Meet;

@@ -1,3 +1,4 @@
 pub mod Characters
 pub mod NamesLemmas
 pub mod TextLemmas
+pub mod UnitsLemmas

@@ -9,7 +9,10 @@ mod names;
 mod numbers;
 mod sequences;
 mod sums;
+#[cfg(test)]
+mod tests;
 mod texts;
+mod units;
 
 pub use costs::{CostFn, cost};
 pub use memory::NoMemory;
@@ -18,3 +21,4 @@ pub use numbers::{EventId, GroupId, MeetId, MonitorId, ResourceId, TaskId, TimeI
 pub use sequences::Seq;
 pub use sums::Totals;
 pub use texts::Text;
+pub use units::common_unit;

@@ -1,2 +1,4 @@
 pub mod Escape
+pub mod FlatTable
 pub mod Forest
+pub mod Handles
