@@ -1,0 +1,15 @@
+//! Where the bytes of an archive come from and where the text of an answer goes: shelves of named
+//! sources and sinks of bytes, as traits, with one of each in memory and one of each over the
+//! system; the two calls that read and write whole texts; and the gate that a worker passes
+//! before each of its jobs.
+#![tactic(auto)]
+
+mod faults;
+mod gates;
+mod shelves;
+mod sinks;
+
+pub use faults::Failed;
+pub use gates::{Gate, OpenGate};
+pub use shelves::Shelf;
+pub use sinks::Sink;
