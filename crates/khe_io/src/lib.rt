@@ -8,8 +8,10 @@ mod faults;
 mod gates;
 mod shelves;
 mod sinks;
+mod texts;
 
 pub use faults::Failed;
 pub use gates::{Gate, OpenGate};
 pub use shelves::Shelf;
 pub use sinks::Sink;
+pub use texts::{TakeFault, put_all, take_all};
