@@ -4,14 +4,19 @@
 //! before each of its jobs.
 #![tactic(auto)]
 
+mod calls;
 mod faults;
 mod gates;
+mod memory_shelf;
+mod named;
 mod shelves;
 mod sinks;
 mod texts;
 
 pub use faults::Failed;
 pub use gates::{Gate, OpenGate};
+pub use memory_shelf::MemoryShelf;
+pub use named::Named;
 pub use shelves::Shelf;
 pub use sinks::Sink;
 pub use texts::{TakeFault, put_all, take_all};
