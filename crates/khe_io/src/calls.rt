@@ -3,6 +3,7 @@ ghost use Rattle.khe_io.specs.Faults.{Rose};
 ghost use Rattle.khe_io.specs.Calls.{none_to_come};
 
 use crate::Failed;
+use crate::faults::count_fault;
 use khe_base::Seq;
 
 /// The calls of a device in memory: which of them fail, how many were made, and how many faults
@@ -51,7 +52,6 @@ impl Calls {
         ensures rose { Rose self.old.faults self.new.faults }
         ensures counted { self.old.faults ≤ self.new.faults }
     {
-        self.faults = self.faults.saturating_add(1);
-        Failed
+        count_fault(&mut self.faults)
     }
 }
