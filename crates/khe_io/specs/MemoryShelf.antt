@@ -1,5 +1,5 @@
 -- What a shelf in memory tells of its open source.
-use Rattle.std.specs.Prelude.{◌≡◌, List, Option, None, Some, is_some, true, IsTrue, IsSome, refl}
+use Rattle.std.specs.Prelude.{List, Option, None, Some, is_some, IsTrue, IsSome, refl}
 use Rattle.std.specs.Option.{option_map}
 use Rattle.khe_io.specs.declared.named.Named.{Named}
 use Rattle.khe_io.specs.declared.named.Place.{Place}

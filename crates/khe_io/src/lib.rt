@@ -6,19 +6,23 @@
 
 mod calls;
 mod faults;
+mod file_shelf;
 mod gates;
 mod memory_shelf;
 mod memory_sink;
 mod named;
 mod shelves;
 mod sinks;
+mod std_sink;
 mod texts;
 
 pub use faults::Failed;
+pub use file_shelf::FileShelf;
 pub use gates::{Gate, OpenGate};
 pub use memory_shelf::MemoryShelf;
 pub use memory_sink::MemorySink;
 pub use named::Named;
 pub use shelves::Shelf;
 pub use sinks::Sink;
+pub use std_sink::StdSink;
 pub use texts::{TakeFault, put_all, take_all};

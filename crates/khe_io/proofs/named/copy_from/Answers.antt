@@ -1,6 +1,5 @@
 -- The bytes that are copied are the next ones of the file.
-use Rattle.std.proofs.Common.{rules, ◌≡◌, ◌∙◌, sym, ap, subst, arith, ◌-◌, ◌+◌, ◌<◌, ◌≤◌, [], ◌++◌, length, take, drop, ℕ, List}
-use Rattle.khe_io.specs.Named.{bytes_at, bytes_from}
+use Rattle.std.proofs.Common.{◌∙◌, sym, ap, subst, ◌+◌, ◌≤◌, length, take, ℕ, List}
 use Rattle.khe_io.proofs.NamedFiles.{IsCount, IsCount-left, IsCount-from, IsCount-end, bytes_at-read, drop-copied}
 use Rattle.std.proofs.lemmas.List.{take_rest}
 use Rattle.khe_io.proofs.named.copy_from.Goals as goal

@@ -1,5 +1,5 @@
 -- Where no listed number is still to come, the next call is not listed, and none is to come after it.
-use Rattle.std.proofs.Common.{◌≡◌, sym, ◌∙◌, ap, true, false, arith, ◌≤◌, ◌+◌}
+use Rattle.std.proofs.Common.{sym, arith}
 use Rattle.khe_io.proofs.CallNumbers.{none_to_come-later, listed}
 use Rattle.khe_io.proofs.calls.Calls.make.Goals as goal
 
