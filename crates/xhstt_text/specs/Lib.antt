@@ -1,1 +1,4 @@
+pub mod Bytes
+pub mod Document
 pub mod Forest
+pub mod Machine
