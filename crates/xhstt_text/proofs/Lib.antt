@@ -1,2 +1,6 @@
 pub mod Bounds
+pub mod Complete
+pub mod DocumentTable
 pub mod ForestOfTable
+pub mod Places
+pub mod Runs

@@ -1,3 +1,6 @@
+pub mod Bytes
+pub mod Document
 pub mod FlatTable
 pub mod Forest
 pub mod Handles
+pub mod Machine
