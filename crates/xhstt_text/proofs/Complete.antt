@@ -22,7 +22,7 @@ tag_after t a = record t { names = names_after t.names a }
 abbrev with_attributes : Read → List Attribute → Read
 with_attributes r rows = record r { attributes = r.attributes ++ rows }
 
-attribute_shape : (w name before after : List ℕ) (quote : ℕ) (value : List ℕ) (more : Attributes) (rest : List ℕ) → attributes_text (attribute w name before after quote value more) ++ rest ≡ w ++ (name ++ (before ++ (61 ∷ (after ++ (quote ∷ (value ++ (quote ∷ (attributes_text more ++ rest))))))))
+pub attribute_shape : (w name before after : List ℕ) (quote : ℕ) (value : List ℕ) (more : Attributes) (rest : List ℕ) → attributes_text (attribute w name before after quote value more) ++ rest ≡ w ++ (name ++ (before ++ (61 ∷ (after ++ (quote ∷ (value ++ (quote ∷ (attributes_text more ++ rest))))))))
 attribute_shape w name before after quote value more rest = simp append_assoc
 
 attribute_length : (w name before after : List ℕ) (quote : ℕ) (value : List ℕ) (more : Attributes) → length (attributes_text (attribute w name before after quote value more)) ≡ length w + length name + length before + 1 + length after + 1 + length value + 1 + length (attributes_text more)
@@ -106,7 +106,7 @@ tag_of s at r = record { at = at; name = s.name; first = length r.attributes; na
 abbrev read_after : Start → ℕ → Read → Read
 read_after s at r = with_attributes r (attributes_of (at + 1 + length s.name) s.attributes)
 
-start_shape : (s : Start) (rest : List ℕ) → start_text s ++ rest ≡ 60 ∷ (s.name ++ (attributes_text s.attributes ++ (s.white ++ rest)))
+pub start_shape : (s : Start) (rest : List ℕ) → start_text s ++ rest ≡ 60 ∷ (s.name ++ (attributes_text s.attributes ++ (s.white ++ rest)))
 start_shape s rest = simp append_assoc
 
 start_is : (s : Start) → start_length s ≡ 1 + length s.name + length (attributes_text s.attributes) + length s.white
@@ -273,7 +273,7 @@ short_length s c = simp length-append (omega arith)
 long_length : (s : Start) (inner : Content) (name w : List ℕ) (c : Content) → length (text (long s inner name w c)) ≡ start_length s + 1 + length (text inner) + 2 + length name + length w + 1 + length (text c)
 long_length s inner name w c = simp length-append (omega arith)
 
-long_shape : (s : Start) (inner : Content) (name w : List ℕ) (c : Content) (rest : List ℕ) → text (long s inner name w c) ++ rest ≡ start_text s ++ (62 ∷ (text inner ++ (60 ∷ 47 ∷ (name ++ (w ++ (62 ∷ (text c ++ rest)))))))
+pub long_shape : (s : Start) (inner : Content) (name w : List ℕ) (c : Content) (rest : List ℕ) → text (long s inner name w c) ++ rest ≡ start_text s ++ (62 ∷ (text inner ++ (60 ∷ 47 ∷ (name ++ (w ++ (62 ∷ (text c ++ rest)))))))
 long_shape s inner name w c rest = simp append_assoc
 
 run_content : (c : Content) → RunsOver c
@@ -321,7 +321,7 @@ run_content (long s inner name w c) f fs nodes attributes at number first rest e
     ∙ ap (λ (l : List Attribute). run content (read_of (g ∷ fs) (nodes ++ rows (Some f.number) number first at (long s inner name w c)) l) (ends + length (text c)) rest) (append_assoc attributes ours (attribute_rows ends c) ∙ ap (λ (l : List Attribute). attributes ++ l) (append_assoc (attributes_of (at + 1 + length s.name) s.attributes) (attribute_rows from inner) (attribute_rows ends c)))
     ∙ ap (λ n. run content (read_of (g ∷ fs) (nodes ++ rows (Some f.number) number first at (long s inner name w c)) (attributes ++ attribute_rows at (long s inner name w c))) n rest) (omega (arith, long_length s inner name w c))
 
-white_isnt_tag : (b : ℕ) → is_white b ≡ true → eqb b 60 ≡ false
+pub white_isnt_tag : (b : ℕ) → is_white b ≡ true → eqb b 60 ≡ false
 white_isnt_tag b h = text_isnt_tag b (text_from_white b h)
 
 run_after : (nodes : List Node) (attributes : List Attribute) (w : List ℕ) (at : ℕ) → IsWhite w → run ended (read_of [] nodes attributes) at w ≡ Ok (record { nodes = nodes; attributes = attributes })

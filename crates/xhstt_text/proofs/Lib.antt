@@ -4,3 +4,4 @@ pub mod DocumentTable
 pub mod ForestOfTable
 pub mod Places
 pub mod Runs
+pub mod Sound
