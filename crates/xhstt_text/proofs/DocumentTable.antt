@@ -11,7 +11,7 @@ use Rattle.xhstt_text.specs.FlatTable.{FlatTable, IsFlatTable, IsWithin, IsNodeO
 use Rattle.xhstt_text.specs.Document.{Attributes, none, attribute, Start, Content, nothing, byte, short, long, Document, attributes_text, start_text, text, spelling, IsElement, IsDocument, span, start_length, count, attributes_of, attribute_rows, loose_in, row, rows, table, infos, has_element, forest_at, forest_of}
 use Rattle.xhstt_text.proofs.Bounds.{IsFlatTable-stands}
 use Rattle.xhstt_text.proofs.ForestOfTable.{forest-stands}
-use Rattle.xhstt_text.proofs.Places.{Holds, Holds-first, Holds-rest, Holds-next, Holds-within, Holds-range, Holds-get, Holds-middle, Holds-whole}
+use Rattle.xhstt_text.proofs.Parts.{Holds, Holds-first, Holds-rest, Holds-next, Holds-within, Holds-range, Holds-get, Holds-middle, Holds-whole}
 
 -- a span of what stands in a list lies within it
 held-span : {X : Type 0} (xs : List X) (at : ℕ) (ys : List X) (to : ℕ) → to ≡ at + length ys → Holds xs at ys → IsWithin (length xs) (span at to)

@@ -2,6 +2,7 @@ pub mod Bounds
 pub mod Complete
 pub mod DocumentTable
 pub mod ForestOfTable
-pub mod Places
+pub mod Parts
 pub mod Runs
 pub mod Sound
+pub mod Trees
