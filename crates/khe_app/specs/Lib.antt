@@ -3,6 +3,7 @@ pub mod FirstForm
 pub mod Lines
 pub mod Meets
 pub mod Numbered
+pub mod Outcome
 pub mod Report
 pub mod Resolved
 pub mod Words
