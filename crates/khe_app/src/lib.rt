@@ -4,16 +4,22 @@
 
 mod archive;
 mod completion;
+mod evaluating;
 mod first_form;
 mod instance_form;
 mod lines;
 mod measures;
 mod meets;
 mod numbered;
+mod program;
 mod reading;
 mod reports;
+mod resolving;
 mod values;
+mod words;
 
 pub use archive::{Archive, RawConstraint, RawEntry, RawEvent, RawGroup, RawInstance, RawSolution};
+pub use evaluating::{Answer, NumberedArchive};
 pub use meets::Meet;
 pub use numbered::{Numbered, NumberedMonitor};
+pub use program::{Status, Stop, khe};

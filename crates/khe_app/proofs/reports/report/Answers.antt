@@ -15,7 +15,7 @@ loop-number-preserved c =
     let rest = flat_map f (enumerate_from (i + 1) (drop (i + 1) solutions)) in
     let within : i < length solutions = subst (λ xs. i < length xs) c.as_slice-solution-items.ensures c.loop-number-test.true in
     let there : get_or solutions i solution ≡ solution =
-        sym (c.solution-item.is ∙ ap (λ xs. get_or xs i solution) c.as_slice-solution-items.ensures) in
+    sym (c.solution-item.is ∙ ap (λ xs. get_or xs i solution) c.as_slice-solution-items.ensures) in
     ap (λ t. t ++ rest) c.in_ok-push_solution.ensures
     ∙ append_assoc c.loop-number.text (f (i, solution)) rest
     ∙ ap (λ t. c.loop-number.text ++ t) (sym (rows-at f solutions i solution within there))
