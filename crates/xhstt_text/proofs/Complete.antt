@@ -86,7 +86,7 @@ begins_tag : (frames : List Frame) (r : Read) (at : ℕ) → step_content frames
 begins_tag [] r at = refl
 begins_tag (f ∷ fs) r at = refl
 
-begins_name : (frames : List Frame) (place : ℕ) (r : Read) (b : ℕ) → length frames < 32 → is_first b ≡ true → step_opened frames place r b ≡ state (start_name place (b ∷ [])) r
+pub begins_name : (frames : List Frame) (place : ℕ) (r : Read) (b : ℕ) → length frames < 32 → is_first b ≡ true → step_opened frames place r b ≡ state (start_name place (b ∷ [])) r
 begins_name [] place r b h e = rw e refl
 begins_name (f ∷ fs) place r b h e = let d : ltb (length (f ∷ fs)) 32 ≡ true = grind (arith, nat_tests) in rw (e, d) refl
 
@@ -153,7 +153,7 @@ run_short s r at number first rest e1 e2 d h =
 begins_end : (f : Frame) (fs : List Frame) (nodes : List Node) (attributes : List Attribute) (at : ℕ) (rest : List ℕ) → run content (record { frames = f ∷ fs; nodes = nodes; attributes = attributes }) at (60 ∷ 47 ∷ rest) ≡ run (shut_begin at) (record { frames = f ∷ fs; nodes = nodes; attributes = attributes }) (at + 1 + 1) rest
 begins_end f fs nodes attributes at rest = refl
 
-run_shut_name : (r : Read) (place at : ℕ) (name rest : List ℕ) → IsName name → run (shut_begin place) r at (name ++ rest) ≡ run (shut place name) r (at + length name) rest
+pub run_shut_name : (r : Read) (place at : ℕ) (name rest : List ℕ) → IsName name → run (shut_begin place) r at (name ++ rest) ≡ run (shut place name) r (at + length name) rest
 run_shut_name r place at [] rest h = absurd h
 run_shut_name r place at (b ∷ w) rest h =
     by_step (shut_begin place) r at b (w ++ rest) (shut place (b ∷ [])) r (rw h.0 refl)

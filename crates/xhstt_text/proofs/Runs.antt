@@ -30,16 +30,16 @@ white_isnt_first b h = grind (arith, nat_tests)
 pub white_isnt_name : (b : ℕ) → is_white b ≡ true → is_name b ≡ false
 white_isnt_name b h = grind (arith, nat_tests)
 
-quote_isnt_white : (b : ℕ) → is_quote b ≡ true → is_white b ≡ false
+pub quote_isnt_white : (b : ℕ) → is_quote b ≡ true → is_white b ≡ false
 quote_isnt_white b h = grind (arith, nat_tests)
 
 pub text_isnt_tag : (b : ℕ) → is_text b ≡ true → eqb b 60 ≡ false
 text_isnt_tag b h = grind (arith, nat_tests)
 
-same_number : (b : ℕ) → eqb b b ≡ true
+pub same_number : (b : ℕ) → eqb b b ≡ true
 same_number b = grind (arith, nat_tests)
 
-quote_isnt_quoted : (quote : ℕ) → is_quoted quote quote ≡ false
+pub quote_isnt_quoted : (quote : ℕ) → is_quoted quote quote ≡ false
 quote_isnt_quoted quote = grind (arith, nat_tests)
 
 pub first_not_name : (b : ℕ) → is_name b ≡ false → is_first b ≡ false

@@ -2,3 +2,4 @@ pub mod Bytes
 pub mod Document
 pub mod Forest
 pub mod Machine
+pub mod Reading

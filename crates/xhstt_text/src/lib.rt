@@ -1,8 +1,15 @@
 //! The text of an XHSTT archive: from bytes to the tree of its elements.
 #![tactic(auto)]
 
+mod bytes;
+mod cursor;
 mod faults;
+mod names;
+mod reader;
+mod table;
+mod tags;
 mod tree;
 
 pub use faults::TextFault;
+pub use reader::elements;
 pub use tree::{Attribute, Node, Span, Tree};

@@ -1,0 +1,11 @@
+use Rattle.xhstt_text.proofs.Answer.{spelled, alone, unspelled}
+use Rattle.xhstt_text.proofs.reader.elements.Goals as goal
+
+pub returns-clause-found : goal.returns-clause-found
+returns-clause-found c = spelled c.args.bytes.now c.read.result (λ tree. tree.nodes) (λ tree. tree.attributes) c.read.ensures.exact
+
+pub returns-clause-only : goal.returns-clause-only
+returns-clause-only c = alone c.args.bytes.now c.read.result (λ tree. tree.nodes) (λ tree. tree.attributes) c.read.ensures.exact
+
+pub returns-clause-not_built : goal.returns-clause-not_built
+returns-clause-not_built c = unspelled c.args.bytes.now c.read.result (λ tree. tree.nodes) (λ tree. tree.attributes) c.read.ensures.exact
