@@ -1,5 +1,5 @@
 -- Each step of the reader as the machine takes it.
-use Rattle.std.proofs.Common.{◌≡◌, ℕ, suc, ◌+◌, ◌<◌, ◌≤◌, Bool, true, false, cond, not, eqb, ltb, List, [], ◌∷◌, ◌++◌, length, set, map, reverse, Option, Some, None, Result, Ok, Err, refl, sym, ◌∙◌, ap, subst, arith, append-nil, append_assoc, length-append, add-zero}
+use Rattle.std.proofs.Common.{◌≡◌, ℕ, ◌+◌, ◌<◌, ◌≤◌, Bool, true, false, cond, not, eqb, List, [], ◌∷◌, ◌++◌, length, map, Option, Some, None, Result, Ok, Err, refl, sym, ◌∙◌, ap, subst, arith, length-append, add-zero}
 use Rattle.std.proofs.lemmas.Bool.Decides.{nat_tests}
 use Rattle.std.specs.Str.{bytes_eq}
 use Rattle.xhstt_text.specs.declared.faults.TextFault.TheVariants.{NotBuilt, NoMemory}
@@ -12,11 +12,11 @@ use Rattle.xhstt_text.proofs.Complete.{run_shut_name, begins_name, white_isnt_ta
 use Rattle.xhstt_text.specs.declared.tree.Attribute.{Attribute}
 use Rattle.xhstt_text.specs.declared.tree.Node.{Node}
 use Rattle.xhstt_text.specs.declared.tree.Span.{Span}
-use Rattle.xhstt_text.specs.Bytes.{is_white, is_first, is_name, is_text, is_quoted, is_quote, AllAre, IsWhite, IsGap, IsName}
-use Rattle.xhstt_text.specs.Document.{has_name, Rows, span}
-use Rattle.xhstt_text.specs.Machine.{Frame, Read, Tag, Phase, content, ended, opened, start_name, valued, in_tag, slash, attribute_name, named, equals, in_value, shut_begin, shut, shut_gap, State, Step, refused, state, first_loose, noted, resume, parent_of, open_element, add_node, opened_row, closed_row, close_element, attribute_row, with_name, start_of, step, step_content, step_opened, step_valued, step_named, step_shut, finish, and_then, run, Outcome, outcome_of}
-use Rattle.xhstt_text.specs.Reading.{Leads, Skips, TakesName, begins, is_byte, read_of, bare, NoEndTag, with_loose_text, frames_of, frame_of}
-use Rattle.xhstt_text.proofs.Runs.{by_step, run_loop, run_gap, run_attribute_name, name_from_first, text_from_white, white_isnt_first, white_isnt_name, text_isnt_tag, quote_isnt_white, quote_isnt_quoted, same_number}
+use Rattle.xhstt_text.specs.Bytes.{is_white, is_first, is_name, is_text, is_quoted, is_quote, AllAre, IsGap, IsName}
+use Rattle.xhstt_text.specs.Document.{has_name, span}
+use Rattle.xhstt_text.specs.Machine.{Frame, Read, Tag, Phase, content, ended, opened, start_name, valued, in_tag, slash, attribute_name, named, equals, in_value, shut_begin, shut, shut_gap, Step, refused, state, first_loose, noted, resume, open_element, close_element, attribute_row, with_name, start_of, step, and_then, run, Outcome}
+use Rattle.xhstt_text.specs.Reading.{Leads, Skips, TakesName, begins, is_byte, read_of, bare, with_loose_text, frames_of, frame_of}
+use Rattle.xhstt_text.proofs.Runs.{by_step, run_loop, run_gap, run_attribute_name, text_from_white, text_isnt_tag, quote_isnt_white, quote_isnt_quoted, same_number}
 
 -- over bytes at which the machine stays where it is
 pub over : (test : ℕ → Bool) (p : Phase) (r : Read) → ((at b : ℕ) → test b ≡ true → step p r at b ≡ state p r) → (at : ℕ) (bs : List ℕ) (to : ℕ) (rest : List ℕ) → Skips test at bs to rest → run p r at bs ≡ run p r to rest
@@ -117,7 +117,7 @@ same_end place tag first known r at (b ∷ bs) e d =
     let u : Tag = bare place tag first in
     let go : Step → Outcome = λ x. and_then x (λ s. run s.phase s.read (at + 1) bs) in
     let by : (v : Bool) → go (cond v (state (slash t) r) (cond (eqb b 62) (state content (open_element t r (at + 1))) refused)) ≡ go (cond v (state (slash u) r) (cond (eqb b 62) (state content (open_element u r (at + 1))) refused)) =
-      λ v. elim v as (λ v. go (cond v (state (slash t) r) (cond (eqb b 62) (state content (open_element t r (at + 1))) refused)) ≡ go (cond v (state (slash u) r) (cond (eqb b 62) (state content (open_element u r (at + 1))) refused))) [ true ↦ same_slash place tag first known r (at + 1) bs | false ↦ refl ] in
+    λ v. elim v as (λ v. go (cond v (state (slash t) r) (cond (eqb b 62) (state content (open_element t r (at + 1))) refused)) ≡ go (cond v (state (slash u) r) (cond (eqb b 62) (state content (open_element u r (at + 1))) refused))) [ true ↦ same_slash place tag first known r (at + 1) bs | false ↦ refl ] in
     rw (e, d) (by (eqb b 47))
 
 pub leaves_tag : (place : ℕ) (tag : List ℕ) (first : ℕ) (known : List (List ℕ)) (r : Read) (at : ℕ) (bs : List ℕ) (at1 : ℕ) (bs1 : List ℕ) → Skips is_white at bs at1 bs1 → begins is_first bs1 ≡ false → run (valued (named_tag place tag first known)) r at bs ≡ run (valued (bare place tag first)) r at1 bs1
@@ -261,7 +261,7 @@ over_first_text f fs nodes rows at [] rest h e n = absurd (omega arith)
 over_first_text f fs nodes rows at (b ∷ w) rest h e n =
     let g : Frame = with_loose_text f (loose_or f.node.loose at) in
     by_step content (read_of (f ∷ fs) nodes rows) at b (w ++ rest) content (read_of (g ∷ fs) nodes rows)
-      (text_step f fs nodes rows at b h.0 ∙ ap (λ (o : Option ℕ). state content (read_of (with_loose_text f o ∷ fs) nodes rows)) (new_loose f.node.loose at b e))
+    (text_step f fs nodes rows at b h.0 ∙ ap (λ (o : Option ℕ). state content (read_of (with_loose_text f o ∷ fs) nodes rows)) (new_loose f.node.loose at b e))
     ∙ over_loose_text g fs nodes rows (is_loose f.node.loose at) (loose_known f.node.loose at) w (at + 1) rest h.1
     ∙ ap (λ n. run content (read_of (g ∷ fs) nodes rows) n rest) (omega arith)
 

@@ -1,5 +1,5 @@
 -- A name more in a set of names.
-use Rattle.std.proofs.Common.{◌≡◌, ℕ, Bool, true, false, ◌||◌, List, [], ◌∷◌, refl, sym, ◌∙◌, ap, subst, nat_cmp}
+use Rattle.std.proofs.Common.{◌≡◌, ℕ, Bool, true, false, ◌||◌, List, [], ◌∷◌, refl, sym, ◌∙◌, ap, nat_cmp}
 use Rattle.std.specs.List.{list_any}
 use Rattle.std.specs.Borrow.{Bor}
 use Rattle.std.specs.declared.cmp.Ordering.{Ordering}
@@ -37,6 +37,7 @@ found_at : (bs : List ℕ) (key x : Bor (List ℕ)) (ks : List (Bor (List ℕ)))
 found_at bs key x ks Less e h = refl
 found_at bs key x ks Equal e h = same_or (finds bs key) (finds bs x) (list_any (finds bs) ks) (ap (λ (k : List ℕ). is_eq (slice_cmp nat_cmp bs k)) (same_name key x e))
 found_at bs key x ks Greater e h = ap (λ v. finds bs x || v) h ∙ swap_or (finds bs key) (finds bs x) (list_any (finds bs) ks)
+
 found_after : (bs : List ℕ) (key : Bor (List ℕ)) (ks : List (Bor (List ℕ))) → list_any (finds bs) (insert_key compare ks key) ≡ (finds bs key || list_any (finds bs) ks)
 found_after bs key [] = refl
 found_after bs key (x ∷ ks) = found_at bs key x ks (compare key x) refl (found_after bs key ks)

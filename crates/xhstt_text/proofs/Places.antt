@@ -1,7 +1,6 @@
 -- From one place to another.
-use Rattle.std.proofs.Common.{◌≡◌, ℕ, ◌+◌, ◌<◌, ◌≤◌, Bool, true, false, cond, List, [], ◌∷◌, ◌++◌, length, get_or, take, drop, refl, sym, ◌∙◌, ap, subst, arith, add-zero}
+use Rattle.std.proofs.Common.{◌≡◌, ℕ, ◌+◌, ◌<◌, Bool, true, false, cond, List, [], ◌∷◌, ◌++◌, length, get_or, take, drop, refl, sym, ◌∙◌, ap, subst, arith}
 use Rattle.std.proofs.Math.Numerals.{one-add}
-use Rattle.std.proofs.lemmas.List.Sums.{prefix_len-le-length}
 use Rattle.std.specs.List.{prefix_len}
 use Rattle.xhstt_text.specs.Bytes.{AllAre, is_first, is_name, IsName}
 use Rattle.xhstt_text.specs.Reading.{Skips, TakesName, begins}
@@ -40,9 +39,12 @@ takes_name at bs name to rest n f e t d r =
     let k = skips_from is_name at bs to rest n e d r in
     let same : n ≡ length k.0 = omega (arith, k.3) in
     let is : name ≡ k.0 = t ∙ ap (λ x. take x bs) same ∙ ap (λ (x : List ℕ). take (length k.0) x) k.2 ∙ take_front k.0 rest in
-    let whole : bs ≡ name ++ rest = k.2 ∙ ap (λ (x : List ℕ). x ++ rest) (sym is) in
-    (subst (λ (x : List ℕ). IsName x) (sym is) (name_is k.0 rest (subst (λ (x : List ℕ). begins is_first x ≡ true) k.2 f) k.1 k.4),
-      whole, k.3 ∙ ap (λ (x : List ℕ). at + length x) (sym is), k.4)
+    let whole : bs ≡ name ++ rest = k.2 ∙ ap (λ (x : List ℕ). x ++ rest) (sym is) in (
+      subst (λ (x : List ℕ). IsName x) (sym is) (name_is k.0 rest (subst (λ (x : List ℕ). begins is_first x ≡ true) k.2 f) k.1 k.4),
+      whole,
+      k.3 ∙ ap (λ (x : List ℕ). at + length x) (sym is),
+      k.4,
+    )
 
 pub begins_at : (test : ℕ → Bool) (bs : List ℕ) → 0 < length bs → test (get_or bs 0 0) ≡ true → begins test bs ≡ true
 begins_at test [] h e = absurd (omega arith)

@@ -1,11 +1,10 @@
 -- What the machine does over some bytes in a row.
-use Rattle.std.proofs.Common.{◌≡◌, ℕ, zero, suc, ◌+◌, ◌<◌, Bool, true, false, ◌||◌, eqb, ltb, List, [], ◌∷◌, ◌++◌, length, set, Option, Some, None, Result, Ok, Err, refl, sym, ◌∙◌, ap, subst, ◌⊎◌, inl, inr, arith, append-nil, append_assoc, length-append, add_assoc, add-zero}
+use Rattle.std.proofs.Common.{◌≡◌, ℕ, ◌+◌, Bool, true, false, eqb, List, [], ◌∷◌, ◌++◌, length, refl, ◌∙◌, ap, arith, append-nil, append_assoc, add-zero}
 use Rattle.std.proofs.lemmas.Bool.Decides.{nat_tests}
-use Rattle.std.specs.Str.{bytes_eq}
 use Rattle.xhstt_text.specs.Bytes.{is_white, is_first, is_name, is_text, is_quoted, is_quote, AllAre, IsWhite, IsGap, IsName}
-use Rattle.xhstt_text.specs.Document.{has_name, Rows, span}
+use Rattle.xhstt_text.specs.Document.{has_name}
 use Rattle.xhstt_text.specs.declared.tree.Attribute.{Attribute}
-use Rattle.xhstt_text.specs.Machine.{Frame, Read, Tag, Phase, content, ended, opened, start_name, valued, in_tag, slash, attribute_name, named, equals, in_value, shut_begin, shut, shut_gap, State, Step, refused, state, noted, resume, open_element, add_node, opened_row, close_element, attribute_row, with_name, start_of, step, step_valued, step_named, step_shut, finish, and_then, run, Outcome}
+use Rattle.xhstt_text.specs.Machine.{Read, Tag, Phase, valued, in_tag, attribute_name, named, equals, in_value, Step, state, attribute_row, with_name, step, and_then, run}
 
 pub by_step : (p : Phase) (r : Read) (at b : ℕ) (bs : List ℕ) (q : Phase) (s : Read) → step p r at b ≡ state q s → run p r at (b ∷ bs) ≡ run q s (at + 1) bs
 by_step p r at b bs q s e = ap (λ (x : Step). and_then x (λ s. run s.phase s.read (at + 1) bs)) e

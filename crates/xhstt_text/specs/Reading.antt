@@ -1,12 +1,12 @@
 -- How the parts of the reader follow the machine.
-use Rattle.std.specs.Prelude.{ℕ, ◌≡◌, ◌+◌, Bool, true, false, ◌==◌, List, [], ◌∷◌, ◌++◌, length, map, reverse, Option, Some, None, Result, Ok, Err}
+use Rattle.std.specs.Prelude.{ℕ, ◌≡◌, ◌+◌, Bool, false, ◌==◌, List, [], ◌∷◌, ◌++◌, length, map, reverse, Option, None, Result, Ok, Err}
 use Rattle.std.specs.Borrow.{Bor}
 use Rattle.std.specs.BTreeSet.{BTreeSet, contains_by}
 use Rattle.std.specs.Cmp.Lexicographic.{slice_cmp}
 use Rattle.std.specs.Ordering.{nat_cmp}
-use Rattle.xhstt_text.specs.Bytes.{AllAre, IsName, is_name, is_first}
+use Rattle.xhstt_text.specs.Bytes.{AllAre, IsName, is_name}
 use Rattle.xhstt_text.specs.Document.{has_name}
-use Rattle.xhstt_text.specs.Machine.{Frame, Read, Tag, Phase, Outcome, run, start_name, valued, attribute_name, with_name, attribute_row, opened, content, resume, opened_row, closed_row}
+use Rattle.xhstt_text.specs.Machine.{Frame, Read, Tag, Outcome}
 use Rattle.xhstt_text.specs.declared.tree.Node.{Node}
 use Rattle.xhstt_text.specs.declared.tree.Attribute.{Attribute}
 use Rattle.xhstt_text.specs.declared.faults.TextFault.{TextFault}

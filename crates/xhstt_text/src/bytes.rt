@@ -57,7 +57,10 @@ fn text_length(bytes: &[u8]) -> usize
 fn quoted_length(quote: u8, bytes: &[u8]) -> usize
     ensures { result ≡ prefix_len (is_quoted quote) bytes.now }
 {
-    bytes.iter().take_while(|byte| is_quoted(quote, **byte)).count()
+    bytes
+        .iter()
+        .take_while(|byte| is_quoted(quote, **byte))
+        .count()
 }
 
 // The place so many bytes later.

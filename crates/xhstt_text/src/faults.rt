@@ -5,8 +5,8 @@ use thiserror::Error;
 /// Why bytes are not read as a tree of elements.
 #[derive(Clone, Copy, Debug, PartialEq, Eq, Error)]
 pub enum TextFault {
-    /// The text is not one of the forms that this reader knows so far.
-    #[error("a text that is not read yet")]
+    /// The bytes spell no text of the form that this reader knows.
+    #[error("not a text of the form that is read")]
     NotBuilt,
     /// Memory was refused.
     #[error("out of memory")]

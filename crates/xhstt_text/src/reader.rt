@@ -5,8 +5,6 @@ ghost use Rattle.xhstt_text.specs.Machine.{outcome_of, run, ended, Outcome};
 ghost use Rattle.xhstt_text.specs.Reading.{Leads, read_of};
 ghost use Rattle.xhstt_text.specs.declared.faults.TextFault.TheVariants.{NotBuilt};
 
-
-
 use crate::TextFault;
 use crate::bytes::white;
 use crate::cursor::Cursor;
@@ -76,4 +74,83 @@ pub fn elements<'a>(alloc: Global, bytes: &'a [u8]) -> Result<Tree<'a>, TextFaul
     ensures not_built { result ≡ Err NotBuilt → (d : Document) → IsDocument d → bytes.now ≡ spelling d → ⊥ }
 {
     read(alloc, bytes)
+}
+
+#[cfg(test)]
+mod tests {
+    use super::*;
+    use crate::tree::{Attribute, Node, Span};
+    use std::test::Fail;
+
+    #[test]
+    fn reads_each_row(rt: HostRuntime) -> Result<(), Fail> {
+        let tree = elements(rt.alloc(), b"<a x='1'><b/>u<c>v</c></a>")?;
+        let outer = Node {
+            at: 0,
+            name: Span { from: 1, to: 2 },
+            parent: None,
+            end: 3,
+            attributes: Span { from: 0, to: 1 },
+            value: Span { from: 9, to: 22 },
+            loose: Some(13),
+        };
+        let first = Node {
+            at: 9,
+            name: Span { from: 10, to: 11 },
+            parent: Some(0),
+            end: 2,
+            attributes: Span { from: 1, to: 1 },
+            value: Span { from: 13, to: 13 },
+            loose: None,
+        };
+        let second = Node {
+            at: 14,
+            name: Span { from: 15, to: 16 },
+            parent: Some(0),
+            end: 3,
+            attributes: Span { from: 1, to: 1 },
+            value: Span { from: 17, to: 18 },
+            loose: Some(17),
+        };
+        let attribute = Attribute {
+            at: 3,
+            name: Span { from: 3, to: 4 },
+            value: Span { from: 6, to: 7 },
+        };
+        assert_eq!(rt; tree.nodes.as_slice(), [outer, first, second].as_slice());
+        assert_eq!(rt; tree.attributes.as_slice(), [attribute].as_slice());
+        Ok(())
+    }
+
+    fn is_read(rt: &HostRuntime, text: &str) -> bool
+        requires { length text.now < 2 ^ 32 }
+    {
+        elements(rt.alloc(), text.as_bytes()).is_ok()
+    }
+
+    #[test]
+    fn reads_texts(rt: HostRuntime) {
+        assert!(rt; is_read(&rt, "<a/>"));
+        assert!(rt; is_read(&rt, " \t\r\n<a >\n</a >\n"));
+        assert!(rt; is_read(&rt, "<_.-9 a = '\"' b=\"'>\" />"));
+        assert!(rt; is_read(&rt, "<a>x<b/>y<b>z</b></a>"));
+    }
+
+    #[test]
+    fn refuses_other_texts(rt: HostRuntime) {
+        assert!(rt; !is_read(&rt, ""));
+        assert!(rt; !is_read(&rt, "x"));
+        assert!(rt; !is_read(&rt, "<a>"));
+        assert!(rt; !is_read(&rt, "<a></b>"));
+        assert!(rt; !is_read(&rt, "<a></a"));
+        assert!(rt; !is_read(&rt, "</a>"));
+        assert!(rt; !is_read(&rt, "<a/>x"));
+        assert!(rt; !is_read(&rt, "<a/><a/>"));
+        assert!(rt; !is_read(&rt, "<1/>"));
+        assert!(rt; !is_read(&rt, "<a x='1' x='2'/>"));
+        assert!(rt; !is_read(&rt, "<a x='1'y='2'/>"));
+        assert!(rt; !is_read(&rt, "<a x/>"));
+        assert!(rt; !is_read(&rt, "<a x='<'/>"));
+        assert!(rt; !is_read(&rt, "<a>&amp;</a>"));
+    }
 }

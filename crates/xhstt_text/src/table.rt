@@ -72,9 +72,9 @@ impl<'a> Table<'a> {
         ensures nodes { OnOk result (self.new.nodes.items ≡ self.old.nodes.items ++ row_from tag.entry (length self.old.nodes.items) (length self.old.attributes.items) from ∷ []) }
         ensures attributes { self.new.attributes.items ≡ self.old.attributes.items }
         ensures stack { OnOk result (self.new.stack.items ≡ self.old.stack.items ++ record {
-            number = length self.old.nodes.items;
-            name = tag.entry.name;
-            node = row_from tag.entry (length self.old.nodes.items) (length self.old.attributes.items) from;
+          number = length self.old.nodes.items;
+          name = tag.entry.name;
+          node = row_from tag.entry (length self.old.nodes.items) (length self.old.attributes.items) from;
         } ∷ []) }
     {
         let number = self.nodes.len() as u32;

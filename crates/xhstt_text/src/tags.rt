@@ -37,7 +37,7 @@ fn value<'a>(here: Cursor<'a>) -> Result<(Span, Cursor<'a>), TextFault>
     requires { begins is_name here.rest.now ≡ false }
     ensures leads { (t : Tag) (place : ℕ) (known : List ℕ) (r : Read) → has_name known t.names ≡ false →
         Leads result (run (attribute_name t place known) r here.entry.at here.entry.rest.now)
-            (λ v. run (valued (with_name t known)) (record r { attributes = r.attributes ++ attribute_row place known v.0.from v.0.to ∷ [] }) v.1.at v.1.rest.now) }
+        (λ v. run (valued (with_name t known)) (record r { attributes = r.attributes ++ attribute_row place known v.0.from v.0.to ∷ [] }) v.1.at v.1.rest.now) }
     ensures onward { IfOk result (λ v. (length v.1.rest.now ≤ length here.entry.rest.now) × (here.entry.at ≤ v.1.at)) }
 {
     let Some(equal) = past(white(here), b'=') else {
@@ -65,7 +65,7 @@ fn attributes<'a>(
 ) -> Result<Cursor<'a>, TextFault>
     ensures leads { (frames : List Frame) (nodes : List Node) (place : ℕ) (tag : List ℕ) (first : ℕ) →
         Leads result (run (valued (bare place tag first)) (read_of frames nodes rows.old.items) from.entry.at from.entry.rest.now)
-            (λ q. run (valued (bare place tag first)) (read_of frames nodes rows.new.items) q.at q.rest.now) }
+        (λ q. run (valued (bare place tag first)) (read_of frames nodes rows.new.items) q.at q.rest.now) }
     ensures ends { IfOk result (λ q. (begins is_first q.rest.now ≡ false) × (begins is_white q.rest.now ≡ false)) }
     ensures onward { IfOk result (λ q. (length q.rest.now ≤ length from.entry.rest.now) × (from.entry.at ≤ q.at)) }
 {
@@ -100,7 +100,7 @@ fn attributes<'a>(
 fn content_text<'a>(here: Cursor<'a>, loose: Option<u64>) -> (Cursor<'a>, Option<u64>)
     ensures leads { (f : Frame) (fs : List Frame) (nodes : List Node) (rows : List Attribute) → f.node.loose ≡ loose →
         run content (read_of (f ∷ fs) nodes rows) here.entry.at here.entry.rest.now
-            ≡ run content (read_of (with_loose_text f result.1 ∷ fs) nodes rows) result.0.at result.0.rest.now }
+        ≡ run content (read_of (with_loose_text f result.1 ∷ fs) nodes rows) result.0.at result.0.rest.now }
     ensures stops { begins is_text result.0.rest.now ≡ false }
     ensures onward { length result.0.rest.now ≤ length here.entry.rest.now }
     ensures place { here.entry.at ≤ result.0.at }

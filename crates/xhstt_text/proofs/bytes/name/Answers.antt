@@ -1,4 +1,4 @@
-use Rattle.std.proofs.Common.{arith, length, ℕ, refl, sym, ◌∙◌, take}
+use Rattle.std.proofs.Common.{arith, refl, sym, ◌∙◌, take}
 use Rattle.std.proofs.lemmas.List.Sums.{prefix_len-le-length}
 use Rattle.xhstt_text.specs.Bytes.{is_first, is_name}
 use Rattle.xhstt_text.proofs.Places.{takes_name, begins_at}

@@ -1,4 +1,4 @@
-use Rattle.std.proofs.Common.{arith, length, ℕ}
+use Rattle.std.proofs.Common.{arith}
 use Rattle.std.proofs.lemmas.List.Sums.{prefix_len-le-length}
 use Rattle.xhstt_text.specs.Bytes.{is_white}
 use Rattle.xhstt_text.proofs.Places.{skips_from}

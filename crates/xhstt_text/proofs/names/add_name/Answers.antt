@@ -1,4 +1,3 @@
-use Rattle.std.proofs.Common.{List, ℕ}
 use Rattle.xhstt_text.specs.Document.{has_name}
 use Rattle.xhstt_text.proofs.KnownNames.{holds_more}
 use Rattle.xhstt_text.proofs.names.add_name.Goals as goal

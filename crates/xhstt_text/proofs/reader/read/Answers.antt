@@ -1,4 +1,4 @@
-use Rattle.std.proofs.Common.{◌∙◌, []}
+use Rattle.std.proofs.Common.{◌∙◌}
 use Rattle.xhstt_text.proofs.Follow.{more_after, at_text_end, some_left, none_left}
 use Rattle.xhstt_text.proofs.reader.read.Goals as goal
 

@@ -1,11 +1,8 @@
-use Rattle.std.proofs.Common.{◌≡◌, ◌<◌, ◌≤◌, ◌+◌, ◌∷◌, ◌++◌, ℕ, List, true, false, not, length, [], refl, sym, ◌∙◌, ap, arith, length-append}
-use Rattle.std.proofs.lemmas.Result.{err_from_is_err_and}
-use Rattle.xhstt_text.specs.Bytes.{is_first, is_name, is_text, is_white, is_quote}
+use Rattle.std.proofs.Common.{◌≡◌, ◌<◌, ◌∷◌, false, length, [], refl, ◌∙◌, arith}
+use Rattle.xhstt_text.specs.Bytes.{is_white}
 use Rattle.xhstt_text.specs.Document.{has_name}
-use Rattle.xhstt_text.specs.Machine.{Frame, Tag, Read, run, valued, attribute_name, with_name, attribute_row}
-use Rattle.xhstt_text.specs.Reading.{Leads, Skips, TakesName, begins, read_of, bare}
-use Rattle.xhstt_text.specs.declared.tree.Attribute.{Attribute}
-use Rattle.xhstt_text.specs.declared.tree.Node.{Node}
+use Rattle.xhstt_text.specs.Machine.{Tag, Read}
+use Rattle.xhstt_text.specs.Reading.{read_of}
 use Rattle.xhstt_text.proofs.Follow.{named_tag, leaves_tag, no_gap, repeated, over_attribute_name, passes_on, skip_length, take_length, known_name, new_name, over_attribute}
 use Rattle.xhstt_text.proofs.tags.attributes.Goals as goal
 
@@ -58,8 +55,8 @@ returns-in_err-value-clause-leads c = λ frames nodes place tag first.
     let r : Read = read_of frames nodes c.attributes.rows.items in
     let new : has_name c.in-Some.found.now known ≡ false = new_name _ _ (c.in_ok-add_name.ensures.new known c.attributes.invariant.follows.1) c.if-not-branch.false in
     passes_on c.from_residual-in_err-value.result c.in_err-value.field-0.0 _ _ _ _ c.from_residual-in_err-value.ensures.1
-      (c.attributes.invariant.follows.2 frames nodes place tag first ∙ over_attribute_name t r h.at h.rest.now a.at a.rest.now c.in-Some.found.now d.at d.rest.now c.white-start.ensures c.in-Some.ensures c.if-start-here.false)
-      (c.in_err-value.ensures.leads t a.at c.in-Some.found.now r new)
+    (c.attributes.invariant.follows.2 frames nodes place tag first ∙ over_attribute_name t r h.at h.rest.now a.at a.rest.now c.in-Some.found.now d.at d.rest.now c.white-start.ensures c.in-Some.ensures c.if-start-here.false)
+    (c.in_err-value.ensures.leads t a.at c.in-Some.found.now r new)
 
 shorter : (c : goal.In_ok-push) → length c.in_ok-value.end.rest.now < length c.attributes.here.rest.now
 shorter c =
@@ -82,11 +79,15 @@ attributes-preserved c =
     let held = c.attributes.invariant.follows.1 in
     let new : has_name found known ≡ false = new_name _ _ (c.in_ok-add_name.ensures.new known held) c.if-not-branch.false in
     record {
-      follows = (found ∷ known, c.in_ok-add_name.ensures.added known held, λ frames nodes place tag first.
-        let t : Tag = named_tag place tag first known in
-        let r : Read = read_of frames nodes c.attributes.rows.items in
-        c.attributes.invariant.follows.2 frames nodes place tag first
-        ∙ over_attribute t r h.at h.rest.now a.at a.rest.now found d.at d.rest.now c.in_ok-value.value z.at z.rest.now c.push.new.self.items c.white-start.ensures c.in-Some.ensures c.if-start-here.false (c.in_ok-value.ensures.leads t a.at found r new) c.in_ok-push.ensures.items);
+      follows = (
+        found ∷ known,
+        c.in_ok-add_name.ensures.added known held,
+        λ frames nodes place tag first.
+            let t : Tag = named_tag place tag first known in
+            let r : Read = read_of frames nodes c.attributes.rows.items in
+            c.attributes.invariant.follows.2 frames nodes place tag first
+            ∙ over_attribute t r h.at h.rest.now a.at a.rest.now found d.at d.rest.now c.in_ok-value.value z.at z.rest.now c.push.new.self.items c.white-start.ensures c.in-Some.ensures c.if-start-here.false (c.in_ok-value.ensures.leads t a.at found r new) c.in_ok-push.ensures.items,
+      );
       onward = omega (arith, shorter c, c.attributes.invariant.onward);
       place = omega (arith, c.attributes.invariant.place, c.in_ok-value.ensures.onward, skip_length is_white h.at h.rest.now a.at a.rest.now c.white-start.ensures, take_length a.at a.rest.now found d.at d.rest.now c.in-Some.ensures);
     }

@@ -18,5 +18,5 @@ returns-clause-leads c =
     let i = c.in-Some.inside in
     let n = c.start_tag.new.table in
     leads_from c.start_tag.result (run content (read_of [] [] []) h.at h.rest.now) _ (λ q. run (resume (frames_of n.stack.items)) (read_of (frames_of n.stack.items) n.nodes.items n.attributes.items) q.at q.rest.now)
-      (over_root t.stack.items t.nodes.items t.attributes.items h.at h.rest.now a.at a.rest.now i.at i.rest.now c.requires.stack c.requires.nodes c.requires.attributes c.white-tag.ensures c.in-Some.ensures)
-      c.start_tag.ensures.leads
+    (over_root t.stack.items t.nodes.items t.attributes.items h.at h.rest.now a.at a.rest.now i.at i.rest.now c.requires.stack c.requires.nodes c.requires.attributes c.white-tag.ensures c.in-Some.ensures)
+    c.start_tag.ensures.leads
