@@ -1,3 +1,4 @@
 pub mod MeetsLemmas
+pub mod MonitorsLemmas
 pub mod References
 pub mod Rows

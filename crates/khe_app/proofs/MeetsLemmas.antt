@@ -20,7 +20,7 @@ deviation-cons : (m : Meet) (ms : List Meet) (e : ℕ) → deviation (m ∷ ms) 
 deviation-cons m ms e = by (m.event == e) (is_none m.start)
   where
     by : (a b : Bool) → sum_by (λ x. x.duration) (if a && b then m ∷ filter (λ x. (x.event == e) && is_none x.start) ms else filter (λ x. (x.event == e) && is_none x.start) ms)
-      ≡ (if a then (if b then m.duration else 0) else 0) + deviation ms e
+        ≡ (if a then (if b then m.duration else 0) else 0) + deviation ms e
     by true true = sum_by-cons (λ x. x.duration) m (filter (λ x. (x.event == e) && is_none x.start) ms)
     by true false = sym (zero-add _)
     by false b = sym (zero-add _)

@@ -1,5 +1,6 @@
 pub mod Deviation
 pub mod FirstForm
+pub mod Limits
 pub mod Lines
 pub mod Meets
 pub mod Numbered

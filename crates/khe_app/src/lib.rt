@@ -3,14 +3,19 @@
 #![tactic(auto)]
 
 mod archive;
+mod bounds;
 mod completion;
 mod first_form;
 mod instance_form;
 mod lines;
 mod measures;
 mod meets;
+mod monitors;
+mod named;
 mod numbered;
 mod reading;
+mod resolving;
+mod solutions;
 mod values;
 
 pub use archive::{Archive, RawConstraint, RawEntry, RawEvent, RawGroup, RawInstance, RawSolution};

@@ -13,10 +13,10 @@ pub returns-in-None : goal.returns-in-None
 unfolding nobody
 returns-in-None c =
     sym (deviation-is c.args.meets.now c.args.event nobody c.requires.ordered c.requires.event
-      ∙ ap (λ s. if is_none s then (get_or c.args.meets.now c.args.event nobody).duration else 0) c.in-None.is)
+    ∙ ap (λ s. if is_none s then (get_or c.args.meets.now c.args.event nobody).duration else 0) c.in-None.is)
 
 pub returns-in-Some : goal.returns-in-Some
 unfolding nobody
 returns-in-Some c =
     sym (deviation-is c.args.meets.now c.args.event nobody c.requires.ordered c.requires.event
-      ∙ ap (λ s. if is_none s then (get_or c.args.meets.now c.args.event nobody).duration else 0) c.in-Some.is)
+    ∙ ap (λ s. if is_none s then (get_or c.args.meets.now c.args.event nobody).duration else 0) c.in-Some.is)
