@@ -2,15 +2,30 @@ ghost use Rattle.std.specs.Prelude.{◌≡◌, ◌↔◌, ◌<◌, ◌≤◌, �
 ghost use Rattle.std.specs.List.{list_all};
 ghost use Rattle.khe_base.specs.declared.limits.TheConstants.{DURATION, UNIT, WEIGHT};
 ghost use Rattle.khe_base.specs.Units.{IsUnit};
-ghost use Rattle.khe_app.specs.Limits.{HasBoundedCounts, AreBounded};
+ghost use Rattle.khe_app.specs.Limits.{HasBounds, HasBoundedCounts, AreBounded};
 
 use crate::archive::{Archive, RawConstraint, RawEvent};
 use khe_base::{NoMemory, Seq, common_unit, limits};
 use std::alloc::Global;
 
+/// Whether an archive keeps the limits on its counts, weights and durations. It takes time and
+/// memory linear in the archive.
+pub(crate) fn has_bounds(alloc: Global, archive: &Archive) -> Result<bool, NoMemory>
+    ensures { IfOk result (λ b. IsTrue b ↔ HasBounds archive.now) }
+{
+    let instance = &archive.instance;
+    if !has_bounded_counts(archive) {
+        return Ok(false);
+    }
+    if !has_bounded_weights(instance.constraints.as_slice()) {
+        return Ok(false);
+    }
+    has_bounded_durations(alloc, instance.events.as_slice())
+}
+
 /// Whether an archive has at most so many times, events, constraints and solutions as the limits
 /// allow.
-pub(crate) fn has_bounded_counts(archive: &Archive) -> bool
+fn has_bounded_counts(archive: &Archive) -> bool
     ensures { IsTrue result ↔ HasBoundedCounts archive.now }
 {
     archive.instance.times.len() <= limits::TIMES as usize
@@ -20,14 +35,14 @@ pub(crate) fn has_bounded_counts(archive: &Archive) -> bool
 }
 
 /// Whether each constraint's weight is within the limit.
-pub(crate) fn has_bounded_weights(constraints: &[RawConstraint]) -> bool
+fn has_bounded_weights(constraints: &[RawConstraint]) -> bool
     ensures { result ≡ list_all (λ c. nat_le c.weight WEIGHT) constraints.now }
 {
     constraints.iter().all(|c| c.weight <= limits::WEIGHT)
 }
 
 /// Whether the durations of events have a sum and a least common multiple within the limits.
-pub(crate) fn has_bounded_durations(alloc: Global, events: &[RawEvent]) -> Result<bool, NoMemory>
+fn has_bounded_durations(alloc: Global, events: &[RawEvent]) -> Result<bool, NoMemory>
     ensures { IfOk result (λ b. IsTrue b ↔ AreBounded (map (λ e. e.duration) events.now)) }
 {
     let durations = durations_of(alloc, events)?;

@@ -1,4 +1,4 @@
-ghost use Rattle.std.specs.Prelude.{◌≡◌, List, ℕ, map, Some, None, if◌then◌else◌, IfOk};
+ghost use Rattle.std.specs.Prelude.{◌≡◌, true, false, List, ℕ, map, MatchOption, IfOk};
 ghost use Rattle.khe_base.specs.Names.{are_distinct};
 
 use crate::archive::{RawConstraint, RawEntry, RawEvent};
@@ -44,7 +44,8 @@ pub(crate) fn numbered_by_name<T: Named>(
     alloc: Global,
     items: &[T],
 ) -> Result<Option<Names>, NoMemory>
-    ensures { IfOk result (λ n. n ≡ (if are_distinct (map T.name items.now) then Some (map T.name items.now) else None)) }
+    ensures { IfOk result (λ r. MatchOption r (are_distinct (map T.name items.now) ≡ false)
+        (λ n. (n ≡ map T.name items.now) × (are_distinct (map T.name items.now) ≡ true))) }
 {
     let mut names = Names::new(alloc);
     for item in items {

@@ -1,5 +1,5 @@
 -- A name that is already among the earlier ones comes twice in the list.
-use Rattle.std.proofs.Common.{◌≡◌, ◌∙◌, ◌<◌, ap, sym, subst, true, not, Some, None, if◌then◌else◌, take, map, length, get_or}
+use Rattle.std.proofs.Common.{◌≡◌, ◌∙◌, ◌<◌, ap, sym, subst, true, not, take, map, length, get_or}
 use Rattle.std.specs.List.{take-map}
 use Rattle.std.proofs.lemmas.Bool.{not-false}
 use Rattle.std.proofs.lemmas.List.{get_or-map, length-map}
@@ -19,4 +19,4 @@ returns-then-not-branch g c =
     let seen : is_among_names n (take i (map name items)) ≡ true =
     (λ j. is_among_names (sym c.name.ensures j) ((take-map name i items ∙ sym c.loop-item.invariant.0) j)) ∙ not-false _ (sym c.in_ok-insert.ensures.new ∙ c.if-not-branch.true)
     in
-    sym (ap (λ b. if b then Some (map name items) else None) (are_distinct-repeated (map name items) i n within at seen))
+    are_distinct-repeated (map name items) i n within at seen
