@@ -1,4 +1,5 @@
 pub mod MeetsLemmas
 pub mod MonitorsLemmas
+pub mod PointsLemmas
 pub mod References
 pub mod Rows

@@ -4,6 +4,7 @@ pub mod Limits
 pub mod Lines
 pub mod Meets
 pub mod Numbered
+pub mod Outcome
 pub mod Report
 pub mod Resolved
 pub mod Words

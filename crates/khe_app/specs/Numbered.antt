@@ -1,5 +1,5 @@
 -- What the numbers of an instance's names stand for.
-use Rattle.std.specs.Prelude.{ℕ, ◌≡◌, Option, Some, List, [], map, slice_get}
+use Rattle.std.specs.Prelude.{ℕ, ◌≡◌, ◌<◌, Option, Some, List, [], map, slice_get, All, length}
 use Rattle.std.specs.List.{filter_map}
 use Rattle.std.specs.Option.{option_map}
 use Rattle.khe_base.specs.Names.{number_of}
@@ -27,4 +27,5 @@ numbered_points events constraint refs = points_after events constraint [] refs
 pub record IsNumbered (inst : RawInstance) (numbers : Numbered) : Type 0 where
   pub times : numbers.times ≡ inst.times
   pub events : numbers.events ≡ event_ids inst
+  pub points : All (λ m. m.event < length inst.events) numbers.monitors
   pub monitors : map (monitor_at inst.constraints) numbers.monitors ≡ map Some (monitors inst)

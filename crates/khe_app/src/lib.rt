@@ -14,6 +14,7 @@ mod monitors;
 mod named;
 mod numbered;
 mod reading;
+mod reports;
 mod resolving;
 mod solutions;
 mod values;

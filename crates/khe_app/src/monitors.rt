@@ -1,4 +1,4 @@
-ghost use Rattle.std.specs.Prelude.{◌≡◌, ◌++◌, true, false, IfOk, MatchOption, map, Some, is_some};
+ghost use Rattle.std.specs.Prelude.{◌≡◌, ◌<◌, ◌++◌, All, length, true, false, IfOk, MatchOption, map, Some, is_some};
 ghost use Rattle.std.specs.Bool.{OnTrue};
 ghost use Rattle.std.specs.List.{list_all};
 ghost use Rattle.khe_base.specs.Names.{number_of};
@@ -24,7 +24,8 @@ pub(crate) fn numbered_monitors(
     ensures { IfOk result (λ r. MatchOption r
         (list_all (applies_to_events instance.now) instance.now.constraints ≡ false)
         (λ ms. (list_all (applies_to_events instance.now) instance.now.constraints ≡ true)
-        × (map (monitor_at instance.now.constraints) ms ≡ map Some (monitors instance.now)))) }
+        × (map (monitor_at instance.now.constraints) ms ≡ map Some (monitors instance.now))
+        × All (λ m. m.event < length instance.now.events) ms)) }
 {
     let mut monitors = Seq::new(alloc);
     for (number, constraint) in instance.constraints.as_slice().iter().enumerate() {

@@ -1,4 +1,7 @@
+pub mod Bytes
+pub mod Document
 pub mod Escape
 pub mod FlatTable
 pub mod Forest
 pub mod Handles
+pub mod Machine

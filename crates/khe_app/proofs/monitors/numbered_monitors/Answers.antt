@@ -1,12 +1,12 @@
 -- A constraint whose references all name events adds its monitors.
-use Rattle.std.proofs.Common.{◌≡◌, ◌∙◌, ◌<◌, ◌+◌, ◌++◌, ap, sym, subst, true, length, get_or, is_some}
+use Rattle.std.proofs.Common.{◌≡◌, ◌∙◌, ◌<◌, ◌≤◌, ◌+◌, ◌++◌, ap, sym, subst, true, length, get_or, is_some}
 use Rattle.std.specs.List.{list_all}
 use Rattle.std.proofs.lemmas.Bool.{OnTrue_at}
 use Rattle.khe_base.specs.Names.{number_of}
 use Rattle.khe_app.specs.Deviation.{event_ids}
 use Rattle.khe_app.specs.Numbered.{numbered_points}
 use Rattle.khe_app.specs.Resolved.{applies_to_events}
-use Rattle.khe_app.proofs.MonitorsLemmas.{HasMonitors, HasMonitors-more}
+use Rattle.khe_app.proofs.PointsLemmas.{HasMonitors, HasMonitors-more, HasMonitors-end, points-within}
 use Rattle.khe_app.proofs.monitors.numbered_monitors.Goals as goal
 
 pub loop-number-preserved : goal.loop-number-preserved
@@ -25,3 +25,9 @@ loop-number-preserved c =
     OnTrue_at whole c.in_ok-push_points.ensures.added ∙ (λ j. c.loop-number.monitors ++ numbered_points (c.requires j) i (c.as_slice-references.ensures j))
     in
     subst (HasMonitors inst (i + 1)) (sym added) (HasMonitors-more inst i k c.loop-number.monitors within at applies c.loop-number.invariant)
+
+pub returns : goal.returns
+returns c =
+    let past : length c.args.instance.now.constraints ≤ c.loop-number.number = subst (λ xs. length xs ≤ c.loop-number.number) c.as_slice-constraint-items.ensures c.loop-number-test.false in
+    let has = HasMonitors-end c.args.instance.now c.loop-number.number c.loop-number.monitors past c.loop-number.invariant in
+    (has.0, has.1, points-within c.args.instance.now c.loop-number.monitors has.1)

@@ -1,0 +1,5 @@
+pub mod CallNumbers
+pub mod Counts
+pub mod NamedFiles
+pub mod Reading
+pub mod Writing

@@ -1,0 +1,5 @@
+pub mod Calls
+pub mod Faults
+pub mod MemoryShelf
+pub mod Named
+pub mod Shelf

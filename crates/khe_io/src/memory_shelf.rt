@@ -1,0 +1,87 @@
+ghost use Rattle.std.specs.Prelude.{◌≤◌};
+ghost use Rattle.std.specs.Option.{ForSome};
+ghost use Rattle.khe_io.specs.Named.{IsPlaceIn};
+
+use crate::calls::Calls;
+use crate::named::{Place, copy_from, number_of};
+use crate::{Failed, Named, Shelf};
+use khe_base::Seq;
+
+/// A shelf of files in memory, which gives at most so many bytes in a read and fails at the calls
+/// that it is told to fail at. It tells everything.
+#[derive(Debug, Drop)]
+pub struct MemoryShelf {
+    files: Seq<Named>,
+    piece: u32,
+    calls: Calls,
+    source: Option<Place>,
+    ghost some: { 1 ≤ piece },
+    ghost placed: { ForSome source (IsPlaceIn files) },
+}
+
+impl MemoryShelf {
+    ghost use Rattle.std.specs.Prelude.{◌≡◌, ◌≤◌, Some, false};
+    ghost use Rattle.khe_io.specs.Calls.{none_to_come};
+    ghost use Rattle.khe_io.specs.Named.{bytes_under};
+
+    /// A shelf with these files, of which the first counts where two have one name. No source is
+    /// open and no fault is counted. A read gives at most `piece` bytes. `failing` has the numbers
+    /// of the calls that fail: the calls of `open` and `read` are counted together from 1.
+    ///
+    /// Neither this nor any call of the shelf takes memory. An opening looks at one file after
+    /// another, and every call at each number of `failing`.
+    pub fn new(files: Seq<Named>, piece: u32, failing: Seq<u64>) -> MemoryShelf
+        requires { 1 ≤ piece }
+        ensures holdings { ⟦<MemoryShelf as Shelf>⟧.holdings result ≡ Some (bytes_under files) }
+        ensures closed { ⟦<MemoryShelf as Shelf>⟧.is_open result ≡ false }
+        ensures faults { ⟦<MemoryShelf as Shelf>⟧.faults result ≡ 0 }
+        ensures sound { ⟦<MemoryShelf as Shelf>⟧.is_sound result ≡ none_to_come failing 0 }
+    {
+        MemoryShelf {
+            files,
+            piece,
+            calls: Calls::new(failing),
+            source: None,
+        }
+    }
+}
+
+impl Shelf for MemoryShelf {
+    ghost use Rattle.std.specs.Prelude.{Some, is_some, refl};
+    ghost use Rattle.std.specs.Option.{option_map};
+    ghost use Rattle.khe_io.specs.Calls.{none_to_come};
+    ghost use Rattle.khe_io.specs.Named.{bytes_under, bytes_from};
+    ghost use Rattle.khe_io.specs.MemoryShelf.{open_source_tells};
+
+    ghost holdings = { λ s. Some (bytes_under s.files) };
+
+    ghost is_open = { λ s. is_some s.source };
+
+    ghost left = { λ s. option_map (bytes_from s.files) s.source };
+
+    ghost faults = { λ s. s.calls.faults };
+
+    ghost is_sound = { λ s. none_to_come s.calls.failing s.calls.made };
+
+    fn open(&mut self, name: &str) -> Result<(), Failed> {
+        self.source = None;
+        self.calls.make()?;
+        let Some(file) = number_of(self.files.as_slice(), name) else {
+            return Err(self.calls.fault());
+        };
+        self.source = Some(Place { file, from: 0 });
+        Ok(())
+    }
+
+    fn read(&mut self, buf: &mut [u8]) -> Result<usize, Failed> {
+        self.calls.make()?;
+        let place = self.source.unwrap();
+        let next = copy_from(self.files.as_slice(), place, self.piece as usize, buf);
+        self.source = Some(next);
+        Ok(next.from - place.from)
+    }
+
+    ghost sound_tells_holdings = { λ s sound. refl };
+
+    ghost sound_tells_left = { λ s sound is_open. open_source_tells s.files s.source is_open };
+}

@@ -1,0 +1,210 @@
+-- The grammar of a text: the parts of a document, how they are spelled, which of them are allowed,
+-- and the table and the forest that a document stands for.
+use Rattle.std.specs.Prelude.{ℕ, suc, ◌≡◌, ◌+◌, ◌<◌, Bool, true, false, ◌||◌, if◌then◌else◌, List, [], ◌∷◌, ◌++◌, length, Option, Some, None}
+use Rattle.std.specs.Str.{bytes_eq}
+use Rattle.xhstt_text.specs.Bytes.{is_white, is_text, is_quoted, is_quote, AllAre, IsWhite, IsGap, IsName}
+use Rattle.xhstt_text.specs.declared.tree.Span.{Span}
+use Rattle.xhstt_text.specs.declared.tree.Node.{Node}
+use Rattle.xhstt_text.specs.declared.tree.Attribute.{Attribute}
+use Rattle.xhstt_text.specs.Forest.{Info, AttributeInfo, Forest, empty as no_elements, node}
+
+-- the attributes of a start tag: the white before the first, its name, the white before and after
+-- its `=`, its quote, its value, and the later attributes
+pub data Attributes : Type 0 where
+  none : Attributes
+  attribute : List ℕ → List ℕ → List ℕ → List ℕ → ℕ → List ℕ → Attributes → Attributes
+
+-- a start tag up to its `>` or `/>`: its name, its attributes, and the white after them
+pub record Start : Type 0 where
+  pub name : List ℕ
+  pub attributes : Attributes
+  pub white : List ℕ
+
+-- what stands between two tags: nothing more, or a byte, an element without content, or an element
+-- with its content, the name in its end tag and the white after that name; and then what follows
+pub data Content : Type 0 where
+  nothing : Content
+  byte : ℕ → Content → Content
+  short : Start → Content → Content
+  long : Start → Content → List ℕ → List ℕ → Content → Content
+
+-- a whole text: its outermost element, and the white around it
+pub record Document : Type 0 where
+  pub before : List ℕ
+  pub root : Content
+  pub after : List ℕ
+
+-- how attributes are spelled
+abbrev pub attributes_text : Attributes → List ℕ
+attributes_text none = []
+attributes_text (attribute gap name before after quote value more) =
+    gap ++ (name ++ (before ++ (61 ∷ (after ++ (quote ∷ (value ++ (quote ∷ attributes_text more)))))))
+
+-- how a start tag is spelled, up to its `>` or `/>`
+abbrev pub start_text : Start → List ℕ
+start_text s = 60 ∷ (s.name ++ (attributes_text s.attributes ++ s.white))
+
+-- how content is spelled
+abbrev pub text : Content → List ℕ
+text nothing = []
+text (byte b c) = b ∷ text c
+text (short s c) = start_text s ++ (47 ∷ 62 ∷ text c)
+text (long s inner shut white c) =
+    start_text s ++ (62 ∷ (text inner ++ (60 ∷ 47 ∷ (shut ++ (white ++ (62 ∷ text c))))))
+
+-- how a document is spelled
+abbrev pub spelling : Document → List ℕ
+spelling d = d.before ++ (text d.root ++ d.after)
+
+-- whether a name is one of these
+abbrev pub has_name : List ℕ → List (List ℕ) → Bool
+has_name name [] = false
+has_name name (other ∷ others) = bytes_eq name other || has_name name others
+
+-- the attributes are allowed after attributes with these names: each is in form, and no two names
+-- are equal
+abbrev pub AreAttributes : List (List ℕ) → Attributes → Type 0
+AreAttributes earlier none = Unit {0}
+AreAttributes earlier (attribute gap name before after quote value more) =
+    IsGap gap × IsName name × (has_name name earlier ≡ false) × IsWhite before × IsWhite after × (is_quote quote ≡ true) × AllAre (is_quoted quote) value × AreAttributes (name ∷ earlier) more
+
+-- the start tag is in form
+abbrev pub IsStart : Start → Type 0
+IsStart s = IsName s.name × AreAttributes [] s.attributes × IsWhite s.white
+
+-- the content is in form inside this many open elements
+abbrev pub IsContent : ℕ → Content → Type 0
+IsContent depth nothing = Unit {0}
+IsContent depth (byte b c) = (is_text b ≡ true) × IsContent depth c
+IsContent depth (short s c) = (depth < 32) × IsStart s × IsContent depth c
+IsContent depth (long s inner shut white c) =
+    (depth < 32) × IsStart s × IsContent (suc depth) inner × (shut ≡ s.name) × IsWhite white × IsContent depth c
+
+-- the content is a single element
+abbrev pub IsElement : Content → Type 0
+IsElement (short s nothing) = Unit {0}
+IsElement (long s inner shut white nothing) = Unit {0}
+IsElement _ = ⊥
+
+-- the document is in form: one element, with white around it
+abbrev pub IsDocument : Document → Type 0
+IsDocument d = IsWhite d.before × IsElement d.root × IsContent 0 d.root × IsWhite d.after
+
+-- a range of places
+abbrev pub span : ℕ → ℕ → Span
+span from to = record { from = from; to = to }
+
+-- how many bytes a start tag has before its `>` or `/>`
+abbrev pub start_length : Start → ℕ
+start_length s = length (start_text s)
+
+-- how many attributes
+abbrev pub count : Attributes → ℕ
+count none = 0
+count (attribute gap name before after quote value more) = suc (count more)
+
+-- the rows of the attributes that begin at a place
+abbrev pub attributes_of : ℕ → Attributes → List Attribute
+attributes_of at none = []
+attributes_of at (attribute gap name before after quote value more) =
+    let from = at + length gap in
+    let opened = from + length name + length before + 1 + length after + 1 in
+    record { at = from; name = span from (from + length name); value = span opened (opened + length value) } ∷ attributes_of (opened + length value + 1) more
+
+-- the rows of all attributes in content that begins at a place
+abbrev pub attribute_rows : ℕ → Content → List Attribute
+attribute_rows at nothing = []
+attribute_rows at (byte b c) = attribute_rows (at + 1) c
+attribute_rows at (short s c) =
+    attributes_of (at + 1 + length s.name) s.attributes ++ attribute_rows (at + start_length s + 2) c
+attribute_rows at (long s inner shut white c) =
+    let from = at + start_length s + 1 in
+    attributes_of (at + 1 + length s.name) s.attributes ++ (attribute_rows from inner ++ attribute_rows (from + length (text inner) + 2 + length shut + length white + 1) c)
+
+-- the place of the first byte of the direct text that is not white
+abbrev pub loose_in : ℕ → Content → Option ℕ
+loose_in at nothing = None
+loose_in at (byte b c) = if is_white b then loose_in (at + 1) c else Some at
+loose_in at (short s c) = loose_in (at + start_length s + 2) c
+loose_in at (long s inner shut white c) =
+    loose_in (at + start_length s + 1 + length (text inner) + 2 + length shut + length white + 1) c
+
+-- the row of an element: the number of the element around it, its place, its start tag, the number
+-- of its first attribute, the number after its last descendant, the range of its content, and its
+-- loose text
+abbrev pub row : Option ℕ → ℕ → Start → ℕ → ℕ → Span → Option ℕ → Node
+row parent at s first last value loose = record {
+  at = at;
+  name = span (at + 1) (at + 1 + length s.name);
+  parent = parent;
+  end = last;
+  attributes = span first (first + count s.attributes);
+  value = value;
+  loose = loose;
+}
+
+-- the rows of all elements in content: the number of the element around it, the number of the next
+-- element, the number of the next attribute, and the place where the content begins
+abbrev pub rows : Option ℕ → ℕ → ℕ → ℕ → Content → List Node
+rows parent number first at nothing = []
+rows parent number first at (byte b c) = rows parent number first (at + 1) c
+rows parent number first at (short s c) =
+    let after = at + start_length s + 2 in
+    row parent at s first (number + 1) (span after after) None ∷ rows parent (number + 1) (first + count s.attributes) after c
+rows parent number first at (long s inner shut white c) =
+    let from = at + start_length s + 1 in
+    let to = from + length (text inner) in
+    let inside = rows (Some number) (number + 1) (first + count s.attributes) from inner in
+    let last = number + 1 + length inside in
+    row parent at s first last (span from to) (loose_in from inner) ∷ (inside ++ rows parent last (first + count s.attributes + length (attribute_rows from inner)) (to + 2 + length shut + length white + 1) c)
+
+-- the rows of the elements and of the attributes of a text
+pub record Rows : Type 0 where
+  pub nodes : List Node
+  pub attributes : List Attribute
+
+-- what a document says
+abbrev pub table : Document → Rows
+table d = record {
+  nodes = rows None 0 0 (length d.before) d.root;
+  attributes = attribute_rows (length d.before) d.root;
+}
+
+-- the bytes spell a document with these rows
+abbrev pub Spells : List ℕ → Rows → Type 0
+Spells bytes found = (d : Document) × IsDocument d × (bytes ≡ spelling d) × (found ≡ table d)
+
+-- what a start tag that begins at a place says of its attributes
+abbrev pub infos : ℕ → Attributes → List AttributeInfo
+infos at none = []
+infos at (attribute gap name before after quote value more) =
+    let from = at + length gap in
+    let opened = from + length name + length before + 1 + length after + 1 in
+    record { at = from; name = name; value_at = opened; value = value } ∷ infos (opened + length value + 1) more
+
+-- whether the content has an element
+abbrev pub has_element : Content → Bool
+has_element nothing = false
+has_element (byte b c) = has_element c
+has_element (short s c) = true
+has_element (long s inner shut white c) = true
+
+-- the elements of content that begins at a place
+abbrev pub forest_at : ℕ → Content → Forest
+forest_at at nothing = no_elements
+forest_at at (byte b c) = forest_at (at + 1) c
+forest_at at (short s c) =
+    let after = at + start_length s + 2 in
+    node (record { at = at; name = s.name; attributes = infos (at + 1 + length s.name) s.attributes; value_at = after; value = []; loose = None }) no_elements (forest_at after c)
+forest_at at (long s inner shut white c) =
+    let from = at + start_length s + 1 in
+    let value = if has_element inner then [] else text inner in
+    node (record { at = at; name = s.name; attributes = infos (at + 1 + length s.name) s.attributes; value_at = from; value = value; loose = loose_in from inner }) (forest_at from inner) (forest_at (from + length (text inner) + 2 + length shut + length white + 1) c)
+
+-- the tree of a document
+abbrev pub forest_of : Document → Forest
+forest_of d = forest_at (length d.before) d.root
+
+-- the bytes spell a document with this tree
+abbrev pub Spelled : List ℕ → Forest → Type 0
+Spelled bytes forest = (d : Document) × IsDocument d × (bytes ≡ spelling d) × (forest ≡ forest_of d)

@@ -1,0 +1,208 @@
+-- A machine that reads a text a byte at a time. It is a tool of the proofs: the grammar in
+-- `Document` says what a text is, and the reader is shown to do as this machine.
+use Rattle.std.specs.Prelude.{ℕ, ◌≡◌, ◌+◌, Bool, true, false, ◌==◌, nat_lt, if◌then◌else◌, List, [], ◌∷◌, ◌++◌, length, set, Option, Some, None, Result, Ok, Err}
+use Rattle.std.specs.Str.{bytes_eq}
+use Rattle.xhstt_text.specs.Bytes.{is_white, is_first, is_name, is_text, is_quoted, is_quote}
+use Rattle.xhstt_text.specs.Document.{Rows, span, has_name}
+use Rattle.xhstt_text.specs.declared.tree.Node.{Node}
+use Rattle.xhstt_text.specs.declared.tree.Attribute.{Attribute}
+use Rattle.xhstt_text.specs.declared.faults.TextFault.{TextFault}
+use Rattle.xhstt_text.specs.declared.faults.TextFault.TheVariants.{NotBuilt}
+
+-- an open element: its number, its name, and its row as far as it is known
+pub record Frame : Type 0 where
+  pub number : ℕ
+  pub name : List ℕ
+  pub node : Node
+
+-- what is known so far: the open elements, the innermost first, and the rows
+pub record Read : Type 0 where
+  pub frames : List Frame
+  pub nodes : List Node
+  pub attributes : List Attribute
+
+-- a start tag that is being read: the place of its `<`, its name, the number of its first
+-- attribute, and the names of its attributes so far, the last one first
+pub record Tag : Type 0 where
+  pub at : ℕ
+  pub name : List ℕ
+  pub first : ℕ
+  pub names : List (List ℕ)
+
+-- where the machine is
+pub data Phase : Type 0 where
+  content : Phase                              -- between two tags, or before the outermost element
+  ended : Phase                                -- after the outermost element
+  opened : ℕ → Phase                           -- after the `<` at this place
+  start_name : ℕ → List ℕ → Phase              -- in the name of a start tag
+  valued : Tag → Phase                         -- after a value, or after the tag's name
+  in_tag : Tag → Phase                         -- in a start tag, after white
+  slash : Tag → Phase                          -- after the `/` of a start tag
+  attribute_name : Tag → ℕ → List ℕ → Phase    -- in the name of the attribute at this place
+  named : Tag → ℕ → List ℕ → Phase             -- after that name and white
+  equals : Tag → ℕ → List ℕ → Phase            -- after its `=`
+  in_value : Tag → ℕ → List ℕ → ℕ → ℕ → Phase  -- in its value: the quote, and the place after it
+  shut_begin : ℕ → Phase                       -- after the `</` at this place
+  shut : ℕ → List ℕ → Phase                    -- in the name of an end tag
+  shut_gap : ℕ → List ℕ → Phase                -- after that name and white
+
+pub record State : Type 0 where
+  pub phase : Phase
+  pub read : Read
+
+abbrev pub Step : Type 0
+Step = Result State TextFault
+
+abbrev pub refused : Step
+refused = Err NotBuilt
+
+abbrev pub state : Phase → Read → Step
+state p r = Ok (record { phase = p; read = r })
+
+-- the first place of loose text: `noted`, or else this byte's place where it is not white
+abbrev pub first_loose : Option ℕ → ℕ → ℕ → Option ℕ
+first_loose (Some place) at b = Some place
+first_loose None at b = if is_white b then None else Some at
+
+abbrev pub noted : Frame → ℕ → ℕ → Frame
+noted f at b = record f { node = record f.node { loose = first_loose f.node.loose at b } }
+
+-- where reading goes on after a tag
+abbrev pub resume : List Frame → Phase
+resume [] = ended
+resume (f ∷ fs) = content
+
+abbrev pub parent_of : List Frame → Option ℕ
+parent_of [] = None
+parent_of (f ∷ fs) = Some f.number
+
+-- the row of a start tag whose content begins at a place, and goes on from there
+abbrev pub opened_row : Tag → Read → ℕ → Node
+opened_row t r from = record {
+  at = t.at;
+  name = span (t.at + 1) (t.at + 1 + length t.name);
+  parent = parent_of r.frames;
+  end = length r.nodes + 1;
+  attributes = span t.first (length r.attributes);
+  value = span from from;
+  loose = None;
+}
+
+abbrev pub add_node : Read → Node → Read
+add_node r n = record r { nodes = r.nodes ++ n ∷ [] }
+
+-- after `<name ..>`
+abbrev pub open_element : Tag → Read → ℕ → Read
+open_element t r from = record {
+  frames = record { number = length r.nodes; name = t.name; node = opened_row t r from } ∷ r.frames;
+  nodes = r.nodes ++ opened_row t r from ∷ [];
+  attributes = r.attributes;
+}
+
+-- the row of an element whose end tag begins at a place, where there are so many elements
+abbrev pub closed_row : Node → ℕ → ℕ → Node
+closed_row n at last = record n { end = last; value = span n.value.from at }
+
+-- after the end tag that begins at a place
+abbrev pub close_element : Frame → List Frame → Read → ℕ → Read
+close_element f fs r at = record {
+  frames = fs;
+  nodes = set r.nodes f.number (closed_row f.node at (length r.nodes));
+  attributes = r.attributes;
+}
+
+abbrev pub step_content : List Frame → Read → ℕ → ℕ → Step
+step_content [] r at b =
+    if b == 60 then state (opened at) r else (if is_white b then state content r else refused)
+step_content (f ∷ fs) r at b =
+    if b == 60 then state (opened at) r else (if is_text b then state content (record r { frames = noted f at b ∷ fs }) else refused)
+
+abbrev pub step_opened : List Frame → ℕ → Read → ℕ → Step
+step_opened [] place r b =
+    if is_first b then state (start_name place (b ∷ [])) r else refused
+step_opened (f ∷ fs) place r b =
+    if is_first b then (if nat_lt (length (f ∷ fs)) 32 then state (start_name place (b ∷ [])) r else refused)
+    else (if b == 47 then state (shut_begin place) r else refused)
+
+abbrev pub step_valued : Tag → Read → ℕ → ℕ → Step
+step_valued t r at b =
+    if is_first b then refused
+    else (if is_white b then state (in_tag t) r
+    else (if b == 47 then state (slash t) r
+    else (if b == 62 then state content (open_element t r (at + 1))
+    else refused)))
+
+abbrev pub step_named : Tag → ℕ → List ℕ → Read → ℕ → Step
+step_named t place name r b =
+    if is_white b then state (named t place name) r
+    else (if b == 61 then state (equals t place name) r
+    else refused)
+
+-- the row of an attribute whose value ends at a place
+abbrev pub attribute_row : ℕ → List ℕ → ℕ → ℕ → Attribute
+attribute_row place name from to = record { at = place; name = span place (place + length name); value = span from to }
+
+abbrev pub with_name : Tag → List ℕ → Tag
+with_name t name = record t { names = name ∷ t.names }
+
+abbrev pub step_shut : List Frame → ℕ → List ℕ → Read → ℕ → Step
+step_shut [] place name r b = refused
+step_shut (f ∷ fs) place name r b =
+    if is_white b then state (shut_gap place name) r
+    else (if b == 62 then (if bytes_eq name f.name then state (resume fs) (close_element f fs r place) else refused)
+    else refused)
+
+abbrev pub start_of : ℕ → List ℕ → Read → Tag
+start_of place name r = record { at = place; name = name; first = length r.attributes; names = [] }
+
+abbrev pub step : Phase → Read → ℕ → ℕ → Step
+step content r at b = step_content r.frames r at b
+step ended r at b = if is_white b then state ended r else refused
+step (opened place) r at b = step_opened r.frames place r b
+step (start_name place name) r at b =
+    if is_name b then state (start_name place (name ++ b ∷ [])) r
+    else step_valued (start_of place name r) r at b
+step (valued t) r at b = step_valued t r at b
+step (in_tag t) r at b =
+    if is_first b then state (attribute_name t at (b ∷ [])) r else step_valued t r at b
+step (slash t) r at b =
+    if b == 62 then state (resume r.frames) (add_node r (opened_row t r (at + 1))) else refused
+step (attribute_name t place name) r at b =
+    if is_name b then state (attribute_name t place (name ++ b ∷ [])) r
+    else (if has_name name t.names then refused else step_named t place name r b)
+step (named t place name) r at b = step_named t place name r b
+step (equals t place name) r at b =
+    if is_white b then state (equals t place name) r
+    else (if is_quote b then state (in_value t place name b (at + 1)) r
+    else refused)
+step (in_value t place name quote from) r at b =
+    if is_quoted quote b then state (in_value t place name quote from) r
+    else (if b == quote then state (valued (with_name t name)) (record r { attributes = r.attributes ++ attribute_row place name from at ∷ [] })
+    else refused)
+step (shut_begin place) r at b = if is_first b then state (shut place (b ∷ [])) r else refused
+step (shut place name) r at b =
+    if is_name b then state (shut place (name ++ b ∷ [])) r else step_shut r.frames place name r b
+step (shut_gap place name) r at b = step_shut r.frames place name r b
+
+abbrev pub Outcome : Type 0
+Outcome = Result Rows TextFault
+
+-- at the end of the bytes
+abbrev pub finish : Phase → Read → Outcome
+finish ended r = Ok (record { nodes = r.nodes; attributes = r.attributes })
+finish _ r = Err NotBuilt
+
+-- goes on after a step
+abbrev pub and_then : Step → (State → Outcome) → Outcome
+and_then (Ok s) more = more s
+and_then (Err e) more = Err e
+
+-- from a phase, what is known, and a place, over the bytes from that place on
+abbrev pub run : Phase → Read → ℕ → List ℕ → Outcome
+run p r at [] = finish p r
+run p r at (b ∷ bs) =
+    and_then (step p r at b) (λ s. run s.phase s.read (at + 1) bs)
+
+-- over a whole text
+abbrev pub outcome_of : List ℕ → Outcome
+outcome_of bytes = run content (record { frames = []; nodes = []; attributes = [] }) 0 bytes
