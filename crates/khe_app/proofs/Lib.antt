@@ -1,5 +1,6 @@
 pub mod EndsLemmas
 pub mod MeetsLemmas
 pub mod MonitorsLemmas
+pub mod PointsLemmas
 pub mod References
 pub mod Rows

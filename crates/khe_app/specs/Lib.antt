@@ -2,6 +2,7 @@ pub mod Answers
 pub mod Deviation
 pub mod Ends
 pub mod FirstForm
+pub mod Limits
 pub mod Lines
 pub mod Meets
 pub mod Numbered

@@ -3,6 +3,7 @@
 #![tactic(auto)]
 
 mod archive;
+mod bounds;
 mod completion;
 mod evaluating;
 mod first_form;
@@ -10,11 +11,14 @@ mod instance_form;
 mod lines;
 mod measures;
 mod meets;
+mod monitors;
+mod named;
 mod numbered;
 mod program;
 mod reading;
 mod reports;
 mod resolving;
+mod solutions;
 mod values;
 mod words;
 

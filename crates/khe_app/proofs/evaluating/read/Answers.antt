@@ -21,8 +21,8 @@ says-bytes bytes tree spelled only (Err e) h = tt
 
 pub returns-in-Ok : goal.returns-in-Ok
 returns-in-Ok c =
-    says-bytes c.args.bytes.now (root_forest c.in-Ok.tree) c.in-Ok.ensures.found c.in-Ok.ensures.only c.read_tree.result c.read_tree.ensures
+    says-bytes c.args.bytes.now (root_forest c.in-Ok.tree) c.in-Ok.ensures.spelled c.in-Ok.ensures.one_forest c.read_tree.result c.read_tree.ensures
 
 pub returns-in-Err-NotBuilt : goal.returns-in-Err-NotBuilt
 returns-in-Err-NotBuilt c =
-    λ a f. c.in-Err-NotBuilt.ensures.not_built (ap Err c.in-Err-NotBuilt.field-0-is) f.tree f.spelled
+    λ a f. c.in-Err-NotBuilt.ensures.not_built (ap Err c.in-Err-NotBuilt.field-0-is) f.spelled.0 f.spelled.1 f.spelled.2
