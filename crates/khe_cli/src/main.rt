@@ -1,0 +1,48 @@
+//! The program `khe`: hands the words of the command line, the files and the standard output to
+//! `khe_app::khe`, and ends with its status.
+#![tactic(auto)]
+
+use khe_app::{Status, khe};
+use khe_io::{FileShelf, OpenGate, StdSink};
+use std::process::ExitCode;
+use std::rt::{Env, Files};
+use std::thread::Threads;
+use std::{env, io};
+
+/// The words after the program's name. A word that is not UTF-8 leaves none of them, since such
+/// words have no reading.
+fn words<R: Env + AllocGlobal>(rt: &R) -> io::Result<Vec<String>> {
+    let mut words = Vec::new(rt.alloc());
+    match env::args(rt) {
+        Ok(args) => {
+            for word in args.skip(1) {
+                words.push(word)?;
+            }
+            Ok(words)
+        }
+        Err(error) if error.kind() == io::ErrorKind::InvalidData => Ok(words),
+        Err(error) => Err(error),
+    }
+}
+
+/// Runs the program on the files and the output of a system. Where the words cannot be taken for
+/// want of memory the status is 6.
+fn run<R: Env + Files + Print + AllocGlobal + Threads + Sync>(rt: &R) -> Status {
+    let Ok(words) = words(rt) else {
+        return Status(6);
+    };
+    let mut shelf = FileShelf::new(rt);
+    let mut out = StdSink::new(rt);
+    khe(
+        rt,
+        rt.alloc(),
+        words.as_slice(),
+        &mut shelf,
+        &mut out,
+        &OpenGate,
+    )
+}
+
+fn main(rt: HostRuntime) -> ExitCode {
+    ExitCode::from(run(&rt).0)
+}
