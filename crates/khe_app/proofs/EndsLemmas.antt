@@ -1,7 +1,8 @@
 -- How a run ends, from what was written of an outcome's text.
-use Rattle.std.proofs.Common.{ℕ, ◌≡◌, ◌⊎◌, inl, inr, List, Option, Some, None, IfSome, sym, subst, ap, ◌∙◌, refl, encode_utf8_all, arith}
+use Rattle.std.proofs.Common.{ℕ, ◌≡◌, ◌⊎◌, inl, inr, List, [], Option, Some, None, IfSome, sym, subst, ap, ◌∙◌, refl, encode_utf8_all, arith}
+use Rattle.std.proofs.lemmas.List.{append-nil}
 use Rattle.khe_io.specs.Faults.{Rose, Took, TookFront}
-use Rattle.khe_io.specs.Shelf.{StandsUnder}
+use Rattle.khe_io.specs.Shelf.{StandsUnder, IsMissing}
 use Rattle.khe_app.specs.Ends.{Holdings, EndedBy, CutOff, IsDecided}
 use Rattle.khe_app.specs.Outcome.{IsAnswerTo, IsOutcome, IsOutcomeOf}
 use Rattle.khe_app.specs.Words.{archive_name}
@@ -52,3 +53,25 @@ cut_off-from words None before after fb fa bytes text status result outcome same
 cut_off-from words (Some under) before after fb fa bytes text status result outcome same (inl w) other five = absurd (other (sym w.0 ∙ five))
 cut_off-from words (Some under) before after fb fa bytes text status result outcome same (inr w) other five =
     (status, text, outcome, subst (TookFront before after) same w.2)
+
+-- a run whose text no sink refused ended by the outcome
+pub ended-from : (words : List (List ℕ)) (h : Holdings) (before after : Option (List ℕ)) (fb fa : ℕ) (bytes text : List ℕ) (status result : ℕ)
+    → IfSome h (λ under. IsOutcome words under status text) → bytes ≡ encode_utf8_all text → Written before after fb fa bytes status result
+    → (Rose fb fa → ⊥) → EndedBy words h before after result
+ended-from words None before after fb fa bytes text status result outcome same written quiet = tt
+ended-from words (Some under) before after fb fa bytes text status result outcome same (inl w) quiet =
+    (text, subst (λ s. IsOutcome words under s text) (sym w.0) outcome, subst (Took before after) same w.1)
+ended-from words (Some under) before after fb fa bytes text status result outcome same (inr w) quiet = absurd (quiet w.1)
+
+-- nothing more was taken
+took-nothing : (before : Option (List ℕ)) → Took before before []
+took-nothing None = refl
+took-nothing (Some taken) = ap (λ t. Some t) (sym (append-nil taken))
+
+-- a run that found nothing under the archive's name ended by the outcome
+pub ended-missing : (words : List (List ℕ)) (h : Holdings) (name : List ℕ) (before : Option (List ℕ)) → archive_name words ≡ Some name
+    → IsMissing h name → EndedBy words h before before 4
+ended-missing words None name before named missing = tt
+ended-missing words (Some under) name before named missing =
+    let answer : IsAnswerTo (under name) 4 [] = subst (λ o. IsAnswerTo o 4 []) (sym missing) (refl, refl) in
+    ([], subst (λ o. IsOutcomeOf o under 4 []) (sym named) answer, took-nothing before)

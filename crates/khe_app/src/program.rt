@@ -88,6 +88,10 @@ pub fn khe<R: Threads + Sync, S: Shelf, K: Sink, G: Gate>(
     ensures write_fault { result.0 ≡ 5 → Rose (K.faults out.old) (K.faults out.new) }
     ensures cut_off { result.0 ≡ 5 → CutOff (map string_bytes words.now) (S.holdings shelf.old) (K.taken out.old) (K.taken out.new) }
 
+    // Where no device is to blame, the run ends as the definitions say, or for want of memory.
+    ensures complete { (IsTrue (S.is_sound shelf.old) ⊎ (Rose (S.faults shelf.old) (S.faults shelf.new) → ⊥)) → (Rose (K.faults out.old) (K.faults out.new) → ⊥)
+        → (result.0 ≡ 6) ⊎ EndedBy (map string_bytes words.now) (S.holdings shelf.old) (K.taken out.old) (K.taken out.new) result.0 }
+
     // Want of memory comes before anything is written.
     ensures no_memory { result.0 ≡ 6 → K.taken out.new ≡ K.taken out.old }
 

@@ -3,7 +3,7 @@ use Rattle.std.proofs.Common.{◌≡◌, ◌⊎◌, inl, inr, ◌∙◌, sym, ap
 use Rattle.khe_app.specs.Answers.{status_of, text_of_answer}
 use Rattle.khe_app.specs.Lines.{not_understood_line}
 use Rattle.khe_app.specs.Outcome.{IsOutcome}
-use Rattle.khe_app.proofs.EndsLemmas.{outcome-named, outcome-unread, decided-from, cut_off-from}
+use Rattle.khe_app.proofs.EndsLemmas.{outcome-named, outcome-unread, decided-from, cut_off-from, ended-from, ended-missing}
 use Rattle.khe_app.proofs.program.khe.Goals as goal
 
 -- the status of an answer is not that of a sink's fault
@@ -36,3 +36,19 @@ returns-in-Ok-clause-cut_off g c =
     cut_off-from words h _ _ _ _ _ text c.status.result c.put-in-Ok.result.0
     (subst (λ n. IfSome h (λ under. IsOutcome words under n text)) (sym c.status.ensures) outcome) c.bytes.ensures c.put-in-Ok.ensures.whole
     (λ e. other (sym c.status.ensures ∙ e))
+
+pub returns-in_default-clause-complete : goal.returns-in_default-clause-complete
+returns-in_default-clause-complete g c = λ shelf sink.
+    let words = map string_bytes c.args.words.now in
+    let h = g.S.Shelf.holdings c.args.shelf.now in
+    inr (ended-from words h _ _ _ _ _ not_understood_line 2 c.put.result.0
+    (outcome-unread words h 2 not_understood_line c.in_default.ensures (λ under. (refl, refl))) c.not_understood.ensures c.put.ensures.whole sink)
+
+pub returns-in-Ok-clause-complete : goal.returns-in-Ok-clause-complete
+returns-in-Ok-clause-complete g c = λ shelf sink.
+    let words = map string_bytes c.args.words.now in
+    let h = g.S.Shelf.holdings c.args.shelf.now in
+    let text = text_of_answer c.in-Ok.answer in
+    let outcome = outcome-named words h c.in-Some.name.now (status_of c.in-Ok.answer) text c.in-Some.ensures c.in-Ok.ensures.answer in
+    inr (ended-from words h _ _ _ _ _ text c.status.result c.put-in-Ok.result.0
+    (subst (λ n. IfSome h (λ under. IsOutcome words under n text)) (sym c.status.ensures) outcome) c.bytes.ensures c.put-in-Ok.ensures.whole sink)

@@ -1,0 +1,9 @@
+//! Tests of the whole program, as one call on shelves and sinks in memory.
+#![tactic(auto)]
+
+#[cfg(test)]
+mod archives;
+#[cfg(test)]
+mod runs;
+#[cfg(test)]
+mod tests;
