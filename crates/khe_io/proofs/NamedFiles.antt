@@ -1,9 +1,9 @@
 -- The files of a shelf by their numbers, and the first of a name.
-use Rattle.std.proofs.Common.{◌≡◌, ◌∙◌, sym, ap, refl, ℕ, zero, suc, ◌+◌, ◌-◌, ◌<◌, ◌≤◌, List, [], ◌∷◌, ◌++◌, length, get_or, drop, take, Some, None, true, false, encode_utf8_all, arith, take-append-drop, min, ◌↔◌}
+use Rattle.std.proofs.Common.{◌≡◌, ◌∙◌, sym, ap, refl, ℕ, zero, suc, ◌+◌, ◌-◌, ◌<◌, ◌≤◌, List, [], ◌∷◌, ◌++◌, length, get_or, drop, take, Some, true, encode_utf8_all, arith, take-append-drop, min, ◌↔◌}
 use Rattle.std.specs.Option.{option_map}
 use Rattle.std.specs.Str.{bytes_eq}
-use Rattle.std.proofs.lemmas.List.{drop_more, drop_all, take_at, take_rest, drop-drop, length-drop, length-take-le, nil_from_length}
-use Rattle.std.proofs.lemmas.Bool.{cond-true, cond-false}
+use Rattle.std.proofs.lemmas.List.{drop_more, take_at, take_rest, drop-drop, length-drop, length-take-le, nil_from_length}
+use Rattle.std.proofs.lemmas.Bool.{cond-true}
 use Rattle.khe_io.specs.declared.named.Named.{Named}
 use Rattle.khe_io.specs.Named.{bytes_at, bytes_under}
 
@@ -24,23 +24,6 @@ bytes_under-found files number d name within same found =
     ap (option_map (λ (file : Named). file.bytes)) (cond-true _ _ _ found) in
     ap Some (bytes_at-get_or files number d within)
     ∙ sym here ∙ ap (λ (rest : List Named). bytes_under rest name) (sym first) ∙ same
-
--- where the file with a number hasn't the name, those after it decide
-pub bytes_under-passed : (files : List Named) (number : ℕ) (d : Named) (name : List ℕ)
-    → number < length files → bytes_under (drop number files) name ≡ bytes_under files name
-    → bytes_eq (encode_utf8_all (get_or files number d).name) name ≡ false
-    → bytes_under (drop (number + 1) files) name ≡ bytes_under files name
-bytes_under-passed files number d name within same other =
-    let first : drop number files ≡ get_or files number d ∷ drop (number + 1) files = drop_more files number d within in
-    let here : bytes_under (get_or files number d ∷ drop (number + 1) files) name ≡ bytes_under (drop (number + 1) files) name =
-    ap (option_map (λ (file : Named). file.bytes)) (cond-false _ _ _ other) in
-    sym here ∙ ap (λ (rest : List Named). bytes_under rest name) (sym first) ∙ same
-
--- past the last file nothing is left to look at
-pub bytes_under-end : (files : List Named) (name : List ℕ)
-    → bytes_under (drop (length files) files) name ≡ bytes_under files name → None ≡ bytes_under files name
-bytes_under-end files name same =
-    ap (λ (rest : List Named). bytes_under rest name) (sym (drop_all (length files) files (omega arith))) ∙ same
 
 -- the file that was read has the bytes at its number
 pub bytes_at-read : (files : List Named) (number : ℕ) (file : Named) (bytes : List ℕ)

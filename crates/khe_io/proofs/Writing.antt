@@ -1,12 +1,7 @@
 -- How the pieces that a sink took make up the bytes that it was given.
 use Rattle.std.proofs.lemmas.List.{take_rest}
-use Rattle.std.proofs.Common.{arith, length, length-append, ◌<◌, ◌-◌, ◌≡◌, ℕ, List, [], ◌++◌, take, drop, Option, None, Some, refl, append_assoc, append-nil, take-append-drop, ap, ◌∙◌, sym}
+use Rattle.std.proofs.Common.{arith, length, length-append, ◌<◌, ◌-◌, ◌≡◌, ℕ, List, [], ◌++◌, take, drop, Option, None, Some, append_assoc, take-append-drop, ap, ◌∙◌}
 use Rattle.khe_io.specs.Faults.{Took}
-
--- nothing is taken where nothing is done
-pub Took-nothing : (taken : Option (List ℕ)) → Took taken taken []
-Took-nothing None = refl
-Took-nothing (Some bytes) = ap Some (sym (append-nil bytes))
 
 -- one piece after another
 pub Took-more : (first middle last : Option (List ℕ)) (a b : List ℕ) → Took first middle a → Took middle last b → Took first last (a ++ b)

@@ -1,6 +1,6 @@
-ghost use Rattle.std.specs.Prelude.{◌≡◌, ◌<◌, ◌≤◌, IsTrue, IsOk, OnOk, OnErr};
+ghost use Rattle.std.specs.Prelude.{◌≡◌, ◌+◌, ◌-◌, ◌^◌, ◌≤◌, min, is_err, IsTrue, IsOk, OnOk, OnErr};
 ghost use Rattle.khe_io.specs.Faults.{Rose};
-ghost use Rattle.khe_io.specs.Calls.{none_to_come};
+ghost use Rattle.khe_io.specs.Calls.{fails_next, none_to_come};
 
 use crate::Failed;
 use crate::faults::count_fault;
@@ -29,6 +29,9 @@ impl Calls {
 
     /// Counts a call. It fails, and counts a fault, where the call's number is listed.
     pub(crate) fn make(&mut self) -> Result<(), Failed>
+        ensures listed { is_err result ≡ fails_next self.old.failing self.old.made }
+        ensures failing { self.new.failing ≡ self.old.failing }
+        ensures made { self.new.made ≡ min (self.old.made + 1) (2 ^ 64 - 1) }
         ensures ok { OnOk result (self.new.faults ≡ self.old.faults) }
         ensures failed { OnErr result (Rose self.old.faults self.new.faults) }
         ensures counted { self.old.faults ≤ self.new.faults }

@@ -1,6 +1,6 @@
 use crate::{
-    FileShelf, Gate, MemoryShelf, MemorySink, Named, OpenGate, StdSink, TakeFault, put_all,
-    take_all,
+    FileShelf, Gate, MemoryShelf, MemorySink, Named, OpenGate, Shelf, Sink, StdSink, TakeFault,
+    put_all, take_all,
 };
 use khe_base::{NoMemory, Seq, Text};
 use std::alloc::{AllocError, Global};
@@ -42,6 +42,20 @@ fn takes_whole_texts(rt: HostRuntime) -> Result<(), Fail> {
             "piece {piece}"
         );
     }
+    Ok(())
+}
+
+#[test]
+fn a_call_gives_and_takes_a_piece(rt: HostRuntime) -> Result<(), Fail> {
+    let mut shelf = MemoryShelf::new(files(rt.alloc())?, 3, seq(rt.alloc(), &[])?);
+    let mut buf = [0u8; 8];
+    assert!(rt; shelf.open("a").is_ok());
+    assert_eq!(rt; shelf.read(&mut buf).ok(), Some(3));
+    assert_eq!(rt; shelf.read(&mut buf).ok(), Some(2));
+    let mut sink = MemorySink::new(rt.alloc(), 5, 3, seq(rt.alloc(), &[])?)?;
+    assert_eq!(rt; sink.write(b"abcdef").ok(), Some(3));
+    assert_eq!(rt; sink.write(b"def").ok(), Some(2));
+    assert!(rt; sink.write(b"f").is_err());
     Ok(())
 }
 
