@@ -1,3 +1,4 @@
+pub mod EndsLemmas
 pub mod MeetsLemmas
 pub mod MonitorsLemmas
 pub mod PointsLemmas

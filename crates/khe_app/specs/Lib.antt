@@ -1,4 +1,6 @@
+pub mod Answers
 pub mod Deviation
+pub mod Ends
 pub mod FirstForm
 pub mod Limits
 pub mod Lines

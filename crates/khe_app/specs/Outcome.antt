@@ -10,12 +10,16 @@ use Rattle.khe_app.specs.Lines.{not_understood_line, too_large_line, not_built_l
 use Rattle.khe_app.specs.Words.{archive_name}
 use Rattle.khe_app.specs.declared.archive.Archive.{Archive}
 
+-- a tree says this archive, and the archive resolves
+pub record Says (tree : Forest) (a : Archive) : Type 0 where
+  pub form : archive_of tree ≡ Some a
+  pub resolves : Resolves a
+
 -- the bytes are a text of the first form, and say this archive
 pub record IsFirstForm (bytes : List ℕ) (a : Archive) : Type 0 where
   pub tree : Forest
   pub spelled : Spelled bytes tree
-  pub says : archive_of tree ≡ Some a
-  pub resolves : Resolves a
+  pub says : Says tree a
 
 -- an archive that is evaluated: the status is 0, and the text is its report
 pub record IsEvaluated (bytes : List ℕ) (status : ℕ) (text : List ℕ) : Type 0 where

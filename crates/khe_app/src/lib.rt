@@ -5,6 +5,7 @@
 mod archive;
 mod bounds;
 mod completion;
+mod evaluating;
 mod first_form;
 mod instance_form;
 mod lines;
@@ -13,12 +14,16 @@ mod meets;
 mod monitors;
 mod named;
 mod numbered;
+mod program;
 mod reading;
 mod reports;
 mod resolving;
 mod solutions;
 mod values;
+mod words;
 
 pub use archive::{Archive, RawConstraint, RawEntry, RawEvent, RawGroup, RawInstance, RawSolution};
+pub use evaluating::{Answer, NumberedArchive};
 pub use meets::Meet;
 pub use numbered::{Numbered, NumberedMonitor};
+pub use program::{Status, Stop, khe};

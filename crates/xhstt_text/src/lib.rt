@@ -1,14 +1,21 @@
 //! The text of an XHSTT archive: from bytes to the tree of its elements.
 #![tactic(auto)]
 
-mod escaping;
 mod attributes;
+mod bytes;
+mod cursor;
+mod escaping;
 mod faults;
 mod handles;
+mod names;
+mod reader;
+mod table;
+mod tags;
 mod tree;
 
-pub use escaping::escape;
 pub use attributes::{AttributeText, Attributes};
+pub use escaping::escape;
 pub use faults::TextFault;
 pub use handles::{Children, Element};
+pub use reader::elements;
 pub use tree::{Attribute, Node, Span, Tree};

@@ -11,5 +11,5 @@ pub returns : goal.returns
 returns c =
     let t = YieldsList-end (YieldsList-from_chars c.as_str.result.now c.as_str.utf8 cc) c.loop-character.yielded _ c.loop-character.yielded_by _ _ c.in-None.is c.next.ensures.steps in
     let same : c.loop-character.yielded ≡ c.args.text.now =
-        sym (map-id c.loop-character.yielded) ∙ t.0 ∙ encodes_same _ _ (encodes-chars _ c.as_str.utf8 ∙ c.as_str.ensures) in
+    sym (map-id c.loop-character.yielded) ∙ t.0 ∙ encodes_same _ _ (encodes-chars _ c.as_str.utf8 ∙ c.as_str.ensures) in
     c.loop-character.invariant ∙ ap escaped same
