@@ -8,8 +8,6 @@ use Rattle.khe_app.specs.Deviation.{monitors, event_ids}
 use Rattle.khe_app.specs.Resolved.{durations, applies_to_events}
 use Rattle.khe_app.specs.declared.archive.Archive.{Archive}
 use Rattle.khe_app.specs.declared.archive.RawInstance.{RawInstance}
-use Rattle.khe_app.specs.declared.archive.RawConstraint.{RawConstraint}
-use Rattle.khe_app.specs.declared.archive.RawGroup.{RawGroup}
 
 -- the counts of an archive's times, events, constraints and solutions
 pub record HasBoundedCounts (a : Archive) : Type 0 where

@@ -1,5 +1,5 @@
 -- What the characters of a text's bytes are.
-use Rattle.std.proofs.Common.{ℕ, ◌≡◌, List, [], ◌∷◌, sym, ap, ◌∙◌}
+use Rattle.std.proofs.Common.{ℕ, ◌≡◌, [], ◌∷◌, sym, ap, ◌∙◌}
 use Rattle.std.proofs.lemmas.List.{append-nil}
 use Rattle.std.proofs.lemmas.Str.{IsUtf8-encode, chars_past_char, chars-nil}
 use Rattle.std.specs.Char.{IsScalar}

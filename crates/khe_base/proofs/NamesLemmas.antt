@@ -1,9 +1,9 @@
 -- Names among names, and the texts that stand for them.
-use Rattle.std.proofs.Common.{◌≡◌, ◌∙◌, sym, ap, subst, ℕ, ◌+◌, ◌<◌, Bool, true, false, not, cond, ◌&&◌, ◌||◌, List, [], ◌∷◌, ◌++◌, map, length, take, drop, get_or, Option, Some, None, refl, arith, drop-cons, suc, inl, inr, ◌⊎◌, if◌then◌else◌, position, string_bytes, String, ltb}
+use Rattle.std.proofs.Common.{◌≡◌, ◌∙◌, sym, ap, ℕ, ◌+◌, ◌<◌, Bool, true, false, not, cond, ◌||◌, List, [], ◌∷◌, ◌++◌, map, length, take, drop, get_or, Some, None, refl, drop-cons, suc, inl, inr, ◌⊎◌, if◌then◌else◌, position, string_bytes, String, ltb}
 use Rattle.std.specs.List.{list_any, position_or_len}
 use Rattle.std.specs.Str.{bytes_eq, IsUtf8}
 use Rattle.std.specs.String.{string_eq}
-use Rattle.std.proofs.lemmas.Bool.{true≢false, or_cases, or_parts, or_right, and_parts, and_from, and_left, and_right, not_from_true, not_from_false}
+use Rattle.std.proofs.lemmas.Bool.{true≢false, or_cases, or_parts, or_right, and_parts, and_from, and_left, and_right, not_from_true}
 use Rattle.std.proofs.lemmas.List.{map-append, length-map, take-append-drop}
 use Rattle.std.proofs.lemmas.List.Folds.{list_any-append}
 use Rattle.std.proofs.lemmas.Slice.Eq.{bytes_eq-Decides}

@@ -1,6 +1,6 @@
 -- Texts as characters and as bytes.
-use Rattle.std.proofs.Common.{◌≡◌, ◌∙◌, sym, ap, ℕ, ◌<◌, Bool, true, false, ◌&&◌, List, [], ◌∷◌, encode_utf8_all, Option, Some, None, if◌then◌else◌, get_or, arith, suc, zero, lit<}
-use Rattle.std.specs.Str.{bytes_eq, IsUtf8, IsAscii, is_utf8}
+use Rattle.std.proofs.Common.{◌≡◌, ◌∙◌, sym, ap, ℕ, true, List, [], ◌∷◌, encode_utf8_all, Some, None, if◌then◌else◌, suc, zero, lit<}
+use Rattle.std.specs.Str.{bytes_eq, IsUtf8, IsAscii}
 use Rattle.std.proofs.lemmas.Bool.{and_parts, ltb-true, false_from_ne_true}
 use Rattle.std.proofs.lemmas.Bool.Decides.{same_from_decides, Decides-like}
 use Rattle.std.proofs.lemmas.Slice.Eq.{bytes_eq-Decides}

@@ -1,5 +1,5 @@
 -- Durations have a least common multiple exactly where each is above 0.
-use Rattle.std.proofs.Common.{◌≡◌, ◌∙◌, sym, ℕ, zero, suc, ◌<◌, ◌≤◌, Bool, true, false, List, All, Option, Some, None, IfSome, IfNone, is_some, get_or, refl, arith}
+use Rattle.std.proofs.Common.{◌≡◌, ◌∙◌, sym, ℕ, zero, suc, ◌<◌, ◌≤◌, true, List, All, Option, Some, None, IfSome, IfNone, is_some, get_or, refl, arith}
 use Rattle.std.specs.Int.{◌∣◌}
 use Rattle.std.proofs.lemmas.Bool.{true≢false}
 use Rattle.std.proofs.Math.Nat.{div-mul_cancel}

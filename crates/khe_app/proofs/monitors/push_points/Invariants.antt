@@ -1,9 +1,8 @@
 -- All references so far name events; and the monitors so far, with those of the references that are
 -- left, are those of all references.
-use Rattle.std.proofs.Common.{◌≡◌, ◌++◌, drop, map, is_some}
-use Rattle.std.specs.List.{list_all, filter_map}
+use Rattle.std.proofs.Common.{◌≡◌, ◌++◌, drop, is_some}
+use Rattle.std.specs.List.{list_all}
 use Rattle.khe_base.specs.Names.{number_of}
-use Rattle.khe_app.specs.Deviation.{first_mentions}
 use Rattle.khe_app.specs.Numbered.{numbered_points, points_after}
 use Rattle.khe_app.proofs.monitors.push_points.Given as goal
 

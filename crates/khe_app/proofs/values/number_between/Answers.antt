@@ -1,5 +1,5 @@
 -- Each test of the code is one of the definition.
-use Rattle.std.proofs.Common.{◌≡◌, ◌≤◌, ◌<◌, Bool, true, Option, Some, None, if◌then◌else◌, length, rules, ap, sym, ◌∙◌, arith, nat_le, nat_lt, ◌&&◌, List, ℕ}
+use Rattle.std.proofs.Common.{◌≡◌, ◌≤◌, ◌<◌, true, Some, None, if◌then◌else◌, length, rules, ap, sym, ◌∙◌, arith, List, ℕ}
 use Rattle.std.specs.List.{list_all}
 use Rattle.std.proofs.lemmas.Bool.{and_from, le-leb, lt-ltb}
 use Rattle.std.proofs.lemmas.Bool.Decides.{nat_tests}

@@ -1,5 +1,5 @@
 -- A name that is already among the earlier ones comes twice in the list.
-use Rattle.std.proofs.Common.{◌≡◌, ◌∙◌, ap, sym, true, not, Some, None, if◌then◌else◌, take}
+use Rattle.std.proofs.Common.{◌≡◌, ◌∙◌, ap, sym, true, Some, None, if◌then◌else◌, take}
 use Rattle.std.proofs.lemmas.Bool.{not-false}
 use Rattle.khe_base.specs.Names.{is_among_names}
 use Rattle.khe_base.proofs.NamesLemmas.{are_distinct-repeated}

@@ -1,6 +1,5 @@
 -- Each step takes the least common multiple of the unit so far and one more duration.
 use Rattle.std.proofs.Common.{◌≤◌, arith, lit≤}
-use Rattle.khe_base.specs.declared.limits.TheConstants.{UNIT}
 use Rattle.khe_base.proofs.UnitsLemmas.{IsUnit-nil, IsUnit-more, IsUnit-grows}
 use Rattle.khe_base.proofs.units.common_unit.Goals as goal
 

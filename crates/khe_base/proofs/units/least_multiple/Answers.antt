@@ -1,7 +1,6 @@
 -- A number by the greatest common divisor, times the other, is the least common multiple.
-use Rattle.std.proofs.Common.{◌≡◌, ◌*◌, ◌/◌, ap, subst, arith}
+use Rattle.std.proofs.Common.{subst}
 use Rattle.std.specs.Int.{IsGcd}
-use Rattle.khe_base.specs.Units.{IsLeastMultiple}
 use Rattle.khe_base.proofs.UnitsLemmas.{IsLeastMultiple-from_gcd, IsGcd-positive}
 use Rattle.khe_base.proofs.units.least_multiple.Goals as goal
 

@@ -1,5 +1,5 @@
 -- The characters of a text's bytes spell those bytes again.
-use Rattle.std.proofs.Common.{◌∙◌, sym, ap, encode_utf8_all, string_bytes}
+use Rattle.std.proofs.Common.{◌∙◌, sym, ap, encode_utf8_all}
 use Rattle.std.proofs.lemmas.Str.{encodes-chars, IsUtf8-string_bytes}
 use Rattle.khe_base.proofs.texts.Text.as_bytes.Goals as goal
 

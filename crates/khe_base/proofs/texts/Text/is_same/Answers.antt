@@ -1,5 +1,5 @@
 -- The characters are the same exactly where the bytes are.
-use Rattle.std.proofs.Common.{◌≡◌, ◌∙◌, sym, ap, string_bytes}
+use Rattle.std.proofs.Common.{◌≡◌, ◌∙◌, sym, string_bytes}
 use Rattle.std.specs.Str.{bytes_eq}
 use Rattle.std.proofs.lemmas.Str.{IsUtf8-string_bytes}
 use Rattle.khe_base.proofs.TextLemmas.{bytes_eq-characters}

@@ -1,8 +1,7 @@
 -- Digits are ASCII, so the characters of a number are its bytes.
-use Rattle.std.proofs.Common.{◌≡◌, ◌++◌, ◌∙◌, ap, decimal}
+use Rattle.std.proofs.Common.{◌++◌, ◌∙◌, ap}
 use Rattle.std.proofs.lemmas.Result.{IfOk-equal}
 use Rattle.std.proofs.lemmas.Str.{chars-IsAscii}
-use Rattle.khe_base.specs.Text.{characters}
 use Rattle.khe_base.proofs.texts.Text.push_number.Goals as goal
 
 pub returns-clause-ok : goal.returns-clause-ok
