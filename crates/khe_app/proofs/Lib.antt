@@ -2,5 +2,4 @@ pub mod EndsLemmas
 pub mod MeetsLemmas
 pub mod MonitorsLemmas
 pub mod PointsLemmas
-pub mod References
 pub mod Rows

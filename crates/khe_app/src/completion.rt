@@ -5,6 +5,7 @@ ghost use Rattle.khe_app.specs.declared.archive.RawInstance.{RawInstance};
 
 use crate::archive::{RawEntry, RawEvent, RawInstance, RawSolution};
 use crate::meets::Meet;
+use crate::named::numbered_by_name;
 use khe_base::{Names, NoMemory, Seq, Text};
 use std::alloc::Global;
 
@@ -22,24 +23,14 @@ pub(crate) fn completed(
     requires distinct { are_distinct (references solution.now.entries) ≡ true }
     ensures { IfOk result (λ meets. meets ≡ completed instance.now solution.now) }
 {
-    let names = entry_names(alloc, solution.entries.as_slice())?;
+    let Some(names) = numbered_by_name(alloc, solution.entries.as_slice())? else {
+        unreachable!()
+    };
     let mut meets = Seq::new(alloc);
     for (number, event) in instance.events.as_slice().iter().enumerate() {
         meets.push(meet_of(times, &names, solution.entries.as_slice(), number, event))?;
     }
     Ok(meets)
-}
-
-/// The references of the entries, with their numbers.
-fn entry_names(alloc: Global, entries: &[RawEntry]) -> Result<Names, NoMemory>
-    requires { are_distinct (references entries.now) ≡ true }
-    ensures { IfOk result (λ names. names ≡ references entries.now) }
-{
-    let mut names = Names::new(alloc);
-    for entry in entries {
-        names.insert(&entry.reference)?;
-    }
-    Ok(names)
 }
 
 /// The meet of an event with this number.

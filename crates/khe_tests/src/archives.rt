@@ -1,7 +1,7 @@
 use std::alloc::{AllocError, Global};
 
 /// An archive of one event of three times, without a start.
-pub const FIRST: &str = r#"<HighSchoolTimetableArchive>
+pub(crate) const FIRST: &str = r#"<HighSchoolTimetableArchive>
 <Instances><Instance Id="I">
 <Times><Time Id="t0"/><Time Id="t1"/><Time Id="t2"/></Times>
 <Events><Event Id="E"><Duration>3</Duration></Event></Events>
@@ -13,7 +13,7 @@ pub const FIRST: &str = r#"<HighSchoolTimetableArchive>
 "#;
 
 /// An archive with resources and other kinds of constraints.
-pub const WITH_RESOURCES: &str = r#"<HighSchoolTimetableArchive>
+pub(crate) const WITH_RESOURCES: &str = r#"<HighSchoolTimetableArchive>
 <Instances><Instance Id="J">
 <Times><Time Id="t0"/><Time Id="t1"/><Time Id="t2"/></Times>
 <Resources><ResourceTypes><ResourceType Id="X"/></ResourceTypes>
@@ -46,7 +46,7 @@ pub const WITH_RESOURCES: &str = r#"<HighSchoolTimetableArchive>
 
 /// The first archive with one part of its text in place of another, or `None` where it has no such
 /// part.
-pub fn first_with(alloc: Global, part: &str, other: &str) -> Result<Option<Vec<u8>>, AllocError> {
+pub(crate) fn first_with(alloc: Global, part: &str, other: &str) -> Result<Option<Vec<u8>>, AllocError> {
     let Some((before, after)) = FIRST.split_once(part) else {
         return Ok(None);
     };

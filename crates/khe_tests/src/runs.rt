@@ -8,7 +8,7 @@ use std::thread::Threads;
 
 /// How the devices of a run behave.
 #[derive(Clone, Copy)]
-pub struct Devices {
+pub(crate) struct Devices {
     /// The greatest number of bytes of a read, at least 1.
     pub read: u32,
     /// The greatest number of bytes of a write, at least 1.
@@ -24,7 +24,7 @@ pub struct Devices {
 }
 
 /// Devices that fail at nothing.
-pub const GOOD: Devices = Devices {
+pub(crate) const GOOD: Devices = Devices {
     read: 1_000_000,
     write: 1_000_000,
     room: 10_000,
@@ -33,7 +33,7 @@ pub const GOOD: Devices = Devices {
 };
 
 /// Devices of which this call of the shelf and this write of the sink fail, counted from 1.
-pub fn failing(read: u64, write: u64) -> Devices {
+pub(crate) fn failing(read: u64, write: u64) -> Devices {
     Devices {
         read: 1_000_000,
         write: 1_000_000,
@@ -45,7 +45,7 @@ pub fn failing(read: u64, write: u64) -> Devices {
 
 /// What a run ended with.
 #[derive(Debug, Drop)]
-pub struct Ended {
+pub(crate) struct Ended {
     pub status: u8,
     pub text: Vec<u8>,
 }
@@ -57,7 +57,7 @@ fn one_number(alloc: Global, number: u64) -> Result<Seq<u64>, NoMemory> {
 }
 
 /// Runs the program on these words, where the bytes stand under `archive`.
-pub fn run<R: Threads + Sync>(
+pub(crate) fn run<R: Threads + Sync>(
     rt: &R,
     alloc: Global,
     words: &[&str],

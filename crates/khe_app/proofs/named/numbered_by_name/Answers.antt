@@ -17,9 +17,9 @@ returns-then-not-branch g c =
     let within : i < length (map name items) = subst (λ k. i < k) (sym (length-map items name)) c.loop-item-test.true in
     let at : n ≡ get_or (map name items) i n = ap name c.item-item.is ∙ sym (get_or-map name items i item n c.loop-item-test.true) in
     let heard : is_among_names n c.loop-item.names ≡ true =
-        ap (λ x. is_among_names x c.loop-item.names) (sym {b = n} c.name.ensures) ∙ not-false _ (sym c.in_ok-insert.ensures.new ∙ c.if-not-branch.true)
+    ap (λ x. is_among_names x c.loop-item.names) (sym {b = n} c.name.ensures) ∙ not-false _ (sym c.in_ok-insert.ensures.new ∙ c.if-not-branch.true)
     in
     let seen : is_among_names n (take i (map name items)) ≡ true =
-        ap (is_among_names n) (take-map name i items ∙ sym {a = c.loop-item.names} c.loop-item.invariant.0) ∙ heard
+    ap (is_among_names n) (take-map name i items ∙ sym {a = c.loop-item.names} c.loop-item.invariant.0) ∙ heard
     in
     are_distinct-repeated (map name items) i n within at seen
