@@ -46,7 +46,11 @@ pub(crate) const WITH_RESOURCES: &str = r#"<HighSchoolTimetableArchive>
 
 /// The first archive with one part of its text in place of another, or `None` where it has no such
 /// part.
-pub(crate) fn first_with(alloc: Global, part: &str, other: &str) -> Result<Option<Vec<u8>>, AllocError> {
+pub(crate) fn first_with(
+    alloc: Global,
+    part: &str,
+    other: &str,
+) -> Result<Option<Vec<u8>>, AllocError> {
     let Some((before, after)) = FIRST.split_once(part) else {
         return Ok(None);
     };
