@@ -1,6 +1,9 @@
 use crate::archives::{FIRST, WITH_RESOURCES, first_with};
 use crate::runs::{Devices, GOOD, failing, run};
+use khe_base::NoMemory;
+use std::alloc::Global;
 use std::test::Fail;
+use std::thread::Threads;
 
 const EVALUATE: [&str; 2] = ["evaluate", "archive"];
 
@@ -111,26 +114,26 @@ fn refuses_other_forms(rt: HostRuntime) -> Result<(), Fail> {
     Ok(())
 }
 
+/// Whether a run on these words reads nothing, and ends as words without a reading do.
+fn has_no_reading<R: Threads + Sync>(
+    rt: &R,
+    alloc: Global,
+    words: &[&str],
+) -> Result<bool, NoMemory> {
+    let bytes = FIRST.as_bytes().to_vec(alloc)?;
+    // The first call of the shelf would fail.
+    let ended = run(rt, alloc, words, bytes, failing(1, 0))?;
+    let written = ended.text.as_slice() == b"khe: words not understood\n".as_slice();
+    Ok(written && ended.status == 2)
+}
+
 #[test]
 fn reads_the_words(rt: HostRuntime) -> Result<(), Fail> {
-    let none: [&str; 0] = [];
-    for words in [
-        none.as_slice(),
-        ["evaluate"].as_slice(),
-        ["archive", "evaluate"].as_slice(),
-        ["Evaluate", "archive"].as_slice(),
-        ["evaluate", "archive", "archive"].as_slice(),
-    ] {
-        let bytes = FIRST.as_bytes().to_vec(rt.alloc())?;
-        // A read would fail, so none is made.
-        let devices = failing(1, 0);
-        let ended = run(&rt, rt.alloc(), words, bytes, devices)?;
-        assert_eq!(rt;
-            ended.text.as_slice(),
-            b"khe: words not understood\n".as_slice()
-        );
-        assert_eq!(rt; ended.status, 2);
-    }
+    assert!(rt; has_no_reading(&rt, rt.alloc(), &[])?);
+    assert!(rt; has_no_reading(&rt, rt.alloc(), &["evaluate"])?);
+    assert!(rt; has_no_reading(&rt, rt.alloc(), &["archive", "evaluate"])?);
+    assert!(rt; has_no_reading(&rt, rt.alloc(), &["Evaluate", "archive"])?);
+    assert!(rt; has_no_reading(&rt, rt.alloc(), &["evaluate", "archive", "archive"])?);
     Ok(())
 }
 
