@@ -1,15 +1,15 @@
 -- The machine reads each document, and gives its rows.
-use Rattle.std.proofs.Common.{◌≡◌, ℕ, zero, suc, ◌+◌, ◌<◌, Bool, true, false, cond, eqb, ltb, List, [], ◌∷◌, ◌++◌, length, set, Option, Some, None, Result, Ok, Err, refl, sym, ◌∙◌, ap, subst, arith, append-nil, append_assoc, length-append, add_assoc, add-zero}
+use Rattle.std.proofs.Common.{◌≡◌, ℕ, suc, ◌+◌, ◌<◌, Bool, true, false, cond, eqb, ltb, List, [], ◌∷◌, ◌++◌, length, set, Option, Some, None, Ok, refl, sym, ◌∙◌, ap, subst, arith, append-nil, append_assoc, length-append, add_assoc, add-zero}
 use Rattle.std.proofs.Math.Seq.{set-append_seam}
 use Rattle.std.proofs.lemmas.Bool.Decides.{nat_tests}
 use Rattle.std.specs.Str.{bytes_eq}
 use Rattle.std.proofs.lemmas.Slice.Eq.{bytes_eq-Decides}
 use Rattle.xhstt_text.specs.declared.tree.Attribute.{Attribute}
 use Rattle.xhstt_text.specs.declared.tree.Node.{Node}
-use Rattle.xhstt_text.specs.Bytes.{is_white, is_first, is_name, is_text, is_quoted, is_quote, AllAre, IsWhite, IsGap, IsName}
-use Rattle.xhstt_text.specs.Document.{Attributes, none, attribute, Start, Content, nothing, byte, short, long, Document, attributes_text, start_text, text, spelling, has_name, AreAttributes, IsStart, IsContent, IsElement, IsDocument, span, start_length, count, attributes_of, attribute_rows, loose_in, row, rows, Rows, table}
-use Rattle.xhstt_text.specs.Machine.{Frame, Read, Tag, Phase, content, ended, opened, start_name, valued, in_tag, slash, attribute_name, named, equals, in_value, shut_begin, shut, shut_gap, State, Step, refused, state, first_loose, noted, resume, parent_of, open_element, add_node, opened_row, closed_row, close_element, attribute_row, with_name, start_of, step, step_content, step_opened, step_valued, step_named, step_shut, finish, and_then, run, Outcome, outcome_of}
-use Rattle.xhstt_text.proofs.Runs.{by_step, run_loop, run_white, name_from_first, text_from_white, white_isnt_first, white_isnt_name, text_isnt_tag, first_not_name, run_gap, run_attribute_name, run_equals, run_quote, run_value, with_attribute}
+use Rattle.xhstt_text.specs.Bytes.{is_white, is_first, is_name, is_quoted, is_quote, AllAre, IsWhite, IsGap, IsName}
+use Rattle.xhstt_text.specs.Document.{Attributes, none, attribute, Start, Content, nothing, byte, short, long, Document, attributes_text, start_text, text, spelling, has_name, AreAttributes, IsStart, IsContent, IsElement, IsDocument, span, start_length, count, attributes_of, attribute_rows, loose_in, row, rows, table}
+use Rattle.xhstt_text.specs.Machine.{Frame, Read, Tag, content, ended, opened, start_name, valued, in_tag, slash, shut_begin, shut, shut_gap, Step, state, first_loose, noted, resume, parent_of, open_element, add_node, opened_row, closed_row, close_element, attribute_row, with_name, start_of, step, step_content, step_opened, step_valued, and_then, run, Outcome, outcome_of}
+use Rattle.xhstt_text.proofs.Runs.{by_step, run_loop, run_white, text_from_white, white_isnt_name, text_isnt_tag, first_not_name, run_gap, run_attribute_name, run_equals, run_quote, run_value, with_attribute}
 
 -- the names of these attributes, the last one first, and then those before them
 abbrev names_after : List (List ℕ) → Attributes → List (List ℕ)
@@ -86,7 +86,7 @@ begins_tag : (frames : List Frame) (r : Read) (at : ℕ) → step_content frames
 begins_tag [] r at = refl
 begins_tag (f ∷ fs) r at = refl
 
-begins_name : (frames : List Frame) (place : ℕ) (r : Read) (b : ℕ) → length frames < 32 → is_first b ≡ true → step_opened frames place r b ≡ state (start_name place (b ∷ [])) r
+pub begins_name : (frames : List Frame) (place : ℕ) (r : Read) (b : ℕ) → length frames < 32 → is_first b ≡ true → step_opened frames place r b ≡ state (start_name place (b ∷ [])) r
 begins_name [] place r b h e = rw e refl
 begins_name (f ∷ fs) place r b h e = let d : ltb (length (f ∷ fs)) 32 ≡ true = grind (arith, nat_tests) in rw (e, d) refl
 
@@ -153,7 +153,7 @@ run_short s r at number first rest e1 e2 d h =
 begins_end : (f : Frame) (fs : List Frame) (nodes : List Node) (attributes : List Attribute) (at : ℕ) (rest : List ℕ) → run content (record { frames = f ∷ fs; nodes = nodes; attributes = attributes }) at (60 ∷ 47 ∷ rest) ≡ run (shut_begin at) (record { frames = f ∷ fs; nodes = nodes; attributes = attributes }) (at + 1 + 1) rest
 begins_end f fs nodes attributes at rest = refl
 
-run_shut_name : (r : Read) (place at : ℕ) (name rest : List ℕ) → IsName name → run (shut_begin place) r at (name ++ rest) ≡ run (shut place name) r (at + length name) rest
+pub run_shut_name : (r : Read) (place at : ℕ) (name rest : List ℕ) → IsName name → run (shut_begin place) r at (name ++ rest) ≡ run (shut place name) r (at + length name) rest
 run_shut_name r place at [] rest h = absurd h
 run_shut_name r place at (b ∷ w) rest h =
     by_step (shut_begin place) r at b (w ++ rest) (shut place (b ∷ [])) r (rw h.0 refl)
@@ -239,9 +239,9 @@ after_long_is s inner r at =
     let last : ℕ = length r.nodes + 1 + length inside in
     let last_is : length ((r.nodes ++ f.node ∷ []) ++ inside) ≡ last = simp length-append (omega arith) in
     let nodes_are : set ((r.nodes ++ f.node ∷ []) ++ inside) (length r.nodes) (closed_row (with_loose f loose).node to (length ((r.nodes ++ f.node ∷ []) ++ inside))) ≡ r.nodes ++ row (parent_of r.frames) at s (length r.attributes) last (span from to) loose ∷ inside =
-      close_rows r.nodes inside f.node (closed_row (with_loose f loose).node to (length ((r.nodes ++ f.node ∷ []) ++ inside)))
-      ∙ ap (λ n. r.nodes ++ closed_row (with_loose f loose).node to n ∷ inside) last_is
-      ∙ ap (λ (x : Node). r.nodes ++ x ∷ inside) (closed_is s r at to last loose) in
+    close_rows r.nodes inside f.node (closed_row (with_loose f loose).node to (length ((r.nodes ++ f.node ∷ []) ++ inside)))
+    ∙ ap (λ n. r.nodes ++ closed_row (with_loose f loose).node to n ∷ inside) last_is
+    ∙ ap (λ (x : Node). r.nodes ++ x ∷ inside) (closed_is s r at to last loose) in
     ap (λ (x : List Node). read_of r.frames x ((r.attributes ++ attributes_of (at + 1 + length s.name) s.attributes) ++ attribute_rows from inner)) nodes_are
     ∙ ap (λ (x : List Attribute). read_of r.frames (r.nodes ++ row (parent_of r.frames) at s (length r.attributes) last (span from to) loose ∷ inside) x) (append_assoc r.attributes (attributes_of (at + 1 + length s.name) s.attributes) (attribute_rows from inner))
 

@@ -1,8 +1,12 @@
+pub mod Answer
 pub mod Bounds
 pub mod Complete
 pub mod DocumentTable
+pub mod Follow
 pub mod ForestOfTable
+pub mod KnownNames
 pub mod Parts
+pub mod Places
 pub mod Runs
 pub mod Sound
 pub mod Trees

@@ -1,11 +1,10 @@
 -- What the machine does over some bytes in a row.
-use Rattle.std.proofs.Common.{◌≡◌, ℕ, zero, suc, ◌+◌, ◌<◌, Bool, true, false, ◌||◌, eqb, ltb, List, [], ◌∷◌, ◌++◌, length, set, Option, Some, None, Result, Ok, Err, refl, sym, ◌∙◌, ap, subst, ◌⊎◌, inl, inr, arith, append-nil, append_assoc, length-append, add_assoc, add-zero}
+use Rattle.std.proofs.Common.{◌≡◌, ℕ, ◌+◌, Bool, true, false, eqb, List, [], ◌∷◌, ◌++◌, length, refl, ◌∙◌, ap, arith, append-nil, append_assoc, add-zero}
 use Rattle.std.proofs.lemmas.Bool.Decides.{nat_tests}
-use Rattle.std.specs.Str.{bytes_eq}
 use Rattle.xhstt_text.specs.Bytes.{is_white, is_first, is_name, is_text, is_quoted, is_quote, AllAre, IsWhite, IsGap, IsName}
-use Rattle.xhstt_text.specs.Document.{has_name, Rows, span}
+use Rattle.xhstt_text.specs.Document.{has_name}
 use Rattle.xhstt_text.specs.declared.tree.Attribute.{Attribute}
-use Rattle.xhstt_text.specs.Machine.{Frame, Read, Tag, Phase, content, ended, opened, start_name, valued, in_tag, slash, attribute_name, named, equals, in_value, shut_begin, shut, shut_gap, State, Step, refused, state, noted, resume, open_element, add_node, opened_row, close_element, attribute_row, with_name, start_of, step, step_valued, step_named, step_shut, finish, and_then, run, Outcome}
+use Rattle.xhstt_text.specs.Machine.{Read, Tag, Phase, valued, in_tag, attribute_name, named, equals, in_value, Step, state, attribute_row, with_name, step, and_then, run}
 
 pub by_step : (p : Phase) (r : Read) (at b : ℕ) (bs : List ℕ) (q : Phase) (s : Read) → step p r at b ≡ state q s → run p r at (b ∷ bs) ≡ run q s (at + 1) bs
 by_step p r at b bs q s e = ap (λ (x : Step). and_then x (λ s. run s.phase s.read (at + 1) bs)) e
@@ -30,16 +29,16 @@ white_isnt_first b h = grind (arith, nat_tests)
 pub white_isnt_name : (b : ℕ) → is_white b ≡ true → is_name b ≡ false
 white_isnt_name b h = grind (arith, nat_tests)
 
-quote_isnt_white : (b : ℕ) → is_quote b ≡ true → is_white b ≡ false
+pub quote_isnt_white : (b : ℕ) → is_quote b ≡ true → is_white b ≡ false
 quote_isnt_white b h = grind (arith, nat_tests)
 
 pub text_isnt_tag : (b : ℕ) → is_text b ≡ true → eqb b 60 ≡ false
 text_isnt_tag b h = grind (arith, nat_tests)
 
-same_number : (b : ℕ) → eqb b b ≡ true
+pub same_number : (b : ℕ) → eqb b b ≡ true
 same_number b = grind (arith, nat_tests)
 
-quote_isnt_quoted : (quote : ℕ) → is_quoted quote quote ≡ false
+pub quote_isnt_quoted : (quote : ℕ) → is_quoted quote quote ≡ false
 quote_isnt_quoted quote = grind (arith, nat_tests)
 
 pub first_not_name : (b : ℕ) → is_name b ≡ false → is_first b ≡ false

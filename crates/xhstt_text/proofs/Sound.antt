@@ -1,14 +1,11 @@
 -- What the machine reads is a document.
-use Rattle.std.proofs.Common.{◌≡◌, ℕ, zero, suc, ◌+◌, ◌<◌, Bool, true, false, cond, eqb, ltb, List, [], ◌∷◌, ◌++◌, length, map, set, Option, Some, None, Result, Ok, Err, refl, sym, ◌∙◌, ap, subst, ◌⊎◌, inl, inr, arith, append-nil, append_assoc, length-append, add_assoc, add-zero}
+use Rattle.std.proofs.Common.{◌≡◌, ℕ, suc, ◌+◌, ◌<◌, Bool, true, false, cond, eqb, ltb, List, [], ◌∷◌, ◌++◌, length, Ok, Err, refl, sym, ◌∙◌, ap, subst, ◌⊎◌, inl, inr, arith, append_assoc}
 use Rattle.std.proofs.lemmas.Bool.Decides.{nat_tests}
 use Rattle.std.proofs.lemmas.Slice.Eq.{bytes_eq-Decides}
 use Rattle.std.specs.Str.{bytes_eq}
-use Rattle.xhstt_text.specs.declared.tree.Attribute.{Attribute}
-use Rattle.xhstt_text.specs.declared.tree.Node.{Node}
 use Rattle.xhstt_text.specs.Bytes.{is_white, is_first, is_name, is_text, is_quoted, is_quote, AllAre, IsWhite, IsGap, IsName}
-use Rattle.xhstt_text.specs.Document.{Attributes, none, attribute, Start, Content, nothing, byte, short, long, Document, attributes_text, start_text, text, spelling, has_name, AreAttributes, IsStart, IsContent, IsElement, IsDocument, Rows}
+use Rattle.xhstt_text.specs.Document.{Attributes, none, attribute, Start, Content, nothing, byte, short, long, Document, attributes_text, start_text, text, spelling, has_name, AreAttributes, IsContent, IsDocument, Rows}
 use Rattle.xhstt_text.specs.Machine.{Frame, Read, Tag, Phase, content, ended, opened, start_name, valued, in_tag, slash, attribute_name, named, equals, in_value, shut_begin, shut, shut_gap, State, Step, refused, state, noted, resume, open_element, add_node, opened_row, close_element, attribute_row, with_name, start_of, step, step_content, step_opened, step_valued, step_named, step_shut, finish, and_then, run, Outcome, outcome_of}
-use Rattle.xhstt_text.proofs.Runs.{name_from_first, text_from_white}
 use Rattle.xhstt_text.proofs.Complete.{attribute_shape, start_shape, long_shape}
 
 -- what may follow inside these open elements, the innermost first, or after the outermost element
@@ -69,9 +66,13 @@ widen ns name names b bs e (attribute w own v u quote value more, rest, h, same,
 
 -- one more attribute before what follows in a tag
 more_attribute : (ns : List (List ℕ)) (name : List ℕ) (names : List (List ℕ)) (b : ℕ) (own w v : List ℕ) (quote : ℕ) (u bs : List ℕ) → is_white b ≡ true → IsName own → has_name own names ≡ false → IsWhite w → IsWhite v → is_quote quote ≡ true → AllAre (is_quoted quote) u → InTag ns name (own ∷ names) bs → InTag ns name names (b ∷ (own ++ (w ++ (61 ∷ (v ++ (quote ∷ (u ++ (quote ∷ bs))))))))
-more_attribute ns name names b own w v quote u bs hb hn new hw hv hq hu (a, rest, h, same, end) =
-    (attribute (b ∷ []) own w v quote u a, rest, ((hb, tt), hn, new, hw, hv, hq, hu, h),
-      ap (λ x. b ∷ (own ++ (w ++ (61 ∷ (v ++ (quote ∷ (u ++ (quote ∷ x)))))))) same ∙ sym (attribute_shape (b ∷ []) own w v quote u a rest), end)
+more_attribute ns name names b own w v quote u bs hb hn new hw hv hq hu (a, rest, h, same, end) = (
+  attribute (b ∷ []) own w v quote u a,
+  rest,
+  ((hb, tt), hn, new, hw, hv, hq, hu, h),
+  ap (λ x. b ∷ (own ++ (w ++ (61 ∷ (v ++ (quote ∷ (u ++ (quote ∷ x)))))))) same ∙ sym (attribute_shape (b ∷ []) own w v quote u a rest),
+  end,
+)
 
 abbrev start : List ℕ → Attributes → List ℕ → Start
 start name a w = record { name = name; attributes = a; white = w }
@@ -85,26 +86,42 @@ short_bytes s c rest = sym (append_assoc (start_text s) (47 ∷ 62 ∷ text c) r
 
 element : (ns : List (List ℕ)) (name bs : List ℕ) → IsName name → length ns < 32 → InTag ns name [] bs → Inside ns (60 ∷ (name ++ bs))
 element [] name bs hn d (a, rest, h, same, (w, more, hw, inl (eq, later))) =
-    let s : Start = start name a w in
-    (record { before = []; root = short s nothing; after = more }, (tt, tt, (d, (hn, h, hw), tt), later),
-      tag_bytes name a w bs rest (47 ∷ 62 ∷ more) same eq ∙ short_bytes s nothing more)
+    let s : Start = start name a w in (
+      record { before = []; root = short s nothing; after = more },
+      (tt, tt, (d, (hn, h, hw), tt), later),
+      tag_bytes name a w bs rest (47 ∷ 62 ∷ more) same eq ∙ short_bytes s nothing more,
+    )
 element [] name bs hn d (a, rest, h, same, (w, more, hw, inr (eq, (c, w2, more2, hc, hw2, eq2, later)))) =
-    let s : Start = start name a w in
-    (record { before = []; root = long s c name w2 nothing; after = more2 }, (tt, tt, (d, (hn, h, hw), hc, refl, hw2, tt), later),
-      tag_bytes name a w bs rest (62 ∷ more) same eq ∙ ap (λ x. start_text s ++ (62 ∷ x)) eq2 ∙ sym (long_shape s c name w2 nothing more2))
+    let s : Start = start name a w in (
+      record { before = []; root = long s c name w2 nothing; after = more2 },
+      (tt, tt, (d, (hn, h, hw), hc, refl, hw2, tt), later),
+      tag_bytes name a w bs rest (62 ∷ more) same eq ∙ ap (λ x. start_text s ++ (62 ∷ x)) eq2 ∙ sym (long_shape s c name w2 nothing more2),
+    )
 element (n ∷ ns) name bs hn d (a, rest, h, same, (w, more, hw, inl (eq, (c, w2, more2, hc, hw2, eq2, later)))) =
     let s : Start = start name a w in
-    let tail : List ℕ = 60 ∷ 47 ∷ (n ++ (w2 ++ (62 ∷ more2))) in
-    (short s c, w2, more2, (d, (hn, h, hw), hc), hw2,
-      tag_bytes name a w bs rest (47 ∷ 62 ∷ more) same eq ∙ ap (λ x. start_text s ++ (47 ∷ 62 ∷ x)) eq2 ∙ short_bytes s c tail, later)
+    let tail : List ℕ = 60 ∷ 47 ∷ (n ++ (w2 ++ (62 ∷ more2))) in (
+      short s c,
+      w2,
+      more2,
+      (d, (hn, h, hw), hc),
+      hw2,
+      tag_bytes name a w bs rest (47 ∷ 62 ∷ more) same eq ∙ ap (λ x. start_text s ++ (47 ∷ 62 ∷ x)) eq2 ∙ short_bytes s c tail,
+      later,
+    )
 element (n ∷ ns) name bs hn d (a, rest, h, same, (w, more, hw, inr (eq, (c, w2, more2, hc, hw2, eq2, (c3, w3, more3, hc3, hw3, eq3, later))))) =
     let s : Start = start name a w in
-    let tail : List ℕ = 60 ∷ 47 ∷ (n ++ (w3 ++ (62 ∷ more3))) in
-    (long s c name w2 c3, w3, more3, (d, (hn, h, hw), hc, refl, hw2, hc3), hw3,
+    let tail : List ℕ = 60 ∷ 47 ∷ (n ++ (w3 ++ (62 ∷ more3))) in (
+      long s c name w2 c3,
+      w3,
+      more3,
+      (d, (hn, h, hw), hc, refl, hw2, hc3),
+      hw3,
       tag_bytes name a w bs rest (62 ∷ more) same eq
-      ∙ ap (λ x. start_text s ++ (62 ∷ x)) eq2
-      ∙ ap (λ x. start_text s ++ (62 ∷ (text c ++ (60 ∷ 47 ∷ (name ++ (w2 ++ (62 ∷ x))))))) eq3
-      ∙ sym (long_shape s c name w2 c3 tail), later)
+          ∙ ap (λ x. start_text s ++ (62 ∷ x)) eq2
+          ∙ ap (λ x. start_text s ++ (62 ∷ (text c ++ (60 ∷ 47 ∷ (name ++ (w2 ++ (62 ∷ x))))))) eq3
+          ∙ sym (long_shape s c name w2 c3 tail),
+      later,
+    )
 
 -- steps, backwards
 choose : {G : Type 0} (c : Bool) (x y : Step) (s : State) → (c ≡ true → x ≡ Ok s → G) → (c ≡ false → y ≡ Ok s → G) → cond c x y ≡ Ok s → G
@@ -140,14 +157,14 @@ back_content [] r at b bs s e h =
     choose (eqb b 60) (state (opened at) (record r { frames = [] })) _ s
     (λ is here. subst (λ k. Inside [] (k ∷ bs)) (sym (same_byte b 60 is)) (arrives (After bs) (opened at) (record r { frames = [] }) s here h))
     (λ _ there. choose (is_white b) (state content (record r { frames = [] })) refused s
-      (λ is here. more_before b bs is (arrives (After bs) content (record r { frames = [] }) s here h))
-      (λ _ here. no s here) there) e
+    (λ is here. more_before b bs is (arrives (After bs) content (record r { frames = [] }) s here h))
+    (λ _ here. no s here) there) e
 back_content (f ∷ fs) r at b bs s e h =
     choose (eqb b 60) (state (opened at) (record r { frames = f ∷ fs })) _ s
     (λ is here. subst (λ k. Inside (names_of (f ∷ fs)) (k ∷ bs)) (sym (same_byte b 60 is)) (arrives (After bs) (opened at) (record r { frames = f ∷ fs }) s here h))
     (λ _ there. choose (is_text b) (state content (record r { frames = noted f at b ∷ fs })) refused s
-      (λ is here. more_content f.name (names_of fs) b bs is (arrives (After bs) content (record r { frames = noted f at b ∷ fs }) s here h))
-      (λ _ here. no s here) there) e
+    (λ is here. more_content f.name (names_of fs) b bs is (arrives (After bs) content (record r { frames = noted f at b ∷ fs }) s here h))
+    (λ _ here. no s here) there) e
 
 length_names : (fs : List Frame) → length (names_of fs) ≡ length fs
 length_names [] = refl
@@ -162,36 +179,36 @@ back_opened (f ∷ fs) place r b bs s e h =
     let q : Read = record r { frames = f ∷ fs } in
     choose (is_first b) _ _ s
     (λ is there. choose (ltb (length (f ∷ fs)) 32) (state (start_name place (b ∷ [])) q) refused s
-      (λ few here. arrives (After bs) (start_name place (b ∷ [])) q s here h (is, tt) (let d : length (f ∷ fs) < 32 = grind (arith, nat_tests) in subst (λ n. n < 32) (sym (length_names (f ∷ fs))) d))
-      (λ _ here. no s here) there)
+    (λ few here. arrives (After bs) (start_name place (b ∷ [])) q s here h (is, tt) (let d : length (f ∷ fs) < 32 = grind (arith, nat_tests) in subst (λ n. n < 32) (sym (length_names (f ∷ fs))) d))
+    (λ _ here. no s here) there)
     (λ _ there. choose (eqb b 47) (state (shut_begin place) q) refused s
-      (λ is here. subst (λ k. Inside (names_of (f ∷ fs)) (60 ∷ k ∷ bs)) (sym (same_byte b 47 is)) (arrives (After bs) (shut_begin place) q s here h))
-      (λ _ here. no s here) there) e
+    (λ is here. subst (λ k. Inside (names_of (f ∷ fs)) (60 ∷ k ∷ bs)) (sym (same_byte b 47 is)) (arrives (After bs) (shut_begin place) q s here h))
+    (λ _ here. no s here) there) e
 
 back_valued : (t : Tag) (r : Read) (at b : ℕ) (bs : List ℕ) (s : State) → step_valued t r at b ≡ Ok s → After bs s → InTag (names_of r.frames) t.name t.names (b ∷ bs)
 back_valued t r at b bs s e h =
     choose (is_first b) refused _ s (λ _ here. no s here)
     (λ _ e1. choose (is_white b) (state (in_tag t) r) _ s
-      (λ is here. arrives (After bs) (in_tag t) r s here h b is)
-      (λ _ e2. choose (eqb b 47) (state (slash t) r) _ s
-        (λ is here. let q = arrives (After bs) (slash t) r s here h in
-          subst (λ k. InTag (names_of r.frames) t.name t.names (k ∷ bs)) (sym (same_byte b 47 is))
-            (none, 47 ∷ bs, tt, refl, ([], q.0, tt, inl (ap (λ x. 47 ∷ x) q.1, q.2))))
-        (λ _ e3. choose (eqb b 62) (state content (open_element t r (at + 1))) refused s
-          (λ is here. let q = arrives (After bs) content (open_element t r (at + 1)) s here h in
-            subst (λ k. InTag (names_of r.frames) t.name t.names (k ∷ bs)) (sym (same_byte b 62 is))
-              (none, 62 ∷ bs, tt, refl, ([], bs, tt, inr (refl, q))))
-          (λ _ here. no s here) e3) e2) e1) e
+    (λ is here. arrives (After bs) (in_tag t) r s here h b is)
+    (λ _ e2. choose (eqb b 47) (state (slash t) r) _ s
+    (λ is here. let q = arrives (After bs) (slash t) r s here h in
+    subst (λ k. InTag (names_of r.frames) t.name t.names (k ∷ bs)) (sym (same_byte b 47 is))
+    (none, 47 ∷ bs, tt, refl, ([], q.0, tt, inl (ap (λ x. 47 ∷ x) q.1, q.2))))
+    (λ _ e3. choose (eqb b 62) (state content (open_element t r (at + 1))) refused s
+    (λ is here. let q = arrives (After bs) content (open_element t r (at + 1)) s here h in
+    subst (λ k. InTag (names_of r.frames) t.name t.names (k ∷ bs)) (sym (same_byte b 62 is))
+    (none, 62 ∷ bs, tt, refl, ([], bs, tt, inr (refl, q))))
+    (λ _ here. no s here) e3) e2) e1) e
 
 back_named : (t : Tag) (place : ℕ) (name : List ℕ) (r : Read) (b : ℕ) (bs : List ℕ) (s : State) → step_named t place name r b ≡ Ok s → After bs s → Follows (named t place name) (names_of r.frames) (b ∷ bs)
 back_named t place name r b bs s e h =
     choose (is_white b) (state (named t place name) r) _ s
     (λ is here hn new c hc w hw.
-      let q = arrives (After bs) (named t place name) r s here h hn new c hc (w ++ b ∷ []) (all_push is_white w b hw is) in
-      subst (λ (x : List ℕ). InTag (names_of r.frames) t.name t.names (c ∷ (name ++ x))) (append_assoc w (b ∷ []) bs) q)
+    let q = arrives (After bs) (named t place name) r s here h hn new c hc (w ++ b ∷ []) (all_push is_white w b hw is) in
+    subst (λ (x : List ℕ). InTag (names_of r.frames) t.name t.names (c ∷ (name ++ x))) (append_assoc w (b ∷ []) bs) q)
     (λ _ there. choose (eqb b 61) (state (equals t place name) r) refused s
-      (λ is here hn new c hc w hw. subst (λ k. InTag (names_of r.frames) t.name t.names (c ∷ (name ++ (w ++ (k ∷ bs))))) (sym (same_byte b 61 is)) (arrives (After bs) (equals t place name) r s here h hn new c hc w hw [] tt))
-      (λ _ here. no s here) there) e
+    (λ is here hn new c hc w hw. subst (λ k. InTag (names_of r.frames) t.name t.names (c ∷ (name ++ (w ++ (k ∷ bs))))) (sym (same_byte b 61 is)) (arrives (After bs) (equals t place name) r s here h hn new c hc w hw [] tt))
+    (λ _ here. no s here) there) e
 
 later_from : (fs : List Frame) (bs : List ℕ) → Follows (resume fs) (names_of fs) bs → Later (names_of fs) bs
 later_from [] bs h = h
@@ -203,16 +220,16 @@ back_shut (f ∷ fs) place name r b bs s e h =
     let q : Read = record r { frames = f ∷ fs } in
     choose (is_white b) (state (shut_gap place name) q) _ s
     (λ is here w hw.
-      let k = arrives (After bs) (shut_gap place name) q s here h (w ++ b ∷ []) (all_push is_white w b hw is) in
-      subst (λ (x : List ℕ). Inside (names_of (f ∷ fs)) (60 ∷ 47 ∷ (name ++ x))) (append_assoc w (b ∷ []) bs) k)
+    let k = arrives (After bs) (shut_gap place name) q s here h (w ++ b ∷ []) (all_push is_white w b hw is) in
+    subst (λ (x : List ℕ). Inside (names_of (f ∷ fs)) (60 ∷ 47 ∷ (name ++ x))) (append_assoc w (b ∷ []) bs) k)
     (λ _ e1. choose (eqb b 62) _ refused s
-      (λ is e2. choose (bytes_eq name f.name) (state (resume fs) (close_element f fs q place)) refused s
-        (λ same here w hw.
-          let k = later_from fs bs (arrives (After bs) (resume fs) (close_element f fs q place) s here h) in
-          let is_same : name ≡ f.name = (bytes_eq-Decides name f.name).0 same in
-          (nothing, w, bs, tt, hw, ap (λ (x : List ℕ). 60 ∷ 47 ∷ (x ++ (w ++ (b ∷ bs)))) is_same ∙ ap (λ x. 60 ∷ 47 ∷ (f.name ++ (w ++ (x ∷ bs)))) (same_byte b 62 is), k))
-        (λ _ here. no s here) e2)
-      (λ _ here. no s here) e1) e
+    (λ is e2. choose (bytes_eq name f.name) (state (resume fs) (close_element f fs q place)) refused s
+    (λ same here w hw.
+    let k = later_from fs bs (arrives (After bs) (resume fs) (close_element f fs q place) s here h) in
+    let is_same : name ≡ f.name = (bytes_eq-Decides name f.name).0 same in
+    (nothing, w, bs, tt, hw, ap (λ (x : List ℕ). 60 ∷ 47 ∷ (x ++ (w ++ (b ∷ bs)))) is_same ∙ ap (λ x. 60 ∷ 47 ∷ (f.name ++ (w ++ (x ∷ bs)))) (same_byte b 62 is), k))
+    (λ _ here. no s here) e2)
+    (λ _ here. no s here) e1) e
 
 back : (p : Phase) (r : Read) (at b : ℕ) (bs : List ℕ) (s : State) → step p r at b ≡ Ok s → After bs s → Follows p (names_of r.frames) (b ∷ bs)
 back content r at b bs s e h = back_content r.frames r at b bs s e h
@@ -222,8 +239,8 @@ back (opened place) r at b bs s e h = back_opened r.frames place r b bs s e h
 back (start_name place name) r at b bs s e h =
     choose (is_name b) (state (start_name place (name ++ b ∷ [])) r) _ s
     (λ is here hn d.
-      let q = arrives (After bs) (start_name place (name ++ b ∷ [])) r s here h (name_push name b hn is) d in
-      subst (λ (x : List ℕ). Inside (names_of r.frames) (60 ∷ x)) (append_assoc name (b ∷ []) bs) q)
+    let q = arrives (After bs) (start_name place (name ++ b ∷ [])) r s here h (name_push name b hn is) d in
+    subst (λ (x : List ℕ). Inside (names_of r.frames) (60 ∷ x)) (append_assoc name (b ∷ []) bs) q)
     (λ _ there hn d. element (names_of r.frames) name (b ∷ bs) hn d (back_valued (start_of place name r) r at b bs s there h)) e
 back (valued t) r at b bs s e h = back_valued t r at b bs s e h
 back (in_tag t) r at b bs s e h =
@@ -237,38 +254,38 @@ back (slash t) r at b bs s e h =
 back (attribute_name t place name) r at b bs s e h =
     choose (is_name b) (state (attribute_name t place (name ++ b ∷ [])) r) _ s
     (λ is here hn c hc.
-      let q = arrives (After bs) (attribute_name t place (name ++ b ∷ [])) r s here h (name_push name b hn is) c hc in
-      subst (λ (x : List ℕ). InTag (names_of r.frames) t.name t.names (c ∷ x)) (append_assoc name (b ∷ []) bs) q)
+    let q = arrives (After bs) (attribute_name t place (name ++ b ∷ [])) r s here h (name_push name b hn is) c hc in
+    subst (λ (x : List ℕ). InTag (names_of r.frames) t.name t.names (c ∷ x)) (append_assoc name (b ∷ []) bs) q)
     (λ _ there. choose (has_name name t.names) refused (step_named t place name r b) s
-      (λ _ here. no s here)
-      (λ new here hn c hc. back_named t place name r b bs s here h hn new c hc [] tt) there) e
+    (λ _ here. no s here)
+    (λ new here hn c hc. back_named t place name r b bs s here h hn new c hc [] tt) there) e
 back (named t place name) r at b bs s e h = back_named t place name r b bs s e h
 back (equals t place name) r at b bs s e h =
     choose (is_white b) (state (equals t place name) r) _ s
     (λ is here hn new c hc w hw v hv.
-      let q = arrives (After bs) (equals t place name) r s here h hn new c hc w hw (v ++ b ∷ []) (all_push is_white v b hv is) in
-      subst (λ (x : List ℕ). InTag (names_of r.frames) t.name t.names (c ∷ (name ++ (w ++ (61 ∷ x))))) (append_assoc v (b ∷ []) bs) q)
+    let q = arrives (After bs) (equals t place name) r s here h hn new c hc w hw (v ++ b ∷ []) (all_push is_white v b hv is) in
+    subst (λ (x : List ℕ). InTag (names_of r.frames) t.name t.names (c ∷ (name ++ (w ++ (61 ∷ x))))) (append_assoc v (b ∷ []) bs) q)
     (λ _ there. choose (is_quote b) (state (in_value t place name b (at + 1)) r) refused s
-      (λ is here hn new c hc w hw v hv. arrives (After bs) (in_value t place name b (at + 1)) r s here h hn new is c hc w hw v hv [] tt)
-      (λ _ here. no s here) there) e
+    (λ is here hn new c hc w hw v hv. arrives (After bs) (in_value t place name b (at + 1)) r s here h hn new is c hc w hw v hv [] tt)
+    (λ _ here. no s here) there) e
 back (in_value t place name quote from) r at b bs s e h =
     choose (is_quoted quote b) (state (in_value t place name quote from) r) _ s
     (λ is here hn new hq c hc w hw v hv u hu.
-      let q = arrives (After bs) (in_value t place name quote from) r s here h hn new hq c hc w hw v hv (u ++ b ∷ []) (all_push (is_quoted quote) u b hu is) in
-      subst (λ (x : List ℕ). InTag (names_of r.frames) t.name t.names (c ∷ (name ++ (w ++ (61 ∷ (v ++ (quote ∷ x))))))) (append_assoc u (b ∷ []) bs) q)
+    let q = arrives (After bs) (in_value t place name quote from) r s here h hn new hq c hc w hw v hv (u ++ b ∷ []) (all_push (is_quoted quote) u b hu is) in
+    subst (λ (x : List ℕ). InTag (names_of r.frames) t.name t.names (c ∷ (name ++ (w ++ (61 ∷ (v ++ (quote ∷ x))))))) (append_assoc u (b ∷ []) bs) q)
     (λ _ there. choose (eqb b quote) (state (valued (with_name t name)) (record r { attributes = r.attributes ++ attribute_row place name from at ∷ [] })) refused s
-      (λ is here hn new hq c hc w hw v hv u hu.
-        let q = arrives (After bs) (valued (with_name t name)) (record r { attributes = r.attributes ++ attribute_row place name from at ∷ [] }) s here h in
-        subst (λ k. InTag (names_of r.frames) t.name t.names (c ∷ (name ++ (w ++ (61 ∷ (v ++ (quote ∷ (u ++ (k ∷ bs))))))))) (sym (same_byte b quote is))
-          (more_attribute (names_of r.frames) t.name t.names c name w v quote u bs hc hn new hw hv hq hu q))
-      (λ _ here. no s here) there) e
+    (λ is here hn new hq c hc w hw v hv u hu.
+    let q = arrives (After bs) (valued (with_name t name)) (record r { attributes = r.attributes ++ attribute_row place name from at ∷ [] }) s here h in
+    subst (λ k. InTag (names_of r.frames) t.name t.names (c ∷ (name ++ (w ++ (61 ∷ (v ++ (quote ∷ (u ++ (k ∷ bs))))))))) (sym (same_byte b quote is))
+    (more_attribute (names_of r.frames) t.name t.names c name w v quote u bs hc hn new hw hv hq hu q))
+    (λ _ here. no s here) there) e
 back (shut_begin place) r at b bs s e h =
     choose (is_first b) (state (shut place (b ∷ [])) r) refused s (λ _ here. arrives (After bs) (shut place (b ∷ [])) r s here h) (λ _ here. no s here) e
 back (shut place name) r at b bs s e h =
     choose (is_name b) (state (shut place (name ++ b ∷ [])) r) _ s
     (λ _ here.
-      let q = arrives (After bs) (shut place (name ++ b ∷ [])) r s here h in
-      subst (λ (x : List ℕ). Inside (names_of r.frames) (60 ∷ 47 ∷ x)) (append_assoc name (b ∷ []) bs) q)
+    let q = arrives (After bs) (shut place (name ++ b ∷ [])) r s here h in
+    subst (λ (x : List ℕ). Inside (names_of r.frames) (60 ∷ 47 ∷ x)) (append_assoc name (b ∷ []) bs) q)
     (λ _ there. back_shut r.frames place name r b bs s there h [] tt) e
 back (shut_gap place name) r at b bs s e h = back_shut r.frames place name r b bs s e h
 

@@ -1,5 +1,5 @@
 -- The bytes that a text of the first form is made of.
-use Rattle.std.specs.Prelude.{ℕ, ◌≡◌, Bool, true, false, not, ◌&&◌, ◌||◌, ◌==◌, nat_le, List, [], ◌∷◌}
+use Rattle.std.specs.Prelude.{ℕ, ◌≡◌, Bool, true, not, ◌&&◌, ◌||◌, ◌==◌, nat_le, List, [], ◌∷◌}
 
 -- space, tab, line feed or carriage return
 abbrev pub is_white : ℕ → Bool

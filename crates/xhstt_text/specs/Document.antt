@@ -6,7 +6,7 @@ use Rattle.xhstt_text.specs.Bytes.{is_white, is_text, is_quoted, is_quote, AllAr
 use Rattle.xhstt_text.specs.declared.tree.Span.{Span}
 use Rattle.xhstt_text.specs.declared.tree.Node.{Node}
 use Rattle.xhstt_text.specs.declared.tree.Attribute.{Attribute}
-use Rattle.xhstt_text.specs.Forest.{Info, AttributeInfo, Forest, empty as no_elements, node}
+use Rattle.xhstt_text.specs.Forest.{AttributeInfo, Forest, empty as no_elements, node}
 
 -- the attributes of a start tag: the white before the first, its name, the white before and after
 -- its `=`, its quote, its value, and the later attributes

@@ -4,3 +4,4 @@ pub mod FlatTable
 pub mod Forest
 pub mod Handles
 pub mod Machine
+pub mod Reading

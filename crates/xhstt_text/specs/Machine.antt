@@ -1,6 +1,6 @@
 -- A machine that reads a text a byte at a time. It is a tool of the proofs: the grammar in
 -- `Document` says what a text is, and the reader is shown to do as this machine.
-use Rattle.std.specs.Prelude.{ℕ, ◌≡◌, ◌+◌, Bool, true, false, ◌==◌, nat_lt, if◌then◌else◌, List, [], ◌∷◌, ◌++◌, length, set, Option, Some, None, Result, Ok, Err}
+use Rattle.std.specs.Prelude.{ℕ, ◌+◌, ◌==◌, nat_lt, if◌then◌else◌, List, [], ◌∷◌, ◌++◌, length, set, Option, Some, None, Result, Ok, Err}
 use Rattle.std.specs.Str.{bytes_eq}
 use Rattle.xhstt_text.specs.Bytes.{is_white, is_first, is_name, is_text, is_quoted, is_quote}
 use Rattle.xhstt_text.specs.Document.{Rows, span, has_name}
@@ -31,20 +31,20 @@ pub record Tag : Type 0 where
 
 -- where the machine is
 pub data Phase : Type 0 where
-  content : Phase                              -- between two tags, or before the outermost element
-  ended : Phase                                -- after the outermost element
-  opened : ℕ → Phase                           -- after the `<` at this place
-  start_name : ℕ → List ℕ → Phase              -- in the name of a start tag
-  valued : Tag → Phase                         -- after a value, or after the tag's name
-  in_tag : Tag → Phase                         -- in a start tag, after white
-  slash : Tag → Phase                          -- after the `/` of a start tag
-  attribute_name : Tag → ℕ → List ℕ → Phase    -- in the name of the attribute at this place
-  named : Tag → ℕ → List ℕ → Phase             -- after that name and white
-  equals : Tag → ℕ → List ℕ → Phase            -- after its `=`
+  content : Phase  -- between two tags, or before the outermost element
+  ended : Phase  -- after the outermost element
+  opened : ℕ → Phase  -- after the `<` at this place
+  start_name : ℕ → List ℕ → Phase  -- in the name of a start tag
+  valued : Tag → Phase  -- after a value, or after the tag's name
+  in_tag : Tag → Phase  -- in a start tag, after white
+  slash : Tag → Phase  -- after the `/` of a start tag
+  attribute_name : Tag → ℕ → List ℕ → Phase  -- in the name of the attribute at this place
+  named : Tag → ℕ → List ℕ → Phase  -- after that name and white
+  equals : Tag → ℕ → List ℕ → Phase  -- after its `=`
   in_value : Tag → ℕ → List ℕ → ℕ → ℕ → Phase  -- in its value: the quote, and the place after it
-  shut_begin : ℕ → Phase                       -- after the `</` at this place
-  shut : ℕ → List ℕ → Phase                    -- in the name of an end tag
-  shut_gap : ℕ → List ℕ → Phase                -- after that name and white
+  shut_begin : ℕ → Phase  -- after the `</` at this place
+  shut : ℕ → List ℕ → Phase  -- in the name of an end tag
+  shut_gap : ℕ → List ℕ → Phase  -- after that name and white
 
 pub record State : Type 0 where
   pub phase : Phase

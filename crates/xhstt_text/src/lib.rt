@@ -2,11 +2,18 @@
 #![tactic(auto)]
 
 mod attributes;
+mod bytes;
+mod cursor;
 mod faults;
 mod handles;
+mod names;
+mod reader;
+mod table;
+mod tags;
 mod tree;
 
 pub use attributes::{AttributeText, Attributes};
 pub use faults::TextFault;
 pub use handles::{Children, Element};
+pub use reader::elements;
 pub use tree::{Attribute, Node, Span, Tree};

@@ -1,0 +1,408 @@
+-- Each step of the reader as the machine takes it.
+use Rattle.std.proofs.Common.{◌≡◌, ℕ, ◌+◌, ◌<◌, ◌≤◌, Bool, true, false, cond, not, eqb, List, [], ◌∷◌, ◌++◌, length, map, Option, Some, None, Result, Ok, Err, refl, sym, ◌∙◌, ap, subst, arith, length-append, add-zero}
+use Rattle.std.proofs.lemmas.Bool.Decides.{nat_tests}
+use Rattle.std.specs.Str.{bytes_eq}
+use Rattle.xhstt_text.specs.declared.faults.TextFault.TheVariants.{NotBuilt, NoMemory}
+use Rattle.xhstt_text.specs.declared.faults.TextFault.{TextFault}
+use Rattle.std.specs.Prelude.{IsErrAnd}
+use Rattle.std.specs.Option.{option_or}
+use Rattle.std.proofs.lemmas.List.{length-map, length-reverse, reverse-append}
+use Rattle.xhstt_text.specs.declared.table.OpenElement.{OpenElement}
+use Rattle.xhstt_text.proofs.Complete.{run_shut_name, begins_name, white_isnt_tag}
+use Rattle.xhstt_text.specs.declared.tree.Attribute.{Attribute}
+use Rattle.xhstt_text.specs.declared.tree.Node.{Node}
+use Rattle.xhstt_text.specs.declared.tree.Span.{Span}
+use Rattle.xhstt_text.specs.Bytes.{is_white, is_first, is_name, is_text, is_quoted, is_quote, AllAre, IsGap, IsName}
+use Rattle.xhstt_text.specs.Document.{has_name, span}
+use Rattle.xhstt_text.specs.Machine.{Frame, Read, Tag, Phase, content, ended, opened, start_name, valued, in_tag, slash, attribute_name, named, equals, in_value, shut_begin, shut, shut_gap, Step, refused, state, first_loose, noted, resume, open_element, close_element, attribute_row, with_name, start_of, step, and_then, run, Outcome}
+use Rattle.xhstt_text.specs.Reading.{Leads, Skips, TakesName, begins, is_byte, read_of, bare, with_loose_text, frames_of, frame_of}
+use Rattle.xhstt_text.proofs.Runs.{by_step, run_loop, run_gap, run_attribute_name, text_from_white, text_isnt_tag, quote_isnt_white, quote_isnt_quoted, same_number}
+
+-- over bytes at which the machine stays where it is
+pub over : (test : ℕ → Bool) (p : Phase) (r : Read) → ((at b : ℕ) → test b ≡ true → step p r at b ≡ state p r) → (at : ℕ) (bs : List ℕ) (to : ℕ) (rest : List ℕ) → Skips test at bs to rest → run p r at bs ≡ run p r to rest
+over test p r go at bs to rest h =
+    ap (run p r at) h.2
+    ∙ run_loop test (λ _. p) r (λ _ i b q. go i b q) h.0 [] at rest h.1
+    ∙ ap (λ n. run p r n rest) (sym h.3)
+
+-- over one byte
+pub one : (p : Phase) (r : Read) (at : ℕ) (bs : List ℕ) (b to : ℕ) (rest : List ℕ) (q : Phase) (s : Read) → bs ≡ b ∷ rest → to ≡ at + 1 → step p r at b ≡ state q s → run p r at bs ≡ run q s to rest
+one p r at bs b to rest q s e d h =
+    ap (run p r at) e ∙ by_step p r at b rest q s h ∙ ap (λ n. run q s n rest) (sym d)
+
+-- two phases that take the next byte alike
+same_step : (p q : Phase) (r : Read) (at b : ℕ) (bs : List ℕ) → step p r at b ≡ step q r at b → run p r at (b ∷ bs) ≡ run q r at (b ∷ bs)
+same_step p q r at b bs e = ap (λ (x : Step). and_then x (λ s. run s.phase s.read (at + 1) bs)) e
+
+refuses : (p : Phase) (r : Read) (at b : ℕ) (bs : List ℕ) → step p r at b ≡ refused → run p r at (b ∷ bs) ≡ Err NotBuilt
+refuses p r at b bs e = ap (λ (x : Step). and_then x (λ s. run s.phase s.read (at + 1) bs)) e
+
+name_ends : (t : Tag) (place : ℕ) (known : List ℕ) (r : Read) (at : ℕ) (bs : List ℕ) → has_name known t.names ≡ false → begins is_name bs ≡ false → run (attribute_name t place known) r at bs ≡ run (named t place known) r at bs
+name_ends t place known r at [] new e = refl
+name_ends t place known r at (b ∷ bs) new e = same_step (attribute_name t place known) (named t place known) r at b bs (rw (e, new) refl)
+
+no_equals : (t : Tag) (place : ℕ) (known : List ℕ) (r : Read) (at : ℕ) (bs : List ℕ) → begins is_white bs ≡ false → begins (is_byte 61) bs ≡ false → run (named t place known) r at bs ≡ Err NotBuilt
+no_equals t place known r at [] w e = refl
+no_equals t place known r at (b ∷ bs) w e = refuses (named t place known) r at b bs (rw (w, e) refl)
+
+no_quote : (t : Tag) (place : ℕ) (known : List ℕ) (r : Read) (at : ℕ) (bs : List ℕ) → begins is_white bs ≡ false → begins is_quote bs ≡ false → run (equals t place known) r at bs ≡ Err NotBuilt
+no_quote t place known r at [] w e = refl
+no_quote t place known r at (b ∷ bs) w e = refuses (equals t place known) r at b bs (rw (w, e) refl)
+
+no_end : (t : Tag) (place : ℕ) (known : List ℕ) (mark from : ℕ) (r : Read) (at : ℕ) (bs : List ℕ) → begins (is_quoted mark) bs ≡ false → begins (is_byte mark) bs ≡ false → run (in_value t place known mark from) r at bs ≡ Err NotBuilt
+no_end t place known mark from r at [] w e = refl
+no_end t place known mark from r at (b ∷ bs) w e = refuses (in_value t place known mark from) r at b bs (rw (w, e) refl)
+
+-- over the white after an attribute's name
+over_named : (t : Tag) (place : ℕ) (known : List ℕ) (r : Read) (at : ℕ) (bs : List ℕ) (at1 : ℕ) (bs1 : List ℕ) → has_name known t.names ≡ false → begins is_name bs ≡ false → Skips is_white at bs at1 bs1 → run (attribute_name t place known) r at bs ≡ run (named t place known) r at1 bs1
+over_named t place known r at bs at1 bs1 new e h =
+    name_ends t place known r at bs new e
+    ∙ over is_white (named t place known) r (λ i b q. rw q refl) at bs at1 bs1 h
+
+pub value_no_equals : (t : Tag) (place : ℕ) (known : List ℕ) (r : Read) (at : ℕ) (bs : List ℕ) (at1 : ℕ) (bs1 : List ℕ) → has_name known t.names ≡ false → begins is_name bs ≡ false → Skips is_white at bs at1 bs1 → begins (is_byte 61) bs1 ≡ false → run (attribute_name t place known) r at bs ≡ Err NotBuilt
+value_no_equals t place known r at bs at1 bs1 new e h d =
+    over_named t place known r at bs at1 bs1 new e h ∙ no_equals t place known r at1 bs1 h.4 d
+
+-- up to the first quote
+over_equals : (t : Tag) (place : ℕ) (known : List ℕ) (r : Read) (at : ℕ) (bs : List ℕ) (at1 : ℕ) (bs1 : List ℕ) (at2 : ℕ) (bs2 : List ℕ) (at3 : ℕ) (bs3 : List ℕ) → has_name known t.names ≡ false → begins is_name bs ≡ false → Skips is_white at bs at1 bs1 → (bs1 ≡ 61 ∷ bs2) × (at2 ≡ at1 + 1) → Skips is_white at2 bs2 at3 bs3 → run (attribute_name t place known) r at bs ≡ run (equals t place known) r at3 bs3
+over_equals t place known r at bs at1 bs1 at2 bs2 at3 bs3 new e h1 h2 h3 =
+    over_named t place known r at bs at1 bs1 new e h1
+    ∙ one (named t place known) r at1 bs1 61 at2 bs2 (equals t place known) r h2.0 h2.1 refl
+    ∙ over is_white (equals t place known) r (λ i b q. rw q refl) at2 bs2 at3 bs3 h3
+
+pub value_no_quote : (t : Tag) (place : ℕ) (known : List ℕ) (r : Read) (at : ℕ) (bs : List ℕ) (at1 : ℕ) (bs1 : List ℕ) (at2 : ℕ) (bs2 : List ℕ) (at3 : ℕ) (bs3 : List ℕ) → has_name known t.names ≡ false → begins is_name bs ≡ false → Skips is_white at bs at1 bs1 → (bs1 ≡ 61 ∷ bs2) × (at2 ≡ at1 + 1) → Skips is_white at2 bs2 at3 bs3 → begins is_quote bs3 ≡ false → run (attribute_name t place known) r at bs ≡ Err NotBuilt
+value_no_quote t place known r at bs at1 bs1 at2 bs2 at3 bs3 new e h1 h2 h3 d =
+    over_equals t place known r at bs at1 bs1 at2 bs2 at3 bs3 new e h1 h2 h3 ∙ no_quote t place known r at3 bs3 h3.4 d
+
+-- up to the end of the value
+over_quote : (t : Tag) (place : ℕ) (known : List ℕ) (r : Read) (at3 : ℕ) (bs3 : List ℕ) (mark at4 : ℕ) (bs4 : List ℕ) (at5 : ℕ) (bs5 : List ℕ) → (is_quote mark ≡ true) × (bs3 ≡ mark ∷ bs4) × (at4 ≡ at3 + 1) → Skips (is_quoted mark) at4 bs4 at5 bs5 → run (equals t place known) r at3 bs3 ≡ run (in_value t place known mark at4) r at5 bs5
+over_quote t place known r at3 bs3 mark at4 bs4 at5 bs5 h4 h5 =
+    one (equals t place known) r at3 bs3 mark at4 bs4 (in_value t place known mark (at3 + 1)) r h4.1 h4.2 (rw (quote_isnt_white mark h4.0, h4.0) refl)
+    ∙ ap (λ n. run (in_value t place known mark n) r at4 bs4) (sym h4.2)
+    ∙ over (is_quoted mark) (in_value t place known mark at4) r (λ i b q. rw q refl) at4 bs4 at5 bs5 h5
+
+pub value_no_end : (t : Tag) (place : ℕ) (known : List ℕ) (r : Read) (at : ℕ) (bs : List ℕ) (at1 : ℕ) (bs1 : List ℕ) (at2 : ℕ) (bs2 : List ℕ) (at3 : ℕ) (bs3 : List ℕ) (mark at4 : ℕ) (bs4 : List ℕ) (at5 : ℕ) (bs5 : List ℕ) → has_name known t.names ≡ false → begins is_name bs ≡ false → Skips is_white at bs at1 bs1 → (bs1 ≡ 61 ∷ bs2) × (at2 ≡ at1 + 1) → Skips is_white at2 bs2 at3 bs3 → (is_quote mark ≡ true) × (bs3 ≡ mark ∷ bs4) × (at4 ≡ at3 + 1) → Skips (is_quoted mark) at4 bs4 at5 bs5 → begins (is_byte mark) bs5 ≡ false → run (attribute_name t place known) r at bs ≡ Err NotBuilt
+value_no_end t place known r at bs at1 bs1 at2 bs2 at3 bs3 mark at4 bs4 at5 bs5 new e h1 h2 h3 h4 h5 d =
+    over_equals t place known r at bs at1 bs1 at2 bs2 at3 bs3 new e h1 h2 h3
+    ∙ over_quote t place known r at3 bs3 mark at4 bs4 at5 bs5 h4 h5
+    ∙ no_end t place known mark at4 r at5 bs5 h5.4 d
+
+pub value_read : (t : Tag) (place : ℕ) (known : List ℕ) (r : Read) (at : ℕ) (bs : List ℕ) (at1 : ℕ) (bs1 : List ℕ) (at2 : ℕ) (bs2 : List ℕ) (at3 : ℕ) (bs3 : List ℕ) (mark at4 : ℕ) (bs4 : List ℕ) (at5 : ℕ) (bs5 : List ℕ) (at6 : ℕ) (bs6 : List ℕ) → has_name known t.names ≡ false → begins is_name bs ≡ false → Skips is_white at bs at1 bs1 → (bs1 ≡ 61 ∷ bs2) × (at2 ≡ at1 + 1) → Skips is_white at2 bs2 at3 bs3 → (is_quote mark ≡ true) × (bs3 ≡ mark ∷ bs4) × (at4 ≡ at3 + 1) → Skips (is_quoted mark) at4 bs4 at5 bs5 → (bs5 ≡ mark ∷ bs6) × (at6 ≡ at5 + 1) → run (attribute_name t place known) r at bs ≡ run (valued (with_name t known)) (record r { attributes = r.attributes ++ attribute_row place known at4 at5 ∷ [] }) at6 bs6
+value_read t place known r at bs at1 bs1 at2 bs2 at3 bs3 mark at4 bs4 at5 bs5 at6 bs6 new e h1 h2 h3 h4 h5 h6 =
+    over_equals t place known r at bs at1 bs1 at2 bs2 at3 bs3 new e h1 h2 h3
+    ∙ over_quote t place known r at3 bs3 mark at4 bs4 at5 bs5 h4 h5
+    ∙ one (in_value t place known mark at4) r at5 bs5 mark at6 bs6 (valued (with_name t known)) (record r { attributes = r.attributes ++ attribute_row place known at4 at5 ∷ [] }) h6.0 h6.1 (rw (quote_isnt_quoted mark, same_number mark) refl)
+
+-- in a start tag
+abbrev pub named_tag : ℕ → List ℕ → ℕ → List (List ℕ) → Tag
+named_tag place tag first known = record { at = place; name = tag; first = first; names = known }
+
+not_first : (t : Tag) (r : Read) (at : ℕ) (bs : List ℕ) → begins is_first bs ≡ false → run (in_tag t) r at bs ≡ run (valued t) r at bs
+not_first t r at [] e = refl
+not_first t r at (b ∷ bs) e = same_step (in_tag t) (valued t) r at b bs (rw e refl)
+
+over_white : (t : Tag) (r : Read) (at : ℕ) (w : List ℕ) (rest : List ℕ) → begins is_first rest ≡ false → AllAre is_white w → run (valued t) r at (w ++ rest) ≡ run (valued t) r (at + length w) rest
+over_white t r at [] rest e h = ap (λ n. run (valued t) r n rest) (sym (add-zero at))
+over_white t r at (b ∷ w) rest e h = run_gap t r (b ∷ w) at rest h ∙ not_first t r (at + length (b ∷ w)) rest e
+
+same_slash : (place : ℕ) (tag : List ℕ) (first : ℕ) (known : List (List ℕ)) (r : Read) (at : ℕ) (bs : List ℕ) → run (slash (named_tag place tag first known)) r at bs ≡ run (slash (bare place tag first)) r at bs
+same_slash place tag first known r at [] = refl
+same_slash place tag first known r at (b ∷ bs) = refl
+
+-- the names of the attributes no longer matter
+same_end : (place : ℕ) (tag : List ℕ) (first : ℕ) (known : List (List ℕ)) (r : Read) (at : ℕ) (bs : List ℕ) → begins is_first bs ≡ false → begins is_white bs ≡ false → run (valued (named_tag place tag first known)) r at bs ≡ run (valued (bare place tag first)) r at bs
+same_end place tag first known r at [] e d = refl
+same_end place tag first known r at (b ∷ bs) e d =
+    let t : Tag = named_tag place tag first known in
+    let u : Tag = bare place tag first in
+    let go : Step → Outcome = λ x. and_then x (λ s. run s.phase s.read (at + 1) bs) in
+    let by : (v : Bool) → go (cond v (state (slash t) r) (cond (eqb b 62) (state content (open_element t r (at + 1))) refused)) ≡ go (cond v (state (slash u) r) (cond (eqb b 62) (state content (open_element u r (at + 1))) refused)) =
+    λ v. elim v as (λ v. go (cond v (state (slash t) r) (cond (eqb b 62) (state content (open_element t r (at + 1))) refused)) ≡ go (cond v (state (slash u) r) (cond (eqb b 62) (state content (open_element u r (at + 1))) refused))) [ true ↦ same_slash place tag first known r (at + 1) bs | false ↦ refl ] in
+    rw (e, d) (by (eqb b 47))
+
+pub leaves_tag : (place : ℕ) (tag : List ℕ) (first : ℕ) (known : List (List ℕ)) (r : Read) (at : ℕ) (bs : List ℕ) (at1 : ℕ) (bs1 : List ℕ) → Skips is_white at bs at1 bs1 → begins is_first bs1 ≡ false → run (valued (named_tag place tag first known)) r at bs ≡ run (valued (bare place tag first)) r at1 bs1
+leaves_tag place tag first known r at bs at1 bs1 h e =
+    let t : Tag = named_tag place tag first known in
+    ap (run (valued t) r at) h.2
+    ∙ over_white t r at h.0 bs1 e h.1
+    ∙ ap (λ n. run (valued t) r n bs1) (sym h.3)
+    ∙ same_end place tag first known r at1 bs1 e h.4
+
+starts_name : (at : ℕ) (bs name : List ℕ) (to : ℕ) (rest : List ℕ) → TakesName at bs name to rest → begins is_first bs ≡ true
+starts_name at bs [] to rest h = absurd h.0
+starts_name at bs (b ∷ name) to rest h = ap (begins is_first) h.1 ∙ h.0.0
+
+no_gap_at : (t : Tag) (r : Read) (at : ℕ) (bs : List ℕ) → begins is_first bs ≡ true → run (valued t) r at bs ≡ Err NotBuilt
+no_gap_at t r at [] e = cc
+no_gap_at t r at (b ∷ bs) e = refuses (valued t) r at b bs (rw e refl)
+
+no_bytes : (w rest : List ℕ) → length w ≡ 0 → w ++ rest ≡ rest
+no_bytes [] rest e = refl
+no_bytes (b ∷ w) rest e = absurd (omega arith)
+
+-- no white before an attribute
+pub no_gap : (t : Tag) (r : Read) (at : ℕ) (bs : List ℕ) (at1 : ℕ) (bs1 name : List ℕ) (at2 : ℕ) (bs2 : List ℕ) → Skips is_white at bs at1 bs1 → TakesName at1 bs1 name at2 bs2 → at1 ≡ at → run (valued t) r at bs ≡ Err NotBuilt
+no_gap t r at bs at1 bs1 name at2 bs2 h k e =
+    ap (run (valued t) r at) (h.2 ∙ no_bytes h.0 bs1 (omega (arith, h.3)))
+    ∙ no_gap_at t r at bs1 (starts_name at1 bs1 name at2 bs2 k)
+
+some_gap : (w : List ℕ) → AllAre is_white w → (length w ≡ 0 → ⊥) → IsGap w
+some_gap [] h n = n refl
+some_gap (b ∷ w) h n = h
+
+-- over the white before an attribute, and its name
+pub over_attribute_name : (t : Tag) (r : Read) (at : ℕ) (bs : List ℕ) (at1 : ℕ) (bs1 name : List ℕ) (at2 : ℕ) (bs2 : List ℕ) → Skips is_white at bs at1 bs1 → TakesName at1 bs1 name at2 bs2 → (at1 ≡ at → ⊥) → run (valued t) r at bs ≡ run (attribute_name t at1 name) r at2 bs2
+over_attribute_name t r at bs at1 bs1 name at2 bs2 h k e =
+    ap (run (valued t) r at) h.2
+    ∙ run_gap t r h.0 at bs1 (some_gap h.0 h.1 (λ z. e (omega (arith, h.3))))
+    ∙ ap (λ n. run (in_tag t) r n bs1) (sym h.3)
+    ∙ ap (run (in_tag t) r at1) k.1
+    ∙ run_attribute_name t r name at1 bs2 k.0
+    ∙ ap (λ n. run (attribute_name t at1 name) r n bs2) (sym k.2)
+
+repeated_at : (t : Tag) (r : Read) (place at : ℕ) (name bs : List ℕ) → begins is_name bs ≡ false → has_name name t.names ≡ true → run (attribute_name t place name) r at bs ≡ Err NotBuilt
+repeated_at t r place at name [] e d = refl
+repeated_at t r place at name (b ∷ bs) e d = refuses (attribute_name t place name) r at b bs (rw (e, d) refl)
+
+pub repeated : (t : Tag) (r : Read) (at : ℕ) (bs : List ℕ) (at1 : ℕ) (bs1 name : List ℕ) (at2 : ℕ) (bs2 : List ℕ) → Skips is_white at bs at1 bs1 → TakesName at1 bs1 name at2 bs2 → (at1 ≡ at → ⊥) → has_name name t.names ≡ true → run (valued t) r at bs ≡ Err NotBuilt
+repeated t r at bs at1 bs1 name at2 bs2 h k e d =
+    over_attribute_name t r at bs at1 bs1 name at2 bs2 h k e ∙ repeated_at t r at1 at2 name bs2 k.3 d
+
+-- a fault that is passed on
+pub passes_on : {X Y : Type 0} (r : Result Y TextFault) (e : TextFault) (whole part : Outcome) (f : X → Outcome) (g : Y → Outcome) → IsErrAnd r (λ y. y ≡ e) → whole ≡ part → Leads {X = X} (Err e) part f → Leads r whole g
+passes_on (Ok x) e whole part f g h same leads = absurd h
+passes_on (Err y) NotBuilt whole part f g h same leads = subst (λ (z : TextFault). Leads (Err z) whole g) (sym h) (same ∙ leads)
+passes_on (Err y) NoMemory whole part f g h same leads = subst (λ (z : TextFault). Leads (Err z) whole g) (sym h) tt
+
+pub skip_length : (test : ℕ → Bool) (at : ℕ) (bs : List ℕ) (to : ℕ) (rest : List ℕ) → Skips test at bs to rest → (length rest ≤ length bs) × (to + length rest ≡ at + length bs)
+skip_length test at bs to rest h =
+    let e : length bs ≡ length h.0 + length rest = ap length h.2 ∙ length-append h.0 rest in
+    (omega arith, omega (arith, h.3))
+
+some_name : (name : List ℕ) → IsName name → 0 < length name
+some_name [] h = absurd h
+some_name (b ∷ name) h = omega arith
+
+pub take_length : (at : ℕ) (bs name : List ℕ) (to : ℕ) (rest : List ℕ) → TakesName at bs name to rest → (length rest < length bs) × (to + length rest ≡ at + length bs)
+take_length at bs name to rest h =
+    let e : length bs ≡ length name + length rest = ap length h.1 ∙ length-append name rest in
+    let n = some_name name h.0 in
+    (omega arith, omega (arith, h.2))
+
+pub known_name : (b v : Bool) → v ≡ not b → v ≡ false → b ≡ true
+known_name true v e d = refl
+known_name false v e d = cc
+
+pub new_name : (b v : Bool) → v ≡ not b → v ≡ true → b ≡ false
+new_name true v e d = cc
+new_name false v e d = refl
+
+-- over a whole attribute
+pub over_attribute : (t : Tag) (r : Read) (at : ℕ) (bs : List ℕ) (at1 : ℕ) (bs1 name : List ℕ) (at2 : ℕ) (bs2 : List ℕ) (value : Span) (at3 : ℕ) (bs3 : List ℕ) (rows : List Attribute) → Skips is_white at bs at1 bs1 → TakesName at1 bs1 name at2 bs2 → (at1 ≡ at → ⊥)
+    → run (attribute_name t at1 name) r at2 bs2 ≡ run (valued (with_name t name)) (record r { attributes = r.attributes ++ attribute_row at1 name value.from value.to ∷ [] }) at3 bs3
+    → rows ≡ r.attributes ++ record { at = at1; name = span at1 at2; value = value } ∷ []
+    → run (valued t) r at bs ≡ run (valued (with_name t name)) (record r { attributes = rows }) at3 bs3
+over_attribute t r at bs at1 bs1 name at2 bs2 value at3 bs3 rows h k e over same =
+    over_attribute_name t r at bs at1 bs1 name at2 bs2 h k e
+    ∙ over
+    ∙ ap (λ n. run (valued (with_name t name)) (record r { attributes = r.attributes ++ record { at = at1; name = span at1 n; value = value } ∷ [] }) at3 bs3) (sym k.2)
+    ∙ ap (λ (x : List Attribute). run (valued (with_name t name)) (record r { attributes = x }) at3 bs3) (sym same)
+
+pub leads_from : {X : Type 0} (r : Result X TextFault) (whole part : Outcome) (g : X → Outcome) → whole ≡ part → Leads r part g → Leads r whole g
+leads_from (Ok x) whole part g same leads = same ∙ leads
+leads_from (Err NotBuilt) whole part g same leads = same ∙ leads
+leads_from (Err NoMemory) whole part g same leads = tt
+
+pub skip_place : (test : ℕ → Bool) (at : ℕ) (bs : List ℕ) (to : ℕ) (rest : List ℕ) → Skips test at bs to rest → at ≤ to
+skip_place test at bs to rest h = omega (arith, h.3)
+
+pub take_place : (at : ℕ) (bs name : List ℕ) (to : ℕ) (rest : List ℕ) → TakesName at bs name to rest → at ≤ to
+take_place at bs name to rest h = omega (arith, h.2)
+
+-- text in an element
+text_step : (f : Frame) (fs : List Frame) (nodes : List Node) (rows : List Attribute) (at b : ℕ) → is_text b ≡ true → step content (read_of (f ∷ fs) nodes rows) at b ≡ state content (read_of (noted f at b ∷ fs) nodes rows)
+text_step f fs nodes rows at b h = rw (h, text_isnt_tag b h) refl
+
+white_loose : (o : Option ℕ) (at b : ℕ) → is_white b ≡ true → first_loose o at b ≡ o
+white_loose (Some place) at b h = refl
+white_loose None at b h = rw h refl
+
+known_loose : (o : Option ℕ) (place at b : ℕ) → o ≡ Some place → first_loose o at b ≡ o
+known_loose o place at b e = subst (λ (x : Option ℕ). first_loose x at b ≡ x) (sym e) refl
+
+abbrev pub loose_or : Option ℕ → ℕ → Option ℕ
+loose_or (Some place) at = Some place
+loose_or None at = Some at
+
+abbrev is_loose : Option ℕ → ℕ → ℕ
+is_loose (Some place) at = place
+is_loose None at = at
+
+loose_known : (o : Option ℕ) (at : ℕ) → loose_or o at ≡ Some (is_loose o at)
+loose_known (Some place) at = refl
+loose_known None at = refl
+
+new_loose : (o : Option ℕ) (at b : ℕ) → is_white b ≡ false → first_loose o at b ≡ loose_or o at
+new_loose (Some place) at b h = refl
+new_loose None at b h = rw h refl
+
+over_white_text : (f : Frame) (fs : List Frame) (nodes : List Node) (rows : List Attribute) (at : ℕ) (bs : List ℕ) (at1 : ℕ) (bs1 : List ℕ) → Skips is_white at bs at1 bs1 → run content (read_of (f ∷ fs) nodes rows) at bs ≡ run content (read_of (f ∷ fs) nodes rows) at1 bs1
+over_white_text f fs nodes rows =
+    over is_white content (read_of (f ∷ fs) nodes rows)
+    (λ i b q. text_step f fs nodes rows i b (text_from_white b q) ∙ ap (λ (o : Option ℕ). state content (read_of (with_loose_text f o ∷ fs) nodes rows)) (white_loose f.node.loose i b q))
+
+over_loose_text : (f : Frame) (fs : List Frame) (nodes : List Node) (rows : List Attribute) (place : ℕ) → f.node.loose ≡ Some place → (w : List ℕ) (at : ℕ) (rest : List ℕ) → AllAre is_text w → run content (read_of (f ∷ fs) nodes rows) at (w ++ rest) ≡ run content (read_of (f ∷ fs) nodes rows) (at + length w) rest
+over_loose_text f fs nodes rows place e w at rest h =
+    run_loop is_text (λ _. content) (read_of (f ∷ fs) nodes rows)
+    (λ _ i b q. text_step f fs nodes rows i b q ∙ ap (λ (o : Option ℕ). state content (read_of (with_loose_text f o ∷ fs) nodes rows)) (known_loose f.node.loose place i b e)) w [] at rest h
+
+over_first_text : (f : Frame) (fs : List Frame) (nodes : List Node) (rows : List Attribute) (at : ℕ) (w rest : List ℕ) → AllAre is_text w → begins is_white (w ++ rest) ≡ false → 0 < length w → run content (read_of (f ∷ fs) nodes rows) at (w ++ rest) ≡ run content (read_of (with_loose_text f (loose_or f.node.loose at) ∷ fs) nodes rows) (at + length w) rest
+over_first_text f fs nodes rows at [] rest h e n = absurd (omega arith)
+over_first_text f fs nodes rows at (b ∷ w) rest h e n =
+    let g : Frame = with_loose_text f (loose_or f.node.loose at) in
+    by_step content (read_of (f ∷ fs) nodes rows) at b (w ++ rest) content (read_of (g ∷ fs) nodes rows)
+    (text_step f fs nodes rows at b h.0 ∙ ap (λ (o : Option ℕ). state content (read_of (with_loose_text f o ∷ fs) nodes rows)) (new_loose f.node.loose at b e))
+    ∙ over_loose_text g fs nodes rows (is_loose f.node.loose at) (loose_known f.node.loose at) w (at + 1) rest h.1
+    ∙ ap (λ n. run content (read_of (g ∷ fs) nodes rows) n rest) (omega arith)
+
+pub over_text : (f : Frame) (fs : List Frame) (nodes : List Node) (rows : List Attribute) (at : ℕ) (bs : List ℕ) (at1 : ℕ) (bs1 : List ℕ) (at2 : ℕ) (bs2 : List ℕ) → Skips is_white at bs at1 bs1 → Skips is_text at1 bs1 at2 bs2 → at1 < at2 → run content (read_of (f ∷ fs) nodes rows) at bs ≡ run content (read_of (with_loose_text f (loose_or f.node.loose at1) ∷ fs) nodes rows) at2 bs2
+over_text f fs nodes rows at bs at1 bs1 at2 bs2 h k n =
+    let g : Frame = with_loose_text f (loose_or f.node.loose at1) in
+    over_white_text f fs nodes rows at bs at1 bs1 h
+    ∙ ap (run content (read_of (f ∷ fs) nodes rows) at1) k.2
+    ∙ over_first_text f fs nodes rows at1 k.0 bs2 k.1 (subst (λ (x : List ℕ). begins is_white x ≡ false) k.2 h.4) (omega (arith, k.3))
+    ∙ ap (λ n. run content (read_of (g ∷ fs) nodes rows) n bs2) (sym k.3)
+
+pub no_text : (f : Frame) (fs : List Frame) (nodes : List Node) (rows : List Attribute) (at : ℕ) (bs : List ℕ) (at1 : ℕ) (bs1 : List ℕ) (at2 : ℕ) (bs2 : List ℕ) → Skips is_white at bs at1 bs1 → Skips is_text at1 bs1 at2 bs2 → at2 ≤ at1 → run content (read_of (f ∷ fs) nodes rows) at bs ≡ run content (read_of (f ∷ fs) nodes rows) at2 bs2
+no_text f fs nodes rows at bs at1 bs1 at2 bs2 h k n =
+    over_white_text f fs nodes rows at bs at1 bs1 h
+    ∙ ap (run content (read_of (f ∷ fs) nodes rows) at1) (k.2 ∙ no_bytes k.0 bs2 (omega (arith, k.3)))
+    ∙ ap (λ n. run content (read_of (f ∷ fs) nodes rows) n bs2) (omega (arith, k.3))
+
+loose_or_is : (o : Option ℕ) (at : ℕ) → loose_or o at ≡ option_or o (Some at)
+loose_or_is (Some place) at = refl
+loose_or_is None at = refl
+
+pub over_text_or : (f : Frame) (fs : List Frame) (nodes : List Node) (rows : List Attribute) (loose now : Option ℕ) (at : ℕ) (bs : List ℕ) (at1 : ℕ) (bs1 : List ℕ) (at2 : ℕ) (bs2 : List ℕ) → f.node.loose ≡ loose → now ≡ option_or loose (Some at1) → Skips is_white at bs at1 bs1 → Skips is_text at1 bs1 at2 bs2 → at1 < at2 → run content (read_of (f ∷ fs) nodes rows) at bs ≡ run content (read_of (with_loose_text f now ∷ fs) nodes rows) at2 bs2
+over_text_or f fs nodes rows loose now at bs at1 bs1 at2 bs2 e d h k n =
+    over_text f fs nodes rows at bs at1 bs1 at2 bs2 h k n
+    ∙ ap (λ (o : Option ℕ). run content (read_of (with_loose_text f o ∷ fs) nodes rows) at2 bs2) (loose_or_is f.node.loose at1 ∙ ap (λ (o : Option ℕ). option_or o (Some at1)) e ∙ sym d)
+
+pub no_text_or : (f : Frame) (fs : List Frame) (nodes : List Node) (rows : List Attribute) (loose : Option ℕ) (at : ℕ) (bs : List ℕ) (at1 : ℕ) (bs1 : List ℕ) (at2 : ℕ) (bs2 : List ℕ) → f.node.loose ≡ loose → Skips is_white at bs at1 bs1 → Skips is_text at1 bs1 at2 bs2 → at2 ≤ at1 → run content (read_of (f ∷ fs) nodes rows) at bs ≡ run content (read_of (with_loose_text f loose ∷ fs) nodes rows) at2 bs2
+no_text_or f fs nodes rows loose at bs at1 bs1 at2 bs2 e h k n =
+    no_text f fs nodes rows at bs at1 bs1 at2 bs2 h k n
+    ∙ ap (λ (o : Option ℕ). run content (read_of (with_loose_text f o ∷ fs) nodes rows) at2 bs2) e
+
+-- an end tag
+shut_ends : (r : Read) (place : ℕ) (name : List ℕ) (at : ℕ) (bs : List ℕ) → begins is_name bs ≡ false → run (shut place name) r at bs ≡ run (shut_gap place name) r at bs
+shut_ends r place name at [] e = refl
+shut_ends r place name at (b ∷ bs) e = same_step (shut place name) (shut_gap place name) r at b bs (rw e refl)
+
+over_shut : (f : Frame) (fs : List Frame) (nodes : List Node) (rows : List Attribute) (place at : ℕ) (bs name : List ℕ) (at1 : ℕ) (bs1 : List ℕ) (at2 : ℕ) (bs2 : List ℕ) → TakesName at bs name at1 bs1 → Skips is_white at1 bs1 at2 bs2 → run (shut_begin place) (read_of (f ∷ fs) nodes rows) at bs ≡ run (shut_gap place name) (read_of (f ∷ fs) nodes rows) at2 bs2
+over_shut f fs nodes rows place at bs name at1 bs1 at2 bs2 h k =
+    let r : Read = read_of (f ∷ fs) nodes rows in
+    ap (run (shut_begin place) r at) h.1
+    ∙ run_shut_name r place at name bs1 h.0
+    ∙ ap (λ n. run (shut place name) r n bs1) (sym h.2)
+    ∙ shut_ends r place name at1 bs1 h.3
+    ∙ over is_white (shut_gap place name) r (λ i b q. rw q refl) at1 bs1 at2 bs2 k
+
+unended_at : (f : Frame) (fs : List Frame) (nodes : List Node) (rows : List Attribute) (place : ℕ) (name : List ℕ) (at : ℕ) (bs : List ℕ) → begins is_white bs ≡ false → begins (is_byte 62) bs ≡ false → run (shut_gap place name) (read_of (f ∷ fs) nodes rows) at bs ≡ Err NotBuilt
+unended_at f fs nodes rows place name at [] e d = refl
+unended_at f fs nodes rows place name at (b ∷ bs) e d = refuses (shut_gap place name) (read_of (f ∷ fs) nodes rows) at b bs (rw (e, d) refl)
+
+pub unended : (f : Frame) (fs : List Frame) (nodes : List Node) (rows : List Attribute) (place at : ℕ) (bs name : List ℕ) (at1 : ℕ) (bs1 : List ℕ) (at2 : ℕ) (bs2 : List ℕ) → TakesName at bs name at1 bs1 → Skips is_white at1 bs1 at2 bs2 → begins (is_byte 62) bs2 ≡ false → run (shut_begin place) (read_of (f ∷ fs) nodes rows) at bs ≡ Err NotBuilt
+unended f fs nodes rows place at bs name at1 bs1 at2 bs2 h k e =
+    over_shut f fs nodes rows place at bs name at1 bs1 at2 bs2 h k ∙ unended_at f fs nodes rows place name at2 bs2 k.4 e
+
+pub mismatched : (f : Frame) (fs : List Frame) (nodes : List Node) (rows : List Attribute) (place at : ℕ) (bs name : List ℕ) (at1 : ℕ) (bs1 : List ℕ) (at2 : ℕ) (bs2 : List ℕ) (at3 : ℕ) (bs3 : List ℕ) → TakesName at bs name at1 bs1 → Skips is_white at1 bs1 at2 bs2 → (bs2 ≡ 62 ∷ bs3) × (at3 ≡ at2 + 1) → bytes_eq name f.name ≡ false → run (shut_begin place) (read_of (f ∷ fs) nodes rows) at bs ≡ Err NotBuilt
+mismatched f fs nodes rows place at bs name at1 bs1 at2 bs2 at3 bs3 h k m e =
+    let r : Read = read_of (f ∷ fs) nodes rows in
+    over_shut f fs nodes rows place at bs name at1 bs1 at2 bs2 h k
+    ∙ ap (run (shut_gap place name) r at2) m.0
+    ∙ refuses (shut_gap place name) r at2 62 bs3 (rw e refl)
+
+pub shut_read : (f : Frame) (fs : List Frame) (nodes : List Node) (rows : List Attribute) (place at : ℕ) (bs name : List ℕ) (at1 : ℕ) (bs1 : List ℕ) (at2 : ℕ) (bs2 : List ℕ) (at3 : ℕ) (bs3 : List ℕ) (s : Read) → TakesName at bs name at1 bs1 → Skips is_white at1 bs1 at2 bs2 → (bs2 ≡ 62 ∷ bs3) × (at3 ≡ at2 + 1) → bytes_eq name f.name ≡ true → s ≡ close_element f fs (read_of (f ∷ fs) nodes rows) place → run (shut_begin place) (read_of (f ∷ fs) nodes rows) at bs ≡ run (resume s.frames) s at3 bs3
+shut_read f fs nodes rows place at bs name at1 bs1 at2 bs2 at3 bs3 s h k m e d =
+    let r : Read = read_of (f ∷ fs) nodes rows in
+    over_shut f fs nodes rows place at bs name at1 bs1 at2 bs2 h k
+    ∙ one (shut_gap place name) r at2 bs2 62 at3 bs3 (resume fs) (close_element f fs r place) m.0 m.1 (rw e refl)
+    ∙ ap (λ (x : Read). run (resume x.frames) x at3 bs3) (sym d)
+
+-- the name of a start tag
+name_left : (place : ℕ) (name : List ℕ) (r : Read) (at : ℕ) (bs : List ℕ) → begins is_name bs ≡ false → run (start_name place name) r at bs ≡ run (valued (start_of place name r)) r at bs
+name_left place name r at [] e = refl
+name_left place name r at (b ∷ bs) e = same_step (start_name place name) (valued (start_of place name r)) r at b bs (rw e refl)
+
+over_start_name_at : (frames : List Frame) (nodes : List Node) (rows : List Attribute) (place at : ℕ) (bs name : List ℕ) (at1 : ℕ) (bs1 : List ℕ) → length frames < 32 → TakesName at bs name at1 bs1 → run (opened place) (read_of frames nodes rows) at bs ≡ run (valued (bare place name (length rows))) (read_of frames nodes rows) at1 bs1
+over_start_name_at frames nodes rows place at bs [] at1 bs1 d h = absurd h.0
+over_start_name_at frames nodes rows place at bs (b ∷ w) at1 bs1 d h =
+    let r : Read = read_of frames nodes rows in
+    ap (run (opened place) r at) h.1
+    ∙ by_step (opened place) r at b (w ++ bs1) (start_name place (b ∷ [])) r (begins_name frames place r b d h.0.0)
+    ∙ run_loop is_name (start_name place) r (λ done i c q. rw q refl) w (b ∷ []) (at + 1) bs1 h.0.1
+    ∙ ap (λ n. run (start_name place (b ∷ w)) r n bs1) (omega (arith, h.2))
+    ∙ name_left place (b ∷ w) r at1 bs1 h.3
+
+pub over_start_name : (frames : List Frame) (nodes : List Node) (rows : List Attribute) (place at : ℕ) (bs name : List ℕ) (at1 : ℕ) (bs1 : List ℕ) (first : ℕ) → first ≡ length rows → length frames < 32 → TakesName at bs name at1 bs1 → run (opened place) (read_of frames nodes rows) at bs ≡ run (valued (bare place name first)) (read_of frames nodes rows) at1 bs1
+over_start_name frames nodes rows place at bs name at1 bs1 first e d h =
+    over_start_name_at frames nodes rows place at bs name at1 bs1 d h
+    ∙ ap (λ n. run (valued (bare place name n)) (read_of frames nodes rows) at1 bs1) (sym e)
+
+pub length_frames : (stack : List OpenElement) → length (frames_of stack) ≡ length stack
+length_frames stack = simp (length-map, length-reverse)
+
+pub no_tag : (f : Frame) (fs : List Frame) (nodes : List Node) (rows : List Attribute) (at : ℕ) (bs : List ℕ) → begins is_text bs ≡ false → begins (is_byte 60) bs ≡ false → run content (read_of (f ∷ fs) nodes rows) at bs ≡ Err NotBuilt
+no_tag f fs nodes rows at [] e d = refl
+no_tag f fs nodes rows at (b ∷ bs) e d = refuses content (read_of (f ∷ fs) nodes rows) at b bs (rw (e, d) refl)
+
+pub over_open : (f : Frame) (fs : List Frame) (nodes : List Node) (rows : List Attribute) (at : ℕ) (bs : List ℕ) (at1 : ℕ) (bs1 : List ℕ) → (bs ≡ 60 ∷ bs1) × (at1 ≡ at + 1) → run content (read_of (f ∷ fs) nodes rows) at bs ≡ run (opened at) (read_of (f ∷ fs) nodes rows) at1 bs1
+over_open f fs nodes rows at bs at1 bs1 h = one content (read_of (f ∷ fs) nodes rows) at bs 60 at1 bs1 (opened at) (read_of (f ∷ fs) nodes rows) h.0 h.1 refl
+
+pub over_slash : (f : Frame) (fs : List Frame) (nodes : List Node) (rows : List Attribute) (place at : ℕ) (bs : List ℕ) (at1 : ℕ) (bs1 : List ℕ) → (bs ≡ 47 ∷ bs1) × (at1 ≡ at + 1) → run (opened place) (read_of (f ∷ fs) nodes rows) at bs ≡ run (shut_begin place) (read_of (f ∷ fs) nodes rows) at1 bs1
+over_slash f fs nodes rows place at bs at1 bs1 h = one (opened place) (read_of (f ∷ fs) nodes rows) at bs 47 at1 bs1 (shut_begin place) (read_of (f ∷ fs) nodes rows) h.0 h.1 refl
+
+over_before : (at : ℕ) (bs : List ℕ) (at1 : ℕ) (bs1 : List ℕ) → Skips is_white at bs at1 bs1 → run content (read_of [] [] []) at bs ≡ run content (read_of [] [] []) at1 bs1
+over_before at bs at1 bs1 h = over is_white content (read_of [] [] []) (λ i b q. rw (white_isnt_tag b q, q) refl) at bs at1 bs1 h
+
+no_root_at : (at : ℕ) (bs : List ℕ) → begins is_white bs ≡ false → begins (is_byte 60) bs ≡ false → run content (read_of [] [] []) at bs ≡ Err NotBuilt
+no_root_at at [] e d = refl
+no_root_at at (b ∷ bs) e d = refuses content (read_of [] [] []) at b bs (rw (e, d) refl)
+
+pub no_root : (at : ℕ) (bs : List ℕ) (at1 : ℕ) (bs1 : List ℕ) → Skips is_white at bs at1 bs1 → begins (is_byte 60) bs1 ≡ false → run content (read_of [] [] []) at bs ≡ Err NotBuilt
+no_root at bs at1 bs1 h e = over_before at bs at1 bs1 h ∙ no_root_at at1 bs1 h.4 e
+
+pub over_root : (stack : List OpenElement) (nodes : List Node) (rows : List Attribute) (at : ℕ) (bs : List ℕ) (at1 : ℕ) (bs1 : List ℕ) (at2 : ℕ) (bs2 : List ℕ) → stack ≡ [] → nodes ≡ [] → rows ≡ [] → Skips is_white at bs at1 bs1 → (bs1 ≡ 60 ∷ bs2) × (at2 ≡ at1 + 1) → run content (read_of [] [] []) at bs ≡ run (opened at1) (read_of (frames_of stack) nodes rows) at2 bs2
+over_root stack nodes rows at bs at1 bs1 at2 bs2 e d k h m =
+    over_before at bs at1 bs1 h
+    ∙ one content (read_of [] [] []) at1 bs1 60 at2 bs2 (opened at1) (read_of [] [] []) m.0 m.1 refl
+    ∙ ap (λ (x : List OpenElement). run (opened at1) (read_of (frames_of x) [] []) at2 bs2) (sym e)
+    ∙ ap (λ (x : List Node). run (opened at1) (read_of (frames_of stack) x []) at2 bs2) (sym d)
+    ∙ ap (λ (x : List Attribute). run (opened at1) (read_of (frames_of stack) nodes x) at2 bs2) (sym k)
+
+pub frames_push : (stack new : List OpenElement) (e : OpenElement) → new ≡ stack ++ e ∷ [] → frames_of new ≡ frame_of e ∷ frames_of stack
+frames_push stack new e h = ap frames_of h ∙ ap (map frame_of) (reverse-append stack (e ∷ []))
+
+-- after the outermost element
+over_after : (nodes : List Node) (rows : List Attribute) (at : ℕ) (bs : List ℕ) (at1 : ℕ) (bs1 : List ℕ) → Skips is_white at bs at1 bs1 → run ended (read_of [] nodes rows) at bs ≡ run ended (read_of [] nodes rows) at1 bs1
+over_after nodes rows at bs at1 bs1 h = over is_white ended (read_of [] nodes rows) (λ i b q. rw q refl) at bs at1 bs1 h
+
+more_at : (nodes : List Node) (rows : List Attribute) (at : ℕ) (bs : List ℕ) → begins is_white bs ≡ false → (length bs ≡ 0 → ⊥) → run ended (read_of [] nodes rows) at bs ≡ Err NotBuilt
+more_at nodes rows at [] e n = absurd (n refl)
+more_at nodes rows at (b ∷ bs) e n = refuses ended (read_of [] nodes rows) at b bs (rw e refl)
+
+pub more_after : (nodes : List Node) (rows : List Attribute) (at : ℕ) (bs : List ℕ) (at1 : ℕ) (bs1 : List ℕ) → Skips is_white at bs at1 bs1 → (length bs1 ≡ 0 → ⊥) → run ended (read_of [] nodes rows) at bs ≡ Err NotBuilt
+more_after nodes rows at bs at1 bs1 h n = over_after nodes rows at bs at1 bs1 h ∙ more_at nodes rows at1 bs1 h.4 n
+
+none_at : (nodes : List Node) (rows : List Attribute) (at : ℕ) (bs : List ℕ) → length bs ≡ 0 → run ended (read_of [] nodes rows) at bs ≡ Ok (record { nodes = nodes; attributes = rows })
+none_at nodes rows at [] e = refl
+none_at nodes rows at (b ∷ bs) e = absurd (omega arith)
+
+pub at_text_end : (nodes : List Node) (rows : List Attribute) (at : ℕ) (bs : List ℕ) (at1 : ℕ) (bs1 : List ℕ) → Skips is_white at bs at1 bs1 → length bs1 ≡ 0 → run ended (read_of [] nodes rows) at bs ≡ Ok (record { nodes = nodes; attributes = rows })
+at_text_end nodes rows at bs at1 bs1 h n = over_after nodes rows at bs at1 bs1 h ∙ none_at nodes rows at1 bs1 n
+
+pub some_left : (n : ℕ) (v : Bool) → v ≡ eqb n 0 → v ≡ false → n ≡ 0 → ⊥
+some_left n v e d z = grind (arith, nat_tests)
+
+pub none_left : (n : ℕ) (v : Bool) → v ≡ eqb n 0 → v ≡ true → n ≡ 0
+none_left n v e d = grind (arith, nat_tests)

@@ -1,0 +1,24 @@
+use Rattle.xhstt_text.proofs.Answer.{spelled, alone, unspelled}
+use Rattle.xhstt_text.proofs.Trees.{Answers, read-table, read-spelled, read-alone}
+use Rattle.xhstt_text.proofs.reader.elements.Goals as goal
+
+pub returns-clause-found : goal.returns-clause-found
+returns-clause-found c = spelled c.args.bytes.now c.read.result (λ tree. tree.nodes) (λ tree. tree.attributes) c.read.ensures.exact
+
+pub returns-clause-only : goal.returns-clause-only
+returns-clause-only c = alone c.args.bytes.now c.read.result (λ tree. tree.nodes) (λ tree. tree.attributes) c.read.ensures.exact
+
+pub returns-clause-not_built : goal.returns-clause-not_built
+returns-clause-not_built c = unspelled c.args.bytes.now c.read.result (λ tree. tree.nodes) (λ tree. tree.attributes) c.read.ensures.exact
+
+pub returns-clause-bounds : goal.returns-clause-bounds
+returns-clause-bounds c =
+    read-table c.args.bytes.now c.read.result (record { exact = c.read.ensures.exact; same = c.read.ensures.bytes; short = c.requires })
+
+pub returns-clause-forest : goal.returns-clause-forest
+returns-clause-forest c =
+    read-spelled c.args.bytes.now c.read.result (record { exact = c.read.ensures.exact; same = c.read.ensures.bytes; short = c.requires })
+
+pub returns-clause-one_forest : goal.returns-clause-one_forest
+returns-clause-one_forest c =
+    read-alone c.args.bytes.now c.read.result (record { exact = c.read.ensures.exact; same = c.read.ensures.bytes; short = c.requires })

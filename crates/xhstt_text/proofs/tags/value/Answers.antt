@@ -1,0 +1,37 @@
+use Rattle.xhstt_text.proofs.Follow.{value_no_equals, value_no_quote, value_no_end, value_read}
+use Rattle.xhstt_text.proofs.tags.value.Goals as goal
+
+pub returns-in_default-clause-leads : goal.returns-in_default-clause-leads
+returns-in_default-clause-leads c = λ t place known r new.
+    let h = c.args.here in
+    let a = c.white.result in
+    value_no_equals t place known r h.at h.rest.now a.at a.rest.now new c.requires c.white.ensures c.in_default.ensures
+
+pub returns-in_default-quote-clause-leads : goal.returns-in_default-quote-clause-leads
+returns-in_default-quote-clause-leads c = λ t place known r new.
+    let h = c.args.here in
+    let a = c.white.result in
+    let b = c.in-Some.equal in
+    let d = c.white-2.result in
+    value_no_quote t place known r h.at h.rest.now a.at a.rest.now b.at b.rest.now d.at d.rest.now new c.requires c.white.ensures c.in-Some.ensures c.white-2.ensures c.in_default-quote.ensures
+
+pub returns-in_default-past-clause-leads : goal.returns-in_default-past-clause-leads
+returns-in_default-past-clause-leads c = λ t place known r new.
+    let h = c.args.here in
+    let a = c.white.result in
+    let b = c.in-Some.equal in
+    let d = c.white-2.result in
+    let q = c.in-Some-quote in
+    let e = c.quoted-to.result in
+    value_no_end t place known r h.at h.rest.now a.at a.rest.now b.at b.rest.now d.at d.rest.now q.mark q.from.at q.from.rest.now e.at e.rest.now new c.requires c.white.ensures c.in-Some.ensures c.white-2.ensures q.ensures c.quoted-to.ensures c.in_default-past.ensures
+
+pub returns-clause-leads : goal.returns-clause-leads
+returns-clause-leads c = λ t place known r new.
+    let h = c.args.here in
+    let a = c.white.result in
+    let b = c.in-Some.equal in
+    let d = c.white-2.result in
+    let q = c.in-Some-quote in
+    let e = c.quoted-to.result in
+    let f = c.in-Some-past.end in
+    value_read t place known r h.at h.rest.now a.at a.rest.now b.at b.rest.now d.at d.rest.now q.mark q.from.at q.from.rest.now e.at e.rest.now f.at f.rest.now new c.requires c.white.ensures c.in-Some.ensures c.white-2.ensures q.ensures c.quoted-to.ensures c.in-Some-past.ensures

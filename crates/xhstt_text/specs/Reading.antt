@@ -1,0 +1,80 @@
+-- How the parts of the reader follow the machine.
+use Rattle.std.specs.Prelude.{ℕ, ◌≡◌, ◌+◌, Bool, false, ◌==◌, List, [], ◌∷◌, ◌++◌, length, map, reverse, Option, None, Result, Ok, Err}
+use Rattle.std.specs.Borrow.{Bor}
+use Rattle.std.specs.BTreeSet.{BTreeSet, contains_by}
+use Rattle.std.specs.Cmp.Lexicographic.{slice_cmp}
+use Rattle.std.specs.Ordering.{nat_cmp}
+use Rattle.xhstt_text.specs.Bytes.{AllAre, IsName, is_name}
+use Rattle.xhstt_text.specs.Document.{has_name}
+use Rattle.xhstt_text.specs.Machine.{Frame, Read, Tag, Outcome}
+use Rattle.xhstt_text.specs.declared.tree.Node.{Node}
+use Rattle.xhstt_text.specs.declared.tree.Attribute.{Attribute}
+use Rattle.xhstt_text.specs.declared.faults.TextFault.{TextFault}
+use Rattle.xhstt_text.specs.declared.faults.TextFault.TheVariants.{NotBuilt, NoMemory}
+use Rattle.xhstt_text.specs.declared.table.OpenElement.{OpenElement}
+use Rattle.xhstt_text.specs.declared.table.StartTag.{StartTag}
+use Rattle.xhstt_text.specs.Document.{span}
+
+-- whether there is a first byte, and it passes
+abbrev pub begins : (ℕ → Bool) → List ℕ → Bool
+begins test [] = false
+begins test (b ∷ bs) = test b
+
+-- the byte itself
+abbrev pub is_byte : ℕ → ℕ → Bool
+is_byte k b = b == k
+
+-- from one place to another, over all bytes that pass
+abbrev pub Skips : (ℕ → Bool) → ℕ → List ℕ → ℕ → List ℕ → Type 0
+Skips test at bs to rest = (w : List ℕ) × AllAre test w × (bs ≡ w ++ rest) × (to ≡ at + length w) × (begins test rest ≡ false)
+
+-- a name, from one place to another, up to the last byte that can belong to it
+abbrev pub TakesName : ℕ → List ℕ → List ℕ → ℕ → List ℕ → Type 0
+TakesName at bs name to rest = IsName name × (bs ≡ name ++ rest) × (to ≡ at + length name) × (begins is_name rest ≡ false)
+
+-- what was read leads the machine from `whole` to `rest`, or the fault is what the machine ends in;
+-- nothing is said where memory ran out
+abbrev pub Leads : {X : Type 0} → Result X TextFault → Outcome → (X → Outcome) → Type 0
+Leads (Ok x) whole rest = whole ≡ rest x
+Leads (Err NotBuilt) whole rest = whole ≡ Err NotBuilt
+Leads (Err NoMemory) whole rest = Unit {0}
+
+abbrev pub read_of : List Frame → List Node → List Attribute → Read
+read_of frames nodes attributes = record { frames = frames; nodes = nodes; attributes = attributes }
+
+-- a start tag whose attributes were not read yet
+abbrev pub bare : ℕ → List ℕ → ℕ → Tag
+bare place name first = record { at = place; name = name; first = first; names = [] }
+
+abbrev pub frame_of : OpenElement → Frame
+frame_of e = record { number = e.number; name = e.name.now; node = e.node }
+
+-- the open elements, the innermost first
+abbrev pub frames_of : List OpenElement → List Frame
+frames_of stack = map frame_of (reverse stack)
+
+-- the set has exactly these names
+abbrev pub Holds : BTreeSet (Bor (List ℕ)) → List (List ℕ) → Type 0
+Holds set names = (bs : List ℕ) → contains_by (λ k. slice_cmp nat_cmp bs k.now) set ≡ has_name bs names
+
+-- where only this may be an end tag
+abbrev pub NoEndTag : List Frame → List ℕ → Type 0
+NoEndTag [] bs = Unit {0}
+NoEndTag (f ∷ fs) bs = begins (is_byte 47) bs ≡ false
+
+-- an open element with this loose text
+abbrev pub with_loose_text : Frame → Option ℕ → Frame
+with_loose_text f o = record f { node = record f.node { loose = o } }
+
+-- the row of an element whose content begins at a place, where so many elements came before it, and
+-- so many attributes up to its last one
+abbrev pub row_from : StartTag → ℕ → ℕ → ℕ → Node
+row_from tag number attributes from = record {
+  at = tag.at;
+  name = span (tag.at + 1) (tag.at + 1 + length tag.name.now);
+  parent = tag.parent;
+  end = number + 1;
+  attributes = span tag.first attributes;
+  value = span from from;
+  loose = None;
+}

@@ -1,0 +1,9 @@
+ghost use Rattle.std.specs.Prelude.{◌≡◌, ◌+◌, ◌^◌, ◌<◌, length};
+
+/// A place in a text, and the bytes from there on.
+#[derive(Clone, Copy, Debug)]
+pub struct Cursor<'a> {
+    pub at: u64,
+    pub rest: &'a [u8],
+    ghost within: { at + length rest.now < 2 ^ 32 },
+}

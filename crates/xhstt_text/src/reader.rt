@@ -1,0 +1,163 @@
+ghost use Rattle.std.specs.Prelude.{◌≡◌, ◌<◌, ◌^◌, length, IfOk, Ok, Err, []};
+ghost use Rattle.xhstt_text.specs.Bytes.{is_white};
+ghost use Rattle.xhstt_text.specs.Document.{Document, IsDocument, Rows, Spelled, Spells, spelling, table};
+ghost use Rattle.xhstt_text.specs.FlatTable.{IsTable, root_forest};
+ghost use Rattle.xhstt_text.specs.Forest.{Forest};
+ghost use Rattle.xhstt_text.specs.Machine.{outcome_of, run, ended, Outcome};
+ghost use Rattle.xhstt_text.specs.Reading.{Leads, read_of};
+ghost use Rattle.xhstt_text.specs.declared.faults.TextFault.TheVariants.{NotBuilt};
+
+use crate::TextFault;
+use crate::bytes::white;
+use crate::cursor::Cursor;
+use crate::table::Table;
+use crate::tags::{next_tag, root};
+use crate::tree::Tree;
+use khe_base::Seq;
+use std::alloc::Global;
+
+// Reads all tags: what was read, and the place after the last tag.
+fn tags<'a>(alloc: Global, bytes: &'a [u8]) -> Result<(Table<'a>, Cursor<'a>), TextFault>
+    requires { length bytes.now < 2 ^ 32 }
+    ensures { Leads result (outcome_of bytes.now) (λ found. run ended (read_of [] found.0.nodes.items found.0.attributes.items) found.1.at found.1.rest.now) }
+{
+    let mut table = Table {
+        nodes: Vec::new(alloc),
+        attributes: Vec::new(alloc),
+        stack: Vec::new(alloc),
+    };
+    let start = Cursor { at: 0, rest: bytes };
+    let mut here = root(alloc, start, &mut table)?;
+    'tags: while let Some(inner) = table.stack.pop() {
+        here = next_tag(alloc, here, inner, &mut table)?;
+    }
+    Ok((table, here))
+}
+
+// The machine's answer.
+fn read<'a>(alloc: Global, bytes: &'a [u8]) -> Result<Tree<'a>, TextFault>
+    requires { length bytes.now < 2 ^ 32 }
+    ensures exact { Leads result (outcome_of bytes.now) (λ tree. Ok (record { nodes = tree.nodes; attributes = tree.attributes })) }
+    ensures bytes { IfOk result (λ tree. tree.bytes.now ≡ bytes.now) }
+{
+    let (table, here) = tags(alloc, bytes)?;
+    if !white(here).rest.is_empty() {
+        return Err(TextFault::NotBuilt);
+    }
+    let Table {
+        nodes,
+        attributes,
+        stack: _,
+    } = table;
+    Ok(Tree {
+        bytes,
+        nodes: Seq { items: nodes },
+        attributes: Seq { items: attributes },
+    })
+}
+
+/// Reads a text as the tree of its elements.
+///
+/// A text has one element, and white around it. An element is `<name ..>`, content and
+/// `</name>`, or `<name ../>`; content is printed ASCII characters and white other than `<` and
+/// `&`, and elements; at most 32 elements are open at once. No two attributes of an element have
+/// one name.
+///
+/// `NotBuilt` comes exactly where the bytes spell no such text. The time grows with the length of
+/// the bytes, and with the logarithm of the number of attributes of one element.
+pub fn elements<'a>(alloc: Global, bytes: &'a [u8]) -> Result<Tree<'a>, TextFault>
+    requires { length bytes.now < 2 ^ 32 }
+
+    // The tree is the one that the bytes spell, and they spell no other.
+    ensures found { IfOk result (λ tree. Spells bytes.now (record { nodes = tree.nodes; attributes = tree.attributes })) }
+    ensures only { IfOk result (λ tree. (d : Document) → IsDocument d → bytes.now ≡ spelling d → table d ≡ record { nodes = tree.nodes; attributes = tree.attributes }) }
+    ensures bytes { IfOk result (λ tree. tree.bytes.now ≡ bytes.now) }
+
+    // Its rows keep the bounds of a table, and stand for the forest that the bytes spell.
+    ensures bounds { IfOk result (λ tree. IsTable tree) }
+    ensures forest { IfOk result (λ tree. Spelled bytes.now (root_forest tree)) }
+    ensures one_forest { IfOk result (λ tree. (f : Forest) → Spelled bytes.now f → root_forest tree ≡ f) }
+
+    ensures not_built { result ≡ Err NotBuilt → (d : Document) → IsDocument d → bytes.now ≡ spelling d → ⊥ }
+{
+    read(alloc, bytes)
+}
+
+#[cfg(test)]
+mod tests {
+    use super::*;
+    use crate::tree::{Attribute, Node, Span};
+    use std::test::Fail;
+
+    #[test]
+    fn reads_each_row(rt: HostRuntime) -> Result<(), Fail> {
+        let tree = elements(rt.alloc(), b"<a x='1'><b/>u<c>v</c></a>")?;
+        let outer = Node {
+            at: 0,
+            name: Span { from: 1, to: 2 },
+            parent: None,
+            end: 3,
+            attributes: Span { from: 0, to: 1 },
+            value: Span { from: 9, to: 22 },
+            loose: Some(13),
+        };
+        let first = Node {
+            at: 9,
+            name: Span { from: 10, to: 11 },
+            parent: Some(0),
+            end: 2,
+            attributes: Span { from: 1, to: 1 },
+            value: Span { from: 13, to: 13 },
+            loose: None,
+        };
+        let second = Node {
+            at: 14,
+            name: Span { from: 15, to: 16 },
+            parent: Some(0),
+            end: 3,
+            attributes: Span { from: 1, to: 1 },
+            value: Span { from: 17, to: 18 },
+            loose: Some(17),
+        };
+        let attribute = Attribute {
+            at: 3,
+            name: Span { from: 3, to: 4 },
+            value: Span { from: 6, to: 7 },
+        };
+        assert_eq!(rt; tree.nodes.as_slice(), [outer, first, second].as_slice());
+        assert_eq!(rt; tree.attributes.as_slice(), [attribute].as_slice());
+        Ok(())
+    }
+
+    fn is_read(rt: &HostRuntime, text: &str) -> bool
+        requires { length text.now < 2 ^ 32 }
+    {
+        elements(rt.alloc(), text.as_bytes()).is_ok()
+    }
+
+    #[test]
+    fn reads_texts(rt: HostRuntime) {
+        assert!(rt; is_read(&rt, "<a/>"));
+        assert!(rt; is_read(&rt, " \t\r\n<a >\n</a >\n"));
+        assert!(rt; is_read(&rt, "<_.-9 a = '\"' b=\"'>\" />"));
+        assert!(rt; is_read(&rt, "<a>x<b/>y<b>z</b></a>"));
+    }
+
+    #[test]
+    fn refuses_other_texts(rt: HostRuntime) {
+        assert!(rt; !is_read(&rt, ""));
+        assert!(rt; !is_read(&rt, "x"));
+        assert!(rt; !is_read(&rt, "<a>"));
+        assert!(rt; !is_read(&rt, "<a></b>"));
+        assert!(rt; !is_read(&rt, "<a></a"));
+        assert!(rt; !is_read(&rt, "</a>"));
+        assert!(rt; !is_read(&rt, "<a/>x"));
+        assert!(rt; !is_read(&rt, "<a/><a/>"));
+        assert!(rt; !is_read(&rt, "<1/>"));
+        assert!(rt; !is_read(&rt, "<a x='1' x='2'/>"));
+        assert!(rt; !is_read(&rt, "<a x='1'y='2'/>"));
+        assert!(rt; !is_read(&rt, "<a x/>"));
+        assert!(rt; !is_read(&rt, "<a x='<'/>"));
+        assert!(rt; !is_read(&rt, "<a>&amp;</a>"));
+    }
+}

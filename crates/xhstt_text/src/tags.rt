@@ -1,0 +1,263 @@
+ghost use Rattle.std.specs.Prelude.{◌≡◌, ◌<◌, ◌≤◌, ◌+◌, ◌∷◌, ◌++◌, ◌^◌, ℕ, List, true, false, length, IfOk, MatchOption, [], set, Option};
+ghost use Rattle.xhstt_text.specs.Bytes.{is_first, is_name, is_text, is_white, is_quote};
+ghost use Rattle.xhstt_text.specs.Document.{has_name};
+ghost use Rattle.xhstt_text.specs.Machine.{Frame, Tag, Read, run, content, opened, valued, attribute_name, in_value, equals, shut_begin, with_name, attribute_row, resume, close_element, parent_of, opened_row, Outcome, refused};
+ghost use Rattle.xhstt_text.specs.Reading.{Leads, Skips, begins, is_byte, read_of, bare, frame_of, frames_of, NoEndTag, with_loose_text};
+ghost use Rattle.xhstt_text.specs.declared.tree.Attribute.{Attribute};
+ghost use Rattle.xhstt_text.specs.declared.tree.Node.{Node};
+
+use crate::TextFault;
+use crate::bytes::{name, past, quoted, text, white};
+use crate::cursor::Cursor;
+use crate::names::{add_name, no_names};
+use crate::table::{OpenElement, StartTag, Table};
+use crate::tree::{Attribute, Node, Span};
+use std::alloc::Global;
+
+// How many elements may be open at once.
+const DEPTH: usize = 32;
+
+// A quote, and the place after it.
+fn quote<'a>(here: Cursor<'a>) -> Option<(u8, Cursor<'a>)>
+    ensures { MatchOption result (begins is_quote here.entry.rest.now ≡ false)
+        (λ found. (is_quote found.0 ≡ true) × (here.entry.rest.now ≡ found.0 ∷ found.1.rest.now) × (found.1.at ≡ here.entry.at + 1)) }
+{
+    match past(here, b'"') {
+        Some(after) => Some((b'"', after)),
+        None => match past(here, b'\'') {
+            Some(after) => Some((b'\'', after)),
+            None => None,
+        },
+    }
+}
+
+// From the end of an attribute's name over its value: where the value stands, and the place after
+// its last quote.
+fn value<'a>(here: Cursor<'a>) -> Result<(Span, Cursor<'a>), TextFault>
+    requires { begins is_name here.rest.now ≡ false }
+    ensures leads { (t : Tag) (place : ℕ) (known : List ℕ) (r : Read) → has_name known t.names ≡ false →
+        Leads result (run (attribute_name t place known) r here.entry.at here.entry.rest.now)
+        (λ v. run (valued (with_name t known)) (record r { attributes = r.attributes ++ attribute_row place known v.0.from v.0.to ∷ [] }) v.1.at v.1.rest.now) }
+    ensures onward { IfOk result (λ v. (length v.1.rest.now ≤ length here.entry.rest.now) × (here.entry.at ≤ v.1.at)) }
+{
+    let Some(equal) = past(white(here), b'=') else {
+        return Err(TextFault::NotBuilt);
+    };
+    let Some((mark, from)) = quote(white(equal)) else {
+        return Err(TextFault::NotBuilt);
+    };
+    let to = quoted(from, mark);
+    let Some(end) = past(to, mark) else {
+        return Err(TextFault::NotBuilt);
+    };
+    let value = Span {
+        from: from.at,
+        to: to.at,
+    };
+    Ok((value, end))
+}
+
+// Over the attributes of a start tag and the white after them, to the byte that must end the tag.
+fn attributes<'a>(
+    alloc: Global,
+    from: Cursor<'a>,
+    rows: &mut Vec<Attribute>,
+) -> Result<Cursor<'a>, TextFault>
+    ensures leads { (frames : List Frame) (nodes : List Node) (place : ℕ) (tag : List ℕ) (first : ℕ) →
+        Leads result (run (valued (bare place tag first)) (read_of frames nodes rows.old.items) from.entry.at from.entry.rest.now)
+        (λ q. run (valued (bare place tag first)) (read_of frames nodes rows.new.items) q.at q.rest.now) }
+    ensures ends { IfOk result (λ q. (begins is_first q.rest.now ≡ false) × (begins is_white q.rest.now ≡ false)) }
+    ensures onward { IfOk result (λ q. (length q.rest.now ≤ length from.entry.rest.now) × (from.entry.at ≤ q.at)) }
+{
+    let mut names = no_names(alloc);
+    let mut here = from;
+    'attributes: loop {
+        let start = white(here);
+        let Some((found, after)) = name(start) else {
+            return Ok(start);
+        };
+        if start.at == here.at {
+            return Err(TextFault::NotBuilt);
+        }
+        if !add_name(&mut names, found)? {
+            return Err(TextFault::NotBuilt);
+        }
+        let (value, end) = value(after)?;
+        rows.push(Attribute {
+            at: start.at,
+            name: Span {
+                from: start.at,
+                to: after.at,
+            },
+            value,
+        })?;
+        here = end;
+    }
+}
+
+// Over text in an element whose loose text so far begins at `loose`: the place after it, and where
+// the loose text begins now.
+fn content_text<'a>(here: Cursor<'a>, loose: Option<u64>) -> (Cursor<'a>, Option<u64>)
+    ensures leads { (f : Frame) (fs : List Frame) (nodes : List Node) (rows : List Attribute) → f.node.loose ≡ loose →
+        run content (read_of (f ∷ fs) nodes rows) here.entry.at here.entry.rest.now
+        ≡ run content (read_of (with_loose_text f result.1 ∷ fs) nodes rows) result.0.at result.0.rest.now }
+    ensures stops { begins is_text result.0.rest.now ≡ false }
+    ensures onward { length result.0.rest.now ≤ length here.entry.rest.now }
+    ensures place { here.entry.at ≤ result.0.at }
+{
+    let start = white(here);
+    let end = text(start);
+    if end.at > start.at {
+        (end, loose.or(Some(start.at)))
+    } else {
+        (end, loose)
+    }
+}
+
+// Over an end tag, from after its `</`: it must have the name of the innermost element.
+fn end_tag<'a>(
+    at: u64,
+    shut: Cursor<'a>,
+    inner: OpenElement<'a>,
+    table: &mut Table<'a>,
+) -> Result<Cursor<'a>, TextFault>
+    requires { length table.old.nodes.items < 2 ^ 32 }
+    ensures leads { Leads result
+        (run (shut_begin at) (read_of (frame_of inner.entry ∷ frames_of table.old.stack.items) table.old.nodes.items table.old.attributes.items) shut.entry.at shut.entry.rest.now)
+        (λ q. run (resume (frames_of table.new.stack.items)) (read_of (frames_of table.new.stack.items) table.new.nodes.items table.new.attributes.items) q.at q.rest.now) }
+    ensures count { IfOk result (λ q. length table.new.nodes.items ≡ length table.old.nodes.items) }
+    ensures onward { IfOk result (λ q. (length q.rest.now < length shut.entry.rest.now) × (shut.entry.at ≤ q.at)) }
+{
+    let Some((found, after)) = name(shut) else {
+        return Err(TextFault::NotBuilt);
+    };
+    let Some(end) = past(white(after), b'>') else {
+        return Err(TextFault::NotBuilt);
+    };
+    if found != inner.name {
+        return Err(TextFault::NotBuilt);
+    }
+    table.close(inner, at);
+    Ok(end)
+}
+
+// Over a start tag, from after its `<`.
+fn start_tag<'a>(
+    alloc: Global,
+    at: u64,
+    inside: Cursor<'a>,
+    parent: Option<u32>,
+    table: &mut Table<'a>,
+) -> Result<Cursor<'a>, TextFault>
+    requires place { inside.at ≡ at + 1 }
+    requires parent { parent ≡ parent_of (frames_of table.old.stack.items) }
+    requires start { NoEndTag (frames_of table.old.stack.items) inside.rest.now }
+    requires count { length table.old.nodes.items ≤ at }
+    ensures leads { Leads result
+        (run (opened at) (read_of (frames_of table.old.stack.items) table.old.nodes.items table.old.attributes.items) inside.entry.at inside.entry.rest.now)
+        (λ q. run (resume (frames_of table.new.stack.items)) (read_of (frames_of table.new.stack.items) table.new.nodes.items table.new.attributes.items) q.at q.rest.now) }
+    ensures count { IfOk result (λ q. length table.new.nodes.items ≤ q.at) }
+    ensures onward { IfOk result (λ q. length q.rest.now < length inside.entry.rest.now) }
+{
+    if table.stack.len() >= DEPTH {
+        return Err(TextFault::NotBuilt);
+    }
+    let Some((found, after)) = name(inside) else {
+        return Err(TextFault::NotBuilt);
+    };
+    let first = table.attributes.len();
+    let tag = StartTag {
+        at,
+        name: found,
+        name_to: after.at,
+        first: first as u64,
+        parent,
+    };
+    let last = attributes(alloc, after, &mut table.attributes)?;
+    end_of_start(last, tag, table)
+}
+
+// Over the end of a start tag.
+fn end_of_start<'a>(
+    here: Cursor<'a>,
+    tag: StartTag<'a>,
+    table: &mut Table<'a>,
+) -> Result<Cursor<'a>, TextFault>
+    requires name { tag.name_to ≡ tag.at + 1 + length tag.name.now }
+    requires parent { tag.parent ≡ parent_of (frames_of table.old.stack.items) }
+    requires count { length table.old.nodes.items + 1 < 2 ^ 32 }
+    requires ends { (begins is_first here.rest.now ≡ false) × (begins is_white here.rest.now ≡ false) }
+    ensures leads { Leads result
+        (run (valued (bare tag.entry.at tag.entry.name.now tag.entry.first)) (read_of (frames_of table.old.stack.items) table.old.nodes.items table.old.attributes.items) here.entry.at here.entry.rest.now)
+        (λ q. run (resume (frames_of table.new.stack.items)) (read_of (frames_of table.new.stack.items) table.new.nodes.items table.new.attributes.items) q.at q.rest.now) }
+    ensures count { IfOk result (λ q. length table.new.nodes.items ≡ length table.old.nodes.items + 1) }
+    ensures onward { IfOk result (λ q. (length q.rest.now ≤ length here.entry.rest.now) × (here.entry.at ≤ q.at)) }
+{
+    let Some(slash) = past(here, b'/') else {
+        let Some(end) = past(here, b'>') else {
+            return Err(TextFault::NotBuilt);
+        };
+        table.open(tag, end.at)?;
+        return Ok(end);
+    };
+    let Some(end) = past(slash, b'>') else {
+        return Err(TextFault::NotBuilt);
+    };
+    table.add(tag, end.at)?;
+    Ok(end)
+}
+
+/// Over text and the next tag, inside the innermost element, which was taken off the stack.
+pub fn next_tag<'a>(
+    alloc: Global,
+    here: Cursor<'a>,
+    inner: OpenElement<'a>,
+    table: &mut Table<'a>,
+) -> Result<Cursor<'a>, TextFault>
+    requires { length table.old.nodes.items ≤ here.at }
+    ensures leads { Leads result
+        (run content (read_of (frame_of inner.entry ∷ frames_of table.old.stack.items) table.old.nodes.items table.old.attributes.items) here.entry.at here.entry.rest.now)
+        (λ q. run (resume (frames_of table.new.stack.items)) (read_of (frames_of table.new.stack.items) table.new.nodes.items table.new.attributes.items) q.at q.rest.now) }
+    ensures count { IfOk result (λ q. length table.new.nodes.items ≤ q.at) }
+    ensures onward { IfOk result (λ q. length q.rest.now < length here.entry.rest.now) }
+{
+    let (tag, loose) = content_text(here, inner.node.loose);
+    let Some(inside) = past(tag, b'<') else {
+        return Err(TextFault::NotBuilt);
+    };
+    let inner = OpenElement {
+        node: Node {
+            loose,
+            ..inner.node
+        },
+        ..inner
+    };
+    match past(inside, b'/') {
+        Some(shut) => end_tag(tag.at, shut, inner, table),
+        None => {
+            table.stack.push(inner)?;
+            start_tag(alloc, tag.at, inside, Some(inner.number), table)
+        }
+    }
+}
+
+/// Over the white before the outermost element, and its start tag.
+pub fn root<'a>(
+    alloc: Global,
+    here: Cursor<'a>,
+    table: &mut Table<'a>,
+) -> Result<Cursor<'a>, TextFault>
+    requires stack { table.old.stack.items ≡ [] }
+    requires nodes { table.old.nodes.items ≡ [] }
+    requires attributes { table.old.attributes.items ≡ [] }
+    ensures leads { Leads result
+        (run content (read_of [] [] []) here.entry.at here.entry.rest.now)
+        (λ q. run (resume (frames_of table.new.stack.items)) (read_of (frames_of table.new.stack.items) table.new.nodes.items table.new.attributes.items) q.at q.rest.now) }
+    ensures count { IfOk result (λ q. length table.new.nodes.items ≤ q.at) }
+{
+    let tag = white(here);
+    let Some(inside) = past(tag, b'<') else {
+        return Err(TextFault::NotBuilt);
+    };
+    start_tag(alloc, tag.at, inside, None, table)
+}
