@@ -1,5 +1,5 @@
 use Rattle.xhstt_text.proofs.Answer.{spelled, alone, unspelled}
-use Rattle.xhstt_text.proofs.Trees.{Answers, read-table, read-spelled, read-alone}
+use Rattle.xhstt_text.proofs.Trees.{read-table, read-spelled, read-alone}
 use Rattle.xhstt_text.proofs.reader.elements.Goals as goal
 
 pub returns-clause-found : goal.returns-clause-found
