@@ -2,6 +2,7 @@
 #![tactic(auto)]
 
 mod bytes;
+mod comments;
 mod cursor;
 mod faults;
 mod names;
