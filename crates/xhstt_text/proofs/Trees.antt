@@ -4,7 +4,8 @@ use Rattle.xhstt_text.specs.declared.faults.TextFault.{TextFault}
 use Rattle.xhstt_text.specs.declared.tree.Tree.{Tree}
 use Rattle.xhstt_text.specs.Forest.{Forest}
 use Rattle.xhstt_text.specs.FlatTable.{flat_table, IsTable, root_forest}
-use Rattle.xhstt_text.specs.Document.{Document, IsDocument, spelling, Rows, table, forest_of, Spelled}
+use Rattle.std.specs.Str.{IsUtf8}
+use Rattle.xhstt_text.specs.Document.{Document, IsDocument, IsSpellingOf, spelling, Rows, table, forest_of, Spelled}
 use Rattle.xhstt_text.specs.Machine.{outcome_of}
 use Rattle.xhstt_text.specs.Reading.{Leads}
 use Rattle.xhstt_text.proofs.Complete.{run_document}
@@ -44,16 +45,16 @@ read-table bytes (Ok tree) a =
 read-table bytes (Err e) a = tt
 
 -- the bytes spell its forest
-pub read-spelled : (bytes : List ℕ) (r : Result Tree TextFault) → Answers bytes r → IfOk r (λ tree. Spelled bytes (root_forest tree))
-read-spelled bytes (Ok tree) a =
+pub read-spelled : (bytes : List ℕ) (r : Result Tree TextFault) → IsUtf8 bytes → Answers bytes r → IfOk r (λ tree. Spelled bytes (root_forest tree))
+read-spelled bytes (Ok tree) utf8 a =
     let read : IsRead bytes tree = record { rows = a.exact; same = a.same; short = a.short } in
     let found = document_from bytes (rows_of tree) a.exact in
-    (found.0, found.1, found.2, (read-document bytes tree read found.0 found.1 found.2).1)
-read-spelled bytes (Err e) a = tt
+    (found.0, (utf8, found.1, found.2), (read-document bytes tree read found.0 found.1 found.2).1)
+read-spelled bytes (Err e) utf8 a = tt
 
 -- and no other
 pub read-alone : (bytes : List ℕ) (r : Result Tree TextFault) → Answers bytes r → IfOk r (λ tree. (f : Forest) → Spelled bytes f → root_forest tree ≡ f)
 read-alone bytes (Ok tree) a =
     let read : IsRead bytes tree = record { rows = a.exact; same = a.same; short = a.short } in
-    λ f spelled. (read-document bytes tree read spelled.0 spelled.1 spelled.2).1 ∙ sym spelled.3
+    λ f spelled. (read-document bytes tree read spelled.0 spelled.1.1 spelled.1.2).1 ∙ sym spelled.2
 read-alone bytes (Err e) a = tt

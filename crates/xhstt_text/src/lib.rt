@@ -3,6 +3,7 @@
 
 mod attributes;
 mod bytes;
+mod comments;
 mod cursor;
 mod faults;
 mod handles;

@@ -1,6 +1,6 @@
 ghost use Rattle.std.specs.Prelude.{◌≡◌, ◌<◌, ◌^◌, length, IfOk, Ok, Err, []};
 ghost use Rattle.xhstt_text.specs.Bytes.{is_white};
-ghost use Rattle.xhstt_text.specs.Document.{Document, IsDocument, Rows, Spelled, Spells, spelling, table};
+ghost use Rattle.xhstt_text.specs.Document.{Document, IsSpellingOf, Spelled, Spells, table};
 ghost use Rattle.xhstt_text.specs.FlatTable.{IsTable, root_forest};
 ghost use Rattle.xhstt_text.specs.Forest.{Forest};
 ghost use Rattle.xhstt_text.specs.Machine.{outcome_of, run, ended, Outcome};
@@ -8,7 +8,7 @@ ghost use Rattle.xhstt_text.specs.Reading.{Leads, read_of};
 ghost use Rattle.xhstt_text.specs.declared.faults.TextFault.TheVariants.{NotBuilt};
 
 use crate::TextFault;
-use crate::bytes::white;
+use crate::comments::space;
 use crate::cursor::Cursor;
 use crate::table::Table;
 use crate::tags::{next_tag, root};
@@ -41,7 +41,8 @@ fn read<'a>(alloc: Global, bytes: &'a [u8]) -> Result<Tree<'a>, TextFault>
     ensures bytes { IfOk result (λ tree. tree.bytes.now ≡ bytes.now) }
 {
     let (table, here) = tags(alloc, bytes)?;
-    if !white(here).rest.is_empty() {
+    let end = space(here)?;
+    if !end.rest.is_empty() {
         return Err(TextFault::NotBuilt);
     }
     let Table {
@@ -58,10 +59,10 @@ fn read<'a>(alloc: Global, bytes: &'a [u8]) -> Result<Tree<'a>, TextFault>
 
 /// Reads a text as the tree of its elements.
 ///
-/// A text has one element, and white around it. An element is `<name ..>`, content and
-/// `</name>`, or `<name ../>`; content is printed ASCII characters and white other than `<` and
-/// `&`, and elements; at most 32 elements are open at once. No two attributes of an element have
-/// one name.
+/// A text is UTF-8. It has one element, and white and comments around it. An element is
+/// `<name ..>`, content and `</name>`, or `<name ../>`; content is white, characters other than
+/// `<` and `&` up to U+EFFF, and from U+10000 on, comments and elements; at most 32 elements are
+/// open at once. No two attributes of an element have one name.
 ///
 /// `NotBuilt` comes exactly where the bytes spell no such text. The time grows with the length of
 /// the bytes, and with the logarithm of the number of attributes of one element.
@@ -70,7 +71,7 @@ pub fn elements<'a>(alloc: Global, bytes: &'a [u8]) -> Result<Tree<'a>, TextFaul
 
     // The tree is the one that the bytes spell, and they spell no other.
     ensures found { IfOk result (λ tree. Spells bytes.now (record { nodes = tree.nodes; attributes = tree.attributes })) }
-    ensures only { IfOk result (λ tree. (d : Document) → IsDocument d → bytes.now ≡ spelling d → table d ≡ record { nodes = tree.nodes; attributes = tree.attributes }) }
+    ensures only { IfOk result (λ tree. (d : Document) → IsSpellingOf bytes.now d → table d ≡ record { nodes = tree.nodes; attributes = tree.attributes }) }
     ensures bytes { IfOk result (λ tree. tree.bytes.now ≡ bytes.now) }
 
     // Its rows keep the bounds of a table, and stand for the forest that the bytes spell.
@@ -78,8 +79,11 @@ pub fn elements<'a>(alloc: Global, bytes: &'a [u8]) -> Result<Tree<'a>, TextFaul
     ensures forest { IfOk result (λ tree. Spelled bytes.now (root_forest tree)) }
     ensures one_forest { IfOk result (λ tree. (f : Forest) → Spelled bytes.now f → root_forest tree ≡ f) }
 
-    ensures not_built { result ≡ Err NotBuilt → (d : Document) → IsDocument d → bytes.now ≡ spelling d → ⊥ }
+    ensures not_built { result ≡ Err NotBuilt → (d : Document) → IsSpellingOf bytes.now d → ⊥ }
 {
+    if str::from_utf8(bytes).is_err() {
+        return Err(TextFault::NotBuilt);
+    }
     read(alloc, bytes)
 }
 
