@@ -5,7 +5,7 @@ use Rattle.xhstt_text.specs.declared.tree.Tree.{Tree}
 use Rattle.xhstt_text.specs.Forest.{Forest}
 use Rattle.xhstt_text.specs.FlatTable.{flat_table, IsTable, root_forest}
 use Rattle.std.specs.Str.{IsUtf8}
-use Rattle.xhstt_text.specs.Document.{Document, IsDocument, IsSpellingOf, spelling, Rows, table, forest_of, Spelled}
+use Rattle.xhstt_text.specs.Document.{Document, IsDocument, spelling, Rows, table, forest_of, Spelled}
 use Rattle.xhstt_text.specs.Machine.{outcome_of}
 use Rattle.xhstt_text.specs.Reading.{Leads}
 use Rattle.xhstt_text.proofs.Complete.{run_document}
