@@ -6,6 +6,7 @@ mod comments;
 mod cursor;
 mod faults;
 mod names;
+mod prolog;
 mod reader;
 mod table;
 mod tags;
