@@ -1,5 +1,5 @@
 -- What the reader answers, from what the machine does.
-use Rattle.std.proofs.Common.{◌≡◌, ℕ, Bool, true, false, List, Result, Ok, Err, sym, ◌∙◌, ap, IfOk, MatchResult, is_err}
+use Rattle.std.proofs.Common.{◌≡◌, ℕ, Bool, false, List, Result, Ok, Err, sym, ◌∙◌, ap, IfOk, MatchResult, is_err}
 use Rattle.xhstt_text.specs.declared.faults.TextFault.{TextFault}
 use Rattle.xhstt_text.specs.declared.faults.TextFault.TheVariants.{NotBuilt, NoMemory}
 use Rattle.xhstt_text.specs.declared.tree.Attribute.{Attribute}

@@ -1,21 +1,21 @@
 -- What the machine reads is a document.
-use Rattle.std.proofs.Common.{◌≡◌, ℕ, suc, ◌+◌, ◌<◌, ◌≤◌, Bool, true, false, cond, not, ◌&&◌, leb, eqb, ltb, List, [], ◌∷◌, ◌++◌, length, Ok, Err, refl, sym, ◌∙◌, ap, subst, ◌⊎◌, inl, inr, arith, append_assoc}
+use Rattle.std.proofs.Common.{◌≡◌, ℕ, suc, ◌+◌, ◌<◌, ◌≤◌, Bool, true, false, cond, not, ◌&&◌, leb, eqb, ltb, List, [], ◌∷◌, ◌++◌, length, Ok, Err, refl, sym, ◌∙◌, ap, subst, ◌⊎◌, inl, inr, arith, append-nil, append_assoc}
 use Rattle.std.proofs.lemmas.Bool.Decides.{nat_tests}
 use Rattle.std.proofs.lemmas.Slice.Eq.{bytes_eq-Decides}
 use Rattle.std.specs.Str.{bytes_eq}
-use Rattle.xhstt_text.specs.Bytes.{IsComment, dashes, dashes_after, stays_open, is_white, is_first, is_name, is_text, is_quoted, is_quote, AllAre, IsWhite, IsGap, IsName}
-use Rattle.xhstt_text.specs.Document.{IsSpace, Attributes, none, attribute, Start, Content, nothing, byte, comment, short, long, Document, attributes_text, start_text, text, spelling, has_name, AreAttributes, IsContent, IsDocument, Rows}
-use Rattle.xhstt_text.specs.Machine.{Frame, Read, Tag, Phase, content, ended, ended_open, Place, early, late, phase_of, bang, bang_dash, in_comment, opened, start_name, valued, in_tag, slash, attribute_name, named, equals, in_value, shut_begin, shut, shut_gap, State, Step, refused, state, noted, resume, open_element, add_node, opened_row, close_element, attribute_row, with_name, start_of, step, step_content, step_opened, step_valued, step_named, step_shut, finish, and_then, run, Outcome, outcome_of}
-use Rattle.xhstt_text.proofs.Complete.{attribute_shape, start_shape, long_shape}
+use Rattle.xhstt_text.specs.Bytes.{IsDeclared, declaration_start, question_after, stays_declared, IsComment, dashes, dashes_after, stays_open, is_white, is_first, is_name, is_text, is_quoted, is_quote, AllAre, IsWhite, IsGap, IsName}
+use Rattle.xhstt_text.specs.Document.{Body, unmarked, marked, Declaration, undeclared, declared, declaration_text, body_text, IsBody, IsDeclaration, IsSpace, Attributes, none, attribute, Start, Content, nothing, byte, comment, short, long, Document, attributes_text, start_text, text, spelling, has_name, AreAttributes, IsContent, IsDocument, Rows}
+use Rattle.xhstt_text.specs.Machine.{beginning, mark_1, mark_2, at_declaration, declared_open, question, in_declaration, closed, step_declaration, step_question, Frame, Read, Tag, Phase, content, ended, ended_open, Place, early, late, phase_of, bang, bang_dash, in_comment, opened, start_name, valued, in_tag, slash, attribute_name, named, equals, in_value, shut_begin, shut, shut_gap, State, Step, refused, state, noted, resume, open_element, add_node, opened_row, close_element, attribute_row, with_name, start_of, step, step_content, step_opened, step_valued, step_named, step_shut, finish, and_then, run, Outcome, outcome_of}
+use Rattle.xhstt_text.proofs.Complete.{attribute_shape, start_shape, long_shape, declaration_shape}
 
 -- what may follow inside these open elements, the innermost first, or after the outermost element
 abbrev Later : List (List ℕ) → List ℕ → Type 0
 Later [] bs = (m : Content) × IsSpace m × (bs ≡ text m)
 Later (n ∷ ns) bs = (c : Content) × (w : List ℕ) × (more : List ℕ) × IsContent (suc (length ns)) c × IsWhite w × (bs ≡ text c ++ (60 ∷ 47 ∷ (n ++ (w ++ (62 ∷ more))))) × Later ns more
 
--- the same, where nothing is open a whole document
+-- the same, where nothing is open an outermost element and what stands around it
 abbrev Inside : List (List ℕ) → List ℕ → Type 0
-Inside [] bs = (d : Document) × IsDocument d × (bs ≡ spelling d)
+Inside [] bs = (y : Body) × IsBody y × (bs ≡ body_text y)
 Inside (n ∷ ns) bs = Later (n ∷ ns) bs
 
 -- the end of a start tag, and what may follow
@@ -31,8 +31,23 @@ abbrev AtPlace : Place → List (List ℕ) → List ℕ → Type 0
 AtPlace early ns bs = Inside ns bs
 AtPlace late ns bs = Later [] bs
 
+-- what may follow a byte order mark
+abbrev Declarable : List ℕ → Type 0
+Declarable bs = (x : Declaration) × (y : Body) × IsDeclaration x × IsBody y × (bs ≡ declaration_text x ++ body_text y)
+
+-- a whole text
+abbrev Whole : List ℕ → Type 0
+Whole bs = (d : Document) × IsDocument d × (bs ≡ spelling d)
+
 -- what may follow a phase inside these open elements
 abbrev Follows : Phase → List (List ℕ) → List ℕ → Type 0
+Follows beginning ns bs = Whole bs
+Follows mark_1 ns bs = Whole (239 ∷ bs)
+Follows mark_2 ns bs = Whole (239 ∷ 187 ∷ bs)
+Follows at_declaration ns bs = Declarable bs
+Follows (declared_open place) ns bs = Declarable (60 ∷ bs)
+Follows (question ks) ns bs = (front : List ℕ) → front ++ ks ≡ declaration_start → Declarable (front ++ bs)
+Follows (in_declaration seen) ns bs = (w : ℕ) → is_white w ≡ true → (front : List ℕ) → stays_declared false front ≡ true → question_after false front ≡ seen → Declarable (declaration_start ++ (w ∷ (front ++ bs)))
 Follows content ns bs = Inside ns bs
 Follows ended ns bs = Later [] bs
 Follows (ended_open at) ns bs = Later [] (60 ∷ bs)
@@ -298,7 +313,81 @@ back_comment place ns front b bs count stays same is k =
     let least : 2 ≤ dashes_after 0 front = subst (λ n. 2 ≤ n) (sym same) (let l : 2 ≤ count = grind (arith, nat_tests, e.0) in l) in
     subst (λ n. AtPlace place ns (60 ∷ 33 ∷ 45 ∷ 45 ∷ (front ++ (n ∷ bs)))) (sym (same_byte b 62 e.1)) (comment_at place ns front bs (stays, least) k)
 
+without_declaration : (bs : List ℕ) → Inside [] bs → Declarable bs
+without_declaration bs (y, h, same) = (undeclared, y, tt, h, same)
+
+without_mark : (bs : List ℕ) → Declarable bs → Whole bs
+without_mark bs (x, y, h, k, same) = (record { mark = unmarked; declaration = x; body = y }, (h, k), same)
+
+with_mark : (bs : List ℕ) → Declarable bs → Whole (239 ∷ 187 ∷ 191 ∷ bs)
+with_mark bs (x, y, h, k, same) = (record { mark = marked; declaration = x; body = y }, (h, k), ap (λ x. 239 ∷ 187 ∷ 191 ∷ x) same)
+
+back_declaration : (r : Read) (at b : ℕ) (bs : List ℕ) (s : State) → step_declaration r at b ≡ Ok s → After bs s → Declarable (b ∷ bs)
+back_declaration r at b bs s e h =
+    choose (eqb b 60) (state (declared_open at) r) _ s
+    (λ is here. subst (λ k. Declarable (k ∷ bs)) (sym (same_byte b 60 is)) (arrives (After bs) (declared_open at) r s here h))
+    (λ _ there. choose (is_white b) (state content (closed r)) refused s
+    (λ is here. without_declaration (b ∷ bs) (more_before b bs is (arrives (After bs) content (closed r) s here h)))
+    (λ _ here. no s here) there) e
+
+back_question : (ks : List ℕ) (r : Read) (b : ℕ) (bs : List ℕ) (s : State) → step_question ks r b ≡ Ok s → After bs s → Follows (question ks) (names_of r.frames) (b ∷ bs)
+back_question [] r b bs s e h =
+    choose (is_white b) (state (in_declaration false) r) refused s
+    (λ is here front same.
+    let q = arrives (After bs) (in_declaration false) r s here h b is [] refl refl in
+    subst (λ (x : List ℕ). Declarable (x ++ (b ∷ bs))) (sym same ∙ append-nil front) q)
+    (λ _ here. no s here) e
+back_question (k ∷ ks) r b bs s e h =
+    choose (eqb b k) (state (question ks) r) refused s
+    (λ is here front same.
+    let q = arrives (After bs) (question ks) r s here h (front ++ k ∷ []) (append_assoc front (k ∷ []) ks ∙ same) in
+    subst (λ n. Declarable (front ++ (n ∷ bs))) (sym (same_byte b k is)) (subst (λ (x : List ℕ). Declarable x) (append_assoc front (k ∷ []) bs) q))
+    (λ _ here. no s here) e
+
+declared_push : (front : List ℕ) (seen : Bool) (b : ℕ) → question_after seen (front ++ b ∷ []) ≡ eqb b 63
+declared_push [] seen b = refl
+declared_push (c ∷ front) seen b = declared_push front (eqb c 63) b
+
+stays_push : (front : List ℕ) (seen : Bool) (b : ℕ) → stays_declared seen front ≡ true → (question_after seen front && eqb b 62) ≡ false → stays_declared seen (front ++ b ∷ []) ≡ true
+stays_push [] seen b h e = rw e refl
+stays_push (c ∷ front) seen b h e =
+    let k = both_parts (seen && eqb c 62) (stays_declared (eqb c 63) front) h in
+    rw k.0 (stays_push front (eqb c 63) b k.1 e)
+
+declare : (w : ℕ) (inner bs : List ℕ) → is_white w ≡ true → IsDeclared inner → Inside [] bs → Declarable (declaration_start ++ (w ∷ (inner ++ (62 ∷ bs))))
+declare w inner bs hw h (y, k, same) =
+    (declared w inner, y, (hw, h), k, ap (λ x. declaration_start ++ (w ∷ (inner ++ (62 ∷ x)))) same ∙ sym (declaration_shape w inner (body_text y)))
+
+back_declared : (seen : Bool) (r : Read) (b : ℕ) (bs : List ℕ) (s : State) → cond (seen && eqb b 62) (state content (closed r)) (state (in_declaration (eqb b 63)) r) ≡ Ok s → After bs s → Follows (in_declaration seen) (names_of r.frames) (b ∷ bs)
+back_declared seen r b bs s e h =
+    choose (seen && eqb b 62) (state content (closed r)) (state (in_declaration (eqb b 63)) r) s
+    (λ is here w hw front stays same.
+    let k = both_pass seen (eqb b 62) is in
+    subst (λ n. Declarable (declaration_start ++ (w ∷ (front ++ (n ∷ bs))))) (sym (same_byte b 62 k.1)) (declare w front bs hw (stays, same ∙ k.0) (arrives (After bs) content (closed r) s here h)))
+    (λ isnt here w hw front stays same.
+    let q = arrives (After bs) (in_declaration (eqb b 63)) r s here h w hw (front ++ b ∷ []) (stays_push front false b stays (ap (λ v. v && eqb b 62) same ∙ isnt)) (declared_push front false b) in
+    subst (λ (x : List ℕ). Declarable (declaration_start ++ (w ∷ x))) (append_assoc front (b ∷ []) bs) q) e
+
 back : (p : Phase) (r : Read) (at b : ℕ) (bs : List ℕ) (s : State) → step p r at b ≡ Ok s → After bs s → Follows p (names_of r.frames) (b ∷ bs)
+back beginning r at b bs s e h =
+    choose (eqb b 239) (state mark_1 r) _ s
+    (λ is here. subst (λ k. Whole (k ∷ bs)) (sym (same_byte b 239 is)) (arrives (After bs) mark_1 r s here h))
+    (λ _ there. without_mark (b ∷ bs) (back_declaration r at b bs s there h)) e
+back mark_1 r at b bs s e h =
+    choose (eqb b 187) (state mark_2 r) refused s
+    (λ is here. subst (λ k. Whole (239 ∷ k ∷ bs)) (sym (same_byte b 187 is)) (arrives (After bs) mark_2 r s here h))
+    (λ _ here. no s here) e
+back mark_2 r at b bs s e h =
+    choose (eqb b 191) (state at_declaration r) refused s
+    (λ is here. subst (λ k. Whole (239 ∷ 187 ∷ k ∷ bs)) (sym (same_byte b 191 is)) (with_mark bs (arrives (After bs) at_declaration r s here h)))
+    (λ _ here. no s here) e
+back at_declaration r at b bs s e h = back_declaration r at b bs s e h
+back (declared_open place) r at b bs s e h =
+    choose (eqb b 63) (state (question (120 ∷ 109 ∷ 108 ∷ [])) r) _ s
+    (λ is here. subst (λ k. Declarable (60 ∷ k ∷ bs)) (sym (same_byte b 63 is)) (arrives (After bs) (question (120 ∷ 109 ∷ 108 ∷ [])) r s here h (60 ∷ 63 ∷ []) refl))
+    (λ _ there. without_declaration (60 ∷ b ∷ bs) (back_opened [] place r b bs s there h)) e
+back (question ks) r at b bs s e h = back_question ks r b bs s e h
+back (in_declaration seen) r at b bs s e h = back_declared seen r b bs s e h
 back content r at b bs s e h = back_content r.frames r at b bs s e h
 back ended r at b bs s e h =
     choose (is_white b) (state ended r) _ s
@@ -394,4 +483,4 @@ follows (b ∷ bs) p r at rows e =
 
 -- what the machine reads is a document
 pub document_from : (bytes : List ℕ) (rows : Rows) → outcome_of bytes ≡ Ok rows → (d : Document) × IsDocument d × (bytes ≡ spelling d)
-document_from bytes rows e = follows bytes content (record { frames = []; nodes = []; attributes = [] }) 0 rows e
+document_from bytes rows e = follows bytes beginning (record { frames = []; nodes = []; attributes = [] }) 0 rows e

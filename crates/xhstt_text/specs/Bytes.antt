@@ -1,5 +1,5 @@
 -- The bytes that a text is made of.
-use Rattle.std.specs.Prelude.{ℕ, ◌≡◌, Bool, true, not, ◌&&◌, ◌||◌, ◌==◌, nat_le, ◌≤◌, suc, if◌then◌else◌, List, [], ◌∷◌}
+use Rattle.std.specs.Prelude.{ℕ, ◌≡◌, Bool, true, false, not, ◌&&◌, ◌||◌, ◌==◌, nat_le, ◌≤◌, suc, if◌then◌else◌, List, [], ◌∷◌}
 
 -- space, tab, line feed or carriage return
 abbrev pub is_white : ℕ → Bool
@@ -61,3 +61,22 @@ stays_open count (b ∷ bs) = not (nat_le 2 count && b == 62) && stays_open (das
 -- what stands between `<!--` and the `>` that ends the comment: the first with two dashes before it
 abbrev pub IsComment : List ℕ → Type 0
 IsComment bs = (stays_open 0 bs ≡ true) × (2 ≤ dashes_after 0 bs)
+
+-- whether a `?` stands at the end of these bytes; the first argument says whether one stands before them
+abbrev pub question_after : Bool → List ℕ → Bool
+question_after seen [] = seen
+question_after seen (b ∷ bs) = question_after (b == 63) bs
+
+-- no `>` in these bytes has a `?` before it
+abbrev pub stays_declared : Bool → List ℕ → Bool
+stays_declared seen [] = true
+stays_declared seen (b ∷ bs) = not (seen && b == 62) && stays_declared (b == 63) bs
+
+-- what stands between `<?xml` and a white and the `>` that ends the declaration: the first with a
+-- `?` before it
+abbrev pub IsDeclared : List ℕ → Type 0
+IsDeclared bs = (stays_declared false bs ≡ true) × (question_after false bs ≡ true)
+
+-- `<?xml`
+abbrev pub declaration_start : List ℕ
+declaration_start = 60 ∷ 63 ∷ 120 ∷ 109 ∷ 108 ∷ []

@@ -2,7 +2,7 @@
 -- and the table and the forest that a document stands for.
 use Rattle.std.specs.Prelude.{ℕ, suc, ◌≡◌, ◌+◌, ◌<◌, Bool, true, false, ◌||◌, if◌then◌else◌, List, [], ◌∷◌, ◌++◌, length, Option, Some, None}
 use Rattle.std.specs.Str.{IsUtf8, bytes_eq}
-use Rattle.xhstt_text.specs.Bytes.{is_white, is_text, is_quoted, is_quote, AllAre, IsWhite, IsGap, IsName, IsComment}
+use Rattle.xhstt_text.specs.Bytes.{IsDeclared, declaration_start, is_white, is_text, is_quoted, is_quote, AllAre, IsWhite, IsGap, IsName, IsComment}
 use Rattle.xhstt_text.specs.declared.tree.Span.{Span}
 use Rattle.xhstt_text.specs.declared.tree.Node.{Node}
 use Rattle.xhstt_text.specs.declared.tree.Attribute.{Attribute}
@@ -30,11 +30,27 @@ pub data Content : Type 0 where
   short : Start → Content → Content
   long : Start → Content → List ℕ → List ℕ → Content → Content
 
--- a whole text: its outermost element, and the white and the comments around it
-pub record Document : Type 0 where
+-- the outermost element, and the white and the comments around it
+pub record Body : Type 0 where
   pub before : Content
   pub root : Content
   pub after : Content
+
+-- whether a text begins with a byte order mark
+pub data Mark : Type 0 where
+  unmarked : Mark
+  marked : Mark
+
+-- the declaration: none, or the white after `<?xml` and what stands between it and the last `>`
+pub data Declaration : Type 0 where
+  undeclared : Declaration
+  declared : ℕ → List ℕ → Declaration
+
+-- a whole text
+pub record Document : Type 0 where
+  pub mark : Mark
+  pub declaration : Declaration
+  pub body : Body
 
 -- how attributes are spelled
 abbrev pub attributes_text : Attributes → List ℕ
@@ -55,9 +71,23 @@ text (short s c) = start_text s ++ (47 ∷ 62 ∷ text c)
 text (long s inner shut white c) =
     start_text s ++ (62 ∷ (text inner ++ (60 ∷ 47 ∷ (shut ++ (white ++ (62 ∷ text c))))))
 
+-- how the outermost element and what stands around it are spelled
+abbrev pub body_text : Body → List ℕ
+body_text b = text b.before ++ (text b.root ++ text b.after)
+
+-- how a byte order mark is spelled
+abbrev pub mark_text : Mark → List ℕ
+mark_text unmarked = []
+mark_text marked = 239 ∷ 187 ∷ 191 ∷ []
+
+-- how a declaration is spelled
+abbrev pub declaration_text : Declaration → List ℕ
+declaration_text undeclared = []
+declaration_text (declared white inner) = declaration_start ++ (white ∷ (inner ++ 62 ∷ []))
+
 -- how a document is spelled
 abbrev pub spelling : Document → List ℕ
-spelling d = text d.before ++ (text d.root ++ text d.after)
+spelling d = mark_text d.mark ++ (declaration_text d.declaration ++ body_text d.body)
 
 -- whether a name is one of these
 abbrev pub has_name : List ℕ → List (List ℕ) → Bool
@@ -97,9 +127,18 @@ IsSpace (byte b c) = (is_white b ≡ true) × IsSpace c
 IsSpace (comment inner c) = IsComment inner × IsSpace c
 IsSpace _ = ⊥
 
--- the document is in form: one element, with white and comments around it
+-- one element, with white and comments around it
+abbrev pub IsBody : Body → Type 0
+IsBody b = IsSpace b.before × IsElement b.root × IsContent 0 b.root × IsSpace b.after
+
+-- the declaration is in form
+abbrev pub IsDeclaration : Declaration → Type 0
+IsDeclaration undeclared = Unit {0}
+IsDeclaration (declared white inner) = (is_white white ≡ true) × IsDeclared inner
+
+-- the document is in form
 abbrev pub IsDocument : Document → Type 0
-IsDocument d = IsSpace d.before × IsElement d.root × IsContent 0 d.root × IsSpace d.after
+IsDocument d = IsDeclaration d.declaration × IsBody d.body
 
 -- a range of places
 abbrev pub span : ℕ → ℕ → Span
@@ -177,11 +216,15 @@ pub record Rows : Type 0 where
   pub nodes : List Node
   pub attributes : List Attribute
 
+-- the place of the outermost element
+abbrev pub root_at : Document → ℕ
+root_at d = length (mark_text d.mark) + length (declaration_text d.declaration) + length (text d.body.before)
+
 -- what a document says
 abbrev pub table : Document → Rows
 table d = record {
-  nodes = rows None 0 0 (length (text d.before)) d.root;
-  attributes = attribute_rows (length (text d.before)) d.root;
+  nodes = rows None 0 0 (root_at d) d.body.root;
+  attributes = attribute_rows (root_at d) d.body.root;
 }
 
 -- the bytes are UTF-8 and spell the document
@@ -223,7 +266,7 @@ forest_at at (long s inner shut white c) =
 
 -- the tree of a document
 abbrev pub forest_of : Document → Forest
-forest_of d = forest_at (length (text d.before)) d.root
+forest_of d = forest_at (root_at d) d.body.root
 
 -- the bytes spell a document with this tree
 abbrev pub Spelled : List ℕ → Forest → Type 0

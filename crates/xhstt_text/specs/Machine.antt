@@ -1,6 +1,6 @@
 -- A machine that reads a text a byte at a time. It is a tool of the proofs: the grammar in
 -- `Document` says what a text is, and the reader is shown to do as this machine.
-use Rattle.std.specs.Prelude.{ℕ, ◌+◌, ◌==◌, ◌&&◌, nat_lt, nat_le, if◌then◌else◌, List, [], ◌∷◌, ◌++◌, length, set, Option, Some, None, Result, Ok, Err}
+use Rattle.std.specs.Prelude.{Bool, false, ℕ, ◌+◌, ◌==◌, ◌&&◌, nat_lt, nat_le, if◌then◌else◌, List, [], ◌∷◌, ◌++◌, length, set, Option, Some, None, Result, Ok, Err}
 use Rattle.std.specs.Str.{bytes_eq}
 use Rattle.xhstt_text.specs.Bytes.{is_white, is_first, is_name, is_text, is_quoted, is_quote, dashes}
 use Rattle.xhstt_text.specs.Document.{Rows, span, has_name}
@@ -36,6 +36,13 @@ pub data Place : Type 0 where
 
 -- where the machine is
 pub data Phase : Type 0 where
+  beginning : Phase  -- before all bytes
+  mark_1 : Phase  -- after the first byte of a byte order mark
+  mark_2 : Phase  -- after the second
+  at_declaration : Phase  -- where a declaration may stand
+  declared_open : ℕ → Phase  -- after the `<` at this place, where a declaration may stand
+  question : List ℕ → Phase  -- in `<?xml`: the letters that must follow
+  in_declaration : Bool → Phase  -- in a declaration: whether the last byte was a `?`
   content : Phase  -- between two tags, or before the outermost element
   ended : Phase  -- after the outermost element
   ended_open : ℕ → Phase  -- after the `<` at this place, which stands after the outermost element
@@ -140,6 +147,18 @@ step_opened (f ∷ fs) place r b =
     else (if b == 47 then state (shut_begin place) r
     else (if b == 33 then state (bang early) r else refused))
 
+-- before the outermost element nothing is open
+abbrev pub closed : Read → Read
+closed r = record r { frames = [] }
+
+abbrev pub step_declaration : Read → ℕ → ℕ → Step
+step_declaration r at b =
+    if b == 60 then state (declared_open at) r else (if is_white b then state content (closed r) else refused)
+
+abbrev pub step_question : List ℕ → Read → ℕ → Step
+step_question [] r b = if is_white b then state (in_declaration false) r else refused
+step_question (k ∷ ks) r b = if b == k then state (question ks) r else refused
+
 abbrev pub step_valued : Tag → Read → ℕ → ℕ → Step
 step_valued t r at b =
     if is_first b then refused
@@ -172,6 +191,15 @@ abbrev pub start_of : ℕ → List ℕ → Read → Tag
 start_of place name r = record { at = place; name = name; first = length r.attributes; names = [] }
 
 abbrev pub step : Phase → Read → ℕ → ℕ → Step
+step beginning r at b = if b == 239 then state mark_1 r else step_declaration r at b
+step mark_1 r at b = if b == 187 then state mark_2 r else refused
+step mark_2 r at b = if b == 191 then state at_declaration r else refused
+step at_declaration r at b = step_declaration r at b
+step (declared_open place) r at b =
+    if b == 63 then state (question (120 ∷ 109 ∷ 108 ∷ [])) r else step_opened [] place (closed r) b
+step (question ks) r at b = step_question ks r b
+step (in_declaration seen) r at b =
+    if seen && b == 62 then state content (closed r) else state (in_declaration (b == 63)) r
 step content r at b = step_content r.frames r at b
 step ended r at b =
     if is_white b then state ended r else (if b == 60 then state (ended_open at) r else refused)
@@ -227,4 +255,4 @@ run p r at (b ∷ bs) =
 
 -- over a whole text
 abbrev pub outcome_of : List ℕ → Outcome
-outcome_of bytes = run content (record { frames = []; nodes = []; attributes = [] }) 0 bytes
+outcome_of bytes = run beginning (record { frames = []; nodes = []; attributes = [] }) 0 bytes

@@ -5,7 +5,7 @@ ghost use Rattle.xhstt_text.specs.Reading.{Skips, TakesName, begins, is_byte};
 
 use crate::cursor::Cursor;
 
-fn is_white(byte: u8) -> bool
+pub fn is_white(byte: u8) -> bool
     ensures { result ≡ is_white byte }
 {
     byte == b' ' || byte == b'\t' || byte == b'\n' || byte == b'\r'

@@ -8,6 +8,7 @@ mod cursor;
 mod faults;
 mod handles;
 mod names;
+mod prolog;
 mod reader;
 mod table;
 mod tags;

@@ -10,6 +10,7 @@ ghost use Rattle.xhstt_text.specs.declared.faults.TextFault.TheVariants.{NotBuil
 use crate::TextFault;
 use crate::comments::space;
 use crate::cursor::Cursor;
+use crate::prolog::prolog;
 use crate::table::Table;
 use crate::tags::{next_tag, root};
 use crate::tree::Tree;
@@ -27,7 +28,8 @@ fn tags<'a>(alloc: Global, bytes: &'a [u8]) -> Result<(Table<'a>, Cursor<'a>), T
         stack: Vec::new(alloc),
     };
     let start = Cursor { at: 0, rest: bytes };
-    let mut here = root(alloc, start, &mut table)?;
+    let body = prolog(start)?;
+    let mut here = root(alloc, body, &mut table)?;
     'tags: while let Some(inner) = table.stack.pop() {
         here = next_tag(alloc, here, inner, &mut table)?;
     }
@@ -59,7 +61,8 @@ fn read<'a>(alloc: Global, bytes: &'a [u8]) -> Result<Tree<'a>, TextFault>
 
 /// Reads a text as the tree of its elements.
 ///
-/// A text is UTF-8. It has one element, and white and comments around it. An element is
+/// A text is UTF-8. It may begin with a byte order mark, and then with a declaration,
+/// `<?xml ..?>`. It has one element, and white and comments around it. An element is
 /// `<name ..>`, content and `</name>`, or `<name ../>`; content is white, characters other than
 /// `<` and `&` up to U+EFFF, and from U+10000 on, comments and elements; at most 32 elements are
 /// open at once. No two attributes of an element have one name.
@@ -145,6 +148,13 @@ mod tests {
         assert!(rt; is_read(&rt, " \t\r\n<a >\n</a >\n"));
         assert!(rt; is_read(&rt, "<_.-9 a = '\"' b=\"'>\" />"));
         assert!(rt; is_read(&rt, "<a>x<b/>y<b>z</b></a>"));
+        assert!(rt;
+            is_read(
+                &rt,
+                "<?xml version='1.0'?>\n<!-- - -->\n<a>é<!--<b>--></a><!---->"
+            )
+        );
+        assert!(rt; is_read(&rt, "\u{feff}<?xml ??><a/>"));
     }
 
     #[test]
@@ -162,6 +172,10 @@ mod tests {
         assert!(rt; !is_read(&rt, "<a x='1'y='2'/>"));
         assert!(rt; !is_read(&rt, "<a x/>"));
         assert!(rt; !is_read(&rt, "<a x='<'/>"));
+        assert!(rt; !is_read(&rt, "<!--><a/>"));
+        assert!(rt; !is_read(&rt, "<?xml?><a/>"));
+        assert!(rt; !is_read(&rt, " <?xml ?><a/>"));
+        assert!(rt; !is_read(&rt, "<!DOCTYPE a><a/>"));
         assert!(rt; !is_read(&rt, "<a>&amp;</a>"));
     }
 }

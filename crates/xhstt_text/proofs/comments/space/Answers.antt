@@ -1,4 +1,4 @@
-use Rattle.std.proofs.Common.{◌∙◌, [], length, arith, ◌≤◌}
+use Rattle.std.proofs.Common.{◌∙◌, [], arith}
 use Rattle.xhstt_text.specs.Bytes.{is_white}
 use Rattle.xhstt_text.specs.Reading.{read_of}
 use Rattle.xhstt_text.proofs.Follow.{over_space, over_bang, passes_on, skip_place}

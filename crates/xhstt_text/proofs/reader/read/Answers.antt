@@ -1,4 +1,4 @@
-use Rattle.std.proofs.Common.{◌∙◌, refl}
+use Rattle.std.proofs.Common.{◌∙◌}
 use Rattle.xhstt_text.specs.Machine.{late, outcome_of}
 use Rattle.xhstt_text.proofs.Follow.{more_after, at_text_end, some_left, none_left, passes_on}
 use Rattle.xhstt_text.proofs.reader.read.Goals as goal
