@@ -8,10 +8,10 @@ use Rattle.xhstt_text.specs.declared.tree.Node.{Node}
 use Rattle.xhstt_text.specs.declared.tree.Span.{Span}
 use Rattle.xhstt_text.specs.Forest.{Info, Forest, empty, node}
 use Rattle.xhstt_text.specs.FlatTable.{FlatTable, IsFlatTable, IsWithin, IsNodeOf, IsAttributeOf, piece, attribute_info, info_of, node_at, no_node, forest, Stands}
-use Rattle.xhstt_text.specs.Document.{Attributes, none, attribute, Start, Content, nothing, byte, comment, short, long, Document, attributes_text, start_text, text, spelling, IsElement, IsDocument, span, start_length, count, attributes_of, attribute_rows, loose_in, row, rows, table, infos, has_element, forest_at, forest_of}
+use Rattle.xhstt_text.specs.Document.{Attributes, none, attribute, Start, Content, nothing, byte, comment, short, long, Document, attributes_text, start_text, text, mark_text, declaration_text, spelling, root_at, IsElement, IsDocument, span, start_length, count, attributes_of, attribute_rows, loose_in, row, rows, table, infos, has_element, forest_at, forest_of}
 use Rattle.xhstt_text.proofs.Bounds.{IsFlatTable-stands}
 use Rattle.xhstt_text.proofs.ForestOfTable.{forest-stands}
-use Rattle.xhstt_text.proofs.Parts.{Holds, Holds-first, Holds-rest, Holds-next, Holds-within, Holds-range, Holds-get, Holds-middle, Holds-whole}
+use Rattle.xhstt_text.proofs.Parts.{Holds, Holds-first, Holds-rest, Holds-next, Holds-within, Holds-range, Holds-get, Holds-whole}
 
 -- a span of what stands in a list lies within it
 held-span : {X : Type 0} (xs : List X) (at : ℕ) (ys : List X) (to : ℕ) → to ≡ at + length ys → Holds xs at ys → IsWithin (length xs) (span at to)
@@ -295,11 +295,18 @@ element-table (long s inner shut white (long r deeper end gap c)) t at one h nod
 pub document-table : (d : Document) (t : FlatTable) → IsDocument d → t.bytes ≡ spelling d → t.nodes ≡ (table d).nodes → t.attributes ≡ (table d).attributes → length t.bytes < 2 ^ 32
     → IsFlatTable t × (forest t 0 (length t.nodes) ≡ forest_of d)
 document-table d t form bytes nodes attributes few =
-    let at : ℕ = length (text d.before) in
-    element-table d.root t at form.1
+    let mark : List ℕ = mark_text d.mark in
+    let declaration : List ℕ = declaration_text d.declaration in
+    let before : List ℕ = text d.body.before in
+    let after : List ℕ = text d.body.after in
+    let root : List ℕ = text d.body.root in
+    let marked = Holds-rest t.bytes 0 mark (declaration ++ (before ++ (root ++ after))) (length mark) (sym (zero-add (length mark))) (Holds-whole t.bytes (spelling d) bytes) in
+    let body = Holds-rest t.bytes (length mark) declaration (before ++ (root ++ after)) (length mark + length declaration) refl marked in
+    let rooted = Holds-rest t.bytes (length mark + length declaration) before (root ++ after) (root_at d) refl body in
+    element-table d.body.root t (root_at d) form.1.1
     (record {
-      text_at = Holds-middle t.bytes (text d.before) (text d.root) (text d.after) bytes;
-      nodes_at = Holds-whole t.nodes (rows None 0 0 at d.root) nodes;
-      attributes_at = Holds-whole t.attributes (attribute_rows at d.root) attributes;
+      text_at = Holds-first t.bytes (root_at d) root after rooted;
+      nodes_at = Holds-whole t.nodes (rows None 0 0 (root_at d) d.body.root) nodes;
+      attributes_at = Holds-whole t.attributes (attribute_rows (root_at d) d.body.root) attributes;
     })
     nodes attributes few
