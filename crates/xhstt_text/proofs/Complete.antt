@@ -1,14 +1,14 @@
 -- The machine reads each document, and gives its rows.
-use Rattle.std.proofs.Common.{◌≡◌, ℕ, suc, ◌+◌, ◌<◌, Bool, true, false, cond, eqb, ltb, List, [], ◌∷◌, ◌++◌, length, set, Option, Some, None, Ok, refl, sym, ◌∙◌, ap, subst, arith, append-nil, append_assoc, length-append, add_assoc, add-zero}
+use Rattle.std.proofs.Common.{◌≡◌, ℕ, suc, ◌+◌, ◌<◌, Bool, true, false, cond, not, ◌&&◌, eqb, leb, ltb, List, [], ◌∷◌, ◌++◌, length, set, Option, Some, None, Ok, refl, sym, ◌∙◌, ap, subst, arith, append-nil, append_assoc, length-append, add_assoc, add-zero}
 use Rattle.std.proofs.Math.Seq.{set-append_seam}
 use Rattle.std.proofs.lemmas.Bool.Decides.{nat_tests}
 use Rattle.std.specs.Str.{bytes_eq}
 use Rattle.std.proofs.lemmas.Slice.Eq.{bytes_eq-Decides}
 use Rattle.xhstt_text.specs.declared.tree.Attribute.{Attribute}
 use Rattle.xhstt_text.specs.declared.tree.Node.{Node}
-use Rattle.xhstt_text.specs.Bytes.{is_white, is_first, is_name, is_quoted, is_quote, AllAre, IsWhite, IsGap, IsName}
-use Rattle.xhstt_text.specs.Document.{Attributes, none, attribute, Start, Content, nothing, byte, short, long, Document, attributes_text, start_text, text, spelling, has_name, AreAttributes, IsStart, IsContent, IsElement, IsDocument, span, start_length, count, attributes_of, attribute_rows, loose_in, row, rows, table}
-use Rattle.xhstt_text.specs.Machine.{Frame, Read, Tag, content, ended, opened, start_name, valued, in_tag, slash, shut_begin, shut, shut_gap, Step, state, first_loose, noted, resume, parent_of, open_element, add_node, opened_row, closed_row, close_element, attribute_row, with_name, start_of, step, step_content, step_opened, step_valued, and_then, run, Outcome, outcome_of}
+use Rattle.xhstt_text.specs.Bytes.{IsDeclared, declaration_start, question_after, stays_declared, IsComment, dashes, dashes_after, stays_open, is_white, is_first, is_name, is_quoted, is_quote, AllAre, IsWhite, IsGap, IsName}
+use Rattle.xhstt_text.specs.Document.{Body, Mark, unmarked, marked, Declaration, undeclared, declared, mark_text, declaration_text, body_text, IsBody, IsDeclaration, Attributes, none, attribute, Start, Content, nothing, byte, comment, short, long, Document, attributes_text, start_text, text, spelling, has_name, AreAttributes, IsStart, IsContent, IsElement, IsSpace, IsDocument, span, start_length, count, attributes_of, attribute_rows, loose_in, row, rows, table}
+use Rattle.xhstt_text.specs.Machine.{beginning, at_declaration, declared_open, question, in_declaration, closed, Frame, Read, Tag, content, ended, Place, early, late, phase_of, bang, bang_dash, in_comment, opened, start_name, valued, in_tag, slash, shut_begin, shut, shut_gap, Step, state, first_loose, noted, resume, parent_of, open_element, add_node, opened_row, closed_row, close_element, attribute_row, with_name, start_of, step, step_content, step_opened, step_valued, and_then, run, Outcome, outcome_of}
 use Rattle.xhstt_text.proofs.Runs.{by_step, run_loop, run_white, text_from_white, white_isnt_name, text_isnt_tag, first_not_name, run_gap, run_attribute_name, run_equals, run_quote, run_value, with_attribute}
 
 -- the names of these attributes, the last one first, and then those before them
@@ -276,6 +276,35 @@ long_length s inner name w c = simp length-append (omega arith)
 pub long_shape : (s : Start) (inner : Content) (name w : List ℕ) (c : Content) (rest : List ℕ) → text (long s inner name w c) ++ rest ≡ start_text s ++ (62 ∷ (text inner ++ (60 ∷ 47 ∷ (name ++ (w ++ (62 ∷ (text c ++ rest)))))))
 long_shape s inner name w c rest = simp append_assoc
 
+both : (x y : Bool) → (not x && y) ≡ true → (x ≡ false) × (y ≡ true)
+both true y h = cc
+both false y h = (refl, h)
+
+-- inside a comment
+run_inner : (back : Place) (r : Read) (inner : List ℕ) (count at : ℕ) (rest : List ℕ) → stays_open count inner ≡ true → run (in_comment back count) r at (inner ++ rest) ≡ run (in_comment back (dashes_after count inner)) r (at + length inner) rest
+run_inner back r [] count at rest h = ap (λ n. run (in_comment back count) r n rest) (sym (add-zero at))
+run_inner back r (b ∷ inner) count at rest h =
+    let k = both (leb 2 count && eqb b 62) (stays_open (dashes count b) inner) h in
+    by_step (in_comment back count) r at b (inner ++ rest) (in_comment back (dashes count b)) r (rw k.0 refl)
+    ∙ run_inner back r inner (dashes count b) (at + 1) rest k.1
+    ∙ ap (λ n. run (in_comment back (dashes_after count (b ∷ inner))) r n rest) (omega arith)
+
+pub run_comment : (back : Place) (r : Read) (inner : List ℕ) (at : ℕ) (rest : List ℕ) → IsComment inner → run (bang back) r at (45 ∷ 45 ∷ (inner ++ (62 ∷ rest))) ≡ run (phase_of back) r (at + 2 + length inner + 1) rest
+run_comment back r inner at rest h =
+    let count : ℕ = dashes_after 0 inner in
+    let closes : leb 2 count ≡ true = grind (arith, nat_tests, h.1) in
+    by_step (bang back) r at 45 (45 ∷ (inner ++ (62 ∷ rest))) (bang_dash back) r refl
+    ∙ by_step (bang_dash back) r (at + 1) 45 (inner ++ (62 ∷ rest)) (in_comment back 0) r refl
+    ∙ run_inner back r inner 0 (at + 1 + 1) (62 ∷ rest) h.0
+    ∙ by_step (in_comment back count) r (at + 1 + 1 + length inner) 62 rest (phase_of back) r (rw closes refl)
+    ∙ ap (λ n. run (phase_of back) r n rest) (omega arith)
+
+comment_shape : (inner : List ℕ) (c : Content) (rest : List ℕ) → text (comment inner c) ++ rest ≡ 60 ∷ 33 ∷ 45 ∷ 45 ∷ (inner ++ (62 ∷ (text c ++ rest)))
+comment_shape inner c rest = ap (λ x. 60 ∷ 33 ∷ 45 ∷ 45 ∷ x) (append_assoc inner (62 ∷ text c) rest)
+
+comment_length : (inner : List ℕ) (c : Content) → length (text (comment inner c)) ≡ 4 + length inner + 1 + length (text c)
+comment_length inner c = simp length-append (omega arith)
+
 run_content : (c : Content) → RunsOver c
 run_content nothing f fs nodes attributes at number first rest e1 e2 h =
     ap (λ (o : Option ℕ). run content (read_of (record f { node = record f.node { loose = o } } ∷ fs) nodes attributes) at rest) (sym (no_more_loose f.node.loose))
@@ -287,6 +316,14 @@ run_content (byte b c) f fs nodes attributes at number first rest e1 e2 h =
     ∙ run_content c (noted f at b) fs nodes attributes (at + 1) number first rest e1 e2 h.1
     ∙ ap (λ (o : Option ℕ). run content (read_of (record f { node = record f.node { loose = o } } ∷ fs) (nodes ++ rows (Some f.number) number first (at + 1) c) (attributes ++ attribute_rows (at + 1) c)) (at + 1 + length (text c)) rest) (more_loose f.node.loose at b (loose_in (at + 1) c))
     ∙ ap (λ n. run content (read_of (with_loose f (loose_in at (byte b c)) ∷ fs) (nodes ++ rows (Some f.number) number first (at + 1) c) (attributes ++ attribute_rows (at + 1) c)) n rest) (omega arith)
+run_content (comment inner c) f fs nodes attributes at number first rest e1 e2 h =
+    let r : Read = read_of (f ∷ fs) nodes attributes in
+    let to : ℕ = at + 4 + length inner + 1 in
+    ap (run content r at) (comment_shape inner c rest)
+    ∙ run_comment early r inner (at + 1 + 1) (text c ++ rest) h.0
+    ∙ ap (λ n. run content r n (text c ++ rest)) (let e : at + 1 + 1 + 2 + length inner + 1 ≡ to = omega arith in e)
+    ∙ run_content c f fs nodes attributes to number first rest e1 e2 h.1
+    ∙ ap (λ n. run content (read_of (with_loose f (loose_in to c) ∷ fs) (nodes ++ rows (Some f.number) number first to c) (attributes ++ attribute_rows to c)) n rest) (omega (arith, comment_length inner c))
 run_content (short s c) f fs nodes attributes at number first rest e1 e2 h =
     let r : Read = read_of (f ∷ fs) nodes attributes in
     let to : ℕ = at + start_length s + 2 in
@@ -324,17 +361,36 @@ run_content (long s inner name w c) f fs nodes attributes at number first rest e
 pub white_isnt_tag : (b : ℕ) → is_white b ≡ true → eqb b 60 ≡ false
 white_isnt_tag b h = text_isnt_tag b (text_from_white b h)
 
-run_after : (nodes : List Node) (attributes : List Attribute) (w : List ℕ) (at : ℕ) → IsWhite w → run ended (read_of [] nodes attributes) at w ≡ Ok (record { nodes = nodes; attributes = attributes })
-run_after nodes attributes w at h =
-    ap (run ended (read_of [] nodes attributes) at) (sym (append-nil w))
-    ∙ run_white ended (read_of [] nodes attributes) (λ at b q. rw q refl) w at [] h
+-- white and comments
+run_space : (place : Place) (r : Read) → let p = phase_of place in ((at b : ℕ) → is_white b ≡ true → step p r at b ≡ state p r) → ((at : ℕ) (rest : List ℕ) → run p r at (60 ∷ 33 ∷ rest) ≡ run (bang place) r (at + 1 + 1) rest) → (m : Content) (at : ℕ) (rest : List ℕ) → IsSpace m → run p r at (text m ++ rest) ≡ run p r (at + length (text m)) rest
+run_space place r white begin nothing at rest h = ap (λ n. run (phase_of place) r n rest) (sym (add-zero at))
+run_space place r white begin (byte b m) at rest h =
+    by_step (phase_of place) r at b (text m ++ rest) (phase_of place) r (white at b h.0)
+    ∙ run_space place r white begin m (at + 1) rest h.1
+    ∙ ap (λ n. run (phase_of place) r n rest) (omega arith)
+run_space place r white begin (comment inner m) at rest h =
+    ap (run (phase_of place) r at) (comment_shape inner m rest)
+    ∙ begin at (45 ∷ 45 ∷ (inner ++ (62 ∷ (text m ++ rest))))
+    ∙ run_comment place r inner (at + 1 + 1) (text m ++ rest) h.0
+    ∙ run_space place r white begin m (at + 1 + 1 + 2 + length inner + 1) rest h.1
+    ∙ ap (λ n. run (phase_of place) r n rest) (omega (arith, comment_length inner m))
+run_space place r white begin (short s m) at rest h = absurd h
+run_space place r white begin (long s inner name w m) at rest h = absurd h
+
+run_after : (nodes : List Node) (attributes : List Attribute) (m : Content) (at : ℕ) → IsSpace m → run ended (read_of [] nodes attributes) at (text m) ≡ Ok (record { nodes = nodes; attributes = attributes })
+run_after nodes attributes m at h =
+    ap (run ended (read_of [] nodes attributes) at) (sym (append-nil (text m)))
+    ∙ run_space late (read_of [] nodes attributes) (λ at b q. rw q refl) (λ at rest. refl) m at [] h
 
 abbrev outcome : List Node → List Attribute → Outcome
 outcome nodes attributes = Ok (record { nodes = nodes; attributes = attributes })
 
-run_root : (c : Content) (at : ℕ) (w : List ℕ) → IsElement c → IsContent 0 c → IsWhite w → run content (read_of [] [] []) at (text c ++ w) ≡ outcome (rows None 0 0 at c) (attribute_rows at c)
+run_root : (c : Content) (at : ℕ) (m : Content) → IsElement c → IsContent 0 c → IsSpace m → run content (read_of [] [] []) at (text c ++ text m) ≡ outcome (rows None 0 0 at c) (attribute_rows at c)
 run_root nothing at w h k hw = absurd h
 run_root (byte b c) at w h k hw = absurd h
+run_root (comment inner c) at w h k hw = absurd h
+run_root (short s (comment inner c)) at w h k hw = absurd h
+run_root (long s inner name v (comment inner2 c)) at w h k hw = absurd h
 run_root (short s (byte b c)) at w h k hw = absurd h
 run_root (short s (short s2 c)) at w h k hw = absurd h
 run_root (short s (long s2 inner name w2 c)) at w h k hw = absurd h
@@ -343,8 +399,8 @@ run_root (long s inner name v (short s2 c)) at w h k hw = absurd h
 run_root (long s inner name v (long s2 inner2 name2 w2 c)) at w h k hw = absurd h
 run_root (short s nothing) at w h k hw =
     let r : Read = read_of [] [] [] in
-    ap (run content r at) (append_assoc (start_text s) (47 ∷ 62 ∷ []) w)
-    ∙ run_short s r at 0 0 w refl refl k.0 k.1
+    ap (run content r at) (append_assoc (start_text s) (47 ∷ 62 ∷ []) (text w))
+    ∙ run_short s r at 0 0 (text w) refl refl k.0 k.1
     ∙ run_after (after_short s r at 0 0).nodes (after_short s r at 0 0).attributes w (at + start_length s + 2) hw
     ∙ ap (outcome (rows None 0 0 at (short s nothing))) (sym (append-nil (attributes_of (at + 1 + length s.name) s.attributes)))
 run_root (long s inner name v nothing) at w h k hw =
@@ -353,13 +409,103 @@ run_root (long s inner name v nothing) at w h k hw =
     let ends : ℕ = at + start_length s + 1 + length (text inner) + 2 + length name + length v + 1 in
     let from : ℕ = at + start_length s + 1 in
     let inside : List Node = rows (Some 0) 1 (count s.attributes) from inner in
-    ap (run content r at) (long_shape s inner name v nothing w)
-    ∙ run_long s inner name v r at 0 0 w (run_content inner) refl refl k.0 k.1 k.2 k.3 k.4
+    ap (run content r at) (long_shape s inner name v nothing (text w))
+    ∙ run_long s inner name v r at 0 0 (text w) (run_content inner) refl refl k.0 k.1 k.2 k.3 k.4
     ∙ run_after x.nodes x.attributes w ends hw
     ∙ cc (append-nil (rows (Some 0) (0 + 1) (0 + count s.attributes) from inner), append-nil (attribute_rows from inner))
 
+-- the outermost element and what stands around it
+run_body : (y : Body) (at : ℕ) → IsBody y → run content (read_of [] [] []) at (body_text y) ≡ outcome (rows None 0 0 (at + length (text y.before)) y.root) (attribute_rows (at + length (text y.before)) y.root)
+run_body y at h =
+    run_space early (read_of [] [] []) (λ at b q. rw (white_isnt_tag b q, q) refl) (λ at rest. refl) y.before at (text y.root ++ text y.after) h.0
+    ∙ run_root y.root (at + length (text y.before)) y.after h.1 h.2 h.3
+
+first_isnt : (b : ℕ) → is_first b ≡ true → eqb b 63 ≡ false
+first_isnt b h = grind (arith, nat_tests)
+
+white_isnt_mark : (b : ℕ) → is_white b ≡ true → eqb b 239 ≡ false
+white_isnt_mark b h = grind (arith, nat_tests)
+
+named_head : (name rest whole : List ℕ) → IsName name → whole ≡ 60 ∷ (name ++ rest) → (b : ℕ) × (more : List ℕ) × (is_first b ≡ true) × (whole ≡ 60 ∷ b ∷ more)
+named_head [] rest whole h e = absurd h
+named_head (b ∷ name) rest whole h e = (b, name ++ rest, h.0, e)
+
+start_head : (s : Start) (rest : List ℕ) → IsStart s → (b : ℕ) × (more : List ℕ) × (is_first b ≡ true) × (start_text s ++ rest ≡ 60 ∷ b ∷ more)
+start_head s rest h = named_head s.name (attributes_text s.attributes ++ (s.white ++ rest)) (start_text s ++ rest) h.0 (start_shape s rest)
+
+-- an element begins with `<` and the first byte of a name
+element_head : (c : Content) (rest : List ℕ) → IsElement c → IsContent 0 c → (b : ℕ) × (more : List ℕ) × (is_first b ≡ true) × (text c ++ rest ≡ 60 ∷ b ∷ more)
+element_head nothing rest h k = absurd h
+element_head (byte b c) rest h k = absurd h
+element_head (comment inner c) rest h k = absurd h
+element_head (short s c) rest h k =
+    let n = start_head s (47 ∷ 62 ∷ (text c ++ rest)) k.1 in
+    (n.0, n.1, n.2, append_assoc (start_text s) (47 ∷ 62 ∷ text c) rest ∙ n.3)
+element_head (long s inner name w c) rest h k =
+    let n = start_head s (62 ∷ (text inner ++ (60 ∷ 47 ∷ (name ++ (w ++ (62 ∷ (text c ++ rest))))))) k.1 in
+    (n.0, n.1, n.2, long_shape s inner name w c rest ∙ n.3)
+
+declared_element : (r : Read) (at b : ℕ) (more : List ℕ) → r.frames ≡ [] → is_first b ≡ true → run at_declaration (closed r) at (60 ∷ b ∷ more) ≡ run content (closed r) at (60 ∷ b ∷ more)
+declared_element r at b more e h =
+    ap (λ (x : Step). and_then x (λ s. run s.phase s.read (at + 1 + 1) more)) (let e1 : step (declared_open at) (closed r) (at + 1) b ≡ step (opened at) (closed r) (at + 1) b = rw (first_isnt b h) refl in e1)
+
+-- no declaration and no mark
+plain_at : (before root : Content) (rest : List ℕ) (at : ℕ) → IsSpace before → IsElement root → IsContent 0 root →
+    let bs = text before ++ (text root ++ rest) in
+    (run beginning (read_of [] [] []) at bs ≡ run at_declaration (read_of [] [] []) at bs) × (run at_declaration (read_of [] [] []) at bs ≡ run content (read_of [] [] []) at bs)
+plain_at nothing root rest at h k l =
+    let e = element_head root rest k l in (
+      ap (run beginning (read_of [] [] []) at) e.3 ∙ sym (ap (run at_declaration (read_of [] [] []) at) e.3),
+      ap (run at_declaration (read_of [] [] []) at) e.3 ∙ declared_element (read_of [] [] []) at e.0 e.1 refl e.2 ∙ sym (ap (run content (read_of [] [] []) at) e.3),
+    )
+plain_at (byte b before) root rest at h k l =
+    let bs : List ℕ = text before ++ (text root ++ rest) in
+    let r : Read = read_of [] [] [] in
+    let go : Step → Outcome = λ x. and_then x (λ s. run s.phase s.read (at + 1) bs) in (
+      ap go (let e : step beginning r at b ≡ step at_declaration r at b = rw (white_isnt_mark b h.0) refl in e),
+      ap go (let e : step at_declaration r at b ≡ step content r at b = rw (white_isnt_tag b h.0, h.0) refl in e),
+    )
+plain_at (comment inner before) root rest at h k l = (refl, refl)
+plain_at (short s c) root rest at h k l = absurd h
+plain_at (long s inner name w c) root rest at h k l = absurd h
+
+-- inside a declaration
+run_declared : (r : Read) (inner : List ℕ) (seen : Bool) (at : ℕ) (rest : List ℕ) → stays_declared seen inner ≡ true → run (in_declaration seen) r at (inner ++ rest) ≡ run (in_declaration (question_after seen inner)) r (at + length inner) rest
+run_declared r [] seen at rest h = ap (λ n. run (in_declaration seen) r n rest) (sym (add-zero at))
+run_declared r (b ∷ inner) seen at rest h =
+    let k = both (seen && eqb b 62) (stays_declared (eqb b 63) inner) h in
+    by_step (in_declaration seen) r at b (inner ++ rest) (in_declaration (eqb b 63)) r (rw k.0 refl)
+    ∙ run_declared r inner (eqb b 63) (at + 1) rest k.1
+    ∙ ap (λ n. run (in_declaration (question_after seen (b ∷ inner))) r n rest) (omega arith)
+
+run_declaration : (w : ℕ) (inner : List ℕ) (at : ℕ) (rest : List ℕ) → is_white w ≡ true → IsDeclared inner → run at_declaration (read_of [] [] []) at (declaration_start ++ (w ∷ (inner ++ (62 ∷ rest)))) ≡ run content (read_of [] [] []) (at + 6 + length inner + 1) rest
+run_declaration w inner at rest h k =
+    let r : Read = read_of [] [] [] in
+    by_step (question []) r (at + 1 + 1 + 1 + 1 + 1) w (inner ++ (62 ∷ rest)) (in_declaration false) r (rw h refl)
+    ∙ run_declared r inner false (at + 1 + 1 + 1 + 1 + 1 + 1) (62 ∷ rest) k.0
+    ∙ by_step (in_declaration (question_after false inner)) r (at + 1 + 1 + 1 + 1 + 1 + 1 + length inner) 62 rest content r (rw k.1 refl)
+    ∙ ap (λ n. run content r n rest) (omega arith)
+
+pub declaration_shape : (w : ℕ) (inner rest : List ℕ) → declaration_text (declared w inner) ++ rest ≡ declaration_start ++ (w ∷ (inner ++ (62 ∷ rest)))
+declaration_shape w inner rest = ap (λ x. declaration_start ++ (w ∷ x)) (append_assoc inner (62 ∷ []) rest)
+
+declaration_length : (w : ℕ) (inner : List ℕ) → length (declaration_text (declared w inner)) ≡ 6 + length inner + 1
+declaration_length w inner = simp length-append (omega arith)
+
+run_declared_body : (x : Declaration) (y : Body) (at : ℕ) → IsDeclaration x → IsBody y → run at_declaration (read_of [] [] []) at (declaration_text x ++ body_text y) ≡ run content (read_of [] [] []) (at + length (declaration_text x)) (body_text y)
+run_declared_body undeclared y at h k = (plain_at y.before y.root (text y.after) at k.0 k.1 k.2).1 ∙ ap (λ n. run content (read_of [] [] []) n (body_text y)) (sym (add-zero at))
+run_declared_body (declared w inner) y at h k =
+    ap (run at_declaration (read_of [] [] []) at) (declaration_shape w inner (body_text y))
+    ∙ run_declaration w inner at (body_text y) h.0 h.1
+    ∙ ap (λ n. run content (read_of [] [] []) n (body_text y)) (omega (arith, declaration_length w inner))
+
+run_mark : (m : Mark) (x : Declaration) (y : Body) → IsBody y → run beginning (read_of [] [] []) 0 (mark_text m ++ (declaration_text x ++ body_text y)) ≡ run at_declaration (read_of [] [] []) (length (mark_text m)) (declaration_text x ++ body_text y)
+run_mark marked x y h = refl
+run_mark unmarked undeclared y h = (plain_at y.before y.root (text y.after) 0 h.0 h.1 h.2).0
+run_mark unmarked (declared w inner) y h = refl
+
 pub run_document : (d : Document) → IsDocument d → outcome_of (spelling d) ≡ Ok (table d)
 run_document d h =
-    run_white content (read_of [] [] []) (λ at b q. rw (white_isnt_tag b q, q) refl) d.before 0 (text d.root ++ d.after) h.0
-    ∙ ap (λ n. run content (read_of [] [] []) n (text d.root ++ d.after)) (let e : 0 + length d.before ≡ length d.before = omega arith in e)
-    ∙ run_root d.root (length d.before) d.after h.1 h.2 h.3
+    run_mark d.mark d.declaration d.body h.1
+    ∙ run_declared_body d.declaration d.body (length (mark_text d.mark)) h.0 h.1
+    ∙ run_body d.body (length (mark_text d.mark) + length (declaration_text d.declaration)) h.1

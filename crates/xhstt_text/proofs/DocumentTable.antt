@@ -8,10 +8,10 @@ use Rattle.xhstt_text.specs.declared.tree.Node.{Node}
 use Rattle.xhstt_text.specs.declared.tree.Span.{Span}
 use Rattle.xhstt_text.specs.Forest.{Info, Forest, empty, node}
 use Rattle.xhstt_text.specs.FlatTable.{FlatTable, IsFlatTable, IsWithin, IsNodeOf, IsAttributeOf, piece, attribute_info, info_of, node_at, no_node, forest, Stands}
-use Rattle.xhstt_text.specs.Document.{Attributes, none, attribute, Start, Content, nothing, byte, short, long, Document, attributes_text, start_text, text, spelling, IsElement, IsDocument, span, start_length, count, attributes_of, attribute_rows, loose_in, row, rows, table, infos, has_element, forest_at, forest_of}
+use Rattle.xhstt_text.specs.Document.{Attributes, none, attribute, Start, Content, nothing, byte, comment, short, long, Document, attributes_text, start_text, text, mark_text, declaration_text, spelling, root_at, IsElement, IsDocument, span, start_length, count, attributes_of, attribute_rows, loose_in, row, rows, table, infos, has_element, forest_at, forest_of}
 use Rattle.xhstt_text.proofs.Bounds.{IsFlatTable-stands}
 use Rattle.xhstt_text.proofs.ForestOfTable.{forest-stands}
-use Rattle.xhstt_text.proofs.Parts.{Holds, Holds-first, Holds-rest, Holds-next, Holds-within, Holds-range, Holds-get, Holds-middle, Holds-whole}
+use Rattle.xhstt_text.proofs.Parts.{Holds, Holds-first, Holds-rest, Holds-next, Holds-within, Holds-range, Holds-get, Holds-whole}
 
 -- a span of what stands in a list lies within it
 held-span : {X : Type 0} (xs : List X) (at : ℕ) (ys : List X) (to : ℕ) → to ≡ at + length ys → Holds xs at ys → IsWithin (length xs) (span at to)
@@ -109,6 +109,13 @@ after-byte : (t : FlatTable) (parent : Option ℕ) (number first at b : ℕ) (c 
 after-byte t parent number first at b c h =
     record { text_at = Holds-next t.bytes at b (text c) h.text_at; nodes_at = h.nodes_at; attributes_at = h.attributes_at }
 
+-- content after a comment
+after-comment : (t : FlatTable) (parent : Option ℕ) (number first at : ℕ) (inner : List ℕ) (c : Content) → StandsAt t parent number first at (comment inner c) → StandsAt t parent number first (at + 4 + length inner + 1) c
+after-comment t parent number first at inner c h =
+    let opened = Holds-rest t.bytes at (60 ∷ 33 ∷ 45 ∷ 45 ∷ []) (inner ++ (62 ∷ text c)) (at + 4) refl h.text_at in
+    let closing = Holds-rest t.bytes (at + 4) inner (62 ∷ text c) (at + 4 + length inner) refl opened in
+    record { text_at = Holds-next t.bytes (at + 4 + length inner) 62 (text c) closing; nodes_at = h.nodes_at; attributes_at = h.attributes_at }
+
 -- an element without content: its start tag, and what follows it
 record ShortAt (t : FlatTable) (parent : Option ℕ) (number first at : ℕ) (s : Start) (c : Content) : Type 0 where
   start_at : Holds t.bytes at (start_text s)
@@ -175,6 +182,7 @@ long-at t parent number first at s inner shut white c h =
 filled : (k : ℕ) (parent : Option ℕ) (number first at : ℕ) (c : Content) → nat_lt k (k + length (rows parent number first at c)) ≡ has_element c
 filled k parent number first at nothing = le-ltb k (k + 0) (omega arith)
 filled k parent number first at (byte b c) = filled k parent number first (at + 1) c
+filled k parent number first at (comment inner c) = filled k parent number first (at + 4 + length inner + 1) c
 filled k parent number first at (short s c) = lt-ltb k _ (omega arith)
 filled k parent number first at (long s inner shut white c) = lt-ltb k _ (omega arith)
 
@@ -189,6 +197,8 @@ content-stands : (c : Content) (t : FlatTable) (parent : Option ℕ) (number fir
     → Stands t number (forest_at at c) (number + length (rows parent number first at c))
 content-stands nothing t parent number first at h = omega arith
 content-stands (byte b c) t parent number first at h = content-stands c t parent number first (at + 1) (after-byte t parent number first at b c h)
+content-stands (comment inner c) t parent number first at h =
+    content-stands c t parent number first (at + 4 + length inner + 1) (after-comment t parent number first at inner c h)
 content-stands (short s c) t parent number first at h =
     let p = short-at t parent number first at s c h in
     let after : ℕ = at + start_length s + 2 in
@@ -225,6 +235,8 @@ content-stands (long s inner shut white c) t parent number first at h =
 content-nodes : (c : Content) (t : FlatTable) (parent : Option ℕ) (number first at : ℕ) → StandsAt t parent number first at c → All (IsNodeOf t) (rows parent number first at c)
 content-nodes nothing t parent number first at h = All-nil (IsNodeOf t)
 content-nodes (byte b c) t parent number first at h = content-nodes c t parent number first (at + 1) (after-byte t parent number first at b c h)
+content-nodes (comment inner c) t parent number first at h =
+    content-nodes c t parent number first (at + 4 + length inner + 1) (after-comment t parent number first at inner c h)
 content-nodes (short s c) t parent number first at h =
     let p = short-at t parent number first at s c h in
     let after : ℕ = at + start_length s + 2 in
@@ -242,6 +254,8 @@ content-nodes (long s inner shut white c) t parent number first at h =
 content-attributes : (c : Content) (t : FlatTable) (parent : Option ℕ) (number first at : ℕ) → StandsAt t parent number first at c → All (IsAttributeOf t.bytes) (attribute_rows at c)
 content-attributes nothing t parent number first at h = All-nil (IsAttributeOf t.bytes)
 content-attributes (byte b c) t parent number first at h = content-attributes c t parent number first (at + 1) (after-byte t parent number first at b c h)
+content-attributes (comment inner c) t parent number first at h =
+    content-attributes c t parent number first (at + 4 + length inner + 1) (after-comment t parent number first at inner c h)
 content-attributes (short s c) t parent number first at h =
     let p = short-at t parent number first at s c h in
     All-append (IsAttributeOf t.bytes) _ _ (attributes-within s.attributes t.bytes (at + 1 + length s.name) (start-attributes t.bytes at s p.start_at)) (content-attributes c t parent _ _ _ p.others)
@@ -255,6 +269,7 @@ element-table : (c : Content) (t : FlatTable) (at : ℕ) → IsElement c → Sta
     → IsFlatTable t × (forest t 0 (length t.nodes) ≡ forest_at at c)
 element-table nothing t at one h nodes attributes few = absurd one
 element-table (byte b c) t at one h nodes attributes few = absurd one
+element-table (comment inner c) t at one h nodes attributes few = absurd one
 element-table (short s nothing) t at one h nodes attributes few =
     let c : Content = short s nothing in
     let stands : Stands t 0 (forest_at at c) (length t.nodes) = subst (λ b. Stands t 0 (forest_at at c) b) (zero-add (length (rows None 0 0 at c)) ∙ ap length (sym nodes)) (content-stands c t None 0 0 at h) in (
@@ -262,6 +277,7 @@ element-table (short s nothing) t at one h nodes attributes few =
       forest-stands t 0 (forest_at at c) (length t.nodes) stands,
     )
 element-table (short s (byte b c)) t at one h nodes attributes few = absurd one
+element-table (short s (comment inner c)) t at one h nodes attributes few = absurd one
 element-table (short s (short r c)) t at one h nodes attributes few = absurd one
 element-table (short s (long r inner shut white c)) t at one h nodes attributes few = absurd one
 element-table (long s inner shut white nothing) t at one h nodes attributes few =
@@ -271,6 +287,7 @@ element-table (long s inner shut white nothing) t at one h nodes attributes few 
       forest-stands t 0 (forest_at at c) (length t.nodes) stands,
     )
 element-table (long s inner shut white (byte b c)) t at one h nodes attributes few = absurd one
+element-table (long s inner shut white (comment note c)) t at one h nodes attributes few = absurd one
 element-table (long s inner shut white (short r c)) t at one h nodes attributes few = absurd one
 element-table (long s inner shut white (long r deeper end gap c)) t at one h nodes attributes few = absurd one
 
@@ -278,11 +295,18 @@ element-table (long s inner shut white (long r deeper end gap c)) t at one h nod
 pub document-table : (d : Document) (t : FlatTable) → IsDocument d → t.bytes ≡ spelling d → t.nodes ≡ (table d).nodes → t.attributes ≡ (table d).attributes → length t.bytes < 2 ^ 32
     → IsFlatTable t × (forest t 0 (length t.nodes) ≡ forest_of d)
 document-table d t form bytes nodes attributes few =
-    let at : ℕ = length d.before in
-    element-table d.root t at form.1
+    let mark : List ℕ = mark_text d.mark in
+    let declaration : List ℕ = declaration_text d.declaration in
+    let before : List ℕ = text d.body.before in
+    let after : List ℕ = text d.body.after in
+    let root : List ℕ = text d.body.root in
+    let marked = Holds-rest t.bytes 0 mark (declaration ++ (before ++ (root ++ after))) (length mark) (sym (zero-add (length mark))) (Holds-whole t.bytes (spelling d) bytes) in
+    let body = Holds-rest t.bytes (length mark) declaration (before ++ (root ++ after)) (length mark + length declaration) refl marked in
+    let rooted = Holds-rest t.bytes (length mark + length declaration) before (root ++ after) (root_at d) refl body in
+    element-table d.body.root t (root_at d) form.1.1
     (record {
-      text_at = Holds-middle t.bytes d.before (text d.root) d.after bytes;
-      nodes_at = Holds-whole t.nodes (rows None 0 0 at d.root) nodes;
-      attributes_at = Holds-whole t.attributes (attribute_rows at d.root) attributes;
+      text_at = Holds-first t.bytes (root_at d) root after rooted;
+      nodes_at = Holds-whole t.nodes (rows None 0 0 (root_at d) d.body.root) nodes;
+      attributes_at = Holds-whole t.attributes (attribute_rows (root_at d) d.body.root) attributes;
     })
     nodes attributes few

@@ -1,5 +1,5 @@
 -- Each step of the reader as the machine takes it.
-use Rattle.std.proofs.Common.{◌≡◌, ℕ, ◌+◌, ◌<◌, ◌≤◌, Bool, true, false, cond, not, eqb, List, [], ◌∷◌, ◌++◌, length, map, Option, Some, None, Result, Ok, Err, refl, sym, ◌∙◌, ap, subst, arith, length-append, add-zero}
+use Rattle.std.proofs.Common.{◌≡◌, ℕ, ◌+◌, ◌<◌, ◌≤◌, Bool, true, false, cond, not, ◌&&◌, leb, eqb, get_or, drop, List, [], ◌∷◌, ◌++◌, length, map, Option, Some, None, Result, Ok, Err, refl, sym, ◌∙◌, ap, subst, arith, length-append, add-zero}
 use Rattle.std.proofs.lemmas.Bool.Decides.{nat_tests}
 use Rattle.std.specs.Str.{bytes_eq}
 use Rattle.xhstt_text.specs.declared.faults.TextFault.TheVariants.{NotBuilt, NoMemory}
@@ -12,10 +12,10 @@ use Rattle.xhstt_text.proofs.Complete.{run_shut_name, begins_name, white_isnt_ta
 use Rattle.xhstt_text.specs.declared.tree.Attribute.{Attribute}
 use Rattle.xhstt_text.specs.declared.tree.Node.{Node}
 use Rattle.xhstt_text.specs.declared.tree.Span.{Span}
-use Rattle.xhstt_text.specs.Bytes.{is_white, is_first, is_name, is_text, is_quoted, is_quote, AllAre, IsGap, IsName}
+use Rattle.xhstt_text.specs.Bytes.{dashes, is_white, is_first, is_name, is_text, is_quoted, is_quote, AllAre, IsGap, IsName}
 use Rattle.xhstt_text.specs.Document.{has_name, span}
-use Rattle.xhstt_text.specs.Machine.{Frame, Read, Tag, Phase, content, ended, opened, start_name, valued, in_tag, slash, attribute_name, named, equals, in_value, shut_begin, shut, shut_gap, Step, refused, state, first_loose, noted, resume, open_element, close_element, attribute_row, with_name, start_of, step, and_then, run, Outcome}
-use Rattle.xhstt_text.specs.Reading.{Leads, Skips, TakesName, begins, is_byte, read_of, bare, with_loose_text, frames_of, frame_of}
+use Rattle.xhstt_text.specs.Machine.{Frame, Read, Tag, Phase, Place, early, late, phase_of, bang, bang_dash, in_comment, ended_open, content, ended, opened, start_name, valued, in_tag, slash, attribute_name, named, equals, in_value, shut_begin, shut, shut_gap, Step, refused, state, first_loose, noted, resume, open_element, close_element, attribute_row, with_name, start_of, step, and_then, run, Outcome}
+use Rattle.xhstt_text.specs.Reading.{begins_comment, NoOtherTag, Leads, Skips, TakesName, begins, is_byte, read_of, bare, with_loose_text, frames_of, frame_of}
 use Rattle.xhstt_text.proofs.Runs.{by_step, run_loop, run_gap, run_attribute_name, text_from_white, text_isnt_tag, quote_isnt_white, quote_isnt_quoted, same_number}
 
 -- over bytes at which the machine stays where it is
@@ -362,47 +362,112 @@ over_open f fs nodes rows at bs at1 bs1 h = one content (read_of (f ∷ fs) node
 pub over_slash : (f : Frame) (fs : List Frame) (nodes : List Node) (rows : List Attribute) (place at : ℕ) (bs : List ℕ) (at1 : ℕ) (bs1 : List ℕ) → (bs ≡ 47 ∷ bs1) × (at1 ≡ at + 1) → run (opened place) (read_of (f ∷ fs) nodes rows) at bs ≡ run (shut_begin place) (read_of (f ∷ fs) nodes rows) at1 bs1
 over_slash f fs nodes rows place at bs at1 bs1 h = one (opened place) (read_of (f ∷ fs) nodes rows) at bs 47 at1 bs1 (shut_begin place) (read_of (f ∷ fs) nodes rows) h.0 h.1 refl
 
-over_before : (at : ℕ) (bs : List ℕ) (at1 : ℕ) (bs1 : List ℕ) → Skips is_white at bs at1 bs1 → run content (read_of [] [] []) at bs ≡ run content (read_of [] [] []) at1 bs1
-over_before at bs at1 bs1 h = over is_white content (read_of [] [] []) (λ i b q. rw (white_isnt_tag b q, q) refl) at bs at1 bs1 h
-
 no_root_at : (at : ℕ) (bs : List ℕ) → begins is_white bs ≡ false → begins (is_byte 60) bs ≡ false → run content (read_of [] [] []) at bs ≡ Err NotBuilt
 no_root_at at [] e d = refl
 no_root_at at (b ∷ bs) e d = refuses content (read_of [] [] []) at b bs (rw (e, d) refl)
 
-pub no_root : (at : ℕ) (bs : List ℕ) (at1 : ℕ) (bs1 : List ℕ) → Skips is_white at bs at1 bs1 → begins (is_byte 60) bs1 ≡ false → run content (read_of [] [] []) at bs ≡ Err NotBuilt
-no_root at bs at1 bs1 h e = over_before at bs at1 bs1 h ∙ no_root_at at1 bs1 h.4 e
+pub no_root : (whole : Outcome) (at : ℕ) (bs : List ℕ) → whole ≡ run content (read_of [] [] []) at bs → begins is_white bs ≡ false → begins (is_byte 60) bs ≡ false → whole ≡ Err NotBuilt
+no_root whole at bs same e d = same ∙ no_root_at at bs e d
 
-pub over_root : (stack : List OpenElement) (nodes : List Node) (rows : List Attribute) (at : ℕ) (bs : List ℕ) (at1 : ℕ) (bs1 : List ℕ) (at2 : ℕ) (bs2 : List ℕ) → stack ≡ [] → nodes ≡ [] → rows ≡ [] → Skips is_white at bs at1 bs1 → (bs1 ≡ 60 ∷ bs2) × (at2 ≡ at1 + 1) → run content (read_of [] [] []) at bs ≡ run (opened at1) (read_of (frames_of stack) nodes rows) at2 bs2
-over_root stack nodes rows at bs at1 bs1 at2 bs2 e d k h m =
-    over_before at bs at1 bs1 h
+pub over_root : (stack : List OpenElement) (nodes : List Node) (rows : List Attribute) (whole : Outcome) (at1 : ℕ) (bs1 : List ℕ) (at2 : ℕ) (bs2 : List ℕ) → stack ≡ [] → nodes ≡ [] → rows ≡ [] → whole ≡ run content (read_of [] [] []) at1 bs1 → (bs1 ≡ 60 ∷ bs2) × (at2 ≡ at1 + 1) → whole ≡ run (opened at1) (read_of (frames_of stack) nodes rows) at2 bs2
+over_root stack nodes rows whole at1 bs1 at2 bs2 e d k same m =
+    same
     ∙ one content (read_of [] [] []) at1 bs1 60 at2 bs2 (opened at1) (read_of [] [] []) m.0 m.1 refl
     ∙ ap (λ (x : List OpenElement). run (opened at1) (read_of (frames_of x) [] []) at2 bs2) (sym e)
     ∙ ap (λ (x : List Node). run (opened at1) (read_of (frames_of stack) x []) at2 bs2) (sym d)
     ∙ ap (λ (x : List Attribute). run (opened at1) (read_of (frames_of stack) nodes x) at2 bs2) (sym k)
 
+-- where no comment begins
+comment_is : (bs rest : List ℕ) → bs ≡ 60 ∷ rest → begins_comment bs ≡ begins (is_byte 33) rest
+comment_is bs rest e = ap begins_comment e
+
+pub no_other_tag : (stack : List OpenElement) (bs rest : List ℕ) → stack ≡ [] → bs ≡ 60 ∷ rest → begins_comment bs ≡ false → NoOtherTag (frames_of stack) rest
+no_other_tag stack bs rest e d h = subst (λ (x : List OpenElement). NoOtherTag (frames_of x) rest) (sym e) (sym (comment_is bs rest d) ∙ h)
+
+pub no_comment : (bs : List ℕ) → begins (is_byte 60) bs ≡ false → begins_comment bs ≡ false
+no_comment [] e = refl
+no_comment (b ∷ bs) e = rw e refl
+
+pub no_comment_tag : (bs rest : List ℕ) → bs ≡ 60 ∷ rest → begins (is_byte 33) rest ≡ false → begins_comment bs ≡ false
+no_comment_tag bs rest e h = comment_is bs rest e ∙ h
+
+-- comments
+pub no_dash : (place : Place) (r : Read) (at : ℕ) (bs : List ℕ) → begins (is_byte 45) bs ≡ false → run (bang place) r at bs ≡ Err NotBuilt
+no_dash place r at [] e = refl
+no_dash place r at (b ∷ bs) e = refuses (bang place) r at b bs (rw e refl)
+
+no_dash_at : (place : Place) (r : Read) (at : ℕ) (bs : List ℕ) → begins (is_byte 45) bs ≡ false → run (bang_dash place) r at bs ≡ Err NotBuilt
+no_dash_at place r at [] e = refl
+no_dash_at place r at (b ∷ bs) e = refuses (bang_dash place) r at b bs (rw e refl)
+
+pub no_second_dash : (place : Place) (r : Read) (at : ℕ) (bs : List ℕ) (at1 : ℕ) (bs1 : List ℕ) → (bs ≡ 45 ∷ bs1) × (at1 ≡ at + 1) → begins (is_byte 45) bs1 ≡ false → run (bang place) r at bs ≡ Err NotBuilt
+no_second_dash place r at bs at1 bs1 h e =
+    one (bang place) r at bs 45 at1 bs1 (bang_dash place) r h.0 h.1 refl ∙ no_dash_at place r at1 bs1 e
+
+pub over_dashes : (place : Place) (r : Read) (at : ℕ) (bs : List ℕ) (at1 : ℕ) (bs1 : List ℕ) (at2 : ℕ) (bs2 : List ℕ) → (bs ≡ 45 ∷ bs1) × (at1 ≡ at + 1) → (bs1 ≡ 45 ∷ bs2) × (at2 ≡ at1 + 1) → run (bang place) r at bs ≡ run (in_comment place 0) r at2 bs2
+over_dashes place r at bs at1 bs1 at2 bs2 h k =
+    one (bang place) r at bs 45 at1 bs1 (bang_dash place) r h.0 h.1 refl
+    ∙ one (bang_dash place) r at1 bs1 45 at2 bs2 (in_comment place 0) r k.0 k.1 refl
+
+first_of : (bs : List ℕ) → 0 < length bs → bs ≡ get_or bs 0 0 ∷ drop 1 bs
+first_of [] h = absurd (omega arith)
+first_of (b ∷ bs) h = refl
+
+pub comment_closes : (place : Place) (r : Read) (count b at : ℕ) (bs : List ℕ) (at1 : ℕ) (bs1 : List ℕ) → 0 < length bs → b ≡ get_or bs 0 0 → at1 ≡ at + 1 → bs1 ≡ drop 1 bs → 2 ≤ count → b ≡ 62 → run (in_comment place count) r at bs ≡ run (phase_of place) r at1 bs1
+comment_closes place r count b at bs at1 bs1 n f d e least is =
+    let l : leb 2 count ≡ true = grind (arith, nat_tests) in
+    one (in_comment place count) r at bs 62 at1 bs1 (phase_of place) r (first_of bs n ∙ ap (λ x. x ∷ drop 1 bs) (sym f ∙ is) ∙ ap (λ x. 62 ∷ x) (sym e)) d (rw l refl)
+
+pub comment_goes_on : (place : Place) (r : Read) (count b at : ℕ) (bs : List ℕ) (at1 : ℕ) (bs1 : List ℕ) → 0 < length bs → b ≡ get_or bs 0 0 → at1 ≡ at + 1 → bs1 ≡ drop 1 bs → (leb 2 count && eqb b 62) ≡ false → run (in_comment place count) r at bs ≡ run (in_comment place (dashes count b)) r at1 bs1
+comment_goes_on place r count b at bs at1 bs1 n f d e isnt =
+    one (in_comment place count) r at bs b at1 bs1 (in_comment place (dashes count b)) r (first_of bs n ∙ ap (λ x. x ∷ drop 1 bs) (sym f) ∙ ap (λ x. b ∷ x) (sym e)) d (rw isnt refl)
+
 pub frames_push : (stack new : List OpenElement) (e : OpenElement) → new ≡ stack ++ e ∷ [] → frames_of new ≡ frame_of e ∷ frames_of stack
 frames_push stack new e h = ap frames_of h ∙ ap (map frame_of) (reverse-append stack (e ∷ []))
 
 -- after the outermost element
-over_after : (nodes : List Node) (rows : List Attribute) (at : ℕ) (bs : List ℕ) (at1 : ℕ) (bs1 : List ℕ) → Skips is_white at bs at1 bs1 → run ended (read_of [] nodes rows) at bs ≡ run ended (read_of [] nodes rows) at1 bs1
-over_after nodes rows at bs at1 bs1 h = over is_white ended (read_of [] nodes rows) (λ i b q. rw q refl) at bs at1 bs1 h
+not_bang : (nodes : List Node) (rows : List Attribute) (place at : ℕ) (bs : List ℕ) → begins (is_byte 33) bs ≡ false → run (ended_open place) (read_of [] nodes rows) at bs ≡ Err NotBuilt
+not_bang nodes rows place at [] e = refl
+not_bang nodes rows place at (b ∷ bs) e = refuses (ended_open place) (read_of [] nodes rows) at b bs (rw e refl)
 
-more_at : (nodes : List Node) (rows : List Attribute) (at : ℕ) (bs : List ℕ) → begins is_white bs ≡ false → (length bs ≡ 0 → ⊥) → run ended (read_of [] nodes rows) at bs ≡ Err NotBuilt
-more_at nodes rows at [] e n = absurd (n refl)
-more_at nodes rows at (b ∷ bs) e n = refuses ended (read_of [] nodes rows) at b bs (rw e refl)
+more_tag : (nodes : List Node) (rows : List Attribute) (at b : ℕ) (bs : List ℕ) (v : Bool) → eqb b 60 ≡ v → (v && begins (is_byte 33) bs) ≡ false → and_then (cond v (state (ended_open at) (read_of [] nodes rows)) refused) (λ s. run s.phase s.read (at + 1) bs) ≡ Err NotBuilt
+more_tag nodes rows at b bs true e d = not_bang nodes rows at (at + 1) bs d
+more_tag nodes rows at b bs false e d = refl
 
-pub more_after : (nodes : List Node) (rows : List Attribute) (at : ℕ) (bs : List ℕ) (at1 : ℕ) (bs1 : List ℕ) → Skips is_white at bs at1 bs1 → (length bs1 ≡ 0 → ⊥) → run ended (read_of [] nodes rows) at bs ≡ Err NotBuilt
-more_after nodes rows at bs at1 bs1 h n = over_after nodes rows at bs at1 bs1 h ∙ more_at nodes rows at1 bs1 h.4 n
+more_at : (nodes : List Node) (rows : List Attribute) (at : ℕ) (bs : List ℕ) → begins is_white bs ≡ false → begins_comment bs ≡ false → (length bs ≡ 0 → ⊥) → run ended (read_of [] nodes rows) at bs ≡ Err NotBuilt
+more_at nodes rows at [] e d n = absurd (n refl)
+more_at nodes rows at (b ∷ bs) e d n = rw e (more_tag nodes rows at b bs (eqb b 60) refl d)
+
+pub more_after : (nodes : List Node) (rows : List Attribute) (whole : Outcome) (at : ℕ) (bs : List ℕ) → whole ≡ run ended (read_of [] nodes rows) at bs → (begins is_white bs ≡ false) × (begins_comment bs ≡ false) → (length bs ≡ 0 → ⊥) → whole ≡ Err NotBuilt
+more_after nodes rows whole at bs same h n = same ∙ more_at nodes rows at bs h.0 h.1 n
 
 none_at : (nodes : List Node) (rows : List Attribute) (at : ℕ) (bs : List ℕ) → length bs ≡ 0 → run ended (read_of [] nodes rows) at bs ≡ Ok (record { nodes = nodes; attributes = rows })
 none_at nodes rows at [] e = refl
 none_at nodes rows at (b ∷ bs) e = absurd (omega arith)
 
-pub at_text_end : (nodes : List Node) (rows : List Attribute) (at : ℕ) (bs : List ℕ) (at1 : ℕ) (bs1 : List ℕ) → Skips is_white at bs at1 bs1 → length bs1 ≡ 0 → run ended (read_of [] nodes rows) at bs ≡ Ok (record { nodes = nodes; attributes = rows })
-at_text_end nodes rows at bs at1 bs1 h n = over_after nodes rows at bs at1 bs1 h ∙ none_at nodes rows at1 bs1 n
+pub at_text_end : (nodes : List Node) (rows : List Attribute) (whole : Outcome) (at : ℕ) (bs : List ℕ) → whole ≡ run ended (read_of [] nodes rows) at bs → length bs ≡ 0 → whole ≡ Ok (record { nodes = nodes; attributes = rows })
+at_text_end nodes rows whole at bs same n = same ∙ none_at nodes rows at bs n
 
 pub some_left : (n : ℕ) (v : Bool) → v ≡ eqb n 0 → v ≡ false → n ≡ 0 → ⊥
 some_left n v e d z = grind (arith, nat_tests)
 
 pub none_left : (n : ℕ) (v : Bool) → v ≡ eqb n 0 → v ≡ true → n ≡ 0
 none_left n v e d = grind (arith, nat_tests)
+
+-- over white outside the outermost element
+pub over_space : (place : Place) (nodes : List Node) (rows : List Attribute) (at : ℕ) (bs : List ℕ) (at1 : ℕ) (bs1 : List ℕ) → Skips is_white at bs at1 bs1 → run (phase_of place) (read_of [] nodes rows) at bs ≡ run (phase_of place) (read_of [] nodes rows) at1 bs1
+over_space early nodes rows at bs at1 bs1 h = over is_white content (read_of [] nodes rows) (λ i b q. rw (white_isnt_tag b q, q) refl) at bs at1 bs1 h
+over_space late nodes rows at bs at1 bs1 h = over is_white ended (read_of [] nodes rows) (λ i b q. rw q refl) at bs at1 bs1 h
+
+-- and over `<!`
+pub over_bang : (place : Place) (nodes : List Node) (rows : List Attribute) (at : ℕ) (bs : List ℕ) (at1 : ℕ) (bs1 : List ℕ) (at2 : ℕ) (bs2 : List ℕ) (at3 : ℕ) (bs3 : List ℕ) → Skips is_white at bs at1 bs1 → (bs1 ≡ 60 ∷ bs2) × (at2 ≡ at1 + 1) → (bs2 ≡ 33 ∷ bs3) × (at3 ≡ at2 + 1) → run (phase_of place) (read_of [] nodes rows) at bs ≡ run (bang place) (read_of [] nodes rows) at3 bs3
+over_bang early nodes rows at bs at1 bs1 at2 bs2 at3 bs3 h k m =
+    let r : Read = read_of [] nodes rows in
+    over_space early nodes rows at bs at1 bs1 h
+    ∙ one content r at1 bs1 60 at2 bs2 (opened at1) r k.0 k.1 refl
+    ∙ one (opened at1) r at2 bs2 33 at3 bs3 (bang early) r m.0 m.1 refl
+over_bang late nodes rows at bs at1 bs1 at2 bs2 at3 bs3 h k m =
+    let r : Read = read_of [] nodes rows in
+    over_space late nodes rows at bs at1 bs1 h
+    ∙ one ended r at1 bs1 60 at2 bs2 (ended_open at1) r k.0 k.1 refl
+    ∙ one (ended_open at1) r at2 bs2 33 at3 bs3 (bang late) r m.0 m.1 refl

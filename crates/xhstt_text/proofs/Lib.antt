@@ -10,4 +10,3 @@ pub mod Places
 pub mod Runs
 pub mod Sound
 pub mod Trees
-pub mod TreeAnswer

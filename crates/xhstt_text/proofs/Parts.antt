@@ -48,10 +48,6 @@ module _ {X : Type 0} (xs : List X) where
   Holds-get at y ys d h =
       ap (λ n. get_or xs n d) (sym h.place) ∙ ap (λ l. get_or l (length h.front) d) h.is ∙ get_or-append_seam h.front y (ys ++ h.more) d
 
--- what a list is made of stands in it
-pub Holds-middle : {X : Type 0} (xs front ys more : List X) → xs ≡ front ++ (ys ++ more) → Holds xs (length front) ys
-Holds-middle xs front ys more e = record { front = front; more = more; is = e; place = refl }
-
 -- a whole list
 pub Holds-whole : {X : Type 0} (xs ys : List X) → xs ≡ ys → Holds xs 0 ys
 Holds-whole xs ys e = record { front = []; more = []; is = e ∙ sym (append-nil ys); place = refl }

@@ -1,21 +1,21 @@
 -- What the machine reads is a document.
-use Rattle.std.proofs.Common.{◌≡◌, ℕ, suc, ◌+◌, ◌<◌, Bool, true, false, cond, eqb, ltb, List, [], ◌∷◌, ◌++◌, length, Ok, Err, refl, sym, ◌∙◌, ap, subst, ◌⊎◌, inl, inr, arith, append_assoc}
+use Rattle.std.proofs.Common.{◌≡◌, ℕ, suc, ◌+◌, ◌<◌, ◌≤◌, Bool, true, false, cond, not, ◌&&◌, leb, eqb, ltb, List, [], ◌∷◌, ◌++◌, length, Ok, Err, refl, sym, ◌∙◌, ap, subst, ◌⊎◌, inl, inr, arith, append-nil, append_assoc}
 use Rattle.std.proofs.lemmas.Bool.Decides.{nat_tests}
 use Rattle.std.proofs.lemmas.Slice.Eq.{bytes_eq-Decides}
 use Rattle.std.specs.Str.{bytes_eq}
-use Rattle.xhstt_text.specs.Bytes.{is_white, is_first, is_name, is_text, is_quoted, is_quote, AllAre, IsWhite, IsGap, IsName}
-use Rattle.xhstt_text.specs.Document.{Attributes, none, attribute, Start, Content, nothing, byte, short, long, Document, attributes_text, start_text, text, spelling, has_name, AreAttributes, IsContent, IsDocument, Rows}
-use Rattle.xhstt_text.specs.Machine.{Frame, Read, Tag, Phase, content, ended, opened, start_name, valued, in_tag, slash, attribute_name, named, equals, in_value, shut_begin, shut, shut_gap, State, Step, refused, state, noted, resume, open_element, add_node, opened_row, close_element, attribute_row, with_name, start_of, step, step_content, step_opened, step_valued, step_named, step_shut, finish, and_then, run, Outcome, outcome_of}
-use Rattle.xhstt_text.proofs.Complete.{attribute_shape, start_shape, long_shape}
+use Rattle.xhstt_text.specs.Bytes.{IsDeclared, declaration_start, question_after, stays_declared, IsComment, dashes, dashes_after, stays_open, is_white, is_first, is_name, is_text, is_quoted, is_quote, AllAre, IsWhite, IsGap, IsName}
+use Rattle.xhstt_text.specs.Document.{Body, unmarked, marked, Declaration, undeclared, declared, declaration_text, body_text, IsBody, IsDeclaration, IsSpace, Attributes, none, attribute, Start, Content, nothing, byte, comment, short, long, Document, attributes_text, start_text, text, spelling, has_name, AreAttributes, IsContent, IsDocument, Rows}
+use Rattle.xhstt_text.specs.Machine.{beginning, mark_1, mark_2, at_declaration, declared_open, question, in_declaration, closed, step_declaration, step_question, Frame, Read, Tag, Phase, content, ended, ended_open, Place, early, late, phase_of, bang, bang_dash, in_comment, opened, start_name, valued, in_tag, slash, attribute_name, named, equals, in_value, shut_begin, shut, shut_gap, State, Step, refused, state, noted, resume, open_element, add_node, opened_row, close_element, attribute_row, with_name, start_of, step, step_content, step_opened, step_valued, step_named, step_shut, finish, and_then, run, Outcome, outcome_of}
+use Rattle.xhstt_text.proofs.Complete.{attribute_shape, start_shape, long_shape, declaration_shape}
 
 -- what may follow inside these open elements, the innermost first, or after the outermost element
 abbrev Later : List (List ℕ) → List ℕ → Type 0
-Later [] bs = IsWhite bs
+Later [] bs = (m : Content) × IsSpace m × (bs ≡ text m)
 Later (n ∷ ns) bs = (c : Content) × (w : List ℕ) × (more : List ℕ) × IsContent (suc (length ns)) c × IsWhite w × (bs ≡ text c ++ (60 ∷ 47 ∷ (n ++ (w ++ (62 ∷ more))))) × Later ns more
 
--- the same, where nothing is open a whole document
+-- the same, where nothing is open an outermost element and what stands around it
 abbrev Inside : List (List ℕ) → List ℕ → Type 0
-Inside [] bs = (d : Document) × IsDocument d × (bs ≡ spelling d)
+Inside [] bs = (y : Body) × IsBody y × (bs ≡ body_text y)
 Inside (n ∷ ns) bs = Later (n ∷ ns) bs
 
 -- the end of a start tag, and what may follow
@@ -26,10 +26,34 @@ EndOf ns name bs = (w : List ℕ) × (more : List ℕ) × IsWhite w × (((bs ≡
 abbrev InTag : List (List ℕ) → List ℕ → List (List ℕ) → List ℕ → Type 0
 InTag ns name names bs = (a : Attributes) × (rest : List ℕ) × AreAttributes names a × (bs ≡ attributes_text a ++ rest) × EndOf ns name rest
 
+-- the same at a place where a comment may stand
+abbrev AtPlace : Place → List (List ℕ) → List ℕ → Type 0
+AtPlace early ns bs = Inside ns bs
+AtPlace late ns bs = Later [] bs
+
+-- what may follow a byte order mark
+abbrev Declarable : List ℕ → Type 0
+Declarable bs = (x : Declaration) × (y : Body) × IsDeclaration x × IsBody y × (bs ≡ declaration_text x ++ body_text y)
+
+-- a whole text
+abbrev Whole : List ℕ → Type 0
+Whole bs = (d : Document) × IsDocument d × (bs ≡ spelling d)
+
 -- what may follow a phase inside these open elements
 abbrev Follows : Phase → List (List ℕ) → List ℕ → Type 0
+Follows beginning ns bs = Whole bs
+Follows mark_1 ns bs = Whole (239 ∷ bs)
+Follows mark_2 ns bs = Whole (239 ∷ 187 ∷ bs)
+Follows at_declaration ns bs = Declarable bs
+Follows (declared_open place) ns bs = Declarable (60 ∷ bs)
+Follows (question ks) ns bs = (front : List ℕ) → front ++ ks ≡ declaration_start → Declarable (front ++ bs)
+Follows (in_declaration seen) ns bs = (w : ℕ) → is_white w ≡ true → (front : List ℕ) → stays_declared false front ≡ true → question_after false front ≡ seen → Declarable (declaration_start ++ (w ∷ (front ++ bs)))
 Follows content ns bs = Inside ns bs
-Follows ended ns bs = IsWhite bs
+Follows ended ns bs = Later [] bs
+Follows (ended_open at) ns bs = Later [] (60 ∷ bs)
+Follows (bang place) ns bs = AtPlace place ns (60 ∷ 33 ∷ bs)
+Follows (bang_dash place) ns bs = AtPlace place ns (60 ∷ 33 ∷ 45 ∷ bs)
+Follows (in_comment place count) ns bs = (front : List ℕ) → stays_open 0 front ≡ true → dashes_after 0 front ≡ count → AtPlace place ns (60 ∷ 33 ∷ 45 ∷ 45 ∷ (front ++ bs))
 Follows (opened at) ns bs = Inside ns (60 ∷ bs)
 Follows (start_name at name) ns bs = IsName name → length ns < 32 → Inside ns (60 ∷ (name ++ bs))
 Follows (valued t) ns bs = InTag ns t.name t.names bs
@@ -85,17 +109,17 @@ short_bytes : (s : Start) (c : Content) (rest : List ℕ) → start_text s ++ (4
 short_bytes s c rest = sym (append_assoc (start_text s) (47 ∷ 62 ∷ text c) rest)
 
 element : (ns : List (List ℕ)) (name bs : List ℕ) → IsName name → length ns < 32 → InTag ns name [] bs → Inside ns (60 ∷ (name ++ bs))
-element [] name bs hn d (a, rest, h, same, (w, more, hw, inl (eq, later))) =
+element [] name bs hn d (a, rest, h, same, (w, more, hw, inl (eq, (m, hm, eqm)))) =
     let s : Start = start name a w in (
-      record { before = []; root = short s nothing; after = more },
-      (tt, tt, (d, (hn, h, hw), tt), later),
-      tag_bytes name a w bs rest (47 ∷ 62 ∷ more) same eq ∙ short_bytes s nothing more,
+      record { before = nothing; root = short s nothing; after = m },
+      (tt, tt, (d, (hn, h, hw), tt), hm),
+      tag_bytes name a w bs rest (47 ∷ 62 ∷ more) same eq ∙ short_bytes s nothing more ∙ ap (λ x. text (short s nothing) ++ x) eqm,
     )
-element [] name bs hn d (a, rest, h, same, (w, more, hw, inr (eq, (c, w2, more2, hc, hw2, eq2, later)))) =
+element [] name bs hn d (a, rest, h, same, (w, more, hw, inr (eq, (c, w2, more2, hc, hw2, eq2, (m, hm, eqm))))) =
     let s : Start = start name a w in (
-      record { before = []; root = long s c name w2 nothing; after = more2 },
-      (tt, tt, (d, (hn, h, hw), hc, refl, hw2, tt), later),
-      tag_bytes name a w bs rest (62 ∷ more) same eq ∙ ap (λ x. start_text s ++ (62 ∷ x)) eq2 ∙ sym (long_shape s c name w2 nothing more2),
+      record { before = nothing; root = long s c name w2 nothing; after = m },
+      (tt, tt, (d, (hn, h, hw), hc, refl, hw2, tt), hm),
+      tag_bytes name a w bs rest (62 ∷ more) same eq ∙ ap (λ x. start_text s ++ (62 ∷ x)) eq2 ∙ sym (long_shape s c name w2 nothing more2) ∙ ap (λ x. text (long s c name w2 nothing) ++ x) eqm,
     )
 element (n ∷ ns) name bs hn d (a, rest, h, same, (w, more, hw, inl (eq, (c, w2, more2, hc, hw2, eq2, later)))) =
     let s : Start = start name a w in
@@ -150,7 +174,51 @@ more_content : (n : List ℕ) (ns : List (List ℕ)) (b : ℕ) (bs : List ℕ) �
 more_content n ns b bs e (c, w, more, hc, hw, same, later) = (byte b c, w, more, (e, hc), hw, ap (λ x. b ∷ x) same, later)
 
 more_before : (b : ℕ) (bs : List ℕ) → is_white b ≡ true → Inside [] bs → Inside [] (b ∷ bs)
-more_before b bs e (d, h, same) = (record d { before = b ∷ d.before }, ((e, h.0), h.1, h.2, h.3), ap (λ x. b ∷ x) same)
+more_before b bs e (d, h, same) = (record d { before = byte b d.before }, ((e, h.0), h.1, h.2, h.3), ap (λ x. b ∷ x) same)
+
+more_after : (b : ℕ) (bs : List ℕ) → is_white b ≡ true → Later [] bs → Later [] (b ∷ bs)
+more_after b bs e (m, h, same) = (byte b m, (e, h), ap (λ x. b ∷ x) same)
+
+dashes_push : (front : List ℕ) (count b : ℕ) → dashes_after count (front ++ b ∷ []) ≡ dashes (dashes_after count front) b
+dashes_push [] count b = refl
+dashes_push (c ∷ front) count b = dashes_push front (dashes count c) b
+
+both_parts : (x y : Bool) → (not x && y) ≡ true → (x ≡ false) × (y ≡ true)
+both_parts true y h = cc
+both_parts false y h = (refl, h)
+
+both_pass : (x y : Bool) → (x && y) ≡ true → (x ≡ true) × (y ≡ true)
+both_pass true y h = (refl, h)
+both_pass false y h = cc
+
+open_push : (front : List ℕ) (count b : ℕ) → stays_open count front ≡ true → (leb 2 (dashes_after count front) && eqb b 62) ≡ false → stays_open count (front ++ b ∷ []) ≡ true
+open_push [] count b h e = rw e refl
+open_push (c ∷ front) count b h e =
+    let k = both_parts (leb 2 count && eqb c 62) (stays_open (dashes count c) front) h in
+    rw k.0 (open_push front (dashes count c) b k.1 e)
+
+-- a comment before what may follow: in content, before the outermost element, and after it
+abbrev Commented : List ℕ → List ℕ → List ℕ
+Commented inner bs = 60 ∷ 33 ∷ 45 ∷ 45 ∷ (inner ++ (62 ∷ bs))
+
+comment_after : (inner bs : List ℕ) → IsComment inner → Later [] bs → Later [] (Commented inner bs)
+comment_after inner bs h (m, hm, same) = (comment inner m, (h, hm), ap (Commented inner) same)
+
+comment_inside : (ns : List (List ℕ)) (inner bs : List ℕ) → IsComment inner → Inside ns bs → Inside ns (Commented inner bs)
+comment_inside [] inner bs h (d, hd, same) = (
+  record d { before = comment inner d.before },
+  ((h, hd.0), hd.1, hd.2, hd.3),
+  ap (Commented inner) same ∙ ap (λ x. 60 ∷ 33 ∷ 45 ∷ 45 ∷ x) (sym (append_assoc inner (62 ∷ text d.before) (text d.root ++ text d.after))),
+)
+comment_inside (n ∷ ns) inner bs h (c, w, more, hc, hw, same, later) = (
+  comment inner c,
+  w,
+  more,
+  (h, hc),
+  hw,
+  ap (Commented inner) same ∙ ap (λ x. 60 ∷ 33 ∷ 45 ∷ 45 ∷ x) (sym (append_assoc inner (62 ∷ text c) (60 ∷ 47 ∷ (n ++ (w ++ (62 ∷ more)))))),
+  later,
+)
 
 back_content : (frames : List Frame) (r : Read) (at b : ℕ) (bs : List ℕ) (s : State) → step_content frames (record r { frames = frames }) at b ≡ Ok s → After bs s → Inside (names_of frames) (b ∷ bs)
 back_content [] r at b bs s e h =
@@ -172,18 +240,22 @@ length_names (f ∷ fs) = ap suc (length_names fs)
 
 back_opened : (frames : List Frame) (place : ℕ) (r : Read) (b : ℕ) (bs : List ℕ) (s : State) → step_opened frames place (record r { frames = frames }) b ≡ Ok s → After bs s → Inside (names_of frames) (60 ∷ b ∷ bs)
 back_opened [] place r b bs s e h =
-    choose (is_first b) (state (start_name place (b ∷ [])) (record r { frames = [] })) refused s
+    choose (is_first b) (state (start_name place (b ∷ [])) (record r { frames = [] })) _ s
     (λ is here. arrives (After bs) (start_name place (b ∷ [])) (record r { frames = [] }) s here h (is, tt) (omega arith))
-    (λ _ here. no s here) e
+    (λ _ there. choose (eqb b 33) (state (bang early) (record r { frames = [] })) refused s
+    (λ is here. subst (λ k. Inside [] (60 ∷ k ∷ bs)) (sym (same_byte b 33 is)) (arrives (After bs) (bang early) (record r { frames = [] }) s here h))
+    (λ _ here. no s here) there) e
 back_opened (f ∷ fs) place r b bs s e h =
     let q : Read = record r { frames = f ∷ fs } in
     choose (is_first b) _ _ s
     (λ is there. choose (ltb (length (f ∷ fs)) 32) (state (start_name place (b ∷ [])) q) refused s
     (λ few here. arrives (After bs) (start_name place (b ∷ [])) q s here h (is, tt) (let d : length (f ∷ fs) < 32 = grind (arith, nat_tests) in subst (λ n. n < 32) (sym (length_names (f ∷ fs))) d))
     (λ _ here. no s here) there)
-    (λ _ there. choose (eqb b 47) (state (shut_begin place) q) refused s
+    (λ _ there. choose (eqb b 47) (state (shut_begin place) q) _ s
     (λ is here. subst (λ k. Inside (names_of (f ∷ fs)) (60 ∷ k ∷ bs)) (sym (same_byte b 47 is)) (arrives (After bs) (shut_begin place) q s here h))
-    (λ _ here. no s here) there) e
+    (λ _ more. choose (eqb b 33) (state (bang early) q) refused s
+    (λ is here. subst (λ k. Inside (names_of (f ∷ fs)) (60 ∷ k ∷ bs)) (sym (same_byte b 33 is)) (arrives (After bs) (bang early) q s here h))
+    (λ _ here. no s here) more) there) e
 
 back_valued : (t : Tag) (r : Read) (at b : ℕ) (bs : List ℕ) (s : State) → step_valued t r at b ≡ Ok s → After bs s → InTag (names_of r.frames) t.name t.names (b ∷ bs)
 back_valued t r at b bs s e h =
@@ -231,10 +303,116 @@ back_shut (f ∷ fs) place name r b bs s e h =
     (λ _ here. no s here) e2)
     (λ _ here. no s here) e1) e
 
+comment_at : (place : Place) (ns : List (List ℕ)) (inner bs : List ℕ) → IsComment inner → Follows (phase_of place) ns bs → AtPlace place ns (Commented inner bs)
+comment_at early ns inner bs h k = comment_inside ns inner bs h k
+comment_at late ns inner bs h k = comment_after inner bs h k
+
+back_comment : (place : Place) (ns : List (List ℕ)) (front : List ℕ) (b : ℕ) (bs : List ℕ) (count : ℕ) → stays_open 0 front ≡ true → dashes_after 0 front ≡ count → (leb 2 count && eqb b 62) ≡ true → Follows (phase_of place) ns bs → AtPlace place ns (60 ∷ 33 ∷ 45 ∷ 45 ∷ (front ++ (b ∷ bs)))
+back_comment place ns front b bs count stays same is k =
+    let e = both_pass (leb 2 count) (eqb b 62) is in
+    let least : 2 ≤ dashes_after 0 front = subst (λ n. 2 ≤ n) (sym same) (let l : 2 ≤ count = grind (arith, nat_tests, e.0) in l) in
+    subst (λ n. AtPlace place ns (60 ∷ 33 ∷ 45 ∷ 45 ∷ (front ++ (n ∷ bs)))) (sym (same_byte b 62 e.1)) (comment_at place ns front bs (stays, least) k)
+
+without_declaration : (bs : List ℕ) → Inside [] bs → Declarable bs
+without_declaration bs (y, h, same) = (undeclared, y, tt, h, same)
+
+without_mark : (bs : List ℕ) → Declarable bs → Whole bs
+without_mark bs (x, y, h, k, same) = (record { mark = unmarked; declaration = x; body = y }, (h, k), same)
+
+with_mark : (bs : List ℕ) → Declarable bs → Whole (239 ∷ 187 ∷ 191 ∷ bs)
+with_mark bs (x, y, h, k, same) = (record { mark = marked; declaration = x; body = y }, (h, k), ap (λ x. 239 ∷ 187 ∷ 191 ∷ x) same)
+
+back_declaration : (r : Read) (at b : ℕ) (bs : List ℕ) (s : State) → step_declaration r at b ≡ Ok s → After bs s → Declarable (b ∷ bs)
+back_declaration r at b bs s e h =
+    choose (eqb b 60) (state (declared_open at) r) _ s
+    (λ is here. subst (λ k. Declarable (k ∷ bs)) (sym (same_byte b 60 is)) (arrives (After bs) (declared_open at) r s here h))
+    (λ _ there. choose (is_white b) (state content (closed r)) refused s
+    (λ is here. without_declaration (b ∷ bs) (more_before b bs is (arrives (After bs) content (closed r) s here h)))
+    (λ _ here. no s here) there) e
+
+back_question : (ks : List ℕ) (r : Read) (b : ℕ) (bs : List ℕ) (s : State) → step_question ks r b ≡ Ok s → After bs s → Follows (question ks) (names_of r.frames) (b ∷ bs)
+back_question [] r b bs s e h =
+    choose (is_white b) (state (in_declaration false) r) refused s
+    (λ is here front same.
+    let q = arrives (After bs) (in_declaration false) r s here h b is [] refl refl in
+    subst (λ (x : List ℕ). Declarable (x ++ (b ∷ bs))) (sym same ∙ append-nil front) q)
+    (λ _ here. no s here) e
+back_question (k ∷ ks) r b bs s e h =
+    choose (eqb b k) (state (question ks) r) refused s
+    (λ is here front same.
+    let q = arrives (After bs) (question ks) r s here h (front ++ k ∷ []) (append_assoc front (k ∷ []) ks ∙ same) in
+    subst (λ n. Declarable (front ++ (n ∷ bs))) (sym (same_byte b k is)) (subst (λ (x : List ℕ). Declarable x) (append_assoc front (k ∷ []) bs) q))
+    (λ _ here. no s here) e
+
+declared_push : (front : List ℕ) (seen : Bool) (b : ℕ) → question_after seen (front ++ b ∷ []) ≡ eqb b 63
+declared_push [] seen b = refl
+declared_push (c ∷ front) seen b = declared_push front (eqb c 63) b
+
+stays_push : (front : List ℕ) (seen : Bool) (b : ℕ) → stays_declared seen front ≡ true → (question_after seen front && eqb b 62) ≡ false → stays_declared seen (front ++ b ∷ []) ≡ true
+stays_push [] seen b h e = rw e refl
+stays_push (c ∷ front) seen b h e =
+    let k = both_parts (seen && eqb c 62) (stays_declared (eqb c 63) front) h in
+    rw k.0 (stays_push front (eqb c 63) b k.1 e)
+
+declare : (w : ℕ) (inner bs : List ℕ) → is_white w ≡ true → IsDeclared inner → Inside [] bs → Declarable (declaration_start ++ (w ∷ (inner ++ (62 ∷ bs))))
+declare w inner bs hw h (y, k, same) =
+    (declared w inner, y, (hw, h), k, ap (λ x. declaration_start ++ (w ∷ (inner ++ (62 ∷ x)))) same ∙ sym (declaration_shape w inner (body_text y)))
+
+back_declared : (seen : Bool) (r : Read) (b : ℕ) (bs : List ℕ) (s : State) → cond (seen && eqb b 62) (state content (closed r)) (state (in_declaration (eqb b 63)) r) ≡ Ok s → After bs s → Follows (in_declaration seen) (names_of r.frames) (b ∷ bs)
+back_declared seen r b bs s e h =
+    choose (seen && eqb b 62) (state content (closed r)) (state (in_declaration (eqb b 63)) r) s
+    (λ is here w hw front stays same.
+    let k = both_pass seen (eqb b 62) is in
+    subst (λ n. Declarable (declaration_start ++ (w ∷ (front ++ (n ∷ bs))))) (sym (same_byte b 62 k.1)) (declare w front bs hw (stays, same ∙ k.0) (arrives (After bs) content (closed r) s here h)))
+    (λ isnt here w hw front stays same.
+    let q = arrives (After bs) (in_declaration (eqb b 63)) r s here h w hw (front ++ b ∷ []) (stays_push front false b stays (ap (λ v. v && eqb b 62) same ∙ isnt)) (declared_push front false b) in
+    subst (λ (x : List ℕ). Declarable (declaration_start ++ (w ∷ x))) (append_assoc front (b ∷ []) bs) q) e
+
 back : (p : Phase) (r : Read) (at b : ℕ) (bs : List ℕ) (s : State) → step p r at b ≡ Ok s → After bs s → Follows p (names_of r.frames) (b ∷ bs)
+back beginning r at b bs s e h =
+    choose (eqb b 239) (state mark_1 r) _ s
+    (λ is here. subst (λ k. Whole (k ∷ bs)) (sym (same_byte b 239 is)) (arrives (After bs) mark_1 r s here h))
+    (λ _ there. without_mark (b ∷ bs) (back_declaration r at b bs s there h)) e
+back mark_1 r at b bs s e h =
+    choose (eqb b 187) (state mark_2 r) refused s
+    (λ is here. subst (λ k. Whole (239 ∷ k ∷ bs)) (sym (same_byte b 187 is)) (arrives (After bs) mark_2 r s here h))
+    (λ _ here. no s here) e
+back mark_2 r at b bs s e h =
+    choose (eqb b 191) (state at_declaration r) refused s
+    (λ is here. subst (λ k. Whole (239 ∷ 187 ∷ k ∷ bs)) (sym (same_byte b 191 is)) (with_mark bs (arrives (After bs) at_declaration r s here h)))
+    (λ _ here. no s here) e
+back at_declaration r at b bs s e h = back_declaration r at b bs s e h
+back (declared_open place) r at b bs s e h =
+    choose (eqb b 63) (state (question (120 ∷ 109 ∷ 108 ∷ [])) r) _ s
+    (λ is here. subst (λ k. Declarable (60 ∷ k ∷ bs)) (sym (same_byte b 63 is)) (arrives (After bs) (question (120 ∷ 109 ∷ 108 ∷ [])) r s here h (60 ∷ 63 ∷ []) refl))
+    (λ _ there. without_declaration (60 ∷ b ∷ bs) (back_opened [] place r b bs s there h)) e
+back (question ks) r at b bs s e h = back_question ks r b bs s e h
+back (in_declaration seen) r at b bs s e h = back_declared seen r b bs s e h
 back content r at b bs s e h = back_content r.frames r at b bs s e h
 back ended r at b bs s e h =
-    choose (is_white b) (state ended r) refused s (λ is here. (is, arrives (After bs) ended r s here h)) (λ _ here. no s here) e
+    choose (is_white b) (state ended r) _ s
+    (λ is here. more_after b bs is (arrives (After bs) ended r s here h))
+    (λ _ there. choose (eqb b 60) (state (ended_open at) r) refused s
+    (λ is here. subst (λ k. Later [] (k ∷ bs)) (sym (same_byte b 60 is)) (arrives (After bs) (ended_open at) r s here h))
+    (λ _ here. no s here) there) e
+back (ended_open place) r at b bs s e h =
+    choose (eqb b 33) (state (bang late) r) refused s
+    (λ is here. subst (λ k. Later [] (60 ∷ k ∷ bs)) (sym (same_byte b 33 is)) (arrives (After bs) (bang late) r s here h))
+    (λ _ here. no s here) e
+back (bang p) r at b bs s e h =
+    choose (eqb b 45) (state (bang_dash p) r) refused s
+    (λ is here. subst (λ k. AtPlace p (names_of r.frames) (60 ∷ 33 ∷ k ∷ bs)) (sym (same_byte b 45 is)) (arrives (After bs) (bang_dash p) r s here h))
+    (λ _ here. no s here) e
+back (bang_dash p) r at b bs s e h =
+    choose (eqb b 45) (state (in_comment p 0) r) refused s
+    (λ is here. subst (λ k. AtPlace p (names_of r.frames) (60 ∷ 33 ∷ 45 ∷ k ∷ bs)) (sym (same_byte b 45 is)) (arrives (After bs) (in_comment p 0) r s here h [] refl refl))
+    (λ _ here. no s here) e
+back (in_comment p count) r at b bs s e h =
+    choose (leb 2 count && eqb b 62) (state (phase_of p) r) (state (in_comment p (dashes count b)) r) s
+    (λ is here front stays same. back_comment p (names_of r.frames) front b bs count stays same is (arrives (After bs) (phase_of p) r s here h))
+    (λ isnt here front stays same.
+    let q = arrives (After bs) (in_comment p (dashes count b)) r s here h (front ++ b ∷ []) (open_push front 0 b stays (ap (λ k. leb 2 k && eqb b 62) same ∙ isnt)) (dashes_push front 0 b ∙ ap (λ k. dashes k b) same) in
+    subst (λ (x : List ℕ). AtPlace p (names_of r.frames) (60 ∷ 33 ∷ 45 ∷ 45 ∷ x)) (append_assoc front (b ∷ []) bs) q) e
 back (opened place) r at b bs s e h = back_opened r.frames place r b bs s e h
 back (start_name place name) r at b bs s e h =
     choose (is_name b) (state (start_name place (name ++ b ∷ [])) r) _ s
@@ -294,7 +472,7 @@ went_on (Ok s) f rows e = (s, refl, e)
 went_on (Err d) f rows e = cc
 
 at_end : (p : Phase) (r : Read) (rows : Rows) → finish p r ≡ Ok rows → Follows p (names_of r.frames) []
-at_end ended r rows e = tt
+at_end ended r rows e = (nothing, tt, refl)
 at_end _ r rows e = cc
 
 follows : (bs : List ℕ) (p : Phase) (r : Read) (at : ℕ) (rows : Rows) → run p r at bs ≡ Ok rows → Follows p (names_of r.frames) bs
@@ -305,4 +483,4 @@ follows (b ∷ bs) p r at rows e =
 
 -- what the machine reads is a document
 pub document_from : (bytes : List ℕ) (rows : Rows) → outcome_of bytes ≡ Ok rows → (d : Document) × IsDocument d × (bytes ≡ spelling d)
-document_from bytes rows e = follows bytes content (record { frames = []; nodes = []; attributes = [] }) 0 rows e
+document_from bytes rows e = follows bytes beginning (record { frames = []; nodes = []; attributes = [] }) 0 rows e

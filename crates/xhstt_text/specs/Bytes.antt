@@ -1,5 +1,5 @@
--- The bytes that a text of the first form is made of.
-use Rattle.std.specs.Prelude.{ℕ, ◌≡◌, Bool, true, not, ◌&&◌, ◌||◌, ◌==◌, nat_le, List, [], ◌∷◌}
+-- The bytes that a text is made of.
+use Rattle.std.specs.Prelude.{ℕ, ◌≡◌, Bool, true, false, not, ◌&&◌, ◌||◌, ◌==◌, nat_le, ◌≤◌, suc, if◌then◌else◌, List, [], ◌∷◌}
 
 -- space, tab, line feed or carriage return
 abbrev pub is_white : ℕ → Bool
@@ -13,9 +13,9 @@ is_first b = (nat_le 97 b && nat_le b 122) || (nat_le 65 b && nat_le b 90) || b 
 abbrev pub is_name : ℕ → Bool
 is_name b = is_first b || (nat_le 48 b && nat_le b 57) || b == 45 || b == 46
 
--- white, or a printed ASCII character other than `<` and `&`
+-- white, or a byte from 32 on other than `<`, `&` and the first byte of the characters from U+F000 on
 abbrev pub is_text : ℕ → Bool
-is_text b = is_white b || (nat_le 32 b && nat_le b 126 && not (b == 60) && not (b == 38))
+is_text b = is_white b || (nat_le 32 b && not (b == 60) && not (b == 38) && not (b == 239))
 
 -- what may stand between two such quotes
 abbrev pub is_quoted : ℕ → ℕ → Bool
@@ -43,3 +43,40 @@ IsGap (b ∷ bs) = (is_white b ≡ true) × IsWhite bs
 abbrev pub IsName : List ℕ → Type 0
 IsName [] = ⊥
 IsName (b ∷ bs) = (is_first b ≡ true) × AllAre is_name bs
+
+-- how many dashes stand before the next byte, after a byte that so many stand before
+abbrev pub dashes : ℕ → ℕ → ℕ
+dashes count b = if b == 45 then suc count else 0
+
+-- how many dashes stand at the end of these bytes, which so many stand before
+abbrev pub dashes_after : ℕ → List ℕ → ℕ
+dashes_after count [] = count
+dashes_after count (b ∷ bs) = dashes_after (dashes count b) bs
+
+-- no `>` in these bytes, which so many dashes stand before, has two dashes before it
+abbrev pub stays_open : ℕ → List ℕ → Bool
+stays_open count [] = true
+stays_open count (b ∷ bs) = not (nat_le 2 count && b == 62) && stays_open (dashes count b) bs
+
+-- what stands between `<!--` and the `>` that ends the comment: the first with two dashes before it
+abbrev pub IsComment : List ℕ → Type 0
+IsComment bs = (stays_open 0 bs ≡ true) × (2 ≤ dashes_after 0 bs)
+
+-- whether a `?` stands at the end of these bytes; the first argument says whether one stands before them
+abbrev pub question_after : Bool → List ℕ → Bool
+question_after seen [] = seen
+question_after seen (b ∷ bs) = question_after (b == 63) bs
+
+-- no `>` in these bytes has a `?` before it
+abbrev pub stays_declared : Bool → List ℕ → Bool
+stays_declared seen [] = true
+stays_declared seen (b ∷ bs) = not (seen && b == 62) && stays_declared (b == 63) bs
+
+-- what stands between `<?xml` and a white and the `>` that ends the declaration: the first with a
+-- `?` before it
+abbrev pub IsDeclared : List ℕ → Type 0
+IsDeclared bs = (stays_declared false bs ≡ true) × (question_after false bs ≡ true)
+
+-- `<?xml`
+abbrev pub declaration_start : List ℕ
+declaration_start = 60 ∷ 63 ∷ 120 ∷ 109 ∷ 108 ∷ []

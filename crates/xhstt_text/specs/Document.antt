@@ -1,8 +1,8 @@
 -- The grammar of a text: the parts of a document, how they are spelled, which of them are allowed,
 -- and the table and the forest that a document stands for.
 use Rattle.std.specs.Prelude.{ℕ, suc, ◌≡◌, ◌+◌, ◌<◌, Bool, true, false, ◌||◌, if◌then◌else◌, List, [], ◌∷◌, ◌++◌, length, Option, Some, None}
-use Rattle.std.specs.Str.{bytes_eq}
-use Rattle.xhstt_text.specs.Bytes.{is_white, is_text, is_quoted, is_quote, AllAre, IsWhite, IsGap, IsName}
+use Rattle.std.specs.Str.{IsUtf8, bytes_eq}
+use Rattle.xhstt_text.specs.Bytes.{IsDeclared, declaration_start, is_white, is_text, is_quoted, is_quote, AllAre, IsWhite, IsGap, IsName, IsComment}
 use Rattle.xhstt_text.specs.declared.tree.Span.{Span}
 use Rattle.xhstt_text.specs.declared.tree.Node.{Node}
 use Rattle.xhstt_text.specs.declared.tree.Attribute.{Attribute}
@@ -20,19 +20,37 @@ pub record Start : Type 0 where
   pub attributes : Attributes
   pub white : List ℕ
 
--- what stands between two tags: nothing more, or a byte, an element without content, or an element
--- with its content, the name in its end tag and the white after that name; and then what follows
+-- what stands between two tags: nothing more, or a byte, a comment, an element without content, or
+-- an element with its content, the name in its end tag and the white after that name; and then what
+-- follows
 pub data Content : Type 0 where
   nothing : Content
   byte : ℕ → Content → Content
+  comment : List ℕ → Content → Content
   short : Start → Content → Content
   long : Start → Content → List ℕ → List ℕ → Content → Content
 
--- a whole text: its outermost element, and the white around it
-pub record Document : Type 0 where
-  pub before : List ℕ
+-- the outermost element, and the white and the comments around it
+pub record Body : Type 0 where
+  pub before : Content
   pub root : Content
-  pub after : List ℕ
+  pub after : Content
+
+-- whether a text begins with a byte order mark
+pub data Mark : Type 0 where
+  unmarked : Mark
+  marked : Mark
+
+-- the declaration: none, or the white after `<?xml` and what stands between it and the last `>`
+pub data Declaration : Type 0 where
+  undeclared : Declaration
+  declared : ℕ → List ℕ → Declaration
+
+-- a whole text
+pub record Document : Type 0 where
+  pub mark : Mark
+  pub declaration : Declaration
+  pub body : Body
 
 -- how attributes are spelled
 abbrev pub attributes_text : Attributes → List ℕ
@@ -48,13 +66,28 @@ start_text s = 60 ∷ (s.name ++ (attributes_text s.attributes ++ s.white))
 abbrev pub text : Content → List ℕ
 text nothing = []
 text (byte b c) = b ∷ text c
+text (comment inner c) = 60 ∷ 33 ∷ 45 ∷ 45 ∷ (inner ++ (62 ∷ text c))
 text (short s c) = start_text s ++ (47 ∷ 62 ∷ text c)
 text (long s inner shut white c) =
     start_text s ++ (62 ∷ (text inner ++ (60 ∷ 47 ∷ (shut ++ (white ++ (62 ∷ text c))))))
 
+-- how the outermost element and what stands around it are spelled
+abbrev pub body_text : Body → List ℕ
+body_text b = text b.before ++ (text b.root ++ text b.after)
+
+-- how a byte order mark is spelled
+abbrev pub mark_text : Mark → List ℕ
+mark_text unmarked = []
+mark_text marked = 239 ∷ 187 ∷ 191 ∷ []
+
+-- how a declaration is spelled
+abbrev pub declaration_text : Declaration → List ℕ
+declaration_text undeclared = []
+declaration_text (declared white inner) = declaration_start ++ (white ∷ (inner ++ 62 ∷ []))
+
 -- how a document is spelled
 abbrev pub spelling : Document → List ℕ
-spelling d = d.before ++ (text d.root ++ d.after)
+spelling d = mark_text d.mark ++ (declaration_text d.declaration ++ body_text d.body)
 
 -- whether a name is one of these
 abbrev pub has_name : List ℕ → List (List ℕ) → Bool
@@ -76,6 +109,7 @@ IsStart s = IsName s.name × AreAttributes [] s.attributes × IsWhite s.white
 abbrev pub IsContent : ℕ → Content → Type 0
 IsContent depth nothing = Unit {0}
 IsContent depth (byte b c) = (is_text b ≡ true) × IsContent depth c
+IsContent depth (comment inner c) = IsComment inner × IsContent depth c
 IsContent depth (short s c) = (depth < 32) × IsStart s × IsContent depth c
 IsContent depth (long s inner shut white c) =
     (depth < 32) × IsStart s × IsContent (suc depth) inner × (shut ≡ s.name) × IsWhite white × IsContent depth c
@@ -86,9 +120,25 @@ IsElement (short s nothing) = Unit {0}
 IsElement (long s inner shut white nothing) = Unit {0}
 IsElement _ = ⊥
 
--- the document is in form: one element, with white around it
+-- the content is white and comments
+abbrev pub IsSpace : Content → Type 0
+IsSpace nothing = Unit {0}
+IsSpace (byte b c) = (is_white b ≡ true) × IsSpace c
+IsSpace (comment inner c) = IsComment inner × IsSpace c
+IsSpace _ = ⊥
+
+-- one element, with white and comments around it
+abbrev pub IsBody : Body → Type 0
+IsBody b = IsSpace b.before × IsElement b.root × IsContent 0 b.root × IsSpace b.after
+
+-- the declaration is in form
+abbrev pub IsDeclaration : Declaration → Type 0
+IsDeclaration undeclared = Unit {0}
+IsDeclaration (declared white inner) = (is_white white ≡ true) × IsDeclared inner
+
+-- the document is in form
 abbrev pub IsDocument : Document → Type 0
-IsDocument d = IsWhite d.before × IsElement d.root × IsContent 0 d.root × IsWhite d.after
+IsDocument d = IsDeclaration d.declaration × IsBody d.body
 
 -- a range of places
 abbrev pub span : ℕ → ℕ → Span
@@ -115,6 +165,7 @@ attributes_of at (attribute gap name before after quote value more) =
 abbrev pub attribute_rows : ℕ → Content → List Attribute
 attribute_rows at nothing = []
 attribute_rows at (byte b c) = attribute_rows (at + 1) c
+attribute_rows at (comment inner c) = attribute_rows (at + 4 + length inner + 1) c
 attribute_rows at (short s c) =
     attributes_of (at + 1 + length s.name) s.attributes ++ attribute_rows (at + start_length s + 2) c
 attribute_rows at (long s inner shut white c) =
@@ -125,6 +176,7 @@ attribute_rows at (long s inner shut white c) =
 abbrev pub loose_in : ℕ → Content → Option ℕ
 loose_in at nothing = None
 loose_in at (byte b c) = if is_white b then loose_in (at + 1) c else Some at
+loose_in at (comment inner c) = loose_in (at + 4 + length inner + 1) c
 loose_in at (short s c) = loose_in (at + start_length s + 2) c
 loose_in at (long s inner shut white c) =
     loose_in (at + start_length s + 1 + length (text inner) + 2 + length shut + length white + 1) c
@@ -148,6 +200,7 @@ row parent at s first last value loose = record {
 abbrev pub rows : Option ℕ → ℕ → ℕ → ℕ → Content → List Node
 rows parent number first at nothing = []
 rows parent number first at (byte b c) = rows parent number first (at + 1) c
+rows parent number first at (comment inner c) = rows parent number first (at + 4 + length inner + 1) c
 rows parent number first at (short s c) =
     let after = at + start_length s + 2 in
     row parent at s first (number + 1) (span after after) None ∷ rows parent (number + 1) (first + count s.attributes) after c
@@ -163,16 +216,24 @@ pub record Rows : Type 0 where
   pub nodes : List Node
   pub attributes : List Attribute
 
+-- the place of the outermost element
+abbrev pub root_at : Document → ℕ
+root_at d = length (mark_text d.mark) + length (declaration_text d.declaration) + length (text d.body.before)
+
 -- what a document says
 abbrev pub table : Document → Rows
 table d = record {
-  nodes = rows None 0 0 (length d.before) d.root;
-  attributes = attribute_rows (length d.before) d.root;
+  nodes = rows None 0 0 (root_at d) d.body.root;
+  attributes = attribute_rows (root_at d) d.body.root;
 }
+
+-- the bytes are UTF-8 and spell the document
+abbrev pub IsSpellingOf : List ℕ → Document → Type 0
+IsSpellingOf bytes d = IsUtf8 bytes × IsDocument d × (bytes ≡ spelling d)
 
 -- the bytes spell a document with these rows
 abbrev pub Spells : List ℕ → Rows → Type 0
-Spells bytes found = (d : Document) × IsDocument d × (bytes ≡ spelling d) × (found ≡ table d)
+Spells bytes found = (d : Document) × IsSpellingOf bytes d × (found ≡ table d)
 
 -- what a start tag that begins at a place says of its attributes
 abbrev pub infos : ℕ → Attributes → List AttributeInfo
@@ -186,6 +247,7 @@ infos at (attribute gap name before after quote value more) =
 abbrev pub has_element : Content → Bool
 has_element nothing = false
 has_element (byte b c) = has_element c
+has_element (comment inner c) = has_element c
 has_element (short s c) = true
 has_element (long s inner shut white c) = true
 
@@ -193,6 +255,7 @@ has_element (long s inner shut white c) = true
 abbrev pub forest_at : ℕ → Content → Forest
 forest_at at nothing = no_elements
 forest_at at (byte b c) = forest_at (at + 1) c
+forest_at at (comment inner c) = forest_at (at + 4 + length inner + 1) c
 forest_at at (short s c) =
     let after = at + start_length s + 2 in
     node (record { at = at; name = s.name; attributes = infos (at + 1 + length s.name) s.attributes; value_at = after; value = []; loose = None }) no_elements (forest_at after c)
@@ -203,8 +266,8 @@ forest_at at (long s inner shut white c) =
 
 -- the tree of a document
 abbrev pub forest_of : Document → Forest
-forest_of d = forest_at (length d.before) d.root
+forest_of d = forest_at (root_at d) d.body.root
 
 -- the bytes spell a document with this tree
 abbrev pub Spelled : List ℕ → Forest → Type 0
-Spelled bytes forest = (d : Document) × IsDocument d × (bytes ≡ spelling d) × (forest ≡ forest_of d)
+Spelled bytes forest = (d : Document) × IsSpellingOf bytes d × (forest ≡ forest_of d)

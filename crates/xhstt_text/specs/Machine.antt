@@ -1,8 +1,8 @@
 -- A machine that reads a text a byte at a time. It is a tool of the proofs: the grammar in
 -- `Document` says what a text is, and the reader is shown to do as this machine.
-use Rattle.std.specs.Prelude.{ℕ, ◌+◌, ◌==◌, nat_lt, if◌then◌else◌, List, [], ◌∷◌, ◌++◌, length, set, Option, Some, None, Result, Ok, Err}
+use Rattle.std.specs.Prelude.{Bool, false, ℕ, ◌+◌, ◌==◌, ◌&&◌, nat_lt, nat_le, if◌then◌else◌, List, [], ◌∷◌, ◌++◌, length, set, Option, Some, None, Result, Ok, Err}
 use Rattle.std.specs.Str.{bytes_eq}
-use Rattle.xhstt_text.specs.Bytes.{is_white, is_first, is_name, is_text, is_quoted, is_quote}
+use Rattle.xhstt_text.specs.Bytes.{is_white, is_first, is_name, is_text, is_quoted, is_quote, dashes}
 use Rattle.xhstt_text.specs.Document.{Rows, span, has_name}
 use Rattle.xhstt_text.specs.declared.tree.Node.{Node}
 use Rattle.xhstt_text.specs.declared.tree.Attribute.{Attribute}
@@ -29,10 +29,26 @@ pub record Tag : Type 0 where
   pub first : ℕ
   pub names : List (List ℕ)
 
+-- where a comment stands: before the end of the outermost element, or after it
+pub data Place : Type 0 where
+  early : Place
+  late : Place
+
 -- where the machine is
 pub data Phase : Type 0 where
+  beginning : Phase  -- before all bytes
+  mark_1 : Phase  -- after the first byte of a byte order mark
+  mark_2 : Phase  -- after the second
+  at_declaration : Phase  -- where a declaration may stand
+  declared_open : ℕ → Phase  -- after the `<` at this place, where a declaration may stand
+  question : List ℕ → Phase  -- in `<?xml`: the letters that must follow
+  in_declaration : Bool → Phase  -- in a declaration: whether the last byte was a `?`
   content : Phase  -- between two tags, or before the outermost element
   ended : Phase  -- after the outermost element
+  ended_open : ℕ → Phase  -- after the `<` at this place, which stands after the outermost element
+  bang : Place → Phase  -- after `<!`
+  bang_dash : Place → Phase  -- after `<!-`
+  in_comment : Place → ℕ → Phase  -- in a comment, after so many dashes
   opened : ℕ → Phase  -- after the `<` at this place
   start_name : ℕ → List ℕ → Phase  -- in the name of a start tag
   valued : Tag → Phase  -- after a value, or after the tag's name
@@ -75,6 +91,11 @@ resume (f ∷ fs) = content
 abbrev pub parent_of : List Frame → Option ℕ
 parent_of [] = None
 parent_of (f ∷ fs) = Some f.number
+
+-- where reading goes on after a comment
+abbrev pub phase_of : Place → Phase
+phase_of early = content
+phase_of late = ended
 
 -- the row of a start tag whose content begins at a place, and goes on from there
 abbrev pub opened_row : Tag → Read → ℕ → Node
@@ -119,10 +140,24 @@ step_content (f ∷ fs) r at b =
 
 abbrev pub step_opened : List Frame → ℕ → Read → ℕ → Step
 step_opened [] place r b =
-    if is_first b then state (start_name place (b ∷ [])) r else refused
+    if is_first b then state (start_name place (b ∷ [])) r
+    else (if b == 33 then state (bang early) r else refused)
 step_opened (f ∷ fs) place r b =
     if is_first b then (if nat_lt (length (f ∷ fs)) 32 then state (start_name place (b ∷ [])) r else refused)
-    else (if b == 47 then state (shut_begin place) r else refused)
+    else (if b == 47 then state (shut_begin place) r
+    else (if b == 33 then state (bang early) r else refused))
+
+-- before the outermost element nothing is open
+abbrev pub closed : Read → Read
+closed r = record r { frames = [] }
+
+abbrev pub step_declaration : Read → ℕ → ℕ → Step
+step_declaration r at b =
+    if b == 60 then state (declared_open at) r else (if is_white b then state content (closed r) else refused)
+
+abbrev pub step_question : List ℕ → Read → ℕ → Step
+step_question [] r b = if is_white b then state (in_declaration false) r else refused
+step_question (k ∷ ks) r b = if b == k then state (question ks) r else refused
 
 abbrev pub step_valued : Tag → Read → ℕ → ℕ → Step
 step_valued t r at b =
@@ -156,8 +191,23 @@ abbrev pub start_of : ℕ → List ℕ → Read → Tag
 start_of place name r = record { at = place; name = name; first = length r.attributes; names = [] }
 
 abbrev pub step : Phase → Read → ℕ → ℕ → Step
+step beginning r at b = if b == 239 then state mark_1 r else step_declaration r at b
+step mark_1 r at b = if b == 187 then state mark_2 r else refused
+step mark_2 r at b = if b == 191 then state at_declaration r else refused
+step at_declaration r at b = step_declaration r at b
+step (declared_open place) r at b =
+    if b == 63 then state (question (120 ∷ 109 ∷ 108 ∷ [])) r else step_opened [] place (closed r) b
+step (question ks) r at b = step_question ks r b
+step (in_declaration seen) r at b =
+    if seen && b == 62 then state content (closed r) else state (in_declaration (b == 63)) r
 step content r at b = step_content r.frames r at b
-step ended r at b = if is_white b then state ended r else refused
+step ended r at b =
+    if is_white b then state ended r else (if b == 60 then state (ended_open at) r else refused)
+step (ended_open place) r at b = if b == 33 then state (bang late) r else refused
+step (bang place) r at b = if b == 45 then state (bang_dash place) r else refused
+step (bang_dash place) r at b = if b == 45 then state (in_comment place 0) r else refused
+step (in_comment place count) r at b =
+    if nat_le 2 count && b == 62 then state (phase_of place) r else state (in_comment place (dashes count b)) r
 step (opened place) r at b = step_opened r.frames place r b
 step (start_name place name) r at b =
     if is_name b then state (start_name place (name ++ b ∷ [])) r
@@ -205,4 +255,4 @@ run p r at (b ∷ bs) =
 
 -- over a whole text
 abbrev pub outcome_of : List ℕ → Outcome
-outcome_of bytes = run content (record { frames = []; nodes = []; attributes = [] }) 0 bytes
+outcome_of bytes = run beginning (record { frames = []; nodes = []; attributes = [] }) 0 bytes

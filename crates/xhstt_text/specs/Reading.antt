@@ -1,5 +1,5 @@
 -- How the parts of the reader follow the machine.
-use Rattle.std.specs.Prelude.{ℕ, ◌≡◌, ◌+◌, Bool, false, ◌==◌, List, [], ◌∷◌, ◌++◌, length, map, reverse, Option, None, Result, Ok, Err}
+use Rattle.std.specs.Prelude.{ℕ, ◌≡◌, ◌+◌, Bool, false, ◌==◌, ◌&&◌, List, [], ◌∷◌, ◌++◌, length, map, reverse, Option, None, Result, Ok, Err}
 use Rattle.std.specs.Borrow.{Bor}
 use Rattle.std.specs.BTreeSet.{BTreeSet, contains_by}
 use Rattle.std.specs.Cmp.Lexicographic.{slice_cmp}
@@ -57,10 +57,15 @@ frames_of stack = map frame_of (reverse stack)
 abbrev pub Holds : BTreeSet (Bor (List ℕ)) → List (List ℕ) → Type 0
 Holds set names = (bs : List ℕ) → contains_by (λ k. slice_cmp nat_cmp bs k.now) set ≡ has_name bs names
 
--- where only this may be an end tag
-abbrev pub NoEndTag : List Frame → List ℕ → Type 0
-NoEndTag [] bs = Unit {0}
-NoEndTag (f ∷ fs) bs = begins (is_byte 47) bs ≡ false
+-- whether a comment begins
+abbrev pub begins_comment : List ℕ → Bool
+begins_comment [] = false
+begins_comment (b ∷ bs) = b == 60 && begins (is_byte 33) bs
+
+-- after a `<`, what follows begins neither a comment nor, inside an element, an end tag
+abbrev pub NoOtherTag : List Frame → List ℕ → Type 0
+NoOtherTag [] bs = begins (is_byte 33) bs ≡ false
+NoOtherTag (f ∷ fs) bs = (begins (is_byte 33) bs ≡ false) × (begins (is_byte 47) bs ≡ false)
 
 -- an open element with this loose text
 abbrev pub with_loose_text : Frame → Option ℕ → Frame

@@ -5,7 +5,7 @@ ghost use Rattle.xhstt_text.specs.Reading.{Skips, TakesName, begins, is_byte};
 
 use crate::cursor::Cursor;
 
-fn is_white(byte: u8) -> bool
+pub fn is_white(byte: u8) -> bool
     ensures { result ≡ is_white byte }
 {
     byte == b' ' || byte == b'\t' || byte == b'\n' || byte == b'\r'
@@ -26,7 +26,7 @@ fn is_name(byte: u8) -> bool
 fn is_text(byte: u8) -> bool
     ensures { result ≡ is_text byte }
 {
-    is_white(byte) || (b' ' <= byte && byte <= b'~' && byte != b'<' && byte != b'&')
+    is_white(byte) || (b' ' <= byte && byte != b'<' && byte != b'&' && byte != 0xEF)
 }
 
 fn is_quoted(quote: u8, byte: u8) -> bool
@@ -63,8 +63,8 @@ fn quoted_length(quote: u8, bytes: &[u8]) -> usize
         .count()
 }
 
-// The place so many bytes later.
-fn skip<'a>(here: Cursor<'a>, count: usize) -> Cursor<'a>
+/// The place so many bytes later.
+pub fn skip<'a>(here: Cursor<'a>, count: usize) -> Cursor<'a>
     requires { count ≤ length here.rest.now }
     ensures at { result.at ≡ here.entry.at + count }
     ensures rest { result.rest.now ≡ drop count here.entry.rest.now }

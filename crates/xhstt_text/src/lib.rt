@@ -3,11 +3,13 @@
 
 mod attributes;
 mod bytes;
+mod comments;
 mod cursor;
 mod escaping;
 mod faults;
 mod handles;
 mod names;
+mod prolog;
 mod reader;
 mod table;
 mod tags;

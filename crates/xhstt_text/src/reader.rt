@@ -1,6 +1,6 @@
 ghost use Rattle.std.specs.Prelude.{◌≡◌, ◌<◌, ◌^◌, length, IfOk, Ok, Err, []};
 ghost use Rattle.xhstt_text.specs.Bytes.{is_white};
-ghost use Rattle.xhstt_text.specs.Document.{Document, IsDocument, Rows, Spells, Spelled, spelling, table};
+ghost use Rattle.xhstt_text.specs.Document.{Document, IsSpellingOf, Spelled, Spells, table};
 ghost use Rattle.xhstt_text.specs.FlatTable.{IsTable, root_forest};
 ghost use Rattle.xhstt_text.specs.Forest.{Forest};
 ghost use Rattle.xhstt_text.specs.Machine.{outcome_of, run, ended, Outcome};
@@ -8,8 +8,9 @@ ghost use Rattle.xhstt_text.specs.Reading.{Leads, read_of};
 ghost use Rattle.xhstt_text.specs.declared.faults.TextFault.TheVariants.{NotBuilt};
 
 use crate::TextFault;
-use crate::bytes::white;
+use crate::comments::space;
 use crate::cursor::Cursor;
+use crate::prolog::prolog;
 use crate::table::Table;
 use crate::tags::{next_tag, root};
 use crate::tree::Tree;
@@ -27,7 +28,8 @@ fn tags<'a>(alloc: Global, bytes: &'a [u8]) -> Result<(Table<'a>, Cursor<'a>), T
         stack: Vec::new(alloc),
     };
     let start = Cursor { at: 0, rest: bytes };
-    let mut here = root(alloc, start, &mut table)?;
+    let body = prolog(start)?;
+    let mut here = root(alloc, body, &mut table)?;
     'tags: while let Some(inner) = table.stack.pop() {
         here = next_tag(alloc, here, inner, &mut table)?;
     }
@@ -41,7 +43,8 @@ fn read<'a>(alloc: Global, bytes: &'a [u8]) -> Result<Tree<'a>, TextFault>
     ensures bytes { IfOk result (λ tree. tree.bytes.now ≡ bytes.now) }
 {
     let (table, here) = tags(alloc, bytes)?;
-    if !white(here).rest.is_empty() {
+    let end = space(here)?;
+    if !end.rest.is_empty() {
         return Err(TextFault::NotBuilt);
     }
     let Table {
@@ -58,10 +61,11 @@ fn read<'a>(alloc: Global, bytes: &'a [u8]) -> Result<Tree<'a>, TextFault>
 
 /// Reads a text as the tree of its elements.
 ///
-/// A text has one element, and white around it. An element is `<name ..>`, content and
-/// `</name>`, or `<name ../>`; content is printed ASCII characters and white other than `<` and
-/// `&`, and elements; at most 32 elements are open at once. No two attributes of an element have
-/// one name.
+/// A text is UTF-8. It may begin with a byte order mark, and then with a declaration,
+/// `<?xml ..?>`. It has one element, and white and comments around it. An element is
+/// `<name ..>`, content and `</name>`, or `<name ../>`; content is white, characters other than
+/// `<` and `&` up to U+EFFF, and from U+10000 on, comments and elements; at most 32 elements are
+/// open at once. No two attributes of an element have one name.
 ///
 /// `NotBuilt` comes exactly where the bytes spell no such text. The time grows with the length of
 /// the bytes, and with the logarithm of the number of attributes of one element.
@@ -70,16 +74,19 @@ pub fn elements<'a>(alloc: Global, bytes: &'a [u8]) -> Result<Tree<'a>, TextFaul
 
     // The tree is the one that the bytes spell, and they spell no other.
     ensures found { IfOk result (λ tree. Spells bytes.now (record { nodes = tree.nodes; attributes = tree.attributes })) }
-    ensures only { IfOk result (λ tree. (d : Document) → IsDocument d → bytes.now ≡ spelling d → table d ≡ record { nodes = tree.nodes; attributes = tree.attributes }) }
+    ensures only { IfOk result (λ tree. (d : Document) → IsSpellingOf bytes.now d → table d ≡ record { nodes = tree.nodes; attributes = tree.attributes }) }
     ensures bytes { IfOk result (λ tree. tree.bytes.now ≡ bytes.now) }
 
-    // Its table stands for a forest of elements, the only one that the bytes spell.
+    // Its rows keep the bounds of a table, and stand for the forest that the bytes spell.
     ensures table { IfOk result IsTable }
     ensures spelled { IfOk result (λ tree. Spelled bytes.now (root_forest tree)) }
     ensures one_forest { IfOk result (λ tree. (f : Forest) → Spelled bytes.now f → root_forest tree ≡ f) }
 
-    ensures not_built { result ≡ Err NotBuilt → (d : Document) → IsDocument d → bytes.now ≡ spelling d → ⊥ }
+    ensures not_built { result ≡ Err NotBuilt → (d : Document) → IsSpellingOf bytes.now d → ⊥ }
 {
+    if str::from_utf8(bytes).is_err() {
+        return Err(TextFault::NotBuilt);
+    }
     read(alloc, bytes)
 }
 
@@ -141,6 +148,13 @@ mod tests {
         assert!(rt; is_read(&rt, " \t\r\n<a >\n</a >\n"));
         assert!(rt; is_read(&rt, "<_.-9 a = '\"' b=\"'>\" />"));
         assert!(rt; is_read(&rt, "<a>x<b/>y<b>z</b></a>"));
+        assert!(rt;
+            is_read(
+                &rt,
+                "<?xml version='1.0'?>\n<!-- - -->\n<a>é<!--<b>--></a><!---->"
+            )
+        );
+        assert!(rt; is_read(&rt, "\u{feff}<?xml ??><a/>"));
     }
 
     #[test]
@@ -158,6 +172,10 @@ mod tests {
         assert!(rt; !is_read(&rt, "<a x='1'y='2'/>"));
         assert!(rt; !is_read(&rt, "<a x/>"));
         assert!(rt; !is_read(&rt, "<a x='<'/>"));
+        assert!(rt; !is_read(&rt, "<!--><a/>"));
+        assert!(rt; !is_read(&rt, "<?xml?><a/>"));
+        assert!(rt; !is_read(&rt, " <?xml ?><a/>"));
+        assert!(rt; !is_read(&rt, "<!DOCTYPE a><a/>"));
         assert!(rt; !is_read(&rt, "<a>&amp;</a>"));
     }
 }

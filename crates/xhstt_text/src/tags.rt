@@ -2,12 +2,13 @@ ghost use Rattle.std.specs.Prelude.{◌≡◌, ◌<◌, ◌≤◌, ◌+◌, ◌�
 ghost use Rattle.xhstt_text.specs.Bytes.{is_first, is_name, is_text, is_white, is_quote};
 ghost use Rattle.xhstt_text.specs.Document.{has_name};
 ghost use Rattle.xhstt_text.specs.Machine.{Frame, Tag, Read, run, content, opened, valued, attribute_name, in_value, equals, shut_begin, with_name, attribute_row, resume, close_element, parent_of, opened_row, Outcome, refused};
-ghost use Rattle.xhstt_text.specs.Reading.{Leads, Skips, begins, is_byte, read_of, bare, frame_of, frames_of, NoEndTag, with_loose_text};
+ghost use Rattle.xhstt_text.specs.Reading.{Leads, Skips, begins, is_byte, read_of, bare, frame_of, frames_of, NoOtherTag, with_loose_text};
 ghost use Rattle.xhstt_text.specs.declared.tree.Attribute.{Attribute};
 ghost use Rattle.xhstt_text.specs.declared.tree.Node.{Node};
 
 use crate::TextFault;
 use crate::bytes::{name, past, quoted, text, white};
+use crate::comments::{comment, space};
 use crate::cursor::Cursor;
 use crate::names::{add_name, no_names};
 use crate::table::{OpenElement, StartTag, Table};
@@ -151,7 +152,7 @@ fn start_tag<'a>(
 ) -> Result<Cursor<'a>, TextFault>
     requires place { inside.at ≡ at + 1 }
     requires parent { parent ≡ parent_of (frames_of table.old.stack.items) }
-    requires start { NoEndTag (frames_of table.old.stack.items) inside.rest.now }
+    requires start { NoOtherTag (frames_of table.old.stack.items) inside.rest.now }
     requires count { length table.old.nodes.items ≤ at }
     ensures leads { Leads result
         (run (opened at) (read_of (frames_of table.old.stack.items) table.old.nodes.items table.old.attributes.items) inside.entry.at inside.entry.rest.now)
@@ -207,7 +208,8 @@ fn end_of_start<'a>(
     Ok(end)
 }
 
-/// Over text and the next tag, inside the innermost element, which was taken off the stack.
+/// Over text and the next tag or comment, inside the innermost element, which was taken off the
+/// stack.
 pub fn next_tag<'a>(
     alloc: Global,
     here: Cursor<'a>,
@@ -236,12 +238,15 @@ pub fn next_tag<'a>(
         Some(shut) => end_tag(tag.at, shut, inner, table),
         None => {
             table.stack.push(inner)?;
-            start_tag(alloc, tag.at, inside, Some(inner.number), table)
+            match past(inside, b'!') {
+                Some(bang) => comment(bang),
+                None => start_tag(alloc, tag.at, inside, Some(inner.number), table),
+            }
         }
     }
 }
 
-/// Over the white before the outermost element, and its start tag.
+/// Over white and comments before the outermost element, and its start tag.
 pub fn root<'a>(
     alloc: Global,
     here: Cursor<'a>,
@@ -255,7 +260,7 @@ pub fn root<'a>(
         (λ q. run (resume (frames_of table.new.stack.items)) (read_of (frames_of table.new.stack.items) table.new.nodes.items table.new.attributes.items) q.at q.rest.now) }
     ensures count { IfOk result (λ q. length table.new.nodes.items ≤ q.at) }
 {
-    let tag = white(here);
+    let tag = space(here)?;
     let Some(inside) = past(tag, b'<') else {
         return Err(TextFault::NotBuilt);
     };

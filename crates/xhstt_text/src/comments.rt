@@ -1,0 +1,68 @@
+ghost use Rattle.std.specs.Prelude.{◌≡◌, ◌<◌, ◌≤◌, false, length, IfOk, MatchOption, [], Err, List};
+ghost use Rattle.xhstt_text.specs.Bytes.{is_white};
+ghost use Rattle.xhstt_text.specs.Machine.{Place, Read, bang, in_comment, phase_of, run};
+ghost use Rattle.xhstt_text.specs.Reading.{Leads, begins, begins_comment, read_of};
+ghost use Rattle.xhstt_text.specs.declared.faults.TextFault.TheVariants.{NotBuilt};
+ghost use Rattle.xhstt_text.specs.declared.tree.Attribute.{Attribute};
+ghost use Rattle.xhstt_text.specs.declared.tree.Node.{Node};
+
+use crate::TextFault;
+use crate::bytes::{past, skip, white};
+use crate::cursor::Cursor;
+
+// The place after the first `>` with two dashes before it.
+fn comment_end<'a>(from: Cursor<'a>) -> Option<Cursor<'a>>
+    ensures leads { (place : Place) (r : Read) → MatchOption result (run (in_comment place 0) r from.entry.at from.entry.rest.now ≡ Err NotBuilt)
+        (λ q. run (in_comment place 0) r from.entry.at from.entry.rest.now ≡ run (phase_of place) r q.at q.rest.now) }
+    ensures onward { MatchOption result (Unit {0}) (λ q. (length q.rest.now < length from.entry.rest.now) × (from.entry.at ≤ q.at)) }
+{
+    let mut here = from;
+    let mut dashes = 0usize;
+    'bytes: while let [first, ..] = here.rest {
+        let next = skip(here, 1);
+        if dashes >= 2 && *first == b'>' {
+            return Some(next);
+        }
+        dashes = if *first == b'-' { dashes + 1 } else { 0 };
+        here = next;
+    }
+    None
+}
+
+/// Over a comment, from after its `<!`.
+pub fn comment<'a>(from: Cursor<'a>) -> Result<Cursor<'a>, TextFault>
+    ensures leads { (place : Place) (r : Read) → Leads result (run (bang place) r from.entry.at from.entry.rest.now) (λ q. run (phase_of place) r q.at q.rest.now) }
+    ensures onward { IfOk result (λ q. (length q.rest.now < length from.entry.rest.now) × (from.entry.at ≤ q.at)) }
+{
+    let Some(dash) = past(from, b'-') else {
+        return Err(TextFault::NotBuilt);
+    };
+    let Some(inner) = past(dash, b'-') else {
+        return Err(TextFault::NotBuilt);
+    };
+    let Some(end) = comment_end(inner) else {
+        return Err(TextFault::NotBuilt);
+    };
+    Ok(end)
+}
+
+/// Over white and comments outside the outermost element.
+pub fn space<'a>(from: Cursor<'a>) -> Result<Cursor<'a>, TextFault>
+    ensures leads { (place : Place) (nodes : List Node) (rows : List Attribute) → Leads result
+        (run (phase_of place) (read_of [] nodes rows) from.entry.at from.entry.rest.now)
+        (λ q. run (phase_of place) (read_of [] nodes rows) q.at q.rest.now) }
+    ensures stops { IfOk result (λ q. (begins is_white q.rest.now ≡ false) × (begins_comment q.rest.now ≡ false)) }
+    ensures onward { IfOk result (λ q. from.entry.at ≤ q.at) }
+{
+    let mut here = from;
+    'space: loop {
+        let start = white(here);
+        let Some(tag) = past(start, b'<') else {
+            return Ok(start);
+        };
+        let Some(bang) = past(tag, b'!') else {
+            return Ok(start);
+        };
+        here = comment(bang)?;
+    }
+}
