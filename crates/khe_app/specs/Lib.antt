@@ -7,6 +7,7 @@ pub mod Lines
 pub mod Meets
 pub mod Numbered
 pub mod Outcome
+pub mod PlainText
 pub mod Report
 pub mod Resolved
 pub mod Words

@@ -1,10 +1,11 @@
 -- What `khe` is to answer: a status and a text, by the words and by what stands under the names.
-use Rattle.std.specs.Prelude.{ℕ, ◌≡◌, ◌<◌, ◌≤◌, ◌⊎◌, Option, Some, None, List, [], ◌++◌, length, encode_utf8_all}
+use Rattle.std.specs.Prelude.{ℕ, ◌≡◌, true, ◌<◌, ◌≤◌, ◌⊎◌, Option, Some, None, List, [], ◌++◌, length, encode_utf8_all}
 use Rattle.khe_base.specs.declared.limits.TheConstants.{ARCHIVE_BYTES}
 use Rattle.xhstt_text.specs.Forest.{Forest}
 use Rattle.xhstt_text.specs.Document.{Spelled}
 use Rattle.khe_app.specs.FirstForm.{archive_of}
 use Rattle.khe_app.specs.Resolved.{Resolves}
+use Rattle.khe_app.specs.PlainText.{is_plain_text}
 use Rattle.khe_app.specs.Report.{report}
 use Rattle.khe_app.specs.Lines.{not_understood_line, too_large_line, not_built_line}
 use Rattle.khe_app.specs.Words.{archive_name}
@@ -17,6 +18,7 @@ pub record Says (tree : Forest) (a : Archive) : Type 0 where
 
 -- the bytes are a text of the first form, and say this archive
 pub record IsFirstForm (bytes : List ℕ) (a : Archive) : Type 0 where
+  pub plain : is_plain_text bytes ≡ true
   pub tree : Forest
   pub spelled : Spelled bytes tree
   pub says : Says tree a

@@ -9,6 +9,7 @@ ghost use Rattle.khe_app.specs.declared.archive.Archive.{Archive};
 use crate::archive::Archive;
 use crate::first_form::archive;
 use crate::numbered::Numbered;
+use crate::plain::is_plain;
 use crate::reports::report;
 use crate::resolving::resolve;
 use khe_base::{NoMemory, Text};
@@ -72,6 +73,9 @@ fn read(alloc: Global, bytes: &[u8]) -> Result<Option<NumberedArchive>, NoMemory
     requires { length bytes.now ≤ ARCHIVE_BYTES }
     ensures { IfOk result (λ r. MatchOption r ((a : Archive) → IsFirstForm bytes.now a → ⊥) (IsReadAs bytes.now)) }
 {
+    if !is_plain(bytes) {
+        return Ok(None);
+    }
     match elements(alloc, bytes) {
         Ok(tree) => read_tree(alloc, &tree),
         Err(TextFault::NotBuilt) => Ok(None),

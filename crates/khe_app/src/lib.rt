@@ -14,6 +14,7 @@ mod meets;
 mod monitors;
 mod named;
 mod numbered;
+mod plain;
 mod program;
 mod reading;
 mod reports;
