@@ -7,11 +7,29 @@ pub const ARCHIVE_BYTES: u64 = 67_108_864;
 /// The greatest value of a number of an archive, but for the upper bounds of constraints.
 pub const NUMBER: u32 = 1_000_000;
 
+/// The greatest upper bound of a constraint: 2^31 - 1. A missing one is this number.
+pub const GREATEST_BOUND: u32 = 2_147_483_647;
+
 /// The greatest number of times of an instance.
 pub const TIMES: u32 = 2_000;
 
+/// The greatest number of time groups of an instance, weeks and days among them.
+pub const TIME_GROUPS: u32 = 10_000;
+
+/// The greatest number of resource types of an instance.
+pub const RESOURCE_TYPES: u32 = 1_000;
+
+/// The greatest number of resources of an instance.
+pub const RESOURCES: u32 = 10_000;
+
+/// The greatest number of resource groups of an instance.
+pub const RESOURCE_GROUPS: u32 = 10_000;
+
 /// The greatest number of events of an instance.
 pub const EVENTS: u32 = 10_000;
+
+/// The greatest number of event groups of an instance, courses among them.
+pub const EVENT_GROUPS: u32 = 10_000;
 
 /// The greatest number of constraints of an instance.
 pub const CONSTRAINTS: u32 = 10_000;
@@ -19,8 +37,21 @@ pub const CONSTRAINTS: u32 = 10_000;
 /// The greatest sum of the durations of the events of an instance.
 pub const DURATION: u32 = 100_000;
 
+/// The greatest number of tasks of an instance: for each event its duration times its resources.
+pub const TASKS: u32 = 200_000;
+
+/// The greatest number of cells of an instance: its resources times its times.
+pub const CELLS: u32 = 4_000_000;
+
+/// The greatest number of time groups that one constraint lists.
+pub const LISTED: u32 = 10_000;
+
 /// The greatest number of monitors of an instance.
 pub const MONITORS: u32 = 1_000_000;
+
+/// The greatest number of watches of an instance: the events and the listed times that its
+/// monitors name, together.
+pub const WATCHES: u32 = 8_000_000;
 
 /// The greatest least common multiple of the durations of the events of an instance: 2^62.
 pub const UNIT: u64 = 4_611_686_018_427_387_904;
