@@ -1,0 +1,10 @@
+pub mod Costs
+pub mod Deviation
+pub mod EventDeviation
+pub mod Examples
+pub mod Kinds
+pub mod ResourceDeviation
+pub mod Running
+pub mod Slots
+pub mod WellMade
+pub mod Within

@@ -1,0 +1,156 @@
+ghost use Rattle.std.specs.Prelude.{◌≡◌, ◌<◌, ◌≤◌, ◌+◌, Some, length, slice_get};
+ghost use Rattle.std.specs.Option.{option_map};
+ghost use Rattle.khe_instance.specs.Slots.{HasSlot};
+ghost use Rattle.khe_instance.specs.WellMade.{AreWellMade};
+
+use crate::parts::{EventInfo, Parts};
+use crate::points::Monitor;
+use crate::rules::Constraint;
+use khe_base::{EventId, IdSet, MeetId, MonitorId, NoMemory, ResourceId, Seq, Text, TimeId};
+use std::alloc::Global;
+use std::marker::Model;
+
+/// An instance: parts that are well made. It does not change. Contracts see its parts.
+///
+/// No call but `new` takes memory, and each takes constant time.
+#[derive(Drop)]
+pub struct Instance {
+    parts: Parts,
+    /// The event of each meet slot.
+    slots: Vec<u32>,
+}
+
+impl Model for Instance {
+    ghost use Rattle.khe_instance.specs.declared.parts.Parts.{Parts};
+    ghost use Rattle.khe_instance.specs.Slots.{slots_from};
+    ghost use Rattle.khe_instance.specs.WellMade.{AreWellMade};
+    ghost use Rattle.std.specs.Prelude.{◌≡◌};
+
+    ghost Value = { Parts };
+
+    ghost view = { λ i. i.parts };
+
+    ghost invariant = { λ i. AreWellMade i.parts × (i.slots.items ≡ slots_from 0 i.parts.events) };
+}
+
+impl Instance {
+    /// What is true of every instance: its parts are well made.
+    pub fn facts(&self)
+        ensures { AreWellMade self.now }
+    {
+        let _ = &self.parts;
+    }
+
+    /// How many times there are.
+    pub fn times(&self) -> u32
+        ensures { result ≡ length self.now.times }
+    {
+        self.parts.times.len() as u32
+    }
+
+    /// How many resource types there are.
+    pub fn types(&self) -> u32
+        ensures { result ≡ self.now.types }
+    {
+        self.parts.types
+    }
+
+    /// How many resources there are.
+    pub fn resources(&self) -> u32
+        ensures { result ≡ length self.now.resources }
+    {
+        self.parts.resources.len() as u32
+    }
+
+    /// How many events there are.
+    pub fn events(&self) -> u32
+        ensures { result ≡ length self.now.events }
+    {
+        self.parts.events.len() as u32
+    }
+
+    /// How many event groups there are, courses among them.
+    pub fn event_groups(&self) -> u32
+        ensures { result ≡ length self.now.groups }
+    {
+        self.parts.groups.len() as u32
+    }
+
+    /// How many monitors there are.
+    pub fn monitors(&self) -> u32
+        ensures { result ≡ length self.now.monitors }
+    {
+        self.parts.monitors.len() as u32
+    }
+
+    /// The least common multiple of all durations of events, and 1 where there are none.
+    pub fn unit(&self) -> u64
+        ensures { result ≡ self.now.unit }
+    {
+        self.parts.unit
+    }
+
+    /// The event with this number.
+    pub fn event(&self, event: EventId) -> &EventInfo
+        requires { event.0 < length self.now.events }
+        ensures { slice_get self.now.events event.0 ≡ Some result.now }
+    {
+        &self.parts.events.as_slice()[event.0 as usize]
+    }
+
+    /// The constraint with this number.
+    pub fn constraint(&self, constraint: u32) -> &Constraint
+        requires { constraint < length self.now.constraints }
+        ensures { slice_get self.now.constraints constraint ≡ Some result.now }
+    {
+        &self.parts.constraints.as_slice()[constraint as usize]
+    }
+
+    /// The monitor with this number.
+    pub fn monitor(&self, monitor: MonitorId) -> Monitor
+        requires { monitor.0 < length self.now.monitors }
+        ensures { slice_get self.now.monitors monitor.0 ≡ Some result }
+    {
+        self.parts.monitors.as_slice()[monitor.0 as usize]
+    }
+
+    /// The type of a resource.
+    pub fn type_of(&self, resource: ResourceId) -> u32
+        requires { resource.0 < length self.now.resources }
+        ensures { option_map (λ r. r.rtype) (slice_get self.now.resources resource.0) ≡ Some result }
+    {
+        self.parts.resources.as_slice()[resource.0 as usize].rtype
+    }
+
+    /// The events of an event group.
+    pub fn event_group(&self, group: u32) -> &IdSet
+        requires { group < length self.now.groups }
+        ensures { option_map (λ g. g.events) (slice_get self.now.groups group) ≡ Some result.now }
+    {
+        &self.parts.groups.as_slice()[group as usize].events
+    }
+
+    /// The Id of a time.
+    pub fn time_id(&self, time: TimeId) -> &Text
+        requires { time.0 < length self.now.times }
+        ensures { slice_get self.now.times time.0 ≡ Some result.now }
+    {
+        &self.parts.times.as_slice()[time.0 as usize]
+    }
+
+    /// The Id of a resource.
+    pub fn resource_id(&self, resource: ResourceId) -> &Text
+        requires { resource.0 < length self.now.resources }
+        ensures { option_map (λ r. r.id) (slice_get self.now.resources resource.0) ≡ Some result.now }
+    {
+        &self.parts.resources.as_slice()[resource.0 as usize].id
+    }
+
+    /// The Id of an event group.
+    pub fn group_id(&self, group: u32) -> &Text
+        requires { group < length self.now.groups }
+        ensures { option_map (λ g. g.id) (slice_get self.now.groups group) ≡ Some result.now }
+    {
+        &self.parts.groups.as_slice()[group as usize].id
+    }
+}

@@ -1,0 +1,17 @@
+//! An instance of the high school timetabling problem: its times, resources, events, constraints
+//! and monitors, and the timetables that are made for it.
+#![tactic(auto)]
+
+#[cfg(test)]
+mod examples;
+mod instances;
+mod parts;
+mod points;
+mod rules;
+mod states;
+
+pub use instances::Instance;
+pub use parts::{EventInfo, GroupInfo, Parts, Place, ResourceInfo};
+pub use points::{Monitor, Point};
+pub use rules::{Constraint, EventPair, Kind, Rule, Spread};
+pub use states::{Group, Meet, Plain, Task};

@@ -1,0 +1,113 @@
+use khe_base::{CostFn, EventId, IdSet, Seq, Text};
+
+/// The sixteen kinds of constraints of the XHSTT format.
+#[derive(Clone, Copy, Debug, PartialEq, Eq)]
+pub enum Kind {
+    AssignTime,
+    AssignResource,
+    SplitEvents,
+    DistributeSplitEvents,
+    PreferTimes,
+    PreferResources,
+    AvoidSplitAssignments,
+    SpreadEvents,
+    LinkEvents,
+    OrderEvents,
+    AvoidClashes,
+    AvoidUnavailableTimes,
+    LimitIdleTimes,
+    ClusterBusyTimes,
+    LimitBusyTimes,
+    LimitWorkload,
+}
+
+/// A time group with bounds on how many meets start in it.
+#[derive(Debug, Drop)]
+pub struct Spread {
+    pub group: IdSet,
+    pub min: u32,
+    pub max: u32,
+}
+
+/// Two events of which the first is to end before the second begins, with bounds on the times
+/// between them.
+#[derive(Clone, Copy, Debug, PartialEq, Eq)]
+pub struct EventPair {
+    pub first: EventId,
+    pub second: EventId,
+    pub min: u32,
+    pub max: u32,
+}
+
+/// What a constraint asks for, by its kind. Sets of times are as large as the instance has times,
+/// sets of resources as it has resources.
+#[derive(Debug, Drop)]
+pub enum Rule {
+    AssignTime,
+    AssignResource {
+        role: Text,
+    },
+    SplitEvents {
+        min_duration: u32,
+        max_duration: u32,
+        min_amount: u32,
+        max_amount: u32,
+    },
+    DistributeSplitEvents {
+        duration: u32,
+        min: u32,
+        max: u32,
+    },
+    PreferTimes {
+        times: IdSet,
+        duration: Option<u32>,
+    },
+    PreferResources {
+        resources: IdSet,
+        role: Text,
+    },
+    AvoidSplitAssignments {
+        role: Text,
+    },
+    SpreadEvents {
+        groups: Seq<Spread>,
+    },
+    LinkEvents,
+    OrderEvents {
+        pairs: Seq<EventPair>,
+    },
+    AvoidClashes,
+    AvoidUnavailableTimes {
+        times: IdSet,
+    },
+    LimitIdleTimes {
+        groups: Seq<IdSet>,
+        min: u32,
+        max: u32,
+    },
+    ClusterBusyTimes {
+        groups: Seq<IdSet>,
+        min: u32,
+        max: u32,
+    },
+    LimitBusyTimes {
+        groups: Seq<IdSet>,
+        min: u32,
+        max: u32,
+    },
+    LimitWorkload {
+        min: u32,
+        max: u32,
+    },
+}
+
+/// A constraint of an instance.
+#[derive(Debug, Drop)]
+pub struct Constraint {
+    pub id: Text,
+    /// Whether its cost is hard.
+    pub required: bool,
+    pub weight: u32,
+    pub cost: CostFn,
+    pub rule: Rule,
+}

@@ -1,0 +1,36 @@
+use khe_base::{EventId, GroupId, MeetId, MonitorId, ResourceId, Seq, TaskId, TimeId};
+
+/// A meet: a part of an event that is held without a break.
+#[derive(Clone, Copy, Debug, PartialEq, Eq)]
+pub struct Meet {
+    pub meet: MeetId,
+    pub event: EventId,
+    /// In times, at least 1.
+    pub duration: u32,
+    pub start: Option<TimeId>,
+}
+
+/// A task: what one place of a meet's event is given in this meet.
+#[derive(Clone, Copy, Debug, PartialEq, Eq)]
+pub struct Task {
+    pub task: TaskId,
+    pub resource: Option<ResourceId>,
+}
+
+/// A group of monitors whose costs are added up.
+#[derive(Debug, Drop)]
+pub struct Group {
+    pub group: GroupId,
+    /// In the order in which they were added.
+    pub children: Seq<MonitorId>,
+}
+
+/// A timetable as plain lists, each ascending in its number.
+#[derive(Debug, Drop)]
+pub struct Plain {
+    pub meets: Seq<Meet>,
+    pub tasks: Seq<Task>,
+    /// The monitors that cost nothing whatever their deviation.
+    pub detached: Seq<MonitorId>,
+    pub groups: Seq<Group>,
+}
