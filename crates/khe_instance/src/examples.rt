@@ -6,6 +6,10 @@ ghost use Rattle.khe_instance.specs.EventDeviation as event;
 ghost use Rattle.khe_instance.specs.ResourceDeviation as resource;
 ghost use Rattle.khe_instance.specs.Examples.{meet, unplaced, task, free, given, day, two, lecture, spread};
 
+use crate::{Instance, Parts};
+use khe_base::{Seq, Text};
+use std::test::Fail;
+
 // A meet of duration 3 without a start, and one that is placed.
 fn assign_time_adds_durations()
     ensures { event.assign_time (unplaced 0 0 3 ∷ meet 3 1 2 0 ∷ []) 0 ≡ 3 }
@@ -116,4 +120,28 @@ fn examples_are_proved() {
     cluster_busy_times_counts_groups();
     limit_busy_times_passes_over_free_groups();
     limit_workload_rounds_once();
+}
+
+fn is_shared<T: Send + Sync>(_value: &T) {}
+
+// An instance without times, resources and events.
+#[test]
+fn an_instance_of_nothing(rt: HostRuntime) -> Result<(), Fail> {
+    let alloc = rt.alloc();
+    let parts = Parts {
+        id: Text::from_str(alloc, "nothing")?,
+        times: Seq::new(alloc),
+        types: 0,
+        resources: Seq::new(alloc),
+        groups: Seq::new(alloc),
+        events: Seq::new(alloc),
+        constraints: Seq::new(alloc),
+        monitors: Seq::new(alloc),
+        unit: 1,
+    };
+    let instance = Instance::new(alloc, parts)?;
+    is_shared(&instance);
+    assert_eq!(rt; instance.times(), 0);
+    assert_eq!(rt; instance.unit(), 1);
+    Ok(())
 }

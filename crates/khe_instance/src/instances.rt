@@ -1,6 +1,8 @@
-ghost use Rattle.std.specs.Prelude.{◌≡◌, ◌<◌, ◌≤◌, ◌+◌, Some, length, slice_get};
+ghost use Rattle.std.specs.Prelude.{◌≡◌, ◌<◌, ◌≤◌, ◌+◌, ◌++◌, Some, length, slice_get, replicate, IfOk, OnOk};
 ghost use Rattle.std.specs.Option.{option_map};
-ghost use Rattle.khe_instance.specs.Slots.{HasSlot};
+ghost use Rattle.std.specs.List.{sum_by};
+ghost use Rattle.khe_base.specs.declared.limits.TheConstants.{EVENTS};
+ghost use Rattle.khe_instance.specs.Slots.{HasSlot, slots_from};
 ghost use Rattle.khe_instance.specs.WellMade.{AreWellMade};
 
 use crate::parts::{EventInfo, Parts};
@@ -34,6 +36,16 @@ impl Model for Instance {
 }
 
 impl Instance {
+    /// The instance with these parts. It takes time and memory in proportion to the durations of
+    /// all events together.
+    pub fn new(alloc: Global, parts: Parts) -> Result<Instance, NoMemory>
+        requires { AreWellMade parts }
+        ensures { IfOk result (λ i. i ≡ parts) }
+    {
+        let slots = slots_of(alloc, parts.events.as_slice())?;
+        Ok(Instance { parts, slots })
+    }
+
     /// What is true of every instance: its parts are well made.
     pub fn facts(&self)
         ensures { AreWellMade self.now }
@@ -98,6 +110,15 @@ impl Instance {
         &self.parts.events.as_slice()[event.0 as usize]
     }
 
+    /// The event that has this meet slot.
+    pub fn event_of(&self, meet: MeetId) -> EventId
+        requires { meet.0 < sum_by (λ e. e.duration) self.now.events }
+        ensures { HasSlot self.now.events result.0 meet.0 }
+    {
+        let slots = self.slots.as_slice();
+        EventId(slots[meet.0 as usize])
+    }
+
     /// The constraint with this number.
     pub fn constraint(&self, constraint: u32) -> &Constraint
         requires { constraint < length self.now.constraints }
@@ -153,4 +174,26 @@ impl Instance {
     {
         &self.parts.groups.as_slice()[group as usize].id
     }
+}
+
+/// The event of each meet slot, in order.
+fn slots_of(alloc: Global, events: &[EventInfo]) -> Result<Vec<u32>, NoMemory>
+    requires { length events.now ≤ EVENTS }
+    ensures { IfOk result (λ slots. slots.items ≡ slots_from 0 events.now) }
+{
+    let mut slots = Vec::new(alloc);
+    for (number, event) in events.iter().enumerate() {
+        push_slots(&mut slots, number as u32, event.duration)?;
+    }
+    Ok(slots)
+}
+
+/// Adds so many slots of the event with this number.
+fn push_slots(slots: &mut Vec<u32>, event: u32, count: u32) -> Result<(), NoMemory>
+    ensures { OnOk result (slots.new.items ≡ slots.old.items ++ replicate count event) }
+{
+    for _ in 0..count {
+        slots.push(event)?;
+    }
+    Ok(())
 }
