@@ -55,6 +55,13 @@ impl Mask {
         Ok(mask)
     }
 
+    /// The size: the number of times, members or not. It takes constant time.
+    pub fn size(&self) -> u32
+        ensures { result ≡ length self.now }
+    {
+        self.size
+    }
+
     fn empty(alloc: Global, size: u32) -> Result<Mask, NoMemory>
         ensures { IfOk result (λ m. m ≡ replicate size false) }
     {
