@@ -1,8 +1,7 @@
 -- Bits of words, and rows of bits.
-use Rattle.std.proofs.Common.{◌≡◌, ◌≢◌, ◌∙◌, sym, ap, ap₂, subst, refl, ℕ, ◌+◌, ◌-◌, ◌*◌, ◌/◌, ◌%◌, ◌^◌, ◌<◌, ◌≤◌, min, Bool, true, false, not, ◌&&◌, cond, if◌then◌else◌, nat_eq, List, length, get_or, set, arith, count_ones, bit_and, bit_or, zero, suc, ◌⊎◌, inl, inr}
-use Rattle.std.specs.Int.{bit_at, bit_not, trailing_zeros, leading_zeros, w64}
-use Rattle.std.proofs.lemmas.Nat.{pow_pos, mod-pow-add, ones_cat, leading_top, and_le_l, shr_split}
-use Rattle.std.proofs.lemmas.Nat.Bits.{bit_at-lt, bit_at_and, bit_at_not, bit_at_set_same, bit_at_set_other, bit_at_clear_same, bit_at_clear_other, bit_at-trailing_zeros, bit_at_above, bit_at-zero}
+use Rattle.std.proofs.Common.{◌≡◌, ◌≢◌, ◌∙◌, sym, ap, ap₂, refl, ℕ, ◌+◌, ◌-◌, ◌*◌, ◌/◌, ◌%◌, ◌^◌, ◌<◌, min, Bool, true, false, not, ◌&&◌, cond, if◌then◌else◌, nat_eq, List, length, get_or, set, arith, bit_and, ◌⊎◌, inl, inr}
+use Rattle.std.specs.Int.{bit_at, bit_not, w64}
+use Rattle.std.proofs.lemmas.Nat.Bits.{bit_at-lt, bit_at_and, bit_at_not}
 use Rattle.std.proofs.lemmas.List.{get_or-set_same, get_or-set_other}
 use Rattle.std.proofs.lemmas.Bool.Decides.{nat_tests}
 use Rattle.timetables.specs.Bits.{has_bit, is_set}

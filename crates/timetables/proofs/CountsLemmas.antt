@@ -1,5 +1,5 @@
 -- How many numbers below a bound pass a test, and the idle times among members.
-use Rattle.std.proofs.Common.{◌≡◌, ◌≢◌, ◌∙◌, sym, ap, ap₂, subst, refl, ℕ, ◌+◌, ◌-◌, ◌*◌, ◌%◌, ◌/◌, ◌^◌, ◌<◌, ◌≤◌, Bool, true, false, not, ◌&&◌, ◌||◌, cond, List, [], ◌∷◌, ◌++◌, length, get_or, arith, count_ones, count_by, map, map-id, zero, suc, add-one, add-zero, ◌⊎◌, inl, inr, mod-lt, add-sub_of_le, true≢false}
+use Rattle.std.proofs.Common.{◌≡◌, ◌∙◌, sym, ap, ap₂, subst, refl, ℕ, ◌+◌, ◌-◌, ◌*◌, ◌%◌, ◌/◌, ◌^◌, ◌<◌, ◌≤◌, Bool, true, false, not, ◌&&◌, ◌||◌, cond, [], ◌∷◌, ◌++◌, length, get_or, arith, count_ones, count_by, map-id, zero, suc, add-zero, ◌⊎◌, inl, inr, mod-lt, add-sub_of_le, true≢false}
 use Rattle.std.specs.Int.{bit_at}
 use Rattle.std.specs.List.{range_with_len, list_any}
 use Rattle.std.specs.Int.Count.{ones}

@@ -1,7 +1,6 @@
 -- Sets of times as rows of bits.
-use Rattle.std.proofs.Common.{◌≡◌, ◌≢◌, ◌∙◌, sym, ap, ap₂, subst, refl, ℕ, ◌+◌, ◌-◌, ◌*◌, ◌%◌, ◌/◌, ◌^◌, ◌<◌, ◌≤◌, min, max, Bool, true, false, not, ◌&&◌, cond, if◌then◌else◌, nat_eq, nat_lt, List, [], ◌∷◌, length, get_or, set, replicate, map, arith, count_ones, bit_and, zero, suc, ◌⊎◌, inl, inr, mod-eq_of_lt, lt_of_le_of_lt, subst₂, true≢false}
+use Rattle.std.proofs.Common.{◌≡◌, ◌≢◌, ◌∙◌, sym, ap, ap₂, subst, refl, ℕ, ◌+◌, ◌*◌, ◌%◌, ◌/◌, ◌^◌, ◌<◌, ◌≤◌, min, max, Bool, true, false, not, ◌&&◌, if◌then◌else◌, nat_eq, List, length, get_or, set, replicate, arith, count_ones, bit_and, zero, suc, ◌⊎◌, inl, inr, mod-eq_of_lt, lt_of_le_of_lt, subst₂, true≢false}
 use Rattle.std.specs.Int.{bit_not, w64}
-use Rattle.std.specs.List.{range_with_len}
 use Rattle.std.proofs.lemmas.List.{get_or-set_same, get_or-set_other, length-replicate, length-set, get_or_past}
 use Rattle.std.proofs.lemmas.List.FromFn.{fill_by_all, length-map-range_with_len, get_or-map-range_with_len}
 use Rattle.std.proofs.lemmas.Nat.{and_le_l}

@@ -1,5 +1,5 @@
 -- The timetables of the tests.
-use Rattle.std.specs.Prelude.{ℕ, ◌≡◌, ◌^◌, ◌<◌, List, length}
+use Rattle.std.specs.Prelude.{ℕ, ◌≡◌, List, length}
 use Rattle.timetables.specs.Counts.{row_of}
 
 -- two resources, of which the second has this many times

@@ -1,4 +1,4 @@
-use Rattle.std.proofs.Common.{arith, ◌%◌, ◌^◌, ◌-◌}
+use Rattle.std.proofs.Common.{arith, ◌-◌}
 use Rattle.std.specs.Int.{w64, trailing_zeros, leading_zeros}
 use Rattle.timetables.proofs.CountsLemmas.{count_ones-part}
 use Rattle.timetables.proofs.masks.widened.Goals as goal

@@ -1,5 +1,5 @@
 -- Each word adds the members of its 64 times whose bits are set in the row.
-use Rattle.std.proofs.Common.{◌≡◌, ◌∙◌, ◌<◌, ◌≤◌, ◌+◌, ◌*◌, ◌^◌, ◌&&◌, ap, sym, length, ltb, get_or, count_ones, bit_and, arith, subst}
+use Rattle.std.proofs.Common.{◌≡◌, ◌∙◌, ◌<◌, ◌+◌, ◌*◌, ◌^◌, ◌&&◌, ap, sym, length, get_or, count_ones, bit_and, arith}
 use Rattle.std.proofs.lemmas.List.{get_or_read}
 use Rattle.timetables.specs.Bits.{is_set}
 use Rattle.timetables.specs.Counts.{count_below}

@@ -1,6 +1,6 @@
-use Rattle.std.proofs.Common.{◌≡◌, ◌∙◌, ◌+◌, ◌/◌, ap, subst, sym, replicate}
-use Rattle.timetables.specs.Stored.{times_of, IsWithin}
-use Rattle.timetables.proofs.MasksLemmas.{times_of-zeros, IsWithin-zeros, common-more}
+use Rattle.std.proofs.Common.{◌∙◌, ap}
+use Rattle.timetables.specs.Stored.{times_of}
+use Rattle.timetables.proofs.MasksLemmas.{times_of-zeros}
 use Rattle.timetables.proofs.masks.Mask.empty.Goals as goal
 
 pub returns : goal.returns

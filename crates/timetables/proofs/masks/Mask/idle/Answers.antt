@@ -1,11 +1,10 @@
 -- Each word adds its free times, and widens the span where it has a busy one.
-use Rattle.std.proofs.Common.{◌≡◌, ◌∙◌, ◌<◌, ◌≤◌, ◌+◌, ◌-◌, ◌*◌, ◌^◌, ◌&&◌, ℕ, not, ap, sym, length, get_or, count_ones, bit_and, arith, subst, Some, None, lt_of_le_of_lt}
+use Rattle.std.proofs.Common.{◌≡◌, ◌∙◌, ◌<◌, ◌≤◌, ◌+◌, ◌*◌, ◌^◌, ◌&&◌, not, ap, sym, length, get_or, count_ones, bit_and, arith, subst}
 use Rattle.std.specs.Int.{bit_not, w64}
 use Rattle.std.proofs.lemmas.Nat.{and_le_l}
 use Rattle.std.proofs.lemmas.List.{get_or_read}
-use Rattle.khe_base.specs.IdSet.{has_member}
 use Rattle.timetables.specs.Bits.{is_set}
-use Rattle.timetables.specs.Counts.{count_below, is_idle_time}
+use Rattle.timetables.specs.Counts.{count_below}
 use Rattle.timetables.specs.Stored.{words_for}
 use Rattle.timetables.proofs.CountsLemmas.{count_below-stays, count_below-le}
 use Rattle.timetables.proofs.MasksLemmas.{length-times_of, free-more, common-bits, free-bits, no_common-before, no_free-before, no_free-beyond, idle-nowhere, idle-ends}

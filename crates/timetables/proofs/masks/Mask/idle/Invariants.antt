@@ -2,7 +2,7 @@
 use Rattle.std.proofs.Common.{◌≡◌, ◌*◌, ◌&&◌, not}
 use Rattle.timetables.specs.Bits.{is_set}
 use Rattle.timetables.specs.Counts.{count_below}
-use Rattle.timetables.proofs.Spans.{IsSpan, top_bit}
+use Rattle.timetables.proofs.Spans.{IsSpan}
 use Rattle.timetables.proofs.masks.Mask.idle.Given as goal
 
 abbrev pub invariant-loop-k : goal.invariant-loop-k

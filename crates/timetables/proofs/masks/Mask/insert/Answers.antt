@@ -1,6 +1,6 @@
 -- The bit of the time is set, and the range of the words takes in its word.
-use Rattle.std.proofs.Common.{◌≡◌, ◌∙◌, ◌<◌, ◌/◌, ◌+◌, min, max, true, set, subst, subst₂, sym, ap, arith, length}
-use Rattle.timetables.specs.Stored.{IsWithin, words_for}
+use Rattle.std.proofs.Common.{◌≡◌, ◌∙◌, ◌<◌, true, set, sym, ap, arith, length}
+use Rattle.timetables.specs.Stored.{words_for}
 use Rattle.timetables.proofs.MasksLemmas.{IsWithin-insert, times_of-insert, length-times_of}
 use Rattle.timetables.proofs.masks.Mask.insert.Goals as goal
 

@@ -1,5 +1,5 @@
 -- Once each time of the set was looked at, the members are those of the set.
-use Rattle.std.proofs.Common.{◌≡◌, ◌∙◌, ◌<◌, ◌&&◌, ap, true, false, length, ltb, get_or, arith}
+use Rattle.std.proofs.Common.{◌∙◌, ◌<◌, ◌&&◌, ap, arith}
 use Rattle.std.proofs.lemmas.Bool.{lt-ltb}
 use Rattle.khe_base.specs.IdSet.{has_member}
 use Rattle.timetables.proofs.MasksLemmas.{same_members}

@@ -1,5 +1,5 @@
 -- The members so far are in the mask, and the later ones aren't yet.
-use Rattle.std.proofs.Common.{◌≡◌, ℕ, ◌≤◌, ◌&&◌, length, ltb}
+use Rattle.std.proofs.Common.{◌≡◌, ℕ, ◌&&◌, length, ltb}
 use Rattle.khe_base.specs.IdSet.{has_member}
 use Rattle.timetables.proofs.masks.Mask.new.Given as goal
 
