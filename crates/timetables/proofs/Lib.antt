@@ -1,0 +1,4 @@
+pub mod BitsLemmas
+pub mod CountsLemmas
+pub mod MasksLemmas
+pub mod Spans

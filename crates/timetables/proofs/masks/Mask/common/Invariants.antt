@@ -1,0 +1,8 @@
+-- The count so far is that of the words so far.
+use Rattle.std.proofs.Common.{◌≡◌, ◌*◌, ◌&&◌}
+use Rattle.timetables.specs.Bits.{is_set}
+use Rattle.timetables.specs.Counts.{count_below}
+use Rattle.timetables.proofs.masks.Mask.common.Given as goal
+
+abbrev pub invariant-loop-k : goal.invariant-loop-k
+invariant-loop-k l = l.count ≡ count_below (λ t. is_set l.self-inside.words.items t && is_set l.row t) (64 * l.k)

@@ -1,0 +1,13 @@
+-- A bit is set exactly where the resource is busy.
+use Rattle.std.proofs.Common.{◌≡◌, ◌∙◌, ℕ, Bool, ap, length}
+use Rattle.khe_base.specs.IdSet.{has_member}
+use Rattle.timetables.specs.Bits.{is_set}
+use Rattle.timetables.specs.Counts.{is_busy, count_below, is_idle_time}
+use Rattle.timetables.proofs.rows.Row.idle_in.Goals as goal
+
+pub returns : goal.returns
+returns c =
+    let set = c.args.mask.now in
+    let idle = λ (busy : ℕ → Bool). count_below (is_idle_time (has_member set) busy (length set)) (length set) in
+    let bits : is_set c.self.inside.busy.items ≡ is_busy c.self.inside.counts.items = λ i t. c.self.invariant.bits t i in
+    c.idle.ensures ∙ ap (λ w. idle (is_set w)) c.as_slice.ensures.value ∙ ap idle bits ∙ ap (λ xs. idle (is_busy xs)) c.self.view_is

@@ -1,0 +1,148 @@
+ghost use Rattle.std.specs.Prelude.{◌≡◌, ◌+◌, ◌-◌, ◌*◌, ◌%◌, ◌^◌, ◌<◌, ◌≤◌, ◌&&◌, ℕ, true, false, length, replicate, slice_set, count_ones, IfOk, IsSomeAnd, MatchOption};
+ghost use Rattle.std.specs.Int.{w64, trailing_zeros, leading_zeros};
+ghost use Rattle.khe_base.specs.IdSet.{has_member};
+ghost use Rattle.timetables.specs.Bits.{is_set};
+ghost use Rattle.timetables.specs.Counts.{count_below, is_idle_time};
+ghost use Rattle.timetables.specs.Stored.{words_for};
+
+use crate::bits::{ones_below, set_bit};
+use khe_base::{IdSet, NoMemory};
+use std::alloc::Global;
+use std::marker::Model;
+
+/// A set of times, made once, of which a timetable counts the busy and the idle times. Contracts
+/// see a list with one entry for each time, true where it is a member.
+///
+/// It keeps one bit for each time, 64 in a word, and the range of the words that have one set.
+#[derive(Debug, Drop)]
+pub struct Mask {
+    words: Vec<u64>,
+    first: usize,
+    end: usize,
+    size: u32,
+}
+
+impl Model for Mask {
+    ghost use Rattle.std.specs.Prelude.{List, Bool};
+    ghost use Rattle.timetables.specs.Stored.{times_of, IsWithin};
+
+    ghost Value = { List Bool };
+
+    ghost view = { λ m. times_of m.words.items m.size };
+
+    ghost invariant = { λ m. IsWithin m.words.items m.first m.end m.size };
+}
+
+/// The numbers of unbusy times of a set before its first busy time and before its last one.
+#[derive(Clone, Copy, Debug)]
+struct Span {
+    before_first: u32,
+    before_last: u32,
+}
+
+impl Mask {
+    /// The times of a set; its size is the number of times. It takes time in proportion to the
+    /// size, and memory for one bit for each time.
+    pub fn new(alloc: Global, group: &IdSet) -> Result<Mask, NoMemory>
+        ensures { IfOk result (λ m. m ≡ group.now) }
+    {
+        let mut mask = Mask::empty(alloc, group.size())?;
+        for t in 0..group.size() {
+            if group.has(t) {
+                mask.insert(t);
+            }
+        }
+        Ok(mask)
+    }
+
+    /// The size: the number of times, members or not. It takes constant time.
+    pub fn size(&self) -> u32
+        ensures { result ≡ length self.now }
+    {
+        self.size
+    }
+
+    fn empty(alloc: Global, size: u32) -> Result<Mask, NoMemory>
+        ensures { IfOk result (λ m. m ≡ replicate size false) }
+    {
+        let words = no_words(alloc, (size as usize + 63) / 64)?;
+        Ok(Mask {
+            first: words.len(),
+            end: 0,
+            words,
+            size,
+        })
+    }
+
+    fn insert(&mut self, t: u32)
+        requires { t < length self.old }
+        ensures { self.new ≡ slice_set self.old t true }
+    {
+        let place = t as usize;
+        set_bit(&mut self.words, place);
+        self.first = self.first.min(place / 64);
+        self.end = self.end.max(place / 64 + 1);
+    }
+
+    /// The number of members whose bit is set in a row of bits. It takes time in proportion to
+    /// the words that have a member.
+    pub(crate) fn common(&self, row: &[u64]) -> u32
+        requires { length row.now ≡ words_for (length self.now) }
+        ensures { result ≡ count_below (λ t. has_member self.now t && is_set row.now t) (length self.now) }
+    {
+        let mut count = 0;
+        for k in self.first..self.end {
+            count += (self.words[k] & row[k]).count_ones();
+        }
+        count
+    }
+
+    /// The number of members whose bit isn't set in a row of bits, while that of an earlier and
+    /// of a later member is. It takes time in proportion to the words that have a member.
+    pub(crate) fn idle(&self, row: &[u64]) -> u32
+        requires { length row.now ≡ words_for (length self.now) }
+        ensures { result ≡ count_below (is_idle_time (has_member self.now) (is_set row.now) (length self.now)) (length self.now) }
+    {
+        let mut unbusy = 0;
+        let mut span = None;
+        for k in self.first..self.end {
+            let busy = self.words[k] & row[k];
+            let free = self.words[k] & !row[k];
+            span = widened(span, unbusy, busy, free);
+            unbusy += free.count_ones();
+        }
+        match span {
+            None => 0,
+            Some(span) => span.before_last - span.before_first,
+        }
+    }
+}
+
+// So many words with no bit set.
+fn no_words(alloc: Global, count: usize) -> Result<Vec<u64>, NoMemory>
+    ensures { IfOk result (λ w. w.items ≡ replicate count 0) }
+{
+    Ok(vec![in alloc; 0; count]?)
+}
+
+// The span with the busy and the unbusy times of one more word. The first busy time of a word is
+// its lowest bit, and the last one its highest.
+fn widened(span: Option<Span>, unbusy: u32, busy: u64, free: u64) -> Option<Span>
+    requires { unbusy + count_ones free < 2 ^ 32 }
+    ensures unbusy { busy ≡ 0 → result ≡ span }
+    ensures first { 0 < busy → MatchOption span (IsSomeAnd result (λ s. s.before_first ≡ unbusy + count_ones (free % 2 ^ trailing_zeros w64 busy))) (λ old. IsSomeAnd result (λ s. s.before_first ≡ old.before_first)) }
+    ensures last { 0 < busy → IsSomeAnd result (λ s. s.before_last ≡ unbusy + count_ones (free % 2 ^ (63 - leading_zeros w64 busy))) }
+{
+    if busy == 0 {
+        return span;
+    }
+    let before_last = unbusy + ones_below(free, 63 - busy.leading_zeros());
+    let before_first = match span {
+        Some(span) => span.before_first,
+        None => unbusy + ones_below(free, busy.trailing_zeros()),
+    };
+    Some(Span {
+        before_first,
+        before_last,
+    })
+}
