@@ -14,12 +14,12 @@ returns-clause-only c = alone c.args.bytes.now c.read.result (λ tree. tree.node
 pub returns-clause-not_built : goal.returns-clause-not_built
 returns-clause-not_built c = unspelled c.args.bytes.now c.read.result (λ tree. tree.nodes) (λ tree. tree.attributes) c.read.ensures.exact
 
-pub returns-clause-bounds : goal.returns-clause-bounds
-returns-clause-bounds c =
+pub returns-clause-table : goal.returns-clause-table
+returns-clause-table c =
     read-table c.args.bytes.now c.read.result (record { exact = c.read.ensures.exact; same = c.read.ensures.bytes; short = c.requires })
 
-pub returns-clause-forest : goal.returns-clause-forest
-returns-clause-forest c =
+pub returns-clause-spelled : goal.returns-clause-spelled
+returns-clause-spelled c =
     let utf8 : IsUtf8 c.args.bytes.now = utf8_from _ _ _ c.from_utf8.result c.is_err.result c.from_utf8.ensures.cases c.is_err.ensures.value c.if-is_err.false in
     read-spelled c.args.bytes.now c.read.result utf8 (record { exact = c.read.ensures.exact; same = c.read.ensures.bytes; short = c.requires })
 
