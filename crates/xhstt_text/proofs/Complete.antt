@@ -6,10 +6,12 @@ use Rattle.std.specs.Str.{bytes_eq}
 use Rattle.std.proofs.lemmas.Slice.Eq.{bytes_eq-Decides}
 use Rattle.xhstt_text.specs.declared.tree.Attribute.{Attribute}
 use Rattle.xhstt_text.specs.declared.tree.Node.{Node}
-use Rattle.xhstt_text.specs.Bytes.{IsDeclared, declaration_start, question_after, stays_declared, IsComment, dashes, dashes_after, stays_open, is_white, is_first, is_name, is_quoted, is_quote, AllAre, IsWhite, IsGap, IsName}
-use Rattle.xhstt_text.specs.Document.{Body, Mark, unmarked, marked, Declaration, undeclared, declared, mark_text, declaration_text, body_text, IsBody, IsDeclaration, Attributes, none, attribute, Start, Content, nothing, byte, comment, short, long, Document, attributes_text, start_text, text, spelling, has_name, AreAttributes, IsStart, IsContent, IsElement, IsSpace, IsDocument, span, start_length, count, attributes_of, attribute_rows, loose_in, row, rows, table}
-use Rattle.xhstt_text.specs.Machine.{beginning, at_declaration, declared_open, question, in_declaration, closed, Frame, Read, Tag, content, ended, Place, early, late, phase_of, bang, bang_dash, in_comment, opened, start_name, valued, in_tag, slash, shut_begin, shut, shut_gap, Step, state, first_loose, noted, resume, parent_of, open_element, add_node, opened_row, closed_row, close_element, attribute_row, with_name, start_of, step, step_content, step_opened, step_valued, and_then, run, Outcome, outcome_of}
-use Rattle.xhstt_text.proofs.Runs.{by_step, run_loop, run_white, text_from_white, white_isnt_name, text_isnt_tag, first_not_name, run_gap, run_attribute_name, run_equals, run_quote, run_value, with_attribute}
+use Rattle.xhstt_text.specs.Bytes.{IsDeclared, declaration_start, question_after, stays_declared, IsComment, dashes, dashes_after, stays_open, is_white, is_first, is_name, is_quote, IsWhite, IsGap, IsName}
+use Rattle.xhstt_text.specs.Document.{Value, done, plain, piece_of, value_text, IsValue, piece, Body, Mark, unmarked, marked, Declaration, undeclared, declared, mark_text, declaration_text, body_text, IsBody, IsDeclaration, Attributes, none, attribute, Start, Content, nothing, byte, comment, short, long, Document, attributes_text, start_text, text, spelling, has_name, AreAttributes, IsStart, IsContent, IsElement, IsSpace, IsDocument, span, start_length, count, attributes_of, attribute_rows, loose_in, row, rows, table}
+use Rattle.xhstt_text.specs.Machine.{in_value, in_text, in_quotes, reference, wide_1, beginning, at_declaration, declared_open, question, in_declaration, closed, Frame, Read, Tag, content, ended, Place, early, late, phase_of, bang, bang_dash, in_comment, opened, start_name, valued, in_tag, slash, shut_begin, shut, shut_gap, Step, state, first_loose, noted, resume, parent_of, open_element, add_node, opened_row, closed_row, close_element, attribute_row, with_name, start_of, step, step_content, step_opened, step_valued, and_then, run, Outcome, outcome_of}
+use Rattle.xhstt_text.specs.Units.{Piece, piece_text}
+use Rattle.xhstt_text.proofs.Pieces.{run_piece}
+use Rattle.xhstt_text.proofs.Runs.{by_step, run_loop, run_white, text_from_white, white_isnt_name, text_isnt_tag, first_not_name, run_gap, run_attribute_name, run_equals, run_quote, value_38, value_239, run_last_quote, with_attribute}
 
 -- the names of these attributes, the last one first, and then those before them
 abbrev names_after : List (List ℕ) → Attributes → List (List ℕ)
@@ -22,17 +24,32 @@ tag_after t a = record t { names = names_after t.names a }
 abbrev with_attributes : Read → List Attribute → Read
 with_attributes r rows = record r { attributes = r.attributes ++ rows }
 
-pub attribute_shape : (w name before after : List ℕ) (quote : ℕ) (value : List ℕ) (more : Attributes) (rest : List ℕ) → attributes_text (attribute w name before after quote value more) ++ rest ≡ w ++ (name ++ (before ++ (61 ∷ (after ++ (quote ∷ (value ++ (quote ∷ (attributes_text more ++ rest))))))))
+pub attribute_shape : (w name before after : List ℕ) (quote : ℕ) (value : Value) (more : Attributes) (rest : List ℕ) → attributes_text (attribute w name before after quote value more) ++ rest ≡ w ++ (name ++ (before ++ (61 ∷ (after ++ (quote ∷ (value_text value ++ (quote ∷ (attributes_text more ++ rest))))))))
 attribute_shape w name before after quote value more rest = simp append_assoc
 
-attribute_length : (w name before after : List ℕ) (quote : ℕ) (value : List ℕ) (more : Attributes) → length (attributes_text (attribute w name before after quote value more)) ≡ length w + length name + length before + 1 + length after + 1 + length value + 1 + length (attributes_text more)
+attribute_length : (w name before after : List ℕ) (quote : ℕ) (value : Value) (more : Attributes) → length (attributes_text (attribute w name before after quote value more)) ≡ length w + length name + length before + 1 + length after + 1 + length (value_text value) + 1 + length (attributes_text more)
 attribute_length w name before after quote value more = simp length-append (omega arith)
 
-run_attribute : (t : Tag) (r : Read) (at : ℕ) (w name before after : List ℕ) (quote : ℕ) (v : List ℕ) (rest : List ℕ) → IsGap w → IsName name → has_name name t.names ≡ false → IsWhite before → IsWhite after → is_quote quote ≡ true → AllAre (is_quoted quote) v →
+piece_length : (u : Piece) (v : Value) → length (value_text (piece_of u v)) ≡ length (piece_text u) + length (value_text v)
+piece_length u v = length-append (piece_text u) (value_text v)
+
+run_value : (v : Value) (t : Tag) (place : ℕ) (name : List ℕ) (r : Read) (quote from at : ℕ) (rest : List ℕ) → is_quote quote ≡ true → IsValue quote v → run (in_value t place name quote from) r at (value_text v ++ rest) ≡ run (in_value t place name quote from) r (at + length (value_text v)) rest
+run_value done t place name r quote from at rest q h = ap (λ n. run (in_value t place name quote from) r n rest) (sym (add-zero at))
+run_value (plain b v) t place name r quote from at rest q h =
+    by_step (in_value t place name quote from) r at b (value_text v ++ rest) (in_value t place name quote from) r (rw h.0 refl)
+    ∙ run_value v t place name r quote from (at + 1) rest q h.1
+    ∙ ap (λ n. run (in_value t place name quote from) r n rest) (omega arith)
+run_value (piece_of u v) t place name r quote from at rest q h =
+    ap (run (in_value t place name quote from) r at) (append_assoc (piece_text u) (value_text v) rest)
+    ∙ run_piece (in_value t place name quote from) (in_quotes t place name quote from) r r at (value_38 t place name quote from r at q) (value_239 t place name quote from r at q) u (value_text v ++ rest) h.0
+    ∙ run_value v t place name r quote from (at + length (piece_text u)) rest q h.1
+    ∙ ap (λ n. run (in_value t place name quote from) r n rest) (omega (arith, piece_length u v))
+
+run_attribute : (t : Tag) (r : Read) (at : ℕ) (w name before after : List ℕ) (quote : ℕ) (v : Value) (rest : List ℕ) → IsGap w → IsName name → has_name name t.names ≡ false → IsWhite before → IsWhite after → is_quote quote ≡ true → IsValue quote v →
     let from = at + length w in
     let opened = from + length name + length before + 1 + length after + 1 in
-    run (valued t) r at (w ++ (name ++ (before ++ (61 ∷ (after ++ (quote ∷ (v ++ (quote ∷ rest))))))))
-    ≡ run (valued (with_name t name)) (with_attribute r (attribute_row from name opened (opened + length v))) (opened + length v + 1) rest
+    run (valued t) r at (w ++ (name ++ (before ++ (61 ∷ (after ++ (quote ∷ (value_text v ++ (quote ∷ rest))))))))
+    ≡ run (valued (with_name t name)) (with_attribute r (attribute_row from name opened (opened + length (value_text v)))) (opened + length (value_text v) + 1) rest
 run_attribute t r at w name before after quote v rest h0 h1 h2 h3 h4 h5 h6 =
     let from : ℕ = at + length w in
     let named_to : ℕ = from + length name in
@@ -41,19 +58,20 @@ run_attribute t r at w name before after quote v rest h0 h1 h2 h3 h4 h5 h6 =
     ∙ run_attribute_name t r name from _ h1
     ∙ run_equals t from name r before named_to _ h2 h3
     ∙ run_quote t from name r after quote equal_to _ h4 h5
-    ∙ run_value t from name r quote (equal_to + length after + 1) v rest h6
+    ∙ run_value v t from name r quote (equal_to + length after + 1) (equal_to + length after + 1) (quote ∷ rest) h5 h6
+    ∙ run_last_quote t from name r quote (equal_to + length after + 1) (equal_to + length after + 1 + length (value_text v)) rest
 
 run_attributes : (a : Attributes) (t : Tag) (r : Read) (at : ℕ) (rest : List ℕ) → AreAttributes t.names a → run (valued t) r at (attributes_text a ++ rest) ≡ run (valued (tag_after t a)) (with_attributes r (attributes_of at a)) (at + length (attributes_text a)) rest
 run_attributes none t r at rest h = simp (append-nil, add-zero)
 run_attributes (attribute w name before after quote v more) t r at rest h =
     let from : ℕ = at + length w in
     let opened : ℕ = from + length name + length before + 1 + length after + 1 in
-    let a : Attribute = attribute_row from name opened (opened + length v) in
+    let a : Attribute = attribute_row from name opened (opened + length (value_text v)) in
     ap (run (valued t) r at) (attribute_shape w name before after quote v more rest)
     ∙ run_attribute t r at w name before after quote v (attributes_text more ++ rest) h.0 h.1 h.2 h.3 h.4 h.5 h.6
-    ∙ run_attributes more (with_name t name) (with_attribute r a) (opened + length v + 1) rest h.7
-    ∙ ap (λ (x : List Attribute). run (valued (tag_after (with_name t name) more)) (record r { attributes = x }) (opened + length v + 1 + length (attributes_text more)) rest) (append_assoc r.attributes (a ∷ []) (attributes_of (opened + length v + 1) more))
-    ∙ ap (λ n. run (valued (tag_after (with_name t name) more)) (with_attributes r (a ∷ attributes_of (opened + length v + 1) more)) n rest) (omega (arith, attribute_length w name before after quote v more))
+    ∙ run_attributes more (with_name t name) (with_attribute r a) (opened + length (value_text v) + 1) rest h.7
+    ∙ ap (λ (x : List Attribute). run (valued (tag_after (with_name t name) more)) (record r { attributes = x }) (opened + length (value_text v) + 1 + length (attributes_text more)) rest) (append_assoc r.attributes (a ∷ []) (attributes_of (opened + length (value_text v) + 1) more))
+    ∙ ap (λ n. run (valued (tag_after (with_name t name) more)) (with_attributes r (a ∷ attributes_of (opened + length (value_text v) + 1) more)) n rest) (omega (arith, attribute_length w name before after quote v more))
 
 length_attributes : (a : Attributes) (at : ℕ) → length (attributes_of at a) ≡ count a
 length_attributes none at = refl
@@ -305,6 +323,14 @@ comment_shape inner c rest = ap (λ x. 60 ∷ 33 ∷ 45 ∷ 45 ∷ x) (append_as
 comment_length : (inner : List ℕ) (c : Content) → length (text (comment inner c)) ≡ 4 + length inner + 1 + length (text c)
 comment_length inner c = simp length-append (omega arith)
 
+loose_at : (o : Option ℕ) (at b : ℕ) → is_white b ≡ false → first_loose o at b ≡ or_else o (Some at)
+loose_at (Some place) at b h = refl
+loose_at None at b h = rw h refl
+
+loose_stays : (o : Option ℕ) (at : ℕ) (later : Option ℕ) → or_else (or_else o (Some at)) later ≡ or_else o (Some at)
+loose_stays (Some place) at later = refl
+loose_stays None at later = refl
+
 run_content : (c : Content) → RunsOver c
 run_content nothing f fs nodes attributes at number first rest e1 e2 h =
     ap (λ (o : Option ℕ). run content (read_of (record f { node = record f.node { loose = o } } ∷ fs) nodes attributes) at rest) (sym (no_more_loose f.node.loose))
@@ -316,6 +342,17 @@ run_content (byte b c) f fs nodes attributes at number first rest e1 e2 h =
     ∙ run_content c (noted f at b) fs nodes attributes (at + 1) number first rest e1 e2 h.1
     ∙ ap (λ (o : Option ℕ). run content (read_of (record f { node = record f.node { loose = o } } ∷ fs) (nodes ++ rows (Some f.number) number first (at + 1) c) (attributes ++ attribute_rows (at + 1) c)) (at + 1 + length (text c)) rest) (more_loose f.node.loose at b (loose_in (at + 1) c))
     ∙ ap (λ n. run content (read_of (with_loose f (loose_in at (byte b c)) ∷ fs) (nodes ++ rows (Some f.number) number first (at + 1) c) (attributes ++ attribute_rows (at + 1) c)) n rest) (omega arith)
+run_content (piece u c) f fs nodes attributes at number first rest e1 e2 h =
+    let r : Read = read_of (f ∷ fs) nodes attributes in
+    let g : Frame = with_loose f (Some at) in
+    let to : ℕ = at + length (piece_text u) in
+    ap (run content r at) (append_assoc (piece_text u) (text c) rest)
+    ∙ run_piece content in_text r (read_of (g ∷ fs) nodes attributes) at
+    (ap (λ (o : Option ℕ). state (reference in_text) (read_of (record f { node = record f.node { loose = o } } ∷ fs) nodes attributes)) (loose_at f.node.loose at 38 refl))
+    (ap (λ (o : Option ℕ). state (wide_1 in_text) (read_of (record f { node = record f.node { loose = o } } ∷ fs) nodes attributes)) (loose_at f.node.loose at 239 refl)) u (text c ++ rest) h.0
+    ∙ run_content c g fs nodes attributes to number first rest e1 e2 h.1
+    ∙ ap (λ (o : Option ℕ). run content (read_of (record f { node = record f.node { loose = o } } ∷ fs) (nodes ++ rows (Some f.number) number first to c) (attributes ++ attribute_rows to c)) (to + length (text c)) rest) (loose_stays f.node.loose at (loose_in to c))
+    ∙ ap (λ n. run content (read_of (g ∷ fs) (nodes ++ rows (Some f.number) number first to c) (attributes ++ attribute_rows to c)) n rest) (omega (arith, length-append (piece_text u) (text c)))
 run_content (comment inner c) f fs nodes attributes at number first rest e1 e2 h =
     let r : Read = read_of (f ∷ fs) nodes attributes in
     let to : ℕ = at + 4 + length inner + 1 in
@@ -374,6 +411,7 @@ run_space place r white begin (comment inner m) at rest h =
     ∙ run_comment place r inner (at + 1 + 1) (text m ++ rest) h.0
     ∙ run_space place r white begin m (at + 1 + 1 + 2 + length inner + 1) rest h.1
     ∙ ap (λ n. run (phase_of place) r n rest) (omega (arith, comment_length inner m))
+run_space place r white begin (piece u m) at rest h = absurd h
 run_space place r white begin (short s m) at rest h = absurd h
 run_space place r white begin (long s inner name w m) at rest h = absurd h
 
@@ -389,6 +427,9 @@ run_root : (c : Content) (at : ℕ) (m : Content) → IsElement c → IsContent 
 run_root nothing at w h k hw = absurd h
 run_root (byte b c) at w h k hw = absurd h
 run_root (comment inner c) at w h k hw = absurd h
+run_root (piece u c) at w h k hw = absurd h
+run_root (short s (piece u c)) at w h k hw = absurd h
+run_root (long s inner name v (piece u c)) at w h k hw = absurd h
 run_root (short s (comment inner c)) at w h k hw = absurd h
 run_root (long s inner name v (comment inner2 c)) at w h k hw = absurd h
 run_root (short s (byte b c)) at w h k hw = absurd h
@@ -438,6 +479,7 @@ element_head : (c : Content) (rest : List ℕ) → IsElement c → IsContent 0 c
 element_head nothing rest h k = absurd h
 element_head (byte b c) rest h k = absurd h
 element_head (comment inner c) rest h k = absurd h
+element_head (piece u c) rest h k = absurd h
 element_head (short s c) rest h k =
     let n = start_head s (47 ∷ 62 ∷ (text c ++ rest)) k.1 in
     (n.0, n.1, n.2, append_assoc (start_text s) (47 ∷ 62 ∷ text c) rest ∙ n.3)
@@ -466,6 +508,7 @@ plain_at (byte b before) root rest at h k l =
       ap go (let e : step at_declaration r at b ≡ step content r at b = rw (white_isnt_tag b h.0, h.0) refl in e),
     )
 plain_at (comment inner before) root rest at h k l = (refl, refl)
+plain_at (piece u c) root rest at h k l = absurd h
 plain_at (short s c) root rest at h k l = absurd h
 plain_at (long s inner name w c) root rest at h k l = absurd h
 

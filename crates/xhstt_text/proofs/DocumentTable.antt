@@ -8,7 +8,8 @@ use Rattle.xhstt_text.specs.declared.tree.Node.{Node}
 use Rattle.xhstt_text.specs.declared.tree.Span.{Span}
 use Rattle.xhstt_text.specs.Forest.{Info, Forest, empty, node}
 use Rattle.xhstt_text.specs.FlatTable.{FlatTable, IsFlatTable, IsWithin, IsNodeOf, IsAttributeOf, piece, attribute_info, info_of, node_at, no_node, forest, Stands}
-use Rattle.xhstt_text.specs.Document.{Attributes, none, attribute, Start, Content, nothing, byte, comment, short, long, Document, attributes_text, start_text, text, mark_text, declaration_text, spelling, root_at, IsElement, IsDocument, span, start_length, count, attributes_of, attribute_rows, loose_in, row, rows, table, infos, has_element, forest_at, forest_of}
+use Rattle.xhstt_text.specs.Units.{Piece, piece_text}
+use Rattle.xhstt_text.specs.Document.{Value, value_text, Attributes, none, attribute, Start, Content, nothing, byte, piece as unit, comment, short, long, Document, attributes_text, start_text, text, mark_text, declaration_text, spelling, root_at, IsElement, IsDocument, span, start_length, count, attributes_of, attribute_rows, loose_in, row, rows, table, infos, has_element, forest_at, forest_of}
 use Rattle.xhstt_text.proofs.Bounds.{IsFlatTable-stands}
 use Rattle.xhstt_text.proofs.ForestOfTable.{forest-stands}
 use Rattle.xhstt_text.proofs.Parts.{Holds, Holds-first, Holds-rest, Holds-next, Holds-within, Holds-range, Holds-get, Holds-whole}
@@ -24,9 +25,10 @@ record AttributeAt (bytes : List ℕ) (at : ℕ) (gap name before after : List �
   value_at : Holds bytes (at + length gap + length name + length before + 1 + length after + 1) value
   more_at : Holds bytes (at + length gap + length name + length before + 1 + length after + 1 + length value + 1) (attributes_text more)
 
-attribute-at : (bytes : List ℕ) (at : ℕ) (gap name before after : List ℕ) (quote : ℕ) (value : List ℕ) (more : Attributes)
-    → Holds bytes at (attributes_text (attribute gap name before after quote value more)) → AttributeAt bytes at gap name before after value more
-attribute-at bytes at gap name before after quote value more h =
+attribute-at : (bytes : List ℕ) (at : ℕ) (gap name before after : List ℕ) (quote : ℕ) (given : Value) (more : Attributes)
+    → Holds bytes at (attributes_text (attribute gap name before after quote given more)) → AttributeAt bytes at gap name before after (value_text given) more
+attribute-at bytes at gap name before after quote given more h =
+    let value : List ℕ = value_text given in
     let named = Holds-rest bytes at gap (name ++ (before ++ (61 ∷ (after ++ (quote ∷ (value ++ (quote ∷ attributes_text more))))))) (at + length gap) refl h in
     let spaced = Holds-rest bytes (at + length gap) name (before ++ (61 ∷ (after ++ (quote ∷ (value ++ (quote ∷ attributes_text more)))))) (at + length gap + length name) refl named in
     let equals = Holds-rest bytes (at + length gap + length name) before (61 ∷ (after ++ (quote ∷ (value ++ (quote ∷ attributes_text more))))) (at + length gap + length name + length before) refl spaced in
@@ -43,8 +45,9 @@ attribute-at bytes at gap name before after quote value more h =
 -- the rows of attributes say what the attributes say
 attributes-infos : (a : Attributes) (bytes : List ℕ) (at : ℕ) → Holds bytes at (attributes_text a) → map (attribute_info bytes) (attributes_of at a) ≡ infos at a
 attributes-infos none bytes at h = refl
-attributes-infos (attribute gap name before after quote value more) bytes at h =
-    let p = attribute-at bytes at gap name before after quote value more h in
+attributes-infos (attribute gap name before after quote given more) bytes at h =
+    let value : List ℕ = value_text given in
+    let p = attribute-at bytes at gap name before after quote given more h in
     let opened : ℕ = at + length gap + length name + length before + 1 + length after + 1 in
     let name_is = Holds-range bytes (at + length gap) name (at + length gap + length name) refl p.name_at in
     let value_is = Holds-range bytes opened value (opened + length value) refl p.value_at in
@@ -54,8 +57,9 @@ attributes-infos (attribute gap name before after quote value more) bytes at h =
 -- their spans lie within the text
 attributes-within : (a : Attributes) (bytes : List ℕ) (at : ℕ) → Holds bytes at (attributes_text a) → All (IsAttributeOf bytes) (attributes_of at a)
 attributes-within none bytes at h = All-nil (IsAttributeOf bytes)
-attributes-within (attribute gap name before after quote value more) bytes at h =
-    let p = attribute-at bytes at gap name before after quote value more h in
+attributes-within (attribute gap name before after quote given more) bytes at h =
+    let value : List ℕ = value_text given in
+    let p = attribute-at bytes at gap name before after quote given more h in
     let opened : ℕ = at + length gap + length name + length before + 1 + length after + 1 in
     All-cons (IsAttributeOf bytes) _ _
     (record { name = held-span bytes (at + length gap) name (at + length gap + length name) refl p.name_at; value = held-span bytes opened value (opened + length value) refl p.value_at })
@@ -108,6 +112,11 @@ start-within t parent first at s last value loose h a v = record {
 after-byte : (t : FlatTable) (parent : Option ℕ) (number first at b : ℕ) (c : Content) → StandsAt t parent number first at (byte b c) → StandsAt t parent number first (at + 1) c
 after-byte t parent number first at b c h =
     record { text_at = Holds-next t.bytes at b (text c) h.text_at; nodes_at = h.nodes_at; attributes_at = h.attributes_at }
+
+-- content after a piece
+after-piece : (t : FlatTable) (parent : Option ℕ) (number first at : ℕ) (u : Piece) (c : Content) → StandsAt t parent number first at (unit u c) → StandsAt t parent number first (at + length (piece_text u)) c
+after-piece t parent number first at u c h =
+    record { text_at = Holds-rest t.bytes at (piece_text u) (text c) (at + length (piece_text u)) refl h.text_at; nodes_at = h.nodes_at; attributes_at = h.attributes_at }
 
 -- content after a comment
 after-comment : (t : FlatTable) (parent : Option ℕ) (number first at : ℕ) (inner : List ℕ) (c : Content) → StandsAt t parent number first at (comment inner c) → StandsAt t parent number first (at + 4 + length inner + 1) c
@@ -182,6 +191,7 @@ long-at t parent number first at s inner shut white c h =
 filled : (k : ℕ) (parent : Option ℕ) (number first at : ℕ) (c : Content) → nat_lt k (k + length (rows parent number first at c)) ≡ has_element c
 filled k parent number first at nothing = le-ltb k (k + 0) (omega arith)
 filled k parent number first at (byte b c) = filled k parent number first (at + 1) c
+filled k parent number first at (unit u c) = filled k parent number first (at + length (piece_text u)) c
 filled k parent number first at (comment inner c) = filled k parent number first (at + 4 + length inner + 1) c
 filled k parent number first at (short s c) = lt-ltb k _ (omega arith)
 filled k parent number first at (long s inner shut white c) = lt-ltb k _ (omega arith)
@@ -197,6 +207,7 @@ content-stands : (c : Content) (t : FlatTable) (parent : Option ℕ) (number fir
     → Stands t number (forest_at at c) (number + length (rows parent number first at c))
 content-stands nothing t parent number first at h = omega arith
 content-stands (byte b c) t parent number first at h = content-stands c t parent number first (at + 1) (after-byte t parent number first at b c h)
+content-stands (unit u c) t parent number first at h = content-stands c t parent number first (at + length (piece_text u)) (after-piece t parent number first at u c h)
 content-stands (comment inner c) t parent number first at h =
     content-stands c t parent number first (at + 4 + length inner + 1) (after-comment t parent number first at inner c h)
 content-stands (short s c) t parent number first at h =
@@ -235,6 +246,7 @@ content-stands (long s inner shut white c) t parent number first at h =
 content-nodes : (c : Content) (t : FlatTable) (parent : Option ℕ) (number first at : ℕ) → StandsAt t parent number first at c → All (IsNodeOf t) (rows parent number first at c)
 content-nodes nothing t parent number first at h = All-nil (IsNodeOf t)
 content-nodes (byte b c) t parent number first at h = content-nodes c t parent number first (at + 1) (after-byte t parent number first at b c h)
+content-nodes (unit u c) t parent number first at h = content-nodes c t parent number first (at + length (piece_text u)) (after-piece t parent number first at u c h)
 content-nodes (comment inner c) t parent number first at h =
     content-nodes c t parent number first (at + 4 + length inner + 1) (after-comment t parent number first at inner c h)
 content-nodes (short s c) t parent number first at h =
@@ -254,6 +266,7 @@ content-nodes (long s inner shut white c) t parent number first at h =
 content-attributes : (c : Content) (t : FlatTable) (parent : Option ℕ) (number first at : ℕ) → StandsAt t parent number first at c → All (IsAttributeOf t.bytes) (attribute_rows at c)
 content-attributes nothing t parent number first at h = All-nil (IsAttributeOf t.bytes)
 content-attributes (byte b c) t parent number first at h = content-attributes c t parent number first (at + 1) (after-byte t parent number first at b c h)
+content-attributes (unit u c) t parent number first at h = content-attributes c t parent number first (at + length (piece_text u)) (after-piece t parent number first at u c h)
 content-attributes (comment inner c) t parent number first at h =
     content-attributes c t parent number first (at + 4 + length inner + 1) (after-comment t parent number first at inner c h)
 content-attributes (short s c) t parent number first at h =
@@ -269,6 +282,7 @@ element-table : (c : Content) (t : FlatTable) (at : ℕ) → IsElement c → Sta
     → IsFlatTable t × (forest t 0 (length t.nodes) ≡ forest_at at c)
 element-table nothing t at one h nodes attributes few = absurd one
 element-table (byte b c) t at one h nodes attributes few = absurd one
+element-table (unit u c) t at one h nodes attributes few = absurd one
 element-table (comment inner c) t at one h nodes attributes few = absurd one
 element-table (short s nothing) t at one h nodes attributes few =
     let c : Content = short s nothing in
@@ -277,6 +291,7 @@ element-table (short s nothing) t at one h nodes attributes few =
       forest-stands t 0 (forest_at at c) (length t.nodes) stands,
     )
 element-table (short s (byte b c)) t at one h nodes attributes few = absurd one
+element-table (short s (unit u c)) t at one h nodes attributes few = absurd one
 element-table (short s (comment inner c)) t at one h nodes attributes few = absurd one
 element-table (short s (short r c)) t at one h nodes attributes few = absurd one
 element-table (short s (long r inner shut white c)) t at one h nodes attributes few = absurd one
@@ -287,6 +302,7 @@ element-table (long s inner shut white nothing) t at one h nodes attributes few 
       forest-stands t 0 (forest_at at c) (length t.nodes) stands,
     )
 element-table (long s inner shut white (byte b c)) t at one h nodes attributes few = absurd one
+element-table (long s inner shut white (unit u c)) t at one h nodes attributes few = absurd one
 element-table (long s inner shut white (comment note c)) t at one h nodes attributes few = absurd one
 element-table (long s inner shut white (short r c)) t at one h nodes attributes few = absurd one
 element-table (long s inner shut white (long r deeper end gap c)) t at one h nodes attributes few = absurd one

@@ -4,7 +4,7 @@ use Rattle.std.proofs.lemmas.Bool.Decides.{nat_tests}
 use Rattle.std.specs.Str.{bytes_eq}
 use Rattle.xhstt_text.specs.declared.faults.TextFault.TheVariants.{NotBuilt, NoMemory}
 use Rattle.xhstt_text.specs.declared.faults.TextFault.{TextFault}
-use Rattle.std.specs.Prelude.{IsErrAnd}
+use Rattle.std.specs.Prelude.{IsErrAnd, MatchOption}
 use Rattle.std.specs.Option.{option_or}
 use Rattle.std.proofs.lemmas.List.{length-map, length-reverse, reverse-append}
 use Rattle.xhstt_text.specs.declared.table.OpenElement.{OpenElement}
@@ -14,9 +14,9 @@ use Rattle.xhstt_text.specs.declared.tree.Node.{Node}
 use Rattle.xhstt_text.specs.declared.tree.Span.{Span}
 use Rattle.xhstt_text.specs.Bytes.{dashes, is_white, is_first, is_name, is_text, is_quoted, is_quote, AllAre, IsGap, IsName}
 use Rattle.xhstt_text.specs.Document.{has_name, span}
-use Rattle.xhstt_text.specs.Machine.{Frame, Read, Tag, Phase, Place, early, late, phase_of, bang, bang_dash, in_comment, ended_open, content, ended, opened, start_name, valued, in_tag, slash, attribute_name, named, equals, in_value, shut_begin, shut, shut_gap, Step, refused, state, first_loose, noted, resume, open_element, close_element, attribute_row, with_name, start_of, step, and_then, run, Outcome}
-use Rattle.xhstt_text.specs.Reading.{begins_comment, NoOtherTag, Leads, Skips, TakesName, begins, is_byte, read_of, bare, with_loose_text, frames_of, frame_of}
-use Rattle.xhstt_text.proofs.Runs.{by_step, run_loop, run_gap, run_attribute_name, text_from_white, text_isnt_tag, quote_isnt_white, quote_isnt_quoted, same_number}
+use Rattle.xhstt_text.specs.Machine.{in_text, in_quotes, reference, wide_1, Frame, Read, Tag, Phase, Place, early, late, phase_of, bang, bang_dash, in_comment, ended_open, content, ended, opened, start_name, valued, in_tag, slash, attribute_name, named, equals, in_value, shut_begin, shut, shut_gap, Step, refused, state, first_loose, noted, resume, open_element, close_element, attribute_row, with_name, start_of, step, and_then, run, Outcome}
+use Rattle.xhstt_text.specs.Reading.{NoPiece, is_loose_text, Enters, begins_comment, NoOtherTag, Leads, Skips, TakesName, begins, is_byte, read_of, bare, with_loose_text, frames_of, frame_of}
+use Rattle.xhstt_text.proofs.Runs.{by_step, run_loop, run_gap, run_attribute_name, text_from_white, text_isnt_tag, quote_isnt_white, quote_isnt_quoted, same_number, value_38, value_239}
 
 -- over bytes at which the machine stays where it is
 pub over : (test : ℕ → Bool) (p : Phase) (r : Read) → ((at b : ℕ) → test b ≡ true → step p r at b ≡ state p r) → (at : ℕ) (bs : List ℕ) (to : ℕ) (rest : List ℕ) → Skips test at bs to rest → run p r at bs ≡ run p r to rest
@@ -34,7 +34,7 @@ one p r at bs b to rest q s e d h =
 same_step : (p q : Phase) (r : Read) (at b : ℕ) (bs : List ℕ) → step p r at b ≡ step q r at b → run p r at (b ∷ bs) ≡ run q r at (b ∷ bs)
 same_step p q r at b bs e = ap (λ (x : Step). and_then x (λ s. run s.phase s.read (at + 1) bs)) e
 
-refuses : (p : Phase) (r : Read) (at b : ℕ) (bs : List ℕ) → step p r at b ≡ refused → run p r at (b ∷ bs) ≡ Err NotBuilt
+pub refuses : (p : Phase) (r : Read) (at b : ℕ) (bs : List ℕ) → step p r at b ≡ refused → run p r at (b ∷ bs) ≡ Err NotBuilt
 refuses p r at b bs e = ap (λ (x : Step). and_then x (λ s. run s.phase s.read (at + 1) bs)) e
 
 name_ends : (t : Tag) (place : ℕ) (known : List ℕ) (r : Read) (at : ℕ) (bs : List ℕ) → has_name known t.names ≡ false → begins is_name bs ≡ false → run (attribute_name t place known) r at bs ≡ run (named t place known) r at bs
@@ -49,9 +49,9 @@ no_quote : (t : Tag) (place : ℕ) (known : List ℕ) (r : Read) (at : ℕ) (bs 
 no_quote t place known r at [] w e = refl
 no_quote t place known r at (b ∷ bs) w e = refuses (equals t place known) r at b bs (rw (w, e) refl)
 
-no_end : (t : Tag) (place : ℕ) (known : List ℕ) (mark from : ℕ) (r : Read) (at : ℕ) (bs : List ℕ) → begins (is_quoted mark) bs ≡ false → begins (is_byte mark) bs ≡ false → run (in_value t place known mark from) r at bs ≡ Err NotBuilt
-no_end t place known mark from r at [] w e = refl
-no_end t place known mark from r at (b ∷ bs) w e = refuses (in_value t place known mark from) r at b bs (rw (w, e) refl)
+no_end : (t : Tag) (place : ℕ) (known : List ℕ) (mark from : ℕ) (r : Read) (at : ℕ) (bs : List ℕ) → begins (is_quoted mark) bs ≡ false → NoPiece bs → begins (is_byte mark) bs ≡ false → run (in_value t place known mark from) r at bs ≡ Err NotBuilt
+no_end t place known mark from r at [] w k e = refl
+no_end t place known mark from r at (b ∷ bs) w k e = refuses (in_value t place known mark from) r at b bs (rw (w, e, k.0, k.1) refl)
 
 -- over the white after an attribute's name
 over_named : (t : Tag) (place : ℕ) (known : List ℕ) (r : Read) (at : ℕ) (bs : List ℕ) (at1 : ℕ) (bs1 : List ℕ) → has_name known t.names ≡ false → begins is_name bs ≡ false → Skips is_white at bs at1 bs1 → run (attribute_name t place known) r at bs ≡ run (named t place known) r at1 bs1
@@ -75,22 +75,24 @@ value_no_quote t place known r at bs at1 bs1 at2 bs2 at3 bs3 new e h1 h2 h3 d =
     over_equals t place known r at bs at1 bs1 at2 bs2 at3 bs3 new e h1 h2 h3 ∙ no_quote t place known r at3 bs3 h3.4 d
 
 -- up to the end of the value
-over_quote : (t : Tag) (place : ℕ) (known : List ℕ) (r : Read) (at3 : ℕ) (bs3 : List ℕ) (mark at4 : ℕ) (bs4 : List ℕ) (at5 : ℕ) (bs5 : List ℕ) → (is_quote mark ≡ true) × (bs3 ≡ mark ∷ bs4) × (at4 ≡ at3 + 1) → Skips (is_quoted mark) at4 bs4 at5 bs5 → run (equals t place known) r at3 bs3 ≡ run (in_value t place known mark at4) r at5 bs5
+over_quote : (t : Tag) (place : ℕ) (known : List ℕ) (r : Read) (at3 : ℕ) (bs3 : List ℕ) (mark at4 : ℕ) (bs4 : List ℕ) (at5 : ℕ) (bs5 : List ℕ) → (is_quote mark ≡ true) × (bs3 ≡ mark ∷ bs4) × (at4 ≡ at3 + 1) → run (in_value t place known mark at4) r at4 bs4 ≡ run (in_value t place known mark at4) r at5 bs5 → run (equals t place known) r at3 bs3 ≡ run (in_value t place known mark at4) r at5 bs5
 over_quote t place known r at3 bs3 mark at4 bs4 at5 bs5 h4 h5 =
     one (equals t place known) r at3 bs3 mark at4 bs4 (in_value t place known mark (at3 + 1)) r h4.1 h4.2 (rw (quote_isnt_white mark h4.0, h4.0) refl)
     ∙ ap (λ n. run (in_value t place known mark n) r at4 bs4) (sym h4.2)
-    ∙ over (is_quoted mark) (in_value t place known mark at4) r (λ i b q. rw q refl) at4 bs4 at5 bs5 h5
+    ∙ h5
 
-pub value_no_end : (t : Tag) (place : ℕ) (known : List ℕ) (r : Read) (at : ℕ) (bs : List ℕ) (at1 : ℕ) (bs1 : List ℕ) (at2 : ℕ) (bs2 : List ℕ) (at3 : ℕ) (bs3 : List ℕ) (mark at4 : ℕ) (bs4 : List ℕ) (at5 : ℕ) (bs5 : List ℕ) → has_name known t.names ≡ false → begins is_name bs ≡ false → Skips is_white at bs at1 bs1 → (bs1 ≡ 61 ∷ bs2) × (at2 ≡ at1 + 1) → Skips is_white at2 bs2 at3 bs3 → (is_quote mark ≡ true) × (bs3 ≡ mark ∷ bs4) × (at4 ≡ at3 + 1) → Skips (is_quoted mark) at4 bs4 at5 bs5 → begins (is_byte mark) bs5 ≡ false → run (attribute_name t place known) r at bs ≡ Err NotBuilt
-value_no_end t place known r at bs at1 bs1 at2 bs2 at3 bs3 mark at4 bs4 at5 bs5 new e h1 h2 h3 h4 h5 d =
+-- up to the value
+pub value_begins : (t : Tag) (place : ℕ) (known : List ℕ) (r : Read) (at : ℕ) (bs : List ℕ) (at1 : ℕ) (bs1 : List ℕ) (at2 : ℕ) (bs2 : List ℕ) (at3 : ℕ) (bs3 : List ℕ) (mark at4 : ℕ) (bs4 : List ℕ) → has_name known t.names ≡ false → begins is_name bs ≡ false → Skips is_white at bs at1 bs1 → (bs1 ≡ 61 ∷ bs2) × (at2 ≡ at1 + 1) → Skips is_white at2 bs2 at3 bs3 → (is_quote mark ≡ true) × (bs3 ≡ mark ∷ bs4) × (at4 ≡ at3 + 1) → run (attribute_name t place known) r at bs ≡ run (in_value t place known mark at4) r at4 bs4
+value_begins t place known r at bs at1 bs1 at2 bs2 at3 bs3 mark at4 bs4 new e h1 h2 h3 h4 =
     over_equals t place known r at bs at1 bs1 at2 bs2 at3 bs3 new e h1 h2 h3
-    ∙ over_quote t place known r at3 bs3 mark at4 bs4 at5 bs5 h4 h5
-    ∙ no_end t place known mark at4 r at5 bs5 h5.4 d
+    ∙ over_quote t place known r at3 bs3 mark at4 bs4 at4 bs4 h4 refl
 
-pub value_read : (t : Tag) (place : ℕ) (known : List ℕ) (r : Read) (at : ℕ) (bs : List ℕ) (at1 : ℕ) (bs1 : List ℕ) (at2 : ℕ) (bs2 : List ℕ) (at3 : ℕ) (bs3 : List ℕ) (mark at4 : ℕ) (bs4 : List ℕ) (at5 : ℕ) (bs5 : List ℕ) (at6 : ℕ) (bs6 : List ℕ) → has_name known t.names ≡ false → begins is_name bs ≡ false → Skips is_white at bs at1 bs1 → (bs1 ≡ 61 ∷ bs2) × (at2 ≡ at1 + 1) → Skips is_white at2 bs2 at3 bs3 → (is_quote mark ≡ true) × (bs3 ≡ mark ∷ bs4) × (at4 ≡ at3 + 1) → Skips (is_quoted mark) at4 bs4 at5 bs5 → (bs5 ≡ mark ∷ bs6) × (at6 ≡ at5 + 1) → run (attribute_name t place known) r at bs ≡ run (valued (with_name t known)) (record r { attributes = r.attributes ++ attribute_row place known at4 at5 ∷ [] }) at6 bs6
-value_read t place known r at bs at1 bs1 at2 bs2 at3 bs3 mark at4 bs4 at5 bs5 at6 bs6 new e h1 h2 h3 h4 h5 h6 =
-    over_equals t place known r at bs at1 bs1 at2 bs2 at3 bs3 new e h1 h2 h3
-    ∙ over_quote t place known r at3 bs3 mark at4 bs4 at5 bs5 h4 h5
+pub value_no_end : (t : Tag) (place : ℕ) (known : List ℕ) (r : Read) (whole : Outcome) (mark at4 at5 : ℕ) (bs5 : List ℕ) → whole ≡ run (in_value t place known mark at4) r at5 bs5 → (begins (is_quoted mark) bs5 ≡ false) × NoPiece bs5 → begins (is_byte mark) bs5 ≡ false → whole ≡ Err NotBuilt
+value_no_end t place known r whole mark at4 at5 bs5 same h d = same ∙ no_end t place known mark at4 r at5 bs5 h.0 h.1 d
+
+pub value_read : (t : Tag) (place : ℕ) (known : List ℕ) (r : Read) (whole : Outcome) (mark at4 at5 : ℕ) (bs5 : List ℕ) (at6 : ℕ) (bs6 : List ℕ) → whole ≡ run (in_value t place known mark at4) r at5 bs5 → (bs5 ≡ mark ∷ bs6) × (at6 ≡ at5 + 1) → whole ≡ run (valued (with_name t known)) (record r { attributes = r.attributes ++ attribute_row place known at4 at5 ∷ [] }) at6 bs6
+value_read t place known r whole mark at4 at5 bs5 at6 bs6 same h6 =
+    same
     ∙ one (in_value t place known mark at4) r at5 bs5 mark at6 bs6 (valued (with_name t known)) (record r { attributes = r.attributes ++ attribute_row place known at4 at5 ∷ [] }) h6.0 h6.1 (rw (quote_isnt_quoted mark, same_number mark) refl)
 
 -- in a start tag
@@ -174,6 +176,17 @@ passes_on (Ok x) e whole part f g h same leads = absurd h
 passes_on (Err y) NotBuilt whole part f g h same leads = subst (λ (z : TextFault). Leads (Err z) whole g) (sym h) (same ∙ leads)
 passes_on (Err y) NoMemory whole part f g h same leads = subst (λ (z : TextFault). Leads (Err z) whole g) (sym h) tt
 
+pub passes_built : {Y : Type 0} (r : Result Y TextFault) (e : TextFault) (whole part : Outcome) (g : Y → Outcome) → IsErrAnd r (λ y. y ≡ e) → whole ≡ part → (e ≡ NotBuilt) × (part ≡ Err NotBuilt) → Leads r whole g
+passes_built (Ok x) e whole part g h same fault = absurd h
+passes_built (Err NotBuilt) e whole part g h same fault = same ∙ fault.1
+passes_built (Err NoMemory) e whole part g h same fault = tt
+
+pub none_found : {X : Type 0} (o : Option X) (P : Type 0) (Q : X → Type 0) → o ≡ None → MatchOption o P Q → P
+none_found o P Q e h = subst (λ o. MatchOption o P Q) e h
+
+pub some_found : {X : Type 0} (o : Option X) (P : Type 0) (Q : X → Type 0) (x : X) → o ≡ Some x → MatchOption o P Q → Q x
+some_found o P Q x e h = subst (λ o. MatchOption o P Q) e h
+
 pub skip_length : (test : ℕ → Bool) (at : ℕ) (bs : List ℕ) (to : ℕ) (rest : List ℕ) → Skips test at bs to rest → (length rest ≤ length bs) × (to + length rest ≡ at + length bs)
 skip_length test at bs to rest h =
     let e : length bs ≡ length h.0 + length rest = ap length h.2 ∙ length-append h.0 rest in
@@ -256,42 +269,45 @@ over_loose_text f fs nodes rows place e w at rest h =
     run_loop is_text (λ _. content) (read_of (f ∷ fs) nodes rows)
     (λ _ i b q. text_step f fs nodes rows i b q ∙ ap (λ (o : Option ℕ). state content (read_of (with_loose_text f o ∷ fs) nodes rows)) (known_loose f.node.loose place i b e)) w [] at rest h
 
-over_first_text : (f : Frame) (fs : List Frame) (nodes : List Node) (rows : List Attribute) (at : ℕ) (w rest : List ℕ) → AllAre is_text w → begins is_white (w ++ rest) ≡ false → 0 < length w → run content (read_of (f ∷ fs) nodes rows) at (w ++ rest) ≡ run content (read_of (with_loose_text f (loose_or f.node.loose at) ∷ fs) nodes rows) (at + length w) rest
-over_first_text f fs nodes rows at [] rest h e n = absurd (omega arith)
-over_first_text f fs nodes rows at (b ∷ w) rest h e n =
-    let g : Frame = with_loose_text f (loose_or f.node.loose at) in
-    by_step content (read_of (f ∷ fs) nodes rows) at b (w ++ rest) content (read_of (g ∷ fs) nodes rows)
-    (text_step f fs nodes rows at b h.0 ∙ ap (λ (o : Option ℕ). state content (read_of (with_loose_text f o ∷ fs) nodes rows)) (new_loose f.node.loose at b e))
-    ∙ over_loose_text g fs nodes rows (is_loose f.node.loose at) (loose_known f.node.loose at) w (at + 1) rest h.1
-    ∙ ap (λ n. run content (read_of (g ∷ fs) nodes rows) n rest) (omega arith)
-
-pub over_text : (f : Frame) (fs : List Frame) (nodes : List Node) (rows : List Attribute) (at : ℕ) (bs : List ℕ) (at1 : ℕ) (bs1 : List ℕ) (at2 : ℕ) (bs2 : List ℕ) → Skips is_white at bs at1 bs1 → Skips is_text at1 bs1 at2 bs2 → at1 < at2 → run content (read_of (f ∷ fs) nodes rows) at bs ≡ run content (read_of (with_loose_text f (loose_or f.node.loose at1) ∷ fs) nodes rows) at2 bs2
-over_text f fs nodes rows at bs at1 bs1 at2 bs2 h k n =
-    let g : Frame = with_loose_text f (loose_or f.node.loose at1) in
-    over_white_text f fs nodes rows at bs at1 bs1 h
-    ∙ ap (run content (read_of (f ∷ fs) nodes rows) at1) k.2
-    ∙ over_first_text f fs nodes rows at1 k.0 bs2 k.1 (subst (λ (x : List ℕ). begins is_white x ≡ false) k.2 h.4) (omega (arith, k.3))
-    ∙ ap (λ n. run content (read_of (g ∷ fs) nodes rows) n bs2) (sym k.3)
-
-pub no_text : (f : Frame) (fs : List Frame) (nodes : List Node) (rows : List Attribute) (at : ℕ) (bs : List ℕ) (at1 : ℕ) (bs1 : List ℕ) (at2 : ℕ) (bs2 : List ℕ) → Skips is_white at bs at1 bs1 → Skips is_text at1 bs1 at2 bs2 → at2 ≤ at1 → run content (read_of (f ∷ fs) nodes rows) at bs ≡ run content (read_of (f ∷ fs) nodes rows) at2 bs2
-no_text f fs nodes rows at bs at1 bs1 at2 bs2 h k n =
-    over_white_text f fs nodes rows at bs at1 bs1 h
-    ∙ ap (run content (read_of (f ∷ fs) nodes rows) at1) (k.2 ∙ no_bytes k.0 bs2 (omega (arith, k.3)))
-    ∙ ap (λ n. run content (read_of (f ∷ fs) nodes rows) n bs2) (omega (arith, k.3))
-
 loose_or_is : (o : Option ℕ) (at : ℕ) → loose_or o at ≡ option_or o (Some at)
 loose_or_is (Some place) at = refl
 loose_or_is None at = refl
 
-pub over_text_or : (f : Frame) (fs : List Frame) (nodes : List Node) (rows : List Attribute) (loose now : Option ℕ) (at : ℕ) (bs : List ℕ) (at1 : ℕ) (bs1 : List ℕ) (at2 : ℕ) (bs2 : List ℕ) → f.node.loose ≡ loose → now ≡ option_or loose (Some at1) → Skips is_white at bs at1 bs1 → Skips is_text at1 bs1 at2 bs2 → at1 < at2 → run content (read_of (f ∷ fs) nodes rows) at bs ≡ run content (read_of (with_loose_text f now ∷ fs) nodes rows) at2 bs2
-over_text_or f fs nodes rows loose now at bs at1 bs1 at2 bs2 e d h k n =
-    over_text f fs nodes rows at bs at1 bs1 at2 bs2 h k n
-    ∙ ap (λ (o : Option ℕ). run content (read_of (with_loose_text f o ∷ fs) nodes rows) at2 bs2) (loose_or_is f.node.loose at1 ∙ ap (λ (o : Option ℕ). option_or o (Some at1)) e ∙ sym d)
+-- loose text that is noted stands somewhere
+pub noted_place : (o : Option ℕ) (at : ℕ) → (place : ℕ) × (option_or o (Some at) ≡ Some place)
+noted_place o at = (is_loose o at, sym (loose_or_is o at) ∙ loose_known o at)
 
-pub no_text_or : (f : Frame) (fs : List Frame) (nodes : List Node) (rows : List Attribute) (loose : Option ℕ) (at : ℕ) (bs : List ℕ) (at1 : ℕ) (bs1 : List ℕ) (at2 : ℕ) (bs2 : List ℕ) → f.node.loose ≡ loose → Skips is_white at bs at1 bs1 → Skips is_text at1 bs1 at2 bs2 → at2 ≤ at1 → run content (read_of (f ∷ fs) nodes rows) at bs ≡ run content (read_of (with_loose_text f loose ∷ fs) nodes rows) at2 bs2
-no_text_or f fs nodes rows loose at bs at1 bs1 at2 bs2 e h k n =
-    no_text f fs nodes rows at bs at1 bs1 at2 bs2 h k n
-    ∙ ap (λ (o : Option ℕ). run content (read_of (with_loose_text f o ∷ fs) nodes rows) at2 bs2) e
+same_step_reads : (p q : Phase) (r s : Read) (at b : ℕ) (bs : List ℕ) → step p r at b ≡ step q s at b → run p r at (b ∷ bs) ≡ run q s at (b ∷ bs)
+same_step_reads p q r s at b bs e = ap (λ (x : Step). and_then x (λ s. run s.phase s.read (at + 1) bs)) e
+
+note_early : (f : Frame) (fs : List Frame) (nodes : List Node) (rows : List Attribute) (at b : ℕ) → is_white b ≡ false → noted f at b ≡ noted (with_loose_text f (loose_or f.node.loose at)) at b
+note_early f fs nodes rows at b h =
+    ap (λ (o : Option ℕ). with_loose_text f o) (new_loose f.node.loose at b h ∙ sym (known_loose (loose_or f.node.loose at) (is_loose f.node.loose at) at b (loose_known f.node.loose at)))
+
+loose_isnt_tag : (b : ℕ) → is_loose_text b ≡ true → eqb b 60 ≡ false
+loose_isnt_tag b h = grind (arith, nat_tests)
+
+outer : (v : Bool) (x y x2 y2 : Step) → v ≡ false → y ≡ y2 → cond v x y ≡ cond v x2 y2
+outer true x y x2 y2 e d = cc
+outer false x y x2 y2 e d = d
+
+noted_step : (f : Frame) (fs : List Frame) (nodes : List Node) (rows : List Attribute) (at b : ℕ) → is_white b ≡ false → is_loose_text b ≡ true → step content (read_of (f ∷ fs) nodes rows) at b ≡ step content (read_of (with_loose_text f (loose_or f.node.loose at) ∷ fs) nodes rows) at b
+noted_step f fs nodes rows at b h t =
+    let not_tag : eqb b 60 ≡ false = loose_isnt_tag b t in
+    outer (eqb b 60) _ _ _ _ not_tag (ap (λ (g : Frame). cond (is_text b) (state content (read_of (g ∷ fs) nodes rows)) (cond (eqb b 38) (state (reference in_text) (read_of (g ∷ fs) nodes rows)) (cond (eqb b 239) (state (wide_1 in_text) (read_of (g ∷ fs) nodes rows)) refused))) (note_early f fs nodes rows at b h))
+
+-- loose text may be noted before its first byte is read
+pub notes : (f : Frame) (fs : List Frame) (nodes : List Node) (rows : List Attribute) (loose now : Option ℕ) (at : ℕ) (bs : List ℕ) (at1 : ℕ) (bs1 : List ℕ) → f.node.loose ≡ loose → now ≡ option_or loose (Some at1) → Skips is_white at bs at1 bs1 → begins is_loose_text bs1 ≡ true → run content (read_of (f ∷ fs) nodes rows) at bs ≡ run content (read_of (with_loose_text f now ∷ fs) nodes rows) at1 bs1
+notes f fs nodes rows loose now at bs at1 [] e d h t = cc
+notes f fs nodes rows loose now at bs at1 (b ∷ bs1) e d h t =
+    over_white_text f fs nodes rows at bs at1 (b ∷ bs1) h
+    ∙ same_step_reads content content (read_of (f ∷ fs) nodes rows) (read_of (with_loose_text f (loose_or f.node.loose at1) ∷ fs) nodes rows) at1 b bs1 (noted_step f fs nodes rows at1 b h.4 t)
+    ∙ ap (λ (o : Option ℕ). run content (read_of (with_loose_text f o ∷ fs) nodes rows) at1 (b ∷ bs1)) (loose_or_is f.node.loose at1 ∙ ap (λ (o : Option ℕ). option_or o (Some at1)) e ∙ sym d)
+
+pub no_notes : (f : Frame) (fs : List Frame) (nodes : List Node) (rows : List Attribute) (loose : Option ℕ) (at : ℕ) (bs : List ℕ) (at1 : ℕ) (bs1 : List ℕ) → f.node.loose ≡ loose → Skips is_white at bs at1 bs1 → run content (read_of (f ∷ fs) nodes rows) at bs ≡ run content (read_of (with_loose_text f loose ∷ fs) nodes rows) at1 bs1
+no_notes f fs nodes rows loose at bs at1 bs1 e h =
+    over_white_text f fs nodes rows at bs at1 bs1 h
+    ∙ ap (λ (o : Option ℕ). run content (read_of (with_loose_text f o ∷ fs) nodes rows) at1 bs1) e
 
 -- an end tag
 shut_ends : (r : Read) (place : ℕ) (name : List ℕ) (at : ℕ) (bs : List ℕ) → begins is_name bs ≡ false → run (shut place name) r at bs ≡ run (shut_gap place name) r at bs
@@ -352,9 +368,9 @@ over_start_name frames nodes rows place at bs name at1 bs1 first e d h =
 pub length_frames : (stack : List OpenElement) → length (frames_of stack) ≡ length stack
 length_frames stack = simp (length-map, length-reverse)
 
-pub no_tag : (f : Frame) (fs : List Frame) (nodes : List Node) (rows : List Attribute) (at : ℕ) (bs : List ℕ) → begins is_text bs ≡ false → begins (is_byte 60) bs ≡ false → run content (read_of (f ∷ fs) nodes rows) at bs ≡ Err NotBuilt
-no_tag f fs nodes rows at [] e d = refl
-no_tag f fs nodes rows at (b ∷ bs) e d = refuses content (read_of (f ∷ fs) nodes rows) at b bs (rw (e, d) refl)
+pub no_tag : (f : Frame) (fs : List Frame) (nodes : List Node) (rows : List Attribute) (at : ℕ) (bs : List ℕ) → begins is_text bs ≡ false → NoPiece bs → begins (is_byte 60) bs ≡ false → run content (read_of (f ∷ fs) nodes rows) at bs ≡ Err NotBuilt
+no_tag f fs nodes rows at [] e k d = refl
+no_tag f fs nodes rows at (b ∷ bs) e k d = refuses content (read_of (f ∷ fs) nodes rows) at b bs (rw (e, d, k.0, k.1) refl)
 
 pub over_open : (f : Frame) (fs : List Frame) (nodes : List Node) (rows : List Attribute) (at : ℕ) (bs : List ℕ) (at1 : ℕ) (bs1 : List ℕ) → (bs ≡ 60 ∷ bs1) × (at1 ≡ at + 1) → run content (read_of (f ∷ fs) nodes rows) at bs ≡ run (opened at) (read_of (f ∷ fs) nodes rows) at1 bs1
 over_open f fs nodes rows at bs at1 bs1 h = one content (read_of (f ∷ fs) nodes rows) at bs 60 at1 bs1 (opened at) (read_of (f ∷ fs) nodes rows) h.0 h.1 refl
@@ -409,7 +425,7 @@ over_dashes place r at bs at1 bs1 at2 bs2 h k =
     one (bang place) r at bs 45 at1 bs1 (bang_dash place) r h.0 h.1 refl
     ∙ one (bang_dash place) r at1 bs1 45 at2 bs2 (in_comment place 0) r k.0 k.1 refl
 
-first_of : (bs : List ℕ) → 0 < length bs → bs ≡ get_or bs 0 0 ∷ drop 1 bs
+pub first_of : (bs : List ℕ) → 0 < length bs → bs ≡ get_or bs 0 0 ∷ drop 1 bs
 first_of [] h = absurd (omega arith)
 first_of (b ∷ bs) h = refl
 
@@ -471,3 +487,22 @@ over_bang late nodes rows at bs at1 bs1 at2 bs2 at3 bs3 h k m =
     over_space late nodes rows at bs at1 bs1 h
     ∙ one ended r at1 bs1 60 at2 bs2 (ended_open at1) r k.0 k.1 refl
     ∙ one (ended_open at1) r at2 bs2 33 at3 bs3 (bang late) r m.0 m.1 refl
+
+-- over text whose loose text is known
+pub over_known_text : (f : Frame) (fs : List Frame) (nodes : List Node) (rows : List Attribute) (place : ℕ) → f.node.loose ≡ Some place → (at : ℕ) (bs : List ℕ) (at1 : ℕ) (bs1 : List ℕ) → Skips is_text at bs at1 bs1 → run content (read_of (f ∷ fs) nodes rows) at bs ≡ run content (read_of (f ∷ fs) nodes rows) at1 bs1
+over_known_text f fs nodes rows place e at bs at1 bs1 h =
+    ap (run content (read_of (f ∷ fs) nodes rows) at) h.2
+    ∙ over_loose_text f fs nodes rows place e h.0 at bs1 h.1
+    ∙ ap (λ n. run content (read_of (f ∷ fs) nodes rows) n bs1) (sym h.3)
+
+pub text_enters : (f : Frame) (fs : List Frame) (nodes : List Node) (rows : List Attribute) (place : ℕ) → f.node.loose ≡ Some place → (at : ℕ) → Enters content in_text (read_of (f ∷ fs) nodes rows) (read_of (f ∷ fs) nodes rows) at
+text_enters f fs nodes rows place e at = (
+  ap (λ (o : Option ℕ). state (reference in_text) (read_of (with_loose_text f o ∷ fs) nodes rows)) (known_loose f.node.loose place at 38 e),
+  ap (λ (o : Option ℕ). state (wide_1 in_text) (read_of (with_loose_text f o ∷ fs) nodes rows)) (known_loose f.node.loose place at 239 e),
+)
+
+pub value_enters : (t : Tag) (place : ℕ) (name : List ℕ) (quote from : ℕ) (r : Read) (at : ℕ) → is_quote quote ≡ true → Enters (in_value t place name quote from) (in_quotes t place name quote from) r r at
+value_enters t place name quote from r at h = (value_38 t place name quote from r at h, value_239 t place name quote from r at h)
+
+pub over_value_bytes : (t : Tag) (place : ℕ) (name : List ℕ) (quote from : ℕ) (r : Read) (at : ℕ) (bs : List ℕ) (at1 : ℕ) (bs1 : List ℕ) → Skips (is_quoted quote) at bs at1 bs1 → run (in_value t place name quote from) r at bs ≡ run (in_value t place name quote from) r at1 bs1
+over_value_bytes t place name quote from r at bs at1 bs1 h = over (is_quoted quote) (in_value t place name quote from) r (λ i b q. rw q refl) at bs at1 bs1 h

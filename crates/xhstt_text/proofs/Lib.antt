@@ -5,7 +5,9 @@ pub mod DocumentTable
 pub mod Follow
 pub mod ForestOfTable
 pub mod KnownNames
+pub mod Numbers
 pub mod Parts
+pub mod Pieces
 pub mod Places
 pub mod Runs
 pub mod Sound

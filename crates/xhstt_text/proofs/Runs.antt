@@ -4,7 +4,7 @@ use Rattle.std.proofs.lemmas.Bool.Decides.{nat_tests}
 use Rattle.xhstt_text.specs.Bytes.{is_white, is_first, is_name, is_text, is_quoted, is_quote, AllAre, IsWhite, IsGap, IsName}
 use Rattle.xhstt_text.specs.Document.{has_name}
 use Rattle.xhstt_text.specs.declared.tree.Attribute.{Attribute}
-use Rattle.xhstt_text.specs.Machine.{Read, Tag, Phase, valued, in_tag, attribute_name, named, equals, in_value, Step, state, attribute_row, with_name, step, and_then, run}
+use Rattle.xhstt_text.specs.Machine.{reference, wide_1, in_quotes, Read, Tag, Phase, valued, in_tag, attribute_name, named, equals, in_value, Step, state, attribute_row, with_name, step, and_then, run}
 
 pub by_step : (p : Phase) (r : Read) (at b : ℕ) (bs : List ℕ) (q : Phase) (s : Read) → step p r at b ≡ state q s → run p r at (b ∷ bs) ≡ run q s (at + 1) bs
 by_step p r at b bs q s e = ap (λ (x : Step). and_then x (λ s. run s.phase s.read (at + 1) bs)) e
@@ -84,8 +84,19 @@ run_quote t place name r w quote at rest h q =
 abbrev pub with_attribute : Read → Attribute → Read
 with_attribute r a = record r { attributes = r.attributes ++ a ∷ [] }
 
--- over a value and its last quote
-pub run_value : (t : Tag) (place : ℕ) (name : List ℕ) (r : Read) (quote from : ℕ) (v : List ℕ) (rest : List ℕ) → AllAre (is_quoted quote) v → run (in_value t place name quote from) r from (v ++ (quote ∷ rest)) ≡ run (valued (with_name t name)) (with_attribute r (attribute_row place name from (from + length v))) (from + length v + 1) rest
-run_value t place name r quote from v rest h =
-    run_loop (is_quoted quote) (λ _. in_value t place name quote from) r (λ _ at b e. rw e refl) v [] from (quote ∷ rest) h
-    ∙ by_step (in_value t place name quote from) r (from + length v) quote rest (valued (with_name t name)) (with_attribute r (attribute_row place name from (from + length v))) (rw (quote_isnt_quoted quote, same_number quote) refl)
+reference_isnt_quote : (quote : ℕ) → is_quote quote ≡ true → eqb 38 quote ≡ false
+reference_isnt_quote quote h = grind (arith, nat_tests)
+
+wide_isnt_quote : (quote : ℕ) → is_quote quote ≡ true → eqb 239 quote ≡ false
+wide_isnt_quote quote h = grind (arith, nat_tests)
+
+pub value_38 : (t : Tag) (place : ℕ) (name : List ℕ) (quote from : ℕ) (r : Read) (at : ℕ) → is_quote quote ≡ true → step (in_value t place name quote from) r at 38 ≡ state (reference (in_quotes t place name quote from)) r
+value_38 t place name quote from r at h = rw (reference_isnt_quote quote h) refl
+
+pub value_239 : (t : Tag) (place : ℕ) (name : List ℕ) (quote from : ℕ) (r : Read) (at : ℕ) → is_quote quote ≡ true → step (in_value t place name quote from) r at 239 ≡ state (wide_1 (in_quotes t place name quote from)) r
+value_239 t place name quote from r at h = rw (wide_isnt_quote quote h) refl
+
+-- over the last quote of a value
+pub run_last_quote : (t : Tag) (place : ℕ) (name : List ℕ) (r : Read) (quote from at : ℕ) (rest : List ℕ) → run (in_value t place name quote from) r at (quote ∷ rest) ≡ run (valued (with_name t name)) (with_attribute r (attribute_row place name from at)) (at + 1) rest
+run_last_quote t place name r quote from at rest =
+    by_step (in_value t place name quote from) r at quote rest (valued (with_name t name)) (with_attribute r (attribute_row place name from at)) (rw (quote_isnt_quoted quote, same_number quote) refl)

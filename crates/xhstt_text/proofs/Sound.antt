@@ -1,11 +1,12 @@
 -- What the machine reads is a document.
-use Rattle.std.proofs.Common.{◌≡◌, ℕ, suc, ◌+◌, ◌<◌, ◌≤◌, Bool, true, false, cond, not, ◌&&◌, leb, eqb, ltb, List, [], ◌∷◌, ◌++◌, length, Ok, Err, refl, sym, ◌∙◌, ap, subst, ◌⊎◌, inl, inr, arith, append-nil, append_assoc}
+use Rattle.std.proofs.Common.{◌≡◌, ℕ, suc, ◌+◌, ◌*◌, ◌<◌, ◌≤◌, Bool, true, false, cond, not, ◌&&◌, leb, eqb, ltb, List, [], ◌∷◌, ◌++◌, length, Ok, Err, refl, sym, ◌∙◌, ap, subst, ◌⊎◌, inl, inr, arith, append-nil, append_assoc}
 use Rattle.std.proofs.lemmas.Bool.Decides.{nat_tests}
 use Rattle.std.proofs.lemmas.Slice.Eq.{bytes_eq-Decides}
 use Rattle.std.specs.Str.{bytes_eq}
+use Rattle.xhstt_text.specs.Units.{Entity, less, greater, ampersand, apostrophe, quotation, entity_name, Piece, wide, named as named_entity, decimal, hexadecimal, piece_text, is_decimal, is_hexadecimal, digit, number_from, AreDigits, is_character, is_last, IsPiece}
 use Rattle.xhstt_text.specs.Bytes.{IsDeclared, declaration_start, question_after, stays_declared, IsComment, dashes, dashes_after, stays_open, is_white, is_first, is_name, is_text, is_quoted, is_quote, AllAre, IsWhite, IsGap, IsName}
-use Rattle.xhstt_text.specs.Document.{Body, unmarked, marked, Declaration, undeclared, declared, declaration_text, body_text, IsBody, IsDeclaration, IsSpace, Attributes, none, attribute, Start, Content, nothing, byte, comment, short, long, Document, attributes_text, start_text, text, spelling, has_name, AreAttributes, IsContent, IsDocument, Rows}
-use Rattle.xhstt_text.specs.Machine.{beginning, mark_1, mark_2, at_declaration, declared_open, question, in_declaration, closed, step_declaration, step_question, Frame, Read, Tag, Phase, content, ended, ended_open, Place, early, late, phase_of, bang, bang_dash, in_comment, opened, start_name, valued, in_tag, slash, attribute_name, named, equals, in_value, shut_begin, shut, shut_gap, State, Step, refused, state, noted, resume, open_element, add_node, opened_row, close_element, attribute_row, with_name, start_of, step, step_content, step_opened, step_valued, step_named, step_shut, finish, and_then, run, Outcome, outcome_of}
+use Rattle.xhstt_text.specs.Document.{Value, done, plain, piece_of, value_text, IsValue, piece, Body, unmarked, marked, Declaration, undeclared, declared, declaration_text, body_text, IsBody, IsDeclaration, IsSpace, Attributes, none, attribute, Start, Content, nothing, byte, comment, short, long, Document, attributes_text, start_text, text, spelling, has_name, AreAttributes, IsContent, IsDocument, Rows}
+use Rattle.xhstt_text.specs.Machine.{Within, in_text, in_quotes, after_piece, wide_1, wide_2, reference, reference_a, word, hash, hash_x, in_decimal, in_hexadecimal, step_word, beginning, mark_1, mark_2, at_declaration, declared_open, question, in_declaration, closed, step_declaration, step_question, Frame, Read, Tag, Phase, content, ended, ended_open, Place, early, late, phase_of, bang, bang_dash, in_comment, opened, start_name, valued, in_tag, slash, attribute_name, named, equals, in_value, shut_begin, shut, shut_gap, State, Step, refused, state, noted, resume, open_element, add_node, opened_row, close_element, attribute_row, with_name, start_of, step, step_content, step_opened, step_valued, step_named, step_shut, finish, and_then, run, Outcome, outcome_of}
 use Rattle.xhstt_text.proofs.Complete.{attribute_shape, start_shape, long_shape, declaration_shape}
 
 -- what may follow inside these open elements, the innermost first, or after the outermost element
@@ -30,6 +31,16 @@ InTag ns name names bs = (a : Attributes) × (rest : List ℕ) × AreAttributes 
 abbrev AtPlace : Place → List (List ℕ) → List ℕ → Type 0
 AtPlace early ns bs = Inside ns bs
 AtPlace late ns bs = Later [] bs
+
+-- what may follow in the value of an attribute with this name
+abbrev ValueRest : Tag → List ℕ → ℕ → List (List ℕ) → List ℕ → Type 0
+ValueRest t name quote ns bs = IsName name → has_name name t.names ≡ false → is_quote quote ≡ true → (b : ℕ) → is_white b ≡ true → (w : List ℕ) → IsWhite w → (v : List ℕ) → IsWhite v → (u : Value) → IsValue quote u → InTag ns t.name t.names (b ∷ (name ++ (w ++ (61 ∷ (v ++ (quote ∷ (value_text u ++ bs)))))))
+
+-- what may follow where a piece may stand
+abbrev AtWithin : Within → List (List ℕ) → List ℕ → Type 0
+AtWithin in_text [] bs = Unit {0}
+AtWithin in_text (n ∷ ns) bs = Later (n ∷ ns) bs
+AtWithin (in_quotes t place name quote from) ns bs = ValueRest t name quote ns bs
 
 -- what may follow a byte order mark
 abbrev Declarable : List ℕ → Type 0
@@ -62,7 +73,16 @@ Follows (slash t) ns bs = (more : List ℕ) × (bs ≡ 62 ∷ more) × Later ns 
 Follows (attribute_name t at name) ns bs = IsName name → (b : ℕ) → is_white b ≡ true → InTag ns t.name t.names (b ∷ (name ++ bs))
 Follows (named t at name) ns bs = IsName name → has_name name t.names ≡ false → (b : ℕ) → is_white b ≡ true → (w : List ℕ) → IsWhite w → InTag ns t.name t.names (b ∷ (name ++ (w ++ bs)))
 Follows (equals t at name) ns bs = IsName name → has_name name t.names ≡ false → (b : ℕ) → is_white b ≡ true → (w : List ℕ) → IsWhite w → (v : List ℕ) → IsWhite v → InTag ns t.name t.names (b ∷ (name ++ (w ++ (61 ∷ (v ++ bs)))))
-Follows (in_value t at name quote from) ns bs = IsName name → has_name name t.names ≡ false → is_quote quote ≡ true → (b : ℕ) → is_white b ≡ true → (w : List ℕ) → IsWhite w → (v : List ℕ) → IsWhite v → (u : List ℕ) → AllAre (is_quoted quote) u → InTag ns t.name t.names (b ∷ (name ++ (w ++ (61 ∷ (v ++ (quote ∷ (u ++ bs)))))))
+Follows (in_value t at name quote from) ns bs = ValueRest t name quote ns bs
+Follows (wide_1 w) ns bs = AtWithin w ns (239 ∷ bs)
+Follows (wide_2 greatest w) ns bs = (b : ℕ) → leb 128 b ≡ true → eqb b 191 ≡ greatest → AtWithin w ns (239 ∷ b ∷ bs)
+Follows (reference w) ns bs = AtWithin w ns (38 ∷ bs)
+Follows (reference_a w) ns bs = AtWithin w ns (38 ∷ 97 ∷ bs)
+Follows (word ks w) ns bs = (e : Entity) (front : List ℕ) → front ++ ks ≡ entity_name e ++ 59 ∷ [] → AtWithin w ns (38 ∷ (front ++ bs))
+Follows (hash w) ns bs = AtWithin w ns (38 ∷ 35 ∷ bs)
+Follows (hash_x w) ns bs = AtWithin w ns (38 ∷ 35 ∷ 120 ∷ bs)
+Follows (in_decimal n w) ns bs = (ds : List ℕ) → AreDigits is_decimal ds → number_from 10 0 ds ≡ n → AtWithin w ns (38 ∷ 35 ∷ (ds ++ bs))
+Follows (in_hexadecimal n w) ns bs = (ds : List ℕ) → AreDigits is_hexadecimal ds → number_from 16 0 ds ≡ n → AtWithin w ns (38 ∷ 35 ∷ 120 ∷ (ds ++ bs))
 Follows (shut_begin at) ns bs = Inside ns (60 ∷ 47 ∷ bs)
 Follows (shut at name) ns bs = Inside ns (60 ∷ 47 ∷ (name ++ bs))
 Follows (shut_gap at name) ns bs = (w : List ℕ) → IsWhite w → Inside ns (60 ∷ 47 ∷ (name ++ (w ++ bs)))
@@ -89,12 +109,12 @@ widen ns name names b bs e (attribute w own v u quote value more, rest, h, same,
     (attribute (b ∷ w) own v u quote value more, rest, ((e, white_gap w h.0), h.1, h.2, h.3, h.4, h.5, h.6, h.7), ap (λ x. b ∷ x) same, end)
 
 -- one more attribute before what follows in a tag
-more_attribute : (ns : List (List ℕ)) (name : List ℕ) (names : List (List ℕ)) (b : ℕ) (own w v : List ℕ) (quote : ℕ) (u bs : List ℕ) → is_white b ≡ true → IsName own → has_name own names ≡ false → IsWhite w → IsWhite v → is_quote quote ≡ true → AllAre (is_quoted quote) u → InTag ns name (own ∷ names) bs → InTag ns name names (b ∷ (own ++ (w ++ (61 ∷ (v ++ (quote ∷ (u ++ (quote ∷ bs))))))))
+more_attribute : (ns : List (List ℕ)) (name : List ℕ) (names : List (List ℕ)) (b : ℕ) (own w v : List ℕ) (quote : ℕ) (u : Value) (bs : List ℕ) → is_white b ≡ true → IsName own → has_name own names ≡ false → IsWhite w → IsWhite v → is_quote quote ≡ true → IsValue quote u → InTag ns name (own ∷ names) bs → InTag ns name names (b ∷ (own ++ (w ++ (61 ∷ (v ++ (quote ∷ (value_text u ++ (quote ∷ bs))))))))
 more_attribute ns name names b own w v quote u bs hb hn new hw hv hq hu (a, rest, h, same, end) = (
   attribute (b ∷ []) own w v quote u a,
   rest,
   ((hb, tt), hn, new, hw, hv, hq, hu, h),
-  ap (λ x. b ∷ (own ++ (w ++ (61 ∷ (v ++ (quote ∷ (u ++ (quote ∷ x)))))))) same ∙ sym (attribute_shape (b ∷ []) own w v quote u a rest),
+  ap (λ x. b ∷ (own ++ (w ++ (61 ∷ (v ++ (quote ∷ (value_text u ++ (quote ∷ x)))))))) same ∙ sym (attribute_shape (b ∷ []) own w v quote u a rest),
   end,
 )
 
@@ -228,11 +248,16 @@ back_content [] r at b bs s e h =
     (λ is here. more_before b bs is (arrives (After bs) content (record r { frames = [] }) s here h))
     (λ _ here. no s here) there) e
 back_content (f ∷ fs) r at b bs s e h =
+    let q : Read = record r { frames = noted f at b ∷ fs } in
     choose (eqb b 60) (state (opened at) (record r { frames = f ∷ fs })) _ s
     (λ is here. subst (λ k. Inside (names_of (f ∷ fs)) (k ∷ bs)) (sym (same_byte b 60 is)) (arrives (After bs) (opened at) (record r { frames = f ∷ fs }) s here h))
-    (λ _ there. choose (is_text b) (state content (record r { frames = noted f at b ∷ fs })) refused s
-    (λ is here. more_content f.name (names_of fs) b bs is (arrives (After bs) content (record r { frames = noted f at b ∷ fs }) s here h))
-    (λ _ here. no s here) there) e
+    (λ _ e1. choose (is_text b) (state content q) _ s
+    (λ is here. more_content f.name (names_of fs) b bs is (arrives (After bs) content q s here h))
+    (λ _ e2. choose (eqb b 38) (state (reference in_text) q) _ s
+    (λ is here. subst (λ k. Later (names_of (f ∷ fs)) (k ∷ bs)) (sym (same_byte b 38 is)) (arrives (After bs) (reference in_text) q s here h))
+    (λ _ e3. choose (eqb b 239) (state (wide_1 in_text) q) refused s
+    (λ is here. subst (λ k. Later (names_of (f ∷ fs)) (k ∷ bs)) (sym (same_byte b 239 is)) (arrives (After bs) (wide_1 in_text) q s here h))
+    (λ _ here. no s here) e3) e2) e1) e
 
 length_names : (fs : List Frame) → length (names_of fs) ≡ length fs
 length_names [] = refl
@@ -312,6 +337,75 @@ back_comment place ns front b bs count stays same is k =
     let e = both_pass (leb 2 count) (eqb b 62) is in
     let least : 2 ≤ dashes_after 0 front = subst (λ n. 2 ≤ n) (sym same) (let l : 2 ≤ count = grind (arith, nat_tests, e.0) in l) in
     subst (λ n. AtPlace place ns (60 ∷ 33 ∷ 45 ∷ 45 ∷ (front ++ (n ∷ bs)))) (sym (same_byte b 62 e.1)) (comment_at place ns front bs (stays, least) k)
+
+-- one more byte, or one more piece, at the end of a value
+abbrev with_plain : Value → ℕ → Value
+with_plain done b = plain b done
+with_plain (plain c v) b = plain c (with_plain v b)
+with_plain (piece_of x v) b = piece_of x (with_plain v b)
+
+abbrev with_piece : Value → Piece → Value
+with_piece done u = piece_of u done
+with_piece (plain c v) u = plain c (with_piece v u)
+with_piece (piece_of x v) u = piece_of x (with_piece v u)
+
+plain_text : (v : Value) (b : ℕ) (bs : List ℕ) → value_text (with_plain v b) ++ bs ≡ value_text v ++ (b ∷ bs)
+plain_text done b bs = refl
+plain_text (plain c v) b bs = ap (λ x. c ∷ x) (plain_text v b bs)
+plain_text (piece_of x v) b bs =
+    append_assoc (piece_text x) (value_text (with_plain v b)) bs ∙ ap (λ y. piece_text x ++ y) (plain_text v b bs) ∙ sym (append_assoc (piece_text x) (value_text v) (b ∷ bs))
+
+is_plain : (quote : ℕ) (v : Value) (b : ℕ) → IsValue quote v → is_quoted quote b ≡ true → IsValue quote (with_plain v b)
+is_plain quote done b h e = (e, tt)
+is_plain quote (plain c v) b h e = (h.0, is_plain quote v b h.1 e)
+is_plain quote (piece_of x v) b h e = (h.0, is_plain quote v b h.1 e)
+
+pieces_text : (v : Value) (u : Piece) (bs : List ℕ) → value_text (with_piece v u) ++ bs ≡ value_text v ++ (piece_text u ++ bs)
+pieces_text done u bs = append_assoc (piece_text u) [] bs
+pieces_text (plain c v) u bs = ap (λ x. c ∷ x) (pieces_text v u bs)
+pieces_text (piece_of x v) u bs =
+    append_assoc (piece_text x) (value_text (with_piece v u)) bs ∙ ap (λ y. piece_text x ++ y) (pieces_text v u bs) ∙ sym (append_assoc (piece_text x) (value_text v) (piece_text u ++ bs))
+
+is_pieces : (quote : ℕ) (v : Value) (u : Piece) → IsValue quote v → IsPiece u → IsValue quote (with_piece v u)
+is_pieces quote done u h e = (e, tt)
+is_pieces quote (plain c v) u h e = (h.0, is_pieces quote v u h.1 e)
+is_pieces quote (piece_of x v) u h e = (h.0, is_pieces quote v u h.1 e)
+
+plain_before : (t : Tag) (name : List ℕ) (quote : ℕ) (ns : List (List ℕ)) (b : ℕ) (bs : List ℕ) → is_quoted quote b ≡ true → ValueRest t name quote ns bs → ValueRest t name quote ns (b ∷ bs)
+plain_before t name quote ns b bs e h = λ hn new hq c hc w hw v hv u hu.
+    subst (λ (x : List ℕ). InTag ns t.name t.names (c ∷ (name ++ (w ++ (61 ∷ (v ++ (quote ∷ x))))))) (plain_text u b bs) (h hn new hq c hc w hw v hv (with_plain u b) (is_plain quote u b hu e))
+
+piece_before : (w : Within) (ns : List (List ℕ)) (u : Piece) (bs : List ℕ) → IsPiece u → Follows (after_piece w) ns bs → AtWithin w ns (piece_text u ++ bs)
+piece_before in_text [] u bs h k = tt
+piece_before in_text (n ∷ ns) u bs h (c, w, more, hc, hw, same, later) =
+    (piece u c, w, more, (h, hc), hw, ap (λ x. piece_text u ++ x) same ∙ sym (append_assoc (piece_text u) (text c) (60 ∷ 47 ∷ (n ++ (w ++ (62 ∷ more))))), later)
+piece_before (in_quotes t place name quote from) ns u bs h k = λ hn new hq c hc w hw v hv x hx.
+    subst (λ (y : List ℕ). InTag ns t.name t.names (c ∷ (name ++ (w ++ (61 ∷ (v ++ (quote ∷ y))))))) (pieces_text x u bs) (k hn new hq c hc w hw v hv (with_piece x u) (is_pieces quote x u hx h))
+
+number_push : (base : ℕ) (ds : List ℕ) (n b : ℕ) → number_from base n (ds ++ b ∷ []) ≡ number_from base n ds * base + digit b
+number_push base [] n b = refl
+number_push base (d ∷ ds) n b = number_push base ds (n * base + digit d) b
+
+digits_push : (test : ℕ → Bool) (ds : List ℕ) (b : ℕ) → AreDigits test ds → test b ≡ true → AreDigits test (ds ++ b ∷ [])
+digits_push test [] b h e = absurd h
+digits_push test (d ∷ ds) b h e = (h.0, all_push test ds b h.1 e)
+
+back_word : (ks : List ℕ) (w : Within) (r : Read) (b : ℕ) (bs : List ℕ) (s : State) → step_word ks w r b ≡ Ok s → After bs s → Follows (word ks w) (names_of r.frames) (b ∷ bs)
+back_word [] w r b bs s e h = no s e
+back_word (k ∷ []) w r b bs s e h =
+    choose (eqb b k) (state (after_piece w) r) refused s
+    (λ is here x front same.
+    let q = piece_before w (names_of r.frames) (named_entity x) bs tt (arrives (After bs) (after_piece w) r s here h) in
+    subst (λ i. AtWithin w (names_of r.frames) (38 ∷ (front ++ (i ∷ bs)))) (sym (same_byte b k is))
+    (subst (λ (y : List ℕ). AtWithin w (names_of r.frames) (38 ∷ y)) (ap (λ y. y ++ bs) (sym same) ∙ append_assoc front (k ∷ []) bs) q))
+    (λ _ here. no s here) e
+back_word (k ∷ l ∷ ks) w r b bs s e h =
+    choose (eqb b k) (state (word (l ∷ ks) w) r) refused s
+    (λ is here x front same.
+    let q = arrives (After bs) (word (l ∷ ks) w) r s here h x (front ++ k ∷ []) (append_assoc front (k ∷ []) (l ∷ ks) ∙ same) in
+    subst (λ i. AtWithin w (names_of r.frames) (38 ∷ (front ++ (i ∷ bs)))) (sym (same_byte b k is))
+    (subst (λ (y : List ℕ). AtWithin w (names_of r.frames) (38 ∷ y)) (append_assoc front (k ∷ []) bs) q))
+    (λ _ here. no s here) e
 
 without_declaration : (bs : List ℕ) → Inside [] bs → Declarable bs
 without_declaration bs (y, h, same) = (undeclared, y, tt, h, same)
@@ -444,19 +538,86 @@ back (equals t place name) r at b bs s e h =
     let q = arrives (After bs) (equals t place name) r s here h hn new c hc w hw (v ++ b ∷ []) (all_push is_white v b hv is) in
     subst (λ (x : List ℕ). InTag (names_of r.frames) t.name t.names (c ∷ (name ++ (w ++ (61 ∷ x))))) (append_assoc v (b ∷ []) bs) q)
     (λ _ there. choose (is_quote b) (state (in_value t place name b (at + 1)) r) refused s
-    (λ is here hn new c hc w hw v hv. arrives (After bs) (in_value t place name b (at + 1)) r s here h hn new is c hc w hw v hv [] tt)
+    (λ is here hn new c hc w hw v hv. arrives (After bs) (in_value t place name b (at + 1)) r s here h hn new is c hc w hw v hv done tt)
     (λ _ here. no s here) there) e
 back (in_value t place name quote from) r at b bs s e h =
+    let w : Within = in_quotes t place name quote from in
+    let q : Read = record r { attributes = r.attributes ++ attribute_row place name from at ∷ [] } in
     choose (is_quoted quote b) (state (in_value t place name quote from) r) _ s
-    (λ is here hn new hq c hc w hw v hv u hu.
-    let q = arrives (After bs) (in_value t place name quote from) r s here h hn new hq c hc w hw v hv (u ++ b ∷ []) (all_push (is_quoted quote) u b hu is) in
-    subst (λ (x : List ℕ). InTag (names_of r.frames) t.name t.names (c ∷ (name ++ (w ++ (61 ∷ (v ++ (quote ∷ x))))))) (append_assoc u (b ∷ []) bs) q)
-    (λ _ there. choose (eqb b quote) (state (valued (with_name t name)) (record r { attributes = r.attributes ++ attribute_row place name from at ∷ [] })) refused s
-    (λ is here hn new hq c hc w hw v hv u hu.
-    let q = arrives (After bs) (valued (with_name t name)) (record r { attributes = r.attributes ++ attribute_row place name from at ∷ [] }) s here h in
-    subst (λ k. InTag (names_of r.frames) t.name t.names (c ∷ (name ++ (w ++ (61 ∷ (v ++ (quote ∷ (u ++ (k ∷ bs))))))))) (sym (same_byte b quote is))
-    (more_attribute (names_of r.frames) t.name t.names c name w v quote u bs hc hn new hw hv hq hu q))
-    (λ _ here. no s here) there) e
+    (λ is here. plain_before t name quote (names_of r.frames) b bs is (arrives (After bs) (in_value t place name quote from) r s here h))
+    (λ _ e1. choose (eqb b quote) (state (valued (with_name t name)) q) _ s
+    (λ is here hn new hq c hc x hx v hv u hu.
+    let k = arrives (After bs) (valued (with_name t name)) q s here h in
+    subst (λ k. InTag (names_of r.frames) t.name t.names (c ∷ (name ++ (x ++ (61 ∷ (v ++ (quote ∷ (value_text u ++ (k ∷ bs))))))))) (sym (same_byte b quote is))
+    (more_attribute (names_of r.frames) t.name t.names c name x v quote u bs hc hn new hx hv hq hu k))
+    (λ _ e2. choose (eqb b 38) (state (reference w) r) _ s
+    (λ is here. subst (λ k. AtWithin w (names_of r.frames) (k ∷ bs)) (sym (same_byte b 38 is)) (arrives (After bs) (reference w) r s here h))
+    (λ _ e3. choose (eqb b 239) (state (wide_1 w) r) refused s
+    (λ is here. subst (λ k. AtWithin w (names_of r.frames) (k ∷ bs)) (sym (same_byte b 239 is)) (arrives (After bs) (wide_1 w) r s here h))
+    (λ _ here. no s here) e3) e2) e1) e
+back (wide_1 w) r at b bs s e h =
+    choose (leb 128 b) (state (wide_2 (eqb b 191) w) r) refused s
+    (λ is here. arrives (After bs) (wide_2 (eqb b 191) w) r s here h b is refl)
+    (λ _ here. no s here) e
+back (wide_2 greatest w) r at b bs s e h =
+    choose (is_last greatest b) (state (after_piece w) r) refused s
+    (λ is here c hc same. piece_before w (names_of r.frames) (wide c b) bs (hc, ap (λ v. is_last v b) same ∙ is) (arrives (After bs) (after_piece w) r s here h))
+    (λ _ here. no s here) e
+back (reference w) r at b bs s e h =
+    let put : (k : ℕ) → eqb b k ≡ true → AtWithin w (names_of r.frames) (38 ∷ k ∷ bs) → AtWithin w (names_of r.frames) (38 ∷ b ∷ bs) = λ k is. subst (λ k. AtWithin w (names_of r.frames) (38 ∷ k ∷ bs)) (sym (same_byte b k is)) in
+    choose (eqb b 108) (state (word (116 ∷ 59 ∷ []) w) r) _ s
+    (λ is here. put 108 is (arrives (After bs) (word (116 ∷ 59 ∷ []) w) r s here h less (108 ∷ []) refl))
+    (λ _ e1. choose (eqb b 103) (state (word (116 ∷ 59 ∷ []) w) r) _ s
+    (λ is here. put 103 is (arrives (After bs) (word (116 ∷ 59 ∷ []) w) r s here h greater (103 ∷ []) refl))
+    (λ _ e2. choose (eqb b 113) (state (word (117 ∷ 111 ∷ 116 ∷ 59 ∷ []) w) r) _ s
+    (λ is here. put 113 is (arrives (After bs) (word (117 ∷ 111 ∷ 116 ∷ 59 ∷ []) w) r s here h quotation (113 ∷ []) refl))
+    (λ _ e3. choose (eqb b 97) (state (reference_a w) r) _ s
+    (λ is here. put 97 is (arrives (After bs) (reference_a w) r s here h))
+    (λ _ e4. choose (eqb b 35) (state (hash w) r) refused s
+    (λ is here. put 35 is (arrives (After bs) (hash w) r s here h))
+    (λ _ here. no s here) e4) e3) e2) e1) e
+back (reference_a w) r at b bs s e h =
+    let put : (k : ℕ) → eqb b k ≡ true → AtWithin w (names_of r.frames) (38 ∷ 97 ∷ k ∷ bs) → AtWithin w (names_of r.frames) (38 ∷ 97 ∷ b ∷ bs) = λ k is. subst (λ k. AtWithin w (names_of r.frames) (38 ∷ 97 ∷ k ∷ bs)) (sym (same_byte b k is)) in
+    choose (eqb b 109) (state (word (112 ∷ 59 ∷ []) w) r) _ s
+    (λ is here. put 109 is (arrives (After bs) (word (112 ∷ 59 ∷ []) w) r s here h ampersand (97 ∷ 109 ∷ []) refl))
+    (λ _ e1. choose (eqb b 112) (state (word (111 ∷ 115 ∷ 59 ∷ []) w) r) refused s
+    (λ is here. put 112 is (arrives (After bs) (word (111 ∷ 115 ∷ 59 ∷ []) w) r s here h apostrophe (97 ∷ 112 ∷ []) refl))
+    (λ _ here. no s here) e1) e
+back (word ks w) r at b bs s e h = back_word ks w r b bs s e h
+back (hash w) r at b bs s e h =
+    choose (eqb b 120) (state (hash_x w) r) _ s
+    (λ is here. subst (λ k. AtWithin w (names_of r.frames) (38 ∷ 35 ∷ k ∷ bs)) (sym (same_byte b 120 is)) (arrives (After bs) (hash_x w) r s here h))
+    (λ _ e1. choose (is_decimal b) (state (in_decimal (digit b) w) r) refused s
+    (λ is here. arrives (After bs) (in_decimal (digit b) w) r s here h (b ∷ []) (is, tt) (let z : 0 * 10 + digit b ≡ digit b = omega arith in z))
+    (λ _ here. no s here) e1) e
+back (hash_x w) r at b bs s e h =
+    choose (is_hexadecimal b) (state (in_hexadecimal (digit b) w) r) refused s
+    (λ is here. arrives (After bs) (in_hexadecimal (digit b) w) r s here h (b ∷ []) (is, tt) (let z : 0 * 16 + digit b ≡ digit b = omega arith in z))
+    (λ _ here. no s here) e
+back (in_decimal n w) r at b bs s e h =
+    choose (is_decimal b) (state (in_decimal (n * 10 + digit b) w) r) _ s
+    (λ is here ds hds same.
+    let q = arrives (After bs) (in_decimal (n * 10 + digit b) w) r s here h (ds ++ b ∷ []) (digits_push is_decimal ds b hds is) (number_push 10 ds 0 b ∙ ap (λ i. i * 10 + digit b) same) in
+    subst (λ (x : List ℕ). AtWithin w (names_of r.frames) (38 ∷ 35 ∷ x)) (append_assoc ds (b ∷ []) bs) q)
+    (λ _ e1. choose (eqb b 59 && is_character n) (state (after_piece w) r) refused s
+    (λ is here ds hds same.
+    let k = both_pass (eqb b 59) (is_character n) is in
+    subst (λ i. AtWithin w (names_of r.frames) (38 ∷ 35 ∷ (ds ++ (i ∷ bs)))) (sym (same_byte b 59 k.0))
+    (subst (λ (x : List ℕ). AtWithin w (names_of r.frames) (38 ∷ 35 ∷ x)) (append_assoc ds (59 ∷ []) bs)
+    (piece_before w (names_of r.frames) (decimal ds) bs (hds, ap is_character same ∙ k.1) (arrives (After bs) (after_piece w) r s here h))))
+    (λ _ here. no s here) e1) e
+back (in_hexadecimal n w) r at b bs s e h =
+    choose (is_hexadecimal b) (state (in_hexadecimal (n * 16 + digit b) w) r) _ s
+    (λ is here ds hds same.
+    let q = arrives (After bs) (in_hexadecimal (n * 16 + digit b) w) r s here h (ds ++ b ∷ []) (digits_push is_hexadecimal ds b hds is) (number_push 16 ds 0 b ∙ ap (λ i. i * 16 + digit b) same) in
+    subst (λ (x : List ℕ). AtWithin w (names_of r.frames) (38 ∷ 35 ∷ 120 ∷ x)) (append_assoc ds (b ∷ []) bs) q)
+    (λ _ e1. choose (eqb b 59 && is_character n) (state (after_piece w) r) refused s
+    (λ is here ds hds same.
+    let k = both_pass (eqb b 59) (is_character n) is in
+    subst (λ i. AtWithin w (names_of r.frames) (38 ∷ 35 ∷ 120 ∷ (ds ++ (i ∷ bs)))) (sym (same_byte b 59 k.0))
+    (subst (λ (x : List ℕ). AtWithin w (names_of r.frames) (38 ∷ 35 ∷ 120 ∷ x)) (append_assoc ds (59 ∷ []) bs)
+    (piece_before w (names_of r.frames) (hexadecimal ds) bs (hds, ap is_character same ∙ k.1) (arrives (After bs) (after_piece w) r s here h))))
+    (λ _ here. no s here) e1) e
 back (shut_begin place) r at b bs s e h =
     choose (is_first b) (state (shut place (b ∷ [])) r) refused s (λ _ here. arrives (After bs) (shut place (b ∷ [])) r s here h) (λ _ here. no s here) e
 back (shut place name) r at b bs s e h =

@@ -2,17 +2,36 @@
 -- and the table and the forest that a document stands for.
 use Rattle.std.specs.Prelude.{ℕ, suc, ◌≡◌, ◌+◌, ◌<◌, Bool, true, false, ◌||◌, if◌then◌else◌, List, [], ◌∷◌, ◌++◌, length, Option, Some, None}
 use Rattle.std.specs.Str.{IsUtf8, bytes_eq}
-use Rattle.xhstt_text.specs.Bytes.{IsDeclared, declaration_start, is_white, is_text, is_quoted, is_quote, AllAre, IsWhite, IsGap, IsName, IsComment}
+use Rattle.xhstt_text.specs.Units.{Piece, piece_text, IsPiece}
+use Rattle.xhstt_text.specs.Bytes.{IsDeclared, declaration_start, is_white, is_text, is_quoted, is_quote, IsWhite, IsGap, IsName, IsComment}
 use Rattle.xhstt_text.specs.declared.tree.Span.{Span}
 use Rattle.xhstt_text.specs.declared.tree.Node.{Node}
 use Rattle.xhstt_text.specs.declared.tree.Attribute.{Attribute}
 use Rattle.xhstt_text.specs.Forest.{AttributeInfo, Forest, empty as no_elements, node}
 
+-- the value of an attribute: nothing more, or a byte or a piece, and then what follows
+pub data Value : Type 0 where
+  done : Value
+  plain : ℕ → Value → Value
+  piece_of : Piece → Value → Value
+
+-- how a value is spelled
+abbrev pub value_text : Value → List ℕ
+value_text done = []
+value_text (plain b v) = b ∷ value_text v
+value_text (piece_of u v) = piece_text u ++ value_text v
+
+-- the value may stand between two such quotes
+abbrev pub IsValue : ℕ → Value → Type 0
+IsValue quote done = Unit {0}
+IsValue quote (plain b v) = (is_quoted quote b ≡ true) × IsValue quote v
+IsValue quote (piece_of u v) = IsPiece u × IsValue quote v
+
 -- the attributes of a start tag: the white before the first, its name, the white before and after
 -- its `=`, its quote, its value, and the later attributes
 pub data Attributes : Type 0 where
   none : Attributes
-  attribute : List ℕ → List ℕ → List ℕ → List ℕ → ℕ → List ℕ → Attributes → Attributes
+  attribute : List ℕ → List ℕ → List ℕ → List ℕ → ℕ → Value → Attributes → Attributes
 
 -- a start tag up to its `>` or `/>`: its name, its attributes, and the white after them
 pub record Start : Type 0 where
@@ -20,12 +39,13 @@ pub record Start : Type 0 where
   pub attributes : Attributes
   pub white : List ℕ
 
--- what stands between two tags: nothing more, or a byte, a comment, an element without content, or
+-- what stands between two tags: nothing more, or a byte, a piece, a comment, an element without content, or
 -- an element with its content, the name in its end tag and the white after that name; and then what
 -- follows
 pub data Content : Type 0 where
   nothing : Content
   byte : ℕ → Content → Content
+  piece : Piece → Content → Content
   comment : List ℕ → Content → Content
   short : Start → Content → Content
   long : Start → Content → List ℕ → List ℕ → Content → Content
@@ -56,7 +76,7 @@ pub record Document : Type 0 where
 abbrev pub attributes_text : Attributes → List ℕ
 attributes_text none = []
 attributes_text (attribute gap name before after quote value more) =
-    gap ++ (name ++ (before ++ (61 ∷ (after ++ (quote ∷ (value ++ (quote ∷ attributes_text more)))))))
+    gap ++ (name ++ (before ++ (61 ∷ (after ++ (quote ∷ (value_text value ++ (quote ∷ attributes_text more)))))))
 
 -- how a start tag is spelled, up to its `>` or `/>`
 abbrev pub start_text : Start → List ℕ
@@ -66,6 +86,7 @@ start_text s = 60 ∷ (s.name ++ (attributes_text s.attributes ++ s.white))
 abbrev pub text : Content → List ℕ
 text nothing = []
 text (byte b c) = b ∷ text c
+text (piece u c) = piece_text u ++ text c
 text (comment inner c) = 60 ∷ 33 ∷ 45 ∷ 45 ∷ (inner ++ (62 ∷ text c))
 text (short s c) = start_text s ++ (47 ∷ 62 ∷ text c)
 text (long s inner shut white c) =
@@ -99,7 +120,7 @@ has_name name (other ∷ others) = bytes_eq name other || has_name name others
 abbrev pub AreAttributes : List (List ℕ) → Attributes → Type 0
 AreAttributes earlier none = Unit {0}
 AreAttributes earlier (attribute gap name before after quote value more) =
-    IsGap gap × IsName name × (has_name name earlier ≡ false) × IsWhite before × IsWhite after × (is_quote quote ≡ true) × AllAre (is_quoted quote) value × AreAttributes (name ∷ earlier) more
+    IsGap gap × IsName name × (has_name name earlier ≡ false) × IsWhite before × IsWhite after × (is_quote quote ≡ true) × IsValue quote value × AreAttributes (name ∷ earlier) more
 
 -- the start tag is in form
 abbrev pub IsStart : Start → Type 0
@@ -109,6 +130,7 @@ IsStart s = IsName s.name × AreAttributes [] s.attributes × IsWhite s.white
 abbrev pub IsContent : ℕ → Content → Type 0
 IsContent depth nothing = Unit {0}
 IsContent depth (byte b c) = (is_text b ≡ true) × IsContent depth c
+IsContent depth (piece u c) = IsPiece u × IsContent depth c
 IsContent depth (comment inner c) = IsComment inner × IsContent depth c
 IsContent depth (short s c) = (depth < 32) × IsStart s × IsContent depth c
 IsContent depth (long s inner shut white c) =
@@ -159,12 +181,13 @@ attributes_of at none = []
 attributes_of at (attribute gap name before after quote value more) =
     let from = at + length gap in
     let opened = from + length name + length before + 1 + length after + 1 in
-    record { at = from; name = span from (from + length name); value = span opened (opened + length value) } ∷ attributes_of (opened + length value + 1) more
+    record { at = from; name = span from (from + length name); value = span opened (opened + length (value_text value)) } ∷ attributes_of (opened + length (value_text value) + 1) more
 
 -- the rows of all attributes in content that begins at a place
 abbrev pub attribute_rows : ℕ → Content → List Attribute
 attribute_rows at nothing = []
 attribute_rows at (byte b c) = attribute_rows (at + 1) c
+attribute_rows at (piece u c) = attribute_rows (at + length (piece_text u)) c
 attribute_rows at (comment inner c) = attribute_rows (at + 4 + length inner + 1) c
 attribute_rows at (short s c) =
     attributes_of (at + 1 + length s.name) s.attributes ++ attribute_rows (at + start_length s + 2) c
@@ -176,6 +199,7 @@ attribute_rows at (long s inner shut white c) =
 abbrev pub loose_in : ℕ → Content → Option ℕ
 loose_in at nothing = None
 loose_in at (byte b c) = if is_white b then loose_in (at + 1) c else Some at
+loose_in at (piece u c) = Some at
 loose_in at (comment inner c) = loose_in (at + 4 + length inner + 1) c
 loose_in at (short s c) = loose_in (at + start_length s + 2) c
 loose_in at (long s inner shut white c) =
@@ -200,6 +224,7 @@ row parent at s first last value loose = record {
 abbrev pub rows : Option ℕ → ℕ → ℕ → ℕ → Content → List Node
 rows parent number first at nothing = []
 rows parent number first at (byte b c) = rows parent number first (at + 1) c
+rows parent number first at (piece u c) = rows parent number first (at + length (piece_text u)) c
 rows parent number first at (comment inner c) = rows parent number first (at + 4 + length inner + 1) c
 rows parent number first at (short s c) =
     let after = at + start_length s + 2 in
@@ -241,12 +266,13 @@ infos at none = []
 infos at (attribute gap name before after quote value more) =
     let from = at + length gap in
     let opened = from + length name + length before + 1 + length after + 1 in
-    record { at = from; name = name; value_at = opened; value = value } ∷ infos (opened + length value + 1) more
+    record { at = from; name = name; value_at = opened; value = value_text value } ∷ infos (opened + length (value_text value) + 1) more
 
 -- whether the content has an element
 abbrev pub has_element : Content → Bool
 has_element nothing = false
 has_element (byte b c) = has_element c
+has_element (piece u c) = has_element c
 has_element (comment inner c) = has_element c
 has_element (short s c) = true
 has_element (long s inner shut white c) = true
@@ -255,6 +281,7 @@ has_element (long s inner shut white c) = true
 abbrev pub forest_at : ℕ → Content → Forest
 forest_at at nothing = no_elements
 forest_at at (byte b c) = forest_at (at + 1) c
+forest_at at (piece u c) = forest_at (at + length (piece_text u)) c
 forest_at at (comment inner c) = forest_at (at + 4 + length inner + 1) c
 forest_at at (short s c) =
     let after = at + start_length s + 2 in

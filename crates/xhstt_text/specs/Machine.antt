@@ -1,7 +1,8 @@
 -- A machine that reads a text a byte at a time. It is a tool of the proofs: the grammar in
 -- `Document` says what a text is, and the reader is shown to do as this machine.
-use Rattle.std.specs.Prelude.{Bool, false, ℕ, ◌+◌, ◌==◌, ◌&&◌, nat_lt, nat_le, if◌then◌else◌, List, [], ◌∷◌, ◌++◌, length, set, Option, Some, None, Result, Ok, Err}
+use Rattle.std.specs.Prelude.{◌*◌, Bool, false, ℕ, ◌+◌, ◌==◌, ◌&&◌, nat_lt, nat_le, if◌then◌else◌, List, [], ◌∷◌, ◌++◌, length, set, Option, Some, None, Result, Ok, Err}
 use Rattle.std.specs.Str.{bytes_eq}
+use Rattle.xhstt_text.specs.Units.{is_decimal, is_hexadecimal, digit, is_character, is_last}
 use Rattle.xhstt_text.specs.Bytes.{is_white, is_first, is_name, is_text, is_quoted, is_quote, dashes}
 use Rattle.xhstt_text.specs.Document.{Rows, span, has_name}
 use Rattle.xhstt_text.specs.declared.tree.Node.{Node}
@@ -34,6 +35,12 @@ pub data Place : Type 0 where
   early : Place
   late : Place
 
+-- where a piece stands: in text, or in the value of the attribute at a place with a name, a quote, and
+-- the place after it
+pub data Within : Type 0 where
+  in_text : Within
+  in_quotes : Tag → ℕ → List ℕ → ℕ → ℕ → Within
+
 -- where the machine is
 pub data Phase : Type 0 where
   beginning : Phase  -- before all bytes
@@ -58,6 +65,15 @@ pub data Phase : Type 0 where
   named : Tag → ℕ → List ℕ → Phase  -- after that name and white
   equals : Tag → ℕ → List ℕ → Phase  -- after its `=`
   in_value : Tag → ℕ → List ℕ → ℕ → ℕ → Phase  -- in its value: the quote, and the place after it
+  wide_1 : Within → Phase  -- after the first byte of a character from U+F000 on
+  wide_2 : Bool → Within → Phase  -- after the second: whether it is the greatest
+  reference : Within → Phase  -- after `&`
+  reference_a : Within → Phase  -- after `&a`
+  word : List ℕ → Within → Phase  -- in the name of an entity: the bytes that must follow
+  hash : Within → Phase  -- after `&#`
+  hash_x : Within → Phase  -- after `&#x`
+  in_decimal : ℕ → Within → Phase  -- in a decimal number
+  in_hexadecimal : ℕ → Within → Phase  -- in a hexadecimal number
   shut_begin : ℕ → Phase  -- after the `</` at this place
   shut : ℕ → List ℕ → Phase  -- in the name of an end tag
   shut_gap : ℕ → List ℕ → Phase  -- after that name and white
@@ -96,6 +112,11 @@ parent_of (f ∷ fs) = Some f.number
 abbrev pub phase_of : Place → Phase
 phase_of early = content
 phase_of late = ended
+
+-- where reading goes on after a piece
+abbrev pub after_piece : Within → Phase
+after_piece in_text = content
+after_piece (in_quotes t place name quote from) = in_value t place name quote from
 
 -- the row of a start tag whose content begins at a place, and goes on from there
 abbrev pub opened_row : Tag → Read → ℕ → Node
@@ -136,7 +157,11 @@ abbrev pub step_content : List Frame → Read → ℕ → ℕ → Step
 step_content [] r at b =
     if b == 60 then state (opened at) r else (if is_white b then state content r else refused)
 step_content (f ∷ fs) r at b =
-    if b == 60 then state (opened at) r else (if is_text b then state content (record r { frames = noted f at b ∷ fs }) else refused)
+    if b == 60 then state (opened at) r
+    else (if is_text b then state content (record r { frames = noted f at b ∷ fs })
+    else (if b == 38 then state (reference in_text) (record r { frames = noted f at b ∷ fs })
+    else (if b == 239 then state (wide_1 in_text) (record r { frames = noted f at b ∷ fs })
+    else refused)))
 
 abbrev pub step_opened : List Frame → ℕ → Read → ℕ → Step
 step_opened [] place r b =
@@ -158,6 +183,11 @@ step_declaration r at b =
 abbrev pub step_question : List ℕ → Read → ℕ → Step
 step_question [] r b = if is_white b then state (in_declaration false) r else refused
 step_question (k ∷ ks) r b = if b == k then state (question ks) r else refused
+
+abbrev pub step_word : List ℕ → Within → Read → ℕ → Step
+step_word [] w r b = refused
+step_word (k ∷ []) w r b = if b == k then state (after_piece w) r else refused
+step_word (k ∷ l ∷ ks) w r b = if b == k then state (word (l ∷ ks) w) r else refused
 
 abbrev pub step_valued : Tag → Read → ℕ → ℕ → Step
 step_valued t r at b =
@@ -228,7 +258,34 @@ step (equals t place name) r at b =
 step (in_value t place name quote from) r at b =
     if is_quoted quote b then state (in_value t place name quote from) r
     else (if b == quote then state (valued (with_name t name)) (record r { attributes = r.attributes ++ attribute_row place name from at ∷ [] })
+    else (if b == 38 then state (reference (in_quotes t place name quote from)) r
+    else (if b == 239 then state (wide_1 (in_quotes t place name quote from)) r
+    else refused)))
+step (wide_1 w) r at b = if nat_le 128 b then state (wide_2 (b == 191) w) r else refused
+step (wide_2 greatest w) r at b = if is_last greatest b then state (after_piece w) r else refused
+step (reference w) r at b =
+    if b == 108 then state (word (116 ∷ 59 ∷ []) w) r
+    else (if b == 103 then state (word (116 ∷ 59 ∷ []) w) r
+    else (if b == 113 then state (word (117 ∷ 111 ∷ 116 ∷ 59 ∷ []) w) r
+    else (if b == 97 then state (reference_a w) r
+    else (if b == 35 then state (hash w) r
+    else refused))))
+step (reference_a w) r at b =
+    if b == 109 then state (word (112 ∷ 59 ∷ []) w) r
+    else (if b == 112 then state (word (111 ∷ 115 ∷ 59 ∷ []) w) r
     else refused)
+step (word ks w) r at b = step_word ks w r b
+step (hash w) r at b =
+    if b == 120 then state (hash_x w) r
+    else (if is_decimal b then state (in_decimal (digit b) w) r
+    else refused)
+step (hash_x w) r at b = if is_hexadecimal b then state (in_hexadecimal (digit b) w) r else refused
+step (in_decimal n w) r at b =
+    if is_decimal b then state (in_decimal (n * 10 + digit b) w) r
+    else (if b == 59 && is_character n then state (after_piece w) r else refused)
+step (in_hexadecimal n w) r at b =
+    if is_hexadecimal b then state (in_hexadecimal (n * 16 + digit b) w) r
+    else (if b == 59 && is_character n then state (after_piece w) r else refused)
 step (shut_begin place) r at b = if is_first b then state (shut place (b ∷ [])) r else refused
 step (shut place name) r at b =
     if is_name b then state (shut place (name ++ b ∷ [])) r else step_shut r.frames place name r b

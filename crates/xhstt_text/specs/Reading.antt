@@ -1,12 +1,13 @@
 -- How the parts of the reader follow the machine.
-use Rattle.std.specs.Prelude.{ℕ, ◌≡◌, ◌+◌, Bool, false, ◌==◌, ◌&&◌, List, [], ◌∷◌, ◌++◌, length, map, reverse, Option, None, Result, Ok, Err}
+use Rattle.std.specs.Prelude.{ℕ, ◌≡◌, ◌<◌, ◌+◌, Bool, true, false, ◌==◌, ◌&&◌, ◌||◌, List, [], ◌∷◌, ◌++◌, length, map, reverse, Option, None, Result, Ok, Err}
 use Rattle.std.specs.Borrow.{Bor}
 use Rattle.std.specs.BTreeSet.{BTreeSet, contains_by}
 use Rattle.std.specs.Cmp.Lexicographic.{slice_cmp}
 use Rattle.std.specs.Ordering.{nat_cmp}
-use Rattle.xhstt_text.specs.Bytes.{AllAre, IsName, is_name}
+use Rattle.xhstt_text.specs.Bytes.{is_text, AllAre, IsName, is_name}
 use Rattle.xhstt_text.specs.Document.{has_name}
-use Rattle.xhstt_text.specs.Machine.{Frame, Read, Tag, Outcome}
+use Rattle.xhstt_text.specs.Units.{digit}
+use Rattle.xhstt_text.specs.Machine.{Phase, Within, step, state, reference, wide_1, Frame, Read, Tag, Outcome}
 use Rattle.xhstt_text.specs.declared.tree.Node.{Node}
 use Rattle.xhstt_text.specs.declared.tree.Attribute.{Attribute}
 use Rattle.xhstt_text.specs.declared.faults.TextFault.{TextFault}
@@ -31,6 +32,22 @@ Skips test at bs to rest = (w : List ℕ) × AllAre test w × (bs ≡ w ++ rest)
 -- a name, from one place to another, up to the last byte that can belong to it
 abbrev pub TakesName : ℕ → List ℕ → List ℕ → ℕ → List ℕ → Type 0
 TakesName at bs name to rest = IsName name × (bs ≡ name ++ rest) × (to ≡ at + length name) × (begins is_name rest ≡ false)
+
+-- the byte is white, or the first byte of text
+abbrev pub is_loose_text : ℕ → Bool
+is_loose_text b = is_text b || b == 38 || b == 239
+
+-- a digit and what it stands for, from one place to the next
+abbrev pub TakesDigit : (ℕ → Bool) → ℕ → List ℕ → ℕ → ℕ → List ℕ → Type 0
+TakesDigit test at bs value to rest = (b : ℕ) × (test b ≡ true) × (bs ≡ b ∷ rest) × (value ≡ digit b) × (to ≡ at + 1) × (value < 16)
+
+-- no piece stands here
+abbrev pub NoPiece : List ℕ → Type 0
+NoPiece bs = (begins (is_byte 38) bs ≡ false) × (begins (is_byte 239) bs ≡ false)
+
+-- the phase takes the first byte of a piece
+abbrev pub Enters : Phase → Within → Read → Read → ℕ → Type 0
+Enters p w r s at = (step p r at 38 ≡ state (reference w) s) × (step p r at 239 ≡ state (wide_1 w) s)
 
 -- what was read leads the machine from `whole` to `rest`, or the fault is what the machine ends in;
 -- nothing is said where memory ran out

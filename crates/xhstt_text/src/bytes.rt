@@ -23,7 +23,7 @@ fn is_name(byte: u8) -> bool
     is_first(byte) || (b'0' <= byte && byte <= b'9') || byte == b'-' || byte == b'.'
 }
 
-fn is_text(byte: u8) -> bool
+pub fn is_text(byte: u8) -> bool
     ensures { result ≡ is_text byte }
 {
     is_white(byte) || (b' ' <= byte && byte != b'<' && byte != b'&' && byte != 0xEF)

@@ -11,6 +11,7 @@ mod handles;
 mod names;
 mod prolog;
 mod reader;
+mod references;
 mod table;
 mod tags;
 mod tree;

@@ -64,8 +64,12 @@ fn read<'a>(alloc: Global, bytes: &'a [u8]) -> Result<Tree<'a>, TextFault>
 /// A text is UTF-8. It may begin with a byte order mark, and then with a declaration,
 /// `<?xml ..?>`. It has one element, and white and comments around it. An element is
 /// `<name ..>`, content and `</name>`, or `<name ../>`; content is white, characters other than
-/// `<` and `&` up to U+EFFF, and from U+10000 on, comments and elements; at most 32 elements are
-/// open at once. No two attributes of an element have one name.
+/// `<` and `&`, references, comments and elements; at most 32 elements are open at once. No two
+/// attributes of an element have one name.
+///
+/// A reference is `&lt;`, `&gt;`, `&amp;`, `&apos;` or `&quot;`, or `&#` or `&#x` with the digits of a
+/// number and `;`. Characters, and these numbers, are U+0009, U+000A, U+000D, U+0020 to U+D7FF,
+/// U+E000 to U+FFFD, and U+10000 to U+10FFFF.
 ///
 /// `NotBuilt` comes exactly where the bytes spell no such text. The time grows with the length of
 /// the bytes, and with the logarithm of the number of attributes of one element.
@@ -78,7 +82,7 @@ pub fn elements<'a>(alloc: Global, bytes: &'a [u8]) -> Result<Tree<'a>, TextFaul
     ensures bytes { IfOk result (λ tree. tree.bytes.now ≡ bytes.now) }
 
     // Its rows keep the bounds of a table, and stand for the forest that the bytes spell.
-    ensures table { IfOk result IsTable }
+    ensures table { IfOk result (λ tree. IsTable tree) }
     ensures spelled { IfOk result (λ tree. Spelled bytes.now (root_forest tree)) }
     ensures one_forest { IfOk result (λ tree. (f : Forest) → Spelled bytes.now f → root_forest tree ≡ f) }
 
@@ -155,6 +159,8 @@ mod tests {
             )
         );
         assert!(rt; is_read(&rt, "\u{feff}<?xml ??><a/>"));
+        assert!(rt; is_read(&rt, "<a x='&lt;&#65;\u{fffd}'>&gt;&amp;&apos;&quot;</a>"));
+        assert!(rt; is_read(&rt, "<a>&#0000000009;&#xd;&#x10FFFF;\u{f000}</a>"));
     }
 
     #[test]
@@ -176,6 +182,17 @@ mod tests {
         assert!(rt; !is_read(&rt, "<?xml?><a/>"));
         assert!(rt; !is_read(&rt, " <?xml ?><a/>"));
         assert!(rt; !is_read(&rt, "<!DOCTYPE a><a/>"));
-        assert!(rt; !is_read(&rt, "<a>&amp;</a>"));
+        assert!(rt; !is_read(&rt, "<a>&</a>"));
+        assert!(rt; !is_read(&rt, "<a>&nbsp;</a>"));
+        assert!(rt; !is_read(&rt, "<a>&amp</a>"));
+        assert!(rt; !is_read(&rt, "<a>&#;</a>"));
+        assert!(rt; !is_read(&rt, "<a>&#x;</a>"));
+        assert!(rt; !is_read(&rt, "<a>&#0;</a>"));
+        assert!(rt; !is_read(&rt, "<a>&#X41;</a>"));
+        assert!(rt; !is_read(&rt, "<a>&#xD800;</a>"));
+        assert!(rt; !is_read(&rt, "<a>&#1114112;</a>"));
+        assert!(rt; !is_read(&rt, "<a>&#4294967305;</a>"));
+        assert!(rt; !is_read(&rt, "<a>\u{ffff}</a>"));
+        assert!(rt; !is_read(&rt, "<a x='&lt'/>"));
     }
 }

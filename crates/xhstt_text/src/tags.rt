@@ -1,16 +1,17 @@
-ghost use Rattle.std.specs.Prelude.{◌≡◌, ◌<◌, ◌≤◌, ◌+◌, ◌∷◌, ◌++◌, ◌^◌, ℕ, List, true, false, length, IfOk, MatchOption, [], set, Option};
-ghost use Rattle.xhstt_text.specs.Bytes.{is_first, is_name, is_text, is_white, is_quote};
+ghost use Rattle.std.specs.Prelude.{◌≡◌, ◌<◌, ◌≤◌, ◌+◌, ◌∷◌, ◌++◌, ◌^◌, ℕ, List, true, false, length, IfOk, MatchOption, [], set, Option, Some};
+ghost use Rattle.xhstt_text.specs.Bytes.{is_first, is_name, is_text, is_white, is_quote, is_quoted};
 ghost use Rattle.xhstt_text.specs.Document.{has_name};
 ghost use Rattle.xhstt_text.specs.Machine.{Frame, Tag, Read, run, content, opened, valued, attribute_name, in_value, equals, shut_begin, with_name, attribute_row, resume, close_element, parent_of, opened_row, Outcome, refused};
-ghost use Rattle.xhstt_text.specs.Reading.{Leads, Skips, begins, is_byte, read_of, bare, frame_of, frames_of, NoOtherTag, with_loose_text};
+ghost use Rattle.xhstt_text.specs.Reading.{Leads, Skips, begins, is_byte, read_of, bare, frame_of, frames_of, NoOtherTag, NoPiece, is_loose_text, with_loose_text};
 ghost use Rattle.xhstt_text.specs.declared.tree.Attribute.{Attribute};
 ghost use Rattle.xhstt_text.specs.declared.tree.Node.{Node};
 
 use crate::TextFault;
-use crate::bytes::{name, past, quoted, text, white};
+use crate::bytes::{is_text, name, past, quoted, text, white};
 use crate::comments::{comment, space};
 use crate::cursor::Cursor;
 use crate::names::{add_name, no_names};
+use crate::references::piece;
 use crate::table::{OpenElement, StartTag, Table};
 use crate::tree::{Attribute, Node, Span};
 use std::alloc::Global;
@@ -32,6 +33,24 @@ fn quote<'a>(here: Cursor<'a>) -> Option<(u8, Cursor<'a>)>
     }
 }
 
+// Over what may stand between two such quotes.
+fn value_end<'a>(from: Cursor<'a>, mark: u8) -> Result<Cursor<'a>, TextFault>
+    requires { is_quote mark ≡ true }
+    ensures leads { (t : Tag) (place : ℕ) (known : List ℕ) (start : ℕ) (r : Read) →
+        Leads result (run (in_value t place known mark start) r from.entry.at from.entry.rest.now) (λ q. run (in_value t place known mark start) r q.at q.rest.now) }
+    ensures stops { IfOk result (λ q. (begins (is_quoted mark) q.rest.now ≡ false) × NoPiece q.rest.now) }
+    ensures onward { IfOk result (λ q. (length q.rest.now ≤ length from.entry.rest.now) × (from.entry.at ≤ q.at)) }
+{
+    let mut here = from;
+    'pieces: loop {
+        let stop = quoted(here, mark);
+        let Some(next) = piece(stop)? else {
+            return Ok(stop);
+        };
+        here = next;
+    }
+}
+
 // From the end of an attribute's name over its value: where the value stands, and the place after
 // its last quote.
 fn value<'a>(here: Cursor<'a>) -> Result<(Span, Cursor<'a>), TextFault>
@@ -47,7 +66,7 @@ fn value<'a>(here: Cursor<'a>) -> Result<(Span, Cursor<'a>), TextFault>
     let Some((mark, from)) = quote(white(equal)) else {
         return Err(TextFault::NotBuilt);
     };
-    let to = quoted(from, mark);
+    let to = value_end(from, mark)?;
     let Some(end) = past(to, mark) else {
         return Err(TextFault::NotBuilt);
     };
@@ -96,23 +115,51 @@ fn attributes<'a>(
     }
 }
 
+// Over text in an element whose loose text is known.
+fn known_text<'a>(from: Cursor<'a>) -> Result<Cursor<'a>, TextFault>
+    ensures leads { (f : Frame) (fs : List Frame) (nodes : List Node) (rows : List Attribute) (place : ℕ) → f.node.loose ≡ Some place →
+        Leads result (run content (read_of (f ∷ fs) nodes rows) from.entry.at from.entry.rest.now) (λ q. run content (read_of (f ∷ fs) nodes rows) q.at q.rest.now) }
+    ensures stops { IfOk result (λ q. (begins is_text q.rest.now ≡ false) × NoPiece q.rest.now) }
+    ensures onward { IfOk result (λ q. (length q.rest.now ≤ length from.entry.rest.now) × (from.entry.at ≤ q.at)) }
+{
+    let mut here = from;
+    'pieces: loop {
+        let stop = text(here);
+        let Some(next) = piece(stop)? else {
+            return Ok(stop);
+        };
+        here = next;
+    }
+}
+
+// Whether text, or what may stand for a character, begins here.
+fn begins_text(here: Cursor) -> bool
+    ensures { result ≡ begins is_loose_text here.entry.rest.now }
+{
+    match here.rest {
+        [first, ..] => is_text(*first) || *first == b'&' || *first == 0xEF,
+        [] => false,
+    }
+}
+
 // Over text in an element whose loose text so far begins at `loose`: the place after it, and where
 // the loose text begins now.
-fn content_text<'a>(here: Cursor<'a>, loose: Option<u64>) -> (Cursor<'a>, Option<u64>)
+fn content_text<'a>(
+    here: Cursor<'a>,
+    loose: Option<u64>,
+) -> Result<(Cursor<'a>, Option<u64>), TextFault>
     ensures leads { (f : Frame) (fs : List Frame) (nodes : List Node) (rows : List Attribute) → f.node.loose ≡ loose →
-        run content (read_of (f ∷ fs) nodes rows) here.entry.at here.entry.rest.now
-        ≡ run content (read_of (with_loose_text f result.1 ∷ fs) nodes rows) result.0.at result.0.rest.now }
-    ensures stops { begins is_text result.0.rest.now ≡ false }
-    ensures onward { length result.0.rest.now ≤ length here.entry.rest.now }
-    ensures place { here.entry.at ≤ result.0.at }
+        Leads result (run content (read_of (f ∷ fs) nodes rows) here.entry.at here.entry.rest.now)
+        (λ found. run content (read_of (with_loose_text f found.1 ∷ fs) nodes rows) found.0.at found.0.rest.now) }
+    ensures stops { IfOk result (λ found. (begins is_text found.0.rest.now ≡ false) × NoPiece found.0.rest.now) }
+    ensures onward { IfOk result (λ found. (length found.0.rest.now ≤ length here.entry.rest.now) × (here.entry.at ≤ found.0.at)) }
 {
     let start = white(here);
-    let end = text(start);
-    if end.at > start.at {
-        (end, loose.or(Some(start.at)))
-    } else {
-        (end, loose)
+    if !begins_text(start) {
+        return Ok((start, loose));
     }
+    let end = known_text(start)?;
+    Ok((end, loose.or(Some(start.at))))
 }
 
 // Over an end tag, from after its `</`: it must have the name of the innermost element.
@@ -223,7 +270,7 @@ pub fn next_tag<'a>(
     ensures count { IfOk result (λ q. length table.new.nodes.items ≤ q.at) }
     ensures onward { IfOk result (λ q. length q.rest.now < length here.entry.rest.now) }
 {
-    let (tag, loose) = content_text(here, inner.node.loose);
+    let (tag, loose) = content_text(here, inner.node.loose)?;
     let Some(inside) = past(tag, b'<') else {
         return Err(TextFault::NotBuilt);
     };

@@ -1,4 +1,5 @@
-use Rattle.xhstt_text.proofs.Follow.{value_no_equals, value_no_quote, value_no_end, value_read}
+use Rattle.std.proofs.Common.{◌∙◌}
+use Rattle.xhstt_text.proofs.Follow.{passes_on, value_no_equals, value_no_quote, value_begins, value_no_end, value_read}
 use Rattle.xhstt_text.proofs.tags.value.Goals as goal
 
 pub returns-in_default-clause-leads : goal.returns-in_default-clause-leads
@@ -15,6 +16,17 @@ returns-in_default-quote-clause-leads c = λ t place known r new.
     let d = c.white-2.result in
     value_no_quote t place known r h.at h.rest.now a.at a.rest.now b.at b.rest.now d.at d.rest.now new c.requires c.white.ensures c.in-Some.ensures c.white-2.ensures c.in_default-quote.ensures
 
+pub returns-in_err-to-clause-leads : goal.returns-in_err-to-clause-leads
+returns-in_err-to-clause-leads c = λ t place known r new.
+    let h = c.args.here in
+    let a = c.white.result in
+    let b = c.in-Some.equal in
+    let d = c.white-2.result in
+    let q = c.in-Some-quote in
+    passes_on c.from_residual.result c.in_err-to.field-0.0 _ _ _ _ c.from_residual.ensures.1
+    (value_begins t place known r h.at h.rest.now a.at a.rest.now b.at b.rest.now d.at d.rest.now q.mark q.from.at q.from.rest.now new c.requires c.white.ensures c.in-Some.ensures c.white-2.ensures q.ensures)
+    (c.in_err-to.ensures.leads t place known q.from.at r)
+
 pub returns-in_default-past-clause-leads : goal.returns-in_default-past-clause-leads
 returns-in_default-past-clause-leads c = λ t place known r new.
     let h = c.args.here in
@@ -22,8 +34,11 @@ returns-in_default-past-clause-leads c = λ t place known r new.
     let b = c.in-Some.equal in
     let d = c.white-2.result in
     let q = c.in-Some-quote in
-    let e = c.quoted-to.result in
-    value_no_end t place known r h.at h.rest.now a.at a.rest.now b.at b.rest.now d.at d.rest.now q.mark q.from.at q.from.rest.now e.at e.rest.now new c.requires c.white.ensures c.in-Some.ensures c.white-2.ensures q.ensures c.quoted-to.ensures c.in_default-past.ensures
+    let e = c.in_ok-to.to in
+    value_no_end t place known r _ q.mark q.from.at e.at e.rest.now
+    (value_begins t place known r h.at h.rest.now a.at a.rest.now b.at b.rest.now d.at d.rest.now q.mark q.from.at q.from.rest.now new c.requires c.white.ensures c.in-Some.ensures c.white-2.ensures q.ensures
+    ∙ c.in_ok-to.ensures.leads t place known q.from.at r)
+    c.in_ok-to.ensures.stops c.in_default-past.ensures
 
 pub returns-clause-leads : goal.returns-clause-leads
 returns-clause-leads c = λ t place known r new.
@@ -32,6 +47,9 @@ returns-clause-leads c = λ t place known r new.
     let b = c.in-Some.equal in
     let d = c.white-2.result in
     let q = c.in-Some-quote in
-    let e = c.quoted-to.result in
+    let e = c.in_ok-to.to in
     let f = c.in-Some-past.end in
-    value_read t place known r h.at h.rest.now a.at a.rest.now b.at b.rest.now d.at d.rest.now q.mark q.from.at q.from.rest.now e.at e.rest.now f.at f.rest.now new c.requires c.white.ensures c.in-Some.ensures c.white-2.ensures q.ensures c.quoted-to.ensures c.in-Some-past.ensures
+    value_read t place known r _ q.mark q.from.at e.at e.rest.now f.at f.rest.now
+    (value_begins t place known r h.at h.rest.now a.at a.rest.now b.at b.rest.now d.at d.rest.now q.mark q.from.at q.from.rest.now new c.requires c.white.ensures c.in-Some.ensures c.white-2.ensures q.ensures
+    ∙ c.in_ok-to.ensures.leads t place known q.from.at r)
+    c.in-Some-past.ensures
