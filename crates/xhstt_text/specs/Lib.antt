@@ -6,3 +6,4 @@ pub mod Forest
 pub mod Handles
 pub mod Machine
 pub mod Reading
+pub mod Unescape

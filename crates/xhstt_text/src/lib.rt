@@ -12,6 +12,7 @@ mod reader;
 mod table;
 mod tags;
 mod tree;
+mod unescaping;
 
 pub use attributes::{AttributeText, Attributes};
 pub use escaping::escape;
@@ -19,3 +20,4 @@ pub use faults::TextFault;
 pub use handles::{Children, Element};
 pub use reader::elements;
 pub use tree::{Attribute, Node, Span, Tree};
+pub use unescaping::unescape;

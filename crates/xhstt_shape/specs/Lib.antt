@@ -1,0 +1,7 @@
+pub mod Contents
+pub mod Faults
+pub mod Schema
+pub mod Shape
+pub mod Values
+pub mod Walk
+pub mod Words
