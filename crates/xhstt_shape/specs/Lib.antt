@@ -1,5 +1,6 @@
 pub mod Contents
 pub mod Faults
+pub mod Places
 pub mod Schema
 pub mod Shape
 pub mod Values

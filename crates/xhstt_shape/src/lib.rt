@@ -14,6 +14,8 @@ pub mod reading;
 mod records;
 mod schema;
 mod solution_values;
+#[cfg(test)]
+mod tests;
 mod walk;
 mod words;
 
