@@ -6,4 +6,5 @@ pub mod Forest
 pub mod Handles
 pub mod Machine
 pub mod Reading
+pub mod Unescape
 pub mod Units

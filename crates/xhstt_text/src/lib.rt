@@ -15,6 +15,7 @@ mod references;
 mod table;
 mod tags;
 mod tree;
+mod unescaping;
 
 pub use attributes::{AttributeText, Attributes};
 pub use escaping::escape;
@@ -22,3 +23,4 @@ pub use faults::TextFault;
 pub use handles::{Children, Element};
 pub use reader::elements;
 pub use tree::{Attribute, Node, Span, Tree};
+pub use unescaping::unescape;

@@ -1,0 +1,256 @@
+ghost use Rattle.std.specs.Prelude.{◌≡◌, IfOk, map};
+ghost use Rattle.xhstt_shape.specs.Values as spec;
+
+use crate::building::{Build, every, every_inside};
+use crate::constraints::{RawApplies, RawConstraint, RawPair, RawRule, RawSpread};
+use crate::leaves::{
+    cost_function, duration, id, lower, name, optional_duration, required, the_reference, the_role,
+    upper,
+};
+use crate::records::Ref;
+use crate::words::{Kind, Tag};
+use khe_base::{NoMemory, Seq};
+use std::alloc::Global;
+use xhstt_text::Element;
+
+impl Build for RawPair {
+    ghost value = { spec.pair };
+
+    #[tactic(auto, unfolding(crate::specs::Values::pair))]
+    fn build(alloc: Global, element: &Element<'_, '_>) -> Result<RawPair, NoMemory> {
+        Ok(RawPair {
+            first: the_reference(alloc, Tag::FirstEvent, element)?,
+            second: the_reference(alloc, Tag::SecondEvent, element)?,
+            min: lower(alloc, Tag::MinSeparation, element)?,
+            max: upper(alloc, Tag::MaxSeparation, element)?,
+        })
+    }
+}
+
+impl Build for RawSpread {
+    ghost value = { spec.spread };
+
+    #[tactic(auto, unfolding(crate::specs::Values::spread))]
+    fn build(alloc: Global, element: &Element<'_, '_>) -> Result<RawSpread, NoMemory> {
+        Ok(RawSpread {
+            reference: Build::build(alloc, element)?,
+            min: lower(alloc, Tag::Minimum, element)?,
+            max: upper(alloc, Tag::Maximum, element)?,
+        })
+    }
+}
+
+impl Build for RawConstraint {
+    ghost value = { spec.constraint };
+
+    #[tactic(auto, unfolding(crate::specs::Values::constraint))]
+    fn build(alloc: Global, element: &Element<'_, '_>) -> Result<RawConstraint, NoMemory> {
+        constraint_of(alloc, kind_of(element.name()), element)
+    }
+}
+
+/// The kinds in the order of the table.
+const KINDS: [Kind; 16] = [
+    Kind::AssignTime,
+    Kind::AssignResource,
+    Kind::SplitEvents,
+    Kind::DistributeSplitEvents,
+    Kind::PreferTimes,
+    Kind::PreferResources,
+    Kind::AvoidSplitAssignments,
+    Kind::SpreadEvents,
+    Kind::LinkEvents,
+    Kind::OrderEvents,
+    Kind::AvoidClashes,
+    Kind::AvoidUnavailableTimes,
+    Kind::LimitIdleTimes,
+    Kind::ClusterBusyTimes,
+    Kind::LimitBusyTimes,
+    Kind::LimitWorkload,
+];
+
+/// The kind of a constraint, by its element's name.
+#[tactic(auto, unfolding(crate::specs::Values::kind_of))]
+fn kind_of(name: &[u8]) -> Kind
+    ensures { result ≡ spec.kind_of name.now }
+{
+    match kind_among(&KINDS, name) {
+        Some(kind) => kind,
+        None => Kind::LinkEvents,
+    }
+}
+
+/// The kind among these whose constraint has this name.
+fn kind_among(kinds: &[Kind], name: &[u8]) -> Option<Kind>
+    ensures { result ≡ spec.kind_among kinds.now name.now }
+{
+    for kind in kinds {
+        if kind.word() == name {
+            return Some(*kind);
+        }
+    }
+    None
+}
+
+/// A constraint of a kind.
+#[tactic(auto, unfolding(crate::specs::Values::constraint_of))]
+fn constraint_of(
+    alloc: Global,
+    kind: Kind,
+    element: &Element<'_, '_>,
+) -> Result<RawConstraint, NoMemory>
+    ensures { IfOk result (λ c. c ≡ spec.constraint_of kind element.now) }
+{
+    Ok(RawConstraint {
+        id: id(alloc, element)?,
+        name: name(alloc, element)?,
+        required: required(alloc, element)?,
+        weight: lower(alloc, Tag::Weight, element)?,
+        cost: cost_function(alloc, element)?,
+        applies: applies(alloc, kind, element)?,
+        rule: rule(alloc, kind, element)?,
+    })
+}
+
+/// The references of a list of what a constraint applies to.
+fn applied(alloc: Global, tag: Tag, element: &Element<'_, '_>) -> Result<Seq<Ref>, NoMemory>
+    ensures { IfOk result (λ list. list ≡ spec.applied_references tag element.now) }
+{
+    every_inside(alloc, Tag::AppliesTo, tag, element)
+}
+
+/// The references of a list of a constraint.
+fn references(alloc: Global, tag: Tag, element: &Element<'_, '_>) -> Result<Seq<Ref>, NoMemory>
+    ensures { IfOk result (λ list. list ≡ spec.references tag element.now) }
+{
+    every(alloc, tag, element)
+}
+
+/// Events that a constraint applies to.
+fn events_applied(alloc: Global, element: &Element<'_, '_>) -> Result<RawApplies, NoMemory>
+    ensures { IfOk result (λ a. a ≡ spec.events_applied element.now) }
+{
+    Ok(RawApplies::Events {
+        event_groups: applied(alloc, Tag::EventGroups, element)?,
+        events: applied(alloc, Tag::Events, element)?,
+    })
+}
+
+/// Event groups that a constraint applies to.
+fn groups_applied(alloc: Global, element: &Element<'_, '_>) -> Result<RawApplies, NoMemory>
+    ensures { IfOk result (λ a. a ≡ spec.groups_applied element.now) }
+{
+    Ok(RawApplies::Groups {
+        event_groups: applied(alloc, Tag::EventGroups, element)?,
+    })
+}
+
+/// Pairs of events that a constraint applies to.
+fn pairs_applied(alloc: Global, element: &Element<'_, '_>) -> Result<RawApplies, NoMemory>
+    ensures { IfOk result (λ a. a ≡ spec.pairs_applied element.now) }
+{
+    Ok(RawApplies::Pairs {
+        pairs: every_inside(alloc, Tag::AppliesTo, Tag::EventPairs, element)?,
+    })
+}
+
+/// Resources that a constraint applies to.
+fn resources_applied(alloc: Global, element: &Element<'_, '_>) -> Result<RawApplies, NoMemory>
+    ensures { IfOk result (λ a. a ≡ spec.resources_applied element.now) }
+{
+    Ok(RawApplies::Resources {
+        resource_groups: applied(alloc, Tag::ResourceGroups, element)?,
+        resources: applied(alloc, Tag::Resources, element)?,
+    })
+}
+
+/// What a constraint of a kind applies to.
+#[tactic(auto, unfolding(crate::specs::Values::applies))]
+fn applies(alloc: Global, kind: Kind, element: &Element<'_, '_>) -> Result<RawApplies, NoMemory>
+    ensures { IfOk result (λ a. a ≡ spec.applies kind element.now) }
+{
+    match kind {
+        Kind::AssignTime
+        | Kind::AssignResource
+        | Kind::SplitEvents
+        | Kind::DistributeSplitEvents
+        | Kind::PreferTimes
+        | Kind::PreferResources => events_applied(alloc, element),
+        Kind::AvoidSplitAssignments | Kind::SpreadEvents | Kind::LinkEvents => {
+            groups_applied(alloc, element)
+        }
+        Kind::OrderEvents => pairs_applied(alloc, element),
+        Kind::AvoidClashes
+        | Kind::AvoidUnavailableTimes
+        | Kind::LimitIdleTimes
+        | Kind::ClusterBusyTimes
+        | Kind::LimitBusyTimes
+        | Kind::LimitWorkload => resources_applied(alloc, element),
+    }
+}
+
+/// What a constraint of a kind asks for.
+#[tactic(auto, unfolding(crate::specs::Values::rule))]
+fn rule(alloc: Global, kind: Kind, element: &Element<'_, '_>) -> Result<RawRule, NoMemory>
+    ensures { IfOk result (λ r. r ≡ spec.rule kind element.now) }
+{
+    match kind {
+        Kind::AssignTime => Ok(RawRule::AssignTime),
+        Kind::AssignResource => Ok(RawRule::AssignResource {
+            role: the_role(alloc, element)?,
+        }),
+        Kind::SplitEvents => Ok(RawRule::SplitEvents {
+            min_duration: lower(alloc, Tag::MinimumDuration, element)?,
+            max_duration: upper(alloc, Tag::MaximumDuration, element)?,
+            min_amount: lower(alloc, Tag::MinimumAmount, element)?,
+            max_amount: upper(alloc, Tag::MaximumAmount, element)?,
+        }),
+        Kind::DistributeSplitEvents => Ok(RawRule::DistributeSplitEvents {
+            duration: duration(alloc, element)?,
+            min: lower(alloc, Tag::Minimum, element)?,
+            max: upper(alloc, Tag::Maximum, element)?,
+        }),
+        Kind::PreferTimes => Ok(RawRule::PreferTimes {
+            time_groups: references(alloc, Tag::TimeGroups, element)?,
+            times: references(alloc, Tag::Times, element)?,
+            duration: optional_duration(alloc, element)?,
+        }),
+        Kind::PreferResources => Ok(RawRule::PreferResources {
+            resource_groups: references(alloc, Tag::ResourceGroups, element)?,
+            resources: references(alloc, Tag::Resources, element)?,
+            role: the_role(alloc, element)?,
+        }),
+        Kind::AvoidSplitAssignments => Ok(RawRule::AvoidSplitAssignments {
+            role: the_role(alloc, element)?,
+        }),
+        Kind::SpreadEvents => Ok(RawRule::SpreadEvents {
+            time_groups: every(alloc, Tag::TimeGroups, element)?,
+        }),
+        Kind::LinkEvents => Ok(RawRule::LinkEvents),
+        Kind::OrderEvents => Ok(RawRule::OrderEvents),
+        Kind::AvoidClashes => Ok(RawRule::AvoidClashes),
+        Kind::AvoidUnavailableTimes => Ok(RawRule::AvoidUnavailableTimes {
+            time_groups: references(alloc, Tag::TimeGroups, element)?,
+            times: references(alloc, Tag::Times, element)?,
+        }),
+        Kind::LimitIdleTimes => Ok(RawRule::LimitIdleTimes {
+            time_groups: references(alloc, Tag::TimeGroups, element)?,
+            min: lower(alloc, Tag::Minimum, element)?,
+            max: upper(alloc, Tag::Maximum, element)?,
+        }),
+        Kind::ClusterBusyTimes => Ok(RawRule::ClusterBusyTimes {
+            time_groups: references(alloc, Tag::TimeGroups, element)?,
+            min: lower(alloc, Tag::Minimum, element)?,
+            max: upper(alloc, Tag::Maximum, element)?,
+        }),
+        Kind::LimitBusyTimes => Ok(RawRule::LimitBusyTimes {
+            time_groups: references(alloc, Tag::TimeGroups, element)?,
+            min: lower(alloc, Tag::Minimum, element)?,
+            max: upper(alloc, Tag::Maximum, element)?,
+        }),
+        Kind::LimitWorkload => Ok(RawRule::LimitWorkload {
+            min: lower(alloc, Tag::Minimum, element)?,
+            max: upper(alloc, Tag::Maximum, element)?,
+        }),
+    }
+}

@@ -1,0 +1,34 @@
+ghost use Rattle.std.specs.Prelude.{◌≡◌, ◌∷◌, IfSome, IfNone, IsTrue, MatchOption, is_some, None, Some};
+ghost use Rattle.xhstt_shape.specs.Walk as spec;
+ghost use Rattle.xhstt_text.specs.Handles.{attribute_of};
+ghost use Rattle.std.specs.Option.{option_map};
+
+use crate::words::{Label, Tag};
+use xhstt_text::{AttributeText, Element};
+
+/// The first child of an element with this name. It takes time linear in the number of children.
+pub(crate) fn child<'t, 'a>(tag: Tag, element: &Element<'t, 'a>) -> Option<Element<'t, 'a>>
+    ensures { result ≡ spec.child tag element.now.kids }
+{
+    let mut rest = element.children();
+    while let Some(next) = rest.next() {
+        if next.is_named(tag.word()) {
+            return Some(next);
+        }
+    }
+    None
+}
+
+/// The first attribute of an element with this name. It takes time linear in the number of
+/// attributes.
+pub(crate) fn attribute<'a>(label: Label, element: &Element<'_, 'a>) -> Option<AttributeText<'a>>
+    ensures { option_map attribute_of result ≡ spec.attribute label element.now.info.attributes }
+{
+    let mut rest = element.attributes();
+    while let Some(next) = rest.next() {
+        if label.word() == next.name {
+            return Some(next);
+        }
+    }
+    None
+}

@@ -1,0 +1,32 @@
+//! The shape of an XHSTT archive: from the tree of a text to an archive by the format's table of
+//! elements, or to the first place where the tree leaves that table.
+#![tactic(auto)]
+
+mod building;
+mod constraint_values;
+mod constraints;
+mod contents;
+mod faults;
+mod finding;
+mod instance_values;
+mod leaves;
+pub mod reading;
+mod records;
+mod schema;
+mod solution_values;
+#[cfg(test)]
+mod tests;
+mod walk;
+mod words;
+
+pub use constraints::{RawApplies, RawConstraint, RawPair, RawRule, RawSpread};
+pub use faults::{
+    BAD_NUMBER, BAD_WORD, MISSING_CHILD, REPEATED_CHILD, ShapeFault, UNKNOWN_ELEMENT,
+};
+pub use records::{
+    Archive, EventGroup, GroupSort, MetaData, Name, RawEntry, RawEvent, RawEventResource, RawGiven,
+    RawInstance, RawResource, RawSolution, Ref, ResourceGroup, ResourceType, SolutionGroup, Time,
+    TimeGroup, TimeSort,
+};
+pub use schema::{BOUND, Child, Content, Given, Mark, Row};
+pub use words::{Kind, Label, Tag};

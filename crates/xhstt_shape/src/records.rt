@@ -1,0 +1,201 @@
+use crate::constraints::RawConstraint;
+use khe_base::{Seq, Text};
+
+/// A reference to something by its Id.
+#[derive(Debug, Drop)]
+pub struct Ref {
+    pub id: Text,
+    /// The place of the first byte of the attribute's value.
+    pub at: u64,
+}
+
+/// An Id, or a role.
+#[derive(Debug, Drop)]
+pub struct Name {
+    pub text: Text,
+    /// The place of the first byte of the attribute's value; for a role, of the element's value.
+    pub at: u64,
+}
+
+/// An archive of instances and their solutions.
+#[derive(Debug, Drop)]
+pub struct Archive {
+    pub id: Option<Name>,
+    pub meta_data: Option<MetaData>,
+    pub instances: Seq<RawInstance>,
+    pub solution_groups: Seq<SolutionGroup>,
+}
+
+/// What is said of an archive, an instance or a solution group as a whole.
+#[derive(Debug, Drop)]
+pub struct MetaData {
+    /// Empty where it is missing.
+    pub name: Text,
+    pub contributor: Option<Text>,
+    pub date: Option<Text>,
+    pub country: Option<Text>,
+    pub description: Option<Text>,
+    pub publication: Option<Text>,
+    pub remarks: Option<Text>,
+}
+
+/// An instance. Each list is in the order of the text.
+#[derive(Debug, Drop)]
+pub struct RawInstance {
+    pub id: Name,
+    pub meta_data: Option<MetaData>,
+    /// The time groups, with the weeks and the days.
+    pub time_groups: Seq<TimeGroup>,
+    /// The times, in chronological order.
+    pub times: Seq<Time>,
+    pub resource_types: Seq<ResourceType>,
+    pub resource_groups: Seq<ResourceGroup>,
+    pub resources: Seq<RawResource>,
+    /// The event groups, with the courses.
+    pub event_groups: Seq<EventGroup>,
+    pub events: Seq<RawEvent>,
+    pub constraints: Seq<RawConstraint>,
+}
+
+/// By which element a time group is given.
+#[derive(Clone, Copy, Debug, PartialEq, Eq)]
+pub enum TimeSort {
+    Week,
+    Day,
+    Group,
+}
+
+/// A time group.
+#[derive(Debug, Drop)]
+pub struct TimeGroup {
+    pub sort: TimeSort,
+    pub id: Name,
+    /// Empty where it is missing.
+    pub name: Text,
+}
+
+/// A time.
+#[derive(Debug, Drop)]
+pub struct Time {
+    pub id: Name,
+    /// Empty where it is missing.
+    pub name: Text,
+    pub week: Option<Ref>,
+    pub day: Option<Ref>,
+    /// The time groups that it is in, besides its week and its day.
+    pub time_groups: Seq<Ref>,
+}
+
+/// A type of resources, as teachers or rooms.
+#[derive(Debug, Drop)]
+pub struct ResourceType {
+    pub id: Name,
+    /// Empty where it is missing.
+    pub name: Text,
+}
+
+/// A group of resources of one type.
+#[derive(Debug, Drop)]
+pub struct ResourceGroup {
+    pub id: Name,
+    /// Empty where it is missing.
+    pub name: Text,
+    pub resource_type: Ref,
+}
+
+/// A resource.
+#[derive(Debug, Drop)]
+pub struct RawResource {
+    pub id: Name,
+    /// Empty where it is missing.
+    pub name: Text,
+    pub resource_type: Ref,
+    pub resource_groups: Seq<Ref>,
+}
+
+/// By which element an event group is given.
+#[derive(Clone, Copy, Debug, PartialEq, Eq)]
+pub enum GroupSort {
+    Course,
+    Group,
+}
+
+/// An event group.
+#[derive(Debug, Drop)]
+pub struct EventGroup {
+    pub sort: GroupSort,
+    pub id: Name,
+    /// Empty where it is missing.
+    pub name: Text,
+}
+
+/// An event.
+#[derive(Debug, Drop)]
+pub struct RawEvent {
+    pub id: Name,
+    pub color: Option<Text>,
+    /// Empty where it is missing.
+    pub name: Text,
+    /// In times, from 1 to 1,000,000.
+    pub duration: u32,
+    /// At most 1,000,000.
+    pub workload: Option<u32>,
+    pub course: Option<Ref>,
+    /// The preassigned time.
+    pub time: Option<Ref>,
+    pub resources: Seq<RawEventResource>,
+    /// Groups of resources that all take part.
+    pub resource_groups: Seq<Ref>,
+    /// The event groups that it is in, besides its course.
+    pub event_groups: Seq<Ref>,
+}
+
+/// A place of an event for one resource.
+#[derive(Debug, Drop)]
+pub struct RawEventResource {
+    /// The preassigned resource. Without one, the role and the type are there.
+    pub reference: Option<Ref>,
+    pub role: Option<Name>,
+    pub resource_type: Option<Ref>,
+    /// At most 1,000,000.
+    pub workload: Option<u32>,
+}
+
+/// A group of solutions.
+#[derive(Debug, Drop)]
+pub struct SolutionGroup {
+    pub id: Name,
+    pub meta_data: Option<MetaData>,
+    pub solutions: Seq<RawSolution>,
+}
+
+/// A solution.
+#[derive(Debug, Drop)]
+pub struct RawSolution {
+    /// A reference to its instance.
+    pub reference: Ref,
+    pub description: Option<Text>,
+    pub running_time: Option<Text>,
+    pub events: Seq<RawEntry>,
+}
+
+/// What a solution says of one event, or of a part of it.
+#[derive(Debug, Drop)]
+pub struct RawEntry {
+    /// A reference to the event.
+    pub reference: Ref,
+    /// In times, from 1 to 1,000,000.
+    pub duration: Option<u32>,
+    /// A reference to its starting time.
+    pub time: Option<Ref>,
+    pub resources: Seq<RawGiven>,
+}
+
+/// A resource that an entry gives.
+#[derive(Debug, Drop)]
+pub struct RawGiven {
+    /// A reference to the resource.
+    pub reference: Ref,
+    /// The role of the place that it takes.
+    pub role: Option<Name>,
+}

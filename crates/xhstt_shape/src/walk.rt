@@ -1,0 +1,206 @@
+ghost use Rattle.std.specs.Prelude.{◌≡◌, [], OnOk, IfOk};
+ghost use Rattle.xhstt_shape.specs.Faults.{IsTold};
+ghost use Rattle.xhstt_shape.specs.Schema.{children};
+ghost use Rattle.xhstt_shape.specs.Walk as spec;
+
+use crate::contents::{function_text, number_text, role_text, truth_text};
+use crate::faults::{
+    BAD_NUMBER, BAD_WORD, MISSING_CHILD, REPEATED_CHILD, ShapeFault, UNKNOWN_ELEMENT, unless,
+};
+use crate::finding::{attribute, child};
+use crate::schema::{Child, Content, Given, Mark, Row};
+use crate::words::{Label, Tag};
+use khe_base::{NoMemory, Seq};
+use std::alloc::Global;
+use xhstt_text::Element;
+
+/// Finds the first fault of an element of a row.
+///
+/// It takes time linear in the element. The table's rows do not lead back to themselves, so the
+/// recursion is no deeper than the table.
+#[cycle(walk)]
+pub(crate) fn look_at(alloc: Global, row: Row, element: &Element<'_, '_>) -> Result<(), ShapeFault>
+    ensures { IsTold result (spec.fault_of row element.now) }
+{
+    let content = row.content();
+    if let Content::Anything = content {
+        return Ok(());
+    }
+    look_at_attributes(row.attributes(), element)?;
+    look_at_loose(content, element)?;
+    look_at_children(alloc, row, element)?;
+    unless(
+        has_children(row.children(), element),
+        MISSING_CHILD,
+        element.at(),
+    )?;
+    look_at_value(alloc, content, element)
+}
+
+/// Finds the first fault of the children of an element of a row.
+#[cycle(walk)]
+fn look_at_children(alloc: Global, row: Row, element: &Element<'_, '_>) -> Result<(), ShapeFault>
+    ensures { IsTold result (spec.children_fault row [] element.now.kids) }
+{
+    let mut rest = element.children();
+    let mut seen = Seq::new(alloc);
+    while let Some(next) = rest.next() {
+        let rule = rule_of(row, &next, seen.as_slice())?;
+        look_at(alloc, settled(rule.row, &next), &next)?;
+        see(&mut seen, rule)?;
+    }
+    Ok(())
+}
+
+/// The table's child for an element by its name, after children with these names that may not come
+/// again.
+fn rule_of(row: Row, element: &Element<'_, '_>, seen: &[Tag]) -> Result<Child, ShapeFault>
+    ensures { result ≡ spec.rule_or_fault (spec.rule_for (children row) element.now.info.name) seen.now element.now.info }
+{
+    let name = element.name();
+    let Some(rule) = rule_for(row.children(), name) else {
+        return Err(ShapeFault::Bad {
+            kind: UNKNOWN_ELEMENT,
+            at: element.at(),
+        });
+    };
+    unless(!is_among(name, seen), REPEATED_CHILD, element.at())?;
+    Ok(rule)
+}
+
+/// The table's child of this name.
+fn rule_for(rules: &[Child], name: &[u8]) -> Option<Child>
+    ensures { result ≡ spec.rule_for rules.now name.now }
+{
+    for rule in rules {
+        if rule.tag.word() == name {
+            return Some(*rule);
+        }
+    }
+    None
+}
+
+/// The row of an element: an event resource without a reference is one of another row.
+#[tactic(auto, unfolding(crate::specs::Walk::settled))]
+fn settled(row: Row, element: &Element<'_, '_>) -> Row
+    ensures { result ≡ spec.settled row element.now.info }
+{
+    match row {
+        Row::EventResource => {
+            if attribute(Label::Reference, element).is_some() {
+                Row::EventResource
+            } else {
+                Row::OpenResource
+            }
+        }
+        other => other,
+    }
+}
+
+/// Whether a name is one of these.
+fn is_among(name: &[u8], tags: &[Tag]) -> bool
+    ensures { result ≡ spec.is_among name.now tags.now }
+{
+    tags.iter().any(|tag| tag.word() == name)
+}
+
+/// Notes a child whose name may not come again.
+fn see(seen: &mut Seq<Tag>, rule: Child) -> Result<(), NoMemory>
+    ensures { OnOk result (seen.new ≡ spec.with_seen rule seen.old) }
+{
+    match rule.mark {
+        Mark::Many => Ok(()),
+        _ => seen.push(rule.tag),
+    }
+}
+
+/// Finds the first attribute that the table does not have there, or else an attribute that is
+/// missing.
+fn look_at_attributes(givens: &[Given], element: &Element<'_, '_>) -> Result<(), ShapeFault>
+    ensures { result ≡ spec.all_attributes_fault givens.now element.now.info }
+{
+    let mut rest = element.attributes();
+    while let Some(next) = rest.next() {
+        unless(is_label(givens, next.name), UNKNOWN_ELEMENT, next.name_at)?;
+    }
+    unless(has_attributes(givens, element), MISSING_CHILD, element.at())
+}
+
+/// Whether the table has an attribute of this name.
+fn is_label(givens: &[Given], name: &[u8]) -> bool
+    ensures { result ≡ spec.is_label givens.now name.now }
+{
+    givens.iter().any(|given| given.label.word() == name)
+}
+
+/// Whether no attribute that has to stand is missing.
+fn has_attributes(givens: &[Given], element: &Element<'_, '_>) -> bool
+    ensures { result ≡ spec.has_attributes givens.now element.now.info.attributes }
+{
+    givens.iter().all(|given| has_given(*given, element))
+}
+
+/// Whether an attribute stands, or need not.
+fn has_given(given: Given, element: &Element<'_, '_>) -> bool
+    ensures { result ≡ spec.has_given given element.now.info.attributes }
+{
+    !given.required || attribute(given.label, element).is_some()
+}
+
+/// Whether no child that has to stand is missing.
+fn has_children(rules: &[Child], element: &Element<'_, '_>) -> bool
+    ensures { result ≡ spec.has_children rules.now element.now.kids }
+{
+    rules.iter().all(|rule| has_child(*rule, element))
+}
+
+/// Whether a child stands, or need not.
+fn has_child(rule: Child, element: &Element<'_, '_>) -> bool
+    ensures { result ≡ spec.has_child rule element.now.kids }
+{
+    match rule.mark {
+        Mark::Once => child(rule.tag, element).is_some(),
+        _ => true,
+    }
+}
+
+/// Finds text where elements are to stand.
+fn look_at_loose(content: Content, element: &Element<'_, '_>) -> Result<(), ShapeFault>
+    ensures { result ≡ spec.loose_fault content element.now.info.loose }
+{
+    match (content, element.loose()) {
+        (Content::Elements, Some(at)) => Err(ShapeFault::Bad { kind: BAD_WORD, at }),
+        _ => Ok(()),
+    }
+}
+
+/// Finds a value that is not in form.
+fn look_at_value(
+    alloc: Global,
+    content: Content,
+    element: &Element<'_, '_>,
+) -> Result<(), ShapeFault>
+    ensures { IsTold result (spec.value_fault content element.now.info) }
+{
+    let value = element.value();
+    let at = element.value_at();
+    match content {
+        Content::Number { least, greatest } => {
+            let number = number_text(alloc, least, greatest, value)?;
+            unless(number.is_some(), BAD_NUMBER, at)
+        }
+        Content::Truth => {
+            let truth = truth_text(alloc, value)?;
+            unless(truth.is_some(), BAD_WORD, at)
+        }
+        Content::Function => {
+            let function = function_text(alloc, value)?;
+            unless(function.is_some(), BAD_WORD, at)
+        }
+        Content::Role => {
+            let role = role_text(alloc, value)?;
+            unless(!role.as_bytes().is_empty(), BAD_WORD, at)
+        }
+        _ => Ok(()),
+    }
+}
