@@ -24,7 +24,7 @@ nothing-made id = record {
   constraints = search rules;
   monitors = record { each = search rules; ordered = search rules; once = λ c. search rules; pairs = λ k c e. search rules };
   unit = record { positive = omega arith; divided = search rules; least = λ n h. one-dvd n };
-  limits = search rules
+  limits = search rules;
 }
 
 pub new-requires-7 : goal.new-requires-7
