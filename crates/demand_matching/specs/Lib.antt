@@ -1,0 +1,3 @@
+pub mod Counts
+pub mod Domains
+pub mod Excess
