@@ -4,16 +4,8 @@ use Rattle.std.proofs.Common.{ℕ, suc, ◌+◌, ◌<◌, ◌≤◌, ◌≡◌, 
 use Rattle.std.specs.Prelude.{is_none}
 use Rattle.std.proofs.lemmas.Bool.{cases_Bool, cases_lt, and_parts, and_from, or_cases, or_left, or_right, eqb-true, eqb-false, eq-eqb, ne_eqb, not_from_false, not_from_true, not-true, false≢true, true≢false}
 use Rattle.demand_matching.specs.Counts.{count_below, any_below}
+use Rattle.demand_matching.specs.Places.{IsMatching}
 use Rattle.demand_matching.proofs.Counting.{cases_eqb, count_subset, count_full, count_same, count_split, count_without, count_partners, count_cases, any_at, any_from}
-
--- demands below n and supplies below m, which supplies a demand may have, and who has which: each
--- demand has a supply at most, which it may have, and each supply knows who has it
-pub record IsMatching (n m : ℕ) (may : ℕ → ℕ → Bool) (place owner : ℕ → Option ℕ) : Type 0 where
-  pub demand : (d s : ℕ) → place d ≡ Some s → d < n
-  pub supply : (d s : ℕ) → place d ≡ Some s → s < m
-  pub allowed : (d s : ℕ) → place d ≡ Some s → may d s ≡ true
-  pub owned : (d s : ℕ) → place d ≡ Some s → owner s ≡ Some d
-  pub placed : (s d : ℕ) → owner s ≡ Some d → place d ≡ Some s
 
 -- how many demands of a set are there
 abbrev pub size : ℕ → (ℕ → Bool) → (ℕ → Bool) → ℕ

@@ -1,3 +1,5 @@
 pub mod Counts
 pub mod Domains
 pub mod Excess
+pub mod Order
+pub mod Places

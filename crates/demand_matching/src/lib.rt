@@ -3,5 +3,6 @@
 #![tactic(auto)]
 
 mod domains;
+mod order;
 
 pub use domains::{Domain, Pick};
