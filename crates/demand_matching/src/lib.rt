@@ -4,5 +4,7 @@
 
 mod domains;
 mod order;
+mod sets;
+mod table;
 
 pub use domains::{Domain, Pick};

@@ -1,0 +1,44 @@
+-- A search over a table: the first demands of an order are those that it met.
+use Rattle.std.specs.Prelude.{ℕ, ◌+◌, ◌<◌, ◌≤◌, ◌≡◌, true, length, List, Option, Some, None, slice_index}
+use Rattle.demand_matching.specs.declared.table.Table.{Table}
+use Rattle.demand_matching.specs.declared.table.Reach.{Reach}
+use Rattle.demand_matching.specs.declared.table.Reach.TheVariants.{Free, Met}
+use Rattle.demand_matching.specs.declared.order.Order.{Order}
+use Rattle.demand_matching.specs.Order.{IsOrder}
+use Rattle.demand_matching.specs.Table.{domains_of, may_take, place_of, owner_of, demands_in, supplies_in}
+
+-- the demand at a place of the order was met from an earlier one, which may have its supply
+pub record IsMet (t : Table) (demands met_from : List ℕ) (place supply : ℕ) : Type 0 where
+  pub before : slice_index met_from (slice_index demands place) < place
+  pub allowed : may_take (domains_of t) (slice_index demands (slice_index met_from (slice_index demands place))) supply ≡ true
+
+-- each of the first demands of the order that has a supply was met
+pub record IsSearch (t : Table) (demands spots met_from : List ℕ) (len : ℕ) : Type 0 where
+  pub order : IsOrder (demands_in t) demands spots
+  pub met_length : length met_from ≡ demands_in t
+  pub len_fits : len ≤ demands_in t
+  pub met : (place supply : ℕ) → place < len → place_of t (slice_index demands place) ≡ Some supply → IsMet t demands met_from place supply
+
+-- the first demands of the order stay
+pub record KeepsFirst (demands spots demands' spots' : List ℕ) (len : ℕ) : Type 0 where
+  pub demand : (place : ℕ) → place < len → slice_index demands' place ≡ slice_index demands place
+  pub spot : (demand : ℕ) → slice_index spots demand < len → slice_index spots' demand ≡ slice_index spots demand
+
+-- the supply is that of one of the first demands of the order
+pub record IsReached (t : Table) (spots : List ℕ) (len supply : ℕ) : Type 0 where
+  pub by : ℕ
+  pub owner : owner_of t supply ≡ Some by
+  pub within : slice_index spots by < len
+
+-- the search goes on with more demands met, or a free supply was found
+abbrev pub GoesOn : Table → Order → Order → ℕ → ℕ → Reach → Type 0
+GoesOn t o o' place len (Met more) =
+    (len ≤ more) × IsSearch t o'.demands.items o'.spots.items o'.met_from.items more × KeepsFirst o.demands.items o.spots.items o'.demands.items o'.spots.items len
+GoesOn t o o' place len (Free supply) =
+    IsSearch t o'.demands.items o'.spots.items o'.met_from.items len × KeepsFirst o.demands.items o.spots.items o'.demands.items o'.spots.items len
+    × (supply < supplies_in t) × (owner_of t supply ≡ None) × (may_take (domains_of t) (slice_index o'.demands.items place) supply ≡ true)
+
+-- a fact of the number of demands met, where the search goes on
+abbrev pub WhereMet : Reach → (ℕ → Type 0) → Type 0
+WhereMet (Met more) P = P more
+WhereMet (Free supply) P = Unit {0}
