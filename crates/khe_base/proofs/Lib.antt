@@ -1,4 +1,5 @@
 pub mod Characters
+pub mod IdSetLemmas
 pub mod NamesLemmas
 pub mod TextLemmas
 pub mod UnitsLemmas

@@ -1,4 +1,5 @@
 pub mod Costs
+pub mod IdSet
 pub mod Names
 pub mod Text
 pub mod Units

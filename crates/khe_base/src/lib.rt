@@ -3,6 +3,7 @@
 #![tactic(auto)]
 
 mod costs;
+mod id_sets;
 pub mod limits;
 mod memory;
 mod names;
@@ -15,6 +16,7 @@ mod texts;
 mod units;
 
 pub use costs::{CostFn, cost};
+pub use id_sets::IdSet;
 pub use memory::NoMemory;
 pub use names::{Names, numbered};
 pub use numbers::{EventId, GroupId, MeetId, MonitorId, ResourceId, TaskId, TimeId};

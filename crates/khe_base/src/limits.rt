@@ -33,3 +33,7 @@ pub const WEIGHT: u32 = 1_000_000;
 
 /// The greatest deviation that the limits allow: 2 * 10^11.
 pub const GREATEST_DEVIATION: u64 = 200_000_000_000;
+
+/// The greatest count of one cell of a timetable, a resource and a time: the greatest number of
+/// tasks.
+pub const GREATEST_COUNT: u32 = 200_000;

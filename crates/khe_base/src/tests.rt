@@ -1,4 +1,4 @@
-use crate::{Names, Seq, Text, numbered};
+use crate::{IdSet, Names, Seq, Text, numbered};
 use std::test::Fail;
 
 // Threads may be handed such a value, and read it together.
@@ -48,5 +48,21 @@ fn names_are_numbered_in_order(rt: HostRuntime) -> Result<(), Fail> {
     let list = [first, second];
     let again = numbered(rt.alloc(), list.as_slice())?.ok_or("two are equal")?;
     assert_eq!(rt; again.number(&list[1]), Some(1));
+    Ok(())
+}
+
+#[test]
+fn a_set_of_numbers(rt: HostRuntime) -> Result<(), Fail> {
+    let mut set = IdSet::new(rt.alloc(), 70)?;
+    assert!(rt; set.is_empty());
+    assert_eq!(rt; set.size(), 70);
+    set.insert(3);
+    set.insert(69);
+    set.insert(3);
+    assert_eq!(rt; set.len(), 2);
+    assert!(rt; set.has(69));
+    assert!(rt; !set.has(4));
+    assert!(rt; !set.has(70));
+    lends_to_threads(&set);
     Ok(())
 }
