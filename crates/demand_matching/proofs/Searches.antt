@@ -2,9 +2,16 @@
 use Rattle.std.proofs.Common.{ℕ, ◌+◌, ◌<◌, ◌≤◌, ◌≡◌, true, List, Option, Some, None, length, get_or, set, refl, sym, ap, ◌∙◌, arith, inl, inr, get_or-set_same, get_or-set_other, length-set, subst}
 use Rattle.std.proofs.lemmas.List.{get_or_read}
 use Rattle.demand_matching.specs.declared.table.Table.{Table}
+use Rattle.demand_matching.specs.declared.table.Reach.{Reach}
+use Rattle.demand_matching.specs.declared.table.Reach.TheVariants.{Free, Met}
+use Rattle.demand_matching.specs.declared.order.Order.{Order}
+use Rattle.demand_matching.specs.declared.domains.Domain.{Domain}
+use Rattle.demand_matching.specs.Domains.{domain_of, IsInRange}
+use Rattle.demand_matching.specs.Members.{picked}
 use Rattle.demand_matching.specs.Order.{IsOrder, ChangesPlaces}
-use Rattle.demand_matching.specs.Table.{domains_of, may_take, place_of, owner_of, demands_in, supplies_in, IsTable}
-use Rattle.demand_matching.specs.Search.{IsMet, IsSearch, KeepsFirst, IsReached}
+use Rattle.demand_matching.specs.Table.{domains_of, may_take, place_of, owner_of, demands_in, supplies_in, IsTable, supply_at}
+use Rattle.demand_matching.specs.Search.{IsMet, IsSearch, KeepsFirst, IsReached, GoesOn, IsOpen, IsClosed}
+use Rattle.demand_matching.proofs.Supplies.{supply_allowed}
 use Rattle.demand_matching.proofs.Counting.{cases_eqb, cases_last}
 
 -- who has a supply, as the table's list has it
@@ -89,3 +96,19 @@ search_shorter t a b c len less l is = record {
   len_fits = omega (arith, is.len_fits);
   met = λ k s h e. is.met k s (omega arith) e
 }
+
+pub spot_read : (xs : List ℕ) (i x : ℕ) → i < length xs → x ≡ get_or xs i x → x ≡ get_or xs i 0
+spot_read xs i x l e = get_or_read xs i x l e 0
+
+-- what a part of a look says of the whole
+pub goes_on_from : (t : Table) (o o' o'' : Order) (place len met : ℕ) (r : Reach) → len ≤ met → KeepsFirst o.demands.items o.spots.items o'.demands.items o'.spots.items len → GoesOn t o' o'' place met r → GoesOn t o o'' place len r
+goes_on_from t o o' o'' place len met (Met more) l keeps g =
+    (omega (arith, g.0), g.1, keeps_trans o.demands.items o.spots.items o'.demands.items o'.spots.items o''.demands.items o''.spots.items len met l keeps g.2)
+goes_on_from t o o' o'' place len met (Free supply) l keeps g =
+    (search_shorter t o''.demands.items o''.spots.items o''.met_from.items met len l g.0, keeps_trans o.demands.items o.spots.items o'.demands.items o'.spots.items o''.demands.items o''.spots.items len met l keeps g.1, g.2, g.3, g.4)
+
+-- what a demand that stays at its place may have
+pub may_still : (t : Table) (o o' : Order) (place len : ℕ) (d : Domain) (i j : ℕ) → IsTable t → KeepsFirst o.demands.items o.spots.items o'.demands.items o'.spots.items len → place < len → domain_of (domains_of t) (get_or o.demands.items place 0) ≡ Some d → i < length (picked t.resources d.resources) → j < length (picked t.times d.times) → may_take (domains_of t) (get_or o'.demands.items place 0) (supply_at (domains_of t) d i j) ≡ true
+may_still t o o' place len d i j is keeps near its l m =
+    let now : domain_of (domains_of t) (get_or o'.demands.items place 0) ≡ Some d = ap (λ v. domain_of (domains_of t) v) (keeps.demand place near) ∙ its in
+    supply_allowed (domains_of t) d (get_or o'.demands.items place 0) i j (is.in_range (get_or o'.demands.items place 0) d now) now l m

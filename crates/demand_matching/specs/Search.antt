@@ -3,6 +3,8 @@ use Rattle.std.specs.Prelude.{ℕ, ◌+◌, ◌<◌, ◌≤◌, ◌≡◌, true,
 use Rattle.demand_matching.specs.declared.table.Table.{Table}
 use Rattle.demand_matching.specs.declared.table.Reach.{Reach}
 use Rattle.demand_matching.specs.declared.table.Reach.TheVariants.{Free, Met}
+use Rattle.demand_matching.specs.declared.table.Found.{Found}
+use Rattle.demand_matching.specs.declared.table.Found.TheVariants.{Open, Closed}
 use Rattle.demand_matching.specs.declared.order.Order.{Order}
 use Rattle.demand_matching.specs.Order.{IsOrder}
 use Rattle.demand_matching.specs.Table.{domains_of, may_take, place_of, owner_of, demands_in, supplies_in}
@@ -42,3 +44,22 @@ GoesOn t o o' place len (Free supply) =
 abbrev pub WhereMet : Reach → (ℕ → Type 0) → Type 0
 WhereMet (Met more) P = P more
 WhereMet (Free supply) P = Unit {0}
+
+-- the search ended: with a free supply that the demand at a place may have, or with each supply
+-- that a demand met may have being that of a demand met
+pub record IsOpen (t : Table) (o o' : Order) (left place supply : ℕ) : Type 0 where
+  pub search : IsSearch t o'.demands.items o'.spots.items o'.met_from.items (place + 1)
+  pub keeps : KeepsFirst o.demands.items o.spots.items o'.demands.items o'.spots.items left
+  pub below : supply < supplies_in t
+  pub free : owner_of t supply ≡ None
+  pub allowed : may_take (domains_of t) (slice_index o'.demands.items place) supply ≡ true
+
+pub record IsClosed (t : Table) (o o' : Order) (head left met : ℕ) : Type 0 where
+  pub longer : left ≤ met
+  pub search : IsSearch t o'.demands.items o'.spots.items o'.met_from.items met
+  pub keeps : KeepsFirst o.demands.items o.spots.items o'.demands.items o'.spots.items left
+  pub closed : (place supply : ℕ) → head ≤ place → place < met → may_take (domains_of t) (slice_index o'.demands.items place) supply ≡ true → IsReached t o'.spots.items met supply
+
+abbrev pub Ends : Table → Order → Order → ℕ → ℕ → Found → Type 0
+Ends t o o' head left (Closed met) = IsClosed t o o' head left met
+Ends t o o' head left (Open place supply) = IsOpen t o o' left place supply

@@ -2,7 +2,7 @@ ghost use Rattle.std.specs.Prelude.{◌≡◌, ◌+◌, ◌*◌, ◌<◌, ◌≤
 ghost use Rattle.demand_matching.specs.Domains.{IsInRange, domain_of};
 ghost use Rattle.demand_matching.specs.Members.{picked};
 ghost use Rattle.demand_matching.specs.Table.{IsTable, domains_of, may_take, supply_at, place_of, owner_of, demands_in, supplies_in};
-ghost use Rattle.demand_matching.specs.Search.{IsSearch, IsReached, KeepsFirst, GoesOn, WhereMet};
+ghost use Rattle.demand_matching.specs.Search.{IsSearch, IsReached, KeepsFirst, GoesOn, WhereMet, Ends};
 
 use crate::Domain;
 use crate::order::Order;
@@ -26,6 +26,14 @@ pub(crate) enum Reach {
     Free(usize),
     /// No supply is free, and so many demands are met now.
     Met(usize),
+}
+
+/// What a search ended with.
+pub(crate) enum Found {
+    /// The demand at this place of the order may have this free supply.
+    Open(usize, usize),
+    /// So many demands are met, and whatever they may have is theirs.
+    Closed(usize),
 }
 
 impl Table {
@@ -53,14 +61,79 @@ impl Table {
         ensures goes_on { GoesOn self.now order.old order.new place len result }
         ensures reached { WhereMet result (λ more. IsReached self.now order.new.spots.items more supply) }
     {
-        match self.owners[supply] {
-            None => Reach::Free(supply),
-            Some(demand) if order.spots[demand] < len => Reach::Met(len),
-            Some(demand) => {
-                order.put(demand, len);
-                order.met_from[demand] = place;
-                Reach::Met(len + 1)
+        let Some(demand) = self.owners[supply] else {
+            return Reach::Free(supply);
+        };
+        let spot = order.spots[demand];
+        if spot < len {
+            return Reach::Met(len);
+        }
+        order.put(demand, len);
+        order.met_from[demand] = place;
+        Reach::Met(len + 1)
+    }
+
+    /// Looks at the supplies of one resource that the demand at a place of the order may have.
+    fn meet_at(&self, order: &mut Order, domain: Domain, i: usize, place: usize, len: usize) -> Reach
+        requires table { IsTable self.now }
+        requires search { IsSearch self.now order.old.demands.items order.old.spots.items order.old.met_from.items len }
+        requires place { place < len }
+        requires domain { domain_of (domains_of self.now) (slice_index order.old.demands.items place) ≡ Some domain }
+        requires resource { i < length (picked self.now.resources domain.resources) }
+        ensures goes_on { GoesOn self.now order.old order.new place len result }
+        ensures reached { WhereMet result (λ more. (j : ℕ) → j < length (picked self.now.times domain.times) → IsReached self.now order.new.spots.items more (supply_at (domains_of self.now) domain i j)) }
+    {
+        let mut met = len;
+        for j in 0..self.times.count(domain.times) {
+            let supply = self.supply(domain, i, j);
+            match self.meet(order, supply, place, met) {
+                Reach::Free(free) => return Reach::Free(free),
+                Reach::Met(more) => met = more,
             }
         }
+        Reach::Met(met)
+    }
+
+    /// Looks at all supplies that the demand at a place of the order may have.
+    fn meet_all(&self, order: &mut Order, place: usize, len: usize) -> Reach
+        requires table { IsTable self.now }
+        requires search { IsSearch self.now order.old.demands.items order.old.spots.items order.old.met_from.items len }
+        requires place { place < len }
+        ensures goes_on { GoesOn self.now order.old order.new place len result }
+        ensures reached { WhereMet result (λ more. (supply : ℕ) → may_take (domains_of self.now) (slice_index order.old.demands.items place) supply ≡ true → IsReached self.now order.new.spots.items more supply) }
+    {
+        let demand = order.demands[place];
+        let Some(domain) = self.demands[demand] else {
+            return Reach::Met(len);
+        };
+        let mut met = len;
+        for i in 0..self.resources.count(domain.resources) {
+            match self.meet_at(order, domain, i, place, met) {
+                Reach::Free(free) => return Reach::Free(free),
+                Reach::Met(more) => met = more,
+            }
+        }
+        Reach::Met(met)
+    }
+
+    /// Looks for a free supply, from the first demands of the order that stand at `head` or later:
+    /// those are met, and whoever has a supply that a demand met may have. It takes time in
+    /// proportion to the supplies that the demands met may have.
+    pub(crate) fn search(&self, order: &mut Order, head: usize, left: usize) -> Found
+        requires table { IsTable self.now }
+        requires search { IsSearch self.now order.old.demands.items order.old.spots.items order.old.met_from.items left }
+        requires head { head ≤ left }
+        ensures { Ends self.now order.old order.new head left result }
+    {
+        let mut place = head;
+        let mut met = left;
+        while place < met {
+            match self.meet_all(order, place, met) {
+                Reach::Free(supply) => return Found::Open(place, supply),
+                Reach::Met(more) => met = more,
+            }
+            place += 1;
+        }
+        Found::Closed(met)
     }
 }
