@@ -11,7 +11,7 @@ use Rattle.demand_matching.specs.Members.{picked}
 use Rattle.demand_matching.specs.Order.{IsOrder, ChangesPlaces}
 use Rattle.demand_matching.specs.Table.{domains_of, may_take, place_of, owner_of, demands_in, supplies_in, IsTable, supply_at}
 use Rattle.demand_matching.specs.Search.{IsMet, IsSearch, KeepsFirst, IsReached, GoesOn, IsOpen, IsClosed}
-use Rattle.demand_matching.proofs.Supplies.{supply_allowed}
+use Rattle.demand_matching.proofs.Supplies.{supply_allowed, supply_found}
 use Rattle.demand_matching.proofs.Counting.{cases_eqb, cases_last}
 
 -- who has a supply, as the table's list has it
@@ -112,3 +112,35 @@ pub may_still : (t : Table) (o o' : Order) (place len : ℕ) (d : Domain) (i j :
 may_still t o o' place len d i j is keeps near its l m =
     let now : domain_of (domains_of t) (get_or o'.demands.items place 0) ≡ Some d = ap (λ v. domain_of (domains_of t) v) (keeps.demand place near) ∙ its in
     supply_allowed (domains_of t) d (get_or o'.demands.items place 0) i j (is.in_range (get_or o'.demands.items place 0) d now) now l m
+
+-- the domain of the demand at a place, as the lists have it
+pub domain_read : (t : Table) (order : List ℕ) (place demand : ℕ) (x : Option Domain) (d : Domain) → place < length order → get_or order place 0 < demands_in t → demand ≡ get_or order place demand → x ≡ get_or t.demands.items demand x → x ≡ Some d → domain_of (domains_of t) (get_or order place 0) ≡ Some d
+domain_read t order place demand x d l m read look it =
+    let at : demand ≡ get_or order place 0 = get_or_read order place demand l read 0 in
+    let near : demand < length t.demands.items = omega arith in
+    ap (λ v. get_or t.demands.items v None) (sym at) ∙ sym (get_or_read t.demands.items demand x near look None) ∙ it
+
+pub absent_read : (t : Table) (order : List ℕ) (place demand : ℕ) (x : Option Domain) → place < length order → get_or order place 0 < demands_in t → demand ≡ get_or order place demand → x ≡ get_or t.demands.items demand x → x ≡ None → domain_of (domains_of t) (get_or order place 0) ≡ None
+absent_read t order place demand x l m read look it =
+    let at : demand ≡ get_or order place 0 = get_or_read order place demand l read 0 in
+    let near : demand < length t.demands.items = omega arith in
+    ap (λ v. get_or t.demands.items v None) (sym at) ∙ sym (get_or_read t.demands.items demand x near look None) ∙ it
+
+-- each supply that the demand may have is one of those looked at
+pub all_reached : (t : Table) (spots : List ℕ) (d : Domain) (demand met count : ℕ) → domain_of (domains_of t) demand ≡ Some d → length (picked t.resources d.resources) ≤ count → ((i j : ℕ) → i < count → j < length (picked t.times d.times) → IsReached t spots met (supply_at (domains_of t) d i j)) → (s : ℕ) → may_take (domains_of t) demand s ≡ true → IsReached t spots met s
+all_reached t spots d demand met count its l reached s may =
+    let at = supply_found (domains_of t) d demand s its may in
+    let r = reached at.0 at.1 (omega (arith, at.2)) at.3 in
+    record { by = r.by; owner = ap (λ v. owner_of t v) (sym at.4) ∙ r.owner; within = r.within }
+
+-- one place more of the order is looked at
+pub search_more : (t : Table) (o o' o'' : Order) (head left place met more : ℕ) → place < met → GoesOn t o' o'' place met (Met more)
+  → ((k s : ℕ) → head ≤ k → k < place → may_take (domains_of t) (get_or o'.demands.items k 0) s ≡ true → IsReached t o'.spots.items met s)
+  → ((s : ℕ) → may_take (domains_of t) (get_or o'.demands.items place 0) s ≡ true → IsReached t o''.spots.items more s)
+  → (k s : ℕ) → head ≤ k → k < place + 1 → may_take (domains_of t) (get_or o''.demands.items k 0) s ≡ true → IsReached t o''.spots.items more s
+search_more t o o' o'' head left place met more l g before here k s low high may =
+    let keeps : KeepsFirst o'.demands.items o'.spots.items o''.demands.items o''.spots.items met = g.2 in
+    elim (cases_last k place (omega arith)) [
+      inl x ↦ here s (ap (λ v. may_take (domains_of t) (get_or o'.demands.items v 0) s) (sym x) ∙ ap (λ v. may_take (domains_of t) v s) (sym (keeps.demand k (omega arith))) ∙ may)
+      | inr less ↦ reached_still t o'.demands.items o'.spots.items o''.demands.items o''.spots.items met more s g.0 keeps (before k s low less (ap (λ v. may_take (domains_of t) v s) (sym (keeps.demand k (omega arith))) ∙ may))
+    ]
