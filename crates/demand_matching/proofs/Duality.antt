@@ -4,7 +4,7 @@ use Rattle.std.proofs.Common.{ℕ, suc, ◌+◌, ◌<◌, ◌≤◌, ◌≡◌, 
 use Rattle.std.specs.Prelude.{is_none}
 use Rattle.std.proofs.lemmas.Bool.{cases_Bool, cases_lt, and_parts, and_from, or_cases, or_left, or_right, eqb-true, eqb-false, eq-eqb, ne_eqb, not_from_false, not_from_true, not-true, false≢true, true≢false}
 use Rattle.demand_matching.specs.Counts.{count_below, any_below}
-use Rattle.demand_matching.specs.Places.{IsMatching}
+use Rattle.demand_matching.specs.Places.{IsMatching, IsSaturated}
 use Rattle.demand_matching.proofs.Counting.{cases_eqb, count_subset, count_full, count_same, count_split, count_without, count_partners, count_cases, any_at, any_from}
 
 -- how many demands of a set are there
@@ -22,10 +22,6 @@ neighbours n m may set = count_below m (reaches n may set)
 -- how many demands are there and have no supply
 abbrev pub left_out : ℕ → (ℕ → Bool) → (ℕ → Option ℕ) → ℕ
 left_out n present place = count_below n (λ d. present d && is_none (place d))
-
--- each supply that the set may have is that of a member
-abbrev pub IsSaturated : ℕ → ℕ → (ℕ → ℕ → Bool) → (ℕ → Option ℕ) → (ℕ → Bool) → Type 0
-IsSaturated n m may owner set = (d s : ℕ) → d < n → set d ≡ true → s < m → may d s ≡ true → (e : ℕ) × (owner s ≡ Some e) × (set e ≡ true)
 
 -- the set has all that are left out
 abbrev pub HasLeftOut : ℕ → (ℕ → Bool) → (ℕ → Option ℕ) → (ℕ → Bool) → Type 0

@@ -1,6 +1,8 @@
 pub mod Counting
 pub mod Duality
+pub mod Listings
+pub mod Moves
 pub mod OrderLemmas
 pub mod Picks
-pub mod Supplies
 pub mod Searches
+pub mod Supplies

@@ -1,6 +1,7 @@
 pub mod Counts
 pub mod Domains
 pub mod Excess
+pub mod Listing
 pub mod Members
 pub mod Order
 pub mod Places

@@ -9,3 +9,7 @@ pub record IsMatching (n m : ℕ) (may : ℕ → ℕ → Bool) (place owner : �
   pub allowed : (d s : ℕ) → place d ≡ Some s → may d s ≡ true
   pub owned : (d s : ℕ) → place d ≡ Some s → owner s ≡ Some d
   pub placed : (s d : ℕ) → owner s ≡ Some d → place d ≡ Some s
+
+-- each supply that a demand of the set may have is that of a demand of the set
+abbrev pub IsSaturated : ℕ → ℕ → (ℕ → ℕ → Bool) → (ℕ → Option ℕ) → (ℕ → Bool) → Type 0
+IsSaturated n m may owner set = (d s : ℕ) → d < n → set d ≡ true → s < m → may d s ≡ true → (e : ℕ) × (owner s ≡ Some e) × (set e ≡ true)

@@ -1,8 +1,9 @@
-ghost use Rattle.std.specs.Prelude.{◌≡◌, ◌+◌, ◌*◌, ◌<◌, ◌≤◌, ℕ, true, length, slice_index, slice_index_or, Option, None, Some, IfSome};
+ghost use Rattle.std.specs.Prelude.{◌≡◌, ◌≢◌, ◌+◌, ◌*◌, ◌<◌, ◌≤◌, ℕ, true, length, slice_index, slice_index_or, Option, None, Some, IfSome};
 ghost use Rattle.demand_matching.specs.Domains.{IsInRange, domain_of};
 ghost use Rattle.demand_matching.specs.Members.{picked};
 ghost use Rattle.demand_matching.specs.Table.{IsTable, domains_of, may_take, supply_at, place_of, owner_of, demands_in, supplies_in};
 ghost use Rattle.demand_matching.specs.Search.{IsSearch, IsReached, KeepsFirst, GoesOn, WhereMet, Ends};
+ghost use Rattle.demand_matching.specs.Listing.{IsListing, PlacesOne, Improves};
 
 use crate::Domain;
 use crate::order::Order;
@@ -135,5 +136,87 @@ impl Table {
             place += 1;
         }
         Found::Closed(met)
+    }
+
+    /// Frees the supply of a demand, if it has one.
+    fn release(&mut self, demand: usize) -> Option<usize>
+        requires table { IsTable self.old }
+        requires demand { demand < demands_in self.old }
+        ensures table { IsTable self.new }
+        ensures domains { domains_of self.new ≡ domains_of self.old }
+        ensures result { result ≡ place_of self.old demand }
+        ensures none { place_of self.new demand ≡ None }
+        ensures others { (other : ℕ) → other ≢ demand → place_of self.new other ≡ place_of self.old other }
+        ensures free { (supply : ℕ) → owner_of self.old supply ≡ None → owner_of self.new supply ≡ None }
+        ensures freed { IfSome result (λ supply. (supply < supplies_in self.new) × (owner_of self.new supply ≡ None)) }
+    {
+        let supply = self.places[demand]?;
+        self.places[demand] = None;
+        self.owners[supply] = None;
+        Some(supply)
+    }
+
+    /// Gives a free supply to a demand that has none.
+    fn give(&mut self, demand: usize, supply: usize)
+        requires table { IsTable self.old }
+        requires demand { demand < demands_in self.old }
+        requires supply { supply < supplies_in self.old }
+        requires none { place_of self.old demand ≡ None }
+        requires free { owner_of self.old supply ≡ None }
+        requires allowed { may_take (domains_of self.old) demand supply ≡ true }
+        ensures table { IsTable self.new }
+        ensures domains { domains_of self.new ≡ domains_of self.old }
+        ensures given { place_of self.new demand ≡ Some supply }
+        ensures others { (other : ℕ) → other ≢ demand → place_of self.new other ≡ place_of self.old other }
+        ensures owners { (other : ℕ) → other ≢ supply → owner_of self.new other ≡ owner_of self.old other }
+    {
+        self.places[demand] = Some(supply);
+        self.owners[supply] = Some(demand);
+    }
+
+    /// Gives a free supply to the demand at a place of the order, its supply to the demand from
+    /// which it was met, and so on to a demand that had none. The result is this one.
+    fn shift(&mut self, order: &Order, mut place: usize, mut supply: usize) -> usize
+        requires table { IsTable self.old }
+        requires search { IsSearch self.old order.now.demands.items order.now.spots.items order.now.met_from.items (place + 1) }
+        requires supply { supply < supplies_in self.old }
+        requires free { owner_of self.old supply ≡ None }
+        requires allowed { may_take (domains_of self.old) (slice_index order.now.demands.items place) supply ≡ true }
+        ensures table { IsTable self.new }
+        ensures domains { domains_of self.new ≡ domains_of self.old }
+        ensures one { PlacesOne self.old self.new result }
+    {
+        loop {
+            let demand = order.demands[place];
+            let old = self.release(demand);
+            self.give(demand, supply);
+            let Some(freed) = old else {
+                return demand;
+            };
+            supply = freed;
+            place = order.met_from[demand];
+        }
+    }
+
+    /// Gives one of the demands that are left out a supply, if one that stands at `head` or later
+    /// among them can have one. The result is how many are left out then.
+    pub(crate) fn improve(&mut self, order: &mut Order, head: usize, left: usize) -> usize
+        requires table { IsTable self.old }
+        requires listing { IsListing self.old order.old left }
+        requires head { head ≤ left }
+        ensures table { IsTable self.new }
+        ensures domains { domains_of self.new ≡ domains_of self.old }
+        ensures listing { IsListing self.new order.new result }
+        ensures improves { Improves self.new order.old head left result }
+    {
+        match self.search(order, head, left) {
+            Found::Closed(_) => left,
+            Found::Open(place, supply) => {
+                let demand = self.shift(order, place, supply);
+                let last = left - 1;
+                order.put(demand, last);
+                last
+            }
+        }
     }
 }
