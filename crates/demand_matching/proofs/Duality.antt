@@ -31,7 +31,7 @@ HasLeftOut n present place set = (d : ℕ) → d < n → present d ≡ true → 
 abbrev pub IsThere : (ℕ → Bool) → (ℕ → ℕ → Bool) → Type 0
 IsThere present may = (d s : ℕ) → may d s ≡ true → present d ≡ true
 
-some_not_none : (o : Option ℕ) (s : ℕ) → o ≡ Some s → is_none o ≡ false
+pub some_not_none : (o : Option ℕ) (s : ℕ) → o ≡ Some s → is_none o ≡ false
 some_not_none o s e = rw e refl
 
 pub none_is : (o : Option ℕ) → is_none o ≡ true → o ≡ None

@@ -6,3 +6,4 @@ pub mod OrderLemmas
 pub mod Picks
 pub mod Searches
 pub mod Supplies
+pub mod Shifts

@@ -6,12 +6,12 @@ use Rattle.demand_matching.specs.declared.table.Reach.{Reach}
 use Rattle.demand_matching.specs.declared.table.Reach.TheVariants.{Free, Met}
 use Rattle.demand_matching.specs.declared.order.Order.{Order}
 use Rattle.demand_matching.specs.declared.domains.Domain.{Domain}
-use Rattle.demand_matching.specs.Domains.{domain_of, IsInRange}
+use Rattle.demand_matching.specs.Domains.{domain_of, is_present, IsInRange}
 use Rattle.demand_matching.specs.Members.{picked}
 use Rattle.demand_matching.specs.Order.{IsOrder, ChangesPlaces}
 use Rattle.demand_matching.specs.Table.{domains_of, may_take, place_of, owner_of, demands_in, supplies_in, IsTable, supply_at}
 use Rattle.demand_matching.specs.Search.{IsMet, IsSearch, KeepsFirst, IsReached, GoesOn, IsOpen, IsClosed}
-use Rattle.demand_matching.proofs.Supplies.{supply_allowed, supply_found}
+use Rattle.demand_matching.proofs.Supplies.{supply_allowed, supply_found, may_present}
 use Rattle.demand_matching.proofs.Counting.{cases_eqb, cases_last}
 
 -- who has a supply, as the table's list has it
@@ -45,6 +45,10 @@ meets_more t order spots met_from order' spots' d place len supply is_table is o
       order = order_is;
       met_length = length-set met_from d place ∙ is.met_length;
       len_fits = omega arith;
+      there = λ k h. elim (cases_last k len (omega arith)) [
+        inl x ↦ ap (λ v. is_present (domains_of t) v) (ap (λ v. get_or order' v 0) x ∙ at_len) ∙ may_present (domains_of t) d supply (is_table.matching.allowed d supply placed)
+        | inr less ↦ ap (λ v. is_present (domains_of t) v) (keeps.demand k less) ∙ is.there k less
+      ];
       met = λ k s h e. elim (cases_last k len (omega arith)) [
         inl x ↦
           let here : get_or order' k 0 ≡ d = ap (λ v. get_or order' v 0) x ∙ at_len in
@@ -94,6 +98,7 @@ search_shorter t a b c len less l is = record {
   order = is.order;
   met_length = is.met_length;
   len_fits = omega (arith, is.len_fits);
+  there = λ k h. is.there k (omega arith);
   met = λ k s h e. is.met k s (omega arith) e
 }
 

@@ -1,9 +1,10 @@
 -- The supplies of a domain, by the places of its resource and its time.
-use Rattle.std.proofs.Common.{ℕ, ◌+◌, ◌-◌, ◌*◌, ◌/◌, ◌%◌, ◌<◌, ◌≤◌, ◌≡◌, Bool, true, false, ◌&&◌, Option, Some, length, get_or, refl, sym, ap, ◌∙◌, arith, leb}
-use Rattle.std.proofs.lemmas.Bool.{and_parts, and_from, leb-true, le-leb}
+use Rattle.std.specs.Prelude.{is_some}
+use Rattle.std.proofs.Common.{ℕ, List, None, ◌+◌, ◌-◌, ◌*◌, ◌/◌, ◌%◌, ◌<◌, ◌≤◌, ◌≡◌, Bool, true, false, ◌&&◌, Option, Some, length, get_or, refl, sym, ap, ◌∙◌, arith, leb}
+use Rattle.std.proofs.lemmas.Bool.{and_parts, and_from, leb-true, le-leb, false≢true}
 use Rattle.std.proofs.lemmas.Nat.{div-mul-add, mod-mul-add, mul-add-lt, div-add-mod'}
 use Rattle.demand_matching.specs.declared.domains.Domain.{Domain}
-use Rattle.demand_matching.specs.Domains.{Domains, admits, domain_of, is_picked, may_have, admits_where_present, IsInRange}
+use Rattle.demand_matching.specs.Domains.{Domains, is_present, admits, domain_of, is_picked, may_have, admits_where_present, IsInRange}
 use Rattle.demand_matching.specs.Members.{picked}
 use Rattle.demand_matching.specs.Table.{may_take, supply_at}
 use Rattle.demand_matching.proofs.Picks.{picked_hit, picked_found}
@@ -53,3 +54,11 @@ supply_found w d demand s it may =
     let shifted : d.shift ≤ t = leb-true d.shift t b.0 in
     let its_time : time_at w d y.0 ≡ t = omega (arith, y.2) in
     (x.0, y.0, x.1, y.1, ap (λ v. v * w.last + time_at w d y.0) x.2 ∙ ap (λ v. r * w.last + v) its_time ∙ div-add-mod' s w.last)
+
+present_where : (times resources : List (List Bool)) (o : Option Domain) (r t : ℕ) → admits_where_present times resources o r t ≡ true → is_some o ≡ true
+present_where times resources None r t h = absurd (false≢true h)
+present_where times resources (Some d) r t h = refl
+
+-- a demand that may have a supply is present
+pub may_present : (w : Domains) (d s : ℕ) → may_take w d s ≡ true → is_present w d ≡ true
+may_present w d s h = present_where w.times w.resources (domain_of w d) (s / w.last) (s % w.last) h

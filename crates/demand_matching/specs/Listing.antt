@@ -29,6 +29,7 @@ pub record IsStuck (t : Table) (o : Order) (head left : ℕ) : Type 0 where
   pub has : (demand : ℕ) → demand < demands_in t → head ≤ slice_index o.spots.items demand → slice_index o.spots.items demand < left → set demand ≡ true
   pub saturated : IsSaturated (demands_in t) (supplies_in t) (may_take (domains_of t)) (owner_of t) set
 
--- one demand fewer is left out, or none of those at these places can have a supply beside the others
-abbrev pub Improves : Table → Order → ℕ → ℕ → ℕ → Type 0
-Improves t o head left left' = (left' + 1 ≡ left) ⊎ ((left' ≡ left) × IsStuck t o head left)
+-- one demand fewer is left out, or the table stays, since none of the demands at these places can
+-- have a supply beside the others
+abbrev pub Improves : Table → Table → Order → ℕ → ℕ → ℕ → Type 0
+Improves t t' o head left left' = (left' + 1 ≡ left) ⊎ ((left' ≡ left) × (t' ≡ t) × IsStuck t o head left)

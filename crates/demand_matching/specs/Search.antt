@@ -6,6 +6,7 @@ use Rattle.demand_matching.specs.declared.table.Reach.TheVariants.{Free, Met}
 use Rattle.demand_matching.specs.declared.table.Found.{Found}
 use Rattle.demand_matching.specs.declared.table.Found.TheVariants.{Open, Closed}
 use Rattle.demand_matching.specs.declared.order.Order.{Order}
+use Rattle.demand_matching.specs.Domains.{is_present}
 use Rattle.demand_matching.specs.Order.{IsOrder}
 use Rattle.demand_matching.specs.Table.{domains_of, may_take, place_of, owner_of, demands_in, supplies_in}
 
@@ -14,11 +15,12 @@ pub record IsMet (t : Table) (demands met_from : List ℕ) (place supply : ℕ) 
   pub before : slice_index met_from (slice_index demands place) < place
   pub allowed : may_take (domains_of t) (slice_index demands (slice_index met_from (slice_index demands place))) supply ≡ true
 
--- each of the first demands of the order that has a supply was met
+-- the first demands of the order are present, and each that has a supply was met
 pub record IsSearch (t : Table) (demands spots met_from : List ℕ) (len : ℕ) : Type 0 where
   pub order : IsOrder (demands_in t) demands spots
   pub met_length : length met_from ≡ demands_in t
   pub len_fits : len ≤ demands_in t
+  pub there : (place : ℕ) → place < len → is_present (domains_of t) (slice_index demands place) ≡ true
   pub met : (place supply : ℕ) → place < len → place_of t (slice_index demands place) ≡ Some supply → IsMet t demands met_from place supply
 
 -- the first demands of the order stay

@@ -1,5 +1,5 @@
 ghost use Rattle.std.specs.Prelude.{◌≡◌, ◌≢◌, ◌+◌, ◌*◌, ◌<◌, ◌≤◌, ℕ, true, length, slice_index, slice_index_or, Option, None, Some, IfSome};
-ghost use Rattle.demand_matching.specs.Domains.{IsInRange, domain_of};
+ghost use Rattle.demand_matching.specs.Domains.{IsInRange, domain_of, with_domain};
 ghost use Rattle.demand_matching.specs.Members.{picked};
 ghost use Rattle.demand_matching.specs.Table.{IsTable, domains_of, may_take, supply_at, place_of, owner_of, demands_in, supplies_in};
 ghost use Rattle.demand_matching.specs.Search.{IsSearch, IsReached, KeepsFirst, GoesOn, WhereMet, Ends};
@@ -207,7 +207,7 @@ impl Table {
         ensures table { IsTable self.new }
         ensures domains { domains_of self.new ≡ domains_of self.old }
         ensures listing { IsListing self.new order.new result }
-        ensures improves { Improves self.new order.old head left result }
+        ensures improves { Improves self.old self.new order.old head left result }
     {
         match self.search(order, head, left) {
             Found::Closed(_) => left,
@@ -218,5 +218,34 @@ impl Table {
                 last
             }
         }
+    }
+
+    /// Takes away the domain of a demand, and its supply, which is the result.
+    pub(crate) fn drop_domain(&mut self, demand: usize) -> Option<usize>
+        requires table { IsTable self.old }
+        requires demand { demand < demands_in self.old }
+        ensures table { IsTable self.new }
+        ensures domains { domains_of self.new ≡ with_domain (domains_of self.old) demand None }
+        ensures result { result ≡ place_of self.old demand }
+        ensures none { place_of self.new demand ≡ None }
+        ensures others { (other : ℕ) → other ≢ demand → place_of self.new other ≡ place_of self.old other }
+    {
+        let supply = self.release(demand);
+        self.demands[demand] = None;
+        supply
+    }
+
+    /// Gives a domain to a demand that has none.
+    pub(crate) fn put_domain(&mut self, demand: usize, domain: Domain)
+        requires table { IsTable self.old }
+        requires demand { demand < demands_in self.old }
+        requires absent { domain_of (domains_of self.old) demand ≡ None }
+        requires domain { IsInRange (domains_of self.old) domain }
+        ensures table { IsTable self.new }
+        ensures domains { domains_of self.new ≡ with_domain (domains_of self.old) demand (Some domain) }
+        ensures places { self.new.places ≡ self.old.places }
+        ensures owners { self.new.owners ≡ self.old.owners }
+    {
+        self.demands[demand] = Some(domain);
     }
 }

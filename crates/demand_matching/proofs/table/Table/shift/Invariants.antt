@@ -3,8 +3,8 @@ use Rattle.std.specs.Prelude.{is_none}
 use Rattle.demand_matching.specs.Table.{domains_of, may_take, place_of, owner_of, supplies_in, IsTable}
 use Rattle.demand_matching.proofs.table.Table.shift.Given as goal
 
-abbrev pub invariant-loop-1 : goal.invariant-loop-1
-invariant-loop-1 l = record {
+abbrev pub invariant-loop-freed : goal.invariant-loop-freed
+invariant-loop-freed l = record {
   near : l.place ≤ l.fn.place;
   table : IsTable l.self;
   domains : domains_of l.self ≡ domains_of l.fn.self;
@@ -15,5 +15,5 @@ invariant-loop-1 l = record {
   others : (demand : ℕ) → is_none (place_of l.self demand) ≡ is_none (place_of l.fn.self demand)
 }
 
-abbrev pub decreases-loop-1 : goal.decreases-loop-1
-decreases-loop-1 l = l.place
+abbrev pub decreases-loop-freed : goal.decreases-loop-freed
+decreases-loop-freed l = l.place
