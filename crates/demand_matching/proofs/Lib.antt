@@ -1,3 +1,4 @@
+pub mod Changes
 pub mod Counting
 pub mod Duality
 pub mod Listings
@@ -7,3 +8,4 @@ pub mod Picks
 pub mod Searches
 pub mod Supplies
 pub mod Shifts
+pub mod Maxima

@@ -1,5 +1,5 @@
 -- The supplies that a demand may have: a supply is a resource at a time.
-use Rattle.std.specs.Prelude.{ℕ, ◌-◌, ◌*◌, ◌<◌, ◌≤◌, ◌==◌, nat_le, length, Bool, false, ◌&&◌, List, [], Option, Some, None, is_some, slice_index_or, slice_set, IsTrue, All}
+use Rattle.std.specs.Prelude.{ℕ, ◌-◌, ◌<◌, ◌==◌, nat_le, length, Bool, false, ◌&&◌, List, [], Option, Some, None, is_some, slice_index_or, slice_set, IsTrue, replicate}
 use Rattle.demand_matching.specs.declared.domains.Pick.{Pick}
 use Rattle.demand_matching.specs.declared.domains.Pick.TheVariants.{One, «Set»}
 use Rattle.demand_matching.specs.declared.domains.Domain.{Domain}
@@ -55,3 +55,7 @@ pub record IsInRange (w : Domains) (d : Domain) : Type 0 where
 -- the same domains, but for that of one demand
 abbrev pub with_domain : Domains → ℕ → Option Domain → Domains
 with_domain w demand domain = record w { demands = slice_set w.demands demand domain }
+
+-- so many demands without a domain
+abbrev pub no_domains : List (List Bool) → List (List Bool) → ℕ → ℕ → ℕ → Domains
+no_domains times resources last width demands = record { times = times; resources = resources; last = last; width = width; demands = replicate demands None }

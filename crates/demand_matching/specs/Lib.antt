@@ -2,6 +2,7 @@ pub mod Counts
 pub mod Domains
 pub mod Excess
 pub mod Listing
+pub mod Matched
 pub mod Members
 pub mod Order
 pub mod Places

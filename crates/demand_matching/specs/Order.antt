@@ -16,3 +16,8 @@ pub record ChangesPlaces (order spots order' spots' : List ℕ) (d place : ℕ) 
   pub swapped : slice_index order place ≢ d → slice_index spots' (slice_index order place) ≡ slice_index spots d
   pub other_spots : (e : ℕ) → e ≢ d → e ≢ slice_index order place → slice_index spots' e ≡ slice_index spots e
   pub other_places : (k : ℕ) → k ≢ place → k ≢ slice_index spots d → slice_index order' k ≡ slice_index order k
+
+-- the list has the numbers below n, in order
+pub record IsCountedUp (n : ℕ) (numbers : List ℕ) : Type 0 where
+  pub count : length numbers ≡ n
+  pub number : (k : ℕ) → k < n → slice_index numbers k ≡ k

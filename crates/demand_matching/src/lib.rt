@@ -3,8 +3,10 @@
 #![tactic(auto)]
 
 mod domains;
+mod matching;
 mod order;
 mod sets;
 mod table;
 
 pub use domains::{Domain, Pick};
+pub use matching::Matching;

@@ -1,5 +1,8 @@
-ghost use Rattle.std.specs.Prelude.{◌≡◌, ◌<◌, length};
-ghost use Rattle.demand_matching.specs.Order.{IsOrder, ChangesPlaces};
+ghost use Rattle.std.specs.Prelude.{◌≡◌, ◌<◌, length, IfOk};
+ghost use Rattle.demand_matching.specs.Order.{IsOrder, ChangesPlaces, IsCountedUp};
+
+use khe_base::NoMemory;
+use std::alloc::Global;
 
 /// The demands in an order, each once, and at which place each stands. For a demand that a search
 /// met it also has the place of the demand from which it was met.
@@ -11,6 +14,18 @@ pub(crate) struct Order {
 }
 
 impl Order {
+    /// The demands below the count, in order.
+    pub(crate) fn new(alloc: Global, count: usize) -> Result<Order, NoMemory>
+        ensures order { IfOk result (λ o. IsOrder count o.demands.items o.spots.items) }
+        ensures met_from { IfOk result (λ o. length o.met_from.items ≡ count) }
+    {
+        Ok(Order {
+            demands: numbers(alloc, count)?,
+            spots: numbers(alloc, count)?,
+            met_from: vec![in alloc; 0; count]?,
+        })
+    }
+
     /// Puts a demand at a place, and the one that stood there where the demand stood.
     pub(crate) fn put(&mut self, demand: usize, place: usize)
         requires order { IsOrder (length self.old.demands.items) self.old.demands.items self.old.spots.items }
@@ -27,4 +42,15 @@ impl Order {
         self.spots[other] = from;
         self.spots[demand] = place;
     }
+}
+
+/// The numbers below the count, in order.
+fn numbers(alloc: Global, count: usize) -> Result<Vec<usize>, NoMemory>
+    ensures { IfOk result (λ v. IsCountedUp count v.items) }
+{
+    let mut numbers = Vec::new(alloc);
+    for n in 0..count {
+        numbers.push(n)?;
+    }
+    Ok(numbers)
 }
