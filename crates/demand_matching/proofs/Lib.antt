@@ -9,3 +9,6 @@ pub mod Searches
 pub mod Supplies
 pub mod Shifts
 pub mod Maxima
+pub mod Keeps
+pub mod Firsts
+pub mod Hall

@@ -1,5 +1,5 @@
 -- The demands in an order, and at which place of it each stands.
-use Rattle.std.specs.Prelude.{ℕ, ◌<◌, ◌≡◌, ◌≢◌, List, length, slice_index}
+use Rattle.std.specs.Prelude.{ℕ, ◌<◌, ◌≡◌, ◌≢◌, List, length, slice_index, Bool, ◌&&◌, nat_lt}
 
 -- the order has each number below n once, and the spots say at which place each stands
 pub record IsOrder (n : ℕ) (order spots : List ℕ) : Type 0 where
@@ -21,3 +21,7 @@ pub record ChangesPlaces (order spots order' spots' : List ℕ) (d place : ℕ) 
 pub record IsCountedUp (n : ℕ) (numbers : List ℕ) : Type 0 where
   pub count : length numbers ≡ n
   pub number : (k : ℕ) → k < n → slice_index numbers k ≡ k
+
+-- whether the number is below n and stands among the first of the order, so many
+abbrev pub is_first : List ℕ → ℕ → ℕ → ℕ → Bool
+is_first spots count n d = nat_lt d n && nat_lt (slice_index spots d) count

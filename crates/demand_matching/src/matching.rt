@@ -1,4 +1,6 @@
-ghost use Rattle.std.specs.Prelude.{◌≡◌, ◌<◌, ◌==◌, ℕ, length, IfOk, None, Some, Option, ForSome, replicate, IsStrictlyIncreasing};
+ghost use Rattle.std.specs.Prelude.{◌≡◌, ◌<◌, ◌==◌, ℕ, length, IfOk, None, Some, Option};
+ghost use Rattle.std.specs.List.Sorted.{IsStrictlyIncreasing};
+ghost use Rattle.std.specs.Option.{ForSome};
 ghost use Rattle.std.specs.List.{list_any};
 ghost use Rattle.demand_matching.specs.Domains.{Domains, IsInRange, domain_of, with_domain, no_domains};
 ghost use Rattle.demand_matching.specs.Excess.{IsDeficit, IsHallSet, IsAssignment};
@@ -89,6 +91,22 @@ impl Matching {
         ensures served { (supply : ℕ → Option (ℕ × ℕ)) × IsAssignment self.now supply result }
     {
         self.left as u32
+    }
+
+    /// The least set of present demands whose excess is the deficit, ascending: it is contained in
+    /// each set that has this excess. Where the deficit is 0 it is empty.
+    ///
+    /// It takes time and memory in proportion to the demands, and the time of one search from
+    /// those that are left out.
+    pub fn hall_set(&self, alloc: Global) -> Result<Seq<u32>, NoMemory>
+        ensures ascending { IfOk result (λ hall. IsStrictlyIncreasing hall) }
+        ensures least { IfOk result (λ hall. IsHallSet self.now (λ demand. list_any (λ member. member == demand) hall)) }
+    {
+        let mut order = self.order.copy(alloc)?;
+        match self.table.search(&mut order, 0, self.left) {
+            Found::Closed(met) => order.first(alloc, met),
+            Found::Open(..) => unreachable!(),
+        }
     }
 
     fn remove(&mut self, demand: usize)

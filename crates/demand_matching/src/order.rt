@@ -1,7 +1,9 @@
-ghost use Rattle.std.specs.Prelude.{◌≡◌, ◌<◌, length, IfOk};
-ghost use Rattle.demand_matching.specs.Order.{IsOrder, ChangesPlaces, IsCountedUp};
+ghost use Rattle.std.specs.Prelude.{◌≡◌, ◌==◌, ◌<◌, ◌^◌, ℕ, length, IfOk};
+ghost use Rattle.demand_matching.specs.Order.{IsOrder, ChangesPlaces, IsCountedUp, is_first};
+ghost use Rattle.std.specs.List.{list_any};
+ghost use Rattle.std.specs.List.Sorted.{IsStrictlyIncreasing};
 
-use khe_base::NoMemory;
+use khe_base::{NoMemory, Seq};
 use std::alloc::Global;
 
 /// The demands in an order, each once, and at which place each stands. For a demand that a search
@@ -24,6 +26,34 @@ impl Order {
             spots: numbers(alloc, count)?,
             met_from: vec![in alloc; 0; count]?,
         })
+    }
+
+    /// A copy.
+    pub(crate) fn copy(&self, alloc: Global) -> Result<Order, NoMemory>
+        ensures demands { IfOk result (λ o. o.demands.items ≡ self.now.demands.items) }
+        ensures spots { IfOk result (λ o. o.spots.items ≡ self.now.spots.items) }
+        ensures met_from { IfOk result (λ o. o.met_from.items ≡ self.now.met_from.items) }
+    {
+        Ok(Order {
+            demands: Vec::from_slice(alloc, self.demands.as_slice())?,
+            spots: Vec::from_slice(alloc, self.spots.as_slice())?,
+            met_from: Vec::from_slice(alloc, self.met_from.as_slice())?,
+        })
+    }
+
+    /// The first demands of the order, so many, ascending.
+    pub(crate) fn first(&self, alloc: Global, count: usize) -> Result<Seq<u32>, NoMemory>
+        requires { length self.now.spots.items < 2 ^ 32 }
+        ensures ascending { IfOk result (λ first. IsStrictlyIncreasing first) }
+        ensures members { IfOk result (λ first. (demand : ℕ) → list_any (λ m. m == demand) first ≡ is_first self.now.spots.items count (length self.now.spots.items) demand) }
+    {
+        let mut first = Seq::new(alloc);
+        for demand in 0..self.spots.len() {
+            if self.spots[demand] < count {
+                first.push(demand as u32)?;
+            }
+        }
+        Ok(first)
     }
 
     /// Puts a demand at a place, and the one that stood there where the demand stood.
