@@ -1,6 +1,6 @@
 -- What a search from all that are left out meets is the least set of the greatest excess.
-use Rattle.std.proofs.Common.{ℕ, zero, suc, ◌+◌, ◌<◌, ◌≤◌, ◌≡◌, Bool, true, false, ◌&&◌, List, Option, Some, None, length, get_or, refl, sym, ap, ◌∙◌, arith, inl, inr, ltb}
-use Rattle.std.specs.Prelude.{is_none}
+use Rattle.std.proofs.Common.{ℕ, zero, suc, ◌+◌, ◌<◌, ◌≤◌, ◌≡◌, Bool, true, false, ◌&&◌, List, Option, Some, None, length, get_or, refl, sym, ap, ◌∙◌, subst, arith, ltb, Result, Ok, Err}
+use Rattle.std.specs.Prelude.{IfOk}
 use Rattle.std.proofs.Math.Logic.{∥∥₁_elim}
 use Rattle.std.proofs.lemmas.Bool.{and_parts, and_from, ltb-true, lt-ltb}
 use Rattle.demand_matching.specs.declared.table.Table.{Table}
@@ -12,7 +12,7 @@ use Rattle.demand_matching.specs.Places.{IsSaturated}
 use Rattle.demand_matching.specs.Search.{IsSearch, IsOpen, IsClosed}
 use Rattle.demand_matching.specs.Table.{domains_of, may_take, place_of, owner_of, demands_in, supplies_in, IsTable}
 use Rattle.demand_matching.proofs.Duality.{HasLeftOut}
-use Rattle.demand_matching.specs.Order.{is_first}
+use Rattle.demand_matching.specs.Order.{IsOrder, is_first}
 use Rattle.demand_matching.proofs.Maxima.{bounded, saturated_exceeds, exceeds_left, exceeds_saturated}
 
 same_some : (a b : ℕ) → (o : Option ℕ) → o ≡ Some a → o ≡ Some b → a ≡ b
@@ -73,3 +73,27 @@ hall_is t o o' left met set max ends is =
         ap other (sym at) ∙ all_in t o'.demands.items o'.spots.items o'.met_from.items met other max.table ends.search
           (exceeds_left t o left max.table max.listing other enough) (exceeds_saturated t o left max.table max.listing other enough) (spots d + 1) (spots d) (omega arith) (out d h).1
     }
+
+-- a copy of the order serves as well
+pub max_copy : (t : Table) (o p : Order) (left : ℕ) → p.demands.items ≡ o.demands.items → p.spots.items ≡ o.spots.items → p.met_from.items ≡ o.met_from.items → IsMaximum t o left → IsMaximum t p left
+max_copy t o p left ds ss ms max =
+    let P : List ℕ → Type 0 = λ xs. IsOrder (demands_in t) xs o.spots.items in
+    let Q : List ℕ → Type 0 = λ xs. IsOrder (demands_in t) p.demands.items xs in
+    let spot : (d : ℕ) → get_or p.spots.items d 0 ≡ get_or o.spots.items d 0 = λ d. ap (λ xs. get_or xs d 0) ss in
+    let l = max.listing in
+    record {
+      table = max.table;
+      exceeds = max.exceeds;
+      listing = record {
+        order = subst Q (sym ss) (subst P (sym ds) max.listing.order);
+        met_length = ap length ms ∙ max.listing.met_length;
+        fits = max.listing.fits;
+        present = λ d k h. max.listing.present d k (omega (arith, spot d));
+        left_out = λ d k h. max.listing.left_out d k (omega (arith, spot d));
+        listed = λ d k q n. omega (arith, spot d, max.listing.listed d k q n)
+      }
+    }
+
+pub if_ok_map : {T E : Type 0} (r : Result T E) (P Q : T → Type 0) → ((x : T) → P x → Q x) → IfOk r P → IfOk r Q
+if_ok_map (Ok x) P Q f h = f x h
+if_ok_map (Err e) P Q f h = h

@@ -2,7 +2,7 @@
 use Rattle.std.proofs.Common.{ℕ, suc, ◌+◌, ◌-◌, ◌*◌, ◌/◌, ◌%◌, ◌^◌, ◌<◌, ◌≤◌, ◌≡◌, ◌≢◌, Bool, true, false, ◌&&◌, List, Option, Some, None, length, get_or, set, refl, sym, ap, ◌∙◌, subst, arith, inl, inr, ◌⊎◌, length-set, get_or-set_same, get_or-set_other, replicate}
 use Rattle.std.specs.Prelude.{is_none, is_some}
 use Rattle.std.proofs.Math.Logic.{∥∥₁_map}
-use Rattle.std.proofs.lemmas.Bool.{false≢true, true≢false, cases_lt}
+use Rattle.std.proofs.lemmas.Bool.{false≢true, cases_lt}
 use Rattle.std.proofs.lemmas.List.{get_or_past, get_or_read, set-set, length-replicate, get_or-replicate}
 use Rattle.std.proofs.lemmas.Nat.{div-add-mod'}
 use Rattle.demand_matching.specs.declared.domains.Domain.{Domain}
@@ -128,13 +128,13 @@ remove_left t t' o o' d left max l here none is' same others order met moves =
       exceeds = ∥∥₁_map max.exceeds (λ it. exceeds_along (with_domain (domains_of t) d None) (domains_of t') (left - 1) (left - 1) same refl (exceeds_less (domains_of t) d left (left - 1) None (omega arith) it))
     }
 
-some_then : (x : Option Domain) → is_none x ≡ false → is_some x ≡ true
-some_then None h = absurd (true≢false h)
-some_then (Some x) h = refl
+pub present_read : (t : Table) (d : ℕ) (x : Option Domain) → d < demands_in t → x ≡ get_or t.demands.items d x → is_some x ≡ true → is_present (domains_of t) d ≡ true
+present_read t d x l read some = ap is_some (sym (get_or_read t.demands.items d x l read None)) ∙ some
 
-pub present_read : (t : Table) (d : ℕ) (x : Option Domain) → d < demands_in t → x ≡ get_or t.demands.items d x → is_none x ≡ false → is_present (domains_of t) d ≡ true
-present_read t d x l read some =
-    ap is_some (sym (get_or_read t.demands.items d x l read None)) ∙ some_then x some
+-- a copy of nothing is nothing
+pub none_clone : {X : Type 0} (P : Option X → Type 0) → ((x : X) → P (Some x) → ⊥) → (y : Option X) → P y → y ≡ None
+none_clone P no None h = refl
+none_clone P no (Some x) h = absurd (no x h)
 
 pub domain_twice : (w w' w'' : Domains) (d : ℕ) (x : Domain) (o : Option Domain) → w' ≡ with_domain w d None → w'' ≡ with_domain w' d (Some x) → o ≡ Some x → w'' ≡ with_domain w d o
 domain_twice w w' w'' d x o first second it =

@@ -1,5 +1,5 @@
-use Rattle.std.proofs.Common.{◌<◌, ◌≡◌, false, None, sym, ap, ◌∙◌, length, arith}
-use Rattle.std.specs.Prelude.{is_none}
+use Rattle.std.proofs.Common.{◌<◌, ◌≡◌, true, not, sym, ap, ◌∙◌}
+use Rattle.std.specs.Prelude.{is_some}
 use Rattle.demand_matching.specs.Table.{domains_of, demands_in}
 use Rattle.demand_matching.proofs.Keeps.{remove_placed, remove_left, present_read}
 use Rattle.demand_matching.proofs.matching.Matching.remove.Goals as goal
@@ -12,5 +12,5 @@ invariant_of-self c =
 pub invariant_of-self-in-None : goal.invariant_of-self-in-None
 invariant_of-self-in-None c =
     let near : c.args.demand < demands_in c.self.inside.table = rw (← c.self.view_is) at c.requires in
-    let some : is_none c.index.result.now ≡ false = sym c.is_none.ensures ∙ c.if-is_none.false in
+    let some : is_some c.index.result.now ≡ true = c.is_none.ensures ∙ ap not c.if-is_none.false in
     remove_left c.self.inside.table c.drop_domain.new.self c.self.inside.order c.put.new.self c.args.demand c.self.inside.left c.self.invariant near (present_read c.self.inside.table c.args.demand c.index.result.now near c.index.ensures some) (sym c.in-None.ensures.result) c.in-None.ensures.table c.in-None.ensures.domains c.in-None.ensures.others c.put.ensures.order c.put.ensures.met_from c.put.ensures.change
