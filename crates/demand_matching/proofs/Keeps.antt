@@ -133,8 +133,8 @@ present_read t d x l read some = ap is_some (sym (get_or_read t.demands.items d 
 
 -- a copy of nothing is nothing
 pub none_clone : {X : Type 0} (P : Option X → Type 0) → ((x : X) → P (Some x) → ⊥) → (y : Option X) → P y → y ≡ None
-none_clone P no None h = refl
-none_clone P no (Some x) h = absurd (no x h)
+none_clone P never None h = refl
+none_clone P never (Some x) h = absurd (never x h)
 
 pub domain_twice : (w w' w'' : Domains) (d : ℕ) (x : Domain) (o : Option Domain) → w' ≡ with_domain w d None → w'' ≡ with_domain w' d (Some x) → o ≡ Some x → w'' ≡ with_domain w d o
 domain_twice w w' w'' d x o first second it =
