@@ -17,7 +17,7 @@ some_same a b o p q = cc
 -- a demand without a domain has no supply
 pub absent_none : (t : Table) (d : ℕ) → IsTable t → domain_of (domains_of t) d ≡ None → place_of t d ≡ None
 absent_none t d is gone = elim (place_of t d) as (λ o. place_of t d ≡ o → place_of t d ≡ None) [
-  None ↦ λ e. e
+  | None ↦ λ e. e
   | Some s ↦ λ e. absurd (false≢true (sym (ap is_some gone) ∙ may_present (domains_of t) d s (is.matching.allowed d s e)))
 ] refl
 
@@ -32,16 +32,16 @@ put_table t v d domain is l gone ok its =
       places_length = is.places_length ∙ sym len;
       owners_length = is.owners_length;
       in_range = λ e x h. elim (cases_eqb e d) [
-        inl z ↦
-          let same : domain ≡ x = some_same domain x (get_or v.items d None) here (ap (λ k. get_or v.items k None) (sym z) ∙ h) in
-          let r : IsInRange (domains_of t) x = rw (← same) ok in
-          record { times = r.times; resources = r.resources; resource = r.resource; time = r.time }
+        | inl z ↦
+            let same : domain ≡ x = some_same domain x (get_or v.items d None) here (ap (λ k. get_or v.items k None) (sym z) ∙ h) in
+            let r : IsInRange (domains_of t) x = rw (← same) ok in
+            record { times = r.times; resources = r.resources; resource = r.resource; time = r.time }
         | inr z ↦
-          let r : IsInRange (domains_of t) x = is.in_range e x (sym (other e z) ∙ h) in
-          record { times = r.times; resources = r.resources; resource = r.resource; time = r.time }
+            let r : IsInRange (domains_of t) x = is.in_range e x (sym (other e z) ∙ h) in
+            record { times = r.times; resources = r.resources; resource = r.resource; time = r.time }
       ];
       matching =
-        rw len (released (demands_in t) (supplies_in t) (may_take (domains_of t)) (may_take (domains_of (record t { demands = v }))) (place_of t) (owner_of t) (place_of t) (owner_of t) d is.matching
+          rw len (released (demands_in t) (supplies_in t) (may_take (domains_of t)) (may_take (domains_of (record t { demands = v }))) (place_of t) (owner_of t) (place_of t) (owner_of t) d is.matching
           (λ e u ne. ap (λ o. admits_where_present t.times t.resources o (u / t.last) (u % t.last)) (other e ne))
-          none (λ e ne. refl) (λ u h. absurd cc) (λ u h. refl))
+          none (λ e ne. refl) (λ u h. absurd cc) (λ u h. refl));
     }

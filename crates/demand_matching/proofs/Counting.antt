@@ -38,7 +38,7 @@ count_subset zero p q h = omega (arith, count-zero p)
 count_subset (suc n) p q h =
     let rest : count_below n p ≤ count_below n q = count_subset n p q (λ k l. h k (omega arith)) in
     elim (count_cases n p) [
-      inl t ↦ omega (arith, t.1, rest, count-true n q (h n (omega arith) t.0))
+      | inl t ↦ omega (arith, t.1, rest, count-true n q (h n (omega arith) t.0))
       | inr f ↦ elim (count_cases n q) [ inl s ↦ omega (arith, f.1, s.1, rest) | inr s ↦ omega (arith, f.1, s.1, rest) ]
     ]
 
@@ -49,16 +49,16 @@ count_full (suc n) p q h c k l e =
     let below : (k : ℕ) → k < n → p k ≡ true → q k ≡ true = λ k l. h k (omega arith) in
     let rest : count_below n p ≤ count_below n q = count_subset n p q below in
     elim (count_cases n p) [
-      inl t ↦
-        let s : count_below (suc n) q ≡ suc (count_below n q) = count-true n q (h n (omega arith) t.0) in
-        elim (cases_last k n l) [
-          inl at ↦ rw at t.0
-          | inr less ↦ count_full n p q below (omega (arith, t.1)) k less e
-        ]
+      | inl t ↦
+          let s : count_below (suc n) q ≡ suc (count_below n q) = count-true n q (h n (omega arith) t.0) in
+          elim (cases_last k n l) [
+            | inl at ↦ rw at t.0
+            | inr less ↦ count_full n p q below (omega (arith, t.1)) k less e
+          ]
       | inr f ↦ elim (count_cases n q) [
-        inl s ↦ absurd (omega (arith, f.1, s.1, rest))
+        | inl s ↦ absurd (omega (arith, f.1, s.1, rest))
         | inr s ↦ elim (cases_last k n l) [
-          inl at ↦ absurd (false≢true (sym s.0 ∙ rw at at e))
+          | inl at ↦ absurd (false≢true (sym s.0 ∙ rw at at e))
           | inr less ↦ count_full n p q below (omega (arith, f.1, s.1)) k less e
         ]
       ]
@@ -77,8 +77,8 @@ count_split (suc n) p q =
     let yes : ℕ → Bool = λ k. p k && q k in
     let no : ℕ → Bool = λ k. p k && not (q k) in
     elim (count_cases n p) [
-      inl t ↦ elim (cases_Bool (q n)) [
-        inl s ↦ omega (arith, t.1, count_split n p q, count-true n yes (rw (t.0, s) refl), count-false n no (rw (t.0, s) refl))
+      | inl t ↦ elim (cases_Bool (q n)) [
+        | inl s ↦ omega (arith, t.1, count_split n p q, count-true n yes (rw (t.0, s) refl), count-false n no (rw (t.0, s) refl))
         | inr s ↦ omega (arith, t.1, count_split n p q, count-false n yes (rw (t.0, s) refl), count-true n no (rw (t.0, s) refl))
       ]
       | inr f ↦ omega (arith, f.1, count_split n p q, count-false n yes (rw f.0 refl), count-false n no (rw f.0 refl))
@@ -90,16 +90,16 @@ count_without zero p j l e = absurd (omega arith)
 count_without (suc n) p j l e =
     let rest : ℕ → Bool = λ k. p k && not (eqb k j) in
     elim (cases_last j n l) [
-      inl at ↦
-        let top : rest n ≡ false = rw (← at, e, eq-eqb j j refl) refl in
-        let low : count_below n p ≡ count_below n rest = count_same n p rest (λ k m. rw (ne_eqb k j (λ x. absurd (omega arith))) (and_true (p k))) in
-        omega (arith, count-true n p (rw (← at) e), count-false n rest top, low)
+      | inl at ↦
+          let top : rest n ≡ false = rw (← at, e, eq-eqb j j refl) refl in
+          let low : count_below n p ≡ count_below n rest = count_same n p rest (λ k m. rw (ne_eqb k j (λ x. absurd (omega arith))) (and_true (p k))) in
+          omega (arith, count-true n p (rw (← at) e), count-false n rest top, low)
       | inr less ↦
-        let same : rest n ≡ p n = rw (ne_eqb n j (λ x. absurd (omega arith))) (sym (and_true (p n))) in
-        elim (count_cases n p) [
-          inl t ↦ omega (arith, t.1, count_without n p j less e, count-true n rest (same ∙ t.0))
-          | inr f ↦ omega (arith, f.1, count_without n p j less e, count-false n rest (same ∙ f.0))
-        ]
+          let same : rest n ≡ p n = rw (ne_eqb n j (λ x. absurd (omega arith))) (sym (and_true (p n))) in
+          elim (count_cases n p) [
+            | inl t ↦ omega (arith, t.1, count_without n p j less e, count-true n rest (same ∙ t.0))
+            | inr f ↦ omega (arith, f.1, count_without n p j less e, count-false n rest (same ∙ f.0))
+          ]
     ]
 
 -- a relation that gives each number a partner, and no two the same, leads to no fewer partners
@@ -107,12 +107,12 @@ pub count_partners : (n m : ℕ) (p q : ℕ → Bool) (R : ℕ → ℕ → Type 
 count_partners zero m p q R h apart = omega (arith, count-zero p)
 count_partners (suc n) m p q R h apart =
     elim (count_cases n p) [
-      inl t ↦
-        let at = h n (omega arith) t.0 in
-        let rest : ℕ → Bool = λ k. q k && not (eqb k at.0) in
-        let low : count_below n p ≤ count_below m rest =
-            count_partners n m p rest R (λ k l e. let it = h k (omega arith) e in (it.0, it.1, and_from (q it.0) (not (eqb it.0 at.0)) it.2 (not_from_false (eqb it.0 at.0) (ne_eqb it.0 at.0 (λ x. absurd (let clash : k ≡ n = apart k n at.0 (rw x at it.3) at.3 in omega arith)))), it.3)) apart in
-        omega (arith, t.1, low, count_without m q at.0 at.1 at.2)
+      | inl t ↦
+          let at = h n (omega arith) t.0 in
+          let rest : ℕ → Bool = λ k. q k && not (eqb k at.0) in
+          let low : count_below n p ≤ count_below m rest =
+          count_partners n m p rest R (λ k l e. let it = h k (omega arith) e in (it.0, it.1, and_from (q it.0) (not (eqb it.0 at.0)) it.2 (not_from_false (eqb it.0 at.0) (ne_eqb it.0 at.0 (λ x. absurd (let clash : k ≡ n = apart k n at.0 (rw x at it.3) at.3 in omega arith)))), it.3)) apart in
+          omega (arith, t.1, low, count_without m q at.0 at.1 at.2)
       | inr f ↦ omega (arith, f.1, count_partners n m p q R (λ k l. h k (omega arith)) apart)
     ]
 
@@ -122,7 +122,7 @@ unfolding any_below
 any_at zero p h = absurd (false≢true h)
 any_at (suc n) p h =
     elim (or_cases (p n) (any_below n p) h) [
-      inl t ↦ (n, omega arith, t)
+      | inl t ↦ (n, omega arith, t)
       | inr r ↦ let it = any_at n p r in (it.0, omega arith, it.2)
     ]
 
@@ -131,6 +131,6 @@ unfolding any_below
 any_from zero p k l h = absurd (omega arith)
 any_from (suc n) p k l h =
     elim (cases_last k n l) [
-      inl at ↦ or_left (p n) (any_below n p) (rw (← at) h)
+      | inl at ↦ or_left (p n) (any_below n p) (rw (← at) h)
       | inr less ↦ or_right (p n) (any_below n p) (any_from n p k less h)
     ]

@@ -25,53 +25,53 @@ all_in t demands spots met_from len set is search has full (suc b) k l h =
     let d : ℕ = get_or demands k 0 in
     let below : d < demands_in t = search.order.order_below k (omega (arith, search.len_fits)) in
     elim (place_of t d) as (λ o. place_of t d ≡ o → set d ≡ true) [
-      None ↦ λ e. has d below (search.there k h) e
+      | None ↦ λ e. has d below (search.there k h) e
       | Some s ↦ λ e.
-        let met = search.met k s h e in
-        let from : ℕ = get_or met_from d 0 in
-        let earlier : set (get_or demands from 0) ≡ true = all_in t demands spots met_from len set is search has full b from (omega (arith, met.before)) (omega (arith, met.before)) in
-        let r = full (get_or demands from 0) s (search.order.order_below from (omega (arith, met.before, search.len_fits))) earlier (is.matching.supply d s e) met.allowed in
-        ap set (same_some d r.0 (owner_of t s) (is.matching.owned d s e) r.1) ∙ r.2
+          let met = search.met k s h e in
+          let from : ℕ = get_or met_from d 0 in
+          let earlier : set (get_or demands from 0) ≡ true = all_in t demands spots met_from len set is search has full b from (omega (arith, met.before)) (omega (arith, met.before)) in
+          let r = full (get_or demands from 0) s (search.order.order_below from (omega (arith, met.before, search.len_fits))) earlier (is.matching.supply d s e) met.allowed in
+          ap set (same_some d r.0 (owner_of t s) (is.matching.owned d s e) r.1) ∙ r.2
     ] refl
 
 -- no free supply can be found
 pub never_open : (t : Table) (o o' : Order) (left place supply : ℕ) → IsMaximum t o left → IsOpen t o o' left place supply → ⊥
 never_open t o o' left place supply max open_is =
     ∥∥₁_elim max.exceeds (λ x y. absurd x) (λ it.
-      let has = exceeds_left t o left max.table max.listing it.0 it.1 in
-      let full = exceeds_saturated t o left max.table max.listing it.0 it.1 in
-      let near : place < demands_in t = omega (arith, open_is.search.len_fits) in
-      let mine = all_in t o'.demands.items o'.spots.items o'.met_from.items (place + 1) it.0 max.table open_is.search has full (place + 1) place (omega arith) (omega arith) in
-      let r = full (get_or o'.demands.items place 0) supply (open_is.search.order.order_below place near) mine open_is.below open_is.allowed in
-      let e : owner_of t supply ≡ Some r.0 = r.1 in
-      let f : owner_of t supply ≡ None = open_is.free in
-      cc)
+    let has = exceeds_left t o left max.table max.listing it.0 it.1 in
+    let full = exceeds_saturated t o left max.table max.listing it.0 it.1 in
+    let near : place < demands_in t = omega (arith, open_is.search.len_fits) in
+    let mine = all_in t o'.demands.items o'.spots.items o'.met_from.items (place + 1) it.0 max.table open_is.search has full (place + 1) place (omega arith) (omega arith) in
+    let r = full (get_or o'.demands.items place 0) supply (open_is.search.order.order_below place near) mine open_is.below open_is.allowed in
+    let e : owner_of t supply ≡ Some r.0 = r.1 in
+    let f : owner_of t supply ≡ None = open_is.free in
+    cc)
 
 pub hall_is : (t : Table) (o o' : Order) (left met : ℕ) (set : ℕ → Bool) → IsMaximum t o left → IsClosed t o o' 0 left met → ((d : ℕ) → set d ≡ is_first o'.spots.items met (demands_in t) d) → IsHallSet (domains_of t) set
 hall_is t o o' left met set max ends is =
     let spots : ℕ → ℕ = λ d. get_or o'.spots.items d 0 in
     let into : (d : ℕ) → d < demands_in t → spots d < met → set d ≡ true = λ d l h. is d ∙ and_from (ltb d (demands_in t)) (ltb (spots d) met) (lt-ltb d (demands_in t) l) (lt-ltb (spots d) met h) in
     let out : (d : ℕ) → set d ≡ true → (d < demands_in t) × (spots d < met) = λ d h.
-        let a = and_parts (ltb d (demands_in t)) (ltb (spots d) met) (sym (is d) ∙ h) in
-        (ltb-true d (demands_in t) a.0, ltb-true (spots d) met a.1) in
+    let a = and_parts (ltb d (demands_in t)) (ltb (spots d) met) (sym (is d) ∙ h) in
+    (ltb-true d (demands_in t) a.0, ltb-true (spots d) met a.1) in
     let has : HasLeftOut (demands_in t) (is_present (domains_of t)) (place_of t) set = λ d l p n.
-        let low : get_or o.spots.items d 0 < left = max.listing.listed d l p n in
-        into d l (omega (arith, ends.keeps.spot d low, ends.longer)) in
+    let low : get_or o.spots.items d 0 < left = max.listing.listed d l p n in
+    into d l (omega (arith, ends.keeps.spot d low, ends.longer)) in
     let full : IsSaturated (demands_in t) (supplies_in t) (may_take (domains_of t)) (owner_of t) set = λ d s l h below may.
-        let at : get_or o'.demands.items (spots d) 0 ≡ d = ends.search.order.order_spot d l in
-        let r = ends.closed (spots d) s (omega arith) (out d h).1 (ap (λ v. may_take (domains_of t) v s) at ∙ may) in
-        (r.by, r.owner, into r.by (max.table.matching.demand r.by s (max.table.matching.placed s r.by r.owner)) r.within) in
+    let at : get_or o'.demands.items (spots d) 0 ≡ d = ends.search.order.order_spot d l in
+    let r = ends.closed (spots d) s (omega arith) (out d h).1 (ap (λ v. may_take (domains_of t) v s) at ∙ may) in
+    (r.by, r.owner, into r.by (max.table.matching.demand r.by s (max.table.matching.placed s r.by r.owner)) r.within) in
     let much : neighbours_of (domains_of t) set + left ≤ size_of (domains_of t) set = saturated_exceeds t o left max.table max.listing set has full in
     record {
       present = λ d h.
-        let at : get_or o'.demands.items (spots d) 0 ≡ d = ends.search.order.order_spot d (out d h).0 in
-        ap (λ v. is_present (domains_of t) v) (sym at) ∙ ends.search.there (spots d) (out d h).1;
+          let at : get_or o'.demands.items (spots d) 0 ≡ d = ends.search.order.order_spot d (out d h).0 in
+          ap (λ v. is_present (domains_of t) v) (sym at) ∙ ends.search.there (spots d) (out d h).1;
       greatest = λ other. omega (arith, bounded t o left max.table max.listing other, much);
       least = λ other great d h.
-        let enough : neighbours_of (domains_of t) other + left ≤ size_of (domains_of t) other = omega (arith, great set, much) in
-        let at : get_or o'.demands.items (spots d) 0 ≡ d = ends.search.order.order_spot d (out d h).0 in
-        ap other (sym at) ∙ all_in t o'.demands.items o'.spots.items o'.met_from.items met other max.table ends.search
-          (exceeds_left t o left max.table max.listing other enough) (exceeds_saturated t o left max.table max.listing other enough) (spots d + 1) (spots d) (omega arith) (out d h).1
+          let enough : neighbours_of (domains_of t) other + left ≤ size_of (domains_of t) other = omega (arith, great set, much) in
+          let at : get_or o'.demands.items (spots d) 0 ≡ d = ends.search.order.order_spot d (out d h).0 in
+          ap other (sym at) ∙ all_in t o'.demands.items o'.spots.items o'.met_from.items met other max.table ends.search
+          (exceeds_left t o left max.table max.listing other enough) (exceeds_saturated t o left max.table max.listing other enough) (spots d + 1) (spots d) (omega arith) (out d h).1;
     }
 
 -- a copy of the order serves as well
@@ -90,8 +90,8 @@ max_copy t o p left ds ss ms max =
         fits = max.listing.fits;
         present = λ d k h. max.listing.present d k (omega (arith, spot d));
         left_out = λ d k h. max.listing.left_out d k (omega (arith, spot d));
-        listed = λ d k q n. omega (arith, spot d, max.listing.listed d k q n)
-      }
+        listed = λ d k q n. omega (arith, spot d, max.listing.listed d k q n);
+      };
     }
 
 pub if_ok_map : {T E : Type 0} (r : Result T E) (P Q : T → Type 0) → ((x : T) → P x → Q x) → IfOk r P → IfOk r Q

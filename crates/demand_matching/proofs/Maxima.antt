@@ -42,19 +42,19 @@ pub listing_count : (t : Table) (o : Order) (left : ℕ) → IsListing t o left 
 listing_count t o left is =
     let p : ℕ → Bool = λ d. is_present (domains_of t) d && is_none (place_of t d) in
     let one : count_below (demands_in t) p ≤ count_below left (λ _. true) =
-        count_partners (demands_in t) left p (λ _. true) (λ d k. (d < demands_in t) × (get_or o.spots.items d 0 ≡ k))
-          (λ d l h. let a = and_parts (is_present (domains_of t) d) (is_none (place_of t d)) h in
-            (get_or o.spots.items d 0, is.listed d l a.0 (none_is (place_of t d) a.1), refl, (l, refl)))
-          (λ d e k x y. sym (is.order.order_spot d x.0) ∙ ap (λ v. get_or o.demands.items v 0) (x.1 ∙ sym y.1) ∙ is.order.order_spot e y.0) in
+    count_partners (demands_in t) left p (λ _. true) (λ d k. (d < demands_in t) × (get_or o.spots.items d 0 ≡ k))
+    (λ d l h. let a = and_parts (is_present (domains_of t) d) (is_none (place_of t d)) h in
+    (get_or o.spots.items d 0, is.listed d l a.0 (none_is (place_of t d) a.1), refl, (l, refl)))
+    (λ d e k x y. sym (is.order.order_spot d x.0) ∙ ap (λ v. get_or o.demands.items v 0) (x.1 ∙ sym y.1) ∙ is.order.order_spot e y.0) in
     let two : count_below left (λ _. true) ≤ count_below (demands_in t) p =
-        count_partners left (demands_in t) (λ _. true) p (λ k d. (k < left) × (get_or o.demands.items k 0 ≡ d))
-          (λ k l h.
-            let near : k < demands_in t = omega (arith, is.fits) in
-            let d : ℕ = get_or o.demands.items k 0 in
-            let below : d < demands_in t = is.order.order_below k near in
-            let low : get_or o.spots.items d 0 < left = omega (arith, is.order.spot_order k near) in
-            (d, below, and_from (is_present (domains_of t) d) (is_none (place_of t d)) (is.present d below low) (none_from (place_of t d) (is.left_out d below low)), (l, refl)))
-          (λ j k d x y. sym (is.order.spot_order j (omega (arith, is.fits, x.0))) ∙ ap (λ v. get_or o.spots.items v 0) (x.1 ∙ sym y.1) ∙ is.order.spot_order k (omega (arith, is.fits, y.0))) in
+    count_partners left (demands_in t) (λ _. true) p (λ k d. (k < left) × (get_or o.demands.items k 0 ≡ d))
+    (λ k l h.
+    let near : k < demands_in t = omega (arith, is.fits) in
+    let d : ℕ = get_or o.demands.items k 0 in
+    let below : d < demands_in t = is.order.order_below k near in
+    let low : get_or o.spots.items d 0 < left = omega (arith, is.order.spot_order k near) in
+    (d, below, and_from (is_present (domains_of t) d) (is_none (place_of t d)) (is.present d below low) (none_from (place_of t d) (is.left_out d below low)), (l, refl)))
+    (λ j k d x y. sym (is.order.spot_order j (omega (arith, is.fits, x.0))) ∙ ap (λ v. get_or o.spots.items v 0) (x.1 ∙ sym y.1) ∙ is.order.spot_order k (omega (arith, is.fits, y.0))) in
     omega (arith, count_all left)
 
 pub bounded : (t : Table) (o : Order) (left : ℕ) → IsTable t → IsListing t o left → (set : ℕ → Bool) → size_of (domains_of t) set ≤ neighbours_of (domains_of t) set + left
@@ -117,28 +117,30 @@ exceeds_stuck t o left is listing stuck =
 
 -- one more is left out when a demand comes that has no place
 pub exceeds_more : (t t' : Table) (o o' : Order) (d left : ℕ) (domain : Domain) → IsTable t → IsListing t o left → IsTable t' → IsListing t' o' (left + 1) → d < demands_in t → place_of t d ≡ None
-  → domains_of t' ≡ with_domain (domains_of t) d (Some domain) → t'.places ≡ t.places → t'.owners ≡ t.owners → get_or o'.spots.items d 0 ≡ left → IsStuck t' o' left (left + 1) → Exceeds (domains_of t) left → Exceeds (domains_of t') (left + 1)
+    → domains_of t' ≡ with_domain (domains_of t) d (Some domain) → t'.places ≡ t.places → t'.owners ≡ t.owners → get_or o'.spots.items d 0 ≡ left → IsStuck t' o' left (left + 1) → Exceeds (domains_of t) left → Exceeds (domains_of t') (left + 1)
 exceeds_more t t' o o' d left domain is listing is' listing' l none same places owners at_d stuck it =
     let n : demands_in t' ≡ demands_in t = ap (λ w. length w.demands) same ∙ length-set t.demands.items d (Some domain) in
     let m : supplies_in t' ≡ supplies_in t = ap (λ w. w.width * w.last) same in
     let has = exceeds_left t o left is listing it.0 it.1 in
     let full = exceeds_saturated t o left is listing it.0 it.1 in
-    let both : ℕ → Bool = λ e. without it.0 d e || stuck.set e in
-    (both, saturated_exceeds t' o' (left + 1) is' listing' both
-      (λ e k p h. elim (cases_eqb e d) [
-        inl z ↦ or_right (without it.0 d e) (stuck.set e) (stuck.has e k (omega (arith, ap (λ v. get_or o'.spots.items v 0) z)) (omega (arith, ap (λ v. get_or o'.spots.items v 0) z)))
-        | inr z ↦ or_left (without it.0 d e) (stuck.set e) (and_from (it.0 e) (not (eqb e d))
-          (has e (omega (arith, n)) (sym (ap (λ w. is_present w e) same ∙ other_present (domains_of t) d e (Some domain) z) ∙ p) (ap (λ v. get_or v.items e None) (sym places) ∙ h))
-          (not_from_false (eqb e d) (ne_eqb e d z)))
-      ])
-      (λ e s k h b may. elim (or_cases (without it.0 d e) (stuck.set e) h) [
-        inl x ↦
-          let a = and_parts (it.0 e) (not (eqb e d)) x in
-          let ne : e ≢ d = eqb-false e d (not-true (eqb e d) a.1) in
-          let r = full e s (omega (arith, n)) a.0 (omega (arith, m)) (sym (ap (λ w. may_take w e s) same ∙ other_may (domains_of t) d e s (Some domain) ne) ∙ may) in
-          let apart : r.0 ≢ d = λ z. (let y : place_of t d ≡ Some s = ap (λ v. place_of t v) (sym z) ∙ is.matching.placed s r.0 r.1 in absurd cc) in
-          (r.0, ap (λ v. get_or v.items s None) owners ∙ r.1, or_left (without it.0 d r.0) (stuck.set r.0) (and_from (it.0 r.0) (not (eqb r.0 d)) r.2 (not_from_false (eqb r.0 d) (ne_eqb r.0 d apart))))
-        | inr x ↦
-          let r = stuck.saturated e s k x b may in
-          (r.0, r.1, or_right (without it.0 d r.0) (stuck.set r.0) r.2)
-      ]))
+    let both : ℕ → Bool = λ e. without it.0 d e || stuck.set e in (
+      both,
+      saturated_exceeds t' o' (left + 1) is' listing' both
+          (λ e k p h. elim (cases_eqb e d) [
+            | inl z ↦ or_right (without it.0 d e) (stuck.set e) (stuck.has e k (omega (arith, ap (λ v. get_or o'.spots.items v 0) z)) (omega (arith, ap (λ v. get_or o'.spots.items v 0) z)))
+            | inr z ↦ or_left (without it.0 d e) (stuck.set e) (and_from (it.0 e) (not (eqb e d))
+                (has e (omega (arith, n)) (sym (ap (λ w. is_present w e) same ∙ other_present (domains_of t) d e (Some domain) z) ∙ p) (ap (λ v. get_or v.items e None) (sym places) ∙ h))
+                (not_from_false (eqb e d) (ne_eqb e d z)))
+          ])
+          (λ e s k h b may. elim (or_cases (without it.0 d e) (stuck.set e) h) [
+            | inl x ↦
+                let a = and_parts (it.0 e) (not (eqb e d)) x in
+                let ne : e ≢ d = eqb-false e d (not-true (eqb e d) a.1) in
+                let r = full e s (omega (arith, n)) a.0 (omega (arith, m)) (sym (ap (λ w. may_take w e s) same ∙ other_may (domains_of t) d e s (Some domain) ne) ∙ may) in
+                let apart : r.0 ≢ d = λ z. (let y : place_of t d ≡ Some s = ap (λ v. place_of t v) (sym z) ∙ is.matching.placed s r.0 r.1 in absurd cc) in
+                (r.0, ap (λ v. get_or v.items s None) owners ∙ r.1, or_left (without it.0 d r.0) (stuck.set r.0) (and_from (it.0 r.0) (not (eqb r.0 d)) r.2 (not_from_false (eqb r.0 d) (ne_eqb r.0 d apart))))
+            | inr x ↦
+                let r = stuck.saturated e s k x b may in
+                (r.0, r.1, or_right (without it.0 d r.0) (stuck.set r.0) r.2)
+          ]),
+    )

@@ -25,7 +25,7 @@ owner_below t supply d is it = is.matching.demand d supply (is.matching.placed s
 pub keeps_first : (n : ℕ) (order spots order' spots' : List ℕ) (d len : ℕ) → IsOrder n order spots → ChangesPlaces order spots order' spots' d len → d < n → len < n → len ≤ get_or spots d 0 → KeepsFirst order spots order' spots' len
 keeps_first n order spots order' spots' d len is moves l m far = record {
   demand = λ k h. moves.other_places k (λ x. absurd (omega arith)) (λ x. absurd (omega arith));
-  spot = λ e h. moves.other_spots e (λ x. absurd (omega (arith, ap (λ v. get_or spots v 0) x))) (λ x. absurd (omega (arith, ap (λ v. get_or spots v 0) x, is.spot_order len m)))
+  spot = λ e h. moves.other_spots e (λ x. absurd (omega (arith, ap (λ v. get_or spots v 0) x))) (λ x. absurd (omega (arith, ap (λ v. get_or spots v 0) x, is.spot_order len m)));
 }
 
 same_some : (a b : ℕ) → (o : Option ℕ) → o ≡ Some a → o ≡ Some b → a ≡ b
@@ -46,41 +46,41 @@ meets_more t order spots met_from order' spots' d place len supply is_table is o
       met_length = length-set met_from d place ∙ is.met_length;
       len_fits = omega arith;
       there = λ k h. elim (cases_last k len (omega arith)) [
-        inl x ↦ ap (λ v. is_present (domains_of t) v) (ap (λ v. get_or order' v 0) x ∙ at_len) ∙ may_present (domains_of t) d supply (is_table.matching.allowed d supply placed)
+        | inl x ↦ ap (λ v. is_present (domains_of t) v) (ap (λ v. get_or order' v 0) x ∙ at_len) ∙ may_present (domains_of t) d supply (is_table.matching.allowed d supply placed)
         | inr less ↦ ap (λ v. is_present (domains_of t) v) (keeps.demand k less) ∙ is.there k less
       ];
       met = λ k s h e. elim (cases_last k len (omega arith)) [
-        inl x ↦
-          let here : get_or order' k 0 ≡ d = ap (λ v. get_or order' v 0) x ∙ at_len in
-          let from_is : get_or (set met_from d place) (get_or order' k 0) 0 ≡ place = ap (λ v. get_or (set met_from d place) v 0) here ∙ new_met in
-          let s_is : supply ≡ s = same_some supply s (place_of t d) placed (sym (ap (λ v. place_of t v) here) ∙ e) in
-          record {
-            before = omega (arith, from_is);
-            allowed =
-              ap (λ v. may_take (domains_of t) (get_or order' v 0) s) from_is
-              ∙ ap (λ v. may_take (domains_of t) v s) (keeps.demand place near)
-              ∙ ap (λ v. may_take (domains_of t) (get_or order place 0) v) (sym s_is) ∙ may
-          }
+        | inl x ↦
+            let here : get_or order' k 0 ≡ d = ap (λ v. get_or order' v 0) x ∙ at_len in
+            let from_is : get_or (set met_from d place) (get_or order' k 0) 0 ≡ place = ap (λ v. get_or (set met_from d place) v 0) here ∙ new_met in
+            let s_is : supply ≡ s = same_some supply s (place_of t d) placed (sym (ap (λ v. place_of t v) here) ∙ e) in
+            record {
+              before = omega (arith, from_is);
+              allowed =
+                  ap (λ v. may_take (domains_of t) (get_or order' v 0) s) from_is
+                  ∙ ap (λ v. may_take (domains_of t) v s) (keeps.demand place near)
+                  ∙ ap (λ v. may_take (domains_of t) (get_or order place 0) v) (sym s_is) ∙ may;
+            }
         | inr less ↦
-          let here : get_or order' k 0 ≡ get_or order k 0 = keeps.demand k less in
-          let old = is.met k s less (sym (ap (λ v. place_of t v) here) ∙ e) in
-          let other : get_or order k 0 ≡ d → ⊥ = λ z. absurd (omega (arith, sym (is.order.spot_order k (omega arith)) ∙ ap (λ v. get_or spots v 0) z)) in
-          let from_is : get_or (set met_from d place) (get_or order' k 0) 0 ≡ get_or met_from (get_or order k 0) 0 =
-              ap (λ v. get_or (set met_from d place) v 0) here ∙ get_or-set_other met_from d (get_or order k 0) place 0 other in
-          record {
-            before = omega (arith, from_is, old.before);
-            allowed =
-              ap (λ v. may_take (domains_of t) (get_or order' v 0) s) from_is
-              ∙ ap (λ v. may_take (domains_of t) v s) (keeps.demand (get_or met_from (get_or order k 0) 0) (omega (arith, old.before)))
-              ∙ old.allowed
-          }
-      ]
+            let here : get_or order' k 0 ≡ get_or order k 0 = keeps.demand k less in
+            let old = is.met k s less (sym (ap (λ v. place_of t v) here) ∙ e) in
+            let other : get_or order k 0 ≡ d → ⊥ = λ z. absurd (omega (arith, sym (is.order.spot_order k (omega arith)) ∙ ap (λ v. get_or spots v 0) z)) in
+            let from_is : get_or (set met_from d place) (get_or order' k 0) 0 ≡ get_or met_from (get_or order k 0) 0 =
+            ap (λ v. get_or (set met_from d place) v 0) here ∙ get_or-set_other met_from d (get_or order k 0) place 0 other in
+            record {
+              before = omega (arith, from_is, old.before);
+              allowed =
+                  ap (λ v. may_take (domains_of t) (get_or order' v 0) s) from_is
+                  ∙ ap (λ v. may_take (domains_of t) v s) (keeps.demand (get_or met_from (get_or order k 0) 0) (omega (arith, old.before)))
+                  ∙ old.allowed;
+            }
+      ];
     }
 
 pub keeps_trans : (a b a' b' a'' b'' : List ℕ) (len more : ℕ) → len ≤ more → KeepsFirst a b a' b' len → KeepsFirst a' b' a'' b'' more → KeepsFirst a b a'' b'' len
 keeps_trans a b a' b' a'' b'' len more l p q = record {
   demand = λ k h. q.demand k (omega arith) ∙ p.demand k h;
-  spot = λ e h. let one : get_or b' e 0 ≡ get_or b e 0 = p.spot e h in q.spot e (omega (arith, one)) ∙ one
+  spot = λ e h. let one : get_or b' e 0 ≡ get_or b e 0 = p.spot e h in q.spot e (omega (arith, one)) ∙ one;
 }
 
 pub keeps_refl : (a b : List ℕ) (len : ℕ) → KeepsFirst a b a b len
@@ -90,7 +90,7 @@ pub reached_still : (t : Table) (a b a' b' : List ℕ) (len more s : ℕ) → le
 reached_still t a b a' b' len more s l keeps r = record {
   by = r.by;
   owner = r.owner;
-  within = omega (arith, keeps.spot r.by r.within, r.within)
+  within = omega (arith, keeps.spot r.by r.within, r.within);
 }
 
 pub search_shorter : (t : Table) (a b c : List ℕ) (len less : ℕ) → less ≤ len → IsSearch t a b c len → IsSearch t a b c less
@@ -99,7 +99,7 @@ search_shorter t a b c len less l is = record {
   met_length = is.met_length;
   len_fits = omega (arith, is.len_fits);
   there = λ k h. is.there k (omega arith);
-  met = λ k s h e. is.met k s (omega arith) e
+  met = λ k s h e. is.met k s (omega arith) e;
 }
 
 pub spot_read : (xs : List ℕ) (i x : ℕ) → i < length xs → x ≡ get_or xs i x → x ≡ get_or xs i 0
@@ -140,12 +140,12 @@ all_reached t spots d demand met count its l reached s may =
 
 -- one place more of the order is looked at
 pub search_more : (t : Table) (o o' o'' : Order) (head left place met more : ℕ) → place < met → GoesOn t o' o'' place met (Met more)
-  → ((k s : ℕ) → head ≤ k → k < place → may_take (domains_of t) (get_or o'.demands.items k 0) s ≡ true → IsReached t o'.spots.items met s)
-  → ((s : ℕ) → may_take (domains_of t) (get_or o'.demands.items place 0) s ≡ true → IsReached t o''.spots.items more s)
-  → (k s : ℕ) → head ≤ k → k < place + 1 → may_take (domains_of t) (get_or o''.demands.items k 0) s ≡ true → IsReached t o''.spots.items more s
+    → ((k s : ℕ) → head ≤ k → k < place → may_take (domains_of t) (get_or o'.demands.items k 0) s ≡ true → IsReached t o'.spots.items met s)
+    → ((s : ℕ) → may_take (domains_of t) (get_or o'.demands.items place 0) s ≡ true → IsReached t o''.spots.items more s)
+    → (k s : ℕ) → head ≤ k → k < place + 1 → may_take (domains_of t) (get_or o''.demands.items k 0) s ≡ true → IsReached t o''.spots.items more s
 search_more t o o' o'' head left place met more l g before here k s low high may =
     let keeps : KeepsFirst o'.demands.items o'.spots.items o''.demands.items o''.spots.items met = g.2 in
     elim (cases_last k place (omega arith)) [
-      inl x ↦ here s (ap (λ v. may_take (domains_of t) (get_or o'.demands.items v 0) s) (sym x) ∙ ap (λ v. may_take (domains_of t) v s) (sym (keeps.demand k (omega arith))) ∙ may)
+      | inl x ↦ here s (ap (λ v. may_take (domains_of t) (get_or o'.demands.items v 0) s) (sym x) ∙ ap (λ v. may_take (domains_of t) v s) (sym (keeps.demand k (omega arith))) ∙ may)
       | inr less ↦ reached_still t o'.demands.items o'.spots.items o''.demands.items o''.spots.items met more s g.0 keeps (before k s low less (ap (λ v. may_take (domains_of t) v s) (sym (keeps.demand k (omega arith))) ∙ may))
     ]

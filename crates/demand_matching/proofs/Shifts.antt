@@ -38,7 +38,7 @@ pub same_but : (t t' : Table) (d : ℕ) → domains_of t' ≡ domains_of t → P
 same_but t t' d same one = record {
   demands = ap (λ w. length w.demands) same;
   present = λ e ne. ap (λ w. is_present w e) same;
-  none = one.others
+  none = one.others;
 }
 
 -- the demand that was placed was left out
@@ -54,17 +54,20 @@ stuck t o o' head left met is listing low ends =
     record {
       set = set;
       has = λ d l high below.
-        let same : get_or o'.spots.items d 0 ≡ get_or o.spots.items d 0 = ends.keeps.spot d below in
-        and_from (leb head (get_or o'.spots.items d 0)) (ltb (get_or o'.spots.items d 0) met)
+          let same : get_or o'.spots.items d 0 ≡ get_or o.spots.items d 0 = ends.keeps.spot d below in
+          and_from (leb head (get_or o'.spots.items d 0)) (ltb (get_or o'.spots.items d 0) met)
           (le-leb head (get_or o'.spots.items d 0) (omega arith))
           (lt-ltb (get_or o'.spots.items d 0) met (omega (arith, ends.longer)));
       saturated = λ d s l h below may.
-        let a = and_parts (leb head (get_or o'.spots.items d 0)) (ltb (get_or o'.spots.items d 0) met) h in
-        let at : get_or o'.demands.items (get_or o'.spots.items d 0) 0 ≡ d = ends.search.order.order_spot d l in
-        let r = ends.closed (get_or o'.spots.items d 0) s (leb-true head (get_or o'.spots.items d 0) a.0) (ltb-true (get_or o'.spots.items d 0) met a.1) (ap (λ v. may_take (domains_of t) v s) at ∙ may) in
-        let its : place_of t r.by ≡ Some s = is.matching.placed s r.by r.owner in
-        let high : get_or o'.spots.items r.by 0 < left → ⊥ = λ z. (let w : place_of t r.by ≡ None = kept.left_out r.by (is.matching.demand r.by s its) z in cc) in
-        (r.by, r.owner, and_from (leb head (get_or o'.spots.items r.by 0)) (ltb (get_or o'.spots.items r.by 0) met)
-          (le-leb head (get_or o'.spots.items r.by 0) (omega arith))
-          (lt-ltb (get_or o'.spots.items r.by 0) met r.within))
+          let a = and_parts (leb head (get_or o'.spots.items d 0)) (ltb (get_or o'.spots.items d 0) met) h in
+          let at : get_or o'.demands.items (get_or o'.spots.items d 0) 0 ≡ d = ends.search.order.order_spot d l in
+          let r = ends.closed (get_or o'.spots.items d 0) s (leb-true head (get_or o'.spots.items d 0) a.0) (ltb-true (get_or o'.spots.items d 0) met a.1) (ap (λ v. may_take (domains_of t) v s) at ∙ may) in
+          let its : place_of t r.by ≡ Some s = is.matching.placed s r.by r.owner in
+          let high : get_or o'.spots.items r.by 0 < left → ⊥ = λ z. (let w : place_of t r.by ≡ None = kept.left_out r.by (is.matching.demand r.by s its) z in cc) in (
+            r.by,
+            r.owner,
+            and_from (leb head (get_or o'.spots.items r.by 0)) (ltb (get_or o'.spots.items r.by 0) met)
+                (le-leb head (get_or o'.spots.items r.by 0) (omega arith))
+                (lt-ltb (get_or o'.spots.items r.by 0) met r.within),
+          );
     }

@@ -23,7 +23,7 @@ supply_admitted w d i j l m =
     and_from (is_picked w.resources d.resources (resource_at w d i)) (leb d.shift (time_at w d j) && is_picked w.times d.times (time_at w d j - d.shift))
     (picked_hit w.resources d.resources i l)
     (and_from (leb d.shift (time_at w d j)) (is_picked w.times d.times (time_at w d j - d.shift)) (le-leb d.shift (time_at w d j) (omega arith))
-      (ap (λ v. is_picked w.times d.times v) (sym (back (get_or (picked w.times d.times) j 0) d.shift)) ∙ picked_hit w.times d.times j m))
+    (ap (λ v. is_picked w.times d.times v) (sym (back (get_or (picked w.times d.times) j 0) d.shift)) ∙ picked_hit w.times d.times j m))
 
 pub supply_below : (w : Domains) (d : Domain) (i j : ℕ) → IsInRange w d → i < length (picked w.resources d.resources) → j < length (picked w.times d.times) → supply_at w d i j < w.width * w.last
 supply_below w d i j is l m =

@@ -42,7 +42,14 @@ impl Matching {
     /// So many demands, numbered from 0, all absent. `last` is the number of times, `width` that
     /// of the resources; a domain names the given sets by their places in the two lists. It takes
     /// all memory that later changes need.
-    pub fn new(alloc: Global, demands: u32, times: Seq<IdSet>, resources: Seq<IdSet>, last: u32, width: u32) -> Result<Matching, NoMemory>
+    pub fn new(
+        alloc: Global,
+        demands: u32,
+        times: Seq<IdSet>,
+        resources: Seq<IdSet>,
+        last: u32,
+        width: u32,
+    ) -> Result<Matching, NoMemory>
         ensures { IfOk result (λ m. m ≡ no_domains times resources last width demands) }
     {
         let count = demands as usize;

@@ -75,7 +75,14 @@ impl Table {
     }
 
     /// Looks at the supplies of one resource that the demand at a place of the order may have.
-    fn meet_at(&self, order: &mut Order, domain: Domain, i: usize, place: usize, len: usize) -> Reach
+    fn meet_at(
+        &self,
+        order: &mut Order,
+        domain: Domain,
+        i: usize,
+        place: usize,
+        len: usize,
+    ) -> Reach
         requires table { IsTable self.now }
         requires search { IsSearch self.now order.old.demands.items order.old.spots.items order.old.met_from.items len }
         requires place { place < len }

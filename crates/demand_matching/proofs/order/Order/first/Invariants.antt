@@ -8,5 +8,5 @@ abbrev pub invariant-loop-demand : goal.invariant-loop-demand
 invariant-loop-demand l = record {
   ascending : IsStrictlyIncreasing l.first;
   below : (k : ℕ) → k < length l.first → get_or l.first k 0 < l.demand;
-  members : (e : ℕ) → list_any (λ m. eqb m e) l.first ≡ is_first l.self.spots.items l.count l.demand e
+  members : (e : ℕ) → list_any (λ m. eqb m e) l.first ≡ is_first l.self.spots.items l.count l.demand e;
 }

@@ -23,10 +23,10 @@ returns-in-Open-clause-listing c =
     let one = c.shift-demand.ensures.one in
     let low = placed_left c.args.self.now c.shift-demand.new.self c.search.new.order c.args.left c.shift-demand.result c.shift-demand.ensures.table kept c.shift-demand.ensures.domains one in
     listing_less c.args.self.now c.shift-demand.new.self c.search.new.order c.put.new.self c.shift-demand.result c.args.left kept (same_but c.args.self.now c.shift-demand.new.self c.shift-demand.result c.shift-demand.ensures.domains one) one.below low
-      (λ p n. absurd (true≢false (sym (none_from _ n) ∙ one.has_one)))
-      (rw kept.order.order_length at c.put.ensures.order)
-      (ap (λ v. length v.items) c.put.ensures.met_from ∙ kept.met_length)
-      c.put.ensures.change
+    (λ p n. absurd (true≢false (sym (none_from _ n) ∙ one.has_one)))
+    (rw kept.order.order_length at c.put.ensures.order)
+    (ap (λ v. length v.items) c.put.ensures.met_from ∙ kept.met_length)
+    c.put.ensures.change
 
 pub returns-in-Open-clause-improves : goal.returns-in-Open-clause-improves
 returns-in-Open-clause-improves c =

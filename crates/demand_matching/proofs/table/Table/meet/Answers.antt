@@ -27,9 +27,8 @@ returns-clause-goes_on c =
     let within : c.in-Some.demand < length c.args.order.now.spots.items = omega (arith, c.requires.search.order.spots_length) in
     let far : c.args.len ≤ get_or c.args.order.now.spots.items c.in-Some.demand 0 = omega (arith, spot_read c.args.order.now.spots.items c.in-Some.demand c.index-spot.result.now within c.index-spot.ensures) in
     let room : c.args.len < demands_in c.args.self.now = omega (arith, c.requires.search.order.spot_below c.in-Some.demand below) in
-    let n = c.requires.search.order.order_length in
-    (
+    let n = c.requires.search.order.order_length in (
       omega arith,
       rw (c.put.ensures.met_from) (meets_more c.args.self.now c.args.order.now.demands.items c.args.order.now.spots.items c.args.order.now.met_from.items c.put.new.self.demands.items c.put.new.self.spots.items c.in-Some.demand c.args.place c.args.len c.args.supply c.requires.table c.requires.search (rw n at c.put.ensures.order) c.put.ensures.change owner c.requires.place far c.requires.allowed),
-      keeps_first (demands_in c.args.self.now) c.args.order.now.demands.items c.args.order.now.spots.items c.put.new.self.demands.items c.put.new.self.spots.items c.in-Some.demand c.args.len c.requires.search.order c.put.ensures.change below room far
+      keeps_first (demands_in c.args.self.now) c.args.order.now.demands.items c.args.order.now.spots.items c.put.new.self.demands.items c.put.new.self.spots.items c.in-Some.demand c.args.len c.requires.search.order c.put.ensures.change below room far,
     )

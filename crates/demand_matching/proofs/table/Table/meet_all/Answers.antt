@@ -11,7 +11,7 @@ count-i-end-requires c =
     let near : c.args.place < demands_in c.args.self.now = omega (arith, c.requires.search.len_fits) in
     let within : c.args.place < length c.args.order.now.demands.items = omega (arith, c.requires.search.order.order_length) in
     (c.requires.table.in_range (get_or c.args.order.now.demands.items c.args.place 0) c.in-Some.domain
-      (domain_read c.args.self.now c.args.order.now.demands.items c.args.place c.index-demand.result.now c.index.result.now c.in-Some.domain within (c.requires.search.order.order_below c.args.place near) c.index-demand.ensures c.index.ensures c.in-Some.is)).resources
+    (domain_read c.args.self.now c.args.order.now.demands.items c.args.place c.index-demand.result.now c.index.result.now c.in-Some.domain within (c.requires.search.order.order_below c.args.place near) c.index-demand.ensures c.index.ensures c.in-Some.is)).resources
 
 pub returns-in-Free-clause-goes_on : goal.returns-in-Free-clause-goes_on
 returns-in-Free-clause-goes_on c =
@@ -21,10 +21,10 @@ pub loop-i-preserved : goal.loop-i-preserved
 loop-i-preserved c = record {
   goes_on = goes_on_from c.args.self.now c.args.order.now c.loop-i.order c.meet_at.new.order c.args.place c.args.len c.loop-i.met (Met c.in-Met.more) c.loop-i.invariant.goes_on.0 c.loop-i.invariant.goes_on.2 c.in-Met.ensures.goes_on;
   reached = λ k j l m.
-    elim (cases_last k c.loop-i.i (omega arith)) [
-      inl x ↦ rw x (c.in-Met.ensures.reached j m)
-      | inr less ↦ reached_still c.args.self.now c.loop-i.order.demands.items c.loop-i.order.spots.items c.meet_at.new.order.demands.items c.meet_at.new.order.spots.items c.loop-i.met c.in-Met.more _ c.in-Met.ensures.goes_on.0 c.in-Met.ensures.goes_on.2 (c.loop-i.invariant.reached k j less m)
-    ]
+      elim (cases_last k c.loop-i.i (omega arith)) [
+        | inl x ↦ rw x (c.in-Met.ensures.reached j m)
+        | inr less ↦ reached_still c.args.self.now c.loop-i.order.demands.items c.loop-i.order.spots.items c.meet_at.new.order.demands.items c.meet_at.new.order.spots.items c.loop-i.met c.in-Met.more _ c.in-Met.ensures.goes_on.0 c.in-Met.ensures.goes_on.2 (c.loop-i.invariant.reached k j less m)
+      ];
 }
 
 pub returns-clause-reached : goal.returns-clause-reached

@@ -18,8 +18,8 @@ pub loop-j-preserved : goal.loop-j-preserved
 loop-j-preserved c = record {
   goes_on = goes_on_from c.args.self.now c.args.order.now c.loop-j.order c.meet.new.order c.args.place c.args.len c.loop-j.met (Met c.in-Met.more) c.loop-j.invariant.goes_on.0 c.loop-j.invariant.goes_on.2 c.in-Met.ensures.goes_on;
   reached = λ k l.
-    elim (cases_last k c.loop-j.j (omega arith)) [
-      inl x ↦ rw x (rw c.supply-supply.ensures.is at c.in-Met.ensures.reached)
-      | inr less ↦ reached_still c.args.self.now c.loop-j.order.demands.items c.loop-j.order.spots.items c.meet.new.order.demands.items c.meet.new.order.spots.items c.loop-j.met c.in-Met.more _ c.in-Met.ensures.goes_on.0 c.in-Met.ensures.goes_on.2 (c.loop-j.invariant.reached k less)
-    ]
+      elim (cases_last k c.loop-j.j (omega arith)) [
+        | inl x ↦ rw x (rw c.supply-supply.ensures.is at c.in-Met.ensures.reached)
+        | inr less ↦ reached_still c.args.self.now c.loop-j.order.demands.items c.loop-j.order.spots.items c.meet.new.order.demands.items c.meet.new.order.spots.items c.loop-j.met c.in-Met.more _ c.in-Met.ensures.goes_on.0 c.in-Met.ensures.goes_on.2 (c.loop-j.invariant.reached k less)
+      ];
 }

@@ -10,7 +10,7 @@ returns-in-Free c =
       keeps = keeps_trans c.args.order.now.demands.items c.args.order.now.spots.items c.loop-place.order.demands.items c.loop-place.order.spots.items c.meet_all.new.order.demands.items c.meet_all.new.order.spots.items c.args.left c.loop-place.met c.loop-place.invariant.longer c.loop-place.invariant.keeps g.1;
       below = g.2;
       free = g.3;
-      allowed = g.4
+      allowed = g.4;
     }
 
 pub loop-place-preserved : goal.loop-place-preserved
@@ -22,5 +22,5 @@ loop-place-preserved c =
       longer = omega (arith, g.0);
       search = g.1;
       keeps = keeps_trans c.args.order.now.demands.items c.args.order.now.spots.items c.loop-place.order.demands.items c.loop-place.order.spots.items c.meet_all.new.order.demands.items c.meet_all.new.order.spots.items c.args.left c.loop-place.met c.loop-place.invariant.longer c.loop-place.invariant.keeps g.2;
-      closed = search_more c.args.self.now c.args.order.now c.loop-place.order c.meet_all.new.order c.args.head c.args.left c.loop-place.place c.loop-place.met c.in-Met.more c.loop-place-test.true g c.loop-place.invariant.closed c.in-Met.ensures.reached
+      closed = search_more c.args.self.now c.args.order.now c.loop-place.order c.meet_all.new.order c.args.head c.args.left c.loop-place.place c.loop-place.met c.in-Met.more c.loop-place-test.true g c.loop-place.invariant.closed c.in-Met.ensures.reached;
     }

@@ -10,7 +10,7 @@ invariant-loop-place l = record {
   longer : l.left ≤ l.met;
   search : IsSearch l.self l.order.demands.items l.order.spots.items l.order.met_from.items l.met;
   keeps : KeepsFirst l.fn.order.demands.items l.fn.order.spots.items l.order.demands.items l.order.spots.items l.left;
-  closed : (place supply : ℕ) → l.head ≤ place → place < l.place → may_take (domains_of l.self) (get_or l.order.demands.items place 0) supply ≡ true → IsReached l.self l.order.spots.items l.met supply
+  closed : (place supply : ℕ) → l.head ≤ place → place < l.place → may_take (domains_of l.self) (get_or l.order.demands.items place 0) supply ≡ true → IsReached l.self l.order.spots.items l.met supply;
 }
 
 abbrev pub decreases-loop-place : goal.decreases-loop-place

@@ -12,7 +12,7 @@ invariant-loop-freed l = record {
   free : owner_of l.self l.supply ≡ None;
   allowed : may_take (domains_of l.self) (get_or l.order.demands.items l.place 0) l.supply ≡ true;
   same : (k : ℕ) → k ≤ l.place → place_of l.self (get_or l.order.demands.items k 0) ≡ place_of l.fn.self (get_or l.order.demands.items k 0);
-  others : (demand : ℕ) → is_none (place_of l.self demand) ≡ is_none (place_of l.fn.self demand)
+  others : (demand : ℕ) → is_none (place_of l.self demand) ≡ is_none (place_of l.fn.self demand);
 }
 
 abbrev pub decreases-loop-freed : goal.decreases-loop-freed
