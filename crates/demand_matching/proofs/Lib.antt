@@ -12,3 +12,4 @@ pub mod Maxima
 pub mod Keeps
 pub mod Firsts
 pub mod Hall
+pub mod TestLemmas

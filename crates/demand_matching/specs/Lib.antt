@@ -8,3 +8,4 @@ pub mod Order
 pub mod Places
 pub mod Search
 pub mod Table
+pub mod TestFacts

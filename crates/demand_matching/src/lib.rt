@@ -7,6 +7,8 @@ mod matching;
 mod order;
 mod sets;
 mod table;
+#[cfg(test)]
+mod tests;
 
 pub use domains::{Domain, Pick};
 pub use matching::Matching;
