@@ -1,11 +1,11 @@
 -- One demand's domain changes, or is taken away.
-use Rattle.std.proofs.Common.{ℕ, ◌+◌, ◌*◌, ◌/◌, ◌%◌, ◌<◌, ◌≤◌, ◌≡◌, ◌≢◌, Bool, true, false, List, Option, Some, None, length, get_or, set, refl, sym, ap, ◌∙◌, arith, inl, inr, length-set, get_or-set_same, get_or-set_other}
-use Rattle.std.specs.Prelude.{is_none, is_some, Vec}
+use Rattle.std.proofs.Common.{ℕ, ◌/◌, ◌%◌, ◌<◌, ◌≡◌, ◌≢◌, Option, Some, None, length, get_or, set, refl, sym, ap, ◌∙◌, arith, inl, inr, length-set, get_or-set_same, get_or-set_other}
+use Rattle.std.specs.Prelude.{is_some, Vec}
 use Rattle.std.proofs.lemmas.Bool.{false≢true}
 use Rattle.std.specs.declared.alloc.Global.{Global}
 use Rattle.demand_matching.specs.declared.domains.Domain.{Domain}
 use Rattle.demand_matching.specs.declared.table.Table.{Table}
-use Rattle.demand_matching.specs.Domains.{Domains, is_present, domain_of, admits_where_present, IsInRange, with_domain}
+use Rattle.demand_matching.specs.Domains.{domain_of, admits_where_present, IsInRange}
 use Rattle.demand_matching.specs.Table.{domains_of, may_take, place_of, owner_of, demands_in, supplies_in, IsTable}
 use Rattle.demand_matching.proofs.Counting.{cases_eqb}
 use Rattle.demand_matching.proofs.Moves.{released}

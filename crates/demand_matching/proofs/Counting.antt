@@ -1,7 +1,7 @@
 -- Counts of the numbers below a bound that pass a test.
-use Rattle.std.proofs.Common.{ℕ, zero, suc, ◌+◌, ◌*◌, ◌<◌, ◌≤◌, ◌≡◌, Bool, true, false, ◌&&◌, ◌||◌, not, cond, eqb, refl, sym, ap, ◌∙◌, arith, inl, inr, ◌⊎◌, ⊎_elim}
-use Rattle.std.proofs.lemmas.Bool.{cases_Bool, and_parts, and_from, or_cases, or_left, or_right, eqb-true, eqb-false, eq-eqb, ne_eqb, not_from_false, not-true, false≢true, true_from_ne_false, false_from_ne_true}
-use Rattle.demand_matching.specs.Counts.{count_below, any_below, sum_below}
+use Rattle.std.proofs.Common.{ℕ, zero, suc, ◌+◌, ◌<◌, ◌≤◌, ◌≡◌, Bool, true, false, ◌&&◌, not, eqb, refl, sym, ◌∙◌, arith, inl, inr, ◌⊎◌}
+use Rattle.std.proofs.lemmas.Bool.{cases_Bool, and_from, or_cases, or_left, or_right, eqb-true, eqb-false, eq-eqb, ne_eqb, not_from_false, false≢true}
+use Rattle.demand_matching.specs.Counts.{count_below, any_below}
 
 pub cases_eqb : (k n : ℕ) → (k ≡ n) ⊎ (k ≡ n → ⊥)
 cases_eqb k n = elim (cases_Bool (eqb k n)) [ inl t ↦ inl (eqb-true k n t) | inr f ↦ inr (eqb-false k n f) ]

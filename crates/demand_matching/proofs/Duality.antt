@@ -1,11 +1,11 @@
 -- A matching with so many left out has a set whose excess is that, or can be made larger: the
 -- numbers of demands and supplies, over plain functions.
-use Rattle.std.proofs.Common.{ℕ, suc, ◌+◌, ◌<◌, ◌≤◌, ◌≡◌, Bool, true, false, ◌&&◌, ◌||◌, not, eqb, refl, sym, ap, ◌∙◌, arith, inl, inr, ◌⊎◌, Option, Some, None}
+use Rattle.std.proofs.Common.{ℕ, suc, ◌+◌, ◌<◌, ◌≤◌, ◌≡◌, Bool, true, false, ◌&&◌, not, eqb, refl, sym, ◌∙◌, arith, inl, inr, Option, Some, None}
 use Rattle.std.specs.Prelude.{is_none}
-use Rattle.std.proofs.lemmas.Bool.{cases_Bool, cases_lt, and_parts, and_from, or_cases, or_left, or_right, eqb-true, eqb-false, eq-eqb, ne_eqb, not_from_false, not_from_true, not-true, false≢true, true≢false}
+use Rattle.std.proofs.lemmas.Bool.{cases_Bool, cases_lt, and_parts, and_from, eqb-false, ne_eqb, not_from_false, not-true, false≢true, true≢false}
 use Rattle.demand_matching.specs.Counts.{count_below, any_below}
 use Rattle.demand_matching.specs.Places.{IsMatching, IsSaturated}
-use Rattle.demand_matching.proofs.Counting.{cases_eqb, count_subset, count_full, count_same, count_split, count_without, count_partners, count_cases, any_at, any_from}
+use Rattle.demand_matching.proofs.Counting.{count_subset, count_full, count_split, count_without, count_partners, any_at, any_from}
 
 -- how many demands of a set are there
 abbrev pub size : ℕ → (ℕ → Bool) → (ℕ → Bool) → ℕ

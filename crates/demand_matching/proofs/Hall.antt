@@ -1,12 +1,12 @@
 -- What a search from all that are left out meets is the least set of the greatest excess.
-use Rattle.std.proofs.Common.{ℕ, zero, suc, ◌+◌, ◌<◌, ◌≤◌, ◌≡◌, Bool, true, false, ◌&&◌, List, Option, Some, None, length, get_or, refl, sym, ap, ◌∙◌, subst, arith, ltb, Result, Ok, Err}
+use Rattle.std.proofs.Common.{ℕ, zero, suc, ◌+◌, ◌<◌, ◌≤◌, ◌≡◌, Bool, true, List, Option, Some, None, length, get_or, refl, sym, ap, ◌∙◌, subst, arith, ltb, Result, Ok, Err}
 use Rattle.std.specs.Prelude.{IfOk}
 use Rattle.std.proofs.Math.Logic.{∥∥₁_elim}
 use Rattle.std.proofs.lemmas.Bool.{and_parts, and_from, ltb-true, lt-ltb}
 use Rattle.demand_matching.specs.declared.table.Table.{Table}
 use Rattle.demand_matching.specs.declared.order.Order.{Order}
 use Rattle.demand_matching.specs.Domains.{is_present}
-use Rattle.demand_matching.specs.Excess.{size_of, neighbours_of, HasGreatestExcess, IsHallSet}
+use Rattle.demand_matching.specs.Excess.{size_of, neighbours_of, IsHallSet}
 use Rattle.demand_matching.specs.Matched.{IsMaximum}
 use Rattle.demand_matching.specs.Places.{IsSaturated}
 use Rattle.demand_matching.specs.Search.{IsSearch, IsOpen, IsClosed}

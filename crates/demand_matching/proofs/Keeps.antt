@@ -1,5 +1,5 @@
 -- What the calls of a matching leave is a maximum again, and what it says of the deficit.
-use Rattle.std.proofs.Common.{ℕ, suc, ◌+◌, ◌-◌, ◌*◌, ◌/◌, ◌%◌, ◌^◌, ◌<◌, ◌≤◌, ◌≡◌, ◌≢◌, Bool, true, false, ◌&&◌, List, Option, Some, None, length, get_or, set, refl, sym, ap, ◌∙◌, subst, arith, inl, inr, ◌⊎◌, length-set, get_or-set_same, get_or-set_other, replicate}
+use Rattle.std.proofs.Common.{ℕ, ◌+◌, ◌-◌, ◌*◌, ◌/◌, ◌%◌, ◌^◌, ◌<◌, ◌≡◌, ◌≢◌, true, false, ◌&&◌, Option, Some, None, length, get_or, refl, sym, ap, ◌∙◌, subst, arith, inl, inr, length-set, get_or-set_same, replicate}
 use Rattle.std.specs.Prelude.{is_none, is_some}
 use Rattle.std.proofs.Math.Logic.{∥∥₁_map}
 use Rattle.std.proofs.lemmas.Bool.{false≢true, cases_lt}
@@ -8,13 +8,12 @@ use Rattle.std.proofs.lemmas.Nat.{div-add-mod'}
 use Rattle.demand_matching.specs.declared.domains.Domain.{Domain}
 use Rattle.demand_matching.specs.declared.table.Table.{Table}
 use Rattle.demand_matching.specs.declared.order.Order.{Order}
-use Rattle.demand_matching.specs.Counts.{count_below}
-use Rattle.demand_matching.specs.Domains.{Domains, is_present, domain_of, may_have, with_domain, IsInRange}
-use Rattle.demand_matching.specs.Excess.{size_of, neighbours_of, IsDeficit, IsAssignment}
-use Rattle.demand_matching.specs.Listing.{IsListing, IsStuck, Improves}
+use Rattle.demand_matching.specs.Domains.{Domains, is_present, domain_of, may_have, with_domain}
+use Rattle.demand_matching.specs.Excess.{IsDeficit, IsAssignment}
+use Rattle.demand_matching.specs.Listing.{IsListing, Improves}
 use Rattle.demand_matching.specs.Matched.{Exceeds, IsMaximum}
 use Rattle.demand_matching.specs.Order.{IsOrder, ChangesPlaces}
-use Rattle.demand_matching.specs.Table.{domains_of, may_take, place_of, owner_of, demands_in, supplies_in, IsTable}
+use Rattle.demand_matching.specs.Table.{domains_of, place_of, owner_of, demands_in, IsTable}
 use Rattle.demand_matching.proofs.Changes.{absent_none}
 use Rattle.demand_matching.proofs.Counting.{count_same}
 use Rattle.demand_matching.proofs.Listings.{SameBut, listing_less, listing_same, listing_more}

@@ -1,12 +1,12 @@
 -- The matching stays a maximum.
-use Rattle.std.proofs.Common.{ℕ, zero, suc, ◌+◌, ◌-◌, ◌*◌, ◌/◌, ◌%◌, ◌<◌, ◌≤◌, ◌≡◌, ◌≢◌, Bool, true, false, ◌&&◌, ◌||◌, not, List, Option, Some, None, length, get_or, set, refl, sym, ap, ◌∙◌, arith, inl, inr, ◌⊎◌, eqb, length-set, get_or-set_same, get_or-set_other, add-zero, add-suc, zero-mul}
+use Rattle.std.proofs.Common.{ℕ, zero, suc, ◌+◌, ◌*◌, ◌/◌, ◌%◌, ◌<◌, ◌≤◌, ◌≡◌, ◌≢◌, Bool, true, false, ◌&&◌, ◌||◌, not, Option, Some, None, length, get_or, set, refl, sym, ap, ◌∙◌, arith, inl, inr, eqb, length-set, get_or-set_other, add-zero, add-suc, zero-mul}
 use Rattle.std.specs.Prelude.{is_none, is_some}
-use Rattle.std.proofs.lemmas.Bool.{and_parts, and_from, or_cases, or_left, or_right, not-true, not_from_false, eqb-false, ne_eqb, false≢true, true≢false}
+use Rattle.std.proofs.lemmas.Bool.{and_parts, and_from, or_cases, or_left, or_right, not-true, not_from_false, eqb-false, ne_eqb}
 use Rattle.std.proofs.lemmas.Nat.{div-mul-add, mod-mul-add}
 use Rattle.demand_matching.specs.declared.domains.Domain.{Domain}
 use Rattle.demand_matching.specs.declared.table.Table.{Table}
 use Rattle.demand_matching.specs.declared.order.Order.{Order}
-use Rattle.demand_matching.specs.Counts.{count_below, any_below, sum_below}
+use Rattle.demand_matching.specs.Counts.{count_below, sum_below}
 use Rattle.demand_matching.specs.Domains.{Domains, is_present, domain_of, admits_where_present, with_domain}
 use Rattle.demand_matching.specs.Excess.{size_of, neighbours_of, is_neighbour}
 use Rattle.demand_matching.specs.Listing.{IsListing, IsStuck}

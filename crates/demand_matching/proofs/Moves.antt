@@ -1,5 +1,5 @@
 -- A demand is given a free supply, or loses the one that it has.
-use Rattle.std.proofs.Common.{ℕ, ◌<◌, ◌≤◌, ◌≡◌, ◌≢◌, Bool, true, false, Option, Some, None, List, length, get_or, set, refl, sym, ap, ◌∙◌, arith, inl, inr, ◌⊎◌, get_or-set_same, get_or-set_other}
+use Rattle.std.proofs.Common.{ℕ, ◌<◌, ◌≡◌, ◌≢◌, Bool, true, Option, Some, None, List, length, get_or, set, sym, ap, ◌∙◌, inl, inr, ◌⊎◌, get_or-set_same, get_or-set_other}
 use Rattle.demand_matching.specs.Places.{IsMatching}
 use Rattle.demand_matching.proofs.Counting.{cases_eqb}
 

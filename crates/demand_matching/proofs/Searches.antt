@@ -1,18 +1,18 @@
 -- One demand more is met.
-use Rattle.std.proofs.Common.{ℕ, ◌+◌, ◌<◌, ◌≤◌, ◌≡◌, true, List, Option, Some, None, length, get_or, set, refl, sym, ap, ◌∙◌, arith, inl, inr, get_or-set_same, get_or-set_other, length-set, subst}
+use Rattle.std.proofs.Common.{ℕ, ◌+◌, ◌<◌, ◌≤◌, ◌≡◌, true, List, Option, Some, None, length, get_or, set, refl, sym, ap, ◌∙◌, arith, inl, inr, get_or-set_same, get_or-set_other, length-set}
 use Rattle.std.proofs.lemmas.List.{get_or_read}
 use Rattle.demand_matching.specs.declared.table.Table.{Table}
 use Rattle.demand_matching.specs.declared.table.Reach.{Reach}
 use Rattle.demand_matching.specs.declared.table.Reach.TheVariants.{Free, Met}
 use Rattle.demand_matching.specs.declared.order.Order.{Order}
 use Rattle.demand_matching.specs.declared.domains.Domain.{Domain}
-use Rattle.demand_matching.specs.Domains.{domain_of, is_present, IsInRange}
+use Rattle.demand_matching.specs.Domains.{domain_of, is_present}
 use Rattle.demand_matching.specs.Members.{picked}
 use Rattle.demand_matching.specs.Order.{IsOrder, ChangesPlaces}
 use Rattle.demand_matching.specs.Table.{domains_of, may_take, place_of, owner_of, demands_in, supplies_in, IsTable, supply_at}
-use Rattle.demand_matching.specs.Search.{IsMet, IsSearch, KeepsFirst, IsReached, GoesOn, IsOpen, IsClosed}
+use Rattle.demand_matching.specs.Search.{IsSearch, KeepsFirst, IsReached, GoesOn}
 use Rattle.demand_matching.proofs.Supplies.{supply_allowed, supply_found, may_present}
-use Rattle.demand_matching.proofs.Counting.{cases_eqb, cases_last}
+use Rattle.demand_matching.proofs.Counting.{cases_last}
 
 -- who has a supply, as the table's list has it
 pub owner_read : (t : Table) (supply d : ℕ) (x : Option ℕ) → IsTable t → supply < supplies_in t → x ≡ get_or t.owners.items supply x → x ≡ Some d → owner_of t supply ≡ Some d

@@ -1,18 +1,16 @@
 -- A step of a shift, and what a search that ended says of the demands that are left out.
-use Rattle.std.proofs.Common.{ℕ, ◌+◌, ◌-◌, ◌*◌, ◌/◌, ◌%◌, ◌<◌, ◌≤◌, ◌≡◌, ◌≢◌, Bool, true, false, ◌&&◌, List, Option, Some, None, length, get_or, refl, sym, ap, ◌∙◌, arith, inl, inr, leb, ltb}
-use Rattle.std.specs.Prelude.{is_none, is_some}
+use Rattle.std.proofs.Common.{ℕ, ◌+◌, ◌<◌, ◌≤◌, ◌≡◌, ◌≢◌, Bool, true, false, ◌&&◌, List, Option, Some, None, length, get_or, sym, ap, ◌∙◌, arith, leb, ltb}
+use Rattle.std.specs.Prelude.{is_none}
 use Rattle.std.proofs.lemmas.List.{get_or_read}
-use Rattle.std.proofs.lemmas.Bool.{and_parts, and_from, leb-true, le-leb, ltb-true, lt-ltb, false≢true}
-use Rattle.demand_matching.specs.declared.domains.Domain.{Domain}
+use Rattle.std.proofs.lemmas.Bool.{and_parts, and_from, leb-true, le-leb, ltb-true, lt-ltb}
 use Rattle.demand_matching.specs.declared.table.Table.{Table}
 use Rattle.demand_matching.specs.declared.order.Order.{Order}
-use Rattle.demand_matching.specs.Domains.{Domains, is_present, domain_of, admits_where_present}
+use Rattle.demand_matching.specs.Domains.{is_present}
 use Rattle.demand_matching.specs.Order.{IsOrder}
-use Rattle.demand_matching.specs.Table.{domains_of, may_take, place_of, owner_of, demands_in, supplies_in, IsTable}
+use Rattle.demand_matching.specs.Table.{domains_of, may_take, place_of, owner_of, demands_in, IsTable}
 use Rattle.demand_matching.specs.Search.{IsMet, IsSearch, IsClosed}
 use Rattle.demand_matching.specs.Listing.{IsListing, IsStuck, PlacesOne}
-use Rattle.demand_matching.proofs.Counting.{cases_eqb}
-use Rattle.demand_matching.proofs.Duality.{some_is, some_not_none}
+use Rattle.demand_matching.proofs.Duality.{some_is}
 use Rattle.demand_matching.proofs.Supplies.{may_present}
 use Rattle.demand_matching.proofs.Listings.{listing_kept, SameBut}
 

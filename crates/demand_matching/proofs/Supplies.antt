@@ -1,10 +1,10 @@
 -- The supplies of a domain, by the places of its resource and its time.
 use Rattle.std.specs.Prelude.{is_some}
-use Rattle.std.proofs.Common.{ℕ, List, None, ◌+◌, ◌-◌, ◌*◌, ◌/◌, ◌%◌, ◌<◌, ◌≤◌, ◌≡◌, Bool, true, false, ◌&&◌, Option, Some, length, get_or, refl, sym, ap, ◌∙◌, arith, leb}
+use Rattle.std.proofs.Common.{ℕ, List, None, ◌+◌, ◌-◌, ◌*◌, ◌/◌, ◌%◌, ◌<◌, ◌≤◌, ◌≡◌, Bool, true, ◌&&◌, Option, Some, length, get_or, refl, sym, ap, ◌∙◌, arith, leb}
 use Rattle.std.proofs.lemmas.Bool.{and_parts, and_from, leb-true, le-leb, false≢true}
 use Rattle.std.proofs.lemmas.Nat.{div-mul-add, mod-mul-add, mul-add-lt, div-add-mod'}
 use Rattle.demand_matching.specs.declared.domains.Domain.{Domain}
-use Rattle.demand_matching.specs.Domains.{Domains, is_present, admits, domain_of, is_picked, may_have, admits_where_present, IsInRange}
+use Rattle.demand_matching.specs.Domains.{Domains, is_present, admits, domain_of, is_picked, admits_where_present, IsInRange}
 use Rattle.demand_matching.specs.Members.{picked}
 use Rattle.demand_matching.specs.Table.{may_take, supply_at}
 use Rattle.demand_matching.proofs.Picks.{picked_hit, picked_found}

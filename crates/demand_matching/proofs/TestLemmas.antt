@@ -11,26 +11,26 @@ single_in_range w time resource l m = record {
   times = tt;
   resources = tt;
   resource = λ r t h.
-    let a = and_parts (eqb resource r) (leb 0 t && eqb time (t - 0)) h in
-    omega (arith, eqb-true resource r a.0);
+      let a = and_parts (eqb resource r) (leb 0 t && eqb time (t - 0)) h in
+      omega (arith, eqb-true resource r a.0);
   time = λ r t h.
-    let a = and_parts (eqb resource r) (leb 0 t && eqb time (t - 0)) h in
-    let b = and_parts (leb 0 t) (eqb time (t - 0)) a.1 in
-    omega (arith, eqb-true time (t - 0) b.1)
+      let a = and_parts (eqb resource r) (leb 0 t && eqb time (t - 0)) h in
+      let b = and_parts (leb 0 t) (eqb time (t - 0)) a.1 in
+      omega (arith, eqb-true time (t - 0) b.1);
 }
 
 pub same_sizes_with : (w w' : Domains) (d : ℕ) (x : Option Domain) → w' ≡ with_domain w d x → SameSizes w w'
 same_sizes_with w w' d x e = record {
   demands = ap (λ v. length v.demands) e ∙ length-set w.demands d x;
   last = ap (λ v. v.last) e;
-  width = ap (λ v. v.width) e
+  width = ap (λ v. v.width) e;
 }
 
 pub same_sizes_trans : (a b c : Domains) → SameSizes a b → SameSizes b c → SameSizes a c
 same_sizes_trans a b c p q = record {
   demands = q.demands ∙ p.demands;
   last = q.last ∙ p.last;
-  width = q.width ∙ p.width
+  width = q.width ∙ p.width;
 }
 
 -- what holds of a domain holds of the one that an option has

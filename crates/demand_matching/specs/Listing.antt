@@ -1,5 +1,5 @@
 -- The demands that are left out come first in an order.
-use Rattle.std.specs.Prelude.{ℕ, ◌+◌, ◌<◌, ◌≤◌, ◌≡◌, ◌≢◌, ◌⊎◌, Bool, true, false, length, Option, Some, None, is_none, slice_index}
+use Rattle.std.specs.Prelude.{ℕ, ◌+◌, ◌<◌, ◌≤◌, ◌≡◌, ◌≢◌, ◌⊎◌, Bool, true, false, length, None, is_none, slice_index}
 use Rattle.demand_matching.specs.declared.table.Table.{Table}
 use Rattle.demand_matching.specs.declared.order.Order.{Order}
 use Rattle.demand_matching.specs.Domains.{is_present}

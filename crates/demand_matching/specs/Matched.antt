@@ -1,5 +1,5 @@
 -- What holds of a matching whenever it is not at work: it is a maximum.
-use Rattle.std.specs.Prelude.{ℕ, ◌+◌, ◌≤◌, Bool, List, None, replicate}
+use Rattle.std.specs.Prelude.{ℕ, ◌+◌, ◌≤◌, Bool}
 use Rattle.demand_matching.specs.declared.table.Table.{Table}
 use Rattle.demand_matching.specs.declared.order.Order.{Order}
 use Rattle.demand_matching.specs.Domains.{Domains}

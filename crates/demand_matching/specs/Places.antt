@@ -1,5 +1,5 @@
 -- Which demand has which supply.
-use Rattle.std.specs.Prelude.{ℕ, ◌<◌, ◌≡◌, Bool, true, Option, Some, List}
+use Rattle.std.specs.Prelude.{ℕ, ◌<◌, ◌≡◌, Bool, true, Option, Some}
 
 -- demands below n and supplies below m, which supplies a demand may have, and who has which: each
 -- demand has a supply at most, which it may have, and each supply knows who has it

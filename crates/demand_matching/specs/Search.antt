@@ -1,5 +1,5 @@
 -- A search over a table: the first demands of an order are those that it met.
-use Rattle.std.specs.Prelude.{ℕ, ◌+◌, ◌<◌, ◌≤◌, ◌≡◌, true, length, List, Option, Some, None, slice_index}
+use Rattle.std.specs.Prelude.{ℕ, ◌+◌, ◌<◌, ◌≤◌, ◌≡◌, true, length, List, Some, None, slice_index}
 use Rattle.demand_matching.specs.declared.table.Table.{Table}
 use Rattle.demand_matching.specs.declared.table.Reach.{Reach}
 use Rattle.demand_matching.specs.declared.table.Reach.TheVariants.{Free, Met}

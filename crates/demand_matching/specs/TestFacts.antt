@@ -1,5 +1,5 @@
 -- What the tests keep of a matching.
-use Rattle.std.specs.Prelude.{ℕ, ◌≡◌, length}
+use Rattle.std.specs.Prelude.{◌≡◌, length}
 use Rattle.demand_matching.specs.Domains.{Domains}
 
 -- as many demands, times and resources

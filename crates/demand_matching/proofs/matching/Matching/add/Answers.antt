@@ -1,6 +1,5 @@
-use Rattle.std.proofs.Common.{◌<◌, ◌≡◌, None, sym, ap, ◌∙◌, length, arith}
+use Rattle.std.proofs.Common.{◌<◌, ◌≡◌, None, ap, ◌∙◌}
 use Rattle.demand_matching.specs.Domains.{domain_of}
-use Rattle.demand_matching.specs.Listing.{IsListing}
 use Rattle.demand_matching.specs.Table.{domains_of, demands_in}
 use Rattle.demand_matching.proofs.Keeps.{add_listing, add_maximum}
 use Rattle.demand_matching.proofs.matching.Matching.add.Goals as goal

@@ -1,5 +1,3 @@
-use Rattle.std.proofs.Common.{ℕ, Option}
-use Rattle.demand_matching.specs.Excess.{IsDeficit, IsAssignment}
 use Rattle.demand_matching.specs.Table.{place_of}
 use Rattle.demand_matching.proofs.Keeps.{deficit_is, assigned, supply_parts}
 use Rattle.demand_matching.proofs.matching.Matching.deficit.Goals as goal

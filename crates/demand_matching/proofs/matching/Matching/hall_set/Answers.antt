@@ -1,10 +1,8 @@
-use Rattle.std.proofs.Common.{ℕ, ◌≡◌, Bool, List, ap, ◌∙◌, subst, eqb, length, sym}
+use Rattle.std.proofs.Common.{ℕ, List, ap, ◌∙◌, subst, eqb}
 use Rattle.std.specs.List.{list_any}
 use Rattle.demand_matching.specs.Domains.{Domains}
 use Rattle.demand_matching.specs.Excess.{IsHallSet}
-use Rattle.demand_matching.specs.Matched.{IsMaximum}
 use Rattle.demand_matching.specs.Order.{is_first}
-use Rattle.demand_matching.specs.Table.{demands_in}
 use Rattle.demand_matching.proofs.Hall.{never_open, hall_is, max_copy, if_ok_map}
 use Rattle.demand_matching.proofs.matching.Matching.hall_set.Goals as goal
 

@@ -1,6 +1,6 @@
 use Rattle.std.proofs.Common.{◌<◌, ◌≡◌, true, not, sym, ap, ◌∙◌}
 use Rattle.std.specs.Prelude.{is_some}
-use Rattle.demand_matching.specs.Table.{domains_of, demands_in}
+use Rattle.demand_matching.specs.Table.{demands_in}
 use Rattle.demand_matching.proofs.Keeps.{remove_placed, remove_left, present_read}
 use Rattle.demand_matching.proofs.matching.Matching.remove.Goals as goal
 

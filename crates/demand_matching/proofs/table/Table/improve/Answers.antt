@@ -1,8 +1,6 @@
-use Rattle.std.proofs.Common.{ℕ, ◌+◌, ◌-◌, ◌<◌, ◌≤◌, ◌≡◌, false, true, get_or, length, refl, sym, ap, ◌∙◌, arith, inl, inr}
-use Rattle.std.specs.Prelude.{is_none}
+use Rattle.std.proofs.Common.{length, refl, sym, ap, ◌∙◌, arith, inl, inr}
 use Rattle.std.proofs.lemmas.Bool.{true≢false}
 use Rattle.demand_matching.specs.Listing.{IsListing}
-use Rattle.demand_matching.specs.Table.{demands_in}
 use Rattle.demand_matching.proofs.Duality.{none_from}
 use Rattle.demand_matching.proofs.Listings.{listing_kept, listing_less}
 use Rattle.demand_matching.proofs.Shifts.{stuck, same_but, placed_left}

@@ -1,5 +1,5 @@
-use Rattle.std.proofs.Common.{◌≡◌, ◌+◌, ◌<◌, ◌≤◌, Some, length, arith, get_or, set}
-use Rattle.demand_matching.specs.Table.{domains_of, place_of, owner_of, demands_in}
+use Rattle.std.proofs.Common.{◌<◌, ◌≤◌, length, arith, get_or}
+use Rattle.demand_matching.specs.Table.{demands_in}
 use Rattle.demand_matching.proofs.Searches.{meets_more, keeps_first, owner_read, owner_below, spot_read}
 use Rattle.demand_matching.proofs.table.Table.meet.Goals as goal
 

@@ -1,7 +1,6 @@
-use Rattle.std.proofs.Common.{ℕ, ◌<◌, ◌≡◌, ◌+◌, Some, length, arith, get_or, inl, inr, sym}
+use Rattle.std.proofs.Common.{◌<◌, length, arith, get_or, inl, inr}
 use Rattle.demand_matching.specs.declared.table.Reach.TheVariants.{Free, Met}
-use Rattle.demand_matching.specs.Domains.{domain_of}
-use Rattle.demand_matching.specs.Table.{domains_of, demands_in}
+use Rattle.demand_matching.specs.Table.{demands_in}
 use Rattle.demand_matching.proofs.Counting.{cases_last}
 use Rattle.demand_matching.proofs.Searches.{goes_on_from, domain_read, all_reached, reached_still}
 use Rattle.demand_matching.proofs.table.Table.meet_all.Goals as goal

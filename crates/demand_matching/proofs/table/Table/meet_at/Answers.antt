@@ -1,8 +1,7 @@
-use Rattle.std.proofs.Common.{◌≡◌, ◌+◌, ◌<◌, true, arith, inl, inr}
+use Rattle.std.proofs.Common.{arith, inl, inr}
 use Rattle.demand_matching.specs.declared.table.Reach.TheVariants.{Free, Met}
 use Rattle.demand_matching.proofs.Searches.{goes_on_from, may_still, reached_still}
 use Rattle.demand_matching.proofs.Counting.{cases_last}
-use Rattle.demand_matching.specs.Table.{domains_of, may_take, supply_at}
 use Rattle.demand_matching.proofs.table.Table.meet_at.Goals as goal
 
 pub meet-requires-clause-allowed : goal.meet-requires-clause-allowed

@@ -1,4 +1,4 @@
-use Rattle.std.proofs.Common.{ℕ, ◌<◌, ◌≤◌}
+use Rattle.std.proofs.Common.{ℕ, ◌<◌}
 use Rattle.demand_matching.specs.declared.table.Reach.TheVariants.{Met}
 use Rattle.demand_matching.specs.Table.{domains_of, supply_at}
 use Rattle.demand_matching.specs.Search.{GoesOn, IsReached}

@@ -1,7 +1,6 @@
-use Rattle.std.proofs.Common.{ℕ, ◌+◌, ◌*◌, ◌<◌, ◌≤◌, ◌≡◌, Some, None, true, length, get_or, sym, ap, ◌∙◌, arith, inl, inr}
+use Rattle.std.proofs.Common.{◌*◌, ◌<◌, ◌≡◌, Some, length, get_or, sym, ap, ◌∙◌, arith, inl, inr}
 use Rattle.std.specs.Prelude.{is_none}
-use Rattle.demand_matching.specs.Table.{domains_of, may_take, place_of, owner_of, demands_in, supplies_in, IsTable}
-use Rattle.demand_matching.specs.Search.{IsMet}
+use Rattle.demand_matching.specs.Table.{domains_of, may_take, place_of, demands_in}
 use Rattle.demand_matching.proofs.Counting.{cases_eqb}
 use Rattle.demand_matching.proofs.Duality.{some_not_none}
 use Rattle.demand_matching.proofs.Searches.{spot_read}
