@@ -1,0 +1,15 @@
+pub mod Changes
+pub mod Counting
+pub mod Duality
+pub mod Listings
+pub mod Moves
+pub mod OrderLemmas
+pub mod Picks
+pub mod Searches
+pub mod Supplies
+pub mod Shifts
+pub mod Maxima
+pub mod Keeps
+pub mod Firsts
+pub mod Hall
+pub mod TestLemmas

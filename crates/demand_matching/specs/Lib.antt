@@ -1,0 +1,11 @@
+pub mod Counts
+pub mod Domains
+pub mod Excess
+pub mod Listing
+pub mod Matched
+pub mod Members
+pub mod Order
+pub mod Places
+pub mod Search
+pub mod Table
+pub mod TestFacts

@@ -1,0 +1,41 @@
+-- The domains of a table, and who has which supply in it.
+use Rattle.std.specs.Prelude.{ℕ, ◌+◌, ◌*◌, ◌/◌, ◌%◌, ◌^◌, ◌<◌, ◌≡◌, Bool, length, Option, Some, None, slice_index, slice_index_or}
+use Rattle.demand_matching.specs.declared.domains.Domain.{Domain}
+use Rattle.demand_matching.specs.declared.table.Table.{Table}
+use Rattle.demand_matching.specs.Domains.{Domains, may_have, domain_of, IsInRange}
+use Rattle.demand_matching.specs.Members.{picked}
+use Rattle.demand_matching.specs.Places.{IsMatching}
+
+-- the domains that the table keeps
+abbrev pub domains_of : Table → Domains
+domains_of t = record { times = t.times; resources = t.resources; last = t.last; width = t.width; demands = t.demands.items }
+
+-- a supply as one number: the times of the first resource, then those of the second, and so on
+abbrev pub may_take : Domains → ℕ → ℕ → Bool
+may_take w demand supply = may_have w demand (supply / w.last) (supply % w.last)
+
+-- the supply of a resource and a time of the domain, by their places
+abbrev pub supply_at : Domains → Domain → ℕ → ℕ → ℕ
+supply_at w d i j = slice_index (picked w.resources d.resources) i * w.last + (slice_index (picked w.times d.times) j + d.shift)
+
+-- which supply a demand has, and which demand has a supply
+abbrev pub place_of : Table → ℕ → Option ℕ
+place_of t demand = slice_index_or t.places.items demand None
+
+abbrev pub owner_of : Table → ℕ → Option ℕ
+owner_of t supply = slice_index_or t.owners.items supply None
+
+-- how many demands and how many supplies there are
+abbrev pub demands_in : Table → ℕ
+demands_in t = length t.demands.items
+
+abbrev pub supplies_in : Table → ℕ
+supplies_in t = t.width * t.last
+
+-- all domains are in range, and each demand that has a supply may have it
+pub record IsTable (t : Table) : Type 0 where
+  pub small : length t.demands.items < 2 ^ 32
+  pub places_length : length t.places.items ≡ length t.demands.items
+  pub owners_length : length t.owners.items ≡ t.width * t.last
+  pub in_range : (demand : ℕ) (d : Domain) → domain_of (domains_of t) demand ≡ Some d → IsInRange (domains_of t) d
+  pub matching : IsMatching (length t.demands.items) (t.width * t.last) (may_take (domains_of t)) (place_of t) (owner_of t)

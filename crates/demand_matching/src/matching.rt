@@ -1,0 +1,147 @@
+ghost use Rattle.std.specs.Prelude.{◌≡◌, ◌<◌, ◌==◌, ℕ, length, IfOk, None, Some, Option};
+ghost use Rattle.std.specs.List.Sorted.{IsStrictlyIncreasing};
+ghost use Rattle.std.specs.Option.{ForSome};
+ghost use Rattle.std.specs.List.{list_any};
+ghost use Rattle.demand_matching.specs.Domains.{Domains, IsInRange, domain_of, with_domain, no_domains};
+ghost use Rattle.demand_matching.specs.Excess.{IsDeficit, IsHallSet, IsAssignment};
+
+use crate::Domain;
+use crate::order::Order;
+use crate::sets::Sets;
+use crate::table::{Found, Table};
+use khe_base::{IdSet, NoMemory, Seq};
+use std::alloc::Global;
+use std::marker::Model;
+
+/// Demands, each with a domain while it is present, and a maximum matching of them with supplies.
+/// A supply is a resource at a time. Contracts see the given sets, the number of times, the number
+/// of resources, and the domain of each demand.
+///
+/// It takes memory in proportion to the demands, the supplies and the sizes of the sets.
+#[derive(Drop)]
+pub struct Matching {
+    table: Table,
+    order: Order,
+    left: usize,
+}
+
+impl Model for Matching {
+    ghost use Rattle.demand_matching.specs.Domains.{Domains};
+
+    ghost Value = { Domains };
+
+    ghost use Rattle.demand_matching.specs.Table.{domains_of};
+    ghost use Rattle.demand_matching.specs.Matched.{IsMaximum};
+
+    ghost view = { λ m. domains_of m.table };
+
+    ghost invariant = { λ m. IsMaximum m.table m.order m.left };
+}
+
+impl Matching {
+    /// So many demands, numbered from 0, all absent. `last` is the number of times, `width` that
+    /// of the resources; a domain names the given sets by their places in the two lists. It takes
+    /// all memory that later changes need.
+    pub fn new(
+        alloc: Global,
+        demands: u32,
+        times: Seq<IdSet>,
+        resources: Seq<IdSet>,
+        last: u32,
+        width: u32,
+    ) -> Result<Matching, NoMemory>
+        ensures { IfOk result (λ m. m ≡ no_domains times resources last width demands) }
+    {
+        let count = demands as usize;
+        let supplies = width as usize * last as usize;
+        let table = Table {
+            times: Sets::new(alloc, times)?,
+            resources: Sets::new(alloc, resources)?,
+            last,
+            width,
+            demands: vec![in alloc; None; count]?,
+            places: vec![in alloc; None; count]?,
+            owners: vec![in alloc; None; supplies]?,
+        };
+        let order = Order::new(alloc, count)?;
+        Ok(Matching {
+            table,
+            order,
+            left: 0,
+        })
+    }
+
+    /// Gives a demand a new domain, or makes it absent where there is none; all other demands
+    /// keep theirs. It takes no memory.
+    ///
+    /// It takes two searches at most: one from the demands that are left out, where the demand
+    /// frees a supply, and one from the demand itself. Each looks only at the supplies of the
+    /// demands that it meets, and ends at the first free supply. So a demand whose one supply is
+    /// free has it in constant time.
+    pub fn set_domain(&mut self, demand: u32, domain: Option<Domain>)
+        requires demand { demand < length self.old.demands }
+        requires domain { ForSome domain (IsInRange self.old) }
+        ensures { self.new ≡ with_domain self.old demand domain }
+    {
+        let demand = demand as usize;
+        self.remove(demand);
+        if let Some(domain) = domain {
+            self.add(demand, domain);
+        }
+    }
+
+    /// The greatest excess of a set of present demands: its size less the number of supplies that
+    /// at least one of them may have. So many present demands are left without a supply of their
+    /// own. It takes constant time and no memory.
+    pub fn deficit(&self) -> u32
+        ensures greatest { IsDeficit self.now result }
+        ensures served { (supply : ℕ → Option (ℕ × ℕ)) × IsAssignment self.now supply result }
+    {
+        self.left as u32
+    }
+
+    /// The least set of present demands whose excess is the deficit, ascending: it is contained in
+    /// each set that has this excess. Where the deficit is 0 it is empty.
+    ///
+    /// It takes time and memory in proportion to the demands, and the time of one search from
+    /// those that are left out.
+    pub fn hall_set(&self, alloc: Global) -> Result<Seq<u32>, NoMemory>
+        ensures ascending { IfOk result (λ hall. IsStrictlyIncreasing hall) }
+        ensures least { IfOk result (λ hall. IsHallSet self.now (λ demand. list_any (λ member. member == demand) hall)) }
+    {
+        let mut order = self.order.copy(alloc)?;
+        match self.table.search(&mut order, 0, self.left) {
+            Found::Closed(met) => order.first(alloc, met),
+            Found::Open(..) => unreachable!(),
+        }
+    }
+
+    fn remove(&mut self, demand: usize)
+        requires { demand < length self.old.demands }
+        ensures { self.new ≡ with_domain self.old demand None }
+    {
+        if self.table.demands[demand].is_none() {
+            return;
+        }
+        match self.table.drop_domain(demand) {
+            Some(_) => self.left = self.table.improve(&mut self.order, 0, self.left),
+            None => {
+                let last = self.left - 1;
+                self.order.put(demand, last);
+                self.left = last;
+            }
+        }
+    }
+
+    fn add(&mut self, demand: usize, domain: Domain)
+        requires demand { demand < length self.old.demands }
+        requires absent { domain_of self.old demand ≡ None }
+        requires domain { IsInRange self.old domain }
+        ensures { self.new ≡ with_domain self.old demand (Some domain) }
+    {
+        self.table.put_domain(demand, domain);
+        let left = self.left;
+        self.order.put(demand, left);
+        self.left = self.table.improve(&mut self.order, left, left + 1);
+    }
+}
