@@ -13,3 +13,4 @@ pub mod Keeps
 pub mod Firsts
 pub mod Hall
 pub mod TestLemmas
+pub mod TrialLemmas
