@@ -43,7 +43,7 @@ none_from o e = rw e refl
 pub some_is : (o : Option ℕ) → is_none o ≡ false → (s : ℕ) × (o ≡ Some s)
 some_is o h = elim o as (λ v. is_none v ≡ false → (s : ℕ) × (v ≡ Some s)) [ None ↦ λ e. absurd (true≢false e) | Some x ↦ λ _. (x, refl) ] h
 
-same_some : (a b : ℕ) → (o : Option ℕ) → o ≡ Some a → o ≡ Some b → a ≡ b
+pub same_some : (a b : ℕ) → (o : Option ℕ) → o ≡ Some a → o ≡ Some b → a ≡ b
 same_some a b o p q = cc
 
 -- the members of a set that have no supply, and those that have one

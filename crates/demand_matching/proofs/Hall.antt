@@ -11,12 +11,9 @@ use Rattle.demand_matching.specs.Matched.{IsMaximum}
 use Rattle.demand_matching.specs.Places.{IsSaturated}
 use Rattle.demand_matching.specs.Search.{IsSearch, IsOpen, IsClosed}
 use Rattle.demand_matching.specs.Table.{domains_of, may_take, place_of, owner_of, demands_in, supplies_in, IsTable}
-use Rattle.demand_matching.proofs.Duality.{HasLeftOut}
+use Rattle.demand_matching.proofs.Duality.{HasLeftOut, same_some}
 use Rattle.demand_matching.specs.Order.{IsOrder, is_first}
 use Rattle.demand_matching.proofs.Maxima.{bounded, saturated_exceeds, exceeds_left, exceeds_saturated}
-
-same_some : (a b : ℕ) → (o : Option ℕ) → o ≡ Some a → o ≡ Some b → a ≡ b
-same_some a b o p q = cc
 
 -- a set that has all that are left out, and whose supplies are those of its members, has all that are met
 all_in : (t : Table) (demands spots met_from : List ℕ) (len : ℕ) (set : ℕ → Bool) → IsTable t → IsSearch t demands spots met_from len → HasLeftOut (demands_in t) (is_present (domains_of t)) (place_of t) set → IsSaturated (demands_in t) (supplies_in t) (may_take (domains_of t)) (owner_of t) set → (b k : ℕ) → k < b → k < len → set (get_or demands k 0) ≡ true

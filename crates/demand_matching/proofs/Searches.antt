@@ -13,6 +13,7 @@ use Rattle.demand_matching.specs.Table.{domains_of, may_take, place_of, owner_of
 use Rattle.demand_matching.specs.Search.{IsSearch, KeepsFirst, IsReached, GoesOn}
 use Rattle.demand_matching.proofs.Supplies.{supply_allowed, supply_found, may_present}
 use Rattle.demand_matching.proofs.Counting.{cases_last}
+use Rattle.demand_matching.proofs.Duality.{same_some}
 
 -- who has a supply, as the table's list has it
 pub owner_read : (t : Table) (supply d : ℕ) (x : Option ℕ) → IsTable t → supply < supplies_in t → x ≡ get_or t.owners.items supply x → x ≡ Some d → owner_of t supply ≡ Some d
@@ -27,9 +28,6 @@ keeps_first n order spots order' spots' d len is moves l m far = record {
   demand = λ k h. moves.other_places k (λ x. absurd (omega arith)) (λ x. absurd (omega arith));
   spot = λ e h. moves.other_spots e (λ x. absurd (omega (arith, ap (λ v. get_or spots v 0) x))) (λ x. absurd (omega (arith, ap (λ v. get_or spots v 0) x, is.spot_order len m)));
 }
-
-same_some : (a b : ℕ) → (o : Option ℕ) → o ≡ Some a → o ≡ Some b → a ≡ b
-same_some a b o p q = cc
 
 pub meets_more : (t : Table) (order spots met_from order' spots' : List ℕ) (d place len supply : ℕ) → IsTable t → IsSearch t order spots met_from len → IsOrder (demands_in t) order' spots' → ChangesPlaces order spots order' spots' d len → owner_of t supply ≡ Some d → place < len → len ≤ get_or spots d 0 → may_take (domains_of t) (get_or order place 0) supply ≡ true → IsSearch t order' spots' (set met_from d place) (len + 1)
 meets_more t order spots met_from order' spots' d place len supply is_table is order_is moves owner near far may =
