@@ -1,5 +1,5 @@
 -- Where a meet slot stands.
-use Rattle.std.proofs.Common.{ℕ, ◌≡◌, ◌+◌, ◌-◌, ◌<◌, ◌≤◌, ◌⊎◌, inl, inr, Some, List, [], ◌∷◌, ◌++◌, length, get_or, refl, sym, ap, subst, ◌∙◌, arith, suc, slice_get, length-append, zero-add}
+use Rattle.std.proofs.Common.{ℕ, ◌≡◌, ◌+◌, ◌-◌, ◌<◌, ◌≤◌, inl, inr, Some, List, [], ◌∷◌, length, get_or, refl, sym, ap, subst, ◌∙◌, arith, suc, slice_get, length-append, zero-add}
 use Rattle.std.specs.Prelude.{replicate}
 use Rattle.std.specs.List.{sum_by}
 use Rattle.std.proofs.Math.Seq.{get_or-append_right}

@@ -1,13 +1,9 @@
 -- Costs, defects and totals.
-use Rattle.std.specs.Prelude.{ℕ, ◌<◌, ◌==◌, Bool, true, false, not, if◌then◌else◌, List, slice_get}
-use Rattle.std.specs.List.{filter, list_any, sum_by}
+use Rattle.std.specs.Prelude.{ℕ, Bool, false, if◌then◌else◌, slice_get}
 use Rattle.std.specs.Option.{option_map_or}
 use Rattle.khe_base.specs.Costs.{cost_of}
-use Rattle.khe_base.specs.declared.numbers.MonitorId.{MonitorId}
-use Rattle.khe_base.specs.declared.sums.Totals.{Totals}
 use Rattle.khe_instance.specs.declared.parts.Parts.{Parts}
 use Rattle.khe_instance.specs.declared.points.Monitor.{Monitor}
-use Rattle.khe_instance.specs.declared.rules.Constraint.{Constraint}
 
 -- what a monitor costs by its deviation: nothing where it is detached
 abbrev pub monitor_cost : Parts → Bool → Monitor → ℕ → ℕ

@@ -1,17 +1,13 @@
 -- The deviation of a monitor.
-use Rattle.std.specs.Prelude.{ℕ, Bool, true, false, ◌==◌, Option, Some, None, List, length, slice_get}
+use Rattle.std.specs.Prelude.{ℕ, Bool, List, length, slice_get}
 use Rattle.std.specs.Option.{option_map_or}
-use Rattle.khe_base.specs.declared.numbers.EventId.{EventId}
-use Rattle.khe_base.specs.declared.numbers.ResourceId.{ResourceId}
 use Rattle.khe_instance.specs.EventDeviation as event
 use Rattle.khe_instance.specs.ResourceDeviation as resource
-use Rattle.khe_instance.specs.Running.{Duty}
+use Rattle.khe_instance.specs.declared.states.Duty.{Duty}
 use Rattle.khe_instance.specs.declared.parts.Parts.{Parts}
 use Rattle.khe_instance.specs.declared.points.Point.{Point}
 use Rattle.khe_instance.specs.declared.points.Point.TheVariants.{Event, EventResource, EventGroup, EventPair as Pair, Resource}
 use Rattle.khe_instance.specs.declared.points.Monitor.{Monitor}
-use Rattle.khe_instance.specs.declared.rules.Constraint.{Constraint}
-use Rattle.khe_instance.specs.declared.rules.EventPair.{EventPair}
 use Rattle.khe_instance.specs.declared.rules.Rule.{Rule}
 use Rattle.khe_instance.specs.declared.rules.Rule.TheVariants.{AssignTime, AssignResource, SplitEvents, DistributeSplitEvents, PreferTimes, PreferResources, AvoidSplitAssignments, SpreadEvents, LinkEvents, OrderEvents, AvoidClashes, AvoidUnavailableTimes, LimitIdleTimes, ClusterBusyTimes, LimitBusyTimes, LimitWorkload}
 use Rattle.khe_instance.specs.declared.states.Meet.{Meet}

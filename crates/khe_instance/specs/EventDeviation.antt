@@ -1,16 +1,16 @@
 -- The deviations of the kinds whose points are events, event resources, event groups and pairs of
 -- events. Each is the page of its kind in the XHSTT format, over lists of meets and of tasks with
 -- their meets.
-use Rattle.std.specs.Prelude.{ℕ, ◌+◌, ◌-◌, ◌==◌, Bool, true, false, not, ◌&&◌, ◌||◌, nat_lt, nat_le, min, max, Option, Some, None, is_none, List, [], ◌∷◌, length, slice_get}
+use Rattle.std.specs.Prelude.{ℕ, ◌+◌, ◌-◌, ◌==◌, Bool, true, false, not, ◌&&◌, ◌||◌, nat_lt, min, max, Option, Some, None, is_none, List, [], ◌∷◌, length, slice_get}
 use Rattle.std.specs.List.{filter, filter_map, fold, list_any, list_all, count_by, sum_by, range_with_len}
 use Rattle.std.specs.Option.{option_map, option_and_then}
 use Rattle.std.specs.Str.{bytes_eq}
 use Rattle.khe_base.specs.IdSet.{has_member}
 use Rattle.khe_base.specs.declared.numbers.TimeId.{TimeId}
-use Rattle.khe_instance.specs.Running.{Duty, is_resource, meets_of, event_runs}
+use Rattle.khe_instance.specs.Running.{is_resource, meets_of, event_runs}
+use Rattle.khe_instance.specs.declared.states.Duty.{Duty}
 use Rattle.khe_instance.specs.Within.{out}
 use Rattle.khe_instance.specs.declared.parts.EventInfo.{EventInfo}
-use Rattle.khe_instance.specs.declared.parts.Place.{Place}
 use Rattle.khe_instance.specs.declared.rules.Spread.{Spread}
 use Rattle.khe_instance.specs.declared.states.Meet.{Meet}
 

@@ -1,14 +1,9 @@
 -- Small meets, tasks and sets for examples.
 use Rattle.std.specs.Prelude.{ℕ, Bool, true, Some, None, List, [], ◌∷◌, replicate, codes}
-use Rattle.khe_instance.specs.Running.{Duty}
+use Rattle.khe_instance.specs.declared.states.Duty.{Duty}
 use Rattle.khe_instance.specs.declared.parts.EventInfo.{EventInfo}
-use Rattle.khe_instance.specs.declared.parts.Place.{Place}
 use Rattle.khe_instance.specs.declared.rules.Spread.{Spread}
 use Rattle.khe_instance.specs.declared.states.Meet.{Meet}
-use Rattle.khe_base.specs.declared.numbers.EventId.{EventId}
-use Rattle.khe_base.specs.declared.numbers.MeetId.{MeetId}
-use Rattle.khe_base.specs.declared.numbers.TimeId.{TimeId}
-use Rattle.khe_base.specs.declared.numbers.ResourceId.{ResourceId}
 
 -- a meet by its number, its event, its duration and its start
 abbrev pub meet : ℕ → ℕ → ℕ → ℕ → Meet

@@ -1,10 +1,12 @@
 pub mod Costs
 pub mod Deviation
+pub mod Evaluated
 pub mod EventDeviation
 pub mod Examples
 pub mod Kinds
 pub mod ResourceDeviation
 pub mod Running
 pub mod Slots
+pub mod States
 pub mod WellMade
 pub mod Within

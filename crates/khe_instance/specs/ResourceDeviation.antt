@@ -1,13 +1,13 @@
 -- The deviations of the kinds whose points are resources. Each is the page of its kind in the XHSTT
 -- format, over the tasks with their meets.
-use Rattle.std.specs.Prelude.{ℕ, ◌+◌, ◌-◌, ◌*◌, ◌/◌, Bool, true, false, not, ◌&&◌, nat_lt, if◌then◌else◌, Option, Some, None, List, [], length, slice_get}
+use Rattle.std.specs.Prelude.{ℕ, ◌+◌, ◌-◌, ◌*◌, ◌/◌, Bool, not, ◌&&◌, nat_lt, List, length, slice_get}
 use Rattle.std.specs.List.{filter, list_any, count_by, sum_by, range_with_len}
 use Rattle.std.specs.Option.{option_map_or}
 use Rattle.khe_base.specs.IdSet.{has_member}
-use Rattle.khe_instance.specs.Running.{Duty, is_resource, running_tasks, busy}
+use Rattle.khe_instance.specs.Running.{is_resource, running_tasks, busy}
+use Rattle.khe_instance.specs.declared.states.Duty.{Duty}
 use Rattle.khe_instance.specs.Within.{out}
 use Rattle.khe_instance.specs.declared.parts.EventInfo.{EventInfo}
-use Rattle.khe_instance.specs.declared.parts.Place.{Place}
 
 -- the times of an instance with so many
 abbrev pub all_times : ℕ → List ℕ

@@ -1,17 +1,12 @@
 -- Which meets and events run when, and when resources are busy.
-use Rattle.std.specs.Prelude.{ℕ, ◌+◌, ◌==◌, Bool, true, false, ◌&&◌, nat_lt, nat_le, Option, Some, None, List, [], ◌∷◌}
+use Rattle.std.specs.Prelude.{ℕ, ◌+◌, ◌==◌, Bool, false, ◌&&◌, nat_lt, nat_le, Option, Some, None, List}
 use Rattle.std.specs.List.{filter, flat_map, list_any, count_by}
 use Rattle.std.specs.Prelude.{map}
 use Rattle.khe_base.specs.declared.numbers.TimeId.{TimeId}
 use Rattle.khe_base.specs.declared.numbers.ResourceId.{ResourceId}
+use Rattle.khe_instance.specs.declared.states.Duty.{Duty}
 use Rattle.khe_instance.specs.declared.states.Meet.{Meet}
 use Rattle.khe_instance.specs.declared.states.Task.{Task}
-
--- a task with its meet
-pub record Duty : Type 0 where
-  pub meet : Meet
-  pub place : ℕ
-  pub resource : Option ResourceId
 
 -- the tasks of meets, each with its meet
 abbrev pub duties : List Meet → List Task → List Duty

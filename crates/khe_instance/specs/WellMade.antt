@@ -1,6 +1,6 @@
 -- Which parts make an instance: every number names something, every set has the size of what it is
 -- a set of, and so on. Each fact has a name.
-use Rattle.std.specs.Prelude.{ℕ, ◌+◌, ◌*◌, ◌≡◌, ◌≢◌, if◌then◌else◌, ◌<◌, ◌≤◌, ◌==◌, ◌⊎◌, Bool, true, false, Option, Some, None, List, [], ◌∷◌, map, length, All, AllPairs, sum, slice_get, IfSome, IsSome}
+use Rattle.std.specs.Prelude.{ℕ, ◌+◌, ◌*◌, ◌≡◌, ◌≢◌, if◌then◌else◌, ◌<◌, ◌≤◌, ◌==◌, ◌⊎◌, Bool, true, Some, List, [], ◌∷◌, map, length, All, AllPairs, slice_get, IfSome, IsSome}
 use Rattle.std.specs.List.{filter, filter_map, sum_by, range_with_len}
 use Rattle.std.specs.List.Sorted.{IsNonDecreasing}
 use Rattle.std.specs.Option.{option_map, option_map_or}
@@ -10,20 +10,16 @@ use Rattle.khe_base.specs.Units.{IsUnit}
 use Rattle.khe_base.specs.declared.limits.TheConstants.{NUMBER, GREATEST_BOUND, TIMES, RESOURCE_TYPES, RESOURCES, EVENTS, EVENT_GROUPS, CONSTRAINTS, DURATION, TASKS, CELLS, LISTED, MONITORS, WATCHES, UNIT, WEIGHT}
 use Rattle.khe_base.specs.declared.numbers.EventId.{EventId}
 use Rattle.khe_base.specs.declared.numbers.ResourceId.{ResourceId}
-use Rattle.khe_base.specs.declared.numbers.TimeId.{TimeId}
 use Rattle.khe_instance.specs.EventDeviation.{role_at}
 use Rattle.khe_instance.specs.Kinds.{kind_of}
 use Rattle.khe_instance.specs.declared.parts.EventInfo.{EventInfo}
-use Rattle.khe_instance.specs.declared.parts.GroupInfo.{GroupInfo}
 use Rattle.khe_instance.specs.declared.parts.Parts.{Parts}
 use Rattle.khe_instance.specs.declared.parts.Place.{Place}
-use Rattle.khe_instance.specs.declared.parts.ResourceInfo.{ResourceInfo}
 use Rattle.khe_instance.specs.declared.points.Monitor.{Monitor}
 use Rattle.khe_instance.specs.declared.points.Point.{Point}
 use Rattle.khe_instance.specs.declared.points.Point.TheVariants.{Event, EventResource, EventGroup, EventPair as Pair, Resource}
 use Rattle.khe_instance.specs.declared.rules.Constraint.{Constraint}
 use Rattle.khe_instance.specs.declared.rules.EventPair.{EventPair}
-use Rattle.khe_instance.specs.declared.rules.Spread.{Spread}
 use Rattle.khe_instance.specs.declared.rules.Rule.{Rule}
 use Rattle.khe_instance.specs.declared.rules.Rule.TheVariants.{AssignTime, AssignResource, SplitEvents, DistributeSplitEvents, PreferTimes, PreferResources, AvoidSplitAssignments, SpreadEvents, LinkEvents, OrderEvents, AvoidClashes, AvoidUnavailableTimes, LimitIdleTimes, ClusterBusyTimes, LimitBusyTimes, LimitWorkload}
 

@@ -14,4 +14,4 @@ pub use instances::Instance;
 pub use parts::{EventInfo, GroupInfo, Parts, Place, ResourceInfo};
 pub use points::{Monitor, Point};
 pub use rules::{Constraint, EventPair, Kind, Rule, Spread};
-pub use states::{Group, Meet, Plain, Task};
+pub use states::{Duty, Group, Meet, Plain, Task};

@@ -17,6 +17,15 @@ pub struct Task {
     pub resource: Option<ResourceId>,
 }
 
+/// A task with its meet: what one resource has to do when the meet runs.
+#[derive(Clone, Copy, Debug, PartialEq, Eq)]
+pub struct Duty {
+    pub meet: Meet,
+    /// The number of the place of the meet's event.
+    pub place: u32,
+    pub resource: Option<ResourceId>,
+}
+
 /// A group of monitors whose costs are added up.
 #[derive(Debug, Drop)]
 pub struct Group {

@@ -1,6 +1,5 @@
 -- A slot below the sum of the durations stands in the list of slots.
 use Rattle.std.proofs.Common.{◌≡◌, ◌<◌, ◌∙◌, sym, ap, subst, length, get_or, arith, List, ℕ}
-use Rattle.std.specs.List.{sum_by}
 use Rattle.khe_instance.specs.Slots.{slots_from, HasSlot}
 use Rattle.khe_instance.specs.WellMade.{AreWellMade}
 use Rattle.khe_instance.specs.declared.parts.Parts.{Parts}

@@ -1,0 +1,78 @@
+-- Which timetables are states of an instance: what a solver may hold while it works, and what a
+-- timetable is that stands whole.
+use Rattle.std.specs.Prelude.{ℕ, ◌≡◌, ◌+◌, ◌<◌, ◌≤◌, Option, Some, List, [], ◌∷◌, map, length, All, AllPairs, ◌≢◌, IfSome, slice_get}
+use Rattle.std.specs.List.{sum_by, flat_map, range_with_len}
+use Rattle.std.specs.List.Sorted.{IsStrictlyIncreasing}
+use Rattle.std.specs.Option.{option_and_then, option_map_or}
+use Rattle.khe_base.specs.declared.numbers.TaskId.{TaskId}
+use Rattle.khe_instance.specs.Running.{duties, meets_of}
+use Rattle.khe_instance.specs.declared.states.Duty.{Duty}
+use Rattle.khe_instance.specs.Slots.{HasSlot}
+use Rattle.khe_instance.specs.WellMade.{HasType}
+use Rattle.khe_instance.specs.declared.parts.EventInfo.{EventInfo}
+use Rattle.khe_instance.specs.declared.parts.Parts.{Parts}
+use Rattle.khe_instance.specs.declared.parts.Place.{Place}
+use Rattle.khe_instance.specs.declared.states.Group.{Group}
+use Rattle.khe_instance.specs.declared.states.Meet.{Meet}
+use Rattle.khe_instance.specs.declared.states.Plain.{Plain}
+
+-- the greatest number of groups of monitors
+abbrev pub GROUPS : ℕ
+GROUPS = 200
+
+-- a meet stands in a slot of its event, and ends with the last time or before
+pub record IsMeet (p : Parts) (m : Meet) : Type 0 where
+  pub slot : HasSlot p.events m.event.0 m.meet.0
+  pub duration : 1 ≤ m.duration
+  pub ends : IfSome m.start (λ s. s.0 + m.duration ≤ length p.times)
+
+-- how many places an event has
+abbrev pub places_at : List EventInfo → ℕ → ℕ
+places_at events e = option_map_or (λ event. length event.places) (slice_get events e) 0
+
+-- the tasks of a meet: one for each place of its event
+abbrev pub tasks_of : Parts → Meet → List TaskId
+tasks_of p m = map (λ k. record { meet = m.meet; place = k }) (range_with_len 0 (places_at p.events m.event.0))
+
+-- the place that a task with its meet fills
+abbrev pub place_of : Parts → Duty → Option Place
+place_of p d = option_and_then (λ event. slice_get event.places d.place) (slice_get p.events d.meet.event.0)
+
+-- a given resource has the type of its place
+abbrev pub IsGiven : Parts → Duty → Type 0
+IsGiven p d = IfSome (place_of p d) (λ place. IfSome d.resource (HasType p place.rtype))
+
+-- the meets of each event last no longer together than the event does, and each place of each meet
+-- has one task and no other
+pub record IsTold (p : Parts) (s : Plain) : Type 0 where
+  pub meets : All (IsMeet p) s.meets
+  pub ascending : IsStrictlyIncreasing (map (λ m. m.meet.0) s.meets)
+  pub durations : (e : ℕ) (event : EventInfo) → slice_get p.events e ≡ Some event → sum_by (λ m. m.duration) (meets_of e s.meets) ≤ event.duration
+  pub tasks : map (λ t. t.task) s.tasks ≡ flat_map (tasks_of p) s.meets
+  pub given : All (IsGiven p) (duties s.meets s.tasks)
+
+-- the meets of an event last as long as it does, and one with a preassigned time has one meet, which
+-- starts then
+pub record IsPlaced (s : Plain) (e : ℕ) (event : EventInfo) : Type 0 where
+  pub whole : sum_by (λ m. m.duration) (meets_of e s.meets) ≡ event.duration
+  pub fixed : IfSome event.fixed (λ t. map (λ m. m.start) (meets_of e s.meets) ≡ Some t ∷ [])
+
+-- a place with a preassigned resource has it
+abbrev pub IsKept : Parts → Duty → Type 0
+IsKept p d = IfSome (place_of p d) (λ place. IfSome place.fixed (λ r. d.resource ≡ Some r))
+
+-- a group has a number below the greatest, and its children are monitors, each once
+pub record IsGroup (p : Parts) (g : Group) : Type 0 where
+  pub number : g.group.0 < GROUPS
+  pub children : All (λ m. m.0 < length p.monitors) g.children
+  pub once : AllPairs (λ x y. x ≢ y) g.children
+
+-- a timetable that stands whole
+pub record IsValid (p : Parts) (s : Plain) : Type 0 where
+  pub told : IsTold p s
+  pub events : (e : ℕ) (event : EventInfo) → slice_get p.events e ≡ Some event → IsPlaced s e event
+  pub kept : All (IsKept p) (duties s.meets s.tasks)
+  pub detached : All (λ m. m.0 < length p.monitors) s.detached
+  pub detached_once : IsStrictlyIncreasing (map (λ m. m.0) s.detached)
+  pub groups : All (IsGroup p) s.groups
+  pub groups_once : IsStrictlyIncreasing (map (λ g. g.group.0) s.groups)
