@@ -1,0 +1,4 @@
+pub mod Directories
+pub mod Faults
+pub mod Ids
+pub mod References
