@@ -4,6 +4,7 @@ pub mod Evaluated
 pub mod EventDeviation
 pub mod Examples
 pub mod Kinds
+pub mod Named
 pub mod ResourceDeviation
 pub mod Running
 pub mod Slots

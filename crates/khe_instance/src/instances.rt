@@ -2,48 +2,68 @@ ghost use Rattle.std.specs.Prelude.{◌≡◌, ◌<◌, ◌≤◌, ◌+◌, ◌+
 ghost use Rattle.std.specs.Option.{option_map};
 ghost use Rattle.std.specs.List.{sum_by};
 ghost use Rattle.khe_base.specs.declared.limits.TheConstants.{EVENTS};
+ghost use Rattle.khe_instance.specs.Named.{time_named, resource_named, event_named};
 ghost use Rattle.khe_instance.specs.Slots.{HasSlot, slots_from};
 ghost use Rattle.khe_instance.specs.WellMade.{AreWellMade};
 
+use crate::ids::names_of;
 use crate::parts::{EventInfo, Parts};
 use crate::points::Monitor;
 use crate::rules::Constraint;
-use khe_base::{EventId, IdSet, MeetId, MonitorId, NoMemory, ResourceId, Seq, Text, TimeId};
+use khe_base::{
+    EventId, IdSet, MeetId, MonitorId, Names, NoMemory, ResourceId, Seq, Text, TimeId, numbered,
+};
 use std::alloc::Global;
 use std::marker::Model;
 
 /// An instance: parts that are well made. It does not change. Contracts see its parts.
 ///
-/// No call but `new` takes memory, and each takes constant time.
+/// No call but `new` takes memory, and each takes constant time but for those that look an Id up.
 #[derive(Drop)]
 pub struct Instance {
     parts: Parts,
     /// The event of each meet slot.
     slots: Vec<u32>,
+    /// The Ids of the times, resources and events.
+    times: Names,
+    resources: Names,
+    events: Names,
 }
 
 impl Model for Instance {
     ghost use Rattle.khe_instance.specs.declared.parts.Parts.{Parts};
     ghost use Rattle.khe_instance.specs.Slots.{slots_from};
     ghost use Rattle.khe_instance.specs.WellMade.{AreWellMade};
-    ghost use Rattle.std.specs.Prelude.{◌≡◌};
+    ghost use Rattle.std.specs.Prelude.{◌≡◌, map};
 
     ghost Value = { Parts };
 
     ghost view = { λ i. i.parts };
 
-    ghost invariant = { λ i. AreWellMade i.parts × (i.slots.items ≡ slots_from 0 i.parts.events) };
+    ghost invariant = { λ i. AreWellMade i.parts × (i.slots.items ≡ slots_from 0 i.parts.events)
+        × (i.times ≡ i.parts.times) × (i.resources ≡ map (λ r. r.id) i.parts.resources) × (i.events ≡ map (λ e. e.id) i.parts.events) };
 }
 
 impl Instance {
     /// The instance with these parts. It takes time and memory in proportion to the durations of
-    /// all events together.
+    /// all events and the Ids of all times, resources and events together, on average.
     pub fn new(alloc: Global, parts: Parts) -> Result<Instance, NoMemory>
         requires { AreWellMade parts }
         ensures { IfOk result (λ i. i ≡ parts) }
     {
         let slots = slots_of(alloc, parts.events.as_slice())?;
-        Ok(Instance { parts, slots })
+        let Some(times) = numbered(alloc, parts.times.as_slice())? else {
+            unreachable!()
+        };
+        let resources = names_of(alloc, parts.resources.as_slice())?;
+        let events = names_of(alloc, parts.events.as_slice())?;
+        Ok(Instance {
+            parts,
+            slots,
+            times,
+            resources,
+            events,
+        })
     }
 
     /// What is true of every instance: its parts are well made.
@@ -149,6 +169,33 @@ impl Instance {
         ensures { option_map (λ g. g.events) (slice_get self.now.groups group) ≡ Some result.now }
     {
         &self.parts.groups.as_slice()[group as usize].events
+    }
+
+    /// The time with this Id, or `None` where no time has it. It takes the time of a hash of the
+    /// Id on average, whatever the number of times.
+    pub fn time_named(&self, id: &Text) -> Option<TimeId>
+        ensures { result ≡ time_named self.now id.now }
+    {
+        let number = self.times.number(id)?;
+        Some(TimeId(number as u32))
+    }
+
+    /// The resource with this Id, or `None` where no resource has it. It takes the time of a hash
+    /// of the Id on average, whatever the number of resources.
+    pub fn resource_named(&self, id: &Text) -> Option<ResourceId>
+        ensures { result ≡ resource_named self.now id.now }
+    {
+        let number = self.resources.number(id)?;
+        Some(ResourceId(number as u32))
+    }
+
+    /// The event with this Id, or `None` where no event has it. It takes the time of a hash of the
+    /// Id on average, whatever the number of events.
+    pub fn event_named(&self, id: &Text) -> Option<EventId>
+        ensures { result ≡ event_named self.now id.now }
+    {
+        let number = self.events.number(id)?;
+        Some(EventId(number as u32))
     }
 
     /// The Id of a time.

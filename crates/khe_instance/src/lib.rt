@@ -4,6 +4,7 @@
 
 #[cfg(test)]
 mod examples;
+mod ids;
 mod instances;
 mod parts;
 mod points;
