@@ -2,6 +2,7 @@
 //! numbers with a type of their own, costs, totals, and the limits of an instance.
 #![tactic(auto)]
 
+mod bounds;
 mod costs;
 mod id_sets;
 pub mod limits;
@@ -15,6 +16,7 @@ mod tests;
 mod texts;
 mod units;
 
+pub use bounds::out;
 pub use costs::{CostFn, cost};
 pub use id_sets::IdSet;
 pub use memory::NoMemory;

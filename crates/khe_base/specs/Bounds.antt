@@ -1,0 +1,13 @@
+-- How far a whole number, also one below 0, lies outside two bounds.
+use Rattle.std.specs.Prelude.{ℕ, ℤ, pos, neg_ℤ, ◌-ℤ◌, ◌≤ℤ◌, int_lt, unsigned_abs, if◌then◌else◌}
+
+-- below the least or above the greatest; the least comes first where it is above the greatest
+abbrev pub outside : ℤ → ℤ → ℤ → ℕ
+outside n least greatest =
+    if int_lt n least then unsigned_abs (least -ℤ n)
+    else if int_lt greatest n then unsigned_abs (n -ℤ greatest)
+    else 0
+
+-- between -10^12 and 10^12
+abbrev pub IsNearZero : ℤ → Type 0
+IsNearZero n = (neg_ℤ (pos 1000000000000) ≤ℤ n) × (n ≤ℤ pos 1000000000000)
