@@ -1,6 +1,6 @@
 ghost use Rattle.std.specs.Prelude.{◌≡◌, ◌≤◌};
 ghost use Rattle.khe_base.specs.Costs.{cost_of};
-ghost use Rattle.khe_base.specs.declared.limits.TheConstants.{GREATEST_DEVIATION, WEIGHT};
+ghost use Rattle.khe_base.specs.declared.limits.TheConstants.{GREATEST_COST, GREATEST_DEVIATION, WEIGHT};
 
 /// How the cost of a deviation grows: the `CostFunction` of a constraint.
 #[derive(Clone, Copy, Debug, PartialEq, Eq)]
@@ -20,7 +20,8 @@ pub enum CostFn {
 pub fn cost(function: CostFn, weight: u32, deviation: u64) -> u128
     requires weight { weight ≤ WEIGHT }
     requires deviation { deviation ≤ GREATEST_DEVIATION }
-    ensures { result ≡ cost_of function weight deviation }
+    ensures exact { result ≡ cost_of function weight deviation }
+    ensures small { result ≤ GREATEST_COST }
 {
     let weight = u128::from(weight);
     let deviation = u128::from(deviation);

@@ -65,6 +65,14 @@ pub const WEIGHT: u32 = 1_000_000;
 /// The greatest deviation that the limits allow: 2 * 10^11.
 pub const GREATEST_DEVIATION: u64 = 200_000_000_000;
 
+/// The greatest cost of one monitor that the limits allow: the greatest weight times the square of
+/// the greatest deviation, 4 * 10^28.
+pub const GREATEST_COST: u128 = 40_000_000_000_000_000_000_000_000_000;
+
+/// The greatest hard or soft total that the limits allow, of all monitors or of a group of them:
+/// 4 * 10^34.
+pub const GREATEST_TOTAL: u128 = 40_000_000_000_000_000_000_000_000_000_000_000;
+
 /// The greatest count of one cell of a timetable, a resource and a time: the greatest number of
 /// tasks.
 pub const GREATEST_COUNT: u32 = 200_000;
