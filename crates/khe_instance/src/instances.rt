@@ -73,6 +73,13 @@ impl Instance {
         let _ = &self.parts;
     }
 
+    /// Its own Id.
+    pub fn id(&self) -> &Text
+        ensures { result.now ≡ self.now.id }
+    {
+        &self.parts.id
+    }
+
     /// How many times there are.
     pub fn times(&self) -> u32
         ensures { result ≡ length self.now.times }
