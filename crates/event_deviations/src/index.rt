@@ -1,4 +1,4 @@
-ghost use Rattle.std.specs.Prelude.{◌≡◌, ◌≤◌, ◌<◌, Some, length, option_map, slice_get, All, IfOk};
+ghost use Rattle.std.specs.Prelude.{◌≡◌, ◌≤◌, ◌<◌, Some, length, option_map, slice_get, All, IfOk, IfSome};
 ghost use Rattle.std.specs.List.{sum_by};
 ghost use Rattle.khe_base.specs.declared.limits.TheConstants.{NUMBER, DURATION, EVENTS};
 ghost use Rattle.khe_instance.specs.EventDeviation.{duties_at};
@@ -95,6 +95,7 @@ impl<'a> Index<'a> {
         requires { place < places_at self.now.parts.events event.0 }
         ensures are { result.now ≡ duties_at event.0 place (duties_of self.now.plain.meets self.now.plain.tasks) }
         ensures bounded { sum_by (λ d. d.meet.duration) result.now ≤ NUMBER }
+        ensures given { All (λ d. IfSome d.resource (λ r. r.0 < length self.now.parts.resources)) result.now }
     {
         let places = self.duties.as_slice()[event.0 as usize].as_slice();
         places[place as usize].as_slice()
