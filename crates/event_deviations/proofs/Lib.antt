@@ -1,3 +1,5 @@
 pub mod Kit
 pub mod Beside
 pub mod Lookups
+pub mod MarkLemmas
+pub mod EventLemmas

@@ -4,7 +4,8 @@ ghost use Rattle.std.specs.Option.{option_map, option_map_or};
 ghost use Rattle.khe_base.specs.declared.limits.TheConstants.{NUMBER, GREATEST_DEVIATION, TIMES};
 ghost use Rattle.khe_instance.specs.Deviation.{event_deviation, pair_deviation};
 ghost use Rattle.khe_instance.specs.EventDeviation.{starts_outside, allows, order_of};
-ghost use Rattle.khe_instance.specs.WellMade.{IsRule};
+ghost use Rattle.khe_instance.specs.WellMade.{IsRule, IsPointOf};
+ghost use Rattle.khe_instance.specs.declared.points.Point.TheVariants.{EventPair as Pair};
 ghost use Rattle.khe_instance.specs.Within.{out as how_far};
 ghost use Rattle.event_deviations.specs.Bounded.{AreOfOneEvent};
 ghost use Rattle.event_deviations.specs.Ends.{greatest_of, least_of};
@@ -43,14 +44,15 @@ pub(crate) fn at_event(index: &Index<'_>, rule: &Rule, event: EventId) -> u64
 /// The deviation of a rule at a pair of its list; it takes the time of the meets of both events.
 pub(crate) fn at_pair(index: &Index<'_>, rule: &Rule, pair: u32) -> u64
     requires rule { IsRule index.now.parts rule.now }
+    requires pair { IsPointOf index.now.parts rule.now (Pair pair) }
     ensures exact { result ≡ pair_deviation index.now.plain.meets rule.now pair }
     ensures bound { result ≤ GREATEST_DEVIATION }
 {
     match rule {
-        Rule::OrderEvents { pairs } => match pairs.as_slice().get(pair as usize) {
-            Some(pair) => order(index.meets(pair.first), index.meets(pair.second), pair),
-            None => 0,
-        },
+        Rule::OrderEvents { pairs } => {
+            let pair = pairs.as_slice()[pair as usize];
+            order(index.meets(pair.first), index.meets(pair.second), pair)
+        }
         _ => 0,
     }
 }
@@ -124,11 +126,11 @@ fn is_outside(meet: &Meet, times: &IdSet, only: Option<u32>) -> bool
 }
 
 /// How far the second event's start is from where it may be, where both have a start.
-fn order(first: &[Meet], second: &[Meet], pair: &EventPair) -> u64
+fn order(first: &[Meet], second: &[Meet], pair: EventPair) -> u64
     requires first { All (λ m. IfSome m.start (λ s. s.0 + m.duration ≤ TIMES)) first.now }
     requires second { All (λ m. IfSome m.start (λ s. s.0 + m.duration ≤ TIMES)) second.now }
-    requires least { pair.now.min ≤ NUMBER }
-    ensures exact { result ≡ order_of (filter_map (λ m. option_map (λ s. s.0 + m.duration) m.start) first.now) (filter_map (λ m. option_map (λ s. s.0) m.start) second.now) pair.now.min pair.now.max }
+    requires least { pair.min ≤ NUMBER }
+    ensures exact { result ≡ order_of (filter_map (λ m. option_map (λ s. s.0 + m.duration) m.start) first.now) (filter_map (λ m. option_map (λ s. s.0) m.start) second.now) pair.min pair.max }
     ensures bound { result ≤ GREATEST_DEVIATION }
 {
     let Some(end) = last_end(first) else {

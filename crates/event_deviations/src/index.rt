@@ -1,6 +1,6 @@
 ghost use Rattle.std.specs.Prelude.{◌≡◌, ◌≤◌, ◌<◌, Some, length, option_map, slice_get, All, IfOk, IfSome};
 ghost use Rattle.std.specs.List.{sum_by};
-ghost use Rattle.khe_base.specs.declared.limits.TheConstants.{NUMBER, DURATION, EVENTS};
+ghost use Rattle.khe_base.specs.declared.limits.TheConstants.{NUMBER, DURATION, EVENTS, TIMES};
 ghost use Rattle.khe_instance.specs.EventDeviation.{duties_at};
 ghost use Rattle.khe_instance.specs.Running.{duties as duties_of, meets_of};
 ghost use Rattle.khe_instance.specs.States.{IsTold, places_at};
@@ -86,6 +86,7 @@ impl<'a> Index<'a> {
         ensures are { result.now ≡ meets_of event.0 self.now.plain.meets }
         ensures bounded { AreOfOneEvent (length self.now.parts.times) (duration_at self.now.parts.events event.0) result.now }
         ensures short { duration_at self.now.parts.events event.0 ≤ NUMBER }
+        ensures times { length self.now.parts.times ≤ TIMES }
     {
         self.meets.as_slice()[event.0 as usize].as_slice()
     }

@@ -68,6 +68,7 @@ fn cover_times(
     some: &mut Marks,
     leading: &mut Marks,
 ) -> Result<u64, NoMemory>
+    requires first { first ≤ end }
     requires end { end ≤ length some.old }
     requires rank { rank ≤ EVENTS }
     requires leading { length leading.old ≡ length some.old }

@@ -33,3 +33,6 @@ returns-clause-bounded c =
 
 pub returns-clause-short : goal.returns-clause-short
 returns-clause-short c = rw (← c.self.view_is) (short c.self.inside.instance.now c.self.inside.plain.now c.self.invariant.made c.self.invariant.told c.args.event.0)
+
+pub returns-clause-times : goal.returns-clause-times
+returns-clause-times c = rw (← c.self.view_is) c.self.invariant.made.limits.times
