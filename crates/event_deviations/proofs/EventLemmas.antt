@@ -31,6 +31,13 @@ out_le n least greatest = by (nat_lt n least)
     by true = omega arith
     by false = omega arith
 
+pub out_most : (n least greatest most : ℕ) → n ≤ most → least ≤ most → out n least greatest ≤ most
+out_most n least greatest most a b = by (nat_lt n least)
+  where
+    by : (c : Bool) → (if c then least - n else n - greatest) ≤ most
+    by true = omega arith
+    by false = omega arith
+
 -- a resource outside a set
 pub given_outside-some : (set : List Bool) (d : Duty) (r : ResourceId) → d.resource ≡ Some r → given_outside set d ≡ not (has_member set r.0)
 given_outside-some set d r e =

@@ -3,3 +3,5 @@ pub mod Beside
 pub mod Lookups
 pub mod MarkLemmas
 pub mod EventLemmas
+pub mod GroupLemmas
+pub mod LinkLemmas

@@ -14,10 +14,12 @@ use Rattle.khe_instance.specs.declared.states.Meet.{Meet}
 abbrev pub some_has : List Duty → ℕ → Bool
 some_has ds r = list_any (λ d. is_resource r d.resource) ds
 
--- whether a resource has a duty in the role at an event
+-- whether a resource has a duty in the role at a place of an event, and at the event
+abbrev pub has_duty_at : List EventInfo → List Duty → List ℕ → ℕ → ℕ → ℕ → Bool
+has_duty_at infos ds role r e k = is_role role (role_at infos e k) && some_has (duties_at e k ds) r
+
 abbrev pub has_duty : List EventInfo → List Duty → List ℕ → ℕ → ℕ → Bool
-has_duty infos ds role r e =
-    list_any (λ k. is_role role (role_at infos e k) && some_has (duties_at e k ds) r) (range_with_len 0 (places_at infos e))
+has_duty infos ds role r e = list_any (has_duty_at infos ds role r e) (range_with_len 0 (places_at infos e))
 
 -- whether a resource has a duty in the role at some of the events
 abbrev pub has_duty_among : List EventInfo → List Duty → List ℕ → List ℕ → ℕ → Bool

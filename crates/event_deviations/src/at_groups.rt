@@ -48,7 +48,7 @@ fn see_event(
     let places = index.instance().event(event).places.as_slice();
     for (number, place) in places.iter().enumerate() {
         if has_role(place, role) {
-            see(index.duties(event, number as u32), seen)?;
+            see(index.duties(event, number), seen)?;
         }
     }
     Ok(())

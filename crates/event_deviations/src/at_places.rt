@@ -16,7 +16,7 @@ pub(crate) fn at_place(index: &Index<'_>, rule: &Rule, event: EventId, place: u3
     ensures exact { result ≡ place_deviation (duties_of index.now.plain.meets index.now.plain.tasks) rule.now event.0 place }
     ensures bound { result ≤ GREATEST_DEVIATION }
 {
-    let duties = index.duties(event, place);
+    let duties = index.duties(event, place as usize);
     match rule {
         Rule::AssignResource { .. } => unfilled_duration(duties),
         Rule::PreferResources { resources, .. } => duration_outside(duties, resources),

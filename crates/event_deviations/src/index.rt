@@ -92,14 +92,14 @@ impl<'a> Index<'a> {
     }
 
     /// The duties at a place of an event.
-    pub(crate) fn duties(&self, event: EventId, place: u32) -> &[Duty]
+    pub(crate) fn duties(&self, event: EventId, place: usize) -> &[Duty]
         requires { place < places_at self.now.parts.events event.0 }
         ensures are { result.now ≡ duties_at event.0 place (duties_of self.now.plain.meets self.now.plain.tasks) }
         ensures bounded { sum_by (λ d. d.meet.duration) result.now ≤ NUMBER }
         ensures given { All (λ d. IfSome d.resource (λ r. r.0 < length self.now.parts.resources)) result.now }
     {
         let places = self.duties.as_slice()[event.0 as usize].as_slice();
-        places[place as usize].as_slice()
+        places[place].as_slice()
     }
 
     /// The numbers of the events of an event group, ascending.

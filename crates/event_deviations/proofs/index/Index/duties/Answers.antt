@@ -1,4 +1,4 @@
-use Rattle.std.proofs.Common.{◌≡◌, ◌∙◌, sym, ap, subst, ◌<◌, ◌≤◌, List, All, IfSome, length, sum_by}
+use Rattle.std.proofs.Common.{◌≡◌, ◌∙◌, sym, ap, subst, ◌<◌, ◌≤◌, List, All, IfSome, length, sum_by, arith}
 use Rattle.khe_base.specs.declared.limits.TheConstants.{NUMBER}
 use Rattle.khe_instance.specs.EventDeviation.{duties_at}
 use Rattle.khe_instance.specs.Running.{duties}
@@ -28,6 +28,17 @@ bounds-places-place c =
     let long : length c.as_slice-places.result.now ≡ places_at p.events c.args.event.0 =
         length_by (λ k. duties_at c.args.event.0 k (duties s.meets s.tasks)) (places_at p.events c.args.event.0) c.as_slice-places.result.now (c.as_slice-places.ensures ∙ found) in
     subst (λ n. c.args.place < n) (sym long) place
+
+pub offset_bounds-places-place : goal.offset_bounds-places-place
+offset_bounds-places-place c =
+    let p = c.self.inside.instance.now in
+    let s = c.self.inside.plain.now in
+    let place : c.args.place < places_at p.events c.args.event.0 = rw (← c.self.view_is) at c.requires in
+    let within = event_of_place p s c.self.invariant.made c.self.invariant.told c.args.event.0 c.args.place place in
+    let found = read_by (duties_by_place p.events (duties s.meets s.tasks)) (length p.events) c.args.event.0 c.as_slice.result.now c.index-as_slice-event.result (c.as_slice.ensures ∙ c.self.invariant.duties_are) within c.index-as_slice-event.is in
+    let long : length c.as_slice-places.result.now ≡ places_at p.events c.args.event.0 =
+        length_by (λ k. duties_at c.args.event.0 k (duties s.meets s.tasks)) (places_at p.events c.args.event.0) c.as_slice-places.result.now (c.as_slice-places.ensures ∙ found) in
+    omega (arith, c.as_slice-places.type_inv)
 
 pub returns-clause-are : goal.returns-clause-are
 returns-clause-are c =
