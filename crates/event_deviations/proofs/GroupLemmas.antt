@@ -9,7 +9,7 @@ use Rattle.std.proofs.lemmas.List.{get_or_past}
 use Rattle.std.proofs.lemmas.List.Folds.{Any-from_list_any, list_any-from_Any, list_any_at, list_any-append, list_any_more}
 use Rattle.std.proofs.lemmas.List.FromFn.{length-range_with_len}
 use Rattle.std.proofs.lemmas.List.Sums.{sum_by-cons, sum_by-append, count_by-le-length, sum_by_more}
-use Rattle.std.proofs.lemmas.Option.{slice_get_past}
+use Rattle.std.proofs.lemmas.Option.{slice_get_past, none-some}
 use Rattle.khe_base.specs.IdSet.{has_member}
 use Rattle.khe_base.specs.declared.numbers.ResourceId.{ResourceId}
 use Rattle.khe_instance.specs.EventDeviation.{avoid_split_assignments, spread_events, link_events, duties_at, is_role, role_at, starts_in}
@@ -66,19 +66,26 @@ pub role_there : (infos : List EventInfo) (e k : ℕ) (event : EventInfo) → sl
 role_there infos e k event there = ap (option_and_then (λ event. option_and_then (λ p. p.role) (slice_get event.places k))) there
 
 -- a role stands only at a place that is there
-role_within : (infos : List EventInfo) (role : List ℕ) (e k : ℕ) → is_role role (role_at infos e k) ≡ true → k < places_at infos e
-role_within infos role e k h = by (slice_get infos e) h
+pub place_within : (infos : List EventInfo) (e k : ℕ) (role : List ℕ) → role_at infos e k ≡ Some role → k < places_at infos e
+place_within infos e k role h = by (slice_get infos e) h
   where
-    at_place : (event : EventInfo) → is_role role (option_and_then (λ p. p.role) (slice_get event.places k)) ≡ true → k < length event.places
+    at_place : (event : EventInfo) → option_and_then (λ p. p.role) (slice_get event.places k) ≡ Some role → k < length event.places
     at_place event g = found (cases_lt k (length event.places))
       where
         found : (k < length event.places) ⊎ (length event.places ≤ k) → k < length event.places
         found (inl l) = l
-        found (inr l) = absurd (false≢true (sym (ap (λ o. is_role role (option_and_then (λ p. p.role) o)) (slice_get_past event.places k l)) ∙ g))
+        found (inr l) = absurd (none-some role (sym (ap (option_and_then (λ p. p.role)) (slice_get_past event.places k l)) ∙ g))
 
-    by : (o : Option EventInfo) → is_role role (option_and_then (λ event. option_and_then (λ p. p.role) (slice_get event.places k)) o) ≡ true → k < option_map_or (λ event. length event.places) o 0
-    by None g = absurd (false≢true g)
+    by : (o : Option EventInfo) → option_and_then (λ event. option_and_then (λ p. p.role) (slice_get event.places k)) o ≡ Some role → k < option_map_or (λ event. length event.places) o 0
+    by None g = absurd (none-some role g)
     by (Some event) g = at_place event g
+
+role_within : (infos : List EventInfo) (role : List ℕ) (e k : ℕ) → is_role role (role_at infos e k) ≡ true → k < places_at infos e
+role_within infos role e k h = by (role_at infos e k) refl h
+  where
+    by : (o : Option (List ℕ)) → role_at infos e k ≡ o → is_role role o ≡ true → k < places_at infos e
+    by None is g = absurd (false≢true g)
+    by (Some own) is g = place_within infos e k own is
 
 -- a member of a set is below its size
 pub member_below : (set : List Bool) (n : ℕ) → has_member set n ≡ true → n < length set

@@ -5,3 +5,4 @@ pub mod MarkLemmas
 pub mod EventLemmas
 pub mod GroupLemmas
 pub mod LinkLemmas
+pub mod PointLemmas

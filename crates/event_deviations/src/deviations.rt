@@ -97,6 +97,7 @@ impl<'a> EventDeviations<'a> {
         ensures exact { IfOk result (λ d. d ≡ deviation_in self.old.parts self.old.plain monitor) }
         ensures bound { IfOk result (λ d. d ≤ GREATEST_DEVIATION) }
     {
+        self.index.facts();
         let rule = &self.index.instance().constraint(monitor.constraint).rule;
         match monitor.point {
             Point::Event(event) => Ok(at_event(&self.index, rule, event)),
@@ -115,6 +116,7 @@ impl<'a> EventDeviations<'a> {
         ensures exact { IfOk result (λ d. d ≡ option_map_or (λ g. group_deviation self.old.parts self.old.plain.meets (duties_of self.old.plain.meets self.old.plain.tasks) rule.now g.events) (slice_get self.old.parts.groups group) 0) }
         ensures bound { IfOk result (λ d. d ≤ GREATEST_DEVIATION) }
     {
+        self.index.facts();
         let events = self.index.members(group);
         match rule {
             Rule::AvoidSplitAssignments { role } => {
