@@ -1,14 +1,13 @@
 -- Meets in the order of their numbers, with their tasks beside them.
-use Rattle.std.proofs.Common.{◌≡◌, ◌∙◌, sym, ap, ap₂, subst, refl, ℕ, zero, suc, ◌+◌, ◌*◌, ◌<◌, ◌≤◌, ◌==◌, Bool, true, false, cond, ◌&&◌, ◌||◌, nat_lt, Option, Some, None, List, [], ◌∷◌, ◌++◌, map, length, get_or, take, drop, arith, ◌⊎◌, inl, inr, All, AllPairs, filter, flat_map, sum_by, count_by, slice_get, append_assoc}
+use Rattle.std.proofs.Common.{◌≡◌, ◌∙◌, sym, ap, ap₂, subst, refl, ℕ, suc, ◌+◌, ◌*◌, ◌<◌, ◌≤◌, ◌==◌, Bool, true, false, cond, ◌&&◌, ◌||◌, nat_lt, Some, List, [], ◌∷◌, ◌++◌, map, length, get_or, take, drop, arith, All, AllPairs, filter, flat_map, sum_by, count_by, slice_get, append_assoc}
 use Rattle.std.specs.Option.{option_map_or}
 use Rattle.khe_instance.specs.declared.parts.EventInfo.{EventInfo}
 use Rattle.std.specs.List.{list_any, list_all, range_with_len}
-use Rattle.std.specs.List.Sorted.{IsStrictlyIncreasing}
-use Rattle.std.proofs.lemmas.Bool.{false≢true, eqb-true, eq-eqb, ne_eqb, lt-ltb, cases_eq}
+use Rattle.std.proofs.lemmas.Bool.{eq-eqb, lt-ltb}
 use Rattle.std.proofs.lemmas.Bool.Decides.{nat_tests}
 use Rattle.std.proofs.lemmas.List.{length-map, get_or-map, length-append, take_at, drop_at, take-map, drop-map, take-append-drop, append-nil}
 use Rattle.std.proofs.Math.Nat.{mul-le-mul_right}
-use Rattle.std.proofs.lemmas.List.Elements.{All-append, All-map, All-cons, All-nil, filter-append}
+use Rattle.std.proofs.lemmas.List.Elements.{All-append, All-map, All-nil, filter-append}
 use Rattle.std.proofs.lemmas.List.Folds.{list_any-append, list_all-map, fold-map}
 use Rattle.std.proofs.lemmas.List.FromFn.{length-range_with_len, get_or-range_with_len}
 use Rattle.std.proofs.lemmas.List.Kept.{AllPairs-from_increasing}
@@ -22,7 +21,7 @@ use Rattle.khe_instance.specs.declared.states.Duty.{Duty}
 use Rattle.khe_instance.specs.declared.states.Meet.{Meet}
 use Rattle.khe_instance.specs.declared.states.Plain.{Plain}
 use Rattle.khe_instance.specs.declared.states.Task.{Task}
-use Rattle.event_deviations.proofs.Kit.{both_true, from_both, filter_none, filter_every, any_false, all_true, count_one, All-from_map}
+use Rattle.event_deviations.proofs.Kit.{both_true, filter_none, filter_every, any_false, all_true, count_one, All-from_map}
 
 -- each meet has a lower number than all later ones
 abbrev pub Rising : List Meet → Type 0
@@ -35,9 +34,10 @@ pub record Beside (p : Parts) (ms : List Meet) (ts : List Task) : Type 0 where
 
 Rising-from_pairs : (ms : List Meet) → AllPairs (λ x y. x < y) (map (λ m. m.meet.0) ms) → Rising ms
 Rising-from_pairs [] h = tt
-Rising-from_pairs (m ∷ ms) h =
-    (list_all-from_AllPass (λ x. nat_lt m.meet.0 x.meet.0) ms (λ k d l. lt-ltb m.meet.0 (get_or ms k d).meet.0 (first k d l)),
-      Rising-from_pairs ms (λ i j d l b. h (suc i) (suc j) d (omega arith) (omega arith)))
+Rising-from_pairs (m ∷ ms) h = (
+  list_all-from_AllPass (λ x. nat_lt m.meet.0 x.meet.0) ms (λ k d l. lt-ltb m.meet.0 (get_or ms k d).meet.0 (first k d l)),
+  Rising-from_pairs ms (λ i j d l b. h (suc i) (suc j) d (omega arith) (omega arith)),
+)
   where
     first : (k : ℕ) (d : Meet) → k < length ms → m.meet.0 < (get_or ms k d).meet.0
     first k d l =
@@ -87,7 +87,7 @@ module _ (p : Parts) where
     pub enough : places_at p.events m.event.0 ≤ length ts
     enough =
         let e : length ts ≡ length (tasks_of p m) + length (flat_map (tasks_of p) ms) =
-            sym (length-map ts (λ t. t.task)) ∙ ap length is.tasks ∙ length-append (tasks_of p m) (flat_map (tasks_of p) ms) in
+        sym (length-map ts (λ t. t.task)) ∙ ap length is.tasks ∙ length-append (tasks_of p m) (flat_map (tasks_of p) ms) in
         omega (arith, long)
 
     own : map (λ t. t.task) (take n ts) ≡ tasks_of p m
@@ -106,8 +106,8 @@ module _ (p : Parts) where
     own_kept =
         filter_every (is_of m.meet.0) (take n ts)
         (sym (list_all-map (λ x. x.meet.0 == m.meet.0) (λ t. t.task) (take n ts)) ∙ ap (list_all (λ x. x.meet.0 == m.meet.0)) own
-          ∙ list_all-map (λ x. x.meet.0 == m.meet.0) (λ k. record { meet = m.meet; place = k }) (range_with_len 0 n)
-          ∙ all_true (m.meet.0 == m.meet.0) (range_with_len 0 n) (eq-eqb m.meet.0 m.meet.0 refl))
+        ∙ list_all-map (λ x. x.meet.0 == m.meet.0) (λ k. record { meet = m.meet; place = k }) (range_with_len 0 n)
+        ∙ all_true (m.meet.0 == m.meet.0) (range_with_len 0 n) (eq-eqb m.meet.0 m.meet.0 refl))
 
     later_left : filter (is_of m.meet.0) (drop n ts) ≡ []
     later_left =
@@ -123,7 +123,7 @@ module _ (p : Parts) where
         parts_of x.meet.0
         ∙ ap (λ l. l ++ filter (is_of x.meet.0) (drop n ts))
         (filter_none (is_of x.meet.0) (take n ts)
-          (sym (list_any-map (λ y. y.meet.0 == x.meet.0) (λ t. t.task) (take n ts)) ∙ ap (list_any (λ y. y.meet.0 == x.meet.0)) own ∙ own_tasks x.meet.0 m apart))
+        (sym (list_any-map (λ y. y.meet.0 == x.meet.0) (λ t. t.task) (take n ts)) ∙ ap (list_any (λ y. y.meet.0 == x.meet.0)) own ∙ own_tasks x.meet.0 m apart))
 
     rest : (xs : List Meet) → list_all (λ x. nat_lt m.meet.0 x.meet.0) xs ≡ true → duties xs ts ≡ duties xs (drop n ts)
     rest [] e = refl
@@ -140,19 +140,19 @@ module _ (p : Parts) where
     own_places =
         All-map (λ d. d.place < places_at p.events d.meet.event.0) (duty_of m) (take n ts)
         (All-from_map (λ x. x.place < n) (λ t. t.task) (take n ts)
-          (subst (All (λ x. x.place < n)) (sym own)
-            (All-map (λ x. x.place < n) (λ k. record { meet = m.meet; place = k }) (range_with_len 0 n)
-              (λ k d l.
-                let below : k < n = subst (λ j. k < j) (length-range_with_len 0 n) l in
-                subst (λ j. j < n) (sym (get_or-range_with_len 0 n k d below ∙ (let z : 0 + k ≡ k = omega arith in z))) below))))
+        (subst (All (λ x. x.place < n)) (sym own)
+        (All-map (λ x. x.place < n) (λ k. record { meet = m.meet; place = k }) (range_with_len 0 n)
+        (λ k d l.
+        let below : k < n = subst (λ j. k < j) (length-range_with_len 0 n) l in
+        subst (λ j. j < n) (sym (get_or-range_with_len 0 n k d below ∙ (let z : 0 + k ≡ k = omega arith in z))) below))))
 
     -- how many of them are at a place
     one_place : (k : ℕ) → count_by (λ t. t.task.place == k) (take n ts) ≤ 1
     one_place k =
         let e : count_by (λ t. t.task.place == k) (take n ts) ≡ count_by (λ j. j == k) (range_with_len 0 n) =
-            sym (fold-map (λ (c : ℕ) (x : TaskId). c + cond (x.place == k) 1 0) (λ t. t.task) 0 (take n ts))
-            ∙ ap (count_by (λ (x : TaskId). x.place == k)) own
-            ∙ fold-map (λ (c : ℕ) (x : TaskId). c + cond (x.place == k) 1 0) (λ j. record { meet = m.meet; place = j }) 0 (range_with_len 0 n) in
+        sym (fold-map (λ (c : ℕ) (x : TaskId). c + cond (x.place == k) 1 0) (λ t. t.task) 0 (take n ts))
+        ∙ ap (count_by (λ (x : TaskId). x.place == k)) own
+        ∙ fold-map (λ (c : ℕ) (x : TaskId). c + cond (x.place == k) 1 0) (λ j. record { meet = m.meet; place = j }) 0 (range_with_len 0 n) in
         omega (arith, e, count_one k n)
 
 -- durations of one meet, once for each of some of its duties
@@ -167,7 +167,7 @@ same_durations m q (t ∷ ts) =
         ≡ (cond b 1 0 + count_by (λ t. q (duty_of m t)) ts) * m.duration
     by true rest =
         let e : sum_by (λ d. d.meet.duration) (duty_of m t ∷ filter q (map (duty_of m) ts)) ≡ m.duration + sum_by (λ d. d.meet.duration) (filter q (map (duty_of m) ts)) =
-            sum_by-cons (λ d. d.meet.duration) (duty_of m t) (filter q (map (duty_of m) ts)) in
+        sum_by-cons (λ d. d.meet.duration) (duty_of m t) (filter q (map (duty_of m) ts)) in
         omega arith
     by false rest = omega arith
 
@@ -178,7 +178,7 @@ module _ (p : Parts) where
   duties_within (m ∷ ms) ts is =
       subst (All (λ d. d.place < places_at p.events d.meet.event.0)) (sym (duties-more p m ms ts is))
       (All-append (λ d. d.place < places_at p.events d.meet.event.0) (map (duty_of m) (take (places_at p.events m.event.0) ts)) (duties ms (drop (places_at p.events m.event.0) ts))
-        (own_places p m ms ts is) (duties_within ms (drop (places_at p.events m.event.0) ts) (Beside-more p m ms ts is)))
+      (own_places p m ms ts is) (duties_within ms (drop (places_at p.events m.event.0) ts) (Beside-more p m ms ts is)))
 
   -- a place of an event has one duty for each of its meets
   pub place_durations : (e k : ℕ) (ms : List Meet) (ts : List Task) → Beside p ms ts
@@ -190,8 +190,8 @@ module _ (p : Parts) where
       let own = map (duty_of m) (take n ts) in
       let later = duties ms (drop n ts) in
       let split : sum_by (λ d. d.meet.duration) (duties_at e k (duties (m ∷ ms) ts)) ≡ sum_by (λ d. d.meet.duration) (filter q own) + sum_by (λ d. d.meet.duration) (filter q later) =
-          ap (λ ds. sum_by (λ d. d.meet.duration) (filter q ds)) (duties-more p m ms ts is) ∙ ap (sum_by (λ d. d.meet.duration)) (filter-append q own later)
-          ∙ sum_by-append (λ d. d.meet.duration) (filter q own) (filter q later) in
+      ap (λ ds. sum_by (λ d. d.meet.duration) (filter q ds)) (duties-more p m ms ts is) ∙ ap (sum_by (λ d. d.meet.duration)) (filter-append q own later)
+      ∙ sum_by-append (λ d. d.meet.duration) (filter q own) (filter q later) in
       let here = same_durations m q (take n ts) in
       let rest = place_durations e k ms (drop n ts) (Beside-more p m ms ts is) in
       by (m.event.0 == e) (subst (λ x. x ≤ sum_by (λ d. d.meet.duration) (filter q own) + sum_by (λ m. m.duration) (meets_of e ms)) (sym split) (omega arith)) here
@@ -235,5 +235,5 @@ module _ (p : Parts) (xs : List Meet) (i : ℕ) (m : Meet) (ts : List Task) (her
       append_assoc made (map (duty_of m) (take n ts)) (duties (drop (i + 1) xs) (drop n ts))
       ∙ ap (λ l. made ++ l)
       (sym (subst (λ k. duties (m ∷ drop (i + 1) xs) ts ≡ map (duty_of m) (take k ts) ++ duties (drop (i + 1) xs) (drop k ts)) e (duties-more p m (drop (i + 1) xs) ts goes_on))
-        ∙ ap (λ l. duties l ts) (sym here))
+      ∙ ap (λ l. duties l ts) (sym here))
       ∙ h

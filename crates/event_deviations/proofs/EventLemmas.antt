@@ -1,8 +1,7 @@
 -- Deviations at events, places and pairs.
-use Rattle.std.proofs.Common.{◌≡◌, ◌∙◌, sym, ap, subst, refl, ℕ, suc, ◌+◌, ◌-◌, ◌<◌, ◌≤◌, ◌==◌, max, min, Bool, true, false, not, cond, if◌then◌else◌, ◌&&◌, nat_lt, Option, Some, None, is_none, List, [], ◌∷◌, ◌++◌, length, get_or, take, arith, All, IfSome, sum_by, filter_map}
-use Rattle.std.specs.List.{list_any, fold, range_with_len}
+use Rattle.std.proofs.Common.{◌≡◌, ◌∙◌, sym, ap, refl, ℕ, ◌+◌, ◌-◌, ◌<◌, ◌≤◌, max, min, Bool, true, false, not, if◌then◌else◌, ◌&&◌, nat_lt, Option, Some, None, is_none, List, [], ◌∷◌, ◌++◌, length, get_or, take, arith, All, IfSome, sum_by, filter_map}
+use Rattle.std.specs.List.{list_any, range_with_len}
 use Rattle.std.specs.Option.{option_map_or}
-use Rattle.std.proofs.lemmas.Bool.Decides.{nat_tests}
 use Rattle.std.proofs.lemmas.List.{get_or_past, take_more, append-nil}
 use Rattle.std.proofs.lemmas.List.Elements.{All-head, All-tail, filter_map-append}
 use Rattle.std.proofs.lemmas.List.Sums.{sum_by-cons, fold_push}

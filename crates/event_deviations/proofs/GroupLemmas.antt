@@ -1,18 +1,16 @@
 -- Deviations at event groups: the steps of their sums, and that sums over the events of a group are
 -- those over all meets and duties.
-use Rattle.std.proofs.Common.{◌≡◌, ◌∙◌, sym, ap, ap₂, subst, refl, ℕ, zero, suc, ◌+◌, ◌-◌, ◌*◌, ◌<◌, ◌≤◌, ◌==◌, Bool, true, false, cond, ◌&&◌, ◌||◌, not, nat_lt, Option, Some, None, IfSome, List, [], ◌∷◌, ◌++◌, length, get_or, set, take, slice_get, arith, zero-add, ◌⊎◌, inl, inr, All, filter, sum_by, count_by, option_and_then}
-use Rattle.std.specs.List.{list_any, list_all, range_with_len}
+use Rattle.std.proofs.Common.{◌≡◌, ◌∙◌, sym, ap, ap₂, refl, ℕ, zero, suc, ◌+◌, ◌-◌, ◌<◌, ◌≤◌, ◌==◌, Bool, true, false, cond, ◌&&◌, ◌||◌, Option, Some, None, List, [], ◌∷◌, length, get_or, set, take, slice_get, arith, zero-add, ◌⊎◌, inl, inr, filter, sum_by, count_by, option_and_then}
+use Rattle.std.specs.List.{list_any, range_with_len}
 use Rattle.std.specs.Option.{option_map_or}
 use Rattle.std.proofs.lemmas.Bool.{false≢true, eqb-true, eq-eqb, ne_eqb, cases_eq, cases_lt}
-use Rattle.std.proofs.lemmas.Bool.Decides.{nat_tests}
 use Rattle.std.proofs.lemmas.List.{get_or_past}
-use Rattle.std.proofs.lemmas.List.Folds.{Any-from_list_any, list_any-from_Any, list_any_at, list_any-append, list_any_more}
-use Rattle.std.proofs.lemmas.List.FromFn.{length-range_with_len}
-use Rattle.std.proofs.lemmas.List.Sums.{sum_by-cons, sum_by-append, count_by-le-length, sum_by_more}
+use Rattle.std.proofs.lemmas.List.Folds.{Any-from_list_any, list_any-from_Any, list_any-append, list_any_more}
+use Rattle.std.proofs.lemmas.List.Sums.{sum_by-cons}
 use Rattle.std.proofs.lemmas.Option.{slice_get_past, none-some}
 use Rattle.khe_base.specs.IdSet.{has_member}
 use Rattle.khe_base.specs.declared.numbers.ResourceId.{ResourceId}
-use Rattle.khe_instance.specs.EventDeviation.{avoid_split_assignments, spread_events, link_events, duties_at, is_role, role_at, starts_in}
+use Rattle.khe_instance.specs.EventDeviation.{avoid_split_assignments, spread_events, duties_at, is_role, role_at, starts_in}
 use Rattle.khe_instance.specs.Running.{is_resource, meets_of}
 use Rattle.khe_instance.specs.States.{places_at}
 use Rattle.khe_instance.specs.Within.{out}
@@ -24,7 +22,7 @@ use Rattle.event_deviations.specs.Groups.{some_has, has_duty_at, has_duty, has_d
 use Rattle.event_deviations.specs.Marked.{is_marked}
 use Rattle.event_deviations.specs.State.{members_of}
 use Rattle.event_deviations.proofs.Kit.{both_true, from_both, same_truth, list_any-filter, from_any_range, any_in_range, InRange, range_more, count_by-agree, sum_by-filter}
-use Rattle.event_deviations.proofs.MarkLemmas.{or_false, or_true, or_assoc, is_marked-set}
+use Rattle.event_deviations.proofs.MarkLemmas.{or_false, or_assoc, is_marked-set}
 
 -- one more duty
 module _ (vs start : List ℕ) (ds : List Duty) (i : ℕ) (d : Duty) (l : i < length ds)
@@ -127,8 +125,8 @@ module _ (infos : List EventInfo) (ds : List Duty) (set : List Bool) (role : Lis
       let e_is : e.number ≡ x.meet.event.0 = sym (eqb-true x.meet.event.0 e.number here.0) in
       let k_is : k.number ≡ x.place = sym (eqb-true x.place k.number here.1) in
       let there : is_there x ≡ true =
-          from_both (has_member set x.meet.event.0) (is_role role (role_at infos x.meet.event.0 x.place))
-          (ap (has_member set) (sym e_is) ∙ at_event.0) (ap₂ (λ e k. is_role role (role_at infos e k)) (sym e_is) (sym k_is) ∙ at_place.0) in
+      from_both (has_member set x.meet.event.0) (is_role role (role_at infos x.meet.event.0 x.place))
+      (ap (has_member set) (sym e_is) ∙ at_event.0) (ap₂ (λ e k. is_role role (role_at infos e k)) (sym e_is) (sym k_is) ∙ at_place.0) in
       list_any-from_Any (λ y. is_there y && is_resource r y.resource) ds (d.0, x, d.2, d.3, from_both (is_there x) (is_resource r x.resource) there parts.1)
 
   from : list_any (λ d. is_there d && is_resource r d.resource) ds ≡ true → found_among ≡ true
@@ -142,8 +140,8 @@ module _ (infos : List EventInfo) (ds : List Duty) (set : List Bool) (role : Lis
       let own = λ (y : Duty). (y.meet.event.0 == e) && (y.place == k) in
       let same : own x ≡ true = from_both (e == e) (k == k) (eq-eqb e e refl) (eq-eqb k k refl) in
       let some : some_has (duties_at e k ds) r ≡ true =
-          list_any-filter (λ (y : Duty). is_resource r y.resource) own ds
-          ∙ list_any-from_Any (λ y. own y && is_resource r y.resource) ds (d.0, x, d.2, d.3, from_both (own x) (is_resource r x.resource) same parts.1) in
+      list_any-filter (λ (y : Duty). is_resource r y.resource) own ds
+      ∙ list_any-from_Any (λ y. own y && is_resource r y.resource) ds (d.0, x, d.2, d.3, from_both (own x) (is_resource r x.resource) same parts.1) in
       any_member set (has_duty infos ds role r) e here.0
       (any_in_range (has_duty_at infos ds role r e) (places_at infos e) k (role_within infos role e k here.1) (from_both (is_role role (role_at infos e k)) (some_has (duties_at e k ds) r) here.1 some))
 
@@ -155,8 +153,8 @@ pub split-is : (infos : List EventInfo) (ds : List Duty) (set : List Bool) (role
 split-is infos ds set role resources =
     ap (λ n. n - 1)
     (count_by-agree (has_duty_among infos ds role (members_of set))
-      (λ r. list_any (λ d. is_resource r d.resource) (filter (λ d. has_member set d.meet.event.0 && is_role role (role_at infos d.meet.event.0 d.place)) ds)) resources
-      (λ r l. among-is infos ds set role r))
+    (λ r. list_any (λ d. is_resource r d.resource) (filter (λ d. has_member set d.meet.event.0 && is_role role (role_at infos d.meet.event.0 d.place)) ds)) resources
+    (λ r l. among-is infos ds set role r))
 
 -- a sum over a range that is 0 but at one number
 module _ (h : ℕ → ℕ) (x : ℕ) (others : (e : ℕ) → (e ≡ x → ⊥) → h e ≡ 0) where

@@ -1,5 +1,5 @@
 -- What a well made instance says of a monitor's rule and point.
-use Rattle.std.proofs.Common.{◌≡◌, ◌∙◌, sym, ap, ap₂, subst, ℕ, ◌-◌, ◌<◌, ◌≤◌, Bool, Option, Some, None, List, length, get_or, slice_get, option_map, arith, count_by}
+use Rattle.std.proofs.Common.{◌≡◌, ◌∙◌, sym, ap, subst, ℕ, ◌<◌, ◌≤◌, Bool, Option, Some, None, List, length, get_or, slice_get, option_map, arith, count_by}
 use Rattle.std.specs.List.{range_with_len}
 use Rattle.std.specs.Option.{option_map_or}
 use Rattle.std.proofs.lemmas.List.FromFn.{length-range_with_len}
@@ -11,7 +11,6 @@ use Rattle.khe_instance.specs.WellMade.{AreWellMade, IsMonitor, IsPointOf, IsRul
 use Rattle.khe_instance.specs.declared.parts.GroupInfo.{GroupInfo}
 use Rattle.khe_instance.specs.declared.parts.Parts.{Parts}
 use Rattle.khe_instance.specs.declared.points.Monitor.{Monitor}
-use Rattle.khe_instance.specs.declared.points.Point.{Point}
 use Rattle.khe_instance.specs.declared.points.Point.TheVariants.{EventResource}
 use Rattle.khe_instance.specs.declared.rules.Constraint.{Constraint}
 use Rattle.khe_instance.specs.declared.rules.Rule.{Rule}

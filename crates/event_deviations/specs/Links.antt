@@ -1,5 +1,5 @@
 -- How marks of times tell at which times events run.
-use Rattle.std.specs.Prelude.{ℕ, ◌+◌, ◌≡◌, ◌<◌, ◌≤◌, ◌==◌, Bool, ◌&&◌, ◌||◌, nat_le, nat_lt, List, length, slice_index, count_by, if◌then◌else◌}
+use Rattle.std.specs.Prelude.{ℕ, ◌+◌, ◌≡◌, ◌==◌, Bool, ◌&&◌, ◌||◌, nat_le, nat_lt, List, slice_index, count_by, if◌then◌else◌}
 use Rattle.event_deviations.specs.Marked.{is_marked}
 
 -- whether a time is one of those from the first to before the end

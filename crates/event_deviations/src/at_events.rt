@@ -30,7 +30,11 @@ pub(crate) fn at_event(index: &Index<'_>, rule: &Rule, event: EventId) -> u64
             min_amount,
             max_amount,
         } => {
-            let amount = out(meets.len() as u64, u64::from(*min_amount), u64::from(*max_amount));
+            let amount = out(
+                meets.len() as u64,
+                u64::from(*min_amount),
+                u64::from(*max_amount),
+            );
             count_outside(meets, *min_duration, *max_duration) + amount
         }
         Rule::DistributeSplitEvents { duration, min, max } => {
@@ -61,7 +65,11 @@ pub(crate) fn at_pair(index: &Index<'_>, rule: &Rule, pair: u32) -> u64
 pub(crate) fn out(n: u64, least: u64, greatest: u64) -> u64
     ensures { result ≡ how_far n least greatest }
 {
-    if n < least { least - n } else { n.saturating_sub(greatest) }
+    if n < least {
+        least - n
+    } else {
+        n.saturating_sub(greatest)
+    }
 }
 
 /// The duration of the meets without a start.
@@ -84,7 +92,9 @@ fn count_outside(meets: &[Meet], least: u32, greatest: u32) -> u64
     ensures exact { result ≡ count_by (λ m. nat_lt m.duration least || nat_lt greatest m.duration) meets.now }
     ensures bound { result ≤ length meets.now }
 {
-    let outside = meets.iter().filter(|m| m.duration < least || m.duration > greatest);
+    let outside = meets
+        .iter()
+        .filter(|m| m.duration < least || m.duration > greatest);
     outside.count() as u64
 }
 
@@ -140,7 +150,11 @@ fn order(first: &[Meet], second: &[Meet], pair: EventPair) -> u64
         return 0;
     };
     let end = u64::from(end);
-    out(u64::from(start), end + u64::from(pair.min), end + u64::from(pair.max))
+    out(
+        u64::from(start),
+        end + u64::from(pair.min),
+        end + u64::from(pair.max),
+    )
 }
 
 /// The greater of a number and one that may be missing.

@@ -122,7 +122,11 @@ impl<'a> EventDeviations<'a> {
             Rule::AvoidSplitAssignments { role } => {
                 avoid_split_assignments(&self.index, events, role, &mut self.resources)
             }
-            Rule::SpreadEvents { groups } => Ok(spread_events(&self.index, events, groups.as_slice())),
+            Rule::SpreadEvents { groups } => Ok(spread_events(
+                &self.index,
+                events,
+                groups.as_slice(),
+            )),
             Rule::LinkEvents => link_events(&self.index, events, &mut self.some, &mut self.leading),
             _ => Ok(0),
         }

@@ -1,4 +1,4 @@
-use Rattle.std.proofs.Common.{◌≡◌, ◌+◌, ◌≤◌, sym, subst, ℕ, length, arith}
+use Rattle.std.proofs.Common.{◌+◌, ◌≤◌, sym, subst, ℕ, length, arith}
 use Rattle.khe_base.specs.declared.limits.TheConstants.{NUMBER}
 use Rattle.event_deviations.proofs.EventLemmas.{few, out_le}
 use Rattle.event_deviations.proofs.at_events.at_event.Goals as goal

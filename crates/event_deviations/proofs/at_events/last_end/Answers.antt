@@ -1,4 +1,4 @@
-use Rattle.std.proofs.Common.{◌≡◌, ◌∙◌, ap, subst, ◌+◌, ◌≤◌, ℕ, Some, None, IfSome, option_map, get_or, arith}
+use Rattle.std.proofs.Common.{◌≡◌, ◌∙◌, ap, subst, ◌+◌, ◌≤◌, Some, None, IfSome, option_map, get_or}
 use Rattle.khe_base.specs.declared.limits.TheConstants.{TIMES}
 use Rattle.khe_base.specs.declared.numbers.TimeId.{TimeId}
 use Rattle.khe_instance.specs.declared.states.Meet.{Meet}

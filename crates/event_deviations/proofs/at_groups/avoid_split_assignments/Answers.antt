@@ -1,4 +1,4 @@
-use Rattle.std.proofs.Common.{◌≡◌, ◌∙◌, ap, ◌-◌, ℕ, length}
+use Rattle.std.proofs.Common.{◌∙◌, ap, ◌-◌, ℕ, length}
 use Rattle.std.proofs.lemmas.List.{take_all}
 use Rattle.khe_instance.specs.Running.{duties}
 use Rattle.event_deviations.specs.Groups.{has_duty_among}
@@ -15,5 +15,5 @@ returns-clause-exact c =
     c.saturating_sub.ensures
     ∙ ap (λ (n : ℕ). n - 1)
     (c.count.ensures
-      ∙ marked_count-by c.loop-event.seen (has_duty_among infos ds c.args.role.now es) (length c.args.index.now.parts.resources) (old.long ∙ c.requires.seen)
-      (λ r. old.marked r ∙ ap (λ l. has_duty_among infos ds c.args.role.now l r) all))
+    ∙ marked_count-by c.loop-event.seen (has_duty_among infos ds c.args.role.now es) (length c.args.index.now.parts.resources) (old.long ∙ c.requires.seen)
+    (λ r. old.marked r ∙ ap (λ l. has_duty_among infos ds c.args.role.now l r) all))

@@ -1,4 +1,4 @@
-use Rattle.std.proofs.Common.{◌≡◌, ◌∙◌, sym, ap, subst, ◌<◌, None, IfSome, length, get_or}
+use Rattle.std.proofs.Common.{◌∙◌, sym, ap, subst, ◌<◌, None, IfSome, length}
 use Rattle.khe_instance.specs.declared.states.Duty.{Duty}
 use Rattle.event_deviations.proofs.GroupLemmas.{see-some, see-none}
 use Rattle.event_deviations.proofs.at_groups.see.Goals.{in-Some+in_ok-put, in_default}

@@ -1,4 +1,4 @@
-use Rattle.std.proofs.Common.{◌≡◌, ◌∙◌, sym, ap, ap₂, subst, ◌<◌, ◌&&◌, true, false, ℕ, Some, length, get_or, slice_get, option_and_then}
+use Rattle.std.proofs.Common.{◌≡◌, ◌∙◌, sym, ap, ap₂, subst, ◌<◌, ◌&&◌, true, false, Some, length, get_or, slice_get, option_and_then}
 use Rattle.std.proofs.lemmas.Option.{slice_get-get_or}
 use Rattle.khe_instance.specs.EventDeviation.{is_role, role_at, duties_at}
 use Rattle.khe_instance.specs.Running.{duties}
@@ -23,7 +23,7 @@ loop-number-preserved c =
     let within : k < length event.places = subst (λ n. k < n) (ap length c.as_slice-places.ensures) c.loop-number-test.true in
     let read : place ≡ get_or event.places k place = c.index-places-number.is ∙ ap (λ ps. get_or ps k place) c.as_slice-places.ensures in
     let role_is : role_at infos e k ≡ place.role =
-        role_there infos e k event there ∙ ap (option_and_then (λ p. p.role)) (slice_get-get_or event.places k place within ∙ ap Some (sym read)) in
+    role_there infos e k event there ∙ ap (option_and_then (λ p. p.role)) (slice_get-get_or event.places k place within ∙ ap Some (sym read)) in
     elim c.if-has_role.branch [
       | then-has_role+in_ok-see w ↦
           let passes : is_role role (role_at infos e k) ≡ true = ap (is_role role) role_is ∙ sym c.has_role.ensures ∙ w.if-has_role.true in
@@ -31,7 +31,7 @@ loop-number-preserved c =
           record {
             long = ap length w.seen-is ∙ w.in_ok-see.ensures.seen ∙ old.long;
             marked = rw w.seen-is
-              (place-seen (λ r. holds r e) c.loop-number.seen c.args.seen.now k old.marked _ (some_has own) w.in_ok-see.ensures.marked
+                (place-seen (λ r. holds r e) c.loop-number.seen c.args.seen.now k old.marked _ (some_has own) w.in_ok-see.ensures.marked
                 (λ r. ap₂ (λ b l. b && some_has l r) passes (sym w.duties.ensures.are)));
           }
       | else-has_role w ↦

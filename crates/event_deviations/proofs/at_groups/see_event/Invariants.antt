@@ -1,4 +1,4 @@
-use Rattle.std.proofs.Common.{◌≡◌, ◌||◌, ◌&&◌, ℕ, length}
+use Rattle.std.proofs.Common.{◌≡◌, ◌||◌, ℕ, length}
 use Rattle.std.specs.List.{list_any, range_with_len}
 use Rattle.khe_instance.specs.Running.{duties}
 use Rattle.event_deviations.specs.Groups.{has_duty_at}

@@ -1,4 +1,4 @@
-use Rattle.std.proofs.Common.{◌≡◌, ◌∙◌, sym, ap, ap₂, subst, ◌+◌, ◌-◌, ◌≤◌, ℕ, [], length, replicate, get_or, take}
+use Rattle.std.proofs.Common.{◌∙◌, sym, ap, subst, ◌-◌, ◌≤◌, ℕ, length, take}
 use Rattle.std.proofs.lemmas.List.{take_all, length-replicate}
 use Rattle.event_deviations.proofs.LinkLemmas.{IsLinked, IsLinked-none, IsLinked-more, none_yet, apart-is}
 use Rattle.event_deviations.proofs.links.link_events.Goals as goal
@@ -25,15 +25,15 @@ loop-rank-preserved c =
       some_long = did.some_times ∙ old.some_long;
       leading_long = did.leading_times ∙ old.leading_long;
       linked =
-        IsLinked-more c.args.index.now.plain.meets c.args.events.now c.loop-rank.rank c.loop-rank-test.true c.loop-rank.some c.loop-rank.leading c.loop-rank.whole old.linked
-        c.cover.new.some c.cover.new.leading c.in_ok-whole.whole c.meets.result.now c.meets.ensures.are did.some did.leading did.leading_times did.count;
+          IsLinked-more c.args.index.now.plain.meets c.args.events.now c.loop-rank.rank c.loop-rank-test.true c.loop-rank.some c.loop-rank.leading c.loop-rank.whole old.linked
+          c.cover.new.some c.cover.new.leading c.in_ok-whole.whole c.meets.result.now c.meets.ensures.are did.some did.leading did.leading_times did.count;
     }
 
 pub overflow_sub-result : goal.overflow_sub-result
 overflow_sub-result c =
     let old = c.loop-rank.invariant in
     let a = apart-is c.args.index.now.plain.meets (take c.loop-rank.rank c.args.events.now) c.loop-rank.some c.loop-rank.leading (length c.args.index.now.parts.times) c.loop-rank.whole
-      (old.some_long ∙ c.requires.some) (old.leading_long ∙ c.requires.leading) old.linked in
+    (old.some_long ∙ c.requires.some) (old.leading_long ∙ c.requires.leading) old.linked in
     subst (λ (n : ℕ). c.loop-rank.whole ≤ n) (sym c.count.ensures) a.whole_le
 
 pub returns-clause-exact : goal.returns-clause-exact
@@ -41,6 +41,6 @@ returns-clause-exact c =
     let old = c.loop-rank.invariant in
     let all = take_all c.loop-rank.rank c.args.events.now c.loop-rank-test.false in
     let a = apart-is c.args.index.now.plain.meets c.args.events.now c.loop-rank.some c.loop-rank.leading (length c.args.index.now.parts.times) c.loop-rank.whole
-      (old.some_long ∙ c.requires.some) (old.leading_long ∙ c.requires.leading)
-      (subst (λ es. IsLinked c.args.index.now.plain.meets es c.loop-rank.some c.loop-rank.leading c.loop-rank.whole) all old.linked) in
+    (old.some_long ∙ c.requires.some) (old.leading_long ∙ c.requires.leading)
+    (subst (λ es. IsLinked c.args.index.now.plain.meets es c.loop-rank.some c.loop-rank.leading c.loop-rank.whole) all old.linked) in
     ap (λ (n : ℕ). n - c.loop-rank.whole) c.count.ensures ∙ a.apart

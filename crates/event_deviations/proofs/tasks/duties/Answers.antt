@@ -1,10 +1,10 @@
-use Rattle.std.proofs.Common.{◌≡◌, ◌∙◌, sym, ap, ap₂, subst, ◌++◌, ◌+◌, ◌<◌, ◌≤◌, ◌∷◌, [], List, length, take, drop, get_or, map, None, append_assoc, arith, All}
-use Rattle.std.proofs.lemmas.List.{drop_more, append-nil, drop_all}
+use Rattle.std.proofs.Common.{ap₂, ◌++◌, None, All}
+use Rattle.std.proofs.lemmas.List.{drop_more}
 use Rattle.std.proofs.lemmas.Option.{slice_get_within}
 use Rattle.khe_instance.specs.Running.{duties}
-use Rattle.khe_instance.specs.States.{places_at, IsMeet}
+use Rattle.khe_instance.specs.States.{IsMeet}
 use Rattle.khe_instance.specs.declared.states.Meet.{Meet}
-use Rattle.event_deviations.proofs.Beside.{Beside, Beside-from_told, Beside-step, duties-step, duty_of, enough-step, places_there}
+use Rattle.event_deviations.proofs.Beside.{Beside-from_told, Beside-step, duties-step, enough-step, places_there}
 use Rattle.event_deviations.proofs.tasks.duties.Goals as goal
 
 -- what stands where nothing is read
@@ -39,6 +39,6 @@ loop-meet-preserved c =
     let places = places_there c.args.instance.now.events _ _ c.event.result.now c.event.ensures c.len-places.ensures in
     record {
       made = rw (c.in_ok-push_duties.ensures, c.split_at.ensures.front, c.split_at.ensures.back)
-        (duties-step c.args.instance.now xs i _ c.loop-meet.rest.now here c.loop-meet.invariant.beside _ places _ _ c.loop-meet.invariant.made);
+          (duties-step c.args.instance.now xs i _ c.loop-meet.rest.now here c.loop-meet.invariant.beside _ places _ _ c.loop-meet.invariant.made);
       beside = rw c.split_at.ensures.back (Beside-step c.args.instance.now xs i _ c.loop-meet.rest.now here c.loop-meet.invariant.beside _ places);
     }

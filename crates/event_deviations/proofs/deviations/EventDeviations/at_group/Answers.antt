@@ -1,4 +1,4 @@
-use Rattle.std.proofs.Common.{◌≡◌, ◌∙◌, sym, ap, subst, ◌-◌, ◌≤◌, ℕ, Bool, List, length, slice_get, count_by, IfOk, not, ◌&&◌, arith}
+use Rattle.std.proofs.Common.{◌≡◌, ◌∙◌, sym, ap, ◌-◌, ◌≤◌, ℕ, Bool, List, length, slice_get, count_by, not, ◌&&◌, arith}
 use Rattle.std.specs.List.{range_with_len}
 use Rattle.std.specs.Option.{option_map_or}
 use Rattle.std.proofs.lemmas.Result.{IfOk-weaker}
@@ -20,11 +20,11 @@ returns-in-AvoidSplitAssignments-clause-exact c =
     let value = λ (es : List ℕ). count_by (has_duty_among p.events ds role es) (range_with_len 0 (length p.resources)) - 1 in
     let of_group = λ (set : List Bool). group_deviation p s.meets ds c.args.rule.now set in
     let same = by_members value of_group
-      (λ set. split-is p.events ds set role (length p.resources) ∙ ap (λ (r : Rule). group_deviation p s.meets ds r set) (sym c.in-AvoidSplitAssignments.is))
-      (slice_get p.groups c.args.group) c.members-events.result.now c.members-events.ensures.are in
+    (λ set. split-is p.events ds set role (length p.resources) ∙ ap (λ (r : Rule). group_deviation p s.meets ds r set) (sym c.in-AvoidSplitAssignments.is))
+    (slice_get p.groups c.args.group) c.members-events.result.now c.members-events.ensures.are in
     rw (← c.self.view_is)
     (IfOk-weaker c.avoid_split_assignments.result (λ d. d ≡ value c.members-events.result.now) (λ d. d ≡ option_map_or (λ g. of_group g.events) (slice_get p.groups c.args.group) 0)
-      (λ d h. h ∙ same) c.avoid_split_assignments.ensures.exact)
+    (λ d h. h ∙ same) c.avoid_split_assignments.ensures.exact)
 
 pub returns-in-AvoidSplitAssignments-clause-bound : goal.returns-in-AvoidSplitAssignments-clause-bound
 returns-in-AvoidSplitAssignments-clause-bound c =
@@ -44,8 +44,8 @@ returns-in-SpreadEvents-clause-exact c =
     let spreads = c.in-SpreadEvents.groups in
     let of_group = λ (set : List Bool). group_deviation p s.meets ds c.args.rule.now set in
     let same = by_members (spread_over s.meets spreads) of_group
-      (λ set. spread-is s.meets set spreads ∙ ap (λ (r : Rule). group_deviation p s.meets ds r set) (sym c.in-SpreadEvents.is))
-      (slice_get p.groups c.args.group) c.members-events.result.now c.members-events.ensures.are in
+    (λ set. spread-is s.meets set spreads ∙ ap (λ (r : Rule). group_deviation p s.meets ds r set) (sym c.in-SpreadEvents.is))
+    (slice_get p.groups c.args.group) c.members-events.result.now c.members-events.ensures.are in
     rw (← c.self.view_is)
     (c.spread_events.ensures.exact ∙ ap (λ ss. spread_over s.meets ss c.members-events.result.now) c.as_slice.ensures ∙ same)
 

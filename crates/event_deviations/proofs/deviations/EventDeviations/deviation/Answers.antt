@@ -1,4 +1,4 @@
-use Rattle.std.proofs.Common.{◌≡◌, ◌∙◌, sym, subst, ◌<◌, Some, slice_get}
+use Rattle.std.proofs.Common.{◌≡◌, sym, subst, Some, slice_get}
 use Rattle.khe_instance.specs.WellMade.{IsRule, IsMonitor}
 use Rattle.khe_instance.specs.declared.parts.Parts.{Parts}
 use Rattle.event_deviations.specs.State.{State}

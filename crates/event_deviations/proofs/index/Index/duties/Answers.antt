@@ -26,7 +26,7 @@ bounds-places-place c =
     let within = event_of_place p s c.self.invariant.made c.self.invariant.told c.args.event.0 c.args.place place in
     let found = read_by (duties_by_place p.events (duties s.meets s.tasks)) (length p.events) c.args.event.0 c.as_slice.result.now c.index-as_slice-event.result (c.as_slice.ensures ∙ c.self.invariant.duties_are) within c.index-as_slice-event.is in
     let long : length c.as_slice-places.result.now ≡ places_at p.events c.args.event.0 =
-        length_by (λ k. duties_at c.args.event.0 k (duties s.meets s.tasks)) (places_at p.events c.args.event.0) c.as_slice-places.result.now (c.as_slice-places.ensures ∙ found) in
+    length_by (λ k. duties_at c.args.event.0 k (duties s.meets s.tasks)) (places_at p.events c.args.event.0) c.as_slice-places.result.now (c.as_slice-places.ensures ∙ found) in
     subst (λ n. c.args.place < n) (sym long) place
 
 pub offset_bounds-places-place : goal.offset_bounds-places-place
@@ -37,7 +37,7 @@ offset_bounds-places-place c =
     let within = event_of_place p s c.self.invariant.made c.self.invariant.told c.args.event.0 c.args.place place in
     let found = read_by (duties_by_place p.events (duties s.meets s.tasks)) (length p.events) c.args.event.0 c.as_slice.result.now c.index-as_slice-event.result (c.as_slice.ensures ∙ c.self.invariant.duties_are) within c.index-as_slice-event.is in
     let long : length c.as_slice-places.result.now ≡ places_at p.events c.args.event.0 =
-        length_by (λ k. duties_at c.args.event.0 k (duties s.meets s.tasks)) (places_at p.events c.args.event.0) c.as_slice-places.result.now (c.as_slice-places.ensures ∙ found) in
+    length_by (λ k. duties_at c.args.event.0 k (duties s.meets s.tasks)) (places_at p.events c.args.event.0) c.as_slice-places.result.now (c.as_slice-places.ensures ∙ found) in
     omega (arith, c.as_slice-places.type_inv)
 
 pub returns-clause-are : goal.returns-clause-are
@@ -71,4 +71,4 @@ returns-clause-given c =
     let own = read_by (λ k. duties_at c.args.event.0 k (duties s.meets s.tasks)) (places_at p.events c.args.event.0) c.args.place c.as_slice-places.result.now c.index-places-place.result (c.as_slice-places.ensures ∙ found) place c.index-places-place.is in
     rw (← c.self.view_is)
     (subst (All (λ d. IfSome d.resource (λ r. r.0 < length p.resources))) (sym (c.as_slice-2.ensures ∙ own))
-      (given_at p s c.self.invariant.made c.self.invariant.told c.args.event.0 c.args.place))
+    (given_at p s c.self.invariant.made c.self.invariant.told c.args.event.0 c.args.place))

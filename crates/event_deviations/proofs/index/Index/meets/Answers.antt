@@ -1,7 +1,6 @@
-use Rattle.std.proofs.Common.{◌≡◌, ◌∙◌, sym, ap, subst, ◌<◌, length, get_or}
+use Rattle.std.proofs.Common.{◌≡◌, ◌∙◌, sym, ap, subst, ◌<◌, length}
 use Rattle.khe_instance.specs.Running.{meets_of}
 use Rattle.event_deviations.specs.Bounded.{AreOfOneEvent, duration_at}
-use Rattle.event_deviations.specs.State.{State}
 use Rattle.event_deviations.proofs.Kit.{length_by, read_by}
 use Rattle.event_deviations.proofs.Lookups.{of_one_event, short}
 use Rattle.event_deviations.proofs.index.Index.meets.Goals as goal

@@ -1,4 +1,4 @@
-use Rattle.std.proofs.Common.{◌≡◌, ◌∙◌, sym, ap, subst, ◌<◌, ◌≤◌, ℕ, List, All, length, sum_by}
+use Rattle.std.proofs.Common.{◌∙◌, sym, subst, ◌<◌, ◌≤◌, ℕ, List, All, length, sum_by}
 use Rattle.khe_base.specs.declared.limits.TheConstants.{DURATION, EVENTS}
 use Rattle.event_deviations.specs.Bounded.{duration_at}
 use Rattle.event_deviations.proofs.Lookups.{member_list}

@@ -1,4 +1,4 @@
-use Rattle.std.proofs.Common.{◌≡◌, ◌∙◌, sym, ap, subst, ℕ, List, [], length, replicate}
+use Rattle.std.proofs.Common.{◌∙◌, sym, ap, subst, ℕ, List, length, replicate}
 use Rattle.event_deviations.specs.Marked.{AreListed}
 use Rattle.event_deviations.proofs.MarkLemmas.{all_zero, AreListed-none}
 use Rattle.event_deviations.proofs.marks.Marks.clear.Goals as goal
