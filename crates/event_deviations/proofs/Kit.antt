@@ -1,0 +1,202 @@
+-- Tests over lists, filters and ranges.
+use Rattle.std.proofs.Common.{◌≡◌, ◌∙◌, sym, ap, ap₂, subst, refl, ℕ, zero, suc, ◌+◌, ◌<◌, ◌≤◌, ◌==◌, Bool, true, false, cond, ◌&&◌, ◌||◌, not, List, [], ◌∷◌, ◌++◌, map, length, get_or, set, replicate, slice_get, arith, zero-add, ◌⊎◌, inl, inr, All, filter, sum_by, count_by}
+use Rattle.std.specs.List.{list_any, list_all, range_with_len}
+use Rattle.std.specs.Option.{option_map_or}
+use Rattle.std.proofs.lemmas.Bool.{false≢true, eqb-true, eq-eqb, ne_eqb, cases_eq}
+use Rattle.std.proofs.lemmas.List.{length-map, get_or-map, get_or-set_same, get_or-set_other, length-set, map-id}
+use Rattle.std.proofs.lemmas.List.Filters.{sum_by-filter_both}
+use Rattle.std.proofs.lemmas.List.Folds.{Any-from_list_any, list_any_at, fold-map}
+use Rattle.std.proofs.lemmas.List.FromFn.{length-range_with_len, get_or-range_with_len, length-map-range_with_len, get_or-map-range_with_len, map-range_with_len_more, fill_by_all}
+use Rattle.std.proofs.lemmas.List.Sums.{sum_by-cons, sum-map}
+
+-- both of two tests
+pub both_true : (a b : Bool) → (a && b) ≡ true → (a ≡ true) × (b ≡ true)
+both_true true b e = (refl, e)
+both_true false b e = absurd (false≢true e)
+
+pub from_both : (a b : Bool) → a ≡ true → b ≡ true → (a && b) ≡ true
+from_both true b e f = f
+from_both false b e f = e
+
+-- two tests that pass alike
+pub same_truth : (a b : Bool) → (a ≡ true → b ≡ true) → (b ≡ true → a ≡ true) → a ≡ b
+same_truth true b f g = sym (f refl)
+same_truth false true f g = g refl
+same_truth false false f g = refl
+
+pub false_by : (a : Bool) → (a ≡ true → ⊥) → a ≡ false
+false_by true f = absurd (f refl)
+false_by false f = refl
+
+module _ {X : Type 0} where
+  pub list_any-filter : (q p : X → Bool) (xs : List X) → list_any q (filter p xs) ≡ list_any (λ x. p x && q x) xs
+  list_any-filter q p [] = refl
+  list_any-filter q p (x ∷ xs) = by (p x) (list_any-filter q p xs)
+    where
+      by : (b : Bool) → list_any q (filter p xs) ≡ list_any (λ y. p y && q y) xs
+          → list_any q (cond b (x ∷ filter p xs) (filter p xs)) ≡ ((b && q x) || list_any (λ y. p y && q y) xs)
+      by true rest = ap (λ r. q x || r) rest
+      by false rest = rest
+
+  pub filter_none : (p : X → Bool) (xs : List X) → list_any p xs ≡ false → filter p xs ≡ []
+  filter_none p [] e = refl
+  filter_none p (x ∷ xs) e = by (p x) e (filter_none p xs)
+    where
+      by : (b : Bool) → (b || list_any p xs) ≡ false → (list_any p xs ≡ false → filter p xs ≡ []) → cond b (x ∷ filter p xs) (filter p xs) ≡ []
+      by true f rest = absurd (false≢true (sym f))
+      by false f rest = rest f
+
+  pub filter_every : (p : X → Bool) (xs : List X) → list_all p xs ≡ true → filter p xs ≡ xs
+  filter_every p [] e = refl
+  filter_every p (x ∷ xs) e = by (p x) e (filter_every p xs)
+    where
+      by : (b : Bool) → (b && list_all p xs) ≡ true → (list_all p xs ≡ true → filter p xs ≡ xs) → cond b (x ∷ filter p xs) (filter p xs) ≡ x ∷ xs
+      by true f rest = ap (λ r. x ∷ r) (rest f)
+      by false f rest = absurd (false≢true f)
+
+  pub any_false : (b : Bool) (xs : List X) → b ≡ false → list_any (λ _. b) xs ≡ false
+  any_false b [] e = refl
+  any_false b (x ∷ xs) e = ap₂ (λ y z. y || z) e (any_false b xs e)
+
+  pub all_true : (b : Bool) (xs : List X) → b ≡ true → list_all (λ _. b) xs ≡ true
+  all_true b [] e = refl
+  all_true b (x ∷ xs) e = ap₂ (λ y z. y && z) e (all_true b xs e)
+
+  -- a part of a sum
+  pub sum_by-filter_le : (f : X → ℕ) (p : X → Bool) (xs : List X) → sum_by f (filter p xs) ≤ sum_by f xs
+  sum_by-filter_le f p xs = omega (arith, sum_by-filter_both p (λ x. not (p x)) (λ _. refl) f xs)
+
+  pub sum_by-filter : (f : X → ℕ) (p : X → Bool) (xs : List X) → sum_by f (filter p xs) ≡ sum_by (λ x. cond (p x) (f x) 0) xs
+  sum_by-filter f p [] = refl
+  sum_by-filter f p (x ∷ xs) = by (p x) (sum_by-filter f p xs) ∙ sym (sum_by-cons (λ y. cond (p y) (f y) 0) x xs)
+    where
+      by : (b : Bool) → sum_by f (filter p xs) ≡ sum_by (λ y. cond (p y) (f y) 0) xs
+          → sum_by f (cond b (x ∷ filter p xs) (filter p xs)) ≡ cond b (f x) 0 + sum_by (λ y. cond (p y) (f y) 0) xs
+      by true rest = sum_by-cons f x (filter p xs) ∙ ap (λ n. f x + n) rest
+      by false rest = rest ∙ sym (zero-add (sum_by (λ y. cond (p y) (f y) 0) xs))
+
+  -- the same by the element's places
+  pub count_by-places : (p : X → Bool) (xs : List X) (d : X) → count_by p xs ≡ count_by (λ i. p (get_or xs i d)) (range_with_len 0 (length xs))
+  count_by-places p xs d =
+      let places = fill_by_all (λ i. get_or xs i d) xs (length xs) d refl (λ k l. refl) in
+      ap (count_by p) places ∙ fold-map (λ (n : ℕ) (x : X). n + cond (p x) 1 0) (λ i. get_or xs i d) 0 (range_with_len 0 (length xs))
+
+  pub All-from_map : {Y : Type 0} (P : Y → Type 0) (f : X → Y) (xs : List X) → All P (map f xs) → All (λ x. P (f x)) xs
+  All-from_map P f xs all k d l = subst P (get_or-map f xs k d (f d) l) (all k (f d) (subst (λ n. k < n) (sym (length-map xs f)) l))
+
+  -- an element of the list that is made from numbers
+  pub read_by : (F : ℕ → X) (n e : ℕ) (xs : List X) (x : X) → xs ≡ map F (range_with_len 0 n) → e < n → x ≡ get_or xs e x → x ≡ F e
+  read_by F n e xs x is l r = r ∙ ap (λ ys. get_or ys e x) is ∙ get_or-map-range_with_len F 0 n e e x l (omega arith)
+
+  pub length_by : (F : ℕ → X) (n : ℕ) (xs : List X) → xs ≡ map F (range_with_len 0 n) → length xs ≡ n
+  length_by F n xs is = ap length is ∙ length-map-range_with_len F 0 n
+
+  pub replicate_by : (n : ℕ) (x : X) → replicate n x ≡ map (λ _. x) (range_with_len 0 n)
+  replicate_by n x = by 0 n
+    where
+      by : (a n : ℕ) → replicate n x ≡ map (λ _. x) (range_with_len a n)
+      by a zero = refl
+      by a (suc n) = ap (λ r. x ∷ r) (by (a + 1) n)
+
+  -- a write of one element, where the others stay
+  pub set_by : (F G : ℕ → X) (n e : ℕ) (x : X) → e < n → G e ≡ x → ((k : ℕ) → (k ≡ e → ⊥) → G k ≡ F k)
+      → set (map F (range_with_len 0 n)) e x ≡ map G (range_with_len 0 n)
+  set_by F G n e x l here others =
+      let xs = map F (range_with_len 0 n) in
+      let long : length xs ≡ n = length-map-range_with_len F 0 n in
+      fill_by_all G (set xs e x) n x (length-set xs e x ∙ long) (λ k h. by k h (cases_eq k e))
+    where
+      by : (k : ℕ) → k < n → (k ≡ e) ⊎ (k ≡ e → ⊥) → get_or (set (map F (range_with_len 0 n)) e x) k x ≡ G k
+      by k h (inl same) =
+          let in_range : e < length (map F (range_with_len 0 n)) = subst (λ m. e < m) (sym (length-map-range_with_len F 0 n)) l in
+          ap (λ j. get_or (set (map F (range_with_len 0 n)) e x) j x) same ∙ get_or-set_same (map F (range_with_len 0 n)) e x x in_range ∙ sym here ∙ ap G (sym same)
+      by k h (inr other) =
+          get_or-set_other (map F (range_with_len 0 n)) e k x x other ∙ get_or-map-range_with_len F 0 n k k x h (omega arith) ∙ sym (others k other)
+
+pub range_more : (n : ℕ) → range_with_len 0 (n + 1) ≡ range_with_len 0 n ++ n ∷ []
+range_more n = sym (map-id (range_with_len 0 (n + 1))) ∙ map-range_with_len_more (λ k. k) 0 n n (zero-add n) ∙ ap (λ r. r ++ n ∷ []) (map-id (range_with_len 0 n))
+
+-- a number of a range passes
+pub any_in_range : (p : ℕ → Bool) (n k : ℕ) → k < n → p k ≡ true → list_any p (range_with_len 0 n) ≡ true
+any_in_range p n k l e =
+    list_any_at p (range_with_len 0 n) k 0 (subst (λ m. k < m) (sym (length-range_with_len 0 n)) l)
+    (ap p (get_or-range_with_len 0 n k 0 l ∙ (let z : 0 + k ≡ k = omega arith in z)) ∙ e)
+
+-- a number of a range that passes
+pub record InRange (p : ℕ → Bool) (n : ℕ) : Type 0 where
+  pub number : ℕ
+  pub below : number < n
+  pub passes : p number ≡ true
+
+pub from_any_range : (p : ℕ → Bool) (n : ℕ) → list_any p (range_with_len 0 n) ≡ true → InRange p n
+from_any_range p n e =
+    let found = Any-from_list_any p (range_with_len 0 n) e in
+    let below : found.0 < n = subst (λ m. found.0 < m) (length-range_with_len 0 n) found.2 in
+    record { number = found.1; below = subst (λ m. m < n) (sym (get_or-range_with_len 0 n found.0 found.1 below ∙ (let z : 0 + found.0 ≡ found.0 = omega arith in z)) ∙ found.3) below; passes = found.4 }
+
+-- the one number of a range that is looked for
+pub any_is : (p : ℕ → Bool) (x n : ℕ) → (n ≤ x → p x ≡ false) → list_any (λ y. (x == y) && p y) (range_with_len 0 n) ≡ p x
+any_is p x n beyond = same_truth _ _ to from
+  where
+    to : list_any (λ y. (x == y) && p y) (range_with_len 0 n) ≡ true → p x ≡ true
+    to e =
+        let f = from_any_range (λ y. (x == y) && p y) n e in
+        let b = both_true (x == f.number) (p f.number) f.passes in
+        ap p (eqb-true x f.number b.0) ∙ b.1
+
+    from : p x ≡ true → list_any (λ y. (x == y) && p y) (range_with_len 0 n) ≡ true
+    from e = any_in_range (λ y. (x == y) && p y) n x below (from_both (x == x) (p x) (eq-eqb x x refl) e)
+      where
+        below : x < n
+        below = by (grind arith)
+          where
+            by : (x < n) ⊎ (n ≤ x) → x < n
+            by (inl l) = l
+            by (inr l) = absurd (false≢true (sym (beyond l) ∙ e))
+
+-- counts of a range by tests that agree there
+pub count_by-agree : (p q : ℕ → Bool) (n : ℕ) → ((k : ℕ) → k < n → p k ≡ q k) → count_by p (range_with_len 0 n) ≡ count_by q (range_with_len 0 n)
+count_by-agree p q n h = by 0 n (λ k low high. h k (omega arith))
+  where
+    by : (a m : ℕ) → ((k : ℕ) → a ≤ k → k < a + m → p k ≡ q k) → count_by p (range_with_len a m) ≡ count_by q (range_with_len a m)
+    by a zero g = refl
+    by a (suc m) g =
+        sum_by-cons (λ x. cond (p x) 1 0) a (range_with_len (a + 1) m)
+        ∙ ap₂ (λ x y. cond x 1 0 + y) (g a (omega arith) (omega arith)) (by (a + 1) m (λ k low high. g k (omega arith) (omega arith)))
+        ∙ sym (sum_by-cons (λ x. cond (q x) 1 0) a (range_with_len (a + 1) m))
+
+-- at most one number of a range is this one
+pub count_one : (k n : ℕ) → count_by (λ j. j == k) (range_with_len 0 n) ≤ 1
+count_one k n = by 0 n
+  where
+    none : (a m : ℕ) → k < a → count_by (λ j. j == k) (range_with_len a m) ≡ 0
+    none a zero l = refl
+    none a (suc m) l =
+        sum_by-cons (λ j. cond (j == k) 1 0) a (range_with_len (a + 1) m)
+        ∙ ap₂ (λ x y. cond x 1 0 + y) (ne_eqb a k (λ e. absurd (omega (arith, e)))) (none (a + 1) m (omega arith))
+
+    by : (a m : ℕ) → count_by (λ j. j == k) (range_with_len a m) ≤ 1
+    by a zero = omega arith
+    by a (suc m) = subst (λ x. x ≤ 1) (sym (sum_by-cons (λ j. cond (j == k) 1 0) a (range_with_len (a + 1) m))) (step (cases_eq a k) (by (a + 1) m))
+      where
+        step : (a ≡ k) ⊎ (a ≡ k → ⊥) → count_by (λ j. j == k) (range_with_len (a + 1) m) ≤ 1 → cond (a == k) 1 0 + count_by (λ j. j == k) (range_with_len (a + 1) m) ≤ 1
+        step (inl e) rest =
+            let z : count_by (λ j. j == k) (range_with_len (a + 1) m) ≡ 0 = none (a + 1) m (omega (arith, e)) in
+            let y : cond {A = ℕ} (a == k) 1 0 ≡ 1 = ap (λ b. cond {A = ℕ} b 1 0) (eq-eqb a k e) in
+            omega arith
+        step (inr ne) rest =
+            let y : cond {A = ℕ} (a == k) 1 0 ≡ 0 = ap (λ b. cond {A = ℕ} b 1 0) (ne_eqb a k ne) in
+            omega arith
+
+-- numbers of a list by their places
+looked_up : {X : Type 0} (f : X → ℕ) (ys : List X) (k : ℕ) → get_or (map f ys) k 0 ≡ option_map_or f (slice_get ys k) 0
+looked_up f [] k = refl
+looked_up f (y ∷ ys) zero = refl
+looked_up f (y ∷ ys) (suc k) = looked_up f ys k
+
+pub sum_by-looked_up : {X : Type 0} (f : X → ℕ) (xs : List X) → sum_by (λ i. option_map_or f (slice_get xs i) 0) (range_with_len 0 (length xs)) ≡ sum_by f xs
+sum_by-looked_up f xs =
+    let F = λ (i : ℕ). option_map_or f (slice_get xs i) 0 in
+    sym (sum-map F (range_with_len 0 (length xs)))
+    ∙ ap (sum_by (λ n. n)) (sym (fill_by_all F (map f xs) (length xs) 0 (length-map xs f) (λ k l. looked_up f xs k)))
+    ∙ sum-map f xs

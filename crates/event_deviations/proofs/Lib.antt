@@ -1,0 +1,8 @@
+pub mod Kit
+pub mod Beside
+pub mod Lookups
+pub mod MarkLemmas
+pub mod EventLemmas
+pub mod GroupLemmas
+pub mod LinkLemmas
+pub mod PointLemmas

@@ -1,0 +1,71 @@
+-- Values of numbers, and which of them are above 0.
+use Rattle.std.proofs.Common.{◌≡◌, ◌∙◌, sym, ap, subst, refl, ℕ, ◌*◌, ◌<◌, ◌≤◌, ◌==◌, Bool, true, false, cond, if◌then◌else◌, ◌||◌, nat_lt, List, [], length, get_or, set, replicate, arith, ◌⊎◌, inl, inr, count_by}
+use Rattle.std.specs.List.{list_any, range_with_len}
+use Rattle.std.proofs.lemmas.Bool.{false≢true, eq-eqb, ne_eqb, cases_eq, cases_lt, lt-ltb}
+use Rattle.std.proofs.lemmas.Bool.Decides.{nat_tests}
+use Rattle.std.proofs.lemmas.Grind.{same_number_lists}
+use Rattle.std.proofs.lemmas.List.{length-replicate, get_or-replicate, get_or_past, get_or-set_same, get_or-set_other}
+use Rattle.std.proofs.lemmas.List.Elements.{All-nil}
+use Rattle.std.proofs.lemmas.List.Folds.{sum_by-replicate}
+use Rattle.event_deviations.specs.Marked.{is_marked, marked_count, AreListed}
+use Rattle.event_deviations.proofs.Kit.{count_by-places, count_by-agree, false_by}
+
+pub or_false : (b : Bool) → (b || false) ≡ b
+or_false true = refl
+or_false false = refl
+
+pub or_true : (b : Bool) → (b || true) ≡ true
+or_true true = refl
+or_true false = refl
+
+pub or_assoc : (a b c : Bool) → ((a || b) || c) ≡ (a || (b || c))
+or_assoc true b c = refl
+or_assoc false b c = refl
+
+-- no number of zeros has another value
+pub get_or-zeros : (n k : ℕ) → get_or (replicate {A = ℕ} n 0) k 0 ≡ 0
+get_or-zeros n k = by (cases_lt k n)
+  where
+    by : (k < n) ⊎ (n ≤ k) → get_or (replicate {A = ℕ} n 0) k 0 ≡ 0
+    by (inl l) = get_or-replicate n k 0 0 l
+    by (inr l) = get_or_past (replicate {A = ℕ} n 0) k 0 (subst (λ (m : ℕ). m ≤ k) (sym (length-replicate {A = ℕ} n 0)) l)
+
+pub is_marked-zeros : (n k : ℕ) → is_marked (replicate n 0) k ≡ false
+is_marked-zeros n k = ap (nat_lt 0) (get_or-zeros n k)
+
+pub AreListed-none : (n : ℕ) → AreListed (replicate n 0) []
+AreListed-none n = record {
+  known = λ k e. absurd (false≢true (sym (is_marked-zeros n k) ∙ e));
+  within = All-nil (λ k. k < length (replicate n 0));
+  counted = sym (sum_by-replicate (λ (v : ℕ). cond (nat_lt 0 v) 1 0) n 0 ∙ (let z : n * 0 ≡ 0 = omega arith in z));
+}
+
+-- values of which the marked ones were given 0 are all 0
+pub all_zero : (old new marked : List ℕ) → AreListed old marked → length new ≡ length old
+    → ((n : ℕ) → get_or new n 0 ≡ (if list_any (λ m. m == n) marked then 0 else get_or old n 0)) → new ≡ replicate (length old) 0
+all_zero old new marked listed long values =
+    same_number_lists new (replicate (length old) 0) (long ∙ sym (length-replicate (length old) 0))
+    (λ k l. values k ∙ by k (list_any (λ m. m == k) marked) refl ∙ sym (get_or-zeros (length old) k))
+  where
+    unmarked : (k : ℕ) → list_any (λ m. m == k) marked ≡ false → is_marked old k ≡ false
+    unmarked k e = false_by (is_marked old k) (λ t. false≢true (sym e ∙ listed.known k t))
+
+    by : (k : ℕ) (b : Bool) → list_any (λ m. m == k) marked ≡ b → (if b then 0 else get_or old k 0) ≡ 0
+    by k true e = refl
+    by k false e = let u : nat_lt 0 (get_or old k 0) ≡ false = unmarked k e in grind (arith, nat_tests)
+
+-- one more number with a value
+pub is_marked-set : (vs : List ℕ) (n v k : ℕ) → n < length vs → 0 < v → is_marked (set vs n v) k ≡ (is_marked vs k || (n == k))
+is_marked-set vs n v k l pos = by (cases_eq n k)
+  where
+    by : (n ≡ k) ⊎ (n ≡ k → ⊥) → is_marked (set vs n v) k ≡ (is_marked vs k || (n == k))
+    by (inl e) =
+        ap (nat_lt 0) (ap (λ j. get_or (set vs n v) j 0) (sym e) ∙ get_or-set_same vs n v 0 l) ∙ lt-ltb 0 v pos
+        ∙ sym (ap (λ b. is_marked vs k || b) (eq-eqb n k e) ∙ or_true (is_marked vs k))
+    by (inr ne) =
+        ap (nat_lt 0) (get_or-set_other vs n k v 0 (λ e. ne (sym e))) ∙ sym (ap (λ b. is_marked vs k || b) (ne_eqb n k ne) ∙ or_false (is_marked vs k))
+
+-- how many are marked, where it is known which
+pub marked_count-by : (vs : List ℕ) (holds : ℕ → Bool) (n : ℕ) → length vs ≡ n → ((k : ℕ) → is_marked vs k ≡ holds k) → marked_count vs ≡ count_by holds (range_with_len 0 n)
+marked_count-by vs holds n long is =
+    count_by-places (nat_lt 0) vs 0 ∙ ap (λ m. count_by (is_marked vs) (range_with_len 0 m)) long ∙ count_by-agree (is_marked vs) holds n (λ k l. is k)

@@ -1,0 +1,7 @@
+pub mod Bounded
+pub mod Ends
+pub mod Groups
+pub mod Indexed
+pub mod Links
+pub mod Marked
+pub mod State

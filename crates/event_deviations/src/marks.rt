@@ -1,0 +1,88 @@
+ghost use Rattle.std.specs.Prelude.{◌≡◌, ◌<◌, ℕ, length, replicate, slice_index, slice_set, IfOk, OnOk, All, if◌then◌else◌, ◌==◌};
+ghost use Rattle.std.specs.List.{list_any};
+ghost use Rattle.event_deviations.specs.Marked.{marked_count};
+
+use khe_base::NoMemory;
+use std::alloc::Global;
+use std::marker::Model;
+
+/// A value for each number below a size, 0 at first. Contracts see the list of the values.
+///
+/// It is made once and cleared in the time of what was marked since, whatever its size.
+#[derive(Drop)]
+pub(crate) struct Marks {
+    values: Vec<u32>,
+    /// The numbers whose value is above 0.
+    marked: Vec<u32>,
+}
+
+impl Model for Marks {
+    ghost use Rattle.std.specs.Prelude.{List, ℕ};
+    ghost use Rattle.event_deviations.specs.Marked.{AreListed};
+
+    ghost Value = { List ℕ };
+
+    ghost view = { λ m. m.values.items };
+
+    ghost invariant = { λ m. AreListed m.values.items m.marked.items };
+}
+
+impl Marks {
+    /// The value 0 for so many numbers. It takes time and memory in proportion to the size.
+    pub(crate) fn new(alloc: Global, size: u32) -> Result<Marks, NoMemory>
+        ensures { IfOk result (λ m. m ≡ replicate size 0) }
+    {
+        Ok(Marks {
+            values: vec![in alloc; 0; size as usize]?,
+            marked: Vec::new(alloc),
+        })
+    }
+
+    /// The value of a number.
+    pub(crate) fn at(&self, n: u32) -> u32
+        requires { n < length self.now }
+        ensures { result ≡ slice_index self.now n }
+    {
+        self.values[n as usize]
+    }
+
+    /// How many numbers have a value above 0.
+    pub(crate) fn count(&self) -> u64
+        ensures { result ≡ marked_count self.now }
+    {
+        self.marked.len() as u64
+    }
+
+    /// Gives a number a value above 0. Where memory is refused, all values stay as they were.
+    pub(crate) fn put(&mut self, n: u32, value: u32) -> Result<(), NoMemory>
+        requires number { n < length self.old }
+        requires value { 0 < value }
+        ensures length { length self.new ≡ length self.old }
+        ensures value { OnOk result (self.new ≡ slice_set self.old n value) }
+    {
+        if self.values[n as usize] == 0 {
+            self.marked.push(n)?;
+        }
+        self.values[n as usize] = value;
+        Ok(())
+    }
+
+    /// Gives all numbers the value 0 again, in the time of those that had another one.
+    pub(crate) fn clear(&mut self)
+        ensures { self.new ≡ replicate (length self.old) 0 }
+    {
+        reset(&mut self.values, self.marked.as_slice());
+        self.marked.clear();
+    }
+}
+
+/// Gives these numbers the value 0.
+fn reset(values: &mut Vec<u32>, numbers: &[u32])
+    requires { All (λ n. n < length values.old.items) numbers.now }
+    ensures length { length values.new.items ≡ length values.old.items }
+    ensures values { (n : ℕ) → slice_index values.new.items n ≡ (if list_any (λ m. m == n) numbers.now then 0 else slice_index values.old.items n) }
+{
+    for n in numbers {
+        values[*n as usize] = 0;
+    }
+}
