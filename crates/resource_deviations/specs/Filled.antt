@@ -12,15 +12,15 @@ use Rattle.timetables.specs.Counts.{row_of, count_at}
 abbrev pub workload_in : Parts → List Duty → ℕ → ℕ
 workload_in p ds r = sum_by (workload_of p.events p.unit) (filter (λ d. is_resource r d.resource) ds)
 
--- a row of counts for each resource, a count for each time, and a workload for each resource
-pub record HasRoom (p : Parts) (rows : List (List ℕ)) (sums : List ℕ) : Type 0 where
+-- a row of counts for each resource, with a count for each time
+pub record HasRows (p : Parts) (rows : List (List ℕ)) : Type 0 where
   pub resources : length rows ≡ length p.resources
   pub times : (r : ℕ) → r < length p.resources → length (row_of rows r) ≡ length p.times
-  pub workloads : length sums ≡ length p.resources
 
 -- the counts and the workloads are those of the tasks
 pub record IsFilled (p : Parts) (ds : List Duty) (rows : List (List ℕ)) (sums : List ℕ) : Type 0 where
-  pub room : HasRoom p rows sums
+  pub rows_of_all : HasRows p rows
+  pub sums_of_all : length sums ≡ length p.resources
   pub few : length ds ≤ TASKS
   pub counts : (r t : ℕ) → count_at rows r t ≡ running_tasks ds r t
   pub workloads : (r : ℕ) → slice_index sums r ≡ workload_in p ds r

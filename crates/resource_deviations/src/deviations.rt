@@ -1,6 +1,6 @@
 ghost use Rattle.resource_deviations.specs.Filled.{IsFilled};
 
-use crate::filling::{add, no_workloads};
+use crate::filling::{add_counts, add_workload, no_workloads};
 use crate::masks::TimeMasks;
 use crate::measures::{
     busy_outside, busy_sets_outside, busy_total, clashes, idle_outside, workload_outside,
@@ -44,10 +44,12 @@ impl<'a> ResourceDeviations<'a> {
         requires { AreOfState inst.now duties.now }
         ensures { IfOk result (λ d. (d.inst.now ≡ inst.now) × (d.duties.now ≡ duties.now)) }
     {
+        inst.facts();
         let mut table = Timetable::open(alloc, inst.resources(), inst.times())?;
         let mut workloads = no_workloads(alloc, inst.resources())?;
         for duty in duties {
-            add(inst, duty, &mut table, &mut workloads);
+            add_counts(inst, duty, &mut table);
+            add_workload(inst, duty, &mut workloads);
         }
         Ok(ResourceDeviations {
             inst,
@@ -68,11 +70,12 @@ impl<'a> ResourceDeviations<'a> {
         ensures value { (meets : List Meet) → result ≡ deviation self.now.inst.now meets self.now.duties.now monitor }
         ensures bound { result ≤ GREATEST_DEVIATION }
     {
+        self.inst.facts();
         let rule = &self.inst.constraint(monitor.constraint).rule;
-        match monitor.point {
-            Point::Resource(r) => self.of_rule(rule, masks.as_slice(), r),
-            _ => 0,
-        }
+        let Point::Resource(r) = monitor.point else {
+            unreachable!();
+        };
+        self.of_rule(rule, masks.as_slice(), r)
     }
 
     /// The deviation of a rule at a resource, by the masks of its sets.
@@ -80,9 +83,9 @@ impl<'a> ResourceDeviations<'a> {
         requires rule { IsRule self.now.inst.now rule.now }
         requires masks { masks.now ≡ sets_of rule.now }
         requires resource { r.0 < length self.now.inst.now.resources }
-        ensures value { result ≡ resource_deviation self.now.inst.now self.now.duties.now rule.now r.0 }
-        ensures bound { result ≤ GREATEST_DEVIATION }
+        ensures { result ≡ resource_deviation self.now.inst.now self.now.duties.now rule.now r.0 }
     {
+        self.inst.facts();
         let table = &self.table;
         match rule {
             Rule::AvoidClashes => clashes(table, r, self.inst.times()),

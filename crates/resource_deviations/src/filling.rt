@@ -1,8 +1,8 @@
-ghost use Rattle.std.specs.Prelude.{◌≡◌, ◌+◌, ◌*◌, ◌^◌, ◌<◌, ◌≤◌, ◌&&◌, ℕ, ◌==◌, nat_le, nat_lt, if◌then◌else◌, IfOk, length, replicate, slice_index};
+ghost use Rattle.std.specs.Prelude.{◌≡◌, ◌+◌, ◌*◌, ◌^◌, ◌/◌, ◌<◌, ◌≤◌, ◌&&◌, ℕ, ◌==◌, nat_le, nat_lt, if◌then◌else◌, IfOk, length, replicate, slice_index};
 ghost use Rattle.khe_base.specs.declared.limits.TheConstants.{GREATEST_COUNT, NUMBER};
 ghost use Rattle.khe_instance.specs.ResourceDeviation.{workload_of};
 ghost use Rattle.khe_instance.specs.Running.{covers};
-ghost use Rattle.resource_deviations.specs.Filled.{HasRoom, AddsCounts, AddsWorkload};
+ghost use Rattle.resource_deviations.specs.Filled.{HasRows, AddsCounts, AddsWorkload};
 ghost use Rattle.resource_deviations.specs.Tasks.{IsDuty};
 ghost use Rattle.timetables.specs.Counts.{row_of, count_at};
 
@@ -18,38 +18,68 @@ pub(crate) fn no_workloads(alloc: Global, resources: u32) -> Result<Vec<u128>, N
     Ok(vec![in alloc; 0; resources as usize]?)
 }
 
-/// Adds a task to the counts and to the workloads.
-pub(crate) fn add(inst: &Instance, duty: &Duty, table: &mut Timetable, workloads: &mut Vec<u128>)
+/// Adds a task to the counts, at each time at which its meet runs.
+pub(crate) fn add_counts(inst: &Instance, duty: &Duty, table: &mut Timetable)
     requires duty { IsDuty inst.now duty.now }
-    requires room { HasRoom inst.now table.old workloads.old.items }
+    requires room { HasRows inst.now table.old }
     requires counts { (r t : ℕ) → count_at table.old r t < GREATEST_COUNT }
-    requires workloads { (r : ℕ) → slice_index workloads.old.items r + NUMBER * inst.now.unit < 2 ^ 128 }
-    ensures room { HasRoom inst.now table.new workloads.new.items }
+    ensures room { HasRows inst.now table.new }
     ensures counts { AddsCounts duty.now table.old table.new }
-    ensures workloads { AddsWorkload inst.now duty.now workloads.old.items workloads.new.items }
 {
-    if let Some(resource) = duty.resource {
-        workloads[resource.0 as usize] += share(inst, duty);
-        if let Some(start) = duty.meet.start {
-            occupy(table, resource, start, duty.meet.duration);
-        }
-    }
+    inst.facts();
+    let Some(resource) = duty.resource else {
+        return;
+    };
+    let Some(start) = duty.meet.start else {
+        return;
+    };
+    occupy(table, resource, start, duty.meet.duration);
+}
+
+/// Adds a task to the workloads, whether its meet has a start or not.
+pub(crate) fn add_workload(inst: &Instance, duty: &Duty, workloads: &mut Vec<u128>)
+    requires duty { IsDuty inst.now duty.now }
+    requires room { length workloads.old.items ≡ length inst.now.resources }
+    requires small { (r : ℕ) → slice_index workloads.old.items r + NUMBER * inst.now.unit < 2 ^ 128 }
+    ensures room { length workloads.new.items ≡ length inst.now.resources }
+    ensures sums { AddsWorkload inst.now duty.now workloads.old.items workloads.new.items }
+    ensures small { (r : ℕ) → slice_index workloads.new.items r ≤ slice_index workloads.old.items r + NUMBER * inst.now.unit }
+{
+    let Some(resource) = duty.resource else {
+        return;
+    };
+    let worth = worth_of(inst, duty);
+    let place = resource.0 as usize;
+    workloads[place] += worth;
 }
 
 /// What a task is worth to its resource, in parts of one over the unit.
-fn share(inst: &Instance, duty: &Duty) -> u128
+fn worth_of(inst: &Instance, duty: &Duty) -> u128
     requires { IsDuty inst.now duty.now }
     ensures value { result ≡ workload_of inst.now.events inst.now.unit duty.now }
     ensures small { result ≤ NUMBER * inst.now.unit }
 {
+    inst.facts();
     let event = inst.event(duty.meet.event);
+    let rate = rate_of(inst.unit(), event.duration);
     match event.places.as_slice().get(duty.place as usize) {
         None => 0,
-        Some(place) => {
-            let rate = inst.unit() / u64::from(event.duration);
-            u128::from(place.workload) * u128::from(duty.meet.duration) * u128::from(rate)
-        }
+        Some(place) => product(place.workload, duty.meet.duration, rate),
     }
+}
+
+/// How many parts of one over the unit are one over the duration.
+fn rate_of(unit: u64, duration: u32) -> u64
+    requires { 1 ≤ duration }
+    ensures { result ≡ unit / duration }
+{
+    unit / u64::from(duration)
+}
+
+fn product(workload: u32, duration: u32, rate: u64) -> u128
+    ensures { result ≡ workload * duration * rate }
+{
+    u128::from(workload) * u128::from(duration) * u128::from(rate)
 }
 
 /// One more task of the resource at each of so many times.
