@@ -10,10 +10,11 @@ use Rattle.khe_base.specs.declared.numbers.ResourceId.{ResourceId}
 use Rattle.khe_base.specs.declared.numbers.TimeId.{TimeId}
 use Rattle.khe_instance.specs.ResourceDeviation.{workload_of}
 use Rattle.khe_instance.specs.Running.{is_resource, covers}
-use Rattle.khe_instance.specs.WellMade.{AreWellMade, IsEvent, IsPlace}
+use Rattle.khe_instance.specs.WellMade.{AreWellMade, IsConstraint, IsEvent, IsPlace}
 use Rattle.khe_instance.specs.declared.parts.EventInfo.{EventInfo}
 use Rattle.khe_instance.specs.declared.parts.Parts.{Parts}
 use Rattle.khe_instance.specs.declared.parts.Place.{Place}
+use Rattle.khe_instance.specs.declared.rules.Constraint.{Constraint}
 use Rattle.khe_instance.specs.declared.states.Duty.{Duty}
 use Rattle.timetables.specs.Counts.{count_at}
 use Rattle.resource_deviations.specs.Filled.{AddsCounts, AddsWorkload}
@@ -23,6 +24,10 @@ use Rattle.resource_deviations.proofs.SumsLemmas.{part_small}
 -- an event of the instance is one
 pub event_made : (p : Parts) → AreWellMade p → (e : ℕ) (event : EventInfo) → slice_get p.events e ≡ Some event → IsEvent p event
 event_made p made e event there = subst (IsEvent p) (get_or_from_slice_get p.events e event event there) (made.events e event (slice_get_within p.events e event there))
+
+-- a constraint of the instance is one
+pub constraint_made : (p : Parts) → AreWellMade p → (k : ℕ) (c : Constraint) → slice_get p.constraints k ≡ Some c → IsConstraint p c
+constraint_made p made k c there = subst (IsConstraint p) (get_or_from_slice_get p.constraints k c c there) (made.constraints k c (slice_get_within p.constraints k c there))
 
 pub worth_small : (p : Parts) → AreWellMade p → (d : Duty) → IsDuty p d → (event : EventInfo) → slice_get p.events d.meet.event.0 ≡ Some event
     → (places : List Place) → places ≡ event.places → (k : ℕ) (place : Place) → k < length places → place ≡ get_or places k place

@@ -5,19 +5,19 @@ use Rattle.resource_deviations.proofs.deviations.ResourceDeviations.of_rule.Goal
 pub returns-in-AvoidUnavailableTimes : goal.returns-in-AvoidUnavailableTimes
 returns-in-AvoidUnavailableTimes c =
     unavailable-value c.args.self.now.inst.now c.args.self.now.duties.now c.args.self.now.table c.args.self.now.workloads.items c.args.self.now.filled c.args.r.0
-    c.args.masks.now c.args.rule.now c.in-AvoidUnavailableTimes.times.now c.busy_total.result c.in-AvoidUnavailableTimes.is c.requires.masks c.busy_total.ensures
+    c.args.masks.now c.args.rule.now c.in-AvoidUnavailableTimes.times c.busy_total.result c.in-AvoidUnavailableTimes.is c.requires.masks c.busy_total.ensures
 
 pub returns-in-LimitIdleTimes : goal.returns-in-LimitIdleTimes
 returns-in-LimitIdleTimes c =
     idle-value c.args.self.now.inst.now c.args.self.now.duties.now c.args.self.now.table c.args.self.now.workloads.items c.args.self.now.filled c.args.r.0
-    c.args.masks.now c.args.rule.now c.in-LimitIdleTimes.groups.now c.in-LimitIdleTimes.min.now c.in-LimitIdleTimes.max.now c.idle_outside.result c.in-LimitIdleTimes.is c.requires.masks c.idle_outside.ensures
+    c.args.masks.now c.args.rule.now c.in-LimitIdleTimes.groups c.in-LimitIdleTimes.min c.in-LimitIdleTimes.max c.idle_outside.result c.in-LimitIdleTimes.is c.requires.masks c.idle_outside.ensures
 
 pub returns-in-ClusterBusyTimes : goal.returns-in-ClusterBusyTimes
 returns-in-ClusterBusyTimes c =
     cluster-value c.args.self.now.inst.now c.args.self.now.duties.now c.args.self.now.table c.args.self.now.workloads.items c.args.self.now.filled c.args.r.0
-    c.args.masks.now c.args.rule.now c.in-ClusterBusyTimes.groups.now c.in-ClusterBusyTimes.min.now c.in-ClusterBusyTimes.max.now c.busy_sets_outside.result c.in-ClusterBusyTimes.is c.requires.masks c.busy_sets_outside.ensures
+    c.args.masks.now c.args.rule.now c.in-ClusterBusyTimes.groups c.in-ClusterBusyTimes.min c.in-ClusterBusyTimes.max c.busy_sets_outside.result c.in-ClusterBusyTimes.is c.requires.masks c.busy_sets_outside.ensures
 
 pub returns-in-LimitBusyTimes : goal.returns-in-LimitBusyTimes
 returns-in-LimitBusyTimes c =
     busy-value c.args.self.now.inst.now c.args.self.now.duties.now c.args.self.now.table c.args.self.now.workloads.items c.args.self.now.filled c.args.r.0
-    c.args.masks.now c.args.rule.now c.in-LimitBusyTimes.groups.now c.in-LimitBusyTimes.min.now c.in-LimitBusyTimes.max.now c.busy_outside.result c.in-LimitBusyTimes.is c.requires.masks c.busy_outside.ensures
+    c.args.masks.now c.args.rule.now c.in-LimitBusyTimes.groups c.in-LimitBusyTimes.min c.in-LimitBusyTimes.max c.busy_outside.result c.in-LimitBusyTimes.is c.requires.masks c.busy_outside.ensures
