@@ -1,7 +1,7 @@
 -- No deviation at a resource is above the greatest one that the limits allow.
-use Rattle.std.proofs.Common.{◌≡◌, ◌∙◌, sym, ap, refl, ℕ, zero, suc, ◌+◌, ◌-◌, ◌*◌, ◌/◌, ◌<◌, ◌≤◌, ◌⊎◌, inl, inr, nat_lt, not, ◌&&◌, Bool, true, false, cond, List, [], ◌∷◌, length, get_or, All, arith, count_by, sum_by, filter, le_trans, mul_assoc}
-use Rattle.std.specs.List.{range_with_len, list_any}
-use Rattle.std.proofs.lemmas.Bool.{cond_both, ltb-true}
+use Rattle.std.proofs.Common.{◌≡◌, ℕ, ◌+◌, ◌-◌, ◌*◌, ◌/◌, ◌<◌, ◌≤◌, nat_lt, not, ◌&&◌, Bool, List, length, get_or, All, arith, count_by, sum_by, filter, le_trans}
+use Rattle.std.specs.List.{range_with_len}
+use Rattle.std.proofs.lemmas.Bool.{cond_both}
 use Rattle.std.proofs.lemmas.List.Elements.{All-filter}
 use Rattle.std.proofs.lemmas.List.FromFn.{length-range_with_len}
 use Rattle.std.proofs.lemmas.List.Sums.{sum_by-le, count_by-le-length, length-filter}
@@ -18,7 +18,6 @@ use Rattle.khe_instance.specs.declared.rules.Rule.{Rule}
 use Rattle.khe_instance.specs.declared.rules.Rule.TheVariants.{AvoidClashes, AvoidUnavailableTimes, LimitIdleTimes, ClusterBusyTimes, LimitBusyTimes, LimitWorkload}
 use Rattle.khe_instance.specs.declared.states.Duty.{Duty}
 use Rattle.resource_deviations.specs.Filled.{workload_in}
-use Rattle.resource_deviations.specs.Sets.{sets_of}
 
 -- how far a number lies outside bounds is no more than the number or the lower bound
 out_small : (n least greatest most : ℕ) → n ≤ most → least ≤ most → out n least greatest ≤ most

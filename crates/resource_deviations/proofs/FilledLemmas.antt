@@ -1,7 +1,5 @@
 -- One more task is added up.
-use Rattle.std.proofs.Common.{◌≡◌, ◌∙◌, sym, ap, refl, ℕ, ◌+◌, ◌*◌, ◌<◌, ◌≤◌, ◌&&◌, Bool, cond, List, [], length, get_or, take, replicate, arith, count_by, slice_index, length-take-le}
-use Rattle.std.proofs.lemmas.List.{get_or_past, get_or-replicate, length-replicate}
-use Rattle.std.proofs.lemmas.Bool.{cases_lt}
+use Rattle.std.proofs.Common.{◌≡◌, ◌∙◌, sym, ap, ℕ, ◌+◌, ◌*◌, ◌<◌, ◌≤◌, ◌&&◌, cond, List, length, get_or, take, arith, slice_index, length-take-le}
 use Rattle.std.proofs.lemmas.List.Sums.{sum_by_more, count_by-le-length}
 use Rattle.khe_base.specs.declared.limits.TheConstants.{NUMBER, TASKS}
 use Rattle.khe_instance.specs.ResourceDeviation.{workload_of}

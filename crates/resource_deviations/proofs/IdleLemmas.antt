@@ -1,8 +1,7 @@
 -- The idle times of a set, said by the times before and after, and by tests on all times.
-use Rattle.std.proofs.Common.{◌≡◌, ◌∙◌, sym, ap, refl, ℕ, zero, suc, ◌+◌, ◌-◌, ◌<◌, ◌≤◌, nat_lt, Bool, true, false, not, ◌&&◌, ◌||◌, ◌⊎◌, inl, inr, List, [], ◌∷◌, length, arith, count_by, lt-ltb, le-ltb}
+use Rattle.std.proofs.Common.{◌≡◌, ◌∙◌, sym, ap, refl, ℕ, zero, suc, ◌+◌, ◌-◌, ◌<◌, ◌≤◌, nat_lt, Bool, true, false, not, ◌&&◌, ◌||◌, ◌⊎◌, inl, inr, arith, count_by, lt-ltb, le-ltb}
 use Rattle.std.specs.List.{range_with_len, list_any}
 use Rattle.std.proofs.lemmas.Bool.{cases_lt}
-use Rattle.khe_base.specs.IdSet.{has_member}
 use Rattle.timetables.specs.Counts.{count_below, is_idle_time, any_between}
 use Rattle.resource_deviations.proofs.SumsLemmas.{count_range_alike}
 

@@ -1,5 +1,5 @@
 -- What is counted by what was added up is what the definitions count by the tasks.
-use Rattle.std.proofs.Common.{◌≡◌, ◌∙◌, sym, ap, ℕ, Bool, not, ◌&&◌, nat_lt, List, [], ◌∷◌, length, count_by, sum_by, filter, zero-add}
+use Rattle.std.proofs.Common.{◌≡◌, ◌∙◌, sym, ap, ℕ, Bool, not, ◌&&◌, nat_lt, List, length, count_by, sum_by, filter, zero-add}
 use Rattle.std.specs.List.{range_with_len, list_any}
 use Rattle.khe_base.specs.IdSet.{has_member}
 use Rattle.khe_instance.specs.Deviation.{resource_deviation}

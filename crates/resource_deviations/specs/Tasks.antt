@@ -1,5 +1,5 @@
 -- The tasks of a state of an instance, each with its meet.
-use Rattle.std.specs.Prelude.{ℕ, ◌≡◌, ◌+◌, ◌<◌, ◌≤◌, Some, List, length, All, IfSome, slice_get}
+use Rattle.std.specs.Prelude.{◌≡◌, ◌+◌, ◌<◌, ◌≤◌, Some, List, length, All, IfSome, slice_get}
 use Rattle.khe_base.specs.declared.limits.TheConstants.{TASKS}
 use Rattle.khe_instance.specs.Running.{duties}
 use Rattle.khe_instance.specs.States.{IsTold}

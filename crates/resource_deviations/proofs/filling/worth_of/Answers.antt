@@ -1,5 +1,5 @@
 -- A task is worth no more than its place.
-use Rattle.std.proofs.Common.{◌≡◌, ◌≤◌, ◌*◌, ◌/◌, ap, subst, sym, ◌∙◌, ℕ, arith}
+use Rattle.std.proofs.Common.{◌≡◌, ◌≤◌, ◌*◌, ◌/◌, ap, subst, sym, ◌∙◌, ℕ}
 use Rattle.khe_base.specs.declared.limits.TheConstants.{NUMBER}
 use Rattle.resource_deviations.proofs.DutyLemmas.{worth_small}
 use Rattle.resource_deviations.proofs.filling.worth_of.Goals as goal

@@ -1,5 +1,5 @@
 -- One set more, which has a busy time or has none.
-use Rattle.std.proofs.Common.{◌≡◌, ◌∙◌, sym, ap, ℕ, ◌+◌, Bool, true, false, List, nat_lt, get_or, arith, lt-ltb, le-ltb}
+use Rattle.std.proofs.Common.{◌≡◌, ◌∙◌, ap, ℕ, ◌+◌, Bool, true, false, List, nat_lt, arith, lt-ltb, le-ltb}
 use Rattle.khe_instance.specs.Within.{out}
 use Rattle.timetables.specs.Counts.{row_of, busy_times}
 use Rattle.resource_deviations.proofs.SumsLemmas.{filtered-yes, filtered-no}

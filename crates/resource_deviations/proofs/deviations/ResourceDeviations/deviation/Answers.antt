@@ -1,5 +1,5 @@
 -- No deviation is above the greatest.
-use Rattle.std.proofs.Common.{◌≡◌, ◌≤◌, ◌*◌, ℕ, length, subst, sym}
+use Rattle.std.proofs.Common.{◌≤◌, ◌*◌, ℕ, length, subst, sym}
 use Rattle.khe_base.specs.declared.limits.TheConstants.{GREATEST_DEVIATION, NUMBER}
 use Rattle.resource_deviations.specs.Filled.{workload_in}
 use Rattle.resource_deviations.proofs.BoundsLemmas.{deviation-small}
