@@ -1,5 +1,5 @@
 -- Sums and counts over ranges, and over the elements of a list that pass a test.
-use Rattle.std.proofs.Common.{◌≡◌, ◌∙◌, sym, ap, refl, ℕ, zero, suc, ◌+◌, ◌*◌, ◌/◌, ◌<◌, ◌≤◌, Bool, true, false, cond, List, [], ◌∷◌, ◌++◌, length, get_or, take, arith, map-id, add-zero, zero-add, mul_assoc, count_by, sum_by, filter}
+use Rattle.std.proofs.Common.{◌≡◌, ◌∙◌, sym, ap, refl, ℕ, zero, suc, ◌+◌, ◌*◌, ◌/◌, ◌<◌, ◌≤◌, Bool, true, false, cond, List, [], ◌∷◌, ◌++◌, length, get_or, take, arith, map-id, zero-add, mul_assoc, count_by, sum_by, filter}
 use Rattle.std.specs.List.{range_with_len}
 use Rattle.std.proofs.lemmas.List.Elements.{filter_more}
 use Rattle.std.proofs.lemmas.List.FromFn.{map-range_with_len_more}
@@ -24,17 +24,6 @@ sum_by_filter_more f p xs i d h =
     one : (b : Bool) → sum_by f (cond b (get_or xs i d ∷ []) []) ≡ cond b (f (get_or xs i d)) 0
     one true = zero-add (f (get_or xs i d))
     one false = refl
-
--- the same, for an element that was read
-pub filtered-yes : {X : Type 0} (f : X → ℕ) (p : X → Bool) (xs : List X) (i : ℕ) (x : X) (total : ℕ) → i < length xs → x ≡ get_or xs i x → p x ≡ true
-    → total ≡ sum_by f (filter p (take i xs)) → total + f x ≡ sum_by f (filter p (take (i + 1) xs))
-filtered-yes f p xs i x total h is holds e =
-    (λ j. e j + (sym (ap (λ b. cond b (f x) 0) holds) ∙ ap (λ y. cond (p y) (f y) 0) is) j) ∙ sym (sum_by_filter_more f p xs i x h)
-
-pub filtered-no : {X : Type 0} (f : X → ℕ) (p : X → Bool) (xs : List X) (i : ℕ) (x : X) (total : ℕ) → i < length xs → x ≡ get_or xs i x → p x ≡ false
-    → total ≡ sum_by f (filter p (take i xs)) → total ≡ sum_by f (filter p (take (i + 1) xs))
-filtered-no f p xs i x total h is fails e =
-    sym (add-zero total) ∙ (λ j. e j + (sym (ap (λ b. cond b (f x) 0) fails) ∙ ap (λ y. cond (p y) (f y) 0) is) j) ∙ sym (sum_by_filter_more f p xs i x h)
 
 -- where two tests agree, they count alike
 pub count_range_alike : (p q : ℕ → Bool) (from n : ℕ) → ((t : ℕ) → from ≤ t → t < from + n → p t ≡ q t) → count_by p (range_with_len from n) ≡ count_by q (range_with_len from n)

@@ -1,4 +1,4 @@
-ghost use Rattle.std.specs.Prelude.{◌≡◌, ◌+◌, ◌-◌, ◌*◌, ◌^◌, ◌<◌, ◌≤◌, nat_lt, length, All, slice_index};
+ghost use Rattle.std.specs.Prelude.{◌≡◌, ◌+◌, ◌-◌, ◌*◌, ◌^◌, ◌<◌, ◌≤◌, nat_lt, if◌then◌else◌, length, All, slice_index};
 ghost use Rattle.std.specs.List.{filter, count_by, sum_by, range_with_len};
 ghost use Rattle.khe_base.specs.declared.limits.TheConstants.{GREATEST_DEVIATION, LISTED, UNIT};
 ghost use Rattle.khe_instance.specs.ResourceDeviation.{rounded_up};
@@ -106,12 +106,20 @@ pub(crate) fn busy_outside(
 {
     let mut total = 0;
     for mask in masks {
-        let busy = table.busy_in(r, mask);
-        if busy > 0 {
-            total += outside(u64::from(busy), least, greatest);
-        }
+        total += set_outside(table.busy_in(r, mask), least, greatest);
     }
     total
+}
+
+/// How far the number of a set's busy times lies outside the bounds, and 0 where it has none.
+fn set_outside(busy: u32, least: u32, greatest: u32) -> u64
+    ensures value { result ≡ (if nat_lt 0 busy then out busy least greatest else 0) }
+    ensures small { result < 2 ^ 33 }
+{
+    if busy == 0 {
+        return 0;
+    }
+    outside(u64::from(busy), least, greatest)
 }
 
 /// How far a workload, in parts of one over the unit, lies outside the bounds, rounded up to a

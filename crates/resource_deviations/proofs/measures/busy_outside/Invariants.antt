@@ -7,5 +7,5 @@ use Rattle.resource_deviations.proofs.measures.busy_outside.Given as goal
 abbrev pub invariant-loop-mask : goal.invariant-loop-mask
 invariant-loop-mask l = record {
   value : l.total ≡ sum_by (λ m. out (busy_times (row_of l.table l.r.0) m) l.least l.greatest) (filter (λ m. nat_lt 0 (busy_times (row_of l.table l.r.0) m)) (take l.mask-index l.masks));
-  small : l.total ≤ l.mask-index * 8589934590;
+  small : l.total ≤ l.mask-index * 8589934592;
 }
