@@ -2,11 +2,16 @@
 use Rattle.std.proofs.Common.{◌≡◌, ◌∙◌, sym, subst, ℕ, ◌*◌, ◌/◌, ◌<◌, ◌≤◌, Some, List, length, get_or, slice_get}
 use Rattle.std.proofs.lemmas.Option.{same_Some, get_or_from_slice_get, slice_get_within}
 use Rattle.khe_base.specs.declared.limits.TheConstants.{NUMBER}
-use Rattle.khe_instance.specs.WellMade.{AreWellMade, IsConstraint, IsEvent, IsPlace}
+use Rattle.khe_base.specs.declared.numbers.ResourceId.{ResourceId}
+use Rattle.khe_instance.specs.WellMade.{AreWellMade, IsConstraint, IsEvent, IsMonitor, IsPlace, IsPointOf}
 use Rattle.khe_instance.specs.declared.parts.EventInfo.{EventInfo}
 use Rattle.khe_instance.specs.declared.parts.Parts.{Parts}
 use Rattle.khe_instance.specs.declared.parts.Place.{Place}
+use Rattle.khe_instance.specs.declared.points.Monitor.{Monitor}
+use Rattle.khe_instance.specs.declared.points.Point.TheVariants.{Resource}
 use Rattle.khe_instance.specs.declared.rules.Constraint.{Constraint}
+use Rattle.khe_instance.specs.declared.rules.Rule.{Rule}
+use Rattle.khe_instance.specs.declared.rules.Rule.TheVariants.{AvoidClashes, AvoidUnavailableTimes, LimitIdleTimes, ClusterBusyTimes, LimitBusyTimes, LimitWorkload}
 use Rattle.khe_instance.specs.declared.states.Duty.{Duty}
 use Rattle.resource_deviations.specs.Tasks.{IsDuty}
 use Rattle.resource_deviations.proofs.SumsLemmas.{part_small}
@@ -28,3 +33,16 @@ worth_small p made d duty event there places same k place h is =
     let it : IsPlace p (get_or places k place) = subst (λ (xs : List Place). IsPlace p (get_or xs k place)) (sym same) ((event_made p made d.meet.event.0 event there).places k place (subst (λ (xs : List Place). k < length xs) same h)) in
     let few : place.workload ≤ NUMBER = (subst (IsPlace p) (sym is) it).workload in
     part_small NUMBER place.workload d.meet.duration event.duration p.unit few part
+
+-- a monitor's resource is one of the instance
+at_resource : (p : Parts) (rule : Rule) (r : ResourceId) → IsPointOf p rule (Resource r) → r.0 < length p.resources
+at_resource p AvoidClashes r h = h
+at_resource p (AvoidUnavailableTimes times) r h = h
+at_resource p (LimitIdleTimes groups least greatest) r h = h
+at_resource p (ClusterBusyTimes groups least greatest) r h = h
+at_resource p (LimitBusyTimes groups least greatest) r h = h
+at_resource p (LimitWorkload least greatest) r h = h
+at_resource p _ r h = absurd h
+
+pub monitored : (p : Parts) (m : Monitor) (r : ResourceId) → IsMonitor p m → m.point ≡ Resource r → r.0 < length p.resources
+monitored p m r (c, there, kind, point) e = at_resource p c.rule r (subst (IsPointOf p c.rule) e point)

@@ -25,12 +25,12 @@ pub struct ResourceDeviations<'a> {
 }
 
 impl<'a> ResourceDeviations<'a> {
-    ghost use Rattle.std.specs.Prelude.{◌≡◌, ◌<◌, ◌≤◌, IfOk, List, length};
+    ghost use Rattle.std.specs.Prelude.{◌≡◌, ◌<◌, ◌≤◌, IfOk, IsTrue, List, length};
     ghost use Rattle.khe_base.specs.declared.limits.TheConstants.{GREATEST_DEVIATION};
     ghost use Rattle.khe_instance.specs.Deviation.{deviation, resource_deviation};
-    ghost use Rattle.khe_instance.specs.WellMade.{IsMonitor, IsResourcePoint, IsRule};
+    ghost use Rattle.khe_instance.specs.WellMade.{IsMonitor, IsRule};
     ghost use Rattle.khe_instance.specs.declared.states.Meet.{Meet};
-    ghost use Rattle.resource_deviations.specs.Sets.{sets_at, sets_of};
+    ghost use Rattle.resource_deviations.specs.Sets.{is_at_resource, sets_at, sets_of};
     ghost use Rattle.resource_deviations.specs.Tasks.{AreOfState};
 
     /// Adds up the tasks of a state. It takes time in proportion to resources times times, to the
@@ -65,7 +65,7 @@ impl<'a> ResourceDeviations<'a> {
     /// constant time for LimitWorkload.
     pub fn deviation(&self, monitor: Monitor, masks: &TimeMasks) -> u64
         requires monitor { IsMonitor self.now.inst.now monitor }
-        requires point { IsResourcePoint self.now.inst.now monitor.point }
+        requires point { IsTrue (is_at_resource monitor.point) }
         requires masks { masks.now ≡ sets_at self.now.inst.now monitor.constraint }
         ensures value { (meets : List Meet) → result ≡ deviation self.now.inst.now meets self.now.duties.now monitor }
         ensures bound { result ≤ GREATEST_DEVIATION }
