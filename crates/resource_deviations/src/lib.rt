@@ -6,6 +6,8 @@ mod deviations;
 mod filling;
 mod masks;
 mod measures;
+#[cfg(test)]
+mod tests;
 
 pub use deviations::ResourceDeviations;
 pub use masks::TimeMasks;
