@@ -24,6 +24,7 @@ event_made p made e event there = subst (IsEvent p) (get_or_from_slice_get p.eve
 pub constraint_made : (p : Parts) → AreWellMade p → (k : ℕ) (c : Constraint) → slice_get p.constraints k ≡ Some c → IsConstraint p c
 constraint_made p made k c there = subst (IsConstraint p) (get_or_from_slice_get p.constraints k c c there) (made.constraints k c (slice_get_within p.constraints k c there))
 
+-- a task is worth no more than its place
 pub worth_small : (p : Parts) → AreWellMade p → (d : Duty) → IsDuty p d → (event : EventInfo) → slice_get p.events d.meet.event.0 ≡ Some event
     → (places : List Place) → places ≡ event.places → (k : ℕ) (place : Place) → k < length places → place ≡ get_or places k place
     → place.workload * d.meet.duration * (p.unit / event.duration) ≤ NUMBER * p.unit
