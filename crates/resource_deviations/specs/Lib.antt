@@ -1,0 +1,4 @@
+pub mod Filled
+pub mod Lone
+pub mod Sets
+pub mod Tasks

@@ -1,0 +1,104 @@
+ghost use Rattle.resource_deviations.specs.Filled.{IsFilled};
+
+use crate::filling::{add_counts, add_workload, no_workloads};
+use crate::masks::TimeMasks;
+use crate::measures::{
+    busy_outside, busy_sets_outside, busy_total, clashes, idle_outside, workload_outside,
+};
+use khe_base::{NoMemory, ResourceId};
+use khe_instance::{Duty, Instance, Monitor, Point, Rule};
+use std::alloc::Global;
+use timetables::{Mask, Timetable};
+
+/// The tasks of a state of an instance, added up for each resource: how many run at each time, and
+/// what they are worth together. From these come the deviations of the monitors at resources.
+#[derive(Drop)]
+pub struct ResourceDeviations<'a> {
+    /// The instance.
+    pub inst: &'a Instance,
+    /// The tasks of the state, each with its meet.
+    pub duties: &'a [Duty],
+    table: Timetable,
+    /// The workload of each resource, in parts of one over the unit.
+    workloads: Vec<u128>,
+    ghost filled: { IsFilled inst.now duties.now table workloads.items },
+}
+
+impl<'a> ResourceDeviations<'a> {
+    ghost use Rattle.std.specs.Prelude.{◌≡◌, ◌<◌, ◌≤◌, IfOk, IsTrue, List, length};
+    ghost use Rattle.khe_base.specs.declared.limits.TheConstants.{GREATEST_DEVIATION};
+    ghost use Rattle.khe_instance.specs.Deviation.{deviation, resource_deviation};
+    ghost use Rattle.khe_instance.specs.WellMade.{IsMonitor, IsRule};
+    ghost use Rattle.khe_instance.specs.declared.states.Meet.{Meet};
+    ghost use Rattle.resource_deviations.specs.Sets.{is_at_resource, sets_at, sets_of};
+    ghost use Rattle.resource_deviations.specs.Tasks.{AreOfState};
+
+    /// Adds up the tasks of a state. It takes time in proportion to resources times times, to the
+    /// tasks and to the times that they cover, and memory in proportion to resources times times.
+    /// No other call takes memory.
+    pub fn open(
+        alloc: Global,
+        inst: &'a Instance,
+        duties: &'a [Duty],
+    ) -> Result<ResourceDeviations<'a>, NoMemory>
+        requires { AreOfState inst.now duties.now }
+        ensures { IfOk result (λ d. (d.inst.now ≡ inst.now) × (d.duties.now ≡ duties.now)) }
+    {
+        inst.facts();
+        let mut table = Timetable::open(alloc, inst.resources(), inst.times())?;
+        let mut workloads = no_workloads(alloc, inst.resources())?;
+        for duty in duties {
+            add_counts(inst, duty, &mut table);
+            add_workload(inst, duty, &mut workloads);
+        }
+        Ok(ResourceDeviations {
+            inst,
+            duties,
+            table,
+            workloads,
+        })
+    }
+
+    /// The deviation of a monitor at a resource, by the masks of its constraint. It takes time in
+    /// proportion to the times for AvoidClashes, to the words, of 64 times each, from the first
+    /// time to the last of each of the constraint's sets for the four kinds that name sets, and
+    /// constant time for LimitWorkload.
+    pub fn deviation(&self, monitor: Monitor, masks: &TimeMasks) -> u64
+        requires monitor { IsMonitor self.now.inst.now monitor }
+        requires point { IsTrue (is_at_resource monitor.point) }
+        requires masks { masks.now ≡ sets_at self.now.inst.now monitor.constraint }
+        ensures value { (meets : List Meet) → result ≡ deviation self.now.inst.now meets self.now.duties.now monitor }
+        ensures bound { result ≤ GREATEST_DEVIATION }
+    {
+        self.inst.facts();
+        let rule = &self.inst.constraint(monitor.constraint).rule;
+        let Point::Resource(r) = monitor.point else {
+            unreachable!();
+        };
+        self.of_rule(rule, masks.as_slice(), r)
+    }
+
+    /// The deviation of a rule at a resource, by the masks of its sets.
+    fn of_rule(&self, rule: &Rule, masks: &[Mask], r: ResourceId) -> u64
+        requires rule { IsRule self.now.inst.now rule.now }
+        requires masks { masks.now ≡ sets_of rule.now }
+        requires resource { r.0 < length self.now.inst.now.resources }
+        ensures { result ≡ resource_deviation self.now.inst.now self.now.duties.now rule.now r.0 }
+    {
+        self.inst.facts();
+        let table = &self.table;
+        match rule {
+            Rule::AvoidClashes => clashes(table, r, self.inst.times()),
+            Rule::AvoidUnavailableTimes { .. } => busy_total(table, r, masks),
+            Rule::LimitIdleTimes { min, max, .. } => idle_outside(table, r, masks, *min, *max),
+            Rule::ClusterBusyTimes { min, max, .. } => {
+                busy_sets_outside(table, r, masks, *min, *max)
+            }
+            Rule::LimitBusyTimes { min, max, .. } => busy_outside(table, r, masks, *min, *max),
+            Rule::LimitWorkload { min, max } => {
+                workload_outside(self.workloads[r.0 as usize], self.inst.unit(), *min, *max)
+            }
+            _ => 0,
+        }
+    }
+}

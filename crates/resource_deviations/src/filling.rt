@@ -1,0 +1,97 @@
+ghost use Rattle.std.specs.Prelude.{◌≡◌, ◌+◌, ◌*◌, ◌^◌, ◌/◌, ◌<◌, ◌≤◌, ◌&&◌, ℕ, ◌==◌, nat_le, nat_lt, if◌then◌else◌, IfOk, length, replicate, slice_index};
+ghost use Rattle.khe_base.specs.declared.limits.TheConstants.{GREATEST_COUNT, NUMBER};
+ghost use Rattle.khe_instance.specs.ResourceDeviation.{workload_of};
+ghost use Rattle.resource_deviations.specs.Filled.{HasRows, AddsCounts, AddsWorkload};
+ghost use Rattle.resource_deviations.specs.Tasks.{IsDuty};
+ghost use Rattle.timetables.specs.Counts.{row_of, count_at};
+
+use khe_base::{NoMemory, ResourceId, TimeId};
+use khe_instance::{Duty, Instance};
+use std::alloc::Global;
+use timetables::Timetable;
+
+/// A workload of 0 for each resource.
+pub(crate) fn no_workloads(alloc: Global, resources: u32) -> Result<Vec<u128>, NoMemory>
+    ensures { IfOk result (λ w. w.items ≡ replicate resources 0) }
+{
+    Ok(vec![in alloc; 0; resources as usize]?)
+}
+
+/// Adds a task to the counts, at each time at which its meet runs.
+pub(crate) fn add_counts(inst: &Instance, duty: &Duty, table: &mut Timetable)
+    requires duty { IsDuty inst.now duty.now }
+    requires room { HasRows inst.now table.old }
+    requires counts { (r t : ℕ) → count_at table.old r t < GREATEST_COUNT }
+    ensures room { HasRows inst.now table.new }
+    ensures counts { AddsCounts duty.now table.old table.new }
+{
+    inst.facts();
+    let Some(resource) = duty.resource else {
+        return;
+    };
+    let Some(start) = duty.meet.start else {
+        return;
+    };
+    occupy(table, resource, start, duty.meet.duration);
+}
+
+/// Adds a task to the workloads, whether its meet has a start or not.
+pub(crate) fn add_workload(inst: &Instance, duty: &Duty, workloads: &mut Vec<u128>)
+    requires duty { IsDuty inst.now duty.now }
+    requires room { length workloads.old.items ≡ length inst.now.resources }
+    requires small { (r : ℕ) → slice_index workloads.old.items r + NUMBER * inst.now.unit < 2 ^ 128 }
+    ensures room { length workloads.new.items ≡ length inst.now.resources }
+    ensures sums { AddsWorkload inst.now duty.now workloads.old.items workloads.new.items }
+    ensures small { (r : ℕ) → slice_index workloads.new.items r ≤ slice_index workloads.old.items r + NUMBER * inst.now.unit }
+{
+    let Some(resource) = duty.resource else {
+        return;
+    };
+    let worth = worth_of(inst, duty);
+    let place = resource.0 as usize;
+    workloads[place] += worth;
+}
+
+/// What a task is worth to its resource, in parts of one over the unit.
+fn worth_of(inst: &Instance, duty: &Duty) -> u128
+    requires { IsDuty inst.now duty.now }
+    ensures value { result ≡ workload_of inst.now.events inst.now.unit duty.now }
+    ensures small { result ≤ NUMBER * inst.now.unit }
+{
+    inst.facts();
+    let event = inst.event(duty.meet.event);
+    let rate = rate_of(inst.unit(), event.duration);
+    match event.places.as_slice().get(duty.place as usize) {
+        None => 0,
+        Some(place) => product(place.workload, duty.meet.duration, rate),
+    }
+}
+
+/// How many parts of one over the unit are one over the duration.
+fn rate_of(unit: u64, duration: u32) -> u64
+    requires { 1 ≤ duration }
+    ensures { result ≡ unit / duration }
+{
+    unit / u64::from(duration)
+}
+
+fn product(workload: u32, duration: u32, rate: u64) -> u128
+    ensures { result ≡ workload * duration * rate }
+{
+    u128::from(workload) * u128::from(duration) * u128::from(rate)
+}
+
+/// One more task of the resource at each of so many times.
+fn occupy(table: &mut Timetable, resource: ResourceId, start: TimeId, duration: u32)
+    requires resource { resource.0 < length table.old }
+    requires times { start.0 + duration ≤ length (row_of table.old resource.0) }
+    requires small { length (row_of table.old resource.0) < 2 ^ 32 }
+    requires counts { (t : ℕ) → count_at table.old resource.0 t < GREATEST_COUNT }
+    ensures resources { length table.new ≡ length table.old }
+    ensures times { (r : ℕ) → length (row_of table.new r) ≡ length (row_of table.old r) }
+    ensures counts { (r t : ℕ) → count_at table.new r t ≡ count_at table.old r t + (if (resource.0 == r) && (nat_le start.0 t && nat_lt t (start.0 + duration)) then 1 else 0) }
+{
+    for t in start.0..start.0 + duration {
+        table.rise(resource, TimeId(t));
+    }
+}
