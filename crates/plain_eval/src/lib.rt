@@ -1,6 +1,9 @@
-//! What a timetable costs, added up anew from its meets and tasks.
+//! What a timetable costs, added up anew from its meets and tasks: the deviation and the cost of each
+//! monitor, and both totals.
 #![tactic(auto)]
 
 mod costing;
+mod evaluation;
+mod measuring;
 
-pub(crate) use costing::{Costed, costs_and_totals};
+pub use evaluation::{Values, evaluate};
