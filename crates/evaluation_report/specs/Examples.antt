@@ -1,19 +1,13 @@
 -- Small instances for examples.
-use Rattle.std.specs.Prelude.{ℕ, Bool, true, false, Option, Some, None, List, [], ◌∷◌, codes}
+use Rattle.std.specs.Prelude.{ℕ, Bool, true, false, Some, None, List, [], ◌∷◌, codes}
 use Rattle.khe_base.specs.declared.costs.CostFn.TheVariants.{Linear}
-use Rattle.khe_base.specs.declared.numbers.EventId.{EventId}
-use Rattle.khe_base.specs.declared.numbers.ResourceId.{ResourceId}
 use Rattle.khe_instance.specs.declared.parts.EventInfo.{EventInfo}
-use Rattle.khe_instance.specs.declared.parts.GroupInfo.{GroupInfo}
 use Rattle.khe_instance.specs.declared.parts.Parts.{Parts}
-use Rattle.khe_instance.specs.declared.parts.Place.{Place}
-use Rattle.khe_instance.specs.declared.parts.ResourceInfo.{ResourceInfo}
 use Rattle.khe_instance.specs.declared.points.Monitor.{Monitor}
 use Rattle.khe_instance.specs.declared.points.Point.{Point}
 use Rattle.khe_instance.specs.declared.points.Point.TheVariants.{Event, EventResource, EventGroup, EventPair as Pair, Resource}
 use Rattle.khe_instance.specs.declared.rules.Constraint.{Constraint}
 use Rattle.khe_instance.specs.declared.rules.EventPair.{EventPair}
-use Rattle.khe_instance.specs.declared.rules.Kind.{Kind}
 use Rattle.khe_instance.specs.declared.rules.Rule.{Rule}
 use Rattle.khe_instance.specs.declared.rules.Rule.TheVariants.{AssignTime, AssignResource, PreferTimes, LinkEvents, OrderEvents, AvoidClashes}
 use Rattle.khe_instance.specs.Kinds.{kind_of}

@@ -1,13 +1,8 @@
 -- What a monitor watches, as its line writes it.
 use Rattle.std.specs.Prelude.{ℕ, ◌<◌, Option, Some, None, unwrap_or, List, [], ◌++◌, length, slice_get, codes}
 use Rattle.std.specs.Option.{option_map, option_map_or}
-use Rattle.khe_base.specs.declared.numbers.EventId.{EventId}
-use Rattle.khe_base.specs.declared.numbers.ResourceId.{ResourceId}
 use Rattle.khe_instance.specs.EventDeviation.{role_at}
-use Rattle.khe_instance.specs.declared.parts.EventInfo.{EventInfo}
-use Rattle.khe_instance.specs.declared.parts.GroupInfo.{GroupInfo}
 use Rattle.khe_instance.specs.declared.parts.Parts.{Parts}
-use Rattle.khe_instance.specs.declared.parts.ResourceInfo.{ResourceInfo}
 use Rattle.khe_instance.specs.declared.points.Point.{Point}
 use Rattle.khe_instance.specs.declared.points.Point.TheVariants.{Event, EventResource, EventGroup, EventPair as Pair, Resource}
 use Rattle.khe_instance.specs.declared.rules.EventPair.{EventPair}

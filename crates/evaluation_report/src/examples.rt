@@ -2,7 +2,6 @@
 //! example: it is proved, and running it does nothing more.
 
 ghost use Rattle.std.specs.Prelude.{◌≡◌, ◌∷◌, [], true, false, length, codes, IfOk};
-ghost use Rattle.khe_instance.specs.WellMade.{AreWellMade};
 ghost use Rattle.evaluation_report.specs.Examples.{two_events, one_event};
 ghost use Rattle.evaluation_report.specs.Lines.{header_line, solution_line, monitor_line, total_line, invalid_line};
 
@@ -27,7 +26,8 @@ fn lines_of_monitors()
     ensures second_event { monitor_line two_events 1 1 2 true ≡ codes "monitor 1 AssignTime \"c0\" event \"F\" deviation 1 hard 2\n" }
     ensures first_place { monitor_line two_events 2 3 3 true ≡ codes "monitor 2 AssignResource \"c1\" event \"E\" role \"R\" deviation 3 hard 3\n" }
     ensures second_place { monitor_line two_events 3 1 1 true ≡ codes "monitor 3 AssignResource \"c1\" event \"F\" role \"R\" deviation 1 hard 1\n" }
-    ensures resource { monitor_line two_events 5 0 0 true ≡ codes "monitor 5 AvoidClashes \"c2\" resource \"r1\" deviation 0 hard 0\n" }
+    ensures first_resource { monitor_line two_events 4 0 0 true ≡ codes "monitor 4 AvoidClashes \"c2\" resource \"r0\" deviation 0 hard 0\n" }
+    ensures second_resource { monitor_line two_events 5 0 0 true ≡ codes "monitor 5 AvoidClashes \"c2\" resource \"r1\" deviation 0 hard 0\n" }
     ensures soft { monitor_line two_events 6 0 0 true ≡ codes "monitor 6 PreferTimes \"c3\" event \"F\" deviation 0 soft 0\n" }
     ensures group { monitor_line two_events 7 2 2 true ≡ codes "monitor 7 LinkEvents \"c4\" group \"both\" deviation 2 hard 2\n" }
     ensures pair { monitor_line two_events 8 4 4 true ≡ codes "monitor 8 OrderEvents \"c5\" events \"E\" \"F\" deviation 4 soft 4\n" }

@@ -1,7 +1,5 @@
 ghost use Rattle.std.specs.Prelude.{◌≡◌, ◌++◌, ◌<◌, length, OnOk, IfOk};
-ghost use Rattle.khe_instance.specs.WellMade.{IsRule};
 ghost use Rattle.evaluation_report.specs.Lines.{header_line, solution_line, monitor_line, measured_line, monitor_head, monitor_tail, total_line, cause_at, invalid_line};
-ghost use Rattle.evaluation_report.specs.Points.{IsNamed};
 ghost use Rattle.evaluation_report.specs.Words.{IsCause};
 
 use crate::points::push_point;

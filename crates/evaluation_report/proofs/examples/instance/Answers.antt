@@ -1,5 +1,5 @@
 -- One event with one constraint on it is well made.
-use Rattle.std.proofs.Common.{◌≡◌, ◌≢◌, ◌==◌, ℕ, zero, suc, ◌<◌, ◌≤◌, Bool, true, false, if◌then◌else◌, Option, Some, None, List, [], ◌∷◌, All, AllPairs, map, length, slice_get, lit<, lit≤, rules, refl, arith, ap, subst}
+use Rattle.std.proofs.Common.{◌≡◌, ◌≢◌, ◌==◌, ℕ, zero, suc, Bool, true, false, if◌then◌else◌, Some, None, List, [], ◌∷◌, All, AllPairs, map, slice_get, lit<, lit≤, rules, refl, arith, ap, subst}
 use Rattle.std.specs.Int.{◌∣◌}
 use Rattle.std.specs.Option.{unwrap_or}
 use Rattle.std.proofs.lemmas.Nat.Gcd.{dvd_refl}

@@ -1,5 +1,4 @@
 -- A monitor of an instance has a constraint and a point that are there.
-use Rattle.std.proofs.Common.{◌<◌}
 use Rattle.evaluation_report.proofs.MonitorsLemmas.{constraint-within, constraint-rule, monitor-named}
 use Rattle.evaluation_report.proofs.lines.monitor_line.Goals as goal
 
