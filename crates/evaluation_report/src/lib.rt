@@ -1,0 +1,11 @@
+//! The lines of the report on an archive's solutions: each call makes one line, which ends with a
+//! line feed. The source of the rules is this project's own form of a report.
+#![tactic(auto)]
+
+#[cfg(test)]
+mod examples;
+mod lines;
+mod points;
+mod words;
+
+pub use lines::{header_line, invalid_line, monitor_line, solution_line, total_line};
