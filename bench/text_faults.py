@@ -1,11 +1,11 @@
-"""Writes crates/xhstt_text/src/mutations.rt: texts with the kind and the place of their first fault.
+"""Writes crates/xhstt_text/src/mutations.rt: texts with the place of their first fault, by its kind.
 
 The faults come from the reference implementation, which stands outside of this repository: run
 
     PYTHONPATH=FOLDER_OF_THE_REFERENCE python3 bench/text_faults.py COUNT SEED > mutations.rt
 
 where FOLDER has the package `oracle`. Each text is a mutation of one of the whole texts below, or of two
-that stand side by side: bytes are cut off, left out, doubled or replaced. A text that has no fault is left out.
+that stand side by side: bytes are cut off, left out, doubled or replaced. There are COUNT texts of each kind.
 """
 
 import random
@@ -85,29 +85,27 @@ def spelled(text):
     return "".join(out)
 
 
+NAMES = {1: "NOT_UTF8", 2: "BAD_MARKUP", 3: "MISMATCHED_END", 4: "BAD_REFERENCE", 5: "UNSUPPORTED", 6: "TOO_DEEP"}
+
+
 def main():
     count, seed = int(sys.argv[1]), int(sys.argv[2])
     random_ = random.Random(seed)
-    rows = {}
-    kinds = {kind: 0 for kind in range(1, 7)}
-    while len(rows) < count:
+    rows = {kind: {} for kind in NAMES}
+    while any(len(found) < count for found in rows.values()):
         text = mutation(random_)
         fault = fault_of(text)
-        if fault is None or text in rows or len(text) > 160:
+        if fault is None or len(text) > 160 or len(rows[fault[0]]) == count:
             continue
-        # Most mutations are bad markup: keep the kinds about even.
-        if kinds[fault[0]] > min(kinds.values()) + count // 6:
-            continue
-        kinds[fault[0]] += 1
-        rows[text] = fault
+        rows[fault[0]][text] = fault[1]
     print("//! Texts that were made from whole ones by cutting, leaving out, doubling and replacing bytes, each")
-    print("//! with the kind and the place of its first fault. Made by bench/text_faults.py.")
-    print()
-    print("/// A text, and the kind and the place of its first fault.")
-    print("pub const MUTATIONS: &[(&[u8], u32, u64)] = &[")
-    for text, (kind, at) in rows.items():
-        print('    (b"%s", %d, %d),' % (spelled(text), kind, at))
-    print("];")
+    print("//! with the place of its first fault, by the kind of that fault. Made by bench/text_faults.py.")
+    for kind, name in NAMES.items():
+        print()
+        print("pub const %s: &[(&[u8], u64)] = &[" % name)
+        for text, at in sorted(rows[kind].items(), key=lambda row: row[1]):
+            print('    (b"%s", %d),' % (spelled(text), at))
+        print("];")
 
 
 main()

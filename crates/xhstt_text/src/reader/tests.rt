@@ -1,4 +1,6 @@
-use super::mutations::MUTATIONS;
+ghost use Rattle.std.specs.Prelude.{◌<◌, ◌^◌, length};
+
+use super::mutations;
 use crate::faults::{
     BAD_MARKUP, BAD_REFERENCE, MISMATCHED_END, NOT_UTF8, TOO_DEEP, TextFault, UNSUPPORTED,
 };
@@ -209,16 +211,43 @@ fn first_faults(rt: HostRuntime) {
     }
 }
 
-#[test]
-fn mutations(rt: HostRuntime) {
-    for (text, kind, at) in MUTATIONS {
-        let fault = fault_of(rt.alloc(), text);
-        assert_eq!(rt;
-            fault,
-            Some(TextFault::Bad {
-                kind: *kind,
-                at: *at
-            })
-        );
+/// Whether each of these texts has a first fault of this kind, at its place.
+fn are_faulty(alloc: Global, kind: u32, rows: &[(&[u8], u64)]) -> bool {
+    for (text, at) in rows {
+        let fault = TextFault::Bad { kind, at: *at };
+        if fault_of(alloc, text) != Some(fault) {
+            return false;
+        }
     }
+    true
+}
+
+#[test]
+fn mutations_without_utf8(rt: HostRuntime) {
+    assert!(rt; are_faulty(rt.alloc(), NOT_UTF8, mutations::NOT_UTF8));
+}
+
+#[test]
+fn mutations_with_bad_markup(rt: HostRuntime) {
+    assert!(rt; are_faulty(rt.alloc(), BAD_MARKUP, mutations::BAD_MARKUP));
+}
+
+#[test]
+fn mutations_with_a_mismatched_end(rt: HostRuntime) {
+    assert!(rt; are_faulty(rt.alloc(), MISMATCHED_END, mutations::MISMATCHED_END));
+}
+
+#[test]
+fn mutations_with_a_bad_reference(rt: HostRuntime) {
+    assert!(rt; are_faulty(rt.alloc(), BAD_REFERENCE, mutations::BAD_REFERENCE));
+}
+
+#[test]
+fn mutations_with_what_is_unsupported(rt: HostRuntime) {
+    assert!(rt; are_faulty(rt.alloc(), UNSUPPORTED, mutations::UNSUPPORTED));
+}
+
+#[test]
+fn mutations_that_are_too_deep(rt: HostRuntime) {
+    assert!(rt; are_faulty(rt.alloc(), TOO_DEEP, mutations::TOO_DEEP));
 }
