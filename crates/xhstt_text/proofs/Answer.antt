@@ -9,10 +9,11 @@ use Rattle.xhstt_text.specs.Machine.{outcome_of, Outcome}
 use Rattle.xhstt_text.specs.Reading.{Leads}
 use Rattle.std.specs.Str.{IsUtf8, IsValidUpTo}
 use Rattle.std.proofs.lemmas.Str.{utf8_valid_len-IsValidUpTo, utf8_valid_len-IsUtf8}
-use Rattle.xhstt_text.specs.FirstFault.{IsFirstFault}
+use Rattle.xhstt_text.specs.FirstFault.{IsFirstFault, IsText, HasFault}
 use Rattle.xhstt_text.specs.declared.faults.TheConstants.{NOT_UTF8}
 use Rattle.xhstt_text.proofs.Complete.{run_document}
 use Rattle.xhstt_text.proofs.Sound.{document_from}
+use Rattle.xhstt_text.proofs.Total.{told}
 
 same_rows : (bytes : List ℕ) (rows : Rows) → outcome_of bytes ≡ Ok rows → (d : Document) → IsDocument d → bytes ≡ spelling d → table d ≡ rows
 same_rows bytes rows e d h same =
@@ -87,3 +88,19 @@ pub utf8_fault : {T : Type 0} (bytes : List ℕ) (place : ℕ) (r : Result T Tex
 utf8_fault bytes place r e v kind at is =
     let same = same_parts kind at NOT_UTF8 place (fault_in (Bad kind at) (Bad NOT_UTF8 place) r is e) in
     inl (same.0, subst (IsValidUpTo bytes) (sym same.1) v)
+
+-- there is no other
+pub one_first : (bytes : List ℕ) (kind at other place : ℕ) → IsFirstFault bytes kind at → IsFirstFault bytes other place → (kind ≡ other) × (at ≡ place)
+one_first bytes kind at other place (inl h) (inl k) =
+    (h.0 ∙ sym k.0, sym (utf8_valid_len-IsValidUpTo bytes at h.1) ∙ utf8_valid_len-IsValidUpTo bytes place k.1)
+one_first bytes kind at other place (inl h) (inr k) = absurd (not_text bytes at h.1 k.0)
+one_first bytes kind at other place (inr h) (inl k) = absurd (not_text bytes place k.1 h.0)
+one_first bytes kind at other place (inr h) (inr k) =
+    same_parts kind at other place (same_fault (outcome_of bytes) (Bad kind at) (Bad other place) h.1 k.1)
+
+-- and there is one where there is no text
+pub decides : (bytes : List ℕ) → IsUtf8 bytes → IsText bytes ⊎ HasFault bytes
+decides bytes u = elim (told bytes) [
+  | inl d ↦ inl (d.0, (u, d.1, d.2))
+  | inr f ↦ inr (f.0, f.1, inr (u, f.2))
+]

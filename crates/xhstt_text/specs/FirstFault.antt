@@ -1,6 +1,7 @@
 -- The first fault of bytes.
 use Rattle.std.specs.Prelude.{ℕ, List, ◌≡◌, ◌⊎◌, Err}
 use Rattle.std.specs.Str.{IsUtf8, IsValidUpTo}
+use Rattle.xhstt_text.specs.Document.{Document, IsSpellingOf}
 use Rattle.xhstt_text.specs.Machine.{outcome_of}
 use Rattle.xhstt_text.specs.declared.faults.TextFault.TheVariants.{Bad}
 use Rattle.xhstt_text.specs.declared.faults.TheConstants.{NOT_UTF8}
@@ -11,3 +12,11 @@ use Rattle.xhstt_text.specs.declared.faults.TheConstants.{NOT_UTF8}
 abbrev pub IsFirstFault : List ℕ → ℕ → ℕ → Type 0
 IsFirstFault bytes kind at =
     ((kind ≡ NOT_UTF8) × IsValidUpTo bytes at) ⊎ (IsUtf8 bytes × (outcome_of bytes ≡ Err (Bad kind at)))
+
+-- the bytes spell a text
+abbrev pub IsText : List ℕ → Type 0
+IsText bytes = (d : Document) × IsSpellingOf bytes d
+
+-- the bytes have a fault
+abbrev pub HasFault : List ℕ → Type 0
+HasFault bytes = (kind : ℕ) × (at : ℕ) × IsFirstFault bytes kind at

@@ -5,7 +5,7 @@ ghost use Rattle.xhstt_text.specs.FlatTable.{IsTable, root_forest};
 ghost use Rattle.xhstt_text.specs.Forest.{Forest};
 ghost use Rattle.xhstt_text.specs.Machine.{outcome_of, run, ended, Outcome};
 ghost use Rattle.xhstt_text.specs.Reading.{Leads, read_of};
-ghost use Rattle.xhstt_text.specs.FirstFault.{IsFirstFault};
+ghost use Rattle.xhstt_text.specs.FirstFault.{HasFault, IsFirstFault, IsText};
 ghost use Rattle.xhstt_text.specs.declared.faults.TextFault.TheVariants.{Bad, NoMemory};
 
 use crate::TextFault;
@@ -103,10 +103,13 @@ pub fn elements<'a>(alloc: Global, bytes: &'a [u8]) -> Result<Tree<'a>, TextFaul
     ensures spelled { IfOk result (λ tree. Spelled bytes.now (root_forest tree)) }
     ensures one_forest { IfOk result (λ tree. (f : Forest) → Spelled bytes.now f → root_forest tree ≡ f) }
 
-    // A fault is the first one of the bytes. It is answered unless memory is refused, and where there
-    // is one, the bytes spell no text.
+    // A fault is the first one of the bytes, and it is answered unless memory is refused.
     ensures exact { (kind at : ℕ) → result ≡ Err (Bad kind at) → IsFirstFault bytes.now kind at }
     ensures answered { (kind at : ℕ) → IsFirstFault bytes.now kind at → (result ≡ Err (Bad kind at)) ⊎ (result ≡ Err NoMemory) }
+
+    // Bytes spell a text or have a first fault, which is only one, and never both.
+    ensures decided { IsText bytes.now ⊎ HasFault bytes.now }
+    ensures one_fault { (kind at other place : ℕ) → IsFirstFault bytes.now kind at → IsFirstFault bytes.now other place → (kind ≡ other) × (at ≡ place) }
     ensures not_spelled { (kind at : ℕ) → IsFirstFault bytes.now kind at → (d : Document) → IsSpellingOf bytes.now d → ⊥ }
 {
     match str::from_utf8(bytes) {

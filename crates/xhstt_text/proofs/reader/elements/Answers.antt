@@ -1,6 +1,7 @@
-use Rattle.std.proofs.Common.{refl, sym, subst}
+use Rattle.std.proofs.Common.{refl, sym, subst, inl, inr}
+use Rattle.xhstt_text.specs.declared.faults.TheConstants.{NOT_UTF8}
 use Rattle.std.specs.Str.{IsValidUpTo}
-use Rattle.xhstt_text.proofs.Answer.{spelled, alone, unspelled, first_fault, fault_answered, utf8_answered, utf8_fault}
+use Rattle.xhstt_text.proofs.Answer.{spelled, alone, unspelled, first_fault, fault_answered, utf8_answered, utf8_fault, one_first, decides}
 use Rattle.xhstt_text.proofs.Trees.{read-table, read-spelled, read-alone}
 use Rattle.xhstt_text.proofs.reader.elements.Goals as goal
 
@@ -41,3 +42,16 @@ returns-in-Err-clause-answered c =
 
 pub returns-in-Err-clause-not_spelled : goal.returns-in-Err-clause-not_spelled
 returns-in-Err-clause-not_spelled c = unspelled c.args.bytes.now
+
+pub returns-in-Ok-clause-one_fault : goal.returns-in-Ok-clause-one_fault
+returns-in-Ok-clause-one_fault c = one_first c.args.bytes.now
+
+pub returns-in-Err-clause-one_fault : goal.returns-in-Err-clause-one_fault
+returns-in-Err-clause-one_fault c = one_first c.args.bytes.now
+
+pub returns-in-Ok-clause-decided : goal.returns-in-Ok-clause-decided
+returns-in-Ok-clause-decided c = decides c.args.bytes.now c.in-Ok.ensures.cases.1
+
+pub returns-in-Err-clause-decided : goal.returns-in-Err-clause-decided
+returns-in-Err-clause-decided c =
+    inr (NOT_UTF8, c.valid_up_to.result, inl (refl, subst (IsValidUpTo c.args.bytes.now) (sym c.valid_up_to.ensures) c.in-Err.ensures.cases.1))
