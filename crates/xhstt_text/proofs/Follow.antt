@@ -8,7 +8,7 @@ use Rattle.std.specs.List.{starts_with}
 use Rattle.std.specs.Prelude.{IsErrAnd, MatchOption, nat_eq}
 use Rattle.std.specs.Option.{option_or}
 use Rattle.std.proofs.lemmas.List.{length-map, length-reverse, reverse-append}
-use Rattle.xhstt_text.specs.Faults.{bad_markup, mismatched_end, bad_reference, unsupported, too_deep}
+use Rattle.xhstt_text.specs.Faults.{bad_markup, mismatched_end, unsupported, too_deep}
 use Rattle.xhstt_text.specs.declared.table.OpenElement.{OpenElement}
 use Rattle.xhstt_text.proofs.Complete.{run_shut_name, begins_name, white_isnt_tag}
 use Rattle.xhstt_text.specs.declared.tree.Attribute.{Attribute}

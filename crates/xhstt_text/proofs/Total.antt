@@ -8,7 +8,7 @@ use Rattle.xhstt_text.specs.declared.faults.TheConstants.{BAD_MARKUP, UNSUPPORTE
 use Rattle.xhstt_text.specs.Bytes.{is_white, is_first, is_name, is_text, is_quote, is_quoted}
 use Rattle.xhstt_text.specs.Units.{is_decimal, is_hexadecimal, is_last}
 use Rattle.xhstt_text.specs.Faults.{no_comment, no_tag}
-use Rattle.xhstt_text.specs.Machine.{beginning, mark_1, mark_2, at_declaration, declared_open, question, in_declaration, content, ended, ended_open, bang, other_word, bang_dash, in_comment, opened, start_name, valued, in_tag, slash, attribute_name, named, equals, in_value, wide_1, wide_2, reference, reference_a, word, hash, hash_x, in_decimal, in_hexadecimal, no_character, shut_begin, shut, shut_gap, Phase, Place, Within, Tag, Frame, Read, closed, start_of, State, Step, refused, Outcome, step, step_content, step_opened, step_declaration, step_question, step_bang, step_other_word, step_word, step_valued, step_named, step_shut, finish, and_then, run, outcome_of}
+use Rattle.xhstt_text.specs.Machine.{beginning, mark_1, mark_2, at_declaration, declared_open, question, in_declaration, content, ended, ended_open, bang, other_word, bang_dash, in_comment, opened, start_name, valued, in_tag, slash, attribute_name, named, equals, in_value, wide_1, wide_2, reference, reference_a, word, hash, hash_x, in_decimal, in_hexadecimal, no_character, shut_begin, shut, shut_gap, Phase, Within, Tag, Frame, Read, closed, start_of, State, Step, refused, Outcome, step, step_content, step_opened, step_declaration, step_question, step_other_word, step_word, step_valued, step_named, step_shut, finish, and_then, run, outcome_of}
 use Rattle.xhstt_text.proofs.Sound.{document_from}
 
 abbrev Lost : {T : Type 0} → Result T TextFault → Type 0
