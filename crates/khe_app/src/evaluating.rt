@@ -78,7 +78,7 @@ fn read(alloc: Global, bytes: &[u8]) -> Result<Option<NumberedArchive>, NoMemory
     }
     match elements(alloc, bytes) {
         Ok(tree) => read_tree(alloc, &tree),
-        Err(TextFault::NotBuilt) => Ok(None),
+        Err(TextFault::Bad { .. }) => Ok(None),
         Err(TextFault::NoMemory) => Err(NoMemory),
     }
 }

@@ -1,15 +1,19 @@
 -- What the reader answers, from what the machine does.
-use Rattle.std.proofs.Common.{◌≡◌, ℕ, Bool, false, List, Result, Ok, Err, sym, ◌∙◌, ap, IfOk, MatchResult, is_err}
+use Rattle.std.proofs.Common.{◌≡◌, ◌<◌, ℕ, List, length, Result, Ok, Err, refl, sym, ◌∙◌, ap, subst, IfOk, arith, ◌⊎◌, inl, inr}
 use Rattle.xhstt_text.specs.declared.faults.TextFault.{TextFault}
-use Rattle.xhstt_text.specs.declared.faults.TextFault.TheVariants.{NotBuilt, NoMemory}
+use Rattle.xhstt_text.specs.declared.faults.TextFault.TheVariants.{Bad, NoMemory}
 use Rattle.xhstt_text.specs.declared.tree.Attribute.{Attribute}
 use Rattle.xhstt_text.specs.declared.tree.Node.{Node}
 use Rattle.xhstt_text.specs.Document.{Document, IsDocument, IsSpellingOf, Rows, Spells, spelling, table}
 use Rattle.xhstt_text.specs.Machine.{outcome_of, Outcome}
 use Rattle.xhstt_text.specs.Reading.{Leads}
-use Rattle.std.specs.Str.{IsUtf8}
+use Rattle.std.specs.Str.{IsUtf8, IsValidUpTo}
+use Rattle.std.proofs.lemmas.Str.{utf8_valid_len-IsValidUpTo, utf8_valid_len-IsUtf8}
+use Rattle.xhstt_text.specs.FirstFault.{IsFirstFault, IsText, HasFault}
+use Rattle.xhstt_text.specs.declared.faults.TheConstants.{NOT_UTF8}
 use Rattle.xhstt_text.proofs.Complete.{run_document}
 use Rattle.xhstt_text.proofs.Sound.{document_from}
+use Rattle.xhstt_text.proofs.Total.{told}
 
 same_rows : (bytes : List ℕ) (rows : Rows) → outcome_of bytes ≡ Ok rows → (d : Document) → IsDocument d → bytes ≡ spelling d → table d ≡ rows
 same_rows bytes rows e d h same =
@@ -29,16 +33,74 @@ pub alone : {T : Type 0} (bytes : List ℕ) (r : Result T TextFault) (nodes : T 
 alone bytes (Ok t) nodes attributes e = λ d h. same_rows bytes (record { nodes = nodes t; attributes = attributes t }) e d h.1 h.2
 alone bytes (Err f) nodes attributes e = tt
 
-refused_text : (bytes : List ℕ) → outcome_of bytes ≡ Err NotBuilt → (d : Document) → IsDocument d → bytes ≡ spelling d → ⊥
-refused_text bytes e d h same =
+-- bytes with a fault spell no document
+faulty : (bytes : List ℕ) (f : TextFault) → outcome_of bytes ≡ Err f → (d : Document) → IsDocument d → bytes ≡ spelling d → ⊥
+faulty bytes f e d h same =
     let k : Ok (table d) ≡ outcome_of bytes = sym (run_document d h) ∙ ap outcome_of (sym same) in cc
 
-pub unspelled : {T : Type 0} (bytes : List ℕ) (r : Result T TextFault) (nodes : T → List Node) (attributes : T → List Attribute) → Exact bytes r nodes attributes → r ≡ Err NotBuilt → (d : Document) → IsSpellingOf bytes d → ⊥
-unspelled bytes (Ok t) nodes attributes e is = cc
-unspelled bytes (Err NotBuilt) nodes attributes e is = λ d h. refused_text bytes e d h.1 h.2
-unspelled bytes (Err NoMemory) nodes attributes e is = cc
+not_text : (bytes : List ℕ) (at : ℕ) → IsValidUpTo bytes at → IsUtf8 bytes → ⊥
+not_text bytes at v u =
+    let short : at < length bytes = v.short in
+    let whole : at ≡ length bytes = sym (utf8_valid_len-IsValidUpTo bytes at v) ∙ utf8_valid_len-IsUtf8 bytes u in
+    omega arith
 
--- what was found to be UTF-8
-pub utf8_from : {X Y : Type 0} (P : X → Type 0) (U : Type 0) (Q : Y → Type 0) (r : Result X Y) (v : Bool) → MatchResult r (λ x. P x × U) Q → v ≡ is_err r → v ≡ false → U
-utf8_from P U Q (Ok x) v h e d = h.1
-utf8_from P U Q (Err y) v h e d = cc
+pub unspelled : (bytes : List ℕ) (kind at : ℕ) → IsFirstFault bytes kind at → (d : Document) → IsSpellingOf bytes d → ⊥
+unspelled bytes kind at (inl h) d s = not_text bytes at h.1 s.0
+unspelled bytes kind at (inr h) d s = faulty bytes (Bad kind at) h.1 d s.1 s.2
+
+same_fault : (o : Outcome) (f g : TextFault) → o ≡ Err f → o ≡ Err g → f ≡ g
+same_fault o f g e d = cc
+
+no_both : {G : Type 0} (o : Outcome) (rows : Rows) (f : TextFault) → o ≡ Ok rows → o ≡ Err f → G
+no_both o rows f e d = cc
+
+fault_in : {T : Type 0} (f g : TextFault) (r : Result T TextFault) → r ≡ Err f → r ≡ Err g → f ≡ g
+fault_in f g r e d = cc
+
+same_parts : (k a kind at : ℕ) → Bad k a ≡ Bad kind at → (k ≡ kind) × (a ≡ at)
+same_parts k a kind at e = (cc, cc)
+
+abbrev failing : {T : Type 0} → TextFault → Result T TextFault
+failing f = Err f
+
+-- the reader's fault is the first, where the bytes are UTF-8
+pub first_fault : {T : Type 0} (bytes : List ℕ) (r : Result T TextFault) (nodes : T → List Node) (attributes : T → List Attribute) → IsUtf8 bytes → Exact bytes r nodes attributes → (kind at : ℕ) → r ≡ Err (Bad kind at) → IsFirstFault bytes kind at
+first_fault bytes (Ok t) nodes attributes u e kind at is = cc
+first_fault bytes (Err (Bad k a)) nodes attributes u e kind at is =
+    let same : Bad k a ≡ Bad kind at = cc in
+    inr (u, subst (λ (f : TextFault). outcome_of bytes ≡ Err f) same e)
+first_fault bytes (Err NoMemory) nodes attributes u e kind at is = cc
+
+pub fault_answered : {T : Type 0} (bytes : List ℕ) (r : Result T TextFault) (nodes : T → List Node) (attributes : T → List Attribute) → IsUtf8 bytes → Exact bytes r nodes attributes → (kind at : ℕ) → IsFirstFault bytes kind at → (r ≡ Err (Bad kind at)) ⊎ (r ≡ Err NoMemory)
+fault_answered bytes r nodes attributes u e kind at (inl h) = absurd (not_text bytes at h.1 u)
+fault_answered bytes (Ok t) nodes attributes u e kind at (inr h) = no_both (outcome_of bytes) (record { nodes = nodes t; attributes = attributes t }) (Bad kind at) e h.1
+fault_answered bytes (Err (Bad k a)) nodes attributes u e kind at (inr h) = inl (ap failing (same_fault (outcome_of bytes) (Bad k a) (Bad kind at) e h.1))
+fault_answered bytes (Err NoMemory) nodes attributes u e kind at (inr h) = inr refl
+
+-- where they are not
+pub utf8_answered : {T : Type 0} (bytes : List ℕ) (place : ℕ) (r : Result T TextFault) → r ≡ Err (Bad NOT_UTF8 place) → IsValidUpTo bytes place → (kind at : ℕ) → IsFirstFault bytes kind at → (r ≡ Err (Bad kind at)) ⊎ (r ≡ Err NoMemory)
+utf8_answered bytes place r e v kind at (inl h) =
+    let same : place ≡ at = sym (utf8_valid_len-IsValidUpTo bytes place v) ∙ utf8_valid_len-IsValidUpTo bytes at h.1 in
+    inl (e ∙ ap (λ n. failing (Bad NOT_UTF8 n)) same ∙ ap (λ k. failing (Bad k at)) (sym h.0))
+utf8_answered bytes place r e v kind at (inr h) = absurd (not_text bytes place v h.0)
+
+pub utf8_fault : {T : Type 0} (bytes : List ℕ) (place : ℕ) (r : Result T TextFault) → r ≡ Err (Bad NOT_UTF8 place) → IsValidUpTo bytes place → (kind at : ℕ) → r ≡ Err (Bad kind at) → IsFirstFault bytes kind at
+utf8_fault bytes place r e v kind at is =
+    let same = same_parts kind at NOT_UTF8 place (fault_in (Bad kind at) (Bad NOT_UTF8 place) r is e) in
+    inl (same.0, subst (IsValidUpTo bytes) (sym same.1) v)
+
+-- there is no other
+pub one_first : (bytes : List ℕ) (kind at other place : ℕ) → IsFirstFault bytes kind at → IsFirstFault bytes other place → (kind ≡ other) × (at ≡ place)
+one_first bytes kind at other place (inl h) (inl k) =
+    (h.0 ∙ sym k.0, sym (utf8_valid_len-IsValidUpTo bytes at h.1) ∙ utf8_valid_len-IsValidUpTo bytes place k.1)
+one_first bytes kind at other place (inl h) (inr k) = absurd (not_text bytes at h.1 k.0)
+one_first bytes kind at other place (inr h) (inl k) = absurd (not_text bytes place k.1 h.0)
+one_first bytes kind at other place (inr h) (inr k) =
+    same_parts kind at other place (same_fault (outcome_of bytes) (Bad kind at) (Bad other place) h.1 k.1)
+
+-- and there is one where there is no text
+pub decides : (bytes : List ℕ) → IsUtf8 bytes → IsText bytes ⊎ HasFault bytes
+decides bytes u = elim (told bytes) [
+  | inl d ↦ inl (d.0, (u, d.1, d.2))
+  | inr f ↦ inr (f.0, f.1, inr (u, f.2))
+]

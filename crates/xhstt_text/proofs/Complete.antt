@@ -10,8 +10,9 @@ use Rattle.xhstt_text.specs.Bytes.{IsDeclared, declaration_start, question_after
 use Rattle.xhstt_text.specs.Document.{Value, done, plain, piece_of, value_text, IsValue, piece, Body, Mark, unmarked, marked, Declaration, undeclared, declared, mark_text, declaration_text, body_text, IsBody, IsDeclaration, Attributes, none, attribute, Start, Content, nothing, byte, comment, short, long, Document, attributes_text, start_text, text, spelling, has_name, AreAttributes, IsStart, IsContent, IsElement, IsSpace, IsDocument, span, start_length, count, attributes_of, attribute_rows, loose_in, row, rows, table}
 use Rattle.xhstt_text.specs.Machine.{in_value, in_text, in_quotes, reference, wide_1, beginning, at_declaration, declared_open, question, in_declaration, closed, Frame, Read, Tag, content, ended, Place, early, late, phase_of, bang, bang_dash, in_comment, opened, start_name, valued, in_tag, slash, shut_begin, shut, shut_gap, Step, state, first_loose, noted, resume, parent_of, open_element, add_node, opened_row, closed_row, close_element, attribute_row, with_name, start_of, step, step_content, step_opened, step_valued, and_then, run, Outcome, outcome_of}
 use Rattle.xhstt_text.specs.Units.{Piece, piece_text}
+use Rattle.xhstt_text.specs.Reading.{is_byte}
 use Rattle.xhstt_text.proofs.Pieces.{run_piece}
-use Rattle.xhstt_text.proofs.Runs.{by_step, run_loop, run_white, text_from_white, white_isnt_name, text_isnt_tag, first_not_name, run_gap, run_attribute_name, run_equals, run_quote, value_38, value_239, run_last_quote, with_attribute}
+use Rattle.xhstt_text.proofs.Runs.{by_step, run_loop, run_white, text_from_white, white_isnt_name, white_isnt_colon, text_isnt_tag, first_not_name, run_gap, run_attribute_name, run_equals, run_quote, value_38, value_239, run_last_quote, with_attribute}
 
 -- the names of these attributes, the last one first, and then those before them
 abbrev names_after : List (List ℕ) → Attributes → List (List ℕ)
@@ -89,31 +90,32 @@ begins test [] = false
 begins test (b ∷ bs) = test b
 
 -- the name of a start tag ends before such bytes
-run_name_end : (place : ℕ) (name : List ℕ) (r : Read) (at : ℕ) (bs : List ℕ) → begins is_name bs ≡ false → run (start_name place name) r at bs ≡ run (valued (start_of place name r)) r at bs
-run_name_end place name r at [] e = refl
-run_name_end place name r at (b ∷ bs) e =
-    ap (λ (x : Step). and_then x (λ s. run s.phase s.read (at + 1) bs)) (let e1 : step (start_name place name) r at b ≡ step_valued (start_of place name r) r at b = rw e refl in e1)
+run_name_end : (place : ℕ) (name : List ℕ) (r : Read) (at : ℕ) (bs : List ℕ) → begins is_name bs ≡ false → begins (is_byte 58) bs ≡ false → run (start_name place name) r at bs ≡ run (valued (start_of place name r)) r at bs
+run_name_end place name r at [] e c = refl
+run_name_end place name r at (b ∷ bs) e c =
+    ap (λ (x : Step). and_then x (λ s. run s.phase s.read (at + 1) bs)) (let e1 : step (start_name place name) r at b ≡ step_valued (start_of place name r) r at b = rw (e, c) refl in e1)
 
-ends_name : (a : Attributes) (w : List ℕ) (b : ℕ) (rest : List ℕ) (earlier : List (List ℕ)) → AreAttributes earlier a → IsWhite w → is_name b ≡ false → begins is_name (attributes_text a ++ (w ++ (b ∷ rest))) ≡ false
-ends_name none [] b rest earlier h k e = e
-ends_name none (c ∷ w) b rest earlier h k e = white_isnt_name c k.0
-ends_name (attribute [] name before after quote v more) w b rest earlier h k e = absurd h.0
-ends_name (attribute (c ∷ g) name before after quote v more) w b rest earlier h k e = white_isnt_name c h.0.0
+-- what no white passes does fails stand after the name of a start tag
+ends_name : (test : ℕ → Bool) → ((c : ℕ) → is_white c ≡ true → test c ≡ false) → (a : Attributes) (w : List ℕ) (b : ℕ) (rest : List ℕ) (earlier : List (List ℕ)) → AreAttributes earlier a → IsWhite w → test b ≡ false → begins test (attributes_text a ++ (w ++ (b ∷ rest))) ≡ false
+ends_name test fails none [] b rest earlier h k e = e
+ends_name test fails none (c ∷ w) b rest earlier h k e = fails c k.0
+ends_name test fails (attribute [] name before after quote v more) w b rest earlier h k e = absurd h.0
+ends_name test fails (attribute (c ∷ g) name before after quote v more) w b rest earlier h k e = fails c h.0.0
 
 begins_tag : (frames : List Frame) (r : Read) (at : ℕ) → step_content frames r at 60 ≡ state (opened at) r
 begins_tag [] r at = refl
 begins_tag (f ∷ fs) r at = refl
 
-pub begins_name : (frames : List Frame) (place : ℕ) (r : Read) (b : ℕ) → length frames < 32 → is_first b ≡ true → step_opened frames place r b ≡ state (start_name place (b ∷ [])) r
-begins_name [] place r b h e = rw e refl
-begins_name (f ∷ fs) place r b h e = let d : ltb (length (f ∷ fs)) 32 ≡ true = grind (arith, nat_tests) in rw (e, d) refl
+pub begins_name : (frames : List Frame) (place : ℕ) (r : Read) (at b : ℕ) → length frames < 32 → is_first b ≡ true → step_opened frames place r at b ≡ state (start_name place (b ∷ [])) r
+begins_name [] place r at b h e = rw e refl
+begins_name (f ∷ fs) place r at b h e = let d : ltb (length (f ∷ fs)) 32 ≡ true = grind (arith, nat_tests) in rw (e, d) refl
 
 -- over `<` and a name
 run_tag_name : (r : Read) (at : ℕ) (name rest : List ℕ) → length r.frames < 32 → IsName name → run content r at (60 ∷ (name ++ rest)) ≡ run (start_name at name) r (at + 1 + length name) rest
 run_tag_name r at [] rest h k = absurd k
 run_tag_name r at (b ∷ w) rest h k =
     by_step content r at 60 (b ∷ (w ++ rest)) (opened at) r (begins_tag r.frames r at)
-    ∙ by_step (opened at) r (at + 1) b (w ++ rest) (start_name at (b ∷ [])) r (begins_name r.frames at r b h k.0)
+    ∙ by_step (opened at) r (at + 1) b (w ++ rest) (start_name at (b ∷ [])) r (begins_name r.frames at r (at + 1) b h k.0)
     ∙ run_loop is_name (start_name at) r (λ done i c q. rw q refl) w (b ∷ []) (at + 1 + 1) rest k.1
     ∙ ap (λ n. run (start_name at (b ∷ w)) r n rest) (omega arith)
 
@@ -130,11 +132,11 @@ start_shape s rest = simp append_assoc
 start_is : (s : Start) → start_length s ≡ 1 + length s.name + length (attributes_text s.attributes) + length s.white
 start_is s = simp length-append (omega arith)
 
-run_start : (s : Start) (r : Read) (at b : ℕ) (rest : List ℕ) → is_name b ≡ false → length r.frames < 32 → IsStart s → run content r at (start_text s ++ (b ∷ rest)) ≡ run (valued (tag_of s at r)) (read_after s at r) (at + start_length s) (b ∷ rest)
-run_start s r at b rest e d h =
+run_start : (s : Start) (r : Read) (at b : ℕ) (rest : List ℕ) → is_name b ≡ false → eqb b 58 ≡ false → length r.frames < 32 → IsStart s → run content r at (start_text s ++ (b ∷ rest)) ≡ run (valued (tag_of s at r)) (read_after s at r) (at + start_length s) (b ∷ rest)
+run_start s r at b rest e c d h =
     ap (run content r at) (start_shape s (b ∷ rest))
     ∙ run_tag_name r at s.name (attributes_text s.attributes ++ (s.white ++ (b ∷ rest))) d h.0
-    ∙ run_name_end at s.name r (at + 1 + length s.name) (attributes_text s.attributes ++ (s.white ++ (b ∷ rest))) (ends_name s.attributes s.white b rest [] h.1 h.2 e)
+    ∙ run_name_end at s.name r (at + 1 + length s.name) (attributes_text s.attributes ++ (s.white ++ (b ∷ rest))) (ends_name is_name white_isnt_name s.attributes s.white b rest [] h.1 h.2 e) (ends_name (is_byte 58) white_isnt_colon s.attributes s.white b rest [] h.1 h.2 c)
     ∙ run_attributes s.attributes (start_of at s.name r) r (at + 1 + length s.name) (s.white ++ (b ∷ rest)) h.1
     ∙ run_end_white (tag_of s at r) (read_after s at r) s.white (at + 1 + length s.name + length (attributes_text s.attributes)) b rest (first_not_name b e) h.2
     ∙ ap (λ n. run (valued (tag_of s at r)) (read_after s at r) n (b ∷ rest)) (omega (arith, start_is s))
@@ -161,7 +163,7 @@ run_short s r at number first rest e1 e2 d h =
     let q : Read = read_after s at r in
     let i : ℕ = at + start_length s in
     numbers (λ n m. run content r at (start_text s ++ (47 ∷ 62 ∷ rest)) ≡ run (resume r.frames) (after_short s r at n m) (at + start_length s + 2) rest) (length r.nodes) (length r.attributes) e1 e2 (
-    run_start s r at 47 (62 ∷ rest) refl d h
+    run_start s r at 47 (62 ∷ rest) refl refl d h
     ∙ by_step (valued t) q i 47 (62 ∷ rest) (slash t) q refl
     ∙ by_step (slash t) q (i + 1) 62 rest (resume r.frames) (add_node q (opened_row t q (i + 1 + 1))) refl
     ∙ ap (λ (x : Node). run (resume r.frames) (add_node q x) (i + 1 + 1) rest) (row_is s r at (i + 1 + 1))
@@ -188,7 +190,7 @@ run_shut_end f fs nodes attributes place name [] at rest e h =
     ∙ ap (λ n. run (resume fs) (close_element f fs r place) n rest) (omega arith)
 run_shut_end f fs nodes attributes place name (b ∷ w) at rest e h =
     let r : Read = read_of (f ∷ fs) nodes attributes in
-    by_step (shut place name) r at b (w ++ (62 ∷ rest)) (shut_gap place name) r (rw (white_isnt_name b h.0, h.0) refl)
+    by_step (shut place name) r at b (w ++ (62 ∷ rest)) (shut_gap place name) r (rw (white_isnt_name b h.0, white_isnt_colon b h.0, h.0) refl)
     ∙ run_white (shut_gap place name) r (λ at b q. rw q refl) w (at + 1) (62 ∷ rest) h.1
     ∙ by_step (shut_gap place name) r (at + 1 + length w) 62 rest (resume fs) (close_element f fs r place) (rw e refl)
     ∙ ap (λ n. run (resume fs) (close_element f fs r place) n rest) (omega arith)
@@ -279,7 +281,7 @@ run_long s inner name w r at number first rest over e1 e2 d h ih same hw =
     let is_name : IsName name = subst (λ (x : List ℕ). IsName x) (sym same) h.0 in
     let is_same : bytes_eq name s.name ≡ true = (bytes_eq-Decides name s.name).1 same in
     numbers (λ n m. run content r at (start_text s ++ (62 ∷ (text inner ++ rest1))) ≡ run (resume r.frames) (after_long s inner r at n m) ends rest) (length r.nodes) (length r.attributes) e1 e2 (
-    run_start s r at 62 (text inner ++ rest1) refl d h
+    run_start s r at 62 (text inner ++ rest1) refl refl d h
     ∙ by_step (valued t) q i 62 (text inner ++ rest1) content (open_element t q (i + 1)) refl
     ∙ over f r.frames (r.nodes ++ f.node ∷ []) q.attributes (i + 1) (length r.nodes + 1) (length r.attributes + count s.attributes) rest1 (sym more) (sym more_attributes) ih
     ∙ run_shut g r.frames ((r.nodes ++ f.node ∷ []) ++ inside) (q.attributes ++ attribute_rows (i + 1) inner) to name w rest is_name is_same hw
@@ -307,11 +309,11 @@ run_inner back r (b ∷ inner) count at rest h =
     ∙ run_inner back r inner (dashes count b) (at + 1) rest k.1
     ∙ ap (λ n. run (in_comment back (dashes_after count (b ∷ inner))) r n rest) (omega arith)
 
-pub run_comment : (back : Place) (r : Read) (inner : List ℕ) (at : ℕ) (rest : List ℕ) → IsComment inner → run (bang back) r at (45 ∷ 45 ∷ (inner ++ (62 ∷ rest))) ≡ run (phase_of back) r (at + 2 + length inner + 1) rest
-run_comment back r inner at rest h =
+pub run_comment : (place : ℕ) (back : Place) (r : Read) (inner : List ℕ) (at : ℕ) (rest : List ℕ) → IsComment inner → run (bang place back) r at (45 ∷ 45 ∷ (inner ++ (62 ∷ rest))) ≡ run (phase_of back) r (at + 2 + length inner + 1) rest
+run_comment place back r inner at rest h =
     let count : ℕ = dashes_after 0 inner in
     let closes : leb 2 count ≡ true = grind (arith, nat_tests, h.1) in
-    by_step (bang back) r at 45 (45 ∷ (inner ++ (62 ∷ rest))) (bang_dash back) r refl
+    by_step (bang place back) r at 45 (45 ∷ (inner ++ (62 ∷ rest))) (bang_dash back) r refl
     ∙ by_step (bang_dash back) r (at + 1) 45 (inner ++ (62 ∷ rest)) (in_comment back 0) r refl
     ∙ run_inner back r inner 0 (at + 1 + 1) (62 ∷ rest) h.0
     ∙ by_step (in_comment back count) r (at + 1 + 1 + length inner) 62 rest (phase_of back) r (rw closes refl)
@@ -348,7 +350,7 @@ run_content (piece u c) f fs nodes attributes at number first rest e1 e2 h =
     let to : ℕ = at + length (piece_text u) in
     ap (run content r at) (append_assoc (piece_text u) (text c) rest)
     ∙ run_piece content in_text r (read_of (g ∷ fs) nodes attributes) at
-    (ap (λ (o : Option ℕ). state (reference in_text) (read_of (record f { node = record f.node { loose = o } } ∷ fs) nodes attributes)) (loose_at f.node.loose at 38 refl))
+    (ap (λ (o : Option ℕ). state (reference at in_text) (read_of (record f { node = record f.node { loose = o } } ∷ fs) nodes attributes)) (loose_at f.node.loose at 38 refl))
     (ap (λ (o : Option ℕ). state (wide_1 in_text) (read_of (record f { node = record f.node { loose = o } } ∷ fs) nodes attributes)) (loose_at f.node.loose at 239 refl)) u (text c ++ rest) h.0
     ∙ run_content c g fs nodes attributes to number first rest e1 e2 h.1
     ∙ ap (λ (o : Option ℕ). run content (read_of (record f { node = record f.node { loose = o } } ∷ fs) (nodes ++ rows (Some f.number) number first to c) (attributes ++ attribute_rows to c)) (to + length (text c)) rest) (loose_stays f.node.loose at (loose_in to c))
@@ -357,7 +359,7 @@ run_content (comment inner c) f fs nodes attributes at number first rest e1 e2 h
     let r : Read = read_of (f ∷ fs) nodes attributes in
     let to : ℕ = at + 4 + length inner + 1 in
     ap (run content r at) (comment_shape inner c rest)
-    ∙ run_comment early r inner (at + 1 + 1) (text c ++ rest) h.0
+    ∙ run_comment at early r inner (at + 1 + 1) (text c ++ rest) h.0
     ∙ ap (λ n. run content r n (text c ++ rest)) (let e : at + 1 + 1 + 2 + length inner + 1 ≡ to = omega arith in e)
     ∙ run_content c f fs nodes attributes to number first rest e1 e2 h.1
     ∙ ap (λ n. run content (read_of (with_loose f (loose_in to c) ∷ fs) (nodes ++ rows (Some f.number) number first to c) (attributes ++ attribute_rows to c)) n rest) (omega (arith, comment_length inner c))
@@ -399,7 +401,7 @@ pub white_isnt_tag : (b : ℕ) → is_white b ≡ true → eqb b 60 ≡ false
 white_isnt_tag b h = text_isnt_tag b (text_from_white b h)
 
 -- white and comments
-run_space : (place : Place) (r : Read) → let p = phase_of place in ((at b : ℕ) → is_white b ≡ true → step p r at b ≡ state p r) → ((at : ℕ) (rest : List ℕ) → run p r at (60 ∷ 33 ∷ rest) ≡ run (bang place) r (at + 1 + 1) rest) → (m : Content) (at : ℕ) (rest : List ℕ) → IsSpace m → run p r at (text m ++ rest) ≡ run p r (at + length (text m)) rest
+run_space : (place : Place) (r : Read) → let p = phase_of place in ((at b : ℕ) → is_white b ≡ true → step p r at b ≡ state p r) → ((at : ℕ) (rest : List ℕ) → run p r at (60 ∷ 33 ∷ rest) ≡ run (bang at place) r (at + 1 + 1) rest) → (m : Content) (at : ℕ) (rest : List ℕ) → IsSpace m → run p r at (text m ++ rest) ≡ run p r (at + length (text m)) rest
 run_space place r white begin nothing at rest h = ap (λ n. run (phase_of place) r n rest) (sym (add-zero at))
 run_space place r white begin (byte b m) at rest h =
     by_step (phase_of place) r at b (text m ++ rest) (phase_of place) r (white at b h.0)
@@ -408,7 +410,7 @@ run_space place r white begin (byte b m) at rest h =
 run_space place r white begin (comment inner m) at rest h =
     ap (run (phase_of place) r at) (comment_shape inner m rest)
     ∙ begin at (45 ∷ 45 ∷ (inner ++ (62 ∷ (text m ++ rest))))
-    ∙ run_comment place r inner (at + 1 + 1) (text m ++ rest) h.0
+    ∙ run_comment at place r inner (at + 1 + 1) (text m ++ rest) h.0
     ∙ run_space place r white begin m (at + 1 + 1 + 2 + length inner + 1) rest h.1
     ∙ ap (λ n. run (phase_of place) r n rest) (omega (arith, comment_length inner m))
 run_space place r white begin (piece u m) at rest h = absurd h

@@ -11,4 +11,5 @@ pub mod Pieces
 pub mod Places
 pub mod Runs
 pub mod Sound
+pub mod Total
 pub mod Trees

@@ -29,6 +29,9 @@ white_isnt_first b h = grind (arith, nat_tests)
 pub white_isnt_name : (b : ℕ) → is_white b ≡ true → is_name b ≡ false
 white_isnt_name b h = grind (arith, nat_tests)
 
+pub white_isnt_colon : (b : ℕ) → is_white b ≡ true → eqb b 58 ≡ false
+white_isnt_colon b h = grind (arith, nat_tests)
+
 pub quote_isnt_white : (b : ℕ) → is_quote b ≡ true → is_white b ≡ false
 quote_isnt_white b h = grind (arith, nat_tests)
 
@@ -70,7 +73,7 @@ run_equals t place name r [] at rest new h =
     by_step (attribute_name t place name) r at 61 rest (equals t place name) r (rw new refl)
     ∙ ap (λ n. run (equals t place name) r n rest) (omega arith)
 run_equals t place name r (b ∷ w) at rest new h =
-    by_step (attribute_name t place name) r at b (w ++ (61 ∷ rest)) (named t place name) r (rw (white_isnt_name b h.0, new, h.0) refl)
+    by_step (attribute_name t place name) r at b (w ++ (61 ∷ rest)) (named t place name) r (rw (white_isnt_name b h.0, new, white_isnt_colon b h.0, h.0) refl)
     ∙ run_white (named t place name) r (λ at b q. rw q refl) w (at + 1) (61 ∷ rest) h.1
     ∙ by_step (named t place name) r (at + 1 + length w) 61 rest (equals t place name) r refl
     ∙ ap (λ n. run (equals t place name) r n rest) (omega arith)
@@ -90,7 +93,7 @@ reference_isnt_quote quote h = grind (arith, nat_tests)
 wide_isnt_quote : (quote : ℕ) → is_quote quote ≡ true → eqb 239 quote ≡ false
 wide_isnt_quote quote h = grind (arith, nat_tests)
 
-pub value_38 : (t : Tag) (place : ℕ) (name : List ℕ) (quote from : ℕ) (r : Read) (at : ℕ) → is_quote quote ≡ true → step (in_value t place name quote from) r at 38 ≡ state (reference (in_quotes t place name quote from)) r
+pub value_38 : (t : Tag) (place : ℕ) (name : List ℕ) (quote from : ℕ) (r : Read) (at : ℕ) → is_quote quote ≡ true → step (in_value t place name quote from) r at 38 ≡ state (reference at (in_quotes t place name quote from)) r
 value_38 t place name quote from r at h = rw (reference_isnt_quote quote h) refl
 
 pub value_239 : (t : Tag) (place : ℕ) (name : List ℕ) (quote from : ℕ) (r : Read) (at : ℕ) → is_quote quote ≡ true → step (in_value t place name quote from) r at 239 ≡ state (wide_1 (in_quotes t place name quote from)) r

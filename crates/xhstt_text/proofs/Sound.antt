@@ -6,7 +6,8 @@ use Rattle.std.specs.Str.{bytes_eq}
 use Rattle.xhstt_text.specs.Units.{Entity, less, greater, ampersand, apostrophe, quotation, entity_name, Piece, wide, named as named_entity, decimal, hexadecimal, piece_text, is_decimal, is_hexadecimal, digit, number_from, AreDigits, is_character, is_last, IsPiece}
 use Rattle.xhstt_text.specs.Bytes.{IsDeclared, declaration_start, question_after, stays_declared, IsComment, dashes, dashes_after, stays_open, is_white, is_first, is_name, is_text, is_quoted, is_quote, AllAre, IsWhite, IsGap, IsName}
 use Rattle.xhstt_text.specs.Document.{Value, done, plain, piece_of, value_text, IsValue, piece, Body, unmarked, marked, Declaration, undeclared, declared, declaration_text, body_text, IsBody, IsDeclaration, IsSpace, Attributes, none, attribute, Start, Content, nothing, byte, comment, short, long, Document, attributes_text, start_text, text, spelling, has_name, AreAttributes, IsContent, IsDocument, Rows}
-use Rattle.xhstt_text.specs.Machine.{Within, in_text, in_quotes, after_piece, wide_1, wide_2, reference, reference_a, word, hash, hash_x, in_decimal, in_hexadecimal, step_word, beginning, mark_1, mark_2, at_declaration, declared_open, question, in_declaration, closed, step_declaration, step_question, Frame, Read, Tag, Phase, content, ended, ended_open, Place, early, late, phase_of, bang, bang_dash, in_comment, opened, start_name, valued, in_tag, slash, attribute_name, named, equals, in_value, shut_begin, shut, shut_gap, State, Step, refused, state, noted, resume, open_element, add_node, opened_row, close_element, attribute_row, with_name, start_of, step, step_content, step_opened, step_valued, step_named, step_shut, finish, and_then, run, Outcome, outcome_of}
+use Rattle.xhstt_text.specs.Machine.{Within, in_text, in_quotes, after_piece, wide_1, wide_2, reference, reference_a, word, hash, hash_x, in_decimal, in_hexadecimal, step_word, beginning, mark_1, mark_2, at_declaration, declared_open, question, in_declaration, closed, step_declaration, step_question, other_word, no_character, after_number, step_other_word, Frame, Read, Tag, Phase, content, ended, ended_open, Place, early, late, phase_of, bang, bang_dash, in_comment, opened, start_name, valued, in_tag, slash, attribute_name, named, equals, in_value, shut_begin, shut, shut_gap, State, Step, refused, state, noted, resume, open_element, add_node, opened_row, close_element, attribute_row, with_name, start_of, step, step_content, step_opened, step_valued, step_named, step_shut, finish, and_then, run, Outcome, outcome_of}
+use Rattle.xhstt_text.specs.declared.faults.TextFault.{TextFault}
 use Rattle.xhstt_text.proofs.Complete.{attribute_shape, start_shape, long_shape, declaration_shape}
 
 -- what may follow inside these open elements, the innermost first, or after the outermost element
@@ -62,7 +63,8 @@ Follows (in_declaration seen) ns bs = (w : ℕ) → is_white w ≡ true → (fro
 Follows content ns bs = Inside ns bs
 Follows ended ns bs = Later [] bs
 Follows (ended_open at) ns bs = Later [] (60 ∷ bs)
-Follows (bang place) ns bs = AtPlace place ns (60 ∷ 33 ∷ bs)
+Follows (bang at place) ns bs = AtPlace place ns (60 ∷ 33 ∷ bs)
+Follows (other_word at first ks) ns bs = ⊥
 Follows (bang_dash place) ns bs = AtPlace place ns (60 ∷ 33 ∷ 45 ∷ bs)
 Follows (in_comment place count) ns bs = (front : List ℕ) → stays_open 0 front ≡ true → dashes_after 0 front ≡ count → AtPlace place ns (60 ∷ 33 ∷ 45 ∷ 45 ∷ (front ++ bs))
 Follows (opened at) ns bs = Inside ns (60 ∷ bs)
@@ -76,13 +78,14 @@ Follows (equals t at name) ns bs = IsName name → has_name name t.names ≡ fal
 Follows (in_value t at name quote from) ns bs = ValueRest t name quote ns bs
 Follows (wide_1 w) ns bs = AtWithin w ns (239 ∷ bs)
 Follows (wide_2 greatest w) ns bs = (b : ℕ) → leb 128 b ≡ true → eqb b 191 ≡ greatest → AtWithin w ns (239 ∷ b ∷ bs)
-Follows (reference w) ns bs = AtWithin w ns (38 ∷ bs)
-Follows (reference_a w) ns bs = AtWithin w ns (38 ∷ 97 ∷ bs)
-Follows (word ks w) ns bs = (e : Entity) (front : List ℕ) → front ++ ks ≡ entity_name e ++ 59 ∷ [] → AtWithin w ns (38 ∷ (front ++ bs))
-Follows (hash w) ns bs = AtWithin w ns (38 ∷ 35 ∷ bs)
-Follows (hash_x w) ns bs = AtWithin w ns (38 ∷ 35 ∷ 120 ∷ bs)
-Follows (in_decimal n w) ns bs = (ds : List ℕ) → AreDigits is_decimal ds → number_from 10 0 ds ≡ n → AtWithin w ns (38 ∷ 35 ∷ (ds ++ bs))
-Follows (in_hexadecimal n w) ns bs = (ds : List ℕ) → AreDigits is_hexadecimal ds → number_from 16 0 ds ≡ n → AtWithin w ns (38 ∷ 35 ∷ 120 ∷ (ds ++ bs))
+Follows (reference at w) ns bs = AtWithin w ns (38 ∷ bs)
+Follows (reference_a at w) ns bs = AtWithin w ns (38 ∷ 97 ∷ bs)
+Follows (word at ks w) ns bs = (e : Entity) (front : List ℕ) → front ++ ks ≡ entity_name e ++ 59 ∷ [] → AtWithin w ns (38 ∷ (front ++ bs))
+Follows (hash at w) ns bs = AtWithin w ns (38 ∷ 35 ∷ bs)
+Follows (hash_x at w) ns bs = AtWithin w ns (38 ∷ 35 ∷ 120 ∷ bs)
+Follows (in_decimal at n w) ns bs = (ds : List ℕ) → AreDigits is_decimal ds → number_from 10 0 ds ≡ n → AtWithin w ns (38 ∷ 35 ∷ (ds ++ bs))
+Follows (in_hexadecimal at n w) ns bs = (ds : List ℕ) → AreDigits is_hexadecimal ds → number_from 16 0 ds ≡ n → AtWithin w ns (38 ∷ 35 ∷ 120 ∷ (ds ++ bs))
+Follows (no_character at) ns bs = ⊥
 Follows (shut_begin at) ns bs = Inside ns (60 ∷ 47 ∷ bs)
 Follows (shut at name) ns bs = Inside ns (60 ∷ 47 ∷ (name ++ bs))
 Follows (shut_gap at name) ns bs = (w : List ℕ) → IsWhite w → Inside ns (60 ∷ 47 ∷ (name ++ (w ++ bs)))
@@ -172,7 +175,7 @@ choose : {G : Type 0} (c : Bool) (x y : Step) (s : State) → (c ≡ true → x 
 choose true x y s f g e = f refl e
 choose false x y s f g e = g refl e
 
-no : {G : Type 0} (s : State) → refused ≡ Ok s → G
+no : {G : Type 0} {f : TextFault} (s : State) → refused f ≡ Ok s → G
 no s e = cc
 
 arrives : (P : State → Type 0) (q : Phase) (r : Read) (s : State) → state q r ≡ Ok s → P s → P (record { phase = q; read = r })
@@ -244,7 +247,7 @@ back_content : (frames : List Frame) (r : Read) (at b : ℕ) (bs : List ℕ) (s 
 back_content [] r at b bs s e h =
     choose (eqb b 60) (state (opened at) (record r { frames = [] })) _ s
     (λ is here. subst (λ k. Inside [] (k ∷ bs)) (sym (same_byte b 60 is)) (arrives (After bs) (opened at) (record r { frames = [] }) s here h))
-    (λ _ there. choose (is_white b) (state content (record r { frames = [] })) refused s
+    (λ _ there. choose (is_white b) (state content (record r { frames = [] })) _ s
     (λ is here. more_before b bs is (arrives (After bs) content (record r { frames = [] }) s here h))
     (λ _ here. no s here) there) e
 back_content (f ∷ fs) r at b bs s e h =
@@ -253,9 +256,9 @@ back_content (f ∷ fs) r at b bs s e h =
     (λ is here. subst (λ k. Inside (names_of (f ∷ fs)) (k ∷ bs)) (sym (same_byte b 60 is)) (arrives (After bs) (opened at) (record r { frames = f ∷ fs }) s here h))
     (λ _ e1. choose (is_text b) (state content q) _ s
     (λ is here. more_content f.name (names_of fs) b bs is (arrives (After bs) content q s here h))
-    (λ _ e2. choose (eqb b 38) (state (reference in_text) q) _ s
-    (λ is here. subst (λ k. Later (names_of (f ∷ fs)) (k ∷ bs)) (sym (same_byte b 38 is)) (arrives (After bs) (reference in_text) q s here h))
-    (λ _ e3. choose (eqb b 239) (state (wide_1 in_text) q) refused s
+    (λ _ e2. choose (eqb b 38) (state (reference at in_text) q) _ s
+    (λ is here. subst (λ k. Later (names_of (f ∷ fs)) (k ∷ bs)) (sym (same_byte b 38 is)) (arrives (After bs) (reference at in_text) q s here h))
+    (λ _ e3. choose (eqb b 239) (state (wide_1 in_text) q) _ s
     (λ is here. subst (λ k. Later (names_of (f ∷ fs)) (k ∷ bs)) (sym (same_byte b 239 is)) (arrives (After bs) (wide_1 in_text) q s here h))
     (λ _ here. no s here) e3) e2) e1) e
 
@@ -263,47 +266,47 @@ length_names : (fs : List Frame) → length (names_of fs) ≡ length fs
 length_names [] = refl
 length_names (f ∷ fs) = ap suc (length_names fs)
 
-back_opened : (frames : List Frame) (place : ℕ) (r : Read) (b : ℕ) (bs : List ℕ) (s : State) → step_opened frames place (record r { frames = frames }) b ≡ Ok s → After bs s → Inside (names_of frames) (60 ∷ b ∷ bs)
-back_opened [] place r b bs s e h =
+back_opened : (frames : List Frame) (place : ℕ) (r : Read) (at b : ℕ) (bs : List ℕ) (s : State) → step_opened frames place (record r { frames = frames }) at b ≡ Ok s → After bs s → Inside (names_of frames) (60 ∷ b ∷ bs)
+back_opened [] place r at b bs s e h =
     choose (is_first b) (state (start_name place (b ∷ [])) (record r { frames = [] })) _ s
     (λ is here. arrives (After bs) (start_name place (b ∷ [])) (record r { frames = [] }) s here h (is, tt) (omega arith))
-    (λ _ there. choose (eqb b 33) (state (bang early) (record r { frames = [] })) refused s
-    (λ is here. subst (λ k. Inside [] (60 ∷ k ∷ bs)) (sym (same_byte b 33 is)) (arrives (After bs) (bang early) (record r { frames = [] }) s here h))
+    (λ _ there. choose (eqb b 33) (state (bang place early) (record r { frames = [] })) _ s
+    (λ is here. subst (λ k. Inside [] (60 ∷ k ∷ bs)) (sym (same_byte b 33 is)) (arrives (After bs) (bang place early) (record r { frames = [] }) s here h))
     (λ _ here. no s here) there) e
-back_opened (f ∷ fs) place r b bs s e h =
+back_opened (f ∷ fs) place r at b bs s e h =
     let q : Read = record r { frames = f ∷ fs } in
     choose (is_first b) _ _ s
-    (λ is there. choose (ltb (length (f ∷ fs)) 32) (state (start_name place (b ∷ [])) q) refused s
+    (λ is there. choose (ltb (length (f ∷ fs)) 32) (state (start_name place (b ∷ [])) q) _ s
     (λ few here. arrives (After bs) (start_name place (b ∷ [])) q s here h (is, tt) (let d : length (f ∷ fs) < 32 = grind (arith, nat_tests) in subst (λ n. n < 32) (sym (length_names (f ∷ fs))) d))
     (λ _ here. no s here) there)
     (λ _ there. choose (eqb b 47) (state (shut_begin place) q) _ s
     (λ is here. subst (λ k. Inside (names_of (f ∷ fs)) (60 ∷ k ∷ bs)) (sym (same_byte b 47 is)) (arrives (After bs) (shut_begin place) q s here h))
-    (λ _ more. choose (eqb b 33) (state (bang early) q) refused s
-    (λ is here. subst (λ k. Inside (names_of (f ∷ fs)) (60 ∷ k ∷ bs)) (sym (same_byte b 33 is)) (arrives (After bs) (bang early) q s here h))
+    (λ _ more. choose (eqb b 33) (state (bang place early) q) _ s
+    (λ is here. subst (λ k. Inside (names_of (f ∷ fs)) (60 ∷ k ∷ bs)) (sym (same_byte b 33 is)) (arrives (After bs) (bang place early) q s here h))
     (λ _ here. no s here) more) there) e
 
 back_valued : (t : Tag) (r : Read) (at b : ℕ) (bs : List ℕ) (s : State) → step_valued t r at b ≡ Ok s → After bs s → InTag (names_of r.frames) t.name t.names (b ∷ bs)
 back_valued t r at b bs s e h =
-    choose (is_first b) refused _ s (λ _ here. no s here)
+    choose (is_first b) _ _ s (λ _ here. no s here)
     (λ _ e1. choose (is_white b) (state (in_tag t) r) _ s
     (λ is here. arrives (After bs) (in_tag t) r s here h b is)
     (λ _ e2. choose (eqb b 47) (state (slash t) r) _ s
     (λ is here. let q = arrives (After bs) (slash t) r s here h in
     subst (λ k. InTag (names_of r.frames) t.name t.names (k ∷ bs)) (sym (same_byte b 47 is))
     (none, 47 ∷ bs, tt, refl, ([], q.0, tt, inl (ap (λ x. 47 ∷ x) q.1, q.2))))
-    (λ _ e3. choose (eqb b 62) (state content (open_element t r (at + 1))) refused s
+    (λ _ e3. choose (eqb b 62) (state content (open_element t r (at + 1))) _ s
     (λ is here. let q = arrives (After bs) content (open_element t r (at + 1)) s here h in
     subst (λ k. InTag (names_of r.frames) t.name t.names (k ∷ bs)) (sym (same_byte b 62 is))
     (none, 62 ∷ bs, tt, refl, ([], bs, tt, inr (refl, q))))
     (λ _ here. no s here) e3) e2) e1) e
 
-back_named : (t : Tag) (place : ℕ) (name : List ℕ) (r : Read) (b : ℕ) (bs : List ℕ) (s : State) → step_named t place name r b ≡ Ok s → After bs s → Follows (named t place name) (names_of r.frames) (b ∷ bs)
-back_named t place name r b bs s e h =
+back_named : (t : Tag) (place : ℕ) (name : List ℕ) (r : Read) (at b : ℕ) (bs : List ℕ) (s : State) → step_named t place name r at b ≡ Ok s → After bs s → Follows (named t place name) (names_of r.frames) (b ∷ bs)
+back_named t place name r at b bs s e h =
     choose (is_white b) (state (named t place name) r) _ s
     (λ is here hn new c hc w hw.
     let q = arrives (After bs) (named t place name) r s here h hn new c hc (w ++ b ∷ []) (all_push is_white w b hw is) in
     subst (λ (x : List ℕ). InTag (names_of r.frames) t.name t.names (c ∷ (name ++ x))) (append_assoc w (b ∷ []) bs) q)
-    (λ _ there. choose (eqb b 61) (state (equals t place name) r) refused s
+    (λ _ there. choose (eqb b 61) (state (equals t place name) r) _ s
     (λ is here hn new c hc w hw. subst (λ k. InTag (names_of r.frames) t.name t.names (c ∷ (name ++ (w ++ (k ∷ bs))))) (sym (same_byte b 61 is)) (arrives (After bs) (equals t place name) r s here h hn new c hc w hw [] tt))
     (λ _ here. no s here) there) e
 
@@ -311,16 +314,16 @@ later_from : (fs : List Frame) (bs : List ℕ) → Follows (resume fs) (names_of
 later_from [] bs h = h
 later_from (f ∷ fs) bs h = h
 
-back_shut : (frames : List Frame) (place : ℕ) (name : List ℕ) (r : Read) (b : ℕ) (bs : List ℕ) (s : State) → step_shut frames place name (record r { frames = frames }) b ≡ Ok s → After bs s → Follows (shut_gap place name) (names_of frames) (b ∷ bs)
-back_shut [] place name r b bs s e h = no s e
-back_shut (f ∷ fs) place name r b bs s e h =
+back_shut : (frames : List Frame) (place : ℕ) (name : List ℕ) (r : Read) (at b : ℕ) (bs : List ℕ) (s : State) → step_shut frames place name (record r { frames = frames }) at b ≡ Ok s → After bs s → Follows (shut_gap place name) (names_of frames) (b ∷ bs)
+back_shut [] place name r at b bs s e h = no s e
+back_shut (f ∷ fs) place name r at b bs s e h =
     let q : Read = record r { frames = f ∷ fs } in
     choose (is_white b) (state (shut_gap place name) q) _ s
     (λ is here w hw.
     let k = arrives (After bs) (shut_gap place name) q s here h (w ++ b ∷ []) (all_push is_white w b hw is) in
     subst (λ (x : List ℕ). Inside (names_of (f ∷ fs)) (60 ∷ 47 ∷ (name ++ x))) (append_assoc w (b ∷ []) bs) k)
-    (λ _ e1. choose (eqb b 62) _ refused s
-    (λ is e2. choose (bytes_eq name f.name) (state (resume fs) (close_element f fs q place)) refused s
+    (λ _ e1. choose (eqb b 62) _ _ s
+    (λ is e2. choose (bytes_eq name f.name) (state (resume fs) (close_element f fs q place)) _ s
     (λ same here w hw.
     let k = later_from fs bs (arrives (After bs) (resume fs) (close_element f fs q place) s here h) in
     let is_same : name ≡ f.name = (bytes_eq-Decides name f.name).0 same in
@@ -390,19 +393,19 @@ digits_push : (test : ℕ → Bool) (ds : List ℕ) (b : ℕ) → AreDigits test
 digits_push test [] b h e = absurd h
 digits_push test (d ∷ ds) b h e = (h.0, all_push test ds b h.1 e)
 
-back_word : (ks : List ℕ) (w : Within) (r : Read) (b : ℕ) (bs : List ℕ) (s : State) → step_word ks w r b ≡ Ok s → After bs s → Follows (word ks w) (names_of r.frames) (b ∷ bs)
-back_word [] w r b bs s e h = no s e
-back_word (k ∷ []) w r b bs s e h =
-    choose (eqb b k) (state (after_piece w) r) refused s
+back_word : (place : ℕ) (ks : List ℕ) (w : Within) (r : Read) (b : ℕ) (bs : List ℕ) (s : State) → step_word place ks w r b ≡ Ok s → After bs s → Follows (word place ks w) (names_of r.frames) (b ∷ bs)
+back_word place [] w r b bs s e h = no s e
+back_word place (k ∷ []) w r b bs s e h =
+    choose (eqb b k) (state (after_piece w) r) _ s
     (λ is here x front same.
     let q = piece_before w (names_of r.frames) (named_entity x) bs tt (arrives (After bs) (after_piece w) r s here h) in
     subst (λ i. AtWithin w (names_of r.frames) (38 ∷ (front ++ (i ∷ bs)))) (sym (same_byte b k is))
     (subst (λ (y : List ℕ). AtWithin w (names_of r.frames) (38 ∷ y)) (ap (λ y. y ++ bs) (sym same) ∙ append_assoc front (k ∷ []) bs) q))
     (λ _ here. no s here) e
-back_word (k ∷ l ∷ ks) w r b bs s e h =
-    choose (eqb b k) (state (word (l ∷ ks) w) r) refused s
+back_word place (k ∷ l ∷ ks) w r b bs s e h =
+    choose (eqb b k) (state (word place (l ∷ ks) w) r) _ s
     (λ is here x front same.
-    let q = arrives (After bs) (word (l ∷ ks) w) r s here h x (front ++ k ∷ []) (append_assoc front (k ∷ []) (l ∷ ks) ∙ same) in
+    let q = arrives (After bs) (word place (l ∷ ks) w) r s here h x (front ++ k ∷ []) (append_assoc front (k ∷ []) (l ∷ ks) ∙ same) in
     subst (λ i. AtWithin w (names_of r.frames) (38 ∷ (front ++ (i ∷ bs)))) (sym (same_byte b k is))
     (subst (λ (y : List ℕ). AtWithin w (names_of r.frames) (38 ∷ y)) (append_assoc front (k ∷ []) bs) q))
     (λ _ here. no s here) e
@@ -420,19 +423,19 @@ back_declaration : (r : Read) (at b : ℕ) (bs : List ℕ) (s : State) → step_
 back_declaration r at b bs s e h =
     choose (eqb b 60) (state (declared_open at) r) _ s
     (λ is here. subst (λ k. Declarable (k ∷ bs)) (sym (same_byte b 60 is)) (arrives (After bs) (declared_open at) r s here h))
-    (λ _ there. choose (is_white b) (state content (closed r)) refused s
+    (λ _ there. choose (is_white b) (state content (closed r)) _ s
     (λ is here. without_declaration (b ∷ bs) (more_before b bs is (arrives (After bs) content (closed r) s here h)))
     (λ _ here. no s here) there) e
 
-back_question : (ks : List ℕ) (r : Read) (b : ℕ) (bs : List ℕ) (s : State) → step_question ks r b ≡ Ok s → After bs s → Follows (question ks) (names_of r.frames) (b ∷ bs)
-back_question [] r b bs s e h =
-    choose (is_white b) (state (in_declaration false) r) refused s
+back_question : (ks : List ℕ) (r : Read) (at b : ℕ) (bs : List ℕ) (s : State) → step_question ks r at b ≡ Ok s → After bs s → Follows (question ks) (names_of r.frames) (b ∷ bs)
+back_question [] r at b bs s e h =
+    choose (is_white b) (state (in_declaration false) r) _ s
     (λ is here front same.
     let q = arrives (After bs) (in_declaration false) r s here h b is [] refl refl in
     subst (λ (x : List ℕ). Declarable (x ++ (b ∷ bs))) (sym same ∙ append-nil front) q)
     (λ _ here. no s here) e
-back_question (k ∷ ks) r b bs s e h =
-    choose (eqb b k) (state (question ks) r) refused s
+back_question (k ∷ ks) r at b bs s e h =
+    choose (eqb b k) (state (question ks) r) _ s
     (λ is here front same.
     let q = arrives (After bs) (question ks) r s here h (front ++ k ∷ []) (append_assoc front (k ∷ []) ks ∙ same) in
     subst (λ n. Declarable (front ++ (n ∷ bs))) (sym (same_byte b k is)) (subst (λ (x : List ℕ). Declarable x) (append_assoc front (k ∷ []) bs) q))
@@ -462,43 +465,61 @@ back_declared seen r b bs s e h =
     let q = arrives (After bs) (in_declaration (eqb b 63)) r s here h w hw (front ++ b ∷ []) (stays_push front false b stays (ap (λ v. v && eqb b 62) same ∙ isnt)) (declared_push front false b) in
     subst (λ (x : List ℕ). Declarable (declaration_start ++ (w ∷ x))) (append_assoc front (b ∷ []) bs) q) e
 
+-- no text goes on with a word that is not supported
+back_other : (place first : ℕ) (ks : List ℕ) (r : Read) (b : ℕ) (bs : List ℕ) (s : State) → step_other_word place first ks r b ≡ Ok s → After bs s → ⊥
+back_other place first [] r b bs s e h = no s e
+back_other place first (k ∷ ks) r b bs s e h =
+    choose (eqb b k) (state (other_word place first ks) r) _ s
+    (λ _ here. arrives (After bs) (other_word place first ks) r s here h)
+    (λ _ here. no s here) e
+
+-- a number after which a text goes on gives a character
+numbered : (place : ℕ) (w : Within) (ns : List (List ℕ)) (bs : List ℕ) (v : Bool) → Follows (cond v (after_piece w) (no_character place)) ns bs → (v ≡ true) × Follows (after_piece w) ns bs
+numbered place w ns bs true h = (refl, h)
+numbered place w ns bs false h = absurd h
+
 back : (p : Phase) (r : Read) (at b : ℕ) (bs : List ℕ) (s : State) → step p r at b ≡ Ok s → After bs s → Follows p (names_of r.frames) (b ∷ bs)
 back beginning r at b bs s e h =
     choose (eqb b 239) (state mark_1 r) _ s
     (λ is here. subst (λ k. Whole (k ∷ bs)) (sym (same_byte b 239 is)) (arrives (After bs) mark_1 r s here h))
     (λ _ there. without_mark (b ∷ bs) (back_declaration r at b bs s there h)) e
 back mark_1 r at b bs s e h =
-    choose (eqb b 187) (state mark_2 r) refused s
+    choose (eqb b 187) (state mark_2 r) _ s
     (λ is here. subst (λ k. Whole (239 ∷ k ∷ bs)) (sym (same_byte b 187 is)) (arrives (After bs) mark_2 r s here h))
     (λ _ here. no s here) e
 back mark_2 r at b bs s e h =
-    choose (eqb b 191) (state at_declaration r) refused s
+    choose (eqb b 191) (state at_declaration r) _ s
     (λ is here. subst (λ k. Whole (239 ∷ 187 ∷ k ∷ bs)) (sym (same_byte b 191 is)) (with_mark bs (arrives (After bs) at_declaration r s here h)))
     (λ _ here. no s here) e
 back at_declaration r at b bs s e h = back_declaration r at b bs s e h
 back (declared_open place) r at b bs s e h =
     choose (eqb b 63) (state (question (120 ∷ 109 ∷ 108 ∷ [])) r) _ s
     (λ is here. subst (λ k. Declarable (60 ∷ k ∷ bs)) (sym (same_byte b 63 is)) (arrives (After bs) (question (120 ∷ 109 ∷ 108 ∷ [])) r s here h (60 ∷ 63 ∷ []) refl))
-    (λ _ there. without_declaration (60 ∷ b ∷ bs) (back_opened [] place r b bs s there h)) e
-back (question ks) r at b bs s e h = back_question ks r b bs s e h
+    (λ _ there. without_declaration (60 ∷ b ∷ bs) (back_opened [] place r at b bs s there h)) e
+back (question ks) r at b bs s e h = back_question ks r at b bs s e h
 back (in_declaration seen) r at b bs s e h = back_declared seen r b bs s e h
 back content r at b bs s e h = back_content r.frames r at b bs s e h
 back ended r at b bs s e h =
     choose (is_white b) (state ended r) _ s
     (λ is here. more_after b bs is (arrives (After bs) ended r s here h))
-    (λ _ there. choose (eqb b 60) (state (ended_open at) r) refused s
+    (λ _ there. choose (eqb b 60) (state (ended_open at) r) _ s
     (λ is here. subst (λ k. Later [] (k ∷ bs)) (sym (same_byte b 60 is)) (arrives (After bs) (ended_open at) r s here h))
     (λ _ here. no s here) there) e
 back (ended_open place) r at b bs s e h =
-    choose (eqb b 33) (state (bang late) r) refused s
-    (λ is here. subst (λ k. Later [] (60 ∷ k ∷ bs)) (sym (same_byte b 33 is)) (arrives (After bs) (bang late) r s here h))
+    choose (eqb b 33) (state (bang place late) r) _ s
+    (λ is here. subst (λ k. Later [] (60 ∷ k ∷ bs)) (sym (same_byte b 33 is)) (arrives (After bs) (bang place late) r s here h))
     (λ _ here. no s here) e
-back (bang p) r at b bs s e h =
-    choose (eqb b 45) (state (bang_dash p) r) refused s
+back (bang place p) r at b bs s e h =
+    choose (eqb b 45) (state (bang_dash p) r) _ s
     (λ is here. subst (λ k. AtPlace p (names_of r.frames) (60 ∷ 33 ∷ k ∷ bs)) (sym (same_byte b 45 is)) (arrives (After bs) (bang_dash p) r s here h))
-    (λ _ here. no s here) e
+    (λ _ e1. choose (eqb b 68) (state (other_word place at (79 ∷ 67 ∷ 84 ∷ 89 ∷ 80 ∷ 69 ∷ [])) r) _ s
+    (λ _ here. absurd (arrives (After bs) (other_word place at (79 ∷ 67 ∷ 84 ∷ 89 ∷ 80 ∷ 69 ∷ [])) r s here h))
+    (λ _ e2. choose (eqb b 91) (state (other_word place at (67 ∷ 68 ∷ 65 ∷ 84 ∷ 65 ∷ 91 ∷ [])) r) _ s
+    (λ _ here. absurd (arrives (After bs) (other_word place at (67 ∷ 68 ∷ 65 ∷ 84 ∷ 65 ∷ 91 ∷ [])) r s here h))
+    (λ _ here. no s here) e2) e1) e
+back (other_word place first ks) r at b bs s e h = back_other place first ks r b bs s e h
 back (bang_dash p) r at b bs s e h =
-    choose (eqb b 45) (state (in_comment p 0) r) refused s
+    choose (eqb b 45) (state (in_comment p 0) r) _ s
     (λ is here. subst (λ k. AtPlace p (names_of r.frames) (60 ∷ 33 ∷ 45 ∷ k ∷ bs)) (sym (same_byte b 45 is)) (arrives (After bs) (in_comment p 0) r s here h [] refl refl))
     (λ _ here. no s here) e
 back (in_comment p count) r at b bs s e h =
@@ -507,20 +528,22 @@ back (in_comment p count) r at b bs s e h =
     (λ isnt here front stays same.
     let q = arrives (After bs) (in_comment p (dashes count b)) r s here h (front ++ b ∷ []) (open_push front 0 b stays (ap (λ k. leb 2 k && eqb b 62) same ∙ isnt)) (dashes_push front 0 b ∙ ap (λ k. dashes k b) same) in
     subst (λ (x : List ℕ). AtPlace p (names_of r.frames) (60 ∷ 33 ∷ 45 ∷ 45 ∷ x)) (append_assoc front (b ∷ []) bs) q) e
-back (opened place) r at b bs s e h = back_opened r.frames place r b bs s e h
+back (opened place) r at b bs s e h = back_opened r.frames place r at b bs s e h
 back (start_name place name) r at b bs s e h =
     choose (is_name b) (state (start_name place (name ++ b ∷ [])) r) _ s
     (λ is here hn d.
     let q = arrives (After bs) (start_name place (name ++ b ∷ [])) r s here h (name_push name b hn is) d in
     subst (λ (x : List ℕ). Inside (names_of r.frames) (60 ∷ x)) (append_assoc name (b ∷ []) bs) q)
-    (λ _ there hn d. element (names_of r.frames) name (b ∷ bs) hn d (back_valued (start_of place name r) r at b bs s there h)) e
+    (λ _ there. choose (eqb b 58) _ (step_valued (start_of place name r) r at b) s
+    (λ _ here. no s here)
+    (λ _ on hn d. element (names_of r.frames) name (b ∷ bs) hn d (back_valued (start_of place name r) r at b bs s on h)) there) e
 back (valued t) r at b bs s e h = back_valued t r at b bs s e h
 back (in_tag t) r at b bs s e h =
     choose (is_first b) (state (attribute_name t at (b ∷ [])) r) _ s
     (λ is here c hc. arrives (After bs) (attribute_name t at (b ∷ [])) r s here h (is, tt) c hc)
     (λ _ there c hc. widen (names_of r.frames) t.name t.names c (b ∷ bs) hc (back_valued t r at b bs s there h)) e
 back (slash t) r at b bs s e h =
-    choose (eqb b 62) (state (resume r.frames) (add_node r (opened_row t r (at + 1)))) refused s
+    choose (eqb b 62) (state (resume r.frames) (add_node r (opened_row t r (at + 1)))) _ s
     (λ is here. (bs, ap (λ x. x ∷ bs) (same_byte b 62 is), later_from r.frames bs (arrives (After bs) (resume r.frames) (add_node r (opened_row t r (at + 1))) s here h)))
     (λ _ here. no s here) e
 back (attribute_name t place name) r at b bs s e h =
@@ -528,16 +551,18 @@ back (attribute_name t place name) r at b bs s e h =
     (λ is here hn c hc.
     let q = arrives (After bs) (attribute_name t place (name ++ b ∷ [])) r s here h (name_push name b hn is) c hc in
     subst (λ (x : List ℕ). InTag (names_of r.frames) t.name t.names (c ∷ x)) (append_assoc name (b ∷ []) bs) q)
-    (λ _ there. choose (has_name name t.names) refused (step_named t place name r b) s
+    (λ _ there. choose (has_name name t.names) _ _ s
     (λ _ here. no s here)
-    (λ new here hn c hc. back_named t place name r b bs s here h hn new c hc [] tt) there) e
-back (named t place name) r at b bs s e h = back_named t place name r b bs s e h
+    (λ new on. choose (eqb b 58) _ (step_named t place name r at b) s
+    (λ _ here. no s here)
+    (λ _ here hn c hc. back_named t place name r at b bs s here h hn new c hc [] tt) on) there) e
+back (named t place name) r at b bs s e h = back_named t place name r at b bs s e h
 back (equals t place name) r at b bs s e h =
     choose (is_white b) (state (equals t place name) r) _ s
     (λ is here hn new c hc w hw v hv.
     let q = arrives (After bs) (equals t place name) r s here h hn new c hc w hw (v ++ b ∷ []) (all_push is_white v b hv is) in
     subst (λ (x : List ℕ). InTag (names_of r.frames) t.name t.names (c ∷ (name ++ (w ++ (61 ∷ x))))) (append_assoc v (b ∷ []) bs) q)
-    (λ _ there. choose (is_quote b) (state (in_value t place name b (at + 1)) r) refused s
+    (λ _ there. choose (is_quote b) (state (in_value t place name b (at + 1)) r) _ s
     (λ is here hn new c hc w hw v hv. arrives (After bs) (in_value t place name b (at + 1)) r s here h hn new is c hc w hw v hv done tt)
     (λ _ here. no s here) there) e
 back (in_value t place name quote from) r at b bs s e h =
@@ -550,94 +575,97 @@ back (in_value t place name quote from) r at b bs s e h =
     let k = arrives (After bs) (valued (with_name t name)) q s here h in
     subst (λ k. InTag (names_of r.frames) t.name t.names (c ∷ (name ++ (x ++ (61 ∷ (v ++ (quote ∷ (value_text u ++ (k ∷ bs))))))))) (sym (same_byte b quote is))
     (more_attribute (names_of r.frames) t.name t.names c name x v quote u bs hc hn new hx hv hq hu k))
-    (λ _ e2. choose (eqb b 38) (state (reference w) r) _ s
-    (λ is here. subst (λ k. AtWithin w (names_of r.frames) (k ∷ bs)) (sym (same_byte b 38 is)) (arrives (After bs) (reference w) r s here h))
-    (λ _ e3. choose (eqb b 239) (state (wide_1 w) r) refused s
+    (λ _ e2. choose (eqb b 38) (state (reference at w) r) _ s
+    (λ is here. subst (λ k. AtWithin w (names_of r.frames) (k ∷ bs)) (sym (same_byte b 38 is)) (arrives (After bs) (reference at w) r s here h))
+    (λ _ e3. choose (eqb b 239) (state (wide_1 w) r) _ s
     (λ is here. subst (λ k. AtWithin w (names_of r.frames) (k ∷ bs)) (sym (same_byte b 239 is)) (arrives (After bs) (wide_1 w) r s here h))
     (λ _ here. no s here) e3) e2) e1) e
 back (wide_1 w) r at b bs s e h =
-    choose (leb 128 b) (state (wide_2 (eqb b 191) w) r) refused s
+    choose (leb 128 b) (state (wide_2 (eqb b 191) w) r) _ s
     (λ is here. arrives (After bs) (wide_2 (eqb b 191) w) r s here h b is refl)
     (λ _ here. no s here) e
 back (wide_2 greatest w) r at b bs s e h =
-    choose (is_last greatest b) (state (after_piece w) r) refused s
+    choose (is_last greatest b) (state (after_piece w) r) _ s
     (λ is here c hc same. piece_before w (names_of r.frames) (wide c b) bs (hc, ap (λ v. is_last v b) same ∙ is) (arrives (After bs) (after_piece w) r s here h))
     (λ _ here. no s here) e
-back (reference w) r at b bs s e h =
+back (reference place w) r at b bs s e h =
     let put : (k : ℕ) → eqb b k ≡ true → AtWithin w (names_of r.frames) (38 ∷ k ∷ bs) → AtWithin w (names_of r.frames) (38 ∷ b ∷ bs) = λ k is. subst (λ k. AtWithin w (names_of r.frames) (38 ∷ k ∷ bs)) (sym (same_byte b k is)) in
-    choose (eqb b 108) (state (word (116 ∷ 59 ∷ []) w) r) _ s
-    (λ is here. put 108 is (arrives (After bs) (word (116 ∷ 59 ∷ []) w) r s here h less (108 ∷ []) refl))
-    (λ _ e1. choose (eqb b 103) (state (word (116 ∷ 59 ∷ []) w) r) _ s
-    (λ is here. put 103 is (arrives (After bs) (word (116 ∷ 59 ∷ []) w) r s here h greater (103 ∷ []) refl))
-    (λ _ e2. choose (eqb b 113) (state (word (117 ∷ 111 ∷ 116 ∷ 59 ∷ []) w) r) _ s
-    (λ is here. put 113 is (arrives (After bs) (word (117 ∷ 111 ∷ 116 ∷ 59 ∷ []) w) r s here h quotation (113 ∷ []) refl))
-    (λ _ e3. choose (eqb b 97) (state (reference_a w) r) _ s
-    (λ is here. put 97 is (arrives (After bs) (reference_a w) r s here h))
-    (λ _ e4. choose (eqb b 35) (state (hash w) r) refused s
-    (λ is here. put 35 is (arrives (After bs) (hash w) r s here h))
+    choose (eqb b 108) (state (word place (116 ∷ 59 ∷ []) w) r) _ s
+    (λ is here. put 108 is (arrives (After bs) (word place (116 ∷ 59 ∷ []) w) r s here h less (108 ∷ []) refl))
+    (λ _ e1. choose (eqb b 103) (state (word place (116 ∷ 59 ∷ []) w) r) _ s
+    (λ is here. put 103 is (arrives (After bs) (word place (116 ∷ 59 ∷ []) w) r s here h greater (103 ∷ []) refl))
+    (λ _ e2. choose (eqb b 113) (state (word place (117 ∷ 111 ∷ 116 ∷ 59 ∷ []) w) r) _ s
+    (λ is here. put 113 is (arrives (After bs) (word place (117 ∷ 111 ∷ 116 ∷ 59 ∷ []) w) r s here h quotation (113 ∷ []) refl))
+    (λ _ e3. choose (eqb b 97) (state (reference_a place w) r) _ s
+    (λ is here. put 97 is (arrives (After bs) (reference_a place w) r s here h))
+    (λ _ e4. choose (eqb b 35) (state (hash place w) r) _ s
+    (λ is here. put 35 is (arrives (After bs) (hash place w) r s here h))
     (λ _ here. no s here) e4) e3) e2) e1) e
-back (reference_a w) r at b bs s e h =
+back (reference_a place w) r at b bs s e h =
     let put : (k : ℕ) → eqb b k ≡ true → AtWithin w (names_of r.frames) (38 ∷ 97 ∷ k ∷ bs) → AtWithin w (names_of r.frames) (38 ∷ 97 ∷ b ∷ bs) = λ k is. subst (λ k. AtWithin w (names_of r.frames) (38 ∷ 97 ∷ k ∷ bs)) (sym (same_byte b k is)) in
-    choose (eqb b 109) (state (word (112 ∷ 59 ∷ []) w) r) _ s
-    (λ is here. put 109 is (arrives (After bs) (word (112 ∷ 59 ∷ []) w) r s here h ampersand (97 ∷ 109 ∷ []) refl))
-    (λ _ e1. choose (eqb b 112) (state (word (111 ∷ 115 ∷ 59 ∷ []) w) r) refused s
-    (λ is here. put 112 is (arrives (After bs) (word (111 ∷ 115 ∷ 59 ∷ []) w) r s here h apostrophe (97 ∷ 112 ∷ []) refl))
+    choose (eqb b 109) (state (word place (112 ∷ 59 ∷ []) w) r) _ s
+    (λ is here. put 109 is (arrives (After bs) (word place (112 ∷ 59 ∷ []) w) r s here h ampersand (97 ∷ 109 ∷ []) refl))
+    (λ _ e1. choose (eqb b 112) (state (word place (111 ∷ 115 ∷ 59 ∷ []) w) r) _ s
+    (λ is here. put 112 is (arrives (After bs) (word place (111 ∷ 115 ∷ 59 ∷ []) w) r s here h apostrophe (97 ∷ 112 ∷ []) refl))
     (λ _ here. no s here) e1) e
-back (word ks w) r at b bs s e h = back_word ks w r b bs s e h
-back (hash w) r at b bs s e h =
-    choose (eqb b 120) (state (hash_x w) r) _ s
-    (λ is here. subst (λ k. AtWithin w (names_of r.frames) (38 ∷ 35 ∷ k ∷ bs)) (sym (same_byte b 120 is)) (arrives (After bs) (hash_x w) r s here h))
-    (λ _ e1. choose (is_decimal b) (state (in_decimal (digit b) w) r) refused s
-    (λ is here. arrives (After bs) (in_decimal (digit b) w) r s here h (b ∷ []) (is, tt) (let z : 0 * 10 + digit b ≡ digit b = omega arith in z))
+back (word place ks w) r at b bs s e h = back_word place ks w r b bs s e h
+back (hash place w) r at b bs s e h =
+    choose (eqb b 120) (state (hash_x place w) r) _ s
+    (λ is here. subst (λ k. AtWithin w (names_of r.frames) (38 ∷ 35 ∷ k ∷ bs)) (sym (same_byte b 120 is)) (arrives (After bs) (hash_x place w) r s here h))
+    (λ _ e1. choose (is_decimal b) (state (in_decimal place (digit b) w) r) _ s
+    (λ is here. arrives (After bs) (in_decimal place (digit b) w) r s here h (b ∷ []) (is, tt) (let z : 0 * 10 + digit b ≡ digit b = omega arith in z))
     (λ _ here. no s here) e1) e
-back (hash_x w) r at b bs s e h =
-    choose (is_hexadecimal b) (state (in_hexadecimal (digit b) w) r) refused s
-    (λ is here. arrives (After bs) (in_hexadecimal (digit b) w) r s here h (b ∷ []) (is, tt) (let z : 0 * 16 + digit b ≡ digit b = omega arith in z))
+back (hash_x place w) r at b bs s e h =
+    choose (is_hexadecimal b) (state (in_hexadecimal place (digit b) w) r) _ s
+    (λ is here. arrives (After bs) (in_hexadecimal place (digit b) w) r s here h (b ∷ []) (is, tt) (let z : 0 * 16 + digit b ≡ digit b = omega arith in z))
     (λ _ here. no s here) e
-back (in_decimal n w) r at b bs s e h =
-    choose (is_decimal b) (state (in_decimal (n * 10 + digit b) w) r) _ s
+back (in_decimal place n w) r at b bs s e h =
+    choose (is_decimal b) (state (in_decimal place (n * 10 + digit b) w) r) _ s
     (λ is here ds hds same.
-    let q = arrives (After bs) (in_decimal (n * 10 + digit b) w) r s here h (ds ++ b ∷ []) (digits_push is_decimal ds b hds is) (number_push 10 ds 0 b ∙ ap (λ i. i * 10 + digit b) same) in
+    let q = arrives (After bs) (in_decimal place (n * 10 + digit b) w) r s here h (ds ++ b ∷ []) (digits_push is_decimal ds b hds is) (number_push 10 ds 0 b ∙ ap (λ i. i * 10 + digit b) same) in
     subst (λ (x : List ℕ). AtWithin w (names_of r.frames) (38 ∷ 35 ∷ x)) (append_assoc ds (b ∷ []) bs) q)
-    (λ _ e1. choose (eqb b 59 && is_character n) (state (after_piece w) r) refused s
+    (λ _ e1. choose (eqb b 59) (state (after_number place n w) r) _ s
     (λ is here ds hds same.
-    let k = both_pass (eqb b 59) (is_character n) is in
-    subst (λ i. AtWithin w (names_of r.frames) (38 ∷ 35 ∷ (ds ++ (i ∷ bs)))) (sym (same_byte b 59 k.0))
+    let k = numbered place w (names_of r.frames) bs (is_character n) (arrives (After bs) (after_number place n w) r s here h) in
+    subst (λ i. AtWithin w (names_of r.frames) (38 ∷ 35 ∷ (ds ++ (i ∷ bs)))) (sym (same_byte b 59 is))
     (subst (λ (x : List ℕ). AtWithin w (names_of r.frames) (38 ∷ 35 ∷ x)) (append_assoc ds (59 ∷ []) bs)
-    (piece_before w (names_of r.frames) (decimal ds) bs (hds, ap is_character same ∙ k.1) (arrives (After bs) (after_piece w) r s here h))))
+    (piece_before w (names_of r.frames) (decimal ds) bs (hds, ap is_character same ∙ k.0) k.1)))
     (λ _ here. no s here) e1) e
-back (in_hexadecimal n w) r at b bs s e h =
-    choose (is_hexadecimal b) (state (in_hexadecimal (n * 16 + digit b) w) r) _ s
+back (in_hexadecimal place n w) r at b bs s e h =
+    choose (is_hexadecimal b) (state (in_hexadecimal place (n * 16 + digit b) w) r) _ s
     (λ is here ds hds same.
-    let q = arrives (After bs) (in_hexadecimal (n * 16 + digit b) w) r s here h (ds ++ b ∷ []) (digits_push is_hexadecimal ds b hds is) (number_push 16 ds 0 b ∙ ap (λ i. i * 16 + digit b) same) in
+    let q = arrives (After bs) (in_hexadecimal place (n * 16 + digit b) w) r s here h (ds ++ b ∷ []) (digits_push is_hexadecimal ds b hds is) (number_push 16 ds 0 b ∙ ap (λ i. i * 16 + digit b) same) in
     subst (λ (x : List ℕ). AtWithin w (names_of r.frames) (38 ∷ 35 ∷ 120 ∷ x)) (append_assoc ds (b ∷ []) bs) q)
-    (λ _ e1. choose (eqb b 59 && is_character n) (state (after_piece w) r) refused s
+    (λ _ e1. choose (eqb b 59) (state (after_number place n w) r) _ s
     (λ is here ds hds same.
-    let k = both_pass (eqb b 59) (is_character n) is in
-    subst (λ i. AtWithin w (names_of r.frames) (38 ∷ 35 ∷ 120 ∷ (ds ++ (i ∷ bs)))) (sym (same_byte b 59 k.0))
+    let k = numbered place w (names_of r.frames) bs (is_character n) (arrives (After bs) (after_number place n w) r s here h) in
+    subst (λ i. AtWithin w (names_of r.frames) (38 ∷ 35 ∷ 120 ∷ (ds ++ (i ∷ bs)))) (sym (same_byte b 59 is))
     (subst (λ (x : List ℕ). AtWithin w (names_of r.frames) (38 ∷ 35 ∷ 120 ∷ x)) (append_assoc ds (59 ∷ []) bs)
-    (piece_before w (names_of r.frames) (hexadecimal ds) bs (hds, ap is_character same ∙ k.1) (arrives (After bs) (after_piece w) r s here h))))
+    (piece_before w (names_of r.frames) (hexadecimal ds) bs (hds, ap is_character same ∙ k.0) k.1)))
     (λ _ here. no s here) e1) e
+back (no_character place) r at b bs s e h = no s e
 back (shut_begin place) r at b bs s e h =
-    choose (is_first b) (state (shut place (b ∷ [])) r) refused s (λ _ here. arrives (After bs) (shut place (b ∷ [])) r s here h) (λ _ here. no s here) e
+    choose (is_first b) (state (shut place (b ∷ [])) r) _ s (λ _ here. arrives (After bs) (shut place (b ∷ [])) r s here h) (λ _ here. no s here) e
 back (shut place name) r at b bs s e h =
     choose (is_name b) (state (shut place (name ++ b ∷ [])) r) _ s
     (λ _ here.
     let q = arrives (After bs) (shut place (name ++ b ∷ [])) r s here h in
     subst (λ (x : List ℕ). Inside (names_of r.frames) (60 ∷ 47 ∷ x)) (append_assoc name (b ∷ []) bs) q)
-    (λ _ there. back_shut r.frames place name r b bs s there h [] tt) e
-back (shut_gap place name) r at b bs s e h = back_shut r.frames place name r b bs s e h
+    (λ _ there. choose (eqb b 58) _ (step_shut r.frames place name r at b) s
+    (λ _ here. no s here)
+    (λ _ on. back_shut r.frames place name r at b bs s on h [] tt) there) e
+back (shut_gap place name) r at b bs s e h = back_shut r.frames place name r at b bs s e h
 
 went_on : (x : Step) (f : State → Outcome) (rows : Rows) → and_then x f ≡ Ok rows → (s : State) × (x ≡ Ok s) × (f s ≡ Ok rows)
 went_on (Ok s) f rows e = (s, refl, e)
 went_on (Err d) f rows e = cc
 
-at_end : (p : Phase) (r : Read) (rows : Rows) → finish p r ≡ Ok rows → Follows p (names_of r.frames) []
-at_end ended r rows e = (nothing, tt, refl)
-at_end _ r rows e = cc
+at_end : (p : Phase) (r : Read) (at : ℕ) (rows : Rows) → finish p r at ≡ Ok rows → Follows p (names_of r.frames) []
+at_end ended r at rows e = (nothing, tt, refl)
+at_end _ r at rows e = cc
 
 follows : (bs : List ℕ) (p : Phase) (r : Read) (at : ℕ) (rows : Rows) → run p r at bs ≡ Ok rows → Follows p (names_of r.frames) bs
-follows [] p r at rows e = at_end p r rows e
+follows [] p r at rows e = at_end p r at rows e
 follows (b ∷ bs) p r at rows e =
     let w = went_on (step p r at b) (λ s. run s.phase s.read (at + 1) bs) rows e in
     back p r at b bs w.0 w.1 (follows bs w.0.phase w.0.read (at + 1) rows w.2)

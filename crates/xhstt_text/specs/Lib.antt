@@ -1,6 +1,8 @@
 pub mod Bytes
 pub mod Document
 pub mod Escape
+pub mod Faults
+pub mod FirstFault
 pub mod FlatTable
 pub mod Forest
 pub mod Handles

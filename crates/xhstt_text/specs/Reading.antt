@@ -1,6 +1,7 @@
 -- How the parts of the reader follow the machine.
-use Rattle.std.specs.Prelude.{ℕ, ◌≡◌, ◌<◌, ◌+◌, Bool, true, false, ◌==◌, ◌&&◌, ◌||◌, List, [], ◌∷◌, ◌++◌, length, map, reverse, Option, None, Result, Ok, Err}
+use Rattle.std.specs.Prelude.{ℕ, ◌≡◌, ◌<◌, ◌+◌, Bool, true, false, ◌==◌, ◌&&◌, ◌||◌, nat_eq, if◌then◌else◌, List, [], ◌∷◌, ◌++◌, length, map, reverse, Option, None, Result, Ok, Err}
 use Rattle.std.specs.Borrow.{Bor}
+use Rattle.std.specs.List.{starts_with}
 use Rattle.std.specs.BTreeSet.{BTreeSet, contains_by}
 use Rattle.std.specs.Cmp.Lexicographic.{slice_cmp}
 use Rattle.std.specs.Ordering.{nat_cmp}
@@ -11,7 +12,8 @@ use Rattle.xhstt_text.specs.Machine.{Phase, Within, step, state, reference, wide
 use Rattle.xhstt_text.specs.declared.tree.Node.{Node}
 use Rattle.xhstt_text.specs.declared.tree.Attribute.{Attribute}
 use Rattle.xhstt_text.specs.declared.faults.TextFault.{TextFault}
-use Rattle.xhstt_text.specs.declared.faults.TextFault.TheVariants.{NotBuilt, NoMemory}
+use Rattle.xhstt_text.specs.declared.faults.TextFault.TheVariants.{Bad, NoMemory}
+use Rattle.xhstt_text.specs.Faults.{bad_markup, bad_reference, no_tag, unsupported}
 use Rattle.xhstt_text.specs.declared.table.OpenElement.{OpenElement}
 use Rattle.xhstt_text.specs.declared.table.StartTag.{StartTag}
 use Rattle.xhstt_text.specs.Document.{span}
@@ -47,14 +49,38 @@ NoPiece bs = (begins (is_byte 38) bs ≡ false) × (begins (is_byte 239) bs ≡ 
 
 -- the phase takes the first byte of a piece
 abbrev pub Enters : Phase → Within → Read → Read → ℕ → Type 0
-Enters p w r s at = (step p r at 38 ≡ state (reference w) s) × (step p r at 239 ≡ state (wide_1 w) s)
+Enters p w r s at = (step p r at 38 ≡ state (reference at w) s) × (step p r at 239 ≡ state (wide_1 w) s)
 
--- what was read leads the machine from `whole` to `rest`, or the fault is what the machine ends in;
--- nothing is said where memory ran out
+-- the machine ends in this fault; nothing is said where memory ran out
+abbrev pub Fails : TextFault → Outcome → Type 0
+Fails (Bad kind at) whole = whole ≡ Err (Bad kind at)
+Fails NoMemory whole = Unit {0}
+
+-- what was read leads the machine from `whole` to `rest`, or the fault is what the machine ends in
 abbrev pub Leads : {X : Type 0} → Result X TextFault → Outcome → (X → Outcome) → Type 0
 Leads (Ok x) whole rest = whole ≡ rest x
-Leads (Err NotBuilt) whole rest = whole ≡ Err NotBuilt
-Leads (Err NoMemory) whole rest = Unit {0}
+Leads (Err fault) whole rest = Fails fault whole
+
+-- in a reference that begins at the first place, the bytes from the second on cannot go on
+abbrev pub broken : ℕ → ℕ → List ℕ → TextFault
+broken place at [] = bad_markup at
+broken place at (b ∷ bs) = bad_reference place
+
+-- after the `<!` at the first place, the bytes from the second on begin no comment: it may be `DOCTYPE` or
+-- `[CDATA[`
+abbrev pub other_markup : ℕ → ℕ → List ℕ → TextFault
+other_markup place at bs =
+    if starts_with nat_eq bs (68 ∷ 79 ∷ 67 ∷ 84 ∷ 89 ∷ 80 ∷ 69 ∷ []) || starts_with nat_eq bs (91 ∷ 67 ∷ 68 ∷ 65 ∷ 84 ∷ 65 ∷ 91 ∷ []) then unsupported place else bad_markup at
+
+-- after the `<` at the first place, the bytes from the second on begin no tag and no comment
+abbrev pub unopened : ℕ → ℕ → List ℕ → TextFault
+unopened place at [] = bad_markup at
+unopened place at (b ∷ bs) = no_tag place at b
+
+-- after the outermost element, the bytes from this place on begin no comment
+abbrev pub trailing : ℕ → List ℕ → TextFault
+trailing at [] = bad_markup at
+trailing at (b ∷ bs) = if b == 60 then unopened at (at + 1) bs else bad_markup at
 
 abbrev pub read_of : List Frame → List Node → List Attribute → Read
 read_of frames nodes attributes = record { frames = frames; nodes = nodes; attributes = attributes }

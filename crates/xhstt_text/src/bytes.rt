@@ -107,6 +107,16 @@ pub fn past<'a>(here: Cursor<'a>, byte: u8) -> Option<Cursor<'a>>
     }
 }
 
+/// Whether this byte is the next one.
+pub fn next_is(here: Cursor, byte: u8) -> bool
+    ensures { result ≡ begins (is_byte byte) here.entry.rest.now }
+{
+    match here.rest {
+        [first, ..] => *first == byte,
+        [] => false,
+    }
+}
+
 /// The name at this place, up to the last byte that can belong to it, and the place after it.
 pub fn name<'a>(here: Cursor<'a>) -> Option<(&'a [u8], Cursor<'a>)>
     ensures { MatchOption result (begins is_first here.entry.rest.now ≡ false)

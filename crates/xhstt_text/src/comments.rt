@@ -1,49 +1,56 @@
-ghost use Rattle.std.specs.Prelude.{◌≡◌, ◌<◌, ◌≤◌, false, length, IfOk, MatchOption, [], Err, List};
+ghost use Rattle.std.specs.Prelude.{◌≡◌, ◌<◌, ◌≤◌, false, length, IfOk, [], List};
 ghost use Rattle.xhstt_text.specs.Bytes.{is_white};
 ghost use Rattle.xhstt_text.specs.Machine.{Place, Read, bang, in_comment, phase_of, run};
-ghost use Rattle.xhstt_text.specs.Reading.{Leads, begins, begins_comment, read_of};
-ghost use Rattle.xhstt_text.specs.declared.faults.TextFault.TheVariants.{NotBuilt};
+ghost use Rattle.xhstt_text.specs.Reading.{Leads, begins, begins_comment, other_markup, read_of};
 ghost use Rattle.xhstt_text.specs.declared.tree.Attribute.{Attribute};
 ghost use Rattle.xhstt_text.specs.declared.tree.Node.{Node};
 
 use crate::TextFault;
 use crate::bytes::{past, skip, white};
 use crate::cursor::Cursor;
+use crate::faults::{bad_markup, unsupported};
 
 // The place after the first `>` with two dashes before it.
-fn comment_end<'a>(from: Cursor<'a>) -> Option<Cursor<'a>>
-    ensures leads { (place : Place) (r : Read) → MatchOption result (run (in_comment place 0) r from.entry.at from.entry.rest.now ≡ Err NotBuilt)
-        (λ q. run (in_comment place 0) r from.entry.at from.entry.rest.now ≡ run (phase_of place) r q.at q.rest.now) }
-    ensures onward { MatchOption result (Unit {0}) (λ q. (length q.rest.now < length from.entry.rest.now) × (from.entry.at ≤ q.at)) }
+fn comment_end<'a>(from: Cursor<'a>) -> Result<Cursor<'a>, TextFault>
+    ensures leads { (place : Place) (r : Read) → Leads result (run (in_comment place 0) r from.entry.at from.entry.rest.now) (λ q. run (phase_of place) r q.at q.rest.now) }
+    ensures onward { IfOk result (λ q. (length q.rest.now < length from.entry.rest.now) × (from.entry.at ≤ q.at)) }
 {
     let mut here = from;
     let mut dashes = 0usize;
     'bytes: while let [first, ..] = here.rest {
         let next = skip(here, 1);
         if dashes >= 2 && *first == b'>' {
-            return Some(next);
+            return Ok(next);
         }
         dashes = if *first == b'-' { dashes + 1 } else { 0 };
         here = next;
     }
-    None
+    Err(bad_markup(here.at))
 }
 
-/// Over a comment, from after its `<!`.
-pub fn comment<'a>(from: Cursor<'a>) -> Result<Cursor<'a>, TextFault>
-    ensures leads { (place : Place) (r : Read) → Leads result (run (bang place) r from.entry.at from.entry.rest.now) (λ q. run (phase_of place) r q.at q.rest.now) }
+// The fault of markup that begins with `<!` at a place, and then with bytes that begin no comment.
+fn other_markup(at: u64, from: Cursor) -> TextFault
+    ensures { result ≡ other_markup at from.entry.at from.entry.rest.now }
+{
+    if from.rest.starts_with(b"DOCTYPE") || from.rest.starts_with(b"[CDATA[") {
+        unsupported(at)
+    } else {
+        bad_markup(from.at)
+    }
+}
+
+/// Over a comment, from after the `<!` at a place.
+pub fn comment<'a>(at: u64, from: Cursor<'a>) -> Result<Cursor<'a>, TextFault>
+    ensures leads { (place : Place) (r : Read) → Leads result (run (bang at place) r from.entry.at from.entry.rest.now) (λ q. run (phase_of place) r q.at q.rest.now) }
     ensures onward { IfOk result (λ q. (length q.rest.now < length from.entry.rest.now) × (from.entry.at ≤ q.at)) }
 {
     let Some(dash) = past(from, b'-') else {
-        return Err(TextFault::NotBuilt);
+        return Err(other_markup(at, from));
     };
     let Some(inner) = past(dash, b'-') else {
-        return Err(TextFault::NotBuilt);
+        return Err(bad_markup(dash.at));
     };
-    let Some(end) = comment_end(inner) else {
-        return Err(TextFault::NotBuilt);
-    };
-    Ok(end)
+    comment_end(inner)
 }
 
 /// Over white and comments outside the outermost element.
@@ -63,6 +70,6 @@ pub fn space<'a>(from: Cursor<'a>) -> Result<Cursor<'a>, TextFault>
         let Some(bang) = past(tag, b'!') else {
             return Ok(start);
         };
-        here = comment(bang)?;
+        here = comment(start.at, bang)?;
     }
 }

@@ -19,7 +19,9 @@ mod unescaping;
 
 pub use attributes::{AttributeText, Attributes};
 pub use escaping::escape;
-pub use faults::TextFault;
+pub use faults::{
+    BAD_MARKUP, BAD_REFERENCE, MISMATCHED_END, NOT_UTF8, TOO_DEEP, TextFault, UNSUPPORTED,
+};
 pub use handles::{Children, Element};
 pub use reader::elements;
 pub use tree::{Attribute, Node, Span, Tree};

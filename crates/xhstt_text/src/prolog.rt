@@ -1,12 +1,12 @@
-ghost use Rattle.std.specs.Prelude.{◌≡◌, ◌≤◌, ◌<◌, ◌∷◌, ◌+◌, ◌++◌, [], true, false, drop, length, IfOk, MatchOption, Err};
+ghost use Rattle.std.specs.Prelude.{◌≡◌, ◌≤◌, ◌<◌, ◌∷◌, ◌+◌, ◌++◌, [], true, false, drop, length, IfOk, MatchOption};
 ghost use Rattle.xhstt_text.specs.Bytes.{is_white};
 ghost use Rattle.xhstt_text.specs.Machine.{Read, at_declaration, beginning, content, in_declaration, question, run};
 ghost use Rattle.xhstt_text.specs.Reading.{Leads, begins, read_of};
-ghost use Rattle.xhstt_text.specs.declared.faults.TextFault.TheVariants.{NotBuilt};
 
 use crate::TextFault;
 use crate::bytes::{is_white, past, skip};
 use crate::cursor::Cursor;
+use crate::faults::bad_markup;
 
 // Over a byte order mark, where one stands.
 fn byte_order_mark<'a>(from: Cursor<'a>) -> Result<Cursor<'a>, TextFault>
@@ -17,10 +17,10 @@ fn byte_order_mark<'a>(from: Cursor<'a>) -> Result<Cursor<'a>, TextFault>
         return Ok(from);
     };
     let Some(second) = past(first, 0xBB) else {
-        return Err(TextFault::NotBuilt);
+        return Err(bad_markup(first.at));
     };
     let Some(third) = past(second, 0xBF) else {
-        return Err(TextFault::NotBuilt);
+        return Err(bad_markup(second.at));
     };
     Ok(third)
 }
@@ -37,22 +37,21 @@ fn past_white<'a>(here: Cursor<'a>) -> Option<Cursor<'a>>
 }
 
 // The place after the first `>` with a `?` before it.
-fn declaration_end<'a>(from: Cursor<'a>) -> Option<Cursor<'a>>
-    ensures leads { MatchOption result (run (in_declaration false) (read_of [] [] []) from.entry.at from.entry.rest.now ≡ Err NotBuilt)
-        (λ q. run (in_declaration false) (read_of [] [] []) from.entry.at from.entry.rest.now ≡ run content (read_of [] [] []) q.at q.rest.now) }
-    ensures onward { MatchOption result (Unit {0}) (λ q. from.entry.at ≤ q.at) }
+fn declaration_end<'a>(from: Cursor<'a>) -> Result<Cursor<'a>, TextFault>
+    ensures leads { Leads result (run (in_declaration false) (read_of [] [] []) from.entry.at from.entry.rest.now) (λ q. run content (read_of [] [] []) q.at q.rest.now) }
+    ensures onward { IfOk result (λ q. from.entry.at ≤ q.at) }
 {
     let mut here = from;
     let mut seen = false;
     'bytes: while let [first, ..] = here.rest {
         let next = skip(here, 1);
         if seen && *first == b'>' {
-            return Some(next);
+            return Ok(next);
         }
         seen = *first == b'?';
         here = next;
     }
-    None
+    Err(bad_markup(here.at))
 }
 
 // Over a declaration, where one stands.
@@ -66,25 +65,28 @@ fn declaration<'a>(from: Cursor<'a>) -> Result<Cursor<'a>, TextFault>
     let Some(question) = past(tag, b'?') else {
         return Ok(from);
     };
-    let Some(after) = declaration_name(question) else {
-        return Err(TextFault::NotBuilt);
-    };
-    let Some(end) = declaration_end(after) else {
-        return Err(TextFault::NotBuilt);
-    };
-    Ok(end)
+    let after = declaration_name(question)?;
+    declaration_end(after)
 }
 
 // Over `xml` and a white.
-fn declaration_name<'a>(from: Cursor<'a>) -> Option<Cursor<'a>>
-    ensures leads { MatchOption result (run (question (120 ∷ 109 ∷ 108 ∷ [])) (read_of [] [] []) from.entry.at from.entry.rest.now ≡ Err NotBuilt)
-        (λ q. run (question (120 ∷ 109 ∷ 108 ∷ [])) (read_of [] [] []) from.entry.at from.entry.rest.now ≡ run (in_declaration false) (read_of [] [] []) q.at q.rest.now) }
-    ensures onward { MatchOption result (Unit {0}) (λ q. from.entry.at ≤ q.at) }
+fn declaration_name<'a>(from: Cursor<'a>) -> Result<Cursor<'a>, TextFault>
+    ensures leads { Leads result (run (question (120 ∷ 109 ∷ 108 ∷ [])) (read_of [] [] []) from.entry.at from.entry.rest.now) (λ q. run (in_declaration false) (read_of [] [] []) q.at q.rest.now) }
+    ensures onward { IfOk result (λ q. from.entry.at ≤ q.at) }
 {
-    let first = past(from, b'x')?;
-    let second = past(first, b'm')?;
-    let third = past(second, b'l')?;
-    past_white(third)
+    let Some(first) = past(from, b'x') else {
+        return Err(bad_markup(from.at));
+    };
+    let Some(second) = past(first, b'm') else {
+        return Err(bad_markup(first.at));
+    };
+    let Some(third) = past(second, b'l') else {
+        return Err(bad_markup(second.at));
+    };
+    let Some(end) = past_white(third) else {
+        return Err(bad_markup(third.at));
+    };
+    Ok(end)
 }
 
 /// Over what may stand before the body of a text: a byte order mark and a declaration.

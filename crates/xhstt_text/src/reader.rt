@@ -1,18 +1,20 @@
-ghost use Rattle.std.specs.Prelude.{◌≡◌, ◌<◌, ◌^◌, length, IfOk, Ok, Err, []};
+ghost use Rattle.std.specs.Prelude.{◌≡◌, ◌<◌, ◌^◌, ◌⊎◌, ℕ, length, IfOk, Ok, Err, []};
 ghost use Rattle.xhstt_text.specs.Bytes.{is_white};
 ghost use Rattle.xhstt_text.specs.Document.{Document, IsSpellingOf, Spelled, Spells, table};
 ghost use Rattle.xhstt_text.specs.FlatTable.{IsTable, root_forest};
 ghost use Rattle.xhstt_text.specs.Forest.{Forest};
 ghost use Rattle.xhstt_text.specs.Machine.{outcome_of, run, ended, Outcome};
 ghost use Rattle.xhstt_text.specs.Reading.{Leads, read_of};
-ghost use Rattle.xhstt_text.specs.declared.faults.TextFault.TheVariants.{NotBuilt};
+ghost use Rattle.xhstt_text.specs.FirstFault.{HasFault, IsFirstFault, IsText};
+ghost use Rattle.xhstt_text.specs.declared.faults.TextFault.TheVariants.{Bad, NoMemory};
 
 use crate::TextFault;
 use crate::comments::space;
 use crate::cursor::Cursor;
+use crate::faults::NOT_UTF8;
 use crate::prolog::prolog;
 use crate::table::Table;
-use crate::tags::{next_tag, root};
+use crate::tags::{next_tag, root, trailing};
 use crate::tree::Tree;
 use khe_base::Seq;
 use std::alloc::Global;
@@ -45,7 +47,7 @@ fn read<'a>(alloc: Global, bytes: &'a [u8]) -> Result<Tree<'a>, TextFault>
     let (table, here) = tags(alloc, bytes)?;
     let end = space(here)?;
     if !end.rest.is_empty() {
-        return Err(TextFault::NotBuilt);
+        return Err(trailing(end));
     }
     let Table {
         nodes,
@@ -71,8 +73,23 @@ fn read<'a>(alloc: Global, bytes: &'a [u8]) -> Result<Tree<'a>, TextFault>
 /// number and `;`. Characters, and these numbers, are U+0009, U+000A, U+000D, U+0020 to U+D7FF,
 /// U+E000 to U+FFFD, and U+10000 to U+10FFFF.
 ///
-/// `NotBuilt` comes exactly where the bytes spell no such text. The time grows with the length of
-/// the bytes, and with the logarithm of the number of attributes of one element.
+/// `Bad` comes exactly where the bytes spell no such text, with the first fault, unless memory is
+/// refused. `NOT_UTF8` comes before all other kinds, wherever it stands. Else the bytes are read from
+/// left to right up to the first fault:
+///
+/// - `UNSUPPORTED` at the `<` of `<!DOCTYPE`, of `<![CDATA[`, or of `<?` after the place of the
+///   declaration, where a tag or a comment may begin; and at a `:` straight after a name;
+/// - `TOO_DEEP` at a `<` inside 32 open elements with the first byte of a name after it;
+/// - `MISMATCHED_END` at the `<` of an end tag, once it is whole, that has another name than the
+///   innermost open element;
+/// - `BAD_REFERENCE` at an `&` in content or in a value from which the bytes spell no reference; but not
+///   where all bytes from it to the end are the beginning of the spelling of one, or are the whole
+///   spelling of a number that gives no character;
+/// - `BAD_MARKUP` at the second of two equal attribute names of one element, at its first byte; at each
+///   other byte that cannot go on; and at the length of the bytes where they end too early.
+///
+/// The tree borrows the bytes. The time grows with the length of the bytes, and with the logarithm of
+/// the number of attributes of one element.
 pub fn elements<'a>(alloc: Global, bytes: &'a [u8]) -> Result<Tree<'a>, TextFault>
     requires { length bytes.now < 2 ^ 32 }
 
@@ -86,113 +103,25 @@ pub fn elements<'a>(alloc: Global, bytes: &'a [u8]) -> Result<Tree<'a>, TextFaul
     ensures spelled { IfOk result (λ tree. Spelled bytes.now (root_forest tree)) }
     ensures one_forest { IfOk result (λ tree. (f : Forest) → Spelled bytes.now f → root_forest tree ≡ f) }
 
-    ensures not_built { result ≡ Err NotBuilt → (d : Document) → IsSpellingOf bytes.now d → ⊥ }
+    // A fault is the first one of the bytes, and it is answered unless memory is refused.
+    ensures exact { (kind at : ℕ) → result ≡ Err (Bad kind at) → IsFirstFault bytes.now kind at }
+    ensures answered { (kind at : ℕ) → IsFirstFault bytes.now kind at → (result ≡ Err (Bad kind at)) ⊎ (result ≡ Err NoMemory) }
+
+    // Bytes spell a text or have a first fault, which is only one, and never both.
+    ensures decided { IsText bytes.now ⊎ HasFault bytes.now }
+    ensures one_fault { (kind at other place : ℕ) → IsFirstFault bytes.now kind at → IsFirstFault bytes.now other place → (kind ≡ other) × (at ≡ place) }
+    ensures not_spelled { (kind at : ℕ) → IsFirstFault bytes.now kind at → (d : Document) → IsSpellingOf bytes.now d → ⊥ }
 {
-    if str::from_utf8(bytes).is_err() {
-        return Err(TextFault::NotBuilt);
+    match str::from_utf8(bytes) {
+        Ok(_) => read(alloc, bytes),
+        Err(error) => Err(TextFault::Bad {
+            kind: NOT_UTF8,
+            at: error.valid_up_to() as u64,
+        }),
     }
-    read(alloc, bytes)
 }
 
 #[cfg(test)]
-mod tests {
-    use super::*;
-    use crate::tree::{Attribute, Node, Span};
-    use std::test::Fail;
-
-    #[test]
-    fn reads_each_row(rt: HostRuntime) -> Result<(), Fail> {
-        let tree = elements(rt.alloc(), b"<a x='1'><b/>u<c>v</c></a>")?;
-        let outer = Node {
-            at: 0,
-            name: Span { from: 1, to: 2 },
-            parent: None,
-            end: 3,
-            attributes: Span { from: 0, to: 1 },
-            value: Span { from: 9, to: 22 },
-            loose: Some(13),
-        };
-        let first = Node {
-            at: 9,
-            name: Span { from: 10, to: 11 },
-            parent: Some(0),
-            end: 2,
-            attributes: Span { from: 1, to: 1 },
-            value: Span { from: 13, to: 13 },
-            loose: None,
-        };
-        let second = Node {
-            at: 14,
-            name: Span { from: 15, to: 16 },
-            parent: Some(0),
-            end: 3,
-            attributes: Span { from: 1, to: 1 },
-            value: Span { from: 17, to: 18 },
-            loose: Some(17),
-        };
-        let attribute = Attribute {
-            at: 3,
-            name: Span { from: 3, to: 4 },
-            value: Span { from: 6, to: 7 },
-        };
-        assert_eq!(rt; tree.nodes.as_slice(), [outer, first, second].as_slice());
-        assert_eq!(rt; tree.attributes.as_slice(), [attribute].as_slice());
-        Ok(())
-    }
-
-    fn is_read(rt: &HostRuntime, text: &str) -> bool
-        requires { length text.now < 2 ^ 32 }
-    {
-        elements(rt.alloc(), text.as_bytes()).is_ok()
-    }
-
-    #[test]
-    fn reads_texts(rt: HostRuntime) {
-        assert!(rt; is_read(&rt, "<a/>"));
-        assert!(rt; is_read(&rt, " \t\r\n<a >\n</a >\n"));
-        assert!(rt; is_read(&rt, "<_.-9 a = '\"' b=\"'>\" />"));
-        assert!(rt; is_read(&rt, "<a>x<b/>y<b>z</b></a>"));
-        assert!(rt;
-            is_read(
-                &rt,
-                "<?xml version='1.0'?>\n<!-- - -->\n<a>é<!--<b>--></a><!---->"
-            )
-        );
-        assert!(rt; is_read(&rt, "\u{feff}<?xml ??><a/>"));
-        assert!(rt; is_read(&rt, "<a x='&lt;&#65;\u{fffd}'>&gt;&amp;&apos;&quot;</a>"));
-        assert!(rt; is_read(&rt, "<a>&#0000000009;&#xd;&#x10FFFF;\u{f000}</a>"));
-    }
-
-    #[test]
-    fn refuses_other_texts(rt: HostRuntime) {
-        assert!(rt; !is_read(&rt, ""));
-        assert!(rt; !is_read(&rt, "x"));
-        assert!(rt; !is_read(&rt, "<a>"));
-        assert!(rt; !is_read(&rt, "<a></b>"));
-        assert!(rt; !is_read(&rt, "<a></a"));
-        assert!(rt; !is_read(&rt, "</a>"));
-        assert!(rt; !is_read(&rt, "<a/>x"));
-        assert!(rt; !is_read(&rt, "<a/><a/>"));
-        assert!(rt; !is_read(&rt, "<1/>"));
-        assert!(rt; !is_read(&rt, "<a x='1' x='2'/>"));
-        assert!(rt; !is_read(&rt, "<a x='1'y='2'/>"));
-        assert!(rt; !is_read(&rt, "<a x/>"));
-        assert!(rt; !is_read(&rt, "<a x='<'/>"));
-        assert!(rt; !is_read(&rt, "<!--><a/>"));
-        assert!(rt; !is_read(&rt, "<?xml?><a/>"));
-        assert!(rt; !is_read(&rt, " <?xml ?><a/>"));
-        assert!(rt; !is_read(&rt, "<!DOCTYPE a><a/>"));
-        assert!(rt; !is_read(&rt, "<a>&</a>"));
-        assert!(rt; !is_read(&rt, "<a>&nbsp;</a>"));
-        assert!(rt; !is_read(&rt, "<a>&amp</a>"));
-        assert!(rt; !is_read(&rt, "<a>&#;</a>"));
-        assert!(rt; !is_read(&rt, "<a>&#x;</a>"));
-        assert!(rt; !is_read(&rt, "<a>&#0;</a>"));
-        assert!(rt; !is_read(&rt, "<a>&#X41;</a>"));
-        assert!(rt; !is_read(&rt, "<a>&#xD800;</a>"));
-        assert!(rt; !is_read(&rt, "<a>&#1114112;</a>"));
-        assert!(rt; !is_read(&rt, "<a>&#4294967305;</a>"));
-        assert!(rt; !is_read(&rt, "<a>\u{ffff}</a>"));
-        assert!(rt; !is_read(&rt, "<a x='&lt'/>"));
-    }
-}
+mod mutations;
+#[cfg(test)]
+mod tests;

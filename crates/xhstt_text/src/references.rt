@@ -1,12 +1,12 @@
-ghost use Rattle.std.specs.Prelude.{◌≡◌, ◌≤◌, ◌<◌, ◌+◌, ◌∷◌, [], ℕ, true, false, length, MatchOption, MatchResult, Err};
+ghost use Rattle.std.specs.Prelude.{◌≡◌, ◌≤◌, ◌<◌, ◌+◌, ◌∷◌, [], ℕ, true, false, length, IfOk, MatchOption, MatchResult};
 ghost use Rattle.xhstt_text.specs.Machine.{Phase, Read, Within, after_piece, hash, hash_x, reference, reference_a, run, wide_1, wide_2, word};
-ghost use Rattle.xhstt_text.specs.Reading.{Enters, NoPiece, TakesDigit, begins, is_byte};
+ghost use Rattle.xhstt_text.specs.Reading.{Enters, Fails, Leads, NoPiece, TakesDigit, begins, broken, is_byte};
 ghost use Rattle.xhstt_text.specs.Units.{digit, is_character, is_decimal, is_hexadecimal, is_last};
-ghost use Rattle.xhstt_text.specs.declared.faults.TextFault.TheVariants.{NotBuilt};
 
 use crate::TextFault;
 use crate::bytes::{past, skip};
 use crate::cursor::Cursor;
+use crate::faults::{bad_markup, bad_reference};
 
 // More than any character: a greater number is written as this one.
 const LIMIT: u32 = 0x11_0000;
@@ -49,25 +49,39 @@ fn is_character(number: u32) -> bool
         || (0x1_0000 <= number && number <= 0x10_FFFF)
 }
 
-// Over a last letter and `;`.
-fn last_letter<'a>(from: Cursor<'a>, letter: u8) -> Option<Cursor<'a>>
-    ensures leads { (w : Within) (r : Read) → MatchOption result (run (word (letter ∷ 59 ∷ []) w) r from.entry.at from.entry.rest.now ≡ Err NotBuilt)
-        (λ q. run (word (letter ∷ 59 ∷ []) w) r from.entry.at from.entry.rest.now ≡ run (after_piece w) r q.at q.rest.now) }
-    ensures onward { MatchOption result (Unit {0}) (λ q. (length q.rest.now ≤ length from.entry.rest.now) × (from.entry.at ≤ q.at)) }
+// The fault of a reference that begins at a place, and cannot go on from here.
+fn broken(place: u64, here: Cursor) -> TextFault
+    ensures { result ≡ broken place here.entry.at here.entry.rest.now }
 {
-    let end = past(from, letter)?;
-    past(end, b';')
+    if here.rest.is_empty() {
+        bad_markup(here.at)
+    } else {
+        bad_reference(place)
+    }
+}
+
+// Over a last letter and `;`.
+fn last_letter<'a>(place: u64, from: Cursor<'a>, letter: u8) -> Result<Cursor<'a>, TextFault>
+    ensures leads { (w : Within) (r : Read) → Leads result (run (word place (letter ∷ 59 ∷ []) w) r from.entry.at from.entry.rest.now) (λ q. run (after_piece w) r q.at q.rest.now) }
+    ensures onward { IfOk result (λ q. (length q.rest.now ≤ length from.entry.rest.now) × (from.entry.at ≤ q.at)) }
+{
+    let Some(last) = past(from, letter) else {
+        return Err(broken(place, from));
+    };
+    let Some(end) = past(last, b';') else {
+        return Err(broken(place, last));
+    };
+    Ok(end)
 }
 
 // Over the last two bytes of a character from U+F000 on.
-fn wide<'a>(from: Cursor<'a>) -> Option<Cursor<'a>>
-    ensures leads { (w : Within) (r : Read) → MatchOption result (run (wide_1 w) r from.entry.at from.entry.rest.now ≡ Err NotBuilt)
-        (λ q. run (wide_1 w) r from.entry.at from.entry.rest.now ≡ run (after_piece w) r q.at q.rest.now) }
-    ensures onward { MatchOption result (Unit {0}) (λ q. (length q.rest.now ≤ length from.entry.rest.now) × (from.entry.at ≤ q.at)) }
+fn wide<'a>(from: Cursor<'a>) -> Result<Cursor<'a>, TextFault>
+    ensures leads { (w : Within) (r : Read) → Leads result (run (wide_1 w) r from.entry.at from.entry.rest.now) (λ q. run (after_piece w) r q.at q.rest.now) }
+    ensures onward { IfOk result (λ q. (length q.rest.now ≤ length from.entry.rest.now) × (from.entry.at ≤ q.at)) }
 {
     match from.rest {
         [second, ..] if 128 <= *second => last_byte(skip(from, 1), *second == 191),
-        _ => None,
+        _ => Err(bad_markup(from.at)),
     }
 }
 
@@ -78,14 +92,13 @@ fn is_last(greatest: bool, byte: u8) -> bool
 }
 
 // Over the last byte of such a character: whether its second byte is the greatest.
-fn last_byte<'a>(from: Cursor<'a>, greatest: bool) -> Option<Cursor<'a>>
-    ensures leads { (w : Within) (r : Read) → MatchOption result (run (wide_2 greatest w) r from.entry.at from.entry.rest.now ≡ Err NotBuilt)
-        (λ q. run (wide_2 greatest w) r from.entry.at from.entry.rest.now ≡ run (after_piece w) r q.at q.rest.now) }
-    ensures onward { MatchOption result (Unit {0}) (λ q. (length q.rest.now ≤ length from.entry.rest.now) × (from.entry.at ≤ q.at)) }
+fn last_byte<'a>(from: Cursor<'a>, greatest: bool) -> Result<Cursor<'a>, TextFault>
+    ensures leads { (w : Within) (r : Read) → Leads result (run (wide_2 greatest w) r from.entry.at from.entry.rest.now) (λ q. run (after_piece w) r q.at q.rest.now) }
+    ensures onward { IfOk result (λ q. (length q.rest.now ≤ length from.entry.rest.now) × (from.entry.at ≤ q.at)) }
 {
     match from.rest {
-        [byte, ..] if is_last(greatest, *byte) => Some(skip(from, 1)),
-        _ => None,
+        [byte, ..] if is_last(greatest, *byte) => Ok(skip(from, 1)),
+        _ => Err(bad_markup(from.at)),
     }
 }
 
@@ -101,11 +114,10 @@ fn next_decimal<'a>(from: Cursor<'a>) -> Option<(u32, Cursor<'a>)>
 }
 
 // The place after the digits and the `;` of a decimal number.
-fn decimal<'a>(from: Cursor<'a>) -> Option<Cursor<'a>>
+fn decimal<'a>(place: u64, from: Cursor<'a>) -> Result<Cursor<'a>, TextFault>
     requires { begins (is_byte 120) from.rest.now ≡ false }
-    ensures leads { (w : Within) (r : Read) → MatchOption result (run (hash w) r from.entry.at from.entry.rest.now ≡ Err NotBuilt)
-        (λ q. run (hash w) r from.entry.at from.entry.rest.now ≡ run (after_piece w) r q.at q.rest.now) }
-    ensures onward { MatchOption result (Unit {0}) (λ q. (length q.rest.now ≤ length from.entry.rest.now) × (from.entry.at ≤ q.at)) }
+    ensures leads { (w : Within) (r : Read) → Leads result (run (hash place w) r from.entry.at from.entry.rest.now) (λ q. run (after_piece w) r q.at q.rest.now) }
+    ensures onward { IfOk result (λ q. (length q.rest.now ≤ length from.entry.rest.now) × (from.entry.at ≤ q.at)) }
 {
     let mut here = from;
     let mut number = 0u32;
@@ -116,12 +128,15 @@ fn decimal<'a>(from: Cursor<'a>) -> Option<Cursor<'a>>
         here = next;
     }
     let Some(end) = past(here, b';') else {
-        return None;
+        return Err(broken(place, here));
     };
-    if digits == 0 || !is_character(number) {
-        return None;
+    if digits == 0 {
+        return Err(bad_reference(place));
     }
-    Some(end)
+    if !is_character(number) {
+        return Err(broken(place, end));
+    }
+    Ok(end)
 }
 
 // The hexadecimal digit at this place, and the place after it.
@@ -136,10 +151,9 @@ fn next_hexadecimal<'a>(from: Cursor<'a>) -> Option<(u32, Cursor<'a>)>
 }
 
 // The place after the digits and the `;` of a hexadecimal number.
-fn hexadecimal<'a>(from: Cursor<'a>) -> Option<Cursor<'a>>
-    ensures leads { (w : Within) (r : Read) → MatchOption result (run (hash_x w) r from.entry.at from.entry.rest.now ≡ Err NotBuilt)
-        (λ q. run (hash_x w) r from.entry.at from.entry.rest.now ≡ run (after_piece w) r q.at q.rest.now) }
-    ensures onward { MatchOption result (Unit {0}) (λ q. (length q.rest.now ≤ length from.entry.rest.now) × (from.entry.at ≤ q.at)) }
+fn hexadecimal<'a>(place: u64, from: Cursor<'a>) -> Result<Cursor<'a>, TextFault>
+    ensures leads { (w : Within) (r : Read) → Leads result (run (hash_x place w) r from.entry.at from.entry.rest.now) (λ q. run (after_piece w) r q.at q.rest.now) }
+    ensures onward { IfOk result (λ q. (length q.rest.now ≤ length from.entry.rest.now) × (from.entry.at ≤ q.at)) }
 {
     let mut here = from;
     let mut number = 0u32;
@@ -150,69 +164,79 @@ fn hexadecimal<'a>(from: Cursor<'a>) -> Option<Cursor<'a>>
         here = next;
     }
     let Some(end) = past(here, b';') else {
-        return None;
+        return Err(broken(place, here));
     };
-    if digits == 0 || !is_character(number) {
-        return None;
+    if digits == 0 {
+        return Err(bad_reference(place));
     }
-    Some(end)
+    if !is_character(number) {
+        return Err(broken(place, end));
+    }
+    Ok(end)
 }
 
 // Over the rest of `apos` or `amp`, from after its first letter.
-fn reference_a<'a>(from: Cursor<'a>) -> Option<Cursor<'a>>
-    ensures leads { (w : Within) (r : Read) → MatchOption result (run (reference_a w) r from.entry.at from.entry.rest.now ≡ Err NotBuilt)
-        (λ q. run (reference_a w) r from.entry.at from.entry.rest.now ≡ run (after_piece w) r q.at q.rest.now) }
-    ensures onward { MatchOption result (Unit {0}) (λ q. (length q.rest.now ≤ length from.entry.rest.now) × (from.entry.at ≤ q.at)) }
+fn reference_a<'a>(place: u64, from: Cursor<'a>) -> Result<Cursor<'a>, TextFault>
+    ensures leads { (w : Within) (r : Read) → Leads result (run (reference_a place w) r from.entry.at from.entry.rest.now) (λ q. run (after_piece w) r q.at q.rest.now) }
+    ensures onward { IfOk result (λ q. (length q.rest.now ≤ length from.entry.rest.now) × (from.entry.at ≤ q.at)) }
 {
     if let Some(second) = past(from, b'm') {
-        return last_letter(second, b'p');
+        return last_letter(place, second, b'p');
     }
-    let second = past(from, b'p')?;
-    let third = past(second, b'o')?;
-    last_letter(third, b's')
+    let Some(second) = past(from, b'p') else {
+        return Err(broken(place, from));
+    };
+    let Some(third) = past(second, b'o') else {
+        return Err(broken(place, second));
+    };
+    last_letter(place, third, b's')
 }
 
-// Over the rest of a reference, from after its `&`.
-fn reference<'a>(from: Cursor<'a>) -> Option<Cursor<'a>>
-    ensures leads { (w : Within) (r : Read) → MatchOption result (run (reference w) r from.entry.at from.entry.rest.now ≡ Err NotBuilt)
-        (λ q. run (reference w) r from.entry.at from.entry.rest.now ≡ run (after_piece w) r q.at q.rest.now) }
-    ensures onward { MatchOption result (Unit {0}) (λ q. (length q.rest.now ≤ length from.entry.rest.now) × (from.entry.at ≤ q.at)) }
+// Over the rest of a reference, from after the `&` at a place.
+fn reference<'a>(place: u64, from: Cursor<'a>) -> Result<Cursor<'a>, TextFault>
+    ensures leads { (w : Within) (r : Read) → Leads result (run (reference place w) r from.entry.at from.entry.rest.now) (λ q. run (after_piece w) r q.at q.rest.now) }
+    ensures onward { IfOk result (λ q. (length q.rest.now ≤ length from.entry.rest.now) × (from.entry.at ≤ q.at)) }
 {
     if let Some(first) = past(from, b'l') {
-        return last_letter(first, b't');
+        return last_letter(place, first, b't');
     }
     if let Some(first) = past(from, b'g') {
-        return last_letter(first, b't');
+        return last_letter(place, first, b't');
     }
     if let Some(first) = past(from, b'a') {
-        return reference_a(first);
+        return reference_a(place, first);
     }
     if let Some(first) = past(from, b'q') {
-        return quotation(first);
+        return quotation(place, first);
     }
-    number(past(from, b'#')?)
+    if let Some(digits) = past(from, b'#') {
+        return number(place, digits);
+    }
+    Err(broken(place, from))
 }
 
 // Over the rest of `quot`, from after its first letter.
-fn quotation<'a>(from: Cursor<'a>) -> Option<Cursor<'a>>
-    ensures leads { (w : Within) (r : Read) → MatchOption result (run (word (117 ∷ 111 ∷ 116 ∷ 59 ∷ []) w) r from.entry.at from.entry.rest.now ≡ Err NotBuilt)
-        (λ q. run (word (117 ∷ 111 ∷ 116 ∷ 59 ∷ []) w) r from.entry.at from.entry.rest.now ≡ run (after_piece w) r q.at q.rest.now) }
-    ensures onward { MatchOption result (Unit {0}) (λ q. (length q.rest.now ≤ length from.entry.rest.now) × (from.entry.at ≤ q.at)) }
+fn quotation<'a>(place: u64, from: Cursor<'a>) -> Result<Cursor<'a>, TextFault>
+    ensures leads { (w : Within) (r : Read) → Leads result (run (word place (117 ∷ 111 ∷ 116 ∷ 59 ∷ []) w) r from.entry.at from.entry.rest.now) (λ q. run (after_piece w) r q.at q.rest.now) }
+    ensures onward { IfOk result (λ q. (length q.rest.now ≤ length from.entry.rest.now) × (from.entry.at ≤ q.at)) }
 {
-    let second = past(from, b'u')?;
-    let third = past(second, b'o')?;
-    last_letter(third, b't')
+    let Some(second) = past(from, b'u') else {
+        return Err(broken(place, from));
+    };
+    let Some(third) = past(second, b'o') else {
+        return Err(broken(place, second));
+    };
+    last_letter(place, third, b't')
 }
 
 // Over the rest of a number, from after its `#`.
-fn number<'a>(from: Cursor<'a>) -> Option<Cursor<'a>>
-    ensures leads { (w : Within) (r : Read) → MatchOption result (run (hash w) r from.entry.at from.entry.rest.now ≡ Err NotBuilt)
-        (λ q. run (hash w) r from.entry.at from.entry.rest.now ≡ run (after_piece w) r q.at q.rest.now) }
-    ensures onward { MatchOption result (Unit {0}) (λ q. (length q.rest.now ≤ length from.entry.rest.now) × (from.entry.at ≤ q.at)) }
+fn number<'a>(place: u64, from: Cursor<'a>) -> Result<Cursor<'a>, TextFault>
+    ensures leads { (w : Within) (r : Read) → Leads result (run (hash place w) r from.entry.at from.entry.rest.now) (λ q. run (after_piece w) r q.at q.rest.now) }
+    ensures onward { IfOk result (λ q. (length q.rest.now ≤ length from.entry.rest.now) × (from.entry.at ≤ q.at)) }
 {
     match past(from, b'x') {
-        Some(digits) => hexadecimal(digits),
-        None => decimal(from),
+        Some(digits) => hexadecimal(place, digits),
+        None => decimal(place, from),
     }
 }
 
@@ -221,20 +245,14 @@ fn number<'a>(from: Cursor<'a>) -> Option<Cursor<'a>>
 pub fn piece<'a>(from: Cursor<'a>) -> Result<Option<Cursor<'a>>, TextFault>
     ensures leads { (p : Phase) (w : Within) (r s : Read) → Enters p w r s from.entry.at → MatchResult result
         (λ found. MatchOption found (Unit {0}) (λ q. run p r from.entry.at from.entry.rest.now ≡ run (after_piece w) s q.at q.rest.now))
-        (λ e. (e ≡ NotBuilt) × (run p r from.entry.at from.entry.rest.now ≡ Err NotBuilt)) }
+        (λ e. Fails e (run p r from.entry.at from.entry.rest.now)) }
     ensures onward { MatchResult result (λ found. MatchOption found (NoPiece from.entry.rest.now) (λ q. (length q.rest.now < length from.entry.rest.now) × (from.entry.at ≤ q.at))) (λ _. Unit {0}) }
 {
     if let Some(inner) = past(from, b'&') {
-        let Some(end) = reference(inner) else {
-            return Err(TextFault::NotBuilt);
-        };
-        return Ok(Some(end));
+        return Ok(Some(reference(from.at, inner)?));
     }
     if let Some(inner) = past(from, 0xEF) {
-        let Some(end) = wide(inner) else {
-            return Err(TextFault::NotBuilt);
-        };
-        return Ok(Some(end));
+        return Ok(Some(wide(inner)?));
     }
     Ok(None)
 }

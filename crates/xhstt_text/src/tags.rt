@@ -2,14 +2,15 @@ ghost use Rattle.std.specs.Prelude.{◌≡◌, ◌<◌, ◌≤◌, ◌+◌, ◌�
 ghost use Rattle.xhstt_text.specs.Bytes.{is_first, is_name, is_text, is_white, is_quote, is_quoted};
 ghost use Rattle.xhstt_text.specs.Document.{has_name};
 ghost use Rattle.xhstt_text.specs.Machine.{Frame, Tag, Read, run, content, opened, valued, attribute_name, in_value, equals, shut_begin, with_name, attribute_row, resume, close_element, parent_of, opened_row, Outcome, refused};
-ghost use Rattle.xhstt_text.specs.Reading.{Leads, Skips, begins, is_byte, read_of, bare, frame_of, frames_of, NoOtherTag, NoPiece, is_loose_text, with_loose_text};
+ghost use Rattle.xhstt_text.specs.Reading.{Leads, Skips, begins, is_byte, read_of, bare, frame_of, frames_of, NoOtherTag, NoPiece, is_loose_text, trailing, unopened, with_loose_text};
 ghost use Rattle.xhstt_text.specs.declared.tree.Attribute.{Attribute};
 ghost use Rattle.xhstt_text.specs.declared.tree.Node.{Node};
 
 use crate::TextFault;
-use crate::bytes::{is_text, name, past, quoted, text, white};
+use crate::bytes::{is_text, name, next_is, past, quoted, text, white};
 use crate::comments::{comment, space};
 use crate::cursor::Cursor;
+use crate::faults::{bad_markup, mismatched_end, too_deep, unsupported};
 use crate::names::{add_name, no_names};
 use crate::references::piece;
 use crate::table::{OpenElement, StartTag, Table};
@@ -54,21 +55,24 @@ fn value_end<'a>(from: Cursor<'a>, mark: u8) -> Result<Cursor<'a>, TextFault>
 // From the end of an attribute's name over its value: where the value stands, and the place after
 // its last quote.
 fn value<'a>(here: Cursor<'a>) -> Result<(Span, Cursor<'a>), TextFault>
-    requires { begins is_name here.rest.now ≡ false }
+    requires name { begins is_name here.rest.now ≡ false }
+    requires colon { begins (is_byte 58) here.rest.now ≡ false }
     ensures leads { (t : Tag) (place : ℕ) (known : List ℕ) (r : Read) → has_name known t.names ≡ false →
         Leads result (run (attribute_name t place known) r here.entry.at here.entry.rest.now)
         (λ v. run (valued (with_name t known)) (record r { attributes = r.attributes ++ attribute_row place known v.0.from v.0.to ∷ [] }) v.1.at v.1.rest.now) }
     ensures onward { IfOk result (λ v. (length v.1.rest.now ≤ length here.entry.rest.now) × (here.entry.at ≤ v.1.at)) }
 {
-    let Some(equal) = past(white(here), b'=') else {
-        return Err(TextFault::NotBuilt);
+    let before = white(here);
+    let Some(equal) = past(before, b'=') else {
+        return Err(bad_markup(before.at));
     };
-    let Some((mark, from)) = quote(white(equal)) else {
-        return Err(TextFault::NotBuilt);
+    let after = white(equal);
+    let Some((mark, from)) = quote(after) else {
+        return Err(bad_markup(after.at));
     };
     let to = value_end(from, mark)?;
     let Some(end) = past(to, mark) else {
-        return Err(TextFault::NotBuilt);
+        return Err(bad_markup(to.at));
     };
     let value = Span {
         from: from.at,
@@ -97,10 +101,13 @@ fn attributes<'a>(
             return Ok(start);
         };
         if start.at == here.at {
-            return Err(TextFault::NotBuilt);
+            return Err(bad_markup(start.at));
         }
         if !add_name(&mut names, found)? {
-            return Err(TextFault::NotBuilt);
+            return Err(bad_markup(start.at));
+        }
+        if next_is(after, b':') {
+            return Err(unsupported(after.at));
         }
         let (value, end) = value(after)?;
         rows.push(Attribute {
@@ -177,16 +184,31 @@ fn end_tag<'a>(
     ensures onward { IfOk result (λ q. (length q.rest.now < length shut.entry.rest.now) × (shut.entry.at ≤ q.at)) }
 {
     let Some((found, after)) = name(shut) else {
-        return Err(TextFault::NotBuilt);
+        return Err(bad_markup(shut.at));
     };
-    let Some(end) = past(white(after), b'>') else {
-        return Err(TextFault::NotBuilt);
+    if next_is(after, b':') {
+        return Err(unsupported(after.at));
+    }
+    let last = white(after);
+    let Some(end) = past(last, b'>') else {
+        return Err(bad_markup(last.at));
     };
     if found != inner.name {
-        return Err(TextFault::NotBuilt);
+        return Err(mismatched_end(at));
     }
     table.close(inner, at);
     Ok(end)
+}
+
+// The fault of a `<` at a place, and then of bytes that begin no tag and no comment.
+fn unopened(at: u64, inside: Cursor) -> TextFault
+    ensures { result ≡ unopened at inside.entry.at inside.entry.rest.now }
+{
+    if next_is(inside, b'?') {
+        unsupported(at)
+    } else {
+        bad_markup(inside.at)
+    }
 }
 
 // Over a start tag, from after its `<`.
@@ -207,12 +229,15 @@ fn start_tag<'a>(
     ensures count { IfOk result (λ q. length table.new.nodes.items ≤ q.at) }
     ensures onward { IfOk result (λ q. length q.rest.now < length inside.entry.rest.now) }
 {
-    if table.stack.len() >= DEPTH {
-        return Err(TextFault::NotBuilt);
-    }
     let Some((found, after)) = name(inside) else {
-        return Err(TextFault::NotBuilt);
+        return Err(unopened(at, inside));
     };
+    if table.stack.len() >= DEPTH {
+        return Err(too_deep(at));
+    }
+    if next_is(after, b':') {
+        return Err(unsupported(after.at));
+    }
     let first = table.attributes.len();
     let tag = StartTag {
         at,
@@ -243,13 +268,13 @@ fn end_of_start<'a>(
 {
     let Some(slash) = past(here, b'/') else {
         let Some(end) = past(here, b'>') else {
-            return Err(TextFault::NotBuilt);
+            return Err(bad_markup(here.at));
         };
         table.open(tag, end.at)?;
         return Ok(end);
     };
     let Some(end) = past(slash, b'>') else {
-        return Err(TextFault::NotBuilt);
+        return Err(bad_markup(slash.at));
     };
     table.add(tag, end.at)?;
     Ok(end)
@@ -272,7 +297,7 @@ pub fn next_tag<'a>(
 {
     let (tag, loose) = content_text(here, inner.node.loose)?;
     let Some(inside) = past(tag, b'<') else {
-        return Err(TextFault::NotBuilt);
+        return Err(bad_markup(tag.at));
     };
     let inner = OpenElement {
         node: Node {
@@ -286,7 +311,7 @@ pub fn next_tag<'a>(
         None => {
             table.stack.push(inner)?;
             match past(inside, b'!') {
-                Some(bang) => comment(bang),
+                Some(bang) => comment(tag.at, bang),
                 None => start_tag(alloc, tag.at, inside, Some(inner.number), table),
             }
         }
@@ -309,7 +334,17 @@ pub fn root<'a>(
 {
     let tag = space(here)?;
     let Some(inside) = past(tag, b'<') else {
-        return Err(TextFault::NotBuilt);
+        return Err(bad_markup(tag.at));
     };
     start_tag(alloc, tag.at, inside, None, table)
+}
+
+/// The fault of bytes after the outermost element that begin neither white nor a comment.
+pub fn trailing(here: Cursor) -> TextFault
+    ensures { result ≡ trailing here.entry.at here.entry.rest.now }
+{
+    match past(here, b'<') {
+        Some(inside) => unopened(here.at, inside),
+        None => bad_markup(here.at),
+    }
 }

@@ -24,6 +24,6 @@ pub returns-in-Ok : goal.returns-in-Ok
 returns-in-Ok c =
     says-bytes c.args.bytes.now (root_forest c.in-Ok.tree) (sym c.is_plain.ensures ∙ c.if-not-is_plain.false) c.in-Ok.ensures.spelled c.in-Ok.ensures.one_forest c.read_tree.result c.read_tree.ensures
 
-pub returns-in-Err-NotBuilt : goal.returns-in-Err-NotBuilt
-returns-in-Err-NotBuilt c =
-    λ a f. c.in-Err-NotBuilt.ensures.not_built (ap Err c.in-Err-NotBuilt.field-0-is) f.spelled.0 f.spelled.1
+pub returns-in-Err-Bad : goal.returns-in-Err-Bad
+returns-in-Err-Bad c =
+    λ a f. c.in-Err-Bad.ensures.not_spelled _ _ (c.in-Err-Bad.ensures.exact _ _ (ap Err c.in-Err-Bad.field-0-is)) f.spelled.0 f.spelled.1

@@ -22,7 +22,7 @@ returns-in_err-here-clause-leads c = λ place nodes rows.
     let a = c.white-start.result in
     let t = c.in-Some.tag in
     let b = c.in-Some-past.bang in
-    passes_on c.from_residual.result c.in_err-here.field-0.0 _ _ _ _ c.from_residual.ensures.1
+    passes_on c.from_residual.result c.in_err-here.field-0.0 _ _ _ c.from_residual.ensures.1
     (c.space.invariant.follows place nodes rows ∙ over_bang place nodes rows h.at h.rest.now a.at a.rest.now t.at t.rest.now b.at b.rest.now c.white-start.ensures c.in-Some.ensures c.in-Some-past.ensures)
     (c.in_err-here.ensures.leads place (read_of [] nodes rows))
 

@@ -1,28 +1,57 @@
-use Rattle.std.specs.Str.{IsUtf8}
-use Rattle.xhstt_text.proofs.Answer.{spelled, alone, unspelled, utf8_from}
+use Rattle.std.proofs.Common.{refl, sym, subst, inl, inr}
+use Rattle.xhstt_text.specs.declared.faults.TheConstants.{NOT_UTF8}
+use Rattle.std.specs.Str.{IsValidUpTo}
+use Rattle.xhstt_text.proofs.Answer.{spelled, alone, unspelled, first_fault, fault_answered, utf8_answered, utf8_fault, one_first, decides}
 use Rattle.xhstt_text.proofs.Trees.{read-table, read-spelled, read-alone}
 use Rattle.xhstt_text.proofs.reader.elements.Goals as goal
 
-pub returns-clause-found : goal.returns-clause-found
-returns-clause-found c =
-    let utf8 : IsUtf8 c.args.bytes.now = utf8_from _ _ _ c.from_utf8.result c.is_err.result c.from_utf8.ensures.cases c.is_err.ensures.value c.if-is_err.false in
-    spelled c.args.bytes.now c.read.result (λ tree. tree.nodes) (λ tree. tree.attributes) utf8 c.read.ensures.exact
+pub returns-in-Ok-clause-found : goal.returns-in-Ok-clause-found
+returns-in-Ok-clause-found c = spelled c.args.bytes.now c.read.result (λ tree. tree.nodes) (λ tree. tree.attributes) c.in-Ok.ensures.cases.1 c.read.ensures.exact
 
-pub returns-clause-only : goal.returns-clause-only
-returns-clause-only c = alone c.args.bytes.now c.read.result (λ tree. tree.nodes) (λ tree. tree.attributes) c.read.ensures.exact
+pub returns-in-Ok-clause-only : goal.returns-in-Ok-clause-only
+returns-in-Ok-clause-only c = alone c.args.bytes.now c.read.result (λ tree. tree.nodes) (λ tree. tree.attributes) c.read.ensures.exact
 
-pub returns-clause-not_built : goal.returns-clause-not_built
-returns-clause-not_built c = unspelled c.args.bytes.now c.read.result (λ tree. tree.nodes) (λ tree. tree.attributes) c.read.ensures.exact
-
-pub returns-clause-table : goal.returns-clause-table
-returns-clause-table c =
+pub returns-in-Ok-clause-table : goal.returns-in-Ok-clause-table
+returns-in-Ok-clause-table c =
     read-table c.args.bytes.now c.read.result (record { exact = c.read.ensures.exact; same = c.read.ensures.bytes; short = c.requires })
 
-pub returns-clause-spelled : goal.returns-clause-spelled
-returns-clause-spelled c =
-    let utf8 : IsUtf8 c.args.bytes.now = utf8_from _ _ _ c.from_utf8.result c.is_err.result c.from_utf8.ensures.cases c.is_err.ensures.value c.if-is_err.false in
-    read-spelled c.args.bytes.now c.read.result utf8 (record { exact = c.read.ensures.exact; same = c.read.ensures.bytes; short = c.requires })
+pub returns-in-Ok-clause-spelled : goal.returns-in-Ok-clause-spelled
+returns-in-Ok-clause-spelled c =
+    read-spelled c.args.bytes.now c.read.result c.in-Ok.ensures.cases.1 (record { exact = c.read.ensures.exact; same = c.read.ensures.bytes; short = c.requires })
 
-pub returns-clause-one_forest : goal.returns-clause-one_forest
-returns-clause-one_forest c =
+pub returns-in-Ok-clause-one_forest : goal.returns-in-Ok-clause-one_forest
+returns-in-Ok-clause-one_forest c =
     read-alone c.args.bytes.now c.read.result (record { exact = c.read.ensures.exact; same = c.read.ensures.bytes; short = c.requires })
+
+pub returns-in-Ok-clause-exact : goal.returns-in-Ok-clause-exact
+returns-in-Ok-clause-exact c = first_fault c.args.bytes.now c.read.result (λ tree. tree.nodes) (λ tree. tree.attributes) c.in-Ok.ensures.cases.1 c.read.ensures.exact
+
+pub returns-in-Ok-clause-answered : goal.returns-in-Ok-clause-answered
+returns-in-Ok-clause-answered c = fault_answered c.args.bytes.now c.read.result (λ tree. tree.nodes) (λ tree. tree.attributes) c.in-Ok.ensures.cases.1 c.read.ensures.exact
+
+pub returns-in-Ok-clause-not_spelled : goal.returns-in-Ok-clause-not_spelled
+returns-in-Ok-clause-not_spelled c = unspelled c.args.bytes.now
+
+pub returns-in-Err-clause-exact : goal.returns-in-Err-clause-exact
+returns-in-Err-clause-exact c =
+    utf8_fault c.args.bytes.now c.valid_up_to.result _ refl (subst (IsValidUpTo c.args.bytes.now) (sym c.valid_up_to.ensures) c.in-Err.ensures.cases.1)
+
+pub returns-in-Err-clause-answered : goal.returns-in-Err-clause-answered
+returns-in-Err-clause-answered c =
+    utf8_answered c.args.bytes.now c.valid_up_to.result _ refl (subst (IsValidUpTo c.args.bytes.now) (sym c.valid_up_to.ensures) c.in-Err.ensures.cases.1)
+
+pub returns-in-Err-clause-not_spelled : goal.returns-in-Err-clause-not_spelled
+returns-in-Err-clause-not_spelled c = unspelled c.args.bytes.now
+
+pub returns-in-Ok-clause-one_fault : goal.returns-in-Ok-clause-one_fault
+returns-in-Ok-clause-one_fault c = one_first c.args.bytes.now
+
+pub returns-in-Err-clause-one_fault : goal.returns-in-Err-clause-one_fault
+returns-in-Err-clause-one_fault c = one_first c.args.bytes.now
+
+pub returns-in-Ok-clause-decided : goal.returns-in-Ok-clause-decided
+returns-in-Ok-clause-decided c = decides c.args.bytes.now c.in-Ok.ensures.cases.1
+
+pub returns-in-Err-clause-decided : goal.returns-in-Err-clause-decided
+returns-in-Err-clause-decided c =
+    inr (NOT_UTF8, c.valid_up_to.result, inl (refl, subst (IsValidUpTo c.args.bytes.now) (sym c.valid_up_to.ensures) c.in-Err.ensures.cases.1))

@@ -1,9 +1,9 @@
-use Rattle.std.proofs.Common.{◌≡◌, ◌<◌, ◌∷◌, false, length, [], refl, ◌∙◌, arith}
+use Rattle.std.proofs.Common.{◌≡◌, ◌<◌, ◌∷◌, false, length, [], refl, sym, ◌∙◌, arith}
 use Rattle.xhstt_text.specs.Bytes.{is_white}
 use Rattle.xhstt_text.specs.Document.{has_name}
 use Rattle.xhstt_text.specs.Machine.{Tag, Read}
 use Rattle.xhstt_text.specs.Reading.{read_of}
-use Rattle.xhstt_text.proofs.Follow.{named_tag, leaves_tag, no_gap, repeated, over_attribute_name, passes_on, skip_length, take_length, known_name, new_name, over_attribute}
+use Rattle.xhstt_text.proofs.Follow.{named_tag, fails_with, attribute_colon, leaves_tag, no_gap, repeated, over_attribute_name, passes_on, skip_length, take_length, known_name, new_name, over_attribute}
 use Rattle.xhstt_text.proofs.tags.attributes.Goals as goal
 
 pub attributes-init : goal.attributes-init
@@ -32,8 +32,9 @@ returns-then-start-here-clause-leads c = λ frames nodes place tag first.
     let a = c.white-start.result in
     let d = c.in-Some.after in
     let known = c.attributes.invariant.follows.0 in
-    c.attributes.invariant.follows.2 frames nodes place tag first
-    ∙ no_gap (named_tag place tag first known) (read_of frames nodes c.attributes.rows.items) h.at h.rest.now a.at a.rest.now c.in-Some.found.now d.at d.rest.now c.white-start.ensures c.in-Some.ensures c.if-start-here.true
+    fails_with c.bad_markup.result _ _ c.bad_markup.ensures
+    (c.attributes.invariant.follows.2 frames nodes place tag first
+    ∙ no_gap (named_tag place tag first known) (read_of frames nodes c.attributes.rows.items) h.at h.rest.now a.at a.rest.now c.in-Some.found.now d.at d.rest.now c.white-start.ensures c.in-Some.ensures c.if-start-here.true)
 
 pub returns-then-not-branch-clause-leads : goal.returns-then-not-branch-clause-leads
 returns-then-not-branch-clause-leads c = λ frames nodes place tag first.
@@ -42,8 +43,20 @@ returns-then-not-branch-clause-leads c = λ frames nodes place tag first.
     let d = c.in-Some.after in
     let known = c.attributes.invariant.follows.0 in
     let was = c.in_ok-add_name.ensures.new known c.attributes.invariant.follows.1 in
-    c.attributes.invariant.follows.2 frames nodes place tag first
-    ∙ repeated (named_tag place tag first known) (read_of frames nodes c.attributes.rows.items) h.at h.rest.now a.at a.rest.now c.in-Some.found.now d.at d.rest.now c.white-start.ensures c.in-Some.ensures c.if-start-here.false (known_name _ _ was c.if-not-branch.true)
+    fails_with c.bad_markup-then-not-branch.result _ _ c.bad_markup-then-not-branch.ensures
+    (c.attributes.invariant.follows.2 frames nodes place tag first
+    ∙ repeated (named_tag place tag first known) (read_of frames nodes c.attributes.rows.items) h.at h.rest.now a.at a.rest.now c.in-Some.found.now d.at d.rest.now c.white-start.ensures c.in-Some.ensures c.if-start-here.false (known_name _ _ was c.if-not-branch.true))
+
+pub returns-then-next_is-clause-leads : goal.returns-then-next_is-clause-leads
+returns-then-next_is-clause-leads c = λ frames nodes place tag first.
+    let h = c.attributes.here in
+    let a = c.white-start.result in
+    let d = c.in-Some.after in
+    let known = c.attributes.invariant.follows.0 in
+    let was = c.in_ok-add_name.ensures.new known c.attributes.invariant.follows.1 in
+    fails_with c.unsupported.result _ _ c.unsupported.ensures
+    (c.attributes.invariant.follows.2 frames nodes place tag first
+    ∙ attribute_colon (named_tag place tag first known) (read_of frames nodes c.attributes.rows.items) h.at h.rest.now a.at a.rest.now c.in-Some.found.now d.at d.rest.now c.white-start.ensures c.in-Some.ensures c.if-start-here.false (new_name _ _ was c.if-not-branch.false) (sym c.next_is.ensures ∙ c.if-next_is.true))
 
 pub returns-in_err-value-clause-leads : goal.returns-in_err-value-clause-leads
 returns-in_err-value-clause-leads c = λ frames nodes place tag first.
@@ -54,7 +67,7 @@ returns-in_err-value-clause-leads c = λ frames nodes place tag first.
     let t : Tag = named_tag place tag first known in
     let r : Read = read_of frames nodes c.attributes.rows.items in
     let new : has_name c.in-Some.found.now known ≡ false = new_name _ _ (c.in_ok-add_name.ensures.new known c.attributes.invariant.follows.1) c.if-not-branch.false in
-    passes_on c.from_residual-in_err-value.result c.in_err-value.field-0.0 _ _ _ _ c.from_residual-in_err-value.ensures.1
+    passes_on c.from_residual-in_err-value.result c.in_err-value.field-0.0 _ _ _ c.from_residual-in_err-value.ensures.1
     (c.attributes.invariant.follows.2 frames nodes place tag first ∙ over_attribute_name t r h.at h.rest.now a.at a.rest.now c.in-Some.found.now d.at d.rest.now c.white-start.ensures c.in-Some.ensures c.if-start-here.false)
     (c.in_err-value.ensures.leads t a.at c.in-Some.found.now r new)
 

@@ -2,14 +2,14 @@ use Rattle.std.proofs.Common.{◌<◌, ◌≤◌, ◌∷◌, ◌∙◌, length, 
 use Rattle.xhstt_text.specs.Bytes.{is_text}
 use Rattle.xhstt_text.specs.Machine.{content, in_text}
 use Rattle.xhstt_text.specs.Reading.{read_of}
-use Rattle.xhstt_text.proofs.Follow.{passes_built, none_found, some_found, over_known_text, text_enters, skip_length}
+use Rattle.xhstt_text.proofs.Follow.{passes_on, none_found, some_found, over_known_text, text_enters, skip_length}
 use Rattle.xhstt_text.proofs.tags.known_text.Goals as goal
 
 pub returns-in_err-next-clause-leads : goal.returns-in_err-next-clause-leads
 returns-in_err-next-clause-leads c = λ f fs nodes rows place e.
     let h = c.pieces.here in
     let a = c.text-stop.result in
-    passes_built c.from_residual.result c.in_err-next.field-0.0 _ _ _ c.from_residual.ensures.1
+    passes_on c.from_residual.result c.in_err-next.field-0.0 _ _ _ c.from_residual.ensures.1
     (c.pieces.invariant.follows f fs nodes rows place e ∙ over_known_text f fs nodes rows place e h.at h.rest.now a.at a.rest.now c.text-stop.ensures)
     (c.in_err-next.ensures.leads content in_text (read_of (f ∷ fs) nodes rows) (read_of (f ∷ fs) nodes rows) (text_enters f fs nodes rows place e a.at))
 

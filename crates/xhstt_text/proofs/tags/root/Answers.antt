@@ -1,19 +1,20 @@
 use Rattle.std.proofs.Common.{[], refl}
 use Rattle.xhstt_text.specs.Machine.{early, run, resume, content}
 use Rattle.xhstt_text.specs.Reading.{read_of, frames_of}
-use Rattle.xhstt_text.proofs.Follow.{leads_from, no_root, over_root, passes_on}
+use Rattle.xhstt_text.proofs.Follow.{fails_with, leads_from, no_root, over_root, passes_on}
 use Rattle.xhstt_text.proofs.tags.root.Goals as goal
 
 pub returns-in_err-tag-clause-leads : goal.returns-in_err-tag-clause-leads
 returns-in_err-tag-clause-leads c =
     let h = c.args.here in
-    passes_on c.from_residual.result c.in_err-tag.field-0.0 (run content (read_of [] [] []) h.at h.rest.now) _ _ _ c.from_residual.ensures.1 refl (c.in_err-tag.ensures.leads early [] [])
+    passes_on c.from_residual.result c.in_err-tag.field-0.0 (run content (read_of [] [] []) h.at h.rest.now) _ _ c.from_residual.ensures.1 refl (c.in_err-tag.ensures.leads early [] [])
 
 pub returns-in_default-clause-leads : goal.returns-in_default-clause-leads
 returns-in_default-clause-leads c =
     let h = c.args.here in
     let a = c.in_ok-tag.tag in
-    no_root (run content (read_of [] [] []) h.at h.rest.now) a.at a.rest.now (c.in_ok-tag.ensures.leads early [] []) c.in_ok-tag.ensures.stops.0 c.in_default.ensures
+    fails_with c.bad_markup.result _ _ c.bad_markup.ensures
+    (no_root (run content (read_of [] [] []) h.at h.rest.now) a.at a.rest.now (c.in_ok-tag.ensures.leads early [] []) c.in_ok-tag.ensures.stops.0 c.in_default.ensures)
 
 pub returns-clause-leads : goal.returns-clause-leads
 returns-clause-leads c =

@@ -1,7 +1,7 @@
 use Rattle.std.proofs.Common.{◌<◌, ◌≤◌, ◌∙◌, length, arith}
 use Rattle.xhstt_text.specs.Bytes.{is_quoted}
 use Rattle.xhstt_text.specs.Machine.{in_value, in_quotes}
-use Rattle.xhstt_text.proofs.Follow.{passes_built, none_found, some_found, over_value_bytes, value_enters, skip_length}
+use Rattle.xhstt_text.proofs.Follow.{passes_on, none_found, some_found, over_value_bytes, value_enters, skip_length}
 use Rattle.xhstt_text.proofs.tags.value_end.Goals as goal
 
 pub returns-in_err-next-clause-leads : goal.returns-in_err-next-clause-leads
@@ -9,7 +9,7 @@ returns-in_err-next-clause-leads c = λ t place known start r.
     let mark = c.args.mark in
     let h = c.pieces.here in
     let a = c.quoted-stop.result in
-    passes_built c.from_residual.result c.in_err-next.field-0.0 _ _ _ c.from_residual.ensures.1
+    passes_on c.from_residual.result c.in_err-next.field-0.0 _ _ _ c.from_residual.ensures.1
     (c.pieces.invariant.follows t place known start r ∙ over_value_bytes t place known mark start r h.at h.rest.now a.at a.rest.now c.quoted-stop.ensures)
     (c.in_err-next.ensures.leads (in_value t place known mark start) (in_quotes t place known mark start) r r (value_enters t place known mark start r a.at c.requires))
 
