@@ -4,7 +4,10 @@ pub mod Complete
 pub mod DocumentTable
 pub mod Follow
 pub mod ForestOfTable
+pub mod Escapes
 pub mod KnownNames
+pub mod MeaningTexts
+pub mod Meanings
 pub mod Numbers
 pub mod Parts
 pub mod Pieces

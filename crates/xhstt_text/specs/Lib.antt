@@ -7,4 +7,5 @@ pub mod Handles
 pub mod Machine
 pub mod Reading
 pub mod Unescape
+pub mod UnescapeMachine
 pub mod Units
