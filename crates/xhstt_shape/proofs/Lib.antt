@@ -1,1 +1,3 @@
+pub mod Fine
+pub mod InForm
 pub mod Trimming

@@ -5,4 +5,5 @@ pub mod Schema
 pub mod Shape
 pub mod Values
 pub mod Walk
+pub mod WellFormed
 pub mod Words

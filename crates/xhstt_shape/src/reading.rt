@@ -1,8 +1,10 @@
 //! Reading an archive from the tree of its text.
 
+ghost use Rattle.std.specs.Prelude.{IfOk};
 ghost use Rattle.xhstt_text.specs.FlatTable.{IsTable};
 ghost use Rattle.xhstt_shape.specs.Faults.{IsTold};
 ghost use Rattle.xhstt_shape.specs.Shape as spec;
+ghost use Rattle.xhstt_shape.specs.WellFormed.{IsInForm};
 
 use crate::building::Build;
 use crate::faults::{ShapeFault, UNKNOWN_ELEMENT};
@@ -28,7 +30,8 @@ use xhstt_text::{Element, Tree};
 /// is linear in the tree.
 pub fn archive(alloc: Global, tree: &Tree<'_>) -> Result<Archive, ShapeFault>
     requires { IsTable tree.now }
-    ensures { IsTold result (spec.shape_of_tree tree.now) }
+    ensures told { IsTold result (spec.shape_of_tree tree.now) }
+    ensures in_form { IfOk result IsInForm }
 {
     let root = tree.root();
     archive_of(alloc, &root)
