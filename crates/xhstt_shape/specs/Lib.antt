@@ -1,3 +1,4 @@
+pub mod Characters
 pub mod Contents
 pub mod Faults
 pub mod Places

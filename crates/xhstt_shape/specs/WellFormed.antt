@@ -18,6 +18,7 @@ use Rattle.xhstt_shape.specs.declared.records.RawInstance.{RawInstance}
 use Rattle.xhstt_shape.specs.declared.records.RawSolution.{RawSolution}
 use Rattle.xhstt_shape.specs.declared.records.SolutionGroup.{SolutionGroup}
 use Rattle.xhstt_shape.specs.declared.schema.TheConstants.{BOUND}
+use Rattle.xhstt_shape.specs.Characters.{IsSpellableArchive}
 use Rattle.xhstt_shape.specs.Contents.{is_blank, trimmed}
 
 -- a role is not empty, and has no white at its ends
@@ -135,3 +136,8 @@ IsSolutionGroup g = All IsSolution g.solutions
 pub record IsInForm (a : Archive) : Type 0 where
   pub instances : All IsInstance a.instances
   pub solution_groups : All IsSolutionGroup a.solution_groups
+
+-- an archive in form whose texts have only characters that a text of the grammar may have
+pub record IsWellFormed (a : Archive) : Type 0 where
+  pub in_form : IsInForm a
+  pub spellable : IsSpellableArchive a

@@ -1,5 +1,6 @@
 pub mod Answer
 pub mod Bounds
+pub mod CleanForest
 pub mod Complete
 pub mod DocumentTable
 pub mod Follow

@@ -11,7 +11,7 @@ use Rattle.khe_base.specs.Text.{text_of, characters}
 use Rattle.khe_base.proofs.TextLemmas.{text_of-IsUtf8}
 use Rattle.xhstt_text.specs.Bytes.{AllAre, is_text, is_white}
 use Rattle.xhstt_text.specs.Document.{Value, done, plain, piece_of, value_text, IsValue, Content, nothing, byte, piece, comment, short, long, text}
-use Rattle.xhstt_text.specs.Units.{Entity, less, greater, ampersand, apostrophe, quotation, entity_name, Piece, wide, named, decimal, hexadecimal, piece_text, number_from, is_character, IsPiece}
+use Rattle.xhstt_text.specs.Units.{Entity, less, greater, ampersand, apostrophe, quotation, entity_name, Piece, wide, named, decimal, hexadecimal, piece_text, number_from, is_character, is_last, IsPiece}
 use Rattle.xhstt_text.specs.Unescape.{entity_character, piece_meaning, value_meaning, meaning, IsText, IsTextOf, IsValueOf, unescaped}
 use Rattle.xhstt_text.specs.UnescapeMachine.{plain_after}
 use Rattle.xhstt_text.specs.declared.unescaping.Part.TheVariants.{Plain}
@@ -82,21 +82,21 @@ IsUtf8-value_meaning front quote (piece_of p v) h u = piece_utf8 front p (value_
 
 -- where a scan over bytes stands: before a character, after the first byte of one from U+F000 on, and
 -- after its second, which is the greatest or not
-data Spot : Type 0 where
+pub data Spot : Type 0 where
   before_character : Spot
   after_first : Spot
   after_second : Bool → Spot
 
 -- the bytes have none that a text may not have
-abbrev passes : Spot → List ℕ → Bool
+abbrev pub passes : Spot → List ℕ → Bool
 passes before_character [] = true
 passes before_character (b ∷ bs) = if eqb b 239 then passes after_first bs else (is_white b || leb 32 b) && passes before_character bs
 passes after_first [] = false
-passes after_first (b ∷ bs) = passes (after_second (eqb b 191)) bs
+passes after_first (b ∷ bs) = leb 128 b && passes (after_second (eqb b 191)) bs
 passes (after_second greatest) [] = false
-passes (after_second greatest) (c ∷ bs) = not (greatest && leb 190 c) && passes before_character bs
+passes (after_second greatest) (c ∷ bs) = is_last greatest c && passes before_character bs
 
-other_passes : (b : ℕ) (bs : List ℕ) → eqb b 239 ≡ false → (is_white b || leb 32 b) ≡ true → passes before_character (b ∷ bs) ≡ passes before_character bs
+pub other_passes : (b : ℕ) (bs : List ℕ) → eqb b 239 ≡ false → (is_white b || leb 32 b) ≡ true → passes before_character (b ∷ bs) ≡ passes before_character bs
 other_passes b bs e h = rw e (ap (λ v. v && passes before_character bs) h)
 
 high_passes : (b : ℕ) (bs : List ℕ) → 128 ≤ b → (b ≡ 239 → ⊥) → passes before_character (b ∷ bs) ≡ passes before_character bs
@@ -131,26 +131,32 @@ low_three c rest l h k =
     ∙ high_passes (next c) rest (omega arith) (λ e. omega arith))
 
 -- the last two characters of three bytes are the only ones from U+F000 on that are none
-last_three : (c : ℕ) → 61440 ≤ c → c < 65536 → not (eqb (next (c / 64)) 191 && leb 190 (next c)) ≡ is_character c
+last_three : (c : ℕ) → 61440 ≤ c → c < 65536 → is_last (eqb (next (c / 64)) 191) (next c) ≡ is_character c
 last_three c l h =
+    let later : leb 128 (next c) ≡ true = le-leb _ _ (omega arith) in
     elim (cases_lt 65533 c) [
       | inl more ↦
-          let greatest : eqb (next (c / 64)) 191 ≡ true = eq-eqb _ _ (omega arith) in
-          let beyond : leb 190 (next c) ≡ true = le-leb _ _ (omega arith) in
-          let none : is_character c ≡ false = grind (arith, nat_tests) in
-          rw (greatest, beyond) (sym none)
+      let greatest : eqb (next (c / 64)) 191 ≡ true = eq-eqb _ _ (omega arith) in
+      let beyond : leb 190 (next c) ≡ true = le-leb _ _ (omega arith) in
+      let none : is_character c ≡ false = grind (arith, nat_tests) in
+      rw (greatest, later, beyond) (sym none)
       | inr some ↦
-          let is : is_character c ≡ true = grind (arith, nat_tests) in
-          not_from_false _ (elim (cases_Bool (eqb (next (c / 64)) 191)) [
-            | inl e ↦ let full : next (c / 64) ≡ 191 = eqb-true _ _ e in let k : leb 190 (next c) ≡ false = lt-leb _ _ (omega arith) in rw (e, k) refl
-            | inr e ↦ rw e refl
-          ]) ∙ sym is
+      let is : is_character c ≡ true = grind (arith, nat_tests) in
+      elim (cases_Bool (eqb (next (c / 64)) 191)) [
+        | inl e ↦
+        let full : next (c / 64) ≡ 191 = eqb-true _ _ e in
+        let k : leb 190 (next c) ≡ false = lt-leb _ _ (omega arith) in rw (e, later, k) (sym is)
+        | inr e ↦ rw (e, later) (sym is)
+      ]
     ]
 
 high_three : (c : ℕ) (rest : List ℕ) → 61440 ≤ c → c < 65536 → passes before_character ((224 + c / 4096) ∷ next (c / 64) ∷ next c ∷ rest) ≡ (is_character c && passes before_character rest)
 high_three c rest l h =
     let first : 224 + c / 4096 ≡ 239 = omega arith in
-    ap (λ b. passes before_character (b ∷ next (c / 64) ∷ next c ∷ rest)) first ∙ ap (λ v. v && passes before_character rest) (last_three c l h)
+    let second : leb 128 (next (c / 64)) ≡ true = le-leb _ _ (omega arith) in
+    ap (λ b. passes before_character (b ∷ next (c / 64) ∷ next c ∷ rest)) first
+    ∙ ap (λ v. v && passes (after_second (eqb (next (c / 64)) 191)) (next c ∷ rest)) second
+    ∙ ap (λ v. v && passes before_character rest) (last_three c l h)
 
 three_bytes : (c : ℕ) (rest : List ℕ) → scalar c ≡ true → 2048 ≤ c → c < 65536 → passes before_character ((224 + c / 4096) ∷ next (c / 64) ∷ next c ∷ rest) ≡ (is_character c && passes before_character rest)
 three_bytes c rest s l h =
@@ -179,7 +185,7 @@ passed (c ∷ cs) s h =
     let q = and_parts (is_character c) (passes before_character (encodes cs)) (sym (passes-encode c (encodes cs) p.0) ∙ h) in
     (q.0, passed cs p.1 q.1)
 
-characters_pass : (bs : List ℕ) → passes before_character bs ≡ true → AllAre is_character (unwrap_or (text_of bs) [])
+pub characters_pass : (bs : List ℕ) → passes before_character bs ≡ true → AllAre is_character (unwrap_or (text_of bs) [])
 characters_pass bs h =
     elim (cases_Bool (is_utf8 bs)) [
       | inl e ↦
@@ -199,7 +205,7 @@ number_passes : (n : ℕ) (rest : List ℕ) → is_character n ≡ true → pass
 number_passes n rest h k = passes-encode n rest (is_scalar n h) ∙ and_from _ _ h k
 
 piece_passes : (u : Piece) (rest : List ℕ) → IsPiece u → passes before_character rest ≡ true → passes before_character (piece_meaning u ++ rest) ≡ true
-piece_passes (wide b c) rest h k = and_from _ _ (and_parts (leb 128 c) _ h.1).1 k
+piece_passes (wide b c) rest h k = and_from (leb 128 b) _ h.0 (and_from (is_last (eqb b 191) c) (passes before_character rest) h.1 k)
 piece_passes (named less) rest h k = k
 piece_passes (named greater) rest h k = k
 piece_passes (named ampersand) rest h k = k
@@ -224,6 +230,15 @@ value_passes quote done h = refl
 value_passes quote (plain b v) h = text_passes b (value_meaning v) (and_parts (is_text b) _ h.0).0 (value_passes quote v h.1)
 value_passes quote (piece_of u v) h = piece_passes u (value_meaning v) h.0 (value_passes quote v h.1)
 
+-- the bytes of the text of bytes that pass
+text_of-passes : (bs : List ℕ) → passes before_character bs ≡ true → passes before_character (encode_utf8_all (unwrap_or (text_of bs) [])) ≡ true
+text_of-passes bs h =
+    let P : Bool → Type 0 = λ b. passes before_character (encode_utf8_all (unwrap_or (if b then Some (characters bs) else None) [])) ≡ true in
+    elim (cases_Bool (is_utf8 bs)) [
+      | inl e ↦ subst P (sym e) (ap (passes before_character) (encodes-chars bs (IsUtf8-from_is_utf8 bs e)) ∙ h)
+      | inr e ↦ subst P (sym e) refl
+    ]
+
 -- each character of what a text stands for is one that a text may have
 pub unescaped-text_characters : (c : Content) → IsText c → AllAre is_character (unescaped (text c))
 unescaped-text_characters c h =
@@ -234,6 +249,27 @@ pub unescaped-value_characters : (quote : ℕ) (v : Value) → IsValue quote v �
 unescaped-value_characters quote v h =
     let P : List ℕ → Type 0 = λ bs. AllAre is_character (unwrap_or (text_of bs) []) in
     subst P (sym (plain_after-value quote v h)) (characters_pass (value_meaning v) (value_passes quote v h))
+
+-- a span whose text has only such characters, and whose text's bytes pass
+pub record IsClean (value : List ℕ) : Type 0 where
+  pub characters : AllAre is_character (unescaped value)
+  pub passed : passes before_character (encode_utf8_all (unescaped value)) ≡ true
+
+pub IsClean-text : (c : Content) → IsText c → IsClean (text c)
+IsClean-text c h =
+    let P : List ℕ → Type 0 = λ bs. passes before_character (encode_utf8_all (unwrap_or (text_of bs) [])) ≡ true in
+    record {
+      characters = unescaped-text_characters c h;
+      passed = subst P (sym (plain_after-text c h)) (text_of-passes (meaning c) (meaning_passes c h));
+    }
+
+pub IsClean-value : (quote : ℕ) (v : Value) → IsValue quote v → IsClean (value_text v)
+IsClean-value quote v h =
+    let P : List ℕ → Type 0 = λ bs. passes before_character (encode_utf8_all (unwrap_or (text_of bs) [])) ≡ true in
+    record {
+      characters = unescaped-value_characters quote v h;
+      passed = subst P (sym (plain_after-value quote v h)) (text_of-passes (value_meaning v) (value_passes quote v h));
+    }
 
 -- what is spelled by bytes is their text where it is UTF-8
 stands_for : (bytes meant : List ℕ) → plain_after Plain [] bytes ≡ meant → IsUtf8 meant → text_of meant ≡ Some (unescaped bytes)
