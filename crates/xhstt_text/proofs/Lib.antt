@@ -15,4 +15,5 @@ pub mod Pieces
 pub mod Places
 pub mod Runs
 pub mod Sound
+pub mod SpanTexts
 pub mod Trees

@@ -18,7 +18,7 @@ use Rattle.xhstt_text.specs.declared.unescaping.Part.TheVariants.{Plain}
 use Rattle.xhstt_text.proofs.Meanings.{plain_after-text, plain_after-value}
 
 -- a text may be cut at a character of ASCII
-cut : (front rest : List ℕ) (b : ℕ) → b < 128 → IsUtf8 (front ++ (b ∷ rest)) → IsUtf8 front × IsUtf8 rest
+pub cut : (front rest : List ℕ) (b : ℕ) → b < 128 → IsUtf8 (front ++ (b ∷ rest)) → IsUtf8 front × IsUtf8 rest
 cut front rest b l u =
     let whole : List ℕ = front ++ (b ∷ rest) in
     let here : get_or whole (length front) 0 ≡ b = get_or-append_seam front b rest 0 in
@@ -136,18 +136,18 @@ last_three c l h =
     let later : leb 128 (next c) ≡ true = le-leb _ _ (omega arith) in
     elim (cases_lt 65533 c) [
       | inl more ↦
-      let greatest : eqb (next (c / 64)) 191 ≡ true = eq-eqb _ _ (omega arith) in
-      let beyond : leb 190 (next c) ≡ true = le-leb _ _ (omega arith) in
-      let none : is_character c ≡ false = grind (arith, nat_tests) in
-      rw (greatest, later, beyond) (sym none)
+          let greatest : eqb (next (c / 64)) 191 ≡ true = eq-eqb _ _ (omega arith) in
+          let beyond : leb 190 (next c) ≡ true = le-leb _ _ (omega arith) in
+          let none : is_character c ≡ false = grind (arith, nat_tests) in
+          rw (greatest, later, beyond) (sym none)
       | inr some ↦
-      let is : is_character c ≡ true = grind (arith, nat_tests) in
-      elim (cases_Bool (eqb (next (c / 64)) 191)) [
-        | inl e ↦
-        let full : next (c / 64) ≡ 191 = eqb-true _ _ e in
-        let k : leb 190 (next c) ≡ false = lt-leb _ _ (omega arith) in rw (e, later, k) (sym is)
-        | inr e ↦ rw (e, later) (sym is)
-      ]
+          let is : is_character c ≡ true = grind (arith, nat_tests) in
+          elim (cases_Bool (eqb (next (c / 64)) 191)) [
+            | inl e ↦
+                let full : next (c / 64) ≡ 191 = eqb-true _ _ e in
+                let k : leb 190 (next c) ≡ false = lt-leb _ _ (omega arith) in rw (e, later, k) (sym is)
+            | inr e ↦ rw (e, later) (sym is)
+          ]
     ]
 
 high_three : (c : ℕ) (rest : List ℕ) → 61440 ≤ c → c < 65536 → passes before_character ((224 + c / 4096) ∷ next (c / 64) ∷ next c ∷ rest) ≡ (is_character c && passes before_character rest)
@@ -255,7 +255,7 @@ pub record IsClean (value : List ℕ) : Type 0 where
   pub characters : AllAre is_character (unescaped value)
   pub passed : passes before_character (encode_utf8_all (unescaped value)) ≡ true
 
-pub IsClean-text : (c : Content) → IsText c → IsClean (text c)
+IsClean-text : (c : Content) → IsText c → IsClean (text c)
 IsClean-text c h =
     let P : List ℕ → Type 0 = λ bs. passes before_character (encode_utf8_all (unwrap_or (text_of bs) [])) ≡ true in
     record {
@@ -263,13 +263,19 @@ IsClean-text c h =
       passed = subst P (sym (plain_after-text c h)) (text_of-passes (meaning c) (meaning_passes c h));
     }
 
-pub IsClean-value : (quote : ℕ) (v : Value) → IsValue quote v → IsClean (value_text v)
+IsClean-value : (quote : ℕ) (v : Value) → IsValue quote v → IsClean (value_text v)
 IsClean-value quote v h =
     let P : List ℕ → Type 0 = λ bs. passes before_character (encode_utf8_all (unwrap_or (text_of bs) [])) ≡ true in
     record {
       characters = unescaped-value_characters quote v h;
       passed = subst P (sym (plain_after-value quote v h)) (text_of-passes (value_meaning v) (value_passes quote v h));
     }
+
+pub IsClean-between_tags : (bytes : List ℕ) (c : Content) → IsTextOf bytes c → IsClean bytes
+IsClean-between_tags bytes c h = subst IsClean (sym h.spelled) (IsClean-text c h.in_form)
+
+pub IsClean-between_quotes : (quote : ℕ) (bytes : List ℕ) (v : Value) → IsValueOf quote bytes v → IsClean bytes
+IsClean-between_quotes quote bytes v h = subst IsClean (sym h.spelled) (IsClean-value quote v h.in_form)
 
 -- what is spelled by bytes is their text where it is UTF-8
 stands_for : (bytes meant : List ℕ) → plain_after Plain [] bytes ≡ meant → IsUtf8 meant → text_of meant ≡ Some (unescaped bytes)

@@ -1,8 +1,10 @@
-ghost use Rattle.std.specs.Prelude.{◌≡◌, ℕ, Some, [], ◌++◌, ◌≤◌, OnOk, IfOk, IfSome};
+ghost use Rattle.std.specs.Prelude.{◌≡◌, ℕ, List, Some, [], ◌++◌, ◌≤◌, OnOk, IfOk, IfSome};
 ghost use Rattle.std.specs.Option.{option_and_then};
 ghost use Rattle.khe_base.specs.Text.{text_of};
 ghost use Rattle.xhstt_text.specs.Bytes.{AllAre};
-ghost use Rattle.xhstt_text.specs.Document.{Content, Value};
+ghost use Rattle.xhstt_text.specs.Document.{Content, Spelled, Value};
+ghost use Rattle.xhstt_text.specs.Forest.{Forest};
+ghost use Rattle.xhstt_text.specs.Spans.{IsAttributeIn, IsElementIn};
 ghost use Rattle.xhstt_text.specs.Unescape.{IsTextOf, IsValueOf, meaning, unescaped, value_meaning};
 ghost use Rattle.xhstt_text.specs.UnescapeMachine as spec;
 ghost use Rattle.xhstt_text.specs.Units.{is_character};
@@ -43,10 +45,18 @@ pub(crate) enum Part {
 /// bytes.
 pub fn unescape(alloc: Global, span: &[u8]) -> Result<Text, NoMemory>
     ensures value { IfOk result (λ t. t ≡ unescaped span.now) }
+
+    // A text of the grammar gives what it stands for, in characters of the grammar.
     ensures between_tags { IfOk result (λ t. (c : Content) → IsTextOf span.now c → text_of (meaning c) ≡ Some t) }
     ensures between_quotes { IfOk result (λ t. (quote : ℕ) (v : Value) → IsValueOf quote span.now v → text_of (value_meaning v) ≡ Some t) }
     ensures characters { IfOk result (λ t. (c : Content) → IsTextOf span.now c → AllAre is_character t) }
     ensures characters_between_quotes { IfOk result (λ t. (quote : ℕ) (v : Value) → IsValueOf quote span.now v → AllAre is_character t) }
+
+    // Each span of a tree is such a text.
+    ensures of_element { IfOk result (λ t. (bytes : List ℕ) (f : Forest) → Spelled bytes f → IsElementIn span.now f
+        → (c : Content) × IsTextOf span.now c × (text_of (meaning c) ≡ Some t)) }
+    ensures of_attribute { IfOk result (λ t. (bytes : List ℕ) (f : Forest) → Spelled bytes f → IsAttributeIn span.now f
+        → (quote : ℕ) × (v : Value) × IsValueOf quote span.now v × (text_of (value_meaning v) ≡ Some t)) }
 {
     plain_text(alloc, span)
 }
