@@ -1,14 +1,12 @@
 -- An element without a fault: what the walk found of its children.
-use Rattle.std.proofs.Common.{◌≡◌, ℕ, Bool, true, false, ◌&&◌, cond, if◌then◌else◌, Option, Some, None, Result, Ok, Err, List, [], ◌∷◌, All, IfSome, refl, inl, inr, sym, ap, subst, ◌∙◌}
-use Rattle.std.specs.List.{list_all, find}
+use Rattle.std.proofs.Common.{◌≡◌, ℕ, Bool, true, false, if◌then◌else◌, Option, Some, None, Ok, Err, List, [], ◌∷◌, All, IfSome, refl, inl, inr, sym, ap, subst, ◌∙◌}
 use Rattle.std.specs.Str.{bytes_eq}
 use Rattle.std.proofs.lemmas.Bool.{and_parts, cases_Bool, cond_both, not-true}
 use Rattle.std.proofs.lemmas.List.Elements.{All-nil, All-cons}
 use Rattle.std.proofs.lemmas.Slice.Eq.{bytes_eq-Decides}
-use Rattle.xhstt_text.specs.Forest.{AttributeInfo, Info, Forest, empty, node}
+use Rattle.xhstt_text.specs.Forest.{Info, Forest, empty, node}
 use Rattle.xhstt_text.specs.Handles.{Standing}
-use Rattle.xhstt_shape.specs.declared.faults.TheConstants.{UNKNOWN_ELEMENT, MISSING_CHILD, REPEATED_CHILD, BAD_WORD}
-use Rattle.xhstt_shape.specs.declared.faults.ShapeFault.{ShapeFault}
+use Rattle.xhstt_shape.specs.declared.faults.TheConstants.{MISSING_CHILD, REPEATED_CHILD, BAD_WORD}
 use Rattle.xhstt_shape.specs.declared.faults.ShapeFault.TheVariants.{Bad}
 use Rattle.xhstt_shape.specs.declared.schema.Child.{Child}
 use Rattle.xhstt_shape.specs.declared.schema.Content.{Content}

@@ -1,9 +1,9 @@
 -- What the walk let through is in form.
-use Rattle.std.proofs.Common.{◌≡◌, ℕ, ◌+◌, ◌<◌, ◌≤◌, Bool, true, false, ◌&&◌, ltb, leb, cond, if◌then◌else◌, Option, Some, None, Result, Ok, Err, List, [], ◌∷◌, map, All, IfSome, IfOk, IsSome, is_some, length, refl, inl, inr, sym, ap, subst, ◌∙◌, arith, encode_utf8_all}
+use Rattle.std.proofs.Common.{◌≡◌, ℕ, ◌≤◌, Bool, true, false, ◌&&◌, ltb, leb, if◌then◌else◌, Option, Some, None, Result, Ok, Err, List, [], ◌∷◌, map, All, IfSome, IfOk, IsSome, is_some, length, refl, inl, inr, sym, ap, subst, ◌∙◌, arith, encode_utf8_all}
 use Rattle.std.specs.Prelude.{unwrap_or}
 use Rattle.std.specs.Option.{option_map, option_and_then}
-use Rattle.std.specs.List.{find, list_all}
-use Rattle.std.specs.Str.{bytes_eq, is_utf8, IsUtf8}
+use Rattle.std.specs.List.{list_all}
+use Rattle.std.specs.Str.{bytes_eq, is_utf8}
 use Rattle.std.proofs.lemmas.Bool.{and_parts, cases_Bool, cond_both, leb-true}
 use Rattle.std.proofs.lemmas.List.Elements.{All-nil, All-cons, All-map, All-weaker}
 use Rattle.std.proofs.lemmas.Str.{IsUtf8-from_is_utf8, encodes-chars}
@@ -11,13 +11,12 @@ use Rattle.khe_base.specs.Text.{text_of, characters}
 use Rattle.khe_base.specs.declared.limits.TheConstants.{NUMBER}
 use Rattle.xhstt_text.specs.Bytes.{is_white}
 use Rattle.xhstt_text.specs.Unescape.{unescaped}
-use Rattle.xhstt_text.specs.Forest.{AttributeInfo, Info, Forest, empty, node}
+use Rattle.xhstt_text.specs.Forest.{AttributeInfo, Info, Forest}
 use Rattle.xhstt_text.specs.Handles.{Standing}
 use Rattle.xhstt_shape.specs.declared.faults.TheConstants.{UNKNOWN_ELEMENT}
 use Rattle.xhstt_shape.specs.declared.faults.ShapeFault.{ShapeFault}
 use Rattle.xhstt_shape.specs.declared.faults.ShapeFault.TheVariants.{Bad}
 use Rattle.xhstt_shape.specs.declared.records.Archive.{Archive}
-use Rattle.xhstt_shape.specs.declared.records.Name.{Name}
 use Rattle.xhstt_shape.specs.declared.schema.Content.TheVariants as content_of
 use Rattle.xhstt_shape.specs.declared.schema.Child.{Child}
 use Rattle.xhstt_shape.specs.declared.schema.TheConstants.{BOUND}
@@ -25,16 +24,15 @@ use Rattle.xhstt_shape.specs.declared.schema.Row.{Row}
 use Rattle.xhstt_shape.specs.declared.schema.Row.TheVariants as row
 use Rattle.xhstt_shape.specs.declared.words.Kind.{Kind}
 use Rattle.xhstt_shape.specs.declared.words.Kind.TheVariants as kind
-use Rattle.xhstt_shape.specs.declared.words.Label.{Label}
 use Rattle.xhstt_shape.specs.declared.words.Label.TheVariants as label
 use Rattle.xhstt_shape.specs.declared.words.Tag.{Tag}
 use Rattle.xhstt_shape.specs.declared.words.Tag.TheVariants as tag
-use Rattle.xhstt_shape.specs.Contents.{without_front, before_rest, without_back, trimmed, trimmed_text, role_text, is_blank, is_digit, value_after, number_between}
+use Rattle.xhstt_shape.specs.Contents.{without_front, before_rest, without_back, trimmed, trimmed_text, role_text, is_digit, value_after, number_between}
 use Rattle.xhstt_shape.specs.Faults.{Outcome, IsTold}
 use Rattle.xhstt_shape.specs.Shape.{judged, shape}
 use Rattle.xhstt_shape.specs.Schema.{once, at_most_once, many, children, constraint_children, content}
 use Rattle.xhstt_shape.specs.Values.{kids_of, elements, named, every, every_inside, all, all_inside, role, no_name, optional_name, optional_reference, optional, reference, the_role, number, optional_number, lower, upper, optional_duration, duration, workload, event_resource, event, pair, spread, applies, rule, kinds, kind_among, kind_of, constraint_of, constraint, instance, given, entry, solution, solution_group, archive, attribute_name, as_reference}
-use Rattle.xhstt_shape.specs.Walk.{attribute, child, fault_of, settled, rule_for, has_child, has_children}
+use Rattle.xhstt_shape.specs.Walk.{attribute, child, fault_of, settled, rule_for}
 use Rattle.xhstt_shape.specs.WellFormed.{IsRole, IsNumber, IsDuration, AreBounds, IsEventResource, IsEvent, IsPair, IsSpread, IsRule, FitsRule, IsConstraint, IsInstance, IsGiven, IsEntry, IsSolution, IsSolutionGroup, IsInForm}
 use Rattle.xhstt_shape.specs.Words.{word, kind_word}
 use Rattle.xhstt_shape.proofs.Fine.{IsFine, FineChild, AreFine, FineInside, FineInside-from, fine_role, FineNamed, child_fine, elements_fine, named_fine, named_own, has_found, Leads, named_inside, kids_fine, only_own}

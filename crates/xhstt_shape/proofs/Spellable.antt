@@ -1,27 +1,21 @@
 -- The texts of an archive have only characters that a text of the grammar may have, where the spans
 -- of its tree stand for such texts.
-use Rattle.std.proofs.Common.{◌≡◌, ℕ, Bool, true, false, ◌&&◌, ◌||◌, eqb, leb, cond, if◌then◌else◌, Option, Some, None, Result, Ok, Err, List, [], ◌∷◌, map, All, IfSome, IfOk, refl, inl, inr, sym, ap, subst, ◌∙◌, arith, encode_utf8_all}
+use Rattle.std.proofs.Common.{◌≡◌, ℕ, true, false, ◌&&◌, ◌||◌, eqb, leb, if◌then◌else◌, Option, Some, None, Ok, List, [], ◌∷◌, map, All, IfSome, refl, inl, inr, sym, ap, subst, ◌∙◌, arith, encode_utf8_all}
 use Rattle.std.specs.Prelude.{unwrap_or}
 use Rattle.std.specs.Option.{option_map}
-use Rattle.std.specs.List.{find}
 use Rattle.std.specs.Str.{bytes_eq}
-use Rattle.std.proofs.lemmas.Bool.{and_parts, and_from, cases_Bool, cond_both, leb-true, lt-leb}
+use Rattle.std.proofs.lemmas.Bool.{and_parts, and_from, cases_Bool, cond_both}
 use Rattle.std.proofs.lemmas.Bool.Decides.{nat_tests}
 use Rattle.std.proofs.lemmas.List.Elements.{All-nil, All-cons, All-map, All-weaker}
-use Rattle.xhstt_text.specs.Bytes.{AllAre, is_white}
+use Rattle.xhstt_text.specs.Bytes.{is_white}
 use Rattle.xhstt_text.specs.Document.{Spelled}
-use Rattle.xhstt_text.specs.FlatTable.{root_forest}
 use Rattle.xhstt_text.specs.Forest.{AttributeInfo, Info, Forest, empty, node}
 use Rattle.xhstt_text.specs.Handles.{Standing}
 use Rattle.xhstt_text.specs.Unescape.{unescaped}
 use Rattle.xhstt_text.specs.Units.{is_last}
-use Rattle.xhstt_text.specs.declared.tree.Tree.{Tree}
 use Rattle.xhstt_text.proofs.CleanForest.{AreClean, IsCleanForest, IsCleanForest-spelled}
 use Rattle.xhstt_text.proofs.MeaningTexts.{Spot, before_character, after_first, after_second, passes, other_passes, characters_pass, IsClean}
-use Rattle.xhstt_shape.specs.declared.faults.ShapeFault.{ShapeFault}
 use Rattle.xhstt_shape.specs.declared.records.Archive.{Archive}
-use Rattle.xhstt_shape.specs.declared.records.Name.{Name}
-use Rattle.xhstt_shape.specs.declared.records.Ref.{Ref}
 use Rattle.xhstt_shape.specs.declared.words.Kind.{Kind}
 use Rattle.xhstt_shape.specs.declared.words.Kind.TheVariants as kind
 use Rattle.xhstt_shape.specs.declared.words.Label.{Label}
@@ -29,8 +23,7 @@ use Rattle.xhstt_shape.specs.declared.words.Label.TheVariants as label
 use Rattle.xhstt_shape.specs.declared.words.Tag.{Tag}
 use Rattle.xhstt_shape.specs.declared.words.Tag.TheVariants as tag
 use Rattle.xhstt_shape.specs.Characters.{IsSpellable, IsSpellableName, IsSpellableRef, AreSpellableRefs, IsSpellableMetaData, IsSpellableTimeGroup, IsSpellableTime, IsSpellableResourceType, IsSpellableResourceGroup, IsSpellableResource, IsSpellableEventGroup, IsSpellableEventResource, IsSpellableEvent, IsSpellablePair, IsSpellableSpread, IsSpellableApplies, IsSpellableRule, IsSpellableConstraint, IsSpellableInstance, IsSpellableGiven, IsSpellableEntry, IsSpellableSolution, IsSpellableSolutionGroup, IsSpellableArchive}
-use Rattle.xhstt_shape.specs.Contents.{without_front, before_rest, without_back, trimmed, trimmed_text, role_text}
-use Rattle.xhstt_shape.specs.Faults.{IsTold}
+use Rattle.xhstt_shape.specs.Contents.{without_front, before_rest, without_back, trimmed_text, role_text}
 use Rattle.xhstt_shape.specs.Shape.{shape}
 use Rattle.xhstt_shape.specs.Values as value
 use Rattle.xhstt_shape.specs.Values.{elements, named, kids_of}

@@ -1,6 +1,6 @@
 -- Archives that can be spelled: each character of each of their texts is one that a text of the
 -- grammar may have.
-use Rattle.std.specs.Prelude.{ℕ, Option, IfSome, List, All}
+use Rattle.std.specs.Prelude.{ℕ, IfSome, List, All}
 use Rattle.xhstt_text.specs.Bytes.{AllAre}
 use Rattle.xhstt_text.specs.Units.{is_character}
 use Rattle.xhstt_shape.specs.declared.constraints.RawApplies.{RawApplies}

@@ -1,5 +1,5 @@
 -- Archives that can be written and read back.
-use Rattle.std.specs.Prelude.{ℕ, ◌≡◌, ◌≤◌, false, Option, None, IsSome, IfSome, List, All, encode_utf8_all}
+use Rattle.std.specs.Prelude.{ℕ, ◌≡◌, ◌≤◌, false, None, IsSome, IfSome, All, encode_utf8_all}
 use Rattle.khe_base.specs.declared.limits.TheConstants.{NUMBER}
 use Rattle.xhstt_shape.specs.declared.constraints.RawApplies.{RawApplies}
 use Rattle.xhstt_shape.specs.declared.constraints.RawApplies.TheVariants as applied

@@ -3,7 +3,7 @@ use Rattle.std.proofs.Common.{ℕ, List, [], ◌∷◌}
 use Rattle.xhstt_text.specs.Document.{Spelled}
 use Rattle.xhstt_text.specs.Forest.{AttributeInfo, Forest, empty, node}
 use Rattle.xhstt_text.proofs.MeaningTexts.{IsClean, IsClean-between_tags, IsClean-between_quotes}
-use Rattle.xhstt_text.proofs.SpanTexts.{IsTextSpan, IsValueSpan, AreValueSpans, HasTexts, HasTexts-spelled}
+use Rattle.xhstt_text.proofs.SpanTexts.{IsTextSpan, AreValueSpans, HasTexts, HasTexts-spelled}
 
 abbrev pub AreClean : List AttributeInfo → Type 0
 AreClean [] = Unit {0}

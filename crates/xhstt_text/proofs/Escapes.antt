@@ -1,8 +1,8 @@
 -- What a text is written as stands for the text.
-use Rattle.std.proofs.Common.{◌≡◌, ℕ, ◌+◌, ◌/◌, ◌<◌, ◌≤◌, Bool, true, false, not, ◌&&◌, cond, eqb, ltb, if◌then◌else◌, Some, List, [], ◌∷◌, ◌++◌, refl, sym, ap, ◌∙◌, arith, append_assoc}
+use Rattle.std.proofs.Common.{◌≡◌, ℕ, ◌+◌, ◌/◌, true, false, eqb, ltb, List, [], ◌∷◌, ◌++◌, refl, sym, ap, ◌∙◌, arith, append_assoc}
 use Rattle.std.specs.Prelude.{unwrap_or, encode_utf8_all}
 use Rattle.std.specs.Str.{IsUtf8}
-use Rattle.std.proofs.lemmas.Bool.{and_from, not_from_false, ltb-false, cases_Bool, cond_both, eqb-true}
+use Rattle.std.proofs.lemmas.Bool.{and_from, not_from_false, cond_both, eqb-true}
 use Rattle.std.proofs.lemmas.Str.{encodes-append, encodes-chars, encodes_same}
 use lib.Utf8.{encode, encodes, next}
 use Rattle.khe_base.specs.Text.{text_of, characters}

@@ -1,11 +1,11 @@
 -- What a text stands for is UTF-8 where the text is, and has only characters that a text may have.
-use Rattle.std.proofs.Common.{◌≡◌, ℕ, ◌+◌, ◌*◌, ◌/◌, ◌%◌, ◌<◌, ◌≤◌, Bool, true, false, not, ◌&&◌, ◌||◌, if◌then◌else◌, cond, eqb, leb, ltb, Option, Some, None, List, [], ◌∷◌, ◌++◌, length, take, drop, get_or, refl, inl, inr, sym, ap, subst, ◌∙◌, arith, append_assoc, append-nil, length-append, encode_utf8_all}
+use Rattle.std.proofs.Common.{◌≡◌, ℕ, ◌+◌, ◌/◌, ◌<◌, ◌≤◌, Bool, true, false, ◌&&◌, ◌||◌, if◌then◌else◌, eqb, leb, ltb, Some, None, List, [], ◌∷◌, ◌++◌, length, drop, get_or, refl, inl, inr, sym, ap, subst, ◌∙◌, arith, append_assoc, length-append, encode_utf8_all}
 use Rattle.std.specs.Prelude.{encode_utf8, unwrap_or}
-use Rattle.std.specs.Str.{IsUtf8, is_utf8, chars}
+use Rattle.std.specs.Str.{IsUtf8, is_utf8}
 use Rattle.std.proofs.Math.Seq.{drop-append_seam, take-append_seam, get_or-append_seam}
-use Rattle.std.proofs.lemmas.Bool.{and_parts, and_from, not-true, not_from_false, not_from_true, ltb-true, ltb-false, leb-true, le-leb, lt-leb, cases_Bool, cases_lt, cond_both, ne_eqb, eq-eqb, eqb-true}
+use Rattle.std.proofs.lemmas.Bool.{and_parts, and_from, ltb-true, ltb-false, le-leb, lt-leb, cases_Bool, cases_lt, cond_both, ne_eqb, eq-eqb, eqb-true}
 use Rattle.std.proofs.lemmas.Bool.Decides.{nat_tests}
-use Rattle.std.proofs.lemmas.Str.{IsUtf8-append, IsUtf8-take, IsUtf8-drop, IsUtf8-nil, IsCharBoundary-before_ascii, IsCharBoundary-after_ascii, IsUtf8-from_is_utf8, scalars-chars, encodes-chars, IsUtf8-encode, encode_ascii}
+use Rattle.std.proofs.lemmas.Str.{IsUtf8-append, IsUtf8-take, IsUtf8-drop, IsCharBoundary-before_ascii, IsCharBoundary-after_ascii, IsUtf8-from_is_utf8, scalars-chars, encodes-chars, IsUtf8-encode, encode_ascii}
 use lib.Utf8.{scalar, scalars, encode, encodes, next, low_scalar}
 use Rattle.khe_base.specs.Text.{text_of, characters}
 use Rattle.khe_base.proofs.TextLemmas.{text_of-IsUtf8}

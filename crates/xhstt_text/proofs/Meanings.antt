@@ -1,16 +1,16 @@
 -- What the machine gives for each piece of a text is what the piece stands for.
-use Rattle.std.proofs.Common.{◌≡◌, ℕ, zero, suc, ◌+◌, ◌-◌, ◌*◌, ◌<◌, ◌≤◌, Bool, true, false, not, ◌&&◌, ◌||◌, if◌then◌else◌, eqb, leb, ltb, Option, Some, List, [], ◌∷◌, ◌++◌, refl, inl, inr, sym, ap, ◌∙◌, arith, append_assoc, append-nil}
+use Rattle.std.proofs.Common.{◌≡◌, ℕ, zero, suc, ◌+◌, ◌-◌, ◌*◌, ◌<◌, ◌≤◌, Bool, true, false, not, ◌&&◌, ◌||◌, if◌then◌else◌, eqb, leb, ltb, Some, List, [], ◌∷◌, ◌++◌, refl, inl, inr, sym, ap, ◌∙◌, arith, append_assoc, append-nil}
 use Rattle.std.specs.Prelude.{encode_utf8}
 use Rattle.std.specs.Option.{option_and_then}
 use Rattle.std.proofs.lemmas.Bool.{and_parts, or_cases, not-true, leb-true, lt-ltb, le-leb, lt-leb, cases_Bool}
 use Rattle.std.proofs.lemmas.Bool.Decides.{nat_tests}
-use Rattle.xhstt_text.specs.Bytes.{AllAre, is_text, is_quoted, dashes, dashes_after, stays_open}
+use Rattle.xhstt_text.specs.Bytes.{AllAre, is_text, dashes, dashes_after, stays_open}
 use Rattle.xhstt_text.specs.Document.{Value, done, plain, piece_of, value_text, IsValue, Content, nothing, byte, piece, comment, short, long, text}
 use Rattle.xhstt_text.specs.Units.{Entity, less, greater, ampersand, apostrophe, quotation, entity_name, Piece, wide, named, decimal, hexadecimal, piece_text, is_decimal, is_hexadecimal, digit, number_from, AreDigits, is_character, IsPiece}
 use Rattle.xhstt_text.specs.Unescape.{entity_character, piece_meaning, value_meaning, meaning, IsText}
 use Rattle.xhstt_text.specs.UnescapeMachine.{digit as digit_value, with_digit, number_after, character_bytes, numbered, referred, plain_after}
 use Rattle.xhstt_text.specs.declared.unescaping.Part.{Part}
-use Rattle.xhstt_text.specs.declared.unescaping.Part.TheVariants.{Plain, Reference, Less, Mark, MarkDash, Comment, Dash, Dashes}
+use Rattle.xhstt_text.specs.declared.unescaping.Part.TheVariants.{Plain, Reference, Comment, Dash, Dashes}
 use Rattle.xhstt_text.proofs.Runs.{text_isnt_tag}
 
 plain_step : (b : ℕ) (rest : List ℕ) → eqb b 38 ≡ false → eqb b 60 ≡ false → plain_after Plain [] (b ∷ rest) ≡ b ∷ plain_after Plain [] rest

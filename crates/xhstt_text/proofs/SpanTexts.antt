@@ -1,11 +1,11 @@
 -- Each span of a tree that bytes spell is a text of the grammar.
-use Rattle.std.proofs.Common.{◌≡◌, ◌⊎◌, ℕ, ◌+◌, ◌<◌, suc, Bool, true, false, cond, if◌then◌else◌, List, [], ◌∷◌, ◌++◌, length, None, refl, inl, inr, sym, subst, ◌∙◌, arith, append_assoc, append-nil}
+use Rattle.std.proofs.Common.{◌≡◌, ℕ, ◌+◌, ◌<◌, suc, Bool, true, false, if◌then◌else◌, List, [], ◌∷◌, ◌++◌, length, refl, inl, inr, sym, subst, ◌∙◌, arith, append_assoc, append-nil}
 use Rattle.std.specs.Str.{IsUtf8}
 use Rattle.std.proofs.lemmas.Bool.{cases_Bool}
 use Rattle.std.proofs.lemmas.Bool.Decides.{nat_tests}
 use Rattle.std.proofs.lemmas.Str.{IsUtf8-nil}
 use Rattle.xhstt_text.specs.Bytes.{is_quote}
-use Rattle.xhstt_text.specs.Document.{Value, value_text, IsValue, Attributes, none, attribute, attributes_text, Content, nothing, byte, piece, comment, short, long, text, start_length, AreAttributes, IsContent, infos, has_element, loose_in, forest_at, forest_of, root_at, Document, IsDocument, Spelled, declaration_text, mark_text}
+use Rattle.xhstt_text.specs.Document.{Value, value_text, Attributes, none, attribute, attributes_text, Content, nothing, byte, piece, comment, short, long, text, start_length, AreAttributes, IsContent, infos, has_element, forest_at, root_at, Document, Spelled, declaration_text, mark_text}
 use Rattle.xhstt_text.specs.Forest.{AttributeInfo, Forest, empty, node}
 use Rattle.xhstt_text.specs.Spans.{IsValueAmong, IsAttributeIn, IsElementIn}
 use Rattle.xhstt_text.specs.Units.{piece_text}

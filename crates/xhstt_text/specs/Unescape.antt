@@ -1,6 +1,6 @@
 -- What a text stands for, between two tags or in an attribute's value, by the pieces of the grammar:
 -- a reference stands for its character, a comment for nothing, and each other character for itself.
-use Rattle.std.specs.Prelude.{ℕ, ◌≡◌, true, Option, unwrap_or, List, [], ◌∷◌, ◌++◌, encode_utf8}
+use Rattle.std.specs.Prelude.{ℕ, ◌≡◌, true, unwrap_or, List, [], ◌∷◌, ◌++◌, encode_utf8}
 use Rattle.std.specs.Str.{IsUtf8}
 use Rattle.khe_base.specs.Text.{text_of}
 use Rattle.xhstt_text.specs.Bytes.{is_text, IsComment}
