@@ -1,1 +1,5 @@
+pub mod Fine
+pub mod InForm
+pub mod Spellable
 pub mod Trimming
+pub mod WellFormed

@@ -1,5 +1,5 @@
 -- What is left before white at the end, where the last byte is known.
-use Rattle.std.proofs.Common.{◌≡◌, ◌≤◌, ◌+◌, ◌-◌, ◌++◌, ◌∷◌, [], List, ℕ, true, false, refl, ap, sym, subst, ◌∙◌, length, take, get_or, arith}
+use Rattle.std.proofs.Common.{◌≡◌, ◌≤◌, ◌+◌, ◌-◌, ◌++◌, ◌∷◌, [], List, ℕ, true, false, refl, ap, sym, ◌∙◌, length, take, get_or, arith}
 use Rattle.std.proofs.lemmas.List.{take_all, take_more}
 use Rattle.xhstt_text.specs.Bytes.{is_white}
 use Rattle.xhstt_shape.specs.Contents.{before_rest, without_back}

@@ -1,3 +1,4 @@
+pub mod Characters
 pub mod Contents
 pub mod Faults
 pub mod Places
@@ -5,4 +6,5 @@ pub mod Schema
 pub mod Shape
 pub mod Values
 pub mod Walk
+pub mod WellFormed
 pub mod Words

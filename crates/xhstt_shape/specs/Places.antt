@@ -1,5 +1,5 @@
 -- Archives that are equal but for the places of their references and names.
-use Rattle.std.specs.Prelude.{ℕ, ◌≡◌, List, map}
+use Rattle.std.specs.Prelude.{◌≡◌, List, map}
 use Rattle.std.specs.Option.{option_map}
 use Rattle.xhstt_shape.specs.declared.constraints.RawApplies.{RawApplies}
 use Rattle.xhstt_shape.specs.declared.constraints.RawApplies.TheVariants as applied

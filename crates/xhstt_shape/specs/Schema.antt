@@ -1,6 +1,6 @@
 -- The table of elements of an archive: the attributes and children of each, how often a child may
 -- stand there, and what stands in an element.
-use Rattle.std.specs.Prelude.{Bool, true, false, List, [], ◌∷◌}
+use Rattle.std.specs.Prelude.{true, false, List, [], ◌∷◌}
 use Rattle.khe_base.specs.declared.limits.TheConstants.{NUMBER}
 use Rattle.xhstt_shape.specs.declared.words.Kind.{Kind}
 use Rattle.xhstt_shape.specs.declared.words.Kind.TheVariants as kind
@@ -13,7 +13,6 @@ use Rattle.xhstt_shape.specs.declared.schema.Child.{Child}
 use Rattle.xhstt_shape.specs.declared.schema.Given.{Given}
 use Rattle.xhstt_shape.specs.declared.schema.Content.{Content}
 use Rattle.xhstt_shape.specs.declared.schema.Content.TheVariants as content_of
-use Rattle.xhstt_shape.specs.declared.schema.Mark.{Mark}
 use Rattle.xhstt_shape.specs.declared.schema.Mark.TheVariants.{Once, AtMostOnce, Many}
 use Rattle.xhstt_shape.specs.declared.schema.Row.{Row}
 use Rattle.xhstt_shape.specs.declared.schema.Row.TheVariants as row

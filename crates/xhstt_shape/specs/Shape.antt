@@ -1,7 +1,7 @@
 -- The archive of a tree, or its first fault by the table of elements.
-use Rattle.std.specs.Prelude.{ℕ, Bool, true, false, if◌then◌else◌, Result, Ok, Err}
+use Rattle.std.specs.Prelude.{if◌then◌else◌, Result, Ok, Err}
 use Rattle.std.specs.Str.{bytes_eq}
-use Rattle.xhstt_text.specs.Forest.{Info, Forest, empty, node}
+use Rattle.xhstt_text.specs.Forest.{Forest, empty, node}
 use Rattle.xhstt_text.specs.FlatTable.{root_forest}
 use Rattle.xhstt_text.specs.Handles.{Standing}
 use Rattle.xhstt_text.specs.declared.tree.Tree.{Tree}

@@ -1,12 +1,12 @@
 -- What an element says, for each sort of element, as total functions: where an element lacks what it
 -- must have, or that is not in form, a value stands in which no archive without a fault has.
-use Rattle.std.specs.Prelude.{ℕ, Bool, true, false, if◌then◌else◌, Option, Some, None, unwrap_or, List, [], ◌∷◌, map, find}
+use Rattle.std.specs.Prelude.{ℕ, Bool, false, if◌then◌else◌, Option, Some, None, unwrap_or, List, [], ◌∷◌, map, find}
 use Rattle.std.specs.Option.{option_map, option_and_then}
 use Rattle.std.specs.Str.{bytes_eq}
 use Rattle.khe_base.specs.declared.costs.CostFn.{CostFn}
 use Rattle.khe_base.specs.declared.costs.CostFn.TheVariants.{Linear}
 use Rattle.khe_base.specs.declared.limits.TheConstants.{NUMBER}
-use Rattle.xhstt_text.specs.Forest.{AttributeInfo, Info, Forest, empty, node}
+use Rattle.xhstt_text.specs.Forest.{AttributeInfo, Forest, empty, node}
 use Rattle.xhstt_text.specs.Handles.{Standing}
 use Rattle.xhstt_text.specs.Unescape.{unescaped}
 use Rattle.xhstt_shape.specs.declared.constraints.RawApplies.{RawApplies}

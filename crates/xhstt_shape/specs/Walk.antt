@@ -2,7 +2,7 @@
 -- attributes in order, the attributes that it lacks, its text where elements are to stand, its
 -- children from left to right, each first by its name and then walked, the children that it lacks,
 -- and last its value.
-use Rattle.std.specs.Prelude.{ℕ, Bool, true, false, not, ◌&&◌, ◌||◌, if◌then◌else◌, Option, Some, None, is_some, Result, Ok, Err, List, [], ◌∷◌, ◌++◌, find}
+use Rattle.std.specs.Prelude.{ℕ, Bool, true, false, not, ◌||◌, if◌then◌else◌, Option, Some, None, is_some, Result, Ok, Err, List, [], ◌∷◌, ◌++◌, find}
 use Rattle.std.specs.List.{list_all, list_any}
 use Rattle.std.specs.Str.{bytes_eq}
 use Rattle.xhstt_text.specs.Forest.{AttributeInfo, Info, Forest, empty, node}
@@ -15,7 +15,7 @@ use Rattle.xhstt_shape.specs.declared.schema.Given.{Given}
 use Rattle.xhstt_shape.specs.declared.schema.Content.{Content}
 use Rattle.xhstt_shape.specs.declared.schema.Content.TheVariants as content_of
 use Rattle.xhstt_shape.specs.declared.schema.Mark.{Mark}
-use Rattle.xhstt_shape.specs.declared.schema.Mark.TheVariants.{Once, AtMostOnce, Many}
+use Rattle.xhstt_shape.specs.declared.schema.Mark.TheVariants.{Once, Many}
 use Rattle.xhstt_shape.specs.declared.schema.Row.{Row}
 use Rattle.xhstt_shape.specs.declared.schema.Row.TheVariants as row
 use Rattle.xhstt_shape.specs.declared.words.Label.{Label}

@@ -1,8 +1,11 @@
 //! Reading an archive from the tree of its text.
 
-ghost use Rattle.xhstt_text.specs.FlatTable.{IsTable};
+ghost use Rattle.std.specs.Prelude.{IfOk};
+ghost use Rattle.xhstt_text.specs.Document.{Spelled};
+ghost use Rattle.xhstt_text.specs.FlatTable.{IsTable, root_forest};
 ghost use Rattle.xhstt_shape.specs.Faults.{IsTold};
 ghost use Rattle.xhstt_shape.specs.Shape as spec;
+ghost use Rattle.xhstt_shape.specs.WellFormed.{IsInForm, IsWellFormed};
 
 use crate::building::Build;
 use crate::faults::{ShapeFault, UNKNOWN_ELEMENT};
@@ -24,11 +27,19 @@ use xhstt_text::{Element, Tree};
 /// the `<` of the element; and a value that is not in form, at its first byte. What stands in a
 /// `Report` is not looked at.
 ///
+/// An archive that comes is in form: its numbers are in their ranges, its roles are not empty and have
+/// no white at their ends, an event resource without a reference has a role and a type, and what a
+/// constraint applies to has the form that its kind asks for. Where the tree is one that its bytes
+/// spell, as the reader of texts gives it, the archive is well formed: its texts also have only
+/// characters that a text of the grammar may have.
+///
 /// Memory is taken in proportion to the tree, and where it is refused, `NoMemory` comes. The time
 /// is linear in the tree.
 pub fn archive(alloc: Global, tree: &Tree<'_>) -> Result<Archive, ShapeFault>
     requires { IsTable tree.now }
-    ensures { IsTold result (spec.shape_of_tree tree.now) }
+    ensures told { IsTold result (spec.shape_of_tree tree.now) }
+    ensures in_form { IfOk result IsInForm }
+    ensures well_formed { IfOk result (λ a. Spelled tree.now.bytes.now (root_forest tree.now) → IsWellFormed a) }
 {
     let root = tree.root();
     archive_of(alloc, &root)

@@ -417,6 +417,9 @@ fn only<'a, T>(rt: &impl Abort, list: &'a [T]) -> &'a T {
     &list[0]
 }
 
+/// Takes what threads may share and hand over.
+fn lends_to_threads<T: Send + Sync>(_value: &T) {}
+
 fn check_times(rt: &impl Abort, instance: &RawInstance) {
     let groups = instance.time_groups.as_slice();
     assert_eq!(rt; groups.len(), 3);
@@ -446,6 +449,7 @@ fn check_event(rt: &impl Abort, event: &RawEvent) {
 fn an_archive(rt: HostRuntime) -> Result<(), Fail> {
     let tree = elements(rt.alloc(), READ)?;
     let archive = archive(rt.alloc(), &tree)?;
+    lends_to_threads(&archive);
     let instance = only(&rt, archive.instances.as_slice());
     check_times(&rt, instance);
     check_event(&rt, only(&rt, instance.events.as_slice()));

@@ -8,5 +8,7 @@ pub mod Forest
 pub mod Handles
 pub mod Machine
 pub mod Reading
+pub mod Spans
 pub mod Unescape
+pub mod UnescapeMachine
 pub mod Units

@@ -1,82 +1,67 @@
--- The text that bytes between two tags or two quotes stand for: references are replaced, and
--- comments are left out. It has a meaning for any bytes, whether they are such a text or not.
-use Rattle.std.specs.Prelude.{ℕ, ◌+◌, ◌-◌, ◌*◌, ◌&&◌, ◌||◌, ◌==◌, nat_lt, nat_le, nat_eq, if◌then◌else◌, Option, Some, None, unwrap_or, List, [], ◌∷◌, ◌++◌, drop, codes, encode_utf8}
-use Rattle.std.specs.List.{starts_with}
-use Rattle.std.specs.Option.{option_and_then, option_map_or}
-use Rattle.std.specs.Str.{bytes_eq}
+-- What a text stands for, between two tags or in an attribute's value, by the pieces of the grammar:
+-- a reference stands for its character, a comment for nothing, and each other character for itself.
+use Rattle.std.specs.Prelude.{ℕ, ◌≡◌, true, unwrap_or, List, [], ◌∷◌, ◌++◌, encode_utf8}
+use Rattle.std.specs.Str.{IsUtf8}
 use Rattle.khe_base.specs.Text.{text_of}
-use Rattle.xhstt_text.specs.declared.unescaping.Part.{Part}
-use Rattle.xhstt_text.specs.declared.unescaping.Part.TheVariants.{Plain, Reference, Less, Mark, MarkDash, Comment, Dash, Dashes}
+use Rattle.xhstt_text.specs.Bytes.{is_text, IsComment}
+use Rattle.xhstt_text.specs.Document.{Value, done, plain, piece_of, value_text, IsValue, Content, nothing, byte, piece, comment, short, long, text}
+use Rattle.xhstt_text.specs.Units.{Entity, less, greater, ampersand, apostrophe, quotation, Piece, wide, named, decimal, hexadecimal, number_from, IsPiece}
+use Rattle.xhstt_text.specs.UnescapeMachine.{plain_after}
+use Rattle.xhstt_text.specs.declared.unescaping.Part.TheVariants.{Plain}
 
--- what a digit writes, up to 15
-abbrev pub digit : ℕ → Option ℕ
-digit c =
-    if nat_le 48 c && nat_le c 57 then Some (c - 48)
-    else if nat_le 97 c && nat_le c 102 then Some (c - 87)
-    else if nat_le 65 c && nat_le c 70 then Some (c - 55)
-    else None
+-- the characters `<`, `>`, `&`, `'` and `"`
+abbrev pub entity_character : Entity → ℕ
+entity_character less = 60
+entity_character greater = 62
+entity_character ampersand = 38
+entity_character apostrophe = 39
+entity_character quotation = 34
 
--- the number that a digit makes of what was written before it, where the digit is one of this base
--- and the number is not above the last character
-abbrev pub with_digit : ℕ → ℕ → ℕ → Option ℕ
-with_digit base before d = if nat_lt d base && nat_le (before * base + d) 0x10FFFF then Some (before * base + d) else None
+-- what a piece stands for, in UTF-8: a character for itself, an entity for its character, and a number
+-- for the character of this number
+abbrev pub piece_meaning : Piece → List ℕ
+piece_meaning (wide b c) = 239 ∷ b ∷ c ∷ []
+piece_meaning (named e) = entity_character e ∷ []
+piece_meaning (decimal ds) = encode_utf8 (number_from 10 0 ds)
+piece_meaning (hexadecimal ds) = encode_utf8 (number_from 16 0 ds)
 
--- the number that digits of this base write after what was written before them
-abbrev pub number_after : ℕ → ℕ → List ℕ → Option ℕ
-number_after base before [] = Some before
-number_after base before (c ∷ cs) = option_and_then (λ n. number_after base n cs) (option_and_then (with_digit base before) (digit c))
+-- what the value of an attribute stands for, in UTF-8
+abbrev pub value_meaning : Value → List ℕ
+value_meaning done = []
+value_meaning (plain b v) = b ∷ value_meaning v
+value_meaning (piece_of u v) = piece_meaning u ++ value_meaning v
 
--- a character in UTF-8; nothing for a number that is none
-abbrev pub character_bytes : ℕ → List ℕ
-character_bytes code =
-    if nat_lt code 0xD800 || (nat_le 0xE000 code && nat_le code 0x10FFFF) then encode_utf8 code else []
+-- what the text between two tags stands for, in UTF-8; elements are no part of it
+abbrev pub meaning : Content → List ℕ
+meaning nothing = []
+meaning (byte b c) = b ∷ meaning c
+meaning (piece u c) = piece_meaning u ++ meaning c
+meaning (comment inner c) = meaning c
+meaning (short s c) = meaning c
+meaning (long s inner shut white c) = meaning c
 
--- what a numbered reference stands for
-abbrev pub numbered : Option ℕ → List ℕ
-numbered code = option_map_or character_bytes code []
+-- the content is in form, and has no element
+abbrev pub IsText : Content → Type 0
+IsText nothing = Unit {0}
+IsText (byte b c) = (is_text b ≡ true) × IsText c
+IsText (piece u c) = IsPiece u × IsText c
+IsText (comment inner c) = IsComment inner × IsText c
+IsText _ = ⊥
 
--- what a reference stands for, by what is between its `&` and its `;`: one of five names, `#x` and
--- hexadecimal digits, or `#` and decimal digits; any other stands for nothing
-abbrev pub referred : List ℕ → List ℕ
-referred name =
-    if bytes_eq (codes "lt") name then codes "<"
-    else if bytes_eq (codes "gt") name then codes ">"
-    else if bytes_eq (codes "amp") name then codes "&"
-    else if bytes_eq (codes "apos") name then codes "'"
-    else if bytes_eq (codes "quot") name then codes "\""
-    else if starts_with nat_eq name (codes "#x") then numbered (number_after 16 0 (drop 2 name))
-    else if starts_with nat_eq name (codes "#") then numbered (number_after 10 0 (drop 1 name))
-    else []
+-- the bytes are UTF-8 and spell this text between two tags
+pub record IsTextOf (bytes : List ℕ) (c : Content) : Type 0 where
+  pub utf8 : IsUtf8 bytes
+  pub in_form : IsText c
+  pub spelled : bytes ≡ text c
 
--- the part of a text that a byte leads to: a reference ends with `;`, and a comment begins with
--- `<!--` and ends with the first `-->`
-abbrev pub next_part : Part → ℕ → Part
-next_part Plain b = if b == 38 then Reference else if b == 60 then Less else Plain
-next_part Reference b = if b == 59 then Plain else Reference
-next_part Less b = Mark
-next_part Mark b = MarkDash
-next_part MarkDash b = Comment
-next_part Comment b = if b == 45 then Dash else Comment
-next_part Dash b = if b == 45 then Dashes else Comment
-next_part Dashes b = if b == 62 then Plain else if b == 45 then Dashes else Comment
+-- the bytes are UTF-8 and spell this value between two such quotes
+pub record IsValueOf (quote : ℕ) (bytes : List ℕ) (v : Value) : Type 0 where
+  pub utf8 : IsUtf8 bytes
+  pub in_form : IsValue quote v
+  pub spelled : bytes ≡ value_text v
 
--- the name of the reference so far, after one more byte
-abbrev pub next_name : Part → List ℕ → ℕ → List ℕ
-next_name Reference name b = if b == 59 then [] else name ++ b ∷ []
-next_name _ name b = name
-
--- what one byte adds to what the text stands for
-abbrev pub added : Part → List ℕ → ℕ → List ℕ
-added Plain name b = if b == 38 || b == 60 then [] else b ∷ []
-added Reference name b = if b == 59 then referred name else []
-added _ name b = []
-
--- the bytes that the rest of a text stands for, in this part of it, after this much of a
--- reference's name
-abbrev pub plain_after : Part → List ℕ → List ℕ → List ℕ
-plain_after part name [] = []
-plain_after part name (b ∷ bs) = added part name b ++ plain_after (next_part part b) (next_name part name b) bs
-
--- the characters that bytes stand for; none where what they stand for is not UTF-8
+-- the characters that bytes stand for. Where they spell a text of the grammar, it is what that text
+-- stands for, as `unescape` ensures. Other bytes have a meaning too, which no reader can meet in a
+-- tree: none where what they stand for is not UTF-8.
 abbrev pub unescaped : List ℕ → List ℕ
 unescaped bytes = unwrap_or (text_of (plain_after Plain [] bytes)) []

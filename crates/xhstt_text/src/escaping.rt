@@ -1,15 +1,18 @@
-ghost use Rattle.std.specs.Prelude.{◌≡◌, ◌++◌, OnOk, OnErr, IfOk};
+ghost use Rattle.std.specs.Prelude.{◌≡◌, ◌++◌, OnOk, OnErr, IfOk, encode_utf8_all};
 ghost use Rattle.xhstt_text.specs.Escape.{escaped, escaped_character};
+ghost use Rattle.xhstt_text.specs.Unescape.{unescaped};
 
 use khe_base::{NoMemory, Text};
 use std::alloc::Global;
 
 /// A text as it is written in an attribute's value or between tags: `&`, `<`, `>`, `"`, the tab,
-/// the line feed and the carriage return as references, each other character as it is.
+/// the line feed and the carriage return as references, each other character as it is. Unescaping
+/// it gives the text back.
 ///
 /// It takes time and memory linear in the text.
 pub fn escape(alloc: Global, text: &Text) -> Result<Text, NoMemory>
-    ensures { IfOk result (λ t. t ≡ escaped text.now) }
+    ensures written { IfOk result (λ t. t ≡ escaped text.now) }
+    ensures read_back { IfOk result (λ t. unescaped (encode_utf8_all t) ≡ text.now) }
 {
     let mut written = Text::new(alloc);
     for character in text.as_str().chars() {

@@ -1,9 +1,19 @@
-ghost use Rattle.std.specs.Prelude.{◌≡◌, [], ◌++◌, ◌≤◌, OnOk, IfOk, IfSome};
+ghost use Rattle.std.specs.Prelude.{◌≡◌, ℕ, List, Some, [], ◌++◌, ◌≤◌, OnOk, IfOk, IfSome};
 ghost use Rattle.std.specs.Option.{option_and_then};
-ghost use Rattle.xhstt_text.specs.Unescape as spec;
+ghost use Rattle.khe_base.specs.Text.{text_of};
+ghost use Rattle.xhstt_text.specs.Bytes.{AllAre};
+ghost use Rattle.xhstt_text.specs.Document.{Content, Spelled, Value};
+ghost use Rattle.xhstt_text.specs.Forest.{Forest};
+ghost use Rattle.xhstt_text.specs.Spans.{IsAttributeIn, IsElementIn};
+ghost use Rattle.xhstt_text.specs.Unescape.{IsTextOf, IsValueOf, meaning, unescaped, value_meaning};
+ghost use Rattle.xhstt_text.specs.UnescapeMachine as spec;
+ghost use Rattle.xhstt_text.specs.Units.{is_character};
 
 use khe_base::{NoMemory, Text};
 use std::alloc::Global;
+
+#[cfg(test)]
+mod tests;
 
 /// What stands at a place of a text.
 #[derive(Clone, Copy)]
@@ -27,12 +37,33 @@ pub(crate) enum Part {
 }
 
 /// The text that bytes between two tags or two quotes stand for: references are replaced by their
-/// characters, and comments are left out.
+/// characters, comments are left out, and each other character stands for itself, as the grammar of
+/// XML says. Its characters are those that a text of the grammar may have.
 ///
-/// It has an answer for any bytes: a reference of a form that is not known stands for nothing, and
-/// bytes that stand for no UTF-8 give the empty text. It takes time and memory linear in the bytes.
+/// It has an answer for other bytes too: a reference of a form that is not known stands for nothing,
+/// and bytes that stand for no UTF-8 give the empty text. It takes time and memory linear in the
+/// bytes.
 pub fn unescape(alloc: Global, span: &[u8]) -> Result<Text, NoMemory>
-    ensures { IfOk result (λ t. t ≡ spec.unescaped span.now) }
+    ensures value { IfOk result (λ t. t ≡ unescaped span.now) }
+
+    // A text of the grammar gives what it stands for, in characters of the grammar.
+    ensures between_tags { IfOk result (λ t. (c : Content) → IsTextOf span.now c → text_of (meaning c) ≡ Some t) }
+    ensures between_quotes { IfOk result (λ t. (quote : ℕ) (v : Value) → IsValueOf quote span.now v → text_of (value_meaning v) ≡ Some t) }
+    ensures characters { IfOk result (λ t. (c : Content) → IsTextOf span.now c → AllAre is_character t) }
+    ensures characters_between_quotes { IfOk result (λ t. (quote : ℕ) (v : Value) → IsValueOf quote span.now v → AllAre is_character t) }
+
+    // Each span of a tree is such a text.
+    ensures of_element { IfOk result (λ t. (bytes : List ℕ) (f : Forest) → Spelled bytes f → IsElementIn span.now f
+        → (c : Content) × IsTextOf span.now c × (text_of (meaning c) ≡ Some t)) }
+    ensures of_attribute { IfOk result (λ t. (bytes : List ℕ) (f : Forest) → Spelled bytes f → IsAttributeIn span.now f
+        → (quote : ℕ) × (v : Value) × IsValueOf quote span.now v × (text_of (value_meaning v) ≡ Some t)) }
+{
+    plain_text(alloc, span)
+}
+
+/// The text that bytes stand for.
+fn plain_text(alloc: Global, span: &[u8]) -> Result<Text, NoMemory>
+    ensures { IfOk result (λ t. t ≡ unescaped span.now) }
 {
     let plain = plain_of(alloc, span)?;
     match Text::from_utf8(alloc, plain.as_slice())? {

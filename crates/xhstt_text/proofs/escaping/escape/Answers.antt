@@ -1,10 +1,12 @@
--- The characters that were taken are those of the text.
-use Rattle.std.proofs.Common.{◌∙◌, sym, ap, ◌≡◌}
+-- The characters that were taken are those of the text, and what was written stands for them.
+use Rattle.std.proofs.Common.{◌∙◌, sym, ap, subst, ◌≡◌}
+use Rattle.std.specs.Str.{IsUtf8}
 use Rattle.std.proofs.lemmas.Iterator.{YieldsList-from_chars}
 use Rattle.std.proofs.lemmas.Iterator.Consumers.{YieldsList-end}
 use Rattle.std.proofs.lemmas.List.{map-id}
 use Rattle.std.proofs.lemmas.Str.{encodes_same, encodes-chars}
 use Rattle.xhstt_text.specs.Escape.{escaped}
+use Rattle.xhstt_text.proofs.Escapes.{unescaped-escaped}
 use Rattle.xhstt_text.proofs.escaping.escape.Goals as goal
 
 pub returns : goal.returns
@@ -12,4 +14,8 @@ returns c =
     let t = YieldsList-end (YieldsList-from_chars c.as_str.result.now c.as_str.utf8 cc) c.loop-character.yielded _ c.loop-character.yielded_by _ _ c.in-None.is c.next.ensures.steps in
     let same : c.loop-character.yielded ≡ c.args.text.now =
     sym (map-id c.loop-character.yielded) ∙ t.0 ∙ encodes_same _ _ (encodes-chars _ c.as_str.utf8 ∙ c.as_str.ensures) in
-    c.loop-character.invariant ∙ ap escaped same
+    let written : c.loop-character.written ≡ escaped c.args.text.now = c.loop-character.invariant ∙ ap escaped same in
+    record {
+      written = written;
+      read_back = unescaped-escaped c.args.text.now c.loop-character.written (subst IsUtf8 c.as_str.ensures c.as_str.utf8) written;
+    }

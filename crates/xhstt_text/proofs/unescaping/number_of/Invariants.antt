@@ -1,6 +1,6 @@
 -- What the digits so far write goes on to what all of them write.
 use Rattle.std.proofs.Common.{◌≡◌, ◌≤◌, drop}
-use Rattle.xhstt_text.specs.Unescape.{number_after}
+use Rattle.xhstt_text.specs.UnescapeMachine.{number_after}
 use Rattle.xhstt_text.proofs.unescaping.number_of.Given as goal
 
 abbrev pub invariant-loop-byte : goal.invariant-loop-byte

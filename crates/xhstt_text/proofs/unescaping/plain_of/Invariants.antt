@@ -1,6 +1,6 @@
 -- What was written and what the rest stands for are together what the whole stands for.
 use Rattle.std.proofs.Common.{◌≡◌, ◌++◌, [], drop}
-use Rattle.xhstt_text.specs.Unescape.{plain_after}
+use Rattle.xhstt_text.specs.UnescapeMachine.{plain_after}
 use Rattle.xhstt_text.specs.declared.unescaping.Part.TheVariants.{Plain}
 use Rattle.xhstt_text.proofs.unescaping.plain_of.Given as goal
 
