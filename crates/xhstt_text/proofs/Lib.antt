@@ -3,9 +3,9 @@ pub mod Bounds
 pub mod CleanForest
 pub mod Complete
 pub mod DocumentTable
+pub mod Escapes
 pub mod Follow
 pub mod ForestOfTable
-pub mod Escapes
 pub mod KnownNames
 pub mod MeaningTexts
 pub mod Meanings
@@ -15,9 +15,6 @@ pub mod Pieces
 pub mod Places
 pub mod Runs
 pub mod Sound
-<<<<<<< HEAD
-pub mod Total
-=======
 pub mod SpanTexts
->>>>>>> 8c1543e7c7af33e45856c565146d4fc624d6fcda
+pub mod Total
 pub mod Trees
