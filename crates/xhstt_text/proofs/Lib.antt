@@ -5,6 +5,7 @@ pub mod DocumentTable
 pub mod Follow
 pub mod ForestOfTable
 pub mod KnownNames
+pub mod Lasting
 pub mod Numbers
 pub mod Parts
 pub mod Pieces
