@@ -1,18 +1,19 @@
 -- What the reader answers, from what the machine does.
-use Rattle.std.proofs.Common.{◌≡◌, ◌<◌, ℕ, List, length, Result, Ok, Err, refl, sym, ◌∙◌, ap, subst, IfOk, arith, ◌⊎◌, inl, inr}
+use Rattle.std.proofs.Common.{◌≡◌, ◌<◌, ℕ, List, [], length, Result, Ok, Err, refl, sym, ◌∙◌, ap, subst, IfOk, arith, ◌⊎◌, inl, inr}
 use Rattle.xhstt_text.specs.declared.faults.TextFault.{TextFault}
 use Rattle.xhstt_text.specs.declared.faults.TextFault.TheVariants.{Bad, NoMemory}
 use Rattle.xhstt_text.specs.declared.tree.Attribute.{Attribute}
 use Rattle.xhstt_text.specs.declared.tree.Node.{Node}
 use Rattle.xhstt_text.specs.Document.{Document, IsDocument, IsSpellingOf, Rows, Spells, spelling, table}
-use Rattle.xhstt_text.specs.Machine.{outcome_of, Outcome}
+use Rattle.xhstt_text.specs.Machine.{beginning, outcome_of, Outcome}
 use Rattle.xhstt_text.specs.Reading.{Leads}
 use Rattle.std.specs.Str.{IsUtf8, IsValidUpTo}
 use Rattle.std.proofs.lemmas.Str.{utf8_valid_len-IsValidUpTo, utf8_valid_len-IsUtf8}
-use Rattle.xhstt_text.specs.FirstFault.{IsFirstFault, IsText, HasFault}
+use Rattle.xhstt_text.specs.FirstFault.{IsFirstFault, IsText, HasFault, HasLastingFaults}
 use Rattle.xhstt_text.specs.declared.faults.TheConstants.{NOT_UTF8}
 use Rattle.xhstt_text.proofs.Complete.{run_document}
 use Rattle.xhstt_text.proofs.Sound.{document_from}
+use Rattle.xhstt_text.proofs.Lasting.{lasts}
 use Rattle.xhstt_text.proofs.Total.{told}
 
 same_rows : (bytes : List ℕ) (rows : Rows) → outcome_of bytes ≡ Ok rows → (d : Document) → IsDocument d → bytes ≡ spelling d → table d ≡ rows
@@ -104,3 +105,9 @@ decides bytes u = elim (told bytes) [
   | inl d ↦ inl (d.0, (u, d.1, d.2))
   | inr f ↦ inr (f.0, f.1, inr (u, f.2))
 ]
+
+-- it stays the first
+pub lasting : (bytes : List ℕ) → HasLastingFaults bytes
+lasting bytes kind at more n m (inl h) u = absurd (n h.0)
+lasting bytes kind at more n m (inr h) u =
+    inr (u, lasts bytes beginning (record { frames = []; nodes = []; attributes = [] }) 0 kind at more m h.1)

@@ -7,6 +7,7 @@ pub mod Escapes
 pub mod Follow
 pub mod ForestOfTable
 pub mod KnownNames
+pub mod Lasting
 pub mod MeaningTexts
 pub mod Meanings
 pub mod Numbers

@@ -30,8 +30,8 @@ too_deep at = Bad TOO_DEEP at
 abbrev pub no_tag : ℕ → ℕ → ℕ → TextFault
 no_tag place at b = if b == 63 then unsupported place else bad_markup at
 
--- `<!` stands at the first place, and the bytes from the second on are no comment: these letters would
--- make the word whole that only another kind of markup begins with
+-- after the `<!` at the first place, at the second a word begins that only another kind of markup begins
+-- with; these letters of it did not come
 abbrev pub no_comment : ℕ → ℕ → List ℕ → TextFault
 no_comment place at [] = unsupported place
 no_comment place at (k ∷ ks) = bad_markup at

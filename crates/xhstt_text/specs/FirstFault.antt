@@ -1,10 +1,10 @@
 -- The first fault of bytes.
-use Rattle.std.specs.Prelude.{ℕ, List, ◌≡◌, ◌⊎◌, Err}
+use Rattle.std.specs.Prelude.{ℕ, List, ◌++◌, ◌≡◌, ◌⊎◌, Err}
 use Rattle.std.specs.Str.{IsUtf8, IsValidUpTo}
 use Rattle.xhstt_text.specs.Document.{Document, IsSpellingOf}
 use Rattle.xhstt_text.specs.Machine.{outcome_of}
 use Rattle.xhstt_text.specs.declared.faults.TextFault.TheVariants.{Bad}
-use Rattle.xhstt_text.specs.declared.faults.TheConstants.{NOT_UTF8}
+use Rattle.xhstt_text.specs.declared.faults.TheConstants.{NOT_UTF8, BAD_MARKUP}
 
 -- the bytes have a fault, and this is the kind and the place of the first: the place of the first byte
 -- that is no part of a well-formed character, wherever it stands; where all are UTF-8, the fault that
@@ -20,3 +20,8 @@ IsText bytes = (d : Document) × IsSpellingOf bytes d
 -- the bytes have a fault
 abbrev pub HasFault : List ℕ → Type 0
 HasFault bytes = (kind : ℕ) × (at : ℕ) × IsFirstFault bytes kind at
+
+-- whatever bytes follow, a fault of another kind than these two stays the first
+abbrev pub HasLastingFaults : List ℕ → Type 0
+HasLastingFaults bytes =
+    (kind at : ℕ) (more : List ℕ) → (kind ≡ NOT_UTF8 → ⊥) → (kind ≡ BAD_MARKUP → ⊥) → IsFirstFault bytes kind at → IsUtf8 (bytes ++ more) → IsFirstFault (bytes ++ more) kind at

@@ -5,7 +5,7 @@ ghost use Rattle.xhstt_text.specs.FlatTable.{IsTable, root_forest};
 ghost use Rattle.xhstt_text.specs.Forest.{Forest};
 ghost use Rattle.xhstt_text.specs.Machine.{outcome_of, run, ended, Outcome};
 ghost use Rattle.xhstt_text.specs.Reading.{Leads, read_of};
-ghost use Rattle.xhstt_text.specs.FirstFault.{HasFault, IsFirstFault, IsText};
+ghost use Rattle.xhstt_text.specs.FirstFault.{HasFault, HasLastingFaults, IsFirstFault, IsText};
 ghost use Rattle.xhstt_text.specs.declared.faults.TextFault.TheVariants.{Bad, NoMemory};
 
 use crate::TextFault;
@@ -111,6 +111,7 @@ pub fn elements<'a>(alloc: Global, bytes: &'a [u8]) -> Result<Tree<'a>, TextFaul
     ensures decided { IsText bytes.now ⊎ HasFault bytes.now }
     ensures one_fault { (kind at other place : ℕ) → IsFirstFault bytes.now kind at → IsFirstFault bytes.now other place → (kind ≡ other) × (at ≡ place) }
     ensures not_spelled { (kind at : ℕ) → IsFirstFault bytes.now kind at → (d : Document) → IsSpellingOf bytes.now d → ⊥ }
+    ensures lasting { HasLastingFaults bytes.now }
 {
     match str::from_utf8(bytes) {
         Ok(_) => read(alloc, bytes),

@@ -1,7 +1,7 @@
 use Rattle.std.proofs.Common.{refl, sym, subst, inl, inr}
 use Rattle.xhstt_text.specs.declared.faults.TheConstants.{NOT_UTF8}
 use Rattle.std.specs.Str.{IsValidUpTo}
-use Rattle.xhstt_text.proofs.Answer.{spelled, alone, unspelled, first_fault, fault_answered, utf8_answered, utf8_fault, one_first, decides}
+use Rattle.xhstt_text.proofs.Answer.{spelled, alone, unspelled, first_fault, fault_answered, utf8_answered, utf8_fault, one_first, decides, lasting}
 use Rattle.xhstt_text.proofs.Trees.{read-table, read-spelled, read-alone}
 use Rattle.xhstt_text.proofs.reader.elements.Goals as goal
 
@@ -55,3 +55,9 @@ returns-in-Ok-clause-decided c = decides c.args.bytes.now c.in-Ok.ensures.cases.
 pub returns-in-Err-clause-decided : goal.returns-in-Err-clause-decided
 returns-in-Err-clause-decided c =
     inr (NOT_UTF8, c.valid_up_to.result, inl (refl, subst (IsValidUpTo c.args.bytes.now) (sym c.valid_up_to.ensures) c.in-Err.ensures.cases.1))
+
+pub returns-in-Ok-clause-lasting : goal.returns-in-Ok-clause-lasting
+returns-in-Ok-clause-lasting c = lasting c.args.bytes.now
+
+pub returns-in-Err-clause-lasting : goal.returns-in-Err-clause-lasting
+returns-in-Err-clause-lasting c = lasting c.args.bytes.now
