@@ -1,0 +1,3 @@
+pub mod Causes
+pub mod Completed
+pub mod Entries
