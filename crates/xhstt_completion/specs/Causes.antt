@@ -11,6 +11,7 @@ use Rattle.khe_instance.specs.declared.parts.EventInfo.{EventInfo}
 use Rattle.khe_instance.specs.declared.parts.Parts.{Parts}
 use Rattle.khe_instance.specs.declared.parts.Place.{Place}
 use Rattle.xhstt_completion.specs.Entries.{entries_of, duration_of, time_of, start_of, resource_of, role_of}
+use Rattle.xhstt_completion.specs.declared.faults.Cause.{Cause}
 use Rattle.xhstt_completion.specs.declared.faults.TheConstants.{TOO_LONG, SPLIT_FIXED, FIXED_TIME, OFF_END, BAD_ROLE, FIXED_RESOURCE, WRONG_TYPE}
 use Rattle.xhstt_shape.specs.declared.records.RawEntry.{RawEntry}
 use Rattle.xhstt_shape.specs.declared.records.RawGiven.{RawGiven}
@@ -62,15 +63,18 @@ type_of p r = option_and_then (λ x. option_map (λ info. info.rtype) (slice_get
 abbrev pub has_other_type : Parts → Option ResourceId → Place → Bool
 has_other_type p r place = option_map_or (λ rtype. not (rtype == place.rtype)) (type_of p r) false
 
+-- the cause at a resource and its place
+abbrev pub place_cause : Parts → Option ResourceId → Place → Option ℕ
+place_cause p r place =
+    if differ_in_resource place.fixed r then Some FIXED_RESOURCE else
+    if has_other_type p r place then Some WRONG_TYPE else
+    None
+
 -- the cause at the next resource that an entry gives, if there is one
 abbrev pub given_cause : Parts → EventInfo → List RawGiven → RawGiven → Option ℕ
 given_cause p event before given =
-    let place = place_for p event given in
-    let r = resource_of p given in
-    if is_none place || came_before before given then Some BAD_ROLE else
-    if option_map_or (λ x. differ_in_resource x.fixed r) place false then Some FIXED_RESOURCE else
-    if option_map_or (has_other_type p r) place false then Some WRONG_TYPE else
-    None
+    if is_none (place_for p event given) || came_before before given then Some BAD_ROLE else
+    option_and_then (place_cause p (resource_of p given)) (place_for p event given)
 
 -- the first cause at the resources that follow others
 abbrev pub first_given_cause : Parts → EventInfo → List RawGiven → List RawGiven → Option ℕ
@@ -90,11 +94,6 @@ cause_in p event used entry =
 -- how long the entries of an event last together
 abbrev pub used_by : Parts → ℕ → EventInfo → List RawEntry → ℕ
 used_by p e event entries = sum_by (duration_of event) (entries_of p e entries)
-
--- a cause, and the number of the entry at which it stands
-pub record Cause : Type 0 where
-  pub cause : ℕ
-  pub entry : ℕ
 
 -- the cause at an entry that follows others
 abbrev pub cause_after : Parts → List RawEntry → RawEntry → Option ℕ

@@ -11,8 +11,9 @@ use Rattle.khe_instance.specs.declared.parts.Place.{Place}
 use Rattle.khe_instance.specs.declared.states.Meet.{Meet}
 use Rattle.khe_instance.specs.declared.states.Plain.{Plain}
 use Rattle.khe_instance.specs.declared.states.Task.{Task}
-use Rattle.xhstt_completion.specs.Causes.{Cause, first_cause, used_by}
+use Rattle.xhstt_completion.specs.Causes.{first_cause, used_by}
 use Rattle.xhstt_completion.specs.Entries.{entries_of, duration_of, start_of, resource_of, role_of}
+use Rattle.xhstt_completion.specs.declared.faults.Cause.{Cause}
 use Rattle.xhstt_completion.specs.declared.faults.SolutionFault.{SolutionFault}
 use Rattle.xhstt_completion.specs.declared.faults.SolutionFault.TheVariants.{Invalid, NoMemory}
 use Rattle.xhstt_shape.specs.declared.records.RawEntry.{RawEntry}
@@ -51,10 +52,13 @@ resource_at p given place = option_or place.fixed (option_and_then (given_for p 
 abbrev pub meet_of : ℕ → ℕ × Part → Meet
 meet_of e (slot, part) = record { meet = record { 0 = slot }; event = record { 0 = e }; duration = part.duration; start = part.start }
 
+-- the task at a place of the meet in a slot
+abbrev pub task_of : Parts → ℕ → List RawGiven → ℕ × Place → Task
+task_of p slot given (k, place) = record { task = record { meet = record { 0 = slot }; place = k }; resource = resource_at p given place }
+
 -- the tasks of a part in a slot: one for each place of its event
 abbrev pub tasks_of : Parts → EventInfo → ℕ × Part → List Task
-tasks_of p event (slot, part) =
-    map (λ (k, place). record { task = record { meet = record { 0 = slot }; place = k }; resource = resource_at p part.given place }) (enumerate_from 0 event.places)
+tasks_of p event (slot, part) = map (task_of p slot part.given) (enumerate_from 0 event.places)
 
 -- the parts of an event in its slots, from the first on
 abbrev pub slotted_parts : Parts → List RawEntry → ℕ × EventInfo → List (ℕ × Part)

@@ -1,10 +1,14 @@
 ghost use Rattle.std.specs.Prelude.{◌≡◌, [], length, ◌<◌, IfOk, IfErr, Ok, Some, slice_get};
+ghost use Rattle.std.specs.Option.{option_copied};
 ghost use Rattle.khe_instance.specs.States.{IsValid};
 ghost use Rattle.xhstt_completion.specs.Completed.{completed, IsFaultOf};
 ghost use Rattle.xhstt_completion.specs.Entries.{IsSolution, solutions};
 ghost use Rattle.xhstt_shape.specs.declared.records.RawSolution.{RawSolution};
 
 use crate::SolutionFault;
+use crate::checking::first_cause;
+use crate::faults::Cause;
+use crate::states::state_of;
 use khe_base::Seq;
 use khe_instance::{Instance, Plain};
 use std::alloc::Global;
@@ -27,10 +31,12 @@ pub fn completed(alloc: Global, inst: &Instance, raw: &RawSolution) -> Result<Pl
     ensures valid { IfOk result (IsValid inst.now) }
     ensures plain { IfOk result (λ plain. (plain.detached ≡ []) × (plain.groups ≡ [])) }
 {
-    let _ = inst;
-    let _ = raw;
-    let _ = alloc;
-    Err(SolutionFault::NoMemory)
+    let entries = raw.events.as_slice();
+    if let Some(Cause { cause, entry }) = first_cause(alloc, inst, entries)? {
+        return Err(SolutionFault::Invalid { cause, entry });
+    }
+    inst.facts();
+    Ok(state_of(alloc, inst, entries)?)
 }
 
 /// The completed state of the solution of an archive with this number, counted from 0 over all
@@ -48,9 +54,25 @@ pub fn solution(
     ensures invalid { IfErr result (λ fault. (raw : RawSolution) → slice_get (solutions archive.now) number ≡ Some raw → IsFaultOf (completed inst.now raw) fault) }
     ensures valid { IfOk result (IsValid inst.now) }
 {
-    let _ = inst;
-    let _ = archive;
-    let _ = number;
-    let _ = alloc;
-    Err(SolutionFault::NoMemory)
+    let Some(raw) = solution_numbered(archive, number) else {
+        unreachable!()
+    };
+    completed(alloc, inst, raw)
+}
+
+/// The solution of an archive with this number, if there is one. It takes time in proportion to the
+/// solution groups.
+fn solution_numbered(archive: &Archive, number: u32) -> Option<&RawSolution>
+    ensures { option_copied result ≡ slice_get (solutions archive.now) number }
+{
+    let mut left = number as usize;
+    let groups = archive.solution_groups.as_slice();
+    for group in groups {
+        let solutions = group.solutions.as_slice();
+        if left < solutions.len() {
+            return Some(&solutions[left]);
+        }
+        left -= solutions.len();
+    }
+    None
 }

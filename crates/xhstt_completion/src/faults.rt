@@ -1,5 +1,4 @@
 use khe_base::NoMemory;
-use std::alloc::AllocError;
 use thiserror::Error;
 
 /// The durations of an event's entries, up to this one, exceed the event's.
@@ -24,6 +23,13 @@ pub const FIXED_RESOURCE: u32 = 6;
 /// The entry gives a resource of another type than the event wants there.
 pub const WRONG_TYPE: u32 = 7;
 
+/// A cause, and the number of the entry at which it stands.
+#[derive(Clone, Copy, Debug, PartialEq, Eq)]
+pub(crate) struct Cause {
+    pub cause: u32,
+    pub entry: u32,
+}
+
 /// Why there is no state for a solution.
 #[derive(Clone, Copy, Debug, PartialEq, Eq, Error)]
 pub enum SolutionFault {
@@ -43,17 +49,6 @@ impl From<NoMemory> for SolutionFault {
     ghost from_gives = { λ _ e. e ≡ OutOfMemory };
 
     fn from(_error: NoMemory) -> SolutionFault {
-        SolutionFault::NoMemory
-    }
-}
-
-impl From<AllocError> for SolutionFault {
-    ghost use Rattle.std.specs.Prelude.{◌≡◌};
-    ghost use Rattle.xhstt_completion.specs.declared.faults.SolutionFault.TheVariants.{NoMemory as OutOfMemory};
-
-    ghost from_gives = { λ _ e. e ≡ OutOfMemory };
-
-    fn from(_error: AllocError) -> SolutionFault {
         SolutionFault::NoMemory
     }
 }

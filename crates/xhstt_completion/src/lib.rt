@@ -3,7 +3,9 @@
 #![tactic(auto)]
 
 mod causes;
+mod checking;
 mod completion;
+mod entries;
 mod faults;
 mod states;
 
