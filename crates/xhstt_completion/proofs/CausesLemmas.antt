@@ -3,6 +3,7 @@ use Rattle.std.proofs.Common.{ℕ, ◌≡◌, ◌∙◌, ◌+◌, ◌-◌, ◌<�
 use Rattle.std.specs.Prelude.{is_some, is_none, find, unwrap_or, IfSome, IsSome}
 use Rattle.std.specs.List.{filter, sum_by}
 use Rattle.std.specs.Option.{option_or, option_and_then, option_map}
+use Rattle.std.proofs.lemmas.Bool.{ltb-false}
 use Rattle.std.proofs.lemmas.List.{append-nil, drop_more, take_more}
 use Rattle.std.proofs.lemmas.List.Sums.{sum_by_push}
 use Rattle.khe_base.specs.declared.numbers.EventId.{EventId}
@@ -12,10 +13,10 @@ use Rattle.khe_instance.specs.WellMade.{IsDuration}
 use Rattle.khe_instance.specs.declared.parts.EventInfo.{EventInfo}
 use Rattle.khe_instance.specs.declared.parts.Parts.{Parts}
 use Rattle.khe_instance.specs.declared.parts.Place.{Place}
-use Rattle.xhstt_completion.specs.Causes.{place_cause, given_cause, first_given_cause, place_for, came_before, cause_in, cause_after, first_cause, used_by}
+use Rattle.xhstt_completion.specs.Causes.{place_cause, given_cause, first_given_cause, place_for, came_before, is_too_long, splits_fixed, moves_fixed, ends_late, cause_in, cause_after, first_cause, used_by}
 use Rattle.xhstt_completion.specs.Entries.{duration_of, entries_of, is_event, resource_of}
 use Rattle.xhstt_completion.specs.declared.faults.Cause.{Cause}
-use Rattle.xhstt_completion.specs.declared.faults.TheConstants.{BAD_ROLE}
+use Rattle.xhstt_completion.specs.declared.faults.TheConstants.{BAD_ROLE, TOO_LONG, SPLIT_FIXED, FIXED_TIME, OFF_END}
 use Rattle.xhstt_shape.specs.declared.records.RawEntry.{RawEntry}
 use Rattle.xhstt_shape.specs.declared.records.RawGiven.{RawGiven}
 
@@ -70,17 +71,14 @@ unwrap_or-positive None d h l = l
 unwrap_or-positive (Some n) d h l = h.0
 
 -- whether one entry more is one of an event
-pub filter-push : {A : Type 0} (test : A → Bool) (xs : List A) (x : A) → filter test (xs ++ x ∷ []) ≡ filter test xs ++ (if test x then x ∷ [] else [])
-filter-push test [] x = by (test x)
+filter-push : {A : Type 0} (test : A → Bool) (xs : List A) (x : A) → filter test (xs ++ x ∷ []) ≡ filter test xs ++ (if test x then x ∷ [] else [])
+filter-push test [] x = refl
+filter-push test (y ∷ ys) x = by (test y) (filter-push test ys x)
   where
-    by : (b : Bool) → (if b then x ∷ [] else []) ≡ [] ++ (if b then x ∷ [] else [])
-    by true = refl
-    by false = refl
-filter-push test (y ∷ ys) x = by (test y)
-  where
-    by : (b : Bool) → (if b then y ∷ filter test (ys ++ x ∷ []) else filter test (ys ++ x ∷ [])) ≡ (if b then y ∷ filter test ys else filter test ys) ++ (if test x then x ∷ [] else [])
-    by true = ap (λ r. y ∷ r) (filter-push test ys x)
-    by false = filter-push test ys x
+    by : (b : Bool) → filter test (ys ++ x ∷ []) ≡ filter test ys ++ (if test x then x ∷ [] else [])
+        → (if b then y ∷ filter test (ys ++ x ∷ []) else filter test (ys ++ x ∷ [])) ≡ (if b then y ∷ filter test ys else filter test ys) ++ (if test x then x ∷ [] else [])
+    by true h = ap (λ r. y ∷ r) h
+    by false h = h
 
 -- one more entry of an event, and one of another
 pub entries_of-own : (p : Parts) (e : ℕ) (entries : List RawEntry) (entry : RawEntry) → is_event e (event_named p entry.reference.id) ≡ true
@@ -104,3 +102,20 @@ used_by-own p e event entries entry own =
 pub used_by-other : (p : Parts) (e : ℕ) (event : EventInfo) (entries : List RawEntry) (entry : RawEntry) → is_event e (event_named p entry.reference.id) ≡ false
     → used_by p e event (entries ++ entry ∷ []) ≡ used_by p e event entries
 used_by-other p e event entries entry other = ap (sum_by (duration_of event)) (entries_of-other p e entries entry other)
+
+-- the causes after the first
+abbrev else_cause : Parts → EventInfo → RawEntry → Option ℕ
+else_cause p event entry =
+    if splits_fixed event entry then Some SPLIT_FIXED else
+    if moves_fixed p event entry then Some FIXED_TIME else
+    if ends_late p event entry then Some OFF_END else
+    first_given_cause p event [] entry.resources
+
+-- without a cause, an entry lasts no longer than what is left
+unless-first : (b : Bool) (cause : ℕ) (o : Option ℕ) → (if b then Some cause else o) ≡ None → (b ≡ false) × (o ≡ None)
+unless-first true cause o h = cc
+unless-first false cause o h = (refl, h)
+
+pub not_too_long : (p : Parts) (event : EventInfo) (used : ℕ) (entry : RawEntry) → cause_in p event used entry ≡ None → used + duration_of event entry ≤ event.duration
+not_too_long p event used entry h =
+    ltb-false event.duration (used + duration_of event entry) (unless-first (is_too_long event used entry) TOO_LONG (else_cause p event entry) h).0

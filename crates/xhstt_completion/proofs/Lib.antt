@@ -1,2 +1,4 @@
 pub mod CausesLemmas
+pub mod FitLemmas
 pub mod PartsLemmas
+pub mod WellMadeLemmas

@@ -1,5 +1,5 @@
 -- The parts of an event, one after the other.
-use Rattle.std.proofs.Common.{ℕ, ◌≡◌, ◌∙◌, ◌+◌, ◌-◌, ◌<◌, ◌≤◌, Option, Some, None, List, [], ◌∷◌, ◌++◌, length, map, take, drop, get_or, slice_get, refl, sym, ap, subst, arith, zero, suc}
+use Rattle.std.proofs.Common.{ℕ, ◌≡◌, ◌∙◌, ◌+◌, ◌-◌, ◌<◌, ◌≤◌, Option, Some, None, List, [], ◌∷◌, ◌++◌, length, map, take, drop, get_or, slice_get, refl, sym, ap, subst, arith, zero, suc, append_assoc}
 use Rattle.std.specs.List.{sum_by, enumerate_from, flat_map}
 use Rattle.std.proofs.lemmas.List.{drop_more}
 use Rattle.std.proofs.lemmas.List.Sums.{sum_by-cons}
@@ -38,3 +38,37 @@ number-taken values (n ∷ ns) (x ∷ xs) (suc i) h l =
     let rest : map (slice_get values) ns ≡ map Some xs = cc in
     let t = number-taken values ns xs i rest (omega arith) in
     record { value = t.value; found = t.found; there = omega (arith, t.there); at = t.at }
+
+-- an element of two lists, one after the other
+pub slice_get-append_left : {A : Type 0} (xs ys : List A) (i : ℕ) → i < length xs → slice_get (xs ++ ys) i ≡ slice_get xs i
+slice_get-append_left [] ys i h = absurd (omega arith)
+slice_get-append_left (x ∷ xs) ys zero h = refl
+slice_get-append_left (x ∷ xs) ys (suc i) h = slice_get-append_left xs ys i (omega arith)
+
+pub slice_get-append_right : {A : Type 0} (xs ys : List A) (i : ℕ) → length xs ≤ i → slice_get (xs ++ ys) i ≡ slice_get ys (i - length xs)
+slice_get-append_right [] ys i h = ap (slice_get ys) (let e : i ≡ i - 0 = omega arith in e)
+slice_get-append_right (x ∷ xs) ys zero h = absurd (omega arith)
+slice_get-append_right (x ∷ xs) ys (suc i) h =
+    slice_get-append_right xs ys i (omega arith) ∙ ap (slice_get ys) (let e : i - length xs ≡ suc i - suc (length xs) = omega arith in e)
+
+-- what is left of a list begins with the element at hand
+pub drop-next : {A : Type 0} (xs : List A) (i : ℕ) (x : A) → i < length xs → x ≡ get_or xs i x → drop i xs ≡ x ∷ drop (i + 1) xs
+drop-next xs i x l at = drop_more xs i x l ∙ ap (λ y. y ∷ drop (i + 1) xs) (sym at)
+
+-- a loop that adds pieces to a list: one piece more
+pub append-step : {A : Type 0} (new old piece later rest all : List A) → new ≡ old ++ piece → rest ≡ piece ++ later → old ++ rest ≡ all → new ++ later ≡ all
+append-step new old piece later rest all added begins sofar =
+    ap (λ xs. xs ++ later) added ∙ append_assoc old piece later ∙ ap (λ xs. old ++ xs) (sym begins) ∙ sofar
+
+-- the element at a place of a list
+pub record IsThere {A : Type 0} (xs : List A) (i : ℕ) : Type 0 where
+  pub value : A
+  pub found : slice_get xs i ≡ Some value
+  pub at : value ≡ get_or xs i value
+
+pub element-there : {A : Type 0} (xs : List A) (i : ℕ) → i < length xs → IsThere xs i
+element-there [] i h = absurd (omega arith)
+element-there (x ∷ xs) zero h = record { value = x; found = refl; at = refl }
+element-there (x ∷ xs) (suc i) h =
+    let t = element-there xs i (omega arith) in
+    record { value = t.value; found = t.found; at = t.at }

@@ -24,6 +24,7 @@ pub(crate) fn first_cause(
     requires { All (IsEntry inst.now) entries.now }
     ensures { IfOk result (λ cause. cause ≡ first_cause inst.now [] entries.now) }
 {
+    inst.facts();
     // How much of each event's duration is left.
     let mut left = durations_of(alloc, inst)?;
     for (number, entry) in entries.iter().enumerate() {

@@ -100,7 +100,7 @@ fn push_event(
     let mut slot = event.first_meet;
     let mut left = event.duration;
     for at in own {
-        let entry = &entries[*at];
+        let entry = entry_at(entries, *at);
         let meet = Meet {
             meet: MeetId(slot),
             event: number,
@@ -121,6 +121,14 @@ fn push_event(
         push_meet(timetable, inst, event, meet, &[])?;
     }
     Ok(())
+}
+
+/// The entry with this number.
+fn entry_at(entries: &[RawEntry], number: usize) -> &RawEntry
+    requires { number < length entries.now }
+    ensures { slice_get entries.now number ≡ Some result.now }
+{
+    &entries[number]
 }
 
 /// Adds a meet of an event, for which these resources are given, and its tasks.
