@@ -1,10 +1,11 @@
 -- Chains of causes, and how much of its duration an event's entries use.
-use Rattle.std.proofs.Common.{ℕ, ◌≡◌, ◌∙◌, ◌+◌, ◌-◌, ◌<◌, ◌≤◌, Bool, true, false, cond, ◌||◌, if◌then◌else◌, Option, Some, None, List, [], ◌∷◌, ◌++◌, length, take, drop, get_or, slice_get, refl, sym, ap, subst, arith}
-use Rattle.std.specs.Prelude.{is_some, is_none, find, unwrap_or, IfSome, IsSome}
-use Rattle.std.specs.List.{filter, sum_by}
+use Rattle.std.proofs.Common.{ℕ, ◌≡◌, ◌∙◌, ◌+◌, ◌<◌, ◌≤◌, Bool, true, false, ◌||◌, if◌then◌else◌, Option, Some, None, List, [], ◌∷◌, ◌++◌, length, take, drop, get_or, slice_get, refl, sym, ap}
+use Rattle.std.specs.Prelude.{is_some, is_none, unwrap_or, IfSome}
+use Rattle.std.specs.List.{sum_by}
 use Rattle.std.specs.Option.{option_or, option_and_then, option_map}
 use Rattle.std.proofs.lemmas.Bool.{ltb-false}
 use Rattle.std.proofs.lemmas.List.{append-nil, drop_more, take_more}
+use Rattle.std.proofs.lemmas.List.Elements.{filter-append}
 use Rattle.std.proofs.lemmas.List.Sums.{sum_by_push}
 use Rattle.khe_base.specs.declared.numbers.EventId.{EventId}
 use Rattle.khe_base.specs.declared.numbers.ResourceId.{ResourceId}
@@ -15,7 +16,6 @@ use Rattle.khe_instance.specs.declared.parts.Parts.{Parts}
 use Rattle.khe_instance.specs.declared.parts.Place.{Place}
 use Rattle.xhstt_completion.specs.Causes.{place_cause, given_cause, first_given_cause, place_for, came_before, is_too_long, splits_fixed, moves_fixed, ends_late, cause_in, cause_after, first_cause, used_by}
 use Rattle.xhstt_completion.specs.Entries.{duration_of, entries_of, is_event, resource_of}
-use Rattle.xhstt_completion.specs.declared.faults.Cause.{Cause}
 use Rattle.xhstt_completion.specs.declared.faults.TheConstants.{BAD_ROLE, TOO_LONG, SPLIT_FIXED, FIXED_TIME, OFF_END}
 use Rattle.xhstt_shape.specs.declared.records.RawEntry.{RawEntry}
 use Rattle.xhstt_shape.specs.declared.records.RawGiven.{RawGiven}
@@ -70,27 +70,17 @@ pub unwrap_or-positive : (o : Option ℕ) (d : ℕ) → IfSome o IsDuration → 
 unwrap_or-positive None d h l = l
 unwrap_or-positive (Some n) d h l = h.0
 
--- whether one entry more is one of an event
-filter-push : {A : Type 0} (test : A → Bool) (xs : List A) (x : A) → filter test (xs ++ x ∷ []) ≡ filter test xs ++ (if test x then x ∷ [] else [])
-filter-push test [] x = refl
-filter-push test (y ∷ ys) x = by (test y) (filter-push test ys x)
-  where
-    by : (b : Bool) → filter test (ys ++ x ∷ []) ≡ filter test ys ++ (if test x then x ∷ [] else [])
-        → (if b then y ∷ filter test (ys ++ x ∷ []) else filter test (ys ++ x ∷ [])) ≡ (if b then y ∷ filter test ys else filter test ys) ++ (if test x then x ∷ [] else [])
-    by true h = ap (λ r. y ∷ r) h
-    by false h = h
-
 -- one more entry of an event, and one of another
 pub entries_of-own : (p : Parts) (e : ℕ) (entries : List RawEntry) (entry : RawEntry) → is_event e (event_named p entry.reference.id) ≡ true
     → entries_of p e (entries ++ entry ∷ []) ≡ entries_of p e entries ++ entry ∷ []
 entries_of-own p e entries entry own =
-    filter-push (λ x. is_event e (event_named p x.reference.id)) entries entry
+    filter-append (λ x. is_event e (event_named p x.reference.id)) entries (entry ∷ [])
     ∙ ap (λ b. entries_of p e entries ++ (if b then entry ∷ [] else [])) own
 
 pub entries_of-other : (p : Parts) (e : ℕ) (entries : List RawEntry) (entry : RawEntry) → is_event e (event_named p entry.reference.id) ≡ false
     → entries_of p e (entries ++ entry ∷ []) ≡ entries_of p e entries
 entries_of-other p e entries entry other =
-    filter-push (λ x. is_event e (event_named p x.reference.id)) entries entry
+    filter-append (λ x. is_event e (event_named p x.reference.id)) entries (entry ∷ [])
     ∙ ap (λ b. entries_of p e entries ++ (if b then entry ∷ [] else [])) other
     ∙ append-nil (entries_of p e entries)
 
@@ -103,19 +93,26 @@ pub used_by-other : (p : Parts) (e : ℕ) (event : EventInfo) (entries : List Ra
     → used_by p e event (entries ++ entry ∷ []) ≡ used_by p e event entries
 used_by-other p e event entries entry other = ap (sum_by (duration_of event)) (entries_of-other p e entries entry other)
 
--- the causes after the first
-abbrev else_cause : Parts → EventInfo → RawEntry → Option ℕ
-else_cause p event entry =
-    if splits_fixed event entry then Some SPLIT_FIXED else
-    if moves_fixed p event entry then Some FIXED_TIME else
-    if ends_late p event entry then Some OFF_END else
-    first_given_cause p event [] entry.resources
+-- an entry without a cause
+pub record IsFree (p : Parts) (event : EventInfo) (used : ℕ) (entry : RawEntry) : Type 0 where
+  pub long : is_too_long event used entry ≡ false
+  pub split : splits_fixed event entry ≡ false
+  pub moved : moves_fixed p event entry ≡ false
+  pub late : ends_late p event entry ≡ false
+  pub given : first_given_cause p event [] entry.resources ≡ None
 
--- without a cause, an entry lasts no longer than what is left
-unless-first : (b : Bool) (cause : ℕ) (o : Option ℕ) → (if b then Some cause else o) ≡ None → (b ≡ false) × (o ≡ None)
+pub unless-first : (b : Bool) (cause : ℕ) (o : Option ℕ) → (if b then Some cause else o) ≡ None → (b ≡ false) × (o ≡ None)
 unless-first true cause o h = cc
 unless-first false cause o h = (refl, h)
 
+pub cause_in-none : (p : Parts) (event : EventInfo) (used : ℕ) (entry : RawEntry) → cause_in p event used entry ≡ None → IsFree p event used entry
+cause_in-none p event used entry h =
+    let long = unless-first (is_too_long event used entry) TOO_LONG _ h in
+    let split = unless-first (splits_fixed event entry) SPLIT_FIXED _ long.1 in
+    let moved = unless-first (moves_fixed p event entry) FIXED_TIME _ split.1 in
+    let late = unless-first (ends_late p event entry) OFF_END _ moved.1 in
+    record { long = long.0; split = split.0; moved = moved.0; late = late.0; given = late.1 }
+
+-- it lasts no longer than what is left
 pub not_too_long : (p : Parts) (event : EventInfo) (used : ℕ) (entry : RawEntry) → cause_in p event used entry ≡ None → used + duration_of event entry ≤ event.duration
-not_too_long p event used entry h =
-    ltb-false event.duration (used + duration_of event entry) (unless-first (is_too_long event used entry) TOO_LONG (else_cause p event entry) h).0
+not_too_long p event used entry h = ltb-false event.duration (used + duration_of event entry) (cause_in-none p event used entry h).long

@@ -1,5 +1,5 @@
 -- Entries without a cause, one event at a time.
-use Rattle.std.proofs.Common.{ℕ, ◌≡◌, ◌∙◌, ◌+◌, ◌≤◌, Bool, true, false, if◌then◌else◌, Option, Some, None, List, [], ◌∷◌, ◌++◌, length, slice_get, refl, sym, ap, subst, arith}
+use Rattle.std.proofs.Common.{ℕ, ◌≡◌, ◌∙◌, ◌+◌, ◌≤◌, Bool, true, false, if◌then◌else◌, Option, Some, None, List, [], ◌∷◌, ◌++◌, length, slice_get, refl, sym, subst, arith}
 use Rattle.std.specs.List.{sum_by}
 use Rattle.std.specs.Option.{option_or, option_map}
 use Rattle.std.proofs.lemmas.Bool.{eqb-true}
@@ -42,9 +42,10 @@ entries-fit p e event there before (entry ∷ rest) h =
     by true own none later =
         let x = own-number e (event_named p entry.reference.id) own in
         let there_x : slice_get p.events (x.0).0 ≡ Some event = subst (λ k. slice_get p.events k ≡ Some event) (sym x.2) there in
-        let cause : cause_in p event (used_by p (x.0).0 event before) entry ≡ None = sym (cause_after-in p before entry x.0 event x.1 there_x) ∙ none in
-        (subst (λ k. cause_in p event (used_by p k event before) entry ≡ None) x.2 cause,
-        subst (λ used. AreFit p event used (entries_of p e rest)) (used_by-own p e event before entry own) later)
+        let cause : cause_in p event (used_by p (x.0).0 event before) entry ≡ None = sym (cause_after-in p before entry x.0 event x.1 there_x) ∙ none in (
+          subst (λ k. cause_in p event (used_by p k event before) entry ≡ None) x.2 cause,
+          subst (λ used. AreFit p event used (entries_of p e rest)) (used_by-own p e event before entry own) later,
+        )
     by false other none later = subst (λ used. AreFit p event used (entries_of p e rest)) (used_by-other p e event before entry other) later
 
 -- together they last no longer than the event

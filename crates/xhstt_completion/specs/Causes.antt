@@ -1,5 +1,5 @@
 -- Why a solution is invalid: the first cause of its first entry that has one.
-use Rattle.std.specs.Prelude.{ℕ, ◌+◌, ◌==◌, Bool, true, false, not, ◌&&◌, ◌||◌, nat_lt, if◌then◌else◌, Option, Some, None, is_some, is_none, List, [], ◌∷◌, ◌++◌, find, length, slice_get}
+use Rattle.std.specs.Prelude.{ℕ, ◌+◌, ◌==◌, Bool, false, not, ◌&&◌, ◌||◌, nat_lt, if◌then◌else◌, Option, Some, None, is_some, is_none, List, [], ◌∷◌, ◌++◌, find, length, slice_get}
 use Rattle.std.specs.List.{list_any, sum_by}
 use Rattle.std.specs.Option.{option_map, option_map_or, option_or, option_and_then}
 use Rattle.khe_base.specs.declared.numbers.ResourceId.{ResourceId}

@@ -141,11 +141,7 @@ fn differ_in_resource(x: Option<ResourceId>, y: Option<ResourceId>) -> bool
 }
 
 /// The place that a resource is given for, if the event has it.
-fn place_for<'a>(
-    event: &'a EventInfo,
-    resource: ResourceId,
-    given: &RawGiven,
-) -> Option<&'a Place>
+fn place_for<'a>(event: &'a EventInfo, resource: ResourceId, given: &RawGiven) -> Option<&'a Place>
     ensures { option_copied result ≡ find (is_place_for (Some resource) (role_of given.now)) event.now.places }
 {
     let places = event.places.as_slice();

@@ -1,5 +1,5 @@
 -- The next resource has the first cause, or those after it have.
-use Rattle.std.proofs.Common.{◌≡◌, ◌∙◌, ◌+◌, ◌++◌, ◌∷◌, [], sym, ap, subst, Some, true, false, take, drop}
+use Rattle.std.proofs.Common.{◌≡◌, ◌∙◌, ◌+◌, ◌++◌, ◌∷◌, [], sym, ap, subst, true, false, take, drop}
 use Rattle.std.specs.Prelude.{IsSome, is_some}
 use Rattle.khe_instance.specs.Named.{resource_named}
 use Rattle.xhstt_completion.specs.Causes.{given_cause, first_given_cause}

@@ -1,5 +1,5 @@
 -- The solution is in the next group, or in those after it.
-use Rattle.std.proofs.Common.{◌≡◌, ◌∙◌, ◌+◌, ◌++◌, sym, ap, drop, slice_get, refl}
+use Rattle.std.proofs.Common.{◌∙◌, ◌+◌, ◌++◌, sym, ap, drop, slice_get, refl}
 use Rattle.std.specs.List.{flat_map}
 use Rattle.std.proofs.lemmas.Option.{slice_get_read}
 use Rattle.xhstt_shape.specs.declared.records.SolutionGroup.{SolutionGroup}

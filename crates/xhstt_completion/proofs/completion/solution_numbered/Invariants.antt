@@ -1,7 +1,6 @@
 -- The solution is one of the groups that are left.
 use Rattle.std.proofs.Common.{◌≡◌, drop, slice_get}
 use Rattle.std.specs.List.{flat_map}
-use Rattle.xhstt_completion.specs.Entries.{solutions}
 use Rattle.xhstt_completion.proofs.completion.solution_numbered.Given as goal
 
 abbrev pub invariant-loop-group : goal.invariant-loop-group

@@ -1,5 +1,5 @@
 -- So many lists are there.
-use Rattle.std.proofs.Common.{◌≡◌, [], List, ℕ}
+use Rattle.std.proofs.Common.{◌≡◌, []}
 use Rattle.std.specs.Prelude.{replicate}
 use Rattle.xhstt_completion.proofs.states.no_numbers.Given as goal
 

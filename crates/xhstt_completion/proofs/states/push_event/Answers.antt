@@ -1,11 +1,10 @@
 -- One part more.
-use Rattle.std.proofs.Common.{ℕ, ◌≡◌, ◌∙◌, ◌+◌, ◌-◌, ◌<◌, ◌≤◌, ◌++◌, ◌∷◌, [], List, sym, ap, subst, arith, length, map, take, drop, get_or, slice_get, Some, refl}
+use Rattle.std.proofs.Common.{◌≡◌, ◌∙◌, ◌+◌, ◌-◌, ◌≤◌, ◌++◌, ◌∷◌, [], sym, ap, subst, arith, map, drop}
 use Rattle.std.specs.List.{sum_by, enumerate_from, flat_map}
 use Rattle.std.proofs.lemmas.List.Sums.{sum_by-cons}
 use Rattle.std.proofs.lemmas.Option.{slice_get_within, same_Some, get_or_from_slice_get}
-use Rattle.khe_base.specs.declared.limits.TheConstants.{DURATION, TASKS}
 use Rattle.khe_instance.specs.declared.states.Meet.{Meet}
-use Rattle.xhstt_completion.specs.Completed.{Part, part_of, meet_of, tasks_of, task_of}
+use Rattle.xhstt_completion.specs.Completed.{part_of, meet_of, tasks_of, task_of}
 use Rattle.xhstt_completion.specs.Entries.{IsEntry, duration_of, start_of, entries_of}
 use Rattle.xhstt_completion.proofs.CausesLemmas.{unwrap_or-positive}
 use Rattle.xhstt_completion.proofs.PartsLemmas.{parts_left, parts_left-cons, number-taken, drop-next, append-step}
@@ -87,13 +86,13 @@ loop-at-preserved c =
     in
     record {
       meets = append-step _ c.loop-at.timetable.meets (meet ∷ []) (map (meet_of e) (enumerate_from (slot + 1) (parts_left p event (left - d) later))) _ _
-      c.in_ok-push_meet.ensures.meets
-      (ap (map (meet_of e)) slotted ∙ ap (λ x. x ∷ map (meet_of e) (enumerate_from (slot + 1) (parts_left p event (left - d) later))) meet_is)
-      c.loop-at.invariant.meets;
+          c.in_ok-push_meet.ensures.meets
+          (ap (map (meet_of e)) slotted ∙ ap (λ x. x ∷ map (meet_of e) (enumerate_from (slot + 1) (parts_left p event (left - d) later))) meet_is)
+          c.loop-at.invariant.meets;
       tasks = append-step _ c.loop-at.timetable.tasks (tasks_of p event (slot, part_of p event entry)) (flat_map (tasks_of p event) (enumerate_from (slot + 1) (parts_left p event (left - d) later))) _ _
-      (c.in_ok-push_meet.ensures.tasks ∙ ap (λ given. c.loop-at.timetable.tasks ++ map (task_of p slot given) (enumerate_from 0 event.places)) c.as_slice.ensures)
-      (ap (flat_map (tasks_of p event)) slotted)
-      c.loop-at.invariant.tasks;
+          (c.in_ok-push_meet.ensures.tasks ∙ ap (λ given. c.loop-at.timetable.tasks ++ map (task_of p slot given) (enumerate_from 0 event.places)) c.as_slice.ensures)
+          (ap (flat_map (tasks_of p event)) slotted)
+          c.loop-at.invariant.tasks;
       fits = omega arith;
       room = omega (arith, c.loop-at.invariant.room);
     }

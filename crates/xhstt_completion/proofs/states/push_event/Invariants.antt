@@ -1,6 +1,6 @@
 -- The meets and the tasks so far, with those of the parts that are left, are those of all parts; and
 -- no slot is beyond the event's.
-use Rattle.std.proofs.Common.{ℕ, ◌≡◌, ◌+◌, ◌≤◌, ◌++◌, map, drop}
+use Rattle.std.proofs.Common.{◌≡◌, ◌+◌, ◌≤◌, ◌++◌, map, drop}
 use Rattle.std.specs.List.{sum_by, enumerate_from, flat_map}
 use Rattle.xhstt_completion.specs.Completed.{meet_of, tasks_of}
 use Rattle.xhstt_completion.specs.Entries.{duration_of, entries_of}

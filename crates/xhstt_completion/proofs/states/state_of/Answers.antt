@@ -1,5 +1,5 @@
 -- One event more.
-use Rattle.std.proofs.Common.{ℕ, ◌≡◌, ◌∙◌, ◌+◌, ◌<◌, ◌∷◌, ◌++◌, [], sym, ap, subst, length, drop, get_or, slice_get, Some, refl}
+use Rattle.std.proofs.Common.{◌≡◌, ◌+◌, ◌<◌, ◌∷◌, ap, subst, length, drop}
 use Rattle.std.specs.List.{enumerate_from, flat_map}
 use Rattle.xhstt_completion.specs.Completed.{meets_at, tasks_at}
 use Rattle.xhstt_completion.proofs.PartsLemmas.{element-there, drop-next, append-step}
@@ -18,11 +18,11 @@ loop-event-preserved c =
     in
     record {
       meets = append-step _ c.loop-event.timetable.meets (meets_at p entries (e, event)) (flat_map (meets_at p entries) (enumerate_from (e + 1) (drop (e + 1) p.events))) _ _
-      (c.in_ok-push_event.ensures.meets event there.found)
-      (ap (flat_map (meets_at p entries)) next)
-      c.loop-event.invariant.meets;
+          (c.in_ok-push_event.ensures.meets event there.found)
+          (ap (flat_map (meets_at p entries)) next)
+          c.loop-event.invariant.meets;
       tasks = append-step _ c.loop-event.timetable.tasks (tasks_at p entries (e, event)) (flat_map (tasks_at p entries) (enumerate_from (e + 1) (drop (e + 1) p.events))) _ _
-      (c.in_ok-push_event.ensures.tasks event there.found)
-      (ap (flat_map (tasks_at p entries)) next)
-      c.loop-event.invariant.tasks;
+          (c.in_ok-push_event.ensures.tasks event there.found)
+          (ap (flat_map (tasks_at p entries)) next)
+          c.loop-event.invariant.tasks;
     }

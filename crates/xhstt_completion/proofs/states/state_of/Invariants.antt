@@ -1,5 +1,5 @@
 -- The meets and the tasks so far, with those of the events that are left, are those of all events.
-use Rattle.std.proofs.Common.{◌≡◌, ◌++◌, length, drop}
+use Rattle.std.proofs.Common.{◌≡◌, ◌++◌, drop}
 use Rattle.std.specs.List.{enumerate_from, flat_map}
 use Rattle.xhstt_completion.specs.Completed.{meets_at, tasks_at}
 use Rattle.xhstt_completion.proofs.states.state_of.Given as goal
