@@ -6,6 +6,8 @@ mod causes;
 mod checking;
 mod completion;
 mod entries;
+#[cfg(test)]
+mod examples;
 mod faults;
 mod states;
 
