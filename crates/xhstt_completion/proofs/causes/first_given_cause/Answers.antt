@@ -1,0 +1,39 @@
+-- The next resource has the first cause, or those after it have.
+use Rattle.std.proofs.Common.{◌≡◌, ◌∙◌, ◌+◌, ◌++◌, ◌∷◌, [], sym, ap, subst, true, false, take, drop}
+use Rattle.std.specs.Prelude.{IsSome, is_some}
+use Rattle.khe_instance.specs.Named.{resource_named}
+use Rattle.xhstt_completion.specs.Causes.{given_cause, first_given_cause}
+use Rattle.xhstt_completion.proofs.CausesLemmas.{first_given_cause-drop, option_or-some, option_or-none, take-next}
+use Rattle.xhstt_completion.proofs.causes.first_given_cause.Goals as goal
+
+pub given_cause-cause-requires : goal.given_cause-cause-requires
+given_cause-cause-requires c =
+    subst (λ one. IsSome (resource_named c.args.inst.now one.reference.id)) (sym c.index-given-number.is)
+    (c.requires c.loop-number.number c.index-given-number.result c.loop-number-test.true)
+
+pub returns-then-is_some : goal.returns-then-is_some
+returns-then-is_some c =
+    let p = c.args.inst.now in
+    let event = c.args.event.now in
+    let given = c.args.given.now in
+    let i = c.loop-number.number in
+    let one = c.index-given-number.result in
+    let cause : c.given_cause-cause.result ≡ given_cause p event (take i given) one = c.given_cause-cause.ensures in
+    let some : is_some (given_cause p event (take i given) one) ≡ true = ap is_some (sym cause) ∙ sym c.is_some.ensures ∙ c.if-is_some.true in
+    cause ∙ sym (option_or-some _ (first_given_cause p event (take i given ++ one ∷ []) (drop (i + 1) given)) some)
+    ∙ sym (first_given_cause-drop p event (take i given) given i one c.loop-number-test.true c.index-given-number.is)
+    ∙ c.loop-number.invariant
+
+pub loop-number-preserved : goal.loop-number-preserved
+loop-number-preserved c =
+    let p = c.args.inst.now in
+    let event = c.args.event.now in
+    let given = c.args.given.now in
+    let i = c.loop-number.number in
+    let one = c.index-given-number.result in
+    let cause : c.given_cause-cause.result ≡ given_cause p event (take i given) one = c.given_cause-cause.ensures in
+    let none : is_some (given_cause p event (take i given) one) ≡ false = ap is_some (sym cause) ∙ sym c.is_some.ensures ∙ c.if-is_some.false in
+    ap (λ before. first_given_cause p event before (drop (i + 1) given)) (take-next given i one c.loop-number-test.true c.index-given-number.is)
+    ∙ sym (option_or-none _ (first_given_cause p event (take i given ++ one ∷ []) (drop (i + 1) given)) none)
+    ∙ sym (first_given_cause-drop p event (take i given) given i one c.loop-number-test.true c.index-given-number.is)
+    ∙ c.loop-number.invariant

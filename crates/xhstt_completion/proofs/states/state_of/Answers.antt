@@ -1,0 +1,28 @@
+-- One event more.
+use Rattle.std.proofs.Common.{◌≡◌, ◌+◌, ◌<◌, ◌∷◌, ap, subst, length, drop}
+use Rattle.std.specs.List.{enumerate_from, flat_map}
+use Rattle.xhstt_completion.specs.Completed.{meets_at, tasks_at}
+use Rattle.xhstt_completion.proofs.PartsLemmas.{element-there, drop-next, append-step}
+use Rattle.xhstt_completion.proofs.states.state_of.Goals as goal
+
+pub loop-event-preserved : goal.loop-event-preserved
+loop-event-preserved c =
+    let p = c.args.inst.now in
+    let entries = c.args.entries.now in
+    let e = c.loop-event.event in
+    let within : e < length p.events = subst (λ k. e < k) c.events-event-end.ensures c.loop-event-test.true in
+    let there = element-there p.events e within in
+    let event = there.value in
+    let next : enumerate_from e (drop e p.events) ≡ (e, event) ∷ enumerate_from (e + 1) (drop (e + 1) p.events) =
+    ap (enumerate_from e) (drop-next p.events e event within there.at)
+    in
+    record {
+      meets = append-step _ c.loop-event.timetable.meets (meets_at p entries (e, event)) (flat_map (meets_at p entries) (enumerate_from (e + 1) (drop (e + 1) p.events))) _ _
+          (c.in_ok-push_event.ensures.meets event there.found)
+          (ap (flat_map (meets_at p entries)) next)
+          c.loop-event.invariant.meets;
+      tasks = append-step _ c.loop-event.timetable.tasks (tasks_at p entries (e, event)) (flat_map (tasks_at p entries) (enumerate_from (e + 1) (drop (e + 1) p.events))) _ _
+          (c.in_ok-push_event.ensures.tasks event there.found)
+          (ap (flat_map (tasks_at p entries)) next)
+          c.loop-event.invariant.tasks;
+    }

@@ -1,0 +1,4 @@
+pub mod Causes
+pub mod Completed
+pub mod Entries
+pub mod Examples

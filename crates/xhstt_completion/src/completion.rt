@@ -1,0 +1,78 @@
+ghost use Rattle.std.specs.Prelude.{◌≡◌, [], length, ◌<◌, IfOk, IfErr, Ok, Some, slice_get};
+ghost use Rattle.std.specs.Option.{option_copied};
+ghost use Rattle.khe_instance.specs.States.{IsValid};
+ghost use Rattle.xhstt_completion.specs.Completed.{completed, IsFaultOf};
+ghost use Rattle.xhstt_completion.specs.Entries.{IsSolution, solutions};
+ghost use Rattle.xhstt_shape.specs.declared.records.RawSolution.{RawSolution};
+
+use crate::SolutionFault;
+use crate::checking::first_cause;
+use crate::faults::Cause;
+use crate::states::state_of;
+use khe_base::Seq;
+use khe_instance::{Instance, Plain};
+use std::alloc::Global;
+use xhstt_shape::{Archive, RawSolution};
+
+/// The state that a solution says, completed as KHE completes a solution that it reads: the entries
+/// of an event are its meets in order, an entry without a duration lasts as long as its event, one
+/// without a time has the preassigned time, and where the entries of an event fall short of its
+/// duration, one more meet has the rest. All monitors are attached, and there are no groups.
+///
+/// `Invalid` where an entry cannot stand: the first such entry, with its first cause. Else
+/// `NoMemory` where memory is refused.
+///
+/// It takes time and memory in proportion to the events, the entries and the state, on average; and
+/// for each entry its resources times the places of its event.
+pub fn completed(alloc: Global, inst: &Instance, raw: &RawSolution) -> Result<Plain, SolutionFault>
+    requires { IsSolution inst.now raw.now }
+    ensures exact { IfOk result (λ plain. completed inst.now raw.now ≡ Ok plain) }
+    ensures invalid { IfErr result (IsFaultOf (completed inst.now raw.now)) }
+    ensures valid { IfOk result (IsValid inst.now) }
+    ensures plain { IfOk result (λ plain. (plain.detached ≡ []) × (plain.groups ≡ [])) }
+{
+    let entries = raw.events.as_slice();
+    if let Some(Cause { cause, entry }) = first_cause(alloc, inst, entries)? {
+        return Err(SolutionFault::Invalid { cause, entry });
+    }
+    inst.facts();
+    Ok(state_of(alloc, inst, entries)?)
+}
+
+/// The completed state of the solution of an archive with this number, counted from 0 over all
+/// solution groups in order. It does what `completed` does, in the same time and memory, and besides
+/// takes time in proportion to the solution groups.
+pub fn solution(
+    alloc: Global,
+    inst: &Instance,
+    archive: &Archive,
+    number: u32,
+) -> Result<Plain, SolutionFault>
+    requires there { number < length (solutions archive.now) }
+    requires named { (raw : RawSolution) → slice_get (solutions archive.now) number ≡ Some raw → IsSolution inst.now raw }
+    ensures exact { IfOk result (λ plain. (raw : RawSolution) → slice_get (solutions archive.now) number ≡ Some raw → completed inst.now raw ≡ Ok plain) }
+    ensures invalid { IfErr result (λ fault. (raw : RawSolution) → slice_get (solutions archive.now) number ≡ Some raw → IsFaultOf (completed inst.now raw) fault) }
+    ensures valid { IfOk result (IsValid inst.now) }
+{
+    let Some(raw) = solution_numbered(archive, number) else {
+        unreachable!()
+    };
+    completed(alloc, inst, raw)
+}
+
+/// The solution of an archive with this number, if there is one. It takes time in proportion to the
+/// solution groups.
+fn solution_numbered(archive: &Archive, number: u32) -> Option<&RawSolution>
+    ensures { option_copied result ≡ slice_get (solutions archive.now) number }
+{
+    let mut left = number as usize;
+    let groups = archive.solution_groups.as_slice();
+    for group in groups {
+        let solutions = group.solutions.as_slice();
+        if left < solutions.len() {
+            return Some(&solutions[left]);
+        }
+        left -= solutions.len();
+    }
+    None
+}

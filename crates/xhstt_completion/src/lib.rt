@@ -1,0 +1,17 @@
+//! Completion: the state of an instance that a solution of an archive says, or why the solution is
+//! invalid.
+#![tactic(auto)]
+
+mod causes;
+mod checking;
+mod completion;
+mod entries;
+#[cfg(test)]
+mod examples;
+mod faults;
+mod states;
+
+pub use completion::{completed, solution};
+pub use faults::{
+    BAD_ROLE, FIXED_RESOURCE, FIXED_TIME, OFF_END, SPLIT_FIXED, SolutionFault, TOO_LONG, WRONG_TYPE,
+};
