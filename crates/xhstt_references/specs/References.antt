@@ -150,7 +150,7 @@ abbrev pub unknown_in_solution : List (List ℕ) → List Directory → RawSolut
 unknown_in_solution ids directories s =
     unknown ids (s.reference ∷ [])
     ++ option_map_or (λ d. flat_map (unknown_in_entry d) s.events)
-        (option_and_then (λ k. slice_get directories k) (number_of s.reference.id ids)) []
+    (option_and_then (λ k. slice_get directories k) (number_of s.reference.id ids)) []
 
 -- all solutions of an archive, group by group
 abbrev pub solutions_of : Archive → List RawSolution
