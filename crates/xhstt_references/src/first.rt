@@ -42,6 +42,7 @@ impl First {
     }
 
     /// Notes the place of a reference that may be missing and is not among the names.
+    #[tactic(auto, using(crate::proofs::FirstLemmas::first_of_nil))]
     pub(crate) fn note_unknown_one(&mut self, names: &Names, reference: &Option<Ref>)
         ensures { self.new.at ≡ first_of self.old.at (spec.unknown_one names.now reference.now) }
     {

@@ -1,5 +1,7 @@
-ghost use Rattle.std.specs.Prelude.{◌≡◌, [], map, IfOk};
+ghost use Rattle.std.specs.Prelude.{◌≡◌, ◌+◌, nat_lt, false, [], map, length, IfOk};
 ghost use Rattle.std.specs.List.{flat_map};
+ghost use Rattle.std.specs.Option.{option_map_or};
+ghost use Rattle.khe_base.specs.Names.{number_of};
 ghost use Rattle.xhstt_references.specs.Directories.{IsDirectoryOf, directory_of};
 ghost use Rattle.xhstt_references.specs.Faults.{IsTold, fault_of_instance, fault_of_ids};
 ghost use Rattle.xhstt_references.specs.First.{first_of};
@@ -13,9 +15,9 @@ use crate::faults::{
 use crate::first::First;
 use crate::looking_up::unknown_reference;
 use crate::repeats::{courses_of, days_of, names_of, repeated_roles, weeks_of};
-use khe_base::{Names, NoMemory};
+use khe_base::{Names, NoMemory, Text};
 use std::alloc::Global;
-use xhstt_shape::{Archive, RawEvent, RawInstance};
+use xhstt_shape::{Archive, RawEvent, RawInstance, Ref};
 
 /// The names of an instance's parts, or the first fault of its names and references.
 ///
@@ -76,18 +78,33 @@ fn event_off_end(directory: &Directory, events: &[RawEvent]) -> First
 }
 
 /// Notes the place of an event's preassigned time, if the event would go on beyond the last time.
+#[tactic(auto, using(crate::proofs::FirstLemmas::first_of_nil))]
 fn note_off_end(directory: &Directory, event: &RawEvent, first: &mut First)
     ensures { first.new.at ≡ first_of first.old.at (spec.off_end directory.now event.now) }
 {
-    let Some(time) = &event.time else {
-        return;
-    };
-    let Some(number) = directory.times.number(&time.id) else {
-        return;
-    };
-    let end = number as u128 + u128::from(event.duration);
-    if end > directory.times.len() as u128 {
+    if let Some(time) = &event.time {
+        note_time_off_end(directory, event.duration, time, first);
+    }
+}
+
+/// Notes the place of a preassigned time, if an event of this duration would go on beyond the last
+/// time.
+fn note_time_off_end(directory: &Directory, duration: u32, time: &Ref, first: &mut First)
+    ensures { first.new.at ≡ first_of first.old.at (spec.off_end_from directory.now duration time.now) }
+{
+    if is_off_end(&directory.times, &time.id, duration) {
         first.note(time.at);
+    }
+}
+
+/// Whether what starts at a time would go on beyond the last one.
+fn is_off_end(times: &Names, time: &Text, duration: u32) -> bool
+    ensures { result ≡ option_map_or (λ t. nat_lt (length times.now) (t + duration)) (number_of time.now times.now) false }
+{
+    let count = times.len();
+    match times.number(time) {
+        Some(number) => count - number < duration as usize,
+        None => false,
     }
 }
 

@@ -1,3 +1,5 @@
+#![tactic(auto, using(crate::proofs::FirstLemmas::place_steps))]
+
 ghost use Rattle.std.specs.Prelude.{◌≡◌, List, ℕ};
 ghost use Rattle.std.specs.List.{flat_map};
 ghost use Rattle.xhstt_references.specs.First.{first_of};

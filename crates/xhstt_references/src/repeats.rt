@@ -1,5 +1,6 @@
 ghost use Rattle.std.specs.Prelude.{◌≡◌, [], ◌∷◌, map, if◌then◌else◌, IfOk, OnOk};
 ghost use Rattle.std.specs.List.{filter, flat_map};
+ghost use Rattle.std.specs.Option.{option_map_or};
 ghost use Rattle.khe_base.specs.Names.{is_among_names, with_name};
 ghost use Rattle.xhstt_references.specs.First.{first_of};
 ghost use Rattle.xhstt_references.specs.Ids.{is_week, is_day, is_course};
@@ -96,9 +97,24 @@ fn note_repeated_roles(alloc: Global, event: &RawEvent, first: &mut First) -> Re
 {
     let mut names = Names::new(alloc);
     for place in event.resources.as_slice() {
-        if let Some(role) = &place.role {
-            note_repeated(&mut names, role, first)?;
-        }
+        note_repeated_role(&mut names, &place.role, first)?;
     }
     Ok(())
+}
+
+/// Adds a role that may be missing to those that came before, and notes its place if it is among
+/// them.
+#[tactic(auto, using(crate::proofs::FirstLemmas::first_of_nil))]
+fn note_repeated_role(
+    names: &mut Names,
+    role: &Option<Name>,
+    first: &mut First,
+) -> Result<(), NoMemory>
+    ensures names { OnOk result (names.new ≡ option_map_or (λ n. with_name n.text names.old) role.now names.old) }
+    ensures first { OnOk result (first.new.at ≡ first_of first.old.at (option_map_or (λ n. if is_among_names n.text names.old then n.at ∷ [] else []) role.now [])) }
+{
+    match role {
+        Some(role) => note_repeated(names, role, first),
+        None => Ok(()),
+    }
 }

@@ -38,12 +38,31 @@ pub fn instances_of_solutions(
     let mut first = First::new();
     let mut numbers = Seq::new(alloc);
     for group in archive.solution_groups.as_slice() {
-        for solution in group.solutions.as_slice() {
-            add_number(instances, directories, solution, &mut numbers, &mut first)?;
-        }
+        let solutions = group.solutions.as_slice();
+        add_numbers(instances, directories, solutions, &mut numbers, &mut first)?;
     }
     first.fault(UNKNOWN_REFERENCE)?;
     Ok(numbers)
+}
+
+/// Adds the numbers of the instances that some solutions name, and notes the places of the
+/// solutions' references that name nothing.
+fn add_numbers(
+    instances: &Names,
+    directories: &[Directory],
+    solutions: &[RawSolution],
+    numbers: &mut Seq<u32>,
+    first: &mut First,
+) -> Result<(), NoMemory>
+    requires few { length instances.now < 2 ^ 32 }
+    requires same { length directories.now ≡ length instances.now }
+    ensures numbers { OnOk result (numbers.new ≡ numbers.old ++ filter_map (λ s. number_of s.reference.id instances.now) solutions.now) }
+    ensures first { OnOk result (first.new.at ≡ first_of first.old.at (flat_map (spec.unknown_in_solution instances.now directories.now) solutions.now)) }
+{
+    for solution in solutions {
+        add_number(instances, directories, solution, numbers, first)?;
+    }
+    Ok(())
 }
 
 /// Adds the number of a solution's instance, if its name is among these, and notes the places of
@@ -60,10 +79,15 @@ fn add_number(
     ensures number { OnOk result (numbers.new ≡ numbers.old ++ option_to_list (number_of solution.now.reference.id instances.now)) }
     ensures first { OnOk result (first.new.at ≡ first_of first.old.at (spec.unknown_in_solution instances.now directories.now solution.now)) }
 {
-    let Some(number) = instances.number(&solution.reference.id) else {
-        first.note(solution.reference.at);
-        return Ok(());
-    };
-    note_unknown_in(&directories[number], solution.events.as_slice(), first);
-    numbers.push(number as u32)
+    match instances.number(&solution.reference.id) {
+        Some(number) => {
+            note_unknown_in(&directories[number], solution.events.as_slice(), first);
+            numbers.push(number as u32)?;
+            Ok(())
+        }
+        None => {
+            first.note(solution.reference.at);
+            Ok(())
+        }
+    }
 }
