@@ -17,6 +17,12 @@ pub first_of_one : (first : Option ℕ) (at : ℕ) → first_of first (at ∷ []
 unfolding first_of
 first_of_one first at = refl
 
+-- eight lists one after the other
+pub first_of_eight : (a : Option ℕ) (r1 r2 r3 r4 r5 r6 r7 r8 : List ℕ)
+    → first_of a (r1 ++ (r2 ++ (r3 ++ (r4 ++ (r5 ++ (r6 ++ (r7 ++ r8)))))))
+    ≡ first_of (first_of (first_of (first_of (first_of (first_of (first_of (first_of a r1) r2) r3) r4) r5) r6) r7) r8
+first_of_eight a r1 r2 r3 r4 r5 r6 r7 r8 = simp first_of_append
+
 pub ruleset place_steps = (first_of_append, first_of_nil)
 
 -- what is left of a list begins with the element at hand

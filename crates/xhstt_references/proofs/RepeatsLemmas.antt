@@ -1,5 +1,5 @@
 -- Names that come again.
-use Rattle.std.proofs.Common.{◌≡◌, ◌∙◌, ap, refl, sym, ℕ, Bool, true, false, ◌||◌, cond, if◌then◌else◌, List, [], ◌∷◌, ◌++◌, map, append_assoc, Option, not, ◌+◌, ◌<◌, ◌≤◌, length, get_or, drop, None, Some}
+use Rattle.std.proofs.Common.{◌≡◌, ◌∙◌, ap, refl, sym, subst, ℕ, Bool, true, false, ◌||◌, cond, if◌then◌else◌, List, [], ◌∷◌, ◌++◌, map, append_assoc, Option, not, ◌+◌, ◌<◌, ◌≤◌, length, get_or, drop, None, Some}
 use Rattle.std.specs.List.{filter, filter_map, cons_option}
 use Rattle.std.specs.Option.{option_map_or}
 use Rattle.std.specs.Str.{bytes_eq}
@@ -183,3 +183,20 @@ module _ {X : Type 0} (role : X → Option Name) (xs : List X) (i : ℕ) where
   pub roles_end : (names : List (List ℕ)) (first : Option ℕ) {whole : Option ℕ} → length xs ≤ i
       → first_of first (repeated_after names (filter_map role (drop i xs))) ≡ whole → first ≡ whole
   roles_end names first h old = sym (first_of_nil first) ∙ ap (λ r. first_of first (repeated_after names (filter_map role r))) (sym (drop_all i xs h)) ∙ old
+
+module _ {X : Type 0} (id : X → Name) (xs ys : List X) where
+  -- what is known of a list is known of one that is equal
+  pub ids_along : (names : List (List ℕ)) → xs ≡ ys → (repeated (map id xs) ≡ [] → names ≡ map (λ x. (id x).text) xs)
+      → repeated (map id ys) ≡ [] → names ≡ map (λ x. (id x).text) ys
+  ids_along names e h =
+      let P : List X → Type 0 = λ zs. repeated (map id zs) ≡ [] → names ≡ map (λ x. (id x).text) zs in
+      subst P e h
+
+  pub part_along : (p : X → Bool) (names : List (List ℕ)) → xs ≡ ys → (repeated (map id xs) ≡ [] → names ≡ map (λ x. (id x).text) (filter p xs))
+      → repeated (map id ys) ≡ [] → names ≡ map (λ x. (id x).text) (filter p ys)
+  part_along p names e h =
+      let P : List X → Type 0 = λ zs. repeated (map id zs) ≡ [] → names ≡ map (λ x. (id x).text) (filter p zs) in
+      subst P e h
+
+  pub noted_along : (before after : Option ℕ) → xs ≡ ys → after ≡ first_of before (repeated (map id xs)) → after ≡ first_of before (repeated (map id ys))
+  noted_along before after e h = h ∙ ap (λ zs. first_of before (repeated (map id zs))) e

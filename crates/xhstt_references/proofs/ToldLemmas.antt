@@ -1,8 +1,8 @@
 -- The first of some places is the fault that is told.
-use Rattle.std.proofs.Common.{◌≡◌, ◌∙◌, ap, refl, sym, subst, ℕ, min, List, [], ◌∷◌, ◌++◌, Option, Some, None, Err, Ok}
+use Rattle.std.proofs.Common.{◌≡◌, ◌∙◌, ap, refl, sym, subst, ℕ, min, List, [], ◌∷◌, ◌++◌, Option, Some, None, Err, Ok, Result}
 use Rattle.std.specs.List.{fold}
 use Rattle.std.specs.Option.{option_map}
-use Rattle.std.specs.Result.{Result, IsErrAnd}
+use Rattle.std.specs.Result.{IsErrAnd}
 use Rattle.xhstt_references.specs.Faults.{at_first, IsTold}
 use Rattle.xhstt_references.specs.First.{noted, first_of}
 use Rattle.xhstt_references.specs.declared.faults.ReferenceFault.{ReferenceFault}
@@ -45,3 +45,10 @@ passed_on (Ok a) e fault h told = absurd h
 passed_on {A} (Err x) e fault h told =
     let P : ReferenceFault → Type 0 = λ y. IsTold {A = A} (Err y) fault in
     subst P (sym h) told
+
+-- where there is no place, what follows is told
+pub told_later : {A : Type 0} (kind : ℕ) (xs : List ℕ) (following : Option ReferenceFault) (e : ReferenceFault)
+    → xs ≡ [] → IsTold {A = A} (Err e) following → IsTold {A = A} (Err e) (at_first kind xs following)
+told_later {A} kind xs following e none told =
+    let P : List ℕ → Type 0 = λ ys. IsTold {A = A} (Err e) (at_first kind ys following) in
+    subst P (sym none) told

@@ -14,7 +14,8 @@ use crate::faults::{
 };
 use crate::first::First;
 use crate::looking_up::unknown_reference;
-use crate::repeats::{courses_of, days_of, names_of, repeated_roles, weeks_of};
+use crate::numbering::{event_names, resource_names, time_names};
+use crate::repeats::{names_of, repeated_roles};
 use khe_base::{Names, NoMemory, Text};
 use std::alloc::Global;
 use xhstt_shape::{Archive, RawEvent, RawInstance, Ref};
@@ -48,21 +49,22 @@ fn numbered_parts(alloc: Global, instance: &RawInstance) -> Result<(Directory, F
     ensures { IfOk result (λ (d, first). (spec.repeated_ids instance.now ≡ [] → IsDirectoryOf instance.now d) × (first.at ≡ first_of None (spec.repeated_ids instance.now))) }
 {
     let mut first = First::new();
-    let groups = instance.time_groups.as_slice();
-    let courses = instance.event_groups.as_slice();
-    let directory = Directory {
-        time_groups: names_of(alloc, groups, &mut first)?,
-        weeks: weeks_of(alloc, groups)?,
-        days: days_of(alloc, groups)?,
-        times: names_of(alloc, instance.times.as_slice(), &mut first)?,
-        resource_types: names_of(alloc, instance.resource_types.as_slice(), &mut first)?,
-        resource_groups: names_of(alloc, instance.resource_groups.as_slice(), &mut first)?,
-        resources: names_of(alloc, instance.resources.as_slice(), &mut first)?,
-        event_groups: names_of(alloc, courses, &mut first)?,
-        courses: courses_of(alloc, courses)?,
-        events: names_of(alloc, instance.events.as_slice(), &mut first)?,
-    };
+    let times = time_names(alloc, instance, &mut first)?;
+    let resources = resource_names(alloc, instance, &mut first)?;
+    let events = event_names(alloc, instance, &mut first)?;
     names_of(alloc, instance.constraints.as_slice(), &mut first)?;
+    let directory = Directory {
+        time_groups: times.groups,
+        weeks: times.weeks,
+        days: times.days,
+        times: times.times,
+        resource_types: resources.types,
+        resource_groups: resources.groups,
+        resources: resources.resources,
+        event_groups: events.groups,
+        courses: events.courses,
+        events: events.events,
+    };
     Ok((directory, first))
 }
 

@@ -8,6 +8,7 @@ mod first;
 mod ids;
 mod instances;
 mod looking_up;
+mod numbering;
 mod repeats;
 mod solutions;
 
