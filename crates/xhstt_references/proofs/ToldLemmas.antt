@@ -26,29 +26,30 @@ pub passed : (kind : ℕ) (first : Option ℕ) (xs : List ℕ) → first ≡ fir
 passed kind first xs is h = none_left kind xs (sym (first_is kind xs) ∙ ap (option_map (λ at. Bad kind at)) (sym is) ∙ h)
 
 -- a fault that is told of some places is the first of all, whatever follows
-told_first : {A B : Type 0} (kind : ℕ) (xs : List ℕ) (following : Option ReferenceFault) (e : ReferenceFault)
-    → IsTold {A = A} (Err e) (at_first kind xs None) → IsTold {A = B} (Err e) (at_first kind xs following)
+told_first : (kind : ℕ) (xs : List ℕ) (following : Option ReferenceFault) (e : ReferenceFault)
+    → IsTold {A = Unit {0}} (Err e) (at_first kind xs None) → IsTold {A = Unit {0}} (Err e) (at_first kind xs following)
 told_first kind xs following NoMemory h = tt
 told_first kind [] following (Bad k at) h = cc
 told_first kind (x ∷ more) following (Bad k at) h = h
 
-pub refused : {A B : Type 0} (kind : ℕ) (first : Option ℕ) (xs : List ℕ) (following : Option ReferenceFault) (e : ReferenceFault)
-    → first ≡ first_of None xs → IsTold {A = A} (Err e) (option_map (λ at. Bad kind at) first) → IsTold {A = B} (Err e) (at_first kind xs following)
-refused {A = A} {B = B} kind first xs following e is h =
-    let told : IsTold {A = A} (Err e) (at_first kind xs None) = rw (← first_is kind xs, ← is) h in
-    told_first {A = A} {B = B} kind xs following e told
+pub refused : (kind : ℕ) (first : Option ℕ) (xs : List ℕ) (following : Option ReferenceFault) (e : ReferenceFault)
+    → first ≡ first_of None xs → IsTold {A = Unit {0}} (Err e) (option_map (λ at. Bad kind at) first) → IsTold {A = Unit {0}} (Err e) (at_first kind xs following)
+refused kind first xs following e is h =
+    let same : option_map (λ at. Bad kind at) first ≡ at_first kind xs None = ap (option_map (λ at. Bad kind at)) is ∙ first_is kind xs in
+    let P : Option ReferenceFault → Type 0 = λ f. IsTold {A = Unit {0}} (Err e) f in
+    told_first kind xs following e (subst P same h)
+
+-- where there is no place, what follows is told
+pub told_later : (kind : ℕ) (xs : List ℕ) (following : Option ReferenceFault) (e : ReferenceFault)
+    → xs ≡ [] → IsTold {A = Unit {0}} (Err e) following → IsTold {A = Unit {0}} (Err e) (at_first kind xs following)
+told_later kind xs following e none told =
+    let P : List ℕ → Type 0 = λ ys. IsTold {A = Unit {0}} (Err e) (at_first kind ys following) in
+    subst P (sym none) told
 
 -- an error that is passed on is told as it was
 pub passed_on : {A : Type 0} (r : Result A ReferenceFault) (e : ReferenceFault) (fault : Option ReferenceFault)
-    → IsErrAnd r (λ x. x ≡ e) → IsTold {A = A} (Err e) fault → IsTold r fault
+    → IsErrAnd r (λ x. x ≡ e) → IsTold {A = Unit {0}} (Err e) fault → IsTold r fault
 passed_on (Ok a) e fault h told = absurd h
-passed_on {A} (Err x) e fault h told =
-    let P : ReferenceFault → Type 0 = λ y. IsTold {A = A} (Err y) fault in
+passed_on (Err x) e fault h told =
+    let P : ReferenceFault → Type 0 = λ y. IsTold {A = Unit {0}} (Err y) fault in
     subst P (sym h) told
-
--- where there is no place, what follows is told
-pub told_later : {A : Type 0} (kind : ℕ) (xs : List ℕ) (following : Option ReferenceFault) (e : ReferenceFault)
-    → xs ≡ [] → IsTold {A = A} (Err e) following → IsTold {A = A} (Err e) (at_first kind xs following)
-told_later {A} kind xs following e none told =
-    let P : List ℕ → Type 0 = λ ys. IsTold {A = A} (Err e) (at_first kind ys following) in
-    subst P (sym none) told

@@ -4,6 +4,7 @@ use Rattle.std.specs.List.{flat_map}
 use Rattle.xhstt_references.specs.Faults.{at_first}
 use Rattle.xhstt_references.specs.First.{first_of}
 use Rattle.xhstt_references.specs.References.{repeated, repeated_ids, repeated_roles, roles_of, unknown_in, unknown_references, off_end, events_off_end}
+use Rattle.xhstt_references.specs.declared.faults.ReferenceFault.TheVariants.{NoMemory}
 use Rattle.xhstt_references.specs.declared.faults.TheConstants.{DUPLICATE_ID, UNKNOWN_REFERENCE, DUPLICATE_ROLE, EVENT_OFF_END}
 use Rattle.xhstt_references.proofs.ToldLemmas.{passed, passed_on, refused, told_later}
 use Rattle.xhstt_references.proofs.instances.directory.Goals as goal
@@ -87,3 +88,7 @@ returns-in_err-fault-4-clause-told c =
     let noted4 = c.event_off_end.ensures ∙ (λ j. first_of None (flat_map (off_end (is j)) (c.as_slice-2.ensures j))) in
     passed_on _ _ _ c.from_residual-in_err-fault-4.ensures.1
     (told_later DUPLICATE_ID r1 _ _ none1 (told_later UNKNOWN_REFERENCE r2 _ _ none2 (told_later DUPLICATE_ROLE r3 _ _ none3 (refused EVENT_OFF_END _ r4 None _ noted4 c.in_err-fault-4.ensures))))
+
+-- memory was refused
+pub returns-in_err-repeated_roles-clause-told : goal.returns-in_err-repeated_roles-clause-told
+returns-in_err-repeated_roles-clause-told c = passed_on _ NoMemory _ c.from_residual-in_err-repeated_roles.ensures.1 tt
