@@ -1,5 +1,5 @@
 -- The first of some places is the fault that is told.
-use Rattle.std.proofs.Common.{◌≡◌, ◌∙◌, ap, refl, sym, subst, ℕ, min, List, [], ◌∷◌, ◌++◌, Option, Some, None, Err, Ok, Result}
+use Rattle.std.proofs.Common.{◌≡◌, ◌∙◌, ap, refl, sym, subst, ℕ, min, List, [], ◌∷◌, Option, Some, None, Err, Ok, Result}
 use Rattle.std.specs.List.{fold}
 use Rattle.std.specs.Option.{option_map}
 use Rattle.std.specs.Result.{IsErrAnd}

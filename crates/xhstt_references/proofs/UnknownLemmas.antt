@@ -2,7 +2,7 @@
 use Rattle.std.proofs.Common.{◌≡◌, ◌∙◌, ap, refl, sym, ℕ, ◌+◌, ◌-◌, ◌<◌, Bool, true, false, not, cond, ◌||◌, ltb, nat_lt, if◌then◌else◌, get_or, List, [], ◌∷◌, ◌++◌, map, length, position, Option, Some, None, arith}
 use Rattle.std.specs.List.{filter, filter_map, flat_map, list_any, position_or_len, slice_get, cons_option}
 use Rattle.std.specs.Str.{bytes_eq}
-use Rattle.std.specs.Option.{is_some, option_and_then, option_map_or, option_to_list}
+use Rattle.std.specs.Option.{is_some, option_and_then, option_map_or}
 use Rattle.std.proofs.lemmas.Option.{slice_get-get_or}
 use Rattle.std.proofs.lemmas.List.Quantifiers.{position-Some}
 use Rattle.std.proofs.lemmas.Bool.Decides.{nat_tests}

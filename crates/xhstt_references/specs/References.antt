@@ -1,6 +1,6 @@
 -- The places at which an archive's names and references fail: Ids and roles that came before, and
 -- references that name nothing.
-use Rattle.std.specs.Prelude.{ℕ, ◌+◌, Bool, not, nat_lt, if◌then◌else◌, Option, Some, None, List, [], ◌∷◌, ◌++◌, map, length, slice_get}
+use Rattle.std.specs.Prelude.{ℕ, ◌+◌, not, nat_lt, if◌then◌else◌, Option, Some, None, List, [], ◌∷◌, ◌++◌, map, length, slice_get}
 use Rattle.std.specs.List.{filter, filter_map, flat_map}
 use Rattle.std.specs.Option.{option_and_then, option_map_or}
 use Rattle.khe_base.specs.Names.{is_among_names, number_of}
@@ -25,7 +25,6 @@ use Rattle.xhstt_shape.specs.declared.records.RawSolution.{RawSolution}
 use Rattle.xhstt_shape.specs.declared.records.RawGiven.{RawGiven}
 use Rattle.xhstt_shape.specs.declared.records.Ref.{Ref}
 use Rattle.xhstt_shape.specs.declared.records.ResourceGroup.{ResourceGroup}
-use Rattle.xhstt_shape.specs.declared.records.SolutionGroup.{SolutionGroup}
 use Rattle.xhstt_shape.specs.declared.records.Time.{Time}
 
 -- the places of the names that came before, among these or earlier in the list

@@ -1,5 +1,5 @@
 -- The Ids of instances, and then of solution groups.
-use Rattle.std.proofs.Common.{◌≡◌, ◌∙◌, ap, map, None, Option, List, []}
+use Rattle.std.proofs.Common.{◌≡◌, ◌∙◌, ap, map, None, []}
 use Rattle.xhstt_references.specs.Faults.{at_first}
 use Rattle.xhstt_references.specs.First.{first_of}
 use Rattle.xhstt_references.specs.References.{repeated}

@@ -1,5 +1,5 @@
 -- The names of each sort, and the places of all that are repeated.
-use Rattle.std.proofs.Common.{◌≡◌, ◌∙◌, ap, sym, map, None, []}
+use Rattle.std.proofs.Common.{◌∙◌, ap, sym, map, None}
 use Rattle.xhstt_references.specs.First.{first_of}
 use Rattle.xhstt_references.specs.References.{repeated}
 use Rattle.xhstt_references.proofs.FirstLemmas.{first_of_eight}

@@ -1,5 +1,5 @@
 -- References one by one.
-use Rattle.std.proofs.Common.{◌≡◌, ◌∙◌, ap, sym, ◌∷◌, []}
+use Rattle.std.proofs.Common.{◌∙◌, ap, sym, ◌∷◌, []}
 use Rattle.xhstt_references.specs.First.{first_of}
 use Rattle.xhstt_references.specs.References.{unknown}
 use Rattle.xhstt_references.proofs.FirstLemmas.{walk_step, walk_end}
