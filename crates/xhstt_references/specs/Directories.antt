@@ -1,14 +1,22 @@
--- When a directory has the names of an instance.
+-- The directory of an instance: the Ids of its parts, each list in the order of the text.
 use Rattle.std.specs.Prelude.{◌≡◌}
-use Rattle.xhstt_references.specs.Ids.{time_group_ids, time_ids, resource_type_ids, resource_group_ids, resource_ids, event_group_ids, event_ids}
+use Rattle.xhstt_references.specs.Ids.{time_group_ids, week_ids, day_ids, time_ids, resource_type_ids, resource_group_ids, resource_ids, event_group_ids, course_ids, event_ids}
 use Rattle.xhstt_references.specs.declared.directories.Directory.{Directory}
 use Rattle.xhstt_shape.specs.declared.records.RawInstance.{RawInstance}
 
-pub record IsDirectoryOf (i : RawInstance) (d : Directory) : Type 0 where
-  pub time_groups : d.time_groups ≡ time_group_ids i
-  pub times : d.times ≡ time_ids i
-  pub resource_types : d.resource_types ≡ resource_type_ids i
-  pub resource_groups : d.resource_groups ≡ resource_group_ids i
-  pub resources : d.resources ≡ resource_ids i
-  pub event_groups : d.event_groups ≡ event_group_ids i
-  pub events : d.events ≡ event_ids i
+abbrev pub directory_of : RawInstance → Directory
+directory_of i = record {
+  time_groups = time_group_ids i;
+  weeks = week_ids i;
+  days = day_ids i;
+  times = time_ids i;
+  resource_types = resource_type_ids i;
+  resource_groups = resource_group_ids i;
+  resources = resource_ids i;
+  event_groups = event_group_ids i;
+  courses = course_ids i;
+  events = event_ids i;
+}
+
+abbrev pub IsDirectoryOf : RawInstance → Directory → Type 0
+IsDirectoryOf i d = d ≡ directory_of i

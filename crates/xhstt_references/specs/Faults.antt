@@ -1,10 +1,10 @@
 -- The first fault of an archive's names and references: the kinds in their order, and of one kind
 -- the first place in the text.
-use Rattle.std.specs.Prelude.{ℕ, min, Option, Some, None, List, [], ◌∷◌, map}
+use Rattle.std.specs.Prelude.{ℕ, ◌≡◌, min, Option, Some, None, Result, Ok, Err, List, [], ◌∷◌, map}
 use Rattle.std.specs.List.{fold}
 use Rattle.xhstt_references.specs.References.{repeated, repeated_ids, repeated_roles, unknown_references, events_off_end, unknown_in_solutions}
 use Rattle.xhstt_references.specs.declared.faults.ReferenceFault.{ReferenceFault}
-use Rattle.xhstt_references.specs.declared.faults.ReferenceFault.TheVariants.{Bad}
+use Rattle.xhstt_references.specs.declared.faults.ReferenceFault.TheVariants.{Bad, NoMemory}
 use Rattle.xhstt_references.specs.declared.faults.TheConstants.{DUPLICATE_ID, UNKNOWN_REFERENCE, DUPLICATE_ROLE, EVENT_OFF_END}
 use Rattle.xhstt_shape.specs.declared.records.Archive.{Archive}
 use Rattle.xhstt_shape.specs.declared.records.RawInstance.{RawInstance}
@@ -31,3 +31,9 @@ fault_of_ids a =
 -- the first reference of the solutions that names nothing
 abbrev pub fault_of_solutions : Archive → Option ReferenceFault
 fault_of_solutions a = at_first UNKNOWN_REFERENCE (unknown_in_solutions a) None
+
+-- an answer comes where there is no fault, and else the fault is told, unless memory was refused
+abbrev pub IsTold : {A : Type 0} → Result A ReferenceFault → Option ReferenceFault → Type 0
+IsTold (Ok _) fault = fault ≡ None
+IsTold (Err NoMemory) fault = Unit {0}
+IsTold (Err (Bad kind at)) fault = fault ≡ Some (Bad kind at)

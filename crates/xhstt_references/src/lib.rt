@@ -4,8 +4,15 @@
 
 mod directories;
 mod faults;
+mod first;
+mod ids;
+mod instances;
+mod looking_up;
+mod numbering;
+mod repeats;
+mod solutions;
 
 pub use directories::Directory;
-pub use faults::{
-    DUPLICATE_ID, DUPLICATE_ROLE, EVENT_OFF_END, ReferenceFault, UNKNOWN_REFERENCE,
-};
+pub use faults::{DUPLICATE_ID, DUPLICATE_ROLE, EVENT_OFF_END, ReferenceFault, UNKNOWN_REFERENCE};
+pub use instances::{directory, instance_names};
+pub use solutions::instances_of_solutions;

@@ -1,0 +1,7 @@
+-- Where no Id is repeated, the names are those of the part.
+use Rattle.xhstt_references.specs.Ids.{is_day}
+use Rattle.xhstt_references.proofs.RepeatsLemmas.{part_end}
+use Rattle.xhstt_references.proofs.repeats.days_of.Goals as goal
+
+pub returns : goal.returns
+returns c = part_end (λ g. g.id) _ _ (λ g. is_day g.sort) _ c.loop-group-test.false c.loop-group.invariant
