@@ -1,5 +1,7 @@
+pub mod AmidLemmas
+pub mod CauseLemmas
 pub mod EndsLemmas
-pub mod MeetsLemmas
-pub mod MonitorsLemmas
-pub mod PointsLemmas
-pub mod Rows
+pub mod FewLemmas
+pub mod ReadingLemmas
+pub mod ReadyLemmas
+pub mod ReportLemmas

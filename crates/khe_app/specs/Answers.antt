@@ -1,22 +1,20 @@
--- What an answer to an archive is written as.
-use Rattle.std.specs.Prelude.{ℕ, ◌≡◌, List}
-use Rattle.khe_app.specs.Lines.{too_large_line, not_built_line}
-use Rattle.khe_app.specs.Numbered.{IsNumbered}
-use Rattle.khe_app.specs.Outcome.{IsFirstForm}
-use Rattle.khe_app.specs.declared.evaluating.Answer.{Answer}
-use Rattle.khe_app.specs.declared.evaluating.Answer.TheVariants.{Evaluated, TooLarge, NotBuilt}
-use Rattle.khe_app.specs.declared.evaluating.NumberedArchive.{NumberedArchive}
+-- What the program holds of an archive before it writes.
+use Rattle.std.specs.Prelude.{ℕ, Option, Some, None, List}
+use Rattle.khe_app.specs.Outcome.{Reading, evaluable, refused, IsReadingOf}
+use Rattle.khe_app.specs.Ready.{IsReady}
+use Rattle.khe_app.specs.declared.program.Answer.{Answer}
+use Rattle.khe_app.specs.declared.program.Answer.TheVariants.{Read, Refused}
 
-abbrev pub status_of : Answer → ℕ
-status_of (Evaluated report) = 0
-status_of TooLarge = 3
-status_of NotBuilt = 3
+abbrev pub reading_of : Answer → Reading
+reading_of (Read r) = evaluable r.archive r.resolved
+reading_of (Refused refusal) = refused refusal
 
-abbrev pub text_of_answer : Answer → List ℕ
-text_of_answer (Evaluated report) = report
-text_of_answer TooLarge = too_large_line
-text_of_answer NotBuilt = not_built_line
+-- the answer is that of the bytes, which stand there
+abbrev pub IsAnswerOf : Option (List ℕ) → Answer → Type 0
+IsAnswerOf None answer = ⊥
+IsAnswerOf (Some bytes) answer = IsReadingOf bytes (reading_of answer)
 
--- the bytes are a text of the first form that says this archive, with these numbers of its names
-abbrev pub IsReadAs : List ℕ → NumberedArchive → Type 0
-IsReadAs bytes r = IsFirstForm bytes r.archive × IsNumbered r.archive.instance r.numbered
+-- where there is a report to write, its solutions have their instances
+abbrev pub IsReadyAnswer : Answer → Type 0
+IsReadyAnswer (Read r) = IsReady r.archive r.resolved
+IsReadyAnswer (Refused refusal) = Unit {0}

@@ -1,7 +1,7 @@
 -- How a run of `khe` ends: by the outcome that the definitions give, by a device that refused a
 -- call, or for want of memory.
 use Rattle.std.specs.Prelude.{ℕ, ◌≡◌, ◌⊎◌, Option, None, IfSome, IsSomeAnd, List, [], encode_utf8_all}
-use Rattle.khe_io.specs.Faults.{Took, TookFront}
+use Rattle.khe_io.specs.Faults.{Rose, Took, TookFront}
 use Rattle.khe_app.specs.Outcome.{IsOutcome}
 
 -- what a shelf holds under its names, where it tells it
@@ -29,3 +29,11 @@ IsDecided status = (status ≡ 0) ⊎ (status ≡ 2) ⊎ (status ≡ 3)
 -- all statuses
 abbrev pub IsStatus : ℕ → Type 0
 IsStatus status = IsDecided status ⊎ (status ≡ 4) ⊎ (status ≡ 5) ⊎ (status ≡ 6)
+
+-- what came of writing bytes before a status: all was taken; or the sink refused a call after some; or
+-- memory ran out after some
+abbrev pub Written : Option (List ℕ) → Option (List ℕ) → ℕ → ℕ → List ℕ → ℕ → ℕ → Type 0
+Written before after faults_before faults_after bytes status result =
+    ((result ≡ status) × Took before after bytes)
+    ⊎ ((result ≡ 5) × Rose faults_before faults_after × TookFront before after bytes)
+    ⊎ ((result ≡ 6) × TookFront before after bytes)

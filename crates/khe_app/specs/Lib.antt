@@ -1,13 +1,9 @@
+pub mod Amid
 pub mod Answers
-pub mod Deviation
 pub mod Ends
-pub mod FirstForm
-pub mod Limits
-pub mod Lines
-pub mod Meets
-pub mod Numbered
 pub mod Outcome
-pub mod PlainText
+pub mod Readings
+pub mod Ready
+pub mod Refusals
 pub mod Report
-pub mod Resolved
 pub mod Words

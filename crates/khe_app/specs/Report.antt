@@ -1,32 +1,56 @@
 -- The report of an archive.
-use Rattle.std.specs.Prelude.{ℕ, ◌==◌, Bool, true, cond, if◌then◌else◌, List, [], ◌++◌, length, slice_index_or}
+use Rattle.std.specs.Prelude.{ℕ, ◌==◌, Bool, not, ◌&&◌, if◌then◌else◌, Option, Result, Ok, Err, List, [], ◌∷◌, ◌++◌, map, length, slice_get, ◌+◌}
 use Rattle.std.specs.List.{flat_map, enumerate_from}
-use Rattle.khe_app.specs.Deviation.{Monitor, monitors, completed, deviation, monitor_cost, totals, event_ids}
-use Rattle.khe_app.specs.Lines.{header_line, solution_line, monitor_line, total_line}
-use Rattle.khe_app.specs.declared.meets.Meet.{Meet}
-use Rattle.khe_app.specs.declared.archive.Archive.{Archive}
-use Rattle.khe_app.specs.declared.archive.RawInstance.{RawInstance}
-use Rattle.khe_app.specs.declared.archive.RawConstraint.{RawConstraint}
-use Rattle.khe_app.specs.declared.archive.RawGroup.{RawGroup}
-use Rattle.khe_app.specs.declared.archive.RawSolution.{RawSolution}
+use Rattle.std.specs.Option.{option_map_or, option_and_then}
+use Rattle.evaluation_report.specs.Lines.{header_line, solution_line, monitor_line, total_line, invalid_line}
+use Rattle.khe_instance.specs.Evaluated.{deviation_in, cost_in, is_detached, totals}
+use Rattle.khe_instance.specs.declared.parts.Parts.{Parts}
+use Rattle.khe_instance.specs.declared.points.Monitor.{Monitor}
+use Rattle.khe_instance.specs.declared.states.Plain.{Plain}
+use Rattle.xhstt_completion.specs.Completed.{completed}
+use Rattle.xhstt_completion.specs.declared.faults.Cause.{Cause}
+use Rattle.xhstt_references.specs.References.{solutions_of}
+use Rattle.xhstt_resolve.specs.declared.resolving.Resolved.{Resolved}
+use Rattle.xhstt_shape.specs.declared.records.Archive.{Archive}
+use Rattle.xhstt_shape.specs.declared.records.RawSolution.{RawSolution}
+use Rattle.xhstt_shape.specs.declared.records.SolutionGroup.{SolutionGroup}
 
--- the line of a monitor with this number, or nothing where its deviation is 0
-abbrev pub monitor_text : RawInstance → List Meet → ℕ × Monitor → List ℕ
-monitor_text inst meets (number, m) =
-    if deviation meets m.event == 0 then []
-    else monitor_line number m.constraint.id (slice_index_or (event_ids inst) m.event []) (deviation meets m.event)
-    m.constraint.required (monitor_cost meets m)
+-- the line of a monitor with its number: left out where its deviation is 0, unless all are wanted
+abbrev pub monitor_text : Bool → Parts → Plain → ℕ × Monitor → List ℕ
+monitor_text all p s (number, m) =
+    if not all && deviation_in p s m == 0 then []
+    else monitor_line p number (deviation_in p s m) (cost_in p s (number, m)) (not (is_detached s number))
 
--- the lines of a completed solution's monitors, and its totals
-abbrev pub evaluation : RawInstance → List Meet → List ℕ
-evaluation inst meets =
-    flat_map (monitor_text inst meets) (enumerate_from 0 (monitors inst)) ++ total_line (totals meets (monitors inst))
+-- the lines of a timetable's monitors, and its totals
+abbrev pub evaluation : Bool → Parts → Plain → List ℕ
+evaluation all p s = flat_map (monitor_text all p s) (enumerate_from 0 p.monitors) ++ total_line (totals p s)
 
--- a solution with this number
-abbrev pub solution_text : Archive → ℕ × RawSolution → List ℕ
-solution_text a (number, s) =
-    solution_line number a.group.id a.instance.id ++ evaluation a.instance (completed a.instance s)
+-- what comes of a solution: it is evaluated, or invalid for a cause
+abbrev pub outcome_text : Bool → Parts → Result Plain Cause → List ℕ
+outcome_text all p (Ok s) = evaluation all p s
+outcome_text all p (Err cause) = invalid_line cause.cause cause.entry
+
+-- a solution with its number and the Id of its group, of an instance with these parts
+abbrev pub solution_text : Bool → ℕ → List ℕ → RawSolution → Parts → List ℕ
+solution_text all number group raw p = solution_line number group p.id ++ outcome_text all p (completed p raw)
+
+-- the parts of the instance of the solution with this number
+abbrev pub parts_at : Resolved → ℕ → Option Parts
+parts_at r number = option_and_then (λ k. slice_get r.instances k) (slice_get r.of number)
+
+abbrev pub numbered_text : Bool → Resolved → List ℕ → ℕ × RawSolution → List ℕ
+numbered_text all r group (number, raw) = option_map_or (solution_text all number group raw) (parts_at r number) []
+
+-- the solutions of a group, numbered on from this number
+abbrev pub group_text : Bool → Resolved → ℕ → SolutionGroup → List ℕ
+group_text all r number g = flat_map (numbered_text all r g.id.text) (enumerate_from number g.solutions)
+
+-- the solutions of groups
+abbrev pub groups_text : Bool → Resolved → ℕ → List SolutionGroup → List ℕ
+groups_text all r number [] = []
+groups_text all r number (g ∷ gs) =
+    group_text all r number g ++ groups_text all r (number + length g.solutions) gs
 
 -- the whole report
-abbrev pub report : Archive → List ℕ
-report a = header_line 1 (length a.group.solutions) ++ flat_map (solution_text a) (enumerate_from 0 a.group.solutions)
+abbrev pub report : Bool → Archive → Resolved → List ℕ
+report all a r = header_line (length r.instances) (length (solutions_of a)) ++ groups_text all r 0 a.solution_groups

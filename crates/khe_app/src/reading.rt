@@ -1,135 +1,96 @@
-ghost use Rattle.std.specs.Prelude.{◌≡◌, ◌↔◌, Option, Some, None, IfOk, IsTrue, is_none};
-ghost use Rattle.std.specs.Option.{option_map, option_copied};
-ghost use Rattle.khe_base.specs.Text.{text_of};
-ghost use Rattle.xhstt_text.specs.Forest.{Forest, Info, empty};
-ghost use Rattle.khe_app.specs.FirstForm as spec;
+ghost use Rattle.std.specs.Prelude.{◌≡◌, ◌≤◌, length, IfOk, IfErr};
+ghost use Rattle.khe_base.specs.declared.limits.TheConstants.{ARCHIVE_BYTES};
+ghost use Rattle.khe_app.specs.Outcome.{evaluable, IsReadingOf};
+ghost use Rattle.khe_app.specs.Readings.{IsTree, IsStoppedTree, IsStopped, of_resolve};
+ghost use Rattle.khe_app.specs.Ready.{IsReady};
+ghost use Rattle.xhstt_shape.specs.WellFormed.{IsInForm};
 
-use khe_base::{CostFn, NoMemory, Seq, Text};
+use crate::refusals::Refusal;
+use khe_base::{NoMemory, Seq};
 use std::alloc::Global;
-use xhstt_text::{Children, Element};
+use xhstt_resolve::{ResolveFault, Resolved, resolve};
+use xhstt_shape::reading::archive;
+use xhstt_shape::{Archive, ShapeFault};
+use xhstt_text::{TextFault, elements};
 
-/// How an element of a tree is read, where it has the form that this type stands for.
-pub(crate) trait Reading {
-    /// What the element says.
-    type Value: Drop;
-
-    ghost reading: { Info → Forest → Option Self.Value };
-
-    /// What this element says, or `None` where it hasn't the form. It takes time linear in the
-    /// element.
-    fn read(alloc: Global, element: &Element<'_, '_>) -> Result<Option<Self::Value>, NoMemory>
-        ensures { IfOk result (λ r. r ≡ reading element.now.info element.now.kids) };
+/// An archive with its instances.
+#[derive(Drop)]
+pub struct ReadArchive {
+    pub archive: Archive,
+    pub resolved: Resolved,
 }
 
-/// The next element of a row, or `None` where there is none or it hasn't the form.
-pub(crate) fn next<R: Reading>(
-    alloc: Global,
-    row: &mut Children<'_, '_>,
-) -> Result<Option<R::Value>, NoMemory>
-    ensures { IfOk result (λ r. spec.first_of_row R.reading row.old ≡ option_map (λ a. (a, row.new)) r) }
-{
-    match row.next() {
-        Some(element) => R::read(alloc, &element),
-        None => Ok(None),
+/// Why an archive is not read.
+#[derive(Clone, Copy, Debug, PartialEq, Eq)]
+pub enum Unread {
+    /// It is refused.
+    Refused(Refusal),
+    /// Memory was refused.
+    NoMemory,
+}
+
+impl From<TextFault> for Unread {
+    ghost use Rattle.std.specs.Prelude.{◌≡◌};
+    ghost use Rattle.khe_app.specs.Readings.{of_text};
+
+    ghost from_gives = { λ fault unread. unread ≡ of_text fault };
+
+    fn from(fault: TextFault) -> Unread {
+        match fault {
+            TextFault::Bad { kind, at } => Unread::Refused(Refusal::Fault { kind, at }),
+            TextFault::NoMemory => Unread::NoMemory,
+        }
     }
 }
 
-/// Each child of an element, or `None` where one hasn't the form.
-pub(crate) fn every<R: Reading>(
-    alloc: Global,
-    element: &Element<'_, '_>,
-) -> Result<Option<Seq<R::Value>>, NoMemory>
-    ensures { IfOk result (λ r. r ≡ spec.every R.reading element.now.kids) }
-{
-    let mut row = element.children();
-    let mut all = Seq::new(alloc);
-    while let Some(child) = row.next() {
-        let Some(value) = R::read(alloc, &child)? else {
-            return Ok(None);
-        };
-        all.push(value)?;
+impl From<ShapeFault> for Unread {
+    ghost use Rattle.std.specs.Prelude.{◌≡◌};
+    ghost use Rattle.khe_app.specs.Readings.{of_shape};
+
+    ghost from_gives = { λ fault unread. unread ≡ of_shape fault };
+
+    fn from(fault: ShapeFault) -> Unread {
+        match fault {
+            ShapeFault::Bad { kind, at } => Unread::Refused(Refusal::Fault { kind, at }),
+            ShapeFault::NoMemory => Unread::NoMemory,
+        }
     }
-    Ok(Some(all))
 }
 
-/// The only child of an element, or `None` where it has none or several, or it hasn't the form.
-pub(crate) fn only_one<R: Reading>(
-    alloc: Global,
-    element: &Element<'_, '_>,
-) -> Result<Option<R::Value>, NoMemory>
-    ensures { IfOk result (λ r. r ≡ spec.only_one R.reading element.now.kids) }
+/// The archive that these bytes spell. The tree of the text is kept no longer than this call.
+fn archive_of(alloc: Global, bytes: &[u8]) -> Result<Archive, Unread>
+    requires { length bytes.now ≤ ARCHIVE_BYTES }
+    ensures tree { IfOk result (IsTree bytes.now) }
+    ensures stopped { IfErr result (IsStoppedTree bytes.now) }
+    ensures formed { IfOk result IsInForm }
 {
-    let mut row = element.children();
-    let Some(value) = next::<R>(alloc, &mut row)? else {
-        return Ok(None);
-    };
-    if !row.is_empty() {
-        return Ok(None);
+    let tree = elements(alloc, bytes)?;
+    Ok(archive(alloc, &tree)?)
+}
+
+/// What these bytes lead to, as an archive to evaluate. The bytes are kept no longer than it takes
+/// to read the archive from them.
+pub(crate) fn read(alloc: Global, bytes: Seq<u8>) -> Result<ReadArchive, Unread>
+    requires { length bytes ≤ ARCHIVE_BYTES }
+    ensures read { IfOk result (λ r. IsReadingOf bytes (evaluable r.archive r.resolved)) }
+    ensures ready { IfOk result (λ r. IsReady r.archive r.resolved) }
+    ensures stopped { IfErr result (IsStopped bytes) }
+{
+    let archive = archive_of(alloc, bytes.as_slice())?;
+    drop(bytes);
+    match resolve(alloc, &archive) {
+        Ok(resolved) => Ok(ReadArchive { archive, resolved }),
+        Err(fault) => Err(unresolved(fault)),
     }
-    Ok(Some(value))
 }
 
-/// The value of the only attribute of an element, where it has this name.
-fn only_attribute(
-    alloc: Global,
-    name: &[u8],
-    element: &Element<'_, '_>,
-) -> Result<Option<Text>, NoMemory>
-    ensures { IfOk result (λ t. t ≡ spec.only_attribute name.now element.now.info.attributes) }
+/// A fault of resolving as a reason not to read.
+fn unresolved(fault: ResolveFault) -> Unread
+    ensures { result ≡ of_resolve fault }
 {
-    let mut attributes = element.attributes();
-    let Some(first) = attributes.next() else {
-        return Ok(None);
-    };
-    if name != first.name || attributes.len() > 0 {
-        return Ok(None);
+    match fault {
+        ResolveFault::Bad { kind, at } => Unread::Refused(Refusal::Fault { kind, at }),
+        ResolveFault::Limit { which, value } => Unread::Refused(Refusal::Limit { which, value }),
+        ResolveFault::NoMemory => Unread::NoMemory,
     }
-    Text::from_utf8(alloc, first.value)
-}
-
-/// The Id or Reference of an element of this name, which has no other attribute and no text.
-pub(crate) fn label(
-    alloc: Global,
-    name: &[u8],
-    attribute: &[u8],
-    element: &Element<'_, '_>,
-) -> Result<Option<Text>, NoMemory>
-    ensures { IfOk result (λ t. t ≡ spec.label_of name.now attribute.now element.now.info) }
-{
-    if !element.is_named(name) || element.loose().is_some() {
-        return Ok(None);
-    }
-    only_attribute(alloc, attribute, element)
-}
-
-/// The same of an element without children.
-pub(crate) fn childless_label(
-    alloc: Global,
-    name: &[u8],
-    attribute: &[u8],
-    element: &Element<'_, '_>,
-) -> Result<Option<Text>, NoMemory>
-    ensures { IfOk result (λ t. t ≡ (spec.childless_label name.now attribute.now element.now.info element.now.kids)) }
-{
-    if !element.children().is_empty() {
-        return Ok(None);
-    }
-    label(alloc, name, attribute, element)
-}
-
-/// Whether an element has this name, no attribute and no text.
-pub(crate) fn is_plain(name: &[u8], element: &Element<'_, '_>) -> bool
-    ensures { result ≡ spec.is_plain name.now element.now.info }
-{
-    element.is_named(name) && element.attributes().len() == 0 && element.loose().is_none()
-}
-
-/// The bytes of an element of this name without attributes and children.
-pub(crate) fn leaf<'a>(name: &[u8], element: &Element<'_, 'a>) -> Option<&'a [u8]>
-    ensures { option_copied result ≡ spec.leaf_of name.now element.now.info element.now.kids }
-{
-    let fits = element.is_named(name)
-        && element.attributes().len() == 0
-        && element.children().is_empty();
-    if fits { Some(element.value()) } else { None }
 }

@@ -1,156 +1,190 @@
-ghost use Rattle.std.specs.Prelude.{◌≡◌, ◌<◌, ◌≤◌, ◌+◌, ◌*◌, ◌^◌, ◌++◌, if◌then◌else◌, List, true, Some, length, map, OnOk, IfOk, nat_le};
-ghost use Rattle.std.specs.List.{list_all};
-ghost use Rattle.khe_base.specs.Names.{are_distinct};
-ghost use Rattle.khe_base.specs.declared.limits.TheConstants.{WEIGHT, MONITORS};
-ghost use Rattle.khe_app.specs.Deviation.{Monitor, monitors, references, deviation, monitor_cost, totals};
-ghost use Rattle.khe_app.specs.Meets.{NumberedFrom};
-ghost use Rattle.khe_app.specs.Numbered.{IsNumbered, monitor_at};
-ghost use Rattle.khe_app.specs.Report.{monitor_text, evaluation, solution_text, report};
-ghost use Rattle.khe_app.specs.Resolved.{Resolves, IsWithinLimits, is_solution};
-ghost use Rattle.khe_app.specs.declared.meets.Meet.{Meet};
-ghost use Rattle.khe_app.specs.declared.measures.TheConstants.{GREATEST_COST};
+ghost use Rattle.std.specs.Prelude.{◌≡◌, ◌≤◌, ◌<◌, ◌+◌, ◌++◌, ◌^◌, ℕ, List, [], Option, Some, IsSome, false, length, OnOk, OnErr, IsErrOf, encode_utf8_all};
+ghost use Rattle.khe_instance.specs.Evaluated.{deviation_in, cost_in, is_detached};
+ghost use Rattle.khe_instance.specs.declared.points.Monitor.{Monitor};
+ghost use Rattle.khe_instance.specs.declared.states.Plain.{Plain};
+ghost use Rattle.khe_io.specs.Faults.{Rose, Took, TookFront};
+ghost use Rattle.khe_app.specs.Amid.{IsAmid};
+ghost use Rattle.khe_app.specs.Report as spec;
+ghost use Rattle.khe_instance.specs.States.{IsValid};
+ghost use Rattle.khe_app.specs.Ready.{IsOne, AreOnes, IsReady};
+ghost use Rattle.xhstt_completion.specs.Entries.{IsSolution};
+ghost use Rattle.xhstt_completion.specs.Completed as completion;
 
-use crate::archive::{Archive, RawConstraint, RawInstance, RawSolution};
-use crate::completion::completed;
-use crate::lines::{header_line, monitor_line, solution_line, total_line};
-use crate::measures::{Measured, measure};
-use crate::meets::Meet;
-use crate::numbered::{Numbered, NumberedMonitor};
-use khe_base::{NoMemory, Text, Totals};
+use crate::writing::{Cut, flush, flush_long};
+use evaluation_report::{header_line, invalid_line, monitor_line, solution_line, total_line};
+use khe_base::{MonitorId, NoMemory, Text};
+use khe_instance::{Instance, Plain};
+use khe_io::Sink;
+use plain_eval::evaluate;
 use std::alloc::Global;
+use xhstt_completion::{SolutionFault, completed};
+use xhstt_resolve::Resolved;
+use xhstt_shape::{Archive, RawSolution, SolutionGroup};
 
-/// Adds the line of a monitor, or nothing where its deviation is 0.
+/// Adds the line of a monitor by its deviation and its cost, or nothing where it has no deviation and
+/// not all are wanted.
 fn push_monitor(
     alloc: Global,
     text: &mut Text,
-    instance: &RawInstance,
-    number: usize,
-    monitor: NumberedMonitor,
-    measured: Measured,
+    inst: &Instance,
+    number: u32,
+    deviation: u64,
+    cost: u128,
+    all: bool,
 ) -> Result<(), NoMemory>
-    requires constraint { monitor.constraint < length instance.now.constraints }
-    requires event { monitor.event < length instance.now.events }
-    ensures { (meets : List Meet) (m : Monitor) → monitor_at instance.now.constraints monitor ≡ Some m
-        → measured.deviation ≡ deviation meets m.event → measured.required ≡ m.constraint.required → measured.cost ≡ monitor_cost meets m
-        → OnOk result (text.new ≡ text.old ++ monitor_text instance.now meets (number, m)) }
+    requires { number < length inst.now.monitors }
+    ensures { (s : Plain) (m : Monitor) → deviation ≡ deviation_in inst.now s m → cost ≡ cost_in inst.now s (number, m) → is_detached s number ≡ false
+        → OnOk result (text.new ≡ text.old ++ spec.monitor_text all inst.now s (number, m)) }
 {
-    if measured.deviation == 0 {
+    if !all && deviation == 0 {
         return Ok(());
     }
-    let constraint = &instance.constraints.as_slice()[monitor.constraint];
-    let event = &instance.events.as_slice()[monitor.event];
-    text.push_text(&monitor_line(alloc, number, measured, &constraint.id, &event.id)?)
+    let line = monitor_line(alloc, inst, MonitorId(number), deviation, cost, true)?;
+    text.push_text(&line)
 }
 
-/// The totals with one more cost.
-fn with_cost(totals: Totals, measured: Measured) -> Totals
-    requires hard { totals.hard + measured.cost < 2 ^ 128 }
-    requires soft { totals.soft + measured.cost < 2 ^ 128 }
-    ensures hard { result.hard ≡ totals.hard + (if measured.required then measured.cost else 0) }
-    ensures soft { result.soft ≡ totals.soft + (if measured.required then 0 else measured.cost) }
-{
-    if measured.required {
-        Totals {
-            hard: totals.hard + measured.cost,
-            soft: totals.soft,
-        }
-    } else {
-        Totals {
-            hard: totals.hard,
-            soft: totals.soft + measured.cost,
-        }
-    }
-}
-
-/// Adds the line of a monitor, and answers the totals with its cost.
-fn push_measured(
-    alloc: Global,
-    text: &mut Text,
-    totals: Totals,
-    instance: &RawInstance,
-    number: usize,
-    monitor: NumberedMonitor,
-    meets: &[Meet],
-) -> Result<Totals, NoMemory>
-    requires constraint { monitor.constraint < length instance.now.constraints }
-    requires event { monitor.event < length instance.now.events }
-    requires meets { length meets.now ≡ length instance.now.events }
-    requires ordered { NumberedFrom 0 meets.now }
-    requires weights { list_all (λ c. nat_le c.weight WEIGHT) instance.now.constraints ≡ true }
-    requires hard { totals.hard ≤ MONITORS * GREATEST_COST }
-    requires soft { totals.soft ≤ MONITORS * GREATEST_COST }
-    ensures text { (m : Monitor) → monitor_at instance.now.constraints monitor ≡ Some m
-        → OnOk result (text.new ≡ text.old ++ monitor_text instance.now meets.now (number, m)) }
-    ensures hard { (m : Monitor) → monitor_at instance.now.constraints monitor ≡ Some m
-        → IfOk result (λ t. t.hard ≡ totals.hard + (if m.constraint.required then monitor_cost meets.now m else 0)) }
-    ensures soft { (m : Monitor) → monitor_at instance.now.constraints monitor ≡ Some m
-        → IfOk result (λ t. t.soft ≡ totals.soft + (if m.constraint.required then 0 else monitor_cost meets.now m)) }
-    ensures small_hard { IfOk result (λ t. t.hard ≤ totals.hard + GREATEST_COST) }
-    ensures small_soft { IfOk result (λ t. t.soft ≤ totals.soft + GREATEST_COST) }
-{
-    let constraint = &instance.constraints.as_slice()[monitor.constraint];
-    let measured = measure(constraint, meets, monitor.event);
-    push_monitor(alloc, text, instance, number, monitor, measured)?;
-    Ok(with_cost(totals, measured))
-}
-
-/// Adds the lines of a completed solution's monitors, and its totals.
+/// Adds the lines of the monitors of a timetable, of all or of those with a deviation, and its
+/// totals.
 fn push_evaluation(
     alloc: Global,
     text: &mut Text,
-    instance: &RawInstance,
-    numbered: &Numbered,
-    meets: &[Meet],
+    inst: &Instance,
+    plain: &Plain,
+    all: bool,
 ) -> Result<(), NoMemory>
-    requires numbered { IsNumbered instance.now numbered.now }
-    requires limits { IsWithinLimits instance.now }
-    requires meets { length meets.now ≡ length instance.now.events }
-    requires ordered { NumberedFrom 0 meets.now }
-    ensures { OnOk result (text.new ≡ text.old ++ evaluation instance.now meets.now) }
+    requires state { IsValid inst.now plain.now }
+    requires attached { plain.now.detached ≡ [] }
+    ensures { OnOk result (text.new ≡ text.old ++ spec.evaluation all inst.now plain.now) }
 {
-    let mut totals = Totals { hard: 0, soft: 0 };
-    for (number, monitor) in numbered.monitors.as_slice().iter().enumerate() {
-        totals = push_measured(alloc, text, totals, instance, number, *monitor, meets)?;
+    let values = evaluate(alloc, inst, plain)?;
+    let deviations = values.deviations.as_slice();
+    let costs = values.costs.as_slice();
+    for number in 0..inst.monitors() {
+        let deviation = deviations[number as usize];
+        let cost = costs[number as usize];
+        push_monitor(alloc, text, inst, number, deviation, cost, all)?;
     }
-    text.push_text(&total_line(alloc, totals)?)
+    text.push_text(&total_line(alloc, values.totals)?)
 }
 
-/// Adds the part of a report on one solution.
+/// Adds what comes of a solution: its evaluation, or why it is invalid.
+fn push_outcome(
+    alloc: Global,
+    text: &mut Text,
+    inst: &Instance,
+    solution: &RawSolution,
+    all: bool,
+) -> Result<(), NoMemory>
+    requires { IsSolution inst.now solution.now }
+    ensures { OnOk result (text.new ≡ text.old ++ spec.outcome_text all inst.now (completion.completed inst.now solution.now)) }
+{
+    match completed(alloc, inst, solution) {
+        Ok(plain) => push_evaluation(alloc, text, inst, &plain, all),
+        Err(SolutionFault::Invalid { cause, entry }) => {
+            text.push_text(&invalid_line(alloc, cause, entry)?)
+        }
+        Err(SolutionFault::NoMemory) => Err(NoMemory),
+    }
+}
+
+/// Adds the part of a report on one solution: its line, and what comes of it.
 fn push_solution(
     alloc: Global,
     text: &mut Text,
-    archive: &Archive,
-    numbered: &Numbered,
-    number: usize,
+    number: u32,
+    group: &Text,
+    inst: &Instance,
     solution: &RawSolution,
+    all: bool,
 ) -> Result<(), NoMemory>
-    requires numbered { IsNumbered archive.now.instance numbered.now }
-    requires limits { IsWithinLimits archive.now.instance }
-    requires solution { is_solution archive.now.instance solution.now ≡ true }
-    ensures { OnOk result (text.new ≡ text.old ++ solution_text archive.now (number, solution.now)) }
+    requires { IsSolution inst.now solution.now }
+    ensures { OnOk result (text.new ≡ text.old ++ spec.solution_text all number group.now solution.now inst.now) }
 {
-    let instance = &archive.instance;
-    text.push_text(&solution_line(alloc, number, &archive.group.id, &instance.id)?)?;
-    let meets = completed(alloc, instance, &numbered.times, solution)?;
-    push_evaluation(alloc, text, instance, numbered, meets.as_slice())
+    let line = solution_line(alloc, number, group, inst.id())?;
+    text.push_text(&line)?;
+    push_outcome(alloc, text, inst, solution, all)
 }
 
-/// The report of an archive: its header, and for each solution its monitors' lines and totals.
-///
-/// It takes time in proportion to the events, entries and monitors of each solution, and memory
-/// in proportion to the report.
-pub(crate) fn report(
+/// Adds the part of a report on one solution to what waits, and gives that to the sink where it is
+/// long.
+fn write_solution<K: Sink>(
     alloc: Global,
-    archive: &Archive,
-    numbered: &Numbered,
-) -> Result<Text, NoMemory>
-    requires resolves { Resolves archive.now }
-    requires numbered { IsNumbered archive.now.instance numbered.now }
-    ensures { IfOk result (λ text. text ≡ report archive.now) }
+    out: &mut K,
+    text: &mut Text,
+    resolved: &Resolved,
+    number: u32,
+    group: &Text,
+    solution: &RawSolution,
+    all: bool,
+) -> Result<(), Cut>
+    requires { IsOne resolved.now number solution.now }
+    ensures amid { (before : Option (List ℕ)) (rest whole : List ℕ) → IsAmid before (K.taken out.old) text.old (spec.numbered_text all resolved.now group.now (number, solution.now) ++ rest) whole → OnOk result (IsAmid before (K.taken out.new) text.new rest whole) }
+    ensures front { (before : Option (List ℕ)) (rest whole : List ℕ) → IsAmid before (K.taken out.old) text.old (spec.numbered_text all resolved.now group.now (number, solution.now) ++ rest) whole → OnErr result (TookFront before (K.taken out.new) (encode_utf8_all whole)) }
+    ensures fault { IsErrOf result Cut.WriteFault → Rose (K.faults out.old) (K.faults out.new) }
+    ensures counted { K.faults out.old ≤ K.faults out.new }
 {
-    let mut text = header_line(alloc, 1, archive.group.solutions.len())?;
-    for (number, solution) in archive.group.solutions.as_slice().iter().enumerate() {
-        push_solution(alloc, &mut text, archive, numbered, number, solution)?;
+    let inst = instance_at(resolved, number);
+    push_solution(alloc, text, number, group, inst, solution, all)?;
+    flush_long(alloc, out, text)
+}
+
+/// The instance of the solution with this number.
+fn instance_at(resolved: &Resolved, number: u32) -> &Instance
+    requires { IsSome (spec.parts_at resolved.now number) }
+    ensures { spec.parts_at resolved.now number ≡ Some result.now }
+{
+    let instance = resolved.of.as_slice()[number as usize];
+    &resolved.instances.as_slice()[instance as usize]
+}
+
+/// Writes the solutions of a group, numbered on from this number.
+fn write_group<K: Sink>(
+    alloc: Global,
+    out: &mut K,
+    text: &mut Text,
+    resolved: &Resolved,
+    first: u32,
+    group: &SolutionGroup,
+    all: bool,
+) -> Result<(), Cut>
+    requires ones { AreOnes resolved.now first group.now.solutions }
+    requires small { first + length group.now.solutions < 2 ^ 32 }
+    ensures amid { (before : Option (List ℕ)) (rest whole : List ℕ) → IsAmid before (K.taken out.old) text.old (spec.group_text all resolved.now first group.now ++ rest) whole → OnOk result (IsAmid before (K.taken out.new) text.new rest whole) }
+    ensures front { (before : Option (List ℕ)) (rest whole : List ℕ) → IsAmid before (K.taken out.old) text.old (spec.group_text all resolved.now first group.now ++ rest) whole → OnErr result (TookFront before (K.taken out.new) (encode_utf8_all whole)) }
+    ensures fault { IsErrOf result Cut.WriteFault → Rose (K.faults out.old) (K.faults out.new) }
+    ensures counted { K.faults out.old ≤ K.faults out.new }
+{
+    let id = &group.id.text;
+    for (k, solution) in group.solutions.as_slice().iter().enumerate() {
+        let number = first + k as u32;
+        write_solution(alloc, out, text, resolved, number, id, solution, all)?;
     }
-    Ok(text)
+    Ok(())
+}
+
+/// Writes the report of an archive: its header, and for each solution its line and what comes of it.
+///
+/// It takes time about linear in the instances, the solutions and the report. It keeps in memory
+/// what one solution adds to the report, and of the rest no more than a piece.
+pub(crate) fn report<K: Sink>(
+    alloc: Global,
+    out: &mut K,
+    archive: &Archive,
+    resolved: &Resolved,
+    all: bool,
+) -> Result<(), Cut>
+    requires { IsReady archive.now resolved.now }
+    ensures whole { OnOk result (Took (K.taken out.old) (K.taken out.new) (encode_utf8_all (spec.report all archive.now resolved.now))) }
+    ensures front { OnErr result (TookFront (K.taken out.old) (K.taken out.new) (encode_utf8_all (spec.report all archive.now resolved.now))) }
+    ensures fault { IsErrOf result Cut.WriteFault → Rose (K.faults out.old) (K.faults out.new) }
+    ensures counted { K.faults out.old ≤ K.faults out.new }
+{
+    let solutions = resolved.of.len() as u32;
+    let mut text = header_line(alloc, resolved.instances.len() as u32, solutions)?;
+    let mut number = 0;
+    for group in archive.solution_groups.as_slice() {
+        write_group(alloc, out, &mut text, resolved, number, group, all)?;
+        number += group.solutions.len() as u32;
+    }
+    flush(alloc, out, &mut text)
 }

@@ -7,6 +7,8 @@ use std::thread::Threads;
 
 const EVALUATE: [&str; 2] = ["evaluate", "archive"];
 
+const EVALUATE_ALL: [&str; 3] = ["evaluate", "archive", "--all"];
+
 const HEADER: &str = "archive instances 1 solutions 1\nsolution 0 group \"G\" instance \"I\"\n";
 
 #[test]
@@ -60,57 +62,100 @@ fn evaluates_the_first_archive(rt: HostRuntime) -> Result<(), Fail> {
 }
 
 #[test]
-fn refuses_other_forms(rt: HostRuntime) -> Result<(), Fail> {
-    for (part, other) in [
-        (
-            "<HighSchoolTimetableArchive>",
-            "<?xml version=\"1.0\"?><HighSchoolTimetableArchive>",
-        ),
-        (
-            "<HighSchoolTimetableArchive>",
-            "<!-- a comment --><HighSchoolTimetableArchive>",
-        ),
-        ("Id=\"E\"", "Id=\"&#69;\""),
-        ("</HighSchoolTimetableArchive>", "</HighSch"),
-        ("</Instances>", "</Instance>"),
-        ("<Weight>2</Weight>", "<Weight>2</Weight><Weight>2</Weight>"),
-        ("<Weight>2</Weight>", "<Weight> 2</Weight>"),
-        ("<Weight>2</Weight>", "<Weight>1000001</Weight>"),
-        ("<Duration>3</Duration>", "<Duration>0</Duration>"),
-        (
-            "<Required>true</Required><Weight>2</Weight>",
-            "<Weight>2</Weight><Required>true</Required>",
-        ),
-        ("<Time Id=\"t1\"/>", "<Time Id=\"t0\"/>"),
-        ("<Event Reference=\"E\"/>", "<Event Reference=\"F\"/>"),
-        ("Solution Reference=\"I\"", "Solution Reference=\"J\""),
-        ("AssignTimeConstraint Id", "LinkEventsConstraint Id"),
-        ("<Times>", "<Times>loose"),
-        (
-            "<Solution Reference=\"I\"/>",
-            "<Solution Reference=\"I\"><Events><Event Reference=\"E\"><Time Reference=\"t1\"/></Event></Events></Solution>",
-        ),
-        (
-            "<Solution Reference=\"I\"/>",
-            "<Solution Reference=\"I\"><Events><Event Reference=\"E\"/><Event Reference=\"E\"/></Events></Solution>",
-        ),
+fn refuses_archives(rt: HostRuntime) -> Result<(), Fail> {
+    for (part, other, fault) in [
+        ("</HighSchoolTimetableArchive>", "</HighSch", "2 BadMarkup at 533"),
+        ("</Instances>", "</Instance>", "3 MismatchedEnd at 413"),
+        ("<Times>", "<!DOCTYPE a><Times>", "5 Unsupported at 58"),
+        ("<Times>", "<Times>&nbsp;", "4 BadReference at 65"),
+        ("<Weight>2</Weight>", "<Weight>2</Weight><Weight>2</Weight>", "9 RepeatedChild at 266"),
+        ("<Weight>2</Weight>", "<Weight>1000001</Weight>", "10 BadNumber at 256"),
+        ("<Weight>2</Weight>", "", "8 MissingChild at 194"),
+        ("<Duration>3</Duration>", "<Duration>0</Duration>", "10 BadNumber at 151"),
+        ("Linear", "Cubic", "11 BadWord at 280"),
+        ("<Times>", "<Times>loose", "11 BadWord at 65"),
+        ("<Times>", "<Hours/><Times>", "7 UnknownElement at 58"),
+        ("<Time Id=\"t1\"/>", "<Time Id=\"t0\"/>", "12 DuplicateId at 90"),
+        ("<Event Reference=\"E\"/>", "<Event Reference=\"F\"/>", "13 UnknownReference at 339"),
+        ("Solution Reference=\"I\"", "Solution Reference=\"J\"", "13 UnknownReference at 485"),
+        ("<Duration>3</Duration>", "<Duration>3</Duration><Time Reference=\"t1\"/>", "15 EventOffEnd at 180"),
+        ("<Duration>3</Duration>", "<Duration>200000</Duration>", "16 Limit duration 200000"),
     ] {
         let bytes = first_with(rt.alloc(), part, other)?.ok_or("no such part")?;
         let ended = run(&rt, rt.alloc(), &EVALUATE, bytes, GOOD)?;
-        assert_eq!(rt;
-            ended.text.as_slice(),
-            b"khe: archive refused: 20 NotBuilt\n".as_slice(),
-            "with {other}"
-        );
+        let text = format!(in rt.alloc(); "khe: archive refused: {fault}\n")?;
+        assert_eq!(rt; ended.text.as_slice(), text.as_bytes(), "with {other}");
         assert_eq!(rt; ended.status, 3, "with {other}");
     }
-    let other = WITH_RESOURCES.as_bytes().to_vec(rt.alloc())?;
-    let ended = run(&rt, rt.alloc(), &EVALUATE, other, GOOD)?;
-    assert_eq!(rt;
-        ended.text.as_slice(),
-        b"khe: archive refused: 20 NotBuilt\n".as_slice()
-    );
-    assert_eq!(rt; ended.status, 3);
+    Ok(())
+}
+
+#[test]
+fn evaluates_solutions_and_names_causes(rt: HostRuntime) -> Result<(), Fail> {
+    let whole = "monitor 0 AssignTime \"c\" event \"E\" deviation 3 hard 6\ntotal hard 6 soft 0\n";
+    for (part, other, lines) in [
+        ("<HighSchoolTimetableArchive>", "\u{feff}<?xml version='1.0'?><!-- a comment --><HighSchoolTimetableArchive>", whole),
+        ("Id=\"E\"", "Id=\"&#69;\"", whole),
+        ("Instance Id=\"I\"", "Instance Id='I'", whole),
+        ("<Weight>2</Weight>", "<Weight> 2</Weight>", whole),
+        ("<Required>true</Required><Weight>2</Weight>", "<Weight>2</Weight><Required>true</Required>", whole),
+        ("<Solution Reference=\"I\"/>", "<Solution Reference=\"I\"><Events><Event Reference=\"E\"><Duration>1</Duration></Event><Event Reference=\"E\"><Duration>1</Duration></Event></Events></Solution>", whole),
+        ("<Solution Reference=\"I\"/>", "<Solution Reference=\"I\"><Events><Event Reference=\"E\"><Time Reference=\"t1\"/></Event></Events></Solution>", "invalid 4 OffEnd entry 0\n"),
+        ("<Solution Reference=\"I\"/>", "<Solution Reference=\"I\"><Events><Event Reference=\"E\"><Duration>2</Duration></Event><Event Reference=\"E\"><Duration>2</Duration></Event></Events></Solution>", "invalid 1 TooLong entry 1\n"),
+    ] {
+        let bytes = first_with(rt.alloc(), part, other)?.ok_or("no such part")?;
+        let ended = run(&rt, rt.alloc(), &EVALUATE, bytes, GOOD)?;
+        let text = format!(in rt.alloc(); "{HEADER}{lines}")?;
+        assert_eq!(rt; ended.text.as_slice(), text.as_bytes(), "with {other}");
+        assert_eq!(rt; ended.status, 0, "with {other}");
+    }
+    Ok(())
+}
+
+#[test]
+fn evaluates_resources(rt: HostRuntime) -> Result<(), Fail> {
+    let first = "archive instances 1 solutions 2\nsolution 0 group \"H\" instance \"J\"\nmonitor 0 AssignTime \"c0\" event \"E\" deviation 3 hard 6\nmonitor 1 AssignTime \"c0\" event \"F\" deviation 1 hard 2\nmonitor 2 AssignResource \"c1\" event \"E\" role \"R\" deviation 3 hard 3\nmonitor 3 AssignResource \"c1\" event \"F\" role \"R\" deviation 1 hard 1\n";
+    let second = "total hard 12 soft 0\nsolution 1 group \"H\" instance \"J\"\n";
+    let rest = "monitor 4 AvoidClashes \"c2\" resource \"r0\" deviation 0 hard 0\nmonitor 5 AvoidClashes \"c2\" resource \"r1\" deviation 0 hard 0\nmonitor 6 PreferTimes \"c3\" event \"F\" deviation 0 soft 0\n";
+    let met = "monitor 0 AssignTime \"c0\" event \"E\" deviation 0 hard 0\nmonitor 1 AssignTime \"c0\" event \"F\" deviation 0 hard 0\nmonitor 2 AssignResource \"c1\" event \"E\" role \"R\" deviation 0 hard 0\nmonitor 3 AssignResource \"c1\" event \"F\" role \"R\" deviation 0 hard 0\n";
+    let last = "total hard 0 soft 0\n";
+    let bytes = WITH_RESOURCES.as_bytes().to_vec(rt.alloc())?;
+    let ended = run(&rt, rt.alloc(), &EVALUATE, bytes, GOOD)?;
+    let text = format!(in rt.alloc(); "{first}{second}{last}")?;
+    assert_eq!(rt; ended.text.as_slice(), text.as_bytes());
+    assert_eq!(rt; ended.status, 0);
+    let bytes = WITH_RESOURCES.as_bytes().to_vec(rt.alloc())?;
+    let ended = run(&rt, rt.alloc(), &EVALUATE_ALL, bytes, GOOD)?;
+    let text = format!(in rt.alloc(); "{first}{rest}{second}{met}{rest}{last}")?;
+    assert_eq!(rt; ended.text.as_slice(), text.as_bytes());
+    assert_eq!(rt; ended.status, 0);
+    Ok(())
+}
+
+#[test]
+fn evaluates_small_archives(rt: HostRuntime) -> Result<(), Fail> {
+    for (archive, text, status) in [
+        (
+            "<HighSchoolTimetableArchive/>",
+            "archive instances 0 solutions 0\n",
+            0,
+        ),
+        (
+            "<HighSchoolTimetableArchive></HighSch",
+            "khe: archive refused: 2 BadMarkup at 37\n",
+            3,
+        ),
+        (
+            "<HighSchoolTimetableArchive><SolutionGroups><SolutionGroup Id=\"G\"><Solution Reference=\"X\"/></SolutionGroup></SolutionGroups></HighSchoolTimetableArchive>",
+            "khe: archive refused: 13 UnknownReference at 87\n",
+            3,
+        ),
+    ] {
+        let bytes = archive.as_bytes().to_vec(rt.alloc())?;
+        let ended = run(&rt, rt.alloc(), &EVALUATE, bytes, GOOD)?;
+        assert_eq!(rt; ended.text.as_slice(), text.as_bytes(), "{archive}");
+        assert_eq!(rt; ended.status, status, "{archive}");
+    }
     Ok(())
 }
 
@@ -134,6 +179,8 @@ fn reads_the_words(rt: HostRuntime) -> Result<(), Fail> {
     assert!(rt; has_no_reading(&rt, rt.alloc(), &["archive", "evaluate"])?);
     assert!(rt; has_no_reading(&rt, rt.alloc(), &["Evaluate", "archive"])?);
     assert!(rt; has_no_reading(&rt, rt.alloc(), &["evaluate", "archive", "archive"])?);
+    assert!(rt; has_no_reading(&rt, rt.alloc(), &["evaluate", "--all", "archive"])?);
+    assert!(rt; has_no_reading(&rt, rt.alloc(), &["evaluate", "archive", "--all", "--all"])?);
     Ok(())
 }
 

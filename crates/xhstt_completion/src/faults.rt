@@ -25,7 +25,7 @@ pub const WRONG_TYPE: u32 = 7;
 
 /// A cause, and the number of the entry at which it stands.
 #[derive(Clone, Copy, Debug, PartialEq, Eq)]
-pub(crate) struct Cause {
+pub struct Cause {
     pub cause: u32,
     pub entry: u32,
 }

@@ -1,22 +1,95 @@
--- At each turn one solution's text joins the report.
-use Rattle.std.proofs.Common.{◌≡◌, ◌<◌, ◌+◌, ◌++◌, ◌∙◌, sym, ap, subst, append_assoc, length, drop, get_or}
-use Rattle.std.specs.List.{enumerate_from, flat_map}
-use Rattle.khe_app.specs.Report.{solution_text}
-use Rattle.khe_app.proofs.MonitorsLemmas.{rows-at}
+-- Each group leaves what is left and joins what was written or waits.
+use Rattle.std.proofs.Common.{ℕ, ◌≡◌, ◌≤◌, ◌+◌, ◌<◌, ◌^◌, ◌++◌, List, [], ◌∷◌, Some, ap, sym, subst, ◌∙◌, arith, length, drop, get_or, slice_get, length-append}
+use Rattle.std.specs.List.{flat_map}
+use Rattle.std.proofs.Math.ListN.{drop_of_length-le}
+use Rattle.std.proofs.lemmas.List.Concat.{flat_map-cons}
+use Rattle.std.proofs.lemmas.Option.{slice_get-get_or}
+use Rattle.khe_app.specs.Amid.{IsAmid}
+use Rattle.khe_app.specs.Ready.{AreOnes}
+use Rattle.khe_app.specs.Report.{group_text, groups_text, report}
+use Rattle.khe_app.proofs.AmidLemmas.{always-err, amid-cut, amid-end, amid-flush, err-of, one-err, one-ok}
+use Rattle.khe_app.proofs.ReadyLemmas.{ones-left, ones-right}
+use Rattle.khe_app.proofs.ReportLemmas.{drop-there}
 use Rattle.khe_app.proofs.reports.report.Goals as goal
+use Rattle.xhstt_shape.specs.declared.records.RawSolution.{RawSolution}
+use Rattle.xhstt_shape.specs.declared.records.SolutionGroup.{SolutionGroup}
 
-pub loop-number-preserved : goal.loop-number-preserved
-loop-number-preserved c =
-    let archive = c.args.archive.now in
-    let solutions = archive.group.solutions in
-    let i = c.loop-number.number in
-    let solution = c.solution-item.result in
-    let f = solution_text archive in
-    let rest = flat_map f (enumerate_from (i + 1) (drop (i + 1) solutions)) in
-    let within : i < length solutions = subst (λ xs. i < length xs) c.as_slice-solution-items.ensures c.loop-number-test.true in
-    let there : get_or solutions i solution ≡ solution =
-    sym (c.solution-item.is ∙ ap (λ xs. get_or xs i solution) c.as_slice-solution-items.ensures) in
-    ap (λ t. t ++ rest) c.in_ok-push_solution.ensures
-    ∙ append_assoc c.loop-number.text (f (i, solution)) rest
-    ∙ ap (λ t. c.loop-number.text ++ t) (sym (rows-at f solutions i solution within there))
-    ∙ c.loop-number.invariant
+-- the group at hand is the first that is left
+found : (gs items : List SolutionGroup) (i : ℕ) (x : SolutionGroup) → items ≡ gs → i < length items → x ≡ get_or items i x → slice_get gs i ≡ Some x
+found gs items i x same within is =
+    subst (λ xs. slice_get xs i ≡ Some x) same (slice_get-get_or items i x within ∙ ap (λ y. Some y) (sym is))
+
+left_solutions : (gs : List SolutionGroup) (i : ℕ) (x : SolutionGroup) → slice_get gs i ≡ Some x
+    → flat_map (λ g. g.solutions) (drop i gs) ≡ x.solutions ++ flat_map (λ g. g.solutions) (drop (i + 1) gs)
+left_solutions gs i x at = ap (flat_map (λ g. g.solutions)) (drop-there gs i x at) ∙ flat_map-cons (λ g. g.solutions) x (drop (i + 1) gs)
+
+pub write_group-requires-clause-ones : goal.write_group-requires-clause-ones
+write_group-requires-clause-ones g c =
+    let gs = c.args.archive.now.solution_groups in
+    let i = c.loop-group.group-index in
+    let x = c.group-item.result in
+    let r = c.args.resolved.now in
+    let at = found gs c.as_slice-group-items.result.now i x c.as_slice-group-items.ensures c.loop-group-test.true c.group-item.is in
+    ones-left r c.loop-group.number x.solutions (flat_map (λ y. y.solutions) (drop (i + 1) gs))
+    (subst (AreOnes r c.loop-group.number) (left_solutions gs i x at) c.loop-group.invariant.ones)
+
+pub returns-in_err-write_group-clause-front : goal.returns-in_err-write_group-clause-front
+returns-in_err-write_group-clause-front g c =
+    let gs = c.args.archive.now.solution_groups in
+    let i = c.loop-group.group-index in
+    let x = c.group-item.result in
+    let r = c.args.resolved.now in
+    let all = c.args.all in
+    let n = c.loop-group.number in
+    let at = found gs c.as_slice-group-items.result.now i x c.as_slice-group-items.ensures c.loop-group-test.true c.group-item.is in
+    let rest = groups_text all r (n + length x.solutions) (drop (i + 1) gs) in
+    let amid = subst (λ xs. IsAmid (g.K.Sink.taken c.args.out.now) (g.K.Sink.taken c.loop-group.out) c.loop-group.text (groups_text all r n xs) (report all c.args.archive.now r)) (drop-there gs i x at) c.loop-group.invariant.amid in
+    always-err c.from_residual-in_err-write_group.result
+    (err-of c.write_group.result c.in_err-write_group.field-0.0 c.in_err-write_group.was
+    (c.write_group.ensures.front (g.K.Sink.taken c.args.out.now) rest (report all c.args.archive.now r) amid))
+
+pub loop-group-preserved : goal.loop-group-preserved
+loop-group-preserved g c =
+    let gs = c.args.archive.now.solution_groups in
+    let i = c.loop-group.group-index in
+    let x = c.group-item.result in
+    let r = c.args.resolved.now in
+    let all = c.args.all in
+    let n = c.loop-group.number in
+    let at = found gs c.as_slice-group-items.result.now i x c.as_slice-group-items.ensures c.loop-group-test.true c.group-item.is in
+    let rest = groups_text all r (n + length x.solutions) (drop (i + 1) gs) in
+    let later = flat_map (λ y. y.solutions) (drop (i + 1) gs) in
+    let sols = left_solutions gs i x at in
+    let amid = subst (λ xs. IsAmid (g.K.Sink.taken c.args.out.now) (g.K.Sink.taken c.loop-group.out) c.loop-group.text (groups_text all r n xs) (report all c.args.archive.now r)) (drop-there gs i x at) c.loop-group.invariant.amid in
+    let count : c.len-in-loop-group.result ≡ length x.solutions = c.len-in-loop-group.ensures in
+    record {
+      amid = subst (λ m. IsAmid (g.K.Sink.taken c.args.out.now) (g.K.Sink.taken c.write_group.new.out) c.write_group.new.text (groups_text all r (n + m) (drop (i + 1) gs)) (report all c.args.archive.now r)) (sym count)
+          (c.in_ok-write_group.ensures.amid (g.K.Sink.taken c.args.out.now) rest (report all c.args.archive.now r) amid);
+      ones = subst (λ m. AreOnes r (n + m) later) (sym count) (ones-right r n x.solutions later (subst (AreOnes r n) sols c.loop-group.invariant.ones));
+      small = omega (arith, c.loop-group.invariant.small, ap length sols, length-append x.solutions later, count);
+      counted = omega (arith, c.loop-group.invariant.counted, c.write_group.ensures.counted);
+    }
+
+pub returns-clause-whole : goal.returns-clause-whole
+returns-clause-whole g c =
+    let gs = c.args.archive.now.solution_groups in
+    let i = c.loop-group.group-index in
+    let r = c.args.resolved.now in
+    let all = c.args.all in
+    let whole = report all c.args.archive.now r in
+    let before = g.K.Sink.taken c.args.out.now in
+    let ended : length gs ≤ i = omega (arith, c.loop-group-test.false, ap length c.as_slice-group-items.ensures) in
+    let none : drop i gs ≡ [] = drop_of_length-le gs ended in
+    let amid = subst (λ xs. IsAmid before (g.K.Sink.taken c.loop-group.out) c.loop-group.text (groups_text all r c.loop-group.number xs) whole) none c.loop-group.invariant.amid in
+    one-ok c.flush.result c.flush.ensures.taken
+    (λ took. amid-end before (g.K.Sink.taken c.flush.new.out) whole (amid-flush before (g.K.Sink.taken c.loop-group.out) (g.K.Sink.taken c.flush.new.out) c.loop-group.text [] whole amid took))
+
+pub returns-clause-front : goal.returns-clause-front
+returns-clause-front g c =
+    let r = c.args.resolved.now in
+    let all = c.args.all in
+    let whole = report all c.args.archive.now r in
+    let before = g.K.Sink.taken c.args.out.now in
+    let rest = groups_text all r c.loop-group.number (drop c.loop-group.group-index c.args.archive.now.solution_groups) in
+    one-err c.flush.result c.flush.ensures.front
+    (λ cut. amid-cut before (g.K.Sink.taken c.loop-group.out) (g.K.Sink.taken c.flush.new.out) c.loop-group.text rest whole c.loop-group.invariant.amid cut)

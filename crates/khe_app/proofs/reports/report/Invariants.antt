@@ -1,10 +1,17 @@
--- The text so far and that of the solutions that are left make the whole report.
-use Rattle.std.proofs.Common.{◌≡◌, ◌++◌, drop}
-use Rattle.std.specs.List.{enumerate_from, flat_map}
-use Rattle.khe_app.specs.Report.{solution_text, report}
+-- What was written and what waits, with the groups that are left, make up the report.
+use Rattle.std.proofs.Common.{◌≡◌, ◌≤◌, ◌<◌, ◌+◌, ◌^◌, length, drop}
+use Rattle.std.specs.List.{flat_map}
+use Rattle.khe_app.specs.Amid.{IsAmid}
+use Rattle.khe_app.specs.Ready.{AreOnes}
+use Rattle.khe_app.specs.Report.{groups_text, report}
 use Rattle.khe_app.proofs.reports.report.Given as goal
 
-abbrev pub invariant-loop-number : goal.invariant-loop-number
-invariant-loop-number l =
-    l.text ++ flat_map (solution_text l.fn.archive) (enumerate_from l.number (drop l.number l.fn.archive.group.solutions))
-    ≡ report l.fn.archive
+abbrev pub invariant-loop-group : goal.invariant-loop-group
+invariant-loop-group g l =
+    let left = drop l.group-index l.fn.archive.solution_groups in
+    record {
+      amid : IsAmid (g.K.Sink.taken l.fn.out) (g.K.Sink.taken l.out) l.text (groups_text l.fn.all l.fn.resolved l.number left) (report l.fn.all l.fn.archive l.fn.resolved);
+      ones : AreOnes l.fn.resolved l.number (flat_map (λ x. x.solutions) left);
+      small : l.number + length (flat_map (λ x. x.solutions) left) < 2 ^ 32;
+      counted : g.K.Sink.faults l.fn.out ≤ g.K.Sink.faults l.out;
+    }

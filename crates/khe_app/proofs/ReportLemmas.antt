@@ -1,0 +1,45 @@
+-- The pieces of a report.
+use Rattle.std.proofs.Common.{ℕ, ◌≡◌, ◌+◌, ◌<◌, ◌≤◌, Option, Some, None, List, [], ◌∷◌, ◌++◌, length, get_or, drop, map, refl, sym, ap, subst, ◌∙◌, add-one, arith, drop-cons, suc, zero, slice_get, option_map, append_assoc, inl, inr, zero-add}
+use Rattle.std.specs.List.{enumerate_from, flat_map}
+use Rattle.std.specs.Option.{option_map_or, option_and_then}
+use Rattle.std.proofs.lemmas.List.Concat.{flat_map-cons}
+use Rattle.std.proofs.lemmas.Option.{get_or_from_slice_get, slice_get_within, slice_get_cases, slice_get-map, slice_get-get_or}
+use Rattle.std.proofs.lemmas.List.FromFn.{length-enumerate_from, get_or-enumerate_from}
+
+-- an element at a number below the length
+pub record IsThere {A : Type 0} (xs : List A) (i : ℕ) : Type 0 where
+  pub x : A
+  pub at : slice_get xs i ≡ Some x
+
+pub there : {A : Type 0} (xs : List A) (i : ℕ) → i < length xs → IsThere xs i
+there xs i h = elim (slice_get_cases xs i).1 [
+    | inl w ↦ record { x = w.0; at = w.2 }
+    | inr w ↦ absurd (omega (arith, w.0, h))
+  ]
+
+pub drop-there : {A : Type 0} (xs : List A) (i : ℕ) (x : A) → slice_get xs i ≡ Some x → drop i xs ≡ x ∷ drop (i + 1) xs
+drop-there xs i x at =
+    drop-cons xs i x (slice_get_within xs i x at)
+    ∙ ap (λ y. y ∷ drop (suc i) xs) (get_or_from_slice_get xs i x x at)
+    ∙ ap (λ k. x ∷ drop k xs) (sym (add-one i))
+
+-- what stands at a place of a mapped list
+pub mapped-there : {A B : Type 0} (f : A → B) (xs : List A) (i : ℕ) (x : A) (d : B) → slice_get xs i ≡ Some x → get_or (map f xs) i d ≡ f x
+mapped-there f xs i x d at = get_or_from_slice_get (map f xs) i (f x) d (slice_get-map f xs i ∙ ap (option_map f) at)
+
+-- and of one that is numbered from 0
+pub numbered-there : {A : Type 0} (f : ℕ × A → ℕ) (xs : List A) (i : ℕ) (x : A) (d : ℕ) → slice_get xs i ≡ Some x → get_or (map f (enumerate_from 0 xs)) i d ≡ f (i, x)
+numbered-there f xs i x d at =
+    let h = slice_get_within xs i x at in
+    let long : i < length (enumerate_from 0 xs) = omega (arith, h, length-enumerate_from 0 xs) in
+    let entry : slice_get (enumerate_from 0 xs) i ≡ Some (i, x) =
+    slice_get-get_or (enumerate_from 0 xs) i (0, x) long
+    ∙ ap (λ e. Some e) (get_or-enumerate_from 0 xs i (0, x) h ∙ ap (λ y. (0 + i, y)) (get_or_from_slice_get xs i x x at) ∙ ap (λ n. (n, x)) (zero-add i)) in
+    mapped-there f (enumerate_from 0 xs) i (i, x) d entry
+
+-- what is left of numbered lines begins with those of the element at hand
+pub lines-there : {A : Type 0} (f : ℕ × A → List ℕ) (xs : List A) (i j : ℕ) (x : A) → slice_get xs i ≡ Some x
+    → flat_map f (enumerate_from j (drop i xs)) ≡ f (j, x) ++ flat_map f (enumerate_from (j + 1) (drop (i + 1) xs))
+lines-there f xs i j x at =
+    ap (λ ys. flat_map f (enumerate_from j ys)) (drop-there xs i x at)
+    ∙ flat_map-cons f (j, x) (enumerate_from (j + 1) (drop (i + 1) xs))

@@ -1,0 +1,26 @@
+-- A solution that is cut off cuts off its group.
+use Rattle.std.proofs.Common.{◌≡◌, ◌+◌, ◌<◌, ◌++◌, List, ℕ, [], Some, ap, sym, subst, ◌∙◌, arith, length, drop, get_or, append_assoc, slice_get}
+use Rattle.std.specs.List.{enumerate_from, flat_map}
+use Rattle.std.proofs.lemmas.Option.{slice_get-get_or}
+use Rattle.khe_app.specs.Amid.{IsAmid}
+use Rattle.khe_app.specs.Report.{numbered_text}
+use Rattle.khe_app.proofs.AmidLemmas.{always-err, err-of}
+use Rattle.khe_app.proofs.ReportLemmas.{lines-there}
+use Rattle.khe_app.proofs.reports.write_group.Goals as goal
+
+pub returns-in_err-write_solution-clause-front : goal.returns-in_err-write_solution-clause-front
+returns-in_err-write_solution-clause-front g c = λ before rest whole h.
+    let f = numbered_text c.args.all c.args.resolved.now c.args.group.now.id.text in
+    let sols = c.args.group.now.solutions in
+    let k = c.loop-k.k in
+    let j = c.args.first + k in
+    let x = c.solution-item.result in
+    let within : k < length sols = omega (arith, c.loop-k-test.true, ap length c.as_slice-solution-items.ensures) in
+    let at : slice_get sols k ≡ Some x =
+    slice_get-get_or sols k x within ∙ ap (λ y. Some y) (ap (λ xs. get_or xs k x) (sym c.as_slice-solution-items.ensures) ∙ sym c.solution-item.is) in
+    let tail = flat_map f (enumerate_from (j + 1) (drop (k + 1) sols)) in
+    let text = c.loop-k.text in
+    let taken = g.K.Sink.taken c.loop-k.out in
+    let next = subst (λ t. IsAmid before taken text (t ++ rest) whole) (lines-there f sols k j x at) (c.loop-k.invariant.amid before rest whole h) in
+    let split = subst (λ t. IsAmid before taken text t whole) (append_assoc (f (j, x)) tail rest) next in
+    always-err c.from_residual.result (err-of c.write_solution.result c.in_err-write_solution.field-0.0 c.in_err-write_solution.was (c.write_solution.ensures.front before (tail ++ rest) whole split))

@@ -1,0 +1,46 @@
+-- Each instance is made, or its first fault is that of all.
+use Rattle.std.proofs.Common.{◌≡◌, ◌∙◌, ◌+◌, ap, subst, sym, map, drop}
+use Rattle.std.specs.Option.{option_or}
+use Rattle.std.proofs.lemmas.List.Elements.{All-get_or}
+use Rattle.xhstt_references.specs.Directories.{directory_of}
+use Rattle.xhstt_resolve.specs.Answers.{IsFirst}
+use Rattle.xhstt_resolve.specs.Limits.{earliest}
+use Rattle.xhstt_resolve.specs.Parts.{parts_of}
+use Rattle.xhstt_resolve.specs.Resolved.{instance_fault}
+use Rattle.xhstt_resolve.specs.WellFormed.{IsFormedInstance}
+use Rattle.xhstt_resolve.proofs.AnswersLemmas.{drop-item, passed-first, pushed, this-first}
+use Rattle.xhstt_resolve.proofs.resolving.made_instances.Goals as goal
+
+pub made_instance-requires : goal.made_instance-requires
+made_instance-requires c =
+    subst IsFormedInstance (sym c.raw-item.is) (All-get_or IsFormedInstance c.args.raws.now c.loop-raw.raw-index c.raw-item.result c.loop-raw-test.true c.requires)
+
+pub returns-in_err-instance-clause-fault : goal.returns-in_err-instance-clause-fault
+returns-in_err-instance-clause-fault c =
+    let raws = c.args.raws.now in
+    let i = c.loop-raw.raw-index in
+    let x = c.raw-item.result in
+    let e = c.in_err-instance.field-0.0 in
+    let rest = earliest (map instance_fault (drop (i + 1) raws)) in
+    let same : option_or (instance_fault x) rest ≡ earliest (map instance_fault raws) =
+    ap (λ ys. earliest (map instance_fault ys)) (sym (drop-item raws i x c.loop-raw-test.true c.raw-item.is)) ∙ c.loop-raw.invariant.sound in
+    passed-first c.from_residual.result e (earliest (map instance_fault raws)) c.from_residual.ensures.1
+    (subst (λ o. IsFirst o e) same (this-first (instance_fault x) rest e c.in_err-instance.ensures.fault))
+
+pub loop-raw-preserved : goal.loop-raw-preserved
+loop-raw-preserved c =
+    let raws = c.args.raws.now in
+    let i = c.loop-raw.raw-index in
+    let x = c.raw-item.result in
+    let after = drop (i + 1) raws in
+    let rest = earliest (map instance_fault after) in
+    let left = drop-item raws i x c.loop-raw-test.true c.raw-item.is in
+    record {
+      instances = pushed parts_of c.loop-raw.made.instances c.keep.new.made.instances (map parts_of raws) x c.in_ok-instance.instance (drop i raws) after
+          c.in_ok-keep.ensures.instances c.in_ok-instance.ensures.instance left c.loop-raw.invariant.instances;
+      directories = pushed directory_of c.loop-raw.made.directories c.keep.new.made.directories (map directory_of raws) x c.in_ok-instance.directory (drop i raws) after
+          c.in_ok-keep.ensures.directories c.in_ok-instance.ensures.directory left c.loop-raw.invariant.directories;
+      sound = sym (ap (λ o. option_or o rest) c.in_ok-instance.ensures.sound)
+          ∙ ap (λ ys. earliest (map instance_fault ys)) (sym left)
+          ∙ c.loop-raw.invariant.sound;
+    }

@@ -1,0 +1,18 @@
+-- A number by the greatest common divisor, times the other, is the least common multiple.
+use Rattle.std.proofs.Common.{subst, ◌*◌, ◌/◌}
+use Rattle.std.specs.Int.{IsGcd}
+use Rattle.khe_base.proofs.UnitsLemmas.{IsLeastMultiple-from_gcd, IsGcd-positive}
+use Rattle.xhstt_resolve.proofs.UnitsLemmas.{least_multiple-same}
+use Rattle.xhstt_resolve.proofs.units.least_multiple.Goals as goal
+
+pub nonzero_div-unit : goal.nonzero_div-unit
+nonzero_div-unit c = IsGcd-positive _ _ _ c.greatest_divisor-shared.ensures c.requires.unit
+
+pub returns : goal.returns
+returns c =
+    let u = c.args.unit in
+    let d = c.args.duration in
+    let g = c.greatest_divisor-shared.result in
+    let is : IsGcd u d g = subst (λ x. IsGcd u x g) c.from.ensures c.greatest_divisor-shared.ensures in
+    rw (c.from-2.ensures, c.from-3.ensures)
+    (least_multiple-same u d (u / g * d) c.requires.unit c.requires.duration (IsLeastMultiple-from_gcd u d g is c.requires.unit c.requires.duration))

@@ -1,0 +1,9 @@
+-- A fault of references as a fault of resolving.
+use Rattle.xhstt_references.specs.declared.faults.ReferenceFault.{ReferenceFault}
+use Rattle.xhstt_references.specs.declared.faults.ReferenceFault.TheVariants as reference
+use Rattle.xhstt_resolve.specs.declared.faults.ResolveFault.{ResolveFault}
+use Rattle.xhstt_resolve.specs.declared.faults.ResolveFault.TheVariants.{Bad, NoMemory}
+
+abbrev pub as_fault : ReferenceFault → ResolveFault
+as_fault (reference.Bad kind at) = Bad kind at
+as_fault reference.NoMemory = NoMemory

@@ -1,0 +1,14 @@
+pub mod Answers
+pub mod Collected
+pub mod Counts
+pub mod Faults
+pub mod Joined
+pub mod Limits
+pub mod Members
+pub mod Parts
+pub mod Points
+pub mod Resolved
+pub mod Rules
+pub mod Tables
+pub mod Units
+pub mod WellFormed

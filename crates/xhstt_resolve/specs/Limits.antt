@@ -1,0 +1,125 @@
+-- The limits on the sizes of an instance, in the order of their numbers, each with the value that is
+-- above it.
+use Rattle.std.specs.Prelude.{ℕ, ◌*◌, ◌==◌, if◌then◌else◌, nat_lt, Option, Some, None, List, [], ◌∷◌, map, length, find, slice_get}
+use Rattle.std.specs.List.{sum_by}
+use Rattle.std.specs.Option.{option_map, option_map_or, option_or}
+use Rattle.khe_base.specs.declared.limits.TheConstants.{TIMES, TIME_GROUPS, RESOURCE_TYPES, RESOURCES, RESOURCE_GROUPS, EVENTS, EVENT_GROUPS, CONSTRAINTS, DURATION, TASKS, CELLS, LISTED, MONITORS, WATCHES, UNIT}
+use Rattle.khe_instance.specs.declared.points.Point.{Point}
+use Rattle.khe_instance.specs.declared.points.Point.TheVariants as point
+use Rattle.xhstt_resolve.specs.Members.{times_in, events_in, listed_times}
+use Rattle.xhstt_resolve.specs.Parts.{places_of}
+use Rattle.xhstt_resolve.specs.Points.{points_of, monitors_of}
+use Rattle.xhstt_resolve.specs.Rules.{pairs_of}
+use Rattle.xhstt_resolve.specs.Units.{running_units}
+use Rattle.xhstt_resolve.specs.declared.faults.ResolveFault.{ResolveFault}
+use Rattle.xhstt_resolve.specs.declared.faults.ResolveFault.TheVariants.{Limit}
+use Rattle.xhstt_resolve.specs.declared.faults.TheConstants.{TOO_MANY_TIMES, TOO_MANY_TIME_GROUPS, TOO_MANY_RESOURCE_TYPES, TOO_MANY_RESOURCES, TOO_MANY_RESOURCE_GROUPS, TOO_MANY_EVENTS, TOO_MANY_EVENT_GROUPS, TOO_MANY_CONSTRAINTS, TOO_LONG_DURATION, TOO_MANY_TASKS, TOO_MANY_CELLS, TOO_MANY_LISTED, TOO_MANY_MONITORS, TOO_MANY_WATCHES, TOO_GREAT_UNIT}
+use Rattle.xhstt_shape.specs.declared.constraints.RawConstraint.{RawConstraint}
+use Rattle.xhstt_shape.specs.declared.constraints.RawRule.{RawRule}
+use Rattle.xhstt_shape.specs.declared.constraints.RawRule.TheVariants as ruled
+use Rattle.xhstt_shape.specs.declared.records.RawInstance.{RawInstance}
+
+-- a value that is above the greatest, as a fault
+abbrev pub above : ℕ → ℕ → ℕ → Option ResolveFault
+above which greatest value = if nat_lt greatest value then Some (Limit which value) else None
+
+-- the first of some values that is above the greatest, as a fault
+abbrev pub first_above : ℕ → ℕ → List ℕ → Option ResolveFault
+first_above which greatest values = option_map (Limit which) (find (nat_lt greatest) values)
+
+-- the first fault of a list of looks for one
+abbrev pub earliest : List (Option ResolveFault) → Option ResolveFault
+earliest [] = None
+earliest (fault ∷ faults) = option_or fault (earliest faults)
+
+-- the sum of the durations, and the number of tasks: each event takes all its places for its duration
+abbrev pub total_duration : RawInstance → ℕ
+total_duration i = sum_by (λ e. e.duration) i.events
+
+abbrev pub task_count : RawInstance → ℕ
+task_count i = sum_by (λ e. e.duration * length (places_of i e)) i.events
+
+-- how many time groups a constraint lists
+abbrev pub listed_groups : RawRule → ℕ
+listed_groups (ruled.PreferTimes groups times duration) = length groups
+listed_groups (ruled.SpreadEvents groups) = length groups
+listed_groups (ruled.AvoidUnavailableTimes groups times) = length groups
+listed_groups (ruled.LimitIdleTimes groups least greatest) = length groups
+listed_groups (ruled.ClusterBusyTimes groups least greatest) = length groups
+listed_groups (ruled.LimitBusyTimes groups least greatest) = length groups
+listed_groups _ = 0
+
+-- how many times a constraint on resources watches at each of them: those that it lists, with repeats
+abbrev pub watched_times : RawInstance → RawRule → ℕ
+watched_times i ruled.AvoidClashes = length i.times
+watched_times i (ruled.AvoidUnavailableTimes groups times) = length (listed_times i groups times)
+watched_times i (ruled.LimitIdleTimes groups least greatest) = sum_by (λ g. length (times_in i g.id)) groups
+watched_times i (ruled.ClusterBusyTimes groups least greatest) = sum_by (λ g. length (times_in i g.id)) groups
+watched_times i (ruled.LimitBusyTimes groups least greatest) = sum_by (λ g. length (times_in i g.id)) groups
+watched_times i _ = 1
+
+-- how many events the group with a number has
+abbrev pub group_size : RawInstance → ℕ → ℕ
+group_size i g = option_map_or (λ group. length (events_in i group.id.text)) (slice_get i.event_groups g) 0
+
+-- how many events the pair with a number names
+abbrev pub pair_size : RawInstance → RawConstraint → ℕ → ℕ
+pair_size i c k = option_map_or (λ q. if q.first.0 == q.second.0 then 1 else 2) (slice_get (pairs_of i c.applies) k) 0
+
+-- what a constraint watches at a point
+abbrev pub watches_at : RawInstance → RawConstraint → Point → ℕ
+watches_at i c (point.Event e) = 1
+watches_at i c (point.EventResource e place) = 1
+watches_at i c (point.EventGroup g) = group_size i g
+watches_at i c (point.EventPair k) = pair_size i c k
+watches_at i c (point.Resource r) = watched_times i c.rule
+
+-- what a constraint watches at all its points
+abbrev pub watches_of : RawInstance → RawConstraint → ℕ
+watches_of i c = sum_by (watches_at i c) (points_of i c)
+
+abbrev pub watch_count : RawInstance → ℕ
+watch_count i = sum_by (watches_of i) i.constraints
+
+-- the first count of an instance that is above its limit
+abbrev pub count_fault : RawInstance → Option ResolveFault
+count_fault i = earliest
+    (above TOO_MANY_TIMES TIMES (length i.times)
+    ∷ above TOO_MANY_TIME_GROUPS TIME_GROUPS (length i.time_groups)
+    ∷ above TOO_MANY_RESOURCE_TYPES RESOURCE_TYPES (length i.resource_types)
+    ∷ above TOO_MANY_RESOURCES RESOURCES (length i.resources)
+    ∷ above TOO_MANY_RESOURCE_GROUPS RESOURCE_GROUPS (length i.resource_groups)
+    ∷ above TOO_MANY_EVENTS EVENTS (length i.events)
+    ∷ above TOO_MANY_EVENT_GROUPS EVENT_GROUPS (length i.event_groups)
+    ∷ above TOO_MANY_CONSTRAINTS CONSTRAINTS (length i.constraints)
+    ∷ [])
+
+-- the first constraint that lists more time groups than it may
+abbrev pub listed_fault : RawInstance → Option ResolveFault
+listed_fault i = first_above TOO_MANY_LISTED LISTED (map (λ c. listed_groups c.rule) i.constraints)
+
+-- the first running multiple of the durations that is above the greatest unit
+abbrev pub unit_fault : RawInstance → Option ResolveFault
+unit_fault i = first_above TOO_GREAT_UNIT UNIT (running_units 1 (map (λ e. e.duration) i.events))
+
+-- monitors, watches and the unit
+abbrev pub monitor_fault : RawInstance → Option ResolveFault
+monitor_fault i = earliest
+    (above TOO_MANY_MONITORS MONITORS (length (monitors_of i))
+    ∷ above TOO_MANY_WATCHES WATCHES (watch_count i)
+    ∷ unit_fault i
+    ∷ [])
+
+-- the sizes of an instance
+abbrev pub size_fault : RawInstance → Option ResolveFault
+size_fault i = earliest
+    (above TOO_LONG_DURATION DURATION (total_duration i)
+    ∷ above TOO_MANY_TASKS TASKS (task_count i)
+    ∷ above TOO_MANY_CELLS CELLS (length i.resources * length i.times)
+    ∷ listed_fault i
+    ∷ monitor_fault i
+    ∷ [])
+
+-- the first limit that an instance is above
+abbrev pub limit_fault : RawInstance → Option ResolveFault
+limit_fault i = earliest (count_fault i ∷ size_fault i ∷ [])

@@ -1,0 +1,138 @@
+ghost use Rattle.std.specs.Prelude.{◌≡◌, ◌<◌, ◌≤◌, ◌∷◌, [], ◌^◌, All, None, Ok, length, map, IfOk, IfErr, OnOk, ◌++◌};
+ghost use Rattle.std.specs.Option.{option_map};
+ghost use Rattle.xhstt_references.specs.Directories.{directory_of};
+ghost use Rattle.xhstt_references.specs.Faults.{fault_of_solutions};
+ghost use Rattle.xhstt_references.specs.Ids.{instance_ids};
+ghost use Rattle.xhstt_references.specs.References as references;
+ghost use Rattle.xhstt_resolve.specs.Answers.{IsFirst, IsFaultOf};
+ghost use Rattle.xhstt_resolve.specs.Limits.{above, earliest};
+ghost use Rattle.xhstt_resolve.specs.Parts.{parts_of};
+ghost use Rattle.xhstt_resolve.specs.Resolved as spec;
+ghost use Rattle.xhstt_resolve.specs.WellFormed.{IsFormedInstance};
+ghost use Rattle.khe_base.specs.declared.limits.TheConstants.{SOLUTIONS};
+ghost use Rattle.xhstt_resolve.specs.declared.faults.TheConstants.{TOO_MANY_SOLUTIONS};
+ghost use Rattle.xhstt_shape.specs.WellFormed.{IsInForm};
+
+use crate::faults::{ResolveFault, TOO_MANY_SOLUTIONS};
+use crate::instances::{instance_of, within};
+use khe_base::{Names, NoMemory, Seq, limits};
+use khe_instance::Instance;
+use std::alloc::Global;
+use xhstt_references::{Directory, directory, instance_names, instances_of_solutions};
+use xhstt_shape::{Archive, RawInstance};
+
+/// The instances of an archive, and for each of its solutions, group by group, the number of its
+/// instance.
+#[derive(Drop)]
+pub struct Resolved {
+    pub instances: Seq<Instance>,
+    pub of: Seq<u32>,
+}
+
+/// The instances of an archive and each solution's instance, or the archive's first fault.
+///
+/// A constraint is followed out into its points, and each point becomes a monitor at its first
+/// mention: the members of listed groups, group by group in the order of the archive, and then those
+/// that are listed by themselves. The faults are looked for in this order: Ids of instances and then
+/// of solution groups that came before; of each instance in turn, its Ids, its references, its roles,
+/// events that would go on beyond the last time, and the limits in the order of their numbers; the
+/// number of solutions; and references of the solutions. Of one kind it is the first in the text.
+///
+/// The archive is in form, as each one is that is read from a text. Memory is taken for the
+/// instances, and where it is refused, `NoMemory` comes. The time is about linear in the archive with
+/// its groups followed out, on average, and in the sets of the instances.
+///
+/// The sources are the pages of the XHSTT format; the limits and the order are this project's.
+pub fn resolve(alloc: Global, archive: &Archive) -> Result<Resolved, ResolveFault>
+    requires formed { IsInForm archive.now }
+    requires few { length archive.now.instances < 2 ^ 32 }
+    ensures exact { IfOk result (λ r. spec.resolved archive.now ≡ Ok r) }
+    ensures fault { IfErr result (IsFaultOf (spec.resolved archive.now)) }
+{
+    let names = instance_names(alloc, archive)?;
+    let Made {
+        instances,
+        directories,
+    } = made_instances(alloc, archive.instances.as_slice())?;
+    let of = solution_instances(alloc, archive, &names, directories.as_slice())?;
+    Ok(Resolved { instances, of })
+}
+
+/// Instances with the names of their parts.
+#[derive(Drop)]
+struct Made {
+    pub instances: Seq<Instance>,
+    pub directories: Seq<Directory>,
+}
+
+/// Some instances, or the first fault of the first of them that has one.
+fn made_instances(alloc: Global, raws: &[RawInstance]) -> Result<Made, ResolveFault>
+    requires { All IsFormedInstance raws.now }
+    ensures instances { IfOk result (λ m. m.instances ≡ map parts_of raws.now) }
+    ensures directories { IfOk result (λ m. m.directories ≡ map directory_of raws.now) }
+    ensures sound { IfOk result (λ m. earliest (map spec.instance_fault raws.now) ≡ None) }
+    ensures fault { IfErr result (IsFirst (earliest (map spec.instance_fault raws.now))) }
+{
+    let mut made = Made {
+        instances: Seq::new(alloc),
+        directories: Seq::new(alloc),
+    };
+    for raw in raws {
+        let (instance, directory) = made_instance(alloc, raw)?;
+        keep(&mut made, instance, directory)?;
+    }
+    Ok(made)
+}
+
+/// Keeps one more instance and its names.
+fn keep(made: &mut Made, instance: Instance, directory: Directory) -> Result<(), NoMemory>
+    ensures instances { OnOk result (made.new.instances ≡ made.old.instances ++ instance ∷ []) }
+    ensures directories { OnOk result (made.new.directories ≡ made.old.directories ++ directory ∷ []) }
+{
+    made.instances.push(instance)?;
+    made.directories.push(directory)
+}
+
+/// One instance with the names of its parts, or its first fault.
+fn made_instance(alloc: Global, raw: &RawInstance) -> Result<(Instance, Directory), ResolveFault>
+    requires { IsFormedInstance raw.now }
+    ensures instance { IfOk result (λ m. m.0 ≡ parts_of raw.now) }
+    ensures directory { IfOk result (λ m. m.1 ≡ directory_of raw.now) }
+    ensures sound { IfOk result (λ m. spec.instance_fault raw.now ≡ None) }
+    ensures fault { IfErr result (IsFirst (spec.instance_fault raw.now)) }
+{
+    let directory = directory(alloc, raw)?;
+    let instance = instance_of(alloc, raw, &directory)?;
+    Ok((instance, directory))
+}
+
+/// The instance of each solution, or that there are too many solutions, or their first reference that
+/// names nothing.
+fn solution_instances(
+    alloc: Global,
+    archive: &Archive,
+    names: &Names,
+    directories: &[Directory],
+) -> Result<Seq<u32>, ResolveFault>
+    requires few { length archive.now.instances < 2 ^ 32 }
+    requires names { names.now ≡ instance_ids archive.now }
+    requires directories { directories.now ≡ map directory_of archive.now.instances }
+    ensures numbers { IfOk result (λ of. of ≡ spec.instances_of archive.now) }
+    ensures sound { IfOk result (λ of. spec.solutions_fault archive.now ≡ None) }
+    ensures fault { IfErr result (IsFirst (spec.solutions_fault archive.now)) }
+{
+    let count = solution_count(archive);
+    within(TOO_MANY_SOLUTIONS, u64::from(limits::SOLUTIONS), count)?;
+    Ok(instances_of_solutions(alloc, archive, names, directories)?)
+}
+
+/// How many solutions an archive has.
+fn solution_count(archive: &Archive) -> u128
+    ensures { result ≡ length (references.solutions_of archive.now) }
+{
+    let mut count = 0u128;
+    for group in archive.solution_groups.as_slice() {
+        count += group.solutions.len() as u128;
+    }
+    count
+}

@@ -1,0 +1,74 @@
+ghost use Rattle.std.specs.Prelude.{◌≡◌, map, IfOk};
+ghost use Rattle.xhstt_resolve.specs.Parts.{type_named, type_at, type_of_resource, resource_of, group_of};
+ghost use Rattle.xhstt_resolve.specs.Tables.{IsLookup};
+
+use crate::tables::Lookup;
+use khe_base::{NoMemory, Seq};
+use khe_instance::{GroupInfo, ResourceInfo};
+use std::alloc::Global;
+use xhstt_shape::Ref;
+
+/// The number of the resource type that is named, and 0 where none is, in constant time on average.
+pub(crate) fn type_named(lookup: &Lookup<'_>, reference: &Ref) -> u32
+    requires { IsLookup lookup.now }
+    ensures { result ≡ type_named lookup.now.instance.now reference.now }
+{
+    match lookup.names.resource_types.number(&reference.id) {
+        Some(number) => number as u32,
+        None => 0,
+    }
+}
+
+/// The type of the resource with a number, in constant time on average.
+pub(crate) fn type_at(lookup: &Lookup<'_>, number: u32) -> u32
+    requires { IsLookup lookup.now }
+    ensures { result ≡ type_at lookup.now.instance.now number }
+{
+    match lookup.instance.resources.as_slice().get(number as usize) {
+        Some(resource) => type_named(lookup, &resource.resource_type),
+        None => 0,
+    }
+}
+
+/// The type of the resource that is named, in constant time on average.
+pub(crate) fn type_of_resource(lookup: &Lookup<'_>, reference: &Ref) -> u32
+    requires { IsLookup lookup.now }
+    ensures { result ≡ type_of_resource lookup.now.instance.now reference.now }
+{
+    match lookup.tables.resources.number(reference) {
+        Some(number) => type_at(lookup, number),
+        None => 0,
+    }
+}
+
+/// The resources with their types. It takes time and memory in proportion to their Ids, on average.
+pub(crate) fn resources_of(
+    alloc: Global,
+    lookup: &Lookup<'_>,
+) -> Result<Seq<ResourceInfo>, NoMemory>
+    requires { IsLookup lookup.now }
+    ensures { IfOk result (λ rs. rs ≡ map (resource_of lookup.now.instance.now) lookup.now.instance.now.resources) }
+{
+    let mut resources = Seq::new(alloc);
+    for resource in lookup.instance.resources.as_slice() {
+        let id = resource.id.text.copy(alloc)?;
+        let rtype = type_named(lookup, &resource.resource_type);
+        resources.push(ResourceInfo { id, rtype })?;
+    }
+    Ok(resources)
+}
+
+/// The event groups with their events. It takes time and memory in proportion to their Ids, and to
+/// the groups times the events, since each group has a set of its own.
+pub(crate) fn groups_of(alloc: Global, lookup: &Lookup<'_>) -> Result<Seq<GroupInfo>, NoMemory>
+    requires { IsLookup lookup.now }
+    ensures { IfOk result (λ gs. gs ≡ map (group_of lookup.now.instance.now) lookup.now.instance.now.event_groups) }
+{
+    let mut groups = Seq::new(alloc);
+    for group in lookup.instance.event_groups.as_slice() {
+        let id = group.id.text.copy(alloc)?;
+        let events = lookup.tables.events.group_set(alloc, &group.id.text)?;
+        groups.push(GroupInfo { id, events })?;
+    }
+    Ok(groups)
+}
