@@ -25,31 +25,32 @@ amid-start before pending rest = record { written = []; took = took-nothing befo
 pub amid-push : (before now : Option (List ℕ)) (pending piece rest whole : List ℕ) → IsAmid before now pending (piece ++ rest) whole
     → IsAmid before now (pending ++ piece) rest whole
 amid-push before now pending piece rest whole h = record {
-    written = h.written;
-    took = h.took;
-    is = ap (λ xs. h.written ++ xs) (append_assoc pending piece rest) ∙ h.is;
-  }
+  written = h.written;
+  took = h.took;
+  is = ap (λ xs. h.written ++ xs) (append_assoc pending piece rest) ∙ h.is;
+}
 
 -- what waits is taken
 pub amid-flush : (before now after : Option (List ℕ)) (pending rest whole : List ℕ) → IsAmid before now pending rest whole
     → Took now after (encode_utf8_all pending) → IsAmid before after [] rest whole
 amid-flush before now after pending rest whole h took = record {
-    written = h.written ++ pending;
-    took = subst (Took before after) (sym (encodes-append h.written pending)) (took-more before now after (encode_utf8_all h.written) (encode_utf8_all pending) h.took took);
-    is = append_assoc h.written pending rest ∙ h.is;
-  }
+  written = h.written ++ pending;
+  took = subst (Took before after) (sym (encodes-append h.written pending)) (took-more before now after (encode_utf8_all h.written) (encode_utf8_all pending) h.took took);
+  is = append_assoc h.written pending rest ∙ h.is;
+}
 
 -- a first part of what waits is taken
 pub amid-cut : (before now after : Option (List ℕ)) (pending rest whole : List ℕ) → IsAmid before now pending rest whole
     → TookFront now after (encode_utf8_all pending) → TookFront before after (encode_utf8_all whole)
-amid-cut before now after pending rest whole h (front, left, is, took) =
-    (encode_utf8_all h.written ++ front,
-    left ++ encode_utf8_all rest,
-    ap encode_utf8_all (sym h.is)
-    ∙ encodes-append h.written (pending ++ rest)
-    ∙ ap (λ xs. encode_utf8_all h.written ++ xs) (encodes-append pending rest ∙ ap (λ xs. xs ++ encode_utf8_all rest) is ∙ append_assoc front left (encode_utf8_all rest))
-    ∙ sym (append_assoc (encode_utf8_all h.written) front (left ++ encode_utf8_all rest)),
-    took-more before now after (encode_utf8_all h.written) front h.took took)
+amid-cut before now after pending rest whole h (front, left, is, took) = (
+  encode_utf8_all h.written ++ front,
+  left ++ encode_utf8_all rest,
+  ap encode_utf8_all (sym h.is)
+      ∙ encodes-append h.written (pending ++ rest)
+      ∙ ap (λ xs. encode_utf8_all h.written ++ xs) (encodes-append pending rest ∙ ap (λ xs. xs ++ encode_utf8_all rest) is ∙ append_assoc front left (encode_utf8_all rest))
+      ∙ sym (append_assoc (encode_utf8_all h.written) front (left ++ encode_utf8_all rest)),
+  took-more before now after (encode_utf8_all h.written) front h.took took,
+)
 
 -- nothing more is taken
 pub amid-stop : (before now : Option (List ℕ)) (pending rest whole : List ℕ) → IsAmid before now pending rest whole

@@ -37,20 +37,29 @@ count-text at (short s c) =
 count-text at (long s inner shut white c) =
     let inside = count-text (at + start_length s + 1) inner in
     let rest = count-text (at + start_length s + 1 + length (text inner) + 2 + length shut + length white + 1) c in
-    omega (arith, inside, rest,
+    omega (
+      arith,
+      inside,
+      rest,
       length-append (start_text s) (62 ∷ (text inner ++ (60 ∷ 47 ∷ (shut ++ (white ++ (62 ∷ text c)))))),
       length-append (text inner) (60 ∷ 47 ∷ (shut ++ (white ++ (62 ∷ text c)))),
       length-append shut (white ++ (62 ∷ text c)),
-      length-append white (62 ∷ text c))
+      length-append white (62 ∷ text c),
+    )
 
 count-spelled : (bytes : List ℕ) (f : Forest) → Spelled bytes f → count f ≤ length bytes
 count-spelled bytes f (d, is, same) =
     let inner = count-text (root_at d) d.body.root in
-    omega (arith, inner, ap count same, ap length is.2,
+    omega (
+      arith,
+      inner,
+      ap count same,
+      ap length is.2,
       length-append (mark_text d.mark) (declaration_text d.declaration ++ body_text d.body),
       length-append (declaration_text d.declaration) (body_text d.body),
       length-append (text d.body.before) (text d.body.root ++ text d.body.after),
-      length-append (text d.body.root) (text d.body.after))
+      length-append (text d.body.root) (text d.body.after),
+    )
 
 elements-few : (f : Forest) → length (elements f) ≤ count f
 elements-few empty = omega arith

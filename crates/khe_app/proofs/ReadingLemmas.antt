@@ -18,10 +18,10 @@ use Rattle.xhstt_shape.specs.declared.records.Archive.{Archive}
 pub spelled : (bytes : List ℕ) (a : Archive) (answer : Result Resolved ResolveFault) (reading : Reading) → IsTree bytes a
     → resolved a ≡ answer → IsRead a answer reading → IsSpelled bytes reading
 spelled bytes a answer reading tree is read = record {
-    tree = tree.tree;
-    spelled = tree.spelled;
-    shaped = subst (λ shaped. IsShaped shaped reading) (sym tree.shape) (subst (λ r. IsRead a r reading) (sym is) read);
-  }
+  tree = tree.tree;
+  spelled = tree.spelled;
+  shaped = subst (λ shaped. IsShaped shaped reading) (sym tree.shape) (subst (λ r. IsRead a r reading) (sym is) read);
+}
 
 pub read-whole : (bytes : List ℕ) (a : Archive) (r : Resolved) → length bytes ≤ ARCHIVE_BYTES → IsTree bytes a → resolved a ≡ Ok r
     → IsReadingOf bytes (evaluable a r)

@@ -193,20 +193,20 @@ one-ready a r held none form k raw at =
     let place = known raw.reference.id (instance_ids a) (among (instance_ids a) raw.reference [] parts.0).0 in
     elim (slice_get_cases a.instances place.n).1 [
       | inl there ↦
-        (let i = there.0 in
-        let named : option_and_then (λ n. slice_get ds n) (number_of raw.reference.id (instance_ids a)) ≡ Some (directory_of i) =
-        ap (λ o. option_and_then (λ n. slice_get ds n) o) place.is ∙ slice_get-map directory_of a.instances place.n ∙ ap (option_map directory_of) there.2 in
-        let clear : f (directory_of i) ≡ [] = sym (ap (λ o. option_map_or f o []) named) ∙ parts.1 in
-        let g = λ (s : RawSolution). unwrap_or (number_of s.reference.id (instance_ids a)) 0 in
-        let number : slice_get r.of k ≡ Some place.n =
-        ap (λ xs. slice_get xs k) held.of ∙ slice_get-map g (solutions_of a) k ∙ ap (option_map g) at ∙ ap (λ o. Some (unwrap_or o 0)) place.is in
-        let instance : slice_get r.instances place.n ≡ Some (parts_of i) =
-        ap (λ xs. slice_get xs place.n) held.instances ∙ slice_get-map parts_of a.instances place.n ∙ ap (option_map parts_of) there.2 in
-        record {
-          parts = parts_of i;
-          at = ap (λ o. option_and_then (λ n. slice_get r.instances n) o) number ∙ instance;
-          solution = entries-known i raw.events (none-each (unknown_in_entry (directory_of i)) raw.events clear) (all-there formed.IsSolution (solutions_of a) k raw form at);
-        })
+          (let i = there.0 in
+          let named : option_and_then (λ n. slice_get ds n) (number_of raw.reference.id (instance_ids a)) ≡ Some (directory_of i) =
+          ap (λ o. option_and_then (λ n. slice_get ds n) o) place.is ∙ slice_get-map directory_of a.instances place.n ∙ ap (option_map directory_of) there.2 in
+          let clear : f (directory_of i) ≡ [] = sym (ap (λ o. option_map_or f o []) named) ∙ parts.1 in
+          let g = λ (s : RawSolution). unwrap_or (number_of s.reference.id (instance_ids a)) 0 in
+          let number : slice_get r.of k ≡ Some place.n =
+          ap (λ xs. slice_get xs k) held.of ∙ slice_get-map g (solutions_of a) k ∙ ap (option_map g) at ∙ ap (λ o. Some (unwrap_or o 0)) place.is in
+          let instance : slice_get r.instances place.n ≡ Some (parts_of i) =
+          ap (λ xs. slice_get xs place.n) held.instances ∙ slice_get-map parts_of a.instances place.n ∙ ap (option_map parts_of) there.2 in
+          record {
+            parts = parts_of i;
+            at = ap (λ o. option_and_then (λ n. slice_get r.instances n) o) number ∙ instance;
+            solution = entries-known i raw.events (none-each (unknown_in_entry (directory_of i)) raw.events clear) (all-there formed.IsSolution (solutions_of a) k raw form at);
+          })
       | inr past ↦ absurd (omega (arith, place.within, past.0, length-map a.instances (λ i. i.id.text)))
     ]
 

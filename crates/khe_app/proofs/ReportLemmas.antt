@@ -13,9 +13,9 @@ pub record IsThere {A : Type 0} (xs : List A) (i : ℕ) : Type 0 where
 
 pub there : {A : Type 0} (xs : List A) (i : ℕ) → i < length xs → IsThere xs i
 there xs i h = elim (slice_get_cases xs i).1 [
-    | inl w ↦ record { x = w.0; at = w.2 }
-    | inr w ↦ absurd (omega (arith, w.0, h))
-  ]
+  | inl w ↦ record { x = w.0; at = w.2 }
+  | inr w ↦ absurd (omega (arith, w.0, h))
+]
 
 pub drop-there : {A : Type 0} (xs : List A) (i : ℕ) (x : A) → slice_get xs i ≡ Some x → drop i xs ≡ x ∷ drop (i + 1) xs
 drop-there xs i x at =

@@ -64,22 +64,58 @@ fn evaluates_the_first_archive(rt: HostRuntime) -> Result<(), Fail> {
 #[test]
 fn refuses_archives(rt: HostRuntime) -> Result<(), Fail> {
     for (part, other, fault) in [
-        ("</HighSchoolTimetableArchive>", "</HighSch", "2 BadMarkup at 533"),
+        (
+            "</HighSchoolTimetableArchive>",
+            "</HighSch",
+            "2 BadMarkup at 533",
+        ),
         ("</Instances>", "</Instance>", "3 MismatchedEnd at 413"),
         ("<Times>", "<!DOCTYPE a><Times>", "5 Unsupported at 58"),
         ("<Times>", "<Times>&nbsp;", "4 BadReference at 65"),
-        ("<Weight>2</Weight>", "<Weight>2</Weight><Weight>2</Weight>", "9 RepeatedChild at 266"),
-        ("<Weight>2</Weight>", "<Weight>1000001</Weight>", "10 BadNumber at 256"),
+        (
+            "<Weight>2</Weight>",
+            "<Weight>2</Weight><Weight>2</Weight>",
+            "9 RepeatedChild at 266",
+        ),
+        (
+            "<Weight>2</Weight>",
+            "<Weight>1000001</Weight>",
+            "10 BadNumber at 256",
+        ),
         ("<Weight>2</Weight>", "", "8 MissingChild at 194"),
-        ("<Duration>3</Duration>", "<Duration>0</Duration>", "10 BadNumber at 151"),
+        (
+            "<Duration>3</Duration>",
+            "<Duration>0</Duration>",
+            "10 BadNumber at 151",
+        ),
         ("Linear", "Cubic", "11 BadWord at 280"),
         ("<Times>", "<Times>loose", "11 BadWord at 65"),
         ("<Times>", "<Hours/><Times>", "7 UnknownElement at 58"),
-        ("<Time Id=\"t1\"/>", "<Time Id=\"t0\"/>", "12 DuplicateId at 90"),
-        ("<Event Reference=\"E\"/>", "<Event Reference=\"F\"/>", "13 UnknownReference at 339"),
-        ("Solution Reference=\"I\"", "Solution Reference=\"J\"", "13 UnknownReference at 485"),
-        ("<Duration>3</Duration>", "<Duration>3</Duration><Time Reference=\"t1\"/>", "15 EventOffEnd at 180"),
-        ("<Duration>3</Duration>", "<Duration>200000</Duration>", "16 Limit duration 200000"),
+        (
+            "<Time Id=\"t1\"/>",
+            "<Time Id=\"t0\"/>",
+            "12 DuplicateId at 90",
+        ),
+        (
+            "<Event Reference=\"E\"/>",
+            "<Event Reference=\"F\"/>",
+            "13 UnknownReference at 339",
+        ),
+        (
+            "Solution Reference=\"I\"",
+            "Solution Reference=\"J\"",
+            "13 UnknownReference at 485",
+        ),
+        (
+            "<Duration>3</Duration>",
+            "<Duration>3</Duration><Time Reference=\"t1\"/>",
+            "15 EventOffEnd at 180",
+        ),
+        (
+            "<Duration>3</Duration>",
+            "<Duration>200000</Duration>",
+            "16 Limit duration 200000",
+        ),
     ] {
         let bytes = first_with(rt.alloc(), part, other)?.ok_or("no such part")?;
         let ended = run(&rt, rt.alloc(), &EVALUATE, bytes, GOOD)?;
@@ -94,14 +130,34 @@ fn refuses_archives(rt: HostRuntime) -> Result<(), Fail> {
 fn evaluates_solutions_and_names_causes(rt: HostRuntime) -> Result<(), Fail> {
     let whole = "monitor 0 AssignTime \"c\" event \"E\" deviation 3 hard 6\ntotal hard 6 soft 0\n";
     for (part, other, lines) in [
-        ("<HighSchoolTimetableArchive>", "\u{feff}<?xml version='1.0'?><!-- a comment --><HighSchoolTimetableArchive>", whole),
+        (
+            "<HighSchoolTimetableArchive>",
+            "\u{feff}<?xml version='1.0'?><!-- a comment --><HighSchoolTimetableArchive>",
+            whole,
+        ),
         ("Id=\"E\"", "Id=\"&#69;\"", whole),
         ("Instance Id=\"I\"", "Instance Id='I'", whole),
         ("<Weight>2</Weight>", "<Weight> 2</Weight>", whole),
-        ("<Required>true</Required><Weight>2</Weight>", "<Weight>2</Weight><Required>true</Required>", whole),
-        ("<Solution Reference=\"I\"/>", "<Solution Reference=\"I\"><Events><Event Reference=\"E\"><Duration>1</Duration></Event><Event Reference=\"E\"><Duration>1</Duration></Event></Events></Solution>", whole),
-        ("<Solution Reference=\"I\"/>", "<Solution Reference=\"I\"><Events><Event Reference=\"E\"><Time Reference=\"t1\"/></Event></Events></Solution>", "invalid 4 OffEnd entry 0\n"),
-        ("<Solution Reference=\"I\"/>", "<Solution Reference=\"I\"><Events><Event Reference=\"E\"><Duration>2</Duration></Event><Event Reference=\"E\"><Duration>2</Duration></Event></Events></Solution>", "invalid 1 TooLong entry 1\n"),
+        (
+            "<Required>true</Required><Weight>2</Weight>",
+            "<Weight>2</Weight><Required>true</Required>",
+            whole,
+        ),
+        (
+            "<Solution Reference=\"I\"/>",
+            "<Solution Reference=\"I\"><Events><Event Reference=\"E\"><Duration>1</Duration></Event><Event Reference=\"E\"><Duration>1</Duration></Event></Events></Solution>",
+            whole,
+        ),
+        (
+            "<Solution Reference=\"I\"/>",
+            "<Solution Reference=\"I\"><Events><Event Reference=\"E\"><Time Reference=\"t1\"/></Event></Events></Solution>",
+            "invalid 4 OffEnd entry 0\n",
+        ),
+        (
+            "<Solution Reference=\"I\"/>",
+            "<Solution Reference=\"I\"><Events><Event Reference=\"E\"><Duration>2</Duration></Event><Event Reference=\"E\"><Duration>2</Duration></Event></Events></Solution>",
+            "invalid 1 TooLong entry 1\n",
+        ),
     ] {
         let bytes = first_with(rt.alloc(), part, other)?.ok_or("no such part")?;
         let ended = run(&rt, rt.alloc(), &EVALUATE, bytes, GOOD)?;
@@ -114,10 +170,13 @@ fn evaluates_solutions_and_names_causes(rt: HostRuntime) -> Result<(), Fail> {
 
 #[test]
 fn evaluates_resources(rt: HostRuntime) -> Result<(), Fail> {
-    let first = "archive instances 1 solutions 2\nsolution 0 group \"H\" instance \"J\"\nmonitor 0 AssignTime \"c0\" event \"E\" deviation 3 hard 6\nmonitor 1 AssignTime \"c0\" event \"F\" deviation 1 hard 2\nmonitor 2 AssignResource \"c1\" event \"E\" role \"R\" deviation 3 hard 3\nmonitor 3 AssignResource \"c1\" event \"F\" role \"R\" deviation 1 hard 1\n";
+    let first =
+        "archive instances 1 solutions 2\nsolution 0 group \"H\" instance \"J\"\nmonitor 0 AssignTime \"c0\" event \"E\" deviation 3 hard 6\nmonitor 1 AssignTime \"c0\" event \"F\" deviation 1 hard 2\nmonitor 2 AssignResource \"c1\" event \"E\" role \"R\" deviation 3 hard 3\nmonitor 3 AssignResource \"c1\" event \"F\" role \"R\" deviation 1 hard 1\n";
     let second = "total hard 12 soft 0\nsolution 1 group \"H\" instance \"J\"\n";
-    let rest = "monitor 4 AvoidClashes \"c2\" resource \"r0\" deviation 0 hard 0\nmonitor 5 AvoidClashes \"c2\" resource \"r1\" deviation 0 hard 0\nmonitor 6 PreferTimes \"c3\" event \"F\" deviation 0 soft 0\n";
-    let met = "monitor 0 AssignTime \"c0\" event \"E\" deviation 0 hard 0\nmonitor 1 AssignTime \"c0\" event \"F\" deviation 0 hard 0\nmonitor 2 AssignResource \"c1\" event \"E\" role \"R\" deviation 0 hard 0\nmonitor 3 AssignResource \"c1\" event \"F\" role \"R\" deviation 0 hard 0\n";
+    let rest =
+        "monitor 4 AvoidClashes \"c2\" resource \"r0\" deviation 0 hard 0\nmonitor 5 AvoidClashes \"c2\" resource \"r1\" deviation 0 hard 0\nmonitor 6 PreferTimes \"c3\" event \"F\" deviation 0 soft 0\n";
+    let met =
+        "monitor 0 AssignTime \"c0\" event \"E\" deviation 0 hard 0\nmonitor 1 AssignTime \"c0\" event \"F\" deviation 0 hard 0\nmonitor 2 AssignResource \"c1\" event \"E\" role \"R\" deviation 0 hard 0\nmonitor 3 AssignResource \"c1\" event \"F\" role \"R\" deviation 0 hard 0\n";
     let last = "total hard 0 soft 0\n";
     let bytes = WITH_RESOURCES.as_bytes().to_vec(rt.alloc())?;
     let ended = run(&rt, rt.alloc(), &EVALUATE, bytes, GOOD)?;

@@ -13,5 +13,6 @@ mod states;
 
 pub use completion::{completed, solution};
 pub use faults::{
-    BAD_ROLE, Cause, FIXED_RESOURCE, FIXED_TIME, OFF_END, SPLIT_FIXED, SolutionFault, TOO_LONG, WRONG_TYPE,
+    BAD_ROLE, Cause, FIXED_RESOURCE, FIXED_TIME, OFF_END, SPLIT_FIXED, SolutionFault, TOO_LONG,
+    WRONG_TYPE,
 };

@@ -14,8 +14,15 @@ pub bounds-costs-number : goal.bounds-costs-number
 bounds-costs-number c =
     let p = c.args.inst.now in
     let f = evaluated.cost_in p c.args.plain.now in
-    omega (arith, c.loop-number-test.true, c.monitors-number-end.ensures, ap length c.as_slice-costs.ensures, ap length c.in_ok-values.ensures.costs,
-      length-map (enumerate_from 0 p.monitors) f, length-enumerate_from 0 p.monitors)
+    omega (
+      arith,
+      c.loop-number-test.true,
+      c.monitors-number-end.ensures,
+      ap length c.as_slice-costs.ensures,
+      ap length c.in_ok-values.ensures.costs,
+      length-map (enumerate_from 0 p.monitors) f,
+      length-enumerate_from 0 p.monitors,
+    )
 
 pub loop-number-preserved : goal.loop-number-preserved
 loop-number-preserved c =
