@@ -8,7 +8,7 @@
 #     bench/reading.sh [FOLDER]
 #
 # Where FOLDER is given, the program is made there, and is taken from there if an earlier run has made it.
-set -eu
+set -euo pipefail
 top=$(cd "$(dirname "$0")/.." && pwd)
 work=$(mktemp -d)
 trap 'rm -rf "$work"' EXIT
