@@ -44,6 +44,28 @@ pub(crate) const WITH_RESOURCES: &str = r#"<HighSchoolTimetableArchive>
 </HighSchoolTimetableArchive>
 "#;
 
+/// This archive with `other` in place of the first `part` behind the first `after`, or `None` where
+/// it has no such part.
+pub(crate) fn replaced(
+    alloc: Global,
+    archive: &str,
+    after: &str,
+    part: &str,
+    other: &str,
+) -> Result<Option<Vec<u8>>, AllocError> {
+    let Some((front, rest)) = archive.split_once(after) else {
+        return Ok(None);
+    };
+    let Some((before, behind)) = rest.split_once(part) else {
+        return Ok(None);
+    };
+    let mut bytes = front.as_bytes().to_vec(alloc)?;
+    for piece in [after, before, other, behind] {
+        bytes.extend_from_slice(piece.as_bytes())?;
+    }
+    Ok(Some(bytes))
+}
+
 /// The first archive with one part of its text in place of another, or `None` where it has no such
 /// part.
 pub(crate) fn first_with(

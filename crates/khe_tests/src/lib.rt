@@ -4,6 +4,12 @@
 #[cfg(test)]
 mod archives;
 #[cfg(test)]
+mod causes;
+#[cfg(test)]
+mod kinds;
+#[cfg(test)]
+mod resolving;
+#[cfg(test)]
 mod runs;
 #[cfg(test)]
 mod tests;
