@@ -1,4 +1,4 @@
--- Small instances for examples.
+-- A small instance for examples.
 use Rattle.std.specs.Prelude.{ℕ, Bool, true, false, Some, None, List, [], ◌∷◌, codes}
 use Rattle.khe_base.specs.declared.costs.CostFn.TheVariants.{Linear}
 use Rattle.khe_instance.specs.declared.parts.EventInfo.{EventInfo}
@@ -63,19 +63,5 @@ two_events = record {
       ∷ monitor 4 LinkEvents (EventGroup 0)
       ∷ monitor 5 (OrderEvents (pair ∷ [])) (Pair 0)
       ∷ [];
-  unit = 3;
-}
-
--- one event of duration 3 without places and a constraint on it, with these Ids
-abbrev pub one_event : List ℕ → List ℕ → List ℕ → List ℕ → Parts
-one_event id time name source = record {
-  id = id;
-  times = time ∷ [];
-  types = 0;
-  resources = [];
-  groups = [];
-  events = record { id = name; duration = 3; fixed = None; first_meet = 0; places = [] } ∷ [];
-  constraints = constraint source true 2 AssignTime ∷ [];
-  monitors = monitor 0 AssignTime (Event (record { 0 = 0 })) ∷ [];
   unit = 3;
 }

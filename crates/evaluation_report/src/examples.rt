@@ -1,15 +1,9 @@
-//! What the lines are on small instances. The contract of each function before the test is an
+//! What the lines are on a small instance. The contract of each function before the test is an
 //! example: it is proved, and running it does nothing more.
 
-ghost use Rattle.std.specs.Prelude.{◌≡◌, ◌∷◌, [], true, false, length, codes, IfOk};
-ghost use Rattle.evaluation_report.specs.Examples.{two_events, one_event};
+ghost use Rattle.std.specs.Prelude.{◌≡◌, true, false, codes};
+ghost use Rattle.evaluation_report.specs.Examples.{two_events};
 ghost use Rattle.evaluation_report.specs.Lines.{header_line, solution_line, monitor_line, total_line, invalid_line};
-
-use crate::{header_line, invalid_line, monitor_line, solution_line, total_line};
-use khe_base::{CostFn, EventId, MonitorId, NoMemory, Seq, Text, Totals};
-use khe_instance::{Constraint, EventInfo, Instance, Kind, Monitor, Parts, Point, Rule};
-use std::alloc::Global;
-use std::test::Fail;
 
 // The lines of a report that speak of an archive and of its solutions.
 fn lines_of_solutions()
@@ -34,87 +28,8 @@ fn lines_of_monitors()
     ensures detached { monitor_line two_events 0 3 0 false ≡ codes "monitor 0 AssignTime \"c0\" event \"E\" deviation 3 hard 0 detached\n" }
 {}
 
-// The list of one item.
-fn single<T: Drop>(alloc: Global, item: T) -> Result<Seq<T>, NoMemory>
-    ensures { IfOk result (λ s. s ≡ item ∷ []) }
-{
-    let mut items = Seq::new(alloc);
-    items.push(item)?;
-    Ok(items)
-}
-
-// One event of duration 3, and one constraint on it.
-fn parts(alloc: Global, id: Text, time: Text, name: Text, source: Text) -> Result<Parts, NoMemory>
-    ensures { IfOk result (λ p. p ≡ one_event id time name source) }
-{
-    let event = EventInfo {
-        id: name,
-        duration: 3,
-        fixed: None,
-        first_meet: 0,
-        places: Seq::new(alloc),
-    };
-    let constraint = Constraint {
-        id: source,
-        required: true,
-        weight: 2,
-        cost: CostFn::Linear,
-        rule: Rule::AssignTime,
-    };
-    let monitor = Monitor {
-        kind: Kind::AssignTime,
-        constraint: 0,
-        point: Point::Event(EventId(0)),
-    };
-    Ok(Parts {
-        id,
-        times: single(alloc, time)?,
-        types: 0,
-        resources: Seq::new(alloc),
-        groups: Seq::new(alloc),
-        events: single(alloc, event)?,
-        constraints: single(alloc, constraint)?,
-        monitors: single(alloc, monitor)?,
-        unit: 3,
-    })
-}
-
-// The instance with these parts.
-fn instance(alloc: Global) -> Result<Instance, NoMemory>
-    ensures { IfOk result (λ i. length i.monitors ≡ 1) }
-{
-    let id = Text::from_str(alloc, "I")?;
-    let time = Text::from_str(alloc, "t0")?;
-    let event = Text::from_str(alloc, "E")?;
-    let constraint = Text::from_str(alloc, "c")?;
-    let parts = parts(alloc, id, time, event, constraint)?;
-    Instance::new(alloc, parts)
-}
-
 #[test]
 fn examples_are_proved() {
     lines_of_solutions();
     lines_of_monitors();
-}
-
-#[test]
-fn a_report_on_one_event(rt: HostRuntime) -> Result<(), Fail> {
-    let alloc = rt.alloc();
-    let group = Text::from_str(alloc, "G")?;
-    let id = Text::from_str(alloc, "I")?;
-    let instance = instance(alloc)?;
-    let mut report = header_line(alloc, 1, 1)?;
-    report.push_text(&solution_line(alloc, 0, &group, &id)?)?;
-    report.push_text(&monitor_line(alloc, &instance, MonitorId(0), 3, 6, true)?)?;
-    report.push_text(&total_line(alloc, Totals { hard: 6, soft: 0 })?)?;
-    report.push_text(&invalid_line(alloc, 4, 0)?)?;
-    assert_eq!(rt;
-        report.as_str(),
-        "archive instances 1 solutions 1\n\
-         solution 0 group \"G\" instance \"I\"\n\
-         monitor 0 AssignTime \"c\" event \"E\" deviation 3 hard 6\n\
-         total hard 6 soft 0\n\
-         invalid 4 OffEnd entry 0\n"
-    );
-    Ok(())
 }
