@@ -1,5 +1,8 @@
+pub mod BitsLemmas
 pub mod Characters
 pub mod IdSetLemmas
+pub mod ListLemmas
+pub mod MembersLemmas
 pub mod NamesLemmas
 pub mod TextLemmas
 pub mod UnitsLemmas

@@ -1,13 +1,10 @@
 -- Common multiples.
-use Rattle.std.proofs.Common.{◌≡◌, ◌∙◌, sym, ap, subst, ℕ, ◌+◌, ◌*◌, ◌/◌, ◌%◌, ◌<◌, ◌≤◌, suc, zero, refl, arith, List, [], ◌∷◌, ◌++◌, length, take, length-append, All, lit<, get_or}
+use Rattle.std.proofs.Common.{◌≡◌, ◌∙◌, sym, ap, subst, ℕ, ◌+◌, ◌*◌, ◌/◌, ◌%◌, ◌<◌, ◌≤◌, suc, zero, refl, arith}
 use Prim.Native.Nat.{◌∣◌}
 use Rattle.std.specs.Int.{IsGcd}
-use Rattle.std.proofs.lemmas.Nat.Gcd.{IsGcd-from_zero, IsGcd-from_mod, dvd_trans, dvd-zero, le_of_dvd}
-use Rattle.std.proofs.Math.Nat.{mul_comm, mul_assoc, mul_right_comm, dvd-mul_left, dvd-mul_right, mul-dvd-mul_left, mul-dvd-mul_right, dvd_of_mul-dvd-mul_left, dvd_of_mul-dvd-mul_right, div-mul_cancel, mul-div_cancel', one-dvd}
-use Rattle.std.proofs.lemmas.List.{get_or_append_left, take_more}
-use Rattle.std.proofs.lemmas.List.Elements.{All-nil, All-push, All-weaker, All-take}
-use Rattle.std.proofs.Math.Seq.{get_or-append_seam}
-use Rattle.khe_base.specs.Units.{IsUnit, IsLeastMultiple}
+use Rattle.std.proofs.lemmas.Nat.Gcd.{IsGcd-from_zero, IsGcd-from_mod, dvd_trans, dvd-zero}
+use Rattle.std.proofs.Math.Nat.{mul_comm, mul_assoc, mul_right_comm, dvd-mul_left, dvd-mul_right, mul-dvd-mul_left, mul-dvd-mul_right, dvd_of_mul-dvd-mul_left, dvd_of_mul-dvd-mul_right, div-mul_cancel, mul-div_cancel'}
+use Rattle.khe_base.specs.Units.{IsLeastMultiple}
 
 -- two numbers have a greatest common divisor
 gcd_of : (fuel a b : ℕ) → b ≤ fuel → (g : ℕ) × IsGcd a b g
@@ -72,30 +69,3 @@ IsLeastMultiple-from_gcd u d g is pu pd =
       right = dvd-mul_left d (u / g);
       least = λ n un dn. divides_multiple u d g n is positive un dn;
     }
-
--- the unit of no durations
-pub IsUnit-nil : IsUnit [] 1
-IsUnit-nil = record { positive = lit< tt; divided = All-nil (λ d. d ∣ 1); least = λ n _. one-dvd n }
-
--- what all durations with one more divide, the earlier ones and that one divide
-All-front : (P : ℕ → Type 0) (ds : List ℕ) (d : ℕ) → All P (ds ++ d ∷ []) → All P ds
-All-front P ds d all k x l = subst P (get_or_append_left ds (d ∷ []) x k l) (all k x (omega (arith, length-append ds (d ∷ []))))
-
-All-last : (P : ℕ → Type 0) (ds : List ℕ) (d : ℕ) → All P (ds ++ d ∷ []) → P d
-All-last P ds d all = subst P (get_or-append_seam ds d [] 0) (all (length ds) 0 (omega (arith, length-append ds (d ∷ []))))
-
--- the unit with one more duration
-pub IsUnit-push : (ds : List ℕ) (d u m : ℕ) → IsUnit ds u → IsLeastMultiple u d m → IsUnit (ds ++ d ∷ []) m
-IsUnit-push ds d u m is multiple = record {
-  positive = multiple.positive;
-  divided = All-push (λ x. x ∣ m) ds d (All-weaker (λ x. x ∣ u) (λ x. x ∣ m) (λ x h. dvd_trans x h multiple.left) ds is.divided) multiple.right;
-  least = λ n all. multiple.least n (is.least n (All-front (λ x. x ∣ n) ds d all)) (All-last (λ x. x ∣ n) ds d all);
-}
-
--- no unit of more durations is smaller
-pub IsUnit-grows : (ds : List ℕ) (i m u : ℕ) → IsUnit (take i ds) m → IsUnit ds u → m ≤ u
-IsUnit-grows ds i m u part whole = le_of_dvd whole.positive (part.least u (All-take (λ x. x ∣ u) i ds whole.divided))
-
--- the unit of one more duration of a list
-pub IsUnit-more : (ds : List ℕ) (i u m : ℕ) → i < length ds → IsUnit (take i ds) u → IsLeastMultiple u (get_or ds i 0) m → IsUnit (take (i + 1) ds) m
-IsUnit-more ds i u m l is multiple = subst (λ x. IsUnit x m) (sym (take_more ds i 0 l)) (IsUnit-push (take i ds) (get_or ds i 0) u m is multiple)

@@ -1,37 +1,43 @@
-ghost use Rattle.std.specs.Prelude.{◌≡◌, ◌==◌, ◌<◌, ◌≤◌, false, length, IfOk};
-ghost use Rattle.khe_base.specs.IdSet.{no_members, has_member, with_member, member_count};
+ghost use Rattle.std.specs.Prelude.{◌≡◌, ◌==◌, ◌++◌, ◌+◌, ◌*◌, ◌<◌, ◌≤◌, ◌^◌, ℕ, false, length, map, IfOk, OnOk};
+ghost use Rattle.khe_base.specs.Bits.{is_set, words_for};
+ghost use Rattle.khe_base.specs.IdSet.{no_members, has_member, with_member, members_of, members_in, members_below, member_count};
 
-use crate::NoMemory;
+use crate::bits::{has_bit, is_set, no_bits, set_bit};
+use crate::{NoMemory, Seq};
 use std::alloc::Global;
 use std::marker::Model;
 
 /// A set of numbers below a size that is given when it is made. Contracts see a list with one
 /// entry for each number below the size, true where it is a member.
+///
+/// It keeps one bit for each number, 64 in a word.
 #[derive(Debug, Drop)]
 pub struct IdSet {
-    numbers: Vec<bool>,
+    words: Vec<u64>,
+    size: u32,
     count: u32,
 }
 
 impl Model for IdSet {
     ghost use Rattle.std.specs.Prelude.{List, Bool};
-    ghost use Rattle.khe_base.specs.IdSet.{IsCounted};
+    ghost use Rattle.khe_base.specs.IdSet.{set_of_bits, IsStored};
 
     ghost Value = { List Bool };
 
-    ghost view = { λ s. s.numbers.items };
+    ghost view = { λ s. set_of_bits s.words.items s.size };
 
-    ghost invariant = { λ s. IsCounted s.numbers.items s.count };
+    ghost invariant = { λ s. IsStored s.words.items s.size s.count };
 }
 
 impl IdSet {
-    /// The set of no numbers, of the given size. It takes time and memory in proportion to the
-    /// size, and no other call takes any memory.
+    /// The set of no numbers, of the given size. It takes time and memory for one bit for each
+    /// number of the size, and no other call on the set itself takes any memory.
     pub fn new(alloc: Global, size: u32) -> Result<IdSet, NoMemory>
         ensures { IfOk result (λ s. s ≡ no_members size) }
     {
         Ok(IdSet {
-            numbers: vec![in alloc; false; size as usize]?,
+            words: no_bits(alloc, (size as usize + 63) / 64)?,
+            size,
             count: 0,
         })
     }
@@ -43,8 +49,8 @@ impl IdSet {
         ensures { self.new ≡ with_member self.old n }
     {
         let place = n as usize;
-        if !self.numbers[place] {
-            self.numbers[place] = true;
+        if !is_set(self.words.as_slice(), place) {
+            set_bit(&mut self.words, place);
             self.count += 1;
         }
     }
@@ -54,8 +60,7 @@ impl IdSet {
         ensures below { result ≡ has_member self.now n }
         ensures beyond { length self.now ≤ n → result ≡ false }
     {
-        let place = n as usize;
-        place < self.numbers.len() && self.numbers[place]
+        is_set(self.words.as_slice(), n as usize)
     }
 
     /// How many numbers are members. It takes constant time.
@@ -76,6 +81,52 @@ impl IdSet {
     pub fn size(&self) -> u32
         ensures { result ≡ length self.now }
     {
-        self.numbers.len() as u32
+        self.size
     }
+
+    /// A row of bits, in which the bits of the members are set and no other. It takes constant
+    /// time.
+    pub fn words(&self) -> &[u64]
+        ensures room { length result.now ≡ words_for (length self.now) }
+        ensures bits { (n : ℕ) → is_set result.now n ≡ has_member self.now n }
+    {
+        self.words.as_slice()
+    }
+
+    /// The members, ascending. It takes memory in proportion to the members, and time in proportion
+    /// to the members and to a 64th of the size.
+    pub fn members(&self, alloc: Global) -> Result<Seq<u32>, NoMemory>
+        ensures { IfOk result (λ members. members ≡ members_of self.now) }
+    {
+        listed(alloc, self.words.as_slice())
+    }
+}
+
+// The numbers whose bits are set in a row of bits, ascending.
+fn listed(alloc: Global, words: &[u64]) -> Result<Seq<u32>, NoMemory>
+    requires { 64 * length words.now ≤ 2 ^ 32 }
+    ensures { IfOk result (λ members. members ≡ members_below words.now (64 * length words.now)) }
+{
+    let mut members = Seq::new(alloc);
+    for k in 0..words.len() {
+        push_members(&mut members, words[k], (64 * k) as u32)?;
+    }
+    Ok(members)
+}
+
+// Adds the numbers whose bits are set in a word, of which the first number is given. It takes
+// constant time, and little where no bit is set.
+fn push_members(members: &mut Seq<u32>, word: u64, first: u32) -> Result<(), NoMemory>
+    requires { first + 63 < 2 ^ 32 }
+    ensures { OnOk result (members.new ≡ members.old ++ members_in word first 64) }
+{
+    if word == 0 {
+        return Ok(());
+    }
+    for place in 0..64 {
+        if has_bit(word, place) {
+            members.push(first + place)?;
+        }
+    }
+    Ok(())
 }

@@ -2,6 +2,7 @@
 //! numbers with a type of their own, costs, totals, and the limits of an instance.
 #![tactic(auto)]
 
+pub mod bits;
 mod bounds;
 mod costs;
 mod id_sets;
@@ -25,4 +26,4 @@ pub use numbers::{EventId, GroupId, MeetId, MonitorId, ResourceId, TaskId, TimeI
 pub use sequences::Seq;
 pub use sums::Totals;
 pub use texts::Text;
-pub use units::common_unit;
+pub use units::least_multiple;

@@ -1,4 +1,4 @@
-use crate::{IdSet, Names, Seq, Text, numbered};
+use crate::{IdSet, Names, Seq, Text, least_multiple, numbered};
 use std::test::Fail;
 
 // Threads may be handed such a value, and read it together.
@@ -63,6 +63,13 @@ fn a_set_of_numbers(rt: HostRuntime) -> Result<(), Fail> {
     assert!(rt; set.has(69));
     assert!(rt; !set.has(4));
     assert!(rt; !set.has(70));
+    assert_eq!(rt; set.members(rt.alloc())?.as_slice(), [3, 69].as_slice());
     lends_to_threads(&set);
+    Ok(())
+}
+
+#[test]
+fn a_least_multiple(rt: HostRuntime) -> Result<(), Fail> {
+    assert_eq!(rt; least_multiple(12, 18), 36);
     Ok(())
 }

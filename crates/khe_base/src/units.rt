@@ -1,34 +1,12 @@
-ghost use Rattle.std.specs.Prelude.{◌≡◌, ℕ, ◌<◌, ◌≤◌, All, IfSome, IfNone};
+ghost use Rattle.std.specs.Prelude.{◌<◌};
 ghost use Rattle.std.specs.Int.{IsGcd};
-ghost use Rattle.khe_base.specs.Units.{IsUnit, IsLeastMultiple};
-ghost use Rattle.khe_base.specs.declared.limits.TheConstants.{UNIT};
+ghost use Rattle.khe_base.specs.Units.{IsLeastMultiple};
 
-use crate::limits;
-
-/// The least common multiple of some durations, or `None` where it is above the greatest unit of
-/// an instance. It is 1 for no durations.
+/// The least common multiple of two numbers above 0.
 ///
-/// It takes constant memory, and for each duration the time of Euclid's algorithm; it stops at the
-/// first running multiple above the limit.
-pub fn common_unit(durations: &[u32]) -> Option<u64>
-    requires { All (λ d. 0 < d) durations.now }
-    ensures unit { IfSome result (IsUnit durations.now) }
-    ensures within { IfSome result (λ u. u ≤ UNIT) }
-    ensures above { IfNone result ((u : ℕ) → IsUnit durations.now u → UNIT < u) }
-{
-    let mut unit: u64 = 1;
-    for duration in durations {
-        let next = least_multiple(unit, *duration);
-        if next > u128::from(limits::UNIT) {
-            return None;
-        }
-        unit = next as u64;
-    }
-    Some(unit)
-}
-
-// The least common multiple of two numbers.
-fn least_multiple(unit: u64, duration: u32) -> u128
+/// It takes the time of Euclid's algorithm, in proportion to the digits of the numbers, and no
+/// memory.
+pub fn least_multiple(unit: u64, duration: u32) -> u128
     requires unit { 0 < unit }
     requires duration { 0 < duration }
     ensures { IsLeastMultiple unit duration result }
