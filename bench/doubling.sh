@@ -7,14 +7,8 @@
 #
 # KHE is a proved program, say crates/khe_cli/out/khe_cli. SOLUTIONS (20 if missing, at most 24) is how many
 # solutions each archive has. Run it by hand, on a quiet machine: it is no part of the gate.
-set -eu
-top=$(cd "$(dirname "$0")/.." && pwd)
-khe=$(readlink -f "$1")
+. "$(dirname "$0")/setup.sh"
 solutions=${2:-20}
-work=$(mktemp -d)
-trap 'rm -rf "$work"' EXIT
-export TMPDIR=$work
-archive=$work/archive.xml
 before=
 for events in ${SIZES:-1250 2500 5000 10000}; do
   python3 "$top/bench/archives.py" "$events" "$solutions" > "$archive"

@@ -7,14 +7,8 @@
 #
 # KHE is a proved program, say crates/khe_cli/out/khe_cli. ROUNDS (1 if missing, at most 12) is how often
 # each kind of constraint stands. Run it by hand, on a quiet machine: it is no part of the gate.
-set -eu
-top=$(cd "$(dirname "$0")/.." && pwd)
-khe=$(readlink -f "$1")
+. "$(dirname "$0")/setup.sh"
 rounds=${2:-1}
-work=$(mktemp -d)
-trap 'rm -rf "$work"' EXIT
-export TMPDIR=$work
-archive=$work/archive.xml
 python3 "$top/bench/archives.py" "${EVENTS:-10000}" 10000 --rounds "$rounds" --bytes "${BYTES:-62914560}" > "$archive"
 solutions=$(grep -c '^<Solution ' "$archive")
 python3 "$top/bench/measure.py" "${RUNS:-3}" "$khe" evaluate "$archive" -- xmllint --noout --stream "$archive" > "$work/took"

@@ -1,5 +1,5 @@
 -- What a search from all that are left out meets is the least set of the greatest excess.
-use Rattle.std.proofs.Common.{ℕ, zero, suc, ◌+◌, ◌<◌, ◌≤◌, ◌≡◌, Bool, true, List, Option, Some, None, length, get_or, refl, sym, ap, ◌∙◌, subst, arith, ltb, Result, Ok, Err}
+use Rattle.std.proofs.Common.{ℕ, zero, suc, ◌+◌, ◌<◌, ◌≤◌, ◌≡◌, Bool, true, List, Some, None, length, get_or, refl, sym, ap, ◌∙◌, subst, arith, ltb, Result, Ok, Err}
 use Rattle.std.specs.Prelude.{IfOk}
 use Rattle.std.proofs.Math.Logic.{∥∥₁_elim}
 use Rattle.std.proofs.lemmas.Bool.{and_parts, and_from, ltb-true, lt-ltb}

@@ -1,51 +1,53 @@
--- The listed members are the members.
-use Rattle.std.proofs.Common.{ℕ, zero, suc, ◌+◌, ◌-◌, ◌<◌, ◌≤◌, ◌≡◌, Bool, true, false, List, [], ◌∷◌, length, get_or, drop, cond, refl, ap, ◌∙◌, arith, add-one}
+-- The numbers of a pick are those that are in it.
+use Rattle.std.proofs.Common.{ℕ, zero, suc, ◌<◌, ◌≡◌, Bool, true, false, cond, List, [], ◌∷◌, length, get_or, refl, ap, ◌∙◌, arith, filter, zero-add}
+use Rattle.std.specs.List.{range_with_len}
 use Rattle.std.proofs.lemmas.Bool.{false≢true, eqb-true, eq-eqb}
-use Rattle.std.proofs.lemmas.List.{drop_more}
+use Rattle.std.proofs.lemmas.List.Elements.{All-get_or, filter_passes}
+use Rattle.std.proofs.lemmas.List.FromFn.{length-range_with_len, get_or-range_with_len}
+use Rattle.khe_base.specs.IdSet.{has_member, members_of}
 use Rattle.demand_matching.specs.declared.domains.Pick.{Pick}
 use Rattle.demand_matching.specs.declared.domains.Pick.TheVariants.{One, «Set»}
 use Rattle.demand_matching.specs.Domains.{is_picked}
-use Rattle.demand_matching.specs.Members.{members_from, picked}
+use Rattle.demand_matching.specs.Members.{picked}
 
-same_gone : (n : ℕ) → n - n ≡ 0
-same_gone n = omega arith
+-- what passes a test is among what is kept
+kept_found : (p : ℕ → Bool) (xs : List ℕ) (j : ℕ) → j < length xs → p (get_or xs j 0) ≡ true → (i : ℕ) × (i < length (filter p xs)) × (get_or (filter p xs) i 0 ≡ get_or xs j 0)
+kept_found p [] j l h = absurd (omega arith)
+kept_found p (x ∷ xs) zero l h = at_front (p x) h
+  where
+    at_front : (b : Bool) → b ≡ true → (i : ℕ) × (i < length (cond b (x ∷ filter p xs) (filter p xs))) × (get_or (cond b (x ∷ filter p xs) (filter p xs)) i 0 ≡ x)
+    at_front true h = (0, omega arith, refl)
+    at_front false h = absurd (false≢true h)
+kept_found p (x ∷ xs) (suc j) l h = behind (p x) (kept_found p xs j (omega arith) h)
+  where
+    behind : (b : Bool) → (i : ℕ) × (i < length (filter p xs)) × (get_or (filter p xs) i 0 ≡ get_or xs j 0)
+        → (i : ℕ) × (i < length (cond b (x ∷ filter p xs) (filter p xs))) × (get_or (cond b (x ∷ filter p xs) (filter p xs)) i 0 ≡ get_or xs j 0)
+    behind true it = (suc it.0, omega (arith, it.1), it.2)
+    behind false it = it
 
-less_none : (n : ℕ) → n ≡ n - 0
-less_none n = omega arith
-
-one_less : (x n : ℕ) → suc n ≤ x → x - n ≡ suc (x - suc n)
-one_less x n l = omega arith
+-- a member is below the size
+member_below : (set : List Bool) (y : ℕ) → has_member set y ≡ true → y < length set
+member_below [] y h = absurd (false≢true h)
+member_below (b ∷ bs) zero h = omega arith
+member_below (b ∷ bs) (suc y) h = omega (arith, member_below bs y h)
 
 -- each listed number is a member
-pub members_hit : (n : ℕ) (bs : List Bool) (i : ℕ) → i < length (members_from n bs) → (n ≤ get_or (members_from n bs) i 0) × (get_or bs (get_or (members_from n bs) i 0 - n) false ≡ true)
-members_hit n [] i l = absurd (omega arith)
-members_hit n (true ∷ bs) zero l = (omega arith, ap (λ v. get_or (true ∷ bs) v false) (same_gone n))
-members_hit n (true ∷ bs) (suc i) l =
-    let it = members_hit (suc n) bs i (omega arith) in
-    (omega (arith, it.0), ap (λ v. get_or (true ∷ bs) v false) (one_less (get_or (members_from (suc n) bs) i 0) n it.0) ∙ it.1)
-members_hit n (false ∷ bs) i l =
-    let it = members_hit (suc n) bs i l in
-    (omega (arith, it.0), ap (λ v. get_or (false ∷ bs) v false) (one_less (get_or (members_from (suc n) bs) i 0) n it.0) ∙ it.1)
+members_hit : (set : List Bool) (i : ℕ) → i < length (members_of set) → has_member set (get_or (members_of set) i 0) ≡ true
+members_hit set i l = All-get_or (λ n. has_member set n ≡ true) (members_of set) i 0 l (filter_passes (has_member set) (range_with_len 0 (length set)))
 
 -- each member is listed
-pub members_found : (n : ℕ) (bs : List Bool) (y : ℕ) → get_or bs y false ≡ true → (i : ℕ) × (i < length (members_from n bs)) × (get_or (members_from n bs) i 0 ≡ n + y)
-members_found n [] y h = absurd (false≢true h)
-members_found n (true ∷ bs) zero h = (0, omega arith, omega arith)
-members_found n (false ∷ bs) zero h = absurd (false≢true h)
-members_found n (true ∷ bs) (suc y) h = let it = members_found (suc n) bs y h in (suc it.0, omega (arith, it.1), omega (arith, it.2))
-members_found n (false ∷ bs) (suc y) h = let it = members_found (suc n) bs y h in (it.0, it.1, omega (arith, it.2))
+members_found : (set : List Bool) (y : ℕ) → has_member set y ≡ true → (i : ℕ) × (i < length (members_of set)) × (get_or (members_of set) i 0 ≡ y)
+members_found set y h =
+    let below : y < length set = member_below set y h in
+    let at : get_or (range_with_len 0 (length set)) y 0 ≡ y = get_or-range_with_len 0 (length set) y 0 below ∙ zero-add y in
+    let it = kept_found (has_member set) (range_with_len 0 (length set)) y (omega (arith, below, length-range_with_len 0 (length set))) (ap (has_member set) at ∙ h) in
+    (it.0, it.1, it.2 ∙ at)
 
 pub picked_hit : (sets : List (List Bool)) (pick : Pick) (i : ℕ) → i < length (picked sets pick) → is_picked sets pick (get_or (picked sets pick) i 0) ≡ true
 picked_hit sets (One n) zero l = eq-eqb n n refl
 picked_hit sets (One n) (suc i) l = absurd (omega arith)
-picked_hit sets («Set» k) i l =
-    let it = members_hit 0 (get_or sets k []) i l in
-    ap (λ v. get_or (get_or sets k []) v false) (less_none (get_or (members_from 0 (get_or sets k [])) i 0)) ∙ it.1
+picked_hit sets («Set» k) i l = members_hit (get_or sets k []) i l
 
 pub picked_found : (sets : List (List Bool)) (pick : Pick) (y : ℕ) → is_picked sets pick y ≡ true → (i : ℕ) × (i < length (picked sets pick)) × (get_or (picked sets pick) i 0 ≡ y)
 picked_found sets (One n) y h = (0, omega arith, eqb-true n y h)
-picked_found sets («Set» k) y h = let it = members_found 0 (get_or sets k []) y h in (it.0, it.1, omega (arith, it.2))
-
--- one entry of the set more
-pub members_more : (bs : List Bool) (n : ℕ) → n < length bs → members_from n (drop n bs) ≡ cond (get_or bs n false) (n ∷ members_from (n + 1) (drop (n + 1) bs)) (members_from (n + 1) (drop (n + 1) bs))
-members_more bs n l = rw (drop_more bs n false l) (rw add-one refl)
+picked_found sets («Set» k) y h = members_found (get_or sets k []) y h

@@ -17,7 +17,7 @@ use std::marker::Model;
 /// A supply is a resource at a time. Contracts see the given sets, the number of times, the number
 /// of resources, and the domain of each demand.
 ///
-/// It takes memory in proportion to the demands, the supplies and the sizes of the sets.
+/// It takes memory in proportion to the demands, the supplies, and the sets with their members.
 #[derive(Drop)]
 pub struct Matching {
     table: Table,

@@ -1,6 +1,6 @@
 ghost use Rattle.std.specs.Prelude.{◌≡◌, ◌<◌, length, slice_index, IfOk};
 ghost use Rattle.demand_matching.specs.Domains.{IsGiven};
-ghost use Rattle.demand_matching.specs.Members.{members_from, picked};
+ghost use Rattle.demand_matching.specs.Members.{picked};
 
 use crate::Pick;
 use khe_base::{IdSet, NoMemory, Seq};
@@ -16,23 +16,24 @@ pub(crate) struct Sets {
 
 impl Model for Sets {
     ghost use Rattle.std.specs.Prelude.{◌≡◌, List, Bool, map};
-    ghost use Rattle.demand_matching.specs.Members.{members_from};
+    ghost use Rattle.khe_base.specs.IdSet.{members_of};
 
     ghost Value = { List (List Bool) };
 
     ghost view = { λ s. s.given };
 
-    ghost invariant = { λ s. s.members ≡ map (members_from 0) s.given };
+    ghost invariant = { λ s. s.members ≡ map members_of s.given };
 }
 
 impl Sets {
-    /// Lists the members of each set, in time and memory in proportion to the sizes.
+    /// Lists the members of each set. It takes memory in proportion to the number of sets and that
+    /// of their members, and time in proportion to these and to a 64th of the sizes.
     pub(crate) fn new(alloc: Global, given: Seq<IdSet>) -> Result<Sets, NoMemory>
         ensures { IfOk result (λ sets. sets ≡ given) }
     {
         let mut members = Seq::new(alloc);
         for set in given.as_slice() {
-            members.push(listed(alloc, set)?)?;
+            members.push(set.members(alloc)?)?;
         }
         Ok(Sets { given, members })
     }
@@ -59,17 +60,4 @@ impl Sets {
             Pick::Set(k) => self.members.as_slice()[k as usize].as_slice()[place],
         }
     }
-}
-
-/// The members of a set, ascending.
-fn listed(alloc: Global, set: &IdSet) -> Result<Seq<u32>, NoMemory>
-    ensures { IfOk result (λ members. members ≡ members_from 0 set.now) }
-{
-    let mut members = Seq::new(alloc);
-    for n in 0..set.size() {
-        if set.has(n) {
-            members.push(n)?;
-        }
-    }
-    Ok(members)
 }

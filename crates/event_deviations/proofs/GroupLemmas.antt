@@ -8,6 +8,7 @@ use Rattle.std.proofs.lemmas.List.{get_or_past}
 use Rattle.std.proofs.lemmas.List.Folds.{Any-from_list_any, list_any-from_Any, list_any-append, list_any_more}
 use Rattle.std.proofs.lemmas.List.Sums.{sum_by-cons}
 use Rattle.std.proofs.lemmas.Option.{slice_get_past, none-some}
+use Rattle.khe_base.proofs.ListLemmas.{range_more}
 use Rattle.khe_base.specs.IdSet.{has_member}
 use Rattle.khe_base.specs.declared.numbers.ResourceId.{ResourceId}
 use Rattle.khe_instance.specs.EventDeviation.{avoid_split_assignments, spread_events, duties_at, is_role, role_at, starts_in}
@@ -20,8 +21,8 @@ use Rattle.khe_instance.specs.declared.states.Duty.{Duty}
 use Rattle.khe_instance.specs.declared.states.Meet.{Meet}
 use Rattle.event_deviations.specs.Groups.{some_has, has_duty_at, has_duty, has_duty_among, starting_at, starting_in, spread_over}
 use Rattle.event_deviations.specs.Marked.{is_marked}
-use Rattle.event_deviations.specs.State.{members_of}
-use Rattle.event_deviations.proofs.Kit.{both_true, from_both, same_truth, list_any-filter, from_any_range, any_in_range, InRange, range_more, count_by-agree, sum_by-filter}
+use Rattle.khe_base.specs.IdSet.{members_of}
+use Rattle.event_deviations.proofs.Kit.{both_true, from_both, same_truth, list_any-filter, from_any_range, any_in_range, InRange, count_by-agree, sum_by-filter}
 use Rattle.event_deviations.proofs.MarkLemmas.{or_false, or_assoc, is_marked-set}
 
 -- one more duty

@@ -15,7 +15,7 @@ use Rattle.khe_instance.specs.declared.points.Point.TheVariants.{EventResource}
 use Rattle.khe_instance.specs.declared.rules.Constraint.{Constraint}
 use Rattle.khe_instance.specs.declared.rules.Rule.{Rule}
 use Rattle.khe_instance.specs.declared.rules.Rule.TheVariants.{AssignResource, PreferResources}
-use Rattle.event_deviations.specs.State.{members_of}
+use Rattle.khe_base.specs.IdSet.{members_of}
 use Rattle.event_deviations.proofs.GroupLemmas.{place_within}
 
 -- the rule of a constraint is in range

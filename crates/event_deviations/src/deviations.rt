@@ -47,7 +47,8 @@ impl<'a> EventDeviations<'a> {
     /// state of an instance is told.
     ///
     /// It takes time and memory in proportion to the meets, the duties, the events with their
-    /// places, the times, the resources, and the sizes of the event groups.
+    /// places, the times, the resources, and the members of the event groups; and time for a 64th of
+    /// the events for each event group.
     pub fn open(
         alloc: Global,
         instance: &'a Instance,

@@ -6,7 +6,7 @@ ghost use Rattle.khe_instance.specs.Running.{duties as duties_of, meets_of};
 ghost use Rattle.khe_instance.specs.States.{IsTold, places_at};
 ghost use Rattle.khe_instance.specs.WellMade.{AreWellMade};
 ghost use Rattle.event_deviations.specs.Bounded.{AreOfOneEvent, duration_at};
-ghost use Rattle.event_deviations.specs.State.{members_of};
+ghost use Rattle.khe_base.specs.IdSet.{members_of};
 
 use crate::lists::{duties_by, meets_by, members_by};
 use khe_base::{EventId, NoMemory, Seq};
@@ -37,7 +37,8 @@ impl<'a> Model for Index<'a> {
 
 impl<'a> Index<'a> {
     /// The index of a timetable and its duties, in time and memory of the meets, the duties, the
-    /// events with their places, and the sizes of the event groups.
+    /// events with their places, and the members of the event groups; and time for a 64th of the
+    /// events for each event group.
     pub(crate) fn new(
         alloc: Global,
         instance: &'a Instance,

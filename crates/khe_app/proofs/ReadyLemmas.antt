@@ -10,6 +10,7 @@ use Rattle.std.proofs.lemmas.Option.{get_or_from_slice_get, slice_get_within, sl
 use Rattle.std.proofs.lemmas.List.{length-map}
 use Rattle.std.proofs.lemmas.List.Concat.{flat_map-cons}
 use Rattle.std.proofs.lemmas.List.Elements.{All-nil, All-cons, All-head, All-tail, All-get_or, All-append, All-weaker}
+use Rattle.khe_base.proofs.ListLemmas.{all-there, none_of, none-each}
 use Rattle.khe_base.specs.Names.{is_among_names, number_of}
 use Rattle.khe_base.specs.declared.limits.TheConstants.{SOLUTIONS}
 use Rattle.khe_instance.specs.Named.{event_named, time_named, resource_named}
@@ -22,6 +23,7 @@ use Rattle.xhstt_references.specs.Directories.{directory_of}
 use Rattle.xhstt_references.specs.declared.directories.Directory.{Directory}
 use Rattle.xhstt_references.specs.Faults.{at_first, fault_of_solutions}
 use Rattle.xhstt_references.specs.declared.faults.TheConstants.{UNKNOWN_REFERENCE}
+use Rattle.xhstt_resolve.proofs.WellMadeLists.{known}
 use Rattle.xhstt_resolve.specs.Parts.{parts_of, events_from, resource_of}
 use Rattle.xhstt_resolve.specs.Faults.{as_fault}
 use Rattle.xhstt_resolve.specs.Resolved.{resolved, archive_fault, instances_of, solutions_fault}
@@ -40,46 +42,6 @@ use Rattle.xhstt_shape.specs.declared.records.RawResource.{RawResource}
 use Rattle.xhstt_shape.specs.declared.records.RawSolution.{RawSolution}
 use Rattle.xhstt_shape.specs.declared.records.Ref.{Ref}
 use Rattle.xhstt_shape.specs.declared.records.SolutionGroup.{SolutionGroup}
-
--- two lists that together are none are none
-none_of : {A : Type 0} (xs ys : List A) → xs ++ ys ≡ [] → (xs ≡ []) × (ys ≡ [])
-none_of [] ys e = (refl, e)
-none_of (x ∷ xs) ys e = absurd (let g : ⊥ = cc in g)
-
--- no element gives anything
-none-each : {A B : Type 0} (f : A → List B) (xs : List A) → flat_map f xs ≡ [] → All (λ x. f x ≡ []) xs
-none-each f [] e = All-nil (λ x. f x ≡ [])
-none-each f (x ∷ xs) e =
-    let parts = none_of (f x) (flat_map f xs) (sym (flat_map-cons f x xs) ∙ e) in
-    All-cons (λ y. f y ≡ []) x xs parts.0 (none-each f xs parts.1)
-
-all-there : {A : Type 0} (P : A → Type 0) (xs : List A) (i : ℕ) (x : A) → All P xs → slice_get xs i ≡ Some x → P x
-all-there P xs i x all at = subst P (get_or_from_slice_get xs i x x at) (All-get_or P xs i x (slice_get_within xs i x at) all)
-
--- a test that an element passes has a first place, which is one of the list
-below_length : {A : Type 0} (p : A → Bool) (xs : List A) → ltb (position_or_len p xs) (length xs) ≡ list_any p xs
-below_length p [] = refl
-below_length p (x ∷ xs) = by (p x) (below_length p xs)
-  where
-    by : (b : Bool) → ltb (position_or_len p xs) (length xs) ≡ list_any p xs → ltb (cond (not b) (1 + position_or_len p xs) 0) (length (x ∷ xs)) ≡ (b || list_any p xs)
-    by true e = grind (arith, nat_tests)
-    by false e = grind (arith, nat_tests)
-
--- an Id among others has a number among them
-record IsKnown (id : List ℕ) (ids : List (List ℕ)) : Type 0 where
-  pub n : ℕ
-  pub is : number_of id ids ≡ Some n
-  pub within : n < length ids
-
-known : (id : List ℕ) (ids : List (List ℕ)) → is_among_names id ids ≡ true → IsKnown id ids
-known id ids e =
-    let p = λ (n : List ℕ). bytes_eq id n in
-    let below : ltb (position_or_len p ids) (length ids) ≡ true = below_length p ids ∙ e in
-    record {
-      n = position_or_len p ids;
-      is = ap (λ b. cond b (Some (position_or_len p ids)) None) below;
-      within = ltb-true _ _ below;
-    }
 
 known-some : (id : List ℕ) (ids : List (List ℕ)) → is_among_names id ids ≡ true → IsSome (number_of id ids)
 known-some id ids e = ap is_some (known id ids e).is

@@ -5,27 +5,7 @@ use Rattle.std.specs.Option.{option_map_or, option_and_then}
 use Rattle.std.proofs.lemmas.List.Concat.{flat_map-cons}
 use Rattle.std.proofs.lemmas.Option.{get_or_from_slice_get, slice_get_within, slice_get_cases, slice_get-map, slice_get-get_or}
 use Rattle.std.proofs.lemmas.List.FromFn.{length-enumerate_from, get_or-enumerate_from}
-
--- an element at a number below the length
-pub record IsThere {A : Type 0} (xs : List A) (i : ℕ) : Type 0 where
-  pub x : A
-  pub at : slice_get xs i ≡ Some x
-
-pub there : {A : Type 0} (xs : List A) (i : ℕ) → i < length xs → IsThere xs i
-there xs i h = elim (slice_get_cases xs i).1 [
-  | inl w ↦ record { x = w.0; at = w.2 }
-  | inr w ↦ absurd (omega (arith, w.0, h))
-]
-
-pub drop-there : {A : Type 0} (xs : List A) (i : ℕ) (x : A) → slice_get xs i ≡ Some x → drop i xs ≡ x ∷ drop (i + 1) xs
-drop-there xs i x at =
-    drop-cons xs i x (slice_get_within xs i x at)
-    ∙ ap (λ y. y ∷ drop (suc i) xs) (get_or_from_slice_get xs i x x at)
-    ∙ ap (λ k. x ∷ drop k xs) (sym (add-one i))
-
--- what stands at a place of a mapped list
-pub mapped-there : {A B : Type 0} (f : A → B) (xs : List A) (i : ℕ) (x : A) (d : B) → slice_get xs i ≡ Some x → get_or (map f xs) i d ≡ f x
-mapped-there f xs i x d at = get_or_from_slice_get (map f xs) i (f x) d (slice_get-map f xs i ∙ ap (option_map f) at)
+use Rattle.khe_base.proofs.ListLemmas.{drop-there, mapped-there}
 
 -- and of one that is numbered from 0
 pub numbered-there : {A : Type 0} (f : ℕ × A → ℕ) (xs : List A) (i : ℕ) (x : A) (d : ℕ) → slice_get xs i ≡ Some x → get_or (map f (enumerate_from 0 xs)) i d ≡ f (i, x)

@@ -6,7 +6,7 @@ ghost use Rattle.khe_instance.specs.EventDeviation as event;
 ghost use Rattle.khe_instance.specs.ResourceDeviation as resource;
 ghost use Rattle.khe_instance.specs.Examples.{meet, unplaced, task, free, given, day, two, lecture, spread};
 
-use crate::{Instance, Parts};
+use crate::{Instance, Parts, Plain};
 use khe_base::{Seq, Text};
 use std::test::Fail;
 
@@ -122,9 +122,10 @@ fn examples_are_proved() {
     limit_workload_rounds_once();
 }
 
-fn is_shared<T: Send + Sync>(_value: &T) {}
+// Threads may be handed such a value, and read it together.
+fn lends_to_threads<T: Send + Sync>(_value: &T) {}
 
-// An instance without times, resources and events.
+// An instance without times, resources and events, and its one timetable.
 #[test]
 fn an_instance_of_nothing(rt: HostRuntime) -> Result<(), Fail> {
     let alloc = rt.alloc();
@@ -140,7 +141,14 @@ fn an_instance_of_nothing(rt: HostRuntime) -> Result<(), Fail> {
         unit: 1,
     };
     let instance = Instance::new(alloc, parts)?;
-    is_shared(&instance);
+    let plain = Plain {
+        meets: Seq::new(alloc),
+        tasks: Seq::new(alloc),
+        detached: Seq::new(alloc),
+        groups: Seq::new(alloc),
+    };
+    lends_to_threads(&instance);
+    lends_to_threads(&plain);
     assert_eq!(rt; instance.times(), 0);
     assert_eq!(rt; instance.unit(), 1);
     Ok(())

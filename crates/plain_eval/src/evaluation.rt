@@ -26,8 +26,9 @@ pub struct Values {
 ///
 /// The only error is want of memory. It takes time about in proportion to the meets, the tasks, the
 /// times that they cover, the watches of the monitors, and resources times times; and memory in
-/// proportion to the meets, the tasks, the monitors, the sizes of the event groups, and resources
-/// times times.
+/// proportion to the meets, the tasks, the monitors, the members of the event groups, and resources
+/// times times. The members are listed anew, which takes time in proportion to them and to a 64th of
+/// the events for each event group.
 ///
 /// The sources are the pages of the constraints and of the cost functions of the XHSTT format.
 pub fn evaluate(alloc: Global, inst: &Instance, plain: &Plain) -> Result<Values, NoMemory>
@@ -43,4 +44,13 @@ pub fn evaluate(alloc: Global, inst: &Instance, plain: &Plain) -> Result<Values,
         costs: Seq { items: costs },
         totals,
     })
+}
+
+// Threads may be handed such a value, and read it together.
+fn lends_to_threads<T: Send + Sync>(_value: &T) {}
+
+// Workers share what a timetable costs: the types show it, and no program calls this.
+#[allow(dead_code)]
+fn values_are_shared(values: &Values) {
+    lends_to_threads(values);
 }

@@ -12,6 +12,7 @@ use Rattle.std.proofs.lemmas.List.Kept.{AllPairs-from_increasing}
 use Rattle.std.proofs.lemmas.List.Sums.{sum_by-cons, sum_by-le-sum_by, get_or-le-sum_by, length-filter}
 use Rattle.std.proofs.lemmas.Nat.{mul-le}
 use Rattle.std.proofs.lemmas.Option.{IfSome_then, none-some, slice_get_past, slice_get_cases, slice_get_within}
+use Rattle.khe_base.proofs.ListLemmas.{All-flat_map}
 use Rattle.khe_base.specs.declared.limits.TheConstants.{TASKS}
 use Rattle.khe_base.specs.declared.numbers.ResourceId.{ResourceId}
 use Rattle.khe_base.specs.declared.numbers.TaskId.{TaskId}
@@ -27,12 +28,6 @@ use Rattle.khe_instance.specs.declared.states.Meet.{Meet}
 use Rattle.khe_instance.specs.declared.states.Plain.{Plain}
 use Rattle.khe_instance.specs.declared.states.Task.{Task}
 use Rattle.resource_deviations.specs.Tasks.{AreOfState, IsDuty, AreDuties}
-
--- what holds of each element of each list holds of the lists end to end
-All-flat_map : {X A : Type 0} (Q : A → Type 0) (f : X → List A) (xs : List X) → All (λ x. All Q (f x)) xs → All Q (flat_map f xs)
-All-flat_map Q f [] h = All-nil Q
-All-flat_map Q f (x ∷ xs) h =
-    All-append Q (f x) (flat_map f xs) (All-head (λ y. All Q (f y)) x xs h) (All-flat_map Q f xs (All-tail (λ y. All Q (f y)) x xs h))
 
 All-where : {X : Type 0} (P : X → Type 0) (test : X → Bool) (xs : List X) → All (λ x. test x ≡ true → P x) xs → All P (filter test xs)
 All-where P test [] h = All-nil P

@@ -1,22 +1,19 @@
 -- How many numbers below a bound pass a test, and the idle times among members.
-use Rattle.std.proofs.Common.{◌≡◌, ◌∙◌, sym, ap, ap₂, subst, refl, ℕ, ◌+◌, ◌-◌, ◌*◌, ◌%◌, ◌/◌, ◌^◌, ◌<◌, ◌≤◌, Bool, true, false, not, ◌&&◌, ◌||◌, cond, [], ◌∷◌, ◌++◌, length, get_or, arith, count_ones, count_by, map-id, zero, suc, add-zero, ◌⊎◌, inl, inr, mod-lt, add-sub_of_le, true≢false}
+use Rattle.std.proofs.Common.{◌≡◌, ◌∙◌, sym, ap, ap₂, subst, refl, ℕ, ◌+◌, ◌-◌, ◌*◌, ◌%◌, ◌/◌, ◌^◌, ◌<◌, ◌≤◌, Bool, true, false, not, ◌&&◌, ◌||◌, cond, length, get_or, arith, count_ones, count_by, zero, suc, add-zero, ◌⊎◌, inl, inr, mod-lt, add-sub_of_le, true≢false}
 use Rattle.std.specs.Int.{bit_at}
 use Rattle.std.specs.List.{range_with_len, list_any}
 use Rattle.std.specs.Int.Count.{ones}
 use Rattle.std.proofs.lemmas.List.Sums.{sum_by_push, count_by-le-length}
-use Rattle.std.proofs.lemmas.List.FromFn.{map-range_with_len_more, length-range_with_len, get_or-range_with_len}
+use Rattle.std.proofs.lemmas.List.FromFn.{length-range_with_len, get_or-range_with_len}
 use Rattle.std.proofs.lemmas.List.Folds.{list_any_at}
 use Rattle.std.proofs.lemmas.Nat.{pow_pos, mod-pow-add, ones_cat, shr_split}
-use Rattle.timetables.specs.Bits.{has_bit}
+use Rattle.khe_base.specs.Bits.{has_bit}
+use Rattle.khe_base.proofs.BitsLemmas.{bit_at-has_bit}
+use Rattle.khe_base.proofs.ListLemmas.{range_more}
 use Rattle.timetables.specs.Counts.{count_below, any_between, is_idle_time}
-use Rattle.timetables.proofs.BitsLemmas.{bit_at-has_bit}
 
 abbrev pub one_if : Bool → ℕ
 one_if b = cond b 1 0
-
-range_more : (n : ℕ) → range_with_len 0 (n + 1) ≡ range_with_len 0 n ++ n ∷ []
-range_more n =
-    sym (map-id (range_with_len 0 (n + 1))) ∙ map-range_with_len_more (λ x. x) 0 n n (omega arith) ∙ ap (λ r. r ++ n ∷ []) (map-id (range_with_len 0 n))
 
 pub count_below-more : (p : ℕ → Bool) (n : ℕ) → count_below p (n + 1) ≡ count_below p n + one_if (p n)
 count_below-more p n = ap (count_by p) (range_more n) ∙ sum_by_push (λ x. one_if (p x)) (range_with_len 0 n) n

@@ -1,4 +1,3 @@
-pub mod BitsLemmas
 pub mod CountsLemmas
 pub mod MasksLemmas
 pub mod Spans

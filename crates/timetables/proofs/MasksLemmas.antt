@@ -1,89 +1,15 @@
 -- Sets of times as rows of bits.
-use Rattle.std.proofs.Common.{◌≡◌, ◌≢◌, ◌∙◌, sym, ap, ap₂, subst, refl, ℕ, ◌+◌, ◌*◌, ◌%◌, ◌/◌, ◌^◌, ◌<◌, ◌≤◌, min, max, Bool, true, false, not, ◌&&◌, if◌then◌else◌, nat_eq, List, length, get_or, set, replicate, arith, count_ones, bit_and, zero, suc, ◌⊎◌, inl, inr, mod-eq_of_lt, lt_of_le_of_lt, subst₂, true≢false}
+use Rattle.std.proofs.Common.{◌≡◌, ◌∙◌, sym, ap, ap₂, subst, ℕ, ◌+◌, ◌*◌, ◌^◌, ◌<◌, ◌≤◌, Bool, false, not, ◌&&◌, List, length, get_or, arith, count_ones, bit_and, ◌⊎◌, inl, inr, mod-eq_of_lt, lt_of_le_of_lt, subst₂, true≢false}
 use Rattle.std.specs.Int.{bit_not, w64}
-use Rattle.std.proofs.lemmas.List.{get_or-set_same, get_or-set_other, length-replicate, length-set, get_or_past}
-use Rattle.std.proofs.lemmas.List.FromFn.{fill_by_all, length-map-range_with_len, get_or-map-range_with_len}
 use Rattle.std.proofs.lemmas.Nat.{and_le_l}
-use Rattle.std.proofs.lemmas.Nat.Bits.{bit_at-zero}
-use Rattle.std.proofs.lemmas.Bool.Decides.{nat_tests}
-use Rattle.khe_base.specs.IdSet.{has_member}
-use Rattle.timetables.specs.Bits.{has_bit, is_set}
+use Rattle.khe_base.specs.Bits.{has_bit, is_set}
+use Rattle.khe_base.specs.IdSet.{has_member, set_of_bits}
+use Rattle.khe_base.proofs.BitsLemmas.{has_bit-and, has_bit-not, is_set-place}
+use Rattle.khe_base.proofs.IdSetLemmas.{length-set_of_bits, has_member-set_of_bits}
 use Rattle.timetables.specs.Counts.{count_below, is_idle_time}
-use Rattle.timetables.specs.Stored.{times_of, IsWithin, words_for}
-use Rattle.timetables.proofs.BitsLemmas.{has_bit-and, has_bit-not, is_set-place}
+use Rattle.timetables.specs.Stored.{IsWithin}
 use Rattle.timetables.proofs.CountsLemmas.{count_ones-bits, count_below-ends, idle-none, idle-between}
 use Rattle.timetables.proofs.Spans.{HasEnds}
-
-pub length-times_of : (words : List ℕ) (size : ℕ) → length (times_of words size) ≡ size
-length-times_of words size = length-map-range_with_len (λ t. is_set words t) 0 size
-
-pub times_of-same : (words : List ℕ) (size : ℕ) (xs : List Bool) → length xs ≡ size → ((t : ℕ) → t < size → get_or xs t false ≡ is_set words t) → times_of words size ≡ xs
-times_of-same words size xs l same = sym (fill_by_all (λ t. is_set words t) xs size false l same)
-
--- a member is a time whose bit is set, where no bit is set from the size on
-pub has_member-times_of : (words : List ℕ) (size : ℕ) → ((t : ℕ) → size ≤ t → is_set words t ≡ false) → (t : ℕ) → has_member (times_of words size) t ≡ is_set words t
-has_member-times_of words size beyond t = by (grind arith)
-  where
-    by : (t < size) ⊎ (size ≤ t) → has_member (times_of words size) t ≡ is_set words t
-    by (inl h) = get_or-map-range_with_len (λ t. is_set words t) 0 size t t false h (omega arith)
-    by (inr h) = get_or_past (times_of words size) t false (subst (λ n. n ≤ t) (sym (length-times_of words size)) h) ∙ sym (beyond t h)
-
--- words of 0 have no bit set
-zeros_read : (n k : ℕ) → get_or {A = ℕ} (replicate n 0) k 0 ≡ 0
-zeros_read zero k = refl
-zeros_read (suc n) zero = refl
-zeros_read (suc n) (suc k) = zeros_read n k
-
-pub is_set-zeros : (n t : ℕ) → is_set (replicate n 0) t ≡ false
-is_set-zeros n t = ap (λ w. has_bit w (t % 64)) (zeros_read n (t / 64)) ∙ ap (λ b. nat_eq b 1) (bit_at-zero (t % 64))
-
-nothing_read : (n k : ℕ) → get_or (replicate n false) k false ≡ false
-nothing_read zero k = refl
-nothing_read (suc n) zero = refl
-nothing_read (suc n) (suc k) = nothing_read n k
-
-pub times_of-zeros : (n size : ℕ) → times_of (replicate n 0) size ≡ replicate size false
-times_of-zeros n size = times_of-same (replicate n 0) size (replicate size false) (length-replicate size false) (λ t h. nothing_read size t ∙ sym (is_set-zeros n t))
-
-pub IsWithin-zeros : (n size : ℕ) → n ≡ words_for size → size < 2 ^ 32 → IsWithin (replicate n 0) n 0 size
-IsWithin-zeros n size room small = record {
-  room = length-replicate n 0 ∙ room;
-  small = small;
-  within = omega arith;
-  before = λ t h. is_set-zeros n t;
-  after = λ t h. is_set-zeros n t;
-  beyond = λ t h. is_set-zeros n t;
-}
-
-module _ (words new : List ℕ) (t size : ℕ) (here : t < size) (length_stays : length new ≡ length words)
-    (bits : (s : ℕ) → is_set new s ≡ (if nat_eq s t then true else is_set words s)) where
-  elsewhere : (s : ℕ) → s ≢ t → is_set new s ≡ is_set words s
-  elsewhere s ne = let e : nat_eq s t ≡ false = grind (arith, nat_tests) in bits s ∙ ap (λ b. if b then true else is_set words s) e
-
-  at_time : (s : ℕ) → s ≡ t → is_set new s ≡ true
-  at_time s same = let e : nat_eq s t ≡ true = grind (arith, nat_tests) in bits s ∙ ap (λ b. if b then true else is_set words s) e
-
-  pub IsWithin-insert : (first end : ℕ) → IsWithin words first end size → IsWithin new (min first (t / 64)) (max end (t / 64 + 1)) size
-  IsWithin-insert first end is =
-      let room : length words ≡ words_for size = is.room in
-      let within : end ≤ length words = is.within in
-      record {
-        room = length_stays ∙ is.room;
-        small = is.small;
-        within = omega arith;
-        before = λ s h. let ne : s ≢ t = omega arith in let low : s < 64 * first = omega arith in elsewhere s ne ∙ is.before s low;
-        after = λ s h. let ne : s ≢ t = omega arith in let high : 64 * end ≤ s = omega arith in elsewhere s ne ∙ is.after s high;
-        beyond = λ s h. let ne : s ≢ t = omega arith in elsewhere s ne ∙ is.beyond s h;
-      }
-
-  pub times_of-insert : times_of new size ≡ set (times_of words size) t true
-  times_of-insert = times_of-same new size (set (times_of words size) t true) (length-set (times_of words size) t true ∙ length-times_of words size) (λ s h. read s h (grind arith))
-    where
-      read : (s : ℕ) → s < size → (s ≡ t) ⊎ (s ≢ t) → get_or (set (times_of words size) t true) s false ≡ is_set new s
-      read s h (inl e) =
-          ap (λ x. get_or (set (times_of words size) t true) x false) e ∙ get_or-set_same (times_of words size) t true false (subst (λ n. t < n) (sym (length-times_of words size)) here) ∙ sym (at_time s e)
-      read s h (inr ne) =
-          get_or-set_other (times_of words size) t s true false ne ∙ get_or-map-range_with_len (λ t. is_set words t) 0 size s s false h (omega arith) ∙ sym (elsewhere s ne)
 
 module _ (words row : List ℕ) (k : ℕ) where
   -- one more word of members whose bits are set in the row
@@ -145,23 +71,23 @@ module _ (words row : List ℕ) (first end size : ℕ) (is : IsWithin words firs
   no_free-beyond t h = ap (λ b. b && not (is_set row t)) (is.beyond t h)
 
   -- so what is counted before the end is counted in all
-  pub common-whole : (now : List Bool) (k : ℕ) → times_of words size ≡ now → end ≤ k
+  pub common-whole : (now : List Bool) (k : ℕ) → set_of_bits words size ≡ now → end ≤ k
       → count_below (λ t. is_set words t && is_set row t) (64 * k) ≡ count_below (λ t. has_member now t && is_set row t) (length now)
   common-whole now k e over =
       let p = λ (t : ℕ). is_set words t && is_set row t in
       let ends : count_below p (64 * k) ≡ count_below p size = count_below-ends p (64 * k) size (no_common-after k over) no_common-beyond in
-      let set = times_of words size in
+      let set = set_of_bits words size in
       let alike : count_below p size ≡ count_below (λ t. has_member set t && is_set row t) (length set) =
-      sym (λ i. count_below (λ t. has_member-times_of words size is.beyond t i && is_set row t) (length-times_of words size i))
+      sym (λ i. count_below (λ t. has_member-set_of_bits words size is.beyond t i && is_set row t) (length-set_of_bits words size i))
       in
       subst (λ (v : List Bool). count_below p (64 * k) ≡ count_below (λ t. has_member v t && is_set row t) (length v)) e (ends ∙ alike)
 
   -- what holds of the bits below the size holds of the set
-  moved : (now : List Bool) → times_of words size ≡ now → (Q : (ℕ → Bool) → ℕ → Type 0) → Q (is_set words) size → Q (has_member now) (length now)
+  moved : (now : List Bool) → set_of_bits words size ≡ now → (Q : (ℕ → Bool) → ℕ → Type 0) → Q (is_set words) size → Q (has_member now) (length now)
   moved now e Q q =
-      let set = times_of words size in
-      let same : has_member set ≡ is_set words = λ i t. has_member-times_of words size is.beyond t i in
-      subst (λ v. Q (has_member v) (length v)) e (subst₂ Q (sym same) (sym (length-times_of words size)) q)
+      let set = set_of_bits words size in
+      let same : has_member set ≡ is_set words = λ i t. has_member-set_of_bits words size is.beyond t i in
+      subst (λ v. Q (has_member v) (length v)) e (subst₂ Q (sym same) (sym (length-set_of_bits words size)) q)
 
   no_common : (k : ℕ) → end ≤ k → ((t : ℕ) → t < 64 * k → (is_set words t && is_set row t) ≡ false) → (t : ℕ) → (is_set words t && is_set row t) ≡ false
   no_common k over none t = by (grind arith)
@@ -171,14 +97,14 @@ module _ (words row : List ℕ) (first end size : ℕ) (is : IsWithin words firs
       by (inr h) = no_common-after k over t h
 
   -- where no member is busy, none is idle
-  pub idle-nowhere : (now : List Bool) (k : ℕ) → times_of words size ≡ now → end ≤ k
+  pub idle-nowhere : (now : List Bool) (k : ℕ) → set_of_bits words size ≡ now → end ≤ k
       → ((t : ℕ) → t < 64 * k → (is_set words t && is_set row t) ≡ false)
       → 0 ≡ count_below (is_idle_time (has_member now) (is_set row) (length now)) (length now)
   idle-nowhere now k e over none =
       moved now e (λ m n. 0 ≡ count_below (is_idle_time m (is_set row) n) n) (sym (idle-none (is_set words) (is_set row) size (no_common k over none)))
 
   -- else the idle times are the free ones between the ends
-  pub idle-ends : (now : List Bool) (k before_first before_last : ℕ) → times_of words size ≡ now → end ≤ k
+  pub idle-ends : (now : List Bool) (k before_first before_last : ℕ) → set_of_bits words size ≡ now → end ≤ k
       → HasEnds (λ t. is_set words t && is_set row t) (λ t. is_set words t && not (is_set row t)) (64 * k) before_first before_last
       → count_below (is_idle_time (has_member now) (is_set row) (length now)) (length now) + before_first ≡ before_last
   idle-ends now k before_first before_last e over ends =
@@ -193,8 +119,3 @@ module _ (words row : List ℕ) (first end size : ℕ) (is : IsWithin words firs
       after : (t : ℕ) → ends.last < t → (t < 64 * k) ⊎ (64 * k ≤ t) → (is_set words t && is_set row t) ≡ false
       after t h (inl low) = ends.none_after t h low
       after t h (inr high) = no_common-after k over t high
-
--- sets of one size with the same members are one set
-pub same_members : (xs ys : List Bool) → length xs ≡ length ys → ((s : ℕ) → s < length ys → get_or xs s false ≡ get_or ys s false) → xs ≡ ys
-same_members xs ys l same =
-    fill_by_all (λ s. get_or ys s false) xs (length ys) false l same ∙ sym (fill_by_all (λ s. get_or ys s false) ys (length ys) false refl (λ s h. refl))

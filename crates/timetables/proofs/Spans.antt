@@ -3,8 +3,8 @@ use Rattle.std.proofs.Common.{◌≡◌, ◌∙◌, sym, ap, subst, ℕ, ◌+◌
 use Rattle.std.specs.Int.{bit_at, w64, trailing_zeros, leading_zeros}
 use Rattle.std.proofs.lemmas.Nat.{pow_pos, leading_top}
 use Rattle.std.proofs.lemmas.Nat.Bits.{bit_at-trailing_zeros, bit_at_above, bit_at-zero}
+use Rattle.khe_base.specs.Bits.{has_bit}
 use Rattle.timetables.specs.declared.masks.Span.{Span}
-use Rattle.timetables.specs.Bits.{has_bit}
 use Rattle.timetables.specs.Counts.{count_below}
 use Rattle.timetables.proofs.CountsLemmas.{count_ones-bits}
 

@@ -1,4 +1,3 @@
-pub mod Bits
 pub mod Counts
 pub mod Stored
 pub mod Sheets

@@ -2,7 +2,6 @@
 //! the busy and the idle times of a set of times are counted 64 at once.
 #![tactic(auto)]
 
-mod bits;
 mod masks;
 mod rows;
 mod tables;

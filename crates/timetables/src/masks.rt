@@ -1,11 +1,10 @@
-ghost use Rattle.std.specs.Prelude.{◌≡◌, ◌+◌, ◌-◌, ◌*◌, ◌%◌, ◌^◌, ◌<◌, ◌≤◌, ◌&&◌, ℕ, true, false, length, replicate, slice_set, count_ones, IfOk, IsSomeAnd, MatchOption};
+ghost use Rattle.std.specs.Prelude.{◌≡◌, ◌+◌, ◌-◌, ◌*◌, ◌%◌, ◌^◌, ◌<◌, ◌≤◌, ◌&&◌, ℕ, false, length, slice_index, count_ones, IfOk, IsSomeAnd, MatchOption};
 ghost use Rattle.std.specs.Int.{w64, trailing_zeros, leading_zeros};
+ghost use Rattle.khe_base.specs.Bits.{is_set, words_for};
 ghost use Rattle.khe_base.specs.IdSet.{has_member};
-ghost use Rattle.timetables.specs.Bits.{is_set};
 ghost use Rattle.timetables.specs.Counts.{count_below, is_idle_time};
-ghost use Rattle.timetables.specs.Stored.{words_for};
 
-use crate::bits::{ones_below, set_bit};
+use khe_base::bits::ones_below;
 use khe_base::{IdSet, NoMemory};
 use std::alloc::Global;
 use std::marker::Model;
@@ -24,11 +23,12 @@ pub struct Mask {
 
 impl Model for Mask {
     ghost use Rattle.std.specs.Prelude.{List, Bool};
-    ghost use Rattle.timetables.specs.Stored.{times_of, IsWithin};
+    ghost use Rattle.khe_base.specs.IdSet.{set_of_bits};
+    ghost use Rattle.timetables.specs.Stored.{IsWithin};
 
     ghost Value = { List Bool };
 
-    ghost view = { λ m. times_of m.words.items m.size };
+    ghost view = { λ m. set_of_bits m.words.items m.size };
 
     ghost invariant = { λ m. IsWithin m.words.items m.first m.end m.size };
 }
@@ -41,18 +41,18 @@ struct Span {
 }
 
 impl Mask {
-    /// The times of a set; its size is the number of times. It takes time in proportion to the
-    /// size, and memory for one bit for each time.
+    /// The times of a set; its size is the number of times. It takes time and memory in proportion
+    /// to the words, a 64th of the size.
     pub fn new(alloc: Global, group: &IdSet) -> Result<Mask, NoMemory>
         ensures { IfOk result (λ m. m ≡ group.now) }
     {
-        let mut mask = Mask::empty(alloc, group.size())?;
-        for t in 0..group.size() {
-            if group.has(t) {
-                mask.insert(t);
-            }
-        }
-        Ok(mask)
+        let words = group.words();
+        Ok(Mask {
+            first: first_word(words),
+            end: end_word(words),
+            words: Vec::from_slice(alloc, words)?,
+            size: group.size(),
+        })
     }
 
     /// The size: the number of times, members or not. It takes constant time.
@@ -60,28 +60,6 @@ impl Mask {
         ensures { result ≡ length self.now }
     {
         self.size
-    }
-
-    fn empty(alloc: Global, size: u32) -> Result<Mask, NoMemory>
-        ensures { IfOk result (λ m. m ≡ replicate size false) }
-    {
-        let words = no_words(alloc, (size as usize + 63) / 64)?;
-        Ok(Mask {
-            first: words.len(),
-            end: 0,
-            words,
-            size,
-        })
-    }
-
-    fn insert(&mut self, t: u32)
-        requires { t < length self.old }
-        ensures { self.new ≡ slice_set self.old t true }
-    {
-        let place = t as usize;
-        set_bit(&mut self.words, place);
-        self.first = self.first.min(place / 64);
-        self.end = self.end.max(place / 64 + 1);
     }
 
     /// The number of members whose bit is set in a row of bits. It takes time in proportion to
@@ -118,11 +96,35 @@ impl Mask {
     }
 }
 
-// So many words with no bit set.
-fn no_words(alloc: Global, count: usize) -> Result<Vec<u64>, NoMemory>
-    ensures { IfOk result (λ w. w.items ≡ replicate count 0) }
+// The number of the first word that has a bit set, or how many words there are where none has. It
+// takes time in proportion to the words before it.
+fn first_word(words: &[u64]) -> usize
+    ensures within { result ≤ length words.now }
+    ensures before { (t : ℕ) → t < 64 * result → is_set words.now t ≡ false }
+    ensures first { result < length words.now → 0 < slice_index words.now result }
 {
-    Ok(vec![in alloc; 0; count]?)
+    for k in 0..words.len() {
+        if words[k] != 0 {
+            return k;
+        }
+    }
+    words.len()
+}
+
+// The number after that of the last word that has a bit set, or 0 where none has. It takes time in
+// proportion to the words.
+fn end_word(words: &[u64]) -> usize
+    ensures within { result ≤ length words.now }
+    ensures after { (t : ℕ) → 64 * result ≤ t → is_set words.now t ≡ false }
+    ensures last { 0 < result → 0 < slice_index words.now (result - 1) }
+{
+    let mut end = 0;
+    for k in 0..words.len() {
+        if words[k] != 0 {
+            end = k + 1;
+        }
+    }
+    end
 }
 
 // The span with the busy and the unbusy times of one more word. The first busy time of a word is

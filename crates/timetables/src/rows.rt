@@ -1,12 +1,11 @@
 ghost use Rattle.std.specs.Prelude.{◌≡◌, ◌+◌, ◌-◌, ◌*◌, ◌^◌, ◌<◌, ℕ, length, replicate, slice_index, slice_set, IfOk};
 ghost use Rattle.khe_base.specs.declared.limits.TheConstants.{GREATEST_COUNT};
-ghost use Rattle.timetables.specs.Bits.{has_bit};
+ghost use Rattle.khe_base.specs.Bits.{has_bit, words_for};
 ghost use Rattle.timetables.specs.Counts.{is_busy, busy_times, idle_times};
-ghost use Rattle.timetables.specs.Stored.{words_for};
 
 use crate::Mask;
-use crate::bits::{clear_bit, set_bit};
 use khe_base::NoMemory;
+use khe_base::bits::{clear_bit, no_bits, set_bit};
 use std::alloc::Global;
 use std::marker::Model;
 
@@ -36,7 +35,7 @@ impl Row {
     {
         Ok(Row {
             counts: vec![in alloc; 0; times]?,
-            busy: vec![in alloc; 0; (times + 63) / 64]?,
+            busy: no_bits(alloc, (times + 63) / 64)?,
         })
     }
 

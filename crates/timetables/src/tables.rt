@@ -1,8 +1,7 @@
 ghost use Rattle.std.specs.Prelude.{◌≡◌, ◌+◌, ◌-◌, ◌*◌, ◌<◌, ℕ, length, IfOk};
 ghost use Rattle.khe_base.specs.declared.limits.TheConstants.{GREATEST_COUNT};
-ghost use Rattle.timetables.specs.Bits.{has_bit};
+ghost use Rattle.khe_base.specs.Bits.{has_bit, words_for};
 ghost use Rattle.timetables.specs.Counts.{no_counts, row_of, count_at, with_count, is_busy, busy_times, idle_times};
-ghost use Rattle.timetables.specs.Stored.{words_for};
 
 use crate::Mask;
 use crate::rows::Row;

@@ -8,11 +8,6 @@ use Rattle.std.proofs.lemmas.List.Concat.{flat_map-append}
 use Rattle.std.proofs.lemmas.List.Elements.{All-nil, All-cons, All-head, All-tail, All-append, filter-append}
 use Rattle.std.proofs.lemmas.Option.{same_Some}
 
--- what is true of each element of each piece
-pub All-flat_map : {X A : Type 0} (P : A → Type 0) (f : X → List A) (xs : List X) → All (λ x. All P (f x)) xs → All P (flat_map f xs)
-All-flat_map P f [] h = All-nil P
-All-flat_map P f (x ∷ xs) h = All-append P (f x) (flat_map f xs) (All-head (λ y. All P (f y)) x xs h) (All-flat_map P f xs (All-tail (λ y. All P (f y)) x xs h))
-
 -- what is true of each element that passes a test
 pub All-filter : {X : Type 0} (test : X → Bool) (Q R : X → Type 0) (xs : List X) → ((x : X) → Q x → test x ≡ true → R x) → All Q xs → All R (filter test xs)
 All-filter test Q R [] step h = All-nil R

@@ -6,6 +6,7 @@ use Rattle.std.specs.Option.{is_some, option_and_then, option_map_or}
 use Rattle.std.proofs.lemmas.Option.{slice_get-get_or}
 use Rattle.std.proofs.lemmas.List.Quantifiers.{position-Some}
 use Rattle.std.proofs.lemmas.Bool.Decides.{nat_tests}
+use Rattle.khe_base.proofs.ListLemmas.{below_length}
 use Rattle.khe_base.specs.Names.{is_among_names, number_of}
 use Rattle.xhstt_references.specs.First.{noted, first_of}
 use Rattle.xhstt_references.specs.References.{unknown, unknown_in_entry, unknown_in_solution, off_end_from}
@@ -13,14 +14,6 @@ use Rattle.xhstt_references.proofs.FirstLemmas.{first_of_nil, first_of_one}
 use Rattle.xhstt_references.specs.declared.directories.Directory.{Directory}
 use Rattle.xhstt_shape.specs.declared.records.RawSolution.{RawSolution}
 use Rattle.xhstt_shape.specs.declared.records.Ref.{Ref}
-
-below_length : {X : Type 0} (p : X → Bool) (xs : List X) → ltb (position_or_len p xs) (length xs) ≡ list_any p xs
-below_length p [] = refl
-below_length p (x ∷ xs) = by (p x) (below_length p xs)
-  where
-    by : (b : Bool) → ltb (position_or_len p xs) (length xs) ≡ list_any p xs → ltb (cond (not b) (1 + position_or_len p xs) 0) (length (x ∷ xs)) ≡ (b || list_any p xs)
-    by true e = grind (arith, nat_tests)
-    by false e = grind (arith, nat_tests)
 
 -- a test that an element passes has a first place
 is_some_position : {X : Type 0} (p : X → Bool) (xs : List X) → is_some (position p xs) ≡ list_any p xs

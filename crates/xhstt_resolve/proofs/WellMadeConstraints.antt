@@ -2,6 +2,7 @@
 use Rattle.std.proofs.Common.{ℕ, ◌≡◌, ◌<◌, ◌≤◌, List, [], ◌∷◌, length, map, sym, ◌∙◌, arith, All, get_or}
 use Rattle.std.proofs.lemmas.List.{length-map}
 use Rattle.std.proofs.lemmas.List.Elements.{All-nil, All-cons, All-head, All-tail, All-map}
+use Rattle.khe_base.proofs.ListLemmas.{none_of, none-each}
 use Rattle.khe_base.specs.declared.limits.TheConstants.{LISTED}
 use Rattle.khe_instance.specs.WellMade.{AreBounds, AreListed, IsTimes, IsRule, IsConstraint}
 use Rattle.khe_instance.specs.declared.rules.EventPair.{EventPair}
@@ -13,7 +14,7 @@ use Rattle.xhstt_resolve.specs.Members.{time_set, times_in, listed_resources, li
 use Rattle.xhstt_resolve.specs.Parts.{constraint_of, events_from, parts_of, resource_of}
 use Rattle.xhstt_resolve.specs.Rules.{group_set, group_sets, pair_of, pairs_of, rule_of, spread_of}
 use Rattle.xhstt_resolve.specs.WellFormed.{ArePairs, IsFormedConstraint, IsFormedInstance, IsFormedRule}
-use Rattle.xhstt_resolve.proofs.WellMadeFaults.{IsFaultless, IsWithin, none_of, none-each}
+use Rattle.xhstt_resolve.proofs.WellMadeFaults.{IsFaultless, IsWithin}
 use Rattle.xhstt_resolve.proofs.WellMadeLists.{length-set_of}
 use Rattle.xhstt_resolve.proofs.WellMadeParts.{event_known}
 use Rattle.xhstt_shape.specs.declared.constraints.RawApplies.{RawApplies}

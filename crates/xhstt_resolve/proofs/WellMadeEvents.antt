@@ -7,6 +7,7 @@ use Rattle.std.proofs.lemmas.Bool.{ltb-false}
 use Rattle.std.proofs.lemmas.List.{length-map, append-nil}
 use Rattle.std.proofs.lemmas.List.Concat.{flat_map-cons}
 use Rattle.std.proofs.lemmas.List.Elements.{All-nil, All-cons, All-head, All-tail, All-map, All-append, All-weaker, filter_map-append}
+use Rattle.khe_base.proofs.ListLemmas.{none_of, none-each}
 use Rattle.khe_base.specs.Names.{are_distinct, number_of}
 use Rattle.khe_base.specs.declared.limits.TheConstants.{NUMBER}
 use Rattle.khe_base.specs.declared.numbers.ResourceId.{ResourceId}
@@ -18,9 +19,9 @@ use Rattle.xhstt_references.specs.References.{off_end, off_end_from, repeated, r
 use Rattle.xhstt_resolve.specs.Members.{groups_of_resource, resources_in}
 use Rattle.xhstt_resolve.specs.Parts.{event_of, events_from, fixed_resource, fixed_time, group_places, member_place, parts_of, place_of, place_type, places_of, role_text, type_at, workload_of}
 use Rattle.xhstt_resolve.specs.WellFormed.{IsFormedEvent, IsFormedInstance, IsFormedPlace}
-use Rattle.xhstt_resolve.proofs.WellMadeFaults.{IsFaultless, none_of, none-each}
+use Rattle.xhstt_resolve.proofs.WellMadeFaults.{IsFaultless}
 use Rattle.xhstt_resolve.proofs.WellMadeIds.{distinct_names}
-use Rattle.xhstt_resolve.proofs.WellMadeLists.{All-flat_map, IsKnown, among, known, members_in-within}
+use Rattle.xhstt_resolve.proofs.WellMadeLists.{IsKnown, among, known, members_in-within, All-flat_map}
 use Rattle.xhstt_resolve.proofs.WellMadeParts.{type_at-has, type_at-within, type_known}
 use Rattle.xhstt_shape.specs.declared.records.Name.{Name}
 use Rattle.xhstt_shape.specs.declared.records.RawEvent.{RawEvent}

@@ -5,6 +5,7 @@ use Rattle.std.specs.Option.{option_or}
 use Rattle.std.proofs.lemmas.Bool.{ltb-false}
 use Rattle.std.proofs.lemmas.List.Concat.{flat_map-cons}
 use Rattle.std.proofs.lemmas.List.Elements.{All-nil, All-cons}
+use Rattle.khe_base.proofs.ListLemmas.{none_of, none-each}
 use Rattle.khe_base.specs.declared.limits.TheConstants.{TIMES, TIME_GROUPS, RESOURCE_TYPES, RESOURCES, RESOURCE_GROUPS, EVENTS, EVENT_GROUPS, CONSTRAINTS, DURATION, TASKS, CELLS, LISTED, MONITORS, WATCHES, UNIT}
 use Rattle.xhstt_references.specs.Faults.{at_first, fault_of_instance}
 use Rattle.xhstt_references.specs.References.{repeated, repeated_ids, repeated_roles, roles_of, unknown_in_time, unknown_in_group, unknown_in_resource, unknown_in_event, unknown_in_constraint, unknown_references, off_end, events_off_end}
@@ -18,18 +19,6 @@ use Rattle.xhstt_resolve.specs.declared.faults.ResolveFault.TheVariants.{Limit}
 use Rattle.xhstt_resolve.specs.declared.faults.TheConstants.{TOO_MANY_TIMES, TOO_MANY_TIME_GROUPS, TOO_MANY_RESOURCE_TYPES, TOO_MANY_RESOURCES, TOO_MANY_RESOURCE_GROUPS, TOO_MANY_EVENTS, TOO_MANY_EVENT_GROUPS, TOO_MANY_CONSTRAINTS, TOO_LONG_DURATION, TOO_MANY_TASKS, TOO_MANY_CELLS, TOO_MANY_LISTED, TOO_MANY_MONITORS, TOO_MANY_WATCHES, TOO_GREAT_UNIT}
 use Rattle.xhstt_shape.specs.declared.records.RawInstance.{RawInstance}
 use Rattle.xhstt_references.specs.Directories.{directory_of}
-
--- two lists that together are none are none
-pub none_of : {A : Type 0} (xs ys : List A) → xs ++ ys ≡ [] → (xs ≡ []) × (ys ≡ [])
-none_of [] ys e = (refl, e)
-none_of (x ∷ xs) ys e = absurd (let g : ⊥ = cc in g)
-
--- no element gives anything
-pub none-each : {A B : Type 0} (f : A → List B) (xs : List A) → flat_map f xs ≡ [] → All (λ x. f x ≡ []) xs
-none-each f [] e = All-nil (λ x. f x ≡ [])
-none-each f (x ∷ xs) e =
-    let parts = none_of (f x) (flat_map f xs) (sym (flat_map-cons f x xs) ∙ e) in
-    All-cons (λ y. f y ≡ []) x xs parts.0 (none-each f xs parts.1)
 
 -- of faults in order none is there
 first-none : (kind : ℕ) (places : List ℕ) (following : Option ReferenceFault) → at_first kind places following ≡ None → (places ≡ []) × (following ≡ None)

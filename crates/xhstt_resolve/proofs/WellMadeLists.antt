@@ -9,33 +9,12 @@ use Rattle.std.proofs.lemmas.List.Concat.{flat_map-cons}
 use Rattle.std.proofs.lemmas.List.Elements.{All-nil, All-cons, All-append, All-weaker, All-filter, All-get_or, All-head, All-tail}
 use Rattle.std.proofs.lemmas.List.Quantifiers.{position-Some}
 use Rattle.std.proofs.lemmas.Option.{get_or_from_slice_get, slice_get_within}
+use Rattle.khe_base.proofs.ListLemmas.{below_length}
 use Rattle.khe_base.specs.IdSet.{with_member, no_members}
 use Rattle.khe_base.specs.Names.{is_among_names, number_of}
 use Rattle.xhstt_references.specs.References.{unknown}
 use Rattle.xhstt_resolve.specs.Members.{numbers_from, numbers_where, members, members_in, numbers_of, listed, first_mentions, set_of}
 use Rattle.xhstt_shape.specs.declared.records.Ref.{Ref}
-
-pub all-there : {A : Type 0} (P : A → Type 0) (xs : List A) (i : ℕ) (x : A) → All P xs → slice_get xs i ≡ Some x → P x
-all-there P xs i x all at = subst P (get_or_from_slice_get xs i x x at) (All-get_or P xs i x (slice_get_within xs i x at) all)
-
--- an element that is there
-pub record IsThere {A : Type 0} (xs : List A) (i : ℕ) : Type 0 where
-  pub value : A
-  pub found : slice_get xs i ≡ Some value
-
-pub there : {A : Type 0} (xs : List A) (i : ℕ) → i < length xs → IsThere xs i
-there [] i l = absurd (omega arith)
-there (x ∷ xs) zero l = record { value = x; found = refl }
-there (x ∷ xs) (suc i) l = let below : i < length xs = omega arith in let r = there xs i below in record { value = r.value; found = r.found }
-
--- a test that an element passes has a first place, which is one of the list
-below_length : {A : Type 0} (p : A → Bool) (xs : List A) → ltb (position_or_len p xs) (length xs) ≡ list_any p xs
-below_length p [] = refl
-below_length p (x ∷ xs) = by (p x) (below_length p xs)
-  where
-    by : (b : Bool) → ltb (position_or_len p xs) (length xs) ≡ list_any p xs → ltb (cond (not b) (1 + position_or_len p xs) 0) (length (x ∷ xs)) ≡ (b || list_any p xs)
-    by true e = grind (arith, nat_tests)
-    by false e = grind (arith, nat_tests)
 
 -- an Id among others has a number among them
 pub record IsKnown (id : List ℕ) (ids : List (List ℕ)) : Type 0 where

@@ -9,6 +9,7 @@ use Rattle.std.proofs.lemmas.List.{append-nil, length-map}
 use Rattle.std.proofs.lemmas.List.Concat.{flat_map-cons}
 use Rattle.std.proofs.lemmas.List.Elements.{All-nil, All-head, All-tail, All-append, All-map, All-weaker, filter-append}
 use Rattle.std.proofs.lemmas.Option.{none-some, same_Some, slice_get-map}
+use Rattle.khe_base.proofs.ListLemmas.{all-there}
 use Rattle.khe_instance.specs.WellMade as made
 use Rattle.khe_instance.specs.declared.points.Monitor.{Monitor}
 use Rattle.khe_instance.specs.declared.points.Point.{Point}
@@ -18,7 +19,6 @@ use Rattle.xhstt_resolve.specs.Parts.{constraint_of, parts_of}
 use Rattle.xhstt_resolve.specs.Points.{monitors_at, monitors_of, points_in, points_of, role_of}
 use Rattle.xhstt_resolve.specs.Rules.{pair_of, rule_of}
 use Rattle.xhstt_resolve.specs.WellFormed.{IsFormedConstraint, IsFormedInstance, IsFormedRule}
-use Rattle.xhstt_resolve.proofs.WellMadeLists.{all-there}
 use Rattle.xhstt_resolve.proofs.WellMadePairwise.{Pairwise, Pairwise-append, Pairwise-map, all_pairs, non_decreasing}
 use Rattle.xhstt_resolve.proofs.WellMadeParts.{monitor_at}
 use Rattle.xhstt_resolve.proofs.WellMadePoints.{points_distinct, points_fit}

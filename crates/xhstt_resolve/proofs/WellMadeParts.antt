@@ -5,6 +5,7 @@ use Rattle.std.specs.Option.{option_map_or}
 use Rattle.std.proofs.lemmas.List.{length-map}
 use Rattle.std.proofs.lemmas.List.Elements.{All-map, All-weaker}
 use Rattle.std.proofs.lemmas.Option.{slice_get-map}
+use Rattle.khe_base.proofs.ListLemmas.{there, all-there, none_of}
 use Rattle.khe_base.specs.Units.{IsUnit}
 use Rattle.khe_instance.specs.Kinds.{kind_of}
 use Rattle.khe_instance.specs.WellMade.{AreFirstMeets}
@@ -21,8 +22,8 @@ use Rattle.xhstt_resolve.specs.Points.{monitor_of}
 use Rattle.xhstt_resolve.specs.Rules.{event_named, rule_of}
 use Rattle.xhstt_resolve.specs.Units.{unit_of}
 use Rattle.xhstt_resolve.specs.WellFormed.{IsFormedEvent, IsFormedInstance}
-use Rattle.xhstt_resolve.proofs.WellMadeFaults.{IsFaultless, none_of}
-use Rattle.xhstt_resolve.proofs.WellMadeLists.{all-there, there, known, among, length-set_of}
+use Rattle.xhstt_resolve.proofs.WellMadeFaults.{IsFaultless}
+use Rattle.xhstt_resolve.proofs.WellMadeLists.{known, among, length-set_of}
 use Rattle.xhstt_resolve.proofs.WellMadeUnits.{unit_is}
 use Rattle.xhstt_shape.specs.declared.constraints.RawConstraint.{RawConstraint}
 use Rattle.xhstt_shape.specs.declared.records.EventGroup.{EventGroup}

@@ -19,7 +19,7 @@ use Rattle.xhstt_resolve.specs.Parts.{event_of, events_from, group_of, group_pla
 use Rattle.xhstt_resolve.specs.Points.{event_point, has_role, place_point, places_at, points_in, resource_point, role_of, role_points}
 use Rattle.xhstt_resolve.specs.Rules.{pair_of, pairs_of, rule_of}
 use Rattle.xhstt_resolve.specs.WellFormed.{AreEvents, AreGroups, ArePairs, AreResources, IsFormedRule}
-use Rattle.xhstt_resolve.proofs.WellMadeLists.{All-first_mentions, All-flat_map, listed-within, members_in-within, numbers_of-within}
+use Rattle.xhstt_resolve.proofs.WellMadeLists.{All-first_mentions, listed-within, members_in-within, numbers_of-within, All-flat_map}
 use Rattle.xhstt_resolve.proofs.WellMadePairwise.{Pairwise, Pairwise-flat_map, Pairwise-map, Pairwise-weaker, first_mentions_differ, numbers_differ, range_below, range_differs}
 use Rattle.xhstt_resolve.proofs.WellMadeParts.{length-events}
 use Rattle.xhstt_shape.specs.declared.constraints.RawApplies.{RawApplies}

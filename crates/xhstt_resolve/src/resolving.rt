@@ -136,3 +136,12 @@ fn solution_count(archive: &Archive) -> u128
     }
     count
 }
+
+// Threads may be handed such a value, and read it together.
+fn lends_to_threads<T: Send + Sync>(_value: &T) {}
+
+// Workers share the instances of an archive: the types show it, and no program calls this.
+#[allow(dead_code)]
+fn resolved_is_shared(resolved: &Resolved) {
+    lends_to_threads(resolved);
+}

@@ -1,9 +1,8 @@
-ghost use Rattle.std.specs.Int.{IsGcd};
-ghost use Rattle.std.specs.Prelude.{◌≡◌, ◌≤◌, ◌<◌, All, None, Some, IfOk, IfErr, map, find, nat_lt};
+ghost use Rattle.std.specs.Prelude.{◌≡◌, ◌≤◌, All, None, Some, IfOk, IfErr, map, find, nat_lt};
 ghost use Rattle.khe_base.specs.declared.limits.TheConstants.{UNIT};
-ghost use Rattle.xhstt_resolve.specs.Units.{least_multiple, running_units, unit_of};
+ghost use Rattle.xhstt_resolve.specs.Units.{running_units, unit_of};
 
-use khe_base::limits;
+use khe_base::{least_multiple, limits};
 use xhstt_shape::RawInstance;
 
 /// The least common multiple of the durations of an instance's events, and 1 where there are none; or
@@ -24,28 +23,4 @@ pub(crate) fn unit_of(instance: &RawInstance) -> Result<u64, u128>
         unit = next as u64;
     }
     Ok(unit)
-}
-
-/// The least common multiple of two numbers, in the time of Euclid's algorithm.
-fn least_multiple(unit: u64, duration: u32) -> u128
-    requires unit { 0 < unit }
-    requires duration { 0 < duration }
-    ensures { result ≡ least_multiple unit duration }
-{
-    let shared = greatest_divisor(unit, u64::from(duration));
-    u128::from(unit / shared) * u128::from(duration)
-}
-
-/// The greatest common divisor of two numbers, by Euclid's algorithm.
-fn greatest_divisor(a: u64, b: u64) -> u64
-    ensures { IsGcd a b result }
-{
-    let mut x = a;
-    let mut y = b;
-    while y != 0 {
-        let rest = x % y;
-        x = y;
-        y = rest;
-    }
-    x
 }

@@ -4,10 +4,11 @@ use Rattle.std.proofs.Math.ListN.{drop_of_length-le}
 use Rattle.std.proofs.lemmas.List.{append-nil, length-map}
 use Rattle.std.proofs.lemmas.List.FromFn.{length-enumerate_from}
 use Rattle.std.specs.List.{enumerate_from, flat_map, list_any}
+use Rattle.khe_base.proofs.ListLemmas.{there, mapped-there}
 use Rattle.evaluation_report.specs.Lines.{total_line}
 use Rattle.khe_app.specs.Report.{monitor_text}
 use Rattle.khe_instance.specs.Evaluated as evaluated
-use Rattle.khe_app.proofs.ReportLemmas.{there, mapped-there, numbered-there, lines-there}
+use Rattle.khe_app.proofs.ReportLemmas.{numbered-there, lines-there}
 use Rattle.khe_app.proofs.reports.push_evaluation.Goals as goal
 
 pub bounds-costs-number : goal.bounds-costs-number
@@ -34,14 +35,14 @@ loop-number-preserved c =
     let found = there ms i within in
     let f = monitor_text c.args.all p s in
     let rest = flat_map f (enumerate_from (i + 1) (drop (i + 1) ms)) in
-    let deviation : get_or c.as_slice-deviations.result.now i 0 ≡ evaluated.deviation_in p s found.x =
-    ap (λ ds. get_or ds i 0) (c.as_slice-deviations.ensures ∙ c.in_ok-values.ensures.deviations) ∙ mapped-there (evaluated.deviation_in p s) ms i found.x 0 found.at in
-    let cost : get_or c.as_slice-costs.result.now i 0 ≡ evaluated.cost_in p s (i, found.x) =
-    ap (λ cs. get_or cs i 0) (c.as_slice-costs.ensures ∙ c.in_ok-values.ensures.costs) ∙ numbered-there (evaluated.cost_in p s) ms i found.x 0 found.at in
+    let deviation : get_or c.as_slice-deviations.result.now i 0 ≡ evaluated.deviation_in p s found.value =
+    ap (λ ds. get_or ds i 0) (c.as_slice-deviations.ensures ∙ c.in_ok-values.ensures.deviations) ∙ mapped-there (evaluated.deviation_in p s) ms i found.value 0 found.found in
+    let cost : get_or c.as_slice-costs.result.now i 0 ≡ evaluated.cost_in p s (i, found.value) =
+    ap (λ cs. get_or cs i 0) (c.as_slice-costs.ensures ∙ c.in_ok-values.ensures.costs) ∙ numbered-there (evaluated.cost_in p s) ms i found.value 0 found.found in
     let attached : evaluated.is_detached s i ≡ false = ap (λ ds. list_any (λ d. d.0 == i) ds) c.requires.attached in
-    ap (λ t. t ++ rest) (c.in_ok-push_monitor.ensures s found.x deviation cost attached)
-    ∙ append_assoc c.loop-number.text (f (i, found.x)) rest
-    ∙ ap (λ t. c.loop-number.text ++ t) (sym (lines-there f ms i i found.x found.at))
+    ap (λ t. t ++ rest) (c.in_ok-push_monitor.ensures s found.value deviation cost attached)
+    ∙ append_assoc c.loop-number.text (f (i, found.value)) rest
+    ∙ ap (λ t. c.loop-number.text ++ t) (sym (lines-there f ms i i found.value found.found))
     ∙ c.loop-number.invariant
 
 pub returns : goal.returns

@@ -1,11 +1,12 @@
 -- At each turn one monitor leaves what is left and joins the costs and the totals.
 use Rattle.std.proofs.Common.{ℕ, ◌≡◌, ◌+◌, ◌++◌, not, [], ◌∷◌, ◌∙◌, sym, ap, arith, map, drop, get_or, filter, sum_by, append_assoc, if◌then◌else◌}
 use Rattle.std.specs.List.{enumerate_from}
+use Rattle.khe_base.proofs.ListLemmas.{all-there, drop-there, mapped-there}
 use Rattle.khe_instance.specs.Costs.{is_hard, monitor_cost}
 use Rattle.khe_instance.specs.Evaluated as evaluated
 use Rattle.khe_instance.specs.WellMade.{IsMonitor}
 use Rattle.khe_instance.specs.declared.points.Monitor.{Monitor}
-use Rattle.plain_eval.proofs.CostsLemmas.{all-there, drop-there, hard-within, mapped-there, soft-is, soft-within, sum_kept-cons}
+use Rattle.plain_eval.proofs.CostsLemmas.{hard-within, soft-is, soft-within, sum_kept-cons}
 use Rattle.plain_eval.proofs.costing.costs_and_totals.Goals as goal
 
 pub charged-charge-requires-clause-monitor : goal.charged-charge-requires-clause-monitor

@@ -1,11 +1,11 @@
 -- At each turn one monitor leaves what is left, and its deviation joins the others.
 use Rattle.std.proofs.Common.{◌≡◌, ◌≤◌, ◌+◌, ◌++◌, ◌∷◌, [], ◌∙◌, sym, ap, subst, map, drop, IfSome, append_assoc}
 use Rattle.std.proofs.lemmas.List.Elements.{All-push, All-same}
+use Rattle.khe_base.proofs.ListLemmas.{all-there, drop-there}
 use Rattle.khe_base.specs.declared.limits.TheConstants.{GREATEST_DEVIATION}
 use Rattle.khe_instance.specs.Evaluated as evaluated
 use Rattle.khe_instance.specs.WellMade.{IsMonitor}
 use Rattle.plain_eval.specs.Kept.{AreMasks}
-use Rattle.plain_eval.proofs.CostsLemmas.{all-there, drop-there}
 use Rattle.plain_eval.proofs.measuring.deviations_of.Goals as goal
 
 pub deviation_of-requires-clause-monitor : goal.deviation_of-requires-clause-monitor

@@ -8,7 +8,7 @@ use Rattle.std.proofs.lemmas.List.Elements.{All-get_or}
 use Rattle.khe_base.specs.declared.limits.TheConstants.{UNIT}
 use Rattle.xhstt_shape.specs.declared.records.RawEvent.{RawEvent}
 use Rattle.xhstt_resolve.specs.Units.{least_multiple, running_units}
-use Rattle.xhstt_resolve.proofs.UnitsLemmas.{least_multiple-positive, unit_step, above_step}
+use Rattle.xhstt_resolve.proofs.UnitsLemmas.{least_multiple-positive, least_multiple-same, unit_step, above_step}
 use Rattle.xhstt_resolve.proofs.units.unit_of.Goals as goal
 
 pub loop-event-preserved : goal.loop-event-preserved
@@ -23,7 +23,7 @@ loop-event-preserved c =
     let at : e ≡ get_or events i e = c.event-item.is ∙ ap (λ xs. get_or xs i e) items in
     let least : 1 ≤ e.duration = subst (λ (y : RawEvent). 1 ≤ y.duration) (sym at) (All-get_or (λ (y : RawEvent). 1 ≤ y.duration) events i e within c.requires) in
     let long : 0 < e.duration = omega arith in
-    let next : c.least_multiple-next.result ≡ least_multiple u e.duration = c.least_multiple-next.ensures in
+    let next : c.least_multiple-next.result ≡ least_multiple u e.duration = least_multiple-same u e.duration _ c.loop-event.invariant.positive long c.least_multiple-next.ensures in
     let small : least_multiple u e.duration ≤ UNIT = subst (λ m. m ≤ UNIT) next (subst (λ g. c.least_multiple-next.result ≤ g) c.from.ensures c.if-next-from.false) in
     record {
       whole = ap (λ m. fold least_multiple m (map f (drop (i + 1) events))) next ∙ sym (unit_step f u events i e within at) ∙ c.loop-event.invariant.whole;
@@ -44,7 +44,9 @@ returns-then-next-from-clause-above c =
     let items = c.as_slice-event-items.ensures in
     let within : i < length events = subst (λ xs. i < length xs) items c.loop-event-test.true in
     let at : e ≡ get_or events i e = c.event-item.is ∙ ap (λ xs. get_or xs i e) items in
-    let next : c.least_multiple-next.result ≡ least_multiple u e.duration = c.least_multiple-next.ensures in
+    let least : 1 ≤ e.duration = subst (λ (y : RawEvent). 1 ≤ y.duration) (sym at) (All-get_or (λ (y : RawEvent). 1 ≤ y.duration) events i e within c.requires) in
+    let long : 0 < e.duration = omega arith in
+    let next : c.least_multiple-next.result ≡ least_multiple u e.duration = least_multiple-same u e.duration _ c.loop-event.invariant.positive long c.least_multiple-next.ensures in
     let great : UNIT < least_multiple u e.duration = subst (λ m. UNIT < m) next (subst (λ g. g < c.least_multiple-next.result) c.from.ensures c.if-next-from.true) in
     sym c.loop-event.invariant.above ∙ above_step f UNIT u events i e true within at (lt-ltb UNIT (least_multiple u e.duration) great) ∙ ap Some (sym next)
 

@@ -1,11 +1,11 @@
 -- Each word adds the members of its 64 times whose bits are set in the row.
 use Rattle.std.proofs.Common.{◌≡◌, ◌∙◌, ◌<◌, ◌+◌, ◌*◌, ◌^◌, ◌&&◌, ap, sym, length, get_or, count_ones, bit_and, arith}
 use Rattle.std.proofs.lemmas.List.{get_or_read}
-use Rattle.timetables.specs.Bits.{is_set}
+use Rattle.khe_base.specs.Bits.{is_set, words_for}
+use Rattle.khe_base.proofs.IdSetLemmas.{length-set_of_bits}
 use Rattle.timetables.specs.Counts.{count_below}
-use Rattle.timetables.specs.Stored.{words_for}
 use Rattle.timetables.proofs.CountsLemmas.{count_below-stays, count_below-le}
-use Rattle.timetables.proofs.MasksLemmas.{length-times_of, common-more, common-whole, no_common-before, no_common-beyond}
+use Rattle.timetables.proofs.MasksLemmas.{common-more, common-whole, no_common-before, no_common-beyond}
 use Rattle.timetables.proofs.masks.Mask.common.Goals as goal
 
 pub loop-k-init : goal.loop-k-init
@@ -16,7 +16,7 @@ loop-k-init c =
 
 pub bounds-row-k : goal.bounds-row-k
 bounds-row-k c =
-    let size : length c.args.self.now ≡ c.self.inside.size = ap length (sym c.self.view_is) ∙ length-times_of c.self.inside.words.items c.self.inside.size in
+    let size : length c.args.self.now ≡ c.self.inside.size = ap length (sym c.self.view_is) ∙ length-set_of_bits c.self.inside.words.items c.self.inside.size in
     let room : length c.self.inside.words.items ≡ words_for c.self.inside.size = c.self.invariant.room in
     omega arith
 

@@ -1,6 +1,6 @@
 -- The count so far is that of the words so far.
 use Rattle.std.proofs.Common.{◌≡◌, ◌*◌, ◌&&◌}
-use Rattle.timetables.specs.Bits.{is_set}
+use Rattle.khe_base.specs.Bits.{is_set}
 use Rattle.timetables.specs.Counts.{count_below}
 use Rattle.timetables.proofs.masks.Mask.common.Given as goal
 

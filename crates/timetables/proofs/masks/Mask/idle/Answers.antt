@@ -3,11 +3,11 @@ use Rattle.std.proofs.Common.{◌≡◌, ◌∙◌, ◌<◌, ◌≤◌, ◌+◌,
 use Rattle.std.specs.Int.{bit_not, w64}
 use Rattle.std.proofs.lemmas.Nat.{and_le_l}
 use Rattle.std.proofs.lemmas.List.{get_or_read}
-use Rattle.timetables.specs.Bits.{is_set}
+use Rattle.khe_base.specs.Bits.{is_set, words_for}
+use Rattle.khe_base.proofs.IdSetLemmas.{length-set_of_bits}
 use Rattle.timetables.specs.Counts.{count_below}
-use Rattle.timetables.specs.Stored.{words_for}
 use Rattle.timetables.proofs.CountsLemmas.{count_below-stays, count_below-le}
-use Rattle.timetables.proofs.MasksLemmas.{length-times_of, free-more, common-bits, free-bits, no_common-before, no_free-before, no_free-beyond, idle-nowhere, idle-ends}
+use Rattle.timetables.proofs.MasksLemmas.{free-more, common-bits, free-bits, no_common-before, no_free-before, no_free-beyond, idle-nowhere, idle-ends}
 use Rattle.timetables.proofs.Spans.{IsSpan, IsSpan-widened}
 use Rattle.timetables.proofs.masks.Mask.idle.Goals as goal
 
@@ -22,13 +22,13 @@ loop-k-init c =
 
 pub bounds-row-k : goal.bounds-row-k
 bounds-row-k c =
-    let size : length c.args.self.now ≡ c.self.inside.size = ap length (sym c.self.view_is) ∙ length-times_of c.self.inside.words.items c.self.inside.size in
+    let size : length c.args.self.now ≡ c.self.inside.size = ap length (sym c.self.view_is) ∙ length-set_of_bits c.self.inside.words.items c.self.inside.size in
     let room : length c.self.inside.words.items ≡ words_for c.self.inside.size = c.self.invariant.room in
     omega arith
 
 pub bounds-row-k-in-loop-k : goal.bounds-row-k-in-loop-k
 bounds-row-k-in-loop-k c =
-    let size : length c.args.self.now ≡ c.self.inside.size = ap length (sym c.self.view_is) ∙ length-times_of c.self.inside.words.items c.self.inside.size in
+    let size : length c.args.self.now ≡ c.self.inside.size = ap length (sym c.self.view_is) ∙ length-set_of_bits c.self.inside.words.items c.self.inside.size in
     let room : length c.self.inside.words.items ≡ words_for c.self.inside.size = c.self.invariant.room in
     omega arith
 

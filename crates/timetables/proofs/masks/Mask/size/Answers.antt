@@ -1,6 +1,6 @@
 use Rattle.std.proofs.Common.{◌∙◌, ap, sym, length}
-use Rattle.timetables.proofs.MasksLemmas.{length-times_of}
+use Rattle.khe_base.proofs.IdSetLemmas.{length-set_of_bits}
 use Rattle.timetables.proofs.masks.Mask.size.Goals as goal
 
 pub returns : goal.returns
-returns c = sym (length-times_of c.self.inside.words.items c.self.inside.size) ∙ ap length c.self.view_is
+returns c = sym (length-set_of_bits c.self.inside.words.items c.self.inside.size) ∙ ap length c.self.view_is

@@ -1,7 +1,7 @@
 -- A bit is set exactly where the resource is busy.
 use Rattle.std.proofs.Common.{◌≡◌, ◌∙◌, ℕ, Bool, ap, length}
 use Rattle.khe_base.specs.IdSet.{has_member}
-use Rattle.timetables.specs.Bits.{is_set}
+use Rattle.khe_base.specs.Bits.{is_set}
 use Rattle.timetables.specs.Counts.{is_busy, count_below, is_idle_time}
 use Rattle.timetables.proofs.rows.Row.idle_in.Goals as goal
 
