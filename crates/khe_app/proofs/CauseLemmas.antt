@@ -1,14 +1,12 @@
 -- The cause of an invalid solution is one of the seven.
-use Rattle.std.proofs.Common.{ℕ, ◌≡◌, ◌≤◌, ◌+◌, Bool, true, false, Option, Some, None, IfSome, Result, Ok, Err, List, [], ◌∷◌, ◌++◌, if◌then◌else◌, option_map, arith, refl, sym, ap, subst, ◌∙◌, length, slice_get, is_none, ◌||◌}
+use Rattle.std.proofs.Common.{ℕ, ◌≡◌, Bool, true, false, Option, Some, None, IfSome, Err, List, [], ◌∷◌, ◌++◌, if◌then◌else◌, option_map, arith, subst, length, slice_get, is_none, ◌||◌}
 use Rattle.std.specs.Option.{option_and_then, option_or}
 use Rattle.evaluation_report.specs.Words.{IsCause}
-use Rattle.khe_base.specs.declared.numbers.EventId.{EventId}
 use Rattle.khe_base.specs.declared.numbers.ResourceId.{ResourceId}
 use Rattle.khe_instance.specs.Named.{event_named}
 use Rattle.khe_instance.specs.declared.parts.EventInfo.{EventInfo}
 use Rattle.khe_instance.specs.declared.parts.Parts.{Parts}
 use Rattle.khe_instance.specs.declared.parts.Place.{Place}
-use Rattle.khe_instance.specs.declared.states.Plain.{Plain}
 use Rattle.xhstt_completion.specs.Causes.{is_too_long, splits_fixed, moves_fixed, ends_late, place_for, came_before, differ_in_resource, has_other_type, place_cause, given_cause, first_given_cause, cause_in, used_by, cause_after, first_cause}
 use Rattle.xhstt_completion.specs.Completed.{completed, unless, state_of}
 use Rattle.xhstt_completion.specs.Entries.{resource_of}

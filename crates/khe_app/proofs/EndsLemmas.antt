@@ -1,7 +1,7 @@
 -- How a run ends, from what was written of an outcome's text.
-use Rattle.std.proofs.Common.{ℕ, ◌≡◌, ◌⊎◌, inl, inr, List, [], Option, Some, None, IfSome, sym, subst, ap, ◌∙◌, refl, encode_utf8_all, arith}
+use Rattle.std.proofs.Common.{ℕ, ◌≡◌, ◌⊎◌, inl, inr, List, [], Option, Some, None, IfSome, sym, subst, ◌∙◌, refl, encode_utf8_all, arith}
 use Rattle.khe_io.specs.Faults.{Rose, Took, TookFront}
-use Rattle.khe_io.specs.Shelf.{StandsUnder, StandsAbove, IsMissing}
+use Rattle.khe_io.specs.Shelf.{StandsUnder, IsMissing}
 use Rattle.khe_app.specs.Answers.{reading_of, IsAnswerOf}
 use Rattle.khe_app.specs.Ends.{Holdings, EndedBy, CutOff, LacksArchive, IsDecided, Written}
 use Rattle.khe_app.specs.Outcome.{Reading, evaluable, refused, IsAnswerTo, IsOutcome, IsOutcomeOf, IsReadingOf, status_of, text_of}

@@ -1,11 +1,11 @@
 -- An archive has no more instances than its text has bytes.
-use Rattle.std.proofs.Common.{ℕ, ◌≡◌, ◌+◌, ◌<◌, ◌≤◌, ◌^◌, Bool, true, false, Option, Some, None, Result, Ok, Err, List, [], ◌∷◌, ◌++◌, length, map, refl, sym, ap, subst, ◌∙◌, arith, length-append, if◌then◌else◌, suc}
+use Rattle.std.proofs.Common.{ℕ, ◌≡◌, ◌+◌, ◌<◌, ◌≤◌, ◌^◌, Bool, true, false, Some, Ok, Err, List, ◌∷◌, ◌++◌, length, ap, arith, length-append, if◌then◌else◌}
 use Rattle.std.specs.Str.{bytes_eq}
 use Rattle.std.proofs.lemmas.List.{length-map}
 use Rattle.khe_base.specs.declared.limits.TheConstants.{ARCHIVE_BYTES}
 use Rattle.khe_app.specs.Readings.{IsTree}
 use Rattle.xhstt_shape.specs.Faults.{Outcome}
-use Rattle.xhstt_shape.specs.Shape.{judged, shape, shape_of}
+use Rattle.xhstt_shape.specs.Shape.{judged, shape_of}
 use Rattle.xhstt_shape.specs.Values.{archive, elements, every, instance, kids_of}
 use Rattle.xhstt_shape.specs.Walk.{child, fault_of}
 use Rattle.xhstt_shape.specs.Words.{word}
@@ -15,9 +15,9 @@ use Rattle.xhstt_shape.specs.declared.records.Archive.{Archive}
 use Rattle.xhstt_shape.specs.declared.schema.Row.TheVariants as row
 use Rattle.xhstt_shape.specs.declared.words.Tag.{Tag}
 use Rattle.xhstt_shape.specs.declared.words.Tag.TheVariants as tag
-use Rattle.xhstt_text.specs.Document.{Content, nothing, byte, piece, comment, short, long, Document, text, start_text, start_length, spelling, mark_text, declaration_text, body_text, forest_at, forest_of, Spelled, root_at}
+use Rattle.xhstt_text.specs.Document.{Content, nothing, byte, piece, comment, short, long, text, start_text, start_length, mark_text, declaration_text, body_text, forest_at, Spelled, root_at}
 use Rattle.xhstt_text.specs.Units.{piece_text}
-use Rattle.xhstt_text.specs.Forest.{Info, Forest, empty, node}
+use Rattle.xhstt_text.specs.Forest.{Forest, empty, node}
 use Rattle.xhstt_text.specs.Handles.{Standing}
 
 -- how many elements a forest has

@@ -1,8 +1,8 @@
 -- How the steps of reading lead to an archive's reading.
-use Rattle.std.proofs.Common.{ℕ, ◌≡◌, ◌≤◌, ◌⊎◌, inl, inr, List, length, Ok, Err, Result, refl, sym, subst, ap, ◌∙◌}
+use Rattle.std.proofs.Common.{ℕ, ◌≡◌, ◌≤◌, inl, inr, List, length, Ok, Err, Result, refl, sym, subst}
 use Rattle.khe_base.specs.declared.limits.TheConstants.{ARCHIVE_BYTES}
 use Rattle.khe_app.specs.Outcome.{IsRead, IsShaped, IsReadingOf, IsSpelled, Reading, evaluable, refused}
-use Rattle.khe_app.specs.Readings.{IsTree, IsBadTree, IsStopped, IsStoppedTree, of_resolve}
+use Rattle.khe_app.specs.Readings.{IsTree, IsStopped, IsStoppedTree, of_resolve}
 use Rattle.khe_app.specs.declared.reading.Unread.{Unread}
 use Rattle.khe_app.specs.declared.reading.Unread.TheVariants.{Refused, NoMemory}
 use Rattle.khe_app.specs.declared.refusals.Refusal.TheVariants.{Fault, Limit, TooLarge}
@@ -11,7 +11,6 @@ use Rattle.xhstt_resolve.specs.Resolved.{resolved}
 use Rattle.xhstt_resolve.specs.declared.faults.ResolveFault.{ResolveFault}
 use Rattle.xhstt_resolve.specs.declared.faults.ResolveFault.TheVariants as resolve
 use Rattle.xhstt_resolve.specs.declared.resolving.Resolved.{Resolved}
-use Rattle.xhstt_shape.specs.Shape.{shape_of}
 use Rattle.xhstt_shape.specs.declared.records.Archive.{Archive}
 
 -- the reading of an archive that a tree gives

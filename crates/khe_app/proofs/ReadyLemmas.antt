@@ -1,21 +1,17 @@
 -- An archive that was resolved: each solution has its instance, of which its references name parts.
-use Rattle.std.proofs.Common.{ℕ, ◌≡◌, ◌+◌, ◌-◌, ◌<◌, ◌≤◌, ◌^◌, Bool, true, false, not, cond, Option, Some, None, IsSome, IfSome, is_some, Result, Ok, Err, List, [], ◌∷◌, ◌++◌, length, map, get_or, refl, sym, ap, subst, ◌∙◌, arith, suc, zero, slice_get, option_map, All, flat_map, filter, nat_lt, ltb, ◌||◌, ◌⊎◌, inl, inr, zero-add, if◌then◌else◌}
-use Rattle.std.specs.List.{list_any, position_or_len}
+use Rattle.std.proofs.Common.{ℕ, ◌≡◌, ◌+◌, ◌<◌, ◌≤◌, ◌^◌, Bool, true, false, not, cond, Option, Some, None, IsSome, IfSome, is_some, Ok, Err, List, [], ◌∷◌, ◌++◌, length, map, refl, sym, ap, subst, ◌∙◌, arith, suc, zero, slice_get, option_map, All, flat_map, filter, nat_lt, inl, inr, zero-add, if◌then◌else◌}
 use Rattle.std.specs.Option.{option_and_then, option_map_or, option_or}
-use Rattle.std.specs.Prelude.{unwrap_or, position}
-use Rattle.std.specs.Str.{bytes_eq}
-use Rattle.std.proofs.lemmas.Bool.{ltb-false, ltb-true}
-use Rattle.std.proofs.lemmas.Bool.Decides.{nat_tests}
-use Rattle.std.proofs.lemmas.Option.{get_or_from_slice_get, slice_get_within, slice_get-map, slice_get_cases}
+use Rattle.std.specs.Prelude.{unwrap_or}
+use Rattle.std.proofs.lemmas.Bool.{ltb-false}
+use Rattle.std.proofs.lemmas.Option.{slice_get_within, slice_get-map, slice_get_cases}
 use Rattle.std.proofs.lemmas.List.{length-map}
 use Rattle.std.proofs.lemmas.List.Concat.{flat_map-cons}
-use Rattle.std.proofs.lemmas.List.Elements.{All-nil, All-cons, All-head, All-tail, All-get_or, All-append, All-weaker}
+use Rattle.std.proofs.lemmas.List.Elements.{All-nil, All-cons, All-head, All-tail, All-append, All-weaker}
 use Rattle.khe_base.proofs.ListLemmas.{all-there, none_of, none-each}
 use Rattle.khe_base.specs.Names.{is_among_names, number_of}
 use Rattle.khe_base.specs.declared.limits.TheConstants.{SOLUTIONS}
 use Rattle.khe_instance.specs.Named.{event_named, time_named, resource_named}
 use Rattle.khe_app.specs.Ready.{IsOne, AreOnes, IsReady}
-use Rattle.khe_app.specs.Report.{parts_at}
 use Rattle.xhstt_completion.specs.Entries as entries
 use Rattle.xhstt_references.specs.Ids.{instance_ids, time_ids, resource_ids, event_ids}
 use Rattle.xhstt_references.specs.References.{unknown, unknown_one, unknown_in_entry, unknown_in_given, unknown_in_solution, unknown_in_solutions, solutions_of}
@@ -36,7 +32,6 @@ use Rattle.xhstt_shape.specs.WellFormed as formed
 use Rattle.xhstt_shape.specs.declared.records.Archive.{Archive}
 use Rattle.xhstt_shape.specs.declared.records.RawEntry.{RawEntry}
 use Rattle.xhstt_shape.specs.declared.records.RawEvent.{RawEvent}
-use Rattle.xhstt_shape.specs.declared.records.RawGiven.{RawGiven}
 use Rattle.xhstt_shape.specs.declared.records.RawInstance.{RawInstance}
 use Rattle.xhstt_shape.specs.declared.records.RawResource.{RawResource}
 use Rattle.xhstt_shape.specs.declared.records.RawSolution.{RawSolution}

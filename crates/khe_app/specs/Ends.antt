@@ -1,6 +1,6 @@
 -- How a run of `khe` ends: by the outcome that the definitions give, by a device that refused a
 -- call, or for want of memory.
-use Rattle.std.specs.Prelude.{ℕ, ◌≡◌, ◌⊎◌, Option, None, IfSome, IsSomeAnd, List, [], encode_utf8_all}
+use Rattle.std.specs.Prelude.{ℕ, ◌≡◌, ◌⊎◌, Option, IfSome, IsSomeAnd, List, [], encode_utf8_all}
 use Rattle.khe_io.specs.Faults.{Rose, Took, TookFront}
 use Rattle.khe_app.specs.Outcome.{IsOutcome}
 

@@ -3,7 +3,6 @@ use Rattle.std.specs.Prelude.{ℕ, ◌≡◌, ◌⊎◌, List, Ok, Err}
 use Rattle.khe_app.specs.Outcome.{IsFaulty, IsReadingOf, refused}
 use Rattle.khe_app.specs.declared.reading.Unread.{Unread}
 use Rattle.khe_app.specs.declared.reading.Unread.TheVariants.{Refused, NoMemory}
-use Rattle.khe_app.specs.declared.refusals.Refusal.{Refusal}
 use Rattle.khe_app.specs.declared.refusals.Refusal.TheVariants.{Fault, Limit}
 use Rattle.xhstt_resolve.specs.declared.faults.ResolveFault.{ResolveFault}
 use Rattle.xhstt_resolve.specs.declared.faults.ResolveFault.TheVariants as resolve

@@ -1,9 +1,6 @@
 -- A loop over the monitors: what is left begins with the monitor at hand.
-use Rattle.std.proofs.Common.{ℕ, ◌≡◌, ◌+◌, Bool, true, false, List, ◌∷◌, get_or, drop, map, refl, sym, ap, ◌∙◌, add-one, arith, drop-cons, Some, slice_get, if◌then◌else◌, sum_by, filter, suc, zero-add, All, subst, not, option_map, ◌≤◌}
-use Rattle.std.proofs.lemmas.Option.{slice_get_within, slice_get-map, unwrap_or-slice_get}
+use Rattle.std.proofs.Common.{ℕ, ◌≡◌, ◌+◌, Bool, true, false, List, ◌∷◌, refl, sym, arith, if◌then◌else◌, sum_by, filter, zero-add, not, ◌≤◌}
 use Rattle.std.proofs.lemmas.List.Sums.{sum_by-cons}
-use Rattle.std.specs.Prelude.{unwrap_or}
-use Rattle.std.proofs.lemmas.List.Elements.{All-get_or}
 
 -- the sum over the elements that are kept, of a list with one more
 pub sum_kept-cons : {X : Type 0} (keep : X → Bool) (f : X → ℕ) (x : X) (xs : List X)

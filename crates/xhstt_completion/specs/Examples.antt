@@ -11,7 +11,6 @@ use Rattle.khe_instance.specs.declared.states.Plain.{Plain}
 use Rattle.khe_instance.specs.declared.states.Task.{Task}
 use Rattle.xhstt_completion.specs.Completed.{completed}
 use Rattle.xhstt_completion.specs.declared.faults.Cause.{Cause}
-use Rattle.xhstt_shape.specs.declared.records.Name.{Name}
 use Rattle.xhstt_shape.specs.declared.records.RawEntry.{RawEntry}
 use Rattle.xhstt_shape.specs.declared.records.RawGiven.{RawGiven}
 use Rattle.xhstt_shape.specs.declared.records.RawSolution.{RawSolution}

@@ -1,5 +1,5 @@
 -- References that are not among names.
-use Rattle.std.proofs.Common.{◌≡◌, ◌∙◌, ap, refl, sym, ℕ, ◌+◌, ◌-◌, ◌<◌, Bool, true, false, not, cond, ◌||◌, ltb, nat_lt, if◌then◌else◌, get_or, List, [], ◌∷◌, ◌++◌, map, length, position, Option, Some, None, arith}
+use Rattle.std.proofs.Common.{◌≡◌, ◌∙◌, ap, refl, sym, ℕ, ◌+◌, ◌-◌, ◌<◌, Bool, true, false, not, cond, ltb, nat_lt, if◌then◌else◌, get_or, List, [], ◌∷◌, ◌++◌, map, length, position, Option, Some, None, arith}
 use Rattle.std.specs.List.{filter, filter_map, flat_map, list_any, position_or_len, slice_get, cons_option}
 use Rattle.std.specs.Str.{bytes_eq}
 use Rattle.std.specs.Option.{is_some, option_and_then, option_map_or}

@@ -1,5 +1,5 @@
 -- The text that was written, whole or in part, is that of the outcome.
-use Rattle.std.proofs.Common.{◌≡◌, ◌⊎◌, inl, inr, map, string_bytes, refl, encode_utf8_all}
+use Rattle.std.proofs.Common.{inl, inr, map, string_bytes, refl, encode_utf8_all}
 use Rattle.khe_app.specs.Answers.{reading_of}
 use Rattle.khe_app.specs.Outcome.{status_of, text_of}
 use Rattle.khe_app.specs.Refusals.{not_understood_line}

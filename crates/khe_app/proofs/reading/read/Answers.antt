@@ -1,6 +1,5 @@
 -- Each step's answer leads to the reading.
-use Rattle.std.proofs.Common.{◌≤◌, length, subst, sym}
-use Rattle.khe_base.specs.declared.limits.TheConstants.{ARCHIVE_BYTES}
+use Rattle.std.proofs.Common.{subst, sym}
 use Rattle.khe_app.specs.Readings.{IsStopped, IsTree}
 use Rattle.khe_app.proofs.FewLemmas.{few}
 use Rattle.khe_app.proofs.ReadingLemmas.{resolve-stopped}

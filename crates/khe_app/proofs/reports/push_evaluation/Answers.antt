@@ -1,5 +1,5 @@
 -- At each turn one monitor leaves what is left and joins the lines.
-use Rattle.std.proofs.Common.{ℕ, ◌≡◌, ◌≤◌, ◌<◌, ◌+◌, ◌++◌, List, [], ◌∷◌, ◌∙◌, sym, ap, subst, arith, length, drop, get_or, map, refl, append_assoc, OnOk, false, ◌==◌}
+use Rattle.std.proofs.Common.{◌≡◌, ◌≤◌, ◌<◌, ◌+◌, ◌++◌, [], ◌∙◌, sym, ap, subst, arith, length, drop, get_or, append_assoc, OnOk, false, ◌==◌}
 use Rattle.std.proofs.Math.ListN.{drop_of_length-le}
 use Rattle.std.proofs.lemmas.List.{append-nil, length-map}
 use Rattle.std.proofs.lemmas.List.FromFn.{length-enumerate_from}

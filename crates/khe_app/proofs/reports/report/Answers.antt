@@ -1,5 +1,5 @@
 -- Each group leaves what is left and joins what was written or waits.
-use Rattle.std.proofs.Common.{ℕ, ◌≡◌, ◌≤◌, ◌+◌, ◌<◌, ◌^◌, ◌++◌, List, [], ◌∷◌, Some, ap, sym, subst, ◌∙◌, arith, length, drop, get_or, slice_get, length-append}
+use Rattle.std.proofs.Common.{ℕ, ◌≡◌, ◌≤◌, ◌+◌, ◌<◌, ◌++◌, List, [], Some, ap, sym, subst, ◌∙◌, arith, length, drop, get_or, slice_get, length-append}
 use Rattle.std.specs.List.{flat_map}
 use Rattle.std.proofs.Math.ListN.{drop_of_length-le}
 use Rattle.std.proofs.lemmas.List.Concat.{flat_map-cons}
@@ -7,11 +7,10 @@ use Rattle.std.proofs.lemmas.Option.{slice_get-get_or}
 use Rattle.khe_base.proofs.ListLemmas.{drop-there}
 use Rattle.khe_app.specs.Amid.{IsAmid}
 use Rattle.khe_app.specs.Ready.{AreOnes}
-use Rattle.khe_app.specs.Report.{group_text, groups_text, report}
+use Rattle.khe_app.specs.Report.{groups_text, report}
 use Rattle.khe_app.proofs.AmidLemmas.{always-err, amid-cut, amid-end, amid-flush, err-of, one-err, one-ok}
 use Rattle.khe_app.proofs.ReadyLemmas.{ones-left, ones-right}
 use Rattle.khe_app.proofs.reports.report.Goals as goal
-use Rattle.xhstt_shape.specs.declared.records.RawSolution.{RawSolution}
 use Rattle.xhstt_shape.specs.declared.records.SolutionGroup.{SolutionGroup}
 
 -- the group at hand is the first that is left

@@ -1,5 +1,5 @@
 -- What was written and what waits, with the groups that are left, make up the report.
-use Rattle.std.proofs.Common.{◌≡◌, ◌≤◌, ◌<◌, ◌+◌, ◌^◌, length, drop}
+use Rattle.std.proofs.Common.{◌≤◌, ◌<◌, ◌+◌, ◌^◌, length, drop}
 use Rattle.std.specs.List.{flat_map}
 use Rattle.khe_app.specs.Amid.{IsAmid}
 use Rattle.khe_app.specs.Ready.{AreOnes}

@@ -1,5 +1,5 @@
 -- A solution that is cut off cuts off its group.
-use Rattle.std.proofs.Common.{◌≡◌, ◌+◌, ◌<◌, ◌++◌, List, ℕ, [], Some, ap, sym, subst, ◌∙◌, arith, length, drop, get_or, append_assoc, slice_get}
+use Rattle.std.proofs.Common.{◌≡◌, ◌+◌, ◌<◌, ◌++◌, Some, ap, sym, subst, ◌∙◌, arith, length, drop, get_or, append_assoc, slice_get}
 use Rattle.std.specs.List.{enumerate_from, flat_map}
 use Rattle.std.proofs.lemmas.Option.{slice_get-get_or}
 use Rattle.khe_app.specs.Amid.{IsAmid}
