@@ -1,25 +1,10 @@
 -- A text that is written piece by piece.
-use Rattle.std.proofs.Common.{◌≡◌, ◌≤◌, inl, inr, ℕ, List, [], ◌++◌, Option, None, Some, append_assoc, ap, sym, subst, refl, ◌∙◌, encode_utf8_all, arith, Result, Ok, Err, OnOk, OnErr}
+use Rattle.std.proofs.Common.{◌≡◌, ℕ, List, [], ◌++◌, Option, append_assoc, ap, sym, subst, ◌∙◌, encode_utf8_all, Result, Ok, Err, OnOk, OnErr}
 use Rattle.std.proofs.lemmas.List.{append-nil}
 use Rattle.std.proofs.lemmas.Str.{encodes-append}
-use Rattle.khe_io.specs.Faults.{Rose, Took, TookFront}
+use Rattle.khe_io.specs.Faults.{Took, TookFront}
+use Rattle.khe_io.proofs.Writing.{Took-more}
 use Rattle.khe_app.specs.Amid.{IsAmid}
-
--- one piece after another
-pub took-more : (first middle last : Option (List ℕ)) (a b : List ℕ) → Took first middle a → Took middle last b → Took first last (a ++ b)
-took-more None middle last a b one two = cc
-took-more (Some bytes) middle last a b one two =
-    let joined : bytes ++ a ++ b ≡ bytes ++ (a ++ b) = append_assoc bytes a b in
-    rw one at two ∙ ap Some joined
-
--- nothing more was taken
-pub took-nothing : (before : Option (List ℕ)) → Took before before []
-took-nothing None = refl
-took-nothing (Some taken) = ap (λ t. Some t) (sym (append-nil taken))
-
--- at the start nothing was written
-pub amid-start : (before : Option (List ℕ)) (pending rest : List ℕ) → IsAmid before before pending rest (pending ++ rest)
-amid-start before pending rest = record { written = []; took = took-nothing before; is = refl }
 
 -- a piece joins what waits
 pub amid-push : (before now : Option (List ℕ)) (pending piece rest whole : List ℕ) → IsAmid before now pending (piece ++ rest) whole
@@ -35,7 +20,7 @@ pub amid-flush : (before now after : Option (List ℕ)) (pending rest whole : Li
     → Took now after (encode_utf8_all pending) → IsAmid before after [] rest whole
 amid-flush before now after pending rest whole h took = record {
   written = h.written ++ pending;
-  took = subst (Took before after) (sym (encodes-append h.written pending)) (took-more before now after (encode_utf8_all h.written) (encode_utf8_all pending) h.took took);
+  took = subst (Took before after) (sym (encodes-append h.written pending)) (Took-more before now after (encode_utf8_all h.written) (encode_utf8_all pending) h.took took);
   is = append_assoc h.written pending rest ∙ h.is;
 }
 
@@ -49,7 +34,7 @@ amid-cut before now after pending rest whole h (front, left, is, took) = (
       ∙ encodes-append h.written (pending ++ rest)
       ∙ ap (λ xs. encode_utf8_all h.written ++ xs) (encodes-append pending rest ∙ ap (λ xs. xs ++ encode_utf8_all rest) is ∙ append_assoc front left (encode_utf8_all rest))
       ∙ sym (append_assoc (encode_utf8_all h.written) front (left ++ encode_utf8_all rest)),
-  took-more before now after (encode_utf8_all h.written) front h.took took,
+  Took-more before now after (encode_utf8_all h.written) front h.took took,
 )
 
 -- nothing more is taken
@@ -78,11 +63,6 @@ one-err (Err e) p f = f p
 pub always-err : {A E : Type 0} (r : Result A E) {P : Type 0} → P → OnErr r P
 always-err (Ok x) p = tt
 always-err (Err e) p = p
-
--- a fault of a later call is one of the whole
-pub rose-after : (first middle last : ℕ) → first ≤ middle → middle ≤ last → Rose middle last → Rose first last
-rose-after first middle last before after (inl grew) = inl (omega (arith, before, grew))
-rose-after first middle last before after (inr full) = grind (arith)
 
 pub err-of : {A E : Type 0} (r : Result A E) (e : E) {P : Type 0} → r ≡ Err e → OnErr r P → P
 err-of (Ok x) e is p = absurd (let g : ⊥ = cc in g)

@@ -1,13 +1,12 @@
 -- How a run ends, from what was written of an outcome's text.
 use Rattle.std.proofs.Common.{ℕ, ◌≡◌, ◌⊎◌, inl, inr, List, [], Option, Some, None, IfSome, sym, subst, ◌∙◌, refl, encode_utf8_all, arith}
 use Rattle.khe_io.specs.Faults.{Rose, Took, TookFront}
-use Rattle.khe_io.specs.Shelf.{StandsUnder, IsMissing}
+use Rattle.khe_io.specs.Shelf.{StandsUnder}
 use Rattle.khe_app.specs.Answers.{reading_of, IsAnswerOf}
 use Rattle.khe_app.specs.Ends.{Holdings, EndedBy, CutOff, LacksArchive, IsDecided, Written}
 use Rattle.khe_app.specs.Outcome.{Reading, evaluable, refused, IsAnswerTo, IsOutcome, IsOutcomeOf, IsReadingOf, status_of, text_of}
 use Rattle.khe_app.specs.Words.{Asked, asked}
 use Rattle.khe_app.specs.declared.program.Answer.{Answer}
-use Rattle.khe_app.proofs.AmidLemmas.{took-nothing}
 
 -- what stands under a name leads to the answer
 pub stands-answer : (h : Holdings) (name bytes : List ℕ) (answer : Answer) → StandsUnder h name bytes
@@ -75,14 +74,6 @@ ended-from words (Some under) before after fb fa bytes text status result outcom
     inr (text, subst (λ s. IsOutcome words under s text) (sym w.0) outcome, subst (Took before after) same w.1)
 ended-from words (Some under) before after fb fa bytes text status result outcome same (inr (inl w)) quiet = absurd (quiet w.1)
 ended-from words (Some under) before after fb fa bytes text status result outcome same (inr (inr w)) quiet = inl w.0
-
--- a run that found nothing under the archive's name ended by the outcome
-pub ended-missing : (words : List (List ℕ)) (h : Holdings) (a : Asked) (before : Option (List ℕ)) → asked words ≡ Some a
-    → IsMissing h a.archive → EndedBy words h before before 4
-ended-missing words None a before named missing = tt
-ended-missing words (Some under) a before named missing =
-    let answer : IsAnswerTo a.all (under a.archive) 4 [] = subst (λ o. IsAnswerTo a.all o 4 []) (sym missing) (refl, refl) in
-    ([], subst (λ o. IsOutcomeOf o under 4 []) (sym named) answer, took-nothing before)
 
 -- the status of a reading is that of a decided run
 pub status-decided : (r : Reading) → IsDecided (status_of r)

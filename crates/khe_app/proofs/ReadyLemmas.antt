@@ -1,5 +1,5 @@
 -- An archive that was resolved: each solution has its instance, of which its references name parts.
-use Rattle.std.proofs.Common.{ℕ, ◌≡◌, ◌+◌, ◌<◌, ◌≤◌, ◌^◌, Bool, true, false, not, cond, Option, Some, None, IsSome, IfSome, is_some, Ok, Err, List, [], ◌∷◌, ◌++◌, length, map, refl, sym, ap, subst, ◌∙◌, arith, suc, zero, slice_get, option_map, All, flat_map, filter, nat_lt, inl, inr, zero-add, if◌then◌else◌}
+use Rattle.std.proofs.Common.{ℕ, ◌≡◌, ◌+◌, ◌<◌, ◌≤◌, ◌^◌, Bool, true, false, Option, Some, None, IsSome, IfSome, is_some, Ok, Err, List, [], ◌∷◌, ◌++◌, length, map, refl, sym, ap, subst, ◌∙◌, arith, suc, zero, slice_get, option_map, All, flat_map, nat_lt, inl, inr, zero-add, if◌then◌else◌}
 use Rattle.std.specs.Option.{option_and_then, option_map_or, option_or}
 use Rattle.std.specs.Prelude.{unwrap_or}
 use Rattle.std.proofs.lemmas.Bool.{ltb-false}
@@ -19,7 +19,8 @@ use Rattle.xhstt_references.specs.Directories.{directory_of}
 use Rattle.xhstt_references.specs.declared.directories.Directory.{Directory}
 use Rattle.xhstt_references.specs.Faults.{at_first, fault_of_solutions}
 use Rattle.xhstt_references.specs.declared.faults.TheConstants.{UNKNOWN_REFERENCE}
-use Rattle.xhstt_resolve.proofs.WellMadeLists.{known}
+use Rattle.xhstt_resolve.proofs.WellMadeIds.{event-ids}
+use Rattle.xhstt_resolve.proofs.WellMadeLists.{known, among}
 use Rattle.xhstt_resolve.specs.Parts.{parts_of, events_from, resource_of}
 use Rattle.xhstt_resolve.specs.Faults.{as_fault}
 use Rattle.xhstt_resolve.specs.Resolved.{resolved, archive_fault, instances_of, solutions_fault}
@@ -31,7 +32,6 @@ use Rattle.xhstt_resolve.specs.declared.resolving.Resolved.{Resolved}
 use Rattle.xhstt_shape.specs.WellFormed as formed
 use Rattle.xhstt_shape.specs.declared.records.Archive.{Archive}
 use Rattle.xhstt_shape.specs.declared.records.RawEntry.{RawEntry}
-use Rattle.xhstt_shape.specs.declared.records.RawEvent.{RawEvent}
 use Rattle.xhstt_shape.specs.declared.records.RawInstance.{RawInstance}
 use Rattle.xhstt_shape.specs.declared.records.RawResource.{RawResource}
 use Rattle.xhstt_shape.specs.declared.records.RawSolution.{RawSolution}
@@ -44,19 +44,6 @@ known-some id ids e = ap is_some (known id ids e).is
 some-mapped : {A B : Type 0} (f : A → B) (o : Option A) → IsSome o → IsSome (option_map f o)
 some-mapped f None e = absurd (let g : ⊥ = cc in g)
 some-mapped f (Some x) e = refl
-
--- a reference that is not unknown is among the Ids
-among : (ids : List (List ℕ)) (r : Ref) (rs : List Ref) → unknown ids (r ∷ rs) ≡ [] → (is_among_names r.id ids ≡ true) × (unknown ids rs ≡ [])
-among ids r rs e = by (is_among_names r.id ids) e
-  where
-    by : (b : Bool) → map (λ x. x.at) (cond (not b) (r ∷ filter (λ x. not (is_among_names x.id ids)) rs) (filter (λ x. not (is_among_names x.id ids)) rs)) ≡ [] → (b ≡ true) × (unknown ids rs ≡ [])
-    by true e = (refl, e)
-    by false e = absurd (let g : ⊥ = cc in g)
-
--- the Ids of parts are those of the archive
-event-ids : (i : RawInstance) (next : ℕ) (es : List RawEvent) → map (λ e. e.id) (events_from i next es) ≡ map (λ e. e.id.text) es
-event-ids i next [] = refl
-event-ids i next (e ∷ es) = ap (λ xs. e.id.text ∷ xs) (event-ids i (next + e.duration) es)
 
 resource-ids : (i : RawInstance) (rs : List RawResource) → map (λ r. r.id) (map (resource_of i) rs) ≡ map (λ r. r.id.text) rs
 resource-ids i [] = refl
