@@ -1,7 +1,10 @@
 pub mod Bits
 pub mod Bounds
+pub mod Busy
 pub mod Costs
 pub mod IdSet
 pub mod Names
+pub mod StoredSets
 pub mod Text
+pub mod Totals
 pub mod Units
