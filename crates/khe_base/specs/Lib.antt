@@ -1,5 +1,6 @@
 pub mod Bits
 pub mod Bounds
+pub mod BoundsLaws
 pub mod Busy
 pub mod Costs
 pub mod IdSet
