@@ -17,7 +17,8 @@ use Rattle.khe_base.specs.declared.limits.TheConstants.{TASKS}
 use Rattle.khe_base.specs.declared.numbers.ResourceId.{ResourceId}
 use Rattle.khe_base.specs.declared.numbers.TaskId.{TaskId}
 use Rattle.khe_instance.specs.Running.{duties, meets_of}
-use Rattle.khe_instance.specs.States.{IsTold, IsMeet, IsGiven, tasks_of, places_at, place_of}
+use Rattle.khe_instance.specs.Lookups.{places_at}
+use Rattle.khe_instance.specs.States.{IsTold, IsMeet, IsGiven, AreOfState, IsDuty, AreDuties, tasks_of, place_of}
 use Rattle.khe_instance.specs.WellMade.{AreWellMade, HasType}
 use Rattle.khe_instance.specs.declared.parts.EventInfo.{EventInfo}
 use Rattle.khe_instance.specs.declared.parts.Parts.{Parts}
@@ -25,9 +26,7 @@ use Rattle.khe_instance.specs.declared.parts.Place.{Place}
 use Rattle.khe_instance.specs.declared.parts.ResourceInfo.{ResourceInfo}
 use Rattle.khe_instance.specs.declared.states.Duty.{Duty}
 use Rattle.khe_instance.specs.declared.states.Meet.{Meet}
-use Rattle.khe_instance.specs.declared.states.Plain.{Plain}
 use Rattle.khe_instance.specs.declared.states.Task.{Task}
-use Rattle.resource_deviations.specs.Tasks.{AreOfState, IsDuty, AreDuties}
 
 All-where : {X : Type 0} (P : X → Type 0) (test : X → Bool) (xs : List X) → All (λ x. test x ≡ true → P x) xs → All P (filter test xs)
 All-where P test [] h = All-nil P
@@ -130,15 +129,15 @@ typed p rtype r h = by (cases_lt r.0 (length p.resources))
         absurd (none-some rtype (sym (ap (λ (o : Option ResourceInfo). option_map (λ x. x.rtype) o) (slice_get_past p.resources r.0 more)) ∙ h))
 
 -- what is known of a task of a state
-abbrev Stands : Parts → Plain → Duty → Type 0
-Stands p s d = IsMeet p d.meet × Contains s.meets d.meet × (d.place < places_at p.events d.meet.event.0)
+abbrev Stands : Parts → List Meet → Duty → Type 0
+Stands p ms d = IsMeet p d.meet × Contains ms d.meet × (d.place < places_at p.events d.meet.event.0)
 
-standing : (p : Parts) (s : Plain) → IsTold p s → All (Stands p s) (duties s.meets s.tasks)
-standing p s told =
-    let ids : All (HasPlace p s.meets) (map (λ t. t.task) s.tasks) = All-same (HasPlace p s.meets) (map (λ t. t.task) s.tasks) (flat_map (tasks_of p) s.meets) told.tasks (places_of p s.meets told.ascending) in
-    let each : All (λ t. HasPlace p s.meets t.task) s.tasks = All-of_map (HasPlace p s.meets) (λ t. t.task) s.tasks ids in
-    all-duties (Stands p s) s.meets s.tasks
-    (λ k d l. λ j t h same. (told.meets k d l, Contains-get_or s.meets k d l, each j t h (get_or s.meets k d) (Contains-get_or s.meets k d l) same))
+standing : (p : Parts) (ms : List Meet) (ts : List Task) → IsTold p ms ts → All (Stands p ms) (duties ms ts)
+standing p ms ts told =
+    let ids : All (HasPlace p ms) (map (λ t. t.task) ts) = All-same (HasPlace p ms) (map (λ t. t.task) ts) (flat_map (tasks_of p) ms) told.tasks (places_of p ms told.ascending) in
+    let each : All (λ t. HasPlace p ms t.task) ts = All-of_map (HasPlace p ms) (λ t. t.task) ts ids in
+    all-duties (Stands p ms) ms ts
+    (λ k d l. λ j t h same. (told.meets k d l, Contains-get_or ms k d l, each j t h (get_or ms k d) (Contains-get_or ms k d l) same))
 
 given_place : (p : Parts) (d : Duty) (event : EventInfo) → slice_get p.events d.meet.event.0 ≡ Some event → d.place < places_at p.events d.meet.event.0 → (place : Place) × (place_of p d ≡ Some place)
 given_place p d event there h =
@@ -149,8 +148,8 @@ given_place p d event there h =
       | inr past ↦ absurd (let l : length event.places ≤ d.place = past.0 in omega arith)
     ]
 
-is-duty : (p : Parts) (s : Plain) → IsTold p s → (d : Duty) → Stands p s d → IsGiven p d → IsDuty p d
-is-duty p s told d (meet, there, filled) given =
+is-duty : (p : Parts) (ms : List Meet) (ts : List Task) → IsTold p ms ts → (d : Duty) → Stands p ms d → IsGiven p d → IsDuty p d
+is-duty p ms ts told d (meet, there, filled) given =
     let slot = meet.slot in
     let place = given_place p d slot.0 slot.1 filled in
     let typed_all : IfSome d.resource (HasType p place.0.rtype) = subst (λ (o : Option Place). IfSome o (λ x. IfSome d.resource (HasType p x.rtype))) place.1 given in
@@ -160,10 +159,10 @@ is-duty p s told d (meet, there, filled) given =
       event = slot.0;
       there = slot.1;
       part =
-          let own = within d.meet.event.0 s.meets there.0 d.meet there.1 in
+          let own = within d.meet.event.0 ms there.0 d.meet there.1 in
           let same = there.2 in
-          let one : d.meet.duration ≤ sum_by (λ x. x.duration) (meets_of d.meet.event.0 s.meets) =
-          subst (λ (m : Meet). m.event.0 ≡ d.meet.event.0 → m.duration ≤ sum_by (λ x. x.duration) (meets_of d.meet.event.0 s.meets)) same own refl in
+          let one : d.meet.duration ≤ sum_by (λ x. x.duration) (meets_of d.meet.event.0 ms) =
+          subst (λ (m : Meet). m.event.0 ≡ d.meet.event.0 → m.duration ≤ sum_by (λ x. x.duration) (meets_of d.meet.event.0 ms)) same own refl in
           le_trans one (told.durations d.meet.event.0 slot.0 slot.1);
     }
 
@@ -270,60 +269,60 @@ abbrev wanted : EventInfo → ℕ
 wanted e = e.duration * length e.places
 
 -- the tasks of the meets of one event
-at_event : (p : Parts) (s : Plain) → IsTold p s → (e : ℕ) → count_by (λ m. m.event.0 == e) s.meets * places_at p.events e ≤ option_map_or wanted (slice_get p.events e) 0
-at_event p s told e = elim (slice_get_cases p.events e).1 [
+at_event : (p : Parts) (ms : List Meet) (ts : List Task) → IsTold p ms ts → (e : ℕ) → count_by (λ m. m.event.0 == e) ms * places_at p.events e ≤ option_map_or wanted (slice_get p.events e) 0
+at_event p ms ts told e = elim (slice_get_cases p.events e).1 [
   | inl found ↦
       let event : EventInfo = found.0 in
       let there : slice_get p.events e ≡ Some event = found.2 in
-      let lasting : All (λ m. 1 ≤ m.duration) (meets_of e s.meets) = All-where (λ m. 1 ≤ m.duration) (λ m. m.event.0 == e) s.meets (λ k d l holds. (told.meets k d l).duration) in
-      let many : length (meets_of e s.meets) ≡ count_by (λ m. m.event.0 == e) s.meets = length-filter (λ (m : Meet). m.event.0 == e) s.meets in
-      let few = at_most_duration (meets_of e s.meets) lasting in
-      let whole : sum_by (λ m. m.duration) (meets_of e s.meets) ≤ event.duration = told.durations e event there in
+      let lasting : All (λ m. 1 ≤ m.duration) (meets_of e ms) = All-where (λ m. 1 ≤ m.duration) (λ m. m.event.0 == e) ms (λ k d l holds. (told.meets k d l).duration) in
+      let many : length (meets_of e ms) ≡ count_by (λ m. m.event.0 == e) ms = length-filter (λ (m : Meet). m.event.0 == e) ms in
+      let few = at_most_duration (meets_of e ms) lasting in
+      let whole : sum_by (λ m. m.duration) (meets_of e ms) ≤ event.duration = told.durations e event there in
       let places : places_at p.events e ≡ length event.places = ap (λ (o : Option EventInfo). option_map_or (λ x. length x.places) o 0) there in
       let right : option_map_or wanted (slice_get p.events e) 0 ≡ event.duration * length event.places = ap (λ (o : Option EventInfo). option_map_or wanted o 0) there in
-      let l : count_by (λ m. m.event.0 == e) s.meets * places_at p.events e ≤ event.duration * length event.places = mul-le (count_by (λ m. m.event.0 == e) s.meets) (places_at p.events e) event.duration (length event.places) (omega arith) (omega arith) in
+      let l : count_by (λ m. m.event.0 == e) ms * places_at p.events e ≤ event.duration * length event.places = mul-le (count_by (λ m. m.event.0 == e) ms) (places_at p.events e) event.duration (length event.places) (omega arith) (omega arith) in
       omega arith
   | inr past ↦
       let z : places_at p.events e ≡ 0 = ap (λ (o : Option EventInfo). option_map_or (λ x. length x.places) o 0) past.1 in
-      let e0 : count_by (λ m. m.event.0 == e) s.meets * places_at p.events e ≡ 0 = ap (λ n. count_by (λ m. m.event.0 == e) s.meets * n) z ∙ mul-zero (count_by (λ m. m.event.0 == e) s.meets) in
+      let e0 : count_by (λ m. m.event.0 == e) ms * places_at p.events e ≡ 0 = ap (λ n. count_by (λ m. m.event.0 == e) ms * n) z ∙ mul-zero (count_by (λ m. m.event.0 == e) ms) in
       omega arith
 ]
 
-few-tasks : (p : Parts) (s : Plain) → AreWellMade p → IsTold p s → length s.tasks ≤ TASKS
-few-tasks p s made told =
-    let same : length s.tasks ≡ length (flat_map (tasks_of p) s.meets) = sym (length-map s.tasks (λ t. t.task)) ∙ ap length told.tasks in
-    let each : length (flat_map (tasks_of p) s.meets) ≡ sum_by (λ m. length (tasks_of p m)) s.meets = length-flat_map (tasks_of p) s.meets in
-    let many : sum_by (λ m. length (tasks_of p m)) s.meets ≡ sum_by (λ m. places_at p.events m.event.0) s.meets =
-    λ i. sum_by (λ m. (length-map (range_with_len 0 (places_at p.events m.event.0)) (numbered m) ∙ length-range_with_len 0 (places_at p.events m.event.0)) i) s.meets
+few-tasks : (p : Parts) (ms : List Meet) (ts : List Task) → AreWellMade p → IsTold p ms ts → length ts ≤ TASKS
+few-tasks p ms ts made told =
+    let same : length ts ≡ length (flat_map (tasks_of p) ms) = sym (length-map ts (λ t. t.task)) ∙ ap length told.tasks in
+    let each : length (flat_map (tasks_of p) ms) ≡ sum_by (λ m. length (tasks_of p m)) ms = length-flat_map (tasks_of p) ms in
+    let many : sum_by (λ m. length (tasks_of p m)) ms ≡ sum_by (λ m. places_at p.events m.event.0) ms =
+    λ i. sum_by (λ m. (length-map (range_with_len 0 (places_at p.events m.event.0)) (numbered m) ∙ length-range_with_len 0 (places_at p.events m.event.0)) i) ms
     in
     let n = length p.events in
-    let below : All (λ m. m.event.0 < n) s.meets = λ k d l. slice_get_within p.events (get_or s.meets k d).event.0 ((told.meets k d l).slot.0) ((told.meets k d l).slot.1) in
-    let sorted = by_events (places_at p.events) n s.meets below in
-    let most : sum_by (λ e. count_by (λ m. m.event.0 == e) s.meets * places_at p.events e) (range_with_len 0 n) ≤ sum_by (λ e. option_map_or wanted (slice_get p.events e) 0) (range_with_len 0 n) =
-    sum_by-le-sum_by (λ e. count_by (λ m. m.event.0 == e) s.meets * places_at p.events e) (λ e. option_map_or wanted (slice_get p.events e) 0) (range_with_len 0 n) (at_event p s told)
+    let below : All (λ m. m.event.0 < n) ms = λ k d l. slice_get_within p.events (get_or ms k d).event.0 ((told.meets k d l).slot.0) ((told.meets k d l).slot.1) in
+    let sorted = by_events (places_at p.events) n ms below in
+    let most : sum_by (λ e. count_by (λ m. m.event.0 == e) ms * places_at p.events e) (range_with_len 0 n) ≤ sum_by (λ e. option_map_or wanted (slice_get p.events e) 0) (range_with_len 0 n) =
+    sum_by-le-sum_by (λ e. count_by (λ m. m.event.0 == e) ms * places_at p.events e) (λ e. option_map_or wanted (slice_get p.events e) 0) (range_with_len 0 n) (at_event p ms ts told)
     in
     let whole : sum_by (λ e. option_map_or wanted (slice_get p.events e) 0) (range_with_len 0 n) ≡ sum_by wanted p.events = numbered-sum wanted p.events in
     let limit : sum_by wanted p.events ≤ TASKS = made.limits.tasks in
     omega arith
 
-few-duties : (p : Parts) (s : Plain) → AreWellMade p → IsTold p s → length (duties s.meets s.tasks) ≤ TASKS
-few-duties p s made told =
-    let long : length (duties s.meets s.tasks) ≡ sum_by (λ m. length (map (duty_of m) (filter (is_of m) s.tasks))) s.meets =
-    length-flat_map (λ m. map (duty_of m) (filter (is_of m) s.tasks)) s.meets
+few-duties : (p : Parts) (ms : List Meet) (ts : List Task) → AreWellMade p → IsTold p ms ts → length (duties ms ts) ≤ TASKS
+few-duties p ms ts made told =
+    let long : length (duties ms ts) ≡ sum_by (λ m. length (map (duty_of m) (filter (is_of m) ts))) ms =
+    length-flat_map (λ m. map (duty_of m) (filter (is_of m) ts)) ms
     in
-    let counted : sum_by (λ m. length (map (duty_of m) (filter (is_of m) s.tasks))) s.meets ≡ sum_by (λ m. count_by (is_of m) s.tasks) s.meets =
-    λ i. sum_by (λ m. (length-map (filter (is_of m) s.tasks) (duty_of m) ∙ length-filter (is_of m) s.tasks) i) s.meets
+    let counted : sum_by (λ m. length (map (duty_of m) (filter (is_of m) ts))) ms ≡ sum_by (λ m. count_by (is_of m) ts) ms =
+    λ i. sum_by (λ m. (length-map (filter (is_of m) ts) (duty_of m) ∙ length-filter (is_of m) ts) i) ms
     in
-    let few = matched s.meets s.tasks (apart s.meets told.ascending) in
-    let most = few-tasks p s made told in
+    let few = matched ms ts (apart ms told.ascending) in
+    let most = few-tasks p ms ts made told in
     omega arith
 
 -- the tasks of a state are such tasks
-pub are-duties : (p : Parts) (ds : List Duty) → AreWellMade p → AreOfState p ds → AreDuties p ds
-are-duties p ds made of =
-    let s = of.state in
-    let own : AreDuties p (duties s.meets s.tasks) = record {
-      each = λ k d l. is-duty p s of.told (get_or (duties s.meets s.tasks) k d) (standing p s of.told k d l) (of.told.given k d l);
-      few = few-duties p s made of.told;
+pub are-duties : (p : Parts) (ms : List Meet) (ds : List Duty) → AreWellMade p → AreOfState p ms ds → AreDuties p ds
+are-duties p ms ds made of =
+    let ts = of.tasks in
+    let own : AreDuties p (duties ms ts) = record {
+      each = λ k d l. is-duty p ms ts of.told (get_or (duties ms ts) k d) (standing p ms ts of.told k d l) (of.told.given k d l);
+      few = few-duties p ms ts made of.told;
     } in
     subst (AreDuties p) (sym of.same) own

@@ -1,4 +1,4 @@
--- What one task adds.
+-- What well made parts give of one event, constraint, monitor or task.
 use Rattle.std.proofs.Common.{◌≡◌, ◌∙◌, sym, subst, ℕ, ◌*◌, ◌/◌, ◌<◌, ◌≤◌, Some, List, length, get_or, slice_get}
 use Rattle.std.proofs.lemmas.Option.{same_Some, get_or_from_slice_get, slice_get_within}
 use Rattle.khe_base.specs.declared.limits.TheConstants.{NUMBER}
@@ -13,8 +13,8 @@ use Rattle.khe_instance.specs.declared.rules.Constraint.{Constraint}
 use Rattle.khe_instance.specs.declared.rules.Rule.{Rule}
 use Rattle.khe_instance.specs.declared.rules.Rule.TheVariants.{AvoidClashes, AvoidUnavailableTimes, LimitIdleTimes, ClusterBusyTimes, LimitBusyTimes, LimitWorkload}
 use Rattle.khe_instance.specs.declared.states.Duty.{Duty}
-use Rattle.resource_deviations.specs.Tasks.{IsDuty}
-use Rattle.resource_deviations.proofs.SumsLemmas.{part_small}
+use Rattle.khe_instance.specs.States.{IsDuty}
+use Rattle.khe_instance.proofs.SumsLemmas.{part_small}
 
 -- an event of the instance is one
 pub event_made : (p : Parts) → AreWellMade p → (e : ℕ) (event : EventInfo) → slice_get p.events e ≡ Some event → IsEvent p event
