@@ -35,9 +35,8 @@ impl<'a> EventDeviations<'a> {
     /// Indexes the meets and the tasks of a state of an instance, each task with its meet. Every
     /// valid state is one.
     ///
-    /// It takes time and memory in proportion to the meets, the tasks, the events with their places
-    /// and the members of the event groups; and time for a 64th of the events for each event group.
-    /// No other call takes memory.
+    /// It takes time and memory in proportion to the meets, the tasks, and the events with their
+    /// places. No other call takes memory.
     pub fn open(
         alloc: Global,
         inst: &'a Instance,

@@ -10,13 +10,13 @@ ghost use Rattle.event_deviations.specs.Bounded.{AreOfOneEvent};
 ghost use Rattle.event_deviations.specs.Indexed.{duties_by_place};
 ghost use Rattle.event_deviations.specs.State.{AreOfState};
 
-use crate::lists::{duties_by, meets_by, members_by};
+use crate::lists::{duties_by, meets_by};
 use khe_base::{EventId, NoMemory, Seq};
 use khe_instance::{Duty, Instance, Meet};
 use std::alloc::Global;
 use std::marker::Model;
 
-/// The meets of each event, the duties of each of its places, and the members of each event group.
+/// The meets of each event, and the duties of each of its places.
 #[derive(Drop)]
 pub(crate) struct Index<'a> {
     inst: &'a Instance,
@@ -24,7 +24,6 @@ pub(crate) struct Index<'a> {
     duties: &'a [Duty],
     by_event: Seq<Seq<Meet>>,
     by_place: Seq<Seq<Seq<Duty>>>,
-    members: Seq<Seq<u32>>,
 }
 
 impl<'a> Model for Index<'a> {
@@ -35,13 +34,12 @@ impl<'a> Model for Index<'a> {
 
     ghost view = { λ i. record { parts = i.inst.now; meets = i.meets.now; duties = i.duties.now } };
 
-    ghost invariant = { λ i. IsIndexed i.inst.now i.meets.now i.duties.now i.by_event i.by_place i.members };
+    ghost invariant = { λ i. IsIndexed i.inst.now i.meets.now i.duties.now i.by_event i.by_place };
 }
 
 impl<'a> Index<'a> {
     /// The index of the meets and the duties of a timetable, in time and memory of the meets, the
-    /// duties, the events with their places, and the members of the event groups; and time for a
-    /// 64th of the events for each event group.
+    /// duties, and the events with their places.
     pub(crate) fn new(
         alloc: Global,
         inst: &'a Instance,
@@ -58,7 +56,6 @@ impl<'a> Index<'a> {
             duties,
             by_event: meets_by(alloc, meets, inst.events())?,
             by_place: duties_by(alloc, duties, inst)?,
-            members: members_by(alloc, inst)?,
         })
     }
 
@@ -116,6 +113,6 @@ impl<'a> Index<'a> {
         ensures durations { sum_by (duration_at self.now.parts.events) result.now ≤ DURATION }
         ensures amount { length result.now ≤ EVENTS }
     {
-        self.members.as_slice()[group as usize].as_slice()
+        self.inst.members(group)
     }
 }
