@@ -11,10 +11,10 @@ use Rattle.std.proofs.lemmas.Option.{slice_get_past, none-some}
 use Rattle.khe_base.proofs.ListLemmas.{range_more}
 use Rattle.khe_base.specs.IdSet.{has_member}
 use Rattle.khe_base.specs.declared.numbers.ResourceId.{ResourceId}
-use Rattle.khe_instance.specs.EventDeviation.{avoid_split_assignments, spread_events, duties_at, is_role, role_at, starts_in}
+use Rattle.khe_base.specs.Bounds.{count_outside}
+use Rattle.khe_instance.specs.EventDeviation.{avoid_split_assignments, spread_events, duties_at, starts_in}
+use Rattle.khe_instance.specs.Lookups.{is_role, places_at, role_at}
 use Rattle.khe_instance.specs.Running.{is_resource, meets_of}
-use Rattle.khe_instance.specs.States.{places_at}
-use Rattle.khe_instance.specs.Within.{out}
 use Rattle.khe_instance.specs.declared.parts.EventInfo.{EventInfo}
 use Rattle.khe_instance.specs.declared.rules.Spread.{Spread}
 use Rattle.khe_instance.specs.declared.states.Duty.{Duty}
@@ -240,4 +240,4 @@ module _ (set times : List Bool) where
       ∙ sym (sum_by-cons (λ x. cond (has_member set x.event.0 && starts_in times x.start) 1 0) m ms)
 
 pub spread-is : (meets : List Meet) (set : List Bool) (spreads : List Spread) → spread_over meets spreads (members_of set) ≡ spread_events meets set spreads
-spread-is meets set spreads = λ i. sum_by (λ s. out (starting-is set s.group meets i) s.min s.max) spreads
+spread-is meets set spreads = λ i. sum_by (λ s. count_outside (starting-is set s.group meets i) s.min s.max) spreads

@@ -6,7 +6,7 @@ use Rattle.std.proofs.lemmas.List.FromFn.{length-range_with_len}
 use Rattle.std.proofs.lemmas.List.Sums.{count_by-le-length}
 use Rattle.std.proofs.lemmas.Option.{get_or_from_slice_get, slice_get_within, none-some, same_Some}
 use Rattle.khe_base.specs.declared.numbers.EventId.{EventId}
-use Rattle.khe_instance.specs.States.{places_at}
+use Rattle.khe_instance.specs.Lookups.{places_at}
 use Rattle.khe_instance.specs.WellMade.{AreWellMade, IsMonitor, IsPointOf, IsRule}
 use Rattle.khe_instance.specs.declared.parts.GroupInfo.{GroupInfo}
 use Rattle.khe_instance.specs.declared.parts.Parts.{Parts}
