@@ -1,25 +1,16 @@
 -- What deviations are asked of: an instance, and the meets and the tasks of a timetable of it.
 use Rattle.std.specs.Prelude.{◌≡◌, List}
 use Rattle.khe_base.specs.declared.numbers.ResourceId.{ResourceId}
-use Rattle.khe_instance.specs.Running.{duties as duties_of}
-use Rattle.khe_instance.specs.States.{IsTold}
 use Rattle.khe_instance.specs.declared.parts.Parts.{Parts}
 use Rattle.khe_instance.specs.declared.points.Point.{Point}
 use Rattle.khe_instance.specs.declared.points.Point.TheVariants.{Resource}
 use Rattle.khe_instance.specs.declared.states.Duty.{Duty}
 use Rattle.khe_instance.specs.declared.states.Meet.{Meet}
-use Rattle.khe_instance.specs.declared.states.Task.{Task}
 
 pub record State : Type 0 where
   pub parts : Parts
   pub meets : List Meet
   pub duties : List Duty
-
--- the meets are those of a state of the instance, and the duties its tasks with their meets
-pub record AreOfState (p : Parts) (ms : List Meet) (ds : List Duty) : Type 0 where
-  pub tasks : List Task
-  pub told : IsTold p ms tasks
-  pub same : ds ≡ duties_of ms tasks
 
 -- the point is an event, a place of one, an event group or a pair of events
 abbrev pub IsAtEvents : Point → Type 0

@@ -4,7 +4,8 @@ ghost use Rattle.khe_base.specs.declared.limits.TheConstants.{GREATEST_DEVIATION
 ghost use Rattle.khe_instance.specs.Deviation.{deviation, group_deviation};
 ghost use Rattle.khe_instance.specs.WellMade.{IsMonitor, IsRule};
 ghost use Rattle.event_deviations.specs.Rooms.{room_for};
-ghost use Rattle.event_deviations.specs.State.{AreOfState, IsAtEvents};
+ghost use Rattle.khe_instance.specs.States.{AreOfState};
+ghost use Rattle.event_deviations.specs.State.{IsAtEvents};
 
 use crate::at_events::{at_event, at_pair};
 use crate::at_groups::spread_events;

@@ -8,7 +8,7 @@ ghost use Rattle.khe_instance.specs.Running.{meets_of};
 ghost use Rattle.khe_instance.specs.WellMade.{AreWellMade};
 ghost use Rattle.event_deviations.specs.Bounded.{AreOfOneEvent};
 ghost use Rattle.event_deviations.specs.Indexed.{duties_by_place};
-ghost use Rattle.event_deviations.specs.State.{AreOfState};
+ghost use Rattle.khe_instance.specs.States.{AreOfState};
 
 use crate::lists::{duties_by, meets_by};
 use khe_base::{EventId, NoMemory, Seq};
