@@ -1,13 +1,9 @@
-use crate::constraints::{RawApplies, RawRule};
-use crate::faults::{
+use std::alloc::Global;
+use std::test::Fail;
+use xhstt_shape::reading::archive;
+use xhstt_shape::{
     BAD_NUMBER, BAD_WORD, MISSING_CHILD, REPEATED_CHILD, ShapeFault, UNKNOWN_ELEMENT,
 };
-use crate::reading::archive;
-use crate::records::{GroupSort, RawEvent, RawInstance, TimeSort};
-use khe_base::CostFn;
-use std::alloc::Global;
-use std::process::Abort;
-use std::test::Fail;
 use xhstt_text::elements;
 
 /// Texts that are no archives, each with the kind and the place of its first fault.
@@ -374,10 +370,7 @@ const REFUSED: &[(&[u8], u32, u64)] = &[
 fn fault_of(alloc: Global, text: &[u8]) -> Result<Option<ShapeFault>, Fail> {
     let text = if text.len() < 4096 { text } else { b"" };
     let tree = elements(alloc, text)?;
-    match archive(alloc, &tree) {
-        Ok(_) => Ok(None),
-        Err(fault) => Ok(Some(fault)),
-    }
+    Ok(archive(alloc, &tree).err())
 }
 
 #[test]
@@ -392,98 +385,5 @@ fn first_faults(rt: HostRuntime) -> Result<(), Fail> {
             })
         );
     }
-    Ok(())
-}
-
-/// An archive with each sort of list.
-const READ: &[u8] = b"<HighSchoolTimetableArchive Id='A'><Instances><Instance Id='I'>\
-<Times><TimeGroups><Week Id='w'/><TimeGroup Id='g'><Name> G </Name></TimeGroup><Day Id='d'/></TimeGroups>\
-<Time Id='t'><Week Reference='w'/><TimeGroups><TimeGroup Reference='g'/></TimeGroups></Time></Times>\
-<Resources><ResourceTypes><ResourceType Id='y'/></ResourceTypes><Resource Id='r'>\
-<ResourceType Reference='y'/></Resource></Resources>\
-<Events><EventGroups><Course Id='c'/></EventGroups><Event Id='e' Color='red'><Duration> 007 </Duration>\
-<Resources><Resource><Role> Teacher </Role><ResourceType Reference='y'/></Resource></Resources>\
-</Event></Events>\
-<Constraints><LimitBusyTimesConstraint Id='k'><Required>true</Required><Weight>1000000</Weight>\
-<CostFunction>Step</CostFunction><AppliesTo><Resources><Resource Reference='r'/></Resources></AppliesTo>\
-<Minimum>2</Minimum></LimitBusyTimesConstraint></Constraints></Instance></Instances>\
-<SolutionGroups><SolutionGroup Id='s'><Solution Reference='I'><Events><Event Reference='e'>\
-<Time Reference='t'/></Event></Events><Report>x</Report></Solution></SolutionGroup></SolutionGroups>\
-</HighSchoolTimetableArchive>";
-
-/// The only element of a list.
-fn only<'a, T>(rt: &impl Abort, list: &'a [T]) -> &'a T {
-    assert_eq!(rt; list.len(), 1);
-    &list[0]
-}
-
-/// Takes what threads may share and hand over.
-fn lends_to_threads<T: Send + Sync>(_value: &T) {}
-
-fn check_times(rt: &impl Abort, instance: &RawInstance) {
-    let groups = instance.time_groups.as_slice();
-    assert_eq!(rt; groups.len(), 3);
-    assert_eq!(rt; groups[0].sort, TimeSort::Week);
-    assert_eq!(rt; groups[1].sort, TimeSort::Group);
-    assert_eq!(rt; groups[1].name.as_str(), " G ");
-    assert_eq!(rt; groups[2].sort, TimeSort::Day);
-    let time = only(rt, instance.times.as_slice());
-    assert!(rt; time.week.is_some());
-    assert!(rt; time.day.is_none());
-    assert_eq!(rt; only(rt, time.time_groups.as_slice()).id.as_str(), "g");
-}
-
-fn check_event(rt: &impl Abort, event: &RawEvent) {
-    assert_eq!(rt; event.id.text.as_str(), "e");
-    assert_eq!(rt; event.duration, 7);
-    assert_eq!(rt; event.workload, None);
-    let resource = only(rt, event.resources.as_slice());
-    match &resource.role {
-        Some(role) => assert_eq!(rt; role.text.as_str(), "Teacher"),
-        None => assert!(rt; false),
-    }
-    assert!(rt; resource.reference.is_none());
-}
-
-#[test]
-fn an_archive(rt: HostRuntime) -> Result<(), Fail> {
-    let tree = elements(rt.alloc(), READ)?;
-    let archive = archive(rt.alloc(), &tree)?;
-    lends_to_threads(&archive);
-    let instance = only(&rt, archive.instances.as_slice());
-    check_times(&rt, instance);
-    check_event(&rt, only(&rt, instance.events.as_slice()));
-    assert_eq!(rt;
-        only(&rt, instance.event_groups.as_slice()).sort,
-        GroupSort::Course
-    );
-    let constraint = only(&rt, instance.constraints.as_slice());
-    assert_eq!(rt; constraint.cost, CostFn::Step);
-    assert_eq!(rt; constraint.weight, 1_000_000);
-    match &constraint.rule {
-        RawRule::LimitBusyTimes {
-            time_groups: _,
-            min,
-            max,
-        } => {
-            assert_eq!(rt; *min, 2);
-            assert_eq!(rt; *max, 2_147_483_647);
-        }
-        _ => assert!(rt; false),
-    }
-    match &constraint.applies {
-        RawApplies::Resources {
-            resource_groups: _,
-            resources,
-        } => {
-            assert_eq!(rt; only(&rt, resources.as_slice()).id.as_str(), "r");
-        }
-        _ => assert!(rt; false),
-    }
-    let group = only(&rt, archive.solution_groups.as_slice());
-    let solution = only(&rt, group.solutions.as_slice());
-    let entry = only(&rt, solution.events.as_slice());
-    assert_eq!(rt; entry.reference.id.as_str(), "e");
-    assert!(rt; entry.time.is_some());
     Ok(())
 }

@@ -1,76 +1,8 @@
-ghost use Rattle.std.specs.Prelude.{◌<◌, ◌^◌, length};
-
-use super::mutations;
-use crate::faults::{
-    BAD_MARKUP, BAD_REFERENCE, MISMATCHED_END, NOT_UTF8, TOO_DEEP, TextFault, UNSUPPORTED,
-};
-use crate::reader::elements;
-use crate::tree::{Attribute, Node, Span};
+use crate::mutations;
 use std::alloc::Global;
-use std::test::Fail;
-
-#[test]
-fn reads_each_row(rt: HostRuntime) -> Result<(), Fail> {
-    let tree = elements(rt.alloc(), b"<a x='1'><b/>u<c>v</c></a>")?;
-    let outer = Node {
-        at: 0,
-        name: Span { from: 1, to: 2 },
-        parent: None,
-        end: 3,
-        attributes: Span { from: 0, to: 1 },
-        value: Span { from: 9, to: 22 },
-        loose: Some(13),
-    };
-    let first = Node {
-        at: 9,
-        name: Span { from: 10, to: 11 },
-        parent: Some(0),
-        end: 2,
-        attributes: Span { from: 1, to: 1 },
-        value: Span { from: 13, to: 13 },
-        loose: None,
-    };
-    let second = Node {
-        at: 14,
-        name: Span { from: 15, to: 16 },
-        parent: Some(0),
-        end: 3,
-        attributes: Span { from: 1, to: 1 },
-        value: Span { from: 17, to: 18 },
-        loose: Some(17),
-    };
-    let attribute = Attribute {
-        at: 3,
-        name: Span { from: 3, to: 4 },
-        value: Span { from: 6, to: 7 },
-    };
-    assert_eq!(rt; tree.nodes.as_slice(), [outer, first, second].as_slice());
-    assert_eq!(rt; tree.attributes.as_slice(), [attribute].as_slice());
-    Ok(())
-}
-
-fn is_read(rt: &HostRuntime, text: &str) -> bool
-    requires { length text.now < 2 ^ 32 }
-{
-    elements(rt.alloc(), text.as_bytes()).is_ok()
-}
-
-#[test]
-fn reads_texts(rt: HostRuntime) {
-    assert!(rt; is_read(&rt, "<a/>"));
-    assert!(rt; is_read(&rt, " \t\r\n<a >\n</a >\n"));
-    assert!(rt; is_read(&rt, "<_.-9 a = '\"' b=\"'>\" />"));
-    assert!(rt; is_read(&rt, "<a>x<b/>y<b>z</b></a>"));
-    assert!(rt;
-        is_read(
-            &rt,
-            "<?xml version='1.0'?>\n<!-- - -->\n<a>é<!--<b>--></a><!---->"
-        )
-    );
-    assert!(rt; is_read(&rt, "\u{feff}<?xml ??><a/>"));
-    assert!(rt; is_read(&rt, "<a x='&lt;&#65;\u{fffd}'>&gt;&amp;&apos;&quot;</a>"));
-    assert!(rt; is_read(&rt, "<a>&#0000000009;&#xd;&#x10FFFF;\u{f000}</a>"));
-}
+use xhstt_text::{
+    BAD_MARKUP, BAD_REFERENCE, MISMATCHED_END, NOT_UTF8, TOO_DEEP, TextFault, UNSUPPORTED, elements,
+};
 
 /// Texts that are refused, each with the kind and the place of its first fault.
 const REFUSED: &[(&[u8], u32, u64)] = &[
