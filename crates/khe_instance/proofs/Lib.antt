@@ -4,3 +4,4 @@ pub mod ResourceBounds
 pub mod SlotsLemmas
 pub mod SumsLemmas
 pub mod TasksLemmas
+pub mod WatchingLaws
