@@ -1,10 +1,10 @@
-ghost use Rattle.std.specs.Prelude.{◌≡◌, ◌+◌, ◌-◌, ◌*◌, ◌≤◌, ◌<◌, ◌||◌, ◌&&◌, ℕ, length, count_by, All, IfSome};
+ghost use Rattle.std.specs.Prelude.{◌≡◌, ◌+◌, ◌-◌, ◌*◌, ◌≤◌, ◌<◌, ◌||◌, ℕ, length, count_by, All, IfSome};
 ghost use Rattle.std.specs.List.{sum_by, range_with_len};
 ghost use Rattle.khe_base.specs.declared.limits.TheConstants.{NUMBER, DURATION, LISTED};
 ghost use Rattle.khe_instance.specs.EventDeviation.{starts_in};
 ghost use Rattle.khe_instance.specs.Lookups.{duration_at, is_role};
 ghost use Rattle.event_deviations.specs.Groups.{some_has, has_duty, has_duty_among, starting_in, spread_over};
-ghost use Rattle.event_deviations.specs.Marked.{is_marked, marked_count};
+ghost use Rattle.event_deviations.specs.Marked.{is_marked};
 
 use crate::index::Index;
 use crate::marks::Marks;

@@ -1,4 +1,4 @@
-ghost use Rattle.std.specs.Prelude.{◌≡◌, ◌+◌, ◌≤◌, ◌<◌, ◌^◌, ℕ, length, All, IfSome};
+ghost use Rattle.std.specs.Prelude.{◌≡◌, ◌+◌, ◌≤◌, ◌<◌, length, All, IfSome};
 ghost use Rattle.std.specs.List.{list_any};
 ghost use Rattle.khe_base.specs.declared.limits.TheConstants.{TIMES, EVENTS};
 ghost use Rattle.khe_instance.specs.Running.{runs};

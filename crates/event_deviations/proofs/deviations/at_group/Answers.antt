@@ -3,8 +3,8 @@ use Rattle.std.specs.List.{range_with_len}
 use Rattle.khe_instance.specs.Deviation.{group_deviation}
 use Rattle.khe_instance.specs.declared.rules.Rule.{Rule}
 use Rattle.event_deviations.specs.Groups.{has_duty_among, spread_over, some_run, all_run}
-use Rattle.event_deviations.proofs.GroupLemmas.{split-is, spread-is}
-use Rattle.event_deviations.proofs.PointLemmas.{by_members, count_by-range}
+use Rattle.event_deviations.proofs.GroupLemmas.{by_members, split-is, spread-is}
+use Rattle.event_deviations.proofs.Kit.{count_by-range}
 use Rattle.event_deviations.proofs.deviations.at_group.Goals as goal
 
 pub returns-in-AvoidSplitAssignments-clause-exact : goal.returns-in-AvoidSplitAssignments-clause-exact
