@@ -35,7 +35,7 @@ All-where {X} P test (x ∷ xs) h =
     cond_both (test x) (x ∷ filter test xs) (filter test xs) (λ (ys : List X). All P ys)
     (λ e. All-cons P x (filter test xs) (All-head (λ y. test y ≡ true → P y) x xs h e) rest) (λ e. rest)
 
-All-of_map : {X Y : Type 0} (P : Y → Type 0) (f : X → Y) (xs : List X) → All P (map f xs) → All (λ x. P (f x)) xs
+pub All-of_map : {X Y : Type 0} (P : Y → Type 0) (f : X → Y) (xs : List X) → All P (map f xs) → All (λ x. P (f x)) xs
 All-of_map P f xs h k d l = subst P (get_or-map f xs k d (f d) l) (h k (f d) (let e = length-map xs f in omega arith))
 
 abbrev duty_of : Meet → Task → Duty
@@ -103,7 +103,7 @@ places_of p ms up =
     omega arith))))
 
 -- a meet is no longer than all meets of its event
-within : (e : ℕ) (ms : List Meet) → All (λ m. m.event.0 ≡ e → m.duration ≤ sum_by (λ x. x.duration) (meets_of e ms)) ms
+pub within : (e : ℕ) (ms : List Meet) → All (λ m. m.event.0 ≡ e → m.duration ≤ sum_by (λ x. x.duration) (meets_of e ms)) ms
 within e [] = All-nil (λ m. m.event.0 ≡ e → m.duration ≤ 0)
 within e (x ∷ xs) =
     let there : Meet → Bool = λ m. m.event.0 == e in
@@ -223,7 +223,7 @@ matched ms (t ∷ ts) h =
     omega arith
 
 -- a sum over meets by their events
-by_events : (w : ℕ → ℕ) (n : ℕ) (ms : List Meet) → All (λ m. m.event.0 < n) ms
+pub by_events : (w : ℕ → ℕ) (n : ℕ) (ms : List Meet) → All (λ m. m.event.0 < n) ms
     → sum_by (λ m. w m.event.0) ms ≤ sum_by (λ e. count_by (λ m. m.event.0 == e) ms * w e) (range_with_len 0 n)
 by_events w n [] h = omega arith
 by_events w n (m ∷ ms) h =
@@ -243,13 +243,23 @@ by_events w n (m ∷ ms) h =
     let rest = by_events w n ms (All-tail (λ x. x.event.0 < n) m ms h) in
     omega arith
 
+-- a list is no longer than a sum over it of numbers above 0
+pub length-le-sum_by : {X : Type 0} (f : X → ℕ) (xs : List X) → All (λ x. 1 ≤ f x) xs → length xs ≤ sum_by f xs
+length-le-sum_by f [] h = omega arith
+length-le-sum_by f (x ∷ xs) h =
+    let e = sum_by-cons f x xs in
+    let one : 1 ≤ f x = All-head (λ y. 1 ≤ f y) x xs h in
+    let rest = length-le-sum_by f xs (All-tail (λ y. 1 ≤ f y) x xs h) in
+    omega arith
+
 -- no event has more meets than its duration
-at_most_duration : (ms : List Meet) → All (λ m. 1 ≤ m.duration) ms → length ms ≤ sum_by (λ m. m.duration) ms
-at_most_duration [] h = omega arith
-at_most_duration (m ∷ ms) h =
-    let e = sum_by-cons (λ (x : Meet). x.duration) m ms in
-    let one : 1 ≤ m.duration = All-head (λ x. 1 ≤ x.duration) m ms h in
-    let rest = at_most_duration ms (All-tail (λ x. 1 ≤ x.duration) m ms h) in
+pub event_meets : (p : Parts) (ms : List Meet) (ts : List Task) → IsTold p ms ts → (e : ℕ) (event : EventInfo) → slice_get p.events e ≡ Some event
+    → count_by (λ m. m.event.0 == e) ms ≤ event.duration
+event_meets p ms ts told e event there =
+    let lasting : All (λ m. 1 ≤ m.duration) (meets_of e ms) = All-where (λ m. 1 ≤ m.duration) (λ m. m.event.0 == e) ms (λ k d l holds. (told.meets k d l).duration) in
+    let many : length (meets_of e ms) ≡ count_by (λ m. m.event.0 == e) ms = length-filter (λ (m : Meet). m.event.0 == e) ms in
+    let few = length-le-sum_by (λ (m : Meet). m.duration) (meets_of e ms) lasting in
+    let whole : sum_by (λ m. m.duration) (meets_of e ms) ≤ event.duration = told.durations e event there in
     omega arith
 
 -- a sum over the numbers of a list is one over the list
@@ -258,7 +268,7 @@ shifted g a zero = refl
 shifted g a (suc n) =
     sum_by-cons g (a + 1) (range_with_len (a + 1 + 1) n) ∙ (λ i. g (a + 1) + shifted g (a + 1) n i) ∙ sym (sum_by-cons (λ i. g (i + 1)) a (range_with_len (a + 1) n))
 
-numbered-sum : {X : Type 0} (f : X → ℕ) (xs : List X) → sum_by (λ i. option_map_or f (slice_get xs i) 0) (range_with_len 0 (length xs)) ≡ sum_by f xs
+pub numbered-sum : {X : Type 0} (f : X → ℕ) (xs : List X) → sum_by (λ i. option_map_or f (slice_get xs i) 0) (range_with_len 0 (length xs)) ≡ sum_by f xs
 numbered-sum f [] = refl
 numbered-sum f (x ∷ xs) =
     sum_by-cons (λ i. option_map_or f (slice_get (x ∷ xs) i) 0) 0 (range_with_len 1 (length xs))
@@ -274,10 +284,7 @@ at_event p ms ts told e = elim (slice_get_cases p.events e).1 [
   | inl found ↦
       let event : EventInfo = found.0 in
       let there : slice_get p.events e ≡ Some event = found.2 in
-      let lasting : All (λ m. 1 ≤ m.duration) (meets_of e ms) = All-where (λ m. 1 ≤ m.duration) (λ m. m.event.0 == e) ms (λ k d l holds. (told.meets k d l).duration) in
-      let many : length (meets_of e ms) ≡ count_by (λ m. m.event.0 == e) ms = length-filter (λ (m : Meet). m.event.0 == e) ms in
-      let few = at_most_duration (meets_of e ms) lasting in
-      let whole : sum_by (λ m. m.duration) (meets_of e ms) ≤ event.duration = told.durations e event there in
+      let few : count_by (λ m. m.event.0 == e) ms ≤ event.duration = event_meets p ms ts told e event there in
       let places : places_at p.events e ≡ length event.places = ap (λ (o : Option EventInfo). option_map_or (λ x. length x.places) o 0) there in
       let right : option_map_or wanted (slice_get p.events e) 0 ≡ event.duration * length event.places = ap (λ (o : Option EventInfo). option_map_or wanted o 0) there in
       let l : count_by (λ m. m.event.0 == e) ms * places_at p.events e ≤ event.duration * length event.places = mul-le (count_by (λ m. m.event.0 == e) ms) (places_at p.events e) event.duration (length event.places) (omega arith) (omega arith) in

@@ -30,7 +30,8 @@ rounded_small parts unit most positive h =
     let below : (parts + unit - 1) / unit < most + 1 = div_below (parts + unit - 1) unit (most + 1) positive l in
     omega arith
 
-counted : (test : ℕ → Bool) (n : ℕ) → count_by test (range_with_len 0 n) ≤ n
+-- no more numbers of a range pass a test than it has
+pub counted : (test : ℕ → Bool) (n : ℕ) → count_by test (range_with_len 0 n) ≤ n
 counted test n =
     let l = count_by-le-length test (range_with_len 0 n) in
     let e = length-range_with_len 0 n in

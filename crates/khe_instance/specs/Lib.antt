@@ -5,6 +5,7 @@ pub mod EventDeviation
 pub mod Examples
 pub mod KindLaws
 pub mod Kinds
+pub mod Laws
 pub mod Lookups
 pub mod Named
 pub mod ResourceDeviation

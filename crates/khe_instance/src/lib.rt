@@ -5,6 +5,7 @@
 mod examples;
 mod ids;
 mod instances;
+mod laws;
 mod parts;
 mod points;
 mod rules;
