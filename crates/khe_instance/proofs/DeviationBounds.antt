@@ -1,11 +1,11 @@
 -- No deviation of a monitor in a state is above the greatest one that the limits allow.
-use Rattle.std.proofs.Common.{◌≡◌, sym, ap, subst, refl, ℕ, ◌+◌, ◌*◌, ◌/◌, ◌<◌, ◌≤◌, ◌&&◌, cond, inl, inr, Option, Some, None, List, length, get_or, All, arith, count_by, sum_by, slice_get, le_trans}
+use Rattle.std.proofs.Common.{◌≡◌, sym, subst, refl, ℕ, ◌*◌, ◌/◌, ◌≤◌, ◌&&◌, cond, inl, inr, Option, Some, None, List, length, get_or, All, arith, slice_get, le_trans}
 use Rattle.std.specs.Option.{option_map_or}
 use Rattle.std.proofs.lemmas.Bool.{cond_both}
 use Rattle.std.proofs.lemmas.List.Sums.{sum_by-le, count_by-le-length}
 use Rattle.std.proofs.lemmas.Nat.{mul-le}
 use Rattle.std.proofs.lemmas.Option.{slice_get_cases}
-use Rattle.khe_base.specs.declared.limits.TheConstants.{DURATION, GREATEST_DEVIATION, NUMBER, TASKS}
+use Rattle.khe_base.specs.declared.limits.TheConstants.{GREATEST_DEVIATION, NUMBER, TASKS}
 use Rattle.khe_instance.specs.Deviation.{deviation, deviation_at, group_deviation}
 use Rattle.khe_instance.specs.ResourceDeviation.{workload_in, workload_of}
 use Rattle.khe_instance.specs.Running.{is_resource, running_tasks, runs}

@@ -1,6 +1,6 @@
 -- No deviation at an event, a place, an event group or a pair of events is above the greatest one
 -- that the limits allow.
-use Rattle.std.proofs.Common.{◌≡◌, sym, ap, subst, refl, ℕ, zero, suc, ◌+◌, ◌-◌, ◌*◌, ◌<◌, ◌≤◌, ◌==◌, Bool, true, false, cond, ◌&&◌, nat_lt, Option, Some, None, List, [], ◌∷◌, length, get_or, All, IfSome, arith, count_by, sum_by, filter, option_map, slice_get, le_trans, inl, inr}
+use Rattle.std.proofs.Common.{◌≡◌, sym, subst, ℕ, ◌+◌, ◌-◌, ◌*◌, ◌≤◌, ◌==◌, Bool, true, false, cond, ◌&&◌, Option, Some, None, List, [], ◌∷◌, length, get_or, All, IfSome, arith, count_by, sum_by, filter, option_map, le_trans, inl, inr}
 use Rattle.std.specs.Prelude.{is_none, int_lt, unsigned_abs, min, max, pos, ◌-ℤ◌}
 use Rattle.std.specs.List.{cons_option, filter_map, fold, list_any, range_with_len}
 use Rattle.std.specs.Option.{option_map_or}
@@ -14,7 +14,7 @@ use Rattle.std.proofs.lemmas.Option.{slice_get_cases}
 use Rattle.khe_base.specs.Bounds.{outside, count_outside}
 use Rattle.khe_base.specs.BoundsLaws.{count_outside_small}
 use Rattle.khe_base.specs.IdSet.{has_member}
-use Rattle.khe_base.specs.declared.limits.TheConstants.{DURATION, GREATEST_DEVIATION, LISTED, NUMBER, RESOURCES, TASKS, TIMES}
+use Rattle.khe_base.specs.declared.limits.TheConstants.{DURATION, GREATEST_DEVIATION, NUMBER, TASKS, TIMES}
 use Rattle.khe_base.specs.declared.numbers.TimeId.{TimeId}
 use Rattle.khe_instance.specs.Deviation.{event_deviation, place_deviation, group_deviation, pair_deviation}
 use Rattle.khe_instance.specs.EventDeviation.{allows, duties_at, starts_in, starts_outside, given_outside, is_unfit, runs_apart, starts_of, ends_of, order_of, order_events}

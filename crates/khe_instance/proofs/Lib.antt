@@ -7,5 +7,6 @@ pub mod ResourceBounds
 pub mod SlotsLemmas
 pub mod SumsLemmas
 pub mod TasksLemmas
+pub mod WatchedLaws
 pub mod WatchingLaws
 pub mod WorkloadLaws

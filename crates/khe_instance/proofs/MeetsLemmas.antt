@@ -1,11 +1,10 @@
 -- The meets of a state: there are no more than all events last together, and each is no longer than
 -- an event may be.
-use Rattle.std.proofs.Common.{◌≡◌, ◌∙◌, sym, ap, refl, ℕ, ◌*◌, ◌<◌, ◌≤◌, ◌==◌, ◌⊎◌, inl, inr, Option, Some, None, List, length, get_or, All, arith, count_by, sum_by, slice_get, mul-zero, subst, le_trans}
+use Rattle.std.proofs.Common.{◌≡◌, sym, refl, ℕ, ◌*◌, ◌<◌, ◌≤◌, ◌==◌, Option, Some, None, List, length, get_or, All, arith, count_by, sum_by, slice_get, subst}
 use Rattle.std.specs.List.{range_with_len}
 use Rattle.std.specs.Option.{option_map_or}
-use Rattle.std.proofs.lemmas.List.Elements.{Contains-get_or}
 use Rattle.std.proofs.lemmas.List.Sums.{sum_by-le-sum_by}
-use Rattle.std.proofs.lemmas.Option.{slice_get_cases, slice_get_within}
+use Rattle.std.proofs.lemmas.Option.{slice_get_within}
 use Rattle.khe_base.specs.declared.limits.TheConstants.{DURATION, NUMBER}
 use Rattle.khe_instance.specs.Lookups.{duration_at}
 use Rattle.khe_instance.specs.Running.{meets_of}

@@ -8,26 +8,27 @@ use Rattle.std.proofs.lemmas.List.FromFn.{length-range_with_len}
 use Rattle.std.proofs.lemmas.List.Sums.{sum_by-cons}
 use Rattle.khe_base.specs.IdSet.{has_member, member_count}
 use Rattle.khe_instance.specs.Watching.{pair_names, times_watched, watches_at}
+pub use Rattle.khe_instance.specs.WatchedSizes.{named, pair_size, group_size, listed_times, watched_size}
 use Rattle.khe_instance.specs.declared.parts.GroupInfo.{GroupInfo}
 use Rattle.khe_instance.specs.declared.parts.Parts.{Parts}
 use Rattle.khe_instance.specs.declared.points.Point.{Point}
 use Rattle.khe_instance.specs.declared.points.Point.TheVariants.{Event, EventResource, EventGroup, EventPair as Pair, Resource}
 use Rattle.khe_instance.specs.declared.rules.EventPair.{EventPair}
 use Rattle.khe_instance.specs.declared.rules.Rule.{Rule}
-use Rattle.khe_instance.specs.declared.rules.Rule.TheVariants.{AssignTime, AssignResource, SplitEvents, DistributeSplitEvents, PreferTimes, PreferResources, AvoidSplitAssignments, SpreadEvents, LinkEvents, OrderEvents, AvoidClashes, AvoidUnavailableTimes, LimitIdleTimes, ClusterBusyTimes, LimitBusyTimes, LimitWorkload}
+use Rattle.khe_instance.specs.declared.rules.Rule.TheVariants.{OrderEvents, AvoidClashes, AvoidUnavailableTimes, LimitIdleTimes, ClusterBusyTimes, LimitBusyTimes, LimitWorkload}
 
-abbrev bit : Bool → ℕ
+abbrev pub bit : Bool → ℕ
 bit b = cond b 1 0
 
 -- counts over a range that begins one later
-shift : (p : ℕ → Bool) (from n : ℕ) → count_by p (range_with_len (from + 1) n) ≡ count_by (λ t. p (t + 1)) (range_with_len from n)
+pub shift : (p : ℕ → Bool) (from n : ℕ) → count_by p (range_with_len (from + 1) n) ≡ count_by (λ t. p (t + 1)) (range_with_len from n)
 shift p from zero = refl
 shift p from (suc n) =
     sum_by-cons (λ t. bit (p t)) (from + 1) (range_with_len (from + 1 + 1) n)
     ∙ ap (λ k. bit (p (from + 1)) + k) (shift p (from + 1) n)
     ∙ sym (sum_by-cons (λ t. bit (p (t + 1))) from (range_with_len (from + 1) n))
 
-none : (from n : ℕ) → count_by (λ t. false) (range_with_len from n) ≡ 0
+pub none : (from n : ℕ) → count_by (λ t. false) (range_with_len from n) ≡ 0
 none from zero = refl
 none from (suc n) = sum_by-cons (λ t. 0) from (range_with_len (from + 1) n) ∙ (let z : 0 + count_by (λ t. false) (range_with_len (from + 1) n) ≡ count_by (λ t. false) (range_with_len (from + 1) n) = omega arith in z) ∙ none (from + 1) n
 
@@ -42,7 +43,7 @@ members_within (b ∷ bs) (suc n) =
     omega (arith, here, later, members_within bs n, sum_by-cons bit b bs)
 
 -- one number stands in a range once at most
-past : (a from n : ℕ) → a < from → count_by (λ e. a == e) (range_with_len from n) ≡ 0
+pub past : (a from n : ℕ) → a < from → count_by (λ e. a == e) (range_with_len from n) ≡ 0
 past a from zero l = refl
 past a from (suc n) l =
     let z : bit (a == from) ≡ 0 = ap bit (ne_eqb a from (λ e. omega (arith, e, l))) in
@@ -70,14 +71,6 @@ either p q (n ∷ ns) =
     one false true = omega arith
     one false false = omega arith
 
-abbrev named : Bool → ℕ
-named same = cond same 1 2
-
--- how many events a pair names
-abbrev pub pair_size : Rule → ℕ → ℕ
-pair_size (OrderEvents pairs) k = option_map_or (λ q. named (q.first.0 == q.second.0)) (slice_get pairs k) 0
-pair_size _ k = 0
-
 pair_within : (a b n : ℕ) → count_by (λ e. (a == e) || (b == e)) (range_with_len 0 n) ≤ named (a == b)
 pair_within a b n = by (cases_eq a b)
   where
@@ -95,10 +88,6 @@ pair_within a b n = by (cases_eq a b)
         let z : named (a == b) ≡ 2 = ap named (ne_eqb a b d) in
         omega (arith, z, either (λ e. a == e) (λ e. b == e) (range_with_len 0 n), once a 0 n, once b 0 n)
 
--- how many events a group has
-abbrev pub group_size : Parts → ℕ → ℕ
-group_size p g = option_map_or (λ group. member_count group.events) (slice_get p.groups g) 0
-
 group_within : (o : Option GroupInfo) (n : ℕ) → count_by (λ e. option_map_or (λ (group : GroupInfo). has_member group.events e) o false) (range_with_len 0 n) ≤ option_map_or (λ (group : GroupInfo). member_count group.events) o 0
 group_within None n = omega (arith, none 0 n)
 group_within (Some g) n = members_within g.events n
@@ -111,24 +100,15 @@ pairs_within : (rule : Rule) (k n : ℕ) → count_by (λ e. pair_names rule k e
 pairs_within (OrderEvents pairs) k n = listed_pair (slice_get pairs k) n
 pairs_within _ k n = omega (arith, none 0 n)
 
--- how many times a rule lists, with repeats, and 1 for a workload
-abbrev pub listed_times : Parts → Rule → ℕ
-listed_times p AvoidClashes = length p.times
-listed_times p (AvoidUnavailableTimes times) = member_count times
-listed_times p (LimitIdleTimes groups least greatest) = sum_by member_count groups
-listed_times p (ClusterBusyTimes groups least greatest) = sum_by member_count groups
-listed_times p (LimitBusyTimes groups least greatest) = sum_by member_count groups
-listed_times p _ = 1
-
-plus : (f g : ℕ → ℕ) (ns : List ℕ) → sum_by (λ t. f t + g t) ns ≡ sum_by f ns + sum_by g ns
+pub plus : (f g : ℕ → ℕ) (ns : List ℕ) → sum_by (λ t. f t + g t) ns ≡ sum_by f ns + sum_by g ns
 plus f g [] = refl
 plus f g (n ∷ ns) = omega (arith, sum_by-cons (λ t. f t + g t) n ns, sum_by-cons f n ns, sum_by-cons g n ns, plus f g ns)
 
-nothing : (ns : List ℕ) → sum_by (λ t. 0) ns ≡ 0
+pub nothing : (ns : List ℕ) → sum_by (λ t. 0) ns ≡ 0
 nothing [] = refl
 nothing (n ∷ ns) = omega (arith, sum_by-cons (λ t. 0) n ns, nothing ns)
 
-ones : (ns : List ℕ) → sum_by (λ t. 1) ns ≡ length ns
+pub ones : (ns : List ℕ) → sum_by (λ t. 1) ns ≡ length ns
 ones [] = refl
 ones (n ∷ ns) = omega (arith, sum_by-cons (λ t. 1) n ns, ones ns)
 
@@ -155,14 +135,6 @@ times_within p (ClusterBusyTimes groups least greatest) = omega (arith, groups_w
 times_within p (LimitBusyTimes groups least greatest) = omega (arith, groups_within groups (length p.times))
 times_within p (LimitWorkload least greatest) = omega (arith, nothing (range_with_len 0 (length p.times)))
 times_within p _ = omega (arith, nothing (range_with_len 0 (length p.times)))
-
--- what a monitor's point and rule watch, by sizes
-abbrev pub watched_size : Parts → Rule → Point → ℕ
-watched_size p rule (Event e) = 1
-watched_size p rule (EventResource e place) = 1
-watched_size p rule (EventGroup g) = group_size p g
-watched_size p rule (Pair k) = pair_size rule k
-watched_size p rule (Resource r) = listed_times p rule
 
 pub watches_within : (p : Parts) (rule : Rule) (point : Point) → watches_at p rule point ≤ watched_size p rule point
 watches_within p rule (Event e) = once e.0 0 (length p.events)

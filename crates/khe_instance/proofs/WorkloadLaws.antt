@@ -1,6 +1,6 @@
 -- A workload is a sum of fractions: any other common multiple of the durations in place of the least
 -- one, as the number of parts of one, gives the same deviation.
-use Rattle.std.proofs.Common.{◌≡◌, ◌∙◌, sym, ap, ap₂, refl, ℕ, zero, suc, ◌+◌, ◌-◌, ◌*◌, ◌/◌, ◌%◌, ◌<◌, ◌≤◌, ◌⊎◌, inl, inr, Bool, true, false, cond, nat_lt, Option, Some, None, List, [], ◌∷◌, map, length, get_or, All, arith, sum_by, slice_get, mul_assoc, mul-zero, lt-ltb, le-ltb, subst}
+use Rattle.std.proofs.Common.{◌≡◌, ◌∙◌, sym, ap, ap₂, refl, ℕ, zero, suc, ◌+◌, ◌-◌, ◌*◌, ◌/◌, ◌%◌, ◌<◌, ◌≤◌, ◌⊎◌, inl, inr, Bool, true, false, cond, nat_lt, Option, Some, None, List, [], ◌∷◌, arith, slice_get, mul_assoc, mul-zero, lt-ltb, le-ltb, subst}
 use Prim.Native.Nat.{◌∣◌}
 use Rattle.std.specs.Option.{option_map_or}
 use Rattle.std.proofs.Math.Nat.{div-mul_cancel, mul-add, mul-sub, mul_comm, mul-le-mul_left}

@@ -5,6 +5,8 @@ use Rattle.khe_base.specs.declared.limits.TheConstants.{GREATEST_DEVIATION}
 use Rattle.khe_instance.specs.Deviation.{deviation}
 use Rattle.khe_instance.specs.ResourceDeviation.{limit_workload, workload_in}
 use Rattle.khe_instance.specs.States.{AreOfState}
+use Rattle.khe_instance.specs.WatchedSizes.{size_watched}
+use Rattle.khe_instance.specs.Watching.{watches}
 use Rattle.khe_instance.specs.WellMade.{AreWellMade, IsMonitor}
 use Rattle.khe_instance.specs.declared.parts.EventInfo.{EventInfo}
 use Rattle.khe_instance.specs.declared.parts.Parts.{Parts}
@@ -35,3 +37,7 @@ abbrev pub AllUnitsGiveTheSame : Type 0
 AllUnitsGiveTheSame =
     (events : List EventInfo) (one other : ℕ) (ds : List Duty) (r least greatest : ℕ) → IsCommonMultiple events one → IsCommonMultiple events other
     → limit_workload one (workload_in events one ds r) least greatest ≡ limit_workload other (workload_in events other ds r) least greatest
+
+-- a monitor watches what the sizes of its rule's and its point's sets say
+abbrev pub WatchesAreSizes : Type 0
+WatchesAreSizes = (p : Parts) (m : Monitor) → AreWellMade p → IsMonitor p m → watches p m ≡ size_watched p m

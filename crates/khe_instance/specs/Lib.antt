@@ -13,5 +13,6 @@ pub mod Running
 pub mod SlotTables
 pub mod Slots
 pub mod States
+pub mod WatchedSizes
 pub mod Watching
 pub mod WellMade

@@ -2,7 +2,7 @@
 //! these.
 #![allow(dead_code)]
 
-ghost use Rattle.khe_instance.specs.Laws.{DeviationsAreSmall, FinerPartsGiveTheSame, AllUnitsGiveTheSame};
+ghost use Rattle.khe_instance.specs.Laws.{DeviationsAreSmall, FinerPartsGiveTheSame, AllUnitsGiveTheSame, WatchesAreSizes};
 
 // No monitor deviates by more than the greatest deviation that the limits allow.
 fn deviations_are_small()
@@ -14,4 +14,9 @@ fn deviations_are_small()
 fn the_unit_leaves_no_trace()
     ensures finer { FinerPartsGiveTheSame }
     ensures any { AllUnitsGiveTheSame }
+{}
+
+// A monitor watches one event, the events of its group or its pair, or the times that its rule lists.
+fn watches_are_sizes()
+    ensures { WatchesAreSizes }
 {}
