@@ -1,5 +1,5 @@
 -- How many tasks there are, and what stands in memory for them.
-use Rattle.std.proofs.Common.{ℕ, ◌≡◌, ◌+◌, ◌*◌, ◌-◌, ◌<◌, ◌≤◌, ◌++◌, ◌∙◌, Some, List, [], ◌∷◌, length, map, take, drop, drop-cons, add-one, zero-add, append_assoc, get_or, refl, sym, ap, subst, arith, zero, suc, slice_get, length-append}
+use Rattle.std.proofs.Common.{ℕ, ◌≡◌, ◌+◌, ◌*◌, ◌<◌, ◌++◌, ◌∙◌, Some, List, [], ◌∷◌, length, map, take, drop, drop-cons, add-one, zero-add, append_assoc, get_or, refl, sym, ap, arith, zero, suc, slice_get, length-append}
 use Rattle.std.specs.Prelude.{replicate}
 use Rattle.std.specs.List.{sum_by, range_with_len}
 use Rattle.std.specs.Option.{option_map_or}
@@ -10,7 +10,7 @@ use Rattle.std.proofs.lemmas.Option.{same_Some, slice_get-get_or}
 use Rattle.khe_base.specs.declared.numbers.TaskId.{TaskId}
 use Rattle.khe_instance.specs.Lookups.{places_at}
 use Rattle.khe_instance.specs.Slots.{slots_from, slot_tasks, tasks_from, all_tasks, first_task}
-use Rattle.khe_instance.specs.SlotTables.{first_tasks, AreTasks, IsSlotTable}
+use Rattle.khe_instance.specs.SlotTables.{IsSlotTable}
 use Rattle.khe_instance.specs.declared.parts.EventInfo.{EventInfo}
 use Rattle.khe_instance.specs.declared.slots.SlotTable.{SlotTable}
 use Rattle.khe_instance.proofs.SlotsLemmas.{length-slots_from}

@@ -1,7 +1,7 @@
 -- Which timetables are states of an instance: what a solver may hold while it works, and what a
 -- timetable is that stands whole.
 use Rattle.std.specs.Prelude.{ℕ, ◌≡◌, ◌+◌, ◌<◌, ◌≤◌, Option, Some, List, [], ◌∷◌, map, length, All, AllPairs, ◌≢◌, IfSome, slice_get}
-use Rattle.std.specs.List.{sum_by, flat_map, range_with_len}
+use Rattle.std.specs.List.{sum_by, flat_map}
 use Rattle.std.specs.List.Sorted.{IsStrictlyIncreasing}
 use Rattle.khe_base.specs.declared.limits.TheConstants.{GROUPS, TASKS}
 use Rattle.khe_base.specs.declared.numbers.TaskId.{TaskId}

@@ -1,5 +1,5 @@
 -- The members of one more group.
-use Rattle.std.proofs.Common.{◌≡◌, ◌++◌, ◌∷◌, [], ◌∙◌, ap, sym, map, take, List, Bool, ℕ}
+use Rattle.std.proofs.Common.{◌++◌, ◌∷◌, [], ◌∙◌, ap, sym, map, take, List, ℕ}
 use Rattle.std.proofs.lemmas.List.{take_more, map-append}
 use Rattle.khe_base.specs.IdSet.{members_of}
 use Rattle.khe_instance.specs.declared.parts.GroupInfo.{GroupInfo}

@@ -1,5 +1,5 @@
 -- The slots are of these events, and few.
-use Rattle.std.proofs.Common.{ℕ, ◌≡◌, ◌<◌, ◌^◌, ◌∙◌, ap, sym, subst, arith, length, List}
+use Rattle.std.proofs.Common.{◌≡◌, ◌<◌, ◌^◌, ◌∙◌, sym, subst, arith, length}
 use Rattle.std.specs.List.{All}
 use Rattle.khe_instance.specs.Slots.{slots_from, tasks_from}
 use Rattle.khe_instance.proofs.SlotsLemmas.{length-slots_from, slots-below}

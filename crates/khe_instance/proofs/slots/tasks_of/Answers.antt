@@ -1,11 +1,11 @@
 -- The tasks of one more slot.
-use Rattle.std.proofs.Common.{ℕ, ◌≡◌, ◌<◌, ◌^◌, ◌++◌, ◌∷◌, [], ◌∙◌, ap, sym, subst, arith, length, get_or, slice_get, Some, List}
+use Rattle.std.proofs.Common.{ℕ, ◌≡◌, ◌^◌, ◌++◌, ◌∷◌, [], ◌∙◌, ap, sym, subst, arith, length, get_or, slice_get, Some, List}
 use Rattle.std.proofs.lemmas.Option.{slice_get_read}
 use Rattle.std.specs.Option.{option_map_or}
 use Rattle.khe_base.specs.declared.numbers.TaskId.{TaskId}
 use Rattle.khe_instance.specs.Lookups.{places_at}
 use Rattle.khe_instance.specs.declared.parts.EventInfo.{EventInfo}
-use Rattle.khe_instance.proofs.TasksLemmas.{IsUnder, under-start, under-rest, under-step, few-tasks, few-places}
+use Rattle.khe_instance.proofs.TasksLemmas.{IsUnder, under-start, under-step, few-places}
 use Rattle.khe_instance.proofs.slots.tasks_of.Goals as goal
 
 places-there : (events : List EventInfo) (e n : ℕ) (x : EventInfo) → slice_get events e ≡ Some x → n ≡ length x.places → n ≡ places_at events e

@@ -1,5 +1,5 @@
 -- A slot below the sum of the durations stands in the list of slots.
-use Rattle.std.proofs.Common.{◌≡◌, ◌<◌, ◌∙◌, sym, ap, subst, length, get_or, arith, List, ℕ, slice_get, Some}
+use Rattle.std.proofs.Common.{◌≡◌, ◌<◌, ◌∙◌, sym, ap, subst, length, get_or, arith, slice_get}
 use Rattle.std.proofs.lemmas.Option.{get_or_from_slice_get}
 use Rattle.khe_instance.specs.Slots.{slots_from, HasSlot}
 use Rattle.khe_instance.specs.SlotTables.{IsSlotTable}

@@ -1,7 +1,6 @@
 -- The first task of a slot comes after those of the slots before it.
-use Rattle.std.proofs.Common.{◌≡◌, ◌<◌, ◌∙◌, ap, sym, subst, arith, length, ℕ, slice_get, Some}
+use Rattle.std.proofs.Common.{subst, arith}
 use Rattle.khe_instance.specs.SlotTables.{IsSlotTable}
-use Rattle.khe_instance.specs.WellMade.{AreWellMade}
 use Rattle.khe_instance.specs.declared.parts.Parts.{Parts}
 use Rattle.khe_instance.proofs.TasksLemmas.{table-firsts, table-first}
 use Rattle.khe_instance.proofs.instances.Instance.first_task.Goals as goal

@@ -1,7 +1,6 @@
 -- A number below that of all tasks is one's.
-use Rattle.std.proofs.Common.{◌≡◌, ◌<◌, ◌∙◌, ap, sym, subst, arith, length, ℕ, slice_get, Some}
+use Rattle.std.proofs.Common.{◌∙◌, ap, sym, subst, arith, slice_get}
 use Rattle.khe_instance.specs.SlotTables.{IsSlotTable}
-use Rattle.khe_instance.specs.WellMade.{AreWellMade}
 use Rattle.khe_instance.specs.declared.parts.Parts.{Parts}
 use Rattle.khe_instance.proofs.TasksLemmas.{table-tasks}
 use Rattle.khe_instance.proofs.instances.Instance.task.Goals as goal

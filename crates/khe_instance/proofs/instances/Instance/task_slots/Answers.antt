@@ -1,5 +1,5 @@
 -- The tasks are those of the events.
-use Rattle.std.proofs.Common.{◌≡◌, ◌<◌, ◌∙◌, ap, sym, subst, arith, length, ℕ, slice_get, Some}
+use Rattle.std.proofs.Common.{◌∙◌, subst, arith}
 use Rattle.khe_instance.specs.SlotTables.{IsSlotTable}
 use Rattle.khe_instance.specs.WellMade.{AreWellMade}
 use Rattle.khe_instance.specs.declared.parts.Parts.{Parts}
