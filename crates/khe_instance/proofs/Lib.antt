@@ -1,3 +1,4 @@
+pub mod CostsLaws
 pub mod DutiesLemmas
 pub mod MadeLemmas
 pub mod ResourceBounds
