@@ -1,3 +1,4 @@
+pub mod CostsLaws
 pub mod DeviationBounds
 pub mod DutiesLemmas
 pub mod EventBounds
