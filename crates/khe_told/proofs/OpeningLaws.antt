@@ -1,5 +1,5 @@
 -- The rows of an instance without meets, event by event.
-use Rattle.std.proofs.Common.{ℕ, ◌≡◌, ◌+◌, ◌-◌, ◌*◌, ◌<◌, ◌≤◌, suc, Option, Some, None, List, [], ◌∷◌, ◌++◌, length, map, drop, take, replicate, slice_get, refl, sym, ap, subst, ◌∙◌, arith, append_assoc}
+use Rattle.std.proofs.Common.{ℕ, ◌≡◌, ◌+◌, ◌-◌, ◌*◌, ◌≤◌, suc, Some, None, List, [], ◌∷◌, ◌++◌, length, map, drop, take, replicate, slice_get, refl, sym, ap, subst, ◌∙◌, arith, append_assoc}
 use Rattle.std.specs.List.{range_with_len, sum_by}
 use Rattle.std.proofs.Math.Nat.{add-mul, one-mul, zero-mul}
 use Rattle.std.proofs.lemmas.List.{append-nil, drop-replicate, take-replicate, length-append}
@@ -10,7 +10,7 @@ use Rattle.khe_instance.specs.WellMade.{AreFirstMeets}
 use Rattle.khe_instance.specs.declared.parts.EventInfo.{EventInfo}
 use Rattle.khe_told.proofs.StoredLaws.{in_order}
 use Rattle.khe_told.specs.Slots.{empty_slot, slots_from, slots_of_event}
-use Rattle.khe_told.specs.Stored.{AreInOrder, free_slot, free_slots, slot_in, slots_in}
+use Rattle.khe_told.specs.Stored.{AreInOrder, free_slot, free_slots, slots_in}
 use Rattle.khe_told.specs.declared.rows.Row.{Row}
 use Rattle.khe_told.specs.declared.slots.Slot.{Slot}
 

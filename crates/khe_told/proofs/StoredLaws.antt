@@ -1,9 +1,9 @@
 -- What reading and changing the stored rows does to the told state.
-use Rattle.std.proofs.Common.{ℕ, ◌≡◌, ◌+◌, ◌-◌, ◌<◌, ◌≤◌, zero, suc, Option, Some, None, List, [], ◌∷◌, length, take, drop, get_or, set, slice_get, refl, sym, ap, subst, ◌∙◌, arith, set-set}
+use Rattle.std.proofs.Common.{ℕ, ◌≡◌, ◌+◌, ◌-◌, ◌<◌, ◌≤◌, zero, suc, Option, Some, None, List, [], ◌∷◌, length, take, drop, get_or, set, slice_get, refl, sym, ap, subst, ◌∙◌, arith}
 use Rattle.std.specs.Option.{option_map_or}
 use Rattle.std.specs.Prelude.{MatchOption}
 use Rattle.std.proofs.Math.Seq.{take-set-lt}
-use Rattle.std.proofs.lemmas.List.{set-get_or, length-set, length-take, length-drop, take-set-le, drop-set-lt, drop-set-add}
+use Rattle.std.proofs.lemmas.List.{set-get_or, length-set, length-take, take-set-le, drop-set-lt, drop-set-add}
 use Rattle.std.proofs.lemmas.Option.{get_or_from_slice_get, slice_get-get_or, slice_get_within}
 use Rattle.khe_base.specs.declared.numbers.ResourceId.{ResourceId}
 use Rattle.khe_told.specs.Changes.{after, changed, meet_of, span_after}

@@ -1,5 +1,5 @@
 -- One more row of the event.
-use Rattle.std.proofs.Common.{◌≡◌, ◌+◌, ◌++◌, ◌∷◌, [], List, None, length, sym, subst}
+use Rattle.std.proofs.Common.{◌+◌, ◌++◌, ◌∷◌, [], List, None, sym, subst}
 use Rattle.khe_told.specs.declared.rows.Row.{Row}
 use Rattle.khe_told.proofs.OpeningLaws.{IsPushed, pushed_more}
 use Rattle.khe_told.proofs.opening.push_rows.Goals as goal

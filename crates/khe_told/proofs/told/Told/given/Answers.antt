@@ -1,5 +1,5 @@
 -- The task slots of a row are among all, and are what its places are given.
-use Rattle.std.proofs.Common.{sym, ap, ◌∙◌, ◌≡◌, ◌+◌, ◌-◌, ◌≤◌, arith, List, Option, take, drop, slice_get, length, Some, None}
+use Rattle.std.proofs.Common.{sym, ap, ◌∙◌, ◌≡◌, ◌+◌, ◌-◌, arith, List, Option, take, drop, slice_get, length, Some, None}
 use Rattle.khe_base.specs.declared.numbers.ResourceId.{ResourceId}
 use Rattle.khe_told.specs.declared.rows.Row.{Row}
 use Rattle.khe_told.specs.declared.slots.Slot.{Slot}

@@ -1,5 +1,5 @@
 -- The rows and the task slots are turned to the state after the change.
-use Rattle.std.proofs.Common.{sym, ap, ◌∙◌, ◌<◌, ◌≡◌, arith, length, subst, List}
+use Rattle.std.proofs.Common.{sym, ap, ◌∙◌, arith, length, subst, List}
 use Rattle.khe_told.specs.Changes.{after, meet_of}
 use Rattle.khe_told.specs.Fits.{Suits}
 use Rattle.khe_told.specs.Slots.{slot_at}

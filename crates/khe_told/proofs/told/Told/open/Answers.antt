@@ -1,5 +1,5 @@
 -- The rows are those of the instance, and nothing is given.
-use Rattle.std.proofs.Common.{ap, ◌∙◌, None}
+use Rattle.std.proofs.Common.{ap, ◌∙◌}
 use Rattle.khe_told.specs.Stored.{slots_in}
 use Rattle.khe_told.proofs.OpeningLaws.{free_given}
 use Rattle.khe_told.proofs.told.Told.open.Goals as goal
