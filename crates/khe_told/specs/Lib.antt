@@ -5,4 +5,5 @@ pub mod Lists
 pub mod Refusals
 pub mod Slots
 pub mod Stored
+pub mod Valid
 pub mod Watchers
