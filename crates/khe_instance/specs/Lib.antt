@@ -9,6 +9,7 @@ pub mod Lookups
 pub mod Named
 pub mod ResourceDeviation
 pub mod Running
+pub mod SlotTables
 pub mod Slots
 pub mod States
 pub mod Watching

@@ -8,6 +8,7 @@ mod instances;
 mod parts;
 mod points;
 mod rules;
+mod slots;
 mod states;
 
 pub use instances::Instance;

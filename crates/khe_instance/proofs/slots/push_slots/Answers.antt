@@ -2,7 +2,7 @@
 use Rattle.std.proofs.Common.{◌++◌, ◌∷◌, [], ◌∙◌, ap, append_assoc}
 use Rattle.std.specs.Prelude.{replicate}
 use Rattle.std.proofs.lemmas.List.{replicate-append-replicate}
-use Rattle.khe_instance.proofs.instances.push_slots.Goals as goal
+use Rattle.khe_instance.proofs.slots.push_slots.Goals as goal
 
 pub loop-preserved : goal.loop-preserved
 loop-preserved c =
