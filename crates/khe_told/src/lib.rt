@@ -7,6 +7,7 @@ mod both;
 mod changes;
 mod edits;
 mod families;
+mod laws;
 mod opening;
 mod refusals;
 mod rows;
