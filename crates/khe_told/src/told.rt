@@ -44,8 +44,8 @@ impl Told {
     pub fn open(alloc: Global, inst: &Instance) -> Result<Told, NoMemory>
         ensures { IfOk result (λ t. t ≡ no_meets inst.now) }
     {
-        let (rows, tasks) = rows_of(alloc, inst)?;
-        let given = no_tasks(alloc, tasks)?;
+        let rows = rows_of(alloc, inst)?;
+        let given = no_tasks(alloc, inst.task_slots())?;
         Ok(Told { rows, given })
     }
 
