@@ -20,7 +20,7 @@ use std::marker::Model;
 ///
 /// It keeps one row for each meet slot and one entry for each task slot, a few bytes each. No call
 /// but `open` takes memory, and each takes constant time.
-#[derive(Debug, Drop)]
+#[derive(Drop)]
 pub struct Told {
     rows: Vec<Row>,
     /// What each task slot is given.
