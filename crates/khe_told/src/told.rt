@@ -1,0 +1,143 @@
+ghost use Rattle.std.specs.Prelude.{◌≡◌, ◌<◌, ◌≤◌, length, slice_get, IfOk, MatchOption, Some};
+ghost use Rattle.khe_instance.specs.States.{IsTold};
+ghost use Rattle.khe_told.specs.Slots.{no_meets, no_slot, slot_at};
+ghost use Rattle.khe_told.specs.Lists.{meet_in, meets_in, tasks_in};
+ghost use Rattle.khe_told.specs.Changes.{after};
+ghost use Rattle.khe_told.specs.Fits.{AreTold, Fits};
+ghost use Rattle.khe_told.specs.Stored.{IsRowOf};
+
+use crate::changes::Change;
+use crate::filling::put_all;
+use crate::opening::{no_tasks, rows_of};
+use crate::rows::{Row, row_at, turn};
+use crate::slots::Span;
+use khe_base::{EventId, MeetId, NoMemory, ResourceId, TaskId};
+use khe_instance::{Instance, Meet, Plain};
+use std::alloc::Global;
+use std::marker::Model;
+
+/// The meets and tasks that were told. Contracts see the list of slots.
+///
+/// It keeps one row for each meet slot and one entry for each task slot, a few bytes each. No call
+/// but `open` takes memory, and each takes constant time.
+#[derive(Drop)]
+pub struct Told {
+    rows: Vec<Row>,
+    /// What each task slot is given.
+    given: Vec<Option<ResourceId>>,
+}
+
+impl Model for Told {
+    ghost use Rattle.std.specs.Prelude.{List, length};
+    ghost use Rattle.khe_told.specs.Stored.{slots_in, AreInOrder};
+    ghost use Rattle.khe_told.specs.declared.slots.Slot.{Slot};
+
+    ghost Value = { List Slot };
+
+    ghost view = { λ t. slots_in 0 t.rows.items t.given.items };
+
+    ghost invariant = { λ t. AreInOrder 0 (length t.given.items) t.rows.items };
+}
+
+impl Told {
+    /// No meets. It takes time and memory in proportion to the meet slots and the task slots.
+    pub fn open(alloc: Global, inst: &Instance) -> Result<Told, NoMemory>
+        ensures { IfOk result (λ t. t ≡ no_meets inst.now) }
+    {
+        let rows = rows_of(alloc, inst)?;
+        let given = no_tasks(alloc, inst.task_slots())?;
+        Ok(Told { rows, given })
+    }
+
+    /// The meets and tasks of a state. It takes time and memory in proportion to the meet slots and
+    /// the task slots.
+    pub fn from_plain(alloc: Global, inst: &Instance, plain: &Plain) -> Result<Told, NoMemory>
+        requires { IsTold inst.now plain.now.meets plain.now.tasks }
+        ensures told { IfOk result (λ t. AreTold inst.now t) }
+        ensures meets { IfOk result (λ t. meets_in t ≡ plain.now.meets) }
+        ensures tasks { IfOk result (λ t. tasks_in t ≡ plain.now.tasks) }
+    {
+        inst.facts();
+        let mut told = Told::open(alloc, inst)?;
+        put_all(inst, &mut told.rows, &mut told.given, plain);
+        Ok(told)
+    }
+
+    /// How many meet slots there are.
+    pub fn len(&self) -> usize
+        ensures { result ≡ length self.now }
+    {
+        self.rows.len()
+    }
+
+    /// The stored row of a meet slot.
+    fn row(&self, meet: MeetId) -> Option<Row>
+        ensures { MatchOption result
+            ((length self.now ≤ meet.0) × (slot_at self.now meet.0 ≡ no_slot))
+            (λ row. IsRowOf row meet.0 (slot_at self.now meet.0)) }
+    {
+        row_at(&self.rows, meet)
+    }
+
+    /// The event of a meet slot.
+    pub fn event(&self, meet: MeetId) -> EventId
+        requires { meet.0 < length self.now }
+        ensures { result ≡ (slot_at self.now meet.0).event }
+    {
+        let Some(row) = self.row(meet) else {
+            unreachable!()
+        };
+        row.event
+    }
+
+    /// The duration and the start of a told meet, or `None` where no told meet has the number.
+    pub fn span(&self, meet: MeetId) -> Option<Span>
+        ensures { result ≡ (slot_at self.now meet.0).span }
+    {
+        self.row(meet)?.span
+    }
+
+    /// What each place of a meet slot is given, in order: nothing at all where the slot is free,
+    /// and the empty list where no slot has the number.
+    pub fn given(&self, meet: MeetId) -> &[Option<ResourceId>]
+        ensures { result.now ≡ (slot_at self.now meet.0).given }
+    {
+        let Some(row) = row_at(&self.rows, meet) else {
+            return &[];
+        };
+        let first = row.first_task as usize;
+        &self.given[first..first + row.places as usize]
+    }
+
+    /// The told meet, or `None` where no told meet has the number.
+    pub fn meet(&self, meet: MeetId) -> Option<Meet>
+        ensures { result ≡ meet_in (slot_at self.now meet.0) }
+    {
+        let row = self.row(meet)?;
+        let span = row.span?;
+        Some(Meet {
+            meet,
+            event: row.event,
+            duration: span.duration,
+            start: span.start,
+        })
+    }
+
+    /// What a task is given, or `None` where it has no resource.
+    pub fn resource(&self, task: TaskId) -> Option<ResourceId>
+        requires meet { task.meet.0 < length self.now }
+        requires place { task.place < length (slot_at self.now task.meet.0).given }
+        ensures { slice_get (slot_at self.now task.meet.0).given task.place ≡ Some result }
+    {
+        self.given(task.meet)[task.place as usize]
+    }
+
+    /// The state after a change that fits.
+    pub fn note(&mut self, inst: &Instance, change: Change)
+        requires fits { Fits inst.now self.old change }
+        ensures { self.new ≡ after self.old change }
+    {
+        let _ = inst;
+        turn(&mut self.rows, &mut self.given, change);
+    }
+}
