@@ -14,8 +14,6 @@ mod results;
 mod sequences;
 mod sharing;
 mod sums;
-#[cfg(test)]
-mod tests;
 mod texts;
 mod units;
 

@@ -1,4 +1,4 @@
-use khe_base::CostFn;
+use khe_base::{CostFn, lends_to_threads};
 use std::test::Fail;
 use xhstt_shape::reading::archive;
 use xhstt_shape::{
@@ -23,10 +23,7 @@ const READ: &[u8] = b"<HighSchoolTimetableArchive Id='A'><Instances><Instance Id
 <Time Reference='t'/></Event></Events><Report>x</Report></Solution></SolutionGroup></SolutionGroups>\
 </HighSchoolTimetableArchive>";
 
-/// Takes what threads may share and hand over.
-fn lends_to_threads<T: Send + Sync>(_value: &T) {}
-
-fn has_the_time_groups(instance: &RawInstance) -> bool {
+/fn has_the_time_groups(instance: &RawInstance) -> bool {
     match instance.time_groups.as_slice() {
         [week, group, day] => {
             matches!(week.sort, TimeSort::Week)

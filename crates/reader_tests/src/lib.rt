@@ -8,6 +8,8 @@ mod archives;
 #[cfg(test)]
 mod devices;
 #[cfg(test)]
+mod foundations;
+#[cfg(test)]
 mod mutations;
 #[cfg(test)]
 mod shape_faults;

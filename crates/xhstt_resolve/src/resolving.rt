@@ -15,7 +15,7 @@ ghost use Rattle.xhstt_shape.specs.WellFormed.{IsInForm};
 
 use crate::faults::{ResolveFault, TOO_MANY_SOLUTIONS};
 use crate::instances::{instance_of, within};
-use khe_base::{Names, NoMemory, Seq, beside, limits};
+use khe_base::{Names, NoMemory, Seq, beside, lends_to_threads, limits};
 use khe_instance::Instance;
 use std::alloc::Global;
 use xhstt_references::{Directory, directory, instance_names, instances_of_solutions};
@@ -136,9 +136,6 @@ fn solution_count(archive: &Archive) -> u128
     }
     count
 }
-
-// Threads may be handed such a value, and read it together.
-fn lends_to_threads<T: Send + Sync>(_value: &T) {}
 
 // Workers share the instances of an archive: the types show it, and no program calls this.
 #[allow(dead_code)]

@@ -1,8 +1,5 @@
-use crate::{IdSet, Names, Seq, Text, least_multiple, numbered};
+use khe_base::{IdSet, Names, Seq, Text, least_multiple, lends_to_threads, numbered};
 use std::test::Fail;
-
-// Threads may be handed such a value, and read it together.
-fn lends_to_threads<T: Send + Sync>(_value: &T) {}
 
 #[test]
 fn a_text_grows_piece_by_piece(rt: HostRuntime) -> Result<(), Fail> {
