@@ -121,7 +121,7 @@ module _ (ds : List Duty) (few : length ds ≤ TASKS) (short : All (λ d. d.meet
   place-small (PreferResources resources role) = filled-small (λ d. given_outside resources d.resource)
   place-small _ = omega arith
 
--- at an event group and a pair
+-- at an event group
 module _ (p : Parts) (limits : AreWithinLimits p) (ms : List Meet) (ds : List Duty) (few : length ms ≤ DURATION) where
   split_resources-small : (test : ℕ → Bool) → count_by test (range_with_len 0 (length p.resources)) - 1 ≤ GREATEST_DEVIATION
   split_resources-small test =
@@ -152,7 +152,7 @@ module _ (p : Parts) (limits : AreWithinLimits p) (ms : List Meet) (ds : List Du
   group-small group LinkEvents h = unlinked-small (λ t. runs_apart (event_runs ms t) group)
   group-small group _ h = omega arith
 
--- at a pair
+-- at a pair of events
 module _ (p : Parts) (limits : AreWithinLimits p) (ms : List Meet) (within : All (λ m. IfSome m.start (λ s. s.0 + m.duration ≤ length p.times)) ms) where
   start_small : (m : Meet) → IfSome m.start (λ s. s.0 + m.duration ≤ length p.times) → IfSome (option_map (λ s. s.0) m.start) (λ n. n ≤ TIMES)
   start_small m h = by m.start h
