@@ -1,0 +1,14 @@
+pub mod Basics
+pub mod CutJoin
+pub mod EditLaws
+pub mod EditingLaws
+pub mod MeetEdits
+pub mod NoteLaws
+pub mod Owners
+pub mod ReadingLaws
+pub mod ResourceEdits
+pub mod Rows
+pub mod Spans
+pub mod Stages
+pub mod StartEdits
+pub mod Works

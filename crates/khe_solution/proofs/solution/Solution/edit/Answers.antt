@@ -1,0 +1,5 @@
+use Rattle.khe_solution.proofs.EditLaws.{edit_room}
+use Rattle.khe_solution.proofs.solution.Solution.edit.Goals as goal
+
+pub list_edit-requires-clause-room : goal.list_edit-requires-clause-room
+list_edit-requires-clause-room g c = edit_room _ _ _ c.self.invariant.0 c.facts.ensures c.self.invariant.1
