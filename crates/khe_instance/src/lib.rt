@@ -2,13 +2,13 @@
 //! and monitors, and the timetables that are made for it.
 #![tactic(auto)]
 
-#[cfg(test)]
 mod examples;
 mod ids;
 mod instances;
 mod parts;
 mod points;
 mod rules;
+mod slots;
 mod states;
 
 pub use instances::Instance;

@@ -1,5 +1,10 @@
 pub mod ApartLaws
-pub mod Bridge
-pub mod Opening
+pub mod DutyLaws
+pub mod FrameLaws
+pub mod ListingLaws
+pub mod OpeningLaws
+pub mod PlainLaws
 pub mod SlotLaws
+pub mod StoredLaws
+pub mod ValidLaws
 pub mod WatcherLaws

@@ -4,4 +4,6 @@ pub mod Fits
 pub mod Lists
 pub mod Refusals
 pub mod Slots
+pub mod Stored
+pub mod Valid
 pub mod Watchers

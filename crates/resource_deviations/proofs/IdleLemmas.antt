@@ -2,7 +2,7 @@
 use Rattle.std.proofs.Common.{◌≡◌, ◌∙◌, sym, ap, refl, ℕ, zero, suc, ◌+◌, ◌-◌, ◌<◌, ◌≤◌, nat_lt, Bool, true, false, not, ◌&&◌, ◌||◌, ◌⊎◌, inl, inr, arith, count_by, lt-ltb, le-ltb}
 use Rattle.std.specs.List.{range_with_len, list_any}
 use Rattle.std.proofs.lemmas.Bool.{cases_lt}
-use Rattle.timetables.specs.Counts.{count_below, is_idle_time, any_between}
+use Rattle.khe_base.specs.Busy.{count_below, is_idle_time, any_between}
 use Rattle.resource_deviations.proofs.SumsLemmas.{count_range_alike}
 
 middle_true : (a t b : Bool) → t ≡ true → (a && t && b) ≡ (a && b)
