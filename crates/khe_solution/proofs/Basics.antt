@@ -4,10 +4,9 @@ use Rattle.std.specs.Prelude.{not, ◌&&◌, is_some, is_none, slice_get}
 use Rattle.std.specs.Option.{option_map_or}
 use Rattle.std.proofs.lemmas.Bool.{cases_lt}
 use Rattle.std.proofs.lemmas.List.{get_or_past}
-use Rattle.khe_told.specs.Slots.{no_slot, slot_at}
+use Rattle.khe_told.specs.Slots.{no_slot, slot_at, is_live}
 use Rattle.khe_told.specs.declared.slots.Slot.{Slot}
 use Rattle.khe_told.specs.declared.refusals.Refusal.{Refusal}
-use Rattle.khe_solution.specs.Reading.{is_live}
 use Rattle.khe_solution.specs.Refusing.{first_refusal}
 
 abbrev pub IsThere : {A : Type 0} → Option A → Type 0

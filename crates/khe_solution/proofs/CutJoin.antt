@@ -293,13 +293,17 @@ joining_leads p s mi ni d1 d2 t1 t2 w hx hz hg ends =
     let v1 = with_all z d2 None g in
     let v2 = with_all z d2 None r in
     let v3 = with_none z r in
-    let k1 = told_pair p s m n a1 (Some (record { duration = d2; start = t2 })) g g w refl gz x1 z0s (omega (arith, lx, lz)) in
-    let k2 = told_pair p s m n a1 b1 g g w refl gz x1 z1 (omega (arith, lx, lz)) in
-    let k3 = told_pair p s m n a1 b1 r g w rn gz x2 z1 (omega (arith, lx, lz)) in
-    let k5 = told_pair p s m n None b1 r r w rn rz nx z2 (omega (arith, lx, lz)) in
-    let k6 = told_pair p s m n None None r r w rn rz nx nz (omega (arith, lx, lz)) in
-    let k7 = told_pair p s m n c1 None r r w rn rz x6 nz (omega (arith, lx, lz)) in
-    let k9 = told_pair p s m n (Some (record { duration = d1 + d2; start = t1 })) None g r w refl rz x8 nz (omega (arith, lx, lz)) in
+    let as_long : d1 + d2 ≤ length_of x + length_of z = omega (arith, lx, lz) in
+    let shorter : 0 + d2 ≤ length_of x + length_of z = omega (arith, lz) in
+    let none : 0 + 0 ≤ length_of x + length_of z = omega arith in
+    let both : (d1 + d2) + 0 ≤ length_of x + length_of z = omega (arith, lx, lz) in
+    let k1 = told_pair p s m n a1 (Some (record { duration = d2; start = t2 })) g g w refl gz x1 z0s as_long in
+    let k2 = told_pair p s m n a1 b1 g g w refl gz x1 z1 as_long in
+    let k3 = told_pair p s m n a1 b1 r g w rn gz x2 z1 as_long in
+    let k5 = told_pair p s m n None b1 r r w rn rz nx z2 shorter in
+    let k6 = told_pair p s m n None None r r w rn rz nx nz none in
+    let k7 = told_pair p s m n c1 None r r w rn rz x6 nz both in
+    let k9 = told_pair p s m n (Some (record { duration = d1 + d2; start = t1 })) None g r w refl rz x8 nz both in
     let fl : (v : Slot) → m < length (set s n v) = λ v. let q = length-set s n v in let f = w.first in omega (arith, q, f) in
     let sl : (u : Slot) → n < length (set s m u) = λ u. let q = length-set s m u in let f = w.second in omega (arith, q, f) in
     let zz : z ≡ v0 = λ j. record z { span = hz j; given = hg j } in

@@ -11,7 +11,7 @@ use Rattle.khe_told.specs.declared.edits.Edit.{Edit}
 use Rattle.khe_told.specs.declared.edits.Edit.TheVariants.{Assign, Unassign, MoveTo, Split, Merge, SwapMeets, Give, Take, Regive, SwapTasks, Attach, Detach, MakeGroup, DropGroup, AddChild, RemoveChild}
 use Rattle.khe_told.specs.declared.edits.Back.{Back}
 use Rattle.khe_told.specs.declared.edits.Back.TheVariants.{By, Cut, Make, Insert}
-use Rattle.khe_told.specs.Slots.{no_slot, slot_at, length_of}
+use Rattle.khe_told.specs.Slots.{no_slot, slot_at, length_of, start_of}
 use Rattle.khe_told.specs.declared.slots.Span.{Span}
 use Rattle.khe_base.specs.declared.numbers.MeetId.{MeetId}
 use Rattle.khe_base.specs.declared.numbers.TimeId.{TimeId}
@@ -21,13 +21,12 @@ use Rattle.std.specs.Option.{option_map_or, option_and_then}
 use Rattle.std.proofs.lemmas.Bool.{cases_lt}
 use Rattle.std.proofs.lemmas.List.{get_or_past, length-set}
 use Rattle.std.proofs.lemmas.List.Elements.{All-get_or}
-use Rattle.khe_solution.specs.Reading.{start_of}
 use Rattle.khe_solution.specs.Timetables.{HasRoom, AreRoomy, StartsLater, CutsWithin, RecutsWithin}
 use Rattle.khe_solution.specs.Refusing.{is_of_meets, refusal}
 use Rattle.khe_solution.specs.Editing.{edited, with_meet, later, cut_at}
 use Rattle.khe_solution.specs.Changing.{changes}
 use Rattle.khe_solution.specs.Backs.{back_of, undone, undone_changes, LeadsBack}
-use Rattle.khe_solution.specs.Valid.{AreValid}
+use Rattle.khe_told.specs.Valid.{AreValid}
 use Rattle.khe_solution.proofs.Basics.{true-false, live_there}
 use Rattle.khe_solution.proofs.Works.{Works}
 use Rattle.khe_solution.proofs.StartEdits.{assign_works, unassign_works, move_works, swap_meets_works}

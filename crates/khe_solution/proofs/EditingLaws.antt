@@ -7,10 +7,10 @@ use Rattle.khe_base.specs.declared.numbers.MeetId.{MeetId}
 use Rattle.khe_base.specs.declared.numbers.ResourceId.{ResourceId}
 use Rattle.khe_base.specs.declared.numbers.TaskId.{TaskId}
 use Rattle.khe_base.specs.declared.numbers.TimeId.{TimeId}
-use Rattle.khe_told.specs.Slots.{no_slot, slot_at, length_of}
+use Rattle.khe_told.specs.Slots.{no_slot, slot_at, length_of, is_live, start_of, given_at}
 use Rattle.khe_told.specs.declared.slots.Slot.{Slot}
 use Rattle.khe_told.specs.declared.slots.Span.{Span}
-use Rattle.khe_solution.specs.Reading.{is_live, start_of, given_at, resource_at}
+use Rattle.khe_solution.specs.Reading.{resource_at}
 use Rattle.khe_solution.specs.Editing.{with_start, with_resource, timed, staffed}
 use Rattle.khe_solution.proofs.Basics.{true-false, cases_eq, set_comm}
 

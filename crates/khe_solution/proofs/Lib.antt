@@ -7,6 +7,7 @@ pub mod NoteLaws
 pub mod Owners
 pub mod ReadingLaws
 pub mod ResourceEdits
+pub mod RoomLaws
 pub mod Rows
 pub mod Spans
 pub mod Stages

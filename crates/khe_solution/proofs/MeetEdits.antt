@@ -11,19 +11,20 @@ use Rattle.khe_base.specs.declared.numbers.ResourceId.{ResourceId}
 use Rattle.khe_base.specs.declared.numbers.TimeId.{TimeId}
 use Rattle.khe_instance.specs.declared.parts.EventInfo.{EventInfo}
 use Rattle.khe_instance.specs.declared.parts.Parts.{Parts}
-use Rattle.khe_told.specs.Slots.{no_slot, slot_at, emptied, length_of, held, held_by}
+use Rattle.khe_told.specs.Slots.{no_slot, slot_at, emptied, length_of, held, held_by, is_live, start_of}
 use Rattle.khe_told.specs.Changes.{after, after_all}
 use Rattle.khe_told.specs.Fits.{AreTold, IsSlot, AllFit}
 use Rattle.khe_told.specs.declared.slots.Slot.{Slot}
 use Rattle.khe_told.specs.declared.slots.Span.{Span}
 use Rattle.khe_told.specs.declared.changes.Change.{Change}
 use Rattle.khe_told.specs.declared.edits.Edit.TheVariants.{Split, Merge}
-use Rattle.khe_solution.specs.Reading.{is_live, start_of, is_fixed_event, place_in, is_free_of, free_slot, same_resource, same_given, follows}
+use Rattle.khe_instance.specs.Lookups.{place_at}
+use Rattle.khe_solution.specs.Reading.{is_fixed_event, is_free_of, free_slot, same_resource, same_given, follows}
 use Rattle.khe_solution.specs.Refusing.{first_refusal, split_row, merge_row}
 use Rattle.khe_solution.specs.Editing.{edited, with_meet, later, cut_at, joined_at}
 use Rattle.khe_solution.specs.Changing.{changes, cutting, joining, whole, first_part, second_part, joined, cut_changes, join_changes}
 use Rattle.khe_solution.specs.Backs.{back_of, undone, undone_changes}
-use Rattle.khe_solution.specs.Valid.{AreValid, IsKeptBy, IsFixedAs}
+use Rattle.khe_told.specs.Valid.{AreValid, IsKeptBy, IsFixedAs}
 use Rattle.khe_solution.proofs.Basics.{true-false, not-false, both-true, passed, live_there, set_comm}
 use Rattle.khe_solution.proofs.EditingLaws.{span_of}
 use Rattle.khe_solution.proofs.Stages.{Goes, not_fixed}
@@ -82,7 +83,7 @@ held_pair false true q r q2 r2 e h = absurd (true-false e)
 
 -- a slot with the meet of another of its event, as far as its places are kept
 kept_with : (p : Parts) (x z : Slot) (d : ℕ) (t : Option TimeId) → z.event.0 ≡ x.event.0 → is_live x ≡ true → IsKeptBy p x → IsKeptBy p (with_meet z d t x.given)
-kept_with p x z d t e live h k place r a b c = h k place r (ap (λ q. place_in p q k) (sym e) ∙ a) b live
+kept_with p x z d t e live h k place r a b c = h k place r (ap (λ q. place_at p.events q k) (sym e) ∙ a) b live
 
 kept_empty : (p : Parts) (z : Slot) → IsKeptBy p (emptied z)
 kept_empty p z k place r a b c = absurd (true-false (sym c))

@@ -5,7 +5,8 @@ use Rattle.khe_instance.specs.declared.states.Meet.{Meet}
 use Rattle.khe_told.specs.Lists.{meet_in}
 use Rattle.khe_told.specs.declared.slots.Slot.{Slot}
 use Rattle.khe_told.specs.declared.slots.Span.{Span}
-use Rattle.khe_solution.specs.Reading.{Shows, is_live}
+use Rattle.khe_told.specs.Slots.{is_live}
+use Rattle.khe_solution.specs.Reading.{Shows}
 
 -- a meet that is told of a slot is the one that it has
 pub meet_shown : (x : Slot) (r : Option Meet) → r ≡ meet_in x → MatchOption r (is_live x ≡ false) (Shows x)

@@ -15,10 +15,10 @@ use Rattle.khe_solution.specs.Refusing.{first_refusal, give_row, take_row, regiv
 use Rattle.khe_solution.specs.Editing.{edited, staffed}
 use Rattle.khe_solution.specs.Changing.{changes, takes, gives}
 use Rattle.khe_solution.specs.Backs.{back_of, undone, undone_changes}
-use Rattle.khe_solution.specs.Valid.{AreValid}
+use Rattle.khe_told.specs.Valid.{AreValid}
 use Rattle.khe_solution.proofs.Basics.{true-false, not-false, not_none, no_value, passed}
 use Rattle.khe_solution.proofs.EditingLaws.{AreApart, staffed_twice, staffed_back, staffed_comm, staffed_given, staffed_other}
-use Rattle.khe_solution.proofs.Stages.{Goes, MayTurn, goes_both, goes_to, take_goes, give_goes, turns_still, turn_there, place_at, place_still}
+use Rattle.khe_solution.proofs.Stages.{Goes, MayTurn, goes_both, goes_to, take_goes, give_goes, turns_still, turn_there, task_place, place_still}
 use Rattle.khe_solution.proofs.Works.{Works}
 
 pub give_works : (p : Parts) (s : List Slot) (t : TaskId) (r : ResourceId) → AreValid p s → first_refusal (give_row p s t r) ≡ None → Works p s (Give t r)
@@ -30,7 +30,7 @@ give_works p s t r v h =
     let none : resource_at s t ≡ None = no_value (resource_at s t) a.1.1.1.0 in
     let w = turn_there p s t may in
     record {
-      goes = give_goes p s t (Some r) v may none (not-false (has_type p r.0 (place_at p s t)) a.1.1.1.1.0);
+      goes = give_goes p s t (Some r) v may none (not-false (has_type p r.0 (task_place p s t)) a.1.1.1.1.0);
       back = staffed_back s t (Some r) None w.0 none;
       list = ap (gives t) (staffed_given s t (Some r) w.0 w.1);
     }
@@ -61,8 +61,8 @@ regive_works p s t r v h =
     let known : back_of s (Regive t r) ≡ By (Regive t q.0) = ap (λ o. option_map_or (λ (z : ResourceId). By (Regive t z)) o (By (Regive t r))) q.1 in
     let s1 = staffed s t None in
     let g1 = take_goes p s t (resource_at s t) v may refl in
-    let has : may_have p (Some r) (place_at p s1 t) ≡ true =
-    ap (may_have p (Some r)) (place_still p s t t None w.0) ∙ not-false (has_type p r.0 (place_at p s t)) a.1.1.1.1.1.0 in
+    let has : may_have p (Some r) (task_place p s1 t) ≡ true =
+    ap (may_have p (Some r)) (place_still p s t t None w.0) ∙ not-false (has_type p r.0 (task_place p s t)) a.1.1.1.1.1.0 in
     let g2 = give_goes p s1 t (Some r) g1.valid (turns_still p s t t None w.0 may) (staffed_given s t None w.0 w.1) has in
     record {
       goes = goes_to p s (staffed s1 t (Some r)) (staffed s t (Some r)) (takes t (resource_at s t) ++ gives t (Some r))
@@ -81,7 +81,7 @@ traded s a b q r d la lb1 lb =
     ap (λ z. staffed z b q) e1 ∙ staffed_twice (staffed s a r) b None q lb
 
 trade_goes : (p : Parts) (s : List Slot) (a b : TaskId) → AreValid p s → MayTurn p s a → MayTurn p s b → AreApart a b
-    → may_have p (resource_at s b) (place_at p s a) ≡ true → may_have p (resource_at s a) (place_at p s b) ≡ true
+    → may_have p (resource_at s b) (task_place p s a) ≡ true → may_have p (resource_at s a) (task_place p s b) ≡ true
     → Goes p s (takes a (resource_at s a) ++ (takes b (resource_at s b) ++ (gives a (resource_at s b) ++ gives b (resource_at s a))))
     (staffed (staffed s a (resource_at s b)) b (resource_at s a))
 trade_goes p s a b v ta tb d oa ob =
@@ -100,11 +100,11 @@ trade_goes p s a b v ta tb d oa ob =
     let ta2 = turns_still p s1 b a None wb1.0 (turns_still p s a a None wa.0 ta) in
     let wa2 = turn_there p s2 a ta2 in
     let none3 : resource_at s2 a ≡ None = staffed_other s1 b a None c wb1.0 ∙ staffed_given s a None wa.0 wa.1 in
-    let has3 : may_have p r (place_at p s2 a) ≡ true = ap (may_have p r) (place_still p s1 b a None wb1.0 ∙ place_still p s a a None wa.0) ∙ oa in
+    let has3 : may_have p r (task_place p s2 a) ≡ true = ap (may_have p r) (place_still p s1 b a None wb1.0 ∙ place_still p s a a None wa.0) ∙ oa in
     let g3 = give_goes p s2 a r g2.valid ta2 none3 has3 in
     let tb3 = turns_still p s2 a b r wa2.0 (turns_still p s1 b b None wb1.0 tb1) in
     let none4 : resource_at s3 b ≡ None = staffed_other s2 a b r d wa2.0 ∙ staffed_given s1 b None wb1.0 wb1.1 in
-    let has4 : may_have p q (place_at p s3 b) ≡ true =
+    let has4 : may_have p q (task_place p s3 b) ≡ true =
     ap (may_have p q) (place_still p s2 a b r wa2.0 ∙ place_still p s1 b b None wb1.0 ∙ place_still p s a b None wa.0) ∙ ob in
     let g4 = give_goes p s3 b q g3.valid tb3 none4 has4 in
     let lb = (turn_there p (staffed s a r) b (turns_still p s a b r wa.0 tb)).0 in

@@ -1,24 +1,24 @@
 -- Where the slots of an event stand: together, from its first one on.
 use Rattle.std.proofs.Common.{ℕ, ◌≡◌, ◌+◌, ◌-◌, ◌^◌, ◌<◌, ◌≤◌, zero, suc, Bool, true, false, Option, Some, None, List, [], ◌∷◌, length, slice_get, refl, sym, ap, ◌∙◌, arith, inl, inr, length-append}
 use Rattle.std.specs.Prelude.{◌&&◌, ◌==◌, is_none, is_some}
+use Rattle.std.specs.List.{sum_by}
 use Rattle.std.proofs.Math.ListN.{get_or-append}
 use Rattle.std.proofs.Math.Seq.{get_or-append_right}
 use Rattle.std.proofs.lemmas.Bool.{cases_lt, ne_eqb, eq-eqb, eqb-true}
 use Rattle.std.proofs.lemmas.List.FromFn.{get_or-map-range_with_len}
 use Rattle.std.proofs.lemmas.List.{length-map}
-use Rattle.std.proofs.lemmas.List.Sums.{position_or_len_is, passes_at_first}
+use Rattle.std.proofs.lemmas.List.Sums.{sum_by-cons, position_or_len_is, passes_at_first}
 use Rattle.std.proofs.lemmas.Option.{slice_get_within}
 use Rattle.khe_base.specs.declared.numbers.EventId.{EventId}
 use Rattle.khe_instance.specs.WellMade.{AreFirstMeets, AreWellMade}
 use Rattle.khe_instance.specs.declared.parts.EventInfo.{EventInfo}
 use Rattle.khe_instance.specs.declared.parts.Parts.{Parts}
 use Rattle.khe_instance.specs.declared.states.Meet.{Meet}
-use Rattle.khe_told.proofs.Opening.{first_small}
-use Rattle.khe_told.specs.Slots.{empty_slot, slots_of_event, slots_from, no_meets, emptied, no_slot, slot_at, length_of}
+use Rattle.khe_told.specs.Slots.{empty_slot, slots_of_event, slots_from, no_meets, emptied, no_slot, slot_at, length_of, is_live}
 use Rattle.khe_told.specs.Fits.{AreTold}
 use Rattle.khe_told.specs.declared.slots.Slot.{Slot}
 use Rattle.khe_told.specs.declared.slots.Span.{Span}
-use Rattle.khe_solution.specs.Reading.{Shows, is_live, is_free_of, free_slot}
+use Rattle.khe_solution.specs.Reading.{Shows, is_free_of, free_slot}
 use Rattle.khe_solution.specs.Timetables.{AreLive, IsFirstFree}
 use Rattle.khe_solution.proofs.Basics.{true-false, both-true, injective, live_there}
 use Rattle.khe_solution.proofs.Owners.{owner, free_there, emptied_at, length_slots}
@@ -179,6 +179,20 @@ first_is p s e n event t f g i =
       | inr a ↦ not_free e (slot_at s k) (i.3 k a h)
     ]
 
+-- the slots of an event end where all durations do, or before
+span_end : (next i : ℕ) (events : List EventInfo) (event : EventInfo) → AreFirstMeets next events → slice_get events i ≡ Some event → event.first_meet + event.duration ≤ next + sum_by (λ (e : EventInfo). e.duration) events
+span_end next i [] event f g = let l = slice_get_within [] i event g in absurd (omega (arith, l))
+span_end next zero (x ∷ xs) event f g =
+    let s = sum_by-cons (λ (e : EventInfo). e.duration) x xs in
+    let e = ap (λ (z : EventInfo). z.first_meet) (injective x event g) in
+    let d = ap (λ (z : EventInfo). z.duration) (injective x event g) in
+    let n = f.0 in
+    omega (arith, s, e, d, n)
+span_end next (suc i) (x ∷ xs) event f g =
+    let s = sum_by-cons (λ (e : EventInfo). e.duration) x xs in
+    let r = span_end (next + x.duration) i xs event f.1 g in
+    omega (arith, s, r)
+
 -- what the code that looks for it asks
 pub event_there : (p : Parts) (s : List Slot) (m : ℕ) (own : Meet) → AreTold p s → Shows (slot_at s m) own → own.event.0 < length p.events
 event_there p s m own t h =
@@ -187,7 +201,7 @@ event_there p s m own t h =
 
 pub span_small : (p : Parts) (e : ℕ) (event : EventInfo) → AreWellMade p → slice_get p.events e ≡ Some event → event.first_meet + event.duration < 2 ^ 32
 span_small p e event w g =
-    let a = first_small 0 e p.events event w.first_meets g in
+    let a = span_end 0 e p.events event w.first_meets g in
     let b = w.limits.duration in
     omega (arith, a, b)
 

@@ -17,16 +17,17 @@ use Rattle.khe_instance.specs.declared.parts.Parts.{Parts}
 use Rattle.khe_instance.specs.declared.parts.Place.{Place}
 use Rattle.khe_instance.specs.declared.parts.ResourceInfo.{ResourceInfo}
 use Rattle.khe_told.proofs.SlotLaws.{told_kept, set-there, all_fit_both, after_both}
-use Rattle.khe_told.specs.Slots.{no_slot, slot_at, emptied, held_by, length_of}
+use Rattle.khe_told.specs.Slots.{no_slot, slot_at, emptied, held_by, length_of, is_live, start_of}
 use Rattle.khe_told.specs.Changes.{after_all}
 use Rattle.khe_told.specs.Fits.{IsSlot, AllFit}
 use Rattle.khe_told.specs.declared.slots.Slot.{Slot}
 use Rattle.khe_told.specs.declared.slots.Span.{Span}
 use Rattle.khe_told.specs.declared.changes.Change.{Change}
-use Rattle.khe_solution.specs.Reading.{is_live, start_of, has_place, resource_at, is_fixed_event, is_fixed_place, place_in, has_type, may_have, would_run_over}
+use Rattle.khe_instance.specs.Lookups.{place_at}
+use Rattle.khe_solution.specs.Reading.{has_place, resource_at, is_fixed_event, is_fixed_place, has_type, may_have, would_run_over}
 use Rattle.khe_solution.specs.Editing.{with_start, with_resource, timed, staffed}
 use Rattle.khe_solution.specs.Changing.{lifts, places, takes, gives}
-use Rattle.khe_solution.specs.Valid.{AreValid, IsKeptBy, IsFixedAs}
+use Rattle.khe_told.specs.Valid.{AreValid, IsKeptBy, IsFixedAs}
 use Rattle.khe_solution.proofs.Basics.{there-none, true-false, injective, both-true, some_value, cases_eq, live_there, slice_get-set_other}
 use Rattle.khe_solution.proofs.EditingLaws.{span_of, start_lasts, timed_none, timed_reads, staffed_none, staffed_reads}
 
@@ -122,8 +123,8 @@ pub record MayTurn (p : Parts) (s : List Slot) (t : TaskId) : Type 0 where
   pub free : is_fixed_place p (slot_at s t.meet.0).event.0 t.place ≡ false
 
 -- the place of a task
-abbrev pub place_at : Parts → List Slot → TaskId → Option Place
-place_at p s t = place_in p (slot_at s t.meet.0).event.0 t.place
+abbrev pub task_place : Parts → List Slot → TaskId → Option Place
+task_place p s t = place_at p.events (slot_at s t.meet.0).event.0 t.place
 
 pub turns_still : (p : Parts) (s : List Slot) (a b : TaskId) (q : Option ResourceId) → a.meet.0 < length s → MayTurn p s b → MayTurn p (staffed s a q) b
 turns_still p s a b q l h =
@@ -133,8 +134,8 @@ turns_still p s a b q l h =
       free = ap (λ e. is_fixed_place p e.0 b.place) r.event ∙ h.free;
     }
 
-pub place_still : (p : Parts) (s : List Slot) (a b : TaskId) (q : Option ResourceId) → a.meet.0 < length s → place_at p (staffed s a q) b ≡ place_at p s b
-place_still p s a b q l = ap (λ e. place_in p e.0 b.place) (staffed_reads s a q b.meet.0 l).event
+pub place_still : (p : Parts) (s : List Slot) (a b : TaskId) (q : Option ResourceId) → a.meet.0 < length s → task_place p (staffed s a q) b ≡ task_place p s b
+place_still p s a b q l = ap (λ e. place_at p.events e.0 b.place) (staffed_reads s a q b.meet.0 l).event
 
 pub turn_there : (p : Parts) (s : List Slot) (t : TaskId) → MayTurn p s t → (t.meet.0 < length s) × (t.place < length (slot_at s t.meet.0).given)
 turn_there p s t h =
@@ -149,16 +150,16 @@ typed : (o : Option ResourceInfo) (n : ℕ) → option_map_or (λ (z : ResourceI
 typed None n h = absurd (true-false (sym h))
 typed (Some z) n h = ap Some (eqb-true z.rtype n h)
 
-slot_staffed : (p : Parts) (x : Slot) (k : ℕ) (r : Option ResourceId) → IsSlot p x → is_live x ≡ true → k < length x.given → may_have p r (place_in p x.event.0 k) ≡ true → IsSlot p (with_resource x k r)
+slot_staffed : (p : Parts) (x : Slot) (k : ℕ) (r : Option ResourceId) → IsSlot p x → is_live x ≡ true → k < length x.given → may_have p r (place_at p.events x.event.0 k) ≡ true → IsSlot p (with_resource x k r)
 slot_staffed p x k r i live l t = record {
   duration = i.duration;
   ends = i.ends;
   given = λ e j place u g h w. elim (cases_eq j k) [
     | inl same ↦
         let mine : Some r ≡ Some (Some u) = sym (set-there x.given k r (get_or x.given k None) (slice_get-get_or x.given k None l)) ∙ ap (slice_get (set x.given k r)) (sym same) ∙ w in
-        let here : place_in p x.event.0 k ≡ Some place = ap (option_and_then (λ (z : EventInfo). slice_get z.places k)) g ∙ ap (slice_get e.places) (sym same) ∙ h in
+        let here : place_at p.events x.event.0 k ≡ Some place = ap (option_and_then (λ (z : EventInfo). slice_get z.places k)) g ∙ ap (slice_get e.places) (sym same) ∙ h in
         typed (slice_get p.resources u.0) place.rtype
-        (sym (ap (λ o. may_have p o (place_in p x.event.0 k)) (injective r (Some u) mine) ∙ ap (has_type p u.0) here) ∙ t)
+        (sym (ap (λ o. may_have p o (place_at p.events x.event.0 k)) (injective r (Some u) mine) ∙ ap (has_type p u.0) here) ∙ t)
     | inr other ↦ i.given e j place u g h (sym (slice_get-set_other x.given k j r other) ∙ w)
   ];
   empty = λ n. let y = some_value x.span live in absurd (there-none y.0 (sym y.1 ∙ n));
@@ -174,7 +175,7 @@ staffed_kept p x k r h f j place u a b live = elim (cases_eq j k) [
   | inr other ↦ get_or-set_other x.given k j r None other ∙ h j place u a b live
 ]
 
-pub valid_staffed : (p : Parts) (s : List Slot) (t : TaskId) (r : Option ResourceId) → AreValid p s → MayTurn p s t → may_have p r (place_at p s t) ≡ true → AreValid p (staffed s t r)
+pub valid_staffed : (p : Parts) (s : List Slot) (t : TaskId) (r : Option ResourceId) → AreValid p s → MayTurn p s t → may_have p r (task_place p s t) ≡ true → AreValid p (staffed s t r)
 valid_staffed p s t r v h o =
     let m = t.meet.0 in
     let x = slot_at s m in
@@ -203,7 +204,7 @@ take_goes p s t (Some u) v h e =
       valid = v2;
     }
 
-pub give_goes : (p : Parts) (s : List Slot) (t : TaskId) (r : Option ResourceId) → AreValid p s → MayTurn p s t → resource_at s t ≡ None → may_have p r (place_at p s t) ≡ true
+pub give_goes : (p : Parts) (s : List Slot) (t : TaskId) (r : Option ResourceId) → AreValid p s → MayTurn p s t → resource_at s t ≡ None → may_have p r (task_place p s t) ≡ true
     → Goes p s (gives t r) (staffed s t r)
 give_goes p s t None v h e o = goes_nowhere p s (staffed s t None) v (staffed_none s t None e)
 give_goes p s t (Some u) v h e o =

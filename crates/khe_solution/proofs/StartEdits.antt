@@ -5,16 +5,16 @@ use Rattle.std.proofs.lemmas.Bool.{eq-eqb}
 use Rattle.khe_base.specs.declared.numbers.MeetId.{MeetId}
 use Rattle.khe_base.specs.declared.numbers.TimeId.{TimeId}
 use Rattle.khe_instance.specs.declared.parts.Parts.{Parts}
-use Rattle.khe_told.specs.Slots.{slot_at, length_of}
+use Rattle.khe_told.specs.Slots.{slot_at, length_of, is_live, start_of}
 use Rattle.khe_told.specs.declared.slots.Slot.{Slot}
 use Rattle.khe_told.specs.declared.edits.Edit.TheVariants.{Assign, Unassign, MoveTo, SwapMeets}
 use Rattle.khe_told.specs.declared.edits.Back.TheVariants.{By}
-use Rattle.khe_solution.specs.Reading.{is_live, start_of, would_run_over}
+use Rattle.khe_solution.specs.Reading.{would_run_over}
 use Rattle.khe_solution.specs.Refusing.{first_refusal, assign_row, unassign_row, move_row, swap_meets_row}
 use Rattle.khe_solution.specs.Editing.{edited, timed}
 use Rattle.khe_solution.specs.Changing.{changes, lifts, places}
 use Rattle.khe_solution.specs.Backs.{back_of, undone, undone_changes}
-use Rattle.khe_solution.specs.Valid.{AreValid}
+use Rattle.khe_told.specs.Valid.{AreValid}
 use Rattle.khe_solution.proofs.Basics.{true-false, not-false, some_value, no_value, passed, live_there}
 use Rattle.khe_solution.proofs.EditingLaws.{timed_same, timed_other, timed_twice, timed_back, timed_comm, timed_reads, start_given}
 use Rattle.khe_solution.proofs.Stages.{Goes, MayMove, goes_both, goes_to, lift_goes, place_goes, moves_still}

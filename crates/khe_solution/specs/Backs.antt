@@ -5,18 +5,18 @@ use Rattle.khe_base.specs.declared.numbers.MeetId.{MeetId}
 use Rattle.khe_base.specs.declared.numbers.ResourceId.{ResourceId}
 use Rattle.khe_base.specs.declared.numbers.TimeId.{TimeId}
 use Rattle.khe_instance.specs.declared.parts.Parts.{Parts}
-use Rattle.khe_told.specs.Slots.{slot_at, length_of}
+use Rattle.khe_told.specs.Slots.{slot_at, length_of, start_of}
 use Rattle.khe_told.specs.declared.slots.Slot.{Slot}
 use Rattle.khe_told.specs.declared.changes.Change.{Change}
 use Rattle.khe_told.specs.declared.edits.Edit.{Edit}
 use Rattle.khe_told.specs.declared.edits.Edit.TheVariants.{Assign, Unassign, MoveTo, Split, Merge, SwapMeets, Give, Take, Regive, SwapTasks}
 use Rattle.khe_told.specs.declared.edits.Back.{Back}
 use Rattle.khe_told.specs.declared.edits.Back.TheVariants.{By, Cut}
-use Rattle.khe_solution.specs.Reading.{start_of, resource_at, free_slot}
+use Rattle.khe_solution.specs.Reading.{resource_at, free_slot}
 use Rattle.khe_solution.specs.Refusing.{is_of_meets, refusal}
 use Rattle.khe_solution.specs.Editing.{edited, cut_at}
 use Rattle.khe_solution.specs.Changing.{lifts, places, takes, gives, cutting, joining, whole, first_part, second_part, joined}
-use Rattle.khe_solution.specs.Valid.{AreValid}
+use Rattle.khe_told.specs.Valid.{AreValid}
 
 -- the record that leads back from an edit, by the slots before it
 unfoldable pub back_of : List Slot → Edit → Back

@@ -5,13 +5,13 @@ use Rattle.khe_base.specs.declared.numbers.MeetId.{MeetId}
 use Rattle.khe_base.specs.declared.numbers.ResourceId.{ResourceId}
 use Rattle.khe_base.specs.declared.numbers.TaskId.{TaskId}
 use Rattle.khe_base.specs.declared.numbers.TimeId.{TimeId}
-use Rattle.khe_told.specs.Slots.{slot_at, length_of}
+use Rattle.khe_told.specs.Slots.{slot_at, length_of, start_of}
 use Rattle.khe_told.specs.declared.slots.Slot.{Slot}
 use Rattle.khe_told.specs.declared.changes.Change.{Change}
 use Rattle.khe_told.specs.declared.changes.Change.TheVariants as change
 use Rattle.khe_told.specs.declared.edits.Edit.{Edit}
 use Rattle.khe_told.specs.declared.edits.Edit.TheVariants.{Assign, Unassign, MoveTo, Split, Merge, SwapMeets, Give, Take, Regive, SwapTasks}
-use Rattle.khe_solution.specs.Reading.{start_of, resource_at, free_slot}
+use Rattle.khe_solution.specs.Reading.{resource_at, free_slot}
 use Rattle.khe_solution.specs.Editing.{later}
 use Rattle.khe_solution.specs.declared.lists.Part.{Part}
 

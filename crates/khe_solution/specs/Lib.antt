@@ -4,4 +4,3 @@ pub mod Editing
 pub mod Refusing
 pub mod Reading
 pub mod Timetables
-pub mod Valid

@@ -1,8 +1,8 @@
 -- What an edit reads of a slot, and of the event that the slot belongs to. All of it is total: a
 -- slot beyond the last one reads as one without a meet and without a place.
-use Rattle.std.specs.Prelude.{ℕ, ◌≡◌, ◌+◌, ◌==◌, Bool, true, false, ◌&&◌, nat_lt, Option, Some, None, is_none, is_some, List, [], ◌∷◌, length, slice_get, slice_index_or}
+use Rattle.std.specs.Prelude.{ℕ, ◌≡◌, ◌+◌, ◌==◌, Bool, true, false, ◌&&◌, nat_lt, Option, Some, None, is_none, is_some, List, [], ◌∷◌, length, slice_get}
 use Rattle.std.specs.List.{position_or_len}
-use Rattle.std.specs.Option.{option_map_or, option_and_then}
+use Rattle.std.specs.Option.{option_map_or}
 use Rattle.khe_base.specs.declared.numbers.ResourceId.{ResourceId}
 use Rattle.khe_base.specs.declared.numbers.TaskId.{TaskId}
 use Rattle.khe_base.specs.declared.numbers.TimeId.{TimeId}
@@ -10,26 +10,17 @@ use Rattle.khe_instance.specs.declared.parts.EventInfo.{EventInfo}
 use Rattle.khe_instance.specs.declared.parts.Parts.{Parts}
 use Rattle.khe_instance.specs.declared.parts.Place.{Place}
 use Rattle.khe_instance.specs.declared.states.Meet.{Meet}
-use Rattle.khe_told.specs.Slots.{slot_at, length_of}
+use Rattle.khe_instance.specs.Lookups.{place_at}
+use Rattle.khe_told.specs.Slots.{slot_at, length_of, is_live, start_of, given_at}
 use Rattle.khe_told.specs.declared.slots.Slot.{Slot}
-use Rattle.khe_told.specs.declared.slots.Span.{Span}
 
--- whether a slot has a meet, the meet's start, and whether it has one
-abbrev pub is_live : Slot → Bool
-is_live x = is_some x.span
-
-abbrev pub start_of : Slot → Option TimeId
-start_of x = option_and_then (λ (y : Span). y.start) x.span
-
+-- whether the meet of a slot has a start
 abbrev pub is_placed : Slot → Bool
 is_placed x = is_some (start_of x)
 
--- whether a slot has a meet with this place, and what the place is given
+-- whether a slot has a meet with this place
 abbrev pub has_place : Slot → ℕ → Bool
 has_place x k = is_live x && nat_lt k (length x.given)
-
-abbrev pub given_at : Slot → ℕ → Option ResourceId
-given_at x k = slice_index_or x.given k None
 
 -- what a task is given
 abbrev pub resource_at : List Slot → TaskId → Option ResourceId
@@ -39,12 +30,9 @@ resource_at s t = given_at (slot_at s t.meet.0) t.place
 abbrev pub is_fixed_event : Parts → ℕ → Bool
 is_fixed_event p e = option_map_or (λ (event : EventInfo). is_some event.fixed) (slice_get p.events e) false
 
--- a place of an event, and whether its resource is preassigned
-abbrev pub place_in : Parts → ℕ → ℕ → Option Place
-place_in p e k = option_and_then (λ (event : EventInfo). slice_get event.places k) (slice_get p.events e)
-
+-- whether the resource of a place is preassigned
 abbrev pub is_fixed_place : Parts → ℕ → ℕ → Bool
-is_fixed_place p e k = option_map_or (λ (place : Place). is_some place.fixed) (place_in p e k) false
+is_fixed_place p e k = option_map_or (λ (place : Place). is_some place.fixed) (place_at p.events e k) false
 
 -- whether a resource has the type of a place
 abbrev pub has_type : Parts → ℕ → Option Place → Bool

@@ -5,13 +5,14 @@ use Rattle.khe_base.specs.declared.numbers.ResourceId.{ResourceId}
 use Rattle.khe_base.specs.declared.numbers.TaskId.{TaskId}
 use Rattle.khe_base.specs.declared.numbers.TimeId.{TimeId}
 use Rattle.khe_instance.specs.declared.parts.Parts.{Parts}
-use Rattle.khe_told.specs.Slots.{slot_at, length_of}
+use Rattle.khe_told.specs.Slots.{slot_at, length_of, is_live, start_of, given_at}
 use Rattle.khe_told.specs.declared.slots.Slot.{Slot}
 use Rattle.khe_told.specs.declared.edits.Edit.{Edit}
 use Rattle.khe_told.specs.declared.edits.Edit.TheVariants.{Assign, Unassign, MoveTo, Split, Merge, SwapMeets, Give, Take, Regive, SwapTasks}
 use Rattle.khe_told.specs.declared.refusals.Refusal.{Refusal}
 use Rattle.khe_told.specs.declared.refusals.Refusal.TheVariants.{NoSuchMeet, NoSuchTask, NoSuchTime, NoSuchResource, Fixed, AlreadyAssigned, NotAssigned, OffEnd, WrongType, BadCut, OtherEvent, NotAdjacent, TasksDiffer, Same}
-use Rattle.khe_solution.specs.Reading.{is_live, start_of, is_placed, has_place, given_at, is_fixed_event, is_fixed_place, place_in, has_type, may_have, runs_over, would_run_over, is_time, same_time, is_resource, same_resource, same_given, follows}
+use Rattle.khe_instance.specs.Lookups.{place_at}
+use Rattle.khe_solution.specs.Reading.{is_placed, has_place, is_fixed_event, is_fixed_place, has_type, may_have, runs_over, would_run_over, is_time, same_time, is_resource, same_resource, same_given, follows}
 
 -- the first of these refusals whose test holds
 abbrev pub first_refusal : List (Bool × Refusal) → Option Refusal
@@ -50,7 +51,7 @@ swap_meets_row p s a b = let x = slot_at s a.0 in let y = slot_at s b.0 in (
 abbrev pub give_row : Parts → List Slot → TaskId → ResourceId → List (Bool × Refusal)
 give_row p s t r = let x = slot_at s t.meet.0 in (
     (not (has_place x t.place), NoSuchTask) ∷ (nat_le (length p.resources) r.0, NoSuchResource) ∷ (is_fixed_place p x.event.0 t.place, Fixed)
-    ∷ (is_some (given_at x t.place), AlreadyAssigned) ∷ (not (has_type p r.0 (place_in p x.event.0 t.place)), WrongType) ∷ [])
+    ∷ (is_some (given_at x t.place), AlreadyAssigned) ∷ (not (has_type p r.0 (place_at p.events x.event.0 t.place)), WrongType) ∷ [])
 
 abbrev pub take_row : Parts → List Slot → TaskId → List (Bool × Refusal)
 take_row p s t = let x = slot_at s t.meet.0 in (
@@ -60,7 +61,7 @@ abbrev pub regive_row : Parts → List Slot → TaskId → ResourceId → List (
 regive_row p s t r = let x = slot_at s t.meet.0 in (
     (not (has_place x t.place), NoSuchTask) ∷ (nat_le (length p.resources) r.0, NoSuchResource) ∷ (is_fixed_place p x.event.0 t.place, Fixed)
     ∷ (is_none (given_at x t.place), NotAssigned) ∷ (is_resource r.0 (given_at x t.place), Same)
-    ∷ (not (has_type p r.0 (place_in p x.event.0 t.place)), WrongType) ∷ [])
+    ∷ (not (has_type p r.0 (place_at p.events x.event.0 t.place)), WrongType) ∷ [])
 
 abbrev pub same_task : TaskId → TaskId → Bool
 same_task a b = (a.meet.0 == b.meet.0) && (a.place == b.place)
@@ -71,8 +72,8 @@ swap_tasks_row p s a b = let x = slot_at s a.meet.0 in let y = slot_at s b.meet.
     ∷ (is_fixed_place p x.event.0 a.place, Fixed) ∷ (is_fixed_place p y.event.0 b.place, Fixed)
     ∷ (is_none (given_at x a.place), NotAssigned) ∷ (is_none (given_at y b.place), NotAssigned)
     ∷ (same_task a b, Same) ∷ (same_resource (given_at x a.place) (given_at y b.place), Same)
-    ∷ (not (may_have p (given_at y b.place) (place_in p x.event.0 a.place)), WrongType)
-    ∷ (not (may_have p (given_at x a.place) (place_in p y.event.0 b.place)), WrongType) ∷ [])
+    ∷ (not (may_have p (given_at y b.place) (place_at p.events x.event.0 a.place)), WrongType)
+    ∷ (not (may_have p (given_at x a.place) (place_at p.events y.event.0 b.place)), WrongType) ∷ [])
 
 -- the ten edits of meets and tasks
 abbrev pub is_of_meets : Edit → Bool

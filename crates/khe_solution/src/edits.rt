@@ -2,10 +2,10 @@
 //! undoes.
 
 ghost use Rattle.std.specs.Prelude.{◌≡◌, ◌≤◌, ◌<◌, ◌+◌, ◌*◌, ◌^◌, ◌++◌, true, None, length, vec_len, vec_capacity, IfSome};
-ghost use Rattle.khe_told.specs.Slots.{slot_at, length_of};
+ghost use Rattle.khe_told.specs.Slots.{slot_at, length_of, start_of};
 ghost use Rattle.khe_told.specs.Fits.{AreTold};
 ghost use Rattle.khe_instance.specs.WellMade.{AreWellMade};
-ghost use Rattle.khe_solution.specs.Reading.{start_of, free_slot};
+ghost use Rattle.khe_solution.specs.Reading.{free_slot};
 ghost use Rattle.khe_solution.specs.Editing.{made, later};
 ghost use Rattle.khe_solution.specs.Changing.{changes, cut_changes, join_changes, whole};
 ghost use Rattle.khe_solution.specs.Backs.{back_of, undone_changes, split_changes, merge_changes};

@@ -8,6 +8,7 @@ mod edits;
 mod lists;
 mod notes;
 mod reads;
+mod room;
 mod slots;
 mod solution;
 

@@ -1,8 +1,9 @@
 //! What an edit reads of the told state and of the instance.
 
 ghost use Rattle.std.specs.Prelude.{◌≡◌, ◌<◌, true, false, nat_lt, length, MatchOption, Option};
-ghost use Rattle.khe_told.specs.Slots.{slot_at, length_of};
-ghost use Rattle.khe_solution.specs.Reading.{Shows, is_live, start_of, resource_at, is_fixed_event, is_fixed_place, place_in, has_type, may_have, runs_over, would_run_over, is_time, same_time, is_resource, same_resource, same_given, follows};
+ghost use Rattle.khe_told.specs.Slots.{slot_at, length_of, is_live, start_of};
+ghost use Rattle.khe_instance.specs.Lookups.{place_at};
+ghost use Rattle.khe_solution.specs.Reading.{Shows, resource_at, is_fixed_event, is_fixed_place, has_type, may_have, runs_over, would_run_over, is_time, same_time, is_resource, same_resource, same_given, follows};
 
 use khe_base::{EventId, MeetId, ResourceId, TaskId, TimeId};
 use khe_instance::{Instance, Meet};
@@ -55,7 +56,7 @@ pub(crate) fn is_fixed_place(inst: &Instance, event: EventId, place: u32) -> boo
 
 /// Whether a resource has the type of a place of an event.
 pub(crate) fn has_type(inst: &Instance, event: EventId, place: u32, resource: ResourceId) -> bool
-    ensures { result ≡ has_type inst.now resource.0 (place_in inst.now event.0 place) }
+    ensures { result ≡ has_type inst.now resource.0 (place_at inst.now.events event.0 place) }
 {
     if event.0 >= inst.events() || resource.0 >= inst.resources() {
         return false;
@@ -71,7 +72,7 @@ pub(crate) fn may_have(
     place: u32,
     resource: Option<ResourceId>,
 ) -> bool
-    ensures { result ≡ may_have inst.now resource (place_in inst.now event.0 place) }
+    ensures { result ≡ may_have inst.now resource (place_at inst.now.events event.0 place) }
 {
     match resource {
         Some(resource) => has_type(inst, event, place, resource),

@@ -1,15 +1,15 @@
 ghost use Rattle.std.specs.Prelude.{◌≡◌, ◌≤◌, ◌<◌, ◌+◌, ◌*◌, ◌++◌, ◌^◌, ℕ, true, length, vec_capacity, Option, Some, None, Ok, Err, IfOk, OnOk, OnErr};
 ghost use Rattle.std.specs.Option.{option_map};
 ghost use Rattle.khe_told.specs.Lists.{meet_in};
-ghost use Rattle.khe_told.specs.Slots.{slot_at};
+ghost use Rattle.khe_told.specs.Slots.{slot_at, is_live};
 ghost use Rattle.khe_told.specs.Changes.{inverses};
 ghost use Rattle.khe_told.specs.Watchers.{watcher_counts};
-ghost use Rattle.khe_solution.specs.Reading.{is_live, has_place, resource_at};
+ghost use Rattle.khe_solution.specs.Reading.{has_place, resource_at};
 ghost use Rattle.khe_solution.specs.Refusing.{is_of_meets, checked, refusal};
 ghost use Rattle.khe_solution.specs.Editing.{edited, made, answer};
 ghost use Rattle.khe_solution.specs.Changing.{changes};
 ghost use Rattle.khe_solution.specs.Backs.{back_of, undone, undone_changes, LeadsBack};
-ghost use Rattle.khe_solution.specs.Valid.{AreValid};
+ghost use Rattle.khe_told.specs.Valid.{AreValid};
 
 use crate::checks::check;
 use crate::edits::{back_of, list_edit, list_undo, made};
@@ -35,7 +35,7 @@ pub struct Solution<'i> {
 
 impl<'i> Model for Solution<'i> {
     ghost use Rattle.std.specs.Prelude.{vec_capacity};
-    ghost use Rattle.khe_solution.specs.Valid.{AreValid};
+    ghost use Rattle.khe_told.specs.Valid.{AreValid};
     ghost use Rattle.khe_solution.specs.Timetables.{Timetable, HasRoom};
 
     ghost Value = { Timetable };

@@ -2,7 +2,7 @@ use Rattle.std.proofs.Common.{◌≡◌, ◌∙◌, ap, sym, subst}
 use Rattle.khe_solution.specs.Editing.{edited}
 use Rattle.khe_solution.specs.Backs.{back_of, LeadsBack}
 use Rattle.khe_solution.specs.Timetables.{Timetable}
-use Rattle.khe_solution.specs.Valid.{AreValid}
+use Rattle.khe_told.specs.Valid.{AreValid}
 use Rattle.khe_solution.proofs.EditLaws.{back_leads}
 use Rattle.khe_solution.proofs.solution.Solution.back.Goals as goal
 
