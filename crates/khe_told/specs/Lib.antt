@@ -1,5 +1,6 @@
 pub mod Agreement
 pub mod Changes
+pub mod Filled
 pub mod Fits
 pub mod Lists
 pub mod Refusals

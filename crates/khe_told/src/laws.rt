@@ -17,7 +17,6 @@ ghost use Rattle.khe_told.specs.Watchers.{watcher_count, watcher_counts};
 ghost use Rattle.khe_told.specs.declared.changes.Change.{Change};
 ghost use Rattle.khe_told.specs.declared.slots.Slot.{Slot};
 
-
 // A change and then its inverse leave the told state as it was, and both have as many watchers.
 fn a_change_and_its_inverse()
     ensures fits { (p : Parts) (s : List Slot) (c : Change) → AreTold p s → Fits p s c → Fits p (after s c) (inverse c) }
