@@ -4,6 +4,7 @@ pub mod EditLaws
 pub mod EditingLaws
 pub mod MeetEdits
 pub mod NoteLaws
+pub mod OpenLaws
 pub mod Owners
 pub mod ReadingLaws
 pub mod ResourceEdits

@@ -1,6 +1,7 @@
 ghost use Rattle.std.specs.Prelude.{◌≡◌, ◌≤◌, ◌<◌, ◌+◌, ◌*◌, ◌++◌, ◌^◌, ℕ, true, length, vec_capacity, Option, Some, None, Ok, Err, IfOk, OnOk, OnErr};
 ghost use Rattle.std.specs.Option.{option_map};
-ghost use Rattle.khe_told.specs.Lists.{meet_in};
+ghost use Rattle.khe_instance.specs.States.{IsValid};
+ghost use Rattle.khe_told.specs.Lists.{meet_in, meets_in, tasks_in};
 ghost use Rattle.khe_told.specs.Slots.{slot_at, is_live};
 ghost use Rattle.khe_told.specs.Changes.{inverses};
 ghost use Rattle.khe_told.specs.Watchers.{watcher_counts};
@@ -15,9 +16,11 @@ use crate::checks::check;
 use crate::edits::{back_of, list_edit, list_undo, made};
 use crate::notes::{note_all, note_back};
 use crate::reads::resource_at;
-use khe_base::{MeetId, ResourceId, TaskId};
-use khe_instance::{Instance, Meet};
+use crate::room::room_for;
+use khe_base::{MeetId, NoMemory, ResourceId, TaskId};
+use khe_instance::{Instance, Meet, Plain};
 use khe_told::{Back, Change, Edit, Refusal, Steps, Told, Watcher};
+use std::alloc::Global;
 use std::marker::Model;
 use std::sync::ledger::Ledger;
 
@@ -46,6 +49,21 @@ impl<'i> Model for Solution<'i> {
 }
 
 impl<'i> Solution<'i> {
+    /// The timetable of a valid state. It takes time and memory in proportion to the meet slots and
+    /// the task slots of the instance; no later call takes memory.
+    #[tactic(auto, using(crate::proofs::OpenLaws::open_valid))]
+    pub fn open(alloc: Global, inst: &'i Instance, plain: &Plain) -> Result<Solution<'i>, NoMemory>
+        requires { IsValid inst.now plain.now }
+        ensures parts { IfOk result (λ s. s.parts ≡ inst.now) }
+        ensures meets { IfOk result (λ s. meets_in s.slots ≡ plain.now.meets) }
+        ensures tasks { IfOk result (λ s. tasks_in s.slots ≡ plain.now.tasks) }
+    {
+        inst.facts();
+        let told = Told::from_plain(alloc, inst, plain)?;
+        let list = room_for(alloc, inst)?;
+        Ok(Solution { inst, told, list })
+    }
+
     /// What is true of every solution: its slots are valid.
     pub fn facts(&self)
         ensures { AreValid self.now.parts self.now.slots }
