@@ -2,6 +2,7 @@ pub mod Basics
 pub mod CutJoin
 pub mod EditLaws
 pub mod EditingLaws
+pub mod FreeLaws
 pub mod MeetEdits
 pub mod NoteLaws
 pub mod OpenLaws

@@ -19,7 +19,7 @@ use Rattle.khe_told.specs.Fits.{AreTold}
 use Rattle.khe_told.specs.declared.slots.Slot.{Slot}
 use Rattle.khe_told.specs.declared.slots.Span.{Span}
 use Rattle.khe_solution.specs.Reading.{Shows, is_free_of, free_slot}
-use Rattle.khe_solution.specs.Timetables.{AreLive, IsFirstFree}
+use Rattle.khe_solution.specs.FreeBits.{AreLive, IsFirstFree}
 use Rattle.khe_solution.proofs.Basics.{true-false, both-true, injective, live_there}
 use Rattle.khe_solution.proofs.Owners.{owner, free_there, emptied_at, length_slots}
 
@@ -161,23 +161,48 @@ not_free e x h = ap (λ b. (x.event.0 == e) && b) (there x.span h) ∙ off (x.ev
 other_event : (e : ℕ) (x : Slot) → (x.event.0 ≡ e → ⊥) → is_free_of e x ≡ false
 other_event e x d = ap (λ b. b && is_none x.span) (ne_eqb x.event.0 e d)
 
--- the first free slot of an event's span is the lowest free slot of the event
+-- the first free slot from the first of an event's slots on is the lowest free slot of the event, if
+-- that has one
 first_is : (p : Parts) (s : List Slot) (e n : ℕ) (event : EventInfo) → AreTold p s → AreFirstMeets 0 p.events → slice_get p.events e ≡ Some event
-    → IsFirstFree s event.first_meet (event.first_meet + event.duration) n → n ≡ free_slot s e
-first_is p s e n event t f g i =
-    let w = at_event p s n e event t f g i.0 i.1 in
-    let l = w.1 in
-    sym (position_or_len_is (is_free_of e) s n no_slot (omega (arith, l)) before (λ k. free_of e (slot_at s n) w.0 i.2))
+    → free_slot s e < length s → IsFirstFree s event.first_meet n → (n ≡ free_slot s e) × (n < event.first_meet + event.duration)
+first_is p s e n event t f g there i = (same, last)
   where
+    is : ((slot_at s (free_slot s e)).event.0 ≡ e) × (is_live (slot_at s (free_slot s e)) ≡ false)
+    is =
+        let x = slot_at s (free_slot s e) in
+        let b = both-true (x.event.0 == e) (is_none x.span) (passes_at_first (is_free_of e) s no_slot there) in
+        (eqb-true x.event.0 e b.0, off x.span b.1)
+      where
+        off : (o : Option Span) → is_none o ≡ true → is_some o ≡ false
+        off None k = refl
+        off (Some y) k = absurd (true-false (sym k))
+
+    within : (event.first_meet ≤ free_slot s e) × (free_slot s e < event.first_meet + event.duration)
+    within = in_event p s (free_slot s e) e event t f g there is.0
+
+    least : n ≤ free_slot s e
+    least = elim (cases_lt (free_slot s e) n) [
+      | inl l ↦ absurd (true-false (sym (i.3 (free_slot s e) within.0 l) ∙ is.1))
+      | inr h ↦ h
+    ]
+
+    last : n < event.first_meet + event.duration
+    last = let a = least in let b = within.1 in omega (arith, a, b)
+
+    own : (slot_at s n).event.0 ≡ e
+    own = (at_event p s n e event t f g i.0 last).0
+
     before : (k : ℕ) → k < n → is_free_of e (slot_at s k) ≡ false
     before k h = elim (cases_lt k event.first_meet) [
-      | inl b ↦ other_event e (slot_at s k) (λ own.
-          let w = at_event p s n e event t f g i.0 i.1 in
-          let l = w.1 in
-          let r = (in_event p s k e event t f g (omega (arith, l, h)) own).0 in
+      | inl b ↦ other_event e (slot_at s k) (λ mine.
+          let l = i.1 in
+          let r = (in_event p s k e event t f g (omega (arith, l, h)) mine).0 in
           omega (arith, r, b))
       | inr a ↦ not_free e (slot_at s k) (i.3 k a h)
     ]
+
+    same : n ≡ free_slot s e
+    same = let l = i.1 in sym (position_or_len_is (is_free_of e) s n no_slot (omega (arith, l)) before (λ k. free_of e (slot_at s n) own i.2))
 
 -- the slots of an event end where all durations do, or before
 span_end : (next i : ℕ) (events : List EventInfo) (event : EventInfo) → AreFirstMeets next events → slice_get events i ≡ Some event → event.first_meet + event.duration ≤ next + sum_by (λ (e : EventInfo). e.duration) events
@@ -206,7 +231,7 @@ span_small p e event w g =
     omega (arith, a, b)
 
 pub never_full : (p : Parts) (s : List Slot) (m : ℕ) (own : Meet) (event : EventInfo) → AreTold p s → AreWellMade p → 2 ≤ length_of (slot_at s m) → Shows (slot_at s m) own → slice_get p.events own.event.0 ≡ Some event
-    → AreLive s event.first_meet (event.first_meet + event.duration) → ⊥
+    → AreLive s event.first_meet (length s) → ⊥
 never_full p s m own event t w d h g a =
     let x = slot_at s m in
     let e = x.event.0 in
@@ -215,13 +240,40 @@ never_full p s m own event t w d h g a =
     let is = both-true ((slot_at s n).event.0 == e) (is_none (slot_at s n).span) (passes_at_first (is_free_of e) s no_slot l) in
     let g2 : slice_get p.events e ≡ Some event = ap (λ (q : EventId). slice_get p.events q.0) h.event ∙ g in
     let i = in_event p s n e event t w.first_meets g2 l (eqb-true (slot_at s n).event.0 e is.0) in
-    absurd (busy (slot_at s n).span (a n i.0 i.1) is.1)
+    absurd (busy (slot_at s n).span (a n i.0 l) is.1)
   where
     busy : (o : Option Span) → is_some o ≡ true → is_none o ≡ true → ⊥
     busy None u v = true-false (sym u)
     busy (Some y) u v = true-false (sym v)
 
-pub first_found : (p : Parts) (s : List Slot) (m n : ℕ) (own : Meet) (event : EventInfo) → AreTold p s → AreWellMade p → Shows (slot_at s m) own → slice_get p.events own.event.0 ≡ Some event
-    → IsFirstFree s event.first_meet (event.first_meet + event.duration) n → n ≡ free_slot s (slot_at s m).event.0
-first_found p s m n own event t w h g i =
-    first_is p s (slot_at s m).event.0 n event t w.first_meets (ap (λ (q : EventId). slice_get p.events q.0) h.event ∙ g) i
+found : (p : Parts) (s : List Slot) (m n : ℕ) (own : Meet) (event : EventInfo) → AreTold p s → AreWellMade p → 2 ≤ length_of (slot_at s m) → Shows (slot_at s m) own → slice_get p.events own.event.0 ≡ Some event
+    → IsFirstFree s event.first_meet n → (n ≡ free_slot s (slot_at s m).event.0) × (n < event.first_meet + event.duration)
+found p s m n own event t w d h g i =
+    first_is p s (slot_at s m).event.0 n event t w.first_meets (ap (λ (q : EventId). slice_get p.events q.0) h.event ∙ g) (free_there p s m t (live_there s m h.live) d) i
+
+pub first_found : (p : Parts) (s : List Slot) (m n : ℕ) (own : Meet) (event : EventInfo) → AreTold p s → AreWellMade p → 2 ≤ length_of (slot_at s m) → Shows (slot_at s m) own → slice_get p.events own.event.0 ≡ Some event
+    → IsFirstFree s event.first_meet n → n ≡ free_slot s (slot_at s m).event.0
+first_found p s m n own event t w d h g i = (found p s m n own event t w d h g i).0
+
+pub first_small : (p : Parts) (s : List Slot) (m n : ℕ) (own : Meet) (event : EventInfo) → AreTold p s → AreWellMade p → 2 ≤ length_of (slot_at s m) → Shows (slot_at s m) own → slice_get p.events own.event.0 ≡ Some event
+    → IsFirstFree s event.first_meet n → n < 2 ^ 32
+first_small p s m n own event t w d h g i =
+    let a = (found p s m n own event t w d h g i).1 in
+    let b = span_small p own.event.0 event w g in
+    omega (arith, a, b)
+
+-- there are no more slots than numbers of slots
+slots_long : (n : ℕ) (events : List EventInfo) → length (slots_from n events) ≡ sum_by (λ (e : EventInfo). e.duration) events
+slots_long n [] = refl
+slots_long n (x ∷ xs) =
+    let a = both_slots n x xs in
+    let b = slots_long (n + 1) xs in
+    let c = sum_by-cons (λ (e : EventInfo). e.duration) x xs in
+    omega (arith, a, b, c)
+
+pub slots_few : (p : Parts) (s : List Slot) → AreTold p s → AreWellMade p → length s < 2 ^ 32
+slots_few p s t w =
+    let a = told_length p s t in
+    let b = slots_long 0 p.events in
+    let c = w.limits.duration in
+    omega (arith, a, b, c)

@@ -1,6 +1,7 @@
 pub mod Backs
 pub mod Changing
 pub mod Editing
+pub mod FreeBits
 pub mod Refusing
 pub mod Reading
 pub mod Timetables

@@ -1,9 +1,9 @@
 -- What a solution is seen as: the parts of its instance, and its slots.
-use Rattle.std.specs.Prelude.{ℕ, ◌≡◌, ◌+◌, ◌*◌, ◌^◌, ◌<◌, ◌≤◌, true, false, Some, List, length, slice_get, IfSome}
+use Rattle.std.specs.Prelude.{ℕ, ◌≡◌, ◌+◌, ◌*◌, ◌^◌, ◌<◌, ◌≤◌, Some, List, length, slice_get, IfSome}
 use Rattle.khe_base.specs.declared.numbers.MeetId.{MeetId}
 use Rattle.khe_instance.specs.declared.parts.EventInfo.{EventInfo}
 use Rattle.khe_instance.specs.declared.parts.Parts.{Parts}
-use Rattle.khe_told.specs.Slots.{slot_at, length_of, is_live, start_of}
+use Rattle.khe_told.specs.Slots.{slot_at, length_of, start_of}
 use Rattle.khe_told.specs.declared.slots.Slot.{Slot}
 use Rattle.khe_told.specs.declared.edits.Edit.{Edit}
 use Rattle.khe_told.specs.declared.edits.Edit.TheVariants.{Split}
@@ -38,10 +38,3 @@ CutsWithin s _ = Unit {0}
 abbrev pub RecutsWithin : List Slot → Back → Type 0
 RecutsWithin s (Cut a cut b) = StartsLater s a cut
 RecutsWithin s _ = Unit {0}
-
--- the slots of these numbers have meets, and the first of them that has none
-abbrev pub AreLive : List Slot → ℕ → ℕ → Type 0
-AreLive s from end = (k : ℕ) → from ≤ k → k < end → is_live (slot_at s k) ≡ true
-
-abbrev pub IsFirstFree : List Slot → ℕ → ℕ → ℕ → Type 0
-IsFirstFree s from end n = (from ≤ n) × (n < end) × (is_live (slot_at s n) ≡ false) × AreLive s from n

@@ -16,7 +16,7 @@ use crate::lists::{
     put_regive, put_take, put_trade,
 };
 use crate::reads::{duration_of, resource_at, start_of};
-use crate::slots::new_meet;
+use crate::slots::{Slots, new_meet};
 use khe_base::{MeetId, TimeId};
 use khe_instance::Instance;
 use khe_told::{Back, Change, Edit, Told};
@@ -121,24 +121,25 @@ fn put_merge_again(list: &mut Vec<Change>, told: &Told, a: MeetId, cut: u32, b: 
 
 /// The number of the meet that an edit makes.
 #[tactic(auto, unfolding(crate::specs::Editing::made))]
-pub(crate) fn made(inst: &Instance, told: &Told, edit: Edit) -> Option<u32>
-    requires told { AreTold inst.now told.now }
-    requires cut { CutsWithin told.now edit }
-    ensures { result ≡ made told.now edit }
+pub(crate) fn made(inst: &Instance, slots: &Slots, edit: Edit) -> Option<u32>
+    requires told { AreTold inst.now slots.now }
+    requires cut { CutsWithin slots.now edit }
+    ensures { result ≡ made slots.now edit }
 {
     match edit {
-        Edit::Split { meet, .. } => Some(new_meet(inst, told, meet).0),
+        Edit::Split { meet, .. } => Some(new_meet(inst, slots, meet).0),
         _ => None,
     }
 }
 
 /// The record that leads back from an edit.
 #[tactic(auto, unfolding(crate::specs::Backs::back_of))]
-pub(crate) fn back_of(inst: &Instance, told: &Told, edit: &Edit) -> Back
-    requires told { AreTold inst.now told.now }
-    requires cut { CutsWithin told.now edit.now }
-    ensures { result ≡ back_of told.now edit.now }
+pub(crate) fn back_of(inst: &Instance, slots: &Slots, edit: &Edit) -> Back
+    requires told { AreTold inst.now slots.now }
+    requires cut { CutsWithin slots.now edit.now }
+    ensures { result ≡ back_of slots.now edit.now }
 {
+    let told = slots.told();
     match *edit {
         Edit::Assign { meet, .. } => Back::By(Edit::Unassign { meet }),
         Edit::Unassign { meet } => match start_of(told, meet) {
@@ -151,7 +152,7 @@ pub(crate) fn back_of(inst: &Instance, told: &Told, edit: &Edit) -> Back
         },
         Edit::Split { meet, .. } => Back::By(Edit::Merge {
             first: meet,
-            second: new_meet(inst, told, meet),
+            second: new_meet(inst, slots, meet),
         }),
         Edit::Merge { first, second } => Back::Cut {
             first,

@@ -3,6 +3,7 @@
 //! back from each.
 #![tactic(auto)]
 
+mod bits;
 mod checks;
 mod edits;
 mod lists;

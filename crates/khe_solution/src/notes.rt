@@ -6,31 +6,32 @@ ghost use Rattle.khe_told.specs.Fits.{AllFit};
 ghost use Rattle.khe_told.specs.Changes.{after_all, inverses};
 ghost use Rattle.khe_told.specs.Watchers.{watcher_counts};
 
+use crate::slots::Slots;
 use khe_instance::Instance;
-use khe_told::{Change, Steps, Told, Watcher};
+use khe_told::{Change, Steps, Watcher};
 use std::sync::ledger::Ledger;
 
 /// Notes a list of changes, each of which fits after those before it.
 pub(crate) fn note_all<V: Watcher, L: Ledger>(
     inst: &Instance,
     list: &[Change],
-    told: &mut Told,
+    slots: &mut Slots,
     watcher: &mut V,
     steps: &mut Steps<L>,
 )
     requires of { V.IsOf watcher.old inst.now }
-    requires same { V.told watcher.old ≡ told.old }
-    requires fits { AllFit inst.now told.old list.now }
+    requires same { V.told watcher.old ≡ slots.old }
+    requires fits { AllFit inst.now slots.old list.now }
     ensures of { V.IsOf watcher.new inst.now }
-    ensures same { V.told watcher.new ≡ told.new }
-    ensures told { told.new ≡ after_all told.old list.now }
+    ensures same { V.told watcher.new ≡ slots.new }
+    ensures told { slots.new ≡ after_all slots.old list.now }
     ensures noted { V.noted watcher.new ≡ option_map (λ cs. cs ++ list.now) (V.noted watcher.old) }
     ensures rest { V.HasSameRest watcher.old watcher.new }
-    ensures steps { steps.new ≤ steps.old + watcher_counts inst.now told.old list.now }
+    ensures steps { steps.new ≤ steps.old + watcher_counts inst.now slots.old list.now }
     ensures silent { V.is_silent ≡ true → steps.new ≡ steps.old }
 {
     for change in list {
-        told.note(inst, *change);
+        slots.note(inst, *change);
         watcher.note(inst, *change, steps);
     }
 }
@@ -40,25 +41,25 @@ pub(crate) fn note_all<V: Watcher, L: Ledger>(
 pub(crate) fn note_back<V: Watcher, L: Ledger>(
     inst: &Instance,
     list: &mut Vec<Change>,
-    told: &mut Told,
+    slots: &mut Slots,
     watcher: &mut V,
     steps: &mut Steps<L>,
 )
     requires of { V.IsOf watcher.old inst.now }
-    requires same { V.told watcher.old ≡ told.old }
-    requires fits { AllFit inst.now told.old (inverses list.old.items) }
+    requires same { V.told watcher.old ≡ slots.old }
+    requires fits { AllFit inst.now slots.old (inverses list.old.items) }
     ensures of { V.IsOf watcher.new inst.now }
-    ensures same { V.told watcher.new ≡ told.new }
-    ensures told { told.new ≡ after_all told.old (inverses list.old.items) }
+    ensures same { V.told watcher.new ≡ slots.new }
+    ensures told { slots.new ≡ after_all slots.old (inverses list.old.items) }
     ensures noted { V.noted watcher.new ≡ option_map (λ cs. cs ++ inverses list.old.items) (V.noted watcher.old) }
     ensures rest { V.HasSameRest watcher.old watcher.new }
-    ensures steps { steps.new ≤ steps.old + watcher_counts inst.now told.old (inverses list.old.items) }
+    ensures steps { steps.new ≤ steps.old + watcher_counts inst.now slots.old (inverses list.old.items) }
     ensures silent { V.is_silent ≡ true → steps.new ≡ steps.old }
     ensures room { vec_capacity list.old ≤ vec_capacity list.new }
 {
     while let Some(change) = list.pop() {
         let back = change.inverse();
-        told.note(inst, back);
+        slots.note(inst, back);
         watcher.note(inst, back, steps);
     }
 }

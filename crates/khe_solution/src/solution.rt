@@ -17,9 +17,10 @@ use crate::edits::{back_of, list_edit, list_undo, made};
 use crate::notes::{note_all, note_back};
 use crate::reads::resource_at;
 use crate::room::room_for;
+use crate::slots::Slots;
 use khe_base::{MeetId, NoMemory, ResourceId, TaskId};
 use khe_instance::{Instance, Meet, Plain};
-use khe_told::{Back, Change, Edit, Refusal, Steps, Told, Watcher};
+use khe_told::{Back, Change, Edit, Refusal, Steps, Watcher};
 use std::alloc::Global;
 use std::marker::Model;
 use std::sync::ledger::Ledger;
@@ -31,7 +32,7 @@ use std::sync::ledger::Ledger;
 #[derive(Drop)]
 pub struct Solution<'i> {
     inst: &'i Instance,
-    told: Told,
+    slots: Slots,
     /// The changes of one edit.
     list: Vec<Change>,
 }
@@ -43,9 +44,9 @@ impl<'i> Model for Solution<'i> {
 
     ghost Value = { Timetable };
 
-    ghost view = { λ s. record { parts = s.inst.now; slots = s.told } };
+    ghost view = { λ s. record { parts = s.inst.now; slots = s.slots } };
 
-    ghost invariant = { λ s. AreValid s.inst.now s.told × HasRoom s.inst.now (vec_capacity s.list) };
+    ghost invariant = { λ s. AreValid s.inst.now s.slots × HasRoom s.inst.now (vec_capacity s.list) };
 }
 
 impl<'i> Solution<'i> {
@@ -59,16 +60,16 @@ impl<'i> Solution<'i> {
         ensures tasks { IfOk result (λ s. tasks_in s.slots ≡ plain.now.tasks) }
     {
         inst.facts();
-        let told = Told::from_plain(alloc, inst, plain)?;
+        let slots = Slots::open(alloc, inst, plain)?;
         let list = room_for(alloc, inst)?;
-        Ok(Solution { inst, told, list })
+        Ok(Solution { inst, slots, list })
     }
 
     /// What is true of every solution: its slots are valid.
     pub fn facts(&self)
         ensures { AreValid self.now.parts self.now.slots }
     {
-        let _ = &self.told;
+        let _ = &self.slots;
     }
 
     /// The instance that it was opened on.
@@ -82,7 +83,7 @@ impl<'i> Solution<'i> {
     pub fn meet(&self, meet: MeetId) -> Option<Meet>
         ensures { result ≡ meet_in (slot_at self.now.slots meet.0) }
     {
-        self.told.meet(meet)
+        self.slots.told().meet(meet)
     }
 
     /// The resource of a task, or `None` where it has none. It takes constant time.
@@ -90,7 +91,7 @@ impl<'i> Solution<'i> {
         requires { has_place (slot_at self.now.slots task.meet.0) task.place ≡ true }
         ensures { result ≡ resource_at self.now.slots task }
     {
-        resource_at(&self.told, task)
+        resource_at(self.slots.told(), task)
     }
 
     /// The first refusal of an edit of meets and tasks, if it is refused. It looks at no more than
@@ -99,7 +100,7 @@ impl<'i> Solution<'i> {
         requires ours { is_of_meets edit.now ≡ true }
         ensures { result ≡ checked (refusal self.now.parts self.now.slots edit.now) }
     {
-        check(self.inst, &self.told, edit)
+        check(self.inst, self.slots.told(), edit)
     }
 
     /// Makes an edit of meets and tasks, and notes the watcher of its changes in their order.
@@ -131,12 +132,12 @@ impl<'i> Solution<'i> {
     {
         self.check(&edit)?;
         self.inst.facts();
-        let made = made(self.inst, &self.told, edit);
-        list_edit(&mut self.list, &self.told, edit, made);
+        let made = made(self.inst, &self.slots, edit);
+        list_edit(&mut self.list, self.slots.told(), edit, made);
         note_all(
             self.inst,
             self.list.as_slice(),
-            &mut self.told,
+            &mut self.slots,
             watcher,
             steps,
         );
@@ -154,7 +155,7 @@ impl<'i> Solution<'i> {
         ensures list { undone_changes (edited self.now.slots edit.now) result ≡ changes self.now.slots edit.now }
     {
         self.inst.facts();
-        back_of(self.inst, &self.told, edit)
+        back_of(self.inst, &self.slots, edit)
     }
 
     /// Undoes the edit of a record that leads back, and notes the watcher of the inverses of the
@@ -176,7 +177,7 @@ impl<'i> Solution<'i> {
         ensures silent { V.is_silent ≡ true → steps.new ≡ steps.old }
     {
         self.inst.facts();
-        list_undo(&mut self.list, &self.told, back);
-        note_back(self.inst, &mut self.list, &mut self.told, watcher, steps);
+        list_undo(&mut self.list, self.slots.told(), back);
+        note_back(self.inst, &mut self.list, &mut self.slots, watcher, steps);
     }
 }

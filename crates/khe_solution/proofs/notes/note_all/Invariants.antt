@@ -10,11 +10,11 @@ invariant-loop-change g l =
     let rest = drop l.change-index l.list in
     record {
       of : g.V.Watcher.IsOf l.watcher l.inst;
-      same : g.V.Watcher.told l.watcher ≡ l.told;
-      fits : AllFit l.inst l.told rest;
-      told : after_all l.told rest ≡ after_all l.fn.told l.list;
+      same : g.V.Watcher.told l.watcher ≡ l.slots;
+      fits : AllFit l.inst l.slots rest;
+      told : after_all l.slots rest ≡ after_all l.fn.slots l.list;
       noted : option_map (λ cs. cs ++ rest) (g.V.Watcher.noted l.watcher) ≡ option_map (λ cs. cs ++ l.list) (g.V.Watcher.noted l.fn.watcher);
       same_rest : g.V.Watcher.HasSameRest l.fn.watcher l.watcher;
-      steps : l.steps + watcher_counts l.inst l.told rest ≤ l.fn.steps + watcher_counts l.inst l.fn.told l.list;
+      steps : l.steps + watcher_counts l.inst l.slots rest ≤ l.fn.steps + watcher_counts l.inst l.fn.slots l.list;
       silent : g.V.Watcher.is_silent ≡ true → l.steps ≡ l.fn.steps;
     }

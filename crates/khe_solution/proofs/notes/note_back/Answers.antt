@@ -10,7 +10,7 @@ pub loop-change-preserved : goal.loop-change-preserved
 loop-change-preserved g c =
     let i = c.loop-change.invariant in
     let p = c.args.inst.now in
-    let t = c.loop-change.told in
+    let t = c.loop-change.slots in
     let new = inverses c.pop.new.self.items in
     let old = inverses c.loop-change.list.items in
     let b = c.inverse-back.result in

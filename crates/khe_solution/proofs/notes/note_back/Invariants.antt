@@ -12,12 +12,12 @@ invariant-loop-change g l =
     let all = inverses l.fn.list.items in
     record {
       of : g.V.Watcher.IsOf l.watcher l.inst;
-      same : g.V.Watcher.told l.watcher ≡ l.told;
-      fits : AllFit l.inst l.told rest;
-      told : after_all l.told rest ≡ after_all l.fn.told all;
+      same : g.V.Watcher.told l.watcher ≡ l.slots;
+      fits : AllFit l.inst l.slots rest;
+      told : after_all l.slots rest ≡ after_all l.fn.slots all;
       noted : option_map (λ cs. cs ++ rest) (g.V.Watcher.noted l.watcher) ≡ option_map (λ cs. cs ++ all) (g.V.Watcher.noted l.fn.watcher);
       same_rest : g.V.Watcher.HasSameRest l.fn.watcher l.watcher;
-      steps : l.steps + watcher_counts l.inst l.told rest ≤ l.fn.steps + watcher_counts l.inst l.fn.told all;
+      steps : l.steps + watcher_counts l.inst l.slots rest ≤ l.fn.steps + watcher_counts l.inst l.fn.slots all;
       silent : g.V.Watcher.is_silent ≡ true → l.steps ≡ l.fn.steps;
       room : vec_capacity l.fn.list ≤ vec_capacity l.list;
     }
