@@ -14,4 +14,5 @@ pub mod Rows
 pub mod Spans
 pub mod Stages
 pub mod StartEdits
+pub mod StepLaws
 pub mod Works

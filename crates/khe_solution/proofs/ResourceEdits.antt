@@ -72,7 +72,7 @@ regive_works p s t r v h =
     }
 
 -- two tasks that exchange their resources
-traded : (s : List Slot) (a b : TaskId) (q r : Option ResourceId) → AreApart a b → a.meet.0 < length s → b.meet.0 < length (staffed s a None) → b.meet.0 < length (staffed s a r)
+pub traded : (s : List Slot) (a b : TaskId) (q r : Option ResourceId) → AreApart a b → a.meet.0 < length s → b.meet.0 < length (staffed s a None) → b.meet.0 < length (staffed s a r)
     → staffed (staffed (staffed (staffed s a None) b None) a r) b q ≡ staffed (staffed s a r) b q
 traded s a b q r d la lb1 lb =
     let s1 = staffed s a None in

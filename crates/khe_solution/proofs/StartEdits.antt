@@ -20,7 +20,7 @@ use Rattle.khe_solution.proofs.EditingLaws.{timed_same, timed_other, timed_twice
 use Rattle.khe_solution.proofs.Stages.{Goes, MayMove, goes_both, goes_to, lift_goes, place_goes, moves_still}
 use Rattle.khe_solution.proofs.Works.{Works}
 
-timed_start : (s : List Slot) (m : MeetId) (t : Option TimeId) → is_live (slot_at s m.0) ≡ true → start_of (slot_at (timed s m t) m.0) ≡ t
+pub timed_start : (s : List Slot) (m : MeetId) (t : Option TimeId) → is_live (slot_at s m.0) ≡ true → start_of (slot_at (timed s m t) m.0) ≡ t
 timed_start s m t h = ap start_of (timed_same s m t (live_there s m.0 h)) ∙ start_given (slot_at s m.0) t h
 
 pub assign_works : (p : Parts) (s : List Slot) (m : MeetId) (t : TimeId) → AreValid p s → first_refusal (assign_row p s m t) ≡ None → Works p s (Assign m t)
@@ -72,7 +72,7 @@ move_works p s m t v h =
     }
 
 -- two meets that exchange their starts
-swapped : (s : List Slot) (a b : MeetId) (t u : Option TimeId) → (b.0 ≡ a.0 → ⊥) → a.0 < length s → b.0 < length (timed s a None) → b.0 < length (timed s a u)
+pub swapped : (s : List Slot) (a b : MeetId) (t u : Option TimeId) → (b.0 ≡ a.0 → ⊥) → a.0 < length s → b.0 < length (timed s a None) → b.0 < length (timed s a u)
     → timed (timed (timed (timed s a None) b None) a u) b t ≡ timed (timed s a u) b t
 swapped s a b t u d la lb1 lb =
     let s1 = timed s a None in

@@ -4,4 +4,5 @@ pub mod Editing
 pub mod FreeBits
 pub mod Refusing
 pub mod Reading
+pub mod Steps
 pub mod Timetables

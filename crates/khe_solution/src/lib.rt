@@ -6,6 +6,7 @@
 mod bits;
 mod checks;
 mod edits;
+mod laws;
 mod lists;
 mod notes;
 mod reads;
