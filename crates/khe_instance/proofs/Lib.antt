@@ -1,2 +1,7 @@
+pub mod DutiesLemmas
+pub mod MadeLemmas
+pub mod ResourceBounds
 pub mod SlotsLemmas
+pub mod SumsLemmas
 pub mod TasksLemmas
+pub mod WatchingLaws

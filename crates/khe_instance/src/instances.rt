@@ -122,6 +122,13 @@ impl Instance {
         self.parts.groups.len() as u32
     }
 
+    /// How many constraints there are.
+    pub fn constraints(&self) -> u32
+        ensures { result ≡ length self.now.constraints }
+    {
+        self.parts.constraints.len() as u32
+    }
+
     /// How many monitors there are.
     pub fn monitors(&self) -> u32
         ensures { result ≡ length self.now.monitors }

@@ -5,11 +5,10 @@ use Rattle.std.specs.List.{cons_option, filter_map, flat_map, range_with_len}
 use Rattle.std.specs.List.Sorted.{IsStrictlyIncreasing}
 use Rattle.std.specs.Option.{option_map_or}
 use Rattle.std.proofs.Math.Seq.{map-set_same, take-add}
-use Rattle.std.proofs.lemmas.List.{append-nil, drop_all, drop-drop, drop-map, get_or_append_left, length-append, length-drop, length-map, length-replicate, length-take-le, map-append, take_all, take-map, take_more, take_at, drop_at}
+use Rattle.std.proofs.lemmas.List.{append-nil, drop_all, drop-drop, drop-map, length-append, length-drop, length-map, length-replicate, length-take-le, map-append, take_all, take-map, take_more, take_at, drop_at}
 use Rattle.std.proofs.lemmas.List.Concat.{flat_map-cons}
 use Rattle.std.proofs.lemmas.List.Elements.{All-nil, All-cons, All-set}
-use Rattle.std.proofs.lemmas.List.FromFn.{get_or-map-range_with_len, length-map-range_with_len}
-use Rattle.std.proofs.Math.Seq.{get_or-append_right}
+use Rattle.std.proofs.lemmas.List.FromFn.{length-map-range_with_len}
 use Rattle.std.proofs.lemmas.Option.{get_or_from_slice_get, slice_get-get_or, slice_get_within}
 use Rattle.khe_base.proofs.ListLemmas.{all-there, drop-there, mapped-there}
 use Rattle.khe_base.specs.declared.numbers.ResourceId.{ResourceId}
@@ -21,58 +20,14 @@ use Rattle.khe_instance.specs.declared.parts.EventInfo.{EventInfo}
 use Rattle.khe_instance.specs.declared.parts.Parts.{Parts}
 use Rattle.khe_instance.specs.declared.states.Meet.{Meet}
 use Rattle.khe_instance.specs.declared.states.Task.{Task}
+use Rattle.khe_told.proofs.FrameLaws.{standing}
+use Rattle.khe_told.proofs.PlainLaws.{IsLive}
+use Rattle.khe_told.proofs.StoredLaws.{same}
 use Rattle.khe_told.specs.Filled.{AreFilled, filled}
 use Rattle.khe_told.specs.Lists.{meet_in, meets_in, tasks_in, tasks_of, tasks_with}
 use Rattle.khe_told.specs.Slots.{IsBareIfFree, emptied, empty_slot, no_meets, no_slot, slot_at, slots_from, slots_of_event}
 use Rattle.khe_told.specs.declared.slots.Slot.{Slot}
 use Rattle.khe_told.specs.declared.slots.Span.{Span}
-
-same : {A : Type 0} (a b : A) → Some a ≡ Some b → a ≡ b
-same a b h = ap (λ o. option_map_or (λ z. z) o a) h
-
--- where an event's slot stands among those of events that are numbered on
-record IsPlaced (e first k number : ℕ) (event : EventInfo) (events : List EventInfo) : Type 0 where
-  pub from : first ≤ k
-  pub within : k - first < length (slots_from e events)
-  pub value : slot_at (slots_from e events) (k - first) ≡ empty_slot k (e + number) event
-
-placed : (e first k number : ℕ) (event : EventInfo) (events : List EventInfo) → AreFirstMeets first events → slice_get events number ≡ Some event
-    → event.first_meet ≤ k → k < event.first_meet + event.duration → IsPlaced e first k number event events
-placed e first k number event [] f at from to = absurd (let l = slice_get_within [] number event at in omega (arith, l))
-placed e first k zero event (x ∷ events) f at from to =
-    let is = same x event at in
-    let a = f.0 in
-    let b = ap (λ (y : EventInfo). y.first_meet) is in
-    let d = ap (λ (y : EventInfo). y.duration) is in
-    let own = slots_of_event e x in
-    let later = slots_from (e + 1) events in
-    let many = length-map-range_with_len (λ j. empty_slot j e x) x.first_meet x.duration in
-    let l : k - first < length own = omega (arith, many, a, b, d, from, to) in
-    let z : e ≡ e + 0 = omega arith in
-    let l2 : k - first < x.duration = omega (arith, a, b, d, from, to) in
-    let here : x.first_meet + (k - first) ≡ k = omega (arith, a, b, from) in
-    record {
-      from = omega (arith, a, b, from);
-      within = let m = length-append own later in omega (arith, l, m);
-      value = get_or_append_left own later no_slot (k - first) l
-          ∙ get_or-map-range_with_len (λ j. empty_slot j e x) x.first_meet x.duration (k - first) k no_slot l2 here
-          ∙ (λ i. empty_slot k (z i) (is i));
-    }
-placed e first k (suc number) event (x ∷ events) f at from to =
-    let r = placed (e + 1) (first + x.duration) k number event events f.1 at from to in
-    let own = slots_of_event e x in
-    let later = slots_from (e + 1) events in
-    let many = length-map-range_with_len (λ j. empty_slot j e x) x.first_meet x.duration in
-    let low = r.from in
-    let past : length own ≤ k - first = omega (arith, many, low) in
-    let back : k - first - length own ≡ k - (first + x.duration) = omega (arith, many, low) in
-    let n : e + 1 + number ≡ e + suc number = omega arith in
-    record {
-      from = omega (arith, low);
-      within = let m = length-append own later in let w = r.within in omega (arith, m, w, back, past);
-      value = get_or-append_right own later (k - first) no_slot past
-          ∙ ap (λ j. get_or later j no_slot) back ∙ r.value ∙ ap (λ j. empty_slot k j event) n;
-    }
 
 -- the slot of an event's slot number, whatever its meet
 pub record IsSlotOf (s : List Slot) (e k places : ℕ) : Type 0 where
@@ -84,7 +39,7 @@ pub record IsSlotOf (s : List Slot) (e k places : ℕ) : Type 0 where
 pub slot_of : (p : Parts) (s : List Slot) (e k : ℕ) → AreFirstMeets 0 p.events → map emptied s ≡ no_meets p → HasSlot p.events e k → IsSlotOf s e k (places_at p.events e)
 slot_of p s e k first whose has =
     let event = has.0 in
-    let r = placed 0 0 k e event p.events first has.1 has.2 has.3 in
+    let r = standing 0 0 k e event p.events first has.1 has.2 has.3 in
     let w = r.within in
     let l : k < length s = let a = length-map s emptied in let b = ap length whose in omega (arith, w, a, b) in
     let z : 0 + e ≡ e = omega arith in
@@ -238,10 +193,6 @@ get_elsewhere [] k j y l = refl
 get_elsewhere (x ∷ s) k zero y l = absurd (omega (arith, l))
 get_elsewhere (x ∷ s) zero (suc j) y l = refl
 get_elsewhere (x ∷ s) (suc k) (suc j) y l = get_elsewhere s k j y (omega (arith, l))
-
-abbrev IsLive : Option Span → Type 0
-IsLive None = ⊥
-IsLive (Some y) = Unit {0}
 
 meet_above : (ms : List Meet) (i : ℕ) (m n : Meet) → IsStrictlyIncreasing (map (λ (m : Meet). m.meet.0) ms) → slice_get ms i ≡ Some m → slice_get ms (i + 1) ≡ Some n → m.meet.0 < n.meet.0
 meet_above ms i m n rise at next =

@@ -1,9 +1,12 @@
 -- What the slots of an instance's told states have in common, since all are those of the instance.
-use Rattle.std.proofs.Common.{ℕ, ◌≡◌, ◌+◌, ◌<◌, ◌≤◌, zero, suc, Some, None, List, [], ◌∷◌, ◌++◌, length, map, slice_get, refl, sym, ap, subst, ◌∙◌, arith}
+use Rattle.std.proofs.Common.{ℕ, ◌≡◌, ◌+◌, ◌-◌, ◌<◌, ◌≤◌, zero, suc, Some, None, List, [], ◌∷◌, ◌++◌, length, get_or, map, slice_get, refl, sym, ap, subst, ◌∙◌, arith}
 use Rattle.std.specs.Prelude.{All}
 use Rattle.std.specs.List.{range_with_len}
 use Rattle.std.specs.Option.{option_map_or}
-use Rattle.std.proofs.lemmas.List.{length-replicate}
+use Rattle.std.proofs.Math.Seq.{get_or-append_right}
+use Rattle.std.proofs.lemmas.List.{get_or_append_left, length-append, length-replicate}
+use Rattle.std.proofs.lemmas.List.FromFn.{get_or-map-range_with_len, length-map-range_with_len}
+use Rattle.std.proofs.lemmas.Option.{slice_get_within}
 use Rattle.std.proofs.lemmas.List.Elements.{All-nil, All-cons, All-head, All-tail, All-append}
 use Rattle.khe_instance.specs.Lookups.{places_at}
 use Rattle.khe_instance.specs.Slots.{HasSlot}
@@ -11,7 +14,8 @@ use Rattle.khe_instance.specs.WellMade.{AreFirstMeets}
 use Rattle.khe_instance.specs.declared.parts.EventInfo.{EventInfo}
 use Rattle.khe_instance.specs.declared.parts.Parts.{Parts}
 use Rattle.khe_told.proofs.DutyLaws.{AreFrom}
-use Rattle.khe_told.specs.Slots.{emptied, empty_slot, no_meets, slots_from, slots_of_event}
+use Rattle.khe_told.proofs.StoredLaws.{same}
+use Rattle.khe_told.specs.Slots.{emptied, empty_slot, no_meets, no_slot, slot_at, slots_from, slots_of_event}
 use Rattle.khe_told.specs.declared.slots.Slot.{Slot}
 
 -- a slot is one of its event, and has an entry for each place
@@ -85,3 +89,47 @@ from_told low (x ∷ s) h = (h.0, from_told (x.meet.0 + 1) s h.1)
 
 pub told_from : (p : Parts) (s : List Slot) → AreFirstMeets 0 p.events → map emptied s ≡ no_meets p → AreFrom 0 s
 told_from p s first whose = from_told 0 s (subst (AreFrom 0) (sym whose) (from_events 0 0 p.events first))
+
+-- where an event's slot stands among those of events that are numbered on
+pub record IsStanding (e first k number : ℕ) (event : EventInfo) (events : List EventInfo) : Type 0 where
+  pub from : first ≤ k
+  pub within : k - first < length (slots_from e events)
+  pub value : slot_at (slots_from e events) (k - first) ≡ empty_slot k (e + number) event
+
+pub standing : (e first k number : ℕ) (event : EventInfo) (events : List EventInfo) → AreFirstMeets first events → slice_get events number ≡ Some event
+    → event.first_meet ≤ k → k < event.first_meet + event.duration → IsStanding e first k number event events
+standing e first k number event [] f at from to = absurd (let l = slice_get_within [] number event at in omega (arith, l))
+standing e first k zero event (x ∷ events) f at from to =
+    let is = same x event at in
+    let a = f.0 in
+    let b = ap (λ (y : EventInfo). y.first_meet) is in
+    let d = ap (λ (y : EventInfo). y.duration) is in
+    let own = slots_of_event e x in
+    let later = slots_from (e + 1) events in
+    let many = length-map-range_with_len (λ j. empty_slot j e x) x.first_meet x.duration in
+    let l : k - first < length own = omega (arith, many, a, b, d, from, to) in
+    let z : e ≡ e + 0 = omega arith in
+    let l2 : k - first < x.duration = omega (arith, a, b, d, from, to) in
+    let here : x.first_meet + (k - first) ≡ k = omega (arith, a, b, from) in
+    record {
+      from = omega (arith, a, b, from);
+      within = let m = length-append own later in omega (arith, l, m);
+      value = get_or_append_left own later no_slot (k - first) l
+          ∙ get_or-map-range_with_len (λ j. empty_slot j e x) x.first_meet x.duration (k - first) k no_slot l2 here
+          ∙ (λ i. empty_slot k (z i) (is i));
+    }
+standing e first k (suc number) event (x ∷ events) f at from to =
+    let r = standing (e + 1) (first + x.duration) k number event events f.1 at from to in
+    let own = slots_of_event e x in
+    let later = slots_from (e + 1) events in
+    let many = length-map-range_with_len (λ j. empty_slot j e x) x.first_meet x.duration in
+    let low = r.from in
+    let past : length own ≤ k - first = omega (arith, many, low) in
+    let back : k - first - length own ≡ k - (first + x.duration) = omega (arith, many, low) in
+    let n : e + 1 + number ≡ e + suc number = omega arith in
+    record {
+      from = omega (arith, low);
+      within = let m = length-append own later in let w = r.within in omega (arith, m, w, back, past);
+      value = get_or-append_right own later (k - first) no_slot past
+          ∙ ap (λ j. get_or later j no_slot) back ∙ r.value ∙ ap (λ j. empty_slot k j event) n;
+    }

@@ -29,7 +29,7 @@ use Rattle.khe_told.specs.Valid.{AreValid, IsFixedAs, IsKeptBy}
 use Rattle.khe_told.specs.declared.slots.Slot.{Slot}
 use Rattle.khe_told.specs.declared.slots.Span.{Span}
 
-abbrev IsLive : Option Span → Type 0
+abbrev pub IsLive : Option Span → Type 0
 IsLive None = ⊥
 IsLive (Some y) = Unit {0}
 

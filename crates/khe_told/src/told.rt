@@ -20,7 +20,7 @@ use std::marker::Model;
 ///
 /// It keeps one row for each meet slot and one entry for each task slot, a few bytes each. No call
 /// but `open` takes memory, and each takes constant time.
-#[derive(Debug, Drop)]
+#[derive(Drop)]
 pub struct Told {
     rows: Vec<Row>,
     /// What each task slot is given.
@@ -44,8 +44,8 @@ impl Told {
     pub fn open(alloc: Global, inst: &Instance) -> Result<Told, NoMemory>
         ensures { IfOk result (λ t. t ≡ no_meets inst.now) }
     {
-        let (rows, tasks) = rows_of(alloc, inst)?;
-        let given = no_tasks(alloc, tasks)?;
+        let rows = rows_of(alloc, inst)?;
+        let given = no_tasks(alloc, inst.task_slots())?;
         Ok(Told { rows, given })
     }
 
