@@ -87,3 +87,8 @@ pub record Shows (x : Slot) (m : Meet) : Type 0 where
   pub event : x.event ≡ m.event
   pub start : start_of x ≡ m.start
   pub duration : length_of x ≡ m.duration
+
+-- a slot has this meet with this place
+pub record ShowsPlace (x : Slot) (k : ℕ) (m : Meet) : Type 0 where
+  pub shows : Shows x m
+  pub place : has_place x k ≡ true

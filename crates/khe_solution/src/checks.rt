@@ -4,8 +4,8 @@ ghost use Rattle.std.specs.Prelude.{◌≡◌, true, Option, None, OnOk};
 ghost use Rattle.khe_solution.specs.Refusing.{is_of_meets, checked, first_refusal, refusal, assign_row, unassign_row, move_row, split_row, merge_row, swap_meets_row, give_row, take_row, regive_row, swap_tasks_row};
 
 use crate::reads::{
-    follows, has_type, is_fixed_event, is_fixed_place, is_place, is_resource, is_time, live,
-    may_have, resource_at, runs_over, same_given, same_resource, same_time, would_run_over,
+    follows, has_type, is_fixed_event, is_fixed_place, is_resource, is_time, live, may_have,
+    meet_with, resource_at, runs_over, same_given, same_resource, same_time, would_run_over,
 };
 use khe_base::{MeetId, ResourceId, TaskId, TimeId};
 use khe_instance::Instance;
@@ -157,12 +157,9 @@ fn check_give(
 ) -> Result<(), Refusal>
     ensures { result ≡ checked (first_refusal (give_row inst.now told.now task resource)) }
 {
-    let Some(own) = live(told, task.meet) else {
+    let Some(own) = meet_with(told, task) else {
         return Err(Refusal::NoSuchTask);
     };
-    if !is_place(told, task) {
-        return Err(Refusal::NoSuchTask);
-    }
     if inst.resources() <= resource.0 {
         return Err(Refusal::NoSuchResource);
     }
@@ -181,12 +178,9 @@ fn check_give(
 fn check_take(inst: &Instance, told: &Told, task: TaskId) -> Result<(), Refusal>
     ensures { result ≡ checked (first_refusal (take_row inst.now told.now task)) }
 {
-    let Some(own) = live(told, task.meet) else {
+    let Some(own) = meet_with(told, task) else {
         return Err(Refusal::NoSuchTask);
     };
-    if !is_place(told, task) {
-        return Err(Refusal::NoSuchTask);
-    }
     if is_fixed_place(inst, own.event, task.place) {
         return Err(Refusal::Fixed);
     }
@@ -204,12 +198,9 @@ fn check_regive(
 ) -> Result<(), Refusal>
     ensures { result ≡ checked (first_refusal (regive_row inst.now told.now task resource)) }
 {
-    let Some(own) = live(told, task.meet) else {
+    let Some(own) = meet_with(told, task) else {
         return Err(Refusal::NoSuchTask);
     };
-    if !is_place(told, task) {
-        return Err(Refusal::NoSuchTask);
-    }
     if inst.resources() <= resource.0 {
         return Err(Refusal::NoSuchResource);
     }
@@ -232,18 +223,12 @@ fn check_regive(
 fn check_swap_tasks(inst: &Instance, told: &Told, a: TaskId, b: TaskId) -> Result<(), Refusal>
     ensures { result ≡ checked (first_refusal (swap_tasks_row inst.now told.now a b)) }
 {
-    let Some(first) = live(told, a.meet) else {
+    let Some(first) = meet_with(told, a) else {
         return Err(Refusal::NoSuchTask);
     };
-    if !is_place(told, a) {
-        return Err(Refusal::NoSuchTask);
-    }
-    let Some(second) = live(told, b.meet) else {
+    let Some(second) = meet_with(told, b) else {
         return Err(Refusal::NoSuchTask);
     };
-    if !is_place(told, b) {
-        return Err(Refusal::NoSuchTask);
-    }
     if is_fixed_place(inst, first.event, a.place) {
         return Err(Refusal::Fixed);
     }

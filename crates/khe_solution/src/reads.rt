@@ -3,7 +3,7 @@
 ghost use Rattle.std.specs.Prelude.{◌≡◌, ◌<◌, true, false, nat_lt, length, MatchOption, Option};
 ghost use Rattle.khe_told.specs.Slots.{slot_at, length_of, is_live, start_of};
 ghost use Rattle.khe_instance.specs.Lookups.{place_at};
-ghost use Rattle.khe_solution.specs.Reading.{Shows, resource_at, is_fixed_event, is_fixed_place, has_type, may_have, runs_over, would_run_over, is_time, same_time, is_resource, same_resource, same_given, follows};
+ghost use Rattle.khe_solution.specs.Reading.{Shows, ShowsPlace, has_place, resource_at, is_fixed_event, is_fixed_place, has_type, may_have, runs_over, would_run_over, is_time, same_time, is_resource, same_resource, same_given, follows};
 
 use khe_base::{EventId, MeetId, ResourceId, TaskId, TimeId};
 use khe_instance::{Instance, Meet};
@@ -17,11 +17,16 @@ pub(crate) fn live(told: &Told, meet: MeetId) -> Option<Meet>
     told.meet(meet)
 }
 
-/// Whether a place of a slot is one that it has.
-pub(crate) fn is_place(told: &Told, task: TaskId) -> bool
-    ensures { result ≡ nat_lt task.place (length (slot_at told.now task.meet.0).given) }
+/// The live meet of a task, where the task is there.
+pub(crate) fn meet_with(told: &Told, task: TaskId) -> Option<Meet>
+    ensures { MatchOption result (has_place (slot_at told.now task.meet.0) task.place ≡ false) (ShowsPlace (slot_at told.now task.meet.0) task.place) }
 {
-    (task.place as usize) < told.given(task.meet).len()
+    let meet = live(told, task.meet)?;
+    if (task.place as usize) < told.given(task.meet).len() {
+        Some(meet)
+    } else {
+        None
+    }
 }
 
 /// What a task is given, if anything.
