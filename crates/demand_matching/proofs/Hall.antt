@@ -1,7 +1,6 @@
 -- What a search from all that are left out meets is the least set of the greatest excess.
 use Rattle.std.proofs.Common.{ℕ, zero, suc, ◌+◌, ◌<◌, ◌≤◌, ◌≡◌, Bool, true, List, Some, None, length, get_or, refl, sym, ap, ◌∙◌, subst, arith, ltb, Result, Ok, Err}
 use Rattle.std.specs.Prelude.{IfOk}
-use Rattle.std.proofs.Math.Logic.{∥∥₁_elim}
 use Rattle.std.proofs.lemmas.Bool.{and_parts, and_from, ltb-true, lt-ltb}
 use Rattle.demand_matching.specs.declared.table.Table.{Table}
 use Rattle.demand_matching.specs.declared.order.Order.{Order}
@@ -13,10 +12,11 @@ use Rattle.demand_matching.specs.Search.{IsSearch, IsOpen, IsClosed}
 use Rattle.demand_matching.specs.Table.{domains_of, may_take, place_of, owner_of, demands_in, supplies_in, IsTable}
 use Rattle.demand_matching.proofs.Duality.{HasLeftOut, same_some}
 use Rattle.demand_matching.specs.Order.{IsOrder, is_first}
+use Rattle.demand_matching.proofs.Shut.{firsts, shut_exceeds}
 use Rattle.demand_matching.proofs.Maxima.{bounded, saturated_exceeds, exceeds_left, exceeds_saturated}
 
 -- a set that has all that are left out, and whose supplies are those of its members, has all that are met
-all_in : (t : Table) (demands spots met_from : List ℕ) (len : ℕ) (set : ℕ → Bool) → IsTable t → IsSearch t demands spots met_from len → HasLeftOut (demands_in t) (is_present (domains_of t)) (place_of t) set → IsSaturated (demands_in t) (supplies_in t) (may_take (domains_of t)) (owner_of t) set → (b k : ℕ) → k < b → k < len → set (get_or demands k 0) ≡ true
+all_in : (t : Table) (demands spots met_from : List ℕ) (len : ℕ) (set : ℕ → Bool) → IsTable t → IsSearch t 0 demands spots met_from len → HasLeftOut (demands_in t) (is_present (domains_of t)) (place_of t) set → IsSaturated (demands_in t) (supplies_in t) (may_take (domains_of t)) (owner_of t) set → (b k : ℕ) → k < b → k < len → set (get_or demands k 0) ≡ true
 all_in t demands spots met_from len set is search has full zero k l h = absurd (omega arith)
 all_in t demands spots met_from len set is search has full (suc b) k l h =
     let d : ℕ = get_or demands k 0 in
@@ -24,7 +24,7 @@ all_in t demands spots met_from len set is search has full (suc b) k l h =
     elim (place_of t d) as (λ o. place_of t d ≡ o → set d ≡ true) [
       | None ↦ λ e. has d below (search.there k h) e
       | Some s ↦ λ e.
-          let met = search.met k s h e in
+          let met = search.met k s (omega arith) h e in
           let from : ℕ = get_or met_from d 0 in
           let earlier : set (get_or demands from 0) ≡ true = all_in t demands spots met_from len set is search has full b from (omega (arith, met.before)) (omega (arith, met.before)) in
           let r = full (get_or demands from 0) s (search.order.order_below from (omega (arith, met.before, search.len_fits))) earlier (is.matching.supply d s e) met.allowed in
@@ -32,20 +32,21 @@ all_in t demands spots met_from len set is search has full (suc b) k l h =
     ] refl
 
 -- no free supply can be found
-pub never_open : (t : Table) (o o' : Order) (left place supply : ℕ) → IsMaximum t o left → IsOpen t o o' left place supply → ⊥
-never_open t o o' left place supply max open_is =
-    ∥∥₁_elim max.exceeds (λ x y. absurd x) (λ it.
-    let has = exceeds_left t o left max.table max.listing it.0 it.1 in
-    let full = exceeds_saturated t o left max.table max.listing it.0 it.1 in
+pub never_open : (t : Table) (o o' : Order) (left met place supply : ℕ) → IsMaximum t o left met → IsOpen t o o' 0 left place supply → ⊥
+never_open t o o' left met place supply max open_is =
+    let set : ℕ → Bool = firsts t o.spots.items met in
+    let much = shut_exceeds t o left met max in
+    let has = exceeds_left t o left max.table max.listing set much in
+    let full = exceeds_saturated t o left max.table max.listing set much in
     let near : place < demands_in t = omega (arith, open_is.search.len_fits) in
-    let mine = all_in t o'.demands.items o'.spots.items o'.met_from.items (place + 1) it.0 max.table open_is.search has full (place + 1) place (omega arith) (omega arith) in
+    let mine = all_in t o'.demands.items o'.spots.items o'.met_from.items (place + 1) set max.table open_is.search has full (place + 1) place (omega arith) (omega arith) in
     let r = full (get_or o'.demands.items place 0) supply (open_is.search.order.order_below place near) mine open_is.below open_is.allowed in
     let e : owner_of t supply ≡ Some r.0 = r.1 in
     let f : owner_of t supply ≡ None = open_is.free in
-    cc)
+    cc
 
-pub hall_is : (t : Table) (o o' : Order) (left met : ℕ) (set : ℕ → Bool) → IsMaximum t o left → IsClosed t o o' 0 left met → ((d : ℕ) → set d ≡ is_first o'.spots.items met (demands_in t) d) → IsHallSet (domains_of t) set
-hall_is t o o' left met set max ends is =
+pub hall_is : (t : Table) (o o' : Order) (left kept met : ℕ) (set : ℕ → Bool) → IsMaximum t o left kept → IsClosed t o o' 0 left met → ((d : ℕ) → set d ≡ is_first o'.spots.items met (demands_in t) d) → IsHallSet (domains_of t) set
+hall_is t o o' left kept met set max ends is =
     let spots : ℕ → ℕ = λ d. get_or o'.spots.items d 0 in
     let into : (d : ℕ) → d < demands_in t → spots d < met → set d ≡ true = λ d l h. is d ∙ and_from (ltb d (demands_in t)) (ltb (spots d) met) (lt-ltb d (demands_in t) l) (lt-ltb (spots d) met h) in
     let out : (d : ℕ) → set d ≡ true → (d < demands_in t) × (spots d < met) = λ d h.
@@ -72,15 +73,16 @@ hall_is t o o' left met set max ends is =
     }
 
 -- a copy of the order serves as well
-pub max_copy : (t : Table) (o p : Order) (left : ℕ) → p.demands.items ≡ o.demands.items → p.spots.items ≡ o.spots.items → p.met_from.items ≡ o.met_from.items → IsMaximum t o left → IsMaximum t p left
-max_copy t o p left ds ss ms max =
+pub max_copy : (t : Table) (o p : Order) (left met : ℕ) → p.demands.items ≡ o.demands.items → p.spots.items ≡ o.spots.items → p.met_from.items ≡ o.met_from.items → IsMaximum t o left met → IsMaximum t p left met
+max_copy t o p left met ds ss ms max =
     let P : List ℕ → Type 0 = λ xs. IsOrder (demands_in t) xs o.spots.items in
     let Q : List ℕ → Type 0 = λ xs. IsOrder (demands_in t) p.demands.items xs in
     let spot : (d : ℕ) → get_or p.spots.items d 0 ≡ get_or o.spots.items d 0 = λ d. ap (λ xs. get_or xs d 0) ss in
     let l = max.listing in
     record {
       table = max.table;
-      exceeds = max.exceeds;
+      longer = max.longer;
+      shut = rw (← ss) at max.shut;
       listing = record {
         order = subst Q (sym ss) (subst P (sym ds) max.listing.order);
         met_length = ap length ms ∙ max.listing.met_length;

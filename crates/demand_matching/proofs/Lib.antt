@@ -1,4 +1,8 @@
 pub mod Changes
+pub mod Fences
+pub mod Shut
+pub mod Removals
+pub mod Additions
 pub mod Counting
 pub mod Duality
 pub mod Listings

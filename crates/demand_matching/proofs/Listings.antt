@@ -1,30 +1,32 @@
 -- The demands that are left out, as one is placed, dropped or added.
-use Rattle.std.proofs.Common.{ℕ, ◌+◌, ◌-◌, ◌<◌, ◌≡◌, ◌≢◌, true, None, length, get_or, sym, ap, ◌∙◌, arith, inl, inr}
+use Rattle.std.proofs.Common.{ℕ, ◌+◌, ◌-◌, ◌<◌, ◌≤◌, ◌≡◌, ◌≢◌, true, None, length, get_or, sym, ap, ◌∙◌, arith, inl, inr}
 use Rattle.std.specs.Prelude.{is_none}
 use Rattle.demand_matching.specs.declared.table.Table.{Table}
 use Rattle.demand_matching.specs.declared.order.Order.{Order}
 use Rattle.demand_matching.specs.Domains.{is_present}
-use Rattle.demand_matching.specs.Order.{IsOrder, ChangesPlaces}
+use Rattle.demand_matching.specs.Order.{IsOrder, ChangesPlaces, HasSameFirst}
 use Rattle.demand_matching.specs.Table.{domains_of, place_of, demands_in}
 use Rattle.demand_matching.specs.Search.{IsSearch, KeepsFirst}
 use Rattle.demand_matching.specs.Listing.{IsListing}
 use Rattle.demand_matching.proofs.Counting.{cases_eqb}
+use Rattle.demand_matching.proofs.Fences.{first_kept}
 use Rattle.demand_matching.proofs.Duality.{none_is, none_from}
 
+-- as many are left out where the same demands stand first
+pub listing_along : (t : Table) (o o' : Order) (left : ℕ) → IsListing t o left → IsOrder (demands_in t) o'.demands.items o'.spots.items → length o'.met_from.items ≡ demands_in t → HasSameFirst (demands_in t) o.spots.items o'.spots.items left → IsListing t o' left
+listing_along t o o' left is order_is met same = record {
+  order = order_is;
+  met_length = met;
+  fits = is.fits;
+  present = λ d l h. is.present d l (same.back d l h);
+  left_out = λ d l h. is.left_out d l (same.back d l h);
+  listed = λ d l p n. same.into d l (is.listed d l p n);
+}
+
 -- a search leaves the first demands of the order
-pub listing_kept : (t : Table) (o o' : Order) (left len : ℕ) → IsListing t o left → IsSearch t o'.demands.items o'.spots.items o'.met_from.items len → KeepsFirst o.demands.items o.spots.items o'.demands.items o'.spots.items left → IsListing t o' left
-listing_kept t o o' left len is search keeps =
-    let back : (d : ℕ) → d < demands_in t → get_or o'.spots.items d 0 < left → get_or o.spots.items d 0 ≡ get_or o'.spots.items d 0 =
-    λ d l h. let at : get_or o.demands.items (get_or o'.spots.items d 0) 0 ≡ d = sym (keeps.demand (get_or o'.spots.items d 0) h) ∙ search.order.order_spot d l in
-    ap (λ v. get_or o.spots.items v 0) (sym at) ∙ is.order.spot_order (get_or o'.spots.items d 0) (search.order.spot_below d l) in
-    record {
-      order = search.order;
-      met_length = search.met_length;
-      fits = is.fits;
-      present = λ d l h. is.present d l (omega (arith, back d l h));
-      left_out = λ d l h. is.left_out d l (omega (arith, back d l h));
-      listed = λ d l p n. let low : get_or o.spots.items d 0 < left = is.listed d l p n in omega (arith, keeps.spot d low);
-    }
+pub listing_kept : (t : Table) (head : ℕ) (o o' : Order) (left count len : ℕ) → IsListing t o left → left ≤ count → IsSearch t head o'.demands.items o'.spots.items o'.met_from.items len → KeepsFirst o.demands.items o.spots.items o'.demands.items o'.spots.items count → IsListing t o' left
+listing_kept t head o o' left count len is low search keeps =
+    listing_along t o o' left is search.order search.met_length (first_kept (demands_in t) o.demands.items o.spots.items o'.demands.items o'.spots.items count left is.order search.order low keeps)
 
 -- what is left out of one table is left out of another, but for one demand
 pub record SameBut (t t' : Table) (demand : ℕ) : Type 0 where

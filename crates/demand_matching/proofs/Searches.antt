@@ -10,18 +10,15 @@ use Rattle.demand_matching.specs.Domains.{domain_of, is_present}
 use Rattle.demand_matching.specs.Members.{picked}
 use Rattle.demand_matching.specs.Order.{IsOrder, ChangesPlaces}
 use Rattle.demand_matching.specs.Table.{domains_of, may_take, place_of, owner_of, demands_in, supplies_in, IsTable, supply_at}
-use Rattle.demand_matching.specs.Search.{IsSearch, KeepsFirst, IsReached, GoesOn}
+use Rattle.demand_matching.specs.Search.{IsSearch, KeepsFirst, IsReached, IsWithin, GoesOn}
 use Rattle.demand_matching.proofs.Supplies.{supply_allowed, supply_found, may_present}
 use Rattle.demand_matching.proofs.Counting.{cases_last}
+use Rattle.demand_matching.proofs.Fences.{within_trans, within_less}
 use Rattle.demand_matching.proofs.Duality.{same_some}
 
 -- who has a supply, as the table's list has it
 pub owner_read : (t : Table) (supply d : ℕ) (x : Option ℕ) → IsTable t → supply < supplies_in t → x ≡ get_or t.owners.items supply x → x ≡ Some d → owner_of t supply ≡ Some d
 owner_read t supply d x is below read it = sym (get_or_read t.owners.items supply x (omega (arith, is.owners_length)) read None) ∙ it
-
--- the demand that has a supply is one of the table
-pub owner_below : (t : Table) (supply d : ℕ) → IsTable t → owner_of t supply ≡ Some d → d < demands_in t
-owner_below t supply d is it = is.matching.demand d supply (is.matching.placed supply d it)
 
 pub keeps_first : (n : ℕ) (order spots order' spots' : List ℕ) (d len : ℕ) → IsOrder n order spots → ChangesPlaces order spots order' spots' d len → d < n → len < n → len ≤ get_or spots d 0 → KeepsFirst order spots order' spots' len
 keeps_first n order spots order' spots' d len is moves l m far = record {
@@ -29,8 +26,8 @@ keeps_first n order spots order' spots' d len is moves l m far = record {
   spot = λ e h. moves.other_spots e (λ x. absurd (omega (arith, ap (λ v. get_or spots v 0) x))) (λ x. absurd (omega (arith, ap (λ v. get_or spots v 0) x, is.spot_order len m)));
 }
 
-pub meets_more : (t : Table) (order spots met_from order' spots' : List ℕ) (d place len supply : ℕ) → IsTable t → IsSearch t order spots met_from len → IsOrder (demands_in t) order' spots' → ChangesPlaces order spots order' spots' d len → owner_of t supply ≡ Some d → place < len → len ≤ get_or spots d 0 → may_take (domains_of t) (get_or order place 0) supply ≡ true → IsSearch t order' spots' (set met_from d place) (len + 1)
-meets_more t order spots met_from order' spots' d place len supply is_table is order_is moves owner near far may =
+pub meets_more : (t : Table) (head : ℕ) (order spots met_from order' spots' : List ℕ) (d place len supply : ℕ) → IsTable t → IsSearch t head order spots met_from len → IsOrder (demands_in t) order' spots' → ChangesPlaces order spots order' spots' d len → owner_of t supply ≡ Some d → head ≤ place → place < len → len ≤ get_or spots d 0 → may_take (domains_of t) (get_or order place 0) supply ≡ true → IsSearch t head order' spots' (set met_from d place) (len + 1)
+meets_more t head order spots met_from order' spots' d place len supply is_table is order_is moves owner high near far may =
     let n : ℕ = demands_in t in
     let placed : place_of t d ≡ Some supply = is_table.matching.placed supply d owner in
     let d_below : d < n = is_table.matching.demand d supply placed in
@@ -47,12 +44,13 @@ meets_more t order spots met_from order' spots' d place len supply is_table is o
         | inl x ↦ ap (λ v. is_present (domains_of t) v) (ap (λ v. get_or order' v 0) x ∙ at_len) ∙ may_present (domains_of t) d supply (is_table.matching.allowed d supply placed)
         | inr less ↦ ap (λ v. is_present (domains_of t) v) (keeps.demand k less) ∙ is.there k less
       ];
-      met = λ k s h e. elim (cases_last k len (omega arith)) [
+      met = λ k s low h e. elim (cases_last k len (omega arith)) [
         | inl x ↦
             let here : get_or order' k 0 ≡ d = ap (λ v. get_or order' v 0) x ∙ at_len in
             let from_is : get_or (set met_from d place) (get_or order' k 0) 0 ≡ place = ap (λ v. get_or (set met_from d place) v 0) here ∙ new_met in
             let s_is : supply ≡ s = same_some supply s (place_of t d) placed (sym (ap (λ v. place_of t v) here) ∙ e) in
             record {
+              after = omega (arith, from_is);
               before = omega (arith, from_is);
               allowed =
                   ap (λ v. may_take (domains_of t) (get_or order' v 0) s) from_is
@@ -61,11 +59,12 @@ meets_more t order spots met_from order' spots' d place len supply is_table is o
             }
         | inr less ↦
             let here : get_or order' k 0 ≡ get_or order k 0 = keeps.demand k less in
-            let old = is.met k s less (sym (ap (λ v. place_of t v) here) ∙ e) in
+            let old = is.met k s low less (sym (ap (λ v. place_of t v) here) ∙ e) in
             let other : get_or order k 0 ≡ d → ⊥ = λ z. absurd (omega (arith, sym (is.order.spot_order k (omega arith)) ∙ ap (λ v. get_or spots v 0) z)) in
             let from_is : get_or (set met_from d place) (get_or order' k 0) 0 ≡ get_or met_from (get_or order k 0) 0 =
             ap (λ v. get_or (set met_from d place) v 0) here ∙ get_or-set_other met_from d (get_or order k 0) place 0 other in
             record {
+              after = omega (arith, from_is, old.after);
               before = omega (arith, from_is, old.before);
               allowed =
                   ap (λ v. may_take (domains_of t) (get_or order' v 0) s) from_is
@@ -91,24 +90,34 @@ reached_still t a b a' b' len more s l keeps r = record {
   within = omega (arith, keeps.spot r.by r.within, r.within);
 }
 
-pub search_shorter : (t : Table) (a b c : List ℕ) (len less : ℕ) → less ≤ len → IsSearch t a b c len → IsSearch t a b c less
-search_shorter t a b c len less l is = record {
+pub search_shorter : (t : Table) (head : ℕ) (a b c : List ℕ) (len less : ℕ) → less ≤ len → IsSearch t head a b c len → IsSearch t head a b c less
+search_shorter t head a b c len less l is = record {
   order = is.order;
   met_length = is.met_length;
   len_fits = omega (arith, is.len_fits);
   there = λ k h. is.there k (omega arith);
-  met = λ k s h e. is.met k s (omega arith) e;
+  met = λ k s low h e. is.met k s low (omega arith) e;
 }
 
 pub spot_read : (xs : List ℕ) (i x : ℕ) → i < length xs → x ≡ get_or xs i x → x ≡ get_or xs i 0
 spot_read xs i x l e = get_or_read xs i x l e 0
 
 -- what a part of a look says of the whole
-pub goes_on_from : (t : Table) (o o' o'' : Order) (place len met : ℕ) (r : Reach) → len ≤ met → KeepsFirst o.demands.items o.spots.items o'.demands.items o'.spots.items len → GoesOn t o' o'' place met r → GoesOn t o o'' place len r
-goes_on_from t o o' o'' place len met (Met more) l keeps g =
-    (omega (arith, g.0), g.1, keeps_trans o.demands.items o.spots.items o'.demands.items o'.spots.items o''.demands.items o''.spots.items len met l keeps g.2)
-goes_on_from t o o' o'' place len met (Free supply) l keeps g =
-    (search_shorter t o''.demands.items o''.spots.items o''.met_from.items met len l g.0, keeps_trans o.demands.items o.spots.items o'.demands.items o'.spots.items o''.demands.items o''.spots.items len met l keeps g.1, g.2, g.3, g.4)
+pub goes_on_from : (t : Table) (head : ℕ) (o o' o'' : Order) (place len met : ℕ) (r : Reach) → IsTable t → len ≤ met → KeepsFirst o.demands.items o.spots.items o'.demands.items o'.spots.items len → IsWithin t o o' len met → GoesOn t head o' o'' place met r → GoesOn t head o o'' place len r
+goes_on_from t head o o' o'' place len met (Met more) is l keeps within g = (
+  omega (arith, g.0),
+  g.1,
+  keeps_trans o.demands.items o.spots.items o'.demands.items o'.spots.items o''.demands.items o''.spots.items len met l keeps g.2,
+  within_trans t o o' o'' len met more is within g.3,
+)
+goes_on_from t head o o' o'' place len met (Free supply) is l keeps within g = (
+  search_shorter t head o''.demands.items o''.spots.items o''.met_from.items met len l g.0,
+  keeps_trans o.demands.items o.spots.items o'.demands.items o'.spots.items o''.demands.items o''.spots.items len met l keeps g.1,
+  g.2,
+  g.3,
+  g.4,
+  within_less t o o'' len met (within_trans t o o' o'' len met met is within g.5),
+)
 
 -- what a demand that stays at its place may have
 pub may_still : (t : Table) (o o' : Order) (place len : ℕ) (d : Domain) (i j : ℕ) → IsTable t → KeepsFirst o.demands.items o.spots.items o'.demands.items o'.spots.items len → place < len → domain_of (domains_of t) (get_or o.demands.items place 0) ≡ Some d → i < length (picked t.resources d.resources) → j < length (picked t.times d.times) → may_take (domains_of t) (get_or o'.demands.items place 0) (supply_at (domains_of t) d i j) ≡ true
@@ -137,7 +146,7 @@ all_reached t spots d demand met count its l reached s may =
     record { by = r.by; owner = ap (λ v. owner_of t v) (sym at.4) ∙ r.owner; within = r.within }
 
 -- one place more of the order is looked at
-pub search_more : (t : Table) (o o' o'' : Order) (head left place met more : ℕ) → place < met → GoesOn t o' o'' place met (Met more)
+pub search_more : (t : Table) (o o' o'' : Order) (head left place met more : ℕ) → place < met → GoesOn t head o' o'' place met (Met more)
     → ((k s : ℕ) → head ≤ k → k < place → may_take (domains_of t) (get_or o'.demands.items k 0) s ≡ true → IsReached t o'.spots.items met s)
     → ((s : ℕ) → may_take (domains_of t) (get_or o'.demands.items place 0) s ≡ true → IsReached t o''.spots.items more s)
     → (k s : ℕ) → head ≤ k → k < place + 1 → may_take (domains_of t) (get_or o''.demands.items k 0) s ≡ true → IsReached t o''.spots.items more s

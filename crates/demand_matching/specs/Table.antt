@@ -1,8 +1,8 @@
 -- The domains of a table, and who has which supply in it.
-use Rattle.std.specs.Prelude.{ℕ, ◌+◌, ◌*◌, ◌/◌, ◌%◌, ◌^◌, ◌<◌, ◌≡◌, Bool, length, Option, Some, None, slice_index, slice_index_or}
+use Rattle.std.specs.Prelude.{ℕ, ◌+◌, ◌*◌, ◌/◌, ◌%◌, ◌^◌, ◌<◌, ◌≡◌, Bool, true, length, Option, Some, None, slice_index, slice_index_or}
 use Rattle.demand_matching.specs.declared.domains.Domain.{Domain}
 use Rattle.demand_matching.specs.declared.table.Table.{Table}
-use Rattle.demand_matching.specs.Domains.{Domains, may_have, domain_of, IsInRange}
+use Rattle.demand_matching.specs.Domains.{Domains, may_have, admits, domain_of, IsInRange}
 use Rattle.demand_matching.specs.Members.{picked}
 use Rattle.demand_matching.specs.Places.{IsMatching}
 
@@ -13,6 +13,10 @@ domains_of t = record { times = t.times; resources = t.resources; last = t.last;
 -- a supply as one number: the times of the first resource, then those of the second, and so on
 abbrev pub may_take : Domains → ℕ → ℕ → Bool
 may_take w demand supply = may_have w demand (supply / w.last) (supply % w.last)
+
+-- whether a domain admits the supply
+abbrev pub admits_supply : Domains → Domain → ℕ → Bool
+admits_supply w d supply = admits w.times w.resources d (supply / w.last) (supply % w.last)
 
 -- the supply of a resource and a time of the domain, by their places
 abbrev pub supply_at : Domains → Domain → ℕ → ℕ → ℕ
@@ -35,7 +39,14 @@ supplies_in t = t.width * t.last
 -- all domains are in range, and each demand that has a supply may have it
 pub record IsTable (t : Table) : Type 0 where
   pub small : length t.demands.items < 2 ^ 32
+  pub narrow : t.width < 2 ^ 32
   pub places_length : length t.places.items ≡ length t.demands.items
   pub owners_length : length t.owners.items ≡ t.width * t.last
   pub in_range : (demand : ℕ) (d : Domain) → domain_of (domains_of t) demand ≡ Some d → IsInRange (domains_of t) d
   pub matching : IsMatching (length t.demands.items) (t.width * t.last) (may_take (domains_of t)) (place_of t) (owner_of t)
+
+-- the demand has a supply, and the domain admits it
+pub record IsServed (t : Table) (demand : ℕ) (d : Domain) : Type 0 where
+  pub supply : ℕ
+  pub owned : place_of t demand ≡ Some supply
+  pub admitted : admits_supply (domains_of t) d supply ≡ true

@@ -1,4 +1,4 @@
-ghost use Rattle.std.specs.Prelude.{◌≡◌, ◌<◌, ◌==◌, ℕ, length, IfOk, None, Some, Option};
+ghost use Rattle.std.specs.Prelude.{◌≡◌, ◌<◌, ◌==◌, ℕ, true, false, length, IfOk, None, Some, Option};
 ghost use Rattle.std.specs.List.Sorted.{IsStrictlyIncreasing};
 ghost use Rattle.std.specs.Option.{ForSome};
 ghost use Rattle.std.specs.List.{list_any};
@@ -23,6 +23,7 @@ pub struct Matching {
     table: Table,
     order: Order,
     left: usize,
+    met: usize,
 }
 
 impl Model for Matching {
@@ -35,7 +36,7 @@ impl Model for Matching {
 
     ghost view = { λ m. domains_of m.table };
 
-    ghost invariant = { λ m. IsMaximum m.table m.order m.left };
+    ghost invariant = { λ m. IsMaximum m.table m.order m.left m.met };
 }
 
 impl Matching {
@@ -68,24 +69,32 @@ impl Matching {
             table,
             order,
             left: 0,
+            met: 0,
         })
     }
 
     /// Gives a demand a new domain, or makes it absent where there is none; all other demands
     /// keep theirs. It takes no memory.
     ///
-    /// It takes two searches at most: one from the demands that are left out, where the demand
-    /// frees a supply, and one from the demand itself. Each looks only at the supplies of the
-    /// demands that it meets, and ends at the first free supply. So a demand whose one supply is
-    /// free has it in constant time.
+    /// The matching keeps a set of demands that holds all that are left out and has every supply
+    /// that one of it may have. Constant time is enough where no domain is given to a demand that
+    /// is left out, or stands outside of that set, or was absent; and where such a demand's new
+    /// domain admits the supply that it has. Else a search follows: from those that are left out
+    /// where a demand of the set gives a supply back, and from the demand itself where it has a
+    /// domain and no supply. A search looks only at the supplies of the demands that it meets, and
+    /// ends at the first free supply; a search from the demand itself meets none of the set.
     pub fn set_domain(&mut self, demand: u32, domain: Option<Domain>)
         requires demand { demand < length self.old.demands }
         requires domain { ForSome domain (IsInRange self.old) }
         ensures { self.new ≡ with_domain self.old demand domain }
     {
         let demand = demand as usize;
-        self.remove(demand);
-        if let Some(domain) = domain {
+        let Some(domain) = domain else {
+            self.remove(demand);
+            return;
+        };
+        if !self.write(demand, domain) {
+            self.remove(demand);
             self.add(demand, domain);
         }
     }
@@ -116,6 +125,23 @@ impl Matching {
         }
     }
 
+    /// Writes the domain, where the demand stands outside of the set that is kept and has a supply
+    /// that the domain admits. The result is whether that is so.
+    fn write(&mut self, demand: usize, domain: Domain) -> bool
+        requires demand { demand < length self.old.demands }
+        requires domain { IsInRange self.old domain }
+        ensures written { result ≡ true → self.new ≡ with_domain self.old demand (Some domain) }
+        ensures same { result ≡ false → self.new ≡ self.old }
+    {
+        if self.order.spots[demand] < self.met || !self.table.is_served(demand, domain) {
+            return false;
+        }
+        self.table.put_domain(demand, domain);
+        true
+    }
+
+    /// Takes away the domain of a demand. Where it has a supply and is in the set that is kept, one
+    /// of those that are left out may have a supply then.
     fn remove(&mut self, demand: usize)
         requires { demand < length self.old.demands }
         ensures { self.new ≡ with_domain self.old demand None }
@@ -123,13 +149,27 @@ impl Matching {
         if self.table.demands[demand].is_none() {
             return;
         }
+        let inside = self.order.spots[demand] < self.met;
         match self.table.drop_domain(demand) {
-            Some(_) => self.left = self.table.improve(&mut self.order, 0, self.left),
             None => {
-                let last = self.left - 1;
-                self.order.put(demand, last);
-                self.left = last;
+                self.left -= 1;
+                self.met -= 1;
+                self.order.put(demand, self.left);
+                self.order.put(demand, self.met);
             }
+            Some(_) if inside => {
+                self.met -= 1;
+                self.order.put(demand, self.met);
+                match self.table.search(&mut self.order, 0, self.left) {
+                    Found::Closed(less) => self.met = less,
+                    Found::Open(place, supply) => {
+                        let served = self.table.shift(&self.order, 0, place, supply);
+                        self.left -= 1;
+                        self.order.put(served, self.left);
+                    }
+                }
+            }
+            Some(_) => {}
         }
     }
 
@@ -140,8 +180,17 @@ impl Matching {
         ensures { self.new ≡ with_domain self.old demand (Some domain) }
     {
         self.table.put_domain(demand, domain);
-        let left = self.left;
-        self.order.put(demand, left);
-        self.left = self.table.improve(&mut self.order, left, left + 1);
+        let met = self.met;
+        self.order.put(demand, met);
+        match self.table.search(&mut self.order, met, met + 1) {
+            Found::Open(place, supply) => {
+                self.table.shift(&self.order, met, place, supply);
+            }
+            Found::Closed(more) => {
+                self.order.put(demand, self.left);
+                self.left += 1;
+                self.met = more;
+            }
+        }
     }
 }

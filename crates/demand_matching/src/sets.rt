@@ -1,5 +1,5 @@
 ghost use Rattle.std.specs.Prelude.{◌≡◌, ◌<◌, length, slice_index, IfOk};
-ghost use Rattle.demand_matching.specs.Domains.{IsGiven};
+ghost use Rattle.demand_matching.specs.Domains.{IsGiven, is_picked};
 ghost use Rattle.demand_matching.specs.Members.{picked};
 
 use crate::Pick;
@@ -58,6 +58,17 @@ impl Sets {
         match pick {
             Pick::One(n) => n,
             Pick::Set(k) => self.members.as_slice()[k as usize].as_slice()[place],
+        }
+    }
+
+    /// Whether the number is in the pick.
+    pub(crate) fn has(&self, pick: Pick, number: u32) -> bool
+        requires { IsGiven self.now pick }
+        ensures { result ≡ is_picked self.now pick number }
+    {
+        match pick {
+            Pick::One(n) => n == number,
+            Pick::Set(k) => self.given.as_slice()[k as usize].has(number),
         }
     }
 }

@@ -1,9 +1,9 @@
 ghost use Rattle.std.specs.Prelude.{◌≡◌, ◌≢◌, ◌+◌, ◌*◌, ◌<◌, ◌≤◌, ℕ, true, length, slice_index, slice_index_or, Option, None, Some, IfSome};
 ghost use Rattle.demand_matching.specs.Domains.{IsInRange, domain_of, with_domain};
 ghost use Rattle.demand_matching.specs.Members.{picked};
-ghost use Rattle.demand_matching.specs.Table.{IsTable, domains_of, may_take, supply_at, place_of, owner_of, demands_in, supplies_in};
+ghost use Rattle.demand_matching.specs.Table.{IsTable, IsServed, domains_of, may_take, admits_supply, supply_at, place_of, owner_of, demands_in, supplies_in};
 ghost use Rattle.demand_matching.specs.Search.{IsSearch, IsReached, KeepsFirst, GoesOn, WhereMet, Ends};
-ghost use Rattle.demand_matching.specs.Listing.{IsListing, PlacesOne, Improves};
+ghost use Rattle.demand_matching.specs.Listing.{PlacesOne};
 
 use crate::Domain;
 use crate::order::Order;
@@ -53,13 +53,14 @@ impl Table {
     }
 
     /// Looks at one supply: its demand is met from the one at a place of the order.
-    fn meet(&self, order: &mut Order, supply: usize, place: usize, len: usize) -> Reach
+    fn meet(&self, order: &mut Order, head: usize, supply: usize, place: usize, len: usize) -> Reach
         requires table { IsTable self.now }
-        requires search { IsSearch self.now order.old.demands.items order.old.spots.items order.old.met_from.items len }
+        requires search { IsSearch self.now head order.old.demands.items order.old.spots.items order.old.met_from.items len }
+        requires head { head ≤ place }
         requires place { place < len }
         requires supply { supply < supplies_in self.now }
         requires allowed { may_take (domains_of self.now) (slice_index order.old.demands.items place) supply ≡ true }
-        ensures goes_on { GoesOn self.now order.old order.new place len result }
+        ensures goes_on { GoesOn self.now head order.old order.new place len result }
         ensures reached { WhereMet result (λ more. IsReached self.now order.new.spots.items more supply) }
     {
         let Some(demand) = self.owners[supply] else {
@@ -78,23 +79,25 @@ impl Table {
     fn meet_at(
         &self,
         order: &mut Order,
+        head: usize,
         domain: Domain,
         i: usize,
         place: usize,
         len: usize,
     ) -> Reach
         requires table { IsTable self.now }
-        requires search { IsSearch self.now order.old.demands.items order.old.spots.items order.old.met_from.items len }
+        requires search { IsSearch self.now head order.old.demands.items order.old.spots.items order.old.met_from.items len }
+        requires head { head ≤ place }
         requires place { place < len }
         requires domain { domain_of (domains_of self.now) (slice_index order.old.demands.items place) ≡ Some domain }
         requires resource { i < length (picked self.now.resources domain.resources) }
-        ensures goes_on { GoesOn self.now order.old order.new place len result }
+        ensures goes_on { GoesOn self.now head order.old order.new place len result }
         ensures reached { WhereMet result (λ more. (j : ℕ) → j < length (picked self.now.times domain.times) → IsReached self.now order.new.spots.items more (supply_at (domains_of self.now) domain i j)) }
     {
         let mut met = len;
         for j in 0..self.times.count(domain.times) {
             let supply = self.supply(domain, i, j);
-            match self.meet(order, supply, place, met) {
+            match self.meet(order, head, supply, place, met) {
                 Reach::Free(free) => return Reach::Free(free),
                 Reach::Met(more) => met = more,
             }
@@ -103,11 +106,12 @@ impl Table {
     }
 
     /// Looks at all supplies that the demand at a place of the order may have.
-    fn meet_all(&self, order: &mut Order, place: usize, len: usize) -> Reach
+    fn meet_all(&self, order: &mut Order, head: usize, place: usize, len: usize) -> Reach
         requires table { IsTable self.now }
-        requires search { IsSearch self.now order.old.demands.items order.old.spots.items order.old.met_from.items len }
+        requires search { IsSearch self.now head order.old.demands.items order.old.spots.items order.old.met_from.items len }
+        requires head { head ≤ place }
         requires place { place < len }
-        ensures goes_on { GoesOn self.now order.old order.new place len result }
+        ensures goes_on { GoesOn self.now head order.old order.new place len result }
         ensures reached { WhereMet result (λ more. (supply : ℕ) → may_take (domains_of self.now) (slice_index order.old.demands.items place) supply ≡ true → IsReached self.now order.new.spots.items more supply) }
     {
         let demand = order.demands[place];
@@ -116,7 +120,7 @@ impl Table {
         };
         let mut met = len;
         for i in 0..self.resources.count(domain.resources) {
-            match self.meet_at(order, domain, i, place, met) {
+            match self.meet_at(order, head, domain, i, place, met) {
                 Reach::Free(free) => return Reach::Free(free),
                 Reach::Met(more) => met = more,
             }
@@ -125,18 +129,19 @@ impl Table {
     }
 
     /// Looks for a free supply, from the first demands of the order that stand at `head` or later:
-    /// those are met, and whoever has a supply that a demand met may have. It takes time in
-    /// proportion to the supplies that the demands met may have.
+    /// those are met, and whoever has a supply that a demand met may have. The demands before
+    /// `head` count as met, and nothing is looked at for them. It takes time in proportion to the
+    /// supplies that the demands met from `head` on may have.
     pub(crate) fn search(&self, order: &mut Order, head: usize, left: usize) -> Found
         requires table { IsTable self.now }
-        requires search { IsSearch self.now order.old.demands.items order.old.spots.items order.old.met_from.items left }
+        requires search { IsSearch self.now head order.old.demands.items order.old.spots.items order.old.met_from.items left }
         requires head { head ≤ left }
         ensures { Ends self.now order.old order.new head left result }
     {
         let mut place = head;
         let mut met = left;
         while place < met {
-            match self.meet_all(order, place, met) {
+            match self.meet_all(order, head, place, met) {
                 Reach::Free(supply) => return Found::Open(place, supply),
                 Reach::Met(more) => met = more,
             }
@@ -183,15 +188,23 @@ impl Table {
 
     /// Gives a free supply to the demand at a place of the order, its supply to the demand from
     /// which it was met, and so on to a demand that had none. The result is this one.
-    fn shift(&mut self, order: &Order, mut place: usize, mut supply: usize) -> usize
+    pub(crate) fn shift(
+        &mut self,
+        order: &Order,
+        head: usize,
+        mut place: usize,
+        mut supply: usize,
+    ) -> usize
         requires table { IsTable self.old }
-        requires search { IsSearch self.old order.now.demands.items order.now.spots.items order.now.met_from.items (place + 1) }
+        requires head { head ≤ place }
+        requires search { IsSearch self.old head order.now.demands.items order.now.spots.items order.now.met_from.items (place + 1) }
         requires supply { supply < supplies_in self.old }
         requires free { owner_of self.old supply ≡ None }
         requires allowed { may_take (domains_of self.old) (slice_index order.now.demands.items place) supply ≡ true }
         ensures table { IsTable self.new }
         ensures domains { domains_of self.new ≡ domains_of self.old }
         ensures one { PlacesOne self.old self.new result }
+        ensures after { head ≤ slice_index order.now.spots.items result }
     {
         loop {
             let demand = order.demands[place];
@@ -205,26 +218,25 @@ impl Table {
         }
     }
 
-    /// Gives one of the demands that are left out a supply, if one that stands at `head` or later
-    /// among them can have one. The result is how many are left out then.
-    pub(crate) fn improve(&mut self, order: &mut Order, head: usize, left: usize) -> usize
-        requires table { IsTable self.old }
-        requires listing { IsListing self.old order.old left }
-        requires head { head ≤ left }
-        ensures table { IsTable self.new }
-        ensures domains { domains_of self.new ≡ domains_of self.old }
-        ensures listing { IsListing self.new order.new result }
-        ensures improves { Improves self.old self.new order.old head left result }
+    /// Whether the demand has a supply, and the domain admits it.
+    pub(crate) fn is_served(&self, demand: usize, domain: Domain) -> bool
+        requires table { IsTable self.now }
+        requires demand { demand < demands_in self.now }
+        requires domain { IsInRange (domains_of self.now) domain }
+        ensures { result ≡ true → IsServed self.now demand domain }
     {
-        match self.search(order, head, left) {
-            Found::Closed(_) => left,
-            Found::Open(place, supply) => {
-                let demand = self.shift(order, place, supply);
-                let last = left - 1;
-                order.put(demand, last);
-                last
-            }
+        let Some(supply) = self.places[demand] else {
+            return false;
+        };
+        let last = self.last as usize;
+        let resource = supply / last;
+        let time = supply % last;
+        let shift = domain.shift as usize;
+        if time < shift {
+            return false;
         }
+        self.resources.has(domain.resources, resource as u32)
+            && self.times.has(domain.times, (time - shift) as u32)
     }
 
     /// Takes away the domain of a demand, and its supply, which is the result.
@@ -242,12 +254,12 @@ impl Table {
         supply
     }
 
-    /// Gives a domain to a demand that has none.
+    /// Gives a demand a domain. It keeps its supply, which the domain is to admit.
     pub(crate) fn put_domain(&mut self, demand: usize, domain: Domain)
         requires table { IsTable self.old }
         requires demand { demand < demands_in self.old }
-        requires absent { domain_of (domains_of self.old) demand ≡ None }
         requires domain { IsInRange (domains_of self.old) domain }
+        requires supply { (supply : ℕ) → place_of self.old demand ≡ Some supply → admits_supply (domains_of self.old) domain supply ≡ true }
         ensures table { IsTable self.new }
         ensures domains { domains_of self.new ≡ with_domain (domains_of self.old) demand (Some domain) }
         ensures places { self.new.places ≡ self.old.places }

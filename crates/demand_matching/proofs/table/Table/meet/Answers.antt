@@ -1,6 +1,7 @@
 use Rattle.std.proofs.Common.{◌<◌, ◌≤◌, length, arith, get_or}
 use Rattle.demand_matching.specs.Table.{demands_in}
-use Rattle.demand_matching.proofs.Searches.{meets_more, keeps_first, owner_read, owner_below, spot_read}
+use Rattle.demand_matching.proofs.Searches.{meets_more, keeps_first, owner_read, spot_read}
+use Rattle.demand_matching.proofs.Fences.{owner_below, within_met}
 use Rattle.demand_matching.proofs.table.Table.meet.Goals as goal
 
 pub index-spot-requires : goal.index-spot-requires
@@ -29,6 +30,7 @@ returns-clause-goes_on c =
     let room : c.args.len < demands_in c.args.self.now = omega (arith, c.requires.search.order.spot_below c.in-Some.demand below) in
     let n = c.requires.search.order.order_length in (
       omega arith,
-      rw (c.put.ensures.met_from) (meets_more c.args.self.now c.args.order.now.demands.items c.args.order.now.spots.items c.args.order.now.met_from.items c.put.new.self.demands.items c.put.new.self.spots.items c.in-Some.demand c.args.place c.args.len c.args.supply c.requires.table c.requires.search (rw n at c.put.ensures.order) c.put.ensures.change owner c.requires.place far c.requires.allowed),
+      rw (c.put.ensures.met_from) (meets_more c.args.self.now c.args.head c.args.order.now.demands.items c.args.order.now.spots.items c.args.order.now.met_from.items c.put.new.self.demands.items c.put.new.self.spots.items c.in-Some.demand c.args.place c.args.len c.args.supply c.requires.table c.requires.search (rw n at c.put.ensures.order) c.put.ensures.change owner c.requires.head c.requires.place far c.requires.allowed),
       keeps_first (demands_in c.args.self.now) c.args.order.now.demands.items c.args.order.now.spots.items c.put.new.self.demands.items c.put.new.self.spots.items c.in-Some.demand c.args.len c.requires.search.order c.put.ensures.change below room far,
+      within_met c.args.self.now c.args.order.now c.put.new.self c.in-Some.demand c.args.place c.args.len c.args.supply c.requires.table c.requires.search.order c.put.ensures.change below room c.requires.place far owner c.requires.allowed,
     )

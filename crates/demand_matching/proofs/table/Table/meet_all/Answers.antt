@@ -14,11 +14,11 @@ count-i-end-requires c =
 
 pub returns-in-Free-clause-goes_on : goal.returns-in-Free-clause-goes_on
 returns-in-Free-clause-goes_on c =
-    goes_on_from c.args.self.now c.args.order.now c.loop-i.order c.meet_at.new.order c.args.place c.args.len c.loop-i.met (Free c.in-Free.free) c.loop-i.invariant.goes_on.0 c.loop-i.invariant.goes_on.2 c.in-Free.ensures.goes_on
+    goes_on_from c.args.self.now c.args.head c.args.order.now c.loop-i.order c.meet_at.new.order c.args.place c.args.len c.loop-i.met (Free c.in-Free.free) c.requires.table c.loop-i.invariant.goes_on.0 c.loop-i.invariant.goes_on.2 c.loop-i.invariant.goes_on.3 c.in-Free.ensures.goes_on
 
 pub loop-i-preserved : goal.loop-i-preserved
 loop-i-preserved c = record {
-  goes_on = goes_on_from c.args.self.now c.args.order.now c.loop-i.order c.meet_at.new.order c.args.place c.args.len c.loop-i.met (Met c.in-Met.more) c.loop-i.invariant.goes_on.0 c.loop-i.invariant.goes_on.2 c.in-Met.ensures.goes_on;
+  goes_on = goes_on_from c.args.self.now c.args.head c.args.order.now c.loop-i.order c.meet_at.new.order c.args.place c.args.len c.loop-i.met (Met c.in-Met.more) c.requires.table c.loop-i.invariant.goes_on.0 c.loop-i.invariant.goes_on.2 c.loop-i.invariant.goes_on.3 c.in-Met.ensures.goes_on;
   reached = λ k j l m.
       elim (cases_last k c.loop-i.i (omega arith)) [
         | inl x ↦ rw x (c.in-Met.ensures.reached j m)

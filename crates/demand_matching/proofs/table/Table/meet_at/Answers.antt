@@ -11,11 +11,11 @@ meet-requires-clause-allowed c =
 
 pub returns-in-Free-clause-goes_on : goal.returns-in-Free-clause-goes_on
 returns-in-Free-clause-goes_on c =
-    goes_on_from c.args.self.now c.args.order.now c.loop-j.order c.meet.new.order c.args.place c.args.len c.loop-j.met (Free c.in-Free.free) c.loop-j.invariant.goes_on.0 c.loop-j.invariant.goes_on.2 c.in-Free.ensures.goes_on
+    goes_on_from c.args.self.now c.args.head c.args.order.now c.loop-j.order c.meet.new.order c.args.place c.args.len c.loop-j.met (Free c.in-Free.free) c.requires.table c.loop-j.invariant.goes_on.0 c.loop-j.invariant.goes_on.2 c.loop-j.invariant.goes_on.3 c.in-Free.ensures.goes_on
 
 pub loop-j-preserved : goal.loop-j-preserved
 loop-j-preserved c = record {
-  goes_on = goes_on_from c.args.self.now c.args.order.now c.loop-j.order c.meet.new.order c.args.place c.args.len c.loop-j.met (Met c.in-Met.more) c.loop-j.invariant.goes_on.0 c.loop-j.invariant.goes_on.2 c.in-Met.ensures.goes_on;
+  goes_on = goes_on_from c.args.self.now c.args.head c.args.order.now c.loop-j.order c.meet.new.order c.args.place c.args.len c.loop-j.met (Met c.in-Met.more) c.requires.table c.loop-j.invariant.goes_on.0 c.loop-j.invariant.goes_on.2 c.loop-j.invariant.goes_on.3 c.in-Met.ensures.goes_on;
   reached = λ k l.
       elim (cases_last k c.loop-j.j (omega arith)) [
         | inl x ↦ rw x (rw c.supply-supply.ensures.is at c.in-Met.ensures.reached)

@@ -6,6 +6,6 @@ use Rattle.demand_matching.proofs.table.Table.meet_at.Given as goal
 
 abbrev pub invariant-loop-j : goal.invariant-loop-j
 invariant-loop-j l = record {
-  goes_on : GoesOn l.self l.fn.order l.order l.place l.len (Met l.met);
+  goes_on : GoesOn l.self l.head l.fn.order l.order l.place l.len (Met l.met);
   reached : (k : ℕ) → k < l.j → IsReached l.self l.order.spots.items l.met (supply_at (domains_of l.self) l.domain l.i k);
 }

@@ -14,7 +14,7 @@ loop-freed-smaller c =
     let near : c.loop-freed.place < demands_in c.args.self.now = omega (arith, search.len_fits) in
     let in_order : c.loop-freed.place < length c.args.order.now.demands.items = omega (arith, search.order.order_length) in
     let is : c.index-demand.result.now ≡ get_or c.args.order.now.demands.items c.loop-freed.place 0 = spot_read c.args.order.now.demands.items c.loop-freed.place c.index-demand.result.now in_order c.index-demand.ensures in
-    let met = shift_met c.args.self.now c.loop-freed.self c.args.order.now.demands.items c.args.order.now.spots.items c.args.order.now.met_from.items c.index-demand.result.now c.loop-freed.place c.args.place c.in-Some.freed search inv.near (inv.same c.loop-freed.place (omega arith)) is (sym c.in-Some.ensures.result) in
+    let met = shift_met c.args.self.now c.loop-freed.self c.args.head c.args.order.now.demands.items c.args.order.now.spots.items c.args.order.now.met_from.items c.index-demand.result.now c.loop-freed.place c.args.place c.in-Some.freed search inv.high inv.near (inv.same c.loop-freed.place (omega arith)) is (sym c.in-Some.ensures.result) in
     let in_met : c.index-demand.result.now < length c.args.order.now.met_from.items = omega (arith, search.met_length, search.order.order_below c.loop-freed.place near) in
     omega (arith, spot_read c.args.order.now.met_from.items c.index-demand.result.now c.index-place.result.now in_met c.index-place.ensures, ap (λ v. get_or c.args.order.now.met_from.items v 0) is, met.before)
 
@@ -28,13 +28,14 @@ loop-freed-preserved c =
     let in_order : c.loop-freed.place < length c.args.order.now.demands.items = omega (arith, search.order.order_length) in
     let is : c.index-demand.result.now ≡ get_or c.args.order.now.demands.items c.loop-freed.place 0 = spot_read c.args.order.now.demands.items c.loop-freed.place c.index-demand.result.now in_order c.index-demand.ensures in
     let owns : place_of c.loop-freed.self c.index-demand.result.now ≡ Some c.in-Some.freed = sym c.in-Some.ensures.result in
-    let met = shift_met c.args.self.now c.loop-freed.self c.args.order.now.demands.items c.args.order.now.spots.items c.args.order.now.met_from.items c.index-demand.result.now c.loop-freed.place c.args.place c.in-Some.freed search inv.near (inv.same c.loop-freed.place (omega arith)) is owns in
+    let met = shift_met c.args.self.now c.loop-freed.self c.args.head c.args.order.now.demands.items c.args.order.now.spots.items c.args.order.now.met_from.items c.index-demand.result.now c.loop-freed.place c.args.place c.in-Some.freed search inv.high inv.near (inv.same c.loop-freed.place (omega arith)) is owns in
     let in_met : c.index-demand.result.now < length c.args.order.now.met_from.items = omega (arith, search.met_length, search.order.order_below c.loop-freed.place near) in
     let next : c.index-place.result.now ≡ get_or c.args.order.now.met_from.items (get_or c.args.order.now.demands.items c.loop-freed.place 0) 0 =
     spot_read c.args.order.now.met_from.items c.index-demand.result.now c.index-place.result.now in_met c.index-place.ensures ∙ ap (λ v. get_or c.args.order.now.met_from.items v 0) is in
     let less : c.index-place.result.now < c.loop-freed.place = omega (arith, met.before) in
     let domains : domains_of c.give.new.self ≡ domains_of c.args.self.now = c.give.ensures.domains ∙ c.release-old.ensures.domains ∙ inv.domains in
     record {
+      high = omega (arith, met.after);
       near = omega (arith, inv.near);
       table = c.give.ensures.table;
       domains = domains;

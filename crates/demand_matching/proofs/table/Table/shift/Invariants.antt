@@ -5,6 +5,7 @@ use Rattle.demand_matching.proofs.table.Table.shift.Given as goal
 
 abbrev pub invariant-loop-freed : goal.invariant-loop-freed
 invariant-loop-freed l = record {
+  high : l.head ≤ l.place;
   near : l.place ≤ l.fn.place;
   table : IsTable l.self;
   domains : domains_of l.self ≡ domains_of l.fn.self;
