@@ -1,5 +1,5 @@
 -- The matching stays a maximum as a demand comes.
-use Rattle.std.proofs.Common.{ℕ, ◌+◌, ◌*◌, ◌<◌, ◌≤◌, ◌≡◌, ◌≢◌, true, not, eqb, Some, None, length, get_or, sym, ap, ◌∙◌, arith, inl, inr, get_or-set_same}
+use Rattle.std.proofs.Common.{ℕ, ◌+◌, ◌*◌, ◌<◌, ◌≤◌, ◌≡◌, ◌≢◌, true, not, eqb, Some, None, List, length, get_or, sym, ap, ◌∙◌, arith, inl, inr, get_or-set_same}
 use Rattle.std.specs.Prelude.{is_none, is_some}
 use Rattle.std.proofs.lemmas.Bool.{and_parts, and_from, ne_eqb, not_from_false, false≢true, true≢false, cases_lt}
 use Rattle.demand_matching.specs.declared.domains.Domain.{Domain}
@@ -63,17 +63,17 @@ absent_outside t o d left met max l gone =
       | inr h ↦ omega arith
     ]
 
-joins_far : (t t' : Table) (o o' : Order) (d left met : ℕ) (domain : Domain) → Joins t t' o o' d left met domain → met ≤ get_or o.spots.items d 0
+pub joins_far : (t t' : Table) (o o' : Order) (d left met : ℕ) (domain : Domain) → Joins t t' o o' d left met domain → met ≤ get_or o.spots.items d 0
 joins_far t t' o o' d left met domain it = absent_outside t o d left met it.maximum it.gains.below it.absent
 
-joins_room : (t t' : Table) (o o' : Order) (d left met : ℕ) (domain : Domain) → Joins t t' o o' d left met domain → met < demands_in t
+pub joins_room : (t t' : Table) (o o' : Order) (d left met : ℕ) (domain : Domain) → Joins t t' o o' d left met domain → met < demands_in t
 joins_room t t' o o' d left met domain it = omega (arith, joins_far t t' o o' d left met domain it, it.maximum.listing.order.spot_below d it.gains.below)
 
-joins_order : (t t' : Table) (o o' : Order) (d left met : ℕ) (domain : Domain) → Joins t t' o o' d left met domain → IsOrder (demands_in t) o'.demands.items o'.spots.items
+pub joins_order : (t t' : Table) (o o' : Order) (d left met : ℕ) (domain : Domain) → Joins t t' o o' d left met domain → IsOrder (demands_in t) o'.demands.items o'.spots.items
 joins_order t t' o o' d left met domain it = rw it.maximum.listing.order.order_length at it.moves.order
 
 -- the same demands stand before it
-joins_first : (t t' : Table) (o o' : Order) (d left met : ℕ) (domain : Domain) (count : ℕ) → count ≤ met → Joins t t' o o' d left met domain → HasSameFirst (demands_in t) o.spots.items o'.spots.items count
+pub joins_first : (t t' : Table) (o o' : Order) (d left met : ℕ) (domain : Domain) (count : ℕ) → count ≤ met → Joins t t' o o' d left met domain → HasSameFirst (demands_in t) o.spots.items o'.spots.items count
 joins_first t t' o o' d left met domain count low it =
     let far = joins_far t t' o o' d left met domain it in
     same_first (demands_in t) o.demands.items o.spots.items o'.demands.items o'.spots.items d met count it.maximum.listing.order it.moves.change it.gains.below (joins_room t t' o o' d left met domain it) (λ h. absurd (omega arith)) (λ h. absurd (omega arith))
@@ -81,7 +81,7 @@ joins_first t t' o o' d left met domain count low it =
 joins_not : (t t' : Table) (o o' : Order) (d left met e : ℕ) (domain : Domain) → Joins t t' o o' d left met domain → get_or o.spots.items e 0 < met → e ≢ d
 joins_not t t' o o' d left met e domain it h z = absurd (omega (arith, joins_far t t' o o' d left met domain it, ap (λ v. get_or o.spots.items v 0) z))
 
-joins_none : (t t' : Table) (o o' : Order) (d left met : ℕ) (domain : Domain) → Joins t t' o o' d left met domain → place_of t' d ≡ None
+pub joins_none : (t t' : Table) (o o' : Order) (d left met : ℕ) (domain : Domain) → Joins t t' o o' d left met domain → place_of t' d ≡ None
 joins_none t t' o o' d left met domain it = ap (λ v. get_or v.items d None) it.gains.places ∙ absent_none t d it.maximum.table it.absent
 
 joins_present : (t t' : Table) (o o' : Order) (d left met : ℕ) (domain : Domain) → Joins t t' o o' d left met domain → is_present (domains_of t') d ≡ true
@@ -119,9 +119,9 @@ joins_listing t t' o o' d left met domain it =
     moved_listing t o o' d met left it.maximum.listing it.gains.below (joins_room t t' o o' d left met domain it) (λ h. absurd (omega (arith, joins_far t t' o o' d left met domain it, it.maximum.longer))) it.maximum.longer it.moves
 
 -- where it has a supply then, the set stays
-pub joins_open : (t t' t'' : Table) (o o' o'' : Order) (d left met place supply served : ℕ) (domain : Domain) → Joins t t' o o' d left met domain → IsOpen t' o' o'' met (met + 1) place supply
+pub joins_open : (t t' t'' : Table) (o o' o'' : Order) (bits : List ℕ) (d left met place supply served : ℕ) (domain : Domain) → Joins t t' o o' d left met domain → IsOpen t' o' o'' bits met (met + 1) place supply
     → IsTable t'' → domains_of t'' ≡ domains_of t' → PlacesOne t' t'' served → met ≤ get_or o''.spots.items served 0 → IsMaximum t'' o'' left met
-joins_open t t' t'' o o' o'' d left met place supply served domain it ends is'' same'' one after =
+joins_open t t' t'' o o' o'' bits d left met place supply served domain it ends is'' same'' one after =
     let max = it.maximum in
     let n : demands_in t' ≡ demands_in t = same_count t t' d (Some domain) it.gains.domains in
     let m : demands_in t'' ≡ demands_in t' = ap (λ w. length w.demands) same'' in
@@ -163,9 +163,16 @@ joins_open t t' t'' o o' o'' d left met place supply served domain it ends is'' 
           same_present t t'' d e (Some domain) domains (joins_not t t' o o' d left met e domain it low) ∙ max.shut.present e (omega (arith, n, m)) low);
     }
 
+-- it goes among those left out, and whom it met stays
+pub joins_last : (t t' : Table) (o o' o'' o₃ : Order) (bits : List ℕ) (d left met more : ℕ) (domain : Domain) → Joins t t' o o' d left met domain → IsClosed t' o' o'' bits met (met + 1) more → Moves o'' o₃ d left → HasSameFirst (demands_in t') o''.spots.items o₃.spots.items more
+joins_last t t' o o' o'' o₃ bits d left met more domain it ends moves =
+    let n : demands_in t' ≡ demands_in t = same_count t t' d (Some domain) it.gains.domains in
+    let spot : get_or o''.spots.items d 0 ≡ met = ends.keeps.spot d (omega (arith, it.moves.change.moved)) ∙ it.moves.change.moved in
+    same_first (demands_in t') o''.demands.items o''.spots.items o₃.demands.items o₃.spots.items d left more ends.search.order moves.change (omega (arith, n, it.gains.below)) (omega (arith, n, it.maximum.longer, joins_room t t' o o' d left met domain it)) (λ h. omega (arith, it.maximum.longer, ends.longer)) (λ h. omega (arith, ends.longer))
+
 -- where it has none, it is left out, and whom it met joins the set
-pub joins_closed : (t t' : Table) (o o' o'' o₃ : Order) (d left met more : ℕ) (domain : Domain) → Joins t t' o o' d left met domain → IsClosed t' o' o'' met (met + 1) more → Moves o'' o₃ d left → IsMaximum t' o₃ (left + 1) more
-joins_closed t t' o o' o'' o₃ d left met more domain it ends moves =
+pub joins_closed : (t t' : Table) (o o' o'' o₃ : Order) (bits : List ℕ) (d left met more : ℕ) (domain : Domain) → Joins t t' o o' d left met domain → IsClosed t' o' o'' bits met (met + 1) more → Moves o'' o₃ d left → IsMaximum t' o₃ (left + 1) more
+joins_closed t t' o o' o'' o₃ bits d left met more domain it ends moves =
     let max = it.maximum in
     let n : demands_in t' ≡ demands_in t = same_count t t' d (Some domain) it.gains.domains in
     let order' = joins_order t t' o o' d left met domain it in
@@ -179,8 +186,7 @@ joins_closed t t' o o' o'' o₃ d left met more domain it ends moves =
     (first_kept (demands_in t) o'.demands.items o'.spots.items o''.demands.items o''.spots.items (met + 1) met order' order'' (omega arith) ends.keeps) in
     let spot : get_or o''.spots.items d 0 ≡ met = ends.keeps.spot d (omega (arith, it.moves.change.moved)) ∙ it.moves.change.moved in
     let order₃ : IsOrder (demands_in t) o₃.demands.items o₃.spots.items = rw order''.order_length at moves.order in
-    let last : HasSameFirst (demands_in t) o''.spots.items o₃.spots.items more =
-    same_first (demands_in t) o''.demands.items o''.spots.items o₃.demands.items o₃.spots.items d left more order'' moves.change it.gains.below (omega (arith, max.longer, joins_room t t' o o' d left met domain it)) (λ h. omega (arith, max.longer, ends.longer)) (λ h. omega (arith, ends.longer)) in
+    let last : HasSameFirst (demands_in t) o''.spots.items o₃.spots.items more = rw n at (joins_last t t' o o' o'' o₃ bits d left met more domain it ends moves) in
     record {
       table = it.gains.table;
       listing = listing_more t t' o'' o₃ d left kept (gains_same t t' d domain it.gains) it.gains.below (λ h. absurd (omega (arith, max.longer))) (joins_present t t' o o' d left met domain it) (joins_none t t' o o' d left met domain it) order₃

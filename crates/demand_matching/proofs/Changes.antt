@@ -28,6 +28,9 @@ put_table t v d domain is l kept ok its =
     record {
       small = omega (arith, is.small);
       narrow = is.narrow;
+      few = is.few;
+      room = is.room;
+      free = is.free;
       places_length = is.places_length ∙ sym len;
       owners_length = is.owners_length;
       in_range = λ e x h. elim (cases_eqb e d) [

@@ -32,8 +32,8 @@ all_in t demands spots met_from len set is search has full (suc b) k l h =
     ] refl
 
 -- no free supply can be found
-pub never_open : (t : Table) (o o' : Order) (left met place supply : ℕ) → IsMaximum t o left met → IsOpen t o o' 0 left place supply → ⊥
-never_open t o o' left met place supply max open_is =
+pub never_open : (t : Table) (o o' : Order) (bits : List ℕ) (left met place supply : ℕ) → IsMaximum t o left met → IsOpen t o o' bits 0 left place supply → ⊥
+never_open t o o' bits left met place supply max open_is =
     let set : ℕ → Bool = firsts t o.spots.items met in
     let much = shut_exceeds t o left met max in
     let has = exceeds_left t o left max.table max.listing set much in
@@ -45,8 +45,8 @@ never_open t o o' left met place supply max open_is =
     let f : owner_of t supply ≡ None = open_is.free in
     cc
 
-pub hall_is : (t : Table) (o o' : Order) (left kept met : ℕ) (set : ℕ → Bool) → IsMaximum t o left kept → IsClosed t o o' 0 left met → ((d : ℕ) → set d ≡ is_first o'.spots.items met (demands_in t) d) → IsHallSet (domains_of t) set
-hall_is t o o' left kept met set max ends is =
+pub hall_is : (t : Table) (o o' : Order) (bits : List ℕ) (left kept met : ℕ) (set : ℕ → Bool) → IsMaximum t o left kept → IsClosed t o o' bits 0 left met → ((d : ℕ) → set d ≡ is_first o'.spots.items met (demands_in t) d) → IsHallSet (domains_of t) set
+hall_is t o o' bits left kept met set max ends is =
     let spots : ℕ → ℕ = λ d. get_or o'.spots.items d 0 in
     let into : (d : ℕ) → d < demands_in t → spots d < met → set d ≡ true = λ d l h. is d ∙ and_from (ltb d (demands_in t)) (ltb (spots d) met) (lt-ltb d (demands_in t) l) (lt-ltb (spots d) met h) in
     let out : (d : ℕ) → set d ≡ true → (d < demands_in t) × (spots d < met) = λ d h.

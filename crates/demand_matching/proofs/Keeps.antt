@@ -1,18 +1,21 @@
 -- What the calls of a matching leave is a maximum again, and what it says of the deficit.
-use Rattle.std.proofs.Common.{ℕ, ◌+◌, ◌*◌, ◌/◌, ◌%◌, ◌^◌, ◌<◌, ◌≡◌, Bool, true, ◌&&◌, Option, Some, None, length, get_or, refl, sym, ap, ◌∙◌, arith, inl, inr, replicate}
+use Rattle.std.proofs.Common.{ℕ, ◌+◌, ◌-◌, ◌*◌, ◌/◌, ◌%◌, ◌^◌, ◌<◌, ◌≤◌, ◌≡◌, Bool, true, ◌&&◌, Option, Some, None, List, length, nat_eq, get_or, refl, sym, ap, ◌∙◌, arith, inl, inr, replicate}
 use Rattle.std.specs.Prelude.{is_none, is_some}
-use Rattle.std.proofs.lemmas.Bool.{false≢true, cases_lt}
+use Rattle.std.proofs.lemmas.Bool.{false≢true, true≢false, cases_lt}
 use Rattle.std.proofs.lemmas.List.{get_or_past, get_or_read, set-set, length-replicate, get_or-replicate}
 use Rattle.std.proofs.lemmas.Nat.{div-add-mod'}
+use Rattle.std.proofs.lemmas.Nat.Bits.{bit_at_ones}
+use Rattle.khe_base.specs.Bits.{has_bit, is_set}
 use Rattle.demand_matching.specs.declared.domains.Domain.{Domain}
 use Rattle.demand_matching.specs.declared.table.Table.{Table}
 use Rattle.demand_matching.specs.declared.order.Order.{Order}
 use Rattle.demand_matching.specs.Domains.{Domains, is_present, domain_of, may_have, with_domain}
 use Rattle.demand_matching.specs.Excess.{IsDeficit, IsAssignment}
 use Rattle.demand_matching.specs.Listing.{IsListing}
-use Rattle.demand_matching.specs.Matched.{IsMaximum}
+use Rattle.demand_matching.specs.Matched.{IsMaximum, IsReady}
 use Rattle.demand_matching.specs.Order.{IsOrder}
-use Rattle.demand_matching.specs.Table.{domains_of, place_of, owner_of, demands_in, IsTable}
+use Rattle.demand_matching.specs.Search.{IsMarked}
+use Rattle.demand_matching.specs.Table.{domains_of, place_of, owner_of, demands_in, supplies_in, IsTable}
 use Rattle.demand_matching.proofs.Counting.{count_same}
 use Rattle.demand_matching.proofs.Maxima.{bounded, listing_count}
 use Rattle.demand_matching.proofs.Shut.{firsts, shut_exceeds}
@@ -23,8 +26,8 @@ none_in {X} n d = elim (cases_lt d n) [
   | inr g ↦ get_or_past (replicate {A = Option X} n None) d None (omega (arith, length-replicate {A = Option X} n None))
 ]
 
-pub new_maximum : (t : Table) (o : Order) (n : ℕ) → t.demands.items ≡ replicate n None → t.places.items ≡ replicate n None → t.owners.items ≡ replicate (t.width * t.last) None → n < 2 ^ 32 → t.width < 2 ^ 32 → IsOrder n o.demands.items o.spots.items → length o.met_from.items ≡ n → IsMaximum t o 0 0
-new_maximum t o n ds ps os small narrow order met =
+pub new_maximum : (t : Table) (o : Order) (n : ℕ) → t.demands.items ≡ replicate n None → t.places.items ≡ replicate n None → t.owners.items ≡ replicate (t.width * t.last) None → n < 2 ^ 32 → t.width < 2 ^ 32 → t.width * t.last < 2 ^ 32 → t.width * t.last ≤ 64 * length t.free.items → ((u : ℕ) → u < t.width * t.last → is_set t.free.items u ≡ true) → IsOrder n o.demands.items o.spots.items → length o.met_from.items ≡ n → IsMaximum t o 0 0
+new_maximum t o n ds ps os small narrow few room free order met =
     let count : demands_in t ≡ n = ap length ds ∙ length-replicate n None in
     let no_domain : (d : ℕ) → domain_of (domains_of t) d ≡ None = λ d. ap (λ xs. get_or xs d None) ds ∙ none_in n d in
     let no_place : (d : ℕ) → place_of t d ≡ None = λ d. ap (λ xs. get_or xs d None) ps ∙ none_in n d in
@@ -35,6 +38,9 @@ new_maximum t o n ds ps os small narrow order met =
     let table : IsTable t = record {
       small = omega (arith, count);
       narrow = narrow;
+      few = few;
+      room = room;
+      free = λ u l. free u l ∙ sym (ap is_none (no_owner u));
       places_length = ap length ps ∙ length-replicate n None ∙ sym count;
       owners_length = ap length os ∙ length-replicate (t.width * t.last) None;
       in_range = λ d x h. (let e = no_domain d in absurd cc);
@@ -64,6 +70,27 @@ new_maximum t o n ds ps os small narrow order met =
         saturated = λ d s l h. absurd (omega arith);
       };
     }
+
+-- all bits of a row are set
+pub ones_set : (words u : ℕ) → u < 64 * words → is_set (replicate words (2 ^ 64 - 1)) u ≡ true
+ones_set words u h =
+    let near : u / 64 < words = omega arith in
+    let low : u % 64 < 64 = omega arith in
+    ap (λ w. has_bit w (u % 64)) (get_or-replicate words (u / 64) (2 ^ 64 - 1) 0 near) ∙ ap (λ v. nat_eq v 1) (bit_at_ones 64 (u % 64) low)
+
+ones_marked : (t : Table) (spots bits : List ℕ) (words : ℕ) → bits ≡ replicate words (2 ^ 64 - 1) → supplies_in t ≤ 64 * words → IsMarked t spots bits 0
+ones_marked t spots bits words ones room = record {
+  room = omega (arith, ap length ones, length-replicate {A = ℕ} words (2 ^ 64 - 1));
+  reached = λ u l h. absurd (true≢false (sym (ap (λ v. is_set v u) ones ∙ ones_set words u (omega arith)) ∙ h));
+}
+
+pub new_ready : (t : Table) (o : Order) (outside unseen : List ℕ) (n words : ℕ) → t.demands.items ≡ replicate n None → t.places.items ≡ replicate n None → t.owners.items ≡ replicate (t.width * t.last) None → n < 2 ^ 32 → t.width < 2 ^ 32 → t.width * t.last < 2 ^ 32
+    → t.width * t.last ≤ 64 * words → t.free.items ≡ replicate words (2 ^ 64 - 1) → outside ≡ replicate words (2 ^ 64 - 1) → unseen ≡ replicate words (2 ^ 64 - 1) → IsOrder n o.demands.items o.spots.items → length o.met_from.items ≡ n → IsReady t o 0 0 outside unseen
+new_ready t o outside unseen n words ds ps os small narrow few room free out seen order met = record {
+  maximum = new_maximum t o n ds ps os small narrow few (omega (arith, ap length free, length-replicate {A = ℕ} words (2 ^ 64 - 1))) (λ u l. ap (λ v. is_set v u) free ∙ ones_set words u (omega arith)) order met;
+  marked = ones_marked t o.spots.items outside words out room;
+  all_set = ones_marked t o.spots.items unseen words seen room;
+}
 
 pub present_read : (t : Table) (d : ℕ) (x : Option Domain) → d < demands_in t → x ≡ get_or t.demands.items d x → is_some x ≡ true → is_present (domains_of t) d ≡ true
 present_read t d x l read some = ap is_some (sym (get_or_read t.demands.items d x l read None)) ∙ some

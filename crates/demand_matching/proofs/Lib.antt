@@ -1,4 +1,9 @@
 pub mod Changes
+pub mod Tables
+pub mod Looks
+pub mod Ready
+pub mod WindowLemmas
+pub mod Marks
 pub mod Fences
 pub mod Shut
 pub mod Removals

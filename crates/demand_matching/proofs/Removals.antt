@@ -1,5 +1,5 @@
 -- The matching stays a maximum as a demand goes.
-use Rattle.std.proofs.Common.{ℕ, ◌+◌, ◌-◌, ◌<◌, ◌≤◌, ◌≡◌, ◌≢◌, true, not, eqb, Some, None, length, get_or, sym, ap, ◌∙◌, arith}
+use Rattle.std.proofs.Common.{ℕ, ◌+◌, ◌-◌, ◌<◌, ◌≤◌, ◌≡◌, ◌≢◌, true, not, eqb, Some, None, List, length, get_or, sym, ap, ◌∙◌, arith}
 use Rattle.std.specs.Prelude.{is_none, is_some}
 use Rattle.std.proofs.Common.{get_or-set_same}
 use Rattle.std.proofs.lemmas.Bool.{and_parts, and_from, eqb-false, ne_eqb, not-true, not_from_false, false≢true, true≢false}
@@ -9,7 +9,7 @@ use Rattle.demand_matching.specs.Domains.{is_present, with_domain}
 use Rattle.demand_matching.specs.Listing.{IsListing, PlacesOne}
 use Rattle.demand_matching.specs.Matched.{IsMaximum}
 use Rattle.demand_matching.specs.Order.{IsOrder, ChangesPlaces, HasSameFirst}
-use Rattle.demand_matching.specs.Search.{IsOpen, IsClosed, IsFenced, IsSearch}
+use Rattle.demand_matching.specs.Search.{IsOpen, IsClosed, IsFenced, IsWithin, IsSearch}
 use Rattle.demand_matching.specs.Table.{domains_of, may_take, place_of, owner_of, demands_in, IsTable}
 use Rattle.demand_matching.proofs.Duality.{none_from, without}
 use Rattle.demand_matching.proofs.Fences.{same_first, first_trans}
@@ -55,33 +55,52 @@ moved_listing t o o' d place left listing l m high far moves =
     listing_along t o o' left listing (moves_order t o o' d place left listing moves) (moves_length t o o' d place left listing moves)
     (same_first (demands_in t) o.demands.items o.spots.items o'.demands.items o'.spots.items d place left listing.order moves.change l m (λ h. absurd (high h)) (λ h. absurd (omega arith)))
 
--- one that is left out goes
-pub remove_left : (t t' : Table) (o o' o'' : Order) (d left met : ℕ) → IsMaximum t o left met → Drops t t' d → is_present (domains_of t) d ≡ true → place_of t d ≡ None → Moves o o' d (left - 1) → Moves o' o'' d (met - 1) → IsMaximum t' o'' (left - 1) (met - 1)
-remove_left t t' o o' o'' d left met max drops here none first second =
+-- one that is left out goes: it is behind the others that are, and then behind the set
+pub record Withdraws (t t' : Table) (o o' o'' : Order) (d left met : ℕ) : Type 0 where
+  pub maximum : IsMaximum t o left met
+  pub drops : Drops t t' d
+  pub here : is_present (domains_of t) d ≡ true
+  pub none : place_of t d ≡ None
+  pub first : Moves o o' d (left - 1)
+  pub second : Moves o' o'' d (met - 1)
+
+withdraws_low : (t t' : Table) (o o' o'' : Order) (d left met : ℕ) → Withdraws t t' o o' o'' d left met → get_or o.spots.items d 0 < left
+withdraws_low t t' o o' o'' d left met it = it.maximum.listing.listed d it.drops.below it.here it.none
+
+withdraws_order : (t t' : Table) (o o' o'' : Order) (d left met : ℕ) → Withdraws t t' o o' o'' d left met → IsOrder (demands_in t) o''.demands.items o''.spots.items
+withdraws_order t t' o o' o'' d left met it =
+    let order' : IsOrder (demands_in t) o'.demands.items o'.spots.items = moves_order t o o' d (left - 1) left it.maximum.listing it.first in
+    rw order'.order_length at it.second.order
+
+withdraws_same : (t t' : Table) (o o' o'' : Order) (d left met : ℕ) → Withdraws t t' o o' o'' d left met → HasSameFirst (demands_in t) o.spots.items o''.spots.items met
+withdraws_same t t' o o' o'' d left met it =
+    let max = it.maximum in
+    let low = withdraws_low t t' o o' o'' d left met it in
+    let order' : IsOrder (demands_in t) o'.demands.items o'.spots.items = moves_order t o o' d (left - 1) left max.listing it.first in
+    first_trans (demands_in t) o.spots.items o'.spots.items o''.spots.items met
+    (same_first (demands_in t) o.demands.items o.spots.items o'.demands.items o'.spots.items d (left - 1) met max.listing.order it.first.change it.drops.below (omega (arith, max.listing.fits)) (λ h. omega (arith, max.longer)) (λ h. omega (arith, max.longer)))
+    (same_first (demands_in t) o'.demands.items o'.spots.items o''.demands.items o''.spots.items d (met - 1) met order' it.second.change it.drops.below (omega (arith, max.shut.fits, max.longer)) (λ h. omega (arith, max.longer)) (λ h. omega (arith, max.longer, it.first.change.moved)))
+
+pub withdraws_into : (t t' : Table) (o o' o'' : Order) (d left met e : ℕ) → Withdraws t t' o o' o'' d left met → e < demands_in t → e ≢ d → get_or o.spots.items e 0 < met → get_or o''.spots.items e 0 < met - 1
+withdraws_into t t' o o' o'' d left met e it l ne h =
+    last_into (demands_in t) o''.demands.items o.spots.items o''.spots.items d met e (withdraws_order t t' o o' o'' d left met it) (withdraws_same t t' o o' o'' d left met it) it.second.change.moved it.drops.below l ne h
+
+pub remove_left : (t t' : Table) (o o' o'' : Order) (d left met : ℕ) → Withdraws t t' o o' o'' d left met → IsMaximum t' o'' (left - 1) (met - 1)
+remove_left t t' o o' o'' d left met it =
+    let max = it.maximum in
+    let drops = it.drops in
     let n : demands_in t' ≡ demands_in t = same_count t t' d None drops.domains in
-    let low : get_or o.spots.items d 0 < left = max.listing.listed d drops.below here none in
-    let top_in : left - 1 < demands_in t = omega (arith, max.listing.fits) in
-    let last_in : met - 1 < demands_in t = omega (arith, max.shut.fits, max.longer) in
-    let order' : IsOrder (demands_in t) o'.demands.items o'.spots.items = moves_order t o o' d (left - 1) left max.listing first in
-    let listing' : IsListing t' o' (left - 1) = listing_less t t' o o' d left max.listing (drops_same t t' d drops) drops.below low (λ p x. drops_gone t t' d drops p) order' (moves_length t o o' d (left - 1) left max.listing first) first.change in
-    let length' : length o'.demands.items ≡ demands_in t = order'.order_length in
-    let order'' : IsOrder (demands_in t) o''.demands.items o''.spots.items = rw length' at second.order in
-    let one : HasSameFirst (demands_in t) o.spots.items o'.spots.items met =
-    same_first (demands_in t) o.demands.items o.spots.items o'.demands.items o'.spots.items d (left - 1) met max.listing.order first.change drops.below top_in (λ h. omega (arith, max.longer)) (λ h. omega (arith, max.longer)) in
-    let two : HasSameFirst (demands_in t) o'.spots.items o''.spots.items met =
-    same_first (demands_in t) o'.demands.items o'.spots.items o''.demands.items o''.spots.items d (met - 1) met order' second.change drops.below last_in (λ h. omega (arith, max.longer)) (λ h. omega (arith, max.longer, first.change.moved)) in
-    let same = first_trans (demands_in t) o.spots.items o'.spots.items o''.spots.items met one two in
-    let at : get_or o''.spots.items d 0 ≡ met - 1 = second.change.moved in
+    let low = withdraws_low t t' o o' o'' d left met it in
+    let order' = moves_order t o o' d (left - 1) left max.listing it.first in
+    let listing' : IsListing t' o' (left - 1) = listing_less t t' o o' d left max.listing (drops_same t t' d drops) drops.below low (λ p x. drops_gone t t' d drops p) order' (moves_length t o o' d (left - 1) left max.listing it.first) it.first.change in
     record {
       table = drops.table;
-      listing =
-          moved_listing t' o' o'' d (met - 1) (left - 1) listing' (omega (arith, n, drops.below)) (omega (arith, n)) (λ h. absurd (omega (arith, first.change.moved))) (omega (arith, max.longer))
-          (record { order = second.order; met_from = second.met_from; change = second.change });
+      listing = moved_listing t' o' o'' d (met - 1) (left - 1) listing' (omega (arith, n, drops.below)) (omega (arith, n, max.shut.fits, max.longer)) (λ h. absurd (omega (arith, it.first.change.moved))) (omega (arith, max.longer)) it.second;
       longer = omega (arith, max.longer);
-      shut = shut_without t t' o.spots.items o''.spots.items d met (met - 1) None max.table drops.table max.shut drops.domains drops.others (omega arith)
-          (λ e l ne h. last_into (demands_in t) o''.demands.items o.spots.items o''.spots.items d met e order'' same at drops.below l ne h)
-          (λ e l h. last_back (demands_in t) o.spots.items o''.spots.items d met e same at l h)
-          (λ s owner h. (let owns : place_of t d ≡ Some s = max.table.matching.placed s d owner in cc));
+      shut = shut_without t t' o.spots.items o''.spots.items d met (met - 1) None max.table drops.table max.shut drops.domains drops.others (omega (arith, max.shut.fits))
+          (λ e l ne h. withdraws_into t t' o o' o'' d left met e it l ne h)
+          (λ e l h. last_back (demands_in t) o.spots.items o''.spots.items d met e (withdraws_same t t' o o' o'' d left met it) it.second.change.moved l h)
+          (λ s owner h. (let owns : place_of t d ≡ Some s = max.table.matching.placed s d owner in let none : place_of t d ≡ None = it.none in cc));
     }
 
 -- one goes whose supply none of the set may have
@@ -149,7 +168,7 @@ leaves_same : (t t' : Table) (o o' : Order) (d left met s : ℕ) → Leaves t t'
 leaves_same t t' o o' d left met s it =
     same_first (demands_in t) o.demands.items o.spots.items o'.demands.items o'.spots.items d (met - 1) met it.maximum.listing.order it.moves.change it.drops.below (omega (arith, it.maximum.shut.fits, it.inside)) (λ h. omega arith) (λ h. it.inside)
 
-leaves_into : (t t' : Table) (o o' : Order) (d left met s e : ℕ) → Leaves t t' o o' d left met s → e < demands_in t → e ≢ d → get_or o.spots.items e 0 < met → get_or o'.spots.items e 0 < met - 1
+pub leaves_into : (t t' : Table) (o o' : Order) (d left met s e : ℕ) → Leaves t t' o o' d left met s → e < demands_in t → e ≢ d → get_or o.spots.items e 0 < met → get_or o'.spots.items e 0 < met - 1
 leaves_into t t' o o' d left met s e it l ne h =
     last_into (demands_in t) o'.demands.items o.spots.items o'.spots.items d met e (moves_order t o o' d (met - 1) left it.maximum.listing it.moves) (leaves_same t t' o o' d left met s it) it.moves.change.moved it.drops.below l ne h
 
@@ -170,8 +189,8 @@ leaves_fenced t t' o o' d left met s it e u by l h may owner =
     leaves_into t t' o o' d left met s by it (max.table.matching.demand by u had) ne (omega (arith, ap (λ v. get_or o.spots.items v 0) is, r.within))
 
 -- where no other can take its supply, those that were met are the set
-pub leaves_closed : (t t' : Table) (o o' o'' : Order) (d left met s less : ℕ) → Leaves t t' o o' d left met s → IsClosed t' o' o'' 0 left less → IsMaximum t' o'' left less
-leaves_closed t t' o o' o'' d left met s less it ends = record {
+pub leaves_closed : (t t' : Table) (o o' o'' : Order) (bits : List ℕ) (d left met s less : ℕ) → Leaves t t' o o' d left met s → IsClosed t' o' o'' bits 0 left less → IsMaximum t' o'' left less
+leaves_closed t t' o o' o'' bits d left met s less it ends = record {
   table = it.drops.table;
   listing = listing_kept t' 0 o' o'' left left less (leaves_listing t t' o o' d left met s it) (omega arith) ends.search ends.keeps;
   longer = ends.longer;
@@ -182,31 +201,49 @@ leaves_closed t t' o o' o'' d left met s less it ends = record {
   };
 }
 
+pub leaves_kept : (t t' : Table) (o o' o'' : Order) (bits : List ℕ) (d left met s place supply : ℕ) → Leaves t t' o o' d left met s → IsOpen t' o' o'' bits 0 left place supply → IsListing t' o'' left
+leaves_kept t t' o o' o'' bits d left met s place supply it ends = listing_kept t' 0 o' o'' left left (place + 1) (leaves_listing t t' o o' d left met s it) (omega arith) ends.search ends.keeps
+
 -- some were left out where another takes it
-pub leaves_some : (t t' t'' : Table) (o o' o'' : Order) (d left met s place supply served : ℕ) → Leaves t t' o o' d left met s → IsOpen t' o' o'' 0 left place supply
+pub leaves_some : (t t' t'' : Table) (o o' o'' : Order) (bits : List ℕ) (d left met s place supply served : ℕ) → Leaves t t' o o' d left met s → IsOpen t' o' o'' bits 0 left place supply
     → IsTable t'' → domains_of t'' ≡ domains_of t' → PlacesOne t' t'' served → 1 ≤ left
-leaves_some t t' t'' o o' o'' d left met s place supply served it ends is'' same'' one =
-    let kept : IsListing t' o'' left = listing_kept t' 0 o' o'' left left (place + 1) (leaves_listing t t' o o' d left met s it) (omega arith) ends.search ends.keeps in
+leaves_some t t' t'' o o' o'' bits d left met s place supply served it ends is'' same'' one =
+    let kept = leaves_kept t t' o o' o'' bits d left met s place supply it ends in
     omega (arith, placed_left t' t'' o'' left served is'' kept same'' one)
 
+leaves_room : (t t' : Table) (o o' : Order) (d left met s : ℕ) → Leaves t t' o o' d left met s → left ≤ met - 1
+leaves_room t t' o o' d left met s it =
+    let far : left ≤ get_or o.spots.items d 0 = omega (arith, leaves_high t t' o o' d left met s it) in
+    omega (arith, it.inside)
+
+-- a search meets only others of the set
+pub leaves_within : (t t' : Table) (o o' o'' : Order) (d left met s more : ℕ) → Leaves t t' o o' d left met s → IsWithin t' o' o'' left more → HasSameFirst (demands_in t') o'.spots.items o''.spots.items (met - 1)
+leaves_within t t' o o' o'' d left met s more it within = (within (met - 1) (leaves_room t t' o o' d left met s it) (leaves_fenced t t' o o' d left met s it)).1
+
+-- the set stays without the demand
+pub leaves_first : (t t' t'' : Table) (o o' o'' o₃ : Order) (bits : List ℕ) (d left met s place supply served : ℕ) → Leaves t t' o o' d left met s → IsOpen t' o' o'' bits 0 left place supply
+    → IsTable t'' → domains_of t'' ≡ domains_of t' → PlacesOne t' t'' served → Moves o'' o₃ served (left - 1) → HasSameFirst (demands_in t') o'.spots.items o₃.spots.items (met - 1)
+leaves_first t t' t'' o o' o'' o₃ bits d left met s place supply served it ends is'' same'' one moves =
+    let kept = leaves_kept t t' o o' o'' bits d left met s place supply it ends in
+    let low : get_or o''.spots.items served 0 < left = placed_left t' t'' o'' left served is'' kept same'' one in
+    let room = leaves_room t t' o o' d left met s it in
+    first_trans (demands_in t') o'.spots.items o''.spots.items o₃.spots.items (met - 1) (leaves_within t t' o o' o'' d left met s left it ends.within)
+    (same_first (demands_in t') o''.demands.items o''.spots.items o₃.demands.items o₃.spots.items served (left - 1) (met - 1) ends.search.order moves.change one.below (omega (arith, kept.fits)) (λ h. omega arith) (λ h. omega arith))
+
 -- where another takes it, the set is the same without the demand
-pub leaves_open : (t t' t'' : Table) (o o' o'' o₃ : Order) (d left met s place supply served : ℕ) → Leaves t t' o o' d left met s → IsOpen t' o' o'' 0 left place supply
+pub leaves_open : (t t' t'' : Table) (o o' o'' o₃ : Order) (bits : List ℕ) (d left met s place supply served : ℕ) → Leaves t t' o o' d left met s → IsOpen t' o' o'' bits 0 left place supply
     → IsTable t'' → domains_of t'' ≡ domains_of t' → PlacesOne t' t'' served → Moves o'' o₃ served (left - 1) → IsMaximum t'' o₃ (left - 1) (met - 1)
-leaves_open t t' t'' o o' o'' o₃ d left met s place supply served it ends is'' same'' one moves =
+leaves_open t t' t'' o o' o'' o₃ bits d left met s place supply served it ends is'' same'' one moves =
     let n : demands_in t' ≡ demands_in t = same_count t t' d None it.drops.domains in
     let m : demands_in t'' ≡ demands_in t' = ap (λ w. length w.demands) same'' in
     let max = it.maximum in
-    let kept : IsListing t' o'' left = listing_kept t' 0 o' o'' left left (place + 1) (leaves_listing t t' o o' d left met s it) (omega arith) ends.search ends.keeps in
+    let kept = leaves_kept t t' o o' o'' bits d left met s place supply it ends in
     let low : get_or o''.spots.items served 0 < left = placed_left t' t'' o'' left served is'' kept same'' one in
     let listing : IsListing t'' o₃ (left - 1) =
     listing_less t' t'' o'' o₃ served left kept (same_but t' t'' served same'' one) one.below low (λ p x. absurd (true≢false (sym (none_from (place_of t'' served) x) ∙ one.has_one)))
     (moves_order t' o'' o₃ served (left - 1) left kept moves) (moves_length t' o'' o₃ served (left - 1) left kept moves) moves.change in
-    let far : left ≤ get_or o.spots.items d 0 = omega (arith, leaves_high t t' o o' d left met s it) in
-    let room : left ≤ met - 1 = omega (arith, it.inside) in
-    let searched : HasSameFirst (demands_in t') o'.spots.items o''.spots.items (met - 1) = (ends.within (met - 1) room (leaves_fenced t t' o o' d left met s it)).1 in
-    let put : HasSameFirst (demands_in t') o''.spots.items o₃.spots.items (met - 1) =
-    same_first (demands_in t') o''.demands.items o''.spots.items o₃.demands.items o₃.spots.items served (left - 1) (met - 1) ends.search.order moves.change one.below (omega (arith, kept.fits)) (λ h. omega arith) (λ h. omega arith) in
-    let all : HasSameFirst (demands_in t') o'.spots.items o₃.spots.items (met - 1) = first_trans (demands_in t') o'.spots.items o''.spots.items o₃.spots.items (met - 1) searched put in
+    let room = leaves_room t t' o o' d left met s it in
+    let all = leaves_first t t' t'' o o' o'' o₃ bits d left met s place supply served it ends is'' same'' one moves in
     let set = firsts t o.spots.items met in
     let domains : domains_of t'' ≡ with_domain (domains_of t) d None = same'' ∙ it.drops.domains in
     record {

@@ -2,18 +2,15 @@
 use Rattle.std.proofs.Common.{ℕ, ◌+◌, ◌<◌, ◌≤◌, ◌≡◌, true, List, Option, Some, None, length, get_or, set, refl, sym, ap, ◌∙◌, arith, inl, inr, get_or-set_same, get_or-set_other, length-set}
 use Rattle.std.proofs.lemmas.List.{get_or_read}
 use Rattle.demand_matching.specs.declared.table.Table.{Table}
-use Rattle.demand_matching.specs.declared.table.Reach.{Reach}
-use Rattle.demand_matching.specs.declared.table.Reach.TheVariants.{Free, Met}
 use Rattle.demand_matching.specs.declared.order.Order.{Order}
 use Rattle.demand_matching.specs.declared.domains.Domain.{Domain}
 use Rattle.demand_matching.specs.Domains.{domain_of, is_present}
-use Rattle.demand_matching.specs.Members.{picked}
 use Rattle.demand_matching.specs.Order.{IsOrder, ChangesPlaces}
-use Rattle.demand_matching.specs.Table.{domains_of, may_take, place_of, owner_of, demands_in, supplies_in, IsTable, supply_at}
-use Rattle.demand_matching.specs.Search.{IsSearch, KeepsFirst, IsReached, IsWithin, GoesOn}
-use Rattle.demand_matching.proofs.Supplies.{supply_allowed, supply_found, may_present}
+use Rattle.demand_matching.specs.Table.{domains_of, may_take, place_of, owner_of, demands_in, supplies_in, IsTable}
+use Rattle.demand_matching.specs.Search.{IsSearch, KeepsFirst, IsReached, IsMarked, IsTaken, GoesOn}
+use Rattle.demand_matching.proofs.Supplies.{may_present}
 use Rattle.demand_matching.proofs.Counting.{cases_last}
-use Rattle.demand_matching.proofs.Fences.{within_trans, within_less}
+use Rattle.demand_matching.proofs.Fences.{within_refl, within_trans}
 use Rattle.demand_matching.proofs.Duality.{same_some}
 
 -- who has a supply, as the table's list has it
@@ -102,57 +99,57 @@ search_shorter t head a b c len less l is = record {
 pub spot_read : (xs : List ℕ) (i x : ℕ) → i < length xs → x ≡ get_or xs i x → x ≡ get_or xs i 0
 spot_read xs i x l e = get_or_read xs i x l e 0
 
--- what a part of a look says of the whole
-pub goes_on_from : (t : Table) (head : ℕ) (o o' o'' : Order) (place len met : ℕ) (r : Reach) → IsTable t → len ≤ met → KeepsFirst o.demands.items o.spots.items o'.demands.items o'.spots.items len → IsWithin t o o' len met → GoesOn t head o' o'' place met r → GoesOn t head o o'' place len r
-goes_on_from t head o o' o'' place len met (Met more) is l keeps within g = (
-  omega (arith, g.0),
-  g.1,
-  keeps_trans o.demands.items o.spots.items o'.demands.items o'.spots.items o''.demands.items o''.spots.items len met l keeps g.2,
-  within_trans t o o' o'' len met more is within g.3,
-)
-goes_on_from t head o o' o'' place len met (Free supply) is l keeps within g = (
-  search_shorter t head o''.demands.items o''.spots.items o''.met_from.items met len l g.0,
-  keeps_trans o.demands.items o.spots.items o'.demands.items o'.spots.items o''.demands.items o''.spots.items len met l keeps g.1,
-  g.2,
-  g.3,
-  g.4,
-  within_less t o o'' len met (within_trans t o o' o'' len met met is within g.5),
-)
+-- one look after another
+pub goes_on_trans : (t : Table) (head : ℕ) (o o' o'' : Order) (bits' bits'' : List ℕ) (len met more : ℕ) → IsTable t → GoesOn t head o o' bits' len met → GoesOn t head o' o'' bits'' met more → GoesOn t head o o'' bits'' len more
+goes_on_trans t head o o' o'' bits' bits'' len met more is g h = record {
+  longer = omega (arith, g.longer, h.longer);
+  search = h.search;
+  keeps = keeps_trans o.demands.items o.spots.items o'.demands.items o'.spots.items o''.demands.items o''.spots.items len met g.longer g.keeps h.keeps;
+  within = within_trans t o o' o'' len met more is g.within h.within;
+  marked = h.marked;
+}
 
--- what a demand that stays at its place may have
-pub may_still : (t : Table) (o o' : Order) (place len : ℕ) (d : Domain) (i j : ℕ) → IsTable t → KeepsFirst o.demands.items o.spots.items o'.demands.items o'.spots.items len → place < len → domain_of (domains_of t) (get_or o.demands.items place 0) ≡ Some d → i < length (picked t.resources d.resources) → j < length (picked t.times d.times) → may_take (domains_of t) (get_or o'.demands.items place 0) (supply_at (domains_of t) d i j) ≡ true
-may_still t o o' place len d i j is keeps near its l m =
-    let now : domain_of (domains_of t) (get_or o'.demands.items place 0) ≡ Some d = ap (λ v. domain_of (domains_of t) v) (keeps.demand place near) ∙ its in
-    supply_allowed (domains_of t) d (get_or o'.demands.items place 0) i j (is.in_range (get_or o'.demands.items place 0) d now) now l m
+pub goes_on_none : (t : Table) (head : ℕ) (o : Order) (bits : List ℕ) (len : ℕ) → IsSearch t head o.demands.items o.spots.items o.met_from.items len → IsMarked t o.spots.items bits len → GoesOn t head o o bits len len
+goes_on_none t head o bits len search marked = record {
+  longer = omega arith;
+  search = search;
+  keeps = keeps_refl o.demands.items o.spots.items len;
+  within = within_refl t o len;
+  marked = marked;
+}
+
+-- a fact of the demand at a place that stays
+pub may_kept : (t : Table) (o o' : Order) (place len s : ℕ) → KeepsFirst o.demands.items o.spots.items o'.demands.items o'.spots.items len → place < len → may_take (domains_of t) (get_or o'.demands.items place 0) s ≡ may_take (domains_of t) (get_or o.demands.items place 0) s
+may_kept t o o' place len s keeps near = ap (λ v. may_take (domains_of t) v s) (keeps.demand place near)
+
+pub domain_kept : (t : Table) (o o' : Order) (place len : ℕ) (d : Domain) → KeepsFirst o.demands.items o.spots.items o'.demands.items o'.spots.items len → place < len → domain_of (domains_of t) (get_or o.demands.items place 0) ≡ Some d → domain_of (domains_of t) (get_or o'.demands.items place 0) ≡ Some d
+domain_kept t o o' place len d keeps near its = ap (λ v. domain_of (domains_of t) v) (keeps.demand place near) ∙ its
+
+pub taken_kept : (t : Table) (o o' : Order) (place len : ℕ) → KeepsFirst o.demands.items o.spots.items o'.demands.items o'.spots.items len → place < len → IsTaken t (get_or o.demands.items place 0) → IsTaken t (get_or o'.demands.items place 0)
+taken_kept t o o' place len keeps near taken s may = taken s (sym (may_kept t o o' place len s keeps near) ∙ may)
 
 -- the domain of the demand at a place, as the lists have it
-pub domain_read : (t : Table) (order : List ℕ) (place demand : ℕ) (x : Option Domain) (d : Domain) → place < length order → get_or order place 0 < demands_in t → demand ≡ get_or order place demand → x ≡ get_or t.demands.items demand x → x ≡ Some d → domain_of (domains_of t) (get_or order place 0) ≡ Some d
-domain_read t order place demand x d l m read look it =
+pub domain_read : (t : Table) (order : List ℕ) (place demand : ℕ) (x : Option Domain) → place < length order → get_or order place 0 < demands_in t → demand ≡ get_or order place demand → x ≡ get_or t.demands.items demand x → x ≡ domain_of (domains_of t) (get_or order place 0)
+domain_read t order place demand x l m read look =
     let at : demand ≡ get_or order place 0 = get_or_read order place demand l read 0 in
     let near : demand < length t.demands.items = omega arith in
-    ap (λ v. get_or t.demands.items v None) (sym at) ∙ sym (get_or_read t.demands.items demand x near look None) ∙ it
+    get_or_read t.demands.items demand x near look None ∙ ap (λ v. get_or t.demands.items v None) at
 
-pub absent_read : (t : Table) (order : List ℕ) (place demand : ℕ) (x : Option Domain) → place < length order → get_or order place 0 < demands_in t → demand ≡ get_or order place demand → x ≡ get_or t.demands.items demand x → x ≡ None → domain_of (domains_of t) (get_or order place 0) ≡ None
-absent_read t order place demand x l m read look it =
+-- the supply of the demand at a place, as the lists have it
+pub supply_read : (t : Table) (order : List ℕ) (place demand : ℕ) (x : Option ℕ) → IsTable t → place < length order → get_or order place 0 < demands_in t → demand ≡ get_or order place demand → x ≡ get_or t.places.items demand x → x ≡ place_of t (get_or order place 0)
+supply_read t order place demand x is l m read look =
     let at : demand ≡ get_or order place 0 = get_or_read order place demand l read 0 in
-    let near : demand < length t.demands.items = omega arith in
-    ap (λ v. get_or t.demands.items v None) (sym at) ∙ sym (get_or_read t.demands.items demand x near look None) ∙ it
-
--- each supply that the demand may have is one of those looked at
-pub all_reached : (t : Table) (spots : List ℕ) (d : Domain) (demand met count : ℕ) → domain_of (domains_of t) demand ≡ Some d → length (picked t.resources d.resources) ≤ count → ((i j : ℕ) → i < count → j < length (picked t.times d.times) → IsReached t spots met (supply_at (domains_of t) d i j)) → (s : ℕ) → may_take (domains_of t) demand s ≡ true → IsReached t spots met s
-all_reached t spots d demand met count its l reached s may =
-    let at = supply_found (domains_of t) d demand s its may in
-    let r = reached at.0 at.1 (omega (arith, at.2)) at.3 in
-    record { by = r.by; owner = ap (λ v. owner_of t v) (sym at.4) ∙ r.owner; within = r.within }
+    let near : demand < length t.places.items = omega (arith, is.places_length) in
+    get_or_read t.places.items demand x near look None ∙ ap (λ v. get_or t.places.items v None) at
 
 -- one place more of the order is looked at
-pub search_more : (t : Table) (o o' o'' : Order) (head left place met more : ℕ) → place < met → GoesOn t head o' o'' place met (Met more)
+pub search_more : (t : Table) (o' o'' : Order) (bits'' : List ℕ) (head place met more : ℕ) → place < met → GoesOn t head o' o'' bits'' met more
     → ((k s : ℕ) → head ≤ k → k < place → may_take (domains_of t) (get_or o'.demands.items k 0) s ≡ true → IsReached t o'.spots.items met s)
     → ((s : ℕ) → may_take (domains_of t) (get_or o'.demands.items place 0) s ≡ true → IsReached t o''.spots.items more s)
     → (k s : ℕ) → head ≤ k → k < place + 1 → may_take (domains_of t) (get_or o''.demands.items k 0) s ≡ true → IsReached t o''.spots.items more s
-search_more t o o' o'' head left place met more l g before here k s low high may =
-    let keeps : KeepsFirst o'.demands.items o'.spots.items o''.demands.items o''.spots.items met = g.2 in
+search_more t o' o'' bits'' head place met more l g before here k s low high may =
+    let keeps : KeepsFirst o'.demands.items o'.spots.items o''.demands.items o''.spots.items met = g.keeps in
     elim (cases_last k place (omega arith)) [
       | inl x ↦ here s (ap (λ v. may_take (domains_of t) (get_or o'.demands.items v 0) s) (sym x) ∙ ap (λ v. may_take (domains_of t) v s) (sym (keeps.demand k (omega arith))) ∙ may)
-      | inr less ↦ reached_still t o'.demands.items o'.spots.items o''.demands.items o''.spots.items met more s g.0 keeps (before k s low less (ap (λ v. may_take (domains_of t) v s) (sym (keeps.demand k (omega arith))) ∙ may))
+      | inr less ↦ reached_still t o'.demands.items o'.spots.items o''.demands.items o''.spots.items met more s g.longer keeps (before k s low less (ap (λ v. may_take (domains_of t) v s) (sym (keeps.demand k (omega arith))) ∙ may))
     ]

@@ -4,7 +4,7 @@ use Rattle.demand_matching.specs.declared.table.Table.{Table}
 use Rattle.demand_matching.specs.declared.order.Order.{Order}
 use Rattle.demand_matching.specs.Domains.{is_present}
 use Rattle.demand_matching.specs.Listing.{IsListing}
-use Rattle.demand_matching.specs.Search.{IsReached}
+use Rattle.demand_matching.specs.Search.{IsReached, IsMarked}
 use Rattle.demand_matching.specs.Table.{IsTable, domains_of, may_take, demands_in, supplies_in}
 
 -- the first demands of the order, so many, are present, and each supply that one of them may have
@@ -21,3 +21,9 @@ pub record IsMaximum (t : Table) (o : Order) (left met : ℕ) : Type 0 where
   pub listing : IsListing t o left
   pub longer : left ≤ met
   pub shut : IsShut t o.spots.items met
+
+-- and the bits of the supplies that the set has are not set in one row, while in the other all are
+pub record IsReady (t : Table) (o : Order) (left met : ℕ) (outside unseen : List ℕ) : Type 0 where
+  pub maximum : IsMaximum t o left met
+  pub marked : IsMarked t o.spots.items outside met
+  pub all_set : IsMarked t o.spots.items unseen 0

@@ -1,14 +1,14 @@
 -- A search over a table: the first demands of an order are those that it met.
-use Rattle.std.specs.Prelude.{ℕ, ◌+◌, ◌<◌, ◌≤◌, ◌≡◌, true, length, List, Some, None, slice_index}
+use Rattle.std.specs.Prelude.{ℕ, ◌+◌, ◌*◌, ◌<◌, ◌≤◌, ◌≡◌, true, false, length, List, Some, None, slice_index}
+use Rattle.khe_base.specs.Bits.{is_set}
+use Rattle.demand_matching.specs.declared.domains.Domain.{Domain}
 use Rattle.demand_matching.specs.declared.table.Table.{Table}
-use Rattle.demand_matching.specs.declared.table.Reach.{Reach}
-use Rattle.demand_matching.specs.declared.table.Reach.TheVariants.{Free, Met}
 use Rattle.demand_matching.specs.declared.table.Found.{Found}
 use Rattle.demand_matching.specs.declared.table.Found.TheVariants.{Open, Closed}
 use Rattle.demand_matching.specs.declared.order.Order.{Order}
 use Rattle.demand_matching.specs.Domains.{is_present}
 use Rattle.demand_matching.specs.Order.{IsOrder, HasSameFirst}
-use Rattle.demand_matching.specs.Table.{domains_of, may_take, place_of, owner_of, demands_in, supplies_in}
+use Rattle.demand_matching.specs.Table.{domains_of, may_take, admits_supply, place_of, owner_of, demands_in, supplies_in}
 
 -- the demand at a place of the order was met from an earlier one, not before the head, which may
 -- have its supply
@@ -44,36 +44,49 @@ IsFenced t spots count = (demand supply by : ℕ) → demand < demands_in t → 
 abbrev pub IsWithin : Table → Order → Order → ℕ → ℕ → Type 0
 IsWithin t o o' len more = (count : ℕ) → len ≤ count → IsFenced t o.spots.items count → (more ≤ count) × HasSameFirst (demands_in t) o.spots.items o'.spots.items count
 
--- the search goes on with more demands met, or a free supply was found
-abbrev pub GoesOn : Table → ℕ → Order → Order → ℕ → ℕ → Reach → Type 0
-GoesOn t head o o' place len (Met more) =
-    (len ≤ more) × IsSearch t head o'.demands.items o'.spots.items o'.met_from.items more × KeepsFirst o.demands.items o.spots.items o'.demands.items o'.spots.items len × IsWithin t o o' len more
-GoesOn t head o o' place len (Free supply) =
-    IsSearch t head o'.demands.items o'.spots.items o'.met_from.items len × KeepsFirst o.demands.items o.spots.items o'.demands.items o'.spots.items len
-    × (supply < supplies_in t) × (owner_of t supply ≡ None) × (may_take (domains_of t) (slice_index o'.demands.items place) supply ≡ true) × IsWithin t o o' len len
+-- the supplies whose bits are not set are those of the first demands of an order
+pub record IsMarked (t : Table) (spots bits : List ℕ) (len : ℕ) : Type 0 where
+  pub room : supplies_in t ≤ 64 * length bits
+  pub reached : (supply : ℕ) → supply < supplies_in t → is_set bits supply ≡ false → IsReached t spots len supply
 
--- a fact of the number of demands met, where the search goes on
-abbrev pub WhereMet : Reach → (ℕ → Type 0) → Type 0
-WhereMet (Met more) P = P more
-WhereMet (Free supply) P = Unit {0}
+-- no supply that the demand may have is free
+abbrev pub IsTaken : Table → ℕ → Type 0
+IsTaken t demand = (supply : ℕ) → may_take (domains_of t) demand supply ≡ true → owner_of t supply ≡ None → ⊥
+
+-- the search goes on with more demands met
+pub record GoesOn (t : Table) (head : ℕ) (o o' : Order) (bits' : List ℕ) (len more : ℕ) : Type 0 where
+  pub longer : len ≤ more
+  pub search : IsSearch t head o'.demands.items o'.spots.items o'.met_from.items more
+  pub keeps : KeepsFirst o.demands.items o.spots.items o'.demands.items o'.spots.items len
+  pub within : IsWithin t o o' len more
+  pub marked : IsMarked t o'.spots.items bits' more
+
+-- a free supply that a domain admits
+pub record IsFreeFor (t : Table) (d : Domain) (supply : ℕ) : Type 0 where
+  pub below : supply < supplies_in t
+  pub free : owner_of t supply ≡ None
+  pub admitted : admits_supply (domains_of t) d supply ≡ true
 
 -- the search ended: with a free supply that the demand at a place may have, or with each supply
 -- that a demand met may have being that of a demand met
-pub record IsOpen (t : Table) (o o' : Order) (head left place supply : ℕ) : Type 0 where
+pub record IsOpen (t : Table) (o o' : Order) (bits' : List ℕ) (head left place supply : ℕ) : Type 0 where
   pub search : IsSearch t head o'.demands.items o'.spots.items o'.met_from.items (place + 1)
   pub keeps : KeepsFirst o.demands.items o.spots.items o'.demands.items o'.spots.items left
   pub within : IsWithin t o o' left left
+  pub marked : IsMarked t o'.spots.items bits' left
   pub after : head ≤ place
   pub below : supply < supplies_in t
   pub free : owner_of t supply ≡ None
   pub allowed : may_take (domains_of t) (slice_index o'.demands.items place) supply ≡ true
 
-pub record IsClosed (t : Table) (o o' : Order) (head left met : ℕ) : Type 0 where
+pub record IsClosed (t : Table) (o o' : Order) (bits' : List ℕ) (head left met : ℕ) : Type 0 where
   pub longer : left ≤ met
   pub search : IsSearch t head o'.demands.items o'.spots.items o'.met_from.items met
   pub keeps : KeepsFirst o.demands.items o.spots.items o'.demands.items o'.spots.items left
+  pub within : IsWithin t o o' left met
+  pub marked : IsMarked t o'.spots.items bits' met
   pub closed : (place supply : ℕ) → head ≤ place → place < met → may_take (domains_of t) (slice_index o'.demands.items place) supply ≡ true → IsReached t o'.spots.items met supply
 
-abbrev pub Ends : Table → Order → Order → ℕ → ℕ → Found → Type 0
-Ends t o o' head left (Closed met) = IsClosed t o o' head left met
-Ends t o o' head left (Open place supply) = IsOpen t o o' head left place supply
+abbrev pub Ends : Table → Order → Order → List ℕ → ℕ → ℕ → Found → Type 0
+Ends t o o' bits' head left (Closed met) = IsClosed t o o' bits' head left met
+Ends t o o' bits' head left (Open place supply) = IsOpen t o o' bits' head left place supply

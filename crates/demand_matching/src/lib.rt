@@ -9,6 +9,7 @@ mod sets;
 mod table;
 #[cfg(test)]
 mod tests;
+mod windows;
 
 pub use domains::{Domain, Pick};
 pub use matching::Matching;

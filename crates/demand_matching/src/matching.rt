@@ -9,9 +9,12 @@ use crate::Domain;
 use crate::order::Order;
 use crate::sets::Sets;
 use crate::table::{Found, Table};
+use crate::windows::all_bits;
+use khe_base::bits::set_bit;
 use khe_base::{IdSet, NoMemory, Seq};
 use std::alloc::Global;
 use std::marker::Model;
+use std::mem;
 
 /// Demands, each with a domain while it is present, and a maximum matching of them with supplies.
 /// A supply is a resource at a time. Contracts see the given sets, the number of times, the number
@@ -24,6 +27,8 @@ pub struct Matching {
     order: Order,
     left: usize,
     met: usize,
+    outside: Vec<u64>,
+    unseen: Vec<u64>,
 }
 
 impl Model for Matching {
@@ -32,11 +37,11 @@ impl Model for Matching {
     ghost Value = { Domains };
 
     ghost use Rattle.demand_matching.specs.Table.{domains_of};
-    ghost use Rattle.demand_matching.specs.Matched.{IsMaximum};
+    ghost use Rattle.demand_matching.specs.Matched.{IsReady};
 
     ghost view = { λ m. domains_of m.table };
 
-    ghost invariant = { λ m. IsMaximum m.table m.order m.left m.met };
+    ghost invariant = { λ m. IsReady m.table m.order m.left m.met m.outside.items m.unseen.items };
 }
 
 impl Matching {
@@ -55,6 +60,10 @@ impl Matching {
     {
         let count = demands as usize;
         let supplies = width as usize * last as usize;
+        if supplies > u32::MAX as usize {
+            return Err(NoMemory);
+        }
+        let words = (supplies + 63) / 64;
         let table = Table {
             times: Sets::new(alloc, times)?,
             resources: Sets::new(alloc, resources)?,
@@ -63,6 +72,7 @@ impl Matching {
             demands: vec![in alloc; None; count]?,
             places: vec![in alloc; None; count]?,
             owners: vec![in alloc; None; supplies]?,
+            free: all_bits(alloc, words)?,
         };
         let order = Order::new(alloc, count)?;
         Ok(Matching {
@@ -70,6 +80,8 @@ impl Matching {
             order,
             left: 0,
             met: 0,
+            outside: all_bits(alloc, words)?,
+            unseen: all_bits(alloc, words)?,
         })
     }
 
@@ -119,7 +131,8 @@ impl Matching {
         ensures least { IfOk result (λ hall. IsHallSet self.now (λ demand. list_any (λ member. member == demand) hall)) }
     {
         let mut order = self.order.copy(alloc)?;
-        match self.table.search(&mut order, 0, self.left) {
+        let mut unseen = Vec::from_slice(alloc, self.unseen.as_slice())?;
+        match self.table.search(&mut order, &mut unseen, 0, self.left) {
             Found::Closed(met) => order.first(alloc, met),
             Found::Open(..) => unreachable!(),
         }
@@ -157,11 +170,20 @@ impl Matching {
                 self.order.put(demand, self.left);
                 self.order.put(demand, self.met);
             }
-            Some(_) if inside => {
+            Some(supply) if inside => {
                 self.met -= 1;
                 self.order.put(demand, self.met);
-                match self.table.search(&mut self.order, 0, self.left) {
-                    Found::Closed(less) => self.met = less,
+                set_bit(&mut self.outside, supply);
+                match self
+                    .table
+                    .search(&mut self.order, &mut self.unseen, 0, self.left)
+                {
+                    Found::Closed(less) => {
+                        self.table
+                            .unmark(&self.order, &mut self.outside, 0, self.met);
+                        mem::swap(&mut self.outside, &mut self.unseen);
+                        self.met = less;
+                    }
                     Found::Open(place, supply) => {
                         let served = self.table.shift(&self.order, 0, place, supply);
                         self.left -= 1;
@@ -182,7 +204,10 @@ impl Matching {
         self.table.put_domain(demand, domain);
         let met = self.met;
         self.order.put(demand, met);
-        match self.table.search(&mut self.order, met, met + 1) {
+        match self
+            .table
+            .search(&mut self.order, &mut self.outside, met, met + 1)
+        {
             Found::Open(place, supply) => {
                 self.table.shift(&self.order, met, place, supply);
             }

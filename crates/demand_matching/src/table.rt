@@ -1,15 +1,18 @@
-ghost use Rattle.std.specs.Prelude.{◌≡◌, ◌≢◌, ◌+◌, ◌*◌, ◌<◌, ◌≤◌, ℕ, true, length, slice_index, slice_index_or, Option, None, Some, IfSome};
-ghost use Rattle.demand_matching.specs.Domains.{IsInRange, domain_of, with_domain};
-ghost use Rattle.demand_matching.specs.Members.{picked};
-ghost use Rattle.demand_matching.specs.Table.{IsTable, IsServed, domains_of, may_take, admits_supply, supply_at, place_of, owner_of, demands_in, supplies_in};
-ghost use Rattle.demand_matching.specs.Search.{IsSearch, IsReached, KeepsFirst, GoesOn, WhereMet, Ends};
+ghost use Rattle.std.specs.Prelude.{◌≡◌, ◌≢◌, ◌+◌, ◌-◌, ◌*◌, ◌^◌, ◌<◌, ◌≤◌, ℕ, true, false, length, slice_index, Option, None, Some, IfSome, MatchOption};
+ghost use Rattle.khe_base.specs.Bits.{has_bit, is_set};
+ghost use Rattle.demand_matching.specs.Domains.{IsInRange, is_picked, domain_of, with_domain};
+ghost use Rattle.demand_matching.specs.Order.{IsOrder};
+ghost use Rattle.demand_matching.specs.Table.{IsTable, IsServed, domains_of, may_take, admits_supply, place_of, owner_of, demands_in, supplies_in};
+ghost use Rattle.demand_matching.specs.Search.{IsSearch, IsReached, IsMarked, IsTaken, IsFreeFor, GoesOn, Ends};
 ghost use Rattle.demand_matching.specs.Listing.{PlacesOne};
 
 use crate::Domain;
 use crate::order::Order;
 use crate::sets::Sets;
+use crate::windows::window;
+use khe_base::bits::{clear_bit, has_bit, set_bit};
 
-/// The domains of the demands, and who has which supply.
+/// The domains of the demands, who has which supply, and the bits of the supplies that are free.
 #[derive(Drop)]
 pub(crate) struct Table {
     pub(crate) times: Sets,
@@ -19,14 +22,7 @@ pub(crate) struct Table {
     pub(crate) demands: Vec<Option<Domain>>,
     pub(crate) places: Vec<Option<usize>>,
     pub(crate) owners: Vec<Option<usize>>,
-}
-
-/// What a look at some supplies gave.
-pub(crate) enum Reach {
-    /// This supply is free.
-    Free(usize),
-    /// No supply is free, and so many demands are met now.
-    Met(usize),
+    pub(crate) free: Vec<u64>,
 }
 
 /// What a search ended with.
@@ -38,112 +34,226 @@ pub(crate) enum Found {
 }
 
 impl Table {
-    /// The supply of a resource and a time of the domain, by their places.
-    fn supply(&self, domain: Domain, i: usize, j: usize) -> usize
-        requires table { IsTable self.now }
-        requires domain { IsInRange (domains_of self.now) domain }
-        requires resource { i < length (picked self.now.resources domain.resources) }
-        requires time { j < length (picked self.now.times domain.times) }
-        ensures is { result ≡ supply_at (domains_of self.now) domain i j }
-        ensures below { result < supplies_in self.now }
+    /// The number of the supply of a resource at the time 0, moved on by the shift of the domain.
+    fn row(&self, domain: Domain, resource: u32) -> usize
+        ensures is { result ≡ resource * self.now.last + domain.shift }
+        ensures small { result ≤ 2 ^ 64 - 2 ^ 32 }
     {
-        let resource = self.resources.number(domain.resources, i) as usize;
-        let time = self.times.number(domain.times, j) as usize + domain.shift as usize;
-        resource * self.last as usize + time
+        resource as usize * self.last as usize + domain.shift as usize
     }
 
-    /// Looks at one supply: its demand is met from the one at a place of the order.
-    fn meet(&self, order: &mut Order, head: usize, supply: usize, place: usize, len: usize) -> Reach
+    /// A free supply of one resource that the domain admits.
+    fn free_at(&self, domain: Domain, resource: u32) -> Option<usize>
+        requires table { IsTable self.now }
+        requires domain { IsInRange (domains_of self.now) domain }
+        requires picked { is_picked self.now.resources domain.resources resource ≡ true }
+        ensures { MatchOption result ((time : ℕ) → is_picked self.now.times domain.times time ≡ true → is_set self.now.free.items (resource * self.now.last + domain.shift + time) ≡ false) (IsFreeFor self.now domain) }
+    {
+        let row = self.row(domain, resource);
+        let (first, end) = self.times.span(domain.times);
+        for k in first..end {
+            let free = window(self.free.as_slice(), row + 64 * k)
+                & self.times.word(domain.times, k);
+            if free != 0 {
+                return Some(row + 64 * k + free.trailing_zeros() as usize);
+            }
+        }
+        None
+    }
+
+    /// A free supply that the domain admits.
+    fn free_in(&self, domain: Domain) -> Option<usize>
+        requires table { IsTable self.now }
+        requires domain { IsInRange (domains_of self.now) domain }
+        ensures { MatchOption result ((supply : ℕ) → admits_supply (domains_of self.now) domain supply ≡ true → owner_of self.now supply ≡ None → ⊥) (IsFreeFor self.now domain) }
+    {
+        for i in 0..self.resources.count(domain.resources) {
+            let resource = self.resources.number(domain.resources, i);
+            match self.free_at(domain, resource) {
+                Some(supply) => return Some(supply),
+                None => {}
+            }
+        }
+        None
+    }
+
+    /// Looks at one supply that is not free: its demand is met from the one at a place of the
+    /// order. The result is how many are met then.
+    fn meet(
+        &self,
+        order: &mut Order,
+        unseen: &mut Vec<u64>,
+        head: usize,
+        supply: usize,
+        place: usize,
+        len: usize,
+    ) -> usize
         requires table { IsTable self.now }
         requires search { IsSearch self.now head order.old.demands.items order.old.spots.items order.old.met_from.items len }
+        requires marked { IsMarked self.now order.old.spots.items unseen.old.items len }
         requires head { head ≤ place }
         requires place { place < len }
         requires supply { supply < supplies_in self.now }
         requires allowed { may_take (domains_of self.now) (slice_index order.old.demands.items place) supply ≡ true }
-        ensures goes_on { GoesOn self.now head order.old order.new place len result }
-        ensures reached { WhereMet result (λ more. IsReached self.now order.new.spots.items more supply) }
+        requires taken { owner_of self.now supply ≡ None → ⊥ }
+        ensures goes_on { GoesOn self.now head order.old order.new unseen.new.items len result }
+        ensures reached { IsReached self.now order.new.spots.items result supply }
     {
         let Some(demand) = self.owners[supply] else {
-            return Reach::Free(supply);
+            return len;
         };
-        let spot = order.spots[demand];
-        if spot < len {
-            return Reach::Met(len);
+        clear_bit(unseen, supply);
+        if order.spots[demand] < len {
+            return len;
         }
         order.put(demand, len);
         order.met_from[demand] = place;
-        Reach::Met(len + 1)
+        len + 1
     }
 
-    /// Looks at the supplies of one resource that the demand at a place of the order may have.
+    /// Looks at 64 supplies: at those whose bits are set in a word.
+    fn meet_word(
+        &self,
+        order: &mut Order,
+        unseen: &mut Vec<u64>,
+        head: usize,
+        word: u64,
+        from: usize,
+        place: usize,
+        len: usize,
+    ) -> usize
+        requires table { IsTable self.now }
+        requires search { IsSearch self.now head order.old.demands.items order.old.spots.items order.old.met_from.items len }
+        requires marked { IsMarked self.now order.old.spots.items unseen.old.items len }
+        requires head { head ≤ place }
+        requires place { place < len }
+        requires below { (i : ℕ) → i < 64 → has_bit word i ≡ true → from + i < supplies_in self.now }
+        requires allowed { (i : ℕ) → i < 64 → has_bit word i ≡ true → may_take (domains_of self.now) (slice_index order.old.demands.items place) (from + i) ≡ true }
+        requires taken { IsTaken self.now (slice_index order.old.demands.items place) }
+        ensures goes_on { GoesOn self.now head order.old order.new unseen.new.items len result }
+        ensures reached { (i : ℕ) → i < 64 → has_bit word i ≡ true → IsReached self.now order.new.spots.items result (from + i) }
+    {
+        let mut met = len;
+        if word != 0 {
+            for i in 0..64u32 {
+                if has_bit(word, i) {
+                    met = self.meet(order, unseen, head, from + i as usize, place, met);
+                }
+            }
+        }
+        met
+    }
+
+    /// Looks at the supplies of one resource that the demand at a place of the order may have and
+    /// that are not seen yet. None is free.
     fn meet_at(
         &self,
         order: &mut Order,
+        unseen: &mut Vec<u64>,
         head: usize,
         domain: Domain,
-        i: usize,
+        resource: u32,
         place: usize,
         len: usize,
-    ) -> Reach
+    ) -> usize
         requires table { IsTable self.now }
         requires search { IsSearch self.now head order.old.demands.items order.old.spots.items order.old.met_from.items len }
+        requires marked { IsMarked self.now order.old.spots.items unseen.old.items len }
         requires head { head ≤ place }
         requires place { place < len }
         requires domain { domain_of (domains_of self.now) (slice_index order.old.demands.items place) ≡ Some domain }
-        requires resource { i < length (picked self.now.resources domain.resources) }
-        ensures goes_on { GoesOn self.now head order.old order.new place len result }
-        ensures reached { WhereMet result (λ more. (j : ℕ) → j < length (picked self.now.times domain.times) → IsReached self.now order.new.spots.items more (supply_at (domains_of self.now) domain i j)) }
+        requires picked { is_picked self.now.resources domain.resources resource ≡ true }
+        requires taken { IsTaken self.now (slice_index order.old.demands.items place) }
+        ensures goes_on { GoesOn self.now head order.old order.new unseen.new.items len result }
+        ensures reached { (time : ℕ) → is_picked self.now.times domain.times time ≡ true → IsReached self.now order.new.spots.items result (resource * self.now.last + domain.shift + time) }
     {
+        let row = self.row(domain, resource);
+        let (first, end) = self.times.span(domain.times);
         let mut met = len;
-        for j in 0..self.times.count(domain.times) {
-            let supply = self.supply(domain, i, j);
-            match self.meet(order, head, supply, place, met) {
-                Reach::Free(free) => return Reach::Free(free),
-                Reach::Met(more) => met = more,
-            }
+        for k in first..end {
+            let word = window(unseen.as_slice(), row + 64 * k) & self.times.word(domain.times, k);
+            met = self.meet_word(order, unseen, head, word, row + 64 * k, place, met);
         }
-        Reach::Met(met)
+        met
     }
 
-    /// Looks at all supplies that the demand at a place of the order may have.
-    fn meet_all(&self, order: &mut Order, head: usize, place: usize, len: usize) -> Reach
+    /// Looks at all supplies that the demand at a place of the order may have and that are not
+    /// seen yet. None is free.
+    fn meet_all(
+        &self,
+        order: &mut Order,
+        unseen: &mut Vec<u64>,
+        head: usize,
+        domain: Domain,
+        place: usize,
+        len: usize,
+    ) -> usize
         requires table { IsTable self.now }
         requires search { IsSearch self.now head order.old.demands.items order.old.spots.items order.old.met_from.items len }
+        requires marked { IsMarked self.now order.old.spots.items unseen.old.items len }
         requires head { head ≤ place }
         requires place { place < len }
-        ensures goes_on { GoesOn self.now head order.old order.new place len result }
-        ensures reached { WhereMet result (λ more. (supply : ℕ) → may_take (domains_of self.now) (slice_index order.old.demands.items place) supply ≡ true → IsReached self.now order.new.spots.items more supply) }
+        requires domain { domain_of (domains_of self.now) (slice_index order.old.demands.items place) ≡ Some domain }
+        requires taken { IsTaken self.now (slice_index order.old.demands.items place) }
+        ensures goes_on { GoesOn self.now head order.old order.new unseen.new.items len result }
+        ensures reached { (supply : ℕ) → may_take (domains_of self.now) (slice_index order.old.demands.items place) supply ≡ true → IsReached self.now order.new.spots.items result supply }
     {
-        let demand = order.demands[place];
-        let Some(domain) = self.demands[demand] else {
-            return Reach::Met(len);
-        };
         let mut met = len;
         for i in 0..self.resources.count(domain.resources) {
-            match self.meet_at(order, head, domain, i, place, met) {
-                Reach::Free(free) => return Reach::Free(free),
-                Reach::Met(more) => met = more,
+            let resource = self.resources.number(domain.resources, i);
+            met = self.meet_at(order, unseen, head, domain, resource, place, met);
+        }
+        met
+    }
+
+    /// Sets the bits of the supplies of the demands from a place of the order on, before another.
+    pub(crate) fn unmark(&self, order: &Order, unseen: &mut Vec<u64>, from: usize, to: usize)
+        requires table { IsTable self.now }
+        requires order { IsOrder (demands_in self.now) order.now.demands.items order.now.spots.items }
+        requires marked { IsMarked self.now order.now.spots.items unseen.old.items to }
+        requires to { to ≤ demands_in self.now }
+        ensures { IsMarked self.now order.now.spots.items unseen.new.items from }
+    {
+        for place in from..to {
+            if let Some(supply) = self.places[order.demands[place]] {
+                set_bit(unseen, supply);
             }
         }
-        Reach::Met(met)
     }
 
     /// Looks for a free supply, from the first demands of the order that stand at `head` or later:
     /// those are met, and whoever has a supply that a demand met may have. The demands before
-    /// `head` count as met, and nothing is looked at for them. It takes time in proportion to the
-    /// supplies that the demands met from `head` on may have.
-    pub(crate) fn search(&self, order: &mut Order, head: usize, left: usize) -> Found
+    /// `head` count as met, and nothing is looked at for them. The bits of the supplies that those
+    /// met have are cleared, and set again where a free supply is found.
+    ///
+    /// It takes time in proportion to the demands met from `head` on and to the words of 64
+    /// supplies that these may have.
+    pub(crate) fn search(
+        &self,
+        order: &mut Order,
+        unseen: &mut Vec<u64>,
+        head: usize,
+        left: usize,
+    ) -> Found
         requires table { IsTable self.now }
         requires search { IsSearch self.now head order.old.demands.items order.old.spots.items order.old.met_from.items left }
+        requires marked { IsMarked self.now order.old.spots.items unseen.old.items left }
         requires head { head ≤ left }
-        ensures { Ends self.now order.old order.new head left result }
+        ensures { Ends self.now order.old order.new unseen.new.items head left result }
     {
         let mut place = head;
         let mut met = left;
         while place < met {
-            match self.meet_all(order, head, place, met) {
-                Reach::Free(supply) => return Found::Open(place, supply),
-                Reach::Met(more) => met = more,
+            let demand = order.demands[place];
+            let Some(domain) = self.demands[demand] else {
+                unreachable!()
+            };
+            match self.free_in(domain) {
+                Some(supply) => {
+                    self.unmark(order, unseen, left, met);
+                    return Found::Open(place, supply);
+                }
+                None => met = self.meet_all(order, unseen, head, domain, place, met),
             }
             place += 1;
         }
@@ -165,6 +275,7 @@ impl Table {
         let supply = self.places[demand]?;
         self.places[demand] = None;
         self.owners[supply] = None;
+        set_bit(&mut self.free, supply);
         Some(supply)
     }
 
@@ -184,6 +295,7 @@ impl Table {
     {
         self.places[demand] = Some(supply);
         self.owners[supply] = Some(demand);
+        clear_bit(&mut self.free, supply);
     }
 
     /// Gives a free supply to the demand at a place of the order, its supply to the demand from

@@ -1,6 +1,6 @@
 use Rattle.std.proofs.Common.{◌<◌, ap, ◌∙◌}
 use Rattle.demand_matching.specs.Table.{domains_of, admits_supply, demands_in, place_of}
-use Rattle.demand_matching.proofs.Additions.{write_outside}
+use Rattle.demand_matching.proofs.Ready.{ready_write}
 use Rattle.demand_matching.proofs.Duality.{same_some}
 use Rattle.demand_matching.proofs.Removals.{far_from}
 use Rattle.demand_matching.proofs.matching.Matching.write.Goals as goal
@@ -15,6 +15,6 @@ invariant_of-self c =
     let near : c.args.demand < demands_in c.self.inside.table = rw (← c.self.view_is) at c.requires.demand in
     let it = c.is_served.ensures c.if-not-is_served.false in
     let e = c.put_domain.ensures in
-    write_outside c.self.inside.table c.put_domain.new.self c.self.inside.order c.args.demand c.self.inside.left c.self.inside.met it.supply c.args.domain c.self.invariant
+    ready_write c.self.inside.table c.put_domain.new.self c.self.inside.order c.self.inside.outside.items c.self.inside.unseen.items c.args.demand c.self.inside.left c.self.inside.met it.supply c.args.domain c.self.invariant
     (record { below = near; table = e.table; domains = e.domains; places = e.places; owners = e.owners }) it.owned
-    (far_from c.self.inside.table c.self.inside.order c.args.demand c.self.inside.left c.self.inside.met c.index.result.now c.self.invariant near c.index.ensures c.if-index-self.false)
+    (far_from c.self.inside.table c.self.inside.order c.args.demand c.self.inside.left c.self.inside.met c.index.result.now c.self.invariant.maximum near c.index.ensures c.if-index-self.false)

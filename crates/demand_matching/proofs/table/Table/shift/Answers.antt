@@ -1,4 +1,4 @@
-use Rattle.std.proofs.Common.{◌*◌, ◌<◌, ◌≡◌, Some, length, get_or, sym, ap, ◌∙◌, arith, inl, inr}
+use Rattle.std.proofs.Common.{◌*◌, ◌<◌, ◌≡◌, None, Some, length, get_or, sym, ap, ◌∙◌, arith, inl, inr}
 use Rattle.std.specs.Prelude.{is_none}
 use Rattle.demand_matching.specs.Table.{domains_of, may_take, place_of, demands_in}
 use Rattle.demand_matching.proofs.Counting.{cases_eqb}
@@ -51,4 +51,20 @@ loop-freed-preserved c =
             ∙ sym (some_not_none _ _ owns) ∙ ap (λ v. is_none (place_of c.loop-freed.self v)) (sym x) ∙ inv.others e
         | inr x ↦ ap is_none (c.give.ensures.others e x ∙ c.release-old.ensures.others e x) ∙ inv.others e
       ];
+    }
+
+pub returns-in_default-clause-one : goal.returns-in_default-clause-one
+returns-in_default-clause-one c =
+    let inv = c.loop-freed.invariant in
+    let search = c.requires.search in
+    let near : c.loop-freed.place < demands_in c.args.self.now = omega (arith, search.len_fits) in
+    let in_order : c.loop-freed.place < length c.args.order.now.demands.items = omega (arith, search.order.order_length) in
+    let is : c.index-demand.result.now ≡ get_or c.args.order.now.demands.items c.loop-freed.place 0 = spot_read c.args.order.now.demands.items c.loop-freed.place c.index-demand.result.now in_order c.index-demand.ensures in
+    let free : place_of c.loop-freed.self c.index-demand.result.now ≡ None = sym c.release-old.ensures.result ∙ c.in_default.is in
+    record {
+      below = omega (arith, is, search.order.order_below c.loop-freed.place near);
+      had_none =
+          ap (λ v. place_of c.args.self.now v) is ∙ sym (inv.same c.loop-freed.place (omega arith)) ∙ ap (λ v. place_of c.loop-freed.self v) (sym is) ∙ free;
+      has_one = some_not_none _ _ c.give.ensures.given;
+      others = λ e ne. ap is_none (c.give.ensures.others e ne ∙ c.release-old.ensures.others e ne) ∙ inv.others e;
     }
