@@ -6,11 +6,11 @@ use Rattle.demand_matching.specs.declared.domains.Domain.{Domain}
 use Rattle.demand_matching.specs.declared.table.Table.{Table}
 use Rattle.demand_matching.specs.declared.order.Order.{Order}
 use Rattle.demand_matching.specs.Domains.{is_present, domain_of, with_domain}
-use Rattle.demand_matching.specs.Listing.{IsListing, PlacesOne}
+use Rattle.demand_matching.specs.Listing.{IsListing, ServesOne}
 use Rattle.demand_matching.specs.Matched.{IsMaximum}
 use Rattle.demand_matching.specs.Order.{IsOrder, HasSameFirst}
 use Rattle.demand_matching.specs.Search.{IsOpen, IsClosed, IsSearch}
-use Rattle.demand_matching.specs.Table.{domains_of, may_take, place_of, demands_in, IsTable}
+use Rattle.demand_matching.specs.Table.{domains_of, may_take, supply_of, demands_in, IsTable}
 use Rattle.demand_matching.proofs.Changes.{absent_none}
 use Rattle.demand_matching.proofs.Counting.{cases_eqb, cases_last}
 use Rattle.demand_matching.proofs.Duality.{none_from, without}
@@ -18,7 +18,7 @@ use Rattle.demand_matching.proofs.Fences.{owner_below, same_first, first_trans, 
 use Rattle.demand_matching.proofs.Listings.{SameBut, listing_along, listing_more, listing_same}
 use Rattle.demand_matching.proofs.Maxima.{exceeds_same, exceeds_along}
 use Rattle.demand_matching.proofs.Removals.{Moves, moved_listing}
-use Rattle.demand_matching.proofs.Shifts.{placed_present}
+use Rattle.demand_matching.proofs.Shifts.{served_present}
 use Rattle.demand_matching.proofs.Shut.{firsts, firsts_in, firsts_out, shut_exceeds, exceeding_shut, same_count, same_may, same_present, shut_without}
 
 -- a demand that has a supply, or had no domain, was given one
@@ -26,24 +26,24 @@ pub record Gains (t t' : Table) (d : ℕ) (domain : Domain) : Type 0 where
   pub below : d < demands_in t
   pub table : IsTable t'
   pub domains : domains_of t' ≡ with_domain (domains_of t) d (Some domain)
-  pub places : t'.places ≡ t.places
+  pub supplies : t'.supplies ≡ t.supplies
   pub owners : t'.owners ≡ t.owners
 
 gains_same : (t t' : Table) (d : ℕ) (domain : Domain) → Gains t t' d domain → SameBut t t' d
 gains_same t t' d domain gains = record {
   demands = same_count t t' d (Some domain) gains.domains;
   present = λ e ne. same_present t t' d e (Some domain) gains.domains ne;
-  none = λ e ne. ap (λ v. is_none (get_or v.items e None)) gains.places;
+  none = λ e ne. ap (λ v. is_none (get_or v.items e None)) gains.supplies;
 }
 
 -- one outside of the set may have others beside its supply
-pub write_outside : (t t' : Table) (o : Order) (d left met s : ℕ) (domain : Domain) → IsMaximum t o left met → Gains t t' d domain → place_of t d ≡ Some s → (get_or o.spots.items d 0 < met → ⊥) → IsMaximum t' o left met
+pub write_outside : (t t' : Table) (o : Order) (d left met s : ℕ) (domain : Domain) → IsMaximum t o left met → Gains t t' d domain → supply_of t d ≡ Some s → (get_or o.spots.items d 0 < met → ⊥) → IsMaximum t' o left met
 write_outside t t' o d left met s domain max gains owns far = record {
   table = gains.table;
   listing = listing_same t t' o d left max.listing (gains_same t t' d domain gains) (λ h. far (omega (arith, max.longer)))
-      (λ p x. (let e : place_of t' d ≡ place_of t d = ap (λ v. get_or v.items d None) gains.places in cc));
+      (λ p x. (let e : supply_of t' d ≡ supply_of t d = ap (λ v. get_or v.items d None) gains.supplies in cc));
   longer = max.longer;
-  shut = shut_without t t' o.spots.items o.spots.items d met met (Some domain) max.table gains.table max.shut gains.domains (λ e ne. ap (λ v. get_or v.items e None) gains.places) max.shut.fits
+  shut = shut_without t t' o.spots.items o.spots.items d met met (Some domain) max.table gains.table max.shut gains.domains (λ e ne. ap (λ v. get_or v.items e None) gains.supplies) max.shut.fits
       (λ e l ne h. h)
       (λ e l h. ((λ z. far (omega (arith, ap (λ v. get_or o.spots.items v 0) z))), h))
       (λ s owner h. far h);
@@ -81,8 +81,8 @@ joins_first t t' o o' d left met domain count low it =
 joins_not : (t t' : Table) (o o' : Order) (d left met e : ℕ) (domain : Domain) → Joins t t' o o' d left met domain → get_or o.spots.items e 0 < met → e ≢ d
 joins_not t t' o o' d left met e domain it h z = absurd (omega (arith, joins_far t t' o o' d left met domain it, ap (λ v. get_or o.spots.items v 0) z))
 
-pub joins_none : (t t' : Table) (o o' : Order) (d left met : ℕ) (domain : Domain) → Joins t t' o o' d left met domain → place_of t' d ≡ None
-joins_none t t' o o' d left met domain it = ap (λ v. get_or v.items d None) it.gains.places ∙ absent_none t d it.maximum.table it.absent
+pub joins_none : (t t' : Table) (o o' : Order) (d left met : ℕ) (domain : Domain) → Joins t t' o o' d left met domain → supply_of t' d ≡ None
+joins_none t t' o o' d left met domain it = ap (λ v. get_or v.items d None) it.gains.supplies ∙ absent_none t d it.maximum.table it.absent
 
 joins_present : (t t' : Table) (o o' : Order) (d left met : ℕ) (domain : Domain) → Joins t t' o o' d left met domain → is_present (domains_of t') d ≡ true
 joins_present t t' o o' d left met domain it = ap (λ w. is_present w d) it.gains.domains ∙ ap is_some (get_or-set_same t.demands.items d (Some domain) None it.gains.below)
@@ -109,7 +109,7 @@ joins_search t t' o o' d left met domain it =
       ];
       met = λ k s low h e.
           let x : k ≡ met = omega arith in
-          let is : place_of t' (get_or o'.demands.items k 0) ≡ place_of t' d = ap (λ v. place_of t' (get_or o'.demands.items v 0)) x ∙ ap (λ v. place_of t' v) at in
+          let is : supply_of t' (get_or o'.demands.items k 0) ≡ supply_of t' d = ap (λ v. supply_of t' (get_or o'.demands.items v 0)) x ∙ ap (λ v. supply_of t' v) at in
           let none = joins_none t t' o o' d left met domain it in
           absurd cc;
     }
@@ -120,7 +120,7 @@ joins_listing t t' o o' d left met domain it =
 
 -- where it has a supply then, the set stays
 pub joins_open : (t t' t'' : Table) (o o' o'' : Order) (bits : List ℕ) (d left met place supply served : ℕ) (domain : Domain) → Joins t t' o o' d left met domain → IsOpen t' o' o'' bits met (met + 1) place supply
-    → IsTable t'' → domains_of t'' ≡ domains_of t' → PlacesOne t' t'' served → met ≤ get_or o''.spots.items served 0 → IsMaximum t'' o'' left met
+    → IsTable t'' → domains_of t'' ≡ domains_of t' → ServesOne t' t'' served → met ≤ get_or o''.spots.items served 0 → IsMaximum t'' o'' left met
 joins_open t t' t'' o o' o'' bits d left met place supply served domain it ends is'' same'' one after =
     let max = it.maximum in
     let n : demands_in t' ≡ demands_in t = same_count t t' d (Some domain) it.gains.domains in
@@ -135,19 +135,19 @@ joins_open t t' t'' o o' o'' bits d left met place supply served domain it ends 
     let is : served ≡ d = elim (cases_eqb served d) [
       | inl x ↦ x
       | inr x ↦
-          let had : place_of t served ≡ None = ap (λ v. get_or v.items served None) (sym it.gains.places) ∙ one.had_none in
-          let here : is_present (domains_of t) served ≡ true = sym (ap (λ w. is_present w served) same'' ∙ same_present t t' d served (Some domain) it.gains.domains x) ∙ placed_present t'' served is'' one.has_one in
+          let had : supply_of t served ≡ None = ap (λ v. get_or v.items served None) (sym it.gains.supplies) ∙ one.had_none in
+          let here : is_present (domains_of t) served ≡ true = sym (ap (λ w. is_present w served) same'' ∙ same_present t t' d served (Some domain) it.gains.domains x) ∙ served_present t'' served is'' one.has_one in
           absurd (omega (arith, kept.listed served (omega (arith, n, one.below)) here had, max.longer))
     ] in
     let domains : domains_of t'' ≡ with_domain (domains_of t) d (Some domain) = same'' ∙ it.gains.domains in
     let same : SameBut t t'' d = record {
       demands = m ∙ n;
       present = λ e ne. same_present t t'' d e (Some domain) domains ne;
-      none = λ e ne. one.others e (λ z. ne (z ∙ is)) ∙ ap (λ v. is_none (get_or v.items e None)) it.gains.places;
+      none = λ e ne. one.others e (λ z. ne (z ∙ is)) ∙ ap (λ v. is_none (get_or v.items e None)) it.gains.supplies;
     } in
     let listing : IsListing t'' o'' left =
     listing_same t t'' o'' d left kept same (λ h. absurd (omega (arith, ap (λ v. get_or o''.spots.items v 0) is, max.longer)))
-    (λ p x. absurd (true≢false (sym (none_from (place_of t'' d) x) ∙ ap (λ v. is_none (place_of t'' v)) (sym is) ∙ one.has_one))) in
+    (λ p x. absurd (true≢false (sym (none_from (supply_of t'' d) x) ∙ ap (λ v. is_none (supply_of t'' v)) (sym is) ∙ one.has_one))) in
     let set = firsts t o.spots.items met in
     record {
       table = is'';

@@ -9,7 +9,7 @@ use Rattle.demand_matching.proofs.Counting.{cases_eqb}
 
 -- the demand that has a supply is one of the table
 pub owner_below : (t : Table) (supply d : ℕ) → IsTable t → owner_of t supply ≡ Some d → d < demands_in t
-owner_below t supply d is it = is.matching.demand d supply (is.matching.placed supply d it)
+owner_below t supply d is it = is.matching.demand d supply (is.matching.holds supply d it)
 
 -- two demands change places that both stand among the first, or both behind them
 pub same_first : (n : ℕ) (order spots order' spots' : List ℕ) (d place count : ℕ) → IsOrder n order spots → ChangesPlaces order spots order' spots' d place → d < n → place < n

@@ -15,7 +15,7 @@ use Rattle.demand_matching.specs.Listing.{IsListing}
 use Rattle.demand_matching.specs.Matched.{IsMaximum, IsReady}
 use Rattle.demand_matching.specs.Order.{IsOrder}
 use Rattle.demand_matching.specs.Search.{IsMarked}
-use Rattle.demand_matching.specs.Table.{domains_of, place_of, owner_of, demands_in, supplies_in, IsTable}
+use Rattle.demand_matching.specs.Table.{domains_of, supply_of, owner_of, demands_in, supplies_in, IsTable}
 use Rattle.demand_matching.proofs.Counting.{count_same}
 use Rattle.demand_matching.proofs.Maxima.{bounded, listing_count}
 use Rattle.demand_matching.proofs.Shut.{firsts, shut_exceeds}
@@ -26,14 +26,14 @@ none_in {X} n d = elim (cases_lt d n) [
   | inr g ↦ get_or_past (replicate {A = Option X} n None) d None (omega (arith, length-replicate {A = Option X} n None))
 ]
 
-pub new_maximum : (t : Table) (o : Order) (n : ℕ) → t.demands.items ≡ replicate n None → t.places.items ≡ replicate n None → t.owners.items ≡ replicate (t.width * t.last) None → n < 2 ^ 32 → t.width < 2 ^ 32 → t.width * t.last < 2 ^ 32 → t.width * t.last ≤ 64 * length t.free.items → ((u : ℕ) → u < t.width * t.last → is_set t.free.items u ≡ true) → IsOrder n o.demands.items o.spots.items → length o.met_from.items ≡ n → IsMaximum t o 0 0
+pub new_maximum : (t : Table) (o : Order) (n : ℕ) → t.demands.items ≡ replicate n None → t.supplies.items ≡ replicate n None → t.owners.items ≡ replicate (t.width * t.last) None → n < 2 ^ 32 → t.width < 2 ^ 32 → t.width * t.last < 2 ^ 32 → t.width * t.last ≤ 64 * length t.free.items → ((u : ℕ) → u < t.width * t.last → is_set t.free.items u ≡ true) → IsOrder n o.demands.items o.spots.items → length o.met_from.items ≡ n → IsMaximum t o 0 0
 new_maximum t o n ds ps os small narrow few room free order met =
     let count : demands_in t ≡ n = ap length ds ∙ length-replicate n None in
     let no_domain : (d : ℕ) → domain_of (domains_of t) d ≡ None = λ d. ap (λ xs. get_or xs d None) ds ∙ none_in n d in
-    let no_place : (d : ℕ) → place_of t d ≡ None = λ d. ap (λ xs. get_or xs d None) ps ∙ none_in n d in
+    let unserved : (d : ℕ) → supply_of t d ≡ None = λ d. ap (λ xs. get_or xs d None) ps ∙ none_in n d in
     let no_owner : (s : ℕ) → owner_of t s ≡ None = λ s. ap (λ xs. get_or xs s None) os ∙ none_in (t.width * t.last) s in
     let absent : (d : ℕ) → is_present (domains_of t) d ≡ true → ⊥ = λ d h. false≢true (sym (ap is_some (no_domain d)) ∙ h) in
-    let no_supply : (d s : ℕ) → place_of t d ≡ Some s → ⊥ = λ d s h. (let e = no_place d in cc) in
+    let no_supply : (d s : ℕ) → supply_of t d ≡ Some s → ⊥ = λ d s h. (let e = unserved d in cc) in
     let no_demand : (s d : ℕ) → owner_of t s ≡ Some d → ⊥ = λ s d h. (let e = no_owner s in cc) in
     let table : IsTable t = record {
       small = omega (arith, count);
@@ -41,7 +41,7 @@ new_maximum t o n ds ps os small narrow few room free order met =
       few = few;
       room = room;
       free = λ u l. free u l ∙ sym (ap is_none (no_owner u));
-      places_length = ap length ps ∙ length-replicate n None ∙ sym count;
+      supplies_length = ap length ps ∙ length-replicate n None ∙ sym count;
       owners_length = ap length os ∙ length-replicate (t.width * t.last) None;
       in_range = λ d x h. (let e = no_domain d in absurd cc);
       matching = record {
@@ -49,7 +49,7 @@ new_maximum t o n ds ps os small narrow few room free order met =
         supply = λ d s h. absurd (no_supply d s h);
         allowed = λ d s h. absurd (no_supply d s h);
         owned = λ d s h. absurd (no_supply d s h);
-        placed = λ s d h. absurd (no_demand s d h);
+        holds = λ s d h. absurd (no_demand s d h);
       };
     } in
     let listing : IsListing t o 0 = record {
@@ -84,7 +84,7 @@ ones_marked t spots bits words ones room = record {
   reached = λ u l h. absurd (true≢false (sym (ap (λ v. is_set v u) ones ∙ ones_set words u (omega arith)) ∙ h));
 }
 
-pub new_ready : (t : Table) (o : Order) (outside unseen : List ℕ) (n words : ℕ) → t.demands.items ≡ replicate n None → t.places.items ≡ replicate n None → t.owners.items ≡ replicate (t.width * t.last) None → n < 2 ^ 32 → t.width < 2 ^ 32 → t.width * t.last < 2 ^ 32
+pub new_ready : (t : Table) (o : Order) (outside unseen : List ℕ) (n words : ℕ) → t.demands.items ≡ replicate n None → t.supplies.items ≡ replicate n None → t.owners.items ≡ replicate (t.width * t.last) None → n < 2 ^ 32 → t.width < 2 ^ 32 → t.width * t.last < 2 ^ 32
     → t.width * t.last ≤ 64 * words → t.free.items ≡ replicate words (2 ^ 64 - 1) → outside ≡ replicate words (2 ^ 64 - 1) → unseen ≡ replicate words (2 ^ 64 - 1) → IsOrder n o.demands.items o.spots.items → length o.met_from.items ≡ n → IsReady t o 0 0 outside unseen
 new_ready t o outside unseen n words ds ps os small narrow few room free out seen order met = record {
   maximum = new_maximum t o n ds ps os small narrow few (omega (arith, ap length free, length-replicate {A = ℕ} words (2 ^ 64 - 1))) (λ u l. ap (λ v. is_set v u) free ∙ ones_set words u (omega arith)) order met;
@@ -127,18 +127,18 @@ none_part : (last : ℕ) (o : Option ℕ) → is_none (supply_parts last o) ≡ 
 none_part last None = refl
 none_part last (Some s) = refl
 
-pub assigned : (t : Table) (o : Order) (left met : ℕ) → IsMaximum t o left met → IsAssignment (domains_of t) (λ d. supply_parts t.last (place_of t d)) left
+pub assigned : (t : Table) (o : Order) (left met : ℕ) → IsMaximum t o left met → IsAssignment (domains_of t) (λ d. supply_parts t.last (supply_of t d)) left
 assigned t o left met max = record {
-  admissible = λ d r u h. let at = part_of t.last (place_of t d) r u h in
+  admissible = λ d r u h. let at = part_of t.last (supply_of t d) r u h in
       ap (λ x. may_have (domains_of t) d x u) (sym at.2) ∙ ap (λ x. may_have (domains_of t) d (at.0 / t.last) x) (sym at.3) ∙ max.table.matching.allowed d at.0 at.1;
   distinct = λ d e r u h k.
-      let a = part_of t.last (place_of t d) r u h in
-      let b = part_of t.last (place_of t e) r u k in
+      let a = part_of t.last (supply_of t d) r u h in
+      let b = part_of t.last (supply_of t e) r u k in
       let same : a.0 ≡ b.0 = sym (div-add-mod' a.0 t.last) ∙ ap (λ x. x * t.last + a.0 % t.last) (a.2 ∙ sym b.2) ∙ ap (λ x. b.0 / t.last * t.last + x) (a.3 ∙ sym b.3) ∙ div-add-mod' b.0 t.last in
       let one : owner_of t b.0 ≡ Some d = ap (λ x. owner_of t x) (sym same) ∙ max.table.matching.owned d a.0 a.1 in
       let two : owner_of t b.0 ≡ Some e = max.table.matching.owned e b.0 b.1 in
       cc;
   left =
-      count_same (demands_in t) (λ d. is_present (domains_of t) d && is_none (supply_parts t.last (place_of t d))) (λ d. is_present (domains_of t) d && is_none (place_of t d)) (λ d l. ap (λ b. is_present (domains_of t) d && b) (none_part t.last (place_of t d)))
+      count_same (demands_in t) (λ d. is_present (domains_of t) d && is_none (supply_parts t.last (supply_of t d))) (λ d. is_present (domains_of t) d && is_none (supply_of t d)) (λ d l. ap (λ b. is_present (domains_of t) d && b) (none_part t.last (supply_of t d)))
       ∙ listing_count t o left max.listing;
 }

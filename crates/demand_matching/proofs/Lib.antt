@@ -1,4 +1,5 @@
 pub mod Changes
+pub mod Reaching
 pub mod Tables
 pub mod Looks
 pub mod Ready
@@ -19,7 +20,4 @@ pub mod Supplies
 pub mod Shifts
 pub mod Maxima
 pub mod Keeps
-pub mod Firsts
 pub mod Hall
-pub mod TestLemmas
-pub mod TrialLemmas

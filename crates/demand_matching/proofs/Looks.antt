@@ -19,7 +19,7 @@ use Rattle.demand_matching.proofs.Fences.{owner_below, within_refl, within_met}
 use Rattle.demand_matching.proofs.Marks.{marked_more}
 use Rattle.demand_matching.proofs.Picks.{picked_found}
 use Rattle.demand_matching.proofs.Searches.{meets_more, keeps_first, keeps_refl, reached_still}
-use Rattle.demand_matching.proofs.Supplies.{supply_of, picked_below, picked_supply, supply_found, may_is, admitted_below}
+use Rattle.demand_matching.proofs.Supplies.{supply_at, picked_below, picked_supply, supply_found, may_is, admitted_below}
 
 -- the demand of the supply was met before
 pub met_before : (t : Table) (head : ℕ) (o : Order) (bits bits' : List ℕ) (supply d len : ℕ) → IsSearch t head o.demands.items o.spots.items o.met_from.items len → IsMarked t o.spots.items bits len
@@ -86,7 +86,7 @@ free_found t d resource row window word k is range in_pick row_is w p some small
     let z = bit_at-trailing_zeros w64 (bit_and window word) some small in
     let near : i < 64 = z.0 in
     let a = and_parts (is_set t.free.items (row + 64 * k + i)) (is_picked t.times d.times (64 * k + i)) (sym (common_bit t.free.items t.times d.times window word row k i w p near) ∙ ap (λ v. nat_eq v 1) z.1) in
-    let same : supply_of (domains_of t) d resource (64 * k + i) ≡ row + 64 * k + i = omega arith in
+    let same : supply_at (domains_of t) d resource (64 * k + i) ≡ row + 64 * k + i = omega arith in
     let below : row + 64 * k + i < supplies_in t = omega (arith, picked_below (domains_of t) d resource (64 * k + i) range in_pick a.1) in
     record {
       below = below;
@@ -118,7 +118,7 @@ pub common_allowed : (t : Table) (d : Domain) (bits : List ℕ) (demand resource
     → i < 64 → has_bit (bit_and window word) i ≡ true → may_take (domains_of t) demand (row + 64 * k + i) ≡ true
 common_allowed t d bits demand resource row window word k i range its in_pick row_is w p h e =
     let a = and_parts (is_set bits (row + 64 * k + i)) (is_picked t.times d.times (64 * k + i)) (sym (common_bit bits t.times d.times window word row k i w p h) ∙ e) in
-    let same : supply_of (domains_of t) d resource (64 * k + i) ≡ row + 64 * k + i = omega arith in
+    let same : supply_at (domains_of t) d resource (64 * k + i) ≡ row + 64 * k + i = omega arith in
     may_is (domains_of t) d demand (row + 64 * k + i) its ∙ ap (admits_supply (domains_of t) d) (sym same) ∙ picked_supply (domains_of t) d resource (64 * k + i) range in_pick a.1
 
 -- 64 numbers more of the times

@@ -6,7 +6,7 @@ use Rattle.demand_matching.specs.declared.table.Table.{Table}
 use Rattle.demand_matching.specs.declared.order.Order.{Order}
 use Rattle.demand_matching.specs.Order.{IsOrder, HasSameFirst}
 use Rattle.demand_matching.specs.Search.{KeepsFirst, IsReached, IsMarked}
-use Rattle.demand_matching.specs.Table.{domains_of, may_take, place_of, owner_of, demands_in, supplies_in, IsTable}
+use Rattle.demand_matching.specs.Table.{domains_of, may_take, supply_of, owner_of, demands_in, supplies_in, IsTable}
 use Rattle.demand_matching.specs.Matched.{IsShut}
 use Rattle.demand_matching.proofs.Counting.{cases_eqb}
 use Rattle.demand_matching.proofs.Fences.{owner_below}
@@ -48,7 +48,7 @@ marked_first t spots spots' bits len is same marked = marked_along t t spots spo
     still s by h owner near = record { by = by; owner = owner; within = same.into by (owner_below t s by is owner) near }
 
 -- demands without a supply do not count
-pub marked_less : (t : Table) (spots bits : List ℕ) (len less : ℕ) → IsTable t → ((d : ℕ) → d < demands_in t → less ≤ get_or spots d 0 → get_or spots d 0 < len → place_of t d ≡ None) → IsMarked t spots bits len → IsMarked t spots bits less
+pub marked_less : (t : Table) (spots bits : List ℕ) (len less : ℕ) → IsTable t → ((d : ℕ) → d < demands_in t → less ≤ get_or spots d 0 → get_or spots d 0 < len → supply_of t d ≡ None) → IsMarked t spots bits len → IsMarked t spots bits less
 marked_less t spots bits len less is none marked = record {
   room = marked.room;
   reached = λ s l h.
@@ -56,8 +56,8 @@ marked_less t spots bits len less is none marked = record {
       elim (cases_lt (get_or spots r.by 0) less) [
         | inl x ↦ record { by = r.by; owner = r.owner; within = x }
         | inr x ↦
-            let owns : place_of t r.by ≡ Some s = is.matching.placed s r.by r.owner in
-            let free : place_of t r.by ≡ None = none r.by (owner_below t s r.by is r.owner) (omega arith) r.within in
+            let owns : supply_of t r.by ≡ Some s = is.matching.holds s r.by r.owner in
+            let free : supply_of t r.by ≡ None = none r.by (owner_below t s r.by is r.owner) (omega arith) r.within in
             absurd cc
       ];
 }
@@ -69,7 +69,7 @@ marked_shut t t' spots spots' bits met is shut same first marked =
     let m : supplies_in t' ≡ supplies_in t = ap (λ w. w.width * w.last) same in
     marked_along t t' spots spots' bits met met m
     (λ s by h owner near.
-    let owns : place_of t by ≡ Some s = is.matching.placed s by owner in
+    let owns : supply_of t by ≡ Some s = is.matching.holds s by owner in
     let below : by < demands_in t = owner_below t s by is owner in
     shut.saturated by s (omega (arith, n)) (first.into by below near) (omega (arith, m, is.matching.supply by s owns)) (ap (λ w. may_take w by s) same ∙ is.matching.allowed by s owns))
     marked
@@ -77,7 +77,7 @@ marked_shut t t' spots spots' bits met is shut same first marked =
 -- the bits of the supplies from a place of the order on are set again
 pub unmarked : (t : Table) (o : Order) (bits bits' : List ℕ) (from to : ℕ) → IsTable t → IsOrder (demands_in t) o.demands.items o.spots.items → IsMarked t o.spots.items bits to → length bits' ≡ length bits
     → ((s : ℕ) → is_set bits' s ≡ false → is_set bits s ≡ false)
-    → ((k s : ℕ) → from ≤ k → k < to → place_of t (get_or o.demands.items k 0) ≡ Some s → is_set bits' s ≡ false → ⊥) → IsMarked t o.spots.items bits' from
+    → ((k s : ℕ) → from ≤ k → k < to → supply_of t (get_or o.demands.items k 0) ≡ Some s → is_set bits' s ≡ false → ⊥) → IsMarked t o.spots.items bits' from
 unmarked t o bits bits' from to is order marked len still none = record {
   room = omega (arith, marked.room);
   reached = λ s l h.
@@ -85,6 +85,6 @@ unmarked t o bits bits' from to is order marked len still none = record {
       let at : get_or o.demands.items (get_or o.spots.items r.by 0) 0 ≡ r.by = order.order_spot r.by (owner_below t s r.by is r.owner) in
       elim (cases_lt (get_or o.spots.items r.by 0) from) [
         | inl x ↦ record { by = r.by; owner = r.owner; within = x }
-        | inr x ↦ absurd (none (get_or o.spots.items r.by 0) s (omega arith) r.within (ap (λ v. place_of t v) at ∙ is.matching.placed s r.by r.owner) h)
+        | inr x ↦ absurd (none (get_or o.spots.items r.by 0) s (omega arith) r.within (ap (λ v. supply_of t v) at ∙ is.matching.holds s r.by r.owner) h)
       ];
 }

@@ -10,8 +10,8 @@ use Rattle.demand_matching.specs.Counts.{count_below, sum_below}
 use Rattle.demand_matching.specs.Domains.{Domains, is_present, domain_of, admits_where_present, with_domain}
 use Rattle.demand_matching.specs.Excess.{size_of, neighbours_of, is_neighbour}
 use Rattle.demand_matching.specs.Listing.{IsListing}
-use Rattle.demand_matching.specs.Places.{IsSaturated}
-use Rattle.demand_matching.specs.Table.{domains_of, may_take, place_of, owner_of, demands_in, supplies_in, IsTable}
+use Rattle.demand_matching.specs.Assigned.{IsSaturated}
+use Rattle.demand_matching.specs.Table.{domains_of, may_take, supply_of, owner_of, demands_in, supplies_in, IsTable}
 use Rattle.demand_matching.proofs.Counting.{count_same, count_partners, count_all, count-zero}
 use Rattle.demand_matching.proofs.Duality.{size, neighbours, left_out, reaches, HasLeftOut, without, size_le, saturated_size, exceeding_left, exceeding_saturated, neighbours-without, size-without, size-without_absent, none_is, none_from}
 use Rattle.demand_matching.proofs.Supplies.{may_present}
@@ -37,13 +37,13 @@ neighbours_is w set =
     sum-count w.width w.last (reaches (length w.demands) (may_take w) set) (λ r t. is_neighbour w set r t) (λ r t l. ap (λ x. is_neighbour w set x ((r * w.last + t) % w.last)) (div-mul-add r w.last t l) ∙ ap (λ x. is_neighbour w set r x) (mod-mul-add r w.last t l))
 
 -- as many demands are left out as the order has at first
-pub listing_count : (t : Table) (o : Order) (left : ℕ) → IsListing t o left → left_out (demands_in t) (is_present (domains_of t)) (place_of t) ≡ left
+pub listing_count : (t : Table) (o : Order) (left : ℕ) → IsListing t o left → left_out (demands_in t) (is_present (domains_of t)) (supply_of t) ≡ left
 listing_count t o left is =
-    let p : ℕ → Bool = λ d. is_present (domains_of t) d && is_none (place_of t d) in
+    let p : ℕ → Bool = λ d. is_present (domains_of t) d && is_none (supply_of t d) in
     let one : count_below (demands_in t) p ≤ count_below left (λ _. true) =
     count_partners (demands_in t) left p (λ _. true) (λ d k. (d < demands_in t) × (get_or o.spots.items d 0 ≡ k))
-    (λ d l h. let a = and_parts (is_present (domains_of t) d) (is_none (place_of t d)) h in
-    (get_or o.spots.items d 0, is.listed d l a.0 (none_is (place_of t d) a.1), refl, (l, refl)))
+    (λ d l h. let a = and_parts (is_present (domains_of t) d) (is_none (supply_of t d)) h in
+    (get_or o.spots.items d 0, is.listed d l a.0 (none_is (supply_of t d) a.1), refl, (l, refl)))
     (λ d e k x y. sym (is.order.order_spot d x.0) ∙ ap (λ v. get_or o.demands.items v 0) (x.1 ∙ sym y.1) ∙ is.order.order_spot e y.0) in
     let two : count_below left (λ _. true) ≤ count_below (demands_in t) p =
     count_partners left (demands_in t) (λ _. true) p (λ k d. (k < left) × (get_or o.demands.items k 0 ≡ d))
@@ -52,25 +52,25 @@ listing_count t o left is =
     let d : ℕ = get_or o.demands.items k 0 in
     let below : d < demands_in t = is.order.order_below k near in
     let low : get_or o.spots.items d 0 < left = omega (arith, is.order.spot_order k near) in
-    (d, below, and_from (is_present (domains_of t) d) (is_none (place_of t d)) (is.present d below low) (none_from (place_of t d) (is.left_out d below low)), (l, refl)))
+    (d, below, and_from (is_present (domains_of t) d) (is_none (supply_of t d)) (is.present d below low) (none_from (supply_of t d) (is.left_out d below low)), (l, refl)))
     (λ j k d x y. sym (is.order.spot_order j (omega (arith, is.fits, x.0))) ∙ ap (λ v. get_or o.spots.items v 0) (x.1 ∙ sym y.1) ∙ is.order.spot_order k (omega (arith, is.fits, y.0))) in
     omega (arith, count_all left)
 
 pub bounded : (t : Table) (o : Order) (left : ℕ) → IsTable t → IsListing t o left → (set : ℕ → Bool) → size_of (domains_of t) set ≤ neighbours_of (domains_of t) set + left
 bounded t o left is listing set =
-    omega (arith, size_le (demands_in t) (supplies_in t) (is_present (domains_of t)) (may_take (domains_of t)) (place_of t) (owner_of t) is.matching set, neighbours_is (domains_of t) set, listing_count t o left listing)
+    omega (arith, size_le (demands_in t) (supplies_in t) (is_present (domains_of t)) (may_take (domains_of t)) (supply_of t) (owner_of t) is.matching set, neighbours_is (domains_of t) set, listing_count t o left listing)
 
-pub saturated_exceeds : (t : Table) (o : Order) (left : ℕ) → IsTable t → IsListing t o left → (set : ℕ → Bool) → HasLeftOut (demands_in t) (is_present (domains_of t)) (place_of t) set → IsSaturated (demands_in t) (supplies_in t) (may_take (domains_of t)) (owner_of t) set → neighbours_of (domains_of t) set + left ≤ size_of (domains_of t) set
+pub saturated_exceeds : (t : Table) (o : Order) (left : ℕ) → IsTable t → IsListing t o left → (set : ℕ → Bool) → HasLeftOut (demands_in t) (is_present (domains_of t)) (supply_of t) set → IsSaturated (demands_in t) (supplies_in t) (may_take (domains_of t)) (owner_of t) set → neighbours_of (domains_of t) set + left ≤ size_of (domains_of t) set
 saturated_exceeds t o left is listing set has full =
-    omega (arith, saturated_size (demands_in t) (supplies_in t) (is_present (domains_of t)) (may_take (domains_of t)) (place_of t) (owner_of t) is.matching (λ d s h. may_present (domains_of t) d s h) set has full, neighbours_is (domains_of t) set, listing_count t o left listing)
+    omega (arith, saturated_size (demands_in t) (supplies_in t) (is_present (domains_of t)) (may_take (domains_of t)) (supply_of t) (owner_of t) is.matching (λ d s h. may_present (domains_of t) d s h) set has full, neighbours_is (domains_of t) set, listing_count t o left listing)
 
-pub exceeds_left : (t : Table) (o : Order) (left : ℕ) → IsTable t → IsListing t o left → (set : ℕ → Bool) → neighbours_of (domains_of t) set + left ≤ size_of (domains_of t) set → HasLeftOut (demands_in t) (is_present (domains_of t)) (place_of t) set
+pub exceeds_left : (t : Table) (o : Order) (left : ℕ) → IsTable t → IsListing t o left → (set : ℕ → Bool) → neighbours_of (domains_of t) set + left ≤ size_of (domains_of t) set → HasLeftOut (demands_in t) (is_present (domains_of t)) (supply_of t) set
 exceeds_left t o left is listing set much =
-    exceeding_left (demands_in t) (supplies_in t) (is_present (domains_of t)) (may_take (domains_of t)) (place_of t) (owner_of t) is.matching set (omega (arith, neighbours_is (domains_of t) set, listing_count t o left listing))
+    exceeding_left (demands_in t) (supplies_in t) (is_present (domains_of t)) (may_take (domains_of t)) (supply_of t) (owner_of t) is.matching set (omega (arith, neighbours_is (domains_of t) set, listing_count t o left listing))
 
 pub exceeds_saturated : (t : Table) (o : Order) (left : ℕ) → IsTable t → IsListing t o left → (set : ℕ → Bool) → neighbours_of (domains_of t) set + left ≤ size_of (domains_of t) set → IsSaturated (demands_in t) (supplies_in t) (may_take (domains_of t)) (owner_of t) set
 exceeds_saturated t o left is listing set much =
-    exceeding_saturated (demands_in t) (supplies_in t) (is_present (domains_of t)) (may_take (domains_of t)) (place_of t) (owner_of t) is.matching set (omega (arith, neighbours_is (domains_of t) set, listing_count t o left listing))
+    exceeding_saturated (demands_in t) (supplies_in t) (is_present (domains_of t)) (may_take (domains_of t)) (supply_of t) (owner_of t) is.matching set (omega (arith, neighbours_is (domains_of t) set, listing_count t o left listing))
 
 -- the domains of the other demands stay
 pub other_domain : (w : Domains) (d e : ℕ) (x : Option Domain) → e ≢ d → domain_of (with_domain w d x) e ≡ domain_of w e

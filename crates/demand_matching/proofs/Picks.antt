@@ -32,11 +32,11 @@ member_below (b ∷ bs) zero h = omega arith
 member_below (b ∷ bs) (suc y) h = omega (arith, member_below bs y h)
 
 -- each listed number is a member
-members_hit : (set : List Bool) (i : ℕ) → i < length (members_of set) → has_member set (get_or (members_of set) i 0) ≡ true
+pub members_hit : (set : List Bool) (i : ℕ) → i < length (members_of set) → has_member set (get_or (members_of set) i 0) ≡ true
 members_hit set i l = All-get_or (λ n. has_member set n ≡ true) (members_of set) i 0 l (filter_passes (has_member set) (range_with_len 0 (length set)))
 
 -- each member is listed
-members_found : (set : List Bool) (y : ℕ) → has_member set y ≡ true → (i : ℕ) × (i < length (members_of set)) × (get_or (members_of set) i 0 ≡ y)
+pub members_found : (set : List Bool) (y : ℕ) → has_member set y ≡ true → (i : ℕ) × (i < length (members_of set)) × (get_or (members_of set) i 0 ≡ y)
 members_found set y h =
     let below : y < length set = member_below set y h in
     let at : get_or (range_with_len 0 (length set)) y 0 ≡ y = get_or-range_with_len 0 (length set) y 0 below ∙ zero-add y in

@@ -5,10 +5,10 @@ use Rattle.khe_base.specs.Bits.{is_set}
 use Rattle.demand_matching.specs.declared.domains.Domain.{Domain}
 use Rattle.demand_matching.specs.declared.table.Table.{Table}
 use Rattle.demand_matching.specs.declared.order.Order.{Order}
-use Rattle.demand_matching.specs.Listing.{PlacesOne}
+use Rattle.demand_matching.specs.Listing.{ServesOne}
 use Rattle.demand_matching.specs.Matched.{IsReady}
 use Rattle.demand_matching.specs.Search.{IsOpen, IsClosed, IsMarked}
-use Rattle.demand_matching.specs.Table.{domains_of, place_of, owner_of, demands_in, supplies_in, IsTable}
+use Rattle.demand_matching.specs.Table.{domains_of, supply_of, owner_of, demands_in, supplies_in, IsTable}
 use Rattle.demand_matching.proofs.Additions.{Gains, Joins, write_outside, joins_first, joins_none, joins_open, joins_closed, joins_last}
 use Rattle.demand_matching.proofs.Duality.{same_some}
 use Rattle.demand_matching.proofs.Fences.{owner_below}
@@ -21,21 +21,21 @@ same_supplies t t' d drops = ap (λ w. w.width * w.last) drops.domains
 
 -- another demand keeps its supply
 drops_owner : (t t' : Table) (d e s : ℕ) → IsTable t → Drops t t' d → e ≢ d → owner_of t s ≡ Some e → owner_of t' s ≡ Some e
-drops_owner t t' d e s is drops ne owner = drops.table.matching.owned e s (drops.others e ne ∙ is.matching.placed s e owner)
+drops_owner t t' d e s is drops ne owner = drops.table.matching.owned e s (drops.others e ne ∙ is.matching.holds s e owner)
 
 pub ready_left : (t t' : Table) (o o' o'' : Order) (outside unseen : List ℕ) (d left met : ℕ) → IsReady t o left met outside unseen → Withdraws t t' o o' o'' d left met → IsReady t' o'' (left - 1) (met - 1) outside unseen
 ready_left t t' o o' o'' outside unseen d left met ready it = record {
   maximum = remove_left t t' o o' o'' d left met it;
   marked = marked_along t t' o.spots.items o''.spots.items outside met (met - 1) (same_supplies t t' d it.drops)
       (λ s by h owner near.
-      let owns : place_of t by ≡ Some s = it.maximum.table.matching.placed s by owner in
-      let ne : by ≢ d = λ z. (let none : place_of t by ≡ None = ap (λ v. place_of t v) z ∙ it.none in cc) in
+      let owns : supply_of t by ≡ Some s = it.maximum.table.matching.holds s by owner in
+      let ne : by ≢ d = λ z. (let none : supply_of t by ≡ None = ap (λ v. supply_of t v) z ∙ it.none in cc) in
       record { by = by; owner = drops_owner t t' d by s it.maximum.table it.drops ne owner; within = withdraws_into t t' o o' o'' d left met by it (owner_below t s by it.maximum.table owner) ne near })
       ready.marked;
   all_set = marked_none t t' o.spots.items o''.spots.items unseen 0 (same_supplies t t' d it.drops) ready.all_set;
 }
 
-pub ready_outside : (t t' : Table) (o : Order) (outside unseen : List ℕ) (d left met s : ℕ) → IsReady t o left met outside unseen → Drops t t' d → place_of t d ≡ Some s → (get_or o.spots.items d 0 < met → ⊥) → IsReady t' o left met outside unseen
+pub ready_outside : (t t' : Table) (o : Order) (outside unseen : List ℕ) (d left met s : ℕ) → IsReady t o left met outside unseen → Drops t t' d → supply_of t d ≡ Some s → (get_or o.spots.items d 0 < met → ⊥) → IsReady t' o left met outside unseen
 ready_outside t t' o outside unseen d left met s ready drops owns far = record {
   maximum = remove_outside t t' o d left met s ready.maximum drops owns far;
   marked = marked_along t t' o.spots.items o.spots.items outside met met (same_supplies t t' d drops)
@@ -55,7 +55,7 @@ leaves_marked t t' o o' bits bits' d left met s it marked len all =
       reached = λ u l h.
           let other : u ≢ s = λ z. true≢false (sym (written_same bits bits' s u true all z) ∙ h) in
           let r = marked.reached u (omega (arith, same_supplies t t' d it.drops)) (sym (written_other bits bits' s u true all other) ∙ h) in
-          let ne : r.by ≢ d = λ z. other (same_some u s (place_of t d) (is.matching.placed u d (r.owner ∙ ap Some z)) it.owns) in
+          let ne : r.by ≢ d = λ z. other (same_some u s (supply_of t d) (is.matching.holds u d (r.owner ∙ ap Some z)) it.owns) in
           record { by = r.by; owner = drops_owner t t' d r.by u is it.drops ne r.owner; within = leaves_into t t' o o' d left met s r.by it (owner_below t u r.by is r.owner) ne r.within };
     }
 
@@ -74,7 +74,7 @@ ready_closed t t' o o' o'' outside' unseen' d left met s less it ends marked = r
 }
 
 pub ready_open : (t t' t'' : Table) (o o' o'' o₃ : Order) (bits unseen' : List ℕ) (d left met s place supply served : ℕ) → Leaves t t' o o' d left met s → IsOpen t' o' o'' unseen' 0 left place supply
-    → IsTable t'' → domains_of t'' ≡ domains_of t' → PlacesOne t' t'' served → Moves o'' o₃ served (left - 1) → IsMarked t' o'.spots.items bits (met - 1) → IsReady t'' o₃ (left - 1) (met - 1) bits unseen'
+    → IsTable t'' → domains_of t'' ≡ domains_of t' → ServesOne t' t'' served → Moves o'' o₃ served (left - 1) → IsMarked t' o'.spots.items bits (met - 1) → IsReady t'' o₃ (left - 1) (met - 1) bits unseen'
 ready_open t t' t'' o o' o'' o₃ bits unseen' d left met s place supply served it ends is'' same'' one moves marked =
     let max = leaves_open t t' t'' o o' o'' o₃ unseen' d left met s place supply served it ends is'' same'' one moves in
     let kept = leaves_kept t t' o o' o'' unseen' d left met s place supply it ends in
@@ -88,7 +88,7 @@ ready_open t t' t'' o o' o'' o₃ bits unseen' d left met s place supply served 
 gains_supplies : (t t' : Table) (d : ℕ) (domain : Domain) → Gains t t' d domain → supplies_in t' ≡ supplies_in t
 gains_supplies t t' d domain gains = ap (λ w. w.width * w.last) gains.domains
 
-pub ready_write : (t t' : Table) (o : Order) (outside unseen : List ℕ) (d left met s : ℕ) (domain : Domain) → IsReady t o left met outside unseen → Gains t t' d domain → place_of t d ≡ Some s → (get_or o.spots.items d 0 < met → ⊥) → IsReady t' o left met outside unseen
+pub ready_write : (t t' : Table) (o : Order) (outside unseen : List ℕ) (d left met s : ℕ) (domain : Domain) → IsReady t o left met outside unseen → Gains t t' d domain → supply_of t d ≡ Some s → (get_or o.spots.items d 0 < met → ⊥) → IsReady t' o left met outside unseen
 ready_write t t' o outside unseen d left met s domain ready gains owns far = record {
   maximum = write_outside t t' o d left met s domain ready.maximum gains owns far;
   marked = marked_along t t' o.spots.items o.spots.items outside met met (gains_supplies t t' d domain gains)
@@ -106,14 +106,14 @@ joins_marked t t' o o' bits d left met domain it marked =
     marked
 
 pub ready_joined : (t t' t'' : Table) (o o' o'' : Order) (bits unseen : List ℕ) (d left met place supply served : ℕ) (domain : Domain) → Joins t t' o o' d left met domain → IsOpen t' o' o'' bits met (met + 1) place supply
-    → IsTable t'' → domains_of t'' ≡ domains_of t' → PlacesOne t' t'' served → met ≤ get_or o''.spots.items served 0 → IsMarked t o.spots.items unseen 0 → IsReady t'' o'' left met bits unseen
+    → IsTable t'' → domains_of t'' ≡ domains_of t' → ServesOne t' t'' served → met ≤ get_or o''.spots.items served 0 → IsMarked t o.spots.items unseen 0 → IsReady t'' o'' left met bits unseen
 ready_joined t t' t'' o o' o'' bits unseen d left met place supply served domain it ends is'' same'' one after seen =
     let max = joins_open t t' t'' o o' o'' bits d left met place supply served domain it ends is'' same'' one after in
     let spot : get_or o''.spots.items d 0 ≡ met = ends.keeps.spot d (omega (arith, it.moves.change.moved)) ∙ it.moves.change.moved in
-    let alone : (e : ℕ) → e < demands_in t' → met ≤ get_or o''.spots.items e 0 → get_or o''.spots.items e 0 < met + 1 → place_of t' e ≡ None = λ e l low h.
+    let alone : (e : ℕ) → e < demands_in t' → met ≤ get_or o''.spots.items e 0 → get_or o''.spots.items e 0 < met + 1 → supply_of t' e ≡ None = λ e l low h.
     let at : get_or o''.spots.items e 0 ≡ met = omega arith in
     let is : e ≡ d = sym (ends.search.order.order_spot e l) ∙ ap (λ v. get_or o''.demands.items v 0) (at ∙ sym spot) ∙ ends.search.order.order_spot d (omega (arith, it.gains.below, same_count t t' d (Some domain) it.gains.domains)) in
-    ap (λ v. place_of t' v) is ∙ joins_none t t' o o' d left met domain it in
+    ap (λ v. supply_of t' v) is ∙ joins_none t t' o o' d left met domain it in
     let less : IsMarked t' o''.spots.items bits met = marked_less t' o''.spots.items bits (met + 1) met it.gains.table alone ends.marked in
     record {
       maximum = max;

@@ -6,17 +6,17 @@ use Rattle.std.proofs.lemmas.Bool.{and_parts, and_from, eqb-false, ne_eqb, not-t
 use Rattle.demand_matching.specs.declared.table.Table.{Table}
 use Rattle.demand_matching.specs.declared.order.Order.{Order}
 use Rattle.demand_matching.specs.Domains.{is_present, with_domain}
-use Rattle.demand_matching.specs.Listing.{IsListing, PlacesOne}
+use Rattle.demand_matching.specs.Listing.{IsListing, ServesOne}
 use Rattle.demand_matching.specs.Matched.{IsMaximum}
 use Rattle.demand_matching.specs.Order.{IsOrder, ChangesPlaces, HasSameFirst}
 use Rattle.demand_matching.specs.Search.{IsOpen, IsClosed, IsFenced, IsWithin, IsSearch}
-use Rattle.demand_matching.specs.Table.{domains_of, may_take, place_of, owner_of, demands_in, IsTable}
+use Rattle.demand_matching.specs.Table.{domains_of, may_take, supply_of, owner_of, demands_in, IsTable}
 use Rattle.demand_matching.proofs.Duality.{none_from, without}
 use Rattle.demand_matching.proofs.Fences.{same_first, first_trans}
 use Rattle.demand_matching.proofs.Listings.{SameBut, listing_along, listing_kept, listing_less, listing_same}
 use Rattle.demand_matching.proofs.Maxima.{exceeds_less, exceeds_along}
 use Rattle.demand_matching.proofs.Searches.{spot_read}
-use Rattle.demand_matching.proofs.Shifts.{same_but, placed_left}
+use Rattle.demand_matching.proofs.Shifts.{same_but, served_left}
 use Rattle.demand_matching.proofs.Shut.{firsts, firsts_in, firsts_out, shut_exceeds, exceeding_shut, same_count, same_may, same_present, shut_without, last_into, last_back}
 
 -- a demand lost its domain, and its supply if it had one
@@ -24,8 +24,8 @@ pub record Drops (t t' : Table) (d : ℕ) : Type 0 where
   pub below : d < demands_in t
   pub table : IsTable t'
   pub domains : domains_of t' ≡ with_domain (domains_of t) d None
-  pub none : place_of t' d ≡ None
-  pub others : (e : ℕ) → e ≢ d → place_of t' e ≡ place_of t e
+  pub none : supply_of t' d ≡ None
+  pub others : (e : ℕ) → e ≢ d → supply_of t' e ≡ supply_of t e
 
 -- a demand changed places with the one at this place
 pub record Moves (o o' : Order) (d place : ℕ) : Type 0 where
@@ -60,7 +60,7 @@ pub record Withdraws (t t' : Table) (o o' o'' : Order) (d left met : ℕ) : Type
   pub maximum : IsMaximum t o left met
   pub drops : Drops t t' d
   pub here : is_present (domains_of t) d ≡ true
-  pub none : place_of t d ≡ None
+  pub none : supply_of t d ≡ None
   pub first : Moves o o' d (left - 1)
   pub second : Moves o' o'' d (met - 1)
 
@@ -100,11 +100,11 @@ remove_left t t' o o' o'' d left met it =
       shut = shut_without t t' o.spots.items o''.spots.items d met (met - 1) None max.table drops.table max.shut drops.domains drops.others (omega (arith, max.shut.fits))
           (λ e l ne h. withdraws_into t t' o o' o'' d left met e it l ne h)
           (λ e l h. last_back (demands_in t) o.spots.items o''.spots.items d met e (withdraws_same t t' o o' o'' d left met it) it.second.change.moved l h)
-          (λ s owner h. (let owns : place_of t d ≡ Some s = max.table.matching.placed s d owner in let none : place_of t d ≡ None = it.none in cc));
+          (λ s owner h. (let owns : supply_of t d ≡ Some s = max.table.matching.holds s d owner in let none : supply_of t d ≡ None = it.none in cc));
     }
 
 -- one goes whose supply none of the set may have
-pub remove_outside : (t t' : Table) (o : Order) (d left met s : ℕ) → IsMaximum t o left met → Drops t t' d → place_of t d ≡ Some s → (get_or o.spots.items d 0 < met → ⊥) → IsMaximum t' o left met
+pub remove_outside : (t t' : Table) (o : Order) (d left met s : ℕ) → IsMaximum t o left met → Drops t t' d → supply_of t d ≡ Some s → (get_or o.spots.items d 0 < met → ⊥) → IsMaximum t' o left met
 remove_outside t t' o d left met s max drops owns far = record {
   table = drops.table;
   listing = listing_same t t' o d left max.listing (drops_same t t' d drops) (λ h. far (omega (arith, max.longer))) (λ p x. drops_gone t t' d drops p);
@@ -119,12 +119,12 @@ remove_outside t t' o d left met s max drops owns far = record {
 pub record Leaves (t t' : Table) (o o' : Order) (d left met s : ℕ) : Type 0 where
   pub maximum : IsMaximum t o left met
   pub drops : Drops t t' d
-  pub owns : place_of t d ≡ Some s
+  pub owns : supply_of t d ≡ Some s
   pub inside : get_or o.spots.items d 0 < met
   pub moves : Moves o o' d (met - 1)
 
 -- as the lists have it
-pub leaves_from : (t t' : Table) (o o' : Order) (d left met s x : ℕ) → IsMaximum t o left met → Drops t t' d → place_of t d ≡ Some s → x ≡ get_or o.spots.items d x → x < met → Moves o o' d (met - 1) → Leaves t t' o o' d left met s
+pub leaves_from : (t t' : Table) (o o' : Order) (d left met s x : ℕ) → IsMaximum t o left met → Drops t t' d → supply_of t d ≡ Some s → x ≡ get_or o.spots.items d x → x < met → Moves o o' d (met - 1) → Leaves t t' o o' d left met s
 leaves_from t t' o o' d left met s x max drops owns read inside moves = record {
   maximum = max;
   drops = drops;
@@ -137,7 +137,7 @@ pub far_from : (t : Table) (o : Order) (d left met x : ℕ) → IsMaximum t o le
 far_from t o d left met x max l read far h = absurd (omega (arith, spot_read o.spots.items d x (omega (arith, max.listing.order.spots_length)) read))
 
 leaves_high : (t t' : Table) (o o' : Order) (d left met s : ℕ) → Leaves t t' o o' d left met s → get_or o.spots.items d 0 < left → ⊥
-leaves_high t t' o o' d left met s it z = (let e = it.maximum.listing.left_out d it.drops.below z in let owns : place_of t d ≡ Some s = it.owns in cc)
+leaves_high t t' o o' d left met s it z = (let e = it.maximum.listing.left_out d it.drops.below z in let owns : supply_of t d ≡ Some s = it.owns in cc)
 
 pub leaves_listing : (t t' : Table) (o o' : Order) (d left met s : ℕ) → Leaves t t' o o' d left met s → IsListing t' o' left
 leaves_listing t t' o o' d left met s it =
@@ -181,9 +181,9 @@ leaves_fenced t t' o o' d left met s it e u by l h may owner =
     let max = it.maximum in
     let n : demands_in t' ≡ demands_in t = same_count t t' d None it.drops.domains in
     let a = leaves_back t t' o o' d left met s e it (omega (arith, n)) h in
-    let has : place_of t' by ≡ Some u = it.drops.table.matching.placed u by owner in
-    let ne : by ≢ d = λ z. (let none : place_of t' d ≡ None = it.drops.none in let same : place_of t' by ≡ place_of t' d = ap (λ v. place_of t' v) z in cc) in
-    let had : place_of t by ≡ Some u = sym (it.drops.others by ne) ∙ has in
+    let has : supply_of t' by ≡ Some u = it.drops.table.matching.holds u by owner in
+    let ne : by ≢ d = λ z. (let none : supply_of t' d ≡ None = it.drops.none in let same : supply_of t' by ≡ supply_of t' d = ap (λ v. supply_of t' v) z in cc) in
+    let had : supply_of t by ≡ Some u = sym (it.drops.others by ne) ∙ has in
     let r = max.shut.saturated e u (omega (arith, n)) a.1 (max.table.matching.supply by u had) (sym (same_may t t' d e u None it.drops.domains a.0) ∙ may) in
     let is : by ≡ r.by = (let one : owner_of t u ≡ Some by = max.table.matching.owned by u had in let two : owner_of t u ≡ Some r.by = r.owner in cc) in
     leaves_into t t' o o' d left met s by it (max.table.matching.demand by u had) ne (omega (arith, ap (λ v. get_or o.spots.items v 0) is, r.within))
@@ -206,10 +206,10 @@ leaves_kept t t' o o' o'' bits d left met s place supply it ends = listing_kept 
 
 -- some were left out where another takes it
 pub leaves_some : (t t' t'' : Table) (o o' o'' : Order) (bits : List ℕ) (d left met s place supply served : ℕ) → Leaves t t' o o' d left met s → IsOpen t' o' o'' bits 0 left place supply
-    → IsTable t'' → domains_of t'' ≡ domains_of t' → PlacesOne t' t'' served → 1 ≤ left
+    → IsTable t'' → domains_of t'' ≡ domains_of t' → ServesOne t' t'' served → 1 ≤ left
 leaves_some t t' t'' o o' o'' bits d left met s place supply served it ends is'' same'' one =
     let kept = leaves_kept t t' o o' o'' bits d left met s place supply it ends in
-    omega (arith, placed_left t' t'' o'' left served is'' kept same'' one)
+    omega (arith, served_left t' t'' o'' left served is'' kept same'' one)
 
 leaves_room : (t t' : Table) (o o' : Order) (d left met s : ℕ) → Leaves t t' o o' d left met s → left ≤ met - 1
 leaves_room t t' o o' d left met s it =
@@ -222,25 +222,25 @@ leaves_within t t' o o' o'' d left met s more it within = (within (met - 1) (lea
 
 -- the set stays without the demand
 pub leaves_first : (t t' t'' : Table) (o o' o'' o₃ : Order) (bits : List ℕ) (d left met s place supply served : ℕ) → Leaves t t' o o' d left met s → IsOpen t' o' o'' bits 0 left place supply
-    → IsTable t'' → domains_of t'' ≡ domains_of t' → PlacesOne t' t'' served → Moves o'' o₃ served (left - 1) → HasSameFirst (demands_in t') o'.spots.items o₃.spots.items (met - 1)
+    → IsTable t'' → domains_of t'' ≡ domains_of t' → ServesOne t' t'' served → Moves o'' o₃ served (left - 1) → HasSameFirst (demands_in t') o'.spots.items o₃.spots.items (met - 1)
 leaves_first t t' t'' o o' o'' o₃ bits d left met s place supply served it ends is'' same'' one moves =
     let kept = leaves_kept t t' o o' o'' bits d left met s place supply it ends in
-    let low : get_or o''.spots.items served 0 < left = placed_left t' t'' o'' left served is'' kept same'' one in
+    let low : get_or o''.spots.items served 0 < left = served_left t' t'' o'' left served is'' kept same'' one in
     let room = leaves_room t t' o o' d left met s it in
     first_trans (demands_in t') o'.spots.items o''.spots.items o₃.spots.items (met - 1) (leaves_within t t' o o' o'' d left met s left it ends.within)
     (same_first (demands_in t') o''.demands.items o''.spots.items o₃.demands.items o₃.spots.items served (left - 1) (met - 1) ends.search.order moves.change one.below (omega (arith, kept.fits)) (λ h. omega arith) (λ h. omega arith))
 
 -- where another takes it, the set is the same without the demand
 pub leaves_open : (t t' t'' : Table) (o o' o'' o₃ : Order) (bits : List ℕ) (d left met s place supply served : ℕ) → Leaves t t' o o' d left met s → IsOpen t' o' o'' bits 0 left place supply
-    → IsTable t'' → domains_of t'' ≡ domains_of t' → PlacesOne t' t'' served → Moves o'' o₃ served (left - 1) → IsMaximum t'' o₃ (left - 1) (met - 1)
+    → IsTable t'' → domains_of t'' ≡ domains_of t' → ServesOne t' t'' served → Moves o'' o₃ served (left - 1) → IsMaximum t'' o₃ (left - 1) (met - 1)
 leaves_open t t' t'' o o' o'' o₃ bits d left met s place supply served it ends is'' same'' one moves =
     let n : demands_in t' ≡ demands_in t = same_count t t' d None it.drops.domains in
     let m : demands_in t'' ≡ demands_in t' = ap (λ w. length w.demands) same'' in
     let max = it.maximum in
     let kept = leaves_kept t t' o o' o'' bits d left met s place supply it ends in
-    let low : get_or o''.spots.items served 0 < left = placed_left t' t'' o'' left served is'' kept same'' one in
+    let low : get_or o''.spots.items served 0 < left = served_left t' t'' o'' left served is'' kept same'' one in
     let listing : IsListing t'' o₃ (left - 1) =
-    listing_less t' t'' o'' o₃ served left kept (same_but t' t'' served same'' one) one.below low (λ p x. absurd (true≢false (sym (none_from (place_of t'' served) x) ∙ one.has_one)))
+    listing_less t' t'' o'' o₃ served left kept (same_but t' t'' served same'' one) one.below low (λ p x. absurd (true≢false (sym (none_from (supply_of t'' served) x) ∙ one.has_one)))
     (moves_order t' o'' o₃ served (left - 1) left kept moves) (moves_length t' o'' o₃ served (left - 1) left kept moves) moves.change in
     let room = leaves_room t t' o o' d left met s it in
     let all = leaves_first t t' t'' o o' o'' o₃ bits d left met s place supply served it ends is'' same'' one moves in

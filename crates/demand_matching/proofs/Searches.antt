@@ -6,7 +6,7 @@ use Rattle.demand_matching.specs.declared.order.Order.{Order}
 use Rattle.demand_matching.specs.declared.domains.Domain.{Domain}
 use Rattle.demand_matching.specs.Domains.{domain_of, is_present}
 use Rattle.demand_matching.specs.Order.{IsOrder, ChangesPlaces}
-use Rattle.demand_matching.specs.Table.{domains_of, may_take, place_of, owner_of, demands_in, supplies_in, IsTable}
+use Rattle.demand_matching.specs.Table.{domains_of, may_take, supply_of, owner_of, demands_in, supplies_in, IsTable}
 use Rattle.demand_matching.specs.Search.{IsSearch, KeepsFirst, IsReached, IsMarked, IsTaken, GoesOn}
 use Rattle.demand_matching.proofs.Supplies.{may_present}
 use Rattle.demand_matching.proofs.Counting.{cases_last}
@@ -26,7 +26,7 @@ keeps_first n order spots order' spots' d len is moves l m far = record {
 pub meets_more : (t : Table) (head : ℕ) (order spots met_from order' spots' : List ℕ) (d place len supply : ℕ) → IsTable t → IsSearch t head order spots met_from len → IsOrder (demands_in t) order' spots' → ChangesPlaces order spots order' spots' d len → owner_of t supply ≡ Some d → head ≤ place → place < len → len ≤ get_or spots d 0 → may_take (domains_of t) (get_or order place 0) supply ≡ true → IsSearch t head order' spots' (set met_from d place) (len + 1)
 meets_more t head order spots met_from order' spots' d place len supply is_table is order_is moves owner high near far may =
     let n : ℕ = demands_in t in
-    let placed : place_of t d ≡ Some supply = is_table.matching.placed supply d owner in
+    let placed : supply_of t d ≡ Some supply = is_table.matching.holds supply d owner in
     let d_below : d < n = is_table.matching.demand d supply placed in
     let room : len < n = omega (arith, is.order.spot_below d d_below) in
     let keeps : KeepsFirst order spots order' spots' len = keeps_first n order spots order' spots' d len is.order moves d_below room far in
@@ -45,7 +45,7 @@ meets_more t head order spots met_from order' spots' d place len supply is_table
         | inl x ↦
             let here : get_or order' k 0 ≡ d = ap (λ v. get_or order' v 0) x ∙ at_len in
             let from_is : get_or (set met_from d place) (get_or order' k 0) 0 ≡ place = ap (λ v. get_or (set met_from d place) v 0) here ∙ new_met in
-            let s_is : supply ≡ s = same_some supply s (place_of t d) placed (sym (ap (λ v. place_of t v) here) ∙ e) in
+            let s_is : supply ≡ s = same_some supply s (supply_of t d) placed (sym (ap (λ v. supply_of t v) here) ∙ e) in
             record {
               after = omega (arith, from_is);
               before = omega (arith, from_is);
@@ -56,7 +56,7 @@ meets_more t head order spots met_from order' spots' d place len supply is_table
             }
         | inr less ↦
             let here : get_or order' k 0 ≡ get_or order k 0 = keeps.demand k less in
-            let old = is.met k s low less (sym (ap (λ v. place_of t v) here) ∙ e) in
+            let old = is.met k s low less (sym (ap (λ v. supply_of t v) here) ∙ e) in
             let other : get_or order k 0 ≡ d → ⊥ = λ z. absurd (omega (arith, sym (is.order.spot_order k (omega arith)) ∙ ap (λ v. get_or spots v 0) z)) in
             let from_is : get_or (set met_from d place) (get_or order' k 0) 0 ≡ get_or met_from (get_or order k 0) 0 =
             ap (λ v. get_or (set met_from d place) v 0) here ∙ get_or-set_other met_from d (get_or order k 0) place 0 other in
@@ -136,11 +136,11 @@ domain_read t order place demand x l m read look =
     get_or_read t.demands.items demand x near look None ∙ ap (λ v. get_or t.demands.items v None) at
 
 -- the supply of the demand at a place, as the lists have it
-pub supply_read : (t : Table) (order : List ℕ) (place demand : ℕ) (x : Option ℕ) → IsTable t → place < length order → get_or order place 0 < demands_in t → demand ≡ get_or order place demand → x ≡ get_or t.places.items demand x → x ≡ place_of t (get_or order place 0)
+pub supply_read : (t : Table) (order : List ℕ) (place demand : ℕ) (x : Option ℕ) → IsTable t → place < length order → get_or order place 0 < demands_in t → demand ≡ get_or order place demand → x ≡ get_or t.supplies.items demand x → x ≡ supply_of t (get_or order place 0)
 supply_read t order place demand x is l m read look =
     let at : demand ≡ get_or order place 0 = get_or_read order place demand l read 0 in
-    let near : demand < length t.places.items = omega (arith, is.places_length) in
-    get_or_read t.places.items demand x near look None ∙ ap (λ v. get_or t.places.items v None) at
+    let near : demand < length t.supplies.items = omega (arith, is.supplies_length) in
+    get_or_read t.supplies.items demand x near look None ∙ ap (λ v. get_or t.supplies.items v None) at
 
 -- one place more of the order is looked at
 pub search_more : (t : Table) (o' o'' : Order) (bits'' : List ℕ) (head place met more : ℕ) → place < met → GoesOn t head o' o'' bits'' met more

@@ -9,7 +9,7 @@ use Rattle.demand_matching.specs.Excess.{size_of, neighbours_of}
 use Rattle.demand_matching.specs.Listing.{IsListing}
 use Rattle.demand_matching.specs.Matched.{IsShut, IsMaximum}
 use Rattle.demand_matching.specs.Order.{IsOrder, HasSameFirst, is_first}
-use Rattle.demand_matching.specs.Table.{domains_of, may_take, place_of, owner_of, demands_in, IsTable}
+use Rattle.demand_matching.specs.Table.{domains_of, may_take, supply_of, owner_of, demands_in, IsTable}
 use Rattle.demand_matching.proofs.Fences.{owner_below}
 use Rattle.demand_matching.proofs.Maxima.{saturated_exceeds, exceeds_saturated, other_may, other_present}
 
@@ -56,7 +56,7 @@ pub same_present : (t t' : Table) (d e : ℕ) (x : Option Domain) → domains_of
 same_present t t' d e x same ne = ap (λ w. is_present w e) same ∙ other_present (domains_of t) d e x ne
 
 -- where a demand changes that gives the set none of its supplies, the set without it stays shut
-pub shut_without : (t t' : Table) (spots spots' : List ℕ) (d met met' : ℕ) (x : Option Domain) → IsTable t → IsTable t' → IsShut t spots met → domains_of t' ≡ with_domain (domains_of t) d x → ((e : ℕ) → e ≢ d → place_of t' e ≡ place_of t e)
+pub shut_without : (t t' : Table) (spots spots' : List ℕ) (d met met' : ℕ) (x : Option Domain) → IsTable t → IsTable t' → IsShut t spots met → domains_of t' ≡ with_domain (domains_of t) d x → ((e : ℕ) → e ≢ d → supply_of t' e ≡ supply_of t e)
     → met' ≤ demands_in t → ((e : ℕ) → e < demands_in t → e ≢ d → get_or spots e 0 < met → get_or spots' e 0 < met') → ((e : ℕ) → e < demands_in t → get_or spots' e 0 < met' → (e ≢ d) × (get_or spots e 0 < met))
     → ((s : ℕ) → owner_of t s ≡ Some d → get_or spots d 0 < met → ⊥) → IsShut t' spots' met'
 shut_without t t' spots spots' d met met' x is is' shut same others fits into back apart =
@@ -70,7 +70,7 @@ shut_without t t' spots spots' d met met' x is is' shut same others fits into ba
           let ne : r.by ≢ d = λ z. apart s (r.owner ∙ ap Some z) (omega (arith, ap (λ v. get_or spots v 0) z, r.within)) in
           record {
             by = r.by;
-            owner = is'.matching.owned r.by s (others r.by ne ∙ is.matching.placed s r.by r.owner);
+            owner = is'.matching.owned r.by s (others r.by ne ∙ is.matching.holds s r.by r.owner);
             within = into r.by (owner_below t s r.by is r.owner) ne r.within;
           };
     }

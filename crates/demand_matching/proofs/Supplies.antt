@@ -9,8 +9,8 @@ use Rattle.demand_matching.specs.Domains.{Domains, is_present, admits, domain_of
 use Rattle.demand_matching.specs.Table.{domains_of, may_take, admits_supply, supplies_in}
 
 -- the supply of a resource at a time that is moved on
-abbrev pub supply_of : Domains → Domain → ℕ → ℕ → ℕ
-supply_of w d resource time = resource * w.last + d.shift + time
+abbrev pub supply_at : Domains → Domain → ℕ → ℕ → ℕ
+supply_at w d resource time = resource * w.last + d.shift + time
 
 back : (x y : ℕ) → x ≡ (x + y) - y
 back x y = omega arith
@@ -21,23 +21,23 @@ picked_admitted w d r n p q =
     (and_from (leb d.shift (n + d.shift)) (is_picked w.times d.times (n + d.shift - d.shift)) (le-leb d.shift (n + d.shift) (omega arith))
     (ap (λ v. is_picked w.times d.times v) (sym (back n d.shift)) ∙ q))
 
-pub picked_below : (w : Domains) (d : Domain) (resource time : ℕ) → IsInRange w d → is_picked w.resources d.resources resource ≡ true → is_picked w.times d.times time ≡ true → supply_of w d resource time < w.width * w.last
+pub picked_below : (w : Domains) (d : Domain) (resource time : ℕ) → IsInRange w d → is_picked w.resources d.resources resource ≡ true → is_picked w.times d.times time ≡ true → supply_at w d resource time < w.width * w.last
 picked_below w d r n is p q =
     let in_all = picked_admitted w d r n p q in
     omega (arith, mul-add-lt r w.last (n + d.shift) w.width (is.resource r (n + d.shift) in_all) (is.time r (n + d.shift) in_all))
 
-pub picked_supply : (w : Domains) (d : Domain) (resource time : ℕ) → IsInRange w d → is_picked w.resources d.resources resource ≡ true → is_picked w.times d.times time ≡ true → admits_supply w d (supply_of w d resource time) ≡ true
+pub picked_supply : (w : Domains) (d : Domain) (resource time : ℕ) → IsInRange w d → is_picked w.resources d.resources resource ≡ true → is_picked w.times d.times time ≡ true → admits_supply w d (supply_at w d resource time) ≡ true
 picked_supply w d r n is p q =
     let in_all = picked_admitted w d r n p q in
     let t : ℕ = n + d.shift in
     let below : t < w.last = is.time r t in_all in
-    let same : supply_of w d r n ≡ r * w.last + t = omega arith in
-    let x : supply_of w d r n / w.last ≡ r = ap (λ v. v / w.last) same ∙ div-mul-add r w.last t below in
-    let y : supply_of w d r n % w.last ≡ t = ap (λ v. v % w.last) same ∙ mod-mul-add r w.last t below in
-    ap (λ v. admits w.times w.resources d v (supply_of w d r n % w.last)) x ∙ ap (λ v. admits w.times w.resources d r v) y ∙ in_all
+    let same : supply_at w d r n ≡ r * w.last + t = omega arith in
+    let x : supply_at w d r n / w.last ≡ r = ap (λ v. v / w.last) same ∙ div-mul-add r w.last t below in
+    let y : supply_at w d r n % w.last ≡ t = ap (λ v. v % w.last) same ∙ mod-mul-add r w.last t below in
+    ap (λ v. admits w.times w.resources d v (supply_at w d r n % w.last)) x ∙ ap (λ v. admits w.times w.resources d r v) y ∙ in_all
 
 -- and each supply that a domain admits is one of those
-pub supply_found : (w : Domains) (d : Domain) (s : ℕ) → admits_supply w d s ≡ true → (resource : ℕ) × (time : ℕ) × (is_picked w.resources d.resources resource ≡ true) × (is_picked w.times d.times time ≡ true) × (supply_of w d resource time ≡ s)
+pub supply_found : (w : Domains) (d : Domain) (s : ℕ) → admits_supply w d s ≡ true → (resource : ℕ) × (time : ℕ) × (is_picked w.resources d.resources resource ≡ true) × (is_picked w.times d.times time ≡ true) × (supply_at w d resource time ≡ s)
 supply_found w d s in_all =
     let r : ℕ = s / w.last in
     let t : ℕ = s % w.last in

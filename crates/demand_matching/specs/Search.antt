@@ -8,7 +8,7 @@ use Rattle.demand_matching.specs.declared.table.Found.TheVariants.{Open, Closed}
 use Rattle.demand_matching.specs.declared.order.Order.{Order}
 use Rattle.demand_matching.specs.Domains.{is_present}
 use Rattle.demand_matching.specs.Order.{IsOrder, HasSameFirst}
-use Rattle.demand_matching.specs.Table.{domains_of, may_take, admits_supply, place_of, owner_of, demands_in, supplies_in}
+use Rattle.demand_matching.specs.Table.{domains_of, may_take, admits_supply, supply_of, owner_of, demands_in, supplies_in}
 
 -- the demand at a place of the order was met from an earlier one, not before the head, which may
 -- have its supply
@@ -23,7 +23,7 @@ pub record IsSearch (t : Table) (head : ℕ) (demands spots met_from : List ℕ)
   pub met_length : length met_from ≡ demands_in t
   pub len_fits : len ≤ demands_in t
   pub there : (place : ℕ) → place < len → is_present (domains_of t) (slice_index demands place) ≡ true
-  pub met : (place supply : ℕ) → head ≤ place → place < len → place_of t (slice_index demands place) ≡ Some supply → IsMet t head demands met_from place supply
+  pub met : (place supply : ℕ) → head ≤ place → place < len → supply_of t (slice_index demands place) ≡ Some supply → IsMet t head demands met_from place supply
 
 -- the first demands of the order stay
 pub record KeepsFirst (demands spots demands' spots' : List ℕ) (len : ℕ) : Type 0 where

@@ -6,12 +6,13 @@ ghost use Rattle.demand_matching.specs.Domains.{Domains, IsInRange, domain_of, w
 ghost use Rattle.demand_matching.specs.Excess.{IsDeficit, IsHallSet, IsAssignment};
 
 use crate::Domain;
+use crate::empty::{all_bits, no_domains, no_numbers};
 use crate::order::Order;
+use crate::reach::reached_from;
 use crate::sets::Sets;
 use crate::table::{Found, Table};
-use crate::windows::all_bits;
 use khe_base::bits::set_bit;
-use khe_base::{IdSet, NoMemory, Seq};
+use khe_base::{IdSet, NoMemory, Seq, both};
 use std::alloc::Global;
 use std::marker::Model;
 use std::mem;
@@ -25,10 +26,11 @@ use std::mem;
 pub struct Matching {
     table: Table,
     order: Order,
-    left: usize,
-    met: usize,
+    left: u32,
+    met: u32,
     outside: Vec<u64>,
     unseen: Vec<u64>,
+    alloc: Global,
 }
 
 impl Model for Matching {
@@ -64,24 +66,34 @@ impl Matching {
             return Err(NoMemory);
         }
         let words = (supplies + 63) / 64;
-        let table = Table {
-            times: Sets::new(alloc, times)?,
-            resources: Sets::new(alloc, resources)?,
-            last,
-            width,
-            demands: vec![in alloc; None; count]?,
-            places: vec![in alloc; None; count]?,
-            owners: vec![in alloc; None; supplies]?,
-            free: all_bits(alloc, words)?,
-        };
-        let order = Order::new(alloc, count)?;
+        let sets = both(Sets::new(alloc, times), Sets::new(alloc, resources));
+        let kept = both(no_numbers(alloc, count), no_numbers(alloc, supplies));
+        let bits = both(all_bits(alloc, words), all_bits(alloc, words));
+        let first = both(sets, both(no_domains(alloc, count), kept));
+        let second = both(
+            Order::new(alloc, demands),
+            both(all_bits(alloc, words), bits),
+        );
+        let (first, second) = both(first, second)?;
+        let ((times, resources), (demands, (supplies, owners))) = first;
+        let (order, (free, (outside, unseen))) = second;
         Ok(Matching {
-            table,
-            order,
             left: 0,
             met: 0,
-            outside: all_bits(alloc, words)?,
-            unseen: all_bits(alloc, words)?,
+            alloc,
+            outside,
+            unseen,
+            order,
+            table: Table {
+                last,
+                width,
+                free,
+                demands,
+                supplies,
+                owners,
+                times,
+                resources,
+            },
         })
     }
 
@@ -100,7 +112,6 @@ impl Matching {
         requires domain { ForSome domain (IsInRange self.old) }
         ensures { self.new ≡ with_domain self.old demand domain }
     {
-        let demand = demand as usize;
         let Some(domain) = domain else {
             self.remove(demand);
             return;
@@ -118,35 +129,35 @@ impl Matching {
         ensures greatest { IsDeficit self.now result }
         ensures served { (supply : ℕ → Option (ℕ × ℕ)) × IsAssignment self.now supply result }
     {
-        self.left as u32
+        self.left
     }
 
     /// The least set of present demands whose excess is the deficit, ascending: it is contained in
-    /// each set that has this excess. Where the deficit is 0 it is empty.
+    /// each set that has this excess.
     ///
-    /// It takes time and memory in proportion to the demands, and the time of one search from
-    /// those that are left out.
-    pub fn hall_set(&self, alloc: Global) -> Result<Seq<u32>, NoMemory>
+    /// Where the deficit is 0 it is empty, and is answered in constant time and without memory.
+    /// Else it takes memory for a mark of one bit for each demand and for the demands of the set,
+    /// and time in proportion to the supplies that these may have and to a 64th of all demands.
+    pub fn hall_set(&self) -> Result<Seq<u32>, NoMemory>
         ensures ascending { IfOk result (λ hall. IsStrictlyIncreasing hall) }
         ensures least { IfOk result (λ hall. IsHallSet self.now (λ demand. list_any (λ member. member == demand) hall)) }
     {
-        let mut order = self.order.copy(alloc)?;
-        let mut unseen = Vec::from_slice(alloc, self.unseen.as_slice())?;
-        match self.table.search(&mut order, &mut unseen, 0, self.left) {
-            Found::Closed(met) => order.first(alloc, met),
-            Found::Open(..) => unreachable!(),
+        if self.left == 0 {
+            return Ok(Seq::new(self.alloc));
         }
+        let marks = reached_from(self.alloc, &self.table, &self.order, self.left)?;
+        marks.members(self.alloc)
     }
 
     /// Writes the domain, where the demand stands outside of the set that is kept and has a supply
     /// that the domain admits. The result is whether that is so.
-    fn write(&mut self, demand: usize, domain: Domain) -> bool
+    fn write(&mut self, demand: u32, domain: Domain) -> bool
         requires demand { demand < length self.old.demands }
         requires domain { IsInRange self.old domain }
         ensures written { result ≡ true → self.new ≡ with_domain self.old demand (Some domain) }
         ensures same { result ≡ false → self.new ≡ self.old }
     {
-        if self.order.spots[demand] < self.met || !self.table.is_served(demand, domain) {
+        if self.order.spots[demand as usize] < self.met || !self.table.is_served(demand, domain) {
             return false;
         }
         self.table.put_domain(demand, domain);
@@ -155,25 +166,24 @@ impl Matching {
 
     /// Takes away the domain of a demand. Where it has a supply and is in the set that is kept, one
     /// of those that are left out may have a supply then.
-    fn remove(&mut self, demand: usize)
+    fn remove(&mut self, demand: u32)
         requires { demand < length self.old.demands }
         ensures { self.new ≡ with_domain self.old demand None }
     {
-        if self.table.demands[demand].is_none() {
+        if self.table.demands[demand as usize].is_none() {
             return;
         }
-        let inside = self.order.spots[demand] < self.met;
+        let inside = self.order.spots[demand as usize] < self.met;
         match self.table.drop_domain(demand) {
             None => {
-                self.left -= 1;
-                self.met -= 1;
+                (self.left, self.met) = (self.left - 1, self.met - 1);
                 self.order.put(demand, self.left);
                 self.order.put(demand, self.met);
             }
             Some(supply) if inside => {
                 self.met -= 1;
                 self.order.put(demand, self.met);
-                set_bit(&mut self.outside, supply);
+                set_bit(&mut self.outside, supply as usize);
                 match self
                     .table
                     .search(&mut self.order, &mut self.unseen, 0, self.left)
@@ -195,7 +205,7 @@ impl Matching {
         }
     }
 
-    fn add(&mut self, demand: usize, domain: Domain)
+    fn add(&mut self, demand: u32, domain: Domain)
         requires demand { demand < length self.old.demands }
         requires absent { domain_of self.old demand ≡ None }
         requires domain { IsInRange self.old domain }

@@ -50,15 +50,15 @@ impl Sets {
         }
     }
 
-    /// The number at a place of the pick.
-    pub(crate) fn number(&self, pick: Pick, place: usize) -> u32
+    /// One number of the pick, of which the first has the index 0.
+    pub(crate) fn number(&self, pick: Pick, i: usize) -> u32
         requires given { IsGiven self.now pick }
-        requires place { place < length (picked self.now pick) }
-        ensures { result ≡ slice_index (picked self.now pick) place }
+        requires index { i < length (picked self.now pick) }
+        ensures { result ≡ slice_index (picked self.now pick) i }
     {
         match pick {
             Pick::One(n) => n,
-            Pick::Set(k) => self.members.as_slice()[k as usize].as_slice()[place],
+            Pick::Set(k) => self.members.as_slice()[k as usize].as_slice()[i],
         }
     }
 

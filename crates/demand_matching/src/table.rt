@@ -2,9 +2,9 @@ ghost use Rattle.std.specs.Prelude.{◌≡◌, ◌≢◌, ◌+◌, ◌-◌, ◌*
 ghost use Rattle.khe_base.specs.Bits.{has_bit, is_set};
 ghost use Rattle.demand_matching.specs.Domains.{IsInRange, is_picked, domain_of, with_domain};
 ghost use Rattle.demand_matching.specs.Order.{IsOrder};
-ghost use Rattle.demand_matching.specs.Table.{IsTable, IsServed, domains_of, may_take, admits_supply, place_of, owner_of, demands_in, supplies_in};
+ghost use Rattle.demand_matching.specs.Table.{IsTable, IsServed, domains_of, may_take, admits_supply, supply_of, owner_of, demands_in, supplies_in};
 ghost use Rattle.demand_matching.specs.Search.{IsSearch, IsReached, IsMarked, IsTaken, IsFreeFor, GoesOn, Ends};
-ghost use Rattle.demand_matching.specs.Listing.{PlacesOne};
+ghost use Rattle.demand_matching.specs.Listing.{ServesOne};
 
 use crate::Domain;
 use crate::order::Order;
@@ -20,22 +20,22 @@ pub(crate) struct Table {
     pub(crate) last: u32,
     pub(crate) width: u32,
     pub(crate) demands: Vec<Option<Domain>>,
-    pub(crate) places: Vec<Option<usize>>,
-    pub(crate) owners: Vec<Option<usize>>,
+    pub(crate) supplies: Vec<Option<u32>>,
+    pub(crate) owners: Vec<Option<u32>>,
     pub(crate) free: Vec<u64>,
 }
 
 /// What a search ended with.
 pub(crate) enum Found {
     /// The demand at this place of the order may have this free supply.
-    Open(usize, usize),
+    Open(u32, u32),
     /// So many demands are met, and whatever they may have is theirs.
-    Closed(usize),
+    Closed(u32),
 }
 
 impl Table {
     /// The number of the supply of a resource at the time 0, moved on by the shift of the domain.
-    fn row(&self, domain: Domain, resource: u32) -> usize
+    pub(crate) fn row(&self, domain: Domain, resource: u32) -> usize
         ensures is { result ≡ resource * self.now.last + domain.shift }
         ensures small { result ≤ 2 ^ 64 - 2 ^ 32 }
     {
@@ -43,7 +43,7 @@ impl Table {
     }
 
     /// A free supply of one resource that the domain admits.
-    fn free_at(&self, domain: Domain, resource: u32) -> Option<usize>
+    fn free_at(&self, domain: Domain, resource: u32) -> Option<u32>
         requires table { IsTable self.now }
         requires domain { IsInRange (domains_of self.now) domain }
         requires picked { is_picked self.now.resources domain.resources resource ≡ true }
@@ -55,14 +55,15 @@ impl Table {
             let free = window(self.free.as_slice(), row + 64 * k)
                 & self.times.word(domain.times, k);
             if free != 0 {
-                return Some(row + 64 * k + free.trailing_zeros() as usize);
+                let supply = row + 64 * k + free.trailing_zeros() as usize;
+                return Some(supply as u32);
             }
         }
         None
     }
 
     /// A free supply that the domain admits.
-    fn free_in(&self, domain: Domain) -> Option<usize>
+    fn free_in(&self, domain: Domain) -> Option<u32>
         requires table { IsTable self.now }
         requires domain { IsInRange (domains_of self.now) domain }
         ensures { MatchOption result ((supply : ℕ) → admits_supply (domains_of self.now) domain supply ≡ true → owner_of self.now supply ≡ None → ⊥) (IsFreeFor self.now domain) }
@@ -83,11 +84,11 @@ impl Table {
         &self,
         order: &mut Order,
         unseen: &mut Vec<u64>,
-        head: usize,
-        supply: usize,
-        place: usize,
-        len: usize,
-    ) -> usize
+        head: u32,
+        supply: u32,
+        place: u32,
+        len: u32,
+    ) -> u32
         requires table { IsTable self.now }
         requires search { IsSearch self.now head order.old.demands.items order.old.spots.items order.old.met_from.items len }
         requires marked { IsMarked self.now order.old.spots.items unseen.old.items len }
@@ -99,15 +100,15 @@ impl Table {
         ensures goes_on { GoesOn self.now head order.old order.new unseen.new.items len result }
         ensures reached { IsReached self.now order.new.spots.items result supply }
     {
-        let Some(demand) = self.owners[supply] else {
+        let Some(demand) = self.owners[supply as usize] else {
             return len;
         };
-        clear_bit(unseen, supply);
-        if order.spots[demand] < len {
+        clear_bit(unseen, supply as usize);
+        if order.spots[demand as usize] < len {
             return len;
         }
         order.put(demand, len);
-        order.met_from[demand] = place;
+        order.met_from[demand as usize] = place;
         len + 1
     }
 
@@ -116,12 +117,12 @@ impl Table {
         &self,
         order: &mut Order,
         unseen: &mut Vec<u64>,
-        head: usize,
+        head: u32,
         word: u64,
         from: usize,
-        place: usize,
-        len: usize,
-    ) -> usize
+        place: u32,
+        len: u32,
+    ) -> u32
         requires table { IsTable self.now }
         requires search { IsSearch self.now head order.old.demands.items order.old.spots.items order.old.met_from.items len }
         requires marked { IsMarked self.now order.old.spots.items unseen.old.items len }
@@ -137,7 +138,8 @@ impl Table {
         if word != 0 {
             for i in 0..64u32 {
                 if has_bit(word, i) {
-                    met = self.meet(order, unseen, head, from + i as usize, place, met);
+                    let supply = (from + i as usize) as u32;
+                    met = self.meet(order, unseen, head, supply, place, met);
                 }
             }
         }
@@ -150,12 +152,12 @@ impl Table {
         &self,
         order: &mut Order,
         unseen: &mut Vec<u64>,
-        head: usize,
+        head: u32,
         domain: Domain,
         resource: u32,
-        place: usize,
-        len: usize,
-    ) -> usize
+        place: u32,
+        len: u32,
+    ) -> u32
         requires table { IsTable self.now }
         requires search { IsSearch self.now head order.old.demands.items order.old.spots.items order.old.met_from.items len }
         requires marked { IsMarked self.now order.old.spots.items unseen.old.items len }
@@ -183,11 +185,11 @@ impl Table {
         &self,
         order: &mut Order,
         unseen: &mut Vec<u64>,
-        head: usize,
+        head: u32,
         domain: Domain,
-        place: usize,
-        len: usize,
-    ) -> usize
+        place: u32,
+        len: u32,
+    ) -> u32
         requires table { IsTable self.now }
         requires search { IsSearch self.now head order.old.demands.items order.old.spots.items order.old.met_from.items len }
         requires marked { IsMarked self.now order.old.spots.items unseen.old.items len }
@@ -207,7 +209,7 @@ impl Table {
     }
 
     /// Sets the bits of the supplies of the demands from a place of the order on, before another.
-    pub(crate) fn unmark(&self, order: &Order, unseen: &mut Vec<u64>, from: usize, to: usize)
+    pub(crate) fn unmark(&self, order: &Order, unseen: &mut Vec<u64>, from: u32, to: u32)
         requires table { IsTable self.now }
         requires order { IsOrder (demands_in self.now) order.now.demands.items order.now.spots.items }
         requires marked { IsMarked self.now order.now.spots.items unseen.old.items to }
@@ -215,8 +217,9 @@ impl Table {
         ensures { IsMarked self.now order.now.spots.items unseen.new.items from }
     {
         for place in from..to {
-            if let Some(supply) = self.places[order.demands[place]] {
-                set_bit(unseen, supply);
+            let demand = order.demands[place as usize];
+            if let Some(supply) = self.supplies[demand as usize] {
+                set_bit(unseen, supply as usize);
             }
         }
     }
@@ -232,8 +235,8 @@ impl Table {
         &self,
         order: &mut Order,
         unseen: &mut Vec<u64>,
-        head: usize,
-        left: usize,
+        head: u32,
+        left: u32,
     ) -> Found
         requires table { IsTable self.now }
         requires search { IsSearch self.now head order.old.demands.items order.old.spots.items order.old.met_from.items left }
@@ -244,8 +247,8 @@ impl Table {
         let mut place = head;
         let mut met = left;
         while place < met {
-            let demand = order.demands[place];
-            let Some(domain) = self.demands[demand] else {
+            let demand = order.demands[place as usize];
+            let Some(domain) = self.demands[demand as usize] else {
                 unreachable!()
             };
             match self.free_in(domain) {
@@ -261,52 +264,46 @@ impl Table {
     }
 
     /// Frees the supply of a demand, if it has one.
-    fn release(&mut self, demand: usize) -> Option<usize>
+    fn release(&mut self, demand: u32) -> Option<u32>
         requires table { IsTable self.old }
         requires demand { demand < demands_in self.old }
         ensures table { IsTable self.new }
         ensures domains { domains_of self.new ≡ domains_of self.old }
-        ensures result { result ≡ place_of self.old demand }
-        ensures none { place_of self.new demand ≡ None }
-        ensures others { (other : ℕ) → other ≢ demand → place_of self.new other ≡ place_of self.old other }
+        ensures result { result ≡ supply_of self.old demand }
+        ensures none { supply_of self.new demand ≡ None }
+        ensures others { (other : ℕ) → other ≢ demand → supply_of self.new other ≡ supply_of self.old other }
         ensures free { (supply : ℕ) → owner_of self.old supply ≡ None → owner_of self.new supply ≡ None }
         ensures freed { IfSome result (λ supply. (supply < supplies_in self.new) × (owner_of self.new supply ≡ None)) }
     {
-        let supply = self.places[demand]?;
-        self.places[demand] = None;
-        self.owners[supply] = None;
-        set_bit(&mut self.free, supply);
+        let supply = self.supplies[demand as usize]?;
+        self.supplies[demand as usize] = None;
+        self.owners[supply as usize] = None;
+        set_bit(&mut self.free, supply as usize);
         Some(supply)
     }
 
     /// Gives a free supply to a demand that has none.
-    fn give(&mut self, demand: usize, supply: usize)
+    fn give(&mut self, demand: u32, supply: u32)
         requires table { IsTable self.old }
         requires demand { demand < demands_in self.old }
         requires supply { supply < supplies_in self.old }
-        requires none { place_of self.old demand ≡ None }
+        requires none { supply_of self.old demand ≡ None }
         requires free { owner_of self.old supply ≡ None }
         requires allowed { may_take (domains_of self.old) demand supply ≡ true }
         ensures table { IsTable self.new }
         ensures domains { domains_of self.new ≡ domains_of self.old }
-        ensures given { place_of self.new demand ≡ Some supply }
-        ensures others { (other : ℕ) → other ≢ demand → place_of self.new other ≡ place_of self.old other }
+        ensures given { supply_of self.new demand ≡ Some supply }
+        ensures others { (other : ℕ) → other ≢ demand → supply_of self.new other ≡ supply_of self.old other }
         ensures owners { (other : ℕ) → other ≢ supply → owner_of self.new other ≡ owner_of self.old other }
     {
-        self.places[demand] = Some(supply);
-        self.owners[supply] = Some(demand);
-        clear_bit(&mut self.free, supply);
+        self.supplies[demand as usize] = Some(supply);
+        self.owners[supply as usize] = Some(demand);
+        clear_bit(&mut self.free, supply as usize);
     }
 
     /// Gives a free supply to the demand at a place of the order, its supply to the demand from
     /// which it was met, and so on to a demand that had none. The result is this one.
-    pub(crate) fn shift(
-        &mut self,
-        order: &Order,
-        head: usize,
-        mut place: usize,
-        mut supply: usize,
-    ) -> usize
+    pub(crate) fn shift(&mut self, order: &Order, head: u32, mut place: u32, mut supply: u32) -> u32
         requires table { IsTable self.old }
         requires head { head ≤ place }
         requires search { IsSearch self.old head order.now.demands.items order.now.spots.items order.now.met_from.items (place + 1) }
@@ -315,68 +312,66 @@ impl Table {
         requires allowed { may_take (domains_of self.old) (slice_index order.now.demands.items place) supply ≡ true }
         ensures table { IsTable self.new }
         ensures domains { domains_of self.new ≡ domains_of self.old }
-        ensures one { PlacesOne self.old self.new result }
+        ensures one { ServesOne self.old self.new result }
         ensures after { head ≤ slice_index order.now.spots.items result }
     {
         loop {
-            let demand = order.demands[place];
+            let demand = order.demands[place as usize];
             let old = self.release(demand);
             self.give(demand, supply);
             let Some(freed) = old else {
                 return demand;
             };
             supply = freed;
-            place = order.met_from[demand];
+            place = order.met_from[demand as usize];
         }
     }
 
     /// Whether the demand has a supply, and the domain admits it.
-    pub(crate) fn is_served(&self, demand: usize, domain: Domain) -> bool
+    pub(crate) fn is_served(&self, demand: u32, domain: Domain) -> bool
         requires table { IsTable self.now }
         requires demand { demand < demands_in self.now }
         requires domain { IsInRange (domains_of self.now) domain }
         ensures { result ≡ true → IsServed self.now demand domain }
     {
-        let Some(supply) = self.places[demand] else {
+        let Some(supply) = self.supplies[demand as usize] else {
             return false;
         };
-        let last = self.last as usize;
-        let resource = supply / last;
-        let time = supply % last;
-        let shift = domain.shift as usize;
-        if time < shift {
+        let resource = supply / self.last;
+        let time = supply % self.last;
+        if time < domain.shift {
             return false;
         }
-        self.resources.has(domain.resources, resource as u32)
-            && self.times.has(domain.times, (time - shift) as u32)
+        self.resources.has(domain.resources, resource)
+            && self.times.has(domain.times, time - domain.shift)
     }
 
     /// Takes away the domain of a demand, and its supply, which is the result.
-    pub(crate) fn drop_domain(&mut self, demand: usize) -> Option<usize>
+    pub(crate) fn drop_domain(&mut self, demand: u32) -> Option<u32>
         requires table { IsTable self.old }
         requires demand { demand < demands_in self.old }
         ensures table { IsTable self.new }
         ensures domains { domains_of self.new ≡ with_domain (domains_of self.old) demand None }
-        ensures result { result ≡ place_of self.old demand }
-        ensures none { place_of self.new demand ≡ None }
-        ensures others { (other : ℕ) → other ≢ demand → place_of self.new other ≡ place_of self.old other }
+        ensures result { result ≡ supply_of self.old demand }
+        ensures none { supply_of self.new demand ≡ None }
+        ensures others { (other : ℕ) → other ≢ demand → supply_of self.new other ≡ supply_of self.old other }
     {
         let supply = self.release(demand);
-        self.demands[demand] = None;
+        self.demands[demand as usize] = None;
         supply
     }
 
     /// Gives a demand a domain. It keeps its supply, which the domain is to admit.
-    pub(crate) fn put_domain(&mut self, demand: usize, domain: Domain)
+    pub(crate) fn put_domain(&mut self, demand: u32, domain: Domain)
         requires table { IsTable self.old }
         requires demand { demand < demands_in self.old }
         requires domain { IsInRange (domains_of self.old) domain }
-        requires supply { (supply : ℕ) → place_of self.old demand ≡ Some supply → admits_supply (domains_of self.old) domain supply ≡ true }
+        requires supply { (supply : ℕ) → supply_of self.old demand ≡ Some supply → admits_supply (domains_of self.old) domain supply ≡ true }
         ensures table { IsTable self.new }
         ensures domains { domains_of self.new ≡ with_domain (domains_of self.old) demand (Some domain) }
-        ensures places { self.new.places ≡ self.old.places }
+        ensures supplies { self.new.supplies ≡ self.old.supplies }
         ensures owners { self.new.owners ≡ self.old.owners }
     {
-        self.demands[demand] = Some(domain);
+        self.demands[demand as usize] = Some(domain);
     }
 }

@@ -1,8 +1,5 @@
-ghost use Rattle.std.specs.Prelude.{◌≡◌, ◌+◌, ◌-◌, ◌^◌, ◌<◌, ℕ, slice_index, replicate, IfOk};
+ghost use Rattle.std.specs.Prelude.{◌≡◌, ◌+◌, ◌<◌, ℕ, slice_index};
 ghost use Rattle.khe_base.specs.Bits.{has_bit, is_set};
-
-use khe_base::NoMemory;
-use std::alloc::Global;
 
 /// The 64 bits of a row of words that begin at this one; those past the row's end are not set. It
 /// takes constant time.
@@ -20,11 +17,4 @@ fn word_at(bits: &[u64], k: usize) -> u64
     ensures { result ≡ slice_index bits.now k }
 {
     if k < bits.len() { bits[k] } else { 0 }
-}
-
-/// So many words with all bits set, in time and memory in proportion to their number.
-pub(crate) fn all_bits(alloc: Global, words: usize) -> Result<Vec<u64>, NoMemory>
-    ensures { IfOk result (λ w. w.items ≡ replicate words (2 ^ 64 - 1)) }
-{
-    Ok(vec![in alloc; u64::MAX; words]?)
 }

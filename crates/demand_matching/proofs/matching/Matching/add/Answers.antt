@@ -21,7 +21,7 @@ search-requires-clause-search c =
     let p = c.put.ensures in
     let it : Joins c.self.inside.table c.put_domain.new.self c.self.inside.order c.put.new.self c.args.demand c.self.inside.left c.self.inside.met c.args.domain = record {
       maximum = c.self.invariant.maximum;
-      gains = record { below = near; table = e.table; domains = e.domains; places = e.places; owners = e.owners };
+      gains = record { below = near; table = e.table; domains = e.domains; supplies = e.supplies; owners = e.owners };
       absent = gone;
       moves = record { order = p.order; met_from = p.met_from; change = p.change };
     } in
@@ -35,7 +35,7 @@ search-requires-clause-marked c =
     let p = c.put.ensures in
     let it : Joins c.self.inside.table c.put_domain.new.self c.self.inside.order c.put.new.self c.args.demand c.self.inside.left c.self.inside.met c.args.domain = record {
       maximum = c.self.invariant.maximum;
-      gains = record { below = near; table = e.table; domains = e.domains; places = e.places; owners = e.owners };
+      gains = record { below = near; table = e.table; domains = e.domains; supplies = e.supplies; owners = e.owners };
       absent = gone;
       moves = record { order = p.order; met_from = p.met_from; change = p.change };
     } in
@@ -49,7 +49,7 @@ invariant_of-self-in-Closed c =
     let p = c.put.ensures in
     let it : Joins c.self.inside.table c.put_domain.new.self c.self.inside.order c.put.new.self c.args.demand c.self.inside.left c.self.inside.met c.args.domain = record {
       maximum = c.self.invariant.maximum;
-      gains = record { below = near; table = e.table; domains = e.domains; places = e.places; owners = e.owners };
+      gains = record { below = near; table = e.table; domains = e.domains; supplies = e.supplies; owners = e.owners };
       absent = gone;
       moves = record { order = p.order; met_from = p.met_from; change = p.change };
     } in
@@ -64,7 +64,7 @@ invariant_of-self c =
     let p = c.put.ensures in
     let it : Joins c.self.inside.table c.put_domain.new.self c.self.inside.order c.put.new.self c.args.demand c.self.inside.left c.self.inside.met c.args.domain = record {
       maximum = c.self.invariant.maximum;
-      gains = record { below = near; table = e.table; domains = e.domains; places = e.places; owners = e.owners };
+      gains = record { below = near; table = e.table; domains = e.domains; supplies = e.supplies; owners = e.owners };
       absent = gone;
       moves = record { order = p.order; met_from = p.met_from; change = p.change };
     } in
