@@ -76,3 +76,9 @@ pub const GREATEST_TOTAL: u128 = 40_000_000_000_000_000_000_000_000_000_000_000;
 /// The greatest count of one cell of a timetable, a resource and a time: the greatest number of
 /// tasks.
 pub const GREATEST_COUNT: u32 = 200_000;
+
+/// The greatest number of open marks of a journal.
+pub const MARKS: u32 = 1_000;
+
+/// The greatest number of groups of monitors: group numbers are below it.
+pub const GROUPS: u32 = 200;
