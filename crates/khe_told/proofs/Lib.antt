@@ -1,0 +1,5 @@
+pub mod ApartLaws
+pub mod Bridge
+pub mod Opening
+pub mod SlotLaws
+pub mod WatcherLaws

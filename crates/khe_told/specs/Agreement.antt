@@ -1,0 +1,25 @@
+-- What a family promises of a tally: the deviations of the monitors that it serves are those of the
+-- told state, and all others stay.
+use Rattle.std.specs.Prelude.{ℕ, ◌≡◌, Bool, true, false, Some, List, slice_get}
+use Rattle.khe_instance.specs.Deviation.{deviation}
+use Rattle.khe_instance.specs.declared.parts.Parts.{Parts}
+use Rattle.khe_instance.specs.declared.points.Monitor.{Monitor}
+use Rattle.khe_instance.specs.declared.rules.Kind.{Kind}
+use Rattle.khe_told.specs.Lists.{meets_in, duties_in}
+use Rattle.khe_told.specs.declared.slots.Slot.{Slot}
+
+-- a monitor's deviation in a told state
+abbrev pub deviation_in : Parts → List Slot → Monitor → ℕ
+deviation_in p s m = deviation p (meets_in s) (duties_in s) m
+
+-- the tally has the deviations of the monitors of the served kinds
+abbrev pub Agrees : Parts → (Kind → Bool) → List Slot → List ℕ → Type 0
+Agrees p served s ds = (i : ℕ) (m : Monitor) → slice_get p.monitors i ≡ Some m → served m.kind ≡ true → slice_get ds i ≡ Some (deviation_in p s m)
+
+-- the tally's deviations of the monitors of all other kinds are as they were
+abbrev pub KeepsOthers : Parts → (Kind → Bool) → List ℕ → List ℕ → Type 0
+KeepsOthers p served old new = (i : ℕ) (m : Monitor) → slice_get p.monitors i ≡ Some m → served m.kind ≡ false → slice_get new i ≡ slice_get old i
+
+-- no kind is served by both
+abbrev pub AreApart : (Kind → Bool) → (Kind → Bool) → Type 0
+AreApart f g = (k : Kind) → f k ≡ true → g k ≡ false

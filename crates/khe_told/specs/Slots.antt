@@ -1,0 +1,47 @@
+-- The told state: a list of slots, one for each meet slot of the instance, in order.
+use Rattle.std.specs.Prelude.{ℕ, ◌+◌, ◌==◌, if◌then◌else◌, None, List, [], ◌∷◌, ◌++◌, map, length, replicate, slice_index_or}
+use Rattle.std.specs.List.{sum_by, range_with_len}
+use Rattle.std.specs.Option.{option_map_or}
+use Rattle.khe_instance.specs.declared.parts.EventInfo.{EventInfo}
+use Rattle.khe_instance.specs.declared.parts.Parts.{Parts}
+use Rattle.khe_told.specs.declared.slots.Slot.{Slot}
+
+-- a free slot of an event, by its number, the event's number and the event
+abbrev pub empty_slot : ℕ → ℕ → EventInfo → Slot
+empty_slot meet e event = record { meet = record { 0 = meet }; event = record { 0 = e }; span = None; given = replicate (length event.places) None }
+
+-- the slots of an event, which stand together, all free
+abbrev pub slots_of_event : ℕ → EventInfo → List Slot
+slots_of_event e event = map (λ m. empty_slot m e event) (range_with_len event.first_meet event.duration)
+
+-- those of events that are numbered on from this number
+abbrev pub slots_from : ℕ → List EventInfo → List Slot
+slots_from e [] = []
+slots_from e (event ∷ events) = slots_of_event e event ++ slots_from (e + 1) events
+
+-- the told state without meets
+abbrev pub no_meets : Parts → List Slot
+no_meets p = slots_from 0 p.events
+
+-- a slot without its meet
+abbrev pub emptied : Slot → Slot
+emptied x = record x { span = None; given = replicate (length x.given) None }
+
+-- what stands for a slot beyond the last: it has no meet and no place
+abbrev pub no_slot : Slot
+no_slot = record { meet = record { 0 = 0 }; event = record { 0 = 0 }; span = None; given = [] }
+
+-- the slot with this number
+abbrev pub slot_at : List Slot → ℕ → Slot
+slot_at s m = slice_index_or s m no_slot
+
+-- the duration of a slot's meet, and 0 where it has none
+abbrev pub length_of : Slot → ℕ
+length_of x = option_map_or (λ y. y.duration) x.span 0
+
+-- how much of an event's duration a slot holds, and all slots together
+abbrev pub held_by : ℕ → Slot → ℕ
+held_by e x = if x.event.0 == e then length_of x else 0
+
+abbrev pub held : ℕ → List Slot → ℕ
+held e s = sum_by (held_by e) s

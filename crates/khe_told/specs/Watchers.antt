@@ -1,0 +1,112 @@
+-- The watchers of a change: how often each monitor watches it. Every change is watched by the
+-- monitors that name its event. Where it fills or empties cells, pairs of a resource and a time,
+-- each is watched by the monitors of the resource that list the time. A Give or a Take is watched
+-- besides by those that limit the resource's workload.
+use Rattle.std.specs.Prelude.{ℕ, ◌+◌, ◌*◌, ◌==◌, Bool, true, false, if◌then◌else◌, Some, None, List, [], ◌∷◌, slice_get}
+use Rattle.std.specs.List.{sum_by, count_by, list_any, filter_map, range_with_len}
+use Rattle.std.specs.Option.{option_map_or}
+use Rattle.khe_base.specs.IdSet.{has_member}
+use Rattle.khe_base.specs.declared.numbers.ResourceId.{ResourceId}
+use Rattle.khe_base.specs.declared.numbers.TimeId.{TimeId}
+use Rattle.khe_instance.specs.declared.parts.Parts.{Parts}
+use Rattle.khe_instance.specs.declared.points.Monitor.{Monitor}
+use Rattle.khe_instance.specs.declared.points.Point.{Point}
+use Rattle.khe_instance.specs.declared.points.Point.TheVariants.{Event, EventResource, EventGroup, EventPair as Pair, Resource}
+use Rattle.khe_instance.specs.declared.rules.Kind.{Kind}
+use Rattle.khe_instance.specs.declared.rules.Rule.{Rule}
+use Rattle.khe_instance.specs.declared.rules.Rule.TheVariants.{OrderEvents, AvoidClashes, AvoidUnavailableTimes, LimitIdleTimes, ClusterBusyTimes, LimitBusyTimes, LimitWorkload}
+use Rattle.khe_told.specs.Slots.{slot_at}
+use Rattle.khe_told.specs.Changes.{after, meet_of}
+use Rattle.khe_told.specs.declared.slots.Slot.{Slot}
+use Rattle.khe_told.specs.declared.slots.Span.{Span}
+use Rattle.khe_told.specs.declared.changes.Change.{Change}
+use Rattle.khe_told.specs.declared.changes.Change.TheVariants.{Place as PlaceAt, Lift, Give, Take}
+
+-- whether a monitor's point is the event or one of its event resources, a group that has it or a
+-- pair that names it
+abbrev pub names_event : Parts → Rule → Point → ℕ → Bool
+names_event p rule (Event x) e = x.0 == e
+names_event p rule (EventResource x place) e = x.0 == e
+names_event p rule (EventGroup g) e = option_map_or (λ group. has_member group.events e) (slice_get p.groups g) false
+names_event p (OrderEvents pairs) (Pair k) e = option_map_or (λ q. if q.first.0 == e then true else q.second.0 == e) (slice_get pairs k) false
+names_event p rule (Pair k) e = false
+names_event p rule (Resource r) e = false
+
+-- whether one of several time groups has a time
+abbrev pub listed_in : List (List Bool) → ℕ → Bool
+listed_in groups t = list_any (λ g. has_member g t) groups
+
+-- whether a rule on resources lists a time
+abbrev pub lists_time : Parts → Rule → ℕ → Bool
+lists_time p AvoidClashes t = true
+lists_time p (AvoidUnavailableTimes times) t = has_member times t
+lists_time p (LimitIdleTimes groups a b) t = listed_in groups t
+lists_time p (ClusterBusyTimes groups a b) t = listed_in groups t
+lists_time p (LimitBusyTimes groups a b) t = listed_in groups t
+lists_time p _ t = false
+
+-- whether a rule limits workloads
+abbrev pub is_workload : Rule → Bool
+is_workload (LimitWorkload a b) = true
+is_workload _ = false
+
+-- whether a monitor's point is this resource
+abbrev pub is_at : Point → ℕ → Bool
+is_at (Resource x) r = x.0 == r
+is_at _ r = false
+
+-- the times from a start on
+abbrev pub covered : ℕ → ℕ → List ℕ
+covered start duration = range_with_len start duration
+
+-- what the places of a slot are given, with repeats
+abbrev pub given_in : Slot → List ℕ
+given_in x = filter_map (λ o. option_map_or (λ (r : ResourceId). Some r.0) o None) x.given
+
+-- the times that a slot's meet covers
+abbrev pub times_of : Slot → List ℕ
+times_of x = option_map_or (λ (y : Span). option_map_or (λ (t : TimeId). covered t.0 y.duration) y.start []) x.span []
+
+-- the cells that a change fills or empties: each of these resources at each of these times
+abbrev pub touched_resources : Slot → Change → List ℕ
+touched_resources x (PlaceAt m t) = given_in x
+touched_resources x (Lift m t) = given_in x
+touched_resources x (Give t r) = r.0 ∷ []
+touched_resources x (Take t r) = r.0 ∷ []
+touched_resources x _ = []
+
+abbrev pub touched_times : Slot → Change → List ℕ
+touched_times x (PlaceAt m t) = covered t.0 (option_map_or (λ (y : Span). y.duration) x.span 0)
+touched_times x (Lift m t) = covered t.0 (option_map_or (λ (y : Span). y.duration) x.span 0)
+touched_times x (Give t r) = times_of x
+touched_times x (Take t r) = times_of x
+touched_times x _ = []
+
+-- the resources whose workload a change alters
+abbrev pub loaded_resources : Change → List ℕ
+loaded_resources (Give t r) = r.0 ∷ []
+loaded_resources (Take t r) = r.0 ∷ []
+loaded_resources _ = []
+
+-- how often a monitor with this rule and point watches a change of a slot
+abbrev pub watches_with : Parts → Slot → Change → Rule → Point → ℕ
+watches_with p x c rule point =
+    (if names_event p rule point x.event.0 then 1 else 0)
+    + count_by (is_at point) (touched_resources x c) * count_by (lists_time p rule) (touched_times x c)
+    + (if is_workload rule then count_by (is_at point) (loaded_resources c) else 0)
+
+abbrev pub watch_count : Parts → Slot → Change → Monitor → ℕ
+watch_count p x c m = option_map_or (λ k. watches_with p x c k.rule m.point) (slice_get p.constraints m.constraint) 0
+
+-- how many watchers a change has, with repeats
+unfoldable pub watcher_count : Parts → List Slot → Change → ℕ
+watcher_count p s c = sum_by (watch_count p (slot_at s (meet_of c)) c) p.monitors
+
+-- of these, those of the served kinds
+unfoldable pub served_watchers : Parts → (Kind → Bool) → List Slot → Change → ℕ
+served_watchers p served s c = sum_by (λ m. if served m.kind then watch_count p (slot_at s (meet_of c)) c m else 0) p.monitors
+
+-- how many watchers a list of changes has, each in the state that those before it leave
+abbrev pub watcher_counts : Parts → List Slot → List Change → ℕ
+watcher_counts p s [] = 0
+watcher_counts p s (c ∷ cs) = watcher_count p s c + watcher_counts p (after s c) cs

@@ -1,0 +1,26 @@
+//! What is told of a timetable while it changes: the state as a list of slots, the six changes of
+//! it, the sixteen edits with their refusals, and the traits of those that listen: a tally of
+//! deviations, a family that keeps the deviations of some kinds, and a watcher.
+#![tactic(auto)]
+
+mod both;
+mod changes;
+mod edits;
+mod families;
+mod refusals;
+mod slots;
+mod steps;
+mod tallies;
+mod told;
+mod watchers;
+
+pub use both::Both;
+pub use changes::Change;
+pub use edits::{Back, Edit};
+pub use families::Family;
+pub use refusals::Refusal;
+pub use slots::{Slot, Span};
+pub use steps::{Blank, Steps};
+pub use tallies::Tally;
+pub use told::Told;
+pub use watchers::Watcher;

@@ -1,0 +1,49 @@
+ghost use Rattle.std.specs.Prelude.{◌≡◌, ◌≤◌, ◌+◌, ◌++◌, ◌∷◌, [], Bool, true, List, Option};
+ghost use Rattle.std.specs.Option.{option_map};
+ghost use Rattle.khe_instance.specs.declared.parts.Parts.{Parts};
+ghost use Rattle.khe_told.specs.declared.slots.Slot.{Slot};
+ghost use Rattle.khe_told.specs.declared.changes.Change.{Change};
+ghost use Rattle.khe_told.specs.Changes.{after};
+ghost use Rattle.khe_told.specs.Fits.{Fits};
+ghost use Rattle.khe_told.specs.Watchers.{watcher_count};
+
+use crate::changes::Change;
+use crate::steps::Steps;
+use khe_instance::Instance;
+use std::sync::ledger::Ledger;
+
+/// Is noted of each change of a timetable.
+///
+/// A change and then its inverse leave the told state as it was, since `note` gives `after`.
+pub trait Watcher {
+    /// The meets and tasks that it was told.
+    ghost told: { Self → List Slot };
+
+    /// That it was opened on the instance with these parts.
+    ghost IsOf: { Self → Parts → Type 0 };
+
+    /// The changes that it was noted of, in order, where it keeps them.
+    ghost noted: { Self → Option (List Change) };
+
+    /// Whether it never takes a step.
+    ghost is_silent: { Bool };
+
+    /// That all else is the same in both.
+    ghost HasSameRest: { Self → Self → Type 0 };
+
+    /// Follows a change that fits what it was told. It takes no memory, and sets a tally at most
+    /// once for each watcher of the change.
+    fn note<L: Ledger>(&mut self, inst: &Instance, change: Change, steps: &mut Steps<L>)
+        requires of { IsOf self.old inst.now }
+        requires fits { Fits inst.now (told self.old) change }
+        ensures of { IsOf self.new inst.now }
+        ensures told { told self.new ≡ after (told self.old) change }
+        ensures noted { noted self.new ≡ option_map (λ cs. cs ++ change ∷ []) (noted self.old) }
+        ensures rest { HasSameRest self.old self.new }
+        ensures steps { steps.new ≤ steps.old + watcher_count inst.now (told self.old) change }
+        ensures silent { is_silent ≡ true → steps.new ≡ steps.old };
+
+    ghost same_rest_refl: { (x : Self) → HasSameRest x x };
+
+    ghost same_rest_trans: { (x y z : Self) → HasSameRest x y → HasSameRest y z → HasSameRest x z };
+}
