@@ -10,7 +10,6 @@ pub mod limits;
 mod memory;
 mod names;
 mod numbers;
-mod refusals;
 mod sequences;
 mod sums;
 #[cfg(test)]
@@ -24,7 +23,6 @@ pub use id_sets::IdSet;
 pub use memory::NoMemory;
 pub use names::{Names, numbered};
 pub use numbers::{EventId, GroupId, MeetId, MonitorId, ResourceId, TaskId, TimeId};
-pub use refusals::Refusal;
 pub use sequences::Seq;
 pub use sums::Totals;
 pub use texts::Text;
