@@ -5,7 +5,8 @@ use Rattle.std.proofs.lemmas.List.{set-get_or, get_or-set_same, get_or-set_other
 use Rattle.std.proofs.lemmas.List.FromFn.{fill_by_all, length-map-range_with_len, get_or-map-range_with_len}
 use Rattle.std.proofs.lemmas.List.Sums.{sum_by-set, count_by-le-length}
 use Rattle.khe_base.specs.Bits.{is_set, words_for}
-use Rattle.khe_base.specs.IdSet.{has_member, with_member, member_count, set_of_bits, IsCounted, IsStored}
+use Rattle.khe_base.specs.IdSet.{has_member, with_member, member_count, IsCounted}
+use Rattle.khe_base.specs.StoredSets.{set_of_bits, IsStored}
 use Rattle.khe_base.proofs.BitsLemmas.{is_set-zeros}
 
 one_more : (xs : List Bool) (n : ℕ) (d : Bool) → n < length xs → get_or xs n d ≡ false → member_count (set xs n true) ≡ member_count xs + 1

@@ -4,7 +4,8 @@ use Rattle.std.specs.List.{range_with_len}
 use Rattle.std.proofs.lemmas.List.{append-nil, map-append, append_assoc}
 use Rattle.std.proofs.lemmas.List.FromFn.{filter_of_map_range_with_len_more}
 use Rattle.khe_base.specs.Bits.{has_bit, is_set, words_for}
-use Rattle.khe_base.specs.IdSet.{has_member, members_of, members_in, members_below, set_of_bits, IsStored}
+use Rattle.khe_base.specs.IdSet.{has_member, members_of}
+use Rattle.khe_base.specs.StoredSets.{members_in, members_below, set_of_bits, IsStored}
 use Rattle.khe_base.proofs.BitsLemmas.{has_bit-zero, is_set-place}
 use Rattle.khe_base.proofs.IdSetLemmas.{length-set_of_bits, has_member-set_of_bits}
 

@@ -8,6 +8,10 @@ outside n least greatest =
     else if int_lt greatest n then unsigned_abs (n -ℤ greatest)
     else 0
 
+-- the same of a count, which isn't below 0, and of such bounds
+abbrev pub count_outside : ℕ → ℕ → ℕ → ℕ
+count_outside n least greatest = outside (pos n) (pos least) (pos greatest)
+
 -- between -10^12 and 10^12
 abbrev pub IsNearZero : ℤ → Type 0
 IsNearZero n = (neg_ℤ (pos 1000000000000) ≤ℤ n) × (n ≤ℤ pos 1000000000000)

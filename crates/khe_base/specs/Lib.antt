@@ -1,7 +1,11 @@
 pub mod Bits
 pub mod Bounds
+pub mod BoundsLaws
+pub mod Busy
 pub mod Costs
 pub mod IdSet
 pub mod Names
+pub mod StoredSets
 pub mod Text
+pub mod Totals
 pub mod Units

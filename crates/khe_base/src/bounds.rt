@@ -1,5 +1,5 @@
-ghost use Rattle.std.specs.Prelude.{◌≡◌};
-ghost use Rattle.khe_base.specs.Bounds.{IsNearZero, outside};
+ghost use Rattle.std.specs.Prelude.{◌≡◌, ◌≤◌, ◌+◌};
+ghost use Rattle.khe_base.specs.Bounds.{IsNearZero, outside, count_outside};
 
 /// How far a number lies outside two bounds: below the least, or else above the greatest, or 0. The
 /// least comes first where it is above the greatest. Each of the three lies between -10^12 and
@@ -20,4 +20,14 @@ pub fn out(n: i64, min: i64, max: i64) -> u64
     } else {
         0
     }
+}
+
+/// The same for a count, which isn't below 0, and the bounds of a constraint. It takes constant
+/// time and no memory.
+pub fn count_out(count: u64, min: u32, max: u32) -> u64
+    requires { count ≤ 1000000000000 }
+    ensures exact { result ≡ count_outside count min max }
+    ensures small { result ≤ count + min }
+{
+    out(count as i64, i64::from(min), i64::from(max))
 }

@@ -1,6 +1,7 @@
 ghost use Rattle.std.specs.Prelude.{◌≡◌, ◌==◌, ◌++◌, ◌+◌, ◌*◌, ◌<◌, ◌≤◌, ◌^◌, ℕ, false, length, map, IfOk, OnOk};
 ghost use Rattle.khe_base.specs.Bits.{is_set, words_for};
-ghost use Rattle.khe_base.specs.IdSet.{no_members, has_member, with_member, members_of, members_in, members_below, member_count};
+ghost use Rattle.khe_base.specs.IdSet.{no_members, has_member, with_member, members_of, member_count};
+ghost use Rattle.khe_base.specs.StoredSets.{members_in, members_below};
 
 use crate::bits::{has_bit, is_set, no_bits, set_bit};
 use crate::{NoMemory, Seq};
@@ -20,7 +21,7 @@ pub struct IdSet {
 
 impl Model for IdSet {
     ghost use Rattle.std.specs.Prelude.{List, Bool};
-    ghost use Rattle.khe_base.specs.IdSet.{set_of_bits, IsStored};
+    ghost use Rattle.khe_base.specs.StoredSets.{set_of_bits, IsStored};
 
     ghost Value = { List Bool };
 
@@ -36,7 +37,7 @@ impl IdSet {
         ensures { IfOk result (λ s. s ≡ no_members size) }
     {
         Ok(IdSet {
-            words: no_bits(alloc, (size as usize + 63) / 64)?,
+            words: no_bits(alloc, (size as usize).div_ceil(64))?,
             size,
             count: 0,
         })

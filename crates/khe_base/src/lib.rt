@@ -11,19 +11,21 @@ mod memory;
 mod names;
 mod numbers;
 mod sequences;
+mod sharing;
 mod sums;
 #[cfg(test)]
 mod tests;
 mod texts;
 mod units;
 
-pub use bounds::out;
+pub use bounds::{count_out, out};
 pub use costs::{CostFn, cost};
 pub use id_sets::IdSet;
 pub use memory::NoMemory;
 pub use names::{Names, numbered};
 pub use numbers::{EventId, GroupId, MeetId, MonitorId, ResourceId, TaskId, TimeId};
 pub use sequences::Seq;
+pub use sharing::lends_to_threads;
 pub use sums::Totals;
 pub use texts::Text;
 pub use units::least_multiple;

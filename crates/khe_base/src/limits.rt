@@ -11,7 +11,7 @@ pub const NUMBER: u32 = 1_000_000;
 pub const GREATEST_BOUND: u32 = 2_147_483_647;
 
 /// The greatest number of times of an instance.
-pub const TIMES: u32 = 2_000;
+pub const TIMES: u32 = 4_000;
 
 /// The greatest number of time groups of an instance, weeks and days among them.
 pub const TIME_GROUPS: u32 = 10_000;
@@ -38,7 +38,7 @@ pub const CONSTRAINTS: u32 = 10_000;
 pub const DURATION: u32 = 100_000;
 
 /// The greatest number of tasks of an instance: for each event its duration times its resources.
-pub const TASKS: u32 = 200_000;
+pub const TASKS: u32 = 400_000;
 
 /// The greatest number of cells of an instance: its resources times its times.
 pub const CELLS: u32 = 4_000_000;
@@ -62,23 +62,28 @@ pub const SOLUTIONS: u32 = 10_000;
 /// The greatest weight of a constraint.
 pub const WEIGHT: u32 = 1_000_000;
 
-/// The greatest deviation that the limits allow: 2 * 10^11.
-pub const GREATEST_DEVIATION: u64 = 200_000_000_000;
+/// The greatest number of elements of an archive that are open at once.
+pub const DEPTH: u32 = 32;
+
+/// The greatest number of groups of monitors of a state.
+pub const GROUPS: u32 = 200;
+
+/// The greatest number of open marks.
+pub const MARKS: u32 = 1_000;
+
+/// The greatest deviation that the limits allow, 4 * 10^11: that of a resource which has all tasks,
+/// each with the greatest workload.
+pub const GREATEST_DEVIATION: u64 = TASKS as u64 * NUMBER as u64;
 
 /// The greatest cost of one monitor that the limits allow: the greatest weight times the square of
-/// the greatest deviation, 4 * 10^28.
-pub const GREATEST_COST: u128 = 40_000_000_000_000_000_000_000_000_000;
+/// the greatest deviation, 1.6 * 10^29.
+pub const GREATEST_COST: u128 =
+    WEIGHT as u128 * GREATEST_DEVIATION as u128 * GREATEST_DEVIATION as u128;
 
 /// The greatest hard or soft total that the limits allow, of all monitors or of a group of them:
-/// 4 * 10^34.
-pub const GREATEST_TOTAL: u128 = 40_000_000_000_000_000_000_000_000_000_000_000;
+/// 1.6 * 10^35.
+pub const GREATEST_TOTAL: u128 = MONITORS as u128 * GREATEST_COST;
 
 /// The greatest count of one cell of a timetable, a resource and a time: the greatest number of
 /// tasks.
-pub const GREATEST_COUNT: u32 = 200_000;
-
-/// The greatest number of open marks of a journal.
-pub const MARKS: u32 = 1_000;
-
-/// The greatest number of groups of monitors: group numbers are below it.
-pub const GROUPS: u32 = 200;
+pub const GREATEST_COUNT: u32 = TASKS;

@@ -3,6 +3,7 @@ use Rattle.std.specs.Prelude.{ℕ, Bool, List, length, slice_get}
 use Rattle.std.specs.Option.{option_map_or}
 use Rattle.khe_instance.specs.EventDeviation as event
 use Rattle.khe_instance.specs.ResourceDeviation as resource
+use Rattle.khe_instance.specs.Running.{running_tasks}
 use Rattle.khe_instance.specs.declared.states.Duty.{Duty}
 use Rattle.khe_instance.specs.declared.parts.Parts.{Parts}
 use Rattle.khe_instance.specs.declared.points.Point.{Point}
@@ -39,15 +40,19 @@ pair_deviation meets (OrderEvents pairs) k =
     option_map_or (λ p. event.order_events meets p.first.0 p.second.0 p.min p.max) (slice_get pairs k) 0
 pair_deviation meets _ k = 0
 
+-- at a resource, by how many of its tasks run at each time and by its workload
+abbrev pub measured : Parts → Rule → (ℕ → ℕ) → ℕ → ℕ
+measured parts AvoidClashes counts workload = resource.avoid_clashes counts (length parts.times)
+measured parts (AvoidUnavailableTimes times) counts workload = resource.avoid_unavailable_times counts times
+measured parts (LimitIdleTimes groups least greatest) counts workload = resource.limit_idle_times counts groups least greatest
+measured parts (ClusterBusyTimes groups least greatest) counts workload = resource.cluster_busy_times counts groups least greatest
+measured parts (LimitBusyTimes groups least greatest) counts workload = resource.limit_busy_times counts groups least greatest
+measured parts (LimitWorkload least greatest) counts workload = resource.limit_workload parts.unit workload least greatest
+measured parts _ counts workload = 0
+
 -- at a resource
 abbrev pub resource_deviation : Parts → List Duty → Rule → ℕ → ℕ
-resource_deviation parts ds AvoidClashes r = resource.avoid_clashes ds (length parts.times) r
-resource_deviation parts ds (AvoidUnavailableTimes times) r = resource.avoid_unavailable_times ds r times
-resource_deviation parts ds (LimitIdleTimes groups least greatest) r = resource.limit_idle_times ds r groups least greatest
-resource_deviation parts ds (ClusterBusyTimes groups least greatest) r = resource.cluster_busy_times ds r groups least greatest
-resource_deviation parts ds (LimitBusyTimes groups least greatest) r = resource.limit_busy_times ds r groups least greatest
-resource_deviation parts ds (LimitWorkload least greatest) r = resource.limit_workload parts.events parts.unit ds r least greatest
-resource_deviation parts ds _ r = 0
+resource_deviation parts ds rule r = measured parts rule (running_tasks ds r) (resource.workload_in parts.events parts.unit ds r)
 
 -- a rule's deviation at a point
 abbrev pub deviation_at : Parts → List Meet → List Duty → Rule → Point → ℕ

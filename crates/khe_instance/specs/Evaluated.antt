@@ -1,9 +1,9 @@
 -- What a timetable costs: the deviations and costs of its monitors in their order, and the totals,
 -- added up anew from its meets and tasks.
-use Rattle.std.specs.Prelude.{ℕ, ◌==◌, Bool, not, List, map}
-use Rattle.std.specs.List.{filter, list_any, sum_by, enumerate_from}
+use Rattle.std.specs.Prelude.{ℕ, ◌==◌, Bool, List, map}
+use Rattle.std.specs.List.{list_any}
 use Rattle.khe_base.specs.declared.sums.Totals.{Totals}
-use Rattle.khe_instance.specs.Costs.{monitor_cost, is_hard}
+use Rattle.khe_instance.specs.Costs.{costs_of, totals_of}
 use Rattle.khe_instance.specs.Deviation.{deviation}
 use Rattle.khe_instance.specs.Running.{duties}
 use Rattle.khe_instance.specs.declared.parts.Parts.{Parts}
@@ -22,17 +22,10 @@ deviations p s = map (deviation_in p s) p.monitors
 abbrev pub is_detached : Plain → ℕ → Bool
 is_detached s m = list_any (λ d. d.0 == m) s.detached
 
--- the cost of a monitor with its number
-abbrev pub cost_in : Parts → Plain → ℕ × Monitor → ℕ
-cost_in p s (number, m) = monitor_cost p (is_detached s number) m (deviation_in p s m)
-
 -- the costs of all monitors
 abbrev pub costs : Parts → Plain → List ℕ
-costs p s = map (cost_in p s) (enumerate_from 0 p.monitors)
+costs p s = costs_of p (is_detached s) (deviations p s)
 
--- the costs of the monitors of required constraints are hard, those of all others are soft
+-- their totals
 abbrev pub totals : Parts → Plain → Totals
-totals p s = record {
-  hard = sum_by (cost_in p s) (filter (λ (number, m). is_hard p m) (enumerate_from 0 p.monitors));
-  soft = sum_by (cost_in p s) (filter (λ (number, m). not (is_hard p m)) (enumerate_from 0 p.monitors));
-}
+totals p s = totals_of p (costs p s)

@@ -3,11 +3,13 @@ pub mod Deviation
 pub mod Evaluated
 pub mod EventDeviation
 pub mod Examples
+pub mod KindLaws
 pub mod Kinds
+pub mod Lookups
 pub mod Named
 pub mod ResourceDeviation
 pub mod Running
 pub mod Slots
 pub mod States
+pub mod Watching
 pub mod WellMade
-pub mod Within

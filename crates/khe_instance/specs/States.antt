@@ -3,11 +3,12 @@
 use Rattle.std.specs.Prelude.{ℕ, ◌≡◌, ◌+◌, ◌<◌, ◌≤◌, Option, Some, List, [], ◌∷◌, map, length, All, AllPairs, ◌≢◌, IfSome, slice_get}
 use Rattle.std.specs.List.{sum_by, flat_map, range_with_len}
 use Rattle.std.specs.List.Sorted.{IsStrictlyIncreasing}
-use Rattle.std.specs.Option.{option_and_then, option_map_or}
+use Rattle.khe_base.specs.declared.limits.TheConstants.{GROUPS}
 use Rattle.khe_base.specs.declared.numbers.TaskId.{TaskId}
+use Rattle.khe_instance.specs.Lookups.{place_at, places_at}
 use Rattle.khe_instance.specs.Running.{duties, meets_of}
 use Rattle.khe_instance.specs.declared.states.Duty.{Duty}
-use Rattle.khe_instance.specs.Slots.{HasSlot}
+use Rattle.khe_instance.specs.Slots.{HasSlot, slot_tasks}
 use Rattle.khe_instance.specs.WellMade.{HasType}
 use Rattle.khe_instance.specs.declared.parts.EventInfo.{EventInfo}
 use Rattle.khe_instance.specs.declared.parts.Parts.{Parts}
@@ -15,10 +16,7 @@ use Rattle.khe_instance.specs.declared.parts.Place.{Place}
 use Rattle.khe_instance.specs.declared.states.Group.{Group}
 use Rattle.khe_instance.specs.declared.states.Meet.{Meet}
 use Rattle.khe_instance.specs.declared.states.Plain.{Plain}
-
--- the greatest number of groups of monitors
-abbrev pub GROUPS : ℕ
-GROUPS = 200
+use Rattle.khe_instance.specs.declared.states.Task.{Task}
 
 -- a meet stands in a slot of its event, and ends with the last time or before
 pub record IsMeet (p : Parts) (m : Meet) : Type 0 where
@@ -26,36 +24,32 @@ pub record IsMeet (p : Parts) (m : Meet) : Type 0 where
   pub duration : 1 ≤ m.duration
   pub ends : IfSome m.start (λ s. s.0 + m.duration ≤ length p.times)
 
--- how many places an event has
-abbrev pub places_at : List EventInfo → ℕ → ℕ
-places_at events e = option_map_or (λ event. length event.places) (slice_get events e) 0
-
 -- the tasks of a meet: one for each place of its event
 abbrev pub tasks_of : Parts → Meet → List TaskId
-tasks_of p m = map (λ k. record { meet = m.meet; place = k }) (range_with_len 0 (places_at p.events m.event.0))
+tasks_of p m = slot_tasks m.meet.0 (places_at p.events m.event.0)
 
 -- the place that a task with its meet fills
 abbrev pub place_of : Parts → Duty → Option Place
-place_of p d = option_and_then (λ event. slice_get event.places d.place) (slice_get p.events d.meet.event.0)
+place_of p d = place_at p.events d.meet.event.0 d.place
 
 -- a given resource has the type of its place
 abbrev pub IsGiven : Parts → Duty → Type 0
 IsGiven p d = IfSome (place_of p d) (λ place. IfSome d.resource (HasType p place.rtype))
 
 -- the meets of each event last no longer together than the event does, and each place of each meet
--- has one task and no other
-pub record IsTold (p : Parts) (s : Plain) : Type 0 where
-  pub meets : All (IsMeet p) s.meets
-  pub ascending : IsStrictlyIncreasing (map (λ m. m.meet.0) s.meets)
-  pub durations : (e : ℕ) (event : EventInfo) → slice_get p.events e ≡ Some event → sum_by (λ m. m.duration) (meets_of e s.meets) ≤ event.duration
-  pub tasks : map (λ t. t.task) s.tasks ≡ flat_map (tasks_of p) s.meets
-  pub given : All (IsGiven p) (duties s.meets s.tasks)
+-- has one task and no other; which monitors are detached, and the groups, play no part in this
+pub record IsTold (p : Parts) (ms : List Meet) (ts : List Task) : Type 0 where
+  pub meets : All (IsMeet p) ms
+  pub ascending : IsStrictlyIncreasing (map (λ m. m.meet.0) ms)
+  pub durations : (e : ℕ) (event : EventInfo) → slice_get p.events e ≡ Some event → sum_by (λ m. m.duration) (meets_of e ms) ≤ event.duration
+  pub tasks : map (λ t. t.task) ts ≡ flat_map (tasks_of p) ms
+  pub given : All (IsGiven p) (duties ms ts)
 
 -- the meets of an event last as long as it does, and one with a preassigned time has one meet, which
 -- starts then
-pub record IsPlaced (s : Plain) (e : ℕ) (event : EventInfo) : Type 0 where
-  pub whole : sum_by (λ m. m.duration) (meets_of e s.meets) ≡ event.duration
-  pub fixed : IfSome event.fixed (λ t. map (λ m. m.start) (meets_of e s.meets) ≡ Some t ∷ [])
+pub record IsPlaced (ms : List Meet) (e : ℕ) (event : EventInfo) : Type 0 where
+  pub whole : sum_by (λ m. m.duration) (meets_of e ms) ≡ event.duration
+  pub fixed : IfSome event.fixed (λ t. map (λ m. m.start) (meets_of e ms) ≡ Some t ∷ [])
 
 -- a place with a preassigned resource has it
 abbrev pub IsKept : Parts → Duty → Type 0
@@ -69,8 +63,8 @@ pub record IsGroup (p : Parts) (g : Group) : Type 0 where
 
 -- a timetable that stands whole
 pub record IsValid (p : Parts) (s : Plain) : Type 0 where
-  pub told : IsTold p s
-  pub events : (e : ℕ) (event : EventInfo) → slice_get p.events e ≡ Some event → IsPlaced s e event
+  pub told : IsTold p s.meets s.tasks
+  pub events : (e : ℕ) (event : EventInfo) → slice_get p.events e ≡ Some event → IsPlaced s.meets e event
   pub kept : All (IsKept p) (duties s.meets s.tasks)
   pub detached : All (λ m. m.0 < length p.monitors) s.detached
   pub detached_once : IsStrictlyIncreasing (map (λ m. m.0) s.detached)

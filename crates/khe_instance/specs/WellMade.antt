@@ -1,17 +1,17 @@
 -- Which parts make an instance: every number names something, every set has the size of what it is
 -- a set of, and so on. Each fact has a name.
-use Rattle.std.specs.Prelude.{ℕ, ◌+◌, ◌*◌, ◌≡◌, ◌≢◌, if◌then◌else◌, ◌<◌, ◌≤◌, ◌==◌, ◌⊎◌, Bool, true, Some, List, [], ◌∷◌, map, length, All, AllPairs, slice_get, IfSome, IsSome}
+use Rattle.std.specs.Prelude.{ℕ, ◌+◌, ◌*◌, ◌≡◌, ◌≢◌, ◌<◌, ◌≤◌, ◌==◌, ◌⊎◌, Bool, true, Some, List, [], ◌∷◌, map, length, All, AllPairs, slice_get, IfSome, IsSome}
 use Rattle.std.specs.List.{filter, filter_map, sum_by, range_with_len}
 use Rattle.std.specs.List.Sorted.{IsNonDecreasing}
-use Rattle.std.specs.Option.{option_map, option_map_or}
-use Rattle.khe_base.specs.IdSet.{member_count}
+use Rattle.std.specs.Option.{option_map}
 use Rattle.khe_base.specs.Names.{are_distinct}
 use Rattle.khe_base.specs.Units.{IsUnit}
 use Rattle.khe_base.specs.declared.limits.TheConstants.{NUMBER, GREATEST_BOUND, TIMES, RESOURCE_TYPES, RESOURCES, EVENTS, EVENT_GROUPS, CONSTRAINTS, DURATION, TASKS, CELLS, LISTED, MONITORS, WATCHES, UNIT, WEIGHT}
 use Rattle.khe_base.specs.declared.numbers.EventId.{EventId}
 use Rattle.khe_base.specs.declared.numbers.ResourceId.{ResourceId}
-use Rattle.khe_instance.specs.EventDeviation.{role_at}
 use Rattle.khe_instance.specs.Kinds.{kind_of}
+use Rattle.khe_instance.specs.Lookups.{role_at}
+use Rattle.khe_instance.specs.Watching.{watches}
 use Rattle.khe_instance.specs.declared.parts.EventInfo.{EventInfo}
 use Rattle.khe_instance.specs.declared.parts.Parts.{Parts}
 use Rattle.khe_instance.specs.declared.parts.Place.{Place}
@@ -139,32 +139,6 @@ pub record AreMonitors (p : Parts) : Type 0 where
   pub ordered : IsNonDecreasing (map (λ m. m.constraint) p.monitors)
   pub once : (c : ℕ) → AllPairs (λ x y. x ≢ y) (points_of p c)
   pub pairs : (k : ℕ) (c : Constraint) → slice_get p.constraints k ≡ Some c → HasItsPairs (points_of p k) c.rule
-
--- how many events, or listed times with repeats, a rule's monitor at a point watches
-abbrev pub group_size : Parts → ℕ → ℕ
-group_size p g = option_map_or (λ group. member_count group.events) (slice_get p.groups g) 0
-
-abbrev pub pair_size : Rule → ℕ → ℕ
-pair_size (OrderEvents pairs) k = option_map_or (λ q. if q.first.0 == q.second.0 then 1 else 2) (slice_get pairs k) 0
-pair_size _ k = 0
-
-abbrev pub listed_times : Parts → Rule → ℕ
-listed_times p AvoidClashes = length p.times
-listed_times p (AvoidUnavailableTimes times) = member_count times
-listed_times p (LimitIdleTimes groups least greatest) = sum_by member_count groups
-listed_times p (ClusterBusyTimes groups least greatest) = sum_by member_count groups
-listed_times p (LimitBusyTimes groups least greatest) = sum_by member_count groups
-listed_times p _ = 1
-
-abbrev pub watches_at : Parts → Rule → Point → ℕ
-watches_at p rule (Event e) = 1
-watches_at p rule (EventResource e place) = 1
-watches_at p rule (EventGroup g) = group_size p g
-watches_at p rule (Pair k) = pair_size rule k
-watches_at p rule (Resource r) = listed_times p rule
-
-abbrev pub watches : Parts → Monitor → ℕ
-watches p m = option_map_or (λ c. watches_at p c.rule m.point) (slice_get p.constraints m.constraint) 0
 
 -- the limits on sizes, as far as parts show them
 pub record AreWithinLimits (p : Parts) : Type 0 where

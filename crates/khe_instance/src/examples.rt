@@ -1,14 +1,12 @@
 //! What the definitions give on small timetables, from worked examples of the format. Each
-//! function's contract is an example: it is proved, and running it does nothing more.
+//! function's contract is an example: it is proved, and nothing calls it.
+#![allow(dead_code)]
 
 ghost use Rattle.std.specs.Prelude.{◌≡◌, Some, None, true, false, [], ◌∷◌, codes};
 ghost use Rattle.khe_instance.specs.EventDeviation as event;
 ghost use Rattle.khe_instance.specs.ResourceDeviation as resource;
+ghost use Rattle.khe_instance.specs.Running.{running_tasks};
 ghost use Rattle.khe_instance.specs.Examples.{meet, unplaced, task, free, given, day, two, lecture, spread};
-
-use crate::{Instance, Parts, Plain};
-use khe_base::{Seq, Text};
-use std::test::Fail;
 
 // A meet of duration 3 without a start, and one that is placed.
 fn assign_time_adds_durations()
@@ -69,87 +67,35 @@ fn order_events_measures_the_gap()
 
 // Three tasks at one time, two of them of one meet.
 fn avoid_clashes_counts_tasks()
-    ensures { resource.avoid_clashes (task (meet 0 0 1 3) ∷ task (meet 0 0 1 3) ∷ task (meet 1 1 1 3) ∷ []) 5 0 ≡ 2 }
+    ensures { resource.avoid_clashes (running_tasks (task (meet 0 0 1 3) ∷ task (meet 0 0 1 3) ∷ task (meet 1 1 1 3) ∷ []) 0) 5 ≡ 2 }
 {}
 
 // A meet that covers two unavailable times.
 fn avoid_unavailable_times_counts_times()
-    ensures { resource.avoid_unavailable_times (task (meet 0 0 3 1) ∷ task (meet 3 1 1 2) ∷ []) 0 (false ∷ true ∷ true ∷ false ∷ []) ≡ 2 }
+    ensures { resource.avoid_unavailable_times (running_tasks (task (meet 0 0 3 1) ∷ task (meet 3 1 1 2) ∷ []) 0) (false ∷ true ∷ true ∷ false ∷ []) ≡ 2 }
 {}
 
 // A day of five times, busy at the first, third and fifth. A day that is listed twice counts twice.
 fn limit_idle_times_counts_times_between()
-    ensures between { resource.limit_idle_times (task (meet 0 0 1 0) ∷ task (meet 1 1 1 2) ∷ task (meet 2 2 1 4) ∷ []) 0 (day ∷ []) 0 0 ≡ 2 }
-    ensures one { resource.limit_idle_times (task (meet 0 0 1 2) ∷ []) 0 (day ∷ []) 0 0 ≡ 0 }
-    ensures twice { resource.limit_idle_times (task (meet 0 0 1 2) ∷ []) 0 (day ∷ day ∷ []) 1 5 ≡ 1 }
+    ensures between { resource.limit_idle_times (running_tasks (task (meet 0 0 1 0) ∷ task (meet 1 1 1 2) ∷ task (meet 2 2 1 4) ∷ []) 0) (day ∷ []) 0 0 ≡ 2 }
+    ensures one { resource.limit_idle_times (running_tasks (task (meet 0 0 1 2) ∷ []) 0) (day ∷ []) 0 0 ≡ 0 }
+    ensures twice { resource.limit_idle_times (running_tasks (task (meet 0 0 1 2) ∷ []) 0) (day ∷ day ∷ []) 1 5 ≡ 1 }
 {}
 
 // A busy day and a free one, where none is to be busy.
 fn cluster_busy_times_counts_groups()
-    ensures { resource.cluster_busy_times (task (meet 0 0 1 2) ∷ []) 0 (day ∷ (true ∷ true ∷ []) ∷ []) 0 0 ≡ 1 }
+    ensures { resource.cluster_busy_times (running_tasks (task (meet 0 0 1 2) ∷ []) 0) (day ∷ (true ∷ true ∷ []) ∷ []) 0 0 ≡ 1 }
 {}
 
 // A day without a busy time costs nothing, one with a busy time lacks one.
 fn limit_busy_times_passes_over_free_groups()
-    ensures none { resource.limit_busy_times [] 0 (day ∷ []) 2 3 ≡ 0 }
-    ensures one { resource.limit_busy_times (task (meet 0 0 1 2) ∷ []) 0 (day ∷ []) 2 3 ≡ 1 }
+    ensures none { resource.limit_busy_times (running_tasks [] 0) (day ∷ []) 2 3 ≡ 0 }
+    ensures one { resource.limit_busy_times (running_tasks (task (meet 0 0 1 2) ∷ []) 0) (day ∷ []) 2 3 ≡ 1 }
 {}
 
 // An event of duration 3 and workload 4: one part of duration 1 is worth a third of 4.
 fn limit_workload_rounds_once()
-    ensures excess { resource.limit_workload (lecture ∷ []) 3 (task (unplaced 0 0 1) ∷ []) 0 0 1 ≡ 1 }
-    ensures whole { resource.limit_workload (lecture ∷ []) 3 (task (unplaced 0 0 1) ∷ task (unplaced 1 0 1) ∷ task (unplaced 2 0 1) ∷ []) 0 0 4 ≡ 0 }
-    ensures shortfall { resource.limit_workload (lecture ∷ []) 3 (task (unplaced 0 0 1) ∷ []) 0 2 3 ≡ 1 }
+    ensures excess { resource.limit_workload 3 (resource.workload_in (lecture ∷ []) 3 (task (unplaced 0 0 1) ∷ []) 0) 0 1 ≡ 1 }
+    ensures whole { resource.limit_workload 3 (resource.workload_in (lecture ∷ []) 3 (task (unplaced 0 0 1) ∷ task (unplaced 1 0 1) ∷ task (unplaced 2 0 1) ∷ []) 0) 0 4 ≡ 0 }
+    ensures shortfall { resource.limit_workload 3 (resource.workload_in (lecture ∷ []) 3 (task (unplaced 0 0 1) ∷ []) 0) 2 3 ≡ 1 }
 {}
-
-#[test]
-fn examples_are_proved() {
-    assign_time_adds_durations();
-    assign_resource_adds_durations();
-    split_events_counts_meets_and_amounts();
-    distribute_split_events_counts_one_duration();
-    prefer_times_looks_at_starts();
-    prefer_resources_adds_durations();
-    avoid_split_assignments_counts_resources();
-    spread_events_counts_starts();
-    link_events_counts_times();
-    order_events_measures_the_gap();
-    avoid_clashes_counts_tasks();
-    avoid_unavailable_times_counts_times();
-    limit_idle_times_counts_times_between();
-    cluster_busy_times_counts_groups();
-    limit_busy_times_passes_over_free_groups();
-    limit_workload_rounds_once();
-}
-
-// Threads may be handed such a value, and read it together.
-fn lends_to_threads<T: Send + Sync>(_value: &T) {}
-
-// An instance without times, resources and events, and its one timetable.
-#[test]
-fn an_instance_of_nothing(rt: HostRuntime) -> Result<(), Fail> {
-    let alloc = rt.alloc();
-    let parts = Parts {
-        id: Text::from_str(alloc, "nothing")?,
-        times: Seq::new(alloc),
-        types: 0,
-        resources: Seq::new(alloc),
-        groups: Seq::new(alloc),
-        events: Seq::new(alloc),
-        constraints: Seq::new(alloc),
-        monitors: Seq::new(alloc),
-        unit: 1,
-    };
-    let instance = Instance::new(alloc, parts)?;
-    let plain = Plain {
-        meets: Seq::new(alloc),
-        tasks: Seq::new(alloc),
-        detached: Seq::new(alloc),
-        groups: Seq::new(alloc),
-    };
-    lends_to_threads(&instance);
-    lends_to_threads(&plain);
-    assert_eq!(rt; instance.times(), 0);
-    assert_eq!(rt; instance.unit(), 1);
-    Ok(())
-}

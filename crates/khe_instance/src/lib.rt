@@ -2,7 +2,6 @@
 //! and monitors, and the timetables that are made for it.
 #![tactic(auto)]
 
-#[cfg(test)]
 mod examples;
 mod ids;
 mod instances;

@@ -3,7 +3,8 @@ use Rattle.std.proofs.Common.{◌≡◌, ◌∙◌, sym, ap, ap₂, subst, ℕ, 
 use Rattle.std.specs.Int.{bit_not, w64}
 use Rattle.std.proofs.lemmas.Nat.{and_le_l}
 use Rattle.khe_base.specs.Bits.{has_bit, is_set}
-use Rattle.khe_base.specs.IdSet.{has_member, set_of_bits}
+use Rattle.khe_base.specs.IdSet.{has_member}
+use Rattle.khe_base.specs.StoredSets.{set_of_bits}
 use Rattle.khe_base.proofs.BitsLemmas.{has_bit-and, has_bit-not, is_set-place}
 use Rattle.khe_base.proofs.IdSetLemmas.{length-set_of_bits, has_member-set_of_bits}
 use Rattle.timetables.specs.Counts.{count_below, is_idle_time}

@@ -23,7 +23,7 @@ pub struct Mask {
 
 impl Model for Mask {
     ghost use Rattle.std.specs.Prelude.{List, Bool};
-    ghost use Rattle.khe_base.specs.IdSet.{set_of_bits};
+    ghost use Rattle.khe_base.specs.StoredSets.{set_of_bits};
     ghost use Rattle.timetables.specs.Stored.{IsWithin};
 
     ghost Value = { List Bool };

@@ -1,6 +1,6 @@
 -- The numbers of the places so far were added.
 use Rattle.std.proofs.Common.{◌≡◌, ◌++◌}
-use Rattle.khe_base.specs.IdSet.{members_in}
+use Rattle.khe_base.specs.StoredSets.{members_in}
 use Rattle.khe_base.proofs.id_sets.push_members.Given as goal
 
 abbrev pub invariant-loop-place : goal.invariant-loop-place

@@ -1,6 +1,7 @@
 use Rattle.std.proofs.Common.{◌≡◌, ◌*◌, ◌≤◌, ◌^◌, ◌∙◌, ap, subst, sym, List, ℕ, length}
 use Rattle.std.proofs.lemmas.Result.{IfOk-weaker}
-use Rattle.khe_base.specs.IdSet.{members_below, members_of}
+use Rattle.khe_base.specs.IdSet.{members_of}
+use Rattle.khe_base.specs.StoredSets.{members_below}
 use Rattle.khe_base.proofs.MembersLemmas.{members_below-whole, words_fit}
 use Rattle.khe_base.proofs.id_sets.IdSet.members.Goals as goal
 
