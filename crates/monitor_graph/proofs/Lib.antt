@@ -1,0 +1,5 @@
+pub mod JoinedLaws
+pub mod LineLaws
+pub mod ListLaws
+pub mod RowLaws
+pub mod SeatLaws

@@ -1,0 +1,9 @@
+//! Deviations of monitors as costs: totals that each change keeps, the defects in the order of their
+//! numbers, the monitors that became dearer, and groups of monitors.
+#![tactic(auto)]
+
+mod groups;
+mod lines;
+mod rows;
+
+pub use lines::Line;
