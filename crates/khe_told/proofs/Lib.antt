@@ -1,5 +1,6 @@
 pub mod ApartLaws
-pub mod Bridge
-pub mod Opening
+pub mod DutyLaws
+pub mod OpeningLaws
 pub mod SlotLaws
+pub mod StoredLaws
 pub mod WatcherLaws

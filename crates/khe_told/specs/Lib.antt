@@ -4,4 +4,5 @@ pub mod Fits
 pub mod Lists
 pub mod Refusals
 pub mod Slots
+pub mod Stored
 pub mod Watchers

@@ -2,58 +2,23 @@
 -- monitors that name its event. Where it fills or empties cells, pairs of a resource and a time,
 -- each is watched by the monitors of the resource that list the time. A Give or a Take is watched
 -- besides by those that limit the resource's workload.
-use Rattle.std.specs.Prelude.{ℕ, ◌+◌, ◌*◌, ◌==◌, Bool, true, false, if◌then◌else◌, Some, None, List, [], ◌∷◌, slice_get}
-use Rattle.std.specs.List.{sum_by, count_by, list_any, filter_map, range_with_len}
+use Rattle.std.specs.Prelude.{ℕ, ◌+◌, ◌*◌, Bool, if◌then◌else◌, Some, None, List, [], ◌∷◌, slice_get}
+use Rattle.std.specs.List.{sum_by, count_by, filter_map, range_with_len}
 use Rattle.std.specs.Option.{option_map_or}
-use Rattle.khe_base.specs.IdSet.{has_member}
 use Rattle.khe_base.specs.declared.numbers.ResourceId.{ResourceId}
 use Rattle.khe_base.specs.declared.numbers.TimeId.{TimeId}
+use Rattle.khe_instance.specs.Watching.{is_at, is_workload, lists_time, names_event}
 use Rattle.khe_instance.specs.declared.parts.Parts.{Parts}
 use Rattle.khe_instance.specs.declared.points.Monitor.{Monitor}
 use Rattle.khe_instance.specs.declared.points.Point.{Point}
-use Rattle.khe_instance.specs.declared.points.Point.TheVariants.{Event, EventResource, EventGroup, EventPair as Pair, Resource}
 use Rattle.khe_instance.specs.declared.rules.Kind.{Kind}
 use Rattle.khe_instance.specs.declared.rules.Rule.{Rule}
-use Rattle.khe_instance.specs.declared.rules.Rule.TheVariants.{OrderEvents, AvoidClashes, AvoidUnavailableTimes, LimitIdleTimes, ClusterBusyTimes, LimitBusyTimes, LimitWorkload}
 use Rattle.khe_told.specs.Slots.{slot_at}
 use Rattle.khe_told.specs.Changes.{after, meet_of}
 use Rattle.khe_told.specs.declared.slots.Slot.{Slot}
 use Rattle.khe_told.specs.declared.slots.Span.{Span}
 use Rattle.khe_told.specs.declared.changes.Change.{Change}
 use Rattle.khe_told.specs.declared.changes.Change.TheVariants.{Place as PlaceAt, Lift, Give, Take}
-
--- whether a monitor's point is the event or one of its event resources, a group that has it or a
--- pair that names it
-abbrev pub names_event : Parts → Rule → Point → ℕ → Bool
-names_event p rule (Event x) e = x.0 == e
-names_event p rule (EventResource x place) e = x.0 == e
-names_event p rule (EventGroup g) e = option_map_or (λ group. has_member group.events e) (slice_get p.groups g) false
-names_event p (OrderEvents pairs) (Pair k) e = option_map_or (λ q. if q.first.0 == e then true else q.second.0 == e) (slice_get pairs k) false
-names_event p rule (Pair k) e = false
-names_event p rule (Resource r) e = false
-
--- whether one of several time groups has a time
-abbrev pub listed_in : List (List Bool) → ℕ → Bool
-listed_in groups t = list_any (λ g. has_member g t) groups
-
--- whether a rule on resources lists a time
-abbrev pub lists_time : Parts → Rule → ℕ → Bool
-lists_time p AvoidClashes t = true
-lists_time p (AvoidUnavailableTimes times) t = has_member times t
-lists_time p (LimitIdleTimes groups a b) t = listed_in groups t
-lists_time p (ClusterBusyTimes groups a b) t = listed_in groups t
-lists_time p (LimitBusyTimes groups a b) t = listed_in groups t
-lists_time p _ t = false
-
--- whether a rule limits workloads
-abbrev pub is_workload : Rule → Bool
-is_workload (LimitWorkload a b) = true
-is_workload _ = false
-
--- whether a monitor's point is this resource
-abbrev pub is_at : Point → ℕ → Bool
-is_at (Resource x) r = x.0 == r
-is_at _ r = false
 
 -- the times from a start on
 abbrev pub covered : ℕ → ℕ → List ℕ
@@ -92,7 +57,7 @@ loaded_resources _ = []
 abbrev pub watches_with : Parts → Slot → Change → Rule → Point → ℕ
 watches_with p x c rule point =
     (if names_event p rule point x.event.0 then 1 else 0)
-    + count_by (is_at point) (touched_resources x c) * count_by (lists_time p rule) (touched_times x c)
+    + count_by (is_at point) (touched_resources x c) * count_by (lists_time rule) (touched_times x c)
     + (if is_workload rule then count_by (is_at point) (loaded_resources c) else 0)
 
 abbrev pub watch_count : Parts → Slot → Change → Monitor → ℕ

@@ -1,31 +1,40 @@
-ghost use Rattle.std.specs.Prelude.{◌≡◌, ◌<◌, ◌^◌, length, slice_get, IfOk, OnOk, Some, None, replicate, ◌+◌, ◌++◌};
-ghost use Rattle.khe_told.specs.Slots.{no_meets, slots_of_event, slot_at};
+ghost use Rattle.std.specs.Prelude.{◌≡◌, ◌<◌, ◌≤◌, length, slice_get, IfOk, MatchOption, Some};
+ghost use Rattle.khe_told.specs.Slots.{no_meets, no_slot, slot_at};
 ghost use Rattle.khe_told.specs.Lists.{meet_in};
-ghost use Rattle.khe_told.specs.Changes.{after, changed};
-ghost use Rattle.khe_told.specs.Fits.{Fits, Suits};
+ghost use Rattle.khe_told.specs.Changes.{after};
+ghost use Rattle.khe_told.specs.Fits.{Fits};
+ghost use Rattle.khe_told.specs.Stored.{IsRowOf};
 
 use crate::changes::Change;
-use crate::slots::{Slot, Span};
-use khe_base::{EventId, MeetId, NoMemory, ResourceId, Seq, TaskId};
-use khe_instance::{EventInfo, Instance, Meet};
+use crate::opening::{no_tasks, rows_of};
+use crate::rows::{Row, row_at, turn};
+use crate::slots::Span;
+use khe_base::{EventId, MeetId, NoMemory, ResourceId, TaskId};
+use khe_instance::{Instance, Meet};
 use std::alloc::Global;
 use std::marker::Model;
 
 /// The meets and tasks that were told. Contracts see the list of slots.
 ///
-/// No call but `open` takes memory, and each takes constant time.
+/// It keeps one row for each meet slot and one entry for each task slot, a few bytes each. No call
+/// but `open` takes memory, and each takes constant time.
 #[derive(Debug, Drop)]
 pub struct Told {
-    slots: Vec<Slot>,
+    rows: Vec<Row>,
+    /// What each task slot is given.
+    given: Vec<Option<ResourceId>>,
 }
 
 impl Model for Told {
-    ghost use Rattle.std.specs.Prelude.{List};
+    ghost use Rattle.std.specs.Prelude.{List, length};
+    ghost use Rattle.khe_told.specs.Stored.{slots_in, AreInOrder};
     ghost use Rattle.khe_told.specs.declared.slots.Slot.{Slot};
 
     ghost Value = { List Slot };
 
-    ghost view = { λ t. t.slots.items };
+    ghost view = { λ t. slots_in 0 t.rows.items t.given.items };
+
+    ghost invariant = { λ t. AreInOrder 0 (length t.given.items) t.rows.items };
 }
 
 impl Told {
@@ -33,19 +42,25 @@ impl Told {
     pub fn open(alloc: Global, inst: &Instance) -> Result<Told, NoMemory>
         ensures { IfOk result (λ t. t ≡ no_meets inst.now) }
     {
-        inst.facts();
-        let mut slots = Vec::new(alloc);
-        for e in 0..inst.events() {
-            push_slots(alloc, &mut slots, e, inst.event(EventId(e)))?;
-        }
-        Ok(Told { slots })
+        let (rows, tasks) = rows_of(alloc, inst)?;
+        let given = no_tasks(alloc, tasks)?;
+        Ok(Told { rows, given })
     }
 
     /// How many meet slots there are.
     pub fn len(&self) -> usize
         ensures { result ≡ length self.now }
     {
-        self.slots.len()
+        self.rows.len()
+    }
+
+    /// The stored row of a meet slot.
+    fn row(&self, meet: MeetId) -> Option<Row>
+        ensures { MatchOption result
+            ((length self.now ≤ meet.0) × (slot_at self.now meet.0 ≡ no_slot))
+            (λ row. IsRowOf row meet.0 (slot_at self.now meet.0)) }
+    {
+        row_at(&self.rows, meet)
     }
 
     /// The event of a meet slot.
@@ -53,16 +68,17 @@ impl Told {
         requires { meet.0 < length self.now }
         ensures { result ≡ (slot_at self.now meet.0).event }
     {
-        let slot = &self.slots[meet.0 as usize];
-        slot.event
+        let Some(row) = self.row(meet) else {
+            unreachable!()
+        };
+        row.event
     }
 
     /// The duration and the start of a told meet, or `None` where no told meet has the number.
     pub fn span(&self, meet: MeetId) -> Option<Span>
         ensures { result ≡ (slot_at self.now meet.0).span }
     {
-        let slot = self.slots.get(meet.0 as usize)?;
-        slot.span
+        self.row(meet)?.span
     }
 
     /// What each place of a meet slot is given, in order: nothing at all where the slot is free,
@@ -70,21 +86,22 @@ impl Told {
     pub fn given(&self, meet: MeetId) -> &[Option<ResourceId>]
         ensures { result.now ≡ (slot_at self.now meet.0).given }
     {
-        match self.slots.get(meet.0 as usize) {
-            Some(slot) => slot.given.as_slice(),
-            None => &[],
-        }
+        let Some(row) = row_at(&self.rows, meet) else {
+            return &[];
+        };
+        let first = row.first_task as usize;
+        &self.given[first..first + row.places as usize]
     }
 
     /// The told meet, or `None` where no told meet has the number.
     pub fn meet(&self, meet: MeetId) -> Option<Meet>
         ensures { result ≡ meet_in (slot_at self.now meet.0) }
     {
-        let slot = self.slots.get(meet.0 as usize)?;
-        let span = slot.span?;
+        let row = self.row(meet)?;
+        let span = row.span?;
         Some(Meet {
-            meet: slot.meet,
-            event: slot.event,
+            meet,
+            event: row.event,
             duration: span.duration,
             start: span.start,
         })
@@ -105,52 +122,6 @@ impl Told {
         ensures { self.new ≡ after self.old change }
     {
         let _ = inst;
-        let slot = &mut self.slots[change.meet().0 as usize];
-        turn(slot, change);
-    }
-}
-
-/// Adds the slots of an event, all empty.
-fn push_slots(
-    alloc: Global,
-    slots: &mut Vec<Slot>,
-    number: u32,
-    event: &EventInfo,
-) -> Result<(), NoMemory>
-    requires { event.now.first_meet + event.now.duration < 2 ^ 32 }
-    ensures { OnOk result (slots.new.items ≡ slots.old.items ++ slots_of_event number event.now) }
-{
-    for meet in event.first_meet..event.first_meet + event.duration {
-        slots.push(Slot {
-            meet: MeetId(meet),
-            event: EventId(number),
-            span: None,
-            given: nothing(alloc, event.places.len())?,
-        })?;
-    }
-    Ok(())
-}
-
-/// So many places to which nothing is given.
-fn nothing(alloc: Global, places: usize) -> Result<Seq<Option<ResourceId>>, NoMemory>
-    ensures { IfOk result (λ given. given ≡ replicate places None) }
-{
-    let mut given = Seq::new(alloc);
-    for _ in 0..places {
-        given.push(None)?;
-    }
-    Ok(given)
-}
-
-/// A slot after a change of it.
-fn turn(slot: &mut Slot, change: Change)
-    requires { Suits slot.old change }
-    ensures { slot.new ≡ changed slot.old change }
-{
-    slot.span = change.span_after(slot.span);
-    match change {
-        Change::Give { task, resource } => slot.given.items[task.place as usize] = Some(resource),
-        Change::Take { task, .. } => slot.given.items[task.place as usize] = None,
-        _ => {}
+        turn(&mut self.rows, &mut self.given, change);
     }
 }
