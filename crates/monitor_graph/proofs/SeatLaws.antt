@@ -1,12 +1,15 @@
 -- What is kept of groups when one of them changes.
 use Rattle.std.proofs.Common.{ℕ, ◌≡◌, ◌+◌, ◌-◌, ◌*◌, ◌<◌, ◌≤◌, nat_eq, nat_lt, nat_le, zero, suc, Bool, true, false, cond, Option, Some, None, List, [], ◌∷◌, ◌++◌, length, map, get_or, set, slice_get, refl, sym, ap, ◌∙◌, arith, subst, take, drop, inl, inr}
 use Rattle.std.specs.Prelude.{◌==◌, ◌||◌, is_none, is_some, MatchOption}
-use Rattle.std.specs.List.{insert, remove, position_or_len, sum_by}
+use Rattle.std.specs.List.{AllByRecursion, IsDistinct, insert, list_any, remove, position_or_len, sum_by}
 use Rattle.std.specs.Option.{option_and_then, option_map, option_map_or}
 use Rattle.std.proofs.lemmas.Bool.{eqb-true, eqb-false, eq-eqb, ne_eqb, both_ways, lt-ltb, le-ltb, ltb-true, le-leb, cases_lt}
 use Rattle.std.proofs.lemmas.List.{length-set, length-map, map-set}
 use Rattle.std.proofs.lemmas.List.Edits.{length-insert, length-remove}
 use Rattle.std.proofs.lemmas.List.Sums.{sum_by-cons, sum_by-insert, sum_by-remove, passes_at_first}
+use Rattle.std.proofs.Math.Dec.{eqb}
+use Rattle.std.proofs.lemmas.List.Folds.{list_any_at}
+use Rattle.std.proofs.lemmas.Map.Steps.{length-le_from_distinct_below}
 use Rattle.std.proofs.lemmas.Option.{slice_get-map, slice_get_past, slice_get_within, slice_get-get_or}
 use Rattle.khe_base.proofs.BitsLemmas.{is_set-zeros}
 use Rattle.khe_base.proofs.ListLemmas.{below_length}
@@ -16,7 +19,7 @@ use Rattle.khe_base.specs.declared.numbers.GroupId.{GroupId}
 use Rattle.khe_base.specs.declared.numbers.MonitorId.{MonitorId}
 use Rattle.monitor_graph.proofs.JoinedLaws.{groups_of-joined, joined-insert, joined-remove, joined-make, joined-drop, joined-part, length-joined, sum_sizes, free_sizes, same_held, not_none}
 use Rattle.monitor_graph.proofs.ListLaws.{get-set, get-set_other}
-use Rattle.monitor_graph.specs.Groups.{Groups, children_at, has_group, has_child, group_at, is_among, occurs, place_of, free_number, seated}
+use Rattle.monitor_graph.specs.Groups.{Groups, AreGroups, children_at, has_group, has_child, group_at, is_among, occurs, place_of, free_number, seated}
 use Rattle.monitor_graph.specs.Seating.{Seating, groups_of, sizes_of, joined, start_of, bit_of, AreSeated, IsSeating}
 
 -- how often a monitor is among children
@@ -308,3 +311,59 @@ pub seating_as : (gs : Groups) (monitors : ℕ) (sizes sizes2 : List (Option ℕ
     → IsSeating gs monitors sizes children held → sizes ≡ sizes2 → children ≡ children2 → IsSeating gs monitors sizes2 children2 held
 seating_as gs monitors sizes sizes2 children children2 held h a b =
     subst (λ x. IsSeating gs monitors sizes2 x held) b (subst (λ x. IsSeating gs monitors x children held) a h)
+
+-- what callers may know
+pub valid_is : (gs : Groups) (monitors : ℕ) (sizes : List (Option ℕ)) (children : List MonitorId) (held : List ℕ) → AreSeated gs monitors sizes children held → AreGroups monitors gs
+valid_is gs monitors sizes children held s = record { numbers = s.numbers; known = s.known; once = once }
+  where
+  small : (t : Bool) → cond t 1 0 ≤ 1
+  small true = omega arith
+  small false = omega arith
+  once : (g m : ℕ) → occurs m (children_at gs g) ≤ 1
+  once g m = elim (cases_lt g 256) [
+      | inl l ↦ subst (λ n. n ≤ 1) (sym (s.bits g m l)) (small (is_set held (bit_of m g)))
+      | inr h ↦ subst (λ (x : List MonitorId). occurs m x ≤ 1) (sym (ap listed (slice_get_past gs g (let e = s.numbers in omega (arith, h, e))))) (omega arith)
+    ]
+
+-- children that stand once each are no more than there are monitors
+apart_each : (m : ℕ) (xs : List MonitorId) → occurs m xs ≡ 0 → AllByRecursion (λ y. eqb m y ≡ false) (map (λ (c : MonitorId). c.0) xs)
+apart_each m [] h = tt
+apart_each m (x ∷ xs) h =
+    let none = sym (sum_by-cons (λ (c : MonitorId). cond (c.0 == m) 1 0) x xs) ∙ h in
+    (first (x.0 == m) refl none, apart_each m xs (omega (arith, none)))
+  where
+  first : (t : Bool) → (x.0 == m) ≡ t → cond t 1 0 + occurs m xs ≡ 0 → eqb m x.0 ≡ false
+  first true e z = absurd (omega (arith, z))
+  first false e z = ne_eqb m x.0 (λ q. eqb-false x.0 m e (sym q))
+
+distinct_each : (xs : List MonitorId) → ((m : ℕ) → occurs m xs ≤ 1) → IsDistinct eqb (map (λ (c : MonitorId). c.0) xs)
+unfolding IsDistinct
+distinct_each [] h = tt
+distinct_each (x ∷ xs) h =
+    let count : (m : ℕ) → occurs m (x ∷ xs) ≡ cond (x.0 == m) 1 0 + occurs m xs = λ m. sum_by-cons (λ (c : MonitorId). cond (c.0 == m) 1 0) x xs in
+    let mine : occurs x.0 xs ≡ 0 = (let a = count x.0 ∙ ap (λ t. cond t 1 0 + occurs x.0 xs) (eq-eqb x.0 x.0 refl) in let b = h x.0 in omega (arith, a, b)) in
+    (apart_each x.0 xs mine, distinct_each xs (λ m. let a = count m in let b = h m in omega (arith, a, b)))
+
+among_mapped : (m : ℕ) (xs : List MonitorId) → list_any (eqb m) (map (λ (c : MonitorId). c.0) xs) ≡ true → is_among m xs ≡ true
+among_mapped m [] h = h
+among_mapped m (x ∷ xs) h = go (x.0 == m) refl (eqb m x.0) refl h (among_mapped m xs)
+  where
+  go : (t : Bool) → (x.0 == m) ≡ t → (u : Bool) → eqb m x.0 ≡ u → (u || list_any (eqb m) (map (λ (c : MonitorId). c.0) xs)) ≡ true
+      → (list_any (eqb m) (map (λ (c : MonitorId). c.0) xs) ≡ true → is_among m xs ≡ true) → (t || is_among m xs) ≡ true
+  go true e u f h r = refl
+  go false e true f h r = absurd (eqb-false x.0 m e (sym (eqb-true m x.0 f)))
+  go false e false f h r = r h
+
+pub few_is : (gs : Groups) (monitors g : ℕ) → AreGroups monitors gs → length (children_at gs g) ≤ monitors
+few_is gs monitors g v =
+    let xs = children_at gs g in
+    let e = length-map xs (λ (c : MonitorId). c.0) in
+    let l = length-le_from_distinct_below (map (λ (c : MonitorId). c.0) xs) monitors (distinct_each xs (λ m. v.once g m)) (λ m h. v.known g m (among_mapped m xs h)) in
+    omega (arith, e, l)
+
+-- each child is a monitor
+pub child_known : (gs : Groups) (monitors g k : ℕ) (d : MonitorId) → AreGroups monitors gs → k < length (children_at gs g) → (get_or (children_at gs g) k d).0 < monitors
+child_known gs monitors g k d v l =
+    let xs = children_at gs g in
+    let x = get_or xs k d in
+    v.known g x.0 (list_any_at (λ (c : MonitorId). c.0 == x.0) xs k d l (eq-eqb x.0 x.0 refl))

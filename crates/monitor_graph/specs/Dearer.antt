@@ -1,5 +1,5 @@
 -- Which monitors cost more than they did when the costs were marked.
-use Rattle.std.specs.Prelude.{ℕ, ◌+◌, ◌≡◌, ◌≤◌, nat_lt, if◌then◌else◌, Option, Some, None, List, [], ◌∷◌, length, sum}
+use Rattle.std.specs.Prelude.{ℕ, ◌+◌, ◌*◌, ◌≡◌, ◌≤◌, nat_lt, if◌then◌else◌, Option, Some, None, List, [], ◌∷◌, length, sum}
 use Rattle.khe_base.specs.declared.limits.TheConstants.{MONITORS}
 
 -- the places at which a cost exceeds the marked one, counted on from a number
@@ -28,3 +28,10 @@ pub record AreCompared (costs marked : List ℕ) (count numbers : ℕ) : Type 0 
   pub few : length costs ≤ MONITORS
   pub counted : count ≡ length (dearer marked costs)
   pub summed : numbers ≡ sum (dearer marked costs)
+
+-- what a change of one cost may take away, and that nothing overflows
+pub record CanRecount (marked was count numbers k : ℕ) : Type 0 where
+  pub counted : is_dearer marked was ≤ count
+  pub summed : is_dearer marked was * k ≤ numbers
+  pub count_small : count ≤ MONITORS
+  pub sum_small : numbers ≤ MONITORS * MONITORS

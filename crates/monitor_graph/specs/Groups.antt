@@ -19,6 +19,10 @@ has_group groups g = is_some (group_at groups g)
 abbrev pub children_at : Groups → ℕ → List MonitorId
 children_at groups g = option_map_or (λ x. x) (group_at groups g) []
 
+-- the child of a group at a place, if it has so many
+abbrev pub child_at : Groups → ℕ → ℕ → Option MonitorId
+child_at groups g k = slice_get (children_at groups g) k
+
 -- whether a monitor is among children, and how often
 abbrev pub is_among : ℕ → List MonitorId → Bool
 is_among m children = list_any (λ c. c.0 == m) children

@@ -7,3 +7,4 @@ pub mod Lines
 pub mod Opened
 pub mod Rows
 pub mod Seating
+pub mod Values

@@ -18,8 +18,8 @@ abbrev pub soft_cost : Line → ℕ
 soft_cost x = if x.required then 0 else line_cost x
 
 -- the costs of all monitors
-abbrev pub costs_of : List Line → List ℕ
-costs_of lines = map line_cost lines
+abbrev pub line_costs : List Line → List ℕ
+line_costs lines = map line_cost lines
 
 -- whether the monitor with a number costs something
 abbrev pub is_defect_at : List Line → ℕ → Bool

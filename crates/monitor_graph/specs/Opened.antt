@@ -1,6 +1,6 @@
 -- The lines and groups of a timetable before any deviation is known.
 use Rattle.std.specs.Prelude.{ℕ, ◌==◌, Bool, false, not, Option, None, List, length, map, slice_get}
-use Rattle.std.specs.List.{enumerate_from, find, range_with_len}
+use Rattle.std.specs.List.{find, range_with_len}
 use Rattle.std.specs.Option.{option_map, option_map_or}
 use Rattle.khe_base.specs.declared.costs.CostFn.{CostFn}
 use Rattle.khe_base.specs.declared.costs.CostFn.TheVariants.{Linear}

@@ -2,7 +2,7 @@ ghost use Rattle.std.specs.Prelude.{ℕ, ◌≡◌, ◌<◌, ◌≤◌, ◌+◌,
 ghost use Rattle.std.specs.List.{insert, sum_by, position_or_len};
 ghost use Rattle.std.specs.Option.{option_map, option_map_or};
 ghost use Rattle.khe_base.specs.declared.limits.TheConstants.{GROUPS, MONITORS};
-ghost use Rattle.monitor_graph.specs.Groups.{group_at, has_group, children_at, has_child, place_of, without, free_number, seated};
+ghost use Rattle.monitor_graph.specs.Groups.{AreGroups, group_at, has_group, children_at, has_child, place_of, without, free_number, seated};
 ghost use Rattle.monitor_graph.specs.Seating.{start_of};
 
 use khe_base::bits::{clear_bit, is_set, no_bits, set_bit};
@@ -46,6 +46,16 @@ impl Model for Groups {
 }
 
 impl Groups {
+    /// What is true of all groups: each child is one of the monitors and stands in a group at most
+    /// once, and there is a seat for each child.
+    pub(crate) fn facts(&self)
+        ensures valid { AreGroups self.now.monitors self.now.groups }
+        ensures few { (g : ℕ) → length (children_at self.now.groups g) ≤ self.now.monitors }
+        ensures seats { seated self.now.groups ≤ self.now.seats }
+    {
+        let _ = &self.children;
+    }
+
     /// How many children a group has, in constant time; `None` where no group has the number.
     fn size(&self, group: GroupId) -> Option<usize>
         ensures { result ≡ option_map length (group_at self.now.groups group.0) }

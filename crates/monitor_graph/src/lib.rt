@@ -2,8 +2,11 @@
 //! numbers, the monitors that became dearer, and groups of monitors.
 #![tactic(auto)]
 
+mod dearer;
+mod graph;
 mod groups;
 mod lines;
 mod rows;
 
+pub use graph::Graph;
 pub use lines::Line;

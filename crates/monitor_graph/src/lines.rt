@@ -1,9 +1,11 @@
-ghost use Rattle.std.specs.Prelude.{◌≡◌, ◌<◌, ◌≤◌, length, slice_index, slice_set};
-ghost use Rattle.khe_base.specs.declared.limits.TheConstants.{GREATEST_COST};
-ghost use Rattle.monitor_graph.specs.Dearer.{is_dearer};
-ghost use Rattle.monitor_graph.specs.Lines.{line_cost, hard_cost, soft_cost, costs_of, IsLine, AreTotalled};
+ghost use Rattle.std.specs.Prelude.{◌≡◌, ◌<◌, ◌≤◌, ℕ, length, slice_get, slice_index_or, slice_set, All};
+ghost use Rattle.std.specs.List.{sum_by};
+ghost use Rattle.std.specs.Option.{option_map_or};
+ghost use Rattle.khe_base.specs.declared.limits.TheConstants.{GREATEST_COST, MONITORS};
+ghost use Rattle.khe_base.specs.declared.numbers.MonitorId.{MonitorId};
+ghost use Rattle.monitor_graph.specs.Lines.{line_cost, hard_cost, soft_cost, IsLine, AreTotalled};
 
-use khe_base::{CostFn, cost};
+use khe_base::{CostFn, MonitorId, Totals, cost};
 
 /// A monitor: how its constraint costs, and what it has now.
 #[derive(Clone, Copy, Debug, PartialEq, Eq)]
@@ -71,4 +73,22 @@ pub(crate) fn replace(
     *hard = *hard - hard_before + hard_after;
     *soft = *soft - soft_before + soft_after;
     lines[place] = line;
+}
+
+/// The costs of some monitors, added up, in time in proportion to them.
+pub(crate) fn totals_among(lines: &[Line], children: &[MonitorId]) -> Totals
+    requires each { All IsLine lines.now }
+    requires few { length children.now ≤ MONITORS }
+    requires known { (k : ℕ) (d : MonitorId) → k < length children.now → (slice_index_or children.now k d).0 < length lines.now }
+    ensures hard { result.hard ≡ sum_by (λ c. option_map_or hard_cost (slice_get lines.now c.0) 0) children.now }
+    ensures soft { result.soft ≡ sum_by (λ c. option_map_or soft_cost (slice_get lines.now c.0) 0) children.now }
+{
+    let mut hard = 0;
+    let mut soft = 0;
+    for place in 0..children.len() {
+        let line = &lines[children[place].0 as usize];
+        hard += hard_of(line);
+        soft += soft_of(line);
+    }
+    Totals { hard, soft }
 }

@@ -1,20 +1,15 @@
-use Rattle.std.proofs.Common.{ℕ, ◌≤◌, ◌<◌, zero, suc, List, [], ◌∷◌, refl, sym, ap, ◌∙◌, ◌≡◌, true, get_or, length, arith}
+use Rattle.std.proofs.Common.{ℕ, ◌≤◌, ◌<◌, sym, ap, ◌∙◌, ◌≡◌, true, get_or, length, arith}
 use Rattle.std.specs.Prelude.{◌==◌}
 use Rattle.std.specs.List.{position_or_len}
 use Rattle.std.proofs.lemmas.Bool.{eq-eqb}
 use Rattle.std.proofs.lemmas.List.Sums.{position_or_len_is}
 use Rattle.khe_base.specs.declared.numbers.MonitorId.{MonitorId}
+use Rattle.monitor_graph.proofs.ListLaws.{get-any}
 use Rattle.monitor_graph.proofs.groups.first_of.Goals as goal
-
--- what stands there, whatever stands beyond the end
-same_or : (xs : List MonitorId) (k : ℕ) (d e : MonitorId) → k < length xs → get_or xs k d ≡ get_or xs k e
-same_or [] k d e l = absurd (omega arith)
-same_or (x ∷ xs) zero d e l = refl
-same_or (x ∷ xs) (suc k) d e l = same_or xs k d e (omega arith)
 
 pub returns-then-children-place : goal.returns-then-children-place
 returns-then-children-place c =
-    sym (position_or_len_is (λ (x : MonitorId). x.0 == c.args.child.0) c.args.children.now c.loop-place.place c.args.child (omega arith) (λ j l. c.loop-place.invariant j c.args.child l) (λ l. eq-eqb _ c.args.child.0 (ap (λ (x : MonitorId). x.0) (same_or c.args.children.now c.loop-place.place c.args.child (record { 0 = 0 }) l) ∙ c.if-children-place.true)))
+    sym (position_or_len_is (λ (x : MonitorId). x.0 == c.args.child.0) c.args.children.now c.loop-place.place c.args.child (omega arith) (λ j l. c.loop-place.invariant j c.args.child l) (λ l. eq-eqb _ c.args.child.0 (ap (λ (x : MonitorId). x.0) (get-any c.args.children.now c.loop-place.place c.args.child (record { 0 = 0 }) l) ∙ c.if-children-place.true)))
 
 pub returns : goal.returns
 returns c =
