@@ -1,5 +1,6 @@
 pub mod DearerLaws
 pub mod DefectLaws
+pub mod EditLaws
 pub mod JoinedLaws
 pub mod LineLaws
 pub mod ListLaws

@@ -45,7 +45,7 @@ pub no_among : (m : ℕ) (xs : List MonitorId) → occurs m xs ≡ 0 → is_amon
 no_among m xs h = among-occurs m xs ∙ ap (nat_lt 0) h
 
 -- a group that is there
-abbrev listed : Option (Option (List MonitorId)) → List MonitorId
+abbrev pub listed : Option (Option (List MonitorId)) → List MonitorId
 listed o = option_map_or (λ x. x) (option_and_then (λ x. x) o) []
 
 there_is : (o : Option (Option (List MonitorId))) → is_some (option_and_then (λ x. x) o) ≡ true → o ≡ Some (Some (listed o))

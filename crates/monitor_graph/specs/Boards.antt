@@ -1,5 +1,6 @@
 -- What a graph stands for.
-use Rattle.std.specs.Prelude.{ℕ, ◌≡◌, Bool, false, List, map}
+use Rattle.std.specs.Prelude.{ℕ, ◌≡◌, Bool, false, Option, List, map, slice_set}
+use Rattle.khe_base.specs.declared.numbers.MonitorId.{MonitorId}
 use Rattle.monitor_graph.specs.Groups.{Groups}
 use Rattle.monitor_graph.specs.declared.lines.Line.{Line}
 
@@ -38,3 +39,14 @@ pub record HaveSameRest (a b : Board) : Type 0 where
   pub groups : a.groups ≡ b.groups
   pub marked : a.marked ≡ b.marked
   pub seats : a.seats ≡ b.seats
+
+-- another group at a number
+abbrev pub regrouped : Board → ℕ → Option (List MonitorId) → Grouping
+regrouped b g group = record { attached = (grouping_of b).attached; groups = slice_set b.groups g group }
+
+-- an edit of monitors and groups keeps deviations, rates, the marked costs and the seats
+pub record KeepsValues (a b : Board) : Type 0 where
+  pub deviations : deviations_of b ≡ deviations_of a
+  pub rates : rates_of b ≡ rates_of a
+  pub marked : b.marked ≡ a.marked
+  pub seats : b.seats ≡ a.seats

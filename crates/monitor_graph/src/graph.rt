@@ -27,7 +27,7 @@ use std::sync::ledger::Ledger;
 /// group costs. Only `open` and `room` take memory.
 #[derive(Drop)]
 pub struct Graph {
-    lines: Vec<Line>,
+    pub(crate) lines: Vec<Line>,
     hard: u128,
     soft: u128,
     /// A bit for each monitor that is a defect, and a bit for each word of these that is not 0.
@@ -38,7 +38,7 @@ pub struct Graph {
     /// How many monitors cost more than marked, and the sum of their numbers.
     dearer: u64,
     numbers: u64,
-    groups: Groups,
+    pub(crate) groups: Groups,
 }
 
 impl Model for Graph {
@@ -173,8 +173,8 @@ impl Graph {
         self.groups.reserve(n as usize)
     }
 
-    /// Puts a line in the place of a monitor's.
-    fn turn(&mut self, monitor: MonitorId, line: Line)
+    /// Puts a line in the place of a monitor's, in constant time.
+    pub(crate) fn turn(&mut self, monitor: MonitorId, line: Line)
         requires known { monitor.0 < length self.old.lines }
         requires line { IsLine line }
         ensures lines { self.new.lines ≡ slice_set self.old.lines monitor.0 line }

@@ -3,6 +3,7 @@
 #![tactic(auto)]
 
 mod dearer;
+mod edits;
 mod graph;
 mod groups;
 mod lines;
