@@ -1,5 +1,5 @@
 -- One cost changes, and the count and the sum of those that are dearer with it.
-use Rattle.std.proofs.Common.{ℕ, zero, suc, ◌≡◌, ◌+◌, ◌*◌, ◌<◌, ◌≤◌, Bool, true, false, cond, Option, Some, None, List, [], ◌∷◌, length, set, get_or, refl, ap, ◌∙◌, sym, subst, arith, sum}
+use Rattle.std.proofs.Common.{ℕ, zero, suc, ◌≡◌, ◌+◌, ◌*◌, ◌<◌, ◌≤◌, Bool, true, false, cond, Some, None, List, [], ◌∷◌, length, set, get_or, refl, ap, ◌∙◌, sym, arith, sum}
 use Rattle.std.specs.Prelude.{nat_lt}
 use Rattle.std.proofs.Math.ListN.{length-set}
 use Rattle.std.proofs.Math.Nat.{mul-le-mul}
@@ -107,7 +107,7 @@ can_recount cs ms count numbers k kept l =
     let g = count-changed 0 ms cs k 0 l kept.long in
     let z : 0 + k ≡ k = omega arith in
     let h : sum (dearer ms (set cs k 0)) + is_dearer (get_or ms k 0) (get_or cs k 0) * k ≡ sum (dearer ms cs) + is_dearer (get_or ms k 0) 0 * k =
-        ap (λ y. sum (dearer ms (set cs k 0)) + is_dearer (get_or ms k 0) (get_or cs k 0) * y) (sym z) ∙ sum-changed 0 ms cs k 0 l kept.long ∙ ap (λ y. sum (dearer ms cs) + is_dearer (get_or ms k 0) 0 * y) z in
+    ap (λ y. sum (dearer ms (set cs k 0)) + is_dearer (get_or ms k 0) (get_or cs k 0) * y) (sym z) ∙ sum-changed 0 ms cs k 0 l kept.long ∙ ap (λ y. sum (dearer ms cs) + is_dearer (get_or ms k 0) 0 * y) z in
     let none : is_dearer (get_or ms k 0) 0 * k ≡ 0 = ap (λ n. n * k) zero_is ∙ (let w : 0 * k ≡ 0 = omega arith in w) in
     let small = count-small 0 ms cs in
     let big = sum-small 0 (length cs) ms cs (omega arith) in
@@ -126,7 +126,7 @@ recounted cs ms count numbers count2 numbers2 k c kept l a b =
     let g = count-changed 0 ms cs k c l kept.long in
     let z : 0 + k ≡ k = omega arith in
     let h : sum (dearer ms (set cs k c)) + is_dearer (get_or ms k 0) (get_or cs k 0) * k ≡ sum (dearer ms cs) + is_dearer (get_or ms k 0) c * k =
-        ap (λ y. sum (dearer ms (set cs k c)) + is_dearer (get_or ms k 0) (get_or cs k 0) * y) (sym z) ∙ sum-changed 0 ms cs k c l kept.long ∙ ap (λ y. sum (dearer ms cs) + is_dearer (get_or ms k 0) c * y) z in
+    ap (λ y. sum (dearer ms (set cs k c)) + is_dearer (get_or ms k 0) (get_or cs k 0) * y) (sym z) ∙ sum-changed 0 ms cs k c l kept.long ∙ ap (λ y. sum (dearer ms cs) + is_dearer (get_or ms k 0) c * y) z in
     record {
       long = kept.long ∙ sym (length-set cs k c);
       few = (let few = kept.few in omega (arith, length-set cs k c, few));

@@ -1,8 +1,8 @@
 -- What an accepted edit of monitors and groups finds, and that its record leads back.
-use Rattle.std.proofs.Common.{ℕ, ◌≡◌, ◌+◌, ◌-◌, ◌<◌, ◌≤◌, zero, suc, nat_lt, nat_le, Bool, true, false, cond, Option, Some, None, List, [], ◌∷◌, ◌++◌, length, get_or, set, set-set, slice_get, refl, sym, ap, ◌∙◌, subst, arith}
+use Rattle.std.proofs.Common.{ℕ, ◌≡◌, ◌+◌, ◌<◌, ◌≤◌, suc, nat_lt, nat_le, Bool, true, false, cond, Option, Some, None, List, [], ◌∷◌, ◌++◌, length, get_or, set, set-set, slice_get, refl, sym, ap, ◌∙◌, subst, arith}
 use Rattle.std.specs.Prelude.{◌==◌, ◌||◌, not, is_none, is_some}
 use Rattle.std.specs.Option.{option_and_then}
-use Rattle.std.specs.List.{insert, remove, position_or_len}
+use Rattle.std.specs.List.{insert, remove}
 use Rattle.std.proofs.lemmas.Bool.{eqb-true, eq-eqb, both_ways, not-false, leb-false, ltb-false}
 use Rattle.std.proofs.lemmas.List.{length-set, set-get_or}
 use Rattle.std.proofs.lemmas.List.Edits.{length-remove}
@@ -90,34 +90,34 @@ without_push : (v : MonitorId) (xs : List MonitorId) → is_among v.0 xs ≡ fal
 without_push v [] h = ap (λ t. remove (v ∷ []) (cond (not t) 1 0)) (eq-eqb v.0 v.0 refl)
 without_push v (x ∷ xs) h = go (x.0 == v.0) h (without_push v xs)
   where
-  go : (t : Bool) → (t || is_among v.0 xs) ≡ false → (is_among v.0 xs ≡ false → without v.0 (xs ++ v ∷ []) ≡ xs)
-      → remove (x ∷ xs ++ v ∷ []) (cond (not t) (1 + place_of v.0 (xs ++ v ∷ [])) 0) ≡ x ∷ xs
-  go true f r = absurd (both_ways true f refl)
-  go false f r =
-      let p = place_of v.0 (xs ++ v ∷ []) in
-      let q : 1 + p ≡ suc p = omega arith in
-      ap (remove (x ∷ xs ++ v ∷ [])) q ∙ ap (λ ys. x ∷ ys) (r f)
+    go : (t : Bool) → (t || is_among v.0 xs) ≡ false → (is_among v.0 xs ≡ false → without v.0 (xs ++ v ∷ []) ≡ xs)
+        → remove (x ∷ xs ++ v ∷ []) (cond (not t) (1 + place_of v.0 (xs ++ v ∷ [])) 0) ≡ x ∷ xs
+    go true f r = absurd (both_ways true f refl)
+    go false f r =
+        let p = place_of v.0 (xs ++ v ∷ []) in
+        let q : 1 + p ≡ suc p = omega arith in
+        ap (remove (x ∷ xs ++ v ∷ [])) q ∙ ap (λ ys. x ∷ ys) (r f)
 
 -- a child that is removed and put back
 insert_back : (v : MonitorId) (xs : List MonitorId) → is_among v.0 xs ≡ true → insert (without v.0 xs) (place_of v.0 xs) v ≡ xs
 insert_back v [] h = absurd (both_ways false refl h)
 insert_back v (x ∷ xs) h = go (x.0 == v.0) refl h (insert_back v xs)
   where
-  go : (t : Bool) → (x.0 == v.0) ≡ t → (t || is_among v.0 xs) ≡ true → (is_among v.0 xs ≡ true → insert (without v.0 xs) (place_of v.0 xs) v ≡ xs)
-      → insert (remove (x ∷ xs) (cond (not t) (1 + place_of v.0 xs) 0)) (cond (not t) (1 + place_of v.0 xs) 0) v ≡ x ∷ xs
-  go true e f r = λ i. record { 0 = sym (eqb-true x.0 v.0 e) i } ∷ xs
-  go false e f r =
-      let p = place_of v.0 xs in
-      let q : 1 + p ≡ suc p = omega arith in
-      ap (λ n. insert (remove (x ∷ xs) n) n v) q ∙ ap (λ ys. x ∷ ys) (r f)
+    go : (t : Bool) → (x.0 == v.0) ≡ t → (t || is_among v.0 xs) ≡ true → (is_among v.0 xs ≡ true → insert (without v.0 xs) (place_of v.0 xs) v ≡ xs)
+        → insert (remove (x ∷ xs) (cond (not t) (1 + place_of v.0 xs) 0)) (cond (not t) (1 + place_of v.0 xs) 0) v ≡ x ∷ xs
+    go true e f r = λ i. record { 0 = sym (eqb-true x.0 v.0 e) i } ∷ xs
+    go false e f r =
+        let p = place_of v.0 xs in
+        let q : 1 + p ≡ suc p = omega arith in
+        ap (λ n. insert (remove (x ∷ xs) n) n v) q ∙ ap (λ ys. x ∷ ys) (r f)
 
 among_push : (v : MonitorId) (xs : List MonitorId) → is_among v.0 (xs ++ v ∷ []) ≡ true
 among_push v [] = ap (λ t. t || false) (eq-eqb v.0 v.0 refl)
 among_push v (x ∷ xs) = go (x.0 == v.0) (among_push v xs)
   where
-  go : (t : Bool) → is_among v.0 (xs ++ v ∷ []) ≡ true → (t || is_among v.0 (xs ++ v ∷ [])) ≡ true
-  go true h = refl
-  go false h = h
+    go : (t : Bool) → is_among v.0 (xs ++ v ∷ []) ≡ true → (t || is_among v.0 (xs ++ v ∷ [])) ≡ true
+    go true h = refl
+    go false h = h
 
 gone : (v : MonitorId) (xs : List MonitorId) → is_among v.0 xs ≡ true → occurs v.0 xs ≤ 1 → is_among v.0 (without v.0 xs) ≡ false
 gone v xs h l =
@@ -132,9 +132,9 @@ free_there s h =
     let l = make_known s h in
     slice_get-get_or s.groups (free_number s.groups) None l ∙ ap Some (at_none (get_or s.groups (free_number s.groups) None) (passes_at_first is_none s.groups None l))
   where
-  at_none : (o : Option (List MonitorId)) → is_none o ≡ true → o ≡ None
-  at_none None h = refl
-  at_none (Some xs) h = absurd (both_ways false refl h)
+    at_none : (o : Option (List MonitorId)) → is_none o ≡ true → o ≡ None
+    at_none None h = refl
+    at_none (Some xs) h = absurd (both_ways false refl h)
 
 -- the record of an edit leads back
 pub back_grouping : (s : Grouping) (e : Edit) → is_of_groups e ≡ true → refusal s e ≡ None → undone (edited s e) (back_of s e) ≡ s
@@ -150,16 +150,20 @@ back_grouping s (AddChild g m) o h =
     let k = add_known s g m h in
     let cs = children_at s.groups g.0 in
     let there = group_is s.groups g.0 k.there in
-    λ i. record s { groups = (ap (λ xs. set (set s.groups g.0 (Some (cs ++ m ∷ []))) g.0 (Some (without m.0 xs))) (children_now s.groups g.0 cs (cs ++ m ∷ []) there)
-        ∙ ap (λ xs. set (set s.groups g.0 (Some (cs ++ m ∷ []))) g.0 (Some xs)) (without_push m cs k.fresh)
-        ∙ set_back s.groups g.0 (Some (cs ++ m ∷ [])) (Some cs) there) i }
+    λ i. record s {
+      groups = (ap (λ xs. set (set s.groups g.0 (Some (cs ++ m ∷ []))) g.0 (Some (without m.0 xs))) (children_now s.groups g.0 cs (cs ++ m ∷ []) there)
+          ∙ ap (λ xs. set (set s.groups g.0 (Some (cs ++ m ∷ []))) g.0 (Some xs)) (without_push m cs k.fresh)
+          ∙ set_back s.groups g.0 (Some (cs ++ m ∷ [])) (Some cs) there) i;
+    }
 back_grouping s (RemoveChild g m) o h =
     let k = remove_known s g m h in
     let cs = children_at s.groups g.0 in
     let there = group_is s.groups g.0 (child_in_group s.groups g.0 m.0 k.1) in
-    λ i. record s { groups = (ap (λ xs. set (set s.groups g.0 (Some (without m.0 cs))) g.0 (Some (insert xs (place_of m.0 cs) m))) (children_now s.groups g.0 cs (without m.0 cs) there)
-        ∙ ap (λ xs. set (set s.groups g.0 (Some (without m.0 cs))) g.0 (Some xs)) (insert_back m cs k.1)
-        ∙ set_back s.groups g.0 (Some (without m.0 cs)) (Some cs) there) i }
+    λ i. record s {
+      groups = (ap (λ xs. set (set s.groups g.0 (Some (without m.0 cs))) g.0 (Some (insert xs (place_of m.0 cs) m))) (children_now s.groups g.0 cs (without m.0 cs) there)
+          ∙ ap (λ xs. set (set s.groups g.0 (Some (without m.0 cs))) g.0 (Some xs)) (insert_back m cs k.1)
+          ∙ set_back s.groups g.0 (Some (without m.0 cs)) (Some cs) there) i;
+    }
 back_grouping s (Assign a b) o h = absurd (both_ways false refl o)
 back_grouping s (Unassign a) o h = absurd (both_ways false refl o)
 back_grouping s (MoveTo a b) o h = absurd (both_ways false refl o)

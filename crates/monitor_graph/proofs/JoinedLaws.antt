@@ -1,5 +1,5 @@
 -- Groups as the list of all their children, cut by their sizes.
-use Rattle.std.proofs.Common.{ℕ, ◌≡◌, ◌+◌, ◌-◌, ◌<◌, ◌≤◌, zero, suc, Option, Some, None, List, [], ◌∷◌, ◌++◌, length, map, take, drop, set, slice_get, refl, sym, ap, ◌∙◌, arith, subst, zero-add, length-append}
+use Rattle.std.proofs.Common.{ℕ, ◌≡◌, ◌+◌, ◌-◌, ◌<◌, ◌≤◌, zero, suc, Option, Some, None, List, [], ◌∷◌, ◌++◌, length, take, drop, set, slice_get, refl, sym, ap, ◌∙◌, arith, subst, zero-add, length-append}
 use Rattle.std.specs.List.{insert, remove, sum_by, position_or_len}
 use Rattle.std.specs.Prelude.{is_none}
 use Rattle.std.specs.Option.{option_map_or}

@@ -1,5 +1,5 @@
 -- What stands at a place after one element changes.
-use Rattle.std.proofs.Common.{ℕ, ◌≡◌, ◌<◌, zero, suc, Option, Some, List, [], ◌∷◌, length, get_or, set, slice_get, refl, ap, ◌∙◌, arith, get_or-set_same}
+use Rattle.std.proofs.Common.{ℕ, ◌≡◌, ◌<◌, zero, suc, Some, List, [], ◌∷◌, length, get_or, set, slice_get, refl, ap, ◌∙◌, arith, get_or-set_same}
 use Rattle.std.proofs.lemmas.List.{length-set}
 use Rattle.std.proofs.lemmas.Option.{slice_get-get_or}
 

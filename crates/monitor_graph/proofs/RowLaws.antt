@@ -1,10 +1,10 @@
 -- Rows of bits with a summary.
-use Rattle.std.proofs.Common.{ℕ, ◌≡◌, ◌<◌, ◌≤◌, ◌/◌, ◌*◌, ◌+◌, ◌%◌, Bool, true, false, cond, nat_eq, List, length, get_or, refl, sym, ap, ◌∙◌, arith, inl, inr}
+use Rattle.std.proofs.Common.{ℕ, ◌≡◌, ◌≤◌, ◌/◌, ◌*◌, ◌%◌, Bool, true, false, cond, nat_eq, List, length, get_or, refl, sym, ap, ◌∙◌, arith, inl, inr}
 use Rattle.std.proofs.lemmas.Bool.{eqb-true, eq-eqb, cond_both, both_ways, cases_lt}
 use Rattle.std.proofs.lemmas.List.{get_or_past}
 use Rattle.khe_base.specs.Bits.{is_set, has_bit}
 use Rattle.khe_base.proofs.BitsLemmas.{has_bit-zero}
-use Rattle.monitor_graph.specs.Rows.{AreSummed, IsFirst, AreClear}
+use Rattle.monitor_graph.specs.Rows.{AreSummed, AreClear}
 
 -- beyond the last word, and in a word that is 0, no bit is set
 pub past_clear : (words : List ℕ) (m : ℕ) → length words ≤ m / 64 → is_set words m ≡ false

@@ -1,9 +1,9 @@
 -- What is kept of groups when one of them changes.
-use Rattle.std.proofs.Common.{ℕ, ◌≡◌, ◌+◌, ◌-◌, ◌*◌, ◌<◌, ◌≤◌, nat_eq, nat_lt, nat_le, zero, suc, Bool, true, false, cond, Option, Some, None, List, [], ◌∷◌, ◌++◌, length, map, get_or, set, slice_get, refl, sym, ap, ◌∙◌, arith, subst, take, drop, inl, inr}
+use Rattle.std.proofs.Common.{ℕ, ◌≡◌, ◌+◌, ◌-◌, ◌<◌, ◌≤◌, nat_eq, nat_lt, nat_le, Bool, true, false, cond, Option, Some, None, List, [], ◌∷◌, length, map, get_or, set, slice_get, refl, sym, ap, ◌∙◌, arith, subst, take, drop, inl, inr}
 use Rattle.std.specs.Prelude.{◌==◌, ◌||◌, is_none, is_some, MatchOption}
 use Rattle.std.specs.List.{AllByRecursion, IsDistinct, insert, list_any, remove, position_or_len, sum_by}
 use Rattle.std.specs.Option.{option_and_then, option_map, option_map_or}
-use Rattle.std.proofs.lemmas.Bool.{eqb-true, eqb-false, eq-eqb, ne_eqb, both_ways, lt-ltb, le-ltb, ltb-true, le-leb, cases_lt}
+use Rattle.std.proofs.lemmas.Bool.{eqb-true, eqb-false, eq-eqb, ne_eqb, both_ways, lt-ltb, ltb-true, le-leb, cases_lt}
 use Rattle.std.proofs.lemmas.List.{length-set, length-map, map-set}
 use Rattle.std.proofs.lemmas.List.Edits.{length-insert, length-remove}
 use Rattle.std.proofs.lemmas.List.Sums.{sum_by-cons, sum_by-insert, sum_by-remove, passes_at_first}
@@ -11,10 +11,9 @@ use Rattle.std.proofs.Math.Dec.{eqb}
 use Rattle.std.proofs.lemmas.List.Folds.{list_any_at}
 use Rattle.std.proofs.lemmas.Map.Steps.{length-le_from_distinct_below}
 use Rattle.std.proofs.lemmas.Option.{slice_get-map, slice_get_past, slice_get_within, slice_get-get_or}
-use Rattle.khe_base.proofs.BitsLemmas.{is_set-zeros}
 use Rattle.khe_base.proofs.ListLemmas.{below_length}
 use Rattle.khe_base.specs.Bits.{is_set}
-use Rattle.khe_base.specs.declared.limits.TheConstants.{GROUPS, MONITORS}
+use Rattle.khe_base.specs.declared.limits.TheConstants.{GROUPS}
 use Rattle.khe_base.specs.declared.numbers.GroupId.{GroupId}
 use Rattle.khe_base.specs.declared.numbers.MonitorId.{MonitorId}
 use Rattle.monitor_graph.proofs.JoinedLaws.{groups_of-joined, joined-insert, joined-remove, joined-make, joined-drop, joined-part, length-joined, sum_sizes, free_sizes, same_held, not_none}
@@ -316,11 +315,12 @@ seating_as gs monitors sizes sizes2 children children2 held h a b =
 pub valid_is : (gs : Groups) (monitors : ℕ) (sizes : List (Option ℕ)) (children : List MonitorId) (held : List ℕ) → AreSeated gs monitors sizes children held → AreGroups monitors gs
 valid_is gs monitors sizes children held s = record { numbers = s.numbers; known = s.known; once = once }
   where
-  small : (t : Bool) → cond t 1 0 ≤ 1
-  small true = omega arith
-  small false = omega arith
-  once : (g m : ℕ) → occurs m (children_at gs g) ≤ 1
-  once g m = elim (cases_lt g 256) [
+    small : (t : Bool) → cond t 1 0 ≤ 1
+    small true = omega arith
+    small false = omega arith
+
+    once : (g m : ℕ) → occurs m (children_at gs g) ≤ 1
+    once g m = elim (cases_lt g 256) [
       | inl l ↦ subst (λ n. n ≤ 1) (sym (s.bits g m l)) (small (is_set held (bit_of m g)))
       | inr h ↦ subst (λ (x : List MonitorId). occurs m x ≤ 1) (sym (ap listed (slice_get_past gs g (let e = s.numbers in omega (arith, h, e))))) (omega arith)
     ]
@@ -332,9 +332,9 @@ apart_each m (x ∷ xs) h =
     let none = sym (sum_by-cons (λ (c : MonitorId). cond (c.0 == m) 1 0) x xs) ∙ h in
     (first (x.0 == m) refl none, apart_each m xs (omega (arith, none)))
   where
-  first : (t : Bool) → (x.0 == m) ≡ t → cond t 1 0 + occurs m xs ≡ 0 → eqb m x.0 ≡ false
-  first true e z = absurd (omega (arith, z))
-  first false e z = ne_eqb m x.0 (λ q. eqb-false x.0 m e (sym q))
+    first : (t : Bool) → (x.0 == m) ≡ t → cond t 1 0 + occurs m xs ≡ 0 → eqb m x.0 ≡ false
+    first true e z = absurd (omega (arith, z))
+    first false e z = ne_eqb m x.0 (λ q. eqb-false x.0 m e (sym q))
 
 distinct_each : (xs : List MonitorId) → ((m : ℕ) → occurs m xs ≤ 1) → IsDistinct eqb (map (λ (c : MonitorId). c.0) xs)
 unfolding IsDistinct
@@ -348,11 +348,11 @@ among_mapped : (m : ℕ) (xs : List MonitorId) → list_any (eqb m) (map (λ (c 
 among_mapped m [] h = h
 among_mapped m (x ∷ xs) h = go (x.0 == m) refl (eqb m x.0) refl h (among_mapped m xs)
   where
-  go : (t : Bool) → (x.0 == m) ≡ t → (u : Bool) → eqb m x.0 ≡ u → (u || list_any (eqb m) (map (λ (c : MonitorId). c.0) xs)) ≡ true
-      → (list_any (eqb m) (map (λ (c : MonitorId). c.0) xs) ≡ true → is_among m xs ≡ true) → (t || is_among m xs) ≡ true
-  go true e u f h r = refl
-  go false e true f h r = absurd (eqb-false x.0 m e (sym (eqb-true m x.0 f)))
-  go false e false f h r = r h
+    go : (t : Bool) → (x.0 == m) ≡ t → (u : Bool) → eqb m x.0 ≡ u → (u || list_any (eqb m) (map (λ (c : MonitorId). c.0) xs)) ≡ true
+        → (list_any (eqb m) (map (λ (c : MonitorId). c.0) xs) ≡ true → is_among m xs ≡ true) → (t || is_among m xs) ≡ true
+    go true e u f h r = refl
+    go false e true f h r = absurd (eqb-false x.0 m e (sym (eqb-true m x.0 f)))
+    go false e false f h r = r h
 
 pub few_is : (gs : Groups) (monitors g : ℕ) → AreGroups monitors gs → length (children_at gs g) ≤ monitors
 few_is gs monitors g v =

@@ -1,9 +1,8 @@
 -- What lines cost is what the definitions of evaluation say of a graph of an instance.
-use Rattle.std.proofs.Common.{ℕ, zero, suc, ◌≡◌, ◌+◌, ◌*◌, ◌<◌, ◌≤◌, nat_lt, Bool, true, false, cond, Option, Some, None, List, [], ◌∷◌, length, map, get_or, slice_get, refl, sym, ap, ◌∙◌, subst, arith, sum}
+use Rattle.std.proofs.Common.{ℕ, zero, suc, ◌≡◌, ◌+◌, ◌*◌, ◌<◌, nat_lt, Bool, true, false, cond, Option, Some, None, List, [], ◌∷◌, length, map, get_or, slice_get, refl, sym, ap, ◌∙◌, subst, arith, sum}
 use Rattle.std.specs.Prelude.{not}
 use Rattle.std.specs.List.{range_with_len, sum_by}
 use Rattle.std.specs.Option.{option_map, option_map_or}
-use Rattle.std.proofs.lemmas.Bool.{cond_both}
 use Rattle.std.proofs.lemmas.Grind.{same_number_lists}
 use Rattle.std.proofs.lemmas.List.{length-map}
 use Rattle.std.proofs.lemmas.List.FromFn.{get_or-map-range_with_len, length-map-range_with_len}
@@ -12,13 +11,13 @@ use Rattle.std.proofs.lemmas.Option.{slice_get-get_or, slice_get-map}
 use Rattle.khe_base.specs.Costs.{cost_of}
 use Rattle.khe_base.specs.declared.numbers.MonitorId.{MonitorId}
 use Rattle.khe_base.specs.declared.sums.Totals.{Totals}
-use Rattle.khe_instance.specs.Costs.{monitor_cost, cost_at, costs_of, is_hard, is_hard_at, is_defect, totals_among, totals_of}
+use Rattle.khe_instance.specs.Costs.{monitor_cost, cost_at, is_hard, is_hard_at, is_defect, totals_among, totals_of}
 use Rattle.khe_instance.specs.declared.parts.Parts.{Parts}
 use Rattle.khe_instance.specs.declared.points.Monitor.{Monitor}
 use Rattle.khe_instance.specs.declared.rules.Constraint.{Constraint}
-use Rattle.monitor_graph.specs.Boards.{Board, rate_of, rates_of, deviations_of}
+use Rattle.monitor_graph.specs.Boards.{Board, rate_of, deviations_of}
 use Rattle.monitor_graph.specs.Lines.{line_cost, hard_cost, soft_cost, line_costs, is_defect_at}
-use Rattle.monitor_graph.specs.Opened.{line_for, no_line, line_of, rates_in}
+use Rattle.monitor_graph.specs.Opened.{line_for, no_line, line_of}
 use Rattle.monitor_graph.specs.Values.{IsOf, is_detached, costs_in}
 use Rattle.monitor_graph.specs.declared.lines.Line.{Line}
 
@@ -79,10 +78,11 @@ cost_is b p n e =
     (λ i. option_map_or (λ y. monitor_cost p (not (get_flags i)) y (get_devs i)) (slice_get p.monitors n) 0)
     ∙ cost_there p n (slice_get b.lines n) (slice_get p.monitors n) (rate_at b p n e)
   where
-  get_flags : get_or (map (λ (z : Line). z.attached) b.lines) n false ≡ option_map_or (λ (z : Line). z.attached) (slice_get b.lines n) false
-  get_flags = get-flags (λ (z : Line). z.attached) b.lines n
-  get_devs : get_or (map (λ (z : Line). z.deviation) b.lines) n 0 ≡ option_map_or (λ (z : Line). z.deviation) (slice_get b.lines n) 0
-  get_devs = get-map (λ (z : Line). z.deviation) b.lines n
+    get_flags : get_or (map (λ (z : Line). z.attached) b.lines) n false ≡ option_map_or (λ (z : Line). z.attached) (slice_get b.lines n) false
+    get_flags = get-flags (λ (z : Line). z.attached) b.lines n
+
+    get_devs : get_or (map (λ (z : Line). z.deviation) b.lines) n 0 ≡ option_map_or (λ (z : Line). z.deviation) (slice_get b.lines n) 0
+    get_devs = get-map (λ (z : Line). z.deviation) b.lines n
 
 pub as_many : (b : Board) (p : Parts) → IsOf b p → length b.lines ≡ length p.monitors
 as_many b p e = sym (length-map b.lines rate_of) ∙ ap length e ∙ length-map p.monitors (line_of p false)
@@ -94,7 +94,7 @@ costs_are b p e =
     let long : length (costs_in p b) ≡ length p.monitors = length-map-range_with_len (cost_at p (is_detached b) (deviations_of b)) 0 (length p.monitors) in
     same_number_lists (costs_in p b) (line_costs b.lines) (long ∙ sym many ∙ sym (length-map b.lines line_cost))
     (λ k l. get_or-map-range_with_len (cost_at p (is_detached b) (deviations_of b)) 0 (length p.monitors) k k 0 (omega (arith, l, long)) (omega arith)
-        ∙ cost_is b p k e ∙ sym (get-map line_cost b.lines k))
+    ∙ cost_is b p k e ∙ sym (get-map line_cost b.lines k))
 
 pub cost_in : (b : Board) (p : Parts) (n : ℕ) → IsOf b p → get_or (costs_in p b) n 0 ≡ option_map_or line_cost (slice_get b.lines n) 0
 cost_in b p n e = ap (λ xs. get_or xs n 0) (costs_are b p e) ∙ get-map line_cost b.lines n
@@ -103,9 +103,9 @@ cost_in b p n e = ap (λ xs. get_or xs n 0) (costs_are b p e) ∙ get-map line_c
 pub defect_is : (b : Board) (p : Parts) (n : ℕ) → IsOf b p → is_defect (costs_in p b) n ≡ is_defect_at b.lines n
 defect_is b p n e = ap (nat_lt 0) (cost_in b p n e) ∙ go (slice_get b.lines n)
   where
-  go : (x : Option Line) → nat_lt 0 (option_map_or line_cost x 0) ≡ option_map_or (λ (y : Line). nat_lt 0 (line_cost y)) x false
-  go None = refl
-  go (Some x) = refl
+    go : (x : Option Line) → nat_lt 0 (option_map_or line_cost x 0) ≡ option_map_or (λ (y : Line). nat_lt 0 (line_cost y)) x false
+    go None = refl
+    go (Some x) = refl
 
 -- what of its cost is hard, and what is soft
 required_by : (o : Option Constraint) (x : Line) → rate_of x ≡ option_map_or (line_for false) o (no_line false) → option_map_or (λ (c : Constraint). c.required) o false ≡ x.required
@@ -142,7 +142,7 @@ sum_range f lines =
     let g : ℕ → ℕ = λ n. option_map_or f (slice_get lines n) 0 in
     let long = length-map-range_with_len g 0 (length lines) in
     let each = same_number_lists (map g (range_with_len 0 (length lines))) (map f lines) (long ∙ sym (length-map lines f))
-        (λ k l. get_or-map-range_with_len g 0 (length lines) k k 0 (omega (arith, l, long)) (omega arith) ∙ sym (get-map f lines k)) in
+    (λ k l. get_or-map-range_with_len g 0 (length lines) k k 0 (omega (arith, l, long)) (omega arith) ∙ sym (get-map f lines k)) in
     sym (sum-map g (range_with_len 0 (length lines))) ∙ ap sum each ∙ sum-map f lines
 
 sum_mapped : {A B : Type 0} (f : B → ℕ) (g : A → B) (xs : List A) → sum_by f (map g xs) ≡ sum_by (λ x. f (g x)) xs
@@ -153,12 +153,13 @@ sum_mapped f g (x ∷ xs) = sum_by-cons f (g x) (map g xs) ∙ ap (λ n. f (g x)
 pub totals_are : (b : Board) (p : Parts) → IsOf b p → (t : Totals) → t.hard ≡ sum_by hard_cost b.lines → t.soft ≡ sum_by soft_cost b.lines → t ≡ totals_of p (costs_in p b)
 totals_are b p e t h k = λ i. record { hard = hard_sum i; soft = soft_sum i }
   where
-  hard_sum : t.hard ≡ (totals_of p (costs_in p b)).hard
-  hard_sum = h ∙ sym (sum_same (λ n. cond (is_hard_at p n) (get_or (costs_in p b) n 0) 0) (λ n. option_map_or hard_cost (slice_get b.lines n) 0) (λ n. hard_is b p n e) (range_with_len 0 (length p.monitors))
-      ∙ ap (λ n. sum_by (λ m. option_map_or hard_cost (slice_get b.lines m) 0) (range_with_len 0 n)) (sym (as_many b p e)) ∙ sum_range hard_cost b.lines)
-  soft_sum : t.soft ≡ (totals_of p (costs_in p b)).soft
-  soft_sum = k ∙ sym (sum_same (λ n. cond (is_hard_at p n) 0 (get_or (costs_in p b) n 0)) (λ n. option_map_or soft_cost (slice_get b.lines n) 0) (λ n. soft_is b p n e) (range_with_len 0 (length p.monitors))
-      ∙ ap (λ n. sum_by (λ m. option_map_or soft_cost (slice_get b.lines m) 0) (range_with_len 0 n)) (sym (as_many b p e)) ∙ sum_range soft_cost b.lines)
+    hard_sum : t.hard ≡ (totals_of p (costs_in p b)).hard
+    hard_sum = h ∙ sym (sum_same (λ n. cond (is_hard_at p n) (get_or (costs_in p b) n 0) 0) (λ n. option_map_or hard_cost (slice_get b.lines n) 0) (λ n. hard_is b p n e) (range_with_len 0 (length p.monitors))
+        ∙ ap (λ n. sum_by (λ m. option_map_or hard_cost (slice_get b.lines m) 0) (range_with_len 0 n)) (sym (as_many b p e)) ∙ sum_range hard_cost b.lines)
+
+    soft_sum : t.soft ≡ (totals_of p (costs_in p b)).soft
+    soft_sum = k ∙ sym (sum_same (λ n. cond (is_hard_at p n) 0 (get_or (costs_in p b) n 0)) (λ n. option_map_or soft_cost (slice_get b.lines n) 0) (λ n. soft_is b p n e) (range_with_len 0 (length p.monitors))
+        ∙ ap (λ n. sum_by (λ m. option_map_or soft_cost (slice_get b.lines m) 0) (range_with_len 0 n)) (sym (as_many b p e)) ∙ sum_range soft_cost b.lines)
 
 pub group_is : (b : Board) (p : Parts) (children : List MonitorId) → IsOf b p → (t : Totals)
     → t.hard ≡ sum_by (λ (c : MonitorId). option_map_or hard_cost (slice_get b.lines c.0) 0) children
@@ -166,12 +167,13 @@ pub group_is : (b : Board) (p : Parts) (children : List MonitorId) → IsOf b p 
     → t ≡ totals_among p (costs_in p b) (map (λ (c : MonitorId). c.0) children)
 group_is b p children e t h k = λ i. record { hard = hard_sum i; soft = soft_sum i }
   where
-  hard_sum : t.hard ≡ (totals_among p (costs_in p b) (map (λ (c : MonitorId). c.0) children)).hard
-  hard_sum = h ∙ sym (sum_mapped (λ n. cond (is_hard_at p n) (get_or (costs_in p b) n 0) 0) (λ (c : MonitorId). c.0) children
-      ∙ sum_same (λ (c : MonitorId). cond (is_hard_at p c.0) (get_or (costs_in p b) c.0 0) 0) (λ (c : MonitorId). option_map_or hard_cost (slice_get b.lines c.0) 0) (λ c. hard_is b p c.0 e) children)
-  soft_sum : t.soft ≡ (totals_among p (costs_in p b) (map (λ (c : MonitorId). c.0) children)).soft
-  soft_sum = k ∙ sym (sum_mapped (λ n. cond (is_hard_at p n) 0 (get_or (costs_in p b) n 0)) (λ (c : MonitorId). c.0) children
-      ∙ sum_same (λ (c : MonitorId). cond (is_hard_at p c.0) 0 (get_or (costs_in p b) c.0 0)) (λ (c : MonitorId). option_map_or soft_cost (slice_get b.lines c.0) 0) (λ c. soft_is b p c.0 e) children)
+    hard_sum : t.hard ≡ (totals_among p (costs_in p b) (map (λ (c : MonitorId). c.0) children)).hard
+    hard_sum = h ∙ sym (sum_mapped (λ n. cond (is_hard_at p n) (get_or (costs_in p b) n 0) 0) (λ (c : MonitorId). c.0) children
+        ∙ sum_same (λ (c : MonitorId). cond (is_hard_at p c.0) (get_or (costs_in p b) c.0 0) 0) (λ (c : MonitorId). option_map_or hard_cost (slice_get b.lines c.0) 0) (λ c. hard_is b p c.0 e) children)
+
+    soft_sum : t.soft ≡ (totals_among p (costs_in p b) (map (λ (c : MonitorId). c.0) children)).soft
+    soft_sum = k ∙ sym (sum_mapped (λ n. cond (is_hard_at p n) 0 (get_or (costs_in p b) n 0)) (λ (c : MonitorId). c.0) children
+        ∙ sum_same (λ (c : MonitorId). cond (is_hard_at p c.0) 0 (get_or (costs_in p b) c.0 0)) (λ (c : MonitorId). option_map_or soft_cost (slice_get b.lines c.0) 0) (λ c. soft_is b p c.0 e) children)
 
 -- a line that is there
 pub at_line : (f : Line → ℕ) (lines : List Line) (m : ℕ) (d : Line) → m < length lines → option_map_or f (slice_get lines m) 0 ≡ f (get_or lines m d)

@@ -1,8 +1,6 @@
 -- The six edits of monitors and groups: when each is refused, what it leaves, and what leads back.
 use Rattle.std.specs.Prelude.{ℕ, ◌≡◌, ◌<◌, ◌≤◌, Bool, true, false, not, nat_lt, nat_le, if◌then◌else◌, Option, Some, None, Result, Ok, Err, List, [], ◌∷◌, ◌++◌, length, slice_get, slice_set, slice_index_or}
 use Rattle.std.specs.List.{insert}
-use Rattle.khe_base.specs.declared.numbers.GroupId.{GroupId}
-use Rattle.khe_base.specs.declared.numbers.MonitorId.{MonitorId}
 use Rattle.khe_told.specs.declared.edits.Back.{Back}
 use Rattle.khe_told.specs.declared.edits.Back.TheVariants.{By, Make, Insert}
 use Rattle.khe_told.specs.declared.edits.Edit.{Edit}
@@ -10,7 +8,7 @@ use Rattle.khe_told.specs.declared.edits.Edit.TheVariants.{Attach, Detach, MakeG
 use Rattle.khe_told.specs.declared.refusals.Refusal.{Refusal}
 use Rattle.khe_told.specs.declared.refusals.Refusal.TheVariants.{NoSuchMonitor, NoSuchGroup, Attached, Detached, IsChild, NotChild, GroupsFull, NotEmpty}
 use Rattle.monitor_graph.specs.Boards.{Grouping}
-use Rattle.monitor_graph.specs.Groups.{group_at, has_group, children_at, has_child, place_of, without, free_number}
+use Rattle.monitor_graph.specs.Groups.{has_group, children_at, has_child, place_of, without, free_number}
 
 -- the edit is one of monitors and groups
 abbrev pub is_of_groups : Edit → Bool

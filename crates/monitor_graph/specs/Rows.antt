@@ -1,5 +1,5 @@
 -- Rows of bits with a summary: a second row, with a bit for each word of the first.
-use Rattle.std.specs.Prelude.{ℕ, ◌≡◌, ◌<◌, ◌≤◌, ◌/◌, Bool, true, false, List}
+use Rattle.std.specs.Prelude.{ℕ, ◌≡◌, ◌<◌, ◌≤◌, ◌/◌, true, false, List}
 use Rattle.khe_base.specs.Bits.{is_set}
 
 -- the word of each set bit has its bit in the summary; the bit of a word without one may stand too

@@ -3,7 +3,7 @@ use Rattle.std.specs.Prelude.{ℕ, ◌≡◌, ◌<◌, ◌≤◌, Bool, true, fa
 use Rattle.std.specs.Option.{option_map}
 use Rattle.khe_base.specs.declared.numbers.MonitorId.{MonitorId}
 use Rattle.khe_base.specs.declared.sums.Totals.{Totals}
-use Rattle.khe_instance.specs.Costs.{costs_of, is_defect, totals_of, totals_among}
+use Rattle.khe_instance.specs.Costs.{costs_of, is_defect, totals_among}
 use Rattle.khe_instance.specs.declared.parts.Parts.{Parts}
 use Rattle.monitor_graph.specs.Boards.{Board, grouping_of, deviations_of, rates_of}
 use Rattle.monitor_graph.specs.Dearer.{dearer, only}

@@ -9,7 +9,14 @@ use crate::lines::{Line, cost_of};
 
 /// Keeps how many monitors are dearer than marked, and the sum of their numbers, where the cost of
 /// one of them changes. It takes constant time.
-pub(crate) fn recount(count: &mut u64, numbers: &mut u64, marked: u128, before: u128, after: u128, number: u32)
+pub(crate) fn recount(
+    count: &mut u64,
+    numbers: &mut u64,
+    marked: u128,
+    before: u128,
+    after: u128,
+    number: u32,
+)
     requires fits { CanRecount marked before count.old numbers.old number }
     ensures count { count.new + is_dearer marked before ≡ count.old + is_dearer marked after }
     ensures numbers { numbers.new + is_dearer marked before * number ≡ numbers.old + is_dearer marked after * number }

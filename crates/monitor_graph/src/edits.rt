@@ -229,7 +229,7 @@ impl Graph {
     }
 
     /// Attaches or detaches a monitor.
-    fn turn_attached(&mut self, monitor: MonitorId, attached: bool)
+    pub(crate) fn turn_attached(&mut self, monitor: MonitorId, attached: bool)
         requires known { monitor.0 < length (grouping_of self.old).attached }
         ensures grouping { grouping_of self.new ≡ record (grouping_of self.old) { attached = slice_set (grouping_of self.old).attached monitor.0 attached } }
         ensures rest { KeepsValues self.old self.new }

@@ -1,22 +1,22 @@
-ghost use Rattle.std.specs.Prelude.{ℕ, ◌≡◌, ◌<◌, ◌≤◌, ◌+◌, [], true, None, map, length, slice_index, slice_set, IsOk, OnOk, OnErr};
-ghost use Rattle.khe_base.specs.declared.limits.TheConstants.{MONITORS};
+ghost use Rattle.std.specs.Prelude.{ℕ, ◌≡◌, ◌<◌, ◌≤◌, ◌+◌, [], true, None, map, length, slice_index, slice_set, replicate, All, IfOk, IsOk, OnOk, OnErr};
+ghost use Rattle.khe_base.specs.declared.limits.TheConstants.{GROUPS, MONITORS};
 ghost use Rattle.khe_instance.specs.Costs.{totals_of};
 ghost use Rattle.khe_instance.specs.declared.parts.Parts.{Parts};
-ghost use Rattle.monitor_graph.specs.Boards.{Grouping, grouping_of, deviations_of, rates_of};
-ghost use Rattle.monitor_graph.specs.Edits.{is_of_groups, adds_child, inserts_child, is_attached, refusal, edited, made, back_of, undone, CanUndo, checked, answer};
+ghost use Rattle.monitor_graph.specs.Boards.{grouping_of, deviations_of};
+ghost use Rattle.monitor_graph.specs.Edits.{is_attached};
 ghost use Rattle.monitor_graph.specs.Groups.{AreGroups, children_at, has_group, child_at, seated};
 ghost use Rattle.monitor_graph.specs.Lines.{IsLine};
+ghost use Rattle.monitor_graph.specs.Opened.{IsFresh, groups_in};
 ghost use Rattle.monitor_graph.specs.Values.{IsOf, IsNextDefect, costs_in, group_totals, only_dearer};
-ghost use Rattle.khe_told.specs.declared.edits.Edit.TheVariants.{Attach, Detach, MakeGroup, DropGroup, AddChild, RemoveChild};
 
 use crate::dearer::{mark_costs, recount};
 use crate::groups::Groups;
 use crate::lines::{Line, cost_of, replace, totals_among};
 use crate::rows::{first_set, put};
+use khe_base::bits::no_bits;
 use khe_base::{GroupId, MonitorId, NoMemory, Totals};
-use khe_told::{Back, Edit, Refusal, Steps, Tally};
+use std::alloc::Global;
 use std::marker::Model;
-use std::sync::ledger::Ledger;
 
 /// The deviations of all monitors, which of them are attached, and groups of monitors; and what
 /// follows from these: costs, totals, defects, and which monitors cost more than when the costs were
@@ -57,6 +57,29 @@ impl Model for Graph {
 }
 
 impl Graph {
+    /// The graph of these lines, without groups. It takes time and memory in proportion to them.
+    pub(crate) fn bare(alloc: Global, lines: Vec<Line>) -> Result<Graph, NoMemory>
+        requires few { length lines.items ≤ MONITORS }
+        requires fresh { All IsFresh lines.items }
+        ensures lines { IfOk result (λ g. g.lines ≡ lines.items) }
+        ensures groups { IfOk result (λ g. g.groups ≡ groups_in []) }
+        ensures marked { IfOk result (λ g. g.marked ≡ replicate (length lines.items) 0) }
+    {
+        let monitors = lines.len();
+        let words = monitors / 64 + 1;
+        Ok(Graph {
+            hard: 0,
+            soft: 0,
+            dearer: 0,
+            numbers: 0,
+            summary: no_bits(alloc, words / 64 + 1)?,
+            words: no_bits(alloc, words)?,
+            marked: vec![in alloc; 0; monitors]?,
+            groups: Groups::open(alloc, monitors)?,
+            lines,
+        })
+    }
+
     /// What is true of every graph: its groups are groups of its monitors, and there is a seat for
     /// each child.
     pub fn facts(&self)
@@ -106,7 +129,11 @@ impl Graph {
     pub fn next_defect(&self, from: u32) -> Option<MonitorId>
         ensures { (p : Parts) → IsOf self.now p → IsNextDefect (costs_in p self.now) from result }
     {
-        match first_set(self.words.as_slice(), self.summary.as_slice(), from as usize) {
+        match first_set(
+            self.words.as_slice(),
+            self.summary.as_slice(),
+            from as usize,
+        ) {
             Some(number) => Some(MonitorId(number as u32)),
             None => None,
         }
@@ -187,7 +214,14 @@ impl Graph {
         let after = cost_of(&line);
         let marked = self.marked[place];
         put(&mut self.words, &mut self.summary, place, after > 0);
-        recount(&mut self.dearer, &mut self.numbers, marked, before, after, monitor.0);
+        recount(
+            &mut self.dearer,
+            &mut self.numbers,
+            marked,
+            before,
+            after,
+            monitor.0,
+        );
         replace(&mut self.lines, &mut self.hard, &mut self.soft, place, line);
     }
 }

@@ -1,8 +1,9 @@
-ghost use Rattle.std.specs.Prelude.{ℕ, ◌≡◌, ◌<◌, ◌≤◌, ◌+◌, ◌^◌, [], true, false, List, Option, Some, None, is_none, is_some, drop, length, slice_get, slice_set, take, replicate, IfOk, IsOk, OnOk, OnErr, MatchOption, nat_le};
+ghost use Rattle.std.specs.Prelude.{ℕ, ◌≡◌, ◌<◌, ◌≤◌, ◌+◌, ◌^◌, [], true, false, List, Option, Some, None, is_none, is_some, drop, length, slice_get, slice_set, take, replicate, All, AllPairs, ◌≢◌, IfOk, IsOk, OnOk, OnErr, MatchOption, nat_le};
 ghost use Rattle.std.specs.List.{insert, sum_by, position_or_len};
 ghost use Rattle.std.specs.Option.{option_map, option_map_or};
 ghost use Rattle.khe_base.specs.declared.limits.TheConstants.{GROUPS, MONITORS};
 ghost use Rattle.monitor_graph.specs.Groups.{AreGroups, group_at, has_group, children_at, has_child, place_of, without, free_number, seated};
+ghost use Rattle.monitor_graph.specs.Opened.{groups_in};
 ghost use Rattle.monitor_graph.specs.Seating.{start_of};
 
 use khe_base::bits::{clear_bit, is_set, no_bits, set_bit};
@@ -46,6 +47,37 @@ impl Model for Groups {
 }
 
 impl Groups {
+    /// No groups of so many monitors, with no seats. It takes time and memory in proportion to the
+    /// monitors.
+    pub(crate) fn open(alloc: Global, monitors: usize) -> Result<Groups, NoMemory>
+        requires { monitors ≤ MONITORS }
+        ensures groups { IfOk result (λ g. g.groups ≡ groups_in []) }
+        ensures monitors { IfOk result (λ g. g.monitors ≡ monitors) }
+    {
+        Ok(Groups {
+            monitors,
+            seats: 0,
+            children: Vec::new(alloc),
+            sizes: vec![in alloc; None; GROUPS as usize]?,
+            held: no_bits(alloc, BITS / 64 * monitors)?,
+        })
+    }
+
+    /// Puts children into a group without any.
+    pub(crate) fn put_all(&mut self, group: GroupId, children: &[MonitorId])
+        requires empty { slice_get self.old.groups group.0 ≡ Some (Some []) }
+        requires known { All (λ m. m.0 < self.old.monitors) children.now }
+        requires once { AllPairs (λ x y. x ≢ y) children.now }
+        requires room { seated self.old.groups + length children.now ≤ self.old.seats }
+        ensures groups { self.new.groups ≡ slice_set self.old.groups group.0 (Some children.now) }
+        ensures monitors { self.new.monitors ≡ self.old.monitors }
+        ensures seats { self.new.seats ≡ self.old.seats }
+    {
+        for place in 0..children.len() {
+            self.insert(group, children[place], place);
+        }
+    }
+
     /// What is true of all groups: each child is one of the monitors and stands in a group at most
     /// once, and there is a seat for each child.
     pub(crate) fn facts(&self)

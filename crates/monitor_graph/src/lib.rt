@@ -7,7 +7,9 @@ mod edits;
 mod graph;
 mod groups;
 mod lines;
+mod opening;
 mod rows;
+mod tally;
 
 pub use graph::Graph;
 pub use lines::Line;

@@ -1,4 +1,4 @@
-use Rattle.std.proofs.Common.{◌≤◌, None, not, is_none, sym, ap, ◌∙◌, ◌≡◌, true, get_or, length, arith}
+use Rattle.std.proofs.Common.{None, not, is_none, sym, ap, ◌≡◌, length, arith}
 use Rattle.std.specs.List.{position_or_len}
 use Rattle.std.proofs.lemmas.List.Sums.{position_or_len_is}
 use Rattle.monitor_graph.proofs.groups.first_none.Goals as goal

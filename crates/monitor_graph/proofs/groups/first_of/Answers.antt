@@ -1,6 +1,5 @@
-use Rattle.std.proofs.Common.{ℕ, ◌≤◌, ◌<◌, sym, ap, ◌∙◌, ◌≡◌, true, get_or, length, arith}
+use Rattle.std.proofs.Common.{sym, ap, ◌∙◌, ◌≡◌, length, arith}
 use Rattle.std.specs.Prelude.{◌==◌}
-use Rattle.std.specs.List.{position_or_len}
 use Rattle.std.proofs.lemmas.Bool.{eq-eqb}
 use Rattle.std.proofs.lemmas.List.Sums.{position_or_len_is}
 use Rattle.khe_base.specs.declared.numbers.MonitorId.{MonitorId}

@@ -1,19 +1,10 @@
-use Rattle.std.proofs.Common.{ℕ, ◌≡◌, ◌+◌, ◌*◌, ◌<◌, ◌≤◌, nat_lt, true, false, Some, None, List, length, map, get_or, set, refl, sym, ap, ◌∙◌, subst, arith}
-use Rattle.std.specs.List.{sum_by}
-use Rattle.std.specs.Option.{option_map, option_map_or}
-use Rattle.khe_base.specs.Bits.{is_set}
-use Rattle.khe_base.specs.declared.numbers.MonitorId.{MonitorId}
-use Rattle.khe_instance.specs.Costs.{is_defect}
+use Rattle.std.proofs.Common.{ℕ, Some, sym, ap, ◌∙◌, arith}
+use Rattle.std.specs.Option.{option_map}
 use Rattle.monitor_graph.specs.Boards.{Board}
-use Rattle.monitor_graph.specs.Dearer.{dearer, only, is_dearer, AreCompared}
-use Rattle.monitor_graph.specs.Defects.{AreDefects}
-use Rattle.monitor_graph.specs.Lines.{line_cost, hard_cost, soft_cost, line_costs}
-use Rattle.monitor_graph.specs.Values.{costs_in}
-use Rattle.monitor_graph.specs.declared.lines.Line.{Line}
-use Rattle.monitor_graph.proofs.DearerLaws.{only-one, not-only, only_small, marked_now, can_recount, recounted}
-use Rattle.monitor_graph.proofs.DefectLaws.{defect_bit, defects_set}
-use Rattle.monitor_graph.proofs.SeatLaws.{child_known}
-use Rattle.monitor_graph.proofs.ValueLaws.{at_line, cost_in, costs_are, totals_are, group_is}
+use Rattle.monitor_graph.specs.Dearer.{dearer, only}
+use Rattle.monitor_graph.specs.Lines.{line_costs}
+use Rattle.monitor_graph.proofs.DearerLaws.{only-one, not-only, only_small}
+use Rattle.monitor_graph.proofs.ValueLaws.{costs_are}
 use Rattle.monitor_graph.proofs.graph.Graph.only_dearer.Goals as goal
 
 pub overflow_cast-result : goal.overflow_cast-result
@@ -28,8 +19,8 @@ returns-then-self-eq1 c p e =
     let i = c.self.invariant.2 in
     ap (option_map (λ (m : ℕ). record { 0 = m }))
     (ap Some i.summed ∙ sym (only-one (dearer s.marked.items (line_costs s.lines.items)) (sym i.counted ∙ c.if-self-eq1.true))
-        ∙ ap (λ (b : Board). only (dearer b.marked (line_costs b.lines))) c.self.view_is
-        ∙ ap (λ cs. only (dearer c.args.self.now.marked cs)) (sym (costs_are c.args.self.now p e)))
+    ∙ ap (λ (b : Board). only (dearer b.marked (line_costs b.lines))) c.self.view_is
+    ∙ ap (λ cs. only (dearer c.args.self.now.marked cs)) (sym (costs_are c.args.self.now p e)))
 
 pub returns-else-self-eq1 : goal.returns-else-self-eq1
 returns-else-self-eq1 c p e =
@@ -37,5 +28,5 @@ returns-else-self-eq1 c p e =
     let i = c.self.invariant.2 in
     ap (option_map (λ (m : ℕ). record { 0 = m }))
     (sym (not-only (dearer s.marked.items (line_costs s.lines.items)) (λ h. c.if-self-eq1.false (i.counted ∙ h)))
-        ∙ ap (λ (b : Board). only (dearer b.marked (line_costs b.lines))) c.self.view_is
-        ∙ ap (λ cs. only (dearer c.args.self.now.marked cs)) (sym (costs_are c.args.self.now p e)))
+    ∙ ap (λ (b : Board). only (dearer b.marked (line_costs b.lines))) c.self.view_is
+    ∙ ap (λ cs. only (dearer c.args.self.now.marked cs)) (sym (costs_are c.args.self.now p e)))

@@ -1,11 +1,8 @@
-use Rattle.std.proofs.Common.{◌≡◌, ◌+◌, ◌-◌, ◌*◌, ◌/◌, ◌<◌, ◌≤◌, true, Some, None, [], List, length, take, drop, get_or, set, subst, sym, ap, ◌∙◌, arith}
-use Rattle.std.specs.List.{insert, remove, sum_by, position_or_len}
+use Rattle.std.proofs.Common.{◌≡◌, length, take, drop, sym, ap, ◌∙◌, arith}
+use Rattle.std.specs.List.{sum_by}
 use Rattle.std.specs.Option.{option_map_or}
-use Rattle.std.specs.Prelude.{◌==◌}
-use Rattle.khe_base.specs.declared.numbers.MonitorId.{MonitorId}
-use Rattle.monitor_graph.specs.Groups.{children_at, seated}
-use Rattle.monitor_graph.specs.Seating.{Seating, AreSeated, groups_of, start_of}
-use Rattle.monitor_graph.proofs.SeatLaws.{kept_as, part_is, seated_is, sizes_sum, inserted, removed, child_in_group, free_answer, child_place, seating_as}
+use Rattle.monitor_graph.specs.Seating.{start_of}
+use Rattle.monitor_graph.proofs.SeatLaws.{kept_as, part_is, sizes_sum}
 use Rattle.monitor_graph.proofs.groups.Groups.children.Goals as goal
 
 pub start-start-requires-clause-few : goal.start-start-requires-clause-few

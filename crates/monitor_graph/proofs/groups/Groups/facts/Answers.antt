@@ -1,5 +1,5 @@
-use Rattle.std.proofs.Common.{◌≤◌, length, subst, arith}
-use Rattle.monitor_graph.specs.Groups.{AreGroups, children_at, seated}
+use Rattle.std.proofs.Common.{◌≤◌, subst, arith}
+use Rattle.monitor_graph.specs.Groups.{AreGroups, seated}
 use Rattle.monitor_graph.specs.Seating.{Seating, groups_of}
 use Rattle.monitor_graph.proofs.SeatLaws.{valid_is, few_is, seated_is}
 use Rattle.monitor_graph.proofs.groups.Groups.facts.Goals as goal
@@ -13,7 +13,7 @@ pub returns-clause-few : goal.returns-clause-few
 returns-clause-few c g =
     let s = c.self.inside in
     few_is c.args.self.now.groups c.args.self.now.monitors g
-        (subst (λ (v : Seating). AreGroups v.monitors v.groups) c.self.view_is (valid_is (groups_of s.sizes.items s.children.items) s.monitors s.sizes.items s.children.items s.held.items c.self.invariant.0))
+    (subst (λ (v : Seating). AreGroups v.monitors v.groups) c.self.view_is (valid_is (groups_of s.sizes.items s.children.items) s.monitors s.sizes.items s.children.items s.held.items c.self.invariant.0))
 
 pub returns-clause-seats : goal.returns-clause-seats
 returns-clause-seats c =

@@ -1,11 +1,7 @@
-use Rattle.std.proofs.Common.{ℕ, Option, ◌≡◌, ◌+◌, ◌-◌, ◌*◌, ◌/◌, ◌<◌, ◌≤◌, true, Some, None, [], List, length, take, drop, get_or, set, subst, sym, ap, ◌∙◌, arith}
-use Rattle.std.specs.List.{insert, remove, sum_by, position_or_len}
-use Rattle.std.specs.Option.{option_map_or}
+use Rattle.std.proofs.Common.{ℕ, Option, ◌≡◌, ◌<◌, ◌≤◌, List, length, subst}
+use Rattle.std.specs.List.{position_or_len}
 use Rattle.std.specs.Prelude.{is_none, MatchOption}
-use Rattle.khe_base.specs.declared.numbers.MonitorId.{MonitorId}
-use Rattle.monitor_graph.specs.Groups.{children_at, seated}
-use Rattle.monitor_graph.specs.Seating.{Seating, AreSeated, groups_of, start_of}
-use Rattle.monitor_graph.proofs.SeatLaws.{kept_as, part_is, seated_is, sizes_sum, inserted, removed, child_in_group, free_answer, child_place, seating_as}
+use Rattle.monitor_graph.proofs.SeatLaws.{kept_as, free_answer}
 use Rattle.monitor_graph.proofs.groups.Groups.free.Goals as goal
 
 pub returns : goal.returns
