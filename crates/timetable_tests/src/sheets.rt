@@ -1,15 +1,12 @@
-ghost use Rattle.timetables.specs.Sheets.{IsSheet};
+ghost use Rattle.timetable_tests.specs.Sheets.{IsSheet};
 
-use crate::{Mask, Timetable};
 use khe_base::limits::GREATEST_COUNT;
-use khe_base::{IdSet, NoMemory, ResourceId, TimeId};
+use khe_base::{IdSet, NoMemory, ResourceId, TimeId, lends_to_threads};
 use std::alloc::Global;
 use std::test::Fail;
+use timetables::{Mask, Timetable};
 
 const RESOURCE: ResourceId = ResourceId(1);
-
-// Threads may be handed such a value, and read it together.
-fn lends_to_threads<T: Send + Sync>(_value: &T) {}
 
 // A timetable of two resources that tests the conditions of its calls when it runs.
 #[derive(Drop)]

@@ -1,0 +1,10 @@
+pub mod DearerLaws
+pub mod DefectLaws
+pub mod EditLaws
+pub mod JoinedLaws
+pub mod LineLaws
+pub mod ListLaws
+pub mod OpenLaws
+pub mod RowLaws
+pub mod SeatLaws
+pub mod ValueLaws

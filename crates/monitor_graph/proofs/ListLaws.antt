@@ -1,0 +1,20 @@
+-- What stands at a place after one element changes.
+use Rattle.std.proofs.Common.{ℕ, ◌≡◌, ◌<◌, zero, suc, Some, List, [], ◌∷◌, length, get_or, set, slice_get, refl, ap, ◌∙◌, arith, get_or-set_same}
+use Rattle.std.proofs.lemmas.List.{length-set}
+use Rattle.std.proofs.lemmas.Option.{slice_get-get_or}
+
+pub get-set_other : {A : Type 0} (xs : List A) (i k : ℕ) (a : A) → (k ≡ i → ⊥) → slice_get (set xs i a) k ≡ slice_get xs k
+get-set_other [] i k a n = refl
+get-set_other (x ∷ xs) zero zero a n = absurd (n refl)
+get-set_other (x ∷ xs) zero (suc k) a n = refl
+get-set_other (x ∷ xs) (suc i) zero a n = refl
+get-set_other (x ∷ xs) (suc i) (suc k) a n = get-set_other xs i k a (λ e. n (ap suc e))
+
+pub get-set : {A : Type 0} (xs : List A) (i : ℕ) (a : A) → i < length xs → slice_get (set xs i a) i ≡ Some a
+get-set xs i a l = let m : i < length (set xs i a) = (let k = length-set xs i a in omega (arith, k, l)) in slice_get-get_or (set xs i a) i a m ∙ ap Some (get_or-set_same xs i a a l)
+
+-- what stands there, whatever stands beyond the end
+pub get-any : {A : Type 0} (xs : List A) (k : ℕ) (d e : A) → k < length xs → get_or xs k d ≡ get_or xs k e
+get-any [] k d e l = absurd (omega arith)
+get-any (x ∷ xs) zero d e l = refl
+get-any (x ∷ xs) (suc k) d e l = get-any xs k d e (omega arith)

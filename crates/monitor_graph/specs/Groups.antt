@@ -1,0 +1,55 @@
+-- Groups of monitors: for each group number the children of the group, in the order in which they
+-- were added, or none where there is no such group.
+use Rattle.std.specs.Prelude.{ℕ, ◌≡◌, ◌==◌, ◌<◌, ◌≤◌, Bool, true, Option, is_none, is_some, List, [], length, slice_get}
+use Rattle.std.specs.List.{count_by, list_any, position_or_len, remove, sum_by}
+use Rattle.std.specs.Option.{option_and_then, option_map_or}
+use Rattle.khe_base.specs.declared.limits.TheConstants.{GROUPS}
+use Rattle.khe_base.specs.declared.numbers.MonitorId.{MonitorId}
+
+abbrev pub Groups : Type 0
+Groups = List (Option (List MonitorId))
+
+-- a group, where there is one of this number
+abbrev pub group_at : Groups → ℕ → Option (List MonitorId)
+group_at groups g = option_and_then (λ x. x) (slice_get groups g)
+
+abbrev pub has_group : Groups → ℕ → Bool
+has_group groups g = is_some (group_at groups g)
+
+abbrev pub children_at : Groups → ℕ → List MonitorId
+children_at groups g = option_map_or (λ x. x) (group_at groups g) []
+
+-- the child of a group at a place, if it has so many
+abbrev pub child_at : Groups → ℕ → ℕ → Option MonitorId
+child_at groups g k = slice_get (children_at groups g) k
+
+-- whether a monitor is among children, and how often
+abbrev pub is_among : ℕ → List MonitorId → Bool
+is_among m children = list_any (λ c. c.0 == m) children
+
+abbrev pub occurs : ℕ → List MonitorId → ℕ
+occurs m children = count_by (λ c. c.0 == m) children
+
+abbrev pub has_child : Groups → ℕ → ℕ → Bool
+has_child groups g m = is_among m (children_at groups g)
+
+-- the place of a child, and the children without it
+abbrev pub place_of : ℕ → List MonitorId → ℕ
+place_of m children = position_or_len (λ c. c.0 == m) children
+
+abbrev pub without : ℕ → List MonitorId → List MonitorId
+without m children = remove children (place_of m children)
+
+-- the lowest number of no group
+abbrev pub free_number : Groups → ℕ
+free_number groups = position_or_len is_none groups
+
+-- how many children all groups together have
+abbrev pub seated : Groups → ℕ
+seated groups = sum_by (λ o. option_map_or length o 0) groups
+
+-- groups of these monitors: each child is one of them, and stands in a group at most once
+pub record AreGroups (monitors : ℕ) (groups : Groups) : Type 0 where
+  pub numbers : length groups ≡ GROUPS
+  pub known : (g m : ℕ) → has_child groups g m ≡ true → m < monitors
+  pub once : (g m : ℕ) → occurs m (children_at groups g) ≤ 1

@@ -1,0 +1,10 @@
+pub mod Boards
+pub mod Dearer
+pub mod Defects
+pub mod Edits
+pub mod Groups
+pub mod Lines
+pub mod Opened
+pub mod Rows
+pub mod Seating
+pub mod Values

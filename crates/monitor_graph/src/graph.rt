@@ -1,0 +1,227 @@
+ghost use Rattle.std.specs.Prelude.{ℕ, ◌≡◌, ◌<◌, ◌≤◌, ◌+◌, [], true, None, map, length, slice_index, slice_set, replicate, All, IfOk, IsOk, OnOk, OnErr};
+ghost use Rattle.khe_base.specs.declared.limits.TheConstants.{GROUPS, MONITORS};
+ghost use Rattle.khe_instance.specs.Costs.{totals_of};
+ghost use Rattle.khe_instance.specs.declared.parts.Parts.{Parts};
+ghost use Rattle.monitor_graph.specs.Boards.{grouping_of, deviations_of};
+ghost use Rattle.monitor_graph.specs.Edits.{is_attached};
+ghost use Rattle.monitor_graph.specs.Groups.{AreGroups, children_at, has_group, child_at, seated};
+ghost use Rattle.monitor_graph.specs.Lines.{IsLine};
+ghost use Rattle.monitor_graph.specs.Opened.{IsFresh, groups_in};
+ghost use Rattle.monitor_graph.specs.Values.{IsOf, IsNextDefect, costs_in, group_totals, only_dearer};
+
+use crate::dearer::{mark_costs, recount};
+use crate::groups::Groups;
+use crate::lines::{Line, cost_of, replace, totals_among};
+use crate::rows::{first_set, put};
+use khe_base::bits::no_bits;
+use khe_base::{GroupId, MonitorId, NoMemory, Totals};
+use std::alloc::Global;
+use std::marker::Model;
+
+/// The deviations of all monitors, which of them are attached, and groups of monitors; and what
+/// follows from these: costs, totals, defects, and which monitors cost more than when the costs were
+/// marked. Contracts see the first three, the costs that were marked, and how many children there is
+/// room for.
+///
+/// A change of a deviation takes constant time, and so do all values but the next defect and what a
+/// group costs. Only `open` and `room` take memory.
+#[derive(Drop)]
+pub struct Graph {
+    pub(crate) lines: Vec<Line>,
+    hard: u128,
+    soft: u128,
+    /// A bit for each monitor that is a defect, and a bit for each word of these that is not 0.
+    words: Vec<u64>,
+    summary: Vec<u64>,
+    /// What each monitor cost when the costs were marked.
+    marked: Vec<u128>,
+    /// How many monitors cost more than marked, and the sum of their numbers.
+    dearer: u64,
+    numbers: u64,
+    pub(crate) groups: Groups,
+}
+
+impl Model for Graph {
+    ghost use Rattle.std.specs.Prelude.{◌≡◌, length};
+    ghost use Rattle.monitor_graph.specs.Boards.{Board};
+    ghost use Rattle.monitor_graph.specs.Dearer.{AreCompared};
+    ghost use Rattle.monitor_graph.specs.Defects.{AreDefects};
+    ghost use Rattle.monitor_graph.specs.Lines.{AreTotalled, line_costs};
+
+    ghost Value = { Board };
+
+    ghost view = { λ g. record { lines = g.lines.items; groups = g.groups.groups; marked = g.marked.items; seats = g.groups.seats } };
+
+    ghost invariant = { λ g. AreTotalled g.lines.items g.hard g.soft × AreDefects g.lines.items g.words.items g.summary.items
+        × AreCompared (line_costs g.lines.items) g.marked.items g.dearer g.numbers × (g.groups.monitors ≡ length g.lines.items) };
+}
+
+impl Graph {
+    /// The graph of these lines, without groups. It takes time and memory in proportion to them.
+    pub(crate) fn bare(alloc: Global, lines: Vec<Line>) -> Result<Graph, NoMemory>
+        requires few { length lines.items ≤ MONITORS }
+        requires fresh { All IsFresh lines.items }
+        ensures lines { IfOk result (λ g. g.lines ≡ lines.items) }
+        ensures groups { IfOk result (λ g. g.groups ≡ groups_in []) }
+        ensures marked { IfOk result (λ g. g.marked ≡ replicate (length lines.items) 0) }
+    {
+        let monitors = lines.len();
+        let words = monitors / 64 + 1;
+        Ok(Graph {
+            hard: 0,
+            soft: 0,
+            dearer: 0,
+            numbers: 0,
+            summary: no_bits(alloc, words / 64 + 1)?,
+            words: no_bits(alloc, words)?,
+            marked: vec![in alloc; 0; monitors]?,
+            groups: Groups::open(alloc, monitors)?,
+            lines,
+        })
+    }
+
+    /// What is true of every graph: its groups are groups of its monitors, and there is a seat for
+    /// each child.
+    pub fn facts(&self)
+        ensures monitors { length self.now.lines ≤ MONITORS }
+        ensures groups { AreGroups (length self.now.lines) self.now.groups }
+        ensures seats { seated self.now.groups ≤ self.now.seats }
+    {
+        let _ = &self.lines;
+        self.groups.facts();
+    }
+
+    /// The deviation of a monitor.
+    pub fn deviation(&self, monitor: MonitorId) -> u64
+        requires { monitor.0 < length self.now.lines }
+        ensures { result ≡ slice_index (deviations_of self.now) monitor.0 }
+    {
+        self.lines[monitor.0 as usize].deviation
+    }
+
+    /// Whether a monitor is attached.
+    pub fn attached(&self, monitor: MonitorId) -> bool
+        requires { monitor.0 < length self.now.lines }
+        ensures { result ≡ is_attached (grouping_of self.now) monitor.0 }
+    {
+        self.lines[monitor.0 as usize].attached
+    }
+
+    /// What a monitor costs.
+    pub fn cost(&self, monitor: MonitorId) -> u128
+        requires { monitor.0 < length self.now.lines }
+        ensures { (p : Parts) → IsOf self.now p → result ≡ slice_index (costs_in p self.now) monitor.0 }
+    {
+        cost_of(&self.lines[monitor.0 as usize])
+    }
+
+    /// The hard and soft totals of all monitors.
+    pub fn totals(&self) -> Totals
+        ensures { (p : Parts) → IsOf self.now p → result ≡ totals_of p (costs_in p self.now) }
+    {
+        Totals {
+            hard: self.hard,
+            soft: self.soft,
+        }
+    }
+
+    /// The first defect with a number of at least this one; `None` where there is none.
+    pub fn next_defect(&self, from: u32) -> Option<MonitorId>
+        ensures { (p : Parts) → IsOf self.now p → IsNextDefect (costs_in p self.now) from result }
+    {
+        match first_set(
+            self.words.as_slice(),
+            self.summary.as_slice(),
+            from as usize,
+        ) {
+            Some(number) => Some(MonitorId(number as u32)),
+            None => None,
+        }
+    }
+
+    /// Marks the costs that stand, to be compared with from here on. It takes time in proportion to
+    /// the monitors.
+    pub fn compare_from_here(&mut self)
+        ensures lines { self.new.lines ≡ self.old.lines }
+        ensures groups { self.new.groups ≡ self.old.groups }
+        ensures seats { self.new.seats ≡ self.old.seats }
+        ensures marked { (p : Parts) → IsOf self.old p → self.new.marked ≡ costs_in p self.old }
+    {
+        mark_costs(&mut self.marked, self.lines.as_slice());
+        self.dearer = 0;
+        self.numbers = 0;
+    }
+
+    /// The only monitor that costs more than marked; `None` where none does, or several do.
+    pub fn only_dearer(&self) -> Option<MonitorId>
+        ensures { (p : Parts) → IsOf self.now p → result ≡ only_dearer p self.now }
+    {
+        if self.dearer == 1 {
+            Some(MonitorId(self.numbers as u32))
+        } else {
+            None
+        }
+    }
+
+    /// Whether a group has this number.
+    pub fn has_group(&self, group: GroupId) -> bool
+        ensures { result ≡ has_group self.now.groups group.0 }
+    {
+        self.groups.has(group)
+    }
+
+    /// The child of a group at a place, from 0; `None` where it has no so many.
+    pub fn child(&self, group: GroupId, k: u32) -> Option<MonitorId>
+        requires { has_group self.now.groups group.0 ≡ true }
+        ensures { result ≡ child_at self.now.groups group.0 k }
+    {
+        self.groups.children(group).get(k as usize).copied()
+    }
+
+    /// What a group costs, in time in proportion to its children.
+    pub fn group_cost(&self, group: GroupId) -> Totals
+        requires { has_group self.now.groups group.0 ≡ true }
+        ensures { (p : Parts) → IsOf self.now p → result ≡ group_totals p self.now group.0 }
+    {
+        self.groups.facts();
+        totals_among(self.lines.as_slice(), self.groups.children(group))
+    }
+
+    /// Makes room for this many children more. Where memory is refused, all stays as it was.
+    pub fn room(&mut self, n: u32) -> Result<(), NoMemory>
+        ensures lines { self.new.lines ≡ self.old.lines }
+        ensures groups { self.new.groups ≡ self.old.groups }
+        ensures marked { self.new.marked ≡ self.old.marked }
+        ensures kept { self.old.seats ≤ self.new.seats }
+        ensures ok { OnOk result (seated self.new.groups + n ≤ self.new.seats) }
+        ensures err { OnErr result (self.new ≡ self.old) }
+        ensures there { seated self.old.groups + n ≤ self.old.seats → IsOk result }
+    {
+        self.groups.reserve(n as usize)
+    }
+
+    /// Puts a line in the place of a monitor's, in constant time.
+    pub(crate) fn turn(&mut self, monitor: MonitorId, line: Line)
+        requires known { monitor.0 < length self.old.lines }
+        requires line { IsLine line }
+        ensures lines { self.new.lines ≡ slice_set self.old.lines monitor.0 line }
+        ensures groups { self.new.groups ≡ self.old.groups }
+        ensures marked { self.new.marked ≡ self.old.marked }
+        ensures seats { self.new.seats ≡ self.old.seats }
+    {
+        let place = monitor.0 as usize;
+        let before = cost_of(&self.lines[place]);
+        let after = cost_of(&line);
+        let marked = self.marked[place];
+        put(&mut self.words, &mut self.summary, place, after > 0);
+        recount(
+            &mut self.dearer,
+            &mut self.numbers,
+            marked,
+            before,
+            after,
+            monitor.0,
+        );
+        replace(&mut self.lines, &mut self.hard, &mut self.soft, place, line);
+    }
+}

@@ -1,0 +1,270 @@
+ghost use Rattle.std.specs.Prelude.{ℕ, ◌≡◌, ◌<◌, ◌≤◌, ◌+◌, ◌^◌, [], true, false, List, Option, Some, None, is_none, is_some, drop, length, slice_get, slice_set, take, replicate, All, AllPairs, ◌≢◌, IfOk, IsOk, OnOk, OnErr, MatchOption, nat_le};
+ghost use Rattle.std.specs.List.{insert, sum_by, position_or_len};
+ghost use Rattle.std.specs.Option.{option_map, option_map_or};
+ghost use Rattle.khe_base.specs.declared.limits.TheConstants.{GROUPS, MONITORS};
+ghost use Rattle.monitor_graph.specs.Groups.{AreGroups, group_at, has_group, children_at, has_child, place_of, without, free_number, seated};
+ghost use Rattle.monitor_graph.specs.Opened.{groups_in};
+ghost use Rattle.monitor_graph.specs.Seating.{start_of};
+
+use khe_base::bits::{clear_bit, is_set, no_bits, set_bit};
+use khe_base::limits::GROUPS;
+use khe_base::{GroupId, MonitorId, NoMemory};
+use std::alloc::Global;
+use std::marker::Model;
+
+/// How many bits each monitor has: one for each group number, in whole words.
+const BITS: usize = 256;
+
+/// Groups of monitors, each with its children in the order in which they were added.
+///
+/// The children of all groups stand in one list, so that there is room for so many more in
+/// whichever groups they come to be. A bit for each monitor and group number tells in constant time
+/// whether a monitor is in a group.
+#[derive(Drop)]
+pub(crate) struct Groups {
+    /// How many children each group has; none where no group has the number.
+    sizes: Vec<Option<usize>>,
+    /// The children of all groups, group by group.
+    children: Vec<MonitorId>,
+    /// For each monitor the groups that it is in.
+    held: Vec<u64>,
+    /// Of how many monitors these are groups.
+    monitors: usize,
+    /// How many children there is room for.
+    seats: usize,
+}
+
+impl Model for Groups {
+    ghost use Rattle.std.specs.Prelude.{◌≤◌, vec_len, vec_capacity};
+    ghost use Rattle.monitor_graph.specs.Seating.{Seating, groups_of, AreSeated};
+
+    ghost Value = { Seating };
+
+    ghost view = { λ g. record { groups = groups_of g.sizes.items g.children.items; monitors = g.monitors; seats = g.seats } };
+
+    ghost invariant = { λ g. AreSeated (groups_of g.sizes.items g.children.items) g.monitors g.sizes.items g.children.items g.held.items
+        × (vec_len g.children ≤ g.seats) × (g.seats ≤ vec_capacity g.children) };
+}
+
+impl Groups {
+    /// No groups of so many monitors, with no seats. It takes time and memory in proportion to the
+    /// monitors.
+    pub(crate) fn open(alloc: Global, monitors: usize) -> Result<Groups, NoMemory>
+        requires { monitors ≤ MONITORS }
+        ensures groups { IfOk result (λ g. g.groups ≡ groups_in []) }
+        ensures monitors { IfOk result (λ g. g.monitors ≡ monitors) }
+    {
+        Ok(Groups {
+            monitors,
+            seats: 0,
+            children: Vec::new(alloc),
+            sizes: vec![in alloc; None; GROUPS as usize]?,
+            held: no_bits(alloc, BITS / 64 * monitors)?,
+        })
+    }
+
+    /// Puts children into a group without any.
+    pub(crate) fn put_all(&mut self, group: GroupId, children: &[MonitorId])
+        requires empty { slice_get self.old.groups group.0 ≡ Some (Some []) }
+        requires known { All (λ m. m.0 < self.old.monitors) children.now }
+        requires once { AllPairs (λ x y. x ≢ y) children.now }
+        requires room { seated self.old.groups + length children.now ≤ self.old.seats }
+        ensures groups { self.new.groups ≡ slice_set self.old.groups group.0 (Some children.now) }
+        ensures monitors { self.new.monitors ≡ self.old.monitors }
+        ensures seats { self.new.seats ≡ self.old.seats }
+    {
+        for place in 0..children.len() {
+            self.insert(group, children[place], place);
+        }
+    }
+
+    /// What is true of all groups: each child is one of the monitors and stands in a group at most
+    /// once, and there is a seat for each child.
+    pub(crate) fn facts(&self)
+        ensures valid { AreGroups self.now.monitors self.now.groups }
+        ensures few { (g : ℕ) → length (children_at self.now.groups g) ≤ self.now.monitors }
+        ensures seats { seated self.now.groups ≤ self.now.seats }
+    {
+        let _ = &self.children;
+    }
+
+    /// How many children a group has, in constant time; `None` where no group has the number.
+    fn size(&self, group: GroupId) -> Option<usize>
+        ensures { result ≡ option_map length (group_at self.now.groups group.0) }
+    {
+        let place = group.0 as usize;
+        if place < self.sizes.len() {
+            self.sizes[place]
+        } else {
+            None
+        }
+    }
+
+    /// Whether a group has this number, in constant time.
+    pub(crate) fn has(&self, group: GroupId) -> bool
+        ensures { result ≡ has_group self.now.groups group.0 }
+    {
+        self.size(group).is_some()
+    }
+
+    /// The children of a group, in their order; none where no group has the number.
+    pub(crate) fn children(&self, group: GroupId) -> &[MonitorId]
+        ensures { result.now ≡ children_at self.now.groups group.0 }
+    {
+        let Some(size) = self.size(group) else {
+            return &[];
+        };
+        let start = start(self.sizes.as_slice(), group.0 as usize);
+        part(self.children.as_slice(), start, size)
+    }
+
+    /// Whether a monitor is a child of a group, in constant time.
+    pub(crate) fn holds(&self, group: GroupId, child: MonitorId) -> bool
+        ensures { result ≡ has_child self.now.groups group.0 child.0 }
+    {
+        let group = group.0 as usize;
+        group < self.sizes.len() && is_set(self.held.as_slice(), BITS * child.0 as usize + group)
+    }
+
+    /// The lowest number of no group; `None` where each number is taken.
+    pub(crate) fn free(&self) -> Option<GroupId>
+        ensures { MatchOption result
+            (nat_le (length self.now.groups) (free_number self.now.groups) ≡ true)
+            (λ g. (g.0 ≡ free_number self.now.groups) × (slice_get self.now.groups g.0 ≡ Some None)) }
+    {
+        first_none(self.sizes.as_slice())
+    }
+
+    /// Makes a group without children, of a number that no group has.
+    pub(crate) fn make(&mut self, group: GroupId)
+        requires free { slice_get self.old.groups group.0 ≡ Some None }
+        ensures groups { self.new.groups ≡ slice_set self.old.groups group.0 (Some []) }
+        ensures monitors { self.new.monitors ≡ self.old.monitors }
+        ensures seats { self.new.seats ≡ self.old.seats }
+    {
+        self.sizes[group.0 as usize] = Some(0);
+    }
+
+    /// Drops a group without children.
+    pub(crate) fn drop_empty(&mut self, group: GroupId)
+        requires empty { slice_get self.old.groups group.0 ≡ Some (Some []) }
+        ensures groups { self.new.groups ≡ slice_set self.old.groups group.0 None }
+        ensures monitors { self.new.monitors ≡ self.old.monitors }
+        ensures seats { self.new.seats ≡ self.old.seats }
+    {
+        self.sizes[group.0 as usize] = None;
+    }
+
+    /// Puts a child at a place of a group. The children of later groups move by one.
+    pub(crate) fn insert(&mut self, group: GroupId, child: MonitorId, place: usize)
+        requires there { has_group self.old.groups group.0 ≡ true }
+        requires known { child.0 < self.old.monitors }
+        requires place { place ≤ length (children_at self.old.groups group.0) }
+        requires fresh { has_child self.old.groups group.0 child.0 ≡ false }
+        requires room { seated self.old.groups < self.old.seats }
+        ensures groups { self.new.groups ≡ slice_set self.old.groups group.0 (Some (insert (children_at self.old.groups group.0) place child)) }
+        ensures monitors { self.new.monitors ≡ self.old.monitors }
+        ensures seats { self.new.seats ≡ self.old.seats }
+    {
+        let Some(size) = self.size(group) else {
+            unreachable!()
+        };
+        let start = start(self.sizes.as_slice(), group.0 as usize);
+        let Ok(()) = self.children.insert(start + place, child) else {
+            unreachable!()
+        };
+        self.sizes[group.0 as usize] = Some(size + 1);
+        set_bit(&mut self.held, BITS * child.0 as usize + group.0 as usize);
+    }
+
+    /// Takes a child out of a group. The children of later groups move by one.
+    pub(crate) fn remove(&mut self, group: GroupId, child: MonitorId)
+        requires there { has_child self.old.groups group.0 child.0 ≡ true }
+        ensures groups { self.new.groups ≡ slice_set self.old.groups group.0 (Some (without child.0 (children_at self.old.groups group.0))) }
+        ensures monitors { self.new.monitors ≡ self.old.monitors }
+        ensures seats { self.new.seats ≡ self.old.seats }
+    {
+        let place = self.place(group, child);
+        let Some(size) = self.size(group) else {
+            unreachable!()
+        };
+        let start = start(self.sizes.as_slice(), group.0 as usize);
+        let _ = self.children.remove(start + place);
+        self.sizes[group.0 as usize] = Some(size - 1);
+        clear_bit(&mut self.held, BITS * child.0 as usize + group.0 as usize);
+    }
+
+    /// The place of a child in its group, in time in proportion to it.
+    pub(crate) fn place(&self, group: GroupId, child: MonitorId) -> usize
+        ensures { result ≡ place_of child.0 (children_at self.now.groups group.0) }
+    {
+        first_of(self.children(group), child)
+    }
+
+    /// Makes room for this many children more. Where memory is refused, all stays as it was.
+    pub(crate) fn reserve(&mut self, n: usize) -> Result<(), NoMemory>
+        ensures groups { self.new.groups ≡ self.old.groups }
+        ensures monitors { self.new.monitors ≡ self.old.monitors }
+        ensures kept { self.old.seats ≤ self.new.seats }
+        ensures ok { OnOk result (seated self.new.groups + n ≤ self.new.seats) }
+        ensures err { OnErr result (self.new ≡ self.old) }
+        ensures there { seated self.old.groups + n ≤ self.old.seats → IsOk result }
+    {
+        let taken = self.children.len();
+        if self.seats - taken < n {
+            self.children.reserve(n)?;
+            self.seats = taken + n;
+        }
+        Ok(())
+    }
+}
+
+/// How many children stand before those of a group, in time in proportion to its number.
+fn start(sizes: &[Option<usize>], group: usize) -> usize
+    requires there { group ≤ length sizes.now }
+    requires few { sum_by (λ o. option_map_or (λ n. n) o 0) sizes.now < 2 ^ 64 }
+    ensures { result ≡ start_of group sizes.now }
+{
+    let mut total = 0;
+    for place in 0..group {
+        if let Some(size) = sizes[place] {
+            total += size;
+        }
+    }
+    total
+}
+
+/// So many children from a place on.
+fn part(children: &[MonitorId], start: usize, size: usize) -> &[MonitorId]
+    requires { start + size ≤ length children.now }
+    ensures { result.now ≡ take size (drop start children.now) }
+{
+    &children[start..start + size]
+}
+
+/// The first number of no group.
+fn first_none(sizes: &[Option<usize>]) -> Option<GroupId>
+    requires { length sizes.now < 2 ^ 32 }
+    ensures { MatchOption result
+        (length sizes.now ≤ position_or_len is_none sizes.now)
+        (λ g. (g.0 ≡ position_or_len is_none sizes.now) × (g.0 < length sizes.now)) }
+{
+    for place in 0..sizes.len() {
+        if sizes[place].is_none() {
+            return Some(GroupId(place as u32));
+        }
+    }
+    None
+}
+
+/// The place of a child, and after the last one where it is none of them.
+fn first_of(children: &[MonitorId], child: MonitorId) -> usize
+    ensures { result ≡ place_of child.0 children.now }
+{
+    for place in 0..children.len() {
+        if children[place].0 == child.0 {
+            return place;
+        }
+    }
+    children.len()
+}

@@ -1,0 +1,15 @@
+//! Deviations of monitors as costs: totals that each change keeps, the defects in the order of their
+//! numbers, the monitors that became dearer, and groups of monitors.
+#![tactic(auto)]
+
+mod dearer;
+mod edits;
+mod graph;
+mod groups;
+mod lines;
+mod opening;
+mod rows;
+mod tally;
+
+pub use graph::Graph;
+pub use lines::Line;

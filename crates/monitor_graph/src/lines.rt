@@ -1,0 +1,94 @@
+ghost use Rattle.std.specs.Prelude.{◌≡◌, ◌<◌, ◌≤◌, ℕ, length, slice_get, slice_index_or, slice_set, All};
+ghost use Rattle.std.specs.List.{sum_by};
+ghost use Rattle.std.specs.Option.{option_map_or};
+ghost use Rattle.khe_base.specs.declared.limits.TheConstants.{GREATEST_COST, MONITORS};
+ghost use Rattle.khe_base.specs.declared.numbers.MonitorId.{MonitorId};
+ghost use Rattle.monitor_graph.specs.Lines.{line_cost, hard_cost, soft_cost, IsLine, AreTotalled};
+
+use khe_base::{CostFn, MonitorId, Totals, cost};
+
+/// A monitor: how its constraint costs, and what it has now.
+#[derive(Clone, Copy, Debug, PartialEq, Eq)]
+pub struct Line {
+    pub function: CostFn,
+    pub weight: u32,
+    /// Whether its cost is hard.
+    pub required: bool,
+    /// A monitor that is detached costs nothing.
+    pub attached: bool,
+    pub deviation: u64,
+}
+
+/// What a monitor costs, in constant time.
+pub(crate) fn cost_of(line: &Line) -> u128
+    requires { IsLine line.now }
+    ensures value { result ≡ line_cost line.now }
+    ensures small { result ≤ GREATEST_COST }
+{
+    if line.attached {
+        cost(line.function, line.weight, line.deviation)
+    } else {
+        0
+    }
+}
+
+/// What of a monitor's cost is hard.
+pub(crate) fn hard_of(line: &Line) -> u128
+    requires { IsLine line.now }
+    ensures value { result ≡ hard_cost line.now }
+    ensures small { result ≤ GREATEST_COST }
+{
+    if line.required { cost_of(line) } else { 0 }
+}
+
+/// What of a monitor's cost is soft.
+pub(crate) fn soft_of(line: &Line) -> u128
+    requires { IsLine line.now }
+    ensures value { result ≡ soft_cost line.now }
+    ensures small { result ≤ GREATEST_COST }
+{
+    if line.required { 0 } else { cost_of(line) }
+}
+
+/// Puts a line in the place of another, and keeps the totals by the difference.
+#[tactic(auto, using(crate::proofs::LineLaws::totalled_set))]
+pub(crate) fn replace(
+    lines: &mut Vec<Line>,
+    hard: &mut u128,
+    soft: &mut u128,
+    place: usize,
+    line: Line,
+)
+    requires totalled { AreTotalled lines.old.items hard.old soft.old }
+    requires known { place < length lines.old.items }
+    requires line { IsLine line }
+    ensures lines { lines.new.items ≡ slice_set lines.old.items place line }
+    ensures totalled { AreTotalled lines.new.items hard.new soft.new }
+{
+    let old = lines[place];
+    let hard_before = hard_of(&old);
+    let soft_before = soft_of(&old);
+    let hard_after = hard_of(&line);
+    let soft_after = soft_of(&line);
+    *hard = *hard - hard_before + hard_after;
+    *soft = *soft - soft_before + soft_after;
+    lines[place] = line;
+}
+
+/// The costs of some monitors, added up, in time in proportion to them.
+pub(crate) fn totals_among(lines: &[Line], children: &[MonitorId]) -> Totals
+    requires each { All IsLine lines.now }
+    requires few { length children.now ≤ MONITORS }
+    requires known { (k : ℕ) (d : MonitorId) → k < length children.now → (slice_index_or children.now k d).0 < length lines.now }
+    ensures hard { result.hard ≡ sum_by (λ c. option_map_or hard_cost (slice_get lines.now c.0) 0) children.now }
+    ensures soft { result.soft ≡ sum_by (λ c. option_map_or soft_cost (slice_get lines.now c.0) 0) children.now }
+{
+    let mut hard = 0;
+    let mut soft = 0;
+    for place in 0..children.len() {
+        let line = &lines[children[place].0 as usize];
+        hard += hard_of(line);
+        soft += soft_of(line);
+    }
+    Totals { hard, soft }
+}
