@@ -23,7 +23,7 @@ const READ: &[u8] = b"<HighSchoolTimetableArchive Id='A'><Instances><Instance Id
 <Time Reference='t'/></Event></Events><Report>x</Report></Solution></SolutionGroup></SolutionGroups>\
 </HighSchoolTimetableArchive>";
 
-/fn has_the_time_groups(instance: &RawInstance) -> bool {
+fn has_the_time_groups(instance: &RawInstance) -> bool {
     match instance.time_groups.as_slice() {
         [week, group, day] => {
             matches!(week.sort, TimeSort::Week)

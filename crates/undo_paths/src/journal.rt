@@ -3,8 +3,8 @@ ghost use Rattle.khe_base.specs.declared.limits.TheConstants.{MARKS};
 ghost use Rattle.khe_told.specs.declared.refusals.Refusal.TheVariants.{NoMark, MarksFull};
 ghost use Rattle.undo_paths.specs.Stack.{with_record, without_mark, dropped, inner, outer};
 
-use khe_base::limits::MARKS;
 use khe_base::NoMemory;
+use khe_base::limits::MARKS;
 use khe_told::Refusal;
 use std::alloc::Global;
 use std::marker::Model;
