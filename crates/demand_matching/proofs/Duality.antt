@@ -4,7 +4,7 @@ use Rattle.std.proofs.Common.{ℕ, suc, ◌+◌, ◌<◌, ◌≤◌, ◌≡◌, 
 use Rattle.std.specs.Prelude.{is_none}
 use Rattle.std.proofs.lemmas.Bool.{cases_Bool, cases_lt, and_parts, and_from, eqb-false, ne_eqb, not_from_false, not-true, false≢true, true≢false}
 use Rattle.demand_matching.specs.Counts.{count_below, any_below}
-use Rattle.demand_matching.specs.Places.{IsMatching, IsSaturated}
+use Rattle.demand_matching.specs.Assigned.{IsMatching, IsSaturated}
 use Rattle.demand_matching.proofs.Counting.{count_subset, count_full, count_split, count_without, count_partners, any_at, any_from}
 
 -- how many demands of a set are there
@@ -21,11 +21,11 @@ neighbours n m may set = count_below m (reaches n may set)
 
 -- how many demands are there and have no supply
 abbrev pub left_out : ℕ → (ℕ → Bool) → (ℕ → Option ℕ) → ℕ
-left_out n present place = count_below n (λ d. present d && is_none (place d))
+left_out n present gets = count_below n (λ d. present d && is_none (gets d))
 
 -- the set has all that are left out
 abbrev pub HasLeftOut : ℕ → (ℕ → Bool) → (ℕ → Option ℕ) → (ℕ → Bool) → Type 0
-HasLeftOut n present place set = (d : ℕ) → d < n → present d ≡ true → place d ≡ None → set d ≡ true
+HasLeftOut n present gets set = (d : ℕ) → d < n → present d ≡ true → gets d ≡ None → set d ≡ true
 
 -- demands that may have a supply are there
 abbrev pub IsThere : (ℕ → Bool) → (ℕ → ℕ → Bool) → Type 0
@@ -48,47 +48,47 @@ same_some a b o p q = cc
 
 -- the members of a set that have no supply, and those that have one
 abbrev pub members_left : ℕ → (ℕ → Bool) → (ℕ → Option ℕ) → (ℕ → Bool) → ℕ
-members_left n present place set = count_below n (λ d. (present d && set d) && is_none (place d))
+members_left n present gets set = count_below n (λ d. (present d && set d) && is_none (gets d))
 
-abbrev pub members_placed : ℕ → (ℕ → Bool) → (ℕ → Option ℕ) → (ℕ → Bool) → ℕ
-members_placed n present place set = count_below n (λ d. (present d && set d) && not (is_none (place d)))
+abbrev pub members_served : ℕ → (ℕ → Bool) → (ℕ → Option ℕ) → (ℕ → Bool) → ℕ
+members_served n present gets set = count_below n (λ d. (present d && set d) && not (is_none (gets d)))
 
-pub size_parts : (n : ℕ) (present : ℕ → Bool) (place : ℕ → Option ℕ) (set : ℕ → Bool) → size n present set ≡ members_left n present place set + members_placed n present place set
-size_parts n present place set = count_split n (λ d. present d && set d) (λ d. is_none (place d))
+pub size_parts : (n : ℕ) (present : ℕ → Bool) (gets : ℕ → Option ℕ) (set : ℕ → Bool) → size n present set ≡ members_left n present gets set + members_served n present gets set
+size_parts n present gets set = count_split n (λ d. present d && set d) (λ d. is_none (gets d))
 
-pub left_le : (n : ℕ) (present : ℕ → Bool) (place : ℕ → Option ℕ) (set : ℕ → Bool) → members_left n present place set ≤ left_out n present place
-left_le n present place set =
-    count_subset n (λ d. (present d && set d) && is_none (place d)) (λ d. present d && is_none (place d)) (λ d l h.
-    let a = and_parts (present d && set d) (is_none (place d)) h in
-    and_from (present d) (is_none (place d)) (and_parts (present d) (set d) a.0).0 a.1)
+pub left_le : (n : ℕ) (present : ℕ → Bool) (gets : ℕ → Option ℕ) (set : ℕ → Bool) → members_left n present gets set ≤ left_out n present gets
+left_le n present gets set =
+    count_subset n (λ d. (present d && set d) && is_none (gets d)) (λ d. present d && is_none (gets d)) (λ d l h.
+    let a = and_parts (present d && set d) (is_none (gets d)) h in
+    and_from (present d) (is_none (gets d)) (and_parts (present d) (set d) a.0).0 a.1)
 
 -- no set exceeds its supplies by more than any matching leaves out
-pub size_le : (n m : ℕ) (present : ℕ → Bool) (may : ℕ → ℕ → Bool) (place owner : ℕ → Option ℕ) → IsMatching n m may place owner → (set : ℕ → Bool) → size n present set ≤ neighbours n m may set + left_out n present place
-size_le n m present may place owner is set =
-    let served : members_placed n present place set ≤ neighbours n m may set =
-    count_partners n m (λ d. (present d && set d) && not (is_none (place d))) (reaches n may set) (λ d s. place d ≡ Some s) (λ d l h.
-    let a = and_parts (present d && set d) (not (is_none (place d))) h in
-    let at = some_is (place d) (not-true (is_none (place d)) a.1) in
+pub size_le : (n m : ℕ) (present : ℕ → Bool) (may : ℕ → ℕ → Bool) (gets owner : ℕ → Option ℕ) → IsMatching n m may gets owner → (set : ℕ → Bool) → size n present set ≤ neighbours n m may set + left_out n present gets
+size_le n m present may gets owner is set =
+    let served : members_served n present gets set ≤ neighbours n m may set =
+    count_partners n m (λ d. (present d && set d) && not (is_none (gets d))) (reaches n may set) (λ d s. gets d ≡ Some s) (λ d l h.
+    let a = and_parts (present d && set d) (not (is_none (gets d))) h in
+    let at = some_is (gets d) (not-true (is_none (gets d)) a.1) in
     (at.0, is.supply d at.0 at.1, any_from n (λ d. set d && may d at.0) d l (and_from (set d) (may d at.0) (and_parts (present d) (set d) a.0).1 (is.allowed d at.0 at.1)), at.1))
     (λ j k s p q. same_some j k (owner s) (is.owned j s p) (is.owned k s q)) in
-    omega (arith, size_parts n present place set, left_le n present place set, served)
+    omega (arith, size_parts n present gets set, left_le n present gets set, served)
 
 -- a set that has all that are left out, and whose supplies are all those of its members, exceeds them by as many
-pub saturated_size : (n m : ℕ) (present : ℕ → Bool) (may : ℕ → ℕ → Bool) (place owner : ℕ → Option ℕ) → IsMatching n m may place owner → IsThere present may → (set : ℕ → Bool) → HasLeftOut n present place set → IsSaturated n m may owner set → neighbours n m may set + left_out n present place ≤ size n present set
-saturated_size n m present may place owner is there set has full =
-    let lefts : left_out n present place ≤ members_left n present place set =
-    count_subset n (λ d. present d && is_none (place d)) (λ d. (present d && set d) && is_none (place d)) (λ d l h.
-    let a = and_parts (present d) (is_none (place d)) h in
-    and_from (present d && set d) (is_none (place d)) (and_from (present d) (set d) a.0 (has d l a.0 (none_is (place d) a.1))) a.1) in
-    let served : neighbours n m may set ≤ members_placed n present place set =
-    count_partners m n (reaches n may set) (λ d. (present d && set d) && not (is_none (place d))) (λ s d. owner s ≡ Some d) (λ s l h.
+pub saturated_size : (n m : ℕ) (present : ℕ → Bool) (may : ℕ → ℕ → Bool) (gets owner : ℕ → Option ℕ) → IsMatching n m may gets owner → IsThere present may → (set : ℕ → Bool) → HasLeftOut n present gets set → IsSaturated n m may owner set → neighbours n m may set + left_out n present gets ≤ size n present set
+saturated_size n m present may gets owner is there set has full =
+    let lefts : left_out n present gets ≤ members_left n present gets set =
+    count_subset n (λ d. present d && is_none (gets d)) (λ d. (present d && set d) && is_none (gets d)) (λ d l h.
+    let a = and_parts (present d) (is_none (gets d)) h in
+    and_from (present d && set d) (is_none (gets d)) (and_from (present d) (set d) a.0 (has d l a.0 (none_is (gets d) a.1))) a.1) in
+    let served : neighbours n m may set ≤ members_served n present gets set =
+    count_partners m n (reaches n may set) (λ d. (present d && set d) && not (is_none (gets d))) (λ s d. owner s ≡ Some d) (λ s l h.
     let at = any_at n (λ d. set d && may d s) h in
     let a = and_parts (set at.0) (may at.0 s) at.2 in
     let by = full at.0 s at.1 a.0 l a.1 in
-    let its : place by.0 ≡ Some s = is.placed s by.0 by.1 in
-    (by.0, is.demand by.0 s its, and_from (present by.0 && set by.0) (not (is_none (place by.0))) (and_from (present by.0) (set by.0) (there by.0 s (is.allowed by.0 s its)) by.2) (not_from_false (is_none (place by.0)) (some_not_none (place by.0) s its)), by.1))
-    (λ j k d p q. same_some j k (place d) (is.placed j d p) (is.placed k d q)) in
-    omega (arith, size_parts n present place set, lefts, served)
+    let its : gets by.0 ≡ Some s = is.holds s by.0 by.1 in
+    (by.0, is.demand by.0 s its, and_from (present by.0 && set by.0) (not (is_none (gets by.0))) (and_from (present by.0) (set by.0) (there by.0 s (is.allowed by.0 s its)) by.2) (not_from_false (is_none (gets by.0)) (some_not_none (gets by.0) s its)), by.1))
+    (λ j k d p q. same_some j k (gets d) (is.holds j d p) (is.holds k d q)) in
+    omega (arith, size_parts n present gets set, lefts, served)
 
 -- whether a supply is that of a member
 abbrev pub is_members : (ℕ → Bool) → Option ℕ → Bool
@@ -102,34 +102,34 @@ members_from : (set : ℕ → Bool) (o : Option ℕ) (e : ℕ) → o ≡ Some e 
 members_from set o e p h = rw p h
 
 -- a set that exceeds its supplies by as many as a matching leaves out has all of these
-pub exceeding_left : (n m : ℕ) (present : ℕ → Bool) (may : ℕ → ℕ → Bool) (place owner : ℕ → Option ℕ) → IsMatching n m may place owner → (set : ℕ → Bool) → neighbours n m may set + left_out n present place ≤ size n present set → HasLeftOut n present place set
-exceeding_left n m present may place owner is set much d l there free =
-    let served : members_placed n present place set ≤ neighbours n m may set =
-    count_partners n m (λ d. (present d && set d) && not (is_none (place d))) (reaches n may set) (λ d s. place d ≡ Some s) (λ d l h.
-    let a = and_parts (present d && set d) (not (is_none (place d))) h in
-    let at = some_is (place d) (not-true (is_none (place d)) a.1) in
+pub exceeding_left : (n m : ℕ) (present : ℕ → Bool) (may : ℕ → ℕ → Bool) (gets owner : ℕ → Option ℕ) → IsMatching n m may gets owner → (set : ℕ → Bool) → neighbours n m may set + left_out n present gets ≤ size n present set → HasLeftOut n present gets set
+exceeding_left n m present may gets owner is set much d l there free =
+    let served : members_served n present gets set ≤ neighbours n m may set =
+    count_partners n m (λ d. (present d && set d) && not (is_none (gets d))) (reaches n may set) (λ d s. gets d ≡ Some s) (λ d l h.
+    let a = and_parts (present d && set d) (not (is_none (gets d))) h in
+    let at = some_is (gets d) (not-true (is_none (gets d)) a.1) in
     (at.0, is.supply d at.0 at.1, any_from n (λ d. set d && may d at.0) d l (and_from (set d) (may d at.0) (and_parts (present d) (set d) a.0).1 (is.allowed d at.0 at.1)), at.1))
     (λ j k s p q. same_some j k (owner s) (is.owned j s p) (is.owned k s q)) in
-    let all : left_out n present place ≤ members_left n present place set = omega (arith, size_parts n present place set, served, much) in
-    let it : ((present d && set d) && is_none (place d)) ≡ true =
-    count_full n (λ d. (present d && set d) && is_none (place d)) (λ d. present d && is_none (place d)) (λ d l h.
-    let a = and_parts (present d && set d) (is_none (place d)) h in
-    and_from (present d) (is_none (place d)) (and_parts (present d) (set d) a.0).0 a.1)
-    all d l (and_from (present d) (is_none (place d)) there (none_from (place d) free)) in
-    (and_parts (present d) (set d) (and_parts (present d && set d) (is_none (place d)) it).0).1
+    let all : left_out n present gets ≤ members_left n present gets set = omega (arith, size_parts n present gets set, served, much) in
+    let it : ((present d && set d) && is_none (gets d)) ≡ true =
+    count_full n (λ d. (present d && set d) && is_none (gets d)) (λ d. present d && is_none (gets d)) (λ d l h.
+    let a = and_parts (present d && set d) (is_none (gets d)) h in
+    and_from (present d) (is_none (gets d)) (and_parts (present d) (set d) a.0).0 a.1)
+    all d l (and_from (present d) (is_none (gets d)) there (none_from (gets d) free)) in
+    (and_parts (present d) (set d) (and_parts (present d && set d) (is_none (gets d)) it).0).1
 
 -- and each of its supplies is that of a member
-pub exceeding_saturated : (n m : ℕ) (present : ℕ → Bool) (may : ℕ → ℕ → Bool) (place owner : ℕ → Option ℕ) → IsMatching n m may place owner → (set : ℕ → Bool) → neighbours n m may set + left_out n present place ≤ size n present set → IsSaturated n m may owner set
-exceeding_saturated n m present may place owner is set much d s l h below allowed =
+pub exceeding_saturated : (n m : ℕ) (present : ℕ → Bool) (may : ℕ → ℕ → Bool) (gets owner : ℕ → Option ℕ) → IsMatching n m may gets owner → (set : ℕ → Bool) → neighbours n m may set + left_out n present gets ≤ size n present set → IsSaturated n m may owner set
+exceeding_saturated n m present may gets owner is set much d s l h below allowed =
     let both : ℕ → Bool = λ s. reaches n may set s && is_members set (owner s) in
-    let served : members_placed n present place set ≤ count_below m both =
-    count_partners n m (λ d. (present d && set d) && not (is_none (place d))) both (λ d s. place d ≡ Some s) (λ d l h.
-    let a = and_parts (present d && set d) (not (is_none (place d))) h in
-    let at = some_is (place d) (not-true (is_none (place d)) a.1) in
+    let served : members_served n present gets set ≤ count_below m both =
+    count_partners n m (λ d. (present d && set d) && not (is_none (gets d))) both (λ d s. gets d ≡ Some s) (λ d l h.
+    let a = and_parts (present d && set d) (not (is_none (gets d))) h in
+    let at = some_is (gets d) (not-true (is_none (gets d)) a.1) in
     let mine : set d ≡ true = (and_parts (present d) (set d) a.0).1 in
     (at.0, is.supply d at.0 at.1, and_from (reaches n may set at.0) (is_members set (owner at.0)) (any_from n (λ d. set d && may d at.0) d l (and_from (set d) (may d at.0) mine (is.allowed d at.0 at.1))) (members_from set (owner at.0) d (is.owned d at.0 at.1) mine), at.1))
     (λ j k s p q. same_some j k (owner s) (is.owned j s p) (is.owned k s q)) in
-    let all : neighbours n m may set ≤ count_below m both = omega (arith, size_parts n present place set, left_le n present place set, served, much) in
+    let all : neighbours n m may set ≤ count_below m both = omega (arith, size_parts n present gets set, left_le n present gets set, served, much) in
     let it : both s ≡ true =
     count_full m both (reaches n may set) (λ s l h. (and_parts (reaches n may set s) (is_members set (owner s)) h).0) all s below
     (any_from n (λ d. set d && may d s) d l (and_from (set d) (may d s) h allowed)) in

@@ -1,4 +1,14 @@
 pub mod Changes
+pub mod Reaching
+pub mod Tables
+pub mod Looks
+pub mod Ready
+pub mod WindowLemmas
+pub mod Marks
+pub mod Fences
+pub mod Shut
+pub mod Removals
+pub mod Additions
 pub mod Counting
 pub mod Duality
 pub mod Listings
@@ -10,7 +20,4 @@ pub mod Supplies
 pub mod Shifts
 pub mod Maxima
 pub mod Keeps
-pub mod Firsts
 pub mod Hall
-pub mod TestLemmas
-pub mod TrialLemmas

@@ -1,5 +1,5 @@
 -- The numbers of a pick are those that are in it.
-use Rattle.std.proofs.Common.{ℕ, zero, suc, ◌<◌, ◌≡◌, Bool, true, false, cond, List, [], ◌∷◌, length, get_or, refl, ap, ◌∙◌, arith, filter, zero-add}
+use Rattle.std.proofs.Common.{ℕ, zero, suc, ◌*◌, ◌<◌, ◌≤◌, ◌≡◌, Bool, true, false, cond, List, [], ◌∷◌, length, get_or, refl, ap, ◌∙◌, arith, filter, zero-add}
 use Rattle.std.specs.List.{range_with_len}
 use Rattle.std.proofs.lemmas.Bool.{false≢true, eqb-true, eq-eqb}
 use Rattle.std.proofs.lemmas.List.Elements.{All-get_or, filter_passes}
@@ -8,7 +8,7 @@ use Rattle.khe_base.specs.IdSet.{has_member, members_of}
 use Rattle.demand_matching.specs.declared.domains.Pick.{Pick}
 use Rattle.demand_matching.specs.declared.domains.Pick.TheVariants.{One, «Set»}
 use Rattle.demand_matching.specs.Domains.{is_picked}
-use Rattle.demand_matching.specs.Members.{picked}
+use Rattle.demand_matching.specs.Members.{picked, first_word, end_word}
 
 -- what passes a test is among what is kept
 kept_found : (p : ℕ → Bool) (xs : List ℕ) (j : ℕ) → j < length xs → p (get_or xs j 0) ≡ true → (i : ℕ) × (i < length (filter p xs)) × (get_or (filter p xs) i 0 ≡ get_or xs j 0)
@@ -32,11 +32,11 @@ member_below (b ∷ bs) zero h = omega arith
 member_below (b ∷ bs) (suc y) h = omega (arith, member_below bs y h)
 
 -- each listed number is a member
-members_hit : (set : List Bool) (i : ℕ) → i < length (members_of set) → has_member set (get_or (members_of set) i 0) ≡ true
+pub members_hit : (set : List Bool) (i : ℕ) → i < length (members_of set) → has_member set (get_or (members_of set) i 0) ≡ true
 members_hit set i l = All-get_or (λ n. has_member set n ≡ true) (members_of set) i 0 l (filter_passes (has_member set) (range_with_len 0 (length set)))
 
 -- each member is listed
-members_found : (set : List Bool) (y : ℕ) → has_member set y ≡ true → (i : ℕ) × (i < length (members_of set)) × (get_or (members_of set) i 0 ≡ y)
+pub members_found : (set : List Bool) (y : ℕ) → has_member set y ≡ true → (i : ℕ) × (i < length (members_of set)) × (get_or (members_of set) i 0 ≡ y)
 members_found set y h =
     let below : y < length set = member_below set y h in
     let at : get_or (range_with_len 0 (length set)) y 0 ≡ y = get_or-range_with_len 0 (length set) y 0 below ∙ zero-add y in
@@ -51,3 +51,12 @@ picked_hit sets («Set» k) i l = members_hit (get_or sets k []) i l
 pub picked_found : (sets : List (List Bool)) (pick : Pick) (y : ℕ) → is_picked sets pick y ≡ true → (i : ℕ) × (i < length (picked sets pick)) × (get_or (picked sets pick) i 0 ≡ y)
 picked_found sets (One n) y h = (0, omega arith, eqb-true n y h)
 picked_found sets («Set» k) y h = members_found (get_or sets k []) y h
+
+-- which words have the numbers of a pick
+pub picked_first : (sets : List (List Bool)) (pick : Pick) (n : ℕ) → is_picked sets pick n ≡ true → 64 * first_word pick ≤ n
+picked_first sets (One m) n h = omega (arith, eqb-true m n h)
+picked_first sets («Set» k) n h = omega arith
+
+pub picked_end : (sets : List (List Bool)) (pick : Pick) (n : ℕ) → is_picked sets pick n ≡ true → n < 64 * end_word sets pick
+picked_end sets (One m) n h = omega (arith, eqb-true m n h)
+picked_end sets («Set» k) n h = omega (arith, member_below (get_or sets k []) n h)

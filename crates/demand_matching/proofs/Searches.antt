@@ -2,26 +2,20 @@
 use Rattle.std.proofs.Common.{ℕ, ◌+◌, ◌<◌, ◌≤◌, ◌≡◌, true, List, Option, Some, None, length, get_or, set, refl, sym, ap, ◌∙◌, arith, inl, inr, get_or-set_same, get_or-set_other, length-set}
 use Rattle.std.proofs.lemmas.List.{get_or_read}
 use Rattle.demand_matching.specs.declared.table.Table.{Table}
-use Rattle.demand_matching.specs.declared.table.Reach.{Reach}
-use Rattle.demand_matching.specs.declared.table.Reach.TheVariants.{Free, Met}
 use Rattle.demand_matching.specs.declared.order.Order.{Order}
 use Rattle.demand_matching.specs.declared.domains.Domain.{Domain}
 use Rattle.demand_matching.specs.Domains.{domain_of, is_present}
-use Rattle.demand_matching.specs.Members.{picked}
 use Rattle.demand_matching.specs.Order.{IsOrder, ChangesPlaces}
-use Rattle.demand_matching.specs.Table.{domains_of, may_take, place_of, owner_of, demands_in, supplies_in, IsTable, supply_at}
-use Rattle.demand_matching.specs.Search.{IsSearch, KeepsFirst, IsReached, GoesOn}
-use Rattle.demand_matching.proofs.Supplies.{supply_allowed, supply_found, may_present}
+use Rattle.demand_matching.specs.Table.{domains_of, may_take, supply_of, owner_of, demands_in, supplies_in, IsTable}
+use Rattle.demand_matching.specs.Search.{IsSearch, KeepsFirst, IsReached, IsMarked, IsTaken, GoesOn}
+use Rattle.demand_matching.proofs.Supplies.{may_present}
 use Rattle.demand_matching.proofs.Counting.{cases_last}
+use Rattle.demand_matching.proofs.Fences.{within_refl, within_trans}
 use Rattle.demand_matching.proofs.Duality.{same_some}
 
 -- who has a supply, as the table's list has it
 pub owner_read : (t : Table) (supply d : ℕ) (x : Option ℕ) → IsTable t → supply < supplies_in t → x ≡ get_or t.owners.items supply x → x ≡ Some d → owner_of t supply ≡ Some d
 owner_read t supply d x is below read it = sym (get_or_read t.owners.items supply x (omega (arith, is.owners_length)) read None) ∙ it
-
--- the demand that has a supply is one of the table
-pub owner_below : (t : Table) (supply d : ℕ) → IsTable t → owner_of t supply ≡ Some d → d < demands_in t
-owner_below t supply d is it = is.matching.demand d supply (is.matching.placed supply d it)
 
 pub keeps_first : (n : ℕ) (order spots order' spots' : List ℕ) (d len : ℕ) → IsOrder n order spots → ChangesPlaces order spots order' spots' d len → d < n → len < n → len ≤ get_or spots d 0 → KeepsFirst order spots order' spots' len
 keeps_first n order spots order' spots' d len is moves l m far = record {
@@ -29,10 +23,10 @@ keeps_first n order spots order' spots' d len is moves l m far = record {
   spot = λ e h. moves.other_spots e (λ x. absurd (omega (arith, ap (λ v. get_or spots v 0) x))) (λ x. absurd (omega (arith, ap (λ v. get_or spots v 0) x, is.spot_order len m)));
 }
 
-pub meets_more : (t : Table) (order spots met_from order' spots' : List ℕ) (d place len supply : ℕ) → IsTable t → IsSearch t order spots met_from len → IsOrder (demands_in t) order' spots' → ChangesPlaces order spots order' spots' d len → owner_of t supply ≡ Some d → place < len → len ≤ get_or spots d 0 → may_take (domains_of t) (get_or order place 0) supply ≡ true → IsSearch t order' spots' (set met_from d place) (len + 1)
-meets_more t order spots met_from order' spots' d place len supply is_table is order_is moves owner near far may =
+pub meets_more : (t : Table) (head : ℕ) (order spots met_from order' spots' : List ℕ) (d place len supply : ℕ) → IsTable t → IsSearch t head order spots met_from len → IsOrder (demands_in t) order' spots' → ChangesPlaces order spots order' spots' d len → owner_of t supply ≡ Some d → head ≤ place → place < len → len ≤ get_or spots d 0 → may_take (domains_of t) (get_or order place 0) supply ≡ true → IsSearch t head order' spots' (set met_from d place) (len + 1)
+meets_more t head order spots met_from order' spots' d place len supply is_table is order_is moves owner high near far may =
     let n : ℕ = demands_in t in
-    let placed : place_of t d ≡ Some supply = is_table.matching.placed supply d owner in
+    let placed : supply_of t d ≡ Some supply = is_table.matching.holds supply d owner in
     let d_below : d < n = is_table.matching.demand d supply placed in
     let room : len < n = omega (arith, is.order.spot_below d d_below) in
     let keeps : KeepsFirst order spots order' spots' len = keeps_first n order spots order' spots' d len is.order moves d_below room far in
@@ -47,12 +41,13 @@ meets_more t order spots met_from order' spots' d place len supply is_table is o
         | inl x ↦ ap (λ v. is_present (domains_of t) v) (ap (λ v. get_or order' v 0) x ∙ at_len) ∙ may_present (domains_of t) d supply (is_table.matching.allowed d supply placed)
         | inr less ↦ ap (λ v. is_present (domains_of t) v) (keeps.demand k less) ∙ is.there k less
       ];
-      met = λ k s h e. elim (cases_last k len (omega arith)) [
+      met = λ k s low h e. elim (cases_last k len (omega arith)) [
         | inl x ↦
             let here : get_or order' k 0 ≡ d = ap (λ v. get_or order' v 0) x ∙ at_len in
             let from_is : get_or (set met_from d place) (get_or order' k 0) 0 ≡ place = ap (λ v. get_or (set met_from d place) v 0) here ∙ new_met in
-            let s_is : supply ≡ s = same_some supply s (place_of t d) placed (sym (ap (λ v. place_of t v) here) ∙ e) in
+            let s_is : supply ≡ s = same_some supply s (supply_of t d) placed (sym (ap (λ v. supply_of t v) here) ∙ e) in
             record {
+              after = omega (arith, from_is);
               before = omega (arith, from_is);
               allowed =
                   ap (λ v. may_take (domains_of t) (get_or order' v 0) s) from_is
@@ -61,11 +56,12 @@ meets_more t order spots met_from order' spots' d place len supply is_table is o
             }
         | inr less ↦
             let here : get_or order' k 0 ≡ get_or order k 0 = keeps.demand k less in
-            let old = is.met k s less (sym (ap (λ v. place_of t v) here) ∙ e) in
+            let old = is.met k s low less (sym (ap (λ v. supply_of t v) here) ∙ e) in
             let other : get_or order k 0 ≡ d → ⊥ = λ z. absurd (omega (arith, sym (is.order.spot_order k (omega arith)) ∙ ap (λ v. get_or spots v 0) z)) in
             let from_is : get_or (set met_from d place) (get_or order' k 0) 0 ≡ get_or met_from (get_or order k 0) 0 =
             ap (λ v. get_or (set met_from d place) v 0) here ∙ get_or-set_other met_from d (get_or order k 0) place 0 other in
             record {
+              after = omega (arith, from_is, old.after);
               before = omega (arith, from_is, old.before);
               allowed =
                   ap (λ v. may_take (domains_of t) (get_or order' v 0) s) from_is
@@ -91,59 +87,69 @@ reached_still t a b a' b' len more s l keeps r = record {
   within = omega (arith, keeps.spot r.by r.within, r.within);
 }
 
-pub search_shorter : (t : Table) (a b c : List ℕ) (len less : ℕ) → less ≤ len → IsSearch t a b c len → IsSearch t a b c less
-search_shorter t a b c len less l is = record {
+pub search_shorter : (t : Table) (head : ℕ) (a b c : List ℕ) (len less : ℕ) → less ≤ len → IsSearch t head a b c len → IsSearch t head a b c less
+search_shorter t head a b c len less l is = record {
   order = is.order;
   met_length = is.met_length;
   len_fits = omega (arith, is.len_fits);
   there = λ k h. is.there k (omega arith);
-  met = λ k s h e. is.met k s (omega arith) e;
+  met = λ k s low h e. is.met k s low (omega arith) e;
 }
 
 pub spot_read : (xs : List ℕ) (i x : ℕ) → i < length xs → x ≡ get_or xs i x → x ≡ get_or xs i 0
 spot_read xs i x l e = get_or_read xs i x l e 0
 
--- what a part of a look says of the whole
-pub goes_on_from : (t : Table) (o o' o'' : Order) (place len met : ℕ) (r : Reach) → len ≤ met → KeepsFirst o.demands.items o.spots.items o'.demands.items o'.spots.items len → GoesOn t o' o'' place met r → GoesOn t o o'' place len r
-goes_on_from t o o' o'' place len met (Met more) l keeps g =
-    (omega (arith, g.0), g.1, keeps_trans o.demands.items o.spots.items o'.demands.items o'.spots.items o''.demands.items o''.spots.items len met l keeps g.2)
-goes_on_from t o o' o'' place len met (Free supply) l keeps g =
-    (search_shorter t o''.demands.items o''.spots.items o''.met_from.items met len l g.0, keeps_trans o.demands.items o.spots.items o'.demands.items o'.spots.items o''.demands.items o''.spots.items len met l keeps g.1, g.2, g.3, g.4)
+-- one look after another
+pub goes_on_trans : (t : Table) (head : ℕ) (o o' o'' : Order) (bits' bits'' : List ℕ) (len met more : ℕ) → IsTable t → GoesOn t head o o' bits' len met → GoesOn t head o' o'' bits'' met more → GoesOn t head o o'' bits'' len more
+goes_on_trans t head o o' o'' bits' bits'' len met more is g h = record {
+  longer = omega (arith, g.longer, h.longer);
+  search = h.search;
+  keeps = keeps_trans o.demands.items o.spots.items o'.demands.items o'.spots.items o''.demands.items o''.spots.items len met g.longer g.keeps h.keeps;
+  within = within_trans t o o' o'' len met more is g.within h.within;
+  marked = h.marked;
+}
 
--- what a demand that stays at its place may have
-pub may_still : (t : Table) (o o' : Order) (place len : ℕ) (d : Domain) (i j : ℕ) → IsTable t → KeepsFirst o.demands.items o.spots.items o'.demands.items o'.spots.items len → place < len → domain_of (domains_of t) (get_or o.demands.items place 0) ≡ Some d → i < length (picked t.resources d.resources) → j < length (picked t.times d.times) → may_take (domains_of t) (get_or o'.demands.items place 0) (supply_at (domains_of t) d i j) ≡ true
-may_still t o o' place len d i j is keeps near its l m =
-    let now : domain_of (domains_of t) (get_or o'.demands.items place 0) ≡ Some d = ap (λ v. domain_of (domains_of t) v) (keeps.demand place near) ∙ its in
-    supply_allowed (domains_of t) d (get_or o'.demands.items place 0) i j (is.in_range (get_or o'.demands.items place 0) d now) now l m
+pub goes_on_none : (t : Table) (head : ℕ) (o : Order) (bits : List ℕ) (len : ℕ) → IsSearch t head o.demands.items o.spots.items o.met_from.items len → IsMarked t o.spots.items bits len → GoesOn t head o o bits len len
+goes_on_none t head o bits len search marked = record {
+  longer = omega arith;
+  search = search;
+  keeps = keeps_refl o.demands.items o.spots.items len;
+  within = within_refl t o len;
+  marked = marked;
+}
+
+-- a fact of the demand at a place that stays
+pub may_kept : (t : Table) (o o' : Order) (place len s : ℕ) → KeepsFirst o.demands.items o.spots.items o'.demands.items o'.spots.items len → place < len → may_take (domains_of t) (get_or o'.demands.items place 0) s ≡ may_take (domains_of t) (get_or o.demands.items place 0) s
+may_kept t o o' place len s keeps near = ap (λ v. may_take (domains_of t) v s) (keeps.demand place near)
+
+pub domain_kept : (t : Table) (o o' : Order) (place len : ℕ) (d : Domain) → KeepsFirst o.demands.items o.spots.items o'.demands.items o'.spots.items len → place < len → domain_of (domains_of t) (get_or o.demands.items place 0) ≡ Some d → domain_of (domains_of t) (get_or o'.demands.items place 0) ≡ Some d
+domain_kept t o o' place len d keeps near its = ap (λ v. domain_of (domains_of t) v) (keeps.demand place near) ∙ its
+
+pub taken_kept : (t : Table) (o o' : Order) (place len : ℕ) → KeepsFirst o.demands.items o.spots.items o'.demands.items o'.spots.items len → place < len → IsTaken t (get_or o.demands.items place 0) → IsTaken t (get_or o'.demands.items place 0)
+taken_kept t o o' place len keeps near taken s may = taken s (sym (may_kept t o o' place len s keeps near) ∙ may)
 
 -- the domain of the demand at a place, as the lists have it
-pub domain_read : (t : Table) (order : List ℕ) (place demand : ℕ) (x : Option Domain) (d : Domain) → place < length order → get_or order place 0 < demands_in t → demand ≡ get_or order place demand → x ≡ get_or t.demands.items demand x → x ≡ Some d → domain_of (domains_of t) (get_or order place 0) ≡ Some d
-domain_read t order place demand x d l m read look it =
+pub domain_read : (t : Table) (order : List ℕ) (place demand : ℕ) (x : Option Domain) → place < length order → get_or order place 0 < demands_in t → demand ≡ get_or order place demand → x ≡ get_or t.demands.items demand x → x ≡ domain_of (domains_of t) (get_or order place 0)
+domain_read t order place demand x l m read look =
     let at : demand ≡ get_or order place 0 = get_or_read order place demand l read 0 in
     let near : demand < length t.demands.items = omega arith in
-    ap (λ v. get_or t.demands.items v None) (sym at) ∙ sym (get_or_read t.demands.items demand x near look None) ∙ it
+    get_or_read t.demands.items demand x near look None ∙ ap (λ v. get_or t.demands.items v None) at
 
-pub absent_read : (t : Table) (order : List ℕ) (place demand : ℕ) (x : Option Domain) → place < length order → get_or order place 0 < demands_in t → demand ≡ get_or order place demand → x ≡ get_or t.demands.items demand x → x ≡ None → domain_of (domains_of t) (get_or order place 0) ≡ None
-absent_read t order place demand x l m read look it =
+-- the supply of the demand at a place, as the lists have it
+pub supply_read : (t : Table) (order : List ℕ) (place demand : ℕ) (x : Option ℕ) → IsTable t → place < length order → get_or order place 0 < demands_in t → demand ≡ get_or order place demand → x ≡ get_or t.supplies.items demand x → x ≡ supply_of t (get_or order place 0)
+supply_read t order place demand x is l m read look =
     let at : demand ≡ get_or order place 0 = get_or_read order place demand l read 0 in
-    let near : demand < length t.demands.items = omega arith in
-    ap (λ v. get_or t.demands.items v None) (sym at) ∙ sym (get_or_read t.demands.items demand x near look None) ∙ it
-
--- each supply that the demand may have is one of those looked at
-pub all_reached : (t : Table) (spots : List ℕ) (d : Domain) (demand met count : ℕ) → domain_of (domains_of t) demand ≡ Some d → length (picked t.resources d.resources) ≤ count → ((i j : ℕ) → i < count → j < length (picked t.times d.times) → IsReached t spots met (supply_at (domains_of t) d i j)) → (s : ℕ) → may_take (domains_of t) demand s ≡ true → IsReached t spots met s
-all_reached t spots d demand met count its l reached s may =
-    let at = supply_found (domains_of t) d demand s its may in
-    let r = reached at.0 at.1 (omega (arith, at.2)) at.3 in
-    record { by = r.by; owner = ap (λ v. owner_of t v) (sym at.4) ∙ r.owner; within = r.within }
+    let near : demand < length t.supplies.items = omega (arith, is.supplies_length) in
+    get_or_read t.supplies.items demand x near look None ∙ ap (λ v. get_or t.supplies.items v None) at
 
 -- one place more of the order is looked at
-pub search_more : (t : Table) (o o' o'' : Order) (head left place met more : ℕ) → place < met → GoesOn t o' o'' place met (Met more)
+pub search_more : (t : Table) (o' o'' : Order) (bits'' : List ℕ) (head place met more : ℕ) → place < met → GoesOn t head o' o'' bits'' met more
     → ((k s : ℕ) → head ≤ k → k < place → may_take (domains_of t) (get_or o'.demands.items k 0) s ≡ true → IsReached t o'.spots.items met s)
     → ((s : ℕ) → may_take (domains_of t) (get_or o'.demands.items place 0) s ≡ true → IsReached t o''.spots.items more s)
     → (k s : ℕ) → head ≤ k → k < place + 1 → may_take (domains_of t) (get_or o''.demands.items k 0) s ≡ true → IsReached t o''.spots.items more s
-search_more t o o' o'' head left place met more l g before here k s low high may =
-    let keeps : KeepsFirst o'.demands.items o'.spots.items o''.demands.items o''.spots.items met = g.2 in
+search_more t o' o'' bits'' head place met more l g before here k s low high may =
+    let keeps : KeepsFirst o'.demands.items o'.spots.items o''.demands.items o''.spots.items met = g.keeps in
     elim (cases_last k place (omega arith)) [
       | inl x ↦ here s (ap (λ v. may_take (domains_of t) (get_or o'.demands.items v 0) s) (sym x) ∙ ap (λ v. may_take (domains_of t) v s) (sym (keeps.demand k (omega arith))) ∙ may)
-      | inr less ↦ reached_still t o'.demands.items o'.spots.items o''.demands.items o''.spots.items met more s g.0 keeps (before k s low less (ap (λ v. may_take (domains_of t) v s) (sym (keeps.demand k (omega arith))) ∙ may))
+      | inr less ↦ reached_still t o'.demands.items o'.spots.items o''.demands.items o''.spots.items met more s g.longer keeps (before k s low less (ap (λ v. may_take (domains_of t) v s) (sym (keeps.demand k (omega arith))) ∙ may))
     ]

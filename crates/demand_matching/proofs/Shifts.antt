@@ -1,38 +1,37 @@
--- A step of a shift, and what a search that ended says of the demands that are left out.
-use Rattle.std.proofs.Common.{ℕ, ◌+◌, ◌<◌, ◌≤◌, ◌≡◌, ◌≢◌, Bool, true, false, ◌&&◌, List, Option, Some, None, length, get_or, sym, ap, ◌∙◌, arith, leb, ltb}
+-- A step of a shift, and which demand it serves.
+use Rattle.std.proofs.Common.{ℕ, ◌+◌, ◌<◌, ◌≤◌, ◌≡◌, ◌≢◌, true, false, List, Option, Some, None, length, get_or, sym, ap, ◌∙◌, arith}
 use Rattle.std.specs.Prelude.{is_none}
 use Rattle.std.proofs.lemmas.List.{get_or_read}
-use Rattle.std.proofs.lemmas.Bool.{and_parts, and_from, leb-true, le-leb, ltb-true, lt-ltb}
 use Rattle.demand_matching.specs.declared.table.Table.{Table}
 use Rattle.demand_matching.specs.declared.order.Order.{Order}
 use Rattle.demand_matching.specs.Domains.{is_present}
 use Rattle.demand_matching.specs.Order.{IsOrder}
-use Rattle.demand_matching.specs.Table.{domains_of, may_take, place_of, owner_of, demands_in, IsTable}
-use Rattle.demand_matching.specs.Search.{IsMet, IsSearch, IsClosed}
-use Rattle.demand_matching.specs.Listing.{IsListing, IsStuck, PlacesOne}
+use Rattle.demand_matching.specs.Table.{domains_of, supply_of, owner_of, demands_in, IsTable}
+use Rattle.demand_matching.specs.Search.{IsMet, IsSearch}
+use Rattle.demand_matching.specs.Listing.{IsListing, ServesOne}
 use Rattle.demand_matching.proofs.Duality.{some_is}
 use Rattle.demand_matching.proofs.Supplies.{may_present}
-use Rattle.demand_matching.proofs.Listings.{listing_kept, SameBut}
+use Rattle.demand_matching.proofs.Listings.{SameBut}
 
-pub place_read : (t : Table) (d s : ℕ) (x : Option ℕ) → IsTable t → d < demands_in t → x ≡ get_or t.places.items d x → x ≡ Some s → place_of t d ≡ Some s
-place_read t d s x is below read it = sym (get_or_read t.places.items d x (omega (arith, is.places_length)) read None) ∙ it
+pub supply_known : (t : Table) (d s : ℕ) (x : Option ℕ) → IsTable t → d < demands_in t → x ≡ get_or t.supplies.items d x → x ≡ Some s → supply_of t d ≡ Some s
+supply_known t d s x is below read it = sym (get_or_read t.supplies.items d x (omega (arith, is.supplies_length)) read None) ∙ it
 
-pub placed_present : (t : Table) (d : ℕ) → IsTable t → is_none (place_of t d) ≡ false → is_present (domains_of t) d ≡ true
-placed_present t d is h = let at = some_is (place_of t d) h in may_present (domains_of t) d at.0 (is.matching.allowed d at.0 at.1)
+pub served_present : (t : Table) (d : ℕ) → IsTable t → is_none (supply_of t d) ≡ false → is_present (domains_of t) d ≡ true
+served_present t d is h = let at = some_is (supply_of t d) h in may_present (domains_of t) d at.0 (is.matching.allowed d at.0 at.1)
 
 -- the demand that is freed of its supply was met from an earlier one
-pub shift_met : (t₀ t : Table) (order spots met_from : List ℕ) (d place top freed : ℕ) → IsSearch t₀ order spots met_from (top + 1) → place ≤ top → place_of t (get_or order place 0) ≡ place_of t₀ (get_or order place 0) → d ≡ get_or order place 0 → place_of t d ≡ Some freed → IsMet t₀ order met_from place freed
-shift_met t₀ t order spots met_from d place top freed search near same it owns =
-    search.met place freed (omega arith) (sym same ∙ ap (λ v. place_of t v) (sym it) ∙ owns)
+pub shift_met : (t₀ t : Table) (head : ℕ) (order spots met_from : List ℕ) (d place top freed : ℕ) → IsSearch t₀ head order spots met_from (top + 1) → head ≤ place → place ≤ top → supply_of t (get_or order place 0) ≡ supply_of t₀ (get_or order place 0) → d ≡ get_or order place 0 → supply_of t d ≡ Some freed → IsMet t₀ head order met_from place freed
+shift_met t₀ t head order spots met_from d place top freed search high near same it owns =
+    search.met place freed high (omega arith) (sym same ∙ ap (λ v. supply_of t v) (sym it) ∙ owns)
 
-pub not_supply : (t : Table) (d freed supply : ℕ) → IsTable t → place_of t d ≡ Some freed → owner_of t supply ≡ None → freed ≢ supply
+pub not_supply : (t : Table) (d freed supply : ℕ) → IsTable t → supply_of t d ≡ Some freed → owner_of t supply ≡ None → freed ≢ supply
 not_supply t d freed supply is owns free z = (let w : owner_of t supply ≡ Some d = ap (λ v. owner_of t v) (sym z) ∙ is.matching.owned d freed owns in cc)
 
 pub apart : (n : ℕ) (order spots : List ℕ) (j k d : ℕ) → IsOrder n order spots → j < k → k < n → d ≡ get_or order k 0 → get_or order j 0 ≢ d
 apart n order spots j k d is l m it z = absurd (omega (arith, sym (is.spot_order j (omega arith)) ∙ ap (λ v. get_or spots v 0) (z ∙ it) ∙ is.spot_order k m))
 
 -- who is placed differs only for one demand
-pub same_but : (t t' : Table) (d : ℕ) → domains_of t' ≡ domains_of t → PlacesOne t t' d → SameBut t t' d
+pub same_but : (t t' : Table) (d : ℕ) → domains_of t' ≡ domains_of t → ServesOne t t' d → SameBut t t' d
 same_but t t' d same one = record {
   demands = ap (λ w. length w.demands) same;
   present = λ e ne. ap (λ w. is_present w e) same;
@@ -40,32 +39,6 @@ same_but t t' d same one = record {
 }
 
 -- the demand that was placed was left out
-pub placed_left : (t t' : Table) (o : Order) (left d : ℕ) → IsTable t' → IsListing t o left → domains_of t' ≡ domains_of t → PlacesOne t t' d → get_or o.spots.items d 0 < left
-placed_left t t' o left d is listing same one =
-    listing.listed d one.below (ap (λ w. is_present w d) (sym same) ∙ placed_present t' d is one.has_one) one.had_none
-
--- where no free supply was found, the demands met have all supplies that they may have
-pub stuck : (t : Table) (o o' : Order) (head left met : ℕ) → IsTable t → IsListing t o left → head ≤ left → IsClosed t o o' head left met → IsStuck t o head left
-stuck t o o' head left met is listing low ends =
-    let kept : IsListing t o' left = listing_kept t o o' left met listing ends.search ends.keeps in
-    let set : ℕ → Bool = λ d. leb head (get_or o'.spots.items d 0) && ltb (get_or o'.spots.items d 0) met in
-    record {
-      set = set;
-      has = λ d l high below.
-          let same : get_or o'.spots.items d 0 ≡ get_or o.spots.items d 0 = ends.keeps.spot d below in
-          and_from (leb head (get_or o'.spots.items d 0)) (ltb (get_or o'.spots.items d 0) met)
-          (le-leb head (get_or o'.spots.items d 0) (omega arith))
-          (lt-ltb (get_or o'.spots.items d 0) met (omega (arith, ends.longer)));
-      saturated = λ d s l h below may.
-          let a = and_parts (leb head (get_or o'.spots.items d 0)) (ltb (get_or o'.spots.items d 0) met) h in
-          let at : get_or o'.demands.items (get_or o'.spots.items d 0) 0 ≡ d = ends.search.order.order_spot d l in
-          let r = ends.closed (get_or o'.spots.items d 0) s (leb-true head (get_or o'.spots.items d 0) a.0) (ltb-true (get_or o'.spots.items d 0) met a.1) (ap (λ v. may_take (domains_of t) v s) at ∙ may) in
-          let its : place_of t r.by ≡ Some s = is.matching.placed s r.by r.owner in
-          let high : get_or o'.spots.items r.by 0 < left → ⊥ = λ z. (let w : place_of t r.by ≡ None = kept.left_out r.by (is.matching.demand r.by s its) z in cc) in (
-            r.by,
-            r.owner,
-            and_from (leb head (get_or o'.spots.items r.by 0)) (ltb (get_or o'.spots.items r.by 0) met)
-                (le-leb head (get_or o'.spots.items r.by 0) (omega arith))
-                (lt-ltb (get_or o'.spots.items r.by 0) met r.within),
-          );
-    }
+pub served_left : (t t' : Table) (o : Order) (left d : ℕ) → IsTable t' → IsListing t o left → domains_of t' ≡ domains_of t → ServesOne t t' d → get_or o.spots.items d 0 < left
+served_left t t' o left d is listing same one =
+    listing.listed d one.below (ap (λ w. is_present w d) (sym same) ∙ served_present t' d is one.has_one) one.had_none

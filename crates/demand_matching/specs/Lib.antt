@@ -1,3 +1,4 @@
+pub mod Assigned
 pub mod Counts
 pub mod Domains
 pub mod Excess
@@ -5,7 +6,6 @@ pub mod Listing
 pub mod Matched
 pub mod Members
 pub mod Order
-pub mod Places
+pub mod Reach
 pub mod Search
 pub mod Table
-pub mod TestFacts

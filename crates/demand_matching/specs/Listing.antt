@@ -1,11 +1,10 @@
 -- The demands that are left out come first in an order.
-use Rattle.std.specs.Prelude.{ℕ, ◌+◌, ◌<◌, ◌≤◌, ◌≡◌, ◌≢◌, ◌⊎◌, Bool, true, false, length, None, is_none, slice_index}
+use Rattle.std.specs.Prelude.{ℕ, ◌<◌, ◌≤◌, ◌≡◌, ◌≢◌, true, false, length, None, is_none, slice_index}
 use Rattle.demand_matching.specs.declared.table.Table.{Table}
 use Rattle.demand_matching.specs.declared.order.Order.{Order}
 use Rattle.demand_matching.specs.Domains.{is_present}
 use Rattle.demand_matching.specs.Order.{IsOrder}
-use Rattle.demand_matching.specs.Places.{IsSaturated}
-use Rattle.demand_matching.specs.Table.{domains_of, may_take, place_of, owner_of, demands_in, supplies_in}
+use Rattle.demand_matching.specs.Table.{domains_of, supply_of, demands_in}
 
 -- the first demands of the order, so many, are those that are present and have no supply
 pub record IsListing (t : Table) (o : Order) (left : ℕ) : Type 0 where
@@ -13,23 +12,12 @@ pub record IsListing (t : Table) (o : Order) (left : ℕ) : Type 0 where
   pub met_length : length o.met_from.items ≡ demands_in t
   pub fits : left ≤ demands_in t
   pub present : (demand : ℕ) → demand < demands_in t → slice_index o.spots.items demand < left → is_present (domains_of t) demand ≡ true
-  pub left_out : (demand : ℕ) → demand < demands_in t → slice_index o.spots.items demand < left → place_of t demand ≡ None
-  pub listed : (demand : ℕ) → demand < demands_in t → is_present (domains_of t) demand ≡ true → place_of t demand ≡ None → slice_index o.spots.items demand < left
+  pub left_out : (demand : ℕ) → demand < demands_in t → slice_index o.spots.items demand < left → supply_of t demand ≡ None
+  pub listed : (demand : ℕ) → demand < demands_in t → is_present (domains_of t) demand ≡ true → supply_of t demand ≡ None → slice_index o.spots.items demand < left
 
 -- a demand that had no supply has one now, and each other has one where it had one
-pub record PlacesOne (t t' : Table) (demand : ℕ) : Type 0 where
+pub record ServesOne (t t' : Table) (demand : ℕ) : Type 0 where
   pub below : demand < demands_in t
-  pub had_none : place_of t demand ≡ None
-  pub has_one : is_none (place_of t' demand) ≡ false
-  pub others : (other : ℕ) → other ≢ demand → is_none (place_of t' other) ≡ is_none (place_of t other)
-
--- a set of demands has those at these places of the order, and all supplies that it may have
-pub record IsStuck (t : Table) (o : Order) (head left : ℕ) : Type 0 where
-  pub set : ℕ → Bool
-  pub has : (demand : ℕ) → demand < demands_in t → head ≤ slice_index o.spots.items demand → slice_index o.spots.items demand < left → set demand ≡ true
-  pub saturated : IsSaturated (demands_in t) (supplies_in t) (may_take (domains_of t)) (owner_of t) set
-
--- one demand fewer is left out, or the table stays, since none of the demands at these places can
--- have a supply beside the others
-abbrev pub Improves : Table → Table → Order → ℕ → ℕ → ℕ → Type 0
-Improves t t' o head left left' = (left' + 1 ≡ left) ⊎ ((left' ≡ left) × (t' ≡ t) × IsStuck t o head left)
+  pub had_none : supply_of t demand ≡ None
+  pub has_one : is_none (supply_of t' demand) ≡ false
+  pub others : (other : ℕ) → other ≢ demand → is_none (supply_of t' other) ≡ is_none (supply_of t other)

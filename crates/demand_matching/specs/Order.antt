@@ -17,6 +17,11 @@ pub record ChangesPlaces (order spots order' spots' : List ℕ) (d place : ℕ) 
   pub other_spots : (e : ℕ) → e ≢ d → e ≢ slice_index order place → slice_index spots' e ≡ slice_index spots e
   pub other_places : (k : ℕ) → k ≢ place → k ≢ slice_index spots d → slice_index order' k ≡ slice_index order k
 
+-- the same numbers below n stand at the first places, so many
+pub record HasSameFirst (n : ℕ) (spots spots' : List ℕ) (count : ℕ) : Type 0 where
+  pub into : (d : ℕ) → d < n → slice_index spots d < count → slice_index spots' d < count
+  pub back : (d : ℕ) → d < n → slice_index spots' d < count → slice_index spots d < count
+
 -- the list has the numbers below n, in order
 pub record IsCountedUp (n : ℕ) (numbers : List ℕ) : Type 0 where
   pub count : length numbers ≡ n

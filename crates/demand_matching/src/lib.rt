@@ -3,12 +3,13 @@
 #![tactic(auto)]
 
 mod domains;
+mod empty;
 mod matching;
 mod order;
+mod reach;
 mod sets;
 mod table;
-#[cfg(test)]
-mod tests;
+mod windows;
 
 pub use domains::{Domain, Pick};
 pub use matching::Matching;

@@ -1,4 +1,4 @@
-ghost use Rattle.std.specs.Prelude.{◌≡◌, ◌<◌, ◌==◌, ℕ, length, IfOk, None, Some, Option};
+ghost use Rattle.std.specs.Prelude.{◌≡◌, ◌<◌, ◌==◌, ℕ, true, false, length, IfOk, None, Some, Option};
 ghost use Rattle.std.specs.List.Sorted.{IsStrictlyIncreasing};
 ghost use Rattle.std.specs.Option.{ForSome};
 ghost use Rattle.std.specs.List.{list_any};
@@ -6,12 +6,16 @@ ghost use Rattle.demand_matching.specs.Domains.{Domains, IsInRange, domain_of, w
 ghost use Rattle.demand_matching.specs.Excess.{IsDeficit, IsHallSet, IsAssignment};
 
 use crate::Domain;
+use crate::empty::{all_bits, no_domains, no_numbers};
 use crate::order::Order;
+use crate::reach::reached_from;
 use crate::sets::Sets;
 use crate::table::{Found, Table};
-use khe_base::{IdSet, NoMemory, Seq};
+use khe_base::bits::set_bit;
+use khe_base::{IdSet, NoMemory, Seq, both};
 use std::alloc::Global;
 use std::marker::Model;
+use std::mem;
 
 /// Demands, each with a domain while it is present, and a maximum matching of them with supplies.
 /// A supply is a resource at a time. Contracts see the given sets, the number of times, the number
@@ -22,7 +26,11 @@ use std::marker::Model;
 pub struct Matching {
     table: Table,
     order: Order,
-    left: usize,
+    left: u32,
+    met: u32,
+    outside: Vec<u64>,
+    unseen: Vec<u64>,
+    alloc: Global,
 }
 
 impl Model for Matching {
@@ -31,11 +39,11 @@ impl Model for Matching {
     ghost Value = { Domains };
 
     ghost use Rattle.demand_matching.specs.Table.{domains_of};
-    ghost use Rattle.demand_matching.specs.Matched.{IsMaximum};
+    ghost use Rattle.demand_matching.specs.Matched.{IsReady};
 
     ghost view = { λ m. domains_of m.table };
 
-    ghost invariant = { λ m. IsMaximum m.table m.order m.left };
+    ghost invariant = { λ m. IsReady m.table m.order m.left m.met m.outside.items m.unseen.items };
 }
 
 impl Matching {
@@ -54,38 +62,62 @@ impl Matching {
     {
         let count = demands as usize;
         let supplies = width as usize * last as usize;
-        let table = Table {
-            times: Sets::new(alloc, times)?,
-            resources: Sets::new(alloc, resources)?,
-            last,
-            width,
-            demands: vec![in alloc; None; count]?,
-            places: vec![in alloc; None; count]?,
-            owners: vec![in alloc; None; supplies]?,
-        };
-        let order = Order::new(alloc, count)?;
+        if supplies > u32::MAX as usize {
+            return Err(NoMemory);
+        }
+        let words = (supplies + 63) / 64;
+        let sets = both(Sets::new(alloc, times), Sets::new(alloc, resources));
+        let kept = both(no_numbers(alloc, count), no_numbers(alloc, supplies));
+        let bits = both(all_bits(alloc, words), all_bits(alloc, words));
+        let first = both(sets, both(no_domains(alloc, count), kept));
+        let second = both(
+            Order::new(alloc, demands),
+            both(all_bits(alloc, words), bits),
+        );
+        let (first, second) = both(first, second)?;
+        let ((times, resources), (demands, (supplies, owners))) = first;
+        let (order, (free, (outside, unseen))) = second;
         Ok(Matching {
-            table,
-            order,
             left: 0,
+            met: 0,
+            alloc,
+            outside,
+            unseen,
+            order,
+            table: Table {
+                last,
+                width,
+                free,
+                demands,
+                supplies,
+                owners,
+                times,
+                resources,
+            },
         })
     }
 
     /// Gives a demand a new domain, or makes it absent where there is none; all other demands
     /// keep theirs. It takes no memory.
     ///
-    /// It takes two searches at most: one from the demands that are left out, where the demand
-    /// frees a supply, and one from the demand itself. Each looks only at the supplies of the
-    /// demands that it meets, and ends at the first free supply. So a demand whose one supply is
-    /// free has it in constant time.
+    /// The matching keeps a set of demands that holds all that are left out and has every supply
+    /// that one of it may have. Constant time is enough where no domain is given to a demand that
+    /// is left out, or stands outside of that set, or was absent; and where such a demand's new
+    /// domain admits the supply that it has. Else a search follows: from those that are left out
+    /// where a demand of the set gives a supply back, and from the demand itself where it has a
+    /// domain and no supply. A search looks only at the supplies of the demands that it meets, and
+    /// ends at the first free supply; a search from the demand itself meets none of the set.
     pub fn set_domain(&mut self, demand: u32, domain: Option<Domain>)
         requires demand { demand < length self.old.demands }
         requires domain { ForSome domain (IsInRange self.old) }
         ensures { self.new ≡ with_domain self.old demand domain }
     {
-        let demand = demand as usize;
-        self.remove(demand);
-        if let Some(domain) = domain {
+        let Some(domain) = domain else {
+            self.remove(demand);
+            return;
+        };
+        if !self.write(demand, domain) {
+            self.remove(demand);
             self.add(demand, domain);
         }
     }
@@ -97,51 +129,103 @@ impl Matching {
         ensures greatest { IsDeficit self.now result }
         ensures served { (supply : ℕ → Option (ℕ × ℕ)) × IsAssignment self.now supply result }
     {
-        self.left as u32
+        self.left
     }
 
     /// The least set of present demands whose excess is the deficit, ascending: it is contained in
-    /// each set that has this excess. Where the deficit is 0 it is empty.
+    /// each set that has this excess.
     ///
-    /// It takes time and memory in proportion to the demands, and the time of one search from
-    /// those that are left out.
-    pub fn hall_set(&self, alloc: Global) -> Result<Seq<u32>, NoMemory>
+    /// Where the deficit is 0 it is empty, and is answered in constant time and without memory.
+    /// Else it takes memory for a mark of one bit for each demand and for the demands of the set,
+    /// and time in proportion to the supplies that these may have and to a 64th of all demands.
+    pub fn hall_set(&self) -> Result<Seq<u32>, NoMemory>
         ensures ascending { IfOk result (λ hall. IsStrictlyIncreasing hall) }
         ensures least { IfOk result (λ hall. IsHallSet self.now (λ demand. list_any (λ member. member == demand) hall)) }
     {
-        let mut order = self.order.copy(alloc)?;
-        match self.table.search(&mut order, 0, self.left) {
-            Found::Closed(met) => order.first(alloc, met),
-            Found::Open(..) => unreachable!(),
+        if self.left == 0 {
+            return Ok(Seq::new(self.alloc));
         }
+        let marks = reached_from(self.alloc, &self.table, &self.order, self.left)?;
+        marks.members(self.alloc)
     }
 
-    fn remove(&mut self, demand: usize)
+    /// Writes the domain, where the demand stands outside of the set that is kept and has a supply
+    /// that the domain admits. The result is whether that is so.
+    fn write(&mut self, demand: u32, domain: Domain) -> bool
+        requires demand { demand < length self.old.demands }
+        requires domain { IsInRange self.old domain }
+        ensures written { result ≡ true → self.new ≡ with_domain self.old demand (Some domain) }
+        ensures same { result ≡ false → self.new ≡ self.old }
+    {
+        if self.order.spots[demand as usize] < self.met || !self.table.is_served(demand, domain) {
+            return false;
+        }
+        self.table.put_domain(demand, domain);
+        true
+    }
+
+    /// Takes away the domain of a demand. Where it has a supply and is in the set that is kept, one
+    /// of those that are left out may have a supply then.
+    fn remove(&mut self, demand: u32)
         requires { demand < length self.old.demands }
         ensures { self.new ≡ with_domain self.old demand None }
     {
-        if self.table.demands[demand].is_none() {
+        if self.table.demands[demand as usize].is_none() {
             return;
         }
+        let inside = self.order.spots[demand as usize] < self.met;
         match self.table.drop_domain(demand) {
-            Some(_) => self.left = self.table.improve(&mut self.order, 0, self.left),
             None => {
-                let last = self.left - 1;
-                self.order.put(demand, last);
-                self.left = last;
+                (self.left, self.met) = (self.left - 1, self.met - 1);
+                self.order.put(demand, self.left);
+                self.order.put(demand, self.met);
             }
+            Some(supply) if inside => {
+                self.met -= 1;
+                self.order.put(demand, self.met);
+                set_bit(&mut self.outside, supply as usize);
+                match self
+                    .table
+                    .search(&mut self.order, &mut self.unseen, 0, self.left)
+                {
+                    Found::Closed(less) => {
+                        self.table
+                            .unmark(&self.order, &mut self.outside, 0, self.met);
+                        mem::swap(&mut self.outside, &mut self.unseen);
+                        self.met = less;
+                    }
+                    Found::Open(place, supply) => {
+                        let served = self.table.shift(&self.order, 0, place, supply);
+                        self.left -= 1;
+                        self.order.put(served, self.left);
+                    }
+                }
+            }
+            Some(_) => {}
         }
     }
 
-    fn add(&mut self, demand: usize, domain: Domain)
+    fn add(&mut self, demand: u32, domain: Domain)
         requires demand { demand < length self.old.demands }
         requires absent { domain_of self.old demand ≡ None }
         requires domain { IsInRange self.old domain }
         ensures { self.new ≡ with_domain self.old demand (Some domain) }
     {
         self.table.put_domain(demand, domain);
-        let left = self.left;
-        self.order.put(demand, left);
-        self.left = self.table.improve(&mut self.order, left, left + 1);
+        let met = self.met;
+        self.order.put(demand, met);
+        match self
+            .table
+            .search(&mut self.order, &mut self.outside, met, met + 1)
+        {
+            Found::Open(place, supply) => {
+                self.table.shift(&self.order, met, place, supply);
+            }
+            Found::Closed(more) => {
+                self.order.put(demand, self.left);
+                self.left += 1;
+                self.met = more;
+            }
+        }
     }
 }

@@ -1,15 +1,18 @@
-ghost use Rattle.std.specs.Prelude.{◌≡◌, ◌≢◌, ◌+◌, ◌*◌, ◌<◌, ◌≤◌, ℕ, true, length, slice_index, slice_index_or, Option, None, Some, IfSome};
-ghost use Rattle.demand_matching.specs.Domains.{IsInRange, domain_of, with_domain};
-ghost use Rattle.demand_matching.specs.Members.{picked};
-ghost use Rattle.demand_matching.specs.Table.{IsTable, domains_of, may_take, supply_at, place_of, owner_of, demands_in, supplies_in};
-ghost use Rattle.demand_matching.specs.Search.{IsSearch, IsReached, KeepsFirst, GoesOn, WhereMet, Ends};
-ghost use Rattle.demand_matching.specs.Listing.{IsListing, PlacesOne, Improves};
+ghost use Rattle.std.specs.Prelude.{◌≡◌, ◌≢◌, ◌+◌, ◌-◌, ◌*◌, ◌^◌, ◌<◌, ◌≤◌, ℕ, true, false, length, slice_index, Option, None, Some, IfSome, MatchOption};
+ghost use Rattle.khe_base.specs.Bits.{has_bit, is_set};
+ghost use Rattle.demand_matching.specs.Domains.{IsInRange, is_picked, domain_of, with_domain};
+ghost use Rattle.demand_matching.specs.Order.{IsOrder};
+ghost use Rattle.demand_matching.specs.Table.{IsTable, IsServed, domains_of, may_take, admits_supply, supply_of, owner_of, demands_in, supplies_in};
+ghost use Rattle.demand_matching.specs.Search.{IsSearch, IsReached, IsMarked, IsTaken, IsFreeFor, GoesOn, Ends};
+ghost use Rattle.demand_matching.specs.Listing.{ServesOne};
 
 use crate::Domain;
 use crate::order::Order;
 use crate::sets::Sets;
+use crate::windows::window;
+use khe_base::bits::{clear_bit, has_bit, set_bit};
 
-/// The domains of the demands, and who has which supply.
+/// The domains of the demands, who has which supply, and the bits of the supplies that are free.
 #[derive(Drop)]
 pub(crate) struct Table {
     pub(crate) times: Sets,
@@ -17,128 +20,243 @@ pub(crate) struct Table {
     pub(crate) last: u32,
     pub(crate) width: u32,
     pub(crate) demands: Vec<Option<Domain>>,
-    pub(crate) places: Vec<Option<usize>>,
-    pub(crate) owners: Vec<Option<usize>>,
-}
-
-/// What a look at some supplies gave.
-pub(crate) enum Reach {
-    /// This supply is free.
-    Free(usize),
-    /// No supply is free, and so many demands are met now.
-    Met(usize),
+    pub(crate) supplies: Vec<Option<u32>>,
+    pub(crate) owners: Vec<Option<u32>>,
+    pub(crate) free: Vec<u64>,
 }
 
 /// What a search ended with.
 pub(crate) enum Found {
     /// The demand at this place of the order may have this free supply.
-    Open(usize, usize),
+    Open(u32, u32),
     /// So many demands are met, and whatever they may have is theirs.
-    Closed(usize),
+    Closed(u32),
 }
 
 impl Table {
-    /// The supply of a resource and a time of the domain, by their places.
-    fn supply(&self, domain: Domain, i: usize, j: usize) -> usize
-        requires table { IsTable self.now }
-        requires domain { IsInRange (domains_of self.now) domain }
-        requires resource { i < length (picked self.now.resources domain.resources) }
-        requires time { j < length (picked self.now.times domain.times) }
-        ensures is { result ≡ supply_at (domains_of self.now) domain i j }
-        ensures below { result < supplies_in self.now }
+    /// The number of the supply of a resource at the time 0, moved on by the shift of the domain.
+    pub(crate) fn row(&self, domain: Domain, resource: u32) -> usize
+        ensures is { result ≡ resource * self.now.last + domain.shift }
+        ensures small { result ≤ 2 ^ 64 - 2 ^ 32 }
     {
-        let resource = self.resources.number(domain.resources, i) as usize;
-        let time = self.times.number(domain.times, j) as usize + domain.shift as usize;
-        resource * self.last as usize + time
+        resource as usize * self.last as usize + domain.shift as usize
     }
 
-    /// Looks at one supply: its demand is met from the one at a place of the order.
-    fn meet(&self, order: &mut Order, supply: usize, place: usize, len: usize) -> Reach
+    /// A free supply of one resource that the domain admits.
+    fn free_at(&self, domain: Domain, resource: u32) -> Option<u32>
         requires table { IsTable self.now }
-        requires search { IsSearch self.now order.old.demands.items order.old.spots.items order.old.met_from.items len }
+        requires domain { IsInRange (domains_of self.now) domain }
+        requires picked { is_picked self.now.resources domain.resources resource ≡ true }
+        ensures { MatchOption result ((time : ℕ) → is_picked self.now.times domain.times time ≡ true → is_set self.now.free.items (resource * self.now.last + domain.shift + time) ≡ false) (IsFreeFor self.now domain) }
+    {
+        let row = self.row(domain, resource);
+        let (first, end) = self.times.span(domain.times);
+        for k in first..end {
+            let free = window(self.free.as_slice(), row + 64 * k)
+                & self.times.word(domain.times, k);
+            if free != 0 {
+                let supply = row + 64 * k + free.trailing_zeros() as usize;
+                return Some(supply as u32);
+            }
+        }
+        None
+    }
+
+    /// A free supply that the domain admits.
+    fn free_in(&self, domain: Domain) -> Option<u32>
+        requires table { IsTable self.now }
+        requires domain { IsInRange (domains_of self.now) domain }
+        ensures { MatchOption result ((supply : ℕ) → admits_supply (domains_of self.now) domain supply ≡ true → owner_of self.now supply ≡ None → ⊥) (IsFreeFor self.now domain) }
+    {
+        for i in 0..self.resources.count(domain.resources) {
+            let resource = self.resources.number(domain.resources, i);
+            match self.free_at(domain, resource) {
+                Some(supply) => return Some(supply),
+                None => {}
+            }
+        }
+        None
+    }
+
+    /// Looks at one supply that is not free: its demand is met from the one at a place of the
+    /// order. The result is how many are met then.
+    fn meet(
+        &self,
+        order: &mut Order,
+        unseen: &mut Vec<u64>,
+        head: u32,
+        supply: u32,
+        place: u32,
+        len: u32,
+    ) -> u32
+        requires table { IsTable self.now }
+        requires search { IsSearch self.now head order.old.demands.items order.old.spots.items order.old.met_from.items len }
+        requires marked { IsMarked self.now order.old.spots.items unseen.old.items len }
+        requires head { head ≤ place }
         requires place { place < len }
         requires supply { supply < supplies_in self.now }
         requires allowed { may_take (domains_of self.now) (slice_index order.old.demands.items place) supply ≡ true }
-        ensures goes_on { GoesOn self.now order.old order.new place len result }
-        ensures reached { WhereMet result (λ more. IsReached self.now order.new.spots.items more supply) }
+        requires taken { owner_of self.now supply ≡ None → ⊥ }
+        ensures goes_on { GoesOn self.now head order.old order.new unseen.new.items len result }
+        ensures reached { IsReached self.now order.new.spots.items result supply }
     {
-        let Some(demand) = self.owners[supply] else {
-            return Reach::Free(supply);
+        let Some(demand) = self.owners[supply as usize] else {
+            return len;
         };
-        let spot = order.spots[demand];
-        if spot < len {
-            return Reach::Met(len);
+        clear_bit(unseen, supply as usize);
+        if order.spots[demand as usize] < len {
+            return len;
         }
         order.put(demand, len);
-        order.met_from[demand] = place;
-        Reach::Met(len + 1)
+        order.met_from[demand as usize] = place;
+        len + 1
     }
 
-    /// Looks at the supplies of one resource that the demand at a place of the order may have.
+    /// Looks at 64 supplies: at those whose bits are set in a word.
+    fn meet_word(
+        &self,
+        order: &mut Order,
+        unseen: &mut Vec<u64>,
+        head: u32,
+        word: u64,
+        from: usize,
+        place: u32,
+        len: u32,
+    ) -> u32
+        requires table { IsTable self.now }
+        requires search { IsSearch self.now head order.old.demands.items order.old.spots.items order.old.met_from.items len }
+        requires marked { IsMarked self.now order.old.spots.items unseen.old.items len }
+        requires head { head ≤ place }
+        requires place { place < len }
+        requires below { (i : ℕ) → i < 64 → has_bit word i ≡ true → from + i < supplies_in self.now }
+        requires allowed { (i : ℕ) → i < 64 → has_bit word i ≡ true → may_take (domains_of self.now) (slice_index order.old.demands.items place) (from + i) ≡ true }
+        requires taken { IsTaken self.now (slice_index order.old.demands.items place) }
+        ensures goes_on { GoesOn self.now head order.old order.new unseen.new.items len result }
+        ensures reached { (i : ℕ) → i < 64 → has_bit word i ≡ true → IsReached self.now order.new.spots.items result (from + i) }
+    {
+        let mut met = len;
+        if word != 0 {
+            for i in 0..64u32 {
+                if has_bit(word, i) {
+                    let supply = (from + i as usize) as u32;
+                    met = self.meet(order, unseen, head, supply, place, met);
+                }
+            }
+        }
+        met
+    }
+
+    /// Looks at the supplies of one resource that the demand at a place of the order may have and
+    /// that are not seen yet. None is free.
     fn meet_at(
         &self,
         order: &mut Order,
+        unseen: &mut Vec<u64>,
+        head: u32,
         domain: Domain,
-        i: usize,
-        place: usize,
-        len: usize,
-    ) -> Reach
+        resource: u32,
+        place: u32,
+        len: u32,
+    ) -> u32
         requires table { IsTable self.now }
-        requires search { IsSearch self.now order.old.demands.items order.old.spots.items order.old.met_from.items len }
+        requires search { IsSearch self.now head order.old.demands.items order.old.spots.items order.old.met_from.items len }
+        requires marked { IsMarked self.now order.old.spots.items unseen.old.items len }
+        requires head { head ≤ place }
         requires place { place < len }
         requires domain { domain_of (domains_of self.now) (slice_index order.old.demands.items place) ≡ Some domain }
-        requires resource { i < length (picked self.now.resources domain.resources) }
-        ensures goes_on { GoesOn self.now order.old order.new place len result }
-        ensures reached { WhereMet result (λ more. (j : ℕ) → j < length (picked self.now.times domain.times) → IsReached self.now order.new.spots.items more (supply_at (domains_of self.now) domain i j)) }
+        requires picked { is_picked self.now.resources domain.resources resource ≡ true }
+        requires taken { IsTaken self.now (slice_index order.old.demands.items place) }
+        ensures goes_on { GoesOn self.now head order.old order.new unseen.new.items len result }
+        ensures reached { (time : ℕ) → is_picked self.now.times domain.times time ≡ true → IsReached self.now order.new.spots.items result (resource * self.now.last + domain.shift + time) }
     {
+        let row = self.row(domain, resource);
+        let (first, end) = self.times.span(domain.times);
         let mut met = len;
-        for j in 0..self.times.count(domain.times) {
-            let supply = self.supply(domain, i, j);
-            match self.meet(order, supply, place, met) {
-                Reach::Free(free) => return Reach::Free(free),
-                Reach::Met(more) => met = more,
-            }
+        for k in first..end {
+            let word = window(unseen.as_slice(), row + 64 * k) & self.times.word(domain.times, k);
+            met = self.meet_word(order, unseen, head, word, row + 64 * k, place, met);
         }
-        Reach::Met(met)
+        met
     }
 
-    /// Looks at all supplies that the demand at a place of the order may have.
-    fn meet_all(&self, order: &mut Order, place: usize, len: usize) -> Reach
+    /// Looks at all supplies that the demand at a place of the order may have and that are not
+    /// seen yet. None is free.
+    fn meet_all(
+        &self,
+        order: &mut Order,
+        unseen: &mut Vec<u64>,
+        head: u32,
+        domain: Domain,
+        place: u32,
+        len: u32,
+    ) -> u32
         requires table { IsTable self.now }
-        requires search { IsSearch self.now order.old.demands.items order.old.spots.items order.old.met_from.items len }
+        requires search { IsSearch self.now head order.old.demands.items order.old.spots.items order.old.met_from.items len }
+        requires marked { IsMarked self.now order.old.spots.items unseen.old.items len }
+        requires head { head ≤ place }
         requires place { place < len }
-        ensures goes_on { GoesOn self.now order.old order.new place len result }
-        ensures reached { WhereMet result (λ more. (supply : ℕ) → may_take (domains_of self.now) (slice_index order.old.demands.items place) supply ≡ true → IsReached self.now order.new.spots.items more supply) }
+        requires domain { domain_of (domains_of self.now) (slice_index order.old.demands.items place) ≡ Some domain }
+        requires taken { IsTaken self.now (slice_index order.old.demands.items place) }
+        ensures goes_on { GoesOn self.now head order.old order.new unseen.new.items len result }
+        ensures reached { (supply : ℕ) → may_take (domains_of self.now) (slice_index order.old.demands.items place) supply ≡ true → IsReached self.now order.new.spots.items result supply }
     {
-        let demand = order.demands[place];
-        let Some(domain) = self.demands[demand] else {
-            return Reach::Met(len);
-        };
         let mut met = len;
         for i in 0..self.resources.count(domain.resources) {
-            match self.meet_at(order, domain, i, place, met) {
-                Reach::Free(free) => return Reach::Free(free),
-                Reach::Met(more) => met = more,
+            let resource = self.resources.number(domain.resources, i);
+            met = self.meet_at(order, unseen, head, domain, resource, place, met);
+        }
+        met
+    }
+
+    /// Sets the bits of the supplies of the demands from a place of the order on, before another.
+    pub(crate) fn unmark(&self, order: &Order, unseen: &mut Vec<u64>, from: u32, to: u32)
+        requires table { IsTable self.now }
+        requires order { IsOrder (demands_in self.now) order.now.demands.items order.now.spots.items }
+        requires marked { IsMarked self.now order.now.spots.items unseen.old.items to }
+        requires to { to ≤ demands_in self.now }
+        ensures { IsMarked self.now order.now.spots.items unseen.new.items from }
+    {
+        for place in from..to {
+            let demand = order.demands[place as usize];
+            if let Some(supply) = self.supplies[demand as usize] {
+                set_bit(unseen, supply as usize);
             }
         }
-        Reach::Met(met)
     }
 
     /// Looks for a free supply, from the first demands of the order that stand at `head` or later:
-    /// those are met, and whoever has a supply that a demand met may have. It takes time in
-    /// proportion to the supplies that the demands met may have.
-    pub(crate) fn search(&self, order: &mut Order, head: usize, left: usize) -> Found
+    /// those are met, and whoever has a supply that a demand met may have. The demands before
+    /// `head` count as met, and nothing is looked at for them. The bits of the supplies that those
+    /// met have are cleared, and set again where a free supply is found.
+    ///
+    /// It takes time in proportion to the demands met from `head` on and to the words of 64
+    /// supplies that these may have.
+    pub(crate) fn search(
+        &self,
+        order: &mut Order,
+        unseen: &mut Vec<u64>,
+        head: u32,
+        left: u32,
+    ) -> Found
         requires table { IsTable self.now }
-        requires search { IsSearch self.now order.old.demands.items order.old.spots.items order.old.met_from.items left }
+        requires search { IsSearch self.now head order.old.demands.items order.old.spots.items order.old.met_from.items left }
+        requires marked { IsMarked self.now order.old.spots.items unseen.old.items left }
         requires head { head ≤ left }
-        ensures { Ends self.now order.old order.new head left result }
+        ensures { Ends self.now order.old order.new unseen.new.items head left result }
     {
         let mut place = head;
         let mut met = left;
         while place < met {
-            match self.meet_all(order, place, met) {
-                Reach::Free(supply) => return Found::Open(place, supply),
-                Reach::Met(more) => met = more,
+            let demand = order.demands[place as usize];
+            let Some(domain) = self.demands[demand as usize] else {
+                unreachable!()
+            };
+            match self.free_in(domain) {
+                Some(supply) => {
+                    self.unmark(order, unseen, left, met);
+                    return Found::Open(place, supply);
+                }
+                None => met = self.meet_all(order, unseen, head, domain, place, met),
             }
             place += 1;
         }
@@ -146,113 +264,114 @@ impl Table {
     }
 
     /// Frees the supply of a demand, if it has one.
-    fn release(&mut self, demand: usize) -> Option<usize>
+    fn release(&mut self, demand: u32) -> Option<u32>
         requires table { IsTable self.old }
         requires demand { demand < demands_in self.old }
         ensures table { IsTable self.new }
         ensures domains { domains_of self.new ≡ domains_of self.old }
-        ensures result { result ≡ place_of self.old demand }
-        ensures none { place_of self.new demand ≡ None }
-        ensures others { (other : ℕ) → other ≢ demand → place_of self.new other ≡ place_of self.old other }
+        ensures result { result ≡ supply_of self.old demand }
+        ensures none { supply_of self.new demand ≡ None }
+        ensures others { (other : ℕ) → other ≢ demand → supply_of self.new other ≡ supply_of self.old other }
         ensures free { (supply : ℕ) → owner_of self.old supply ≡ None → owner_of self.new supply ≡ None }
         ensures freed { IfSome result (λ supply. (supply < supplies_in self.new) × (owner_of self.new supply ≡ None)) }
     {
-        let supply = self.places[demand]?;
-        self.places[demand] = None;
-        self.owners[supply] = None;
+        let supply = self.supplies[demand as usize]?;
+        self.supplies[demand as usize] = None;
+        self.owners[supply as usize] = None;
+        set_bit(&mut self.free, supply as usize);
         Some(supply)
     }
 
     /// Gives a free supply to a demand that has none.
-    fn give(&mut self, demand: usize, supply: usize)
+    fn give(&mut self, demand: u32, supply: u32)
         requires table { IsTable self.old }
         requires demand { demand < demands_in self.old }
         requires supply { supply < supplies_in self.old }
-        requires none { place_of self.old demand ≡ None }
+        requires none { supply_of self.old demand ≡ None }
         requires free { owner_of self.old supply ≡ None }
         requires allowed { may_take (domains_of self.old) demand supply ≡ true }
         ensures table { IsTable self.new }
         ensures domains { domains_of self.new ≡ domains_of self.old }
-        ensures given { place_of self.new demand ≡ Some supply }
-        ensures others { (other : ℕ) → other ≢ demand → place_of self.new other ≡ place_of self.old other }
+        ensures given { supply_of self.new demand ≡ Some supply }
+        ensures others { (other : ℕ) → other ≢ demand → supply_of self.new other ≡ supply_of self.old other }
         ensures owners { (other : ℕ) → other ≢ supply → owner_of self.new other ≡ owner_of self.old other }
     {
-        self.places[demand] = Some(supply);
-        self.owners[supply] = Some(demand);
+        self.supplies[demand as usize] = Some(supply);
+        self.owners[supply as usize] = Some(demand);
+        clear_bit(&mut self.free, supply as usize);
     }
 
     /// Gives a free supply to the demand at a place of the order, its supply to the demand from
     /// which it was met, and so on to a demand that had none. The result is this one.
-    fn shift(&mut self, order: &Order, mut place: usize, mut supply: usize) -> usize
+    pub(crate) fn shift(&mut self, order: &Order, head: u32, mut place: u32, mut supply: u32) -> u32
         requires table { IsTable self.old }
-        requires search { IsSearch self.old order.now.demands.items order.now.spots.items order.now.met_from.items (place + 1) }
+        requires head { head ≤ place }
+        requires search { IsSearch self.old head order.now.demands.items order.now.spots.items order.now.met_from.items (place + 1) }
         requires supply { supply < supplies_in self.old }
         requires free { owner_of self.old supply ≡ None }
         requires allowed { may_take (domains_of self.old) (slice_index order.now.demands.items place) supply ≡ true }
         ensures table { IsTable self.new }
         ensures domains { domains_of self.new ≡ domains_of self.old }
-        ensures one { PlacesOne self.old self.new result }
+        ensures one { ServesOne self.old self.new result }
+        ensures after { head ≤ slice_index order.now.spots.items result }
     {
         loop {
-            let demand = order.demands[place];
+            let demand = order.demands[place as usize];
             let old = self.release(demand);
             self.give(demand, supply);
             let Some(freed) = old else {
                 return demand;
             };
             supply = freed;
-            place = order.met_from[demand];
+            place = order.met_from[demand as usize];
         }
     }
 
-    /// Gives one of the demands that are left out a supply, if one that stands at `head` or later
-    /// among them can have one. The result is how many are left out then.
-    pub(crate) fn improve(&mut self, order: &mut Order, head: usize, left: usize) -> usize
-        requires table { IsTable self.old }
-        requires listing { IsListing self.old order.old left }
-        requires head { head ≤ left }
-        ensures table { IsTable self.new }
-        ensures domains { domains_of self.new ≡ domains_of self.old }
-        ensures listing { IsListing self.new order.new result }
-        ensures improves { Improves self.old self.new order.old head left result }
+    /// Whether the demand has a supply, and the domain admits it.
+    pub(crate) fn is_served(&self, demand: u32, domain: Domain) -> bool
+        requires table { IsTable self.now }
+        requires demand { demand < demands_in self.now }
+        requires domain { IsInRange (domains_of self.now) domain }
+        ensures { result ≡ true → IsServed self.now demand domain }
     {
-        match self.search(order, head, left) {
-            Found::Closed(_) => left,
-            Found::Open(place, supply) => {
-                let demand = self.shift(order, place, supply);
-                let last = left - 1;
-                order.put(demand, last);
-                last
-            }
+        let Some(supply) = self.supplies[demand as usize] else {
+            return false;
+        };
+        let resource = supply / self.last;
+        let time = supply % self.last;
+        if time < domain.shift {
+            return false;
         }
+        self.resources.has(domain.resources, resource)
+            && self.times.has(domain.times, time - domain.shift)
     }
 
     /// Takes away the domain of a demand, and its supply, which is the result.
-    pub(crate) fn drop_domain(&mut self, demand: usize) -> Option<usize>
+    pub(crate) fn drop_domain(&mut self, demand: u32) -> Option<u32>
         requires table { IsTable self.old }
         requires demand { demand < demands_in self.old }
         ensures table { IsTable self.new }
         ensures domains { domains_of self.new ≡ with_domain (domains_of self.old) demand None }
-        ensures result { result ≡ place_of self.old demand }
-        ensures none { place_of self.new demand ≡ None }
-        ensures others { (other : ℕ) → other ≢ demand → place_of self.new other ≡ place_of self.old other }
+        ensures result { result ≡ supply_of self.old demand }
+        ensures none { supply_of self.new demand ≡ None }
+        ensures others { (other : ℕ) → other ≢ demand → supply_of self.new other ≡ supply_of self.old other }
     {
         let supply = self.release(demand);
-        self.demands[demand] = None;
+        self.demands[demand as usize] = None;
         supply
     }
 
-    /// Gives a domain to a demand that has none.
-    pub(crate) fn put_domain(&mut self, demand: usize, domain: Domain)
+    /// Gives a demand a domain. It keeps its supply, which the domain is to admit.
+    pub(crate) fn put_domain(&mut self, demand: u32, domain: Domain)
         requires table { IsTable self.old }
         requires demand { demand < demands_in self.old }
-        requires absent { domain_of (domains_of self.old) demand ≡ None }
         requires domain { IsInRange (domains_of self.old) domain }
+        requires supply { (supply : ℕ) → supply_of self.old demand ≡ Some supply → admits_supply (domains_of self.old) domain supply ≡ true }
         ensures table { IsTable self.new }
         ensures domains { domains_of self.new ≡ with_domain (domains_of self.old) demand (Some domain) }
-        ensures places { self.new.places ≡ self.old.places }
+        ensures supplies { self.new.supplies ≡ self.old.supplies }
         ensures owners { self.new.owners ≡ self.old.owners }
     {
-        self.demands[demand] = Some(domain);
+        self.demands[demand as usize] = Some(domain);
     }
 }

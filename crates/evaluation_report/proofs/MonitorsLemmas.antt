@@ -3,7 +3,7 @@ use Rattle.std.proofs.Common.{◌≡◌, ℕ, ◌<◌, inl, inr, Some, None, Lis
 use Rattle.std.specs.Option.{option_and_then}
 use Rattle.std.proofs.lemmas.Bool.{cases_lt}
 use Rattle.std.proofs.lemmas.Option.{slice_get_within, slice_get_past, get_or_from_slice_get}
-use Rattle.khe_instance.specs.EventDeviation.{role_at}
+use Rattle.khe_instance.specs.Lookups.{role_at}
 use Rattle.khe_instance.specs.WellMade.{AreWellMade, IsMonitor, IsConstraint, IsRule, IsPointOf, IsSinglePoint, IsPlacePoint, IsGroupPoint, IsPairPoint, IsResourcePoint}
 use Rattle.khe_instance.specs.declared.parts.EventInfo.{EventInfo}
 use Rattle.khe_instance.specs.declared.parts.Parts.{Parts}

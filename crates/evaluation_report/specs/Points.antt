@@ -1,7 +1,7 @@
 -- What a monitor watches, as its line writes it.
 use Rattle.std.specs.Prelude.{ℕ, ◌<◌, Option, Some, None, unwrap_or, List, [], ◌++◌, length, slice_get, codes}
 use Rattle.std.specs.Option.{option_map, option_map_or}
-use Rattle.khe_instance.specs.EventDeviation.{role_at}
+use Rattle.khe_instance.specs.Lookups.{role_at}
 use Rattle.khe_instance.specs.declared.parts.Parts.{Parts}
 use Rattle.khe_instance.specs.declared.points.Point.{Point}
 use Rattle.khe_instance.specs.declared.points.Point.TheVariants.{Event, EventResource, EventGroup, EventPair as Pair, Resource}

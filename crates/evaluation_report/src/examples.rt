@@ -1,5 +1,5 @@
-//! What the lines are on a small instance. The contract of each function before the test is an
-//! example: it is proved, and running it does nothing more.
+//! What the lines are on a small instance: the contract of each function is an example. Nothing
+//! calls them, since it is the check that shows them.
 
 ghost use Rattle.std.specs.Prelude.{◌≡◌, true, false, codes};
 ghost use Rattle.evaluation_report.specs.Examples.{two_events};
@@ -27,9 +27,3 @@ fn lines_of_monitors()
     ensures pair { monitor_line two_events 8 4 4 true ≡ codes "monitor 8 OrderEvents \"c5\" events \"E\" \"F\" deviation 4 soft 4\n" }
     ensures detached { monitor_line two_events 0 3 0 false ≡ codes "monitor 0 AssignTime \"c0\" event \"E\" deviation 3 hard 0 detached\n" }
 {}
-
-#[test]
-fn examples_are_proved() {
-    lines_of_solutions();
-    lines_of_monitors();
-}

@@ -2,7 +2,7 @@
 //! line feed. The source of the rules is this project's own form of a report.
 #![tactic(auto)]
 
-#[cfg(test)]
+#[allow(dead_code)]
 mod examples;
 mod lines;
 mod points;

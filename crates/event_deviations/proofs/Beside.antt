@@ -14,12 +14,12 @@ use Rattle.std.proofs.lemmas.List.Kept.{AllPairs-from_increasing}
 use Rattle.std.proofs.lemmas.List.Sums.{sum_by-cons, sum_by-append, list_all-from_AllPass}
 use Rattle.khe_base.specs.declared.numbers.TaskId.{TaskId}
 use Rattle.khe_instance.specs.EventDeviation.{duties_at}
+use Rattle.khe_instance.specs.Lookups.{places_at}
 use Rattle.khe_instance.specs.Running.{duties, meets_of}
-use Rattle.khe_instance.specs.States.{IsTold, places_at, tasks_of}
+use Rattle.khe_instance.specs.States.{IsTold, tasks_of}
 use Rattle.khe_instance.specs.declared.parts.Parts.{Parts}
 use Rattle.khe_instance.specs.declared.states.Duty.{Duty}
 use Rattle.khe_instance.specs.declared.states.Meet.{Meet}
-use Rattle.khe_instance.specs.declared.states.Plain.{Plain}
 use Rattle.khe_instance.specs.declared.states.Task.{Task}
 use Rattle.event_deviations.proofs.Kit.{both_true, filter_none, filter_every, any_false, all_true, count_one, All-from_map}
 
@@ -44,9 +44,9 @@ Rising-from_pairs (m ∷ ms) h = (
         let long : length (map (λ x. x.meet.0) ms) ≡ length ms = length-map ms (λ x. x.meet.0) in
         subst (λ n. m.meet.0 < n) (get_or-map (λ x. x.meet.0) ms k d d.meet.0 l) (h 0 (suc k) d.meet.0 (omega arith) (omega arith))
 
-pub Beside-from_told : (p : Parts) (s : Plain) → IsTold p s → Beside p s.meets s.tasks
-Beside-from_told p s told = record {
-  rising = Rising-from_pairs s.meets (AllPairs-from_increasing _ told.ascending);
+pub Beside-from_told : (p : Parts) (ms : List Meet) (ts : List Task) → IsTold p ms ts → Beside p ms ts
+Beside-from_told p ms ts told = record {
+  rising = Rising-from_pairs ms (AllPairs-from_increasing _ told.ascending);
   tasks = told.tasks;
 }
 

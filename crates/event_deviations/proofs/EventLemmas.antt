@@ -1,19 +1,14 @@
 -- Deviations at events, places and pairs.
-use Rattle.std.proofs.Common.{◌≡◌, ◌∙◌, sym, ap, refl, ℕ, ◌+◌, ◌-◌, ◌<◌, ◌≤◌, max, min, Bool, true, false, not, if◌then◌else◌, ◌&&◌, nat_lt, Option, Some, None, is_none, List, [], ◌∷◌, ◌++◌, length, get_or, take, arith, All, IfSome, sum_by, filter_map}
-use Rattle.std.specs.List.{list_any, range_with_len}
+use Rattle.std.proofs.Common.{◌≡◌, ◌∙◌, sym, ap, refl, ℕ, pos, ◌+◌, ◌<◌, ◌≤◌, max, min, Option, Some, None, List, [], ◌∷◌, ◌++◌, length, get_or, take, arith, All, IfSome, sum_by, filter_map}
 use Rattle.std.specs.Option.{option_map_or}
-use Rattle.std.proofs.lemmas.List.{get_or_past, take_more, append-nil}
+use Rattle.std.specs.Prelude.{◌-ℤ◌}
+use Rattle.std.proofs.lemmas.Int.{ints}
+use Rattle.std.proofs.lemmas.List.{take_more, append-nil}
 use Rattle.std.proofs.lemmas.List.Elements.{All-head, All-tail, filter_map-append}
 use Rattle.std.proofs.lemmas.List.Sums.{sum_by-cons, fold_push}
-use Rattle.khe_base.specs.IdSet.{has_member}
-use Rattle.khe_base.specs.declared.numbers.ResourceId.{ResourceId}
-use Rattle.khe_instance.specs.EventDeviation.{given_outside}
-use Rattle.khe_instance.specs.Running.{is_resource}
-use Rattle.khe_instance.specs.Within.{out}
-use Rattle.khe_instance.specs.declared.states.Duty.{Duty}
+use Rattle.khe_base.specs.Bounds.{outside}
 use Rattle.khe_instance.specs.declared.states.Meet.{Meet}
 use Rattle.event_deviations.specs.Ends.{greatest_of, least_of}
-use Rattle.event_deviations.proofs.Kit.{any_is}
 
 -- there are no more meets than their durations add to
 pub few : (ms : List Meet) → All (λ m. 1 ≤ m.duration) ms → length ms ≤ sum_by (λ m. m.duration) ms
@@ -23,25 +18,14 @@ few (m ∷ ms) h =
     let one : 1 ≤ m.duration = All-head (λ m. 1 ≤ m.duration) m ms h in
     omega (arith, sum_by-cons (λ (x : Meet). x.duration) m ms)
 
-pub out_le : (n least greatest : ℕ) → out n least greatest ≤ least + n
-out_le n least greatest = by (nat_lt n least)
-  where
-    by : (b : Bool) → (if b then least - n else n - greatest) ≤ least + n
-    by true = omega arith
-    by false = omega arith
+-- a sum of ones is a length
+pub sum_of_ones : (ms : List Meet) → sum_by (λ m. 1) ms ≡ length ms
+sum_of_ones [] = refl
+sum_of_ones (m ∷ ms) = let rest = sum_of_ones ms in omega (arith, sum_by-cons (λ (x : Meet). 1) m ms)
 
-pub out_most : (n least greatest most : ℕ) → n ≤ most → least ≤ most → out n least greatest ≤ most
-out_most n least greatest most a b = by (nat_lt n least)
-  where
-    by : (c : Bool) → (if c then least - n else n - greatest) ≤ most
-    by true = omega arith
-    by false = omega arith
-
--- a resource outside a set
-pub given_outside-some : (set : List Bool) (d : Duty) (r : ResourceId) → d.resource ≡ Some r → given_outside set d ≡ not (has_member set r.0)
-given_outside-some set d r e =
-    ap (λ o. not (is_none o) && not (list_any (λ x. is_resource x o && has_member set x) (range_with_len 0 (length set)))) e
-    ∙ ap not (any_is (has_member set) r.0 (length set) (λ l. get_or_past set r.0 false l))
+-- how far a difference of two numbers lies outside bounds
+pub outside_small : (a b least greatest : ℕ) → outside (pos a -ℤ pos b) (pos least) (pos greatest) ≤ a + b + least
+outside_small a b least greatest = grind (arith, ints)
 
 -- the greatest and the least with one more
 greatest_of-push : (xs : List ℕ) (y : ℕ) → greatest_of (xs ++ y ∷ []) ≡ Some (option_map_or (λ n. max n y) (greatest_of xs) y)

@@ -1,21 +1,22 @@
 -- Deviations at event groups: the steps of their sums, and that sums over the events of a group are
 -- those over all meets and duties.
-use Rattle.std.proofs.Common.{◌≡◌, ◌∙◌, sym, ap, ap₂, refl, ℕ, zero, suc, ◌+◌, ◌-◌, ◌<◌, ◌≤◌, ◌==◌, Bool, true, false, cond, ◌&&◌, ◌||◌, Option, Some, None, List, [], ◌∷◌, length, get_or, set, take, slice_get, arith, zero-add, ◌⊎◌, inl, inr, filter, sum_by, count_by, option_and_then}
+use Rattle.std.proofs.Common.{◌≡◌, ◌∙◌, sym, ap, ap₂, refl, ℕ, zero, suc, ◌+◌, ◌-◌, ◌<◌, ◌≤◌, ◌==◌, Bool, true, false, cond, ◌&&◌, ◌||◌, Option, Some, None, List, [], ◌∷◌, length, get_or, set, take, slice_get, arith, zero-add, ◌⊎◌, inl, inr, filter, sum_by, count_by, option_map, option_and_then}
 use Rattle.std.specs.List.{list_any, range_with_len}
 use Rattle.std.specs.Option.{option_map_or}
 use Rattle.std.proofs.lemmas.Bool.{false≢true, eqb-true, eq-eqb, ne_eqb, cases_eq, cases_lt}
 use Rattle.std.proofs.lemmas.List.{get_or_past}
 use Rattle.std.proofs.lemmas.List.Folds.{Any-from_list_any, list_any-from_Any, list_any-append, list_any_more}
 use Rattle.std.proofs.lemmas.List.Sums.{sum_by-cons}
-use Rattle.std.proofs.lemmas.Option.{slice_get_past, none-some}
+use Rattle.std.proofs.lemmas.Option.{slice_get_past, none-some, same_Some}
 use Rattle.khe_base.proofs.ListLemmas.{range_more}
 use Rattle.khe_base.specs.IdSet.{has_member}
 use Rattle.khe_base.specs.declared.numbers.ResourceId.{ResourceId}
-use Rattle.khe_instance.specs.EventDeviation.{avoid_split_assignments, spread_events, duties_at, is_role, role_at, starts_in}
+use Rattle.khe_base.specs.Bounds.{count_outside}
+use Rattle.khe_instance.specs.EventDeviation.{avoid_split_assignments, spread_events, duties_at, starts_in}
+use Rattle.khe_instance.specs.Lookups.{is_role, places_at, role_at}
 use Rattle.khe_instance.specs.Running.{is_resource, meets_of}
-use Rattle.khe_instance.specs.States.{places_at}
-use Rattle.khe_instance.specs.Within.{out}
 use Rattle.khe_instance.specs.declared.parts.EventInfo.{EventInfo}
+use Rattle.khe_instance.specs.declared.parts.GroupInfo.{GroupInfo}
 use Rattle.khe_instance.specs.declared.rules.Spread.{Spread}
 use Rattle.khe_instance.specs.declared.states.Duty.{Duty}
 use Rattle.khe_instance.specs.declared.states.Meet.{Meet}
@@ -65,7 +66,7 @@ pub role_there : (infos : List EventInfo) (e k : ℕ) (event : EventInfo) → sl
 role_there infos e k event there = ap (option_and_then (λ event. option_and_then (λ p. p.role) (slice_get event.places k))) there
 
 -- a role stands only at a place that is there
-pub place_within : (infos : List EventInfo) (e k : ℕ) (role : List ℕ) → role_at infos e k ≡ Some role → k < places_at infos e
+place_within : (infos : List EventInfo) (e k : ℕ) (role : List ℕ) → role_at infos e k ≡ Some role → k < places_at infos e
 place_within infos e k role h = by (slice_get infos e) h
   where
     at_place : (event : EventInfo) → option_and_then (λ p. p.role) (slice_get event.places k) ≡ Some role → k < length event.places
@@ -87,7 +88,7 @@ role_within infos role e k h = by (role_at infos e k) refl h
     by (Some own) is g = place_within infos e k own is
 
 -- a member of a set is below its size
-pub member_below : (set : List Bool) (n : ℕ) → has_member set n ≡ true → n < length set
+member_below : (set : List Bool) (n : ℕ) → has_member set n ≡ true → n < length set
 member_below set n h = by (cases_lt n (length set))
   where
     by : (n < length set) ⊎ (length set ≤ n) → n < length set
@@ -148,6 +149,12 @@ module _ (infos : List EventInfo) (ds : List Duty) (set : List Bool) (role : Lis
 
   pub among-is : found_among ≡ list_any (λ d. is_resource r d.resource) (filter is_there ds)
   among-is = same_truth found_among (list_any (λ d. is_there d && is_resource r d.resource) ds) to from ∙ sym (list_any-filter (λ d. is_resource r d.resource) is_there ds)
+
+-- a number that is known by the members of a group is the group's
+pub by_members : (value : List ℕ → ℕ) (of_group : List Bool → ℕ) → ((set : List Bool) → value (members_of set) ≡ of_group set)
+    → (o : Option GroupInfo) (ms : List ℕ) → option_map (λ g. members_of g.events) o ≡ Some ms → value ms ≡ option_map_or (λ g. of_group g.events) o 0
+by_members value of_group is None ms h = absurd (none-some ms h)
+by_members value of_group is (Some g) ms h = ap value (sym (same_Some _ _ h)) ∙ is g.events
 
 pub split-is : (infos : List EventInfo) (ds : List Duty) (set : List Bool) (role : List ℕ) (resources : ℕ)
     → count_by (has_duty_among infos ds role (members_of set)) (range_with_len 0 resources) - 1 ≡ avoid_split_assignments infos resources ds set role
@@ -240,4 +247,4 @@ module _ (set times : List Bool) where
       ∙ sym (sum_by-cons (λ x. cond (has_member set x.event.0 && starts_in times x.start) 1 0) m ms)
 
 pub spread-is : (meets : List Meet) (set : List Bool) (spreads : List Spread) → spread_over meets spreads (members_of set) ≡ spread_events meets set spreads
-spread-is meets set spreads = λ i. sum_by (λ s. out (starting-is set s.group meets i) s.min s.max) spreads
+spread-is meets set spreads = λ i. sum_by (λ s. count_outside (starting-is set s.group meets i) s.min s.max) spreads

@@ -2,12 +2,12 @@
 use Rattle.std.proofs.Common.{◌≡◌, ◌∙◌, sym, ap, ap₂, subst, refl, ℕ, zero, suc, ◌+◌, ◌<◌, ◌≤◌, ◌==◌, Bool, true, false, cond, ◌&&◌, ◌||◌, not, List, [], ◌∷◌, map, length, get_or, set, replicate, slice_get, arith, zero-add, ◌⊎◌, inl, inr, All, filter, sum_by, count_by}
 use Rattle.std.specs.List.{list_any, list_all, range_with_len}
 use Rattle.std.specs.Option.{option_map_or}
-use Rattle.std.proofs.lemmas.Bool.{false≢true, eqb-true, eq-eqb, ne_eqb, cases_eq}
+use Rattle.std.proofs.lemmas.Bool.{false≢true, eq-eqb, ne_eqb, cases_eq}
 use Rattle.std.proofs.lemmas.List.{length-map, get_or-map, get_or-set_same, get_or-set_other, length-set}
 use Rattle.std.proofs.lemmas.List.Filters.{sum_by-filter_both}
 use Rattle.std.proofs.lemmas.List.Folds.{Any-from_list_any, list_any_at, fold-map}
 use Rattle.std.proofs.lemmas.List.FromFn.{length-range_with_len, get_or-range_with_len, length-map-range_with_len, get_or-map-range_with_len, fill_by_all}
-use Rattle.std.proofs.lemmas.List.Sums.{sum_by-cons, sum-map}
+use Rattle.std.proofs.lemmas.List.Sums.{sum_by-cons, sum-map, count_by-le-length}
 
 -- both of two tests
 pub both_true : (a b : Bool) → (a && b) ≡ true → (a ≡ true) × (b ≡ true)
@@ -131,26 +131,6 @@ from_any_range p n e =
     let below : found.0 < n = subst (λ m. found.0 < m) (length-range_with_len 0 n) found.2 in
     record { number = found.1; below = subst (λ m. m < n) (sym (get_or-range_with_len 0 n found.0 found.1 below ∙ (let z : 0 + found.0 ≡ found.0 = omega arith in z)) ∙ found.3) below; passes = found.4 }
 
--- the one number of a range that is looked for
-pub any_is : (p : ℕ → Bool) (x n : ℕ) → (n ≤ x → p x ≡ false) → list_any (λ y. (x == y) && p y) (range_with_len 0 n) ≡ p x
-any_is p x n beyond = same_truth _ _ to from
-  where
-    to : list_any (λ y. (x == y) && p y) (range_with_len 0 n) ≡ true → p x ≡ true
-    to e =
-        let f = from_any_range (λ y. (x == y) && p y) n e in
-        let b = both_true (x == f.number) (p f.number) f.passes in
-        ap p (eqb-true x f.number b.0) ∙ b.1
-
-    from : p x ≡ true → list_any (λ y. (x == y) && p y) (range_with_len 0 n) ≡ true
-    from e = any_in_range (λ y. (x == y) && p y) n x below (from_both (x == x) (p x) (eq-eqb x x refl) e)
-      where
-        below : x < n
-        below = by (grind arith)
-          where
-            by : (x < n) ⊎ (n ≤ x) → x < n
-            by (inl l) = l
-            by (inr l) = absurd (false≢true (sym (beyond l) ∙ e))
-
 -- counts of a range by tests that agree there
 pub count_by-agree : (p q : ℕ → Bool) (n : ℕ) → ((k : ℕ) → k < n → p k ≡ q k) → count_by p (range_with_len 0 n) ≡ count_by q (range_with_len 0 n)
 count_by-agree p q n h = by 0 n (λ k low high. h k (omega arith))
@@ -161,6 +141,10 @@ count_by-agree p q n h = by 0 n (λ k low high. h k (omega arith))
         sum_by-cons (λ x. cond (p x) 1 0) a (range_with_len (a + 1) m)
         ∙ ap₂ (λ x y. cond x 1 0 + y) (g a (omega arith) (omega arith)) (by (a + 1) m (λ k low high. g k (omega arith) (omega arith)))
         ∙ sym (sum_by-cons (λ x. cond (q x) 1 0) a (range_with_len (a + 1) m))
+
+-- a count of a range is no greater than it
+pub count_by-range : (p : ℕ → Bool) (n : ℕ) → count_by p (range_with_len 0 n) ≤ n
+count_by-range p n = omega (arith, count_by-le-length p (range_with_len 0 n), length-range_with_len 0 n)
 
 -- at most one number of a range is this one
 pub count_one : (k n : ℕ) → count_by (λ j. j == k) (range_with_len 0 n) ≤ 1

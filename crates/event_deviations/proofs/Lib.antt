@@ -5,4 +5,3 @@ pub mod MarkLemmas
 pub mod EventLemmas
 pub mod GroupLemmas
 pub mod LinkLemmas
-pub mod PointLemmas

@@ -1,14 +1,8 @@
 -- What bounds the deviations at an event: its meets last no longer together than it does, and each
 -- stands within the times.
-use Rattle.std.specs.Prelude.{ℕ, ◌+◌, ◌≤◌, List, All, IfSome, slice_get}
+use Rattle.std.specs.Prelude.{ℕ, ◌+◌, ◌≤◌, List, All, IfSome}
 use Rattle.std.specs.List.{sum_by}
-use Rattle.std.specs.Option.{option_map_or}
-use Rattle.khe_instance.specs.declared.parts.EventInfo.{EventInfo}
 use Rattle.khe_instance.specs.declared.states.Meet.{Meet}
-
--- the duration of an event
-abbrev pub duration_at : List EventInfo → ℕ → ℕ
-duration_at events e = option_map_or (λ event. event.duration) (slice_get events e) 0
 
 -- the meets of one event of this duration, at so many times
 pub record AreOfOneEvent (times duration : ℕ) (meets : List Meet) : Type 0 where

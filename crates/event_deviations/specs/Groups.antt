@@ -1,10 +1,10 @@
 -- The deviations at an event group by the list of its events.
 use Rattle.std.specs.Prelude.{ℕ, Bool, not, ◌&&◌, List, count_by}
 use Rattle.std.specs.List.{list_any, list_all, sum_by, range_with_len}
-use Rattle.khe_instance.specs.EventDeviation.{duties_at, is_role, role_at, starts_in}
+use Rattle.khe_base.specs.Bounds.{count_outside}
+use Rattle.khe_instance.specs.EventDeviation.{duties_at, starts_in}
+use Rattle.khe_instance.specs.Lookups.{is_role, places_at, role_at}
 use Rattle.khe_instance.specs.Running.{is_resource, meets_of, event_runs}
-use Rattle.khe_instance.specs.States.{places_at}
-use Rattle.khe_instance.specs.Within.{out}
 use Rattle.khe_instance.specs.declared.parts.EventInfo.{EventInfo}
 use Rattle.khe_instance.specs.declared.rules.Spread.{Spread}
 use Rattle.khe_instance.specs.declared.states.Duty.{Duty}
@@ -35,7 +35,7 @@ starting_in meets times events = sum_by (starting_at meets times) events
 
 -- by how many too few or too many start in the listed time groups
 abbrev pub spread_over : List Meet → List Spread → List ℕ → ℕ
-spread_over meets spreads events = sum_by (λ s. out (starting_in meets s.group events) s.min s.max) spreads
+spread_over meets spreads events = sum_by (λ s. count_outside (starting_in meets s.group events) s.min s.max) spreads
 
 -- whether some, and whether all of the events run at a time
 abbrev pub some_run : List Meet → List ℕ → ℕ → Bool

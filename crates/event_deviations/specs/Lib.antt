@@ -4,4 +4,5 @@ pub mod Groups
 pub mod Indexed
 pub mod Links
 pub mod Marked
+pub mod Rooms
 pub mod State

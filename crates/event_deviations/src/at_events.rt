@@ -1,24 +1,22 @@
-ghost use Rattle.std.specs.Prelude.{◌≡◌, ◌+◌, ◌≤◌, ◌<◌, ◌==◌, ◌&&◌, ◌||◌, ◌^◌, nat_lt, max, min, is_none, length, count_by, IfSome, All, Some};
-ghost use Rattle.std.specs.List.{filter, filter_map, sum_by};
+ghost use Rattle.std.specs.Prelude.{◌≡◌, ◌+◌, ◌≤◌, ◌<◌, ◌==◌, ◌&&◌, max, min, length, count_by, IfSome, All, Some};
+ghost use Rattle.std.specs.List.{filter_map, sum_by};
 ghost use Rattle.std.specs.Option.{option_map, option_map_or};
 ghost use Rattle.khe_base.specs.declared.limits.TheConstants.{NUMBER, GREATEST_DEVIATION, TIMES};
 ghost use Rattle.khe_instance.specs.Deviation.{event_deviation, pair_deviation};
-ghost use Rattle.khe_instance.specs.EventDeviation.{starts_outside, allows, order_of};
+ghost use Rattle.khe_instance.specs.EventDeviation.{unplaced_duration as unplaced, is_unfit, misplaced_duration as misplaced, starts_outside, allows, order_of};
 ghost use Rattle.khe_instance.specs.WellMade.{IsRule, IsPointOf};
 ghost use Rattle.khe_instance.specs.declared.points.Point.TheVariants.{EventPair as Pair};
-ghost use Rattle.khe_instance.specs.Within.{out as how_far};
-ghost use Rattle.event_deviations.specs.Bounded.{AreOfOneEvent};
 ghost use Rattle.event_deviations.specs.Ends.{greatest_of, least_of};
 
 use crate::index::Index;
-use khe_base::{EventId, IdSet};
+use khe_base::{EventId, IdSet, count_out, out};
 use khe_instance::{EventPair, Meet, Rule};
 
 /// The deviation of a rule at an event; it takes the time of the event's meets.
 pub(crate) fn at_event(index: &Index<'_>, rule: &Rule, event: EventId) -> u64
     requires event { event.0 < length index.now.parts.events }
     requires rule { IsRule index.now.parts rule.now }
-    ensures exact { result ≡ event_deviation index.now.plain.meets rule.now event.0 }
+    ensures exact { result ≡ event_deviation index.now.meets rule.now event.0 }
     ensures bound { result ≤ GREATEST_DEVIATION }
 {
     let meets = index.meets(event);
@@ -30,17 +28,13 @@ pub(crate) fn at_event(index: &Index<'_>, rule: &Rule, event: EventId) -> u64
             min_amount,
             max_amount,
         } => {
-            let amount = out(
-                meets.len() as u64,
-                u64::from(*min_amount),
-                u64::from(*max_amount),
-            );
-            count_outside(meets, *min_duration, *max_duration) + amount
+            count_unfit(meets, *min_duration, *max_duration)
+                + count_out(amount(meets), *min_amount, *max_amount)
         }
         Rule::DistributeSplitEvents { duration, min, max } => {
-            out(count_of(meets, *duration), u64::from(*min), u64::from(*max))
+            count_out(count_of(meets, *duration), *min, *max)
         }
-        Rule::PreferTimes { times, duration } => duration_outside(meets, times, *duration),
+        Rule::PreferTimes { times, duration } => misplaced_duration(meets, times, *duration),
         _ => 0,
     }
 }
@@ -49,7 +43,7 @@ pub(crate) fn at_event(index: &Index<'_>, rule: &Rule, event: EventId) -> u64
 pub(crate) fn at_pair(index: &Index<'_>, rule: &Rule, pair: u32) -> u64
     requires rule { IsRule index.now.parts rule.now }
     requires pair { IsPointOf index.now.parts rule.now (Pair pair) }
-    ensures exact { result ≡ pair_deviation index.now.plain.meets rule.now pair }
+    ensures exact { result ≡ pair_deviation index.now.meets rule.now pair }
     ensures bound { result ≤ GREATEST_DEVIATION }
 {
     match rule {
@@ -61,21 +55,10 @@ pub(crate) fn at_pair(index: &Index<'_>, rule: &Rule, pair: u32) -> u64
     }
 }
 
-/// How far a number is below the least or above the greatest.
-pub(crate) fn out(n: u64, least: u64, greatest: u64) -> u64
-    ensures { result ≡ how_far n least greatest }
-{
-    if n < least {
-        least - n
-    } else {
-        n.saturating_sub(greatest)
-    }
-}
-
 /// The duration of the meets without a start.
 fn unplaced_duration(meets: &[Meet]) -> u64
     requires { sum_by (λ m. m.duration) meets.now ≤ NUMBER }
-    ensures exact { result ≡ sum_by (λ m. m.duration) (filter (λ m. is_none m.start) meets.now) }
+    ensures exact { result ≡ sum_by (λ m. unplaced m.start m.duration) meets.now }
     ensures bound { result ≤ NUMBER }
 {
     let mut total = 0;
@@ -88,14 +71,23 @@ fn unplaced_duration(meets: &[Meet]) -> u64
 }
 
 /// How many meets are shorter or longer than they may be.
-fn count_outside(meets: &[Meet], least: u32, greatest: u32) -> u64
-    ensures exact { result ≡ count_by (λ m. nat_lt m.duration least || nat_lt greatest m.duration) meets.now }
+fn count_unfit(meets: &[Meet], least: u32, greatest: u32) -> u64
+    ensures exact { result ≡ count_by (λ m. is_unfit least greatest m.duration) meets.now }
     ensures bound { result ≤ length meets.now }
 {
-    let outside = meets
+    let unfit = meets
         .iter()
         .filter(|m| m.duration < least || m.duration > greatest);
-    outside.count() as u64
+    unfit.count() as u64
+}
+
+/// How many meets there are.
+#[tactic(auto, using(crate::proofs::EventLemmas::sum_of_ones))]
+fn amount(meets: &[Meet]) -> u64
+    ensures exact { result ≡ sum_by (λ m. 1) meets.now }
+    ensures bound { result ≤ length meets.now }
+{
+    meets.len() as u64
 }
 
 /// How many meets have the duration.
@@ -107,9 +99,9 @@ fn count_of(meets: &[Meet], duration: u32) -> u64
 }
 
 /// The duration of the meets with a start outside the times, or of those alone of one duration.
-fn duration_outside(meets: &[Meet], times: &IdSet, only: Option<u32>) -> u64
+fn misplaced_duration(meets: &[Meet], times: &IdSet, only: Option<u32>) -> u64
     requires { sum_by (λ m. m.duration) meets.now ≤ NUMBER }
-    ensures exact { result ≡ sum_by (λ m. m.duration) (filter (λ m. starts_outside times.now m.start && allows only m.duration) meets.now) }
+    ensures exact { result ≡ sum_by (λ m. misplaced times.now only m.start m.duration) meets.now }
     ensures bound { result ≤ NUMBER }
 {
     let mut total = 0;
@@ -135,7 +127,9 @@ fn is_outside(meet: &Meet, times: &IdSet, only: Option<u32>) -> bool
     !times.has(start.0) && counts
 }
 
-/// How far the second event's start is from where it may be, where both have a start.
+/// How far the times between the meets of the first event and those of the second lie outside the
+/// bounds, where both have a start; the second may start before the first ends.
+#[tactic(auto, using(crate::proofs::EventLemmas::outside_small))]
 fn order(first: &[Meet], second: &[Meet], pair: EventPair) -> u64
     requires first { All (λ m. IfSome m.start (λ s. s.0 + m.duration ≤ TIMES)) first.now }
     requires second { All (λ m. IfSome m.start (λ s. s.0 + m.duration ≤ TIMES)) second.now }
@@ -149,12 +143,8 @@ fn order(first: &[Meet], second: &[Meet], pair: EventPair) -> u64
     let Some(start) = first_start(second) else {
         return 0;
     };
-    let end = u64::from(end);
-    out(
-        u64::from(start),
-        end + u64::from(pair.min),
-        end + u64::from(pair.max),
-    )
+    let times_between = i64::from(start) - i64::from(end);
+    out(times_between, i64::from(pair.min), i64::from(pair.max))
 }
 
 /// The greater of a number and one that may be missing.

@@ -1,16 +1,14 @@
-ghost use Rattle.std.specs.Prelude.{◌≡◌, ◌-◌, ◌*◌, ◌≤◌, ◌<◌, ◌||◌, ◌&&◌, ℕ, length, count_by, All, IfOk, OnOk, IfSome};
+ghost use Rattle.std.specs.Prelude.{◌≡◌, ◌+◌, ◌-◌, ◌*◌, ◌≤◌, ◌<◌, ◌||◌, ℕ, length, count_by, All, IfSome};
 ghost use Rattle.std.specs.List.{sum_by, range_with_len};
 ghost use Rattle.khe_base.specs.declared.limits.TheConstants.{NUMBER, DURATION, LISTED};
-ghost use Rattle.khe_instance.specs.EventDeviation.{is_role, starts_in};
-ghost use Rattle.khe_instance.specs.Running.{duties as duties_of};
-ghost use Rattle.event_deviations.specs.Bounded.{duration_at};
+ghost use Rattle.khe_instance.specs.EventDeviation.{starts_in};
+ghost use Rattle.khe_instance.specs.Lookups.{duration_at, is_role};
 ghost use Rattle.event_deviations.specs.Groups.{some_has, has_duty, has_duty_among, starting_in, spread_over};
-ghost use Rattle.event_deviations.specs.Marked.{is_marked, marked_count};
+ghost use Rattle.event_deviations.specs.Marked.{is_marked};
 
-use crate::at_events::out;
 use crate::index::Index;
 use crate::marks::Marks;
-use khe_base::{EventId, IdSet, NoMemory, Text};
+use khe_base::{EventId, IdSet, Text, count_out};
 use khe_instance::{Duty, Meet, Place, Spread};
 
 /// How many resources the events have in the role, less one, at least 0. It takes the time of the
@@ -20,38 +18,32 @@ pub(crate) fn avoid_split_assignments(
     events: &[u32],
     role: &Text,
     seen: &mut Marks,
-) -> Result<u64, NoMemory>
+) -> u64
     requires events { All (λ e. e < length index.now.parts.events) events.now }
     requires seen { length seen.old ≡ length index.now.parts.resources }
     ensures seen { length seen.new ≡ length seen.old }
-    ensures exact { IfOk result (λ d. d ≡ count_by (has_duty_among index.now.parts.events (duties_of index.now.plain.meets index.now.plain.tasks) role.now events.now) (range_with_len 0 (length index.now.parts.resources)) - 1) }
+    ensures exact { result ≡ count_by (has_duty_among index.now.parts.events index.now.duties role.now events.now) (range_with_len 0 (length index.now.parts.resources)) - 1 }
 {
     seen.clear();
     for event in events {
-        see_event(index, EventId(*event), role, seen)?;
+        see_event(index, EventId(*event), role, seen);
     }
-    Ok(seen.count().saturating_sub(1))
+    seen.count().saturating_sub(1)
 }
 
 /// Marks the resources that an event has in the role.
-fn see_event(
-    index: &Index<'_>,
-    event: EventId,
-    role: &Text,
-    seen: &mut Marks,
-) -> Result<(), NoMemory>
+fn see_event(index: &Index<'_>, event: EventId, role: &Text, seen: &mut Marks)
     requires event { event.0 < length index.now.parts.events }
     requires seen { length seen.old ≡ length index.now.parts.resources }
     ensures seen { length seen.new ≡ length seen.old }
-    ensures marked { OnOk result ((r : ℕ) → is_marked seen.new r ≡ (is_marked seen.old r || has_duty index.now.parts.events (duties_of index.now.plain.meets index.now.plain.tasks) role.now r event.0)) }
+    ensures marked { (r : ℕ) → is_marked seen.new r ≡ (is_marked seen.old r || has_duty index.now.parts.events index.now.duties role.now r event.0) }
 {
-    let places = index.instance().event(event).places.as_slice();
+    let places = index.inst().event(event).places.as_slice();
     for (number, place) in places.iter().enumerate() {
         if has_role(place, role) {
-            see(index.duties(event, number), seen)?;
+            see(index.duties(event, number), seen);
         }
     }
-    Ok(())
 }
 
 /// Whether a place has the role.
@@ -65,17 +57,16 @@ fn has_role(place: &Place, role: &Text) -> bool
 }
 
 /// Marks the resources of some duties.
-fn see(duties: &[Duty], seen: &mut Marks) -> Result<(), NoMemory>
+fn see(duties: &[Duty], seen: &mut Marks)
     requires { All (λ d. IfSome d.resource (λ r. r.0 < length seen.old)) duties.now }
     ensures seen { length seen.new ≡ length seen.old }
-    ensures marked { OnOk result ((r : ℕ) → is_marked seen.new r ≡ (is_marked seen.old r || some_has duties.now r)) }
+    ensures marked { (r : ℕ) → is_marked seen.new r ≡ (is_marked seen.old r || some_has duties.now r) }
 {
     for duty in duties {
         if let Some(resource) = duty.resource {
-            seen.put(resource.0, 1)?;
+            seen.put(resource.0, 1);
         }
     }
-    Ok(())
 }
 
 /// By how many too few or too many meets of the events start in the listed time groups. It takes
@@ -85,13 +76,13 @@ pub(crate) fn spread_events(index: &Index<'_>, events: &[u32], spreads: &[Spread
     requires durations { sum_by (duration_at index.now.parts.events) events.now ≤ DURATION }
     requires least { All (λ s. s.min ≤ NUMBER) spreads.now }
     requires listed { length spreads.now ≤ LISTED }
-    ensures exact { result ≡ spread_over index.now.plain.meets spreads.now events.now }
-    ensures bound { result ≤ length spreads.now * NUMBER }
+    ensures exact { result ≡ spread_over index.now.meets spreads.now events.now }
+    ensures bound { result ≤ length spreads.now * (DURATION + NUMBER) }
 {
     let mut total = 0;
     for spread in spreads {
         let starting = starting(index, events, &spread.group);
-        total += out(starting, u64::from(spread.min), u64::from(spread.max));
+        total += count_out(starting, spread.min, spread.max);
     }
     total
 }
@@ -100,7 +91,7 @@ pub(crate) fn spread_events(index: &Index<'_>, events: &[u32], spreads: &[Spread
 fn starting(index: &Index<'_>, events: &[u32], times: &IdSet) -> u64
     requires events { All (λ e. e < length index.now.parts.events) events.now }
     requires durations { sum_by (duration_at index.now.parts.events) events.now ≤ DURATION }
-    ensures exact { result ≡ starting_in index.now.plain.meets times.now events.now }
+    ensures exact { result ≡ starting_in index.now.meets times.now events.now }
     ensures bound { result ≤ DURATION }
 {
     let mut total = 0;

@@ -1,27 +1,29 @@
 ghost use Rattle.std.specs.Prelude.{◌≡◌, ◌≤◌, ◌<◌, Some, length, option_map, slice_get, All, IfOk, IfSome};
 ghost use Rattle.std.specs.List.{sum_by};
+ghost use Rattle.khe_base.specs.IdSet.{members_of};
 ghost use Rattle.khe_base.specs.declared.limits.TheConstants.{NUMBER, DURATION, EVENTS, TIMES};
 ghost use Rattle.khe_instance.specs.EventDeviation.{duties_at};
-ghost use Rattle.khe_instance.specs.Running.{duties as duties_of, meets_of};
-ghost use Rattle.khe_instance.specs.States.{IsTold, places_at};
+ghost use Rattle.khe_instance.specs.Lookups.{duration_at, places_at};
+ghost use Rattle.khe_instance.specs.Running.{meets_of};
 ghost use Rattle.khe_instance.specs.WellMade.{AreWellMade};
-ghost use Rattle.event_deviations.specs.Bounded.{AreOfOneEvent, duration_at};
-ghost use Rattle.khe_base.specs.IdSet.{members_of};
+ghost use Rattle.event_deviations.specs.Bounded.{AreOfOneEvent};
+ghost use Rattle.event_deviations.specs.Indexed.{duties_by_place};
+ghost use Rattle.khe_instance.specs.States.{AreOfState};
 
-use crate::lists::{duties_by, meets_by, members_by};
+use crate::lists::{duties_by, meets_by};
 use khe_base::{EventId, NoMemory, Seq};
-use khe_instance::{Duty, Instance, Meet, Plain};
+use khe_instance::{Duty, Instance, Meet};
 use std::alloc::Global;
 use std::marker::Model;
 
-/// The meets of each event, the duties of each of its places, and the members of each event group.
+/// The meets of each event, and the duties of each of its places.
 #[derive(Drop)]
 pub(crate) struct Index<'a> {
-    instance: &'a Instance,
-    plain: &'a Plain,
-    meets: Seq<Seq<Meet>>,
-    duties: Seq<Seq<Seq<Duty>>>,
-    members: Seq<Seq<u32>>,
+    inst: &'a Instance,
+    meets: &'a [Meet],
+    duties: &'a [Duty],
+    by_event: Seq<Seq<Meet>>,
+    by_place: Seq<Seq<Seq<Duty>>>,
 }
 
 impl<'a> Model for Index<'a> {
@@ -30,53 +32,44 @@ impl<'a> Model for Index<'a> {
 
     ghost Value = { State };
 
-    ghost view = { λ i. record { parts = i.instance.now; plain = i.plain.now } };
+    ghost view = { λ i. record { parts = i.inst.now; meets = i.meets.now; duties = i.duties.now } };
 
-    ghost invariant = { λ i. IsIndexed i.instance.now i.plain.now i.meets i.duties i.members };
+    ghost invariant = { λ i. IsIndexed i.inst.now i.meets.now i.duties.now i.by_event i.by_place };
 }
 
 impl<'a> Index<'a> {
-    /// The index of a timetable and its duties, in time and memory of the meets, the duties, the
-    /// events with their places, and the members of the event groups; and time for a 64th of the
-    /// events for each event group.
+    /// The index of the meets and the duties of a timetable, in time and memory of the meets, the
+    /// duties, and the events with their places.
     pub(crate) fn new(
         alloc: Global,
-        instance: &'a Instance,
-        plain: &'a Plain,
-        duties: &[Duty],
+        inst: &'a Instance,
+        meets: &'a [Meet],
+        duties: &'a [Duty],
     ) -> Result<Index<'a>, NoMemory>
-        requires told { IsTold instance.now plain.now }
-        requires duties { duties.now ≡ duties_of plain.now.meets plain.now.tasks }
-        ensures { IfOk result (λ i. i ≡ record { parts = instance.now; plain = plain.now }) }
+        requires { AreOfState inst.now meets.now duties.now }
+        ensures { IfOk result (λ i. i ≡ record { parts = inst.now; meets = meets.now; duties = duties.now }) }
     {
-        instance.facts();
+        inst.facts();
         Ok(Index {
-            instance,
-            plain,
-            meets: meets_by(alloc, plain.meets.as_slice(), instance.events())?,
-            duties: duties_by(alloc, duties, instance)?,
-            members: members_by(alloc, instance)?,
+            inst,
+            meets,
+            duties,
+            by_event: meets_by(alloc, meets, inst.events())?,
+            by_place: duties_by(alloc, duties, inst)?,
         })
     }
 
     /// The instance.
-    pub(crate) fn instance(&self) -> &'a Instance
+    pub(crate) fn inst(&self) -> &'a Instance
         ensures { result.now ≡ self.now.parts }
     {
-        self.instance
-    }
-
-    /// The timetable.
-    pub(crate) fn plain(&self) -> &'a Plain
-        ensures { result.now ≡ self.now.plain }
-    {
-        self.plain
+        self.inst
     }
 
     /// The facts of the instance and the timetable.
     pub(crate) fn facts(&self)
         ensures made { AreWellMade self.now.parts }
-        ensures told { IsTold self.now.parts self.now.plain }
+        ensures state { AreOfState self.now.parts self.now.meets self.now.duties }
     {
         let _ = &self.meets;
     }
@@ -84,23 +77,32 @@ impl<'a> Index<'a> {
     /// The meets of an event.
     pub(crate) fn meets(&self, event: EventId) -> &[Meet]
         requires { event.0 < length self.now.parts.events }
-        ensures are { result.now ≡ meets_of event.0 self.now.plain.meets }
+        ensures are { result.now ≡ meets_of event.0 self.now.meets }
         ensures bounded { AreOfOneEvent (length self.now.parts.times) (duration_at self.now.parts.events event.0) result.now }
         ensures short { duration_at self.now.parts.events event.0 ≤ NUMBER }
+        ensures few { length result.now ≤ duration_at self.now.parts.events event.0 }
         ensures times { length self.now.parts.times ≤ TIMES }
     {
-        self.meets.as_slice()[event.0 as usize].as_slice()
+        self.by_event.as_slice()[event.0 as usize].as_slice()
+    }
+
+    /// The duties of each place of an event.
+    fn places(&self, event: EventId) -> &[Seq<Duty>]
+        requires { event.0 < length self.now.parts.events }
+        ensures { result.now ≡ duties_by_place self.now.parts.events self.now.duties event.0 }
+    {
+        self.by_place.as_slice()[event.0 as usize].as_slice()
     }
 
     /// The duties at a place of an event.
     pub(crate) fn duties(&self, event: EventId, place: usize) -> &[Duty]
         requires { place < places_at self.now.parts.events event.0 }
-        ensures are { result.now ≡ duties_at event.0 place (duties_of self.now.plain.meets self.now.plain.tasks) }
+        ensures are { result.now ≡ duties_at event.0 place self.now.duties }
         ensures bounded { sum_by (λ d. d.meet.duration) result.now ≤ NUMBER }
         ensures given { All (λ d. IfSome d.resource (λ r. r.0 < length self.now.parts.resources)) result.now }
     {
-        let places = self.duties.as_slice()[event.0 as usize].as_slice();
-        places[place].as_slice()
+        self.facts();
+        self.places(event)[place].as_slice()
     }
 
     /// The numbers of the events of an event group, ascending.
@@ -111,6 +113,6 @@ impl<'a> Index<'a> {
         ensures durations { sum_by (duration_at self.now.parts.events) result.now ≤ DURATION }
         ensures amount { length result.now ≤ EVENTS }
     {
-        self.members.as_slice()[group as usize].as_slice()
+        self.inst.members(group)
     }
 }

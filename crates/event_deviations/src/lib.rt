@@ -10,7 +10,9 @@ mod index;
 mod links;
 mod lists;
 mod marks;
+mod rooms;
 mod tasks;
 
 pub use deviations::EventDeviations;
+pub use rooms::EventRoom;
 pub use tasks::duties;

@@ -1,4 +1,4 @@
-ghost use Rattle.std.specs.Prelude.{◌≡◌, ◌<◌, ℕ, length, replicate, slice_index, slice_set, IfOk, OnOk, All, if◌then◌else◌, ◌==◌};
+ghost use Rattle.std.specs.Prelude.{◌≡◌, ◌<◌, ◌++◌, ◌∷◌, [], ◌≤◌, ℕ, length, replicate, slice_index, slice_set, IfOk, All, if◌then◌else◌, ◌==◌, vec_len, vec_capacity};
 ghost use Rattle.std.specs.List.{list_any};
 ghost use Rattle.event_deviations.specs.Marked.{marked_count};
 
@@ -8,23 +8,24 @@ use std::marker::Model;
 
 /// A value for each number below a size, 0 at first. Contracts see the list of the values.
 ///
-/// It is made once and cleared in the time of what was marked since, whatever its size.
+/// It is made once and cleared in the time of what was marked since, whatever its size. No call but
+/// `new` takes memory.
 #[derive(Drop)]
 pub(crate) struct Marks {
     values: Vec<u32>,
-    /// The numbers whose value is above 0.
+    /// The numbers whose value is above 0, with room for all numbers.
     marked: Vec<u32>,
 }
 
 impl Model for Marks {
-    ghost use Rattle.std.specs.Prelude.{List, ℕ};
+    ghost use Rattle.std.specs.Prelude.{List, ℕ, ◌≤◌, length, vec_capacity};
     ghost use Rattle.event_deviations.specs.Marked.{AreListed};
 
     ghost Value = { List ℕ };
 
     ghost view = { λ m. m.values.items };
 
-    ghost invariant = { λ m. AreListed m.values.items m.marked.items };
+    ghost invariant = { λ m. AreListed m.values.items m.marked.items × (length m.values.items ≤ vec_capacity m.marked) };
 }
 
 impl Marks {
@@ -34,7 +35,7 @@ impl Marks {
     {
         Ok(Marks {
             values: vec![in alloc; 0; size as usize]?,
-            marked: Vec::new(alloc),
+            marked: Vec::with_capacity(alloc, size as usize)?,
         })
     }
 
@@ -53,18 +54,16 @@ impl Marks {
         self.marked.len() as u64
     }
 
-    /// Gives a number a value above 0. Where memory is refused, all values stay as they were.
-    pub(crate) fn put(&mut self, n: u32, value: u32) -> Result<(), NoMemory>
+    /// Gives a number a value above 0, in constant time.
+    pub(crate) fn put(&mut self, n: u32, value: u32)
         requires number { n < length self.old }
         requires value { 0 < value }
-        ensures length { length self.new ≡ length self.old }
-        ensures value { OnOk result (self.new ≡ slice_set self.old n value) }
+        ensures { self.new ≡ slice_set self.old n value }
     {
         if self.values[n as usize] == 0 {
-            self.marked.push(n)?;
+            add(&mut self.marked, n);
         }
         self.values[n as usize] = value;
-        Ok(())
     }
 
     /// Gives all numbers the value 0 again, in the time of those that had another one.
@@ -74,6 +73,17 @@ impl Marks {
         reset(&mut self.values, self.marked.as_slice());
         self.marked.clear();
     }
+}
+
+/// Adds a number to a list that has room for it.
+fn add(numbers: &mut Vec<u32>, n: u32)
+    requires { vec_len numbers.old < vec_capacity numbers.old }
+    ensures items { numbers.new.items ≡ numbers.old.items ++ n ∷ [] }
+    ensures room { vec_capacity numbers.old ≤ vec_capacity numbers.new }
+{
+    let Ok(()) = numbers.push(n) else {
+        unreachable!()
+    };
 }
 
 /// Gives these numbers the value 0.

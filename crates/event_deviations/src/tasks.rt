@@ -3,21 +3,26 @@ ghost use Rattle.khe_instance.specs.Running.{duties as duties_of};
 ghost use Rattle.khe_instance.specs.States.{IsTold};
 
 use khe_base::{NoMemory, Seq};
-use khe_instance::{Duty, Instance, Meet, Plain, Task};
+use khe_instance::{Duty, Instance, Meet, Task};
 use std::alloc::Global;
 
 /// The tasks of a timetable with their meets: those of the first meet in the order of its places,
 /// then those of the second, and so on. Every valid state of an instance is told.
 ///
 /// It takes time and memory in proportion to the meets and the tasks.
-pub fn duties(alloc: Global, instance: &Instance, plain: &Plain) -> Result<Seq<Duty>, NoMemory>
-    requires { IsTold instance.now plain.now }
-    ensures { IfOk result (λ ds. ds ≡ duties_of plain.now.meets plain.now.tasks) }
+pub fn duties(
+    alloc: Global,
+    inst: &Instance,
+    meets: &[Meet],
+    tasks: &[Task],
+) -> Result<Seq<Duty>, NoMemory>
+    requires { IsTold inst.now meets.now tasks.now }
+    ensures { IfOk result (λ ds. ds ≡ duties_of meets.now tasks.now) }
 {
     let mut duties = Seq::new(alloc);
-    let mut rest = plain.tasks.as_slice();
-    for meet in plain.meets.as_slice() {
-        let places = instance.event(meet.event).places.len();
+    let mut rest = tasks;
+    for meet in meets {
+        let places = inst.event(meet.event).places.len();
         let (own, later) = rest.split_at(places);
         push_duties(&mut duties, *meet, own)?;
         rest = later;

@@ -1,4 +1,4 @@
-ghost use Rattle.std.specs.Prelude.{◌≡◌, ◌≤◌, ◌<◌, ◌+◌, ◌++◌, ◌^◌, ℕ, List, [], Option, Some, IsSome, false, length, OnOk, OnErr, IsErrOf, encode_utf8_all};
+ghost use Rattle.std.specs.Prelude.{◌≡◌, ◌≤◌, ◌<◌, ◌+◌, ◌++◌, ◌^◌, ℕ, List, [], Option, IfOk, false, length, OnOk, OnErr, IsErrOf, encode_utf8_all};
 ghost use Rattle.khe_instance.specs.Evaluated.{deviation_in, cost_in, is_detached};
 ghost use Rattle.khe_instance.specs.declared.points.Monitor.{Monitor};
 ghost use Rattle.khe_instance.specs.declared.states.Plain.{Plain};
@@ -15,7 +15,7 @@ use evaluation_report::{header_line, invalid_line, monitor_line, solution_line, 
 use khe_base::{MonitorId, NoMemory, Text};
 use khe_instance::{Instance, Plain};
 use khe_io::Sink;
-use plain_eval::evaluate;
+use plain_eval::Evaluator;
 use std::alloc::Global;
 use xhstt_completion::{SolutionFault, completed};
 use xhstt_resolve::Resolved;
@@ -49,14 +49,17 @@ fn push_evaluation(
     alloc: Global,
     text: &mut Text,
     inst: &Instance,
+    evaluator: &mut Evaluator<'_>,
     plain: &Plain,
     all: bool,
 ) -> Result<(), NoMemory>
     requires state { IsValid inst.now plain.now }
     requires attached { plain.now.detached ≡ [] }
-    ensures { OnOk result (text.new ≡ text.old ++ spec.evaluation all inst.now plain.now) }
+    requires evaluator { evaluator.old ≡ inst.now }
+    ensures evaluator { evaluator.new ≡ evaluator.old }
+    ensures text { OnOk result (text.new ≡ text.old ++ spec.evaluation all inst.now plain.now) }
 {
-    let values = evaluate(alloc, inst, plain)?;
+    let values = evaluator.evaluate(alloc, plain)?;
     let deviations = values.deviations.as_slice();
     let costs = values.costs.as_slice();
     for number in 0..inst.monitors() {
@@ -72,14 +75,17 @@ fn push_outcome(
     alloc: Global,
     text: &mut Text,
     inst: &Instance,
+    evaluator: &mut Evaluator<'_>,
     solution: &RawSolution,
     all: bool,
 ) -> Result<(), NoMemory>
-    requires { IsSolution inst.now solution.now }
-    ensures { OnOk result (text.new ≡ text.old ++ spec.outcome_text all inst.now (completion.completed inst.now solution.now)) }
+    requires solution { IsSolution inst.now solution.now }
+    requires evaluator { evaluator.old ≡ inst.now }
+    ensures evaluator { evaluator.new ≡ evaluator.old }
+    ensures text { OnOk result (text.new ≡ text.old ++ spec.outcome_text all inst.now (completion.completed inst.now solution.now)) }
 {
     match completed(alloc, inst, solution) {
-        Ok(plain) => push_evaluation(alloc, text, inst, &plain, all),
+        Ok(plain) => push_evaluation(alloc, text, inst, evaluator, &plain, all),
         Err(SolutionFault::Invalid { cause, entry }) => {
             text.push_text(&invalid_line(alloc, cause, entry)?)
         }
@@ -94,15 +100,52 @@ fn push_solution(
     number: u32,
     group: &Text,
     inst: &Instance,
+    evaluator: &mut Evaluator<'_>,
     solution: &RawSolution,
     all: bool,
 ) -> Result<(), NoMemory>
-    requires { IsSolution inst.now solution.now }
-    ensures { OnOk result (text.new ≡ text.old ++ spec.solution_text all number group.now solution.now inst.now) }
+    requires solution { IsSolution inst.now solution.now }
+    requires evaluator { evaluator.old ≡ inst.now }
+    ensures evaluator { evaluator.new ≡ evaluator.old }
+    ensures text { OnOk result (text.new ≡ text.old ++ spec.solution_text all number group.now solution.now inst.now) }
 {
     let line = solution_line(alloc, number, group, inst.id())?;
     text.push_text(&line)?;
-    push_outcome(alloc, text, inst, solution, all)
+    push_outcome(alloc, text, inst, evaluator, solution, all)
+}
+
+/// An evaluator for each instance of an archive, in their order. It takes the time and memory of
+/// opening each.
+fn evaluators_of<'a>(alloc: Global, resolved: &'a Resolved) -> Result<Vec<Evaluator<'a>>, NoMemory>
+    ensures { IfOk result (λ evaluators. evaluators.items ≡ resolved.now.instances) }
+{
+    let mut evaluators = Vec::new(alloc);
+    for inst in resolved.instances.as_slice() {
+        evaluators.push(Evaluator::open(alloc, inst)?)?;
+    }
+    Ok(evaluators)
+}
+
+/// Adds the part of a report on the solution with a number, by the evaluator of its instance.
+fn push_numbered(
+    alloc: Global,
+    text: &mut Text,
+    resolved: &Resolved,
+    evaluators: &mut Vec<Evaluator<'_>>,
+    number: u32,
+    group: &Text,
+    solution: &RawSolution,
+    all: bool,
+) -> Result<(), NoMemory>
+    requires one { IsOne resolved.now number solution.now }
+    requires evaluators { evaluators.old.items ≡ resolved.now.instances }
+    ensures evaluators { evaluators.new.items ≡ evaluators.old.items }
+    ensures text { OnOk result (text.new ≡ text.old ++ spec.numbered_text all resolved.now group.now (number, solution.now)) }
+{
+    let instance = resolved.of.as_slice()[number as usize] as usize;
+    let inst = &resolved.instances.as_slice()[instance];
+    let evaluator = &mut evaluators[instance];
+    push_solution(alloc, text, number, group, inst, evaluator, solution, all)
 }
 
 /// Adds the part of a report on one solution to what waits, and gives that to the sink where it is
@@ -112,29 +155,24 @@ fn write_solution<K: Sink>(
     out: &mut K,
     text: &mut Text,
     resolved: &Resolved,
+    evaluators: &mut Vec<Evaluator<'_>>,
     number: u32,
     group: &Text,
     solution: &RawSolution,
     all: bool,
 ) -> Result<(), Cut>
-    requires { IsOne resolved.now number solution.now }
+    requires one { IsOne resolved.now number solution.now }
+    requires evaluators { evaluators.old.items ≡ resolved.now.instances }
+    ensures evaluators { evaluators.new.items ≡ evaluators.old.items }
     ensures amid { (before : Option (List ℕ)) (rest whole : List ℕ) → IsAmid before (K.taken out.old) text.old (spec.numbered_text all resolved.now group.now (number, solution.now) ++ rest) whole → OnOk result (IsAmid before (K.taken out.new) text.new rest whole) }
     ensures front { (before : Option (List ℕ)) (rest whole : List ℕ) → IsAmid before (K.taken out.old) text.old (spec.numbered_text all resolved.now group.now (number, solution.now) ++ rest) whole → OnErr result (TookFront before (K.taken out.new) (encode_utf8_all whole)) }
     ensures fault { IsErrOf result Cut.WriteFault → Rose (K.faults out.old) (K.faults out.new) }
     ensures counted { K.faults out.old ≤ K.faults out.new }
 {
-    let inst = instance_at(resolved, number);
-    push_solution(alloc, text, number, group, inst, solution, all)?;
+    push_numbered(
+        alloc, text, resolved, evaluators, number, group, solution, all,
+    )?;
     flush_long(alloc, out, text)
-}
-
-/// The instance of the solution with this number.
-fn instance_at(resolved: &Resolved, number: u32) -> &Instance
-    requires { IsSome (spec.parts_at resolved.now number) }
-    ensures { spec.parts_at resolved.now number ≡ Some result.now }
-{
-    let instance = resolved.of.as_slice()[number as usize];
-    &resolved.instances.as_slice()[instance as usize]
 }
 
 /// Writes the solutions of a group, numbered on from this number.
@@ -143,12 +181,15 @@ fn write_group<K: Sink>(
     out: &mut K,
     text: &mut Text,
     resolved: &Resolved,
+    evaluators: &mut Vec<Evaluator<'_>>,
     first: u32,
     group: &SolutionGroup,
     all: bool,
 ) -> Result<(), Cut>
+    requires evaluators { evaluators.old.items ≡ resolved.now.instances }
     requires ones { AreOnes resolved.now first group.now.solutions }
     requires small { first + length group.now.solutions < 2 ^ 32 }
+    ensures evaluators { evaluators.new.items ≡ evaluators.old.items }
     ensures amid { (before : Option (List ℕ)) (rest whole : List ℕ) → IsAmid before (K.taken out.old) text.old (spec.group_text all resolved.now first group.now ++ rest) whole → OnOk result (IsAmid before (K.taken out.new) text.new rest whole) }
     ensures front { (before : Option (List ℕ)) (rest whole : List ℕ) → IsAmid before (K.taken out.old) text.old (spec.group_text all resolved.now first group.now ++ rest) whole → OnErr result (TookFront before (K.taken out.new) (encode_utf8_all whole)) }
     ensures fault { IsErrOf result Cut.WriteFault → Rose (K.faults out.old) (K.faults out.new) }
@@ -157,15 +198,18 @@ fn write_group<K: Sink>(
     let id = &group.id.text;
     for (k, solution) in group.solutions.as_slice().iter().enumerate() {
         let number = first + k as u32;
-        write_solution(alloc, out, text, resolved, number, id, solution, all)?;
+        write_solution(
+            alloc, out, text, resolved, evaluators, number, id, solution, all,
+        )?;
     }
     Ok(())
 }
 
 /// Writes the report of an archive: its header, and for each solution its line and what comes of it.
 ///
-/// It takes time about linear in the instances, the solutions and the report. It keeps in memory
-/// what one solution adds to the report, and of the rest no more than a piece.
+/// It takes time about linear in the instances, the solutions and the report. It keeps in memory an
+/// evaluator for each instance, what one solution adds to the report, and of the rest no more than a
+/// piece.
 pub(crate) fn report<K: Sink>(
     alloc: Global,
     out: &mut K,
@@ -179,11 +223,21 @@ pub(crate) fn report<K: Sink>(
     ensures fault { IsErrOf result Cut.WriteFault → Rose (K.faults out.old) (K.faults out.new) }
     ensures counted { K.faults out.old ≤ K.faults out.new }
 {
+    let mut evaluators = evaluators_of(alloc, resolved)?;
     let solutions = resolved.of.len() as u32;
     let mut text = header_line(alloc, resolved.instances.len() as u32, solutions)?;
     let mut number = 0;
     for group in archive.solution_groups.as_slice() {
-        write_group(alloc, out, &mut text, resolved, number, group, all)?;
+        write_group(
+            alloc,
+            out,
+            &mut text,
+            resolved,
+            &mut evaluators,
+            number,
+            group,
+            all,
+        )?;
         number += group.solutions.len() as u32;
     }
     flush(alloc, out, &mut text)

@@ -4,5 +4,6 @@ pub mod IdSetLemmas
 pub mod ListLemmas
 pub mod MembersLemmas
 pub mod NamesLemmas
+pub mod ResultLemmas
 pub mod TextLemmas
 pub mod UnitsLemmas

@@ -1,5 +1,5 @@
 -- What stands at a place of a list, and lists that are joined, for the proofs of all layers.
-use Rattle.std.proofs.Common.{ℕ, ◌≡◌, ◌+◌, ◌<◌, Bool, true, false, not, cond, ◌||◌, Option, Some, List, [], ◌∷◌, ◌++◌, length, get_or, drop, map, map-id, refl, sym, ap, subst, ◌∙◌, add-one, zero-add, arith, drop-cons, zero, suc, slice_get, option_map, ltb, All, flat_map}
+use Rattle.std.proofs.Common.{ℕ, ◌≡◌, ◌+◌, ◌<◌, Bool, true, false, not, cond, ◌||◌, Some, List, [], ◌∷◌, ◌++◌, length, get_or, drop, map, map-id, refl, sym, ap, subst, ◌∙◌, add-one, zero-add, arith, drop-cons, zero, suc, slice_get, option_map, ltb, All, flat_map}
 use Rattle.std.specs.List.{list_any, position_or_len, range_with_len}
 use Rattle.std.proofs.lemmas.Bool.Decides.{nat_tests}
 use Rattle.std.proofs.lemmas.List.Concat.{flat_map-cons}

@@ -1,10 +1,10 @@
 -- The members of a set, word by word.
-use Rattle.std.proofs.Common.{◌≡◌, ◌∙◌, sym, ap, ap₂, subst, refl, ℕ, ◌+◌, ◌-◌, ◌*◌, ◌/◌, ◌^◌, ◌<◌, ◌≤◌, Bool, true, false, cond, List, [], ◌∷◌, ◌++◌, map, map-id, length, get_or, arith, zero, suc, add-zero, zero-add, filter}
+use Rattle.std.proofs.Common.{◌≡◌, ◌∙◌, sym, ap, ap₂, subst, refl, ℕ, ◌+◌, ◌-◌, ◌*◌, ◌^◌, ◌<◌, ◌≤◌, Bool, true, false, cond, List, [], ◌∷◌, ◌++◌, map, map-id, length, get_or, arith, zero, suc, add-zero, zero-add, filter}
 use Rattle.std.specs.List.{range_with_len}
 use Rattle.std.proofs.lemmas.List.{append-nil, map-append, append_assoc}
 use Rattle.std.proofs.lemmas.List.FromFn.{filter_of_map_range_with_len_more}
 use Rattle.khe_base.specs.Bits.{has_bit, is_set, words_for}
-use Rattle.khe_base.specs.IdSet.{has_member, members_of}
+use Rattle.khe_base.specs.IdSet.{members_of}
 use Rattle.khe_base.specs.StoredSets.{members_in, members_below, set_of_bits, IsStored}
 use Rattle.khe_base.proofs.BitsLemmas.{has_bit-zero, is_set-place}
 use Rattle.khe_base.proofs.IdSetLemmas.{length-set_of_bits, has_member-set_of_bits}

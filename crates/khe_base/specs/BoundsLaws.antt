@@ -1,8 +1,8 @@
 -- Laws on how far numbers lie outside bounds.
-use Rattle.std.proofs.Common.{ℕ, zero, suc, ℤ, pos, negsuc, ◌≡◌, ◌+◌, ◌-◌, ◌≤◌, ◌<◌, ◌∙◌, ◌⊎◌, inl, inr, Bool, true, false, cond, nat_lt, refl, sym, ap, arith, lt-ltb, le-ltb}
+use Rattle.std.proofs.Common.{ℕ, zero, suc, pos, negsuc, ◌≡◌, ◌+◌, ◌-◌, ◌≤◌, ◌<◌, ◌∙◌, ◌⊎◌, inl, inr, Bool, true, false, cond, nat_lt, sym, ap, arith, lt-ltb, le-ltb}
 use Rattle.std.specs.Prelude.{◌-ℤ◌, unsigned_abs, if◌then◌else◌}
 use Rattle.std.proofs.lemmas.Bool.{cases_lt}
-use Rattle.khe_base.specs.Bounds.{outside, count_outside}
+use Rattle.khe_base.specs.Bounds.{count_outside}
 
 -- how far a count is above one that is no greater
 apart : (a b : ℕ) → b ≤ a → unsigned_abs (pos a -ℤ pos b) ≡ a - b

@@ -10,11 +10,10 @@ pub mod limits;
 mod memory;
 mod names;
 mod numbers;
+mod results;
 mod sequences;
 mod sharing;
 mod sums;
-#[cfg(test)]
-mod tests;
 mod texts;
 mod units;
 
@@ -24,6 +23,7 @@ pub use id_sets::IdSet;
 pub use memory::NoMemory;
 pub use names::{Names, numbered};
 pub use numbers::{EventId, GroupId, MeetId, MonitorId, ResourceId, TaskId, TimeId};
+pub use results::{beside, both};
 pub use sequences::Seq;
 pub use sharing::lends_to_threads;
 pub use sums::Totals;

@@ -77,8 +77,9 @@ pub const GREATEST_DEVIATION: u64 = TASKS as u64 * NUMBER as u64;
 
 /// The greatest cost of one monitor that the limits allow: the greatest weight times the square of
 /// the greatest deviation, 1.6 * 10^29.
-pub const GREATEST_COST: u128 =
-    WEIGHT as u128 * GREATEST_DEVIATION as u128 * GREATEST_DEVIATION as u128;
+pub const GREATEST_COST: u128 = WEIGHT as u128
+    * GREATEST_DEVIATION as u128
+    * GREATEST_DEVIATION as u128;
 
 /// The greatest hard or soft total that the limits allow, of all monitors or of a group of them:
 /// 1.6 * 10^35.

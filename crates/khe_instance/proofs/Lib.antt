@@ -1,1 +1,13 @@
+pub mod CostsLaws
+pub mod DeviationBounds
+pub mod DutiesLemmas
+pub mod EventBounds
+pub mod MadeLemmas
+pub mod MeetsLemmas
+pub mod ResourceBounds
 pub mod SlotsLemmas
+pub mod SumsLemmas
+pub mod TasksLemmas
+pub mod WatchedLaws
+pub mod WatchingLaws
+pub mod WorkloadLaws

@@ -3,7 +3,7 @@
 use Rattle.std.specs.Prelude.{ℕ, ◌==◌, Bool, List, map}
 use Rattle.std.specs.List.{list_any}
 use Rattle.khe_base.specs.declared.sums.Totals.{Totals}
-use Rattle.khe_instance.specs.Costs.{costs_of, totals_of}
+use Rattle.khe_instance.specs.Costs.{costs_of, monitor_cost, totals_of}
 use Rattle.khe_instance.specs.Deviation.{deviation}
 use Rattle.khe_instance.specs.Running.{duties}
 use Rattle.khe_instance.specs.declared.parts.Parts.{Parts}
@@ -21,6 +21,10 @@ deviations p s = map (deviation_in p s) p.monitors
 -- whether the monitor with this number is detached
 abbrev pub is_detached : Plain → ℕ → Bool
 is_detached s m = list_any (λ d. d.0 == m) s.detached
+
+-- the cost of a monitor with its number
+abbrev pub cost_in : Parts → Plain → ℕ × Monitor → ℕ
+cost_in p s (number, m) = monitor_cost p (is_detached s number) m (deviation_in p s m)
 
 -- the costs of all monitors
 abbrev pub costs : Parts → Plain → List ℕ

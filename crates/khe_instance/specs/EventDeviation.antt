@@ -2,7 +2,7 @@
 -- events. Each is the page of its kind in the XHSTT format, over lists of meets and of tasks with
 -- their meets. A kind at an event is a sum over the event's own meets, and one at a place a sum over
 -- that place's tasks.
-use Rattle.std.specs.Prelude.{ℕ, ◌+◌, ◌-◌, ◌==◌, pos, ◌-ℤ◌, Bool, true, false, not, ◌&&◌, ◌||◌, nat_lt, min, max, if◌then◌else◌, Option, Some, None, is_none, List, [], ◌∷◌, length, count_by}
+use Rattle.std.specs.Prelude.{ℕ, ◌+◌, ◌-◌, ◌==◌, pos, ◌-ℤ◌, Bool, true, false, not, ◌&&◌, ◌||◌, nat_lt, min, max, if◌then◌else◌, Option, Some, None, is_none, List, [], ◌∷◌, count_by}
 use Rattle.std.specs.List.{filter, filter_map, fold, list_any, list_all, sum_by, range_with_len}
 use Rattle.std.specs.Option.{option_map}
 use Rattle.khe_base.specs.Bounds.{outside, count_outside}

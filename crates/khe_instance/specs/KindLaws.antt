@@ -1,6 +1,6 @@
 -- Kinds by their numbers, the rules of a kind, and laws on both.
 use Rattle.std.specs.Prelude.{Option}
-use Rattle.std.proofs.Common.{ℕ, ◌≡◌, ◌==◌, ◌∙◌, Bool, true, false, cond, refl, sym, ap, zero, suc, List, [], ◌∷◌, get_or}
+use Rattle.std.proofs.Common.{ℕ, ◌≡◌, ◌==◌, ◌∙◌, Bool, true, refl, sym, ap, List, [], ◌∷◌, get_or}
 use Rattle.std.proofs.lemmas.Bool.{eqb-true}
 use Rattle.khe_instance.specs.Kinds.{kind_of}
 use Rattle.khe_instance.specs.declared.rules.EventPair.{EventPair}

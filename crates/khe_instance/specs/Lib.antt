@@ -5,11 +5,14 @@ pub mod EventDeviation
 pub mod Examples
 pub mod KindLaws
 pub mod Kinds
+pub mod Laws
 pub mod Lookups
 pub mod Named
 pub mod ResourceDeviation
 pub mod Running
+pub mod SlotTables
 pub mod Slots
 pub mod States
+pub mod WatchedSizes
 pub mod Watching
 pub mod WellMade

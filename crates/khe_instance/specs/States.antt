@@ -1,9 +1,9 @@
 -- Which timetables are states of an instance: what a solver may hold while it works, and what a
 -- timetable is that stands whole.
 use Rattle.std.specs.Prelude.{ℕ, ◌≡◌, ◌+◌, ◌<◌, ◌≤◌, Option, Some, List, [], ◌∷◌, map, length, All, AllPairs, ◌≢◌, IfSome, slice_get}
-use Rattle.std.specs.List.{sum_by, flat_map, range_with_len}
+use Rattle.std.specs.List.{sum_by, flat_map}
 use Rattle.std.specs.List.Sorted.{IsStrictlyIncreasing}
-use Rattle.khe_base.specs.declared.limits.TheConstants.{GROUPS}
+use Rattle.khe_base.specs.declared.limits.TheConstants.{GROUPS, TASKS}
 use Rattle.khe_base.specs.declared.numbers.TaskId.{TaskId}
 use Rattle.khe_instance.specs.Lookups.{place_at, places_at}
 use Rattle.khe_instance.specs.Running.{duties, meets_of}
@@ -44,6 +44,26 @@ pub record IsTold (p : Parts) (ms : List Meet) (ts : List Task) : Type 0 where
   pub durations : (e : ℕ) (event : EventInfo) → slice_get p.events e ≡ Some event → sum_by (λ m. m.duration) (meets_of e ms) ≤ event.duration
   pub tasks : map (λ t. t.task) ts ≡ flat_map (tasks_of p) ms
   pub given : All (IsGiven p) (duties ms ts)
+
+-- the meets are those of a state, and the duties its tasks with their meets
+pub record AreOfState (p : Parts) (ms : List Meet) (ds : List Duty) : Type 0 where
+  pub tasks : List Task
+  pub told : IsTold p ms tasks
+  pub same : ds ≡ duties ms tasks
+
+-- a task with its meet runs within the times, its resource is one of the instance, and its
+-- meet is no longer than the event
+pub record IsDuty (p : Parts) (d : Duty) : Type 0 where
+  pub ends : IfSome d.meet.start (λ s. s.0 + d.meet.duration ≤ length p.times)
+  pub given : IfSome d.resource (λ r. r.0 < length p.resources)
+  pub event : EventInfo
+  pub there : slice_get p.events d.meet.event.0 ≡ Some event
+  pub part : d.meet.duration ≤ event.duration
+
+-- so are all of them, and there are no more than an instance may have
+pub record AreDuties (p : Parts) (ds : List Duty) : Type 0 where
+  pub each : All (IsDuty p) ds
+  pub few : length ds ≤ TASKS
 
 -- the meets of an event last as long as it does, and one with a preassigned time has one meet, which
 -- starts then

@@ -1,17 +1,19 @@
-ghost use Rattle.std.specs.Prelude.{◌≡◌, ◌<◌, ◌≤◌, ◌+◌, ◌++◌, Some, length, slice_get, replicate, IfOk, OnOk};
+ghost use Rattle.std.specs.Prelude.{◌≡◌, ◌<◌, ◌*◌, Some, length, map, slice_get, IfOk};
 ghost use Rattle.std.specs.Option.{option_map};
 ghost use Rattle.std.specs.List.{sum_by};
-ghost use Rattle.khe_base.specs.declared.limits.TheConstants.{EVENTS};
+ghost use Rattle.khe_base.specs.IdSet.{members_of};
 ghost use Rattle.khe_instance.specs.Named.{time_named, resource_named, event_named};
-ghost use Rattle.khe_instance.specs.Slots.{HasSlot, slots_from};
+ghost use Rattle.khe_instance.specs.Slots.{HasSlot, all_tasks, first_task};
 ghost use Rattle.khe_instance.specs.WellMade.{AreWellMade};
 
 use crate::ids::names_of;
-use crate::parts::{EventInfo, Parts};
+use crate::parts::{EventInfo, GroupInfo, Parts};
 use crate::points::Monitor;
 use crate::rules::Constraint;
+use crate::slots::{SlotTable, slot_table};
 use khe_base::{
-    EventId, IdSet, MeetId, MonitorId, Names, NoMemory, ResourceId, Seq, Text, TimeId, numbered,
+    EventId, IdSet, MeetId, MonitorId, Names, NoMemory, ResourceId, Seq, TaskId, Text, TimeId,
+    lends_to_threads, numbered,
 };
 use std::alloc::Global;
 use std::marker::Model;
@@ -22,8 +24,9 @@ use std::marker::Model;
 #[derive(Drop)]
 pub struct Instance {
     parts: Parts,
-    /// The event of each meet slot.
-    slots: Vec<u32>,
+    slots: SlotTable,
+    /// The members of each event group, ascending.
+    members: Seq<Seq<u32>>,
     /// The Ids of the times, resources and events.
     times: Names,
     resources: Names,
@@ -32,7 +35,8 @@ pub struct Instance {
 
 impl Model for Instance {
     ghost use Rattle.khe_instance.specs.declared.parts.Parts.{Parts};
-    ghost use Rattle.khe_instance.specs.Slots.{slots_from};
+    ghost use Rattle.khe_base.specs.IdSet.{members_of};
+    ghost use Rattle.khe_instance.specs.SlotTables.{IsSlotTable};
     ghost use Rattle.khe_instance.specs.WellMade.{AreWellMade};
     ghost use Rattle.std.specs.Prelude.{◌≡◌, map};
 
@@ -40,18 +44,20 @@ impl Model for Instance {
 
     ghost view = { λ i. i.parts };
 
-    ghost invariant = { λ i. AreWellMade i.parts × (i.slots.items ≡ slots_from 0 i.parts.events)
+    ghost invariant = { λ i. AreWellMade i.parts × IsSlotTable i.parts.events i.slots × (i.members ≡ map (λ g. members_of g.events) i.parts.groups)
         × (i.times ≡ i.parts.times) × (i.resources ≡ map (λ r. r.id) i.parts.resources) × (i.events ≡ map (λ e. e.id) i.parts.events) };
 }
 
 impl Instance {
-    /// The instance with these parts. It takes time and memory in proportion to the durations of
-    /// all events and the Ids of all times, resources and events together, on average.
+    /// The instance with these parts. It takes time and memory in proportion to the meet slots and
+    /// the tasks of all events, the members of the event groups, and the Ids of all times, resources
+    /// and events together, on average, and to a 64th of the events for each event group.
     pub fn new(alloc: Global, parts: Parts) -> Result<Instance, NoMemory>
         requires { AreWellMade parts }
         ensures { IfOk result (λ i. i ≡ parts) }
     {
-        let slots = slots_of(alloc, parts.events.as_slice())?;
+        let slots = slot_table(alloc, parts.events.as_slice())?;
+        let members = members_by_group(alloc, parts.groups.as_slice())?;
         let Some(times) = numbered(alloc, parts.times.as_slice())? else {
             unreachable!()
         };
@@ -60,6 +66,7 @@ impl Instance {
         Ok(Instance {
             parts,
             slots,
+            members,
             times,
             resources,
             events,
@@ -115,6 +122,13 @@ impl Instance {
         self.parts.groups.len() as u32
     }
 
+    /// How many constraints there are.
+    pub fn constraints(&self) -> u32
+        ensures { result ≡ length self.now.constraints }
+    {
+        self.parts.constraints.len() as u32
+    }
+
     /// How many monitors there are.
     pub fn monitors(&self) -> u32
         ensures { result ≡ length self.now.monitors }
@@ -142,8 +156,39 @@ impl Instance {
         requires { meet.0 < sum_by (λ e. e.duration) self.now.events }
         ensures { HasSlot self.now.events result.0 meet.0 }
     {
-        let slots = self.slots.as_slice();
-        EventId(slots[meet.0 as usize])
+        EventId(self.slots.event_of(meet))
+    }
+
+    /// How many meet slots there are: the sum of the durations of the events.
+    pub fn meet_slots(&self) -> u32
+        ensures { result ≡ sum_by (λ e. e.duration) self.now.events }
+    {
+        self.slots.meet_slots()
+    }
+
+    /// How many task slots there are: for each event its duration times its places.
+    pub fn task_slots(&self) -> u32
+        ensures { result ≡ sum_by (λ e. e.duration * length e.places) self.now.events }
+    {
+        self.slots.task_slots()
+    }
+
+    /// The number of the first task of a meet slot. Task slots are numbered by meet slot and then
+    /// place, so the tasks of a meet slot have this number and those that follow it, one for each
+    /// place of its event.
+    pub fn first_task(&self, meet: MeetId) -> u32
+        requires { meet.0 < sum_by (λ e. e.duration) self.now.events }
+        ensures { result ≡ first_task self.now.events meet.0 }
+    {
+        self.slots.first_task(meet)
+    }
+
+    /// The task with this number.
+    pub fn task(&self, number: u32) -> TaskId
+        requires { number < sum_by (λ e. e.duration * length e.places) self.now.events }
+        ensures { slice_get (all_tasks self.now.events) number ≡ Some result }
+    {
+        self.slots.task(number)
     }
 
     /// The constraint with this number.
@@ -176,6 +221,14 @@ impl Instance {
         ensures { option_map (λ g. g.events) (slice_get self.now.groups group) ≡ Some result.now }
     {
         &self.parts.groups.as_slice()[group as usize].events
+    }
+
+    /// The numbers of the events of an event group, ascending.
+    pub fn members(&self, group: u32) -> &[u32]
+        requires { group < length self.now.groups }
+        ensures { option_map (λ g. members_of g.events) (slice_get self.now.groups group) ≡ Some result.now }
+    {
+        self.members.as_slice()[group as usize].as_slice()
     }
 
     /// The time with this Id, or `None` where no time has it. It takes the time of a hash of the
@@ -230,24 +283,22 @@ impl Instance {
     }
 }
 
-/// The event of each meet slot, in order.
-fn slots_of(alloc: Global, events: &[EventInfo]) -> Result<Vec<u32>, NoMemory>
-    requires { length events.now ≤ EVENTS }
-    ensures { IfOk result (λ slots. slots.items ≡ slots_from 0 events.now) }
+/// The members of each event group, in time and memory of the members and of a 64th of the sizes of
+/// the sets.
+fn members_by_group(alloc: Global, groups: &[GroupInfo]) -> Result<Seq<Seq<u32>>, NoMemory>
+    ensures { IfOk result (λ lists. lists ≡ map (λ g. members_of g.events) groups.now) }
 {
-    let mut slots = Vec::new(alloc);
-    for (number, event) in events.iter().enumerate() {
-        push_slots(&mut slots, number as u32, event.duration)?;
+    let mut lists = Seq::new(alloc);
+    for group in groups {
+        lists.push(group.events.members(alloc)?)?;
     }
-    Ok(slots)
+    Ok(lists)
 }
 
-/// Adds so many slots of the event with this number.
-fn push_slots(slots: &mut Vec<u32>, event: u32, count: u32) -> Result<(), NoMemory>
-    ensures { OnOk result (slots.new.items ≡ slots.old.items ++ replicate count event) }
-{
-    for _ in 0..count {
-        slots.push(event)?;
-    }
-    Ok(())
+// Workers read an instance and timetables of it together: the types show it, and no program calls
+// this.
+#[allow(dead_code)]
+fn are_shared(instance: &Instance, plain: &crate::states::Plain) {
+    lends_to_threads(instance);
+    lends_to_threads(plain);
 }

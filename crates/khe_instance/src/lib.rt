@@ -5,9 +5,11 @@
 mod examples;
 mod ids;
 mod instances;
+mod laws;
 mod parts;
 mod points;
 mod rules;
+mod slots;
 mod states;
 
 pub use instances::Instance;

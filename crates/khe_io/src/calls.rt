@@ -8,7 +8,7 @@ use khe_base::Seq;
 
 /// The calls of a device in memory: which of them fail, how many were made, and how many faults
 /// were counted. The calls are numbered from 1; both counts stop at the greatest value.
-#[derive(Debug, Drop)]
+#[derive(Drop)]
 pub(crate) struct Calls {
     failing: Seq<u64>,
     made: u64,

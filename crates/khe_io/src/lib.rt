@@ -26,6 +26,3 @@ pub use shelves::Shelf;
 pub use sinks::Sink;
 pub use std_sink::StdSink;
 pub use texts::{TakeFault, put_all, take_all};
-
-#[cfg(test)]
-mod tests;

@@ -9,7 +9,7 @@ use khe_base::Seq;
 
 /// A shelf of files in memory, which gives at most so many bytes in a read and fails at the calls
 /// that it is told to fail at. It tells everything.
-#[derive(Debug, Drop)]
+#[derive(Drop)]
 pub struct MemoryShelf {
     files: Seq<Named>,
     piece: u32,

@@ -7,7 +7,7 @@ use std::alloc::Global;
 
 /// A sink that keeps what it takes in memory. It takes at most so many bytes in all and so many in
 /// a write, and fails at the calls that it is told to fail at. It tells everything.
-#[derive(Debug, Drop)]
+#[derive(Drop)]
 pub struct MemorySink {
     taken: Seq<u8>,
     room: usize,

@@ -5,14 +5,14 @@ ghost use Rattle.std.specs.Prelude.{◌≡◌, ◌-◌, ◌<◌, ◌≤◌, ◌�
 use khe_base::{Seq, Text};
 
 /// Bytes under a name.
-#[derive(Debug, Drop)]
+#[derive(Drop)]
 pub struct Named {
     pub name: Text,
     pub bytes: Seq<u8>,
 }
 
 /// A place in one of several files: the file's number, and how many of its bytes stand before it.
-#[derive(Clone, Copy, Debug, PartialEq, Eq)]
+#[derive(Clone, Copy)]
 pub(crate) struct Place {
     pub(crate) file: usize,
     pub(crate) from: usize,

@@ -1,6 +1,12 @@
 pub mod ApartLaws
 pub mod DutyLaws
+pub mod FillingLaws
+pub mod FrameLaws
+pub mod ListingLaws
 pub mod OpeningLaws
+pub mod PlainLaws
+pub mod PuttingLaws
 pub mod SlotLaws
 pub mod StoredLaws
+pub mod ValidLaws
 pub mod WatcherLaws

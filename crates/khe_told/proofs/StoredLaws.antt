@@ -62,7 +62,7 @@ row_seen s rs xs given k (Some r) view eq at =
     let e = slot_seen s rs xs given k (Some r) view eq at in
     (ap (λ (x : Slot). x.meet.0) e, ap (λ (x : Slot). x.event) e, ap (λ (x : Slot). x.span) e)
 
-same : {A : Type 0} (a b : A) → Some a ≡ Some b → a ≡ b
+pub same : {A : Type 0} (a b : A) → Some a ≡ Some b → a ≡ b
 same a b h = ap (λ o. option_map_or (λ z. z) o a) h
 
 none_there : {A : Type 0} (k : ℕ) (a : A) → slice_get [] k ≡ Some a → ⊥

@@ -5,7 +5,7 @@ use Rattle.khe_instance.specs.WellMade.{HasType}
 use Rattle.khe_instance.specs.declared.parts.EventInfo.{EventInfo}
 use Rattle.khe_instance.specs.declared.parts.Parts.{Parts}
 use Rattle.khe_instance.specs.declared.parts.Place.{Place}
-use Rattle.khe_told.specs.Slots.{emptied, held, no_meets, slot_at}
+use Rattle.khe_told.specs.Slots.{IsBareIfFree, emptied, held, no_meets, slot_at}
 use Rattle.khe_told.specs.Changes.{after, meet_of}
 use Rattle.khe_told.specs.declared.slots.Slot.{Slot}
 use Rattle.khe_told.specs.declared.slots.Span.{Span}
@@ -19,7 +19,7 @@ pub record IsSlot (p : Parts) (x : Slot) : Type 0 where
   pub ends : IfSome x.span (λ y. IfSome y.start (λ t. t.0 + y.duration ≤ length p.times))
   pub given : (e : EventInfo) (k : ℕ) (place : Place) (r : ResourceId) → slice_get p.events x.event.0 ≡ Some e → slice_get e.places k ≡ Some place
       → slice_get x.given k ≡ Some (Some r) → HasType p place.rtype r
-  pub empty : x.span ≡ None → x.given ≡ replicate (length x.given) None
+  pub empty : IsBareIfFree x
 
 -- a told state of an instance: its slots are the instance's, and the meets of an event last no longer
 -- together than the event does

@@ -1,8 +1,10 @@
 pub mod Agreement
 pub mod Changes
+pub mod Filled
 pub mod Fits
 pub mod Lists
 pub mod Refusals
 pub mod Slots
 pub mod Stored
+pub mod Valid
 pub mod Watchers

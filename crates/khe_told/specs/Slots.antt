@@ -1,10 +1,13 @@
 -- The told state: a list of slots, one for each meet slot of the instance, in order.
-use Rattle.std.specs.Prelude.{ℕ, ◌+◌, ◌==◌, if◌then◌else◌, None, List, [], ◌∷◌, ◌++◌, map, length, replicate, slice_index_or}
+use Rattle.std.specs.Prelude.{ℕ, ◌≡◌, ◌+◌, ◌==◌, Bool, if◌then◌else◌, Option, None, is_some, List, [], ◌∷◌, ◌++◌, map, length, replicate, slice_index_or}
 use Rattle.std.specs.List.{sum_by, range_with_len}
-use Rattle.std.specs.Option.{option_map_or}
+use Rattle.std.specs.Option.{option_and_then, option_map_or}
+use Rattle.khe_base.specs.declared.numbers.ResourceId.{ResourceId}
+use Rattle.khe_base.specs.declared.numbers.TimeId.{TimeId}
 use Rattle.khe_instance.specs.declared.parts.EventInfo.{EventInfo}
 use Rattle.khe_instance.specs.declared.parts.Parts.{Parts}
 use Rattle.khe_told.specs.declared.slots.Slot.{Slot}
+use Rattle.khe_told.specs.declared.slots.Span.{Span}
 
 -- a free slot of an event, by its number, the event's number and the event
 abbrev pub empty_slot : ℕ → ℕ → EventInfo → Slot
@@ -34,6 +37,20 @@ no_slot = record { meet = record { 0 = 0 }; event = record { 0 = 0 }; span = Non
 -- the slot with this number
 abbrev pub slot_at : List Slot → ℕ → Slot
 slot_at s m = slice_index_or s m no_slot
+
+-- whether a slot has a meet, the meet's start, and what a place is given in it
+abbrev pub is_live : Slot → Bool
+is_live x = is_some x.span
+
+abbrev pub start_of : Slot → Option TimeId
+start_of x = option_and_then (λ (y : Span). y.start) x.span
+
+abbrev pub given_at : Slot → ℕ → Option ResourceId
+given_at x k = slice_index_or x.given k None
+
+-- a slot without a meet has nothing given
+abbrev pub IsBareIfFree : Slot → Type 0
+IsBareIfFree x = x.span ≡ None → x.given ≡ replicate (length x.given) None
 
 -- the duration of a slot's meet, and 0 where it has none
 abbrev pub length_of : Slot → ℕ

@@ -7,6 +7,8 @@ mod both;
 mod changes;
 mod edits;
 mod families;
+mod filling;
+mod laws;
 mod opening;
 mod refusals;
 mod rows;

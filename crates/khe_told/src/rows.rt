@@ -9,7 +9,7 @@ use crate::slots::Span;
 use khe_base::{EventId, MeetId, ResourceId};
 
 /// A meet slot as it is stored. What its places are given stands in a list of all task slots.
-#[derive(Clone, Copy, Debug)]
+#[derive(Clone, Copy)]
 pub(crate) struct Row {
     pub(crate) event: EventId,
     /// The number of its first task slot.

@@ -11,7 +11,7 @@ pub struct Span {
 /// A meet slot of an event: its live meet, where it has one, and what each place of the event is
 /// given in that meet. A told state is a list of these, one for each meet slot of the instance;
 /// contracts alone see slots, and no value of this type is kept in memory.
-#[derive(Debug, Drop)]
+#[derive(Drop)]
 pub struct Slot {
     pub meet: MeetId,
     pub event: EventId,

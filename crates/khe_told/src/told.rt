@@ -1,16 +1,18 @@
 ghost use Rattle.std.specs.Prelude.{◌≡◌, ◌<◌, ◌≤◌, length, slice_get, IfOk, MatchOption, Some};
+ghost use Rattle.khe_instance.specs.States.{IsTold};
 ghost use Rattle.khe_told.specs.Slots.{no_meets, no_slot, slot_at};
-ghost use Rattle.khe_told.specs.Lists.{meet_in};
+ghost use Rattle.khe_told.specs.Lists.{meet_in, meets_in, tasks_in};
 ghost use Rattle.khe_told.specs.Changes.{after};
-ghost use Rattle.khe_told.specs.Fits.{Fits};
+ghost use Rattle.khe_told.specs.Fits.{AreTold, Fits};
 ghost use Rattle.khe_told.specs.Stored.{IsRowOf};
 
 use crate::changes::Change;
+use crate::filling::put_all;
 use crate::opening::{no_tasks, rows_of};
 use crate::rows::{Row, row_at, turn};
 use crate::slots::Span;
 use khe_base::{EventId, MeetId, NoMemory, ResourceId, TaskId};
-use khe_instance::{Instance, Meet};
+use khe_instance::{Instance, Meet, Plain};
 use std::alloc::Global;
 use std::marker::Model;
 
@@ -18,7 +20,7 @@ use std::marker::Model;
 ///
 /// It keeps one row for each meet slot and one entry for each task slot, a few bytes each. No call
 /// but `open` takes memory, and each takes constant time.
-#[derive(Debug, Drop)]
+#[derive(Drop)]
 pub struct Told {
     rows: Vec<Row>,
     /// What each task slot is given.
@@ -42,9 +44,23 @@ impl Told {
     pub fn open(alloc: Global, inst: &Instance) -> Result<Told, NoMemory>
         ensures { IfOk result (λ t. t ≡ no_meets inst.now) }
     {
-        let (rows, tasks) = rows_of(alloc, inst)?;
-        let given = no_tasks(alloc, tasks)?;
+        let rows = rows_of(alloc, inst)?;
+        let given = no_tasks(alloc, inst.task_slots())?;
         Ok(Told { rows, given })
+    }
+
+    /// The meets and tasks of a state. It takes time and memory in proportion to the meet slots and
+    /// the task slots.
+    pub fn from_plain(alloc: Global, inst: &Instance, plain: &Plain) -> Result<Told, NoMemory>
+        requires { IsTold inst.now plain.now.meets plain.now.tasks }
+        ensures told { IfOk result (λ t. AreTold inst.now t) }
+        ensures meets { IfOk result (λ t. meets_in t ≡ plain.now.meets) }
+        ensures tasks { IfOk result (λ t. tasks_in t ≡ plain.now.tasks) }
+    {
+        inst.facts();
+        let mut told = Told::open(alloc, inst)?;
+        put_all(inst, &mut told.rows, &mut told.given, plain);
+        Ok(told)
     }
 
     /// How many meet slots there are.

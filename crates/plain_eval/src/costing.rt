@@ -1,49 +1,57 @@
-ghost use Rattle.std.specs.Prelude.{◌≡◌, ◌≤◌, ◌+◌, ◌^◌, ◌<◌, if◌then◌else◌, All, IfOk, ℕ, Some, length, slice_get};
+ghost use Rattle.std.specs.Prelude.{◌≡◌, ◌≤◌, ◌+◌, ◌^◌, ◌<◌, if◌then◌else◌, All, IfOk, ℕ, length};
 ghost use Rattle.khe_base.specs.IdSet.{has_member};
-ghost use Rattle.khe_base.specs.declared.limits.TheConstants.{GREATEST_COST, GREATEST_DEVIATION};
-ghost use Rattle.khe_instance.specs.Costs.{monitor_cost, is_hard};
+ghost use Rattle.khe_base.specs.declared.limits.TheConstants.{GREATEST_COST, GREATEST_DEVIATION, GREATEST_TOTAL};
+ghost use Rattle.khe_instance.specs.Costs.{monitor_cost, is_hard, totals_of};
 ghost use Rattle.khe_instance.specs.Evaluated as evaluated;
 ghost use Rattle.khe_instance.specs.States.{IsValid};
 ghost use Rattle.khe_instance.specs.WellMade.{IsMonitor};
-ghost use Rattle.khe_instance.specs.declared.points.Monitor.{Monitor};
 
-use khe_base::{IdSet, MonitorId, NoMemory, Totals, cost};
+use khe_base::{IdSet, MonitorId, NoMemory, Seq, Totals, cost};
 use khe_instance::{Instance, Monitor, Plain};
 use std::alloc::Global;
 
-/// What monitors cost, and the totals of these costs.
-#[derive(Drop)]
-pub(crate) struct Costed {
-    pub costs: Vec<u128>,
-    pub totals: Totals,
-}
-
-/// What the monitors cost by their deviations, and the totals. It takes time and memory in
-/// proportion to the monitors.
-pub(crate) fn costs_and_totals(
+/// What the monitors cost by their deviations. It takes time and memory in proportion to the
+/// monitors.
+pub(crate) fn costs_of(
     alloc: Global,
     inst: &Instance,
     plain: &Plain,
     deviations: &[u64],
-) -> Result<Costed, NoMemory>
+) -> Result<Seq<u128>, NoMemory>
     requires state { IsValid inst.now plain.now }
     requires deviations { deviations.now ≡ evaluated.deviations inst.now plain.now }
     requires small { All (λ d. d ≤ GREATEST_DEVIATION) deviations.now }
-    ensures costs { IfOk result (λ c. c.costs.items ≡ evaluated.costs inst.now plain.now) }
-    ensures totals { IfOk result (λ c. c.totals ≡ evaluated.totals inst.now plain.now) }
+    ensures costs { IfOk result (λ costs. costs ≡ evaluated.costs inst.now plain.now) }
+    ensures small { IfOk result (λ costs. All (λ c. c ≤ GREATEST_COST) costs) }
 {
     inst.facts();
     let detached = detached(alloc, inst, plain)?;
-    let mut costs = Vec::new(alloc);
-    let mut totals = Totals { hard: 0, soft: 0 };
+    let mut costs = Seq::new(alloc);
     for (number, deviation) in deviations.iter().enumerate() {
         let number = number as u32;
         let monitor = inst.monitor(MonitorId(number));
-        let charge = charged(inst, monitor, detached.has(number), *deviation);
-        costs.push(charge.cost)?;
-        totals = with_charge(totals, charge);
+        let cost = cost_at(inst, monitor, detached.has(number), *deviation);
+        costs.push(cost)?;
     }
-    Ok(Costed { costs, totals })
+    Ok(costs)
+}
+
+/// The totals of the costs of all monitors. It takes time in proportion to the monitors, and no
+/// memory.
+pub(crate) fn totals_of(inst: &Instance, costs: &[u128]) -> Totals
+    requires all { length costs.now ≡ length inst.now.monitors }
+    requires small { All (λ c. c ≤ GREATEST_COST) costs.now }
+    ensures exact { result ≡ totals_of inst.now costs.now }
+    ensures hard { result.hard ≤ GREATEST_TOTAL }
+    ensures soft { result.soft ≤ GREATEST_TOTAL }
+{
+    inst.facts();
+    let mut totals = Totals { hard: 0, soft: 0 };
+    for (number, cost) in costs.iter().enumerate() {
+        let monitor = inst.monitor(MonitorId(number as u32));
+        totals = with_cost(totals, *cost, is_hard(inst, monitor));
+    }
+    totals
 }
 
 /// The set of the detached monitors.
@@ -58,28 +66,7 @@ fn detached(alloc: Global, inst: &Instance, plain: &Plain) -> Result<IdSet, NoMe
     Ok(detached)
 }
 
-/// The cost of a monitor, and whether it is hard.
-#[derive(Clone, Copy)]
-struct Charge {
-    cost: u128,
-    hard: bool,
-}
-
-/// What a monitor costs by its deviation: nothing where it is detached.
-fn charged(inst: &Instance, monitor: Monitor, detached: bool, deviation: u64) -> Charge
-    requires monitor { IsMonitor inst.now monitor }
-    requires deviation { deviation ≤ GREATEST_DEVIATION }
-    ensures cost { result.cost ≡ monitor_cost inst.now detached monitor deviation }
-    ensures hard { result.hard ≡ is_hard inst.now monitor }
-    ensures small { result.cost ≤ GREATEST_COST }
-{
-    Charge {
-        cost: cost_at(inst, monitor, detached, deviation),
-        hard: is_hard(inst, monitor),
-    }
-}
-
-/// The cost of a monitor by its deviation.
+/// The cost of a monitor by its deviation: nothing where it is detached.
 fn cost_at(inst: &Instance, monitor: Monitor, detached: bool, deviation: u64) -> u128
     requires monitor { IsMonitor inst.now monitor }
     requires deviation { deviation ≤ GREATEST_DEVIATION }
@@ -103,21 +90,21 @@ fn is_hard(inst: &Instance, monitor: Monitor) -> bool
 }
 
 /// The totals with one more cost.
-fn with_charge(totals: Totals, charge: Charge) -> Totals
-    requires hard { totals.hard + charge.cost < 2 ^ 128 }
-    requires soft { totals.soft + charge.cost < 2 ^ 128 }
-    ensures hard { result.hard ≡ totals.hard + (if charge.hard then charge.cost else 0) }
-    ensures soft { result.soft ≡ totals.soft + (if charge.hard then 0 else charge.cost) }
+fn with_cost(totals: Totals, cost: u128, hard: bool) -> Totals
+    requires hard { totals.hard + cost < 2 ^ 128 }
+    requires soft { totals.soft + cost < 2 ^ 128 }
+    ensures hard { result.hard ≡ totals.hard + (if hard then cost else 0) }
+    ensures soft { result.soft ≡ totals.soft + (if hard then 0 else cost) }
 {
-    if charge.hard {
+    if hard {
         Totals {
-            hard: totals.hard + charge.cost,
+            hard: totals.hard + cost,
             soft: totals.soft,
         }
     } else {
         Totals {
             hard: totals.hard,
-            soft: totals.soft + charge.cost,
+            soft: totals.soft + cost,
         }
     }
 }

@@ -1,23 +1,84 @@
-ghost use Rattle.std.specs.Prelude.{◌≡◌, IfOk};
+ghost use Rattle.std.specs.Prelude.{◌≡◌, ◌≤◌, All, IfOk};
+ghost use Rattle.khe_base.specs.declared.limits.TheConstants.{GREATEST_COST, GREATEST_DEVIATION, GREATEST_TOTAL};
 ghost use Rattle.khe_instance.specs.Evaluated as evaluated;
 ghost use Rattle.khe_instance.specs.States.{IsValid};
 
-use crate::costing::{Costed, costs_and_totals};
+use crate::costing::{costs_of, totals_of};
 use crate::measuring::deviations_of;
-use khe_base::{NoMemory, Seq, Totals};
+use event_deviations::EventRoom;
+use khe_base::{NoMemory, Seq, Totals, lends_to_threads};
 use khe_instance::{Instance, Plain};
+use resource_deviations::ResourceRoom;
 use std::alloc::Global;
+use std::marker::Model;
 
 /// What a timetable costs.
-#[derive(Debug, Drop)]
+#[derive(Drop)]
 pub struct Values {
     /// The deviation of each monitor, in the order of their numbers, at most
     /// `khe_base::limits::GREATEST_DEVIATION`.
     pub deviations: Seq<u64>,
-    /// What each monitor costs: 0 where it is detached.
+    /// What each monitor costs, at most `khe_base::limits::GREATEST_COST`, and 0 where it is
+    /// detached.
     pub costs: Seq<u128>,
-    /// The sum of the costs of required constraints, and that of all others.
+    /// The sum of the costs of required constraints, and that of all others, each at most
+    /// `khe_base::limits::GREATEST_TOTAL`.
     pub totals: Totals,
+}
+
+/// Evaluates timetables of one instance, one after another: what depends on the instance alone is
+/// made once. Contracts see the instance's parts.
+#[derive(Drop)]
+pub struct Evaluator<'a> {
+    inst: &'a Instance,
+    events: EventRoom,
+    resources: ResourceRoom,
+}
+
+impl<'a> Model for Evaluator<'a> {
+    ghost use Rattle.std.specs.Prelude.{◌≡◌};
+    ghost use Rattle.event_deviations.specs.Rooms.{room_for as event_room};
+    ghost use Rattle.khe_instance.specs.declared.parts.Parts.{Parts};
+    ghost use Rattle.resource_deviations.specs.Sets.{room_for as resource_room};
+
+    ghost Value = { Parts };
+
+    ghost view = { λ e. e.inst.now };
+
+    ghost invariant = { λ e. (e.events ≡ event_room e.inst.now) × (e.resources ≡ resource_room e.inst.now) };
+}
+
+impl<'a> Evaluator<'a> {
+    /// An evaluator of timetables of an instance. It takes time and memory in proportion to the
+    /// resources, the times, and a bit of each time of each time group that a constraint lists for
+    /// resources.
+    pub fn open(alloc: Global, inst: &'a Instance) -> Result<Evaluator<'a>, NoMemory>
+        ensures { IfOk result (λ e. e ≡ inst.now) }
+    {
+        let events = EventRoom::open(alloc, inst)?;
+        let resources = ResourceRoom::open(alloc, inst)?;
+        Ok(Evaluator {
+            inst,
+            events,
+            resources,
+        })
+    }
+
+    /// What a valid timetable of the instance costs, as `evaluate` says it. It takes the time and
+    /// memory of that call, but for what was made once.
+    pub fn evaluate(&mut self, alloc: Global, plain: &Plain) -> Result<Values, NoMemory>
+        requires { IsValid self.old plain.now }
+        ensures same { self.new ≡ self.old }
+        ensures deviations { IfOk result (λ v. v.deviations ≡ evaluated.deviations self.old plain.now) }
+        ensures costs { IfOk result (λ v. v.costs ≡ evaluated.costs self.old plain.now) }
+        ensures totals { IfOk result (λ v. v.totals ≡ evaluated.totals self.old plain.now) }
+        ensures small_deviations { IfOk result (λ v. All (λ d. d ≤ GREATEST_DEVIATION) v.deviations) }
+        ensures small_costs { IfOk result (λ v. All (λ c. c ≤ GREATEST_COST) v.costs) }
+        ensures small_totals { IfOk result (λ v. (v.totals.hard ≤ GREATEST_TOTAL) × (v.totals.soft ≤ GREATEST_TOTAL)) }
+    {
+        let deviations = deviations_of(alloc, self.inst, plain, &mut self.events, &self.resources)?;
+        valued(alloc, self.inst, plain, deviations)
+    }
 }
 
 /// What a valid timetable of an instance costs. The deviations are those of the definitions of the
@@ -26,9 +87,8 @@ pub struct Values {
 ///
 /// The only error is want of memory. It takes time about in proportion to the meets, the tasks, the
 /// times that they cover, the watches of the monitors, and resources times times; and memory in
-/// proportion to the meets, the tasks, the monitors, the members of the event groups, and resources
-/// times times. The members are listed anew, which takes time in proportion to them and to a 64th of
-/// the events for each event group.
+/// proportion to the meets, the tasks, the monitors, and resources times times. Who evaluates many
+/// timetables of an instance opens an `Evaluator`.
 ///
 /// The sources are the pages of the constraints and of the cost functions of the XHSTT format.
 pub fn evaluate(alloc: Global, inst: &Instance, plain: &Plain) -> Result<Values, NoMemory>
@@ -36,18 +96,40 @@ pub fn evaluate(alloc: Global, inst: &Instance, plain: &Plain) -> Result<Values,
     ensures deviations { IfOk result (λ v. v.deviations ≡ evaluated.deviations inst.now plain.now) }
     ensures costs { IfOk result (λ v. v.costs ≡ evaluated.costs inst.now plain.now) }
     ensures totals { IfOk result (λ v. v.totals ≡ evaluated.totals inst.now plain.now) }
+    ensures small_deviations { IfOk result (λ v. All (λ d. d ≤ GREATEST_DEVIATION) v.deviations) }
+    ensures small_costs { IfOk result (λ v. All (λ c. c ≤ GREATEST_COST) v.costs) }
+    ensures small_totals { IfOk result (λ v. (v.totals.hard ≤ GREATEST_TOTAL) × (v.totals.soft ≤ GREATEST_TOTAL)) }
 {
-    let deviations = deviations_of(alloc, inst, plain)?;
-    let Costed { costs, totals } = costs_and_totals(alloc, inst, plain, deviations.as_slice())?;
+    let mut evaluator = Evaluator::open(alloc, inst)?;
+    evaluator.evaluate(alloc, plain)
+}
+
+/// The values of a timetable by its deviations.
+fn valued(
+    alloc: Global,
+    inst: &Instance,
+    plain: &Plain,
+    deviations: Seq<u64>,
+) -> Result<Values, NoMemory>
+    requires state { IsValid inst.now plain.now }
+    requires deviations { deviations ≡ evaluated.deviations inst.now plain.now }
+    requires small { All (λ d. d ≤ GREATEST_DEVIATION) deviations }
+    ensures deviations { IfOk result (λ v. v.deviations ≡ deviations) }
+    ensures costs { IfOk result (λ v. v.costs ≡ evaluated.costs inst.now plain.now) }
+    ensures totals { IfOk result (λ v. v.totals ≡ evaluated.totals inst.now plain.now) }
+    ensures small_costs { IfOk result (λ v. All (λ c. c ≤ GREATEST_COST) v.costs) }
+    ensures small_totals { IfOk result (λ v. (v.totals.hard ≤ GREATEST_TOTAL) × (v.totals.soft ≤ GREATEST_TOTAL)) }
+{
+    let measured = deviations.as_slice();
+    let costs = costs_of(alloc, inst, plain, measured)?;
+    let paid = costs.as_slice();
+    let totals = totals_of(inst, paid);
     Ok(Values {
         deviations,
-        costs: Seq { items: costs },
+        costs,
         totals,
     })
 }
-
-// Threads may be handed such a value, and read it together.
-fn lends_to_threads<T: Send + Sync>(_value: &T) {}
 
 // Workers share what a timetable costs: the types show it, and no program calls this.
 #[allow(dead_code)]

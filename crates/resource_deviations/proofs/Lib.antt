@@ -1,9 +1,2 @@
-pub mod BoundsLemmas
-pub mod DutyLemmas
 pub mod FilledLemmas
-pub mod IdleLemmas
-pub mod LoneLemmas
-pub mod SumsLemmas
 pub mod TableLemmas
-pub mod TasksLemmas
-pub mod ValueLemmas

@@ -1,16 +1,11 @@
 -- What is added up of the tasks of each resource.
 use Rattle.std.specs.Prelude.{ℕ, ◌≡◌, ◌+◌, ◌*◌, ◌<◌, ◌≤◌, if◌then◌else◌, ◌&&◌, List, length, slice_index}
-use Rattle.std.specs.List.{filter, sum_by}
 use Rattle.khe_base.specs.declared.limits.TheConstants.{NUMBER, TASKS}
-use Rattle.khe_instance.specs.ResourceDeviation.{workload_of}
+use Rattle.khe_instance.specs.ResourceDeviation.{workload_of, workload_in}
 use Rattle.khe_instance.specs.Running.{is_resource, runs, running_tasks}
 use Rattle.khe_instance.specs.declared.parts.Parts.{Parts}
 use Rattle.khe_instance.specs.declared.states.Duty.{Duty}
 use Rattle.timetables.specs.Counts.{row_of, count_at}
-
--- what the tasks of a resource are worth together, in parts of one over the unit
-abbrev pub workload_in : Parts → List Duty → ℕ → ℕ
-workload_in p ds r = sum_by (workload_of p.events p.unit) (filter (λ d. is_resource r d.resource) ds)
 
 -- a row of counts for each resource, with a count for each time
 pub record HasRows (p : Parts) (rows : List (List ℕ)) : Type 0 where
@@ -23,7 +18,7 @@ pub record IsFilled (p : Parts) (ds : List Duty) (rows : List (List ℕ)) (sums 
   pub sums_of_all : length sums ≡ length p.resources
   pub few : length ds ≤ TASKS
   pub counts : (r t : ℕ) → count_at rows r t ≡ running_tasks ds r t
-  pub workloads : (r : ℕ) → slice_index sums r ≡ workload_in p ds r
+  pub workloads : (r : ℕ) → slice_index sums r ≡ workload_in p.events p.unit ds r
   pub small : (r : ℕ) → slice_index sums r ≤ length ds * (NUMBER * p.unit)
 
 -- one more task is in the counts, and in the workloads

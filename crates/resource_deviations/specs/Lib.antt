@@ -1,4 +1,2 @@
 pub mod Filled
-pub mod Lone
 pub mod Sets
-pub mod Tasks

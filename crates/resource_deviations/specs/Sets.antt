@@ -1,6 +1,5 @@
 -- Monitors at resources, and the sets of times that a rule names for a resource.
-use Rattle.std.specs.Prelude.{ℕ, Bool, true, false, List, [], ◌∷◌, slice_get}
-use Rattle.std.specs.Option.{option_map_or}
+use Rattle.std.specs.Prelude.{Bool, true, false, List, [], ◌∷◌, map}
 use Rattle.khe_instance.specs.declared.parts.Parts.{Parts}
 use Rattle.khe_instance.specs.declared.points.Point.{Point}
 use Rattle.khe_instance.specs.declared.points.Point.TheVariants.{Resource}
@@ -15,9 +14,9 @@ sets_of (ClusterBusyTimes groups least greatest) = groups
 sets_of (LimitBusyTimes groups least greatest) = groups
 sets_of _ = []
 
--- those of a constraint by its number
-abbrev pub sets_at : Parts → ℕ → List (List Bool)
-sets_at p constraint = option_map_or (λ c. sets_of c.rule) (slice_get p.constraints constraint) []
+-- those of each constraint of an instance
+abbrev pub room_for : Parts → List (List (List Bool))
+room_for p = map (λ c. sets_of c.rule) p.constraints
 
 -- whether a monitor is at a resource
 abbrev pub is_at_resource : Point → Bool

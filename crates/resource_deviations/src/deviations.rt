@@ -1,10 +1,10 @@
 ghost use Rattle.resource_deviations.specs.Filled.{IsFilled};
 
 use crate::filling::{add_counts, add_workload, no_workloads};
-use crate::masks::TimeMasks;
 use crate::measures::{
     busy_outside, busy_sets_outside, busy_total, clashes, idle_outside, workload_outside,
 };
+use crate::rooms::ResourceRoom;
 use khe_base::{NoMemory, ResourceId};
 use khe_instance::{Duty, Instance, Monitor, Point, Rule};
 use std::alloc::Global;
@@ -25,13 +25,14 @@ pub struct ResourceDeviations<'a> {
 }
 
 impl<'a> ResourceDeviations<'a> {
-    ghost use Rattle.std.specs.Prelude.{◌≡◌, ◌<◌, ◌≤◌, IfOk, IsTrue, List, length};
+    ghost use Rattle.std.specs.Prelude.{◌≡◌, ◌<◌, ◌≤◌, IfOk, IsTrue, List, length, slice_index};
     ghost use Rattle.khe_base.specs.declared.limits.TheConstants.{GREATEST_DEVIATION};
-    ghost use Rattle.khe_instance.specs.Deviation.{deviation, resource_deviation};
+    ghost use Rattle.khe_instance.specs.Deviation.{deviation, measured};
+    ghost use Rattle.khe_instance.specs.States.{AreOfState};
     ghost use Rattle.khe_instance.specs.WellMade.{IsMonitor, IsRule};
     ghost use Rattle.khe_instance.specs.declared.states.Meet.{Meet};
-    ghost use Rattle.resource_deviations.specs.Sets.{is_at_resource, sets_at, sets_of};
-    ghost use Rattle.resource_deviations.specs.Tasks.{AreOfState};
+    ghost use Rattle.resource_deviations.specs.Sets.{is_at_resource, room_for, sets_of};
+    ghost use Rattle.timetables.specs.Counts.{row_of};
 
     /// Adds up the tasks of a state. It takes time in proportion to resources times times, to the
     /// tasks and to the times that they cover, and memory in proportion to resources times times.
@@ -41,7 +42,7 @@ impl<'a> ResourceDeviations<'a> {
         inst: &'a Instance,
         duties: &'a [Duty],
     ) -> Result<ResourceDeviations<'a>, NoMemory>
-        requires { AreOfState inst.now duties.now }
+        requires { (meets : List Meet) × AreOfState inst.now meets duties.now }
         ensures { IfOk result (λ d. (d.inst.now ≡ inst.now) × (d.duties.now ≡ duties.now)) }
     {
         inst.facts();
@@ -59,14 +60,14 @@ impl<'a> ResourceDeviations<'a> {
         })
     }
 
-    /// The deviation of a monitor at a resource, by the masks of its constraint. It takes time in
+    /// The deviation of a monitor at a resource, with the room for the instance. It takes time in
     /// proportion to the times for AvoidClashes, to the words, of 64 times each, from the first
     /// time to the last of each of the constraint's sets for the four kinds that name sets, and
     /// constant time for LimitWorkload.
-    pub fn deviation(&self, monitor: Monitor, masks: &TimeMasks) -> u64
+    pub fn deviation(&self, monitor: Monitor, room: &ResourceRoom) -> u64
         requires monitor { IsMonitor self.now.inst.now monitor }
         requires point { IsTrue (is_at_resource monitor.point) }
-        requires masks { masks.now ≡ sets_at self.now.inst.now monitor.constraint }
+        requires room { room.now ≡ room_for self.now.inst.now }
         ensures value { (meets : List Meet) → result ≡ deviation self.now.inst.now meets self.now.duties.now monitor }
         ensures bound { result ≤ GREATEST_DEVIATION }
     {
@@ -75,7 +76,7 @@ impl<'a> ResourceDeviations<'a> {
         let Point::Resource(r) = monitor.point else {
             unreachable!();
         };
-        self.of_rule(rule, masks.as_slice(), r)
+        self.of_rule(rule, room.masks_of(monitor.constraint), r)
     }
 
     /// The deviation of a rule at a resource, by the masks of its sets.
@@ -83,7 +84,7 @@ impl<'a> ResourceDeviations<'a> {
         requires rule { IsRule self.now.inst.now rule.now }
         requires masks { masks.now ≡ sets_of rule.now }
         requires resource { r.0 < length self.now.inst.now.resources }
-        ensures { result ≡ resource_deviation self.now.inst.now self.now.duties.now rule.now r.0 }
+        ensures { result ≡ measured self.now.inst.now rule.now (slice_index (row_of self.now.table r.0)) (slice_index self.now.workloads.items r.0) }
     {
         self.inst.facts();
         let table = &self.table;

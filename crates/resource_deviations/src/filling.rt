@@ -1,8 +1,8 @@
 ghost use Rattle.std.specs.Prelude.{◌≡◌, ◌+◌, ◌*◌, ◌^◌, ◌/◌, ◌<◌, ◌≤◌, ◌&&◌, ℕ, ◌==◌, nat_le, nat_lt, if◌then◌else◌, IfOk, length, replicate, slice_index};
 ghost use Rattle.khe_base.specs.declared.limits.TheConstants.{GREATEST_COUNT, NUMBER};
 ghost use Rattle.khe_instance.specs.ResourceDeviation.{workload_of};
+ghost use Rattle.khe_instance.specs.States.{IsDuty};
 ghost use Rattle.resource_deviations.specs.Filled.{HasRows, AddsCounts, AddsWorkload};
-ghost use Rattle.resource_deviations.specs.Tasks.{IsDuty};
 ghost use Rattle.timetables.specs.Counts.{row_of, count_at};
 
 use khe_base::{NoMemory, ResourceId, TimeId};

@@ -6,8 +6,7 @@ mod deviations;
 mod filling;
 mod masks;
 mod measures;
-#[cfg(test)]
-mod tests;
+mod rooms;
 
 pub use deviations::ResourceDeviations;
-pub use masks::TimeMasks;
+pub use rooms::ResourceRoom;

@@ -9,8 +9,8 @@ use timetables::Mask;
 
 /// The sets of times that a constraint names for a resource, as masks that are made once for all
 /// its monitors. Contracts see the list of the sets, in the order of the constraint.
-#[derive(Debug, Drop)]
-pub struct TimeMasks {
+#[derive(Drop)]
+pub(crate) struct TimeMasks {
     masks: Vec<Mask>,
 }
 
@@ -26,7 +26,7 @@ impl TimeMasks {
     /// The sets of a rule: the times that AvoidUnavailableTimes names, or the time groups that
     /// LimitIdleTimes, ClusterBusyTimes or LimitBusyTimes lists; all other rules have none. It
     /// takes time in proportion to sets times times, and memory for a bit for each of these.
-    pub fn new(alloc: Global, rule: &Rule) -> Result<TimeMasks, NoMemory>
+    pub(crate) fn new(alloc: Global, rule: &Rule) -> Result<TimeMasks, NoMemory>
         ensures { IfOk result (λ m. m ≡ sets_of rule.now) }
     {
         let masks = match rule {

@@ -1,25 +1,12 @@
-ghost use Rattle.std.specs.Prelude.{◌≡◌, ◌+◌, ◌-◌, ◌*◌, ◌^◌, ◌<◌, ◌≤◌, nat_lt, if◌then◌else◌, length, All, slice_index};
-ghost use Rattle.std.specs.List.{filter, count_by, sum_by, range_with_len};
-ghost use Rattle.khe_base.specs.declared.limits.TheConstants.{GREATEST_DEVIATION, LISTED, UNIT};
-ghost use Rattle.khe_instance.specs.ResourceDeviation.{rounded_up};
-ghost use Rattle.khe_instance.specs.Within.{out};
+ghost use Rattle.std.specs.Prelude.{◌≡◌, ◌+◌, ◌-◌, ◌*◌, ◌^◌, ◌<◌, ◌≤◌, nat_lt, length, All, slice_index};
+ghost use Rattle.std.specs.List.{count_by, sum_by, range_with_len};
+ghost use Rattle.khe_base.specs.Bounds.{count_outside};
+ghost use Rattle.khe_base.specs.declared.limits.TheConstants.{GREATEST_DEVIATION, LISTED, TIMES, UNIT};
+ghost use Rattle.khe_instance.specs.ResourceDeviation.{used_outside, rounded_up};
 ghost use Rattle.timetables.specs.Counts.{row_of, busy_times, idle_times};
 
-use khe_base::{ResourceId, TimeId};
+use khe_base::{ResourceId, TimeId, count_out};
 use timetables::{Mask, Timetable};
-
-/// How far a number lies below the least or above the greatest.
-fn outside(number: u64, least: u32, greatest: u32) -> u64
-    ensures value { result ≡ out number least greatest }
-    ensures small { result ≤ number + least }
-{
-    let least = u64::from(least);
-    if number < least {
-        least - number
-    } else {
-        number.saturating_sub(u64::from(greatest))
-    }
-}
 
 /// For each time, how many tasks of the resource run then beyond one. It takes time in proportion
 /// to the times.
@@ -59,14 +46,15 @@ pub(crate) fn idle_outside(
 ) -> u64
     requires resource { r.0 < length table.now }
     requires sizes { All (λ m. length m ≡ length (row_of table.now r.0)) masks.now }
+    requires times { length (row_of table.now r.0) ≤ TIMES }
     requires few { length masks.now ≤ LISTED }
-    ensures { result ≡ out (sum_by (idle_times (row_of table.now r.0)) masks.now) least greatest }
+    ensures { result ≡ count_outside (sum_by (idle_times (row_of table.now r.0)) masks.now) least greatest }
 {
     let mut total = 0;
     for mask in masks {
         total += u64::from(table.idle_in(r, mask));
     }
-    outside(total, least, greatest)
+    count_out(total, least, greatest)
 }
 
 /// How far the number of sets with a busy time lies outside the bounds.
@@ -80,7 +68,7 @@ pub(crate) fn busy_sets_outside(
     requires resource { r.0 < length table.now }
     requires sizes { All (λ m. length m ≡ length (row_of table.now r.0)) masks.now }
     requires few { length masks.now ≤ LISTED }
-    ensures { result ≡ out (count_by (λ m. nat_lt 0 (busy_times (row_of table.now r.0) m)) masks.now) least greatest }
+    ensures { result ≡ count_outside (count_by (λ m. nat_lt 0 (busy_times (row_of table.now r.0) m)) masks.now) least greatest }
 {
     let mut busy_sets = 0;
     for mask in masks {
@@ -88,7 +76,7 @@ pub(crate) fn busy_sets_outside(
             busy_sets += 1;
         }
     }
-    outside(busy_sets, least, greatest)
+    count_out(busy_sets, least, greatest)
 }
 
 /// For each set with a busy time, how far the number of its busy times lies outside the bounds.
@@ -102,7 +90,7 @@ pub(crate) fn busy_outside(
     requires resource { r.0 < length table.now }
     requires sizes { All (λ m. length m ≡ length (row_of table.now r.0)) masks.now }
     requires few { length masks.now ≤ LISTED }
-    ensures { result ≡ sum_by (λ m. out (busy_times (row_of table.now r.0) m) least greatest) (filter (λ m. nat_lt 0 (busy_times (row_of table.now r.0) m)) masks.now) }
+    ensures { result ≡ sum_by (λ m. used_outside (busy_times (row_of table.now r.0) m) least greatest) masks.now }
 {
     let mut total = 0;
     for mask in masks {
@@ -113,13 +101,13 @@ pub(crate) fn busy_outside(
 
 /// How far the number of a set's busy times lies outside the bounds, and 0 where it has none.
 fn set_outside(busy: u32, least: u32, greatest: u32) -> u64
-    ensures value { result ≡ (if nat_lt 0 busy then out busy least greatest else 0) }
+    ensures value { result ≡ used_outside busy least greatest }
     ensures small { result < 2 ^ 33 }
 {
     if busy == 0 {
         return 0;
     }
-    outside(u64::from(busy), least, greatest)
+    count_out(u64::from(busy), least, greatest)
 }
 
 /// How far a workload, in parts of one over the unit, lies outside the bounds, rounded up to a
@@ -129,7 +117,7 @@ pub(crate) fn workload_outside(workload: u128, unit: u64, least: u32, greatest: 
     requires greatest_unit { unit ≤ UNIT }
     requires workload { workload ≤ GREATEST_DEVIATION * unit }
     requires least { least ≤ GREATEST_DEVIATION }
-    ensures { result ≡ rounded_up (out workload (least * unit) (greatest * unit)) unit }
+    ensures { result ≡ rounded_up (count_outside workload (least * unit) (greatest * unit)) unit }
 {
     let unit = u128::from(unit);
     let least = u128::from(least) * unit;

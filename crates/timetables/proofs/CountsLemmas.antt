@@ -10,7 +10,7 @@ use Rattle.std.proofs.lemmas.Nat.{pow_pos, mod-pow-add, ones_cat, shr_split}
 use Rattle.khe_base.specs.Bits.{has_bit}
 use Rattle.khe_base.proofs.BitsLemmas.{bit_at-has_bit}
 use Rattle.khe_base.proofs.ListLemmas.{range_more}
-use Rattle.timetables.specs.Counts.{count_below, any_between, is_idle_time}
+use Rattle.khe_base.specs.Busy.{count_below, any_between, is_idle_time}
 
 abbrev pub one_if : Bool → ℕ
 one_if b = cond b 1 0

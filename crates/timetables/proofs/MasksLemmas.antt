@@ -7,7 +7,7 @@ use Rattle.khe_base.specs.IdSet.{has_member}
 use Rattle.khe_base.specs.StoredSets.{set_of_bits}
 use Rattle.khe_base.proofs.BitsLemmas.{has_bit-and, has_bit-not, is_set-place}
 use Rattle.khe_base.proofs.IdSetLemmas.{length-set_of_bits, has_member-set_of_bits}
-use Rattle.timetables.specs.Counts.{count_below, is_idle_time}
+use Rattle.khe_base.specs.Busy.{count_below, is_idle_time}
 use Rattle.timetables.specs.Stored.{IsWithin}
 use Rattle.timetables.proofs.CountsLemmas.{count_ones-bits, count_below-ends, idle-none, idle-between}
 use Rattle.timetables.proofs.Spans.{HasEnds}

@@ -5,7 +5,7 @@ use Rattle.std.proofs.lemmas.Nat.{pow_pos, leading_top}
 use Rattle.std.proofs.lemmas.Nat.Bits.{bit_at-trailing_zeros, bit_at_above, bit_at-zero}
 use Rattle.khe_base.specs.Bits.{has_bit}
 use Rattle.timetables.specs.declared.masks.Span.{Span}
-use Rattle.timetables.specs.Counts.{count_below}
+use Rattle.khe_base.specs.Busy.{count_below}
 use Rattle.timetables.proofs.CountsLemmas.{count_ones-bits}
 
 one_not_zero : suc 0 ≡ 0 → ⊥

@@ -1,8 +1,7 @@
 -- A timetable is a list of rows, one for each resource: its counts at the times 0, 1, 2 and so on.
 -- A set of times is a list with one entry for each time, true where it is a member.
-use Rattle.std.specs.Prelude.{ℕ, ◌+◌, ◌-◌, Bool, not, ◌&&◌, List, [], length, replicate, count_by, nat_lt, slice_index, slice_index_or, slice_set}
-use Rattle.std.specs.List.{range_with_len, list_any}
-use Rattle.khe_base.specs.IdSet.{has_member}
+use Rattle.std.specs.Prelude.{ℕ, Bool, List, [], replicate, nat_lt, slice_index, slice_index_or, slice_set}
+use Rattle.khe_base.specs.Busy.{busy_times as busy_count, idle_times as idle_count}
 
 -- the timetable of this many resources and times in which every count is 0
 abbrev pub no_counts : ℕ → ℕ → List (List ℕ)
@@ -23,26 +22,11 @@ with_count rows r t count = slice_set rows r (slice_set (row_of rows r) t count)
 abbrev pub is_busy : List ℕ → ℕ → Bool
 is_busy row t = nat_lt 0 (slice_index row t)
 
--- how many of the numbers below n pass the test
-abbrev pub count_below : (ℕ → Bool) → ℕ → ℕ
-count_below test n = count_by test (range_with_len 0 n)
-
--- whether some number from `from` on and below `end` passes the test
-abbrev pub any_between : (ℕ → Bool) → ℕ → ℕ → Bool
-any_between test from end = list_any test (range_with_len from (end - from))
-
--- whether t is a member that isn't busy, with a busy member before it and one after it, where
--- members are below the size
-abbrev pub is_idle_time : (ℕ → Bool) → (ℕ → Bool) → ℕ → ℕ → Bool
-is_idle_time member busy size t =
-    (member t && not (busy t))
-    && (any_between (λ s. member s && busy s) 0 t && any_between (λ s. member s && busy s) (t + 1) size)
-
 -- the number of times of the set at which a resource with these counts is busy
 abbrev pub busy_times : List ℕ → List Bool → ℕ
-busy_times row set = count_below (λ t. has_member set t && is_busy row t) (length set)
+busy_times row set = busy_count (is_busy row) set
 
 -- the number of idle times of the set: times of the set at which the resource isn't busy, and is
 -- busy at an earlier and at a later time of the set
 abbrev pub idle_times : List ℕ → List Bool → ℕ
-idle_times row set = count_below (is_idle_time (has_member set) (is_busy row) (length set)) (length set)
+idle_times row set = idle_count (is_busy row) set

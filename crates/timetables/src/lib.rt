@@ -5,8 +5,6 @@
 mod masks;
 mod rows;
 mod tables;
-#[cfg(test)]
-mod tests;
 
 pub use masks::Mask;
 pub use tables::Timetable;

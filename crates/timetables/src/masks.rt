@@ -2,7 +2,7 @@ ghost use Rattle.std.specs.Prelude.{◌≡◌, ◌+◌, ◌-◌, ◌*◌, ◌%�
 ghost use Rattle.std.specs.Int.{w64, trailing_zeros, leading_zeros};
 ghost use Rattle.khe_base.specs.Bits.{is_set, words_for};
 ghost use Rattle.khe_base.specs.IdSet.{has_member};
-ghost use Rattle.timetables.specs.Counts.{count_below, is_idle_time};
+ghost use Rattle.khe_base.specs.Busy.{count_below, is_idle_time};
 
 use khe_base::bits::ones_below;
 use khe_base::{IdSet, NoMemory};

@@ -12,7 +12,7 @@ use Rattle.std.proofs.lemmas.Option.{none-some, same_Some, get_or_from_slice_get
 use Rattle.std.proofs.lemmas.Slice.Eq.{bytes_eq-Decides}
 use Rattle.khe_base.specs.Names.{is_among_names, are_distinct, number_of}
 use Rattle.khe_base.specs.declared.numbers.ResourceId.{ResourceId}
-use Rattle.khe_instance.specs.EventDeviation.{is_role}
+use Rattle.khe_instance.specs.Lookups.{is_role}
 use Rattle.khe_instance.specs.Named.{resource_named}
 use Rattle.khe_instance.specs.WellMade.{HasType, IsEvent, IsPlace}
 use Rattle.khe_instance.specs.declared.parts.EventInfo.{EventInfo}

@@ -4,7 +4,7 @@ use Rattle.std.specs.List.{list_any, sum_by}
 use Rattle.std.specs.Option.{option_map, option_map_or, option_or, option_and_then}
 use Rattle.khe_base.specs.declared.numbers.ResourceId.{ResourceId}
 use Rattle.khe_base.specs.declared.numbers.TimeId.{TimeId}
-use Rattle.khe_instance.specs.EventDeviation.{is_role}
+use Rattle.khe_instance.specs.Lookups.{is_role}
 use Rattle.khe_instance.specs.Named.{event_named}
 use Rattle.khe_instance.specs.Running.{is_resource}
 use Rattle.khe_instance.specs.declared.parts.EventInfo.{EventInfo}

@@ -3,7 +3,7 @@
 ghost use Rattle.std.specs.Prelude.{◌≡◌, ◌<◌, [], length, Some, IsSome, All, find};
 ghost use Rattle.std.specs.List.{list_any};
 ghost use Rattle.std.specs.Option.{option_copied};
-ghost use Rattle.khe_instance.specs.EventDeviation.{is_role};
+ghost use Rattle.khe_instance.specs.Lookups.{is_role};
 ghost use Rattle.khe_instance.specs.Named.{resource_named};
 ghost use Rattle.khe_instance.specs.Running.{is_resource};
 ghost use Rattle.xhstt_completion.specs.Causes.{is_too_long, splits_fixed, moves_fixed, ends_late, is_place_for, place_for, came_before, place_cause, given_cause, first_given_cause, cause_in, differ_in_time, differ_in_resource};

@@ -1,7 +1,7 @@
 //! What the entries of a solution say, read through an instance.
 
 ghost use Rattle.std.specs.Prelude.{◌≡◌, ◌<◌, length, Some, IsSome, slice_get};
-ghost use Rattle.khe_instance.specs.EventDeviation.{is_role};
+ghost use Rattle.khe_instance.specs.Lookups.{is_role};
 ghost use Rattle.khe_instance.specs.Named.{event_named, resource_named};
 ghost use Rattle.khe_instance.specs.WellMade.{AreWellMade};
 ghost use Rattle.xhstt_completion.specs.Entries.{duration_of, time_of, start_of, resource_of, role_of};

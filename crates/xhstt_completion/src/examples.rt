@@ -1,5 +1,5 @@
 //! What the definition gives for the entries of a small school. Each function's contract is an
-//! example: it is proved, and running it does nothing more.
+//! example, and the check proves it: no program calls these functions.
 
 ghost use Rattle.std.specs.Prelude.{◌≡◌, Some, None, [], ◌∷◌, codes};
 ghost use Rattle.xhstt_completion.specs.Examples.{said, at_entry, state, meet, task, whole, lasting, lasting_at, giving, for_role, for_no_role};
@@ -60,17 +60,3 @@ fn causes_have_an_order()
     ensures fixed { said (giving (whole (codes "assembly")) (for_role (codes "teacher") (codes "room") ∷ []) ∷ []) ≡ at_entry 0 6 }
     ensures turn { said (giving (whole (codes "course")) (for_role (codes "teacher") (codes "room") ∷ for_role (codes "pupil") (codes "smith") ∷ []) ∷ []) ≡ at_entry 0 7 }
 {}
-
-#[test]
-fn examples_are_proved() {
-    nothing_is_said();
-    a_part_is_missing();
-    too_long();
-    split_fixed();
-    fixed_time();
-    off_end();
-    bad_role();
-    fixed_resource();
-    wrong_type();
-    causes_have_an_order();
-}

@@ -24,14 +24,14 @@ pub const FIXED_RESOURCE: u32 = 6;
 pub const WRONG_TYPE: u32 = 7;
 
 /// A cause, and the number of the entry at which it stands.
-#[derive(Clone, Copy, Debug, PartialEq, Eq)]
+#[derive(Clone, Copy)]
 pub struct Cause {
     pub cause: u32,
     pub entry: u32,
 }
 
 /// Why there is no state for a solution.
-#[derive(Clone, Copy, Debug, PartialEq, Eq, Error)]
+#[derive(Clone, Copy, Debug, Error)]
 pub enum SolutionFault {
     /// The solution is invalid: its first entry that has a cause, and the first cause of that
     /// entry, one of `TOO_LONG` to `WRONG_TYPE`. Entries are numbered from 0.

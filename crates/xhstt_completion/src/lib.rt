@@ -6,7 +6,7 @@ mod causes;
 mod checking;
 mod completion;
 mod entries;
-#[cfg(test)]
+#[allow(dead_code)]
 mod examples;
 mod faults;
 mod states;

@@ -192,11 +192,5 @@ module _ {X : Type 0} (id : X → Name) (xs ys : List X) where
       let P : List X → Type 0 = λ zs. repeated (map id zs) ≡ [] → names ≡ map (λ x. (id x).text) zs in
       subst P e h
 
-  pub part_along : (p : X → Bool) (names : List (List ℕ)) → xs ≡ ys → (repeated (map id xs) ≡ [] → names ≡ map (λ x. (id x).text) (filter p xs))
-      → repeated (map id ys) ≡ [] → names ≡ map (λ x. (id x).text) (filter p ys)
-  part_along p names e h =
-      let P : List X → Type 0 = λ zs. repeated (map id zs) ≡ [] → names ≡ map (λ x. (id x).text) (filter p zs) in
-      subst P e h
-
   pub noted_along : (before after : Option ℕ) → xs ≡ ys → after ≡ first_of before (repeated (map id xs)) → after ≡ first_of before (repeated (map id ys))
   noted_along before after e h = h ∙ ap (λ zs. first_of before (repeated (map id zs))) e

@@ -1,8 +1,8 @@
 -- The first of some places is the fault that is told.
-use Rattle.std.proofs.Common.{◌≡◌, ◌∙◌, ap, refl, sym, subst, ℕ, min, List, [], ◌∷◌, Option, Some, None, Err, Ok, Result}
+use Rattle.std.proofs.Common.{◌≡◌, ◌∙◌, ap, refl, sym, subst, ℕ, min, List, [], ◌∷◌, Option, Some, None, Err, Ok, Result, IfOk}
 use Rattle.std.specs.List.{fold}
 use Rattle.std.specs.Option.{option_map}
-use Rattle.std.specs.Result.{IsErrAnd}
+use Rattle.std.specs.Result.{IsErrAnd, result_and}
 use Rattle.xhstt_references.specs.Faults.{at_first, IsTold}
 use Rattle.xhstt_references.specs.First.{noted, first_of}
 use Rattle.xhstt_references.specs.declared.faults.ReferenceFault.{ReferenceFault}
@@ -53,3 +53,16 @@ passed_on (Ok a) e fault h told = absurd h
 passed_on (Err x) e fault h told =
     let P : ReferenceFault → Type 0 = λ y. IsTold {A = Unit {0}} (Err y) fault in
     subst P (sym h) told
+
+-- a value that is given where a judgment found no fault: what the judgment found of it holds
+pub kept : {A : Type 0} (j : Result (Unit {0}) ReferenceFault) (r : Result A ReferenceFault) (a : A) (P : A → Type 0)
+    → r ≡ result_and j (Ok a) → IfOk j (λ _. P a) → IfOk r P
+kept (Ok u) r a P is h = subst (λ x. IfOk x P) (sym is) h
+kept (Err e) r a P is h = subst (λ x. IfOk x P) (sym is) tt
+
+-- and a fault that the judgment found is told
+pub kept_told : {A : Type 0} (j : Result (Unit {0}) ReferenceFault) (r : Result A ReferenceFault) (a : A) (fault : Option ReferenceFault)
+    → r ≡ result_and j (Ok a) → IsTold j fault → IsTold r fault
+kept_told (Ok u) r a fault is h = subst (λ x. IsTold x fault) (sym is) h
+kept_told (Err NoMemory) r a fault is h = subst (λ x. IsTold x fault) (sym is) tt
+kept_told (Err (Bad k at)) r a fault is h = subst (λ x. IsTold x fault) (sym is) h

@@ -15,7 +15,7 @@ pub const DUPLICATE_ROLE: u32 = 14;
 pub const EVENT_OFF_END: u32 = 15;
 
 /// Why the names of an archive lead nowhere.
-#[derive(Clone, Copy, Debug, PartialEq, Eq, Error)]
+#[derive(Clone, Copy, Debug, Error)]
 pub enum ReferenceFault {
     /// A fault of this kind at this byte of the text.
     #[error("fault of kind {kind} at byte {at}")]

@@ -9,7 +9,7 @@ use khe_base::{Names, Seq};
 use xhstt_shape::Ref;
 
 /// The first of the places that were noted, if there is one. It stands for the whole list of them.
-#[derive(Clone, Copy, Debug)]
+#[derive(Clone, Copy)]
 pub(crate) struct First {
     pub(crate) at: Option<u64>,
 }

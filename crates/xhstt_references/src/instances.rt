@@ -16,7 +16,7 @@ use crate::first::First;
 use crate::looking_up::unknown_reference;
 use crate::numbering::{event_names, resource_names, time_names};
 use crate::repeats::{names_of, repeated_roles};
-use khe_base::{Names, NoMemory, Text};
+use khe_base::{Names, NoMemory, Text, both};
 use std::alloc::Global;
 use xhstt_shape::{Archive, RawEvent, RawInstance, Ref};
 
@@ -37,22 +37,43 @@ pub fn directory(alloc: Global, instance: &RawInstance) -> Result<Directory, Ref
     ensures told { IsTold result (fault_of_instance instance.now) }
 {
     let (directory, repeated) = numbered_parts(alloc, instance)?;
+    judge(alloc, instance, &directory, repeated).and(Ok(directory))
+}
+
+/// The first fault of an instance's names and references, given the names of its parts and the first
+/// Id that is repeated.
+fn judge(
+    alloc: Global,
+    instance: &RawInstance,
+    directory: &Directory,
+    repeated: First,
+) -> Result<(), ReferenceFault>
+    requires names { spec.repeated_ids instance.now ≡ [] → IsDirectoryOf instance.now directory.now }
+    requires repeated { repeated.at ≡ first_of None (spec.repeated_ids instance.now) }
+    ensures names { IfOk result (λ _. IsDirectoryOf instance.now directory.now) }
+    ensures told { IsTold result (fault_of_instance instance.now) }
+{
     repeated.fault(DUPLICATE_ID)?;
-    unknown_reference(&directory, instance).fault(UNKNOWN_REFERENCE)?;
+    unknown_reference(directory, instance).fault(UNKNOWN_REFERENCE)?;
     repeated_roles(alloc, instance.events.as_slice())?.fault(DUPLICATE_ROLE)?;
-    event_off_end(&directory, instance.events.as_slice()).fault(EVENT_OFF_END)?;
-    Ok(directory)
+    event_off_end(directory, instance.events.as_slice()).fault(EVENT_OFF_END)?;
+    Ok(())
 }
 
 /// The names of an instance's parts, where no Id is repeated, and the first Id that is.
 fn numbered_parts(alloc: Global, instance: &RawInstance) -> Result<(Directory, First), NoMemory>
     ensures { IfOk result (λ (d, first). (spec.repeated_ids instance.now ≡ [] → IsDirectoryOf instance.now d) × (first.at ≡ first_of None (spec.repeated_ids instance.now))) }
 {
+    // All sorts are numbered before the one exit: `both` drops what was made where memory is refused.
     let mut first = First::new();
-    let times = time_names(alloc, instance, &mut first)?;
-    let resources = resource_names(alloc, instance, &mut first)?;
-    let events = event_names(alloc, instance, &mut first)?;
-    names_of(alloc, instance.constraints.as_slice(), &mut first)?;
+    let times = time_names(alloc, instance, &mut first);
+    let resources = resource_names(alloc, instance, &mut first);
+    let events = event_names(alloc, instance, &mut first);
+    let constraints = names_of(alloc, instance.constraints.as_slice(), &mut first);
+    let ((times, resources), (events, _constraints)) = both(
+        both(times, resources),
+        both(events, constraints),
+    )?;
     let directory = Directory {
         time_groups: times.groups,
         weeks: times.weeks,

@@ -5,7 +5,7 @@ ghost use Rattle.xhstt_references.specs.References as spec;
 
 use crate::first::First;
 use crate::repeats::{courses_of, days_of, names_of, weeks_of};
-use khe_base::{Names, NoMemory};
+use khe_base::{Names, NoMemory, both};
 use std::alloc::Global;
 use xhstt_shape::RawInstance;
 
@@ -47,11 +47,17 @@ pub(crate) fn time_names(
     ensures first { OnOk result (first.new.at ≡ first_of (first_of first.old.at (spec.repeated (map (λ g. g.id) instance.now.time_groups))) (spec.repeated (map (λ t. t.id) instance.now.times))) }
 {
     let groups = instance.time_groups.as_slice();
+    let names = both(names_of(alloc, groups, first), weeks_of(alloc, groups));
+    let others = both(
+        days_of(alloc, groups),
+        names_of(alloc, instance.times.as_slice(), first),
+    );
+    let ((groups, weeks), (days, times)) = both(names, others)?;
     Ok(TimeNames {
-        groups: names_of(alloc, groups, first)?,
-        weeks: weeks_of(alloc, groups)?,
-        days: days_of(alloc, groups)?,
-        times: names_of(alloc, instance.times.as_slice(), first)?,
+        groups,
+        weeks,
+        days,
+        times,
     })
 }
 
@@ -67,10 +73,14 @@ pub(crate) fn resource_names(
     ensures resources { IfOk result (λ n. spec.repeated (map (λ r. r.id) instance.now.resources) ≡ [] → n.resources ≡ ids.resource_ids instance.now) }
     ensures first { OnOk result (first.new.at ≡ first_of (first_of (first_of first.old.at (spec.repeated (map (λ t. t.id) instance.now.resource_types))) (spec.repeated (map (λ g. g.id) instance.now.resource_groups))) (spec.repeated (map (λ r. r.id) instance.now.resources))) }
 {
+    let types = names_of(alloc, instance.resource_types.as_slice(), first);
+    let groups = names_of(alloc, instance.resource_groups.as_slice(), first);
+    let resources = names_of(alloc, instance.resources.as_slice(), first);
+    let (types, (groups, resources)) = both(types, both(groups, resources))?;
     Ok(ResourceNames {
-        types: names_of(alloc, instance.resource_types.as_slice(), first)?,
-        groups: names_of(alloc, instance.resource_groups.as_slice(), first)?,
-        resources: names_of(alloc, instance.resources.as_slice(), first)?,
+        types,
+        groups,
+        resources,
     })
 }
 
@@ -86,9 +96,12 @@ pub(crate) fn event_names(
     ensures first { OnOk result (first.new.at ≡ first_of (first_of first.old.at (spec.repeated (map (λ g. g.id) instance.now.event_groups))) (spec.repeated (map (λ e. e.id) instance.now.events))) }
 {
     let groups = instance.event_groups.as_slice();
+    let names = both(names_of(alloc, groups, first), courses_of(alloc, groups));
+    let events = names_of(alloc, instance.events.as_slice(), first);
+    let ((groups, courses), events) = both(names, events)?;
     Ok(EventNames {
-        groups: names_of(alloc, groups, first)?,
-        courses: courses_of(alloc, groups)?,
-        events: names_of(alloc, instance.events.as_slice(), first)?,
+        groups,
+        courses,
+        events,
     })
 }

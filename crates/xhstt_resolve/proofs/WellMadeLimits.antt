@@ -9,6 +9,8 @@ use Rattle.std.proofs.lemmas.List.Sums.{sum_by-cons, sum_by-append}
 use Rattle.std.proofs.lemmas.Option.{slice_get-map}
 use Rattle.khe_base.specs.IdSet.{member_count, no_members, with_member}
 use Rattle.khe_base.specs.declared.limits.TheConstants.{DURATION, TASKS, CELLS}
+use Rattle.khe_instance.proofs.WatchingLaws as sized
+use Rattle.khe_instance.specs.Watching as watching
 use Rattle.khe_instance.specs.WellMade as made
 use Rattle.khe_instance.specs.declared.parts.EventInfo.{EventInfo}
 use Rattle.khe_instance.specs.declared.parts.GroupInfo.{GroupInfo}
@@ -64,7 +66,7 @@ sets_few i (g ∷ gs) =
     )
 
 -- what a rule watches at a resource
-times_few : (i : RawInstance) (applies : RawApplies) (rule : RawRule) → made.listed_times (parts_of i) (rule_of i applies rule) ≤ watched_times i rule
+times_few : (i : RawInstance) (applies : RawApplies) (rule : RawRule) → sized.listed_times (parts_of i) (rule_of i applies rule) ≤ watched_times i rule
 times_few i applies AssignTime = le_refl 1
 times_few i applies (AssignResource role) = le_refl 1
 times_few i applies (SplitEvents a b c d) = le_refl 1
@@ -83,7 +85,7 @@ times_few i applies (LimitBusyTimes groups least greatest) = sets_few i groups
 times_few i applies (LimitWorkload least greatest) = le_refl 1
 
 -- what a rule watches at a pair
-pairs_few : (i : RawInstance) (applies : RawApplies) (raw : RawRule) (n k : ℕ) → n ≡ made.pair_size (ruled.OrderEvents (pairs_of i applies)) k → made.pair_size (rule_of i applies raw) k ≤ n
+pairs_few : (i : RawInstance) (applies : RawApplies) (raw : RawRule) (n k : ℕ) → n ≡ sized.pair_size (ruled.OrderEvents (pairs_of i applies)) k → sized.pair_size (rule_of i applies raw) k ≤ n
 pairs_few i applies AssignTime n k e = omega arith
 pairs_few i applies (AssignResource role) n k e = omega arith
 pairs_few i applies (SplitEvents a b c d) n k e = omega arith
@@ -101,7 +103,7 @@ pairs_few i applies (ClusterBusyTimes groups least greatest) n k e = omega arith
 pairs_few i applies (LimitBusyTimes groups least greatest) n k e = omega arith
 pairs_few i applies (LimitWorkload least greatest) n k e = omega arith
 
-group_few : (i : RawInstance) (g : ℕ) → made.group_size (parts_of i) g ≤ group_size i g
+group_few : (i : RawInstance) (g : ℕ) → sized.group_size (parts_of i) g ≤ group_size i g
 group_few i g =
     subst (λ o. option_map_or (λ (x : GroupInfo). member_count x.events) o 0 ≤ group_size i g) (sym (slice_get-map (group_of i) i.event_groups g)) (by (slice_get i.event_groups g))
   where
@@ -110,33 +112,36 @@ group_few i g =
     by (Some x) = set_few (length i.events) (events_in i x.id.text)
 
 -- what a constraint's monitor watches at a point
-point_few : (i : RawInstance) (c : RawConstraint) (p : Point) → made.watches_at (parts_of i) (rule_of i c.applies c.rule) p ≤ watches_at i c p
-point_few i c (point.Event e) = le_refl 1
-point_few i c (point.EventResource e place) = le_refl 1
-point_few i c (point.EventGroup g) = group_few i g
-point_few i c (point.EventPair k) = pairs_few i c.applies c.rule (pair_size i c k) k refl
-point_few i c (point.Resource r) = times_few i c.applies c.rule
+size_few : (i : RawInstance) (c : RawConstraint) (p : Point) → sized.watched_size (parts_of i) (rule_of i c.applies c.rule) p ≤ watches_at i c p
+size_few i c (point.Event e) = le_refl 1
+size_few i c (point.EventResource e place) = le_refl 1
+size_few i c (point.EventGroup g) = group_few i g
+size_few i c (point.EventPair k) = pairs_few i c.applies c.rule (pair_size i c k) k refl
+size_few i c (point.Resource r) = times_few i c.applies c.rule
+
+point_few : (i : RawInstance) (c : RawConstraint) (p : Point) → watching.watches_at (parts_of i) (rule_of i c.applies c.rule) p ≤ watches_at i c p
+point_few i c p = le_trans (sized.watches_within (parts_of i) (rule_of i c.applies c.rule) p) (size_few i c p)
 
 module _ (i : RawInstance) (k : ℕ) (c : RawConstraint) (at : slice_get i.constraints k ≡ Some c) where
-  monitor_few : (p : Point) → made.watches (parts_of i) (monitor_at i k c p) ≤ watches_at i c p
+  monitor_few : (p : Point) → watching.watches (parts_of i) (monitor_at i k c p) ≤ watches_at i c p
   monitor_few p =
-      let f = λ (x : Constraint). made.watches_at (parts_of i) x.rule p in
-      let e : made.watches (parts_of i) (monitor_at i k c p) ≡ f (constraint_of i c) =
+      let f = λ (x : Constraint). watching.watches_at (parts_of i) x.rule p in
+      let e : watching.watches (parts_of i) (monitor_at i k c p) ≡ f (constraint_of i c) =
       ap (λ o. option_map_or f o 0) (slice_get-map (constraint_of i) i.constraints k ∙ ap (option_map (constraint_of i)) at)
       in
       subst (λ n. n ≤ watches_at i c p) (sym e) (point_few i c p)
 
-  monitors_few : (ps : List Point) → sum_by (made.watches (parts_of i)) (map (monitor_at i k c) ps) ≤ sum_by (watches_at i c) ps
+  monitors_few : (ps : List Point) → sum_by (watching.watches (parts_of i)) (map (monitor_at i k c) ps) ≤ sum_by (watches_at i c) ps
   monitors_few [] = le_refl 0
   monitors_few (p ∷ ps) =
-      omega (arith, sum_by-cons (made.watches (parts_of i)) (monitor_at i k c p) (map (monitor_at i k c) ps), sum_by-cons (watches_at i c) p ps, monitor_few p, monitors_few ps)
+      omega (arith, sum_by-cons (watching.watches (parts_of i)) (monitor_at i k c p) (map (monitor_at i k c) ps), sum_by-cons (watches_at i c) p ps, monitor_few p, monitors_few ps)
 
 -- all constraints, from one on
 watches_few : (i : RawInstance) (k : ℕ) (cs : List RawConstraint) → ((j : ℕ) → slice_get cs j ≡ slice_get i.constraints (k + j))
-    → sum_by (made.watches (parts_of i)) (flat_map (monitors_at i) (enumerate_from k cs)) ≤ sum_by (watches_of i) cs
+    → sum_by (watching.watches (parts_of i)) (flat_map (monitors_at i) (enumerate_from k cs)) ≤ sum_by (watches_of i) cs
 watches_few i k [] at = le_refl 0
 watches_few i k (c ∷ cs) at =
-    let w = made.watches (parts_of i) in
+    let w = watching.watches (parts_of i) in
     let rest = flat_map (monitors_at i) (enumerate_from (k + 1) cs) in
     let here : slice_get i.constraints k ≡ Some c = let z : k ≡ k + 0 = omega arith in ap (slice_get i.constraints) z ∙ sym (at 0) in
     let next : (j : ℕ) → slice_get cs j ≡ slice_get i.constraints (k + 1 + j) = λ j. (let z : k + suc j ≡ k + 1 + j = omega arith in at (suc j) ∙ ap (slice_get i.constraints) z) in

@@ -7,7 +7,7 @@ use Rattle.std.proofs.lemmas.List.{length-map}
 use Rattle.std.proofs.lemmas.List.Elements.{All-nil, All-cons, All-map, All-weaker}
 use Rattle.std.proofs.lemmas.Option.{same_Some, slice_get-map}
 use Rattle.std.proofs.lemmas.Slice.Eq.{bytes_eq-Decides}
-use Rattle.khe_instance.specs.EventDeviation.{role_at}
+use Rattle.khe_instance.specs.Lookups.{role_at}
 use Rattle.khe_instance.specs.WellMade.{IsGroupPoint, IsPairPoint, IsPlacePoint, IsPointOf, IsResourcePoint, IsSinglePoint}
 use Rattle.khe_instance.specs.declared.parts.EventInfo.{EventInfo}
 use Rattle.khe_instance.specs.declared.parts.Place.{Place}

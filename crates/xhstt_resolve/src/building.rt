@@ -12,7 +12,7 @@ use crate::monitors::monitors_of;
 use crate::resources::{groups_of, resources_of};
 use crate::rules::constraints_of;
 use crate::tables::Lookup;
-use khe_base::{NoMemory, Seq, Text};
+use khe_base::{NoMemory, Seq, Text, both};
 use khe_instance::Parts;
 use std::alloc::Global;
 use xhstt_shape::RawInstance;
@@ -30,14 +30,20 @@ pub(crate) fn parts_of(alloc: Global, lookup: &Lookup<'_>, unit: u64) -> Result<
     requires unit { unit ≡ unit_of (map (λ e. e.duration) lookup.now.instance.now.events) }
     ensures { IfOk result (λ p. p ≡ parts_of lookup.now.instance.now) }
 {
-    let id = lookup.instance.id.text.copy(alloc)?;
-    let times = time_ids(alloc, lookup.instance)?;
     let types = lookup.instance.resource_types.len() as u32;
-    let resources = resources_of(alloc, lookup)?;
-    let groups = groups_of(alloc, lookup)?;
-    let events = events_of(alloc, lookup)?;
-    let constraints = constraints_of(alloc, lookup)?;
-    let monitors = monitors_of(alloc, lookup)?;
+    let names = both(
+        lookup.instance.id.text.copy(alloc),
+        time_ids(alloc, lookup.instance),
+    );
+    let items = both(
+        resources_of(alloc, lookup),
+        both(groups_of(alloc, lookup), events_of(alloc, lookup)),
+    );
+    let rules = both(constraints_of(alloc, lookup), monitors_of(alloc, lookup));
+    let ((id, times), ((resources, (groups, events)), (constraints, monitors))) = both(
+        names,
+        both(items, rules),
+    )?;
     Ok(Parts {
         id,
         times,

@@ -51,7 +51,7 @@ pub const TOO_GREAT_UNIT: u32 = 15;
 pub const TOO_MANY_SOLUTIONS: u32 = 16;
 
 /// Why an archive has no instances.
-#[derive(Clone, Copy, Debug, PartialEq, Eq, Error)]
+#[derive(Clone, Copy, Debug, Error)]
 pub enum ResolveFault {
     /// A fault of names and references: of this kind, at this byte of the text.
     #[error("fault of kind {kind} at byte {at}")]

@@ -48,8 +48,22 @@ pub(crate) fn instance_of(
         return Err(fault);
     }
     let lookup = lookup_of(alloc, raw, names)?;
-    let unit = size_limits(alloc, &lookup)?;
-    let parts = parts_of(alloc, &lookup, unit)?;
+    sized_instance(alloc, &lookup)
+}
+
+/// The instance with this lookup, whose counts keep their limits, or the first of its sizes that is
+/// above its limit.
+fn sized_instance(alloc: Global, lookup: &Lookup<'_>) -> Result<Instance, ResolveFault>
+    requires lookup { IsLookup lookup.now }
+    requires counts { spec.count_fault lookup.now.instance.now ≡ None }
+    requires sound { fault_of_instance lookup.now.instance.now ≡ None }
+    requires formed { IsFormedInstance lookup.now.instance.now }
+    ensures made { IfOk result (λ i. i ≡ parts.parts_of lookup.now.instance.now) }
+    ensures within { IfOk result (λ i. spec.size_fault lookup.now.instance.now ≡ None) }
+    ensures fault { IfErr result (IsFirst (spec.size_fault lookup.now.instance.now)) }
+{
+    let unit = size_limits(alloc, lookup)?;
+    let parts = parts_of(alloc, lookup, unit)?;
     Ok(Instance::new(alloc, parts)?)
 }
 

@@ -15,7 +15,7 @@ ghost use Rattle.xhstt_shape.specs.WellFormed.{IsInForm};
 
 use crate::faults::{ResolveFault, TOO_MANY_SOLUTIONS};
 use crate::instances::{instance_of, within};
-use khe_base::{Names, NoMemory, Seq, limits};
+use khe_base::{Names, NoMemory, Seq, beside, lends_to_threads, limits};
 use khe_instance::Instance;
 use std::alloc::Global;
 use xhstt_references::{Directory, directory, instance_names, instances_of_solutions};
@@ -89,8 +89,9 @@ fn keep(made: &mut Made, instance: Instance, directory: Directory) -> Result<(),
     ensures instances { OnOk result (made.new.instances ≡ made.old.instances ++ instance ∷ []) }
     ensures directories { OnOk result (made.new.directories ≡ made.old.directories ++ directory ∷ []) }
 {
-    made.instances.push(instance)?;
-    made.directories.push(directory)
+    let kept = made.instances.push(instance);
+    made.directories.push(directory)?;
+    kept
 }
 
 /// One instance with the names of its parts, or its first fault.
@@ -102,8 +103,7 @@ fn made_instance(alloc: Global, raw: &RawInstance) -> Result<(Instance, Director
     ensures fault { IfErr result (IsFirst (spec.instance_fault raw.now)) }
 {
     let directory = directory(alloc, raw)?;
-    let instance = instance_of(alloc, raw, &directory)?;
-    Ok((instance, directory))
+    beside(instance_of(alloc, raw, &directory), directory)
 }
 
 /// The instance of each solution, or that there are too many solutions, or their first reference that
@@ -136,9 +136,6 @@ fn solution_count(archive: &Archive) -> u128
     }
     count
 }
-
-// Threads may be handed such a value, and read it together.
-fn lends_to_threads<T: Send + Sync>(_value: &T) {}
 
 // Workers share the instances of an archive: the types show it, and no program calls this.
 #[allow(dead_code)]

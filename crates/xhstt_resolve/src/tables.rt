@@ -6,7 +6,7 @@ ghost use Rattle.xhstt_resolve.specs.Tables.{IsTable, IsTableOf, IsLookup, HasNa
 
 use crate::collecting::{Collect, Mentions};
 use crate::members::{Grouped, members_of};
-use khe_base::{IdSet, Names, NoMemory, Seq, Text};
+use khe_base::{IdSet, Names, NoMemory, Seq, Text, both};
 use std::alloc::Global;
 use xhstt_references::Directory;
 use xhstt_shape::{RawInstance, Ref};
@@ -53,19 +53,20 @@ pub(crate) fn lookup_of<'a>(
         instance.times.as_slice(),
         &names.times,
         &names.time_groups,
-    )?;
+    );
     let resources = table_of(
         alloc,
         instance.resources.as_slice(),
         &names.resources,
         &names.resource_groups,
-    )?;
+    );
     let events = table_of(
         alloc,
         instance.events.as_slice(),
         &names.events,
         &names.event_groups,
-    )?;
+    );
+    let (times, (resources, events)) = both(times, both(resources, events))?;
     let tables = Tables {
         times,
         resources,

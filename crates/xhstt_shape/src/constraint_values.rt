@@ -1,5 +1,6 @@
 ghost use Rattle.std.specs.Prelude.{◌≡◌, IfOk, map};
 ghost use Rattle.xhstt_shape.specs.Values as spec;
+ghost use Rattle.xhstt_shape.specs.declared.words.Tag.TheVariants as tag;
 
 use crate::building::{Build, every, every_inside};
 use crate::constraints::{RawApplies, RawConstraint, RawPair, RawRule, RawSpread};
@@ -9,7 +10,7 @@ use crate::leaves::{
 };
 use crate::records::Ref;
 use crate::words::{Kind, Tag};
-use khe_base::{NoMemory, Seq};
+use khe_base::{NoMemory, Seq, both};
 use std::alloc::Global;
 use xhstt_text::Element;
 
@@ -101,14 +102,21 @@ fn constraint_of(
 ) -> Result<RawConstraint, NoMemory>
     ensures { IfOk result (λ c. c ≡ spec.constraint_of kind element.now) }
 {
+    let required = required(alloc, element)?;
+    let weight = lower(alloc, Tag::Weight, element)?;
+    let cost = cost_function(alloc, element)?;
+    let ((id, name), (applies, rule)) = both(
+        both(id(alloc, element), name(alloc, element)),
+        both(applies(alloc, kind, element), rule(alloc, kind, element)),
+    )?;
     Ok(RawConstraint {
-        id: id(alloc, element)?,
-        name: name(alloc, element)?,
-        required: required(alloc, element)?,
-        weight: lower(alloc, Tag::Weight, element)?,
-        cost: cost_function(alloc, element)?,
-        applies: applies(alloc, kind, element)?,
-        rule: rule(alloc, kind, element)?,
+        id,
+        name,
+        required,
+        weight,
+        cost,
+        applies,
+        rule,
     })
 }
 
@@ -189,6 +197,27 @@ fn applies(alloc: Global, kind: Kind, element: &Element<'_, '_>) -> Result<RawAp
     }
 }
 
+/// The least and the greatest number that a constraint asks for.
+fn bounds(alloc: Global, element: &Element<'_, '_>) -> Result<(u32, u32), NoMemory>
+    ensures { IfOk result (λ b. (b.0 ≡ spec.lower tag.Minimum element.now) × (b.1 ≡ spec.upper tag.Maximum element.now)) }
+{
+    let min = lower(alloc, Tag::Minimum, element)?;
+    Ok((min, upper(alloc, Tag::Maximum, element)?))
+}
+
+/// The references of two lists of a constraint.
+fn both_lists(
+    alloc: Global,
+    first: Tag,
+    second: Tag,
+    element: &Element<'_, '_>,
+) -> Result<(Seq<Ref>, Seq<Ref>), NoMemory>
+    ensures { IfOk result (λ b. (b.0 ≡ spec.references first element.now) × (b.1 ≡ spec.references second element.now)) }
+{
+    let list = references(alloc, first, element)?;
+    Ok((list, references(alloc, second, element)?))
+}
+
 /// What a constraint of a kind asks for.
 #[tactic(auto, unfolding(crate::specs::Values::rule))]
 fn rule(alloc: Global, kind: Kind, element: &Element<'_, '_>) -> Result<RawRule, NoMemory>
@@ -205,21 +234,34 @@ fn rule(alloc: Global, kind: Kind, element: &Element<'_, '_>) -> Result<RawRule,
             min_amount: lower(alloc, Tag::MinimumAmount, element)?,
             max_amount: upper(alloc, Tag::MaximumAmount, element)?,
         }),
-        Kind::DistributeSplitEvents => Ok(RawRule::DistributeSplitEvents {
-            duration: duration(alloc, element)?,
-            min: lower(alloc, Tag::Minimum, element)?,
-            max: upper(alloc, Tag::Maximum, element)?,
-        }),
-        Kind::PreferTimes => Ok(RawRule::PreferTimes {
-            time_groups: references(alloc, Tag::TimeGroups, element)?,
-            times: references(alloc, Tag::Times, element)?,
-            duration: optional_duration(alloc, element)?,
-        }),
-        Kind::PreferResources => Ok(RawRule::PreferResources {
-            resource_groups: references(alloc, Tag::ResourceGroups, element)?,
-            resources: references(alloc, Tag::Resources, element)?,
-            role: the_role(alloc, element)?,
-        }),
+        Kind::DistributeSplitEvents => {
+            let (min, max) = bounds(alloc, element)?;
+            let duration = duration(alloc, element)?;
+            Ok(RawRule::DistributeSplitEvents { duration, min, max })
+        }
+        Kind::PreferTimes => {
+            let duration = optional_duration(alloc, element)?;
+            let (time_groups, times) = both_lists(alloc, Tag::TimeGroups, Tag::Times, element)?;
+            Ok(RawRule::PreferTimes {
+                time_groups,
+                times,
+                duration,
+            })
+        }
+        Kind::PreferResources => {
+            let role = the_role(alloc, element)?;
+            let (resource_groups, resources) = both_lists(
+                alloc,
+                Tag::ResourceGroups,
+                Tag::Resources,
+                element,
+            )?;
+            Ok(RawRule::PreferResources {
+                resource_groups,
+                resources,
+                role,
+            })
+        }
         Kind::AvoidSplitAssignments => Ok(RawRule::AvoidSplitAssignments {
             role: the_role(alloc, element)?,
         }),
@@ -229,28 +271,40 @@ fn rule(alloc: Global, kind: Kind, element: &Element<'_, '_>) -> Result<RawRule,
         Kind::LinkEvents => Ok(RawRule::LinkEvents),
         Kind::OrderEvents => Ok(RawRule::OrderEvents),
         Kind::AvoidClashes => Ok(RawRule::AvoidClashes),
-        Kind::AvoidUnavailableTimes => Ok(RawRule::AvoidUnavailableTimes {
-            time_groups: references(alloc, Tag::TimeGroups, element)?,
-            times: references(alloc, Tag::Times, element)?,
-        }),
-        Kind::LimitIdleTimes => Ok(RawRule::LimitIdleTimes {
-            time_groups: references(alloc, Tag::TimeGroups, element)?,
-            min: lower(alloc, Tag::Minimum, element)?,
-            max: upper(alloc, Tag::Maximum, element)?,
-        }),
-        Kind::ClusterBusyTimes => Ok(RawRule::ClusterBusyTimes {
-            time_groups: references(alloc, Tag::TimeGroups, element)?,
-            min: lower(alloc, Tag::Minimum, element)?,
-            max: upper(alloc, Tag::Maximum, element)?,
-        }),
-        Kind::LimitBusyTimes => Ok(RawRule::LimitBusyTimes {
-            time_groups: references(alloc, Tag::TimeGroups, element)?,
-            min: lower(alloc, Tag::Minimum, element)?,
-            max: upper(alloc, Tag::Maximum, element)?,
-        }),
-        Kind::LimitWorkload => Ok(RawRule::LimitWorkload {
-            min: lower(alloc, Tag::Minimum, element)?,
-            max: upper(alloc, Tag::Maximum, element)?,
-        }),
+        Kind::AvoidUnavailableTimes => {
+            let (time_groups, times) = both_lists(alloc, Tag::TimeGroups, Tag::Times, element)?;
+            Ok(RawRule::AvoidUnavailableTimes { time_groups, times })
+        }
+        Kind::LimitIdleTimes => {
+            let (min, max) = bounds(alloc, element)?;
+            let time_groups = references(alloc, Tag::TimeGroups, element)?;
+            Ok(RawRule::LimitIdleTimes {
+                time_groups,
+                min,
+                max,
+            })
+        }
+        Kind::ClusterBusyTimes => {
+            let (min, max) = bounds(alloc, element)?;
+            let time_groups = references(alloc, Tag::TimeGroups, element)?;
+            Ok(RawRule::ClusterBusyTimes {
+                time_groups,
+                min,
+                max,
+            })
+        }
+        Kind::LimitBusyTimes => {
+            let (min, max) = bounds(alloc, element)?;
+            let time_groups = references(alloc, Tag::TimeGroups, element)?;
+            Ok(RawRule::LimitBusyTimes {
+                time_groups,
+                min,
+                max,
+            })
+        }
+        Kind::LimitWorkload => {
+            let (min, max) = bounds(alloc, element)?;
+            Ok(RawRule::LimitWorkload { min, max })
+        }
     }
 }

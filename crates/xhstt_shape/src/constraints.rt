@@ -3,7 +3,7 @@ use khe_base::{CostFn, Seq, Text};
 
 /// A constraint. In all of them the lower bounds are at most 1,000,000, and 0 where they are
 /// missing; the upper bounds are at most 2,147,483,647, which they are where they are missing.
-#[derive(Debug, Drop)]
+#[derive(Drop)]
 pub struct RawConstraint {
     pub id: Name,
     /// Empty where it is missing.
@@ -18,7 +18,7 @@ pub struct RawConstraint {
 }
 
 /// What a constraint applies to. The form follows from its kind.
-#[derive(Debug, Drop)]
+#[derive(Drop)]
 pub enum RawApplies {
     /// Event groups and single events.
     Events {
@@ -41,7 +41,7 @@ pub enum RawApplies {
 }
 
 /// A pair of events, and how many times are to be between them.
-#[derive(Debug, Drop)]
+#[derive(Drop)]
 pub struct RawPair {
     pub first: Ref,
     pub second: Ref,
@@ -50,7 +50,7 @@ pub struct RawPair {
 }
 
 /// A time group, and how many meets are to start in it.
-#[derive(Debug, Drop)]
+#[derive(Drop)]
 pub struct RawSpread {
     pub reference: Ref,
     pub min: u32,
@@ -58,7 +58,7 @@ pub struct RawSpread {
 }
 
 /// What a constraint of each kind asks for.
-#[derive(Debug, Drop)]
+#[derive(Drop)]
 pub enum RawRule {
     /// Events have times.
     AssignTime,

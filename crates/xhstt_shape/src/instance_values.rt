@@ -10,7 +10,7 @@ use crate::records::{
     ResourceGroup, ResourceType, Time, TimeGroup, TimeSort,
 };
 use crate::words::{Label, Tag};
-use khe_base::NoMemory;
+use khe_base::{NoMemory, both};
 use std::alloc::Global;
 use xhstt_text::Element;
 
@@ -19,14 +19,34 @@ impl Build for MetaData {
 
     #[tactic(auto, unfolding(crate::specs::Values::meta_data))]
     fn build(alloc: Global, element: &Element<'_, '_>) -> Result<MetaData, NoMemory> {
+        let who = both(
+            name(alloc, element),
+            both(
+                optional(alloc, Tag::Contributor, element),
+                optional(alloc, Tag::Date, element),
+            ),
+        );
+        let what = both(
+            both(
+                optional(alloc, Tag::Country, element),
+                optional(alloc, Tag::Description, element),
+            ),
+            both(
+                optional(alloc, Tag::Publication, element),
+                optional(alloc, Tag::Remarks, element),
+            ),
+        );
+        let ((name, (contributor, date)), ((country, description), (publication, remarks))) = both(
+            who, what,
+        )?;
         Ok(MetaData {
-            name: name(alloc, element)?,
-            contributor: optional(alloc, Tag::Contributor, element)?,
-            date: optional(alloc, Tag::Date, element)?,
-            country: optional(alloc, Tag::Country, element)?,
-            description: optional(alloc, Tag::Description, element)?,
-            publication: optional(alloc, Tag::Publication, element)?,
-            remarks: optional(alloc, Tag::Remarks, element)?,
+            name,
+            contributor,
+            date,
+            country,
+            description,
+            publication,
+            remarks,
         })
     }
 }
@@ -156,17 +176,39 @@ impl Build for RawEvent {
 
     #[tactic(auto, unfolding(crate::specs::Values::event))]
     fn build(alloc: Global, element: &Element<'_, '_>) -> Result<RawEvent, NoMemory> {
+        let duration = duration(alloc, element)?;
+        let workload = workload(alloc, element)?;
+        let texts = both(
+            id(alloc, element),
+            both(
+                attribute_text(alloc, Label::Color, element),
+                name(alloc, element),
+            ),
+        );
+        let references = both(
+            optional(alloc, Tag::Course, element),
+            optional(alloc, Tag::Time, element),
+        );
+        let lists = both(
+            every(alloc, Tag::Resources, element),
+            both(
+                every(alloc, Tag::ResourceGroups, element),
+                every(alloc, Tag::EventGroups, element),
+            ),
+        );
+        let ((id, (color, name)), ((course, time), (resources, (resource_groups, event_groups)))) =
+            both(texts, both(references, lists))?;
         Ok(RawEvent {
-            id: id(alloc, element)?,
-            color: attribute_text(alloc, Label::Color, element)?,
-            name: name(alloc, element)?,
-            duration: duration(alloc, element)?,
-            workload: workload(alloc, element)?,
-            course: optional(alloc, Tag::Course, element)?,
-            time: optional(alloc, Tag::Time, element)?,
-            resources: every(alloc, Tag::Resources, element)?,
-            resource_groups: every(alloc, Tag::ResourceGroups, element)?,
-            event_groups: every(alloc, Tag::EventGroups, element)?,
+            id,
+            color,
+            name,
+            duration,
+            workload,
+            course,
+            time,
+            resources,
+            resource_groups,
+            event_groups,
         })
     }
 }
@@ -176,17 +218,41 @@ impl Build for RawInstance {
 
     #[tactic(auto, unfolding(crate::specs::Values::instance))]
     fn build(alloc: Global, element: &Element<'_, '_>) -> Result<RawInstance, NoMemory> {
+        let head = both(id(alloc, element), optional(alloc, Tag::MetaData, element));
+        let times = both(
+            every_inside(alloc, Tag::Times, Tag::TimeGroups, element),
+            all_inside(alloc, Tag::Times, Tag::Time, element),
+        );
+        let resources = both(
+            every_inside(alloc, Tag::Resources, Tag::ResourceTypes, element),
+            both(
+                every_inside(alloc, Tag::Resources, Tag::ResourceGroups, element),
+                all_inside(alloc, Tag::Resources, Tag::Resource, element),
+            ),
+        );
+        let events = both(
+            every_inside(alloc, Tag::Events, Tag::EventGroups, element),
+            all_inside(alloc, Tag::Events, Tag::Event, element),
+        );
+        let constraints = every(alloc, Tag::Constraints, element);
+        let (
+            ((id, meta_data), (time_groups, times)),
+            ((resource_types, (resource_groups, resources)), ((event_groups, events), constraints)),
+        ) = both(
+            both(head, times),
+            both(resources, both(events, constraints)),
+        )?;
         Ok(RawInstance {
-            id: id(alloc, element)?,
-            meta_data: optional(alloc, Tag::MetaData, element)?,
-            time_groups: every_inside(alloc, Tag::Times, Tag::TimeGroups, element)?,
-            times: all_inside(alloc, Tag::Times, Tag::Time, element)?,
-            resource_types: every_inside(alloc, Tag::Resources, Tag::ResourceTypes, element)?,
-            resource_groups: every_inside(alloc, Tag::Resources, Tag::ResourceGroups, element)?,
-            resources: all_inside(alloc, Tag::Resources, Tag::Resource, element)?,
-            event_groups: every_inside(alloc, Tag::Events, Tag::EventGroups, element)?,
-            events: all_inside(alloc, Tag::Events, Tag::Event, element)?,
-            constraints: every(alloc, Tag::Constraints, element)?,
+            id,
+            meta_data,
+            time_groups,
+            times,
+            resource_types,
+            resource_groups,
+            resources,
+            event_groups,
+            events,
+            constraints,
         })
     }
 }

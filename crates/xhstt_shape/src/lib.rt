@@ -14,8 +14,6 @@ pub mod reading;
 mod records;
 mod schema;
 mod solution_values;
-#[cfg(test)]
-mod tests;
 mod walk;
 mod words;
 

@@ -2,7 +2,7 @@ use crate::constraints::RawConstraint;
 use khe_base::{Seq, Text};
 
 /// A reference to something by its Id.
-#[derive(Debug, Drop)]
+#[derive(Drop)]
 pub struct Ref {
     pub id: Text,
     /// The place of the first byte of the attribute's value.
@@ -10,7 +10,7 @@ pub struct Ref {
 }
 
 /// An Id, or a role.
-#[derive(Debug, Drop)]
+#[derive(Drop)]
 pub struct Name {
     pub text: Text,
     /// The place of the first byte of the attribute's value; for a role, of the element's value.
@@ -18,7 +18,7 @@ pub struct Name {
 }
 
 /// An archive of instances and their solutions.
-#[derive(Debug, Drop)]
+#[derive(Drop)]
 pub struct Archive {
     pub id: Option<Name>,
     pub meta_data: Option<MetaData>,
@@ -27,7 +27,7 @@ pub struct Archive {
 }
 
 /// What is said of an archive, an instance or a solution group as a whole.
-#[derive(Debug, Drop)]
+#[derive(Drop)]
 pub struct MetaData {
     /// Empty where it is missing.
     pub name: Text,
@@ -40,7 +40,7 @@ pub struct MetaData {
 }
 
 /// An instance. Each list is in the order of the text.
-#[derive(Debug, Drop)]
+#[derive(Drop)]
 pub struct RawInstance {
     pub id: Name,
     pub meta_data: Option<MetaData>,
@@ -58,7 +58,7 @@ pub struct RawInstance {
 }
 
 /// By which element a time group is given.
-#[derive(Clone, Copy, Debug, PartialEq, Eq)]
+#[derive(Clone, Copy)]
 pub enum TimeSort {
     Week,
     Day,
@@ -66,7 +66,7 @@ pub enum TimeSort {
 }
 
 /// A time group.
-#[derive(Debug, Drop)]
+#[derive(Drop)]
 pub struct TimeGroup {
     pub sort: TimeSort,
     pub id: Name,
@@ -75,7 +75,7 @@ pub struct TimeGroup {
 }
 
 /// A time.
-#[derive(Debug, Drop)]
+#[derive(Drop)]
 pub struct Time {
     pub id: Name,
     /// Empty where it is missing.
@@ -87,7 +87,7 @@ pub struct Time {
 }
 
 /// A type of resources, as teachers or rooms.
-#[derive(Debug, Drop)]
+#[derive(Drop)]
 pub struct ResourceType {
     pub id: Name,
     /// Empty where it is missing.
@@ -95,7 +95,7 @@ pub struct ResourceType {
 }
 
 /// A group of resources of one type.
-#[derive(Debug, Drop)]
+#[derive(Drop)]
 pub struct ResourceGroup {
     pub id: Name,
     /// Empty where it is missing.
@@ -104,7 +104,7 @@ pub struct ResourceGroup {
 }
 
 /// A resource.
-#[derive(Debug, Drop)]
+#[derive(Drop)]
 pub struct RawResource {
     pub id: Name,
     /// Empty where it is missing.
@@ -114,14 +114,14 @@ pub struct RawResource {
 }
 
 /// By which element an event group is given.
-#[derive(Clone, Copy, Debug, PartialEq, Eq)]
+#[derive(Clone, Copy)]
 pub enum GroupSort {
     Course,
     Group,
 }
 
 /// An event group.
-#[derive(Debug, Drop)]
+#[derive(Drop)]
 pub struct EventGroup {
     pub sort: GroupSort,
     pub id: Name,
@@ -130,7 +130,7 @@ pub struct EventGroup {
 }
 
 /// An event.
-#[derive(Debug, Drop)]
+#[derive(Drop)]
 pub struct RawEvent {
     pub id: Name,
     pub color: Option<Text>,
@@ -151,7 +151,7 @@ pub struct RawEvent {
 }
 
 /// A place of an event for one resource.
-#[derive(Debug, Drop)]
+#[derive(Drop)]
 pub struct RawEventResource {
     /// The preassigned resource. Without one, the role and the type are there.
     pub reference: Option<Ref>,
@@ -162,7 +162,7 @@ pub struct RawEventResource {
 }
 
 /// A group of solutions.
-#[derive(Debug, Drop)]
+#[derive(Drop)]
 pub struct SolutionGroup {
     pub id: Name,
     pub meta_data: Option<MetaData>,
@@ -170,7 +170,7 @@ pub struct SolutionGroup {
 }
 
 /// A solution.
-#[derive(Debug, Drop)]
+#[derive(Drop)]
 pub struct RawSolution {
     /// A reference to its instance.
     pub reference: Ref,
@@ -180,7 +180,7 @@ pub struct RawSolution {
 }
 
 /// What a solution says of one event, or of a part of it.
-#[derive(Debug, Drop)]
+#[derive(Drop)]
 pub struct RawEntry {
     /// A reference to the event.
     pub reference: Ref,
@@ -192,7 +192,7 @@ pub struct RawEntry {
 }
 
 /// A resource that an entry gives.
-#[derive(Debug, Drop)]
+#[derive(Drop)]
 pub struct RawGiven {
     /// A reference to the resource.
     pub reference: Ref,

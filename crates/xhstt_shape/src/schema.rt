@@ -5,7 +5,7 @@ use crate::words::{Kind, Label, Tag};
 use khe_base::limits::NUMBER;
 
 /// How often a child may stand in its element.
-#[derive(Clone, Copy, Debug)]
+#[derive(Clone, Copy)]
 pub enum Mark {
     /// Exactly once.
     Once,
@@ -16,7 +16,7 @@ pub enum Mark {
 }
 
 /// The rows of the table of elements: what one element may have.
-#[derive(Clone, Copy, Debug)]
+#[derive(Clone, Copy)]
 pub enum Row {
     /// The outermost element.
     Archive,
@@ -123,7 +123,7 @@ pub enum Row {
 }
 
 /// What stands in an element.
-#[derive(Clone, Copy, Debug)]
+#[derive(Clone, Copy)]
 pub enum Content {
     /// Elements, and no text.
     Elements,
@@ -142,14 +142,14 @@ pub enum Content {
 }
 
 /// An attribute that an element may have, and whether it must.
-#[derive(Clone, Copy, Debug)]
+#[derive(Clone, Copy)]
 pub struct Given {
     pub label: Label,
     pub required: bool,
 }
 
 /// A child that an element may have: its name, how often it stands there, and its own row.
-#[derive(Clone, Copy, Debug)]
+#[derive(Clone, Copy)]
 pub struct Child {
     pub tag: Tag,
     pub mark: Mark,

@@ -4,7 +4,7 @@ use crate::building::{Build, all, every, optional};
 use crate::leaves::{id, optional_duration, optional_name};
 use crate::records::{Archive, RawEntry, RawGiven, RawSolution, SolutionGroup};
 use crate::words::{Label, Tag};
-use khe_base::NoMemory;
+use khe_base::{NoMemory, both};
 use std::alloc::Global;
 use xhstt_text::Element;
 
@@ -66,11 +66,20 @@ impl Build for Archive {
 
     #[tactic(auto, unfolding(crate::specs::Values::archive))]
     fn build(alloc: Global, element: &Element<'_, '_>) -> Result<Archive, NoMemory> {
+        let head = both(
+            optional_name(alloc, Label::Id, element),
+            optional(alloc, Tag::MetaData, element),
+        );
+        let lists = both(
+            every(alloc, Tag::Instances, element),
+            every(alloc, Tag::SolutionGroups, element),
+        );
+        let ((id, meta_data), (instances, solution_groups)) = both(head, lists)?;
         Ok(Archive {
-            id: optional_name(alloc, Label::Id, element)?,
-            meta_data: optional(alloc, Tag::MetaData, element)?,
-            instances: every(alloc, Tag::Instances, element)?,
-            solution_groups: every(alloc, Tag::SolutionGroups, element)?,
+            id,
+            meta_data,
+            instances,
+            solution_groups,
         })
     }
 }

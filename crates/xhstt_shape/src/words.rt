@@ -2,7 +2,7 @@ ghost use Rattle.std.specs.Prelude.{◌≡◌};
 ghost use Rattle.xhstt_shape.specs.Words as words;
 
 /// The sixteen kinds of constraints.
-#[derive(Clone, Copy, Debug)]
+#[derive(Clone, Copy)]
 pub enum Kind {
     /// Events have times.
     AssignTime,
@@ -66,7 +66,7 @@ impl Kind {
 }
 
 /// The names of elements.
-#[derive(Clone, Copy, Debug)]
+#[derive(Clone, Copy)]
 pub enum Tag {
     HighSchoolTimetableArchive,
     MetaData,
@@ -190,7 +190,7 @@ impl Tag {
 }
 
 /// The names of attributes.
-#[derive(Clone, Copy, Debug)]
+#[derive(Clone, Copy)]
 pub enum Label {
     Id,
     Reference,

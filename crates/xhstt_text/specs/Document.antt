@@ -2,6 +2,7 @@
 -- and the table and the forest that a document stands for.
 use Rattle.std.specs.Prelude.{ℕ, suc, ◌≡◌, ◌+◌, ◌<◌, Bool, true, false, ◌||◌, if◌then◌else◌, List, [], ◌∷◌, ◌++◌, length, Option, Some, None}
 use Rattle.std.specs.Str.{IsUtf8, bytes_eq}
+use Rattle.khe_base.specs.declared.limits.TheConstants.{DEPTH}
 use Rattle.xhstt_text.specs.Units.{Piece, piece_text, IsPiece}
 use Rattle.xhstt_text.specs.Bytes.{IsDeclared, declaration_start, is_white, is_text, is_quoted, is_quote, IsWhite, IsGap, IsName, IsComment}
 use Rattle.xhstt_text.specs.declared.tree.Span.{Span}
@@ -132,9 +133,9 @@ IsContent depth nothing = Unit {0}
 IsContent depth (byte b c) = (is_text b ≡ true) × IsContent depth c
 IsContent depth (piece u c) = IsPiece u × IsContent depth c
 IsContent depth (comment inner c) = IsComment inner × IsContent depth c
-IsContent depth (short s c) = (depth < 32) × IsStart s × IsContent depth c
+IsContent depth (short s c) = (depth < DEPTH) × IsStart s × IsContent depth c
 IsContent depth (long s inner shut white c) =
-    (depth < 32) × IsStart s × IsContent (suc depth) inner × (shut ≡ s.name) × IsWhite white × IsContent depth c
+    (depth < DEPTH) × IsStart s × IsContent (suc depth) inner × (shut ≡ s.name) × IsWhite white × IsContent depth c
 
 -- the content is a single element
 abbrev pub IsElement : Content → Type 0

@@ -3,6 +3,7 @@
 -- that spell no text leave the grammar first.
 use Rattle.std.specs.Prelude.{◌*◌, Bool, false, ℕ, ◌+◌, ◌==◌, ◌&&◌, nat_lt, nat_le, if◌then◌else◌, List, [], ◌∷◌, ◌++◌, length, set, Option, Some, None, Result, Ok, Err}
 use Rattle.std.specs.Str.{bytes_eq}
+use Rattle.khe_base.specs.declared.limits.TheConstants.{DEPTH}
 use Rattle.xhstt_text.specs.Units.{is_decimal, is_hexadecimal, digit, is_character, is_last}
 use Rattle.xhstt_text.specs.Bytes.{is_white, is_first, is_name, is_text, is_quoted, is_quote, dashes}
 use Rattle.xhstt_text.specs.Document.{Rows, span, has_name}
@@ -171,7 +172,7 @@ step_opened [] place r at b =
     if is_first b then state (start_name place (b ∷ [])) r
     else (if b == 33 then state (bang place early) r else refused (no_tag place at b))
 step_opened (f ∷ fs) place r at b =
-    if is_first b then (if nat_lt (length (f ∷ fs)) 32 then state (start_name place (b ∷ [])) r else refused (too_deep place))
+    if is_first b then (if nat_lt (length (f ∷ fs)) DEPTH then state (start_name place (b ∷ [])) r else refused (too_deep place))
     else (if b == 47 then state (shut_begin place) r
     else (if b == 33 then state (bang place early) r else refused (no_tag place at b)))
 

@@ -4,7 +4,7 @@ use crate::tree::{Attribute, Span};
 use std::marker::Model;
 
 /// One attribute of an element, with the places of its parts.
-#[derive(Clone, Copy, Debug)]
+#[derive(Clone, Copy)]
 pub struct AttributeText<'a> {
     /// The place of the first byte of its name.
     pub name_at: u64,

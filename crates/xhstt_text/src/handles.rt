@@ -184,6 +184,3 @@ impl<'t, 'a> Children<'t, 'a> {
         Some(element)
     }
 }
-
-#[cfg(test)]
-mod tests;

@@ -121,8 +121,3 @@ pub fn elements<'a>(alloc: Global, bytes: &'a [u8]) -> Result<Tree<'a>, TextFaul
         }),
     }
 }
-
-#[cfg(test)]
-mod mutations;
-#[cfg(test)]
-mod tests;

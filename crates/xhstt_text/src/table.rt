@@ -6,7 +6,7 @@ use crate::tree::{Attribute, Node, Span};
 use khe_base::NoMemory;
 
 /// An element whose end tag was not read yet.
-#[derive(Clone, Copy, Debug)]
+#[derive(Clone, Copy)]
 pub struct OpenElement<'a> {
     pub number: u32,
     pub name: &'a [u8],
@@ -15,7 +15,7 @@ pub struct OpenElement<'a> {
 }
 
 /// A start tag whose attributes were read.
-#[derive(Clone, Copy, Debug)]
+#[derive(Clone, Copy)]
 pub struct StartTag<'a> {
     /// The place of its `<`.
     pub at: u64,
@@ -29,7 +29,7 @@ pub struct StartTag<'a> {
 }
 
 /// What was read so far: the rows, and the open elements, the innermost last.
-#[derive(Debug, Drop)]
+#[derive(Drop)]
 pub struct Table<'a> {
     pub nodes: Vec<Node>,
     pub attributes: Vec<Attribute>,

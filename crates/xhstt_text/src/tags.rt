@@ -15,10 +15,11 @@ use crate::names::{add_name, no_names};
 use crate::references::piece;
 use crate::table::{OpenElement, StartTag, Table};
 use crate::tree::{Attribute, Node, Span};
+use khe_base::limits;
 use std::alloc::Global;
 
 // How many elements may be open at once.
-const DEPTH: usize = 32;
+const DEPTH: usize = limits::DEPTH as usize;
 
 // A quote, and the place after it.
 fn quote<'a>(here: Cursor<'a>) -> Option<(u8, Cursor<'a>)>

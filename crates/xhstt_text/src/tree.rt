@@ -1,14 +1,14 @@
 use khe_base::Seq;
 
 /// A range of places: from the first up to, and without, the last.
-#[derive(Clone, Copy, Debug, PartialEq, Eq)]
+#[derive(Clone, Copy)]
 pub struct Span {
     pub from: u64,
     pub to: u64,
 }
 
 /// One element of a text.
-#[derive(Clone, Copy, Debug, PartialEq, Eq)]
+#[derive(Clone, Copy)]
 pub struct Node {
     /// The place of its `<`.
     pub at: u64,
@@ -27,7 +27,7 @@ pub struct Node {
 }
 
 /// One attribute of an element.
-#[derive(Clone, Copy, Debug, PartialEq, Eq)]
+#[derive(Clone, Copy)]
 pub struct Attribute {
     /// The place of the first byte of its name.
     pub at: u64,
@@ -39,7 +39,7 @@ pub struct Attribute {
 
 /// The elements of a text in document order, as one flat table over its bytes. An element's
 /// number is its place in `nodes`.
-#[derive(Debug, Drop)]
+#[derive(Drop)]
 pub struct Tree<'a> {
     pub bytes: &'a [u8],
     pub nodes: Seq<Node>,

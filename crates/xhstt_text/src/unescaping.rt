@@ -12,9 +12,6 @@ ghost use Rattle.xhstt_text.specs.Units.{is_character};
 use khe_base::{NoMemory, Text};
 use std::alloc::Global;
 
-#[cfg(test)]
-mod tests;
-
 /// What stands at a place of a text.
 #[derive(Clone, Copy)]
 pub(crate) enum Part {

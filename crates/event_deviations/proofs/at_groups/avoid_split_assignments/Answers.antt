@@ -1,6 +1,5 @@
 use Rattle.std.proofs.Common.{◌∙◌, ap, ◌-◌, ℕ, length}
 use Rattle.std.proofs.lemmas.List.{take_all}
-use Rattle.khe_instance.specs.Running.{duties}
 use Rattle.event_deviations.specs.Groups.{has_duty_among}
 use Rattle.event_deviations.proofs.MarkLemmas.{marked_count-by}
 use Rattle.event_deviations.proofs.at_groups.avoid_split_assignments.Goals as goal
@@ -8,7 +7,7 @@ use Rattle.event_deviations.proofs.at_groups.avoid_split_assignments.Goals as go
 pub returns-clause-exact : goal.returns-clause-exact
 returns-clause-exact c =
     let infos = c.args.index.now.parts.events in
-    let ds = duties c.args.index.now.plain.meets c.args.index.now.plain.tasks in
+    let ds = c.args.index.now.duties in
     let es = c.args.events.now in
     let old = c.loop-event.invariant in
     let all = take_all c.loop-event.event-index es c.loop-event-test.false in

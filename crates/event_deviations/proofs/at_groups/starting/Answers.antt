@@ -1,14 +1,13 @@
 use Rattle.std.proofs.Common.{◌≡◌, ◌∙◌, sym, ap, ap₂, ◌+◌, ◌≤◌, ℕ, get_or, count_by, arith}
 use Rattle.std.proofs.lemmas.List.Sums.{sum_by_more}
 use Rattle.khe_instance.specs.EventDeviation.{starts_in}
-use Rattle.event_deviations.specs.Bounded.{duration_at}
+use Rattle.khe_instance.specs.Lookups.{duration_at}
 use Rattle.event_deviations.specs.Groups.{starting_at}
-use Rattle.event_deviations.proofs.EventLemmas.{few}
 use Rattle.event_deviations.proofs.at_groups.starting.Goals as goal
 
 pub loop-event-preserved : goal.loop-event-preserved
 loop-event-preserved c =
-    let meets = c.args.index.now.plain.meets in
+    let meets = c.args.index.now.meets in
     let infos = c.args.index.now.parts.events in
     let times = c.args.times.now in
     let es = c.args.events.now in
@@ -21,7 +20,7 @@ loop-event-preserved c =
     let more = sum_by_more (starting_at meets times) es i 0 here in
     let limit = sum_by_more (duration_at infos) es i 0 here in
     let short : c.count_starting-total.result ≤ duration_at infos e =
-    omega (arith, c.count_starting-total.ensures.bound, few c.meets.result.now c.meets.ensures.bounded.each, c.meets.ensures.bounded.together) in
+    omega (arith, c.count_starting-total.ensures.bound, c.meets.ensures.few) in
     record {
       exact = ap₂ (λ (a b : ℕ). a + b) old.exact own ∙ sym more;
       bound = omega (arith, old.bound);

@@ -7,6 +7,6 @@ use Rattle.event_deviations.proofs.tasks.duties.Given as goal
 -- rest of the meets
 abbrev pub invariant-loop-meet : goal.invariant-loop-meet
 invariant-loop-meet l = record {
-  made : l.duties ++ duties (drop l.meet-index l.meet-items) l.rest ≡ duties l.plain.meets l.plain.tasks;
-  beside : Beside l.instance (drop l.meet-index l.meet-items) l.rest;
+  made : l.duties ++ duties (drop l.meet-index l.meets) l.rest ≡ duties l.meets l.tasks;
+  beside : Beside l.inst (drop l.meet-index l.meets) l.rest;
 }

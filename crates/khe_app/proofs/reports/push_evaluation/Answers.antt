@@ -1,28 +1,29 @@
 -- At each turn one monitor leaves what is left and joins the lines.
 use Rattle.std.proofs.Common.{◌≡◌, ◌≤◌, ◌<◌, ◌+◌, ◌++◌, [], ◌∙◌, sym, ap, subst, arith, length, drop, get_or, append_assoc, OnOk, false, ◌==◌}
 use Rattle.std.proofs.Math.ListN.{drop_of_length-le}
-use Rattle.std.proofs.lemmas.List.{append-nil, length-map}
-use Rattle.std.proofs.lemmas.List.FromFn.{length-enumerate_from}
+use Rattle.std.proofs.lemmas.List.{append-nil}
+use Rattle.std.proofs.lemmas.List.FromFn.{length-map-range_with_len}
 use Rattle.std.specs.List.{enumerate_from, flat_map, list_any}
 use Rattle.khe_base.proofs.ListLemmas.{there, mapped-there}
 use Rattle.evaluation_report.specs.Lines.{total_line}
 use Rattle.khe_app.specs.Report.{monitor_text}
+use Rattle.khe_instance.proofs.CostsLaws.{cost-there}
+use Rattle.khe_instance.specs.Costs.{cost_at}
 use Rattle.khe_instance.specs.Evaluated as evaluated
-use Rattle.khe_app.proofs.ReportLemmas.{numbered-there, lines-there}
+use Rattle.khe_app.proofs.ReportLemmas.{lines-there}
 use Rattle.khe_app.proofs.reports.push_evaluation.Goals as goal
 
 pub bounds-costs-number : goal.bounds-costs-number
 bounds-costs-number c =
     let p = c.args.inst.now in
-    let f = evaluated.cost_in p c.args.plain.now in
+    let s = c.args.plain.now in
     omega (
       arith,
       c.loop-number-test.true,
       c.monitors-number-end.ensures,
       ap length c.as_slice-costs.ensures,
       ap length c.in_ok-values.ensures.costs,
-      length-map (enumerate_from 0 p.monitors) f,
-      length-enumerate_from 0 p.monitors,
+      length-map-range_with_len (cost_at p (evaluated.is_detached s) (evaluated.deviations p s)) 0 (length p.monitors),
     )
 
 pub loop-number-preserved : goal.loop-number-preserved
@@ -38,7 +39,7 @@ loop-number-preserved c =
     let deviation : get_or c.as_slice-deviations.result.now i 0 ≡ evaluated.deviation_in p s found.value =
     ap (λ ds. get_or ds i 0) (c.as_slice-deviations.ensures ∙ c.in_ok-values.ensures.deviations) ∙ mapped-there (evaluated.deviation_in p s) ms i found.value 0 found.found in
     let cost : get_or c.as_slice-costs.result.now i 0 ≡ evaluated.cost_in p s (i, found.value) =
-    ap (λ cs. get_or cs i 0) (c.as_slice-costs.ensures ∙ c.in_ok-values.ensures.costs) ∙ numbered-there (evaluated.cost_in p s) ms i found.value 0 found.found in
+    ap (λ cs. get_or cs i 0) (c.as_slice-costs.ensures ∙ c.in_ok-values.ensures.costs) ∙ cost-there p s i found.value found.found in
     let attached : evaluated.is_detached s i ≡ false = ap (λ ds. list_any (λ d. d.0 == i) ds) c.requires.attached in
     ap (λ t. t ++ rest) (c.in_ok-push_monitor.ensures s found.value deviation cost attached)
     ∙ append_assoc c.loop-number.text (f (i, found.value)) rest

@@ -66,6 +66,7 @@ loop-group-preserved g c =
           (c.in_ok-write_group.ensures.amid (g.K.Sink.taken c.args.out.now) rest (report all c.args.archive.now r) amid);
       ones = subst (λ m. AreOnes r (n + m) later) (sym count) (ones-right r n x.solutions later (subst (AreOnes r n) sols c.loop-group.invariant.ones));
       small = omega (arith, c.loop-group.invariant.small, ap length sols, length-append x.solutions later, count);
+      evaluators = c.write_group.ensures.evaluators ∙ c.loop-group.invariant.evaluators;
       counted = omega (arith, c.loop-group.invariant.counted, c.write_group.ensures.counted);
     }
 

@@ -1,5 +1,5 @@
 -- What was written and what waits, with the solutions that are left.
-use Rattle.std.proofs.Common.{ℕ, ◌≤◌, ◌+◌, ◌++◌, List, Option, drop}
+use Rattle.std.proofs.Common.{ℕ, ◌≡◌, ◌≤◌, ◌+◌, ◌++◌, List, Option, drop}
 use Rattle.std.specs.List.{enumerate_from, flat_map}
 use Rattle.khe_app.specs.Amid.{IsAmid}
 use Rattle.khe_app.specs.Report.{group_text, numbered_text}
@@ -9,5 +9,6 @@ abbrev pub invariant-loop-k : goal.invariant-loop-k
 invariant-loop-k g l = record {
   amid : (before : Option (List ℕ)) (rest whole : List ℕ) → IsAmid before (g.K.Sink.taken l.fn.out) l.fn.text (group_text l.fn.all l.fn.resolved l.fn.first l.fn.group ++ rest) whole
       → IsAmid before (g.K.Sink.taken l.out) l.text (flat_map (numbered_text l.fn.all l.fn.resolved l.fn.group.id.text) (enumerate_from (l.fn.first + l.k) (drop l.k l.fn.group.solutions)) ++ rest) whole;
+  evaluators : l.evaluators.items ≡ l.fn.evaluators.items;
   counted : g.K.Sink.faults l.fn.out ≤ g.K.Sink.faults l.out;
 }

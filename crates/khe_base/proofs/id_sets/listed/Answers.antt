@@ -1,6 +1,5 @@
-use Rattle.std.proofs.Common.{◌≡◌, ◌*◌, ◌++◌, ◌∙◌, ap, sym, get_or, []}
-use Rattle.std.proofs.lemmas.List.{get_or_read}
-use Rattle.khe_base.specs.StoredSets.{members_below, members_in}
+use Rattle.std.proofs.Common.{◌*◌, ◌++◌, ◌∙◌, ap, sym, get_or}
+use Rattle.khe_base.specs.StoredSets.{members_in}
 use Rattle.khe_base.proofs.MembersLemmas.{members_below-zero, members_below-more}
 use Rattle.khe_base.proofs.id_sets.listed.Goals as goal
 

@@ -1,25 +1,31 @@
--- The slots of each event come after those of the events before it.
-use Rattle.std.proofs.Common.{arith}
-use Rattle.khe_base.proofs.ListLemmas.{all-there}
-use Rattle.khe_instance.specs.WellMade.{IsEvent}
-use Rattle.khe_told.specs.Slots.{no_meets}
-use Rattle.khe_told.proofs.OpeningLaws.{opened_more, opened_next}
+-- The row of each slot comes after those of the slots before it.
+use Rattle.std.proofs.Common.{◌+◌, List, None, arith, subst, sym}
+use Rattle.khe_told.specs.declared.rows.Row.{Row}
+use Rattle.khe_told.proofs.OpeningLaws.{IsOpened, few_places, opened_more, opened_order, opened_slots}
 use Rattle.khe_told.proofs.opening.rows_of.Goals as goal
 
-pub push_rows-requires-clause-meets : goal.push_rows-requires-clause-meets
-push_rows-requires-clause-meets c =
-    (opened_next c.args.inst.now.events (no_meets c.args.inst.now) c.loop-number.rows.items c.loop-number.next c.loop-number.number c.event-event.result.now c.loop-number.invariant c.event-event.ensures).meets
-
-pub push_rows-requires-clause-duration : goal.push_rows-requires-clause-duration
-push_rows-requires-clause-duration c = (all-there (IsEvent c.args.inst.now) c.args.inst.now.events c.loop-number.number c.event-event.result.now c.facts.ensures.events c.event-event.ensures).duration
-
-pub push_rows-requires-clause-small : goal.push_rows-requires-clause-small
-push_rows-requires-clause-small c =
-    let n = (opened_next c.args.inst.now.events (no_meets c.args.inst.now) c.loop-number.rows.items c.loop-number.next c.loop-number.number c.event-event.result.now c.loop-number.invariant c.event-event.ensures).tasks in
-    let l = c.facts.ensures.limits.tasks in
-    omega (arith, n, l)
+pub overflow_cast-len : goal.overflow_cast-len
+overflow_cast-len c =
+    let few = few_places c.args.inst.now c.loop-number.number c.event_of-event.result.0 c.event.result.now c.facts.ensures.first_meets c.event_of-event.ensures c.event.ensures in
+    let limit = c.facts.ensures.limits.tasks in
+    let many = c.len.ensures in
+    omega (arith, few, limit, many)
 
 pub loop-number-preserved : goal.loop-number-preserved
 loop-number-preserved c =
-    opened_more c.args.inst.now.events (no_meets c.args.inst.now) c.loop-number.rows.items c.push_rows.new.rows.items c.loop-number.next c.in_ok-next.next c.loop-number.number c.event-event.result.now
-    c.loop-number.invariant c.event-event.ensures (c.in_ok-next.ensures.slots) (c.in_ok-next.ensures.order) (c.in_ok-next.ensures.next)
+    let p = c.args.inst.now in
+    let event = c.event_of-event.result in
+    let row : Row = record { event = event; first_task = c.first_task.result; places = c.len.result; span = None } in
+    subst (λ (rs : List Row). IsOpened p rs (c.loop-number.number + 1)) (sym {A = List Row} c.in_ok-push.ensures.items)
+    (opened_more p c.loop-number.rows.items c.loop-number.number event.0 c.event.result.now row c.facts.ensures.first_meets c.loop-number.invariant c.event_of-event.ensures c.event.ensures
+    (λ i. record { event = event; first_task = c.first_task.ensures i; places = c.len.ensures i; span = None }))
+
+pub returns-clause-slots : goal.returns-clause-slots
+returns-clause-slots c =
+    let many = c.meet_slots-number-end.ensures in
+    opened_slots c.args.inst.now c.loop-number.rows.items c.loop-number.number (omega (arith, many)) c.loop-number.invariant
+
+pub returns-clause-order : goal.returns-clause-order
+returns-clause-order c =
+    let many = c.meet_slots-number-end.ensures in
+    opened_order c.args.inst.now c.loop-number.rows.items c.loop-number.number (omega (arith, many)) c.loop-number.invariant

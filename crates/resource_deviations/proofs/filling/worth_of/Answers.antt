@@ -1,7 +1,7 @@
 -- A task is worth no more than its place.
 use Rattle.std.proofs.Common.{◌≡◌, ◌≤◌, ◌*◌, ◌/◌, ap, subst, sym, ◌∙◌, ℕ}
 use Rattle.khe_base.specs.declared.limits.TheConstants.{NUMBER}
-use Rattle.resource_deviations.proofs.DutyLemmas.{worth_small}
+use Rattle.khe_instance.proofs.MadeLemmas.{worth_small}
 use Rattle.resource_deviations.proofs.filling.worth_of.Goals as goal
 
 pub returns-in-Some-clause-small : goal.returns-in-Some-clause-small

@@ -2,7 +2,7 @@
 use Rattle.std.proofs.Common.{◌≡◌, ◌+◌, ◌-◌, ℕ, arith, slice_index, sum_by}
 use Rattle.std.specs.List.{range_with_len}
 use Rattle.timetables.specs.Counts.{row_of}
-use Rattle.resource_deviations.proofs.SumsLemmas.{sum_by_range_more}
+use Rattle.khe_instance.proofs.SumsLemmas.{sum_by_range_more}
 use Rattle.resource_deviations.proofs.measures.clashes.Goals as goal
 
 pub loop-t-preserved : goal.loop-t-preserved

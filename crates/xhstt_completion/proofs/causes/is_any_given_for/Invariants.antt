@@ -1,7 +1,7 @@
 -- One that is left is given for the role, if any is.
 use Rattle.std.proofs.Common.{◌≡◌, drop}
 use Rattle.std.specs.List.{list_any}
-use Rattle.khe_instance.specs.EventDeviation.{is_role}
+use Rattle.khe_instance.specs.Lookups.{is_role}
 use Rattle.xhstt_completion.specs.Entries.{role_of}
 use Rattle.xhstt_completion.proofs.causes.is_any_given_for.Given as goal
 

@@ -1,4 +1,4 @@
-use Rattle.std.proofs.Common.{◌∙◌, ap, subst, sym, arith, refl}
+use Rattle.std.proofs.Common.{◌∙◌, ap, subst, sym, arith}
 use Rattle.khe_base.specs.StoredSets.{set_of_bits, IsStored}
 use Rattle.khe_base.proofs.IdSetLemmas.{IsStored-zeros, set_of_bits-zeros}
 use Rattle.khe_base.proofs.id_sets.IdSet.new.Goals as goal

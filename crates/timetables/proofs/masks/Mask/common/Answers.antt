@@ -3,7 +3,7 @@ use Rattle.std.proofs.Common.{◌≡◌, ◌∙◌, ◌<◌, ◌+◌, ◌*◌, �
 use Rattle.std.proofs.lemmas.List.{get_or_read}
 use Rattle.khe_base.specs.Bits.{is_set, words_for}
 use Rattle.khe_base.proofs.IdSetLemmas.{length-set_of_bits}
-use Rattle.timetables.specs.Counts.{count_below}
+use Rattle.khe_base.specs.Busy.{count_below}
 use Rattle.timetables.proofs.CountsLemmas.{count_below-stays, count_below-le}
 use Rattle.timetables.proofs.MasksLemmas.{common-more, common-whole, no_common-before, no_common-beyond}
 use Rattle.timetables.proofs.masks.Mask.common.Goals as goal

@@ -1,7 +1,7 @@
 -- The count so far is that of the words so far.
 use Rattle.std.proofs.Common.{◌≡◌, ◌*◌, ◌&&◌}
 use Rattle.khe_base.specs.Bits.{is_set}
-use Rattle.timetables.specs.Counts.{count_below}
+use Rattle.khe_base.specs.Busy.{count_below}
 use Rattle.timetables.proofs.masks.Mask.common.Given as goal
 
 abbrev pub invariant-loop-k : goal.invariant-loop-k

@@ -5,7 +5,7 @@ use Rattle.std.proofs.lemmas.Nat.{and_le_l}
 use Rattle.std.proofs.lemmas.List.{get_or_read}
 use Rattle.khe_base.specs.Bits.{is_set, words_for}
 use Rattle.khe_base.proofs.IdSetLemmas.{length-set_of_bits}
-use Rattle.timetables.specs.Counts.{count_below}
+use Rattle.khe_base.specs.Busy.{count_below}
 use Rattle.timetables.proofs.CountsLemmas.{count_below-stays, count_below-le}
 use Rattle.timetables.proofs.MasksLemmas.{free-more, common-bits, free-bits, no_common-before, no_free-before, no_free-beyond, idle-nowhere, idle-ends}
 use Rattle.timetables.proofs.Spans.{IsSpan, IsSpan-widened}

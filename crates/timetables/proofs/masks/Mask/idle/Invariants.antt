@@ -1,7 +1,7 @@
 -- The free times so far are counted, and the span goes from the first busy time so far to the last.
 use Rattle.std.proofs.Common.{◌≡◌, ◌*◌, ◌&&◌, not}
 use Rattle.khe_base.specs.Bits.{is_set}
-use Rattle.timetables.specs.Counts.{count_below}
+use Rattle.khe_base.specs.Busy.{count_below}
 use Rattle.timetables.proofs.Spans.{IsSpan}
 use Rattle.timetables.proofs.masks.Mask.idle.Given as goal
 

@@ -2,7 +2,8 @@
 use Rattle.std.proofs.Common.{◌≡◌, ◌∙◌, ℕ, Bool, ap, length}
 use Rattle.khe_base.specs.IdSet.{has_member}
 use Rattle.khe_base.specs.Bits.{is_set}
-use Rattle.timetables.specs.Counts.{is_busy, count_below, is_idle_time}
+use Rattle.khe_base.specs.Busy.{count_below, is_idle_time}
+use Rattle.timetables.specs.Counts.{is_busy}
 use Rattle.timetables.proofs.rows.Row.idle_in.Goals as goal
 
 pub returns : goal.returns

@@ -1,0 +1,163 @@
+ghost use Rattle.std.specs.Prelude.{◌≡◌, ◌+◌, ◌*◌, ◌<◌, ◌≤◌, ℕ, true, length, slice_index, Some, IfOk, OnOk};
+ghost use Rattle.khe_base.specs.IdSet.{has_member};
+ghost use Rattle.demand_matching.specs.Domains.{domain_of, is_present, is_picked};
+ghost use Rattle.demand_matching.specs.Listing.{IsListing};
+ghost use Rattle.demand_matching.specs.Reach.{IsReach, Reaches, IsInAll, IsReached};
+ghost use Rattle.demand_matching.specs.Table.{IsTable, domains_of, may_take, owner_of, demands_in, supplies_in};
+
+use crate::Domain;
+use crate::order::Order;
+use crate::table::Table;
+use khe_base::{IdSet, NoMemory, Seq};
+use std::alloc::Global;
+
+/// Demands that were reached, in the order in which they were, and a mark for each.
+#[derive(Drop)]
+pub(crate) struct Reach {
+    pub(crate) demands: Seq<u32>,
+    pub(crate) marks: IdSet,
+}
+
+impl Reach {
+    /// None of so many demands.
+    fn new(alloc: Global, count: u32) -> Result<Reach, NoMemory>
+        ensures demands { IfOk result (λ r. length r.demands ≡ 0) }
+        ensures size { IfOk result (λ r. length r.marks ≡ count) }
+        ensures none { IfOk result (λ r. (d : ℕ) → has_member r.marks d ≡ true → ⊥) }
+    {
+        Ok(Reach {
+            demands: Seq::new(alloc),
+            marks: IdSet::new(alloc, count)?,
+        })
+    }
+
+    /// The demand that was reached after so many others.
+    fn demand(&self, k: usize) -> u32
+        requires { k < length self.now.demands }
+        ensures { result ≡ slice_index self.now.demands k }
+    {
+        self.demands.as_slice()[k]
+    }
+
+    /// One demand is reached, if it was not before.
+    fn reach(&mut self, table: &Table, demand: u32) -> Result<(), NoMemory>
+        requires reach { IsReach table.now self.old.demands self.old.marks }
+        requires demand { demand < demands_in table.now }
+        requires present { is_present (domains_of table.now) demand ≡ true }
+        requires all { IsInAll table.now demand }
+        ensures reaches { OnOk result (Reaches table.now self.old self.new) }
+        ensures reached { OnOk result (has_member self.new.marks demand ≡ true) }
+    {
+        if self.marks.has(demand) {
+            return Ok(());
+        }
+        self.marks.insert(demand);
+        self.demands.push(demand)?;
+        Ok(())
+    }
+
+    /// Whoever has a supply is reached, which a demand that was reached may have.
+    fn follow_supply(&mut self, table: &Table, from: u32, supply: usize) -> Result<(), NoMemory>
+        requires table { IsTable table.now }
+        requires reach { IsReach table.now self.old.demands self.old.marks }
+        requires from { has_member self.old.marks from ≡ true }
+        requires supply { supply < supplies_in table.now }
+        requires allowed { may_take (domains_of table.now) from supply ≡ true }
+        ensures reaches { OnOk result (Reaches table.now self.old self.new) }
+        ensures reached { OnOk result ((by : ℕ) → owner_of table.now supply ≡ Some by → has_member self.new.marks by ≡ true) }
+    {
+        let Some(owner) = table.owners[supply] else {
+            return Ok(());
+        };
+        self.reach(table, owner)?;
+        Ok(())
+    }
+
+    /// All are reached that have supplies of one resource which a demand that was reached may have.
+    fn follow_at(
+        &mut self,
+        table: &Table,
+        from: u32,
+        domain: Domain,
+        resource: u32,
+    ) -> Result<(), NoMemory>
+        requires table { IsTable table.now }
+        requires reach { IsReach table.now self.old.demands self.old.marks }
+        requires from { has_member self.old.marks from ≡ true }
+        requires domain { domain_of (domains_of table.now) from ≡ Some domain }
+        requires picked { is_picked table.now.resources domain.resources resource ≡ true }
+        ensures reaches { OnOk result (Reaches table.now self.old self.new) }
+        ensures reached { OnOk result ((time by : ℕ) → is_picked table.now.times domain.times time ≡ true → owner_of table.now (resource * table.now.last + domain.shift + time) ≡ Some by → has_member self.new.marks by ≡ true) }
+    {
+        let row = table.row(domain, resource);
+        for i in 0..table.times.count(domain.times) {
+            let supply = row + table.times.number(domain.times, i) as usize;
+            self.follow_supply(table, from, supply)?;
+        }
+        Ok(())
+    }
+
+    /// All are reached that have supplies which a demand that was reached may have.
+    fn follow(&mut self, table: &Table, from: u32) -> Result<(), NoMemory>
+        requires table { IsTable table.now }
+        requires reach { IsReach table.now self.old.demands self.old.marks }
+        requires from { has_member self.old.marks from ≡ true }
+        ensures reaches { OnOk result (Reaches table.now self.old self.new) }
+        ensures reached { OnOk result ((supply by : ℕ) → may_take (domains_of table.now) from supply ≡ true → owner_of table.now supply ≡ Some by → has_member self.new.marks by ≡ true) }
+    {
+        let Some(domain) = table.demands[from as usize] else {
+            return Ok(());
+        };
+        for i in 0..table.resources.count(domain.resources) {
+            let resource = table.resources.number(domain.resources, i);
+            self.follow_at(table, from, domain, resource)?;
+        }
+        Ok(())
+    }
+
+    /// All that are left out are reached.
+    fn start(&mut self, table: &Table, order: &Order, left: u32) -> Result<(), NoMemory>
+        requires reach { IsReach table.now self.old.demands self.old.marks }
+        requires listing { IsListing table.now order.now left }
+        ensures reaches { OnOk result (Reaches table.now self.old self.new) }
+        ensures reached { OnOk result ((k : ℕ) → k < left → has_member self.new.marks (slice_index order.now.demands.items k) ≡ true) }
+    {
+        for place in 0..left {
+            self.reach(table, order.demands[place as usize])?;
+        }
+        Ok(())
+    }
+
+    /// All that can be are reached.
+    fn follow_all(&mut self, table: &Table) -> Result<(), NoMemory>
+        requires table { IsTable table.now }
+        requires reach { IsReach table.now self.old.demands self.old.marks }
+        ensures reaches { OnOk result (Reaches table.now self.old self.new) }
+        ensures reached { OnOk result ((demand supply by : ℕ) → has_member self.new.marks demand ≡ true → may_take (domains_of table.now) demand supply ≡ true → owner_of table.now supply ≡ Some by → has_member self.new.marks by ≡ true) }
+    {
+        let mut k = 0;
+        while k < self.demands.len() {
+            let demand = self.demand(k);
+            self.follow(table, demand)?;
+            k += 1;
+        }
+        Ok(())
+    }
+}
+
+/// The marks of all demands that are reached from those that are left out.
+pub(crate) fn reached_from(
+    alloc: Global,
+    table: &Table,
+    order: &Order,
+    left: u32,
+) -> Result<IdSet, NoMemory>
+    requires table { IsTable table.now }
+    requires listing { IsListing table.now order.now left }
+    ensures { IfOk result (IsReached table.now) }
+{
+    let mut reach = Reach::new(alloc, table.demands.len() as u32)?;
+    reach.start(table, order, left)?;
+    reach.follow_all(table)?;
+    Ok(reach.marks)
+}

@@ -1,0 +1,17 @@
+//! A timetable that is edited: the ten edits of meets and tasks, each refused for the first cause of
+//! its row or carried out as a list of changes, of which a watcher is noted one by one, and the way
+//! back from each.
+#![tactic(auto)]
+
+mod bits;
+mod checks;
+mod edits;
+mod laws;
+mod lists;
+mod notes;
+mod reads;
+mod room;
+mod slots;
+mod solution;
+
+pub use solution::Solution;

@@ -1,0 +1,12 @@
+pub mod Callers
+pub mod Claiming
+pub mod Closing
+pub mod Joining
+pub mod Kept
+pub mod Looking
+pub mod Offering
+pub mod Opening
+pub mod OrderLemmas
+pub mod ReachedLemmas
+pub mod Splitting
+pub mod Sums

@@ -1,0 +1,9 @@
+//! Tests of what several workers do at the same time, in threads of their own.
+#![tactic(auto)]
+
+#[cfg(test)]
+mod boards;
+#[cfg(test)]
+mod drawing;
+#[cfg(test)]
+mod looking;
