@@ -43,12 +43,7 @@ pub(crate) fn graph_of(alloc: Global, rows: &[Row], times: u32) -> Result<Graph,
 }
 
 /// Sets one deviation, where there is such a monitor.
-fn set<L: Ledger>(
-    graph: &mut Graph,
-    monitor: u32,
-    deviation: u64,
-    steps: &mut Steps<L>,
-) {
+fn set<L: Ledger>(graph: &mut Graph, monitor: u32, deviation: u64, steps: &mut Steps<L>) {
     if monitor < graph.monitors() && deviation <= GREATEST_DEVIATION {
         graph.set(MonitorId(monitor), deviation, steps);
     }
