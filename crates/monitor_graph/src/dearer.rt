@@ -1,7 +1,6 @@
 //! Which monitors became dearer, as a count and a sum that each change of a cost keeps.
 
-ghost use Rattle.std.specs.Prelude.{ℕ, ◌≡◌, ◌<◌, ◌≤◌, ◌+◌, ◌*◌, ◌^◌, length, slice_index, All};
-ghost use Rattle.khe_base.specs.declared.limits.TheConstants.{MONITORS};
+ghost use Rattle.std.specs.Prelude.{◌≡◌, ◌+◌, ◌*◌, length, All};
 ghost use Rattle.monitor_graph.specs.Dearer.{is_dearer, CanRecount};
 ghost use Rattle.monitor_graph.specs.Lines.{line_costs, IsLine};
 

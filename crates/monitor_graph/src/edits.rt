@@ -1,6 +1,6 @@
 //! The six edits of monitors and groups.
 
-ghost use Rattle.std.specs.Prelude.{◌≡◌, ◌<◌, ◌≤◌, [], true, false, None, Some, length, nat_lt, slice_get, slice_set, OnOk, OnErr};
+ghost use Rattle.std.specs.Prelude.{◌≡◌, ◌<◌, [], true, false, None, Some, length, nat_lt, slice_get, slice_set, OnOk, OnErr};
 ghost use Rattle.std.specs.List.{insert};
 ghost use Rattle.khe_told.specs.declared.edits.Edit.TheVariants.{Attach, Detach, MakeGroup, DropGroup, AddChild, RemoveChild};
 ghost use Rattle.monitor_graph.specs.Boards.{KeepsValues, grouping_of, regrouped};

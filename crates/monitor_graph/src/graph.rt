@@ -1,10 +1,10 @@
-ghost use Rattle.std.specs.Prelude.{ℕ, ◌≡◌, ◌<◌, ◌≤◌, ◌+◌, [], true, None, map, length, slice_index, slice_set, replicate, All, IfOk, IsOk, OnOk, OnErr};
-ghost use Rattle.khe_base.specs.declared.limits.TheConstants.{GROUPS, MONITORS};
+ghost use Rattle.std.specs.Prelude.{◌≡◌, ◌<◌, ◌≤◌, ◌+◌, [], true, length, slice_index, slice_set, replicate, All, IfOk, IsOk, OnOk, OnErr};
+ghost use Rattle.khe_base.specs.declared.limits.TheConstants.{MONITORS};
 ghost use Rattle.khe_instance.specs.Costs.{totals_of};
 ghost use Rattle.khe_instance.specs.declared.parts.Parts.{Parts};
 ghost use Rattle.monitor_graph.specs.Boards.{grouping_of, deviations_of};
 ghost use Rattle.monitor_graph.specs.Edits.{is_attached};
-ghost use Rattle.monitor_graph.specs.Groups.{AreGroups, children_at, has_group, child_at, seated};
+ghost use Rattle.monitor_graph.specs.Groups.{AreGroups, has_group, child_at, seated};
 ghost use Rattle.monitor_graph.specs.Lines.{IsLine};
 ghost use Rattle.monitor_graph.specs.Opened.{IsFresh, groups_in};
 ghost use Rattle.monitor_graph.specs.Values.{IsOf, IsNextDefect, costs_in, group_totals, only_dearer};
@@ -21,10 +21,11 @@ use std::marker::Model;
 /// The deviations of all monitors, which of them are attached, and groups of monitors; and what
 /// follows from these: costs, totals, defects, and which monitors cost more than when the costs were
 /// marked. Contracts see the first three, the costs that were marked, and how many children there is
-/// room for.
+/// room for. A graph has the definitions' values where it is of an instance (`IsOf`), as `open` gives
+/// it.
 ///
 /// A change of a deviation takes constant time, and so do all values but the next defect and what a
-/// group costs. Only `open` and `room` take memory.
+/// group costs. Only `open`, `of_lines` and `room` take memory.
 #[derive(Drop)]
 pub struct Graph {
     pub(crate) lines: Vec<Line>,
@@ -57,8 +58,9 @@ impl Model for Graph {
 }
 
 impl Graph {
-    /// The graph of these lines, without groups. It takes time and memory in proportion to them.
-    pub(crate) fn bare(alloc: Global, lines: Vec<Line>) -> Result<Graph, NoMemory>
+    /// The graph of these lines, without groups; the costs that are marked are 0. It takes time and
+    /// memory in proportion to the lines.
+    pub fn of_lines(alloc: Global, lines: Vec<Line>) -> Result<Graph, NoMemory>
         requires few { length lines.items ≤ MONITORS }
         requires fresh { All IsFresh lines.items }
         ensures lines { IfOk result (λ g. g.lines ≡ lines.items) }
@@ -89,6 +91,13 @@ impl Graph {
     {
         let _ = &self.lines;
         self.groups.facts();
+    }
+
+    /// How many monitors there are.
+    pub fn monitors(&self) -> u32
+        ensures { result ≡ length self.now.lines }
+    {
+        self.lines.len() as u32
     }
 
     /// The deviation of a monitor.

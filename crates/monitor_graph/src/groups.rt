@@ -1,4 +1,4 @@
-ghost use Rattle.std.specs.Prelude.{ℕ, ◌≡◌, ◌<◌, ◌≤◌, ◌+◌, ◌^◌, [], true, false, List, Option, Some, None, is_none, is_some, drop, length, slice_get, slice_set, take, replicate, All, AllPairs, ◌≢◌, IfOk, IsOk, OnOk, OnErr, MatchOption, nat_le};
+ghost use Rattle.std.specs.Prelude.{ℕ, ◌≡◌, ◌<◌, ◌≤◌, ◌+◌, ◌^◌, [], true, false, Option, Some, None, is_none, drop, length, slice_get, slice_set, take, All, AllPairs, ◌≢◌, IfOk, IsOk, OnOk, OnErr, MatchOption, nat_le};
 ghost use Rattle.std.specs.List.{insert, sum_by, position_or_len};
 ghost use Rattle.std.specs.Option.{option_map, option_map_or};
 ghost use Rattle.khe_base.specs.declared.limits.TheConstants.{GROUPS, MONITORS};

@@ -8,7 +8,7 @@ ghost use Rattle.monitor_graph.specs.Lines.{line_cost, hard_cost, soft_cost, IsL
 use khe_base::{CostFn, MonitorId, Totals, cost};
 
 /// A monitor: how its constraint costs, and what it has now.
-#[derive(Clone, Copy, Debug, PartialEq, Eq)]
+#[derive(Clone, Copy)]
 pub struct Line {
     pub function: CostFn,
     pub weight: u32,

@@ -1,6 +1,6 @@
 //! A graph of a timetable, before any deviation is known.
 
-ghost use Rattle.std.specs.Prelude.{ℕ, ◌≡◌, ◌<◌, ◌≤◌, ◌==◌, [], false, None, Some, All, length, map, replicate, slice_get, slice_set, if◌then◌else◌, IfOk, OnOk};
+ghost use Rattle.std.specs.Prelude.{ℕ, ◌≡◌, ◌<◌, ◌==◌, [], false, None, Some, All, length, map, replicate, slice_get, slice_set, if◌then◌else◌, IfOk, OnOk};
 ghost use Rattle.std.specs.List.{list_any};
 ghost use Rattle.std.specs.List.Sorted.{IsStrictlyIncreasing};
 ghost use Rattle.khe_instance.specs.States.{IsValid};
@@ -28,7 +28,7 @@ impl Graph {
         ensures marked { IfOk result (λ g. g.marked ≡ replicate (length inst.now.monitors) 0) }
     {
         inst.facts();
-        let mut graph = Graph::bare(alloc, lines_of(alloc, inst)?)?;
+        let mut graph = Graph::of_lines(alloc, lines_of(alloc, inst)?)?;
         graph.detach_all(plain.detached.as_slice());
         match graph.group_all(plain.groups.as_slice()) {
             Ok(()) => Ok(graph),

@@ -9,8 +9,8 @@ use Rattle.monitor_graph.specs.declared.lines.Line.{Line}
 use Rattle.monitor_graph.proofs.OpenLaws.{lines_fresh, lines_rates, lines_deviations, attached_are}
 use Rattle.monitor_graph.proofs.graph.Graph.open.Goals as goal
 
-pub bare-requires-clause-fresh : goal.bare-requires-clause-fresh
-bare-requires-clause-fresh c = subst (All IsFresh) (sym c.in_ok-lines_of.ensures) (lines_fresh c.args.inst.now c.facts.ensures)
+pub of_lines-requires-clause-fresh : goal.of_lines-requires-clause-fresh
+of_lines-requires-clause-fresh c = subst (All IsFresh) (sym c.in_ok-lines_of.ensures) (lines_fresh c.args.inst.now c.facts.ensures)
 
 pub detach_all-requires : goal.detach_all-requires
 detach_all-requires c =

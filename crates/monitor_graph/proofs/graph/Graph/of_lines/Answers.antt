@@ -1,6 +1,6 @@
 use Rattle.std.proofs.Common.{◌≡◌, ◌+◌, ◌/◌, length, replicate, ap, ◌∙◌, arith}
 use Rattle.monitor_graph.proofs.OpenLaws.{fresh_totalled, fresh_defects, fresh_compared}
-use Rattle.monitor_graph.proofs.graph.Graph.bare.Goals as goal
+use Rattle.monitor_graph.proofs.graph.Graph.of_lines.Goals as goal
 
 pub invariant_of-result : goal.invariant_of-result
 invariant_of-result c =
