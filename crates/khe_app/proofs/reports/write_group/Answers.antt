@@ -24,3 +24,28 @@ returns-in_err-write_solution-clause-front g c = λ before rest whole h.
     let next = subst (λ t. IsAmid before taken text (t ++ rest) whole) (lines-there f sols k j x at) (c.loop-k.invariant.amid before rest whole h) in
     let split = subst (λ t. IsAmid before taken text t whole) (append_assoc (f (j, x)) tail rest) next in
     always-err c.from_residual.result (err-of c.write_solution.result c.in_err-write_solution.field-0.0 c.in_err-write_solution.was (c.write_solution.ensures.front before (tail ++ rest) whole split))
+
+pub loop-k-preserved : goal.loop-k-preserved
+loop-k-preserved g c =
+    let f = numbered_text c.args.all c.args.resolved.now c.args.group.now.id.text in
+    let sols = c.args.group.now.solutions in
+    let k = c.loop-k.k in
+    let j = c.args.first + k in
+    let x = c.solution-item.result in
+    let within : k < length sols = omega (arith, c.loop-k-test.true, ap length c.as_slice-solution-items.ensures) in
+    let at : slice_get sols k ≡ Some x =
+    slice_get-get_or sols k x within ∙ ap (λ y. Some y) (ap (λ xs. get_or xs k x) (sym c.as_slice-solution-items.ensures) ∙ sym c.solution-item.is) in
+    let tail = flat_map f (enumerate_from (j + 1) (drop (k + 1) sols)) in
+    let text = c.loop-k.text in
+    let taken = g.K.Sink.taken c.loop-k.out in
+    let later = g.K.Sink.taken c.write_solution.new.out in
+    let on : j + 1 ≡ c.args.first + (k + 1) = omega arith in
+    record {
+      amid = λ before rest whole h.
+          let next = subst (λ t. IsAmid before taken text (t ++ rest) whole) (lines-there f sols k j x at) (c.loop-k.invariant.amid before rest whole h) in
+          let split = subst (λ t. IsAmid before taken text t whole) (append_assoc (f (j, x)) tail rest) next in
+          subst (λ n. IsAmid before later c.write_solution.new.text (flat_map f (enumerate_from n (drop (k + 1) sols)) ++ rest) whole) on
+          (c.in_ok-write_solution.ensures.amid before (tail ++ rest) whole split);
+      evaluators = c.write_solution.ensures.evaluators ∙ c.loop-k.invariant.evaluators;
+      counted = omega (arith, c.loop-k.invariant.counted, c.write_solution.ensures.counted);
+    }
