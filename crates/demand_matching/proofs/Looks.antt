@@ -1,5 +1,5 @@
 -- What a look at the supplies of a domain finds.
-use Rattle.std.proofs.Common.{ℕ, ◌+◌, ◌-◌, ◌*◌, ◌^◌, ◌<◌, ◌≤◌, ◌≡◌, Bool, true, false, ◌&&◌, Some, None, List, length, get_or, set, sym, ap, ap₂, ◌∙◌, arith, inl, inr, bit_and, nat_eq, if◌then◌else◌}
+use Rattle.std.proofs.Common.{ℕ, ◌+◌, ◌-◌, ◌*◌, ◌^◌, ◌<◌, ◌≤◌, ◌≡◌, Bool, true, false, ◌&&◌, Option, Some, None, List, length, get_or, set, sym, ap, ap₂, ◌∙◌, arith, inl, inr, bit_and, nat_eq, if◌then◌else◌, MatchOption}
 use Rattle.std.specs.Int.{w64, trailing_zeros}
 use Rattle.std.proofs.lemmas.Bool.{and_parts, and_from, cases_lt, cases_Bool, true≢false}
 use Rattle.std.proofs.lemmas.Nat.Bits.{bit_at-trailing_zeros}
@@ -156,3 +156,7 @@ all_reached t spots d demand met count s its l reached may =
     let same : get_or (picked t.resources d.resources) at.0 0 * t.last + d.shift + it.1 ≡ s = ap (λ v. v * t.last + d.shift + it.1) at.2 ∙ it.4 in
     let r = reached at.0 it.1 (omega (arith, at.1)) it.3 in
     record { by = r.by; owner = ap (owner_of t) (sym same) ∙ r.owner; within = r.within }
+
+pub where_none : {T : Type 0} (o : Option T) (P P' : Type 0) (Q : T → Type 0) → MatchOption o P Q → (P → P') → MatchOption o P' Q
+where_none None P P' Q h f = f h
+where_none (Some x) P P' Q h f = h

@@ -22,6 +22,9 @@ use std::mem;
 /// of resources, and the domain of each demand.
 ///
 /// It takes memory in proportion to the demands, the supplies, and the sets with their members.
+/// The order has those that are left out first, then the others of the set that is kept, then all
+/// other demands. One row of bits has those of the supplies outside of that set; the other has all
+/// bits set between calls.
 #[derive(Drop)]
 pub struct Matching {
     table: Table,
@@ -48,8 +51,9 @@ impl Model for Matching {
 
 impl Matching {
     /// So many demands, numbered from 0, all absent. `last` is the number of times, `width` that
-    /// of the resources; a domain names the given sets by their places in the two lists. It takes
-    /// all memory that later changes need.
+    /// of the resources; a domain names the given sets by their numbers in the two lists. It takes
+    /// all memory that later changes need, and time in proportion to it. Supplies are numbered
+    /// below 2^32, and more count as memory that is refused.
     pub fn new(
         alloc: Global,
         demands: u32,
@@ -100,13 +104,17 @@ impl Matching {
     /// Gives a demand a new domain, or makes it absent where there is none; all other demands
     /// keep theirs. It takes no memory.
     ///
-    /// The matching keeps a set of demands that holds all that are left out and has every supply
-    /// that one of it may have. Constant time is enough where no domain is given to a demand that
-    /// is left out, or stands outside of that set, or was absent; and where such a demand's new
-    /// domain admits the supply that it has. Else a search follows: from those that are left out
-    /// where a demand of the set gives a supply back, and from the demand itself where it has a
-    /// domain and no supply. A search looks only at the supplies of the demands that it meets, and
-    /// ends at the first free supply; a search from the demand itself meets none of the set.
+    /// The matching keeps a set of demands that holds all that are left out, and that has every
+    /// supply which one of its demands may have. No search follows, and a change takes constant
+    /// time, where the demand is made absent and is left out or stands outside of the set; and
+    /// where it stands outside of the set and its new domain admits the supply that it has.
+    ///
+    /// Else there is a search from those that are left out, where a demand of the set loses its
+    /// supply, and one from the demand itself, where it gets a domain. A search meets each demand
+    /// once at most, from the demand itself none of the set, and ends at the first free supply.
+    /// For each demand met it takes one look at each resource of the domain for each 64 of its
+    /// times, first for free supplies, then for supplies of demands that are not met yet. A search
+    /// that found none from those left out takes time in proportion to the set before it, too.
     pub fn set_domain(&mut self, demand: u32, domain: Option<Domain>)
         requires demand { demand < length self.old.demands }
         requires domain { ForSome domain (IsInRange self.old) }
@@ -205,6 +213,8 @@ impl Matching {
         }
     }
 
+    /// Gives a domain to a demand that has none. Where no supply can be had for it beside those of
+    /// the others, it joins the set that is kept, with all whom the search met.
     fn add(&mut self, demand: u32, domain: Domain)
         requires demand { demand < length self.old.demands }
         requires absent { domain_of self.old demand ≡ None }

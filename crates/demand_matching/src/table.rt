@@ -1,6 +1,7 @@
 ghost use Rattle.std.specs.Prelude.{◌≡◌, ◌≢◌, ◌+◌, ◌-◌, ◌*◌, ◌^◌, ◌<◌, ◌≤◌, ℕ, true, false, length, slice_index, Option, None, Some, IfSome, MatchOption};
 ghost use Rattle.khe_base.specs.Bits.{has_bit, is_set};
 ghost use Rattle.demand_matching.specs.Domains.{IsInRange, is_picked, domain_of, with_domain};
+ghost use Rattle.demand_matching.specs.Members.{picked};
 ghost use Rattle.demand_matching.specs.Order.{IsOrder};
 ghost use Rattle.demand_matching.specs.Table.{IsTable, IsServed, domains_of, may_take, admits_supply, supply_of, owner_of, demands_in, supplies_in};
 ghost use Rattle.demand_matching.specs.Search.{IsSearch, IsReached, IsMarked, IsTaken, IsFreeFor, GoesOn, Ends};
@@ -62,13 +63,15 @@ impl Table {
         None
     }
 
-    /// A free supply that the domain admits.
-    fn free_in(&self, domain: Domain) -> Option<u32>
+    /// A free supply that the domain admits, of one of its resources from an index on, before
+    /// another.
+    fn free_between(&self, domain: Domain, first: usize, end: usize) -> Option<u32>
         requires table { IsTable self.now }
         requires domain { IsInRange (domains_of self.now) domain }
-        ensures { MatchOption result ((supply : ℕ) → admits_supply (domains_of self.now) domain supply ≡ true → owner_of self.now supply ≡ None → ⊥) (IsFreeFor self.now domain) }
+        requires end { end ≤ length (picked self.now.resources domain.resources) }
+        ensures { MatchOption result ((j time : ℕ) → first ≤ j → j < end → is_picked self.now.times domain.times time ≡ true → is_set self.now.free.items (slice_index (picked self.now.resources domain.resources) j * self.now.last + domain.shift + time) ≡ false) (IsFreeFor self.now domain) }
     {
-        for i in 0..self.resources.count(domain.resources) {
+        for i in first..end {
             let resource = self.resources.number(domain.resources, i);
             match self.free_at(domain, resource) {
                 Some(supply) => return Some(supply),
@@ -76,6 +79,24 @@ impl Table {
             }
         }
         None
+    }
+
+    /// A free supply that the domain admits. It looks first at a resource that depends on the
+    /// demand, so that demands with the same domain find free supplies at once.
+    fn free_in(&self, domain: Domain, demand: u32) -> Option<u32>
+        requires table { IsTable self.now }
+        requires domain { IsInRange (domains_of self.now) domain }
+        ensures { MatchOption result ((supply : ℕ) → admits_supply (domains_of self.now) domain supply ≡ true → owner_of self.now supply ≡ None → ⊥) (IsFreeFor self.now domain) }
+    {
+        let count = self.resources.count(domain.resources);
+        if count == 0 {
+            return None;
+        }
+        let start = demand as usize % count;
+        match self.free_between(domain, start, count) {
+            Some(supply) => Some(supply),
+            None => self.free_between(domain, 0, start),
+        }
     }
 
     /// Looks at one supply that is not free: its demand is met from the one at a place of the
@@ -251,7 +272,7 @@ impl Table {
             let Some(domain) = self.demands[demand as usize] else {
                 unreachable!()
             };
-            match self.free_in(domain) {
+            match self.free_in(domain, demand) {
                 Some(supply) => {
                     self.unmark(order, unseen, left, met);
                     return Found::Open(place, supply);

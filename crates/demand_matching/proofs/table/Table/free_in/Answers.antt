@@ -1,23 +1,15 @@
-use Rattle.std.proofs.Common.{ap, ◌∙◌, arith, inl, inr}
-use Rattle.demand_matching.specs.Domains.{is_picked}
-use Rattle.demand_matching.proofs.Counting.{cases_last}
-use Rattle.demand_matching.proofs.Looks.{none_free}
-use Rattle.demand_matching.proofs.Picks.{picked_hit}
+use Rattle.std.proofs.Common.{◌%◌, arith, inl, inr}
+use Rattle.std.proofs.lemmas.Bool.{cases_lt}
+use Rattle.demand_matching.proofs.Looks.{none_free, where_none}
 use Rattle.demand_matching.proofs.table.Table.free_in.Goals as goal
 
-pub free_at-requires-clause-picked : goal.free_at-requires-clause-picked
-free_at-requires-clause-picked c =
-    let t = c.args.self.now in
-    ap (is_picked t.resources c.args.domain.resources) c.number-resource.ensures ∙ picked_hit t.resources c.args.domain.resources c.loop-i.i (omega (arith, c.count-i-end.ensures))
+pub returns-then-count-eq0 : goal.returns-then-count-eq0
+returns-then-count-eq0 c =
+    λ s may free. none_free c.args.self.now c.args.domain 0 s c.requires.table c.requires.domain (omega (arith, c.count-count.ensures)) (λ j n l p. absurd (omega arith)) may free
 
-pub loop-i-preserved : goal.loop-i-preserved
-loop-i-preserved c =
-    let t = c.args.self.now in
-    λ j n l p. elim (cases_last j c.loop-i.i (omega arith)) [
-      | inl x ↦ rw x (rw c.number-resource.ensures at (c.in-None.ensures n p))
-      | inr less ↦ c.loop-i.invariant j n less p
-    ]
-
-pub returns : goal.returns
-returns c =
-    λ s may free. none_free c.args.self.now c.args.domain c.loop-i.i s c.requires.table c.requires.domain (omega (arith, c.count-i-end.ensures)) c.loop-i.invariant may free
+pub returns-in-None : goal.returns-in-None
+returns-in-None c =
+    let start = c.args.demand % c.count-count.result in
+    where_none c.free_between-in-None.result _ _ _ c.free_between-in-None.ensures
+    (λ low s may free. none_free c.args.self.now c.args.domain c.count-count.result s c.requires.table c.requires.domain (omega (arith, c.count-count.ensures))
+    (λ j n l p. elim (cases_lt j start) [ inl x ↦ low j n (omega arith) x p | inr x ↦ c.in-None.ensures j n (omega arith) l p ]) may free)
