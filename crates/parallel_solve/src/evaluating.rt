@@ -1,0 +1,55 @@
+ghost use Rattle.std.specs.Prelude.{◌≡◌, ◌≤◌, IfOk, Ok, map};
+ghost use Rattle.std.specs.List.{enumerate_from};
+ghost use Rattle.xhstt_completion.specs.Entries.{solutions};
+ghost use Rattle.xhstt_resolve.specs.Resolved as resolving;
+ghost use Rattle.xhstt_shape.specs.WellFormed.{IsInForm};
+ghost use Rattle.parallel_solve.specs.Verdicts.{numbered_verdict};
+
+use crate::shares::verdicts_by;
+use crate::verdicts::Verdict;
+use khe_base::{NoMemory, Seq};
+use khe_io::Gate;
+use std::alloc::Global;
+use std::thread::Threads;
+use xhstt_resolve::Resolved;
+use xhstt_shape::{Archive, RawSolution};
+
+/// All solutions of an archive, group by group in order. The only error is want of memory. It takes
+/// time and memory in proportion to them and to the groups.
+pub fn all_solutions(alloc: Global, archive: &Archive) -> Result<Vec<&RawSolution>, NoMemory>
+    ensures { IfOk result (λ v. map (λ x. x.now) v.items ≡ solutions archive.now) }
+{
+    let mut all = Vec::new(alloc);
+    for group in archive.solution_groups.as_slice() {
+        for solution in group.solutions.as_slice() {
+            all.push(solution)?;
+        }
+    }
+    Ok(all)
+}
+
+/// What comes of each solution of a resolved archive, in order, by 1 to 64 workers, who share the
+/// solutions evenly in threads of their own. A worker passes the gate before each solution, with
+/// its number. What comes does not depend on the number of workers, nor on their turns: a valid
+/// solution's values are the definitions', and an invalid one has its first cause.
+///
+/// The only error is want of memory. It takes the time of evaluating all solutions, divided among
+/// the workers that run at the same time, and memory in proportion to the monitors of all
+/// solutions; and for each worker that of evaluating one.
+pub fn evaluate_all<R: Threads + Sync, G: Gate>(
+    rt: &R,
+    alloc: Global,
+    archive: &Archive,
+    resolved: &Resolved,
+    workers: u32,
+    gate: &G,
+) -> Result<Seq<Verdict>, NoMemory>
+    requires formed { IsInForm archive.now }
+    requires resolved { resolving.resolved archive.now ≡ Ok resolved.now }
+    requires workers { (1 ≤ workers) × (workers ≤ 64) }
+    ensures { IfOk result (λ v. v ≡ map (numbered_verdict resolved.now) (enumerate_from 0 (solutions archive.now))) }
+{
+    let raws = all_solutions(alloc, archive)?;
+    let all = verdicts_by(rt, alloc, resolved, 0, raws.as_slice(), workers, gate)?;
+    Ok(Seq { items: all })
+}

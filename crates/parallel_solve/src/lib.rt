@@ -1,0 +1,12 @@
+//! What several workers do together: the solutions of an archive evaluated in threads, all at once
+//! or as far as a report has come. The answer is that of one thread, for every number of workers.
+#![tactic(auto)]
+
+mod evaluating;
+mod shares;
+mod verdicts;
+mod windows;
+
+pub use evaluating::{all_solutions, evaluate_all};
+pub use verdicts::Verdict;
+pub use windows::Ahead;
