@@ -11,12 +11,13 @@ for crate in khe_base timetables; do
   mkdir "$work/crates/$crate"
   cp -r "$top/crates/$crate/src" "$top/crates/$crate/specs" "$top/crates/$crate/proofs" "$work/crates/$crate/"
 done
+cp -r "$top/crates/timetable_tests/specs" "$work/crates/bench/specs"
 cp "$top/HANDLES" "$work/"
 printf 'khe_base: indexmap itoa thiserror\ntimetables: khe_base\nbench: khe_base timetables\n' > "$work/crates.txt"
 cat > "$work/crates/bench/src/main.rt" <<'END'
 #![tactic(auto)]
 
-ghost use Rattle.timetables.specs.Sheets.{IsSheet};
+ghost use Rattle.bench.specs.Sheets.{IsSheet};
 
 use khe_base::limits::GREATEST_COUNT;
 use khe_base::{IdSet, NoMemory, ResourceId, TimeId};
