@@ -2,8 +2,14 @@
 #![tactic(auto)]
 
 #[cfg(test)]
+mod archives;
+#[cfg(test)]
 mod boards;
 #[cfg(test)]
 mod drawing;
+#[cfg(test)]
+mod evaluating;
+#[cfg(test)]
+mod gates;
 #[cfg(test)]
 mod looking;

@@ -1,0 +1,121 @@
+ghost use Rattle.std.specs.Prelude.{◌≤◌, IfOk, IfSome};
+ghost use Rattle.worker_tests.specs.Reading.{IsResolved};
+
+use crate::archives::{ReadArchive, read_archive, text_of};
+use crate::gates::Meeting;
+use khe_base::NoMemory;
+use khe_io::{Gate, OpenGate};
+use parallel_solve::{Ahead, Verdict, all_solutions, evaluate_all};
+use std::alloc::Global;
+use std::test::Fail;
+use std::thread::Threads;
+
+/// What a test reads of a verdict.
+#[derive(Clone, Copy, Debug, PartialEq, Eq)]
+enum Told {
+    /// The hard and the soft cost of a valid solution.
+    Costs(u128, u128),
+    /// The cause and the entry of an invalid one.
+    Invalid(u32, u32),
+}
+
+fn told_of(verdict: &Verdict) -> Told {
+    match verdict {
+        Verdict::Valid(values) => Told::Costs(values.totals.hard, values.totals.soft),
+        Verdict::Invalid { cause, entry } => Told::Invalid(*cause, *entry),
+    }
+}
+
+/// What comes of the solutions of an archive, by so many workers.
+fn at_once<R: Threads + Sync, G: Gate>(
+    rt: &R,
+    alloc: Global,
+    read: &ReadArchive,
+    workers: u32,
+    gate: &G,
+) -> Result<Vec<Told>, NoMemory>
+    requires read { IsResolved read.now }
+    requires workers { (1 ≤ workers) × (workers ≤ 64) }
+{
+    let verdicts = evaluate_all(rt, alloc, &read.archive, &read.resolved, workers, gate)?;
+    let mut all = Vec::new(alloc);
+    for verdict in verdicts.as_slice() {
+        all.push(told_of(verdict))?;
+    }
+    Ok(all)
+}
+
+/// What comes of the solutions of an archive, told one after another from windows that so many
+/// workers fill.
+fn in_turn<R: Threads + Sync, G: Gate>(
+    rt: &R,
+    alloc: Global,
+    read: &ReadArchive,
+    workers: u32,
+    gate: &G,
+) -> Result<Vec<Told>, NoMemory>
+    requires read { IsResolved read.now }
+    requires workers { (1 ≤ workers) × (workers ≤ 64) }
+{
+    let resolved = &read.resolved;
+    let raws = all_solutions(alloc, &read.archive)?;
+    let mut ahead = Ahead::new(alloc, resolved, workers);
+    let mut all = Vec::new(alloc);
+    for number in 0..raws.len() as u32 {
+        ahead.reach(rt, alloc, resolved, raws.as_slice(), gate, number)?;
+        all.push(told_of(ahead.verdict(number)))?;
+    }
+    Ok(all)
+}
+
+/// The archive with so many solutions that place nothing, one that costs nothing and one that is
+/// invalid.
+fn read_with(alloc: Global, empty: usize) -> Result<Option<ReadArchive>, NoMemory>
+    ensures { IfOk result (λ found. IfSome found IsResolved) }
+{
+    let text = text_of(alloc, empty)?;
+    Ok(read_archive(alloc, text.as_str()))
+}
+
+/// Each number of workers tells the same, in the order of the solutions.
+#[test]
+fn workers_tell_the_same(rt: HostRuntime) -> Result<(), Fail> {
+    let expected = [
+        Told::Costs(6, 0),
+        Told::Costs(6, 0),
+        Told::Costs(6, 0),
+        Told::Costs(0, 0),
+        Told::Invalid(4, 0),
+    ];
+    let read = read_with(rt.alloc(), 3)?.ok_or("a fault")?;
+    for workers in 1..=5 {
+        let all = at_once(&rt, rt.alloc(), &read, workers, &OpenGate)?;
+        assert_eq!(rt; all.as_slice(), expected.as_slice());
+    }
+    Ok(())
+}
+
+/// Two workers are at work at the same time.
+#[test]
+fn two_workers_evaluate_side_by_side(rt: HostRuntime) -> Result<(), Fail> {
+    let read = read_with(rt.alloc(), 3)?.ok_or("a fault")?;
+    let gate = Meeting::new();
+    let all = at_once(&rt, rt.alloc(), &read, 2, &gate)?;
+    assert!(rt; gate.came() && all.len() == 5);
+    Ok(())
+}
+
+/// More solutions than a window of two workers holds are told in order.
+#[test]
+fn windows_follow_one_another(rt: HostRuntime) -> Result<(), Fail> {
+    let read = read_with(rt.alloc(), 300)?.ok_or("a fault")?;
+    let all = in_turn(&rt, rt.alloc(), &read, 2, &OpenGate)?;
+    let empty = all
+        .iter()
+        .take_while(|told| **told == Told::Costs(6, 0))
+        .count();
+    assert!(rt; all.len() == 302 && empty == 300);
+    assert_eq!(rt; all.get(300).copied(), Some(Told::Costs(0, 0)));
+    assert_eq!(rt; all.get(301).copied(), Some(Told::Invalid(4, 0)));
+    Ok(())
+}
