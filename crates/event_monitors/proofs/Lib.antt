@@ -1,0 +1,4 @@
+pub mod Noting
+pub mod Reporting
+pub mod SlotFacts
+pub mod Turning
