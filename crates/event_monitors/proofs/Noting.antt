@@ -1,12 +1,11 @@
 -- From gauges and lists to what a family promises.
-use Rattle.std.proofs.Common.{ℕ, ◌≡◌, ◌≤◌, ◌<◌, ◌+◌, ◌-◌, ◌∙◌, ◌&&◌, zero, suc, Bool, true, false, cond, Option, Some, None, List, [], ◌∷◌, ◌++◌, ◌⊎◌, inl, inr, length, get_or, set, slice_get, refl, sym, ap, subst, arith, filter, sum_by, count_by, map, sum}
+use Rattle.std.proofs.Common.{ℕ, ◌≡◌, ◌≤◌, ◌<◌, ◌+◌, ◌∙◌, zero, suc, Bool, false, cond, Option, Some, None, List, [], ◌∷◌, ◌++◌, ◌⊎◌, inl, inr, length, get_or, set, slice_get, refl, sym, ap, subst, arith, sum_by, count_by, map}
 use Rattle.std.specs.Option.{option_map, option_map_or}
 use Rattle.std.specs.List.{range_with_len}
-use Rattle.std.proofs.lemmas.List.Sums.{sum_by-cons, sum_by-set, length-filter, sum-map}
+use Rattle.std.proofs.lemmas.List.Sums.{sum_by-cons, length-filter, sum-map}
 use Rattle.std.proofs.lemmas.List.Folds.{fold-map}
 use Rattle.std.proofs.lemmas.List.FromFn.{fill_by_all}
-use mathlib.Core.Logic.{⊎_elim}
-use Rattle.std.proofs.lemmas.Option.{slice_get_within, slice_get-get_or, get_or_from_slice_get, same_Some, slice_get-map, none-some}
+use Rattle.std.proofs.lemmas.Option.{slice_get_within, slice_get-get_or, get_or_from_slice_get, slice_get-map}
 use Rattle.khe_instance.specs.WellMade.{AreWellMade, IsMonitor}
 use Rattle.khe_instance.specs.declared.parts.Parts.{Parts}
 use Rattle.khe_instance.specs.declared.points.Monitor.{Monitor}
@@ -22,6 +21,7 @@ use Rattle.khe_told.specs.declared.slots.Slot.{Slot}
 use Rattle.event_monitors.specs.Posts.{names, names_at, IsPost, posts_at, ArePosts, AreListed, AreKept}
 use Rattle.event_monitors.specs.Reports.{AreUnderWay}
 use Rattle.event_monitors.specs.declared.posts.Post.{Post}
+use Rattle.event_monitors.proofs.PostLaws.{last_of}
 use Rattle.event_monitors.proofs.Reporting.{no_post, posts_once}
 
 -- what agreed agrees
@@ -148,14 +148,8 @@ monitor_at p made i m h = subst (λ x. IsMonitor p x) (get_or_from_slice_get p.m
 
 pub kept_more : {G : Type 0} (keeps : G → Parts → Monitor → List Slot → Type 0) (p : Parts) (posts : List Post) (s : List Slot) (gauges : List G) (g : G) (d : Post)
     → length gauges < length posts → keeps g p (get_or posts (length gauges) d).monitor s → AreKept keeps p posts gauges s → AreKept keeps p posts (gauges ++ g ∷ []) s
-kept_more {G} keeps p posts s gauges g d l one all k a x there here = by (last gauges k x here)
+kept_more {G} keeps p posts s gauges g d l one all k a x there here = by (last_of gauges g x k here)
   where
-    last : (xs : List G) (k : ℕ) (x : G) → slice_get (xs ++ g ∷ []) k ≡ Some x → (slice_get xs k ≡ Some x) ⊎ ((k ≡ length xs) × (g ≡ x))
-    last [] zero x h = inr (refl, same_Some g x h)
-    last [] (suc k) x h = absurd (none-some x h)
-    last (y ∷ xs) zero x h = inl h
-    last (y ∷ xs) (suc k) x h = ⊎_elim (λ e. inl e) (λ (e : (k ≡ length xs) × (g ≡ x)). inr (ap suc e.0, e.1)) (last xs k x h)
-
     by : (slice_get gauges k ≡ Some x) ⊎ ((k ≡ length gauges) × (g ≡ x)) → keeps x p a.monitor s
     by (inl e) = all k a x there e
     by (inr e) = subst (λ y. keeps y p a.monitor s) e.1 (subst (λ (b : Post). keeps g p b.monitor s) (get_or_from_slice_get posts (length gauges) a d (ap (slice_get posts) (sym e.0) ∙ there)) one)

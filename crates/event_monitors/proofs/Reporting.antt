@@ -1,10 +1,10 @@
 -- Gauges and a tally while the gauges of a list are turned.
-use Rattle.std.proofs.Common.{ℕ, ◌≡◌, ◌≢◌, ◌≤◌, ◌<◌, ◌+◌, ◌-◌, ◌==◌, ◌∙◌, ◌||◌, zero, suc, Bool, true, false, cond, Option, Some, None, List, [], ◌∷◌, drop, set, get_or, length, slice_get, refl, sym, ap, subst, arith, filter, ◌⊎◌, inl, inr}
+use Rattle.std.proofs.Common.{ℕ, ◌≡◌, ◌≤◌, ◌<◌, ◌+◌, ◌∙◌, ◌||◌, zero, suc, Bool, true, false, cond, Some, List, [], ◌∷◌, drop, set, get_or, length, slice_get, refl, sym, ap, subst, arith, filter, ◌⊎◌, inl, inr}
 use Rattle.std.specs.Option.{option_map_or}
-use Rattle.std.specs.List.{range_with_len, list_any}
-use Rattle.std.proofs.lemmas.Bool.{cases_eq, cases_lt, eq-eqb, ne_eqb, false≢true, true≢false, eqb-true}
+use Rattle.std.specs.List.{range_with_len}
+use Rattle.std.proofs.lemmas.Bool.{cases_eq, cases_lt, eq-eqb, ne_eqb, true≢false}
 use Rattle.std.proofs.lemmas.List.{length-set}
-use Rattle.std.proofs.lemmas.Option.{slice_get_within, slice_get-get_or, get_or_from_slice_get, same_Some, none-some}
+use Rattle.std.proofs.lemmas.Option.{slice_get_within, slice_get-get_or, same_Some, none-some}
 use Rattle.khe_base.proofs.ListLemmas.{drop-there}
 use Rattle.khe_instance.specs.declared.parts.Parts.{Parts}
 use Rattle.khe_instance.specs.declared.points.Monitor.{Monitor}
@@ -13,7 +13,7 @@ use Rattle.khe_instance.specs.declared.rules.Kind.{Kind}
 use Rattle.khe_instance.specs.declared.rules.Kind.TheVariants as kind
 use Rattle.khe_instance.specs.declared.points.Point.TheVariants as point
 use Rattle.event_monitors.specs.Posts.{names, names_at, posts_at, ArePosts, AreKept}
-use Rattle.event_monitors.specs.Reports.{has, Follows, AreOthers, AreUnderWay}
+use Rattle.event_monitors.specs.Reports.{has, Follows, AreUnderWay}
 use Rattle.event_monitors.specs.declared.posts.Post.{Post}
 
 -- what stands for a post beyond the last
@@ -51,22 +51,19 @@ module _ (f : ℕ → Bool) where
       by r true (suc i) e g = more i (r i g)
       by r false i e g = more i (r i g)
 
-  pub missing : (from n k : ℕ) → from ≤ k → k < from + n → has (filter f (range_with_len from n)) k ≡ false → f k ≡ false
-  missing from zero k a b h = absurd (omega arith)
-  missing from (suc n) k a b h = by (λ l g. missing (from + 1) n k l (omega (arith, b)) g) (cases_eq from k) (f from) refl h
+  -- a number of the range is among them where it passes
+  pub has_range : (from n k : ℕ) → from ≤ k → k < from + n → has (filter f (range_with_len from n)) k ≡ f k
+  has_range from zero k a b = absurd (omega arith)
+  has_range from (suc n) k a b = by (λ l. has_range (from + 1) n k l (omega (arith, b))) (cases_eq from k) (f from) refl
     where
       rest : List ℕ
       rest = filter f (range_with_len (from + 1) n)
 
-      out : (x y : Bool) → (x || y) ≡ false → (x ≡ false) × (y ≡ false)
-      out true y e = absurd (true≢false e)
-      out false y e = (refl, e)
-
-      by : (from + 1 ≤ k → has rest k ≡ false → f k ≡ false) → (from ≡ k) ⊎ (from ≡ k → ⊥) → (b : Bool) → f from ≡ b → has (cond b (from ∷ rest) rest) k ≡ false → f k ≡ false
-      by r (inl e) true g i = absurd (true≢false (sym (eq-eqb from k e) ∙ (out (from == k) (has rest k) i).0))
-      by r (inl e) false g i = ap f (sym e) ∙ g
-      by r (inr e) true g i = r (omega (arith, a, e)) (out (from == k) (has rest k) i).1
-      by r (inr e) false g i = r (omega (arith, a, e)) i
+      by : (from + 1 ≤ k → has rest k ≡ f k) → (from ≡ k) ⊎ (from ≡ k → ⊥) → (b : Bool) → f from ≡ b → has (cond b (from ∷ rest) rest) k ≡ f k
+      by r (inl e) true g = ap (λ c. c || has rest k) (eq-eqb from k e) ∙ sym (sym (ap f e) ∙ g)
+      by r (inl e) false g = below (from + 1) n k (omega (arith, e)) ∙ sym (sym (ap f e) ∙ g)
+      by r (inr e) true g = ap (λ c. c || has rest k) (ne_eqb from k e) ∙ r (omega (arith, a, e))
+      by r (inr e) false g = r (omega (arith, a, e))
 
 -- no two posts have one number
 pub posts_once : (p : Parts) (served : Kind → Bool) (posts : List Post) → ArePosts p served posts → (j k : ℕ) (a b : Post) → slice_get posts j ≡ Some a → slice_get posts k ≡ Some b → a.number.0 ≡ b.number.0 → j ≡ k
@@ -94,7 +91,7 @@ module _ {G : Type 0} (keeps : G → Parts → Monitor → List Slot → Type 0)
       not_named : (k : ℕ) (a : Post) → has (posts_at p posts e) k ≡ false → slice_get posts k ≡ Some a → names p e a.monitor ≡ false
       not_named k a h there =
           sym (ap (λ o. option_map_or (λ (b : Post). names p e b.monitor) o false) there)
-          ∙ missing (names_at p posts e) 0 (length posts) k (omega arith) (omega (arith, slice_get_within posts k a there)) h
+          ∙ sym (has_range (names_at p posts e) 0 (length posts) k (omega arith) (omega (arith, slice_get_within posts k a there))) ∙ h
 
   get-same : {X : Type 0} (xs : List X) (i : ℕ) (x y : X) → i < length xs → slice_get (set xs i x) i ≡ Some y → x ≡ y
   get-same [] i x y l h = absurd (omega arith)

@@ -1,5 +1,5 @@
 -- The slots of a told state: each is one of an event, and they are short.
-use Rattle.std.proofs.Common.{ℕ, ◌≡◌, ◌≤◌, ◌<◌, ◌+◌, ◌==◌, ◌∙◌, ◌⊎◌, inl, inr, zero, suc, cond, Option, Some, None, List, [], ◌∷◌, map, get_or, get_or-set_same, length, slice_get, refl, sym, ap, subst, arith, sum_by}
+use Rattle.std.proofs.Common.{ℕ, ◌≡◌, ◌≤◌, ◌<◌, ◌+◌, ◌∙◌, ◌⊎◌, inl, inr, zero, suc, cond, Option, Some, None, List, [], ◌∷◌, map, get_or, get_or-set_same, length, slice_get, refl, sym, ap, subst, arith, sum_by}
 use Rattle.std.specs.Prelude.{All, replicate}
 use Rattle.std.specs.List.{range_with_len}
 use Rattle.std.specs.Option.{option_map_or}

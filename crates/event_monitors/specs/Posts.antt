@@ -1,5 +1,5 @@
 -- The monitors that a family serves, and which of them watch an event.
-use Rattle.std.specs.Prelude.{ℕ, ◌≡◌, ◌<◌, Bool, true, false, Some, List, length, slice_get}
+use Rattle.std.specs.Prelude.{ℕ, ◌≡◌, ◌<◌, ◌≤◌, Bool, true, false, Some, List, length, slice_get}
 use Rattle.std.specs.List.{filter, range_with_len}
 use Rattle.std.specs.Option.{option_map_or}
 use Rattle.khe_instance.specs.Watching.{names_event}
@@ -25,11 +25,16 @@ pub record IsPost (p : Parts) (served : Kind → Bool) (a : Post) : Type 0 where
   pub there : slice_get p.monitors a.number.0 ≡ Some a.monitor
   pub kind : served a.monitor.kind ≡ true
 
+-- posts by their numbers
+abbrev pub AreAscending : List Post → Type 0
+AreAscending posts = (j k : ℕ) (a b : Post) → j < k → slice_get posts j ≡ Some a → slice_get posts k ≡ Some b → a.number.0 < b.number.0
+
 -- all served monitors, by their numbers
 pub record ArePosts (p : Parts) (served : Kind → Bool) (posts : List Post) : Type 0 where
   pub each : (k : ℕ) (a : Post) → slice_get posts k ≡ Some a → IsPost p served a
   pub all : (i : ℕ) (m : Monitor) → slice_get p.monitors i ≡ Some m → served m.kind ≡ true → (k : ℕ) × (slice_get posts k ≡ Some (record { number = record { 0 = i }; monitor = m }))
-  pub ascending : (j k : ℕ) (a b : Post) → j < k → slice_get posts j ≡ Some a → slice_get posts k ≡ Some b → a.number.0 < b.number.0
+  pub ascending : AreAscending posts
+  pub few : length posts ≤ length p.monitors
 
 -- for each event the places of the posts that name it
 pub record AreListed (p : Parts) (posts : List Post) (lists : List (List ℕ)) : Type 0 where

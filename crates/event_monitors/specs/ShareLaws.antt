@@ -1,5 +1,5 @@
 -- Laws on the sums of monitors, for any shares.
-use Rattle.std.proofs.Common.{ℕ, ◌≡◌, ◌≤◌, ◌<◌, ◌+◌, ◌∙◌, Bool, true, false, cond, Option, Some, None, List, set, length, slice_get, sym, ap, subst, arith, sum_by}
+use Rattle.std.proofs.Common.{ℕ, ◌≡◌, ◌≤◌, ◌<◌, ◌+◌, ◌∙◌, Bool, true, false, cond, Option, Some, None, List, set, length, sym, ap, subst, arith, sum_by}
 use Rattle.std.specs.Option.{option_map_or}
 use Rattle.std.proofs.lemmas.List.Sums.{sum_by-set}
 use Rattle.khe_base.specs.declared.numbers.ResourceId.{ResourceId}

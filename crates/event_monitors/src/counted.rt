@@ -1,7 +1,8 @@
 use crate::gauges::Gauge;
-use crate::posts::{Index, gauges_of};
+use crate::indexes::Index;
+use crate::posts::gauges_of;
 use crate::reports::report;
-use khe_base::{MonitorId, NoMemory};
+use khe_base::{MonitorId, NoMemory, beside, both};
 use khe_instance::{Instance, Kind};
 use khe_told::{Change, Family, Steps, Tally, Told};
 use std::alloc::Global;
@@ -32,10 +33,12 @@ impl<G: Gauge + Drop> Family for Counted<G> {
         × (length f.gauges.items ≡ length f.index.posts) × AreKept G.Keeps p f.index.posts f.gauges.items f.told };
 
     fn open(alloc: Global, inst: &Instance) -> Result<Counted<G>, NoMemory> {
+        let told = Told::open(alloc, inst);
         let index = Index::open::<G>(alloc, inst)?;
-        let gauges = gauges_of(alloc, inst, index.posts.as_slice())?;
+        let gauges = gauges_of(alloc, inst, index.posts.as_slice());
+        let ((told, gauges), index) = beside(both(told, gauges), index)?;
         Ok(Counted {
-            told: Told::open(alloc, inst)?,
+            told,
             index,
             gauges,
         })

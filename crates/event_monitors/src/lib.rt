@@ -8,6 +8,8 @@ mod assign_time;
 mod counted;
 mod distribute_split_events;
 mod gauges;
+mod indexes;
+mod lists;
 mod posts;
 mod prefer_resources;
 mod prefer_times;

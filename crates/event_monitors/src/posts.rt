@@ -1,6 +1,6 @@
-ghost use Rattle.std.specs.Prelude.{ℕ, ◌≡◌, ◌<◌, ◌≤◌, Some, length, slice_get, IfOk};
+ghost use Rattle.std.specs.Prelude.{◌≡◌, ◌++◌, ◌∷◌, [], if◌then◌else◌, length, IfOk, OnOk};
 ghost use Rattle.khe_told.specs.Slots.{no_meets};
-ghost use Rattle.event_monitors.specs.Posts.{ArePosts, AreListed, AreKept};
+ghost use Rattle.event_monitors.specs.Posts.{ArePosts, AreKept};
 
 use crate::gauges::Gauge;
 use khe_base::{MonitorId, NoMemory, Seq};
@@ -14,37 +14,28 @@ pub struct Post {
     pub monitor: Monitor,
 }
 
-/// The served monitors by their numbers, and for each event the places among them of those that
-/// name it.
-#[derive(Drop)]
-pub(crate) struct Index {
-    pub(crate) posts: Seq<Post>,
-    pub(crate) lists: Seq<Seq<u32>>,
+/// The monitors that such gauges serve, in time of all monitors.
+pub(crate) fn posts_of<G: Gauge>(alloc: Global, inst: &Instance) -> Result<Seq<Post>, NoMemory>
+    ensures { IfOk result (λ posts. ArePosts inst.now G.serves_kind posts) }
+{
+    let mut posts = Seq::new(alloc);
+    for i in 0..inst.monitors() {
+        let number = MonitorId(i);
+        let monitor = inst.monitor(number);
+        add_served::<G>(&mut posts, Post { number, monitor })?;
+    }
+    Ok(posts)
 }
 
-impl Index {
-    /// The monitors that such gauges serve.
-    pub(crate) fn open<G: Gauge>(alloc: Global, inst: &Instance) -> Result<Index, NoMemory>
-        ensures posts { IfOk result (λ i. ArePosts inst.now G.serves_kind i.posts) }
-        ensures lists { IfOk result (λ i. AreListed inst.now i.posts i.lists) }
-    {
-        let _ = alloc;
-        let _ = inst;
-        Err(NoMemory)
+// Adds a post where such gauges serve its monitor.
+fn add_served<G: Gauge>(posts: &mut Seq<Post>, post: Post) -> Result<(), NoMemory>
+    ensures { OnOk result (posts.new ≡ (if G.serves_kind post.monitor.kind then posts.old ++ post ∷ [] else posts.old)) }
+{
+    if !G::serves(post.monitor.kind) {
+        return Ok(());
     }
-
-    /// The place of a served monitor.
-    pub(crate) fn place_of(&self, monitor: MonitorId) -> usize
-        requires { (k : ℕ) × (a : Post) × (slice_get self.now.posts k ≡ Some a) × (a.number.0 ≡ monitor.0) }
-        ensures { (a : Post) × (slice_get self.now.posts result ≡ Some a) × (a.number.0 ≡ monitor.0) }
-    {
-        for k in 0..self.posts.len() {
-            if self.posts.as_slice()[k].number.0 == monitor.0 {
-                return k;
-            }
-        }
-        unreachable!()
-    }
+    posts.push(post)?;
+    Ok(())
 }
 
 /// A gauge for each post, while there are no meets.

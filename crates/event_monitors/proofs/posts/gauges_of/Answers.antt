@@ -1,9 +1,8 @@
-use Rattle.std.proofs.Common.{◌≡◌, ◌∙◌, ◌<◌, ◌+◌, ◌∷◌, [], Some, slice_get, get_or, length, sym, ap, subst, arith}
+use Rattle.std.proofs.Common.{◌≡◌, ◌∙◌, ◌<◌, ◌+◌, ◌∷◌, [], get_or, length, sym, ap, subst, arith}
 use Rattle.std.proofs.lemmas.List.{length-append}
 use Rattle.khe_told.specs.Slots.{no_meets}
 use Rattle.event_monitors.specs.Posts.{AreKept}
 use Rattle.std.proofs.lemmas.Option.{slice_get-get_or}
-use Rattle.event_monitors.specs.declared.posts.Post.{Post}
 use Rattle.event_monitors.proofs.Noting.{monitor_at, kept_more}
 use Rattle.event_monitors.proofs.Reporting.{no_post}
 use Rattle.event_monitors.proofs.posts.gauges_of.Goals as goal

@@ -1,7 +1,6 @@
-use Rattle.std.proofs.Common.{◌≡◌, take, length, ℕ, Some, slice_get, ◌<◌}
+use Rattle.std.proofs.Common.{◌≡◌, length}
 use Rattle.khe_told.specs.Slots.{no_meets}
 use Rattle.event_monitors.specs.Posts.{AreKept}
-use Rattle.event_monitors.specs.declared.posts.Post.{Post}
 use Rattle.event_monitors.proofs.posts.gauges_of.Given as goal
 
 abbrev pub invariant-loop-post : goal.invariant-loop-post

@@ -1,7 +1,7 @@
-use Rattle.std.proofs.Common.{◌≡◌, ◌∙◌, ◌<◌, ◌+◌, ◌∷◌, Some, true, length, get_or, set, drop, slice_get, sym, ap, subst, refl, arith}
-use Rattle.std.proofs.lemmas.Option.{slice_get-get_or, get_or_from_slice_get, slice_get_within}
+use Rattle.std.proofs.Common.{◌≡◌, ◌∙◌, ◌<◌, ◌+◌, Some, length, get_or, set, drop, slice_get, sym, ap, subst, arith}
+use Rattle.std.proofs.lemmas.Option.{slice_get-get_or, slice_get_within}
 use Rattle.khe_told.specs.Changes.{after, changed, meet_of}
-use Rattle.khe_told.specs.Slots.{no_slot, slot_at}
+use Rattle.khe_told.specs.Slots.{slot_at}
 use Rattle.event_monitors.specs.Reports.{AreUnderWay}
 use Rattle.event_monitors.specs.declared.posts.Post.{Post}
 use Rattle.event_monitors.proofs.SlotFacts.{emptied_changed}

@@ -1,4 +1,4 @@
-use Rattle.std.proofs.Common.{◌≡◌, ◌≤◌, ◌+◌, drop}
+use Rattle.std.proofs.Common.{◌≡◌, ◌+◌, drop}
 use Rattle.khe_told.specs.Changes.{after}
 use Rattle.event_monitors.specs.Reports.{AreUnderWay}
 use Rattle.event_monitors.proofs.reports.report.Given as goal

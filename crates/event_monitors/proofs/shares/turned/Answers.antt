@@ -1,8 +1,8 @@
-use Rattle.std.proofs.Common.{◌≡◌, ◌∙◌, ◌≤◌, ap, arith}
+use Rattle.std.proofs.Common.{◌≡◌, ◌∙◌, ap, arith}
 use Rattle.khe_told.specs.Changes.{given_after, meet_of, span_after}
 use Rattle.khe_told.specs.Slots.{slot_at}
-use Rattle.event_monitors.specs.Shares.{given_at, greatest_total}
-use Rattle.event_monitors.proofs.Turning.{IsTurned, turned_total}
+use Rattle.event_monitors.specs.Shares.{given_at}
+use Rattle.event_monitors.proofs.Turning.{turned_total}
 use Rattle.event_monitors.proofs.shares.turned.Goals as goal
 
 pub overflow_add-result : goal.overflow_add-result

@@ -1,4 +1,4 @@
-use Rattle.std.proofs.Common.{◌≡◌, ◌∙◌, ◌<◌, ◌≤◌, ◌+◌, [], length, get_or, sym, ap, subst, arith}
+use Rattle.std.proofs.Common.{◌≡◌, ◌∙◌, [], length, get_or, sym, ap, subst, arith}
 use Rattle.khe_told.specs.Agreement.{Agrees}
 use Rattle.khe_told.specs.Changes.{after, meet_of}
 use Rattle.khe_told.specs.Slots.{slot_at}
