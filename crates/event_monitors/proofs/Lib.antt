@@ -1,0 +1,6 @@
+pub mod Listing
+pub mod Noting
+pub mod PostLaws
+pub mod Reporting
+pub mod SlotFacts
+pub mod Turning

@@ -1,0 +1,13 @@
+pub mod AssignResource
+pub mod AssignTime
+pub mod DistributeSplitEvents
+pub mod DutySums
+pub mod Lists
+pub mod MeetSums
+pub mod Posts
+pub mod PreferResources
+pub mod PreferTimes
+pub mod Reports
+pub mod ShareLaws
+pub mod Shares
+pub mod SplitEvents

@@ -1,0 +1,53 @@
+use crate::counted::Counted;
+use crate::shares::Share;
+use crate::sums::{Sum, Summed};
+use khe_base::ResourceId;
+use khe_instance::{Instance, Kind, Rule};
+use khe_told::Span;
+
+/// The family of Assign Resource: a monitor's deviation is the duration of the tasks at its place
+/// without a resource.
+pub type AssignResource = Counted<Sum<Unfilled>>;
+
+/// A slot counts for the duration of its meet where the place is given nothing.
+#[derive(Drop)]
+pub struct Unfilled;
+
+impl Share for Unfilled {
+    ghost use Rattle.event_monitors.specs.AssignResource.{unfilled, unfilled_bounded};
+
+    ghost share = { unfilled };
+
+    fn share(rule: &Rule, span: Option<Span>, given: Option<Option<ResourceId>>) -> u64 {
+        let _ = rule;
+        match (span, given) {
+            (Some(span), Some(None)) => u64::from(span.duration),
+            _ => 0,
+        }
+    }
+
+    ghost bounded = { unfilled_bounded };
+}
+
+impl Summed for Unfilled {
+    ghost use Rattle.khe_instance.specs.KindLaws.{is_kind};
+    ghost use Rattle.khe_instance.specs.declared.rules.Kind.TheVariants as kind;
+    ghost use Rattle.event_monitors.specs.AssignResource.{unfilled_exact};
+    ghost use Rattle.event_monitors.specs.Shares.{itself};
+
+    ghost serves_kind = { λ k. is_kind k kind.AssignResource };
+
+    ghost measured = { itself };
+
+    fn serves(kind: Kind) -> bool {
+        kind == Kind::AssignResource
+    }
+
+    fn measured(inst: &Instance, rule: &Rule, total: u64) -> u64 {
+        let _ = inst;
+        let _ = rule;
+        total
+    }
+
+    ghost exact = { unfilled_exact };
+}

@@ -1,0 +1,78 @@
+use crate::gauges::Gauge;
+use crate::indexes::Index;
+use crate::posts::gauges_of;
+use crate::reports::report;
+use khe_base::{MonitorId, NoMemory, beside, both};
+use khe_instance::{Instance, Kind};
+use khe_told::{Change, Family, Steps, Tally, Told};
+use std::alloc::Global;
+use std::sync::ledger::Ledger;
+
+/// A family that has a gauge for each monitor that it serves.
+///
+/// A change turns the gauges of the monitors that name its event, and no other; where there are
+/// none, it takes constant time.
+#[derive(Drop)]
+pub struct Counted<G> {
+    told: Told,
+    index: Index,
+    gauges: Vec<G>,
+}
+
+impl<G: Gauge + Drop> Family for Counted<G> {
+    ghost use Rattle.std.specs.Prelude.{◌≡◌, length};
+    ghost use Rattle.event_monitors.specs.Posts.{ArePosts, AreListed, AreKept};
+
+    ghost serves_kind = { G.serves_kind };
+
+    ghost IsWellJoined = { Unit {0} };
+
+    ghost told = { λ f. f.told };
+
+    ghost IsOf = { λ f p. ArePosts p G.serves_kind f.index.posts × AreListed p f.index.posts f.index.lists
+        × (length f.gauges.items ≡ length f.index.posts) × AreKept G.Keeps p f.index.posts f.gauges.items f.told };
+
+    fn open(alloc: Global, inst: &Instance) -> Result<Counted<G>, NoMemory> {
+        let told = Told::open(alloc, inst);
+        let index = Index::open::<G>(alloc, inst)?;
+        let gauges = gauges_of(alloc, inst, index.posts.as_slice());
+        let ((told, gauges), index) = beside(both(told, gauges), index)?;
+        Ok(Counted {
+            told,
+            index,
+            gauges,
+        })
+    }
+
+    fn serves(&self, kind: Kind) -> bool {
+        G::serves(kind)
+    }
+
+    fn note<Y: Tally, L: Ledger>(
+        &mut self,
+        inst: &Instance,
+        change: Change,
+        tally: &mut Y,
+        steps: &mut Steps<L>,
+    ) {
+        let event = self.told.event(change.meet());
+        let list = self.index.lists.as_slice()[event.0 as usize].as_slice();
+        let posts = self.index.posts.as_slice();
+        report(
+            inst,
+            &self.told,
+            change,
+            posts,
+            list,
+            &mut self.gauges,
+            tally,
+            steps,
+        );
+        self.told.note(inst, change);
+    }
+
+    fn deviation(&self, inst: &Instance, monitor: MonitorId) -> u64 {
+        let k = self.index.place_of(monitor);
+        self.gauges[k].value(inst, self.index.posts.as_slice()[k].monitor)
+    }
+}

@@ -1,0 +1,56 @@
+use crate::counted::Counted;
+use crate::shares::Share;
+use crate::sums::{Sum, Summed};
+use khe_base::{ResourceId, count_out};
+use khe_instance::{Instance, Kind, Rule};
+use khe_told::Span;
+
+/// The family of Distribute Split Events: a monitor's deviation is by how many its event has too few
+/// or too many meets of the rule's duration.
+pub type DistributeSplitEvents = Counted<Sum<OfDuration>>;
+
+/// A slot counts for 1 where it has a meet of the rule's duration.
+#[derive(Drop)]
+pub struct OfDuration;
+
+impl Share for OfDuration {
+    ghost use Rattle.event_monitors.specs.DistributeSplitEvents.{of_duration, of_duration_bounded};
+
+    ghost share = { of_duration };
+
+    fn share(rule: &Rule, span: Option<Span>, given: Option<Option<ResourceId>>) -> u64 {
+        let _ = given;
+        match (rule, span) {
+            (Rule::DistributeSplitEvents { duration, .. }, Some(span)) => {
+                u64::from(span.duration == *duration)
+            }
+            _ => 0,
+        }
+    }
+
+    ghost bounded = { of_duration_bounded };
+}
+
+impl Summed for OfDuration {
+    ghost use Rattle.khe_instance.specs.KindLaws.{is_kind};
+    ghost use Rattle.khe_instance.specs.declared.rules.Kind.TheVariants as kind;
+    ghost use Rattle.event_monitors.specs.DistributeSplitEvents.{amount_outside, of_duration_exact};
+
+    ghost serves_kind = { λ k. is_kind k kind.DistributeSplitEvents };
+
+    ghost measured = { amount_outside };
+
+    fn serves(kind: Kind) -> bool {
+        kind == Kind::DistributeSplitEvents
+    }
+
+    fn measured(inst: &Instance, rule: &Rule, total: u64) -> u64 {
+        let _ = inst;
+        match rule {
+            Rule::DistributeSplitEvents { min, max, .. } => count_out(total, *min, *max),
+            _ => 0,
+        }
+    }
+
+    ghost exact = { of_duration_exact };
+}

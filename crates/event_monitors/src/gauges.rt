@@ -1,0 +1,61 @@
+ghost use Rattle.std.specs.Prelude.{◌≡◌, ◌≤◌, ◌<◌, Bool, true, false, ℕ, List, IfOk, slice_set, length};
+ghost use Rattle.khe_base.specs.declared.limits.TheConstants.{GREATEST_DEVIATION};
+ghost use Rattle.khe_instance.specs.WellMade.{IsMonitor};
+ghost use Rattle.khe_instance.specs.declared.parts.Parts.{Parts};
+ghost use Rattle.khe_instance.specs.declared.points.Monitor.{Monitor};
+ghost use Rattle.khe_instance.specs.declared.rules.Kind.{Kind};
+ghost use Rattle.khe_told.specs.Agreement.{deviation_in};
+ghost use Rattle.khe_told.specs.Changes.{after, meet_of};
+ghost use Rattle.khe_told.specs.Fits.{Fits};
+ghost use Rattle.khe_told.specs.Slots.{emptied, no_meets, slot_at};
+ghost use Rattle.khe_told.specs.declared.slots.Slot.{Slot};
+ghost use Rattle.event_monitors.specs.Posts.{names};
+
+use khe_base::NoMemory;
+use khe_instance::{Instance, Kind, Monitor};
+use khe_told::{Change, Told};
+use std::alloc::Global;
+
+/// What is kept for one monitor of some kinds, from which its deviation is read. It is turned at
+/// each change of a meet or a task of an event that the monitor names.
+pub trait Gauge {
+    /// The kinds whose monitors have such a gauge.
+    ghost serves_kind: { Kind → Bool };
+
+    /// That it keeps what it should of these slots, for a monitor of these parts.
+    ghost Keeps: { Self → Parts → Monitor → List Slot → Type 0 };
+
+    /// The deviation that is read from it.
+    ghost value: { Self → Parts → Monitor → ℕ };
+
+    /// Whether the monitors of a kind have such a gauge. It takes constant time.
+    fn serves(kind: Kind) -> bool
+        ensures { result ≡ serves_kind kind };
+
+    /// The gauge of a monitor while there are no meets. It takes all the memory that it will need.
+    fn open(alloc: Global, inst: &Instance, monitor: Monitor) -> Result<Self, NoMemory>
+        requires monitor { IsMonitor inst.now monitor }
+        requires served { serves_kind monitor.kind ≡ true }
+        ensures { IfOk result (λ g. Keeps g inst.now monitor (no_meets inst.now)) };
+
+    /// Follows a change of an event that the monitor names. What was told is the state before the
+    /// change. It takes no memory.
+    fn turn(&mut self, inst: &Instance, monitor: Monitor, told: &Told, change: Change)
+        requires keeps { Keeps self.old inst.now monitor told.now }
+        requires fits { Fits inst.now told.now change }
+        requires named { names inst.now (slot_at told.now (meet_of change)).event.0 monitor ≡ true }
+        ensures { Keeps self.new inst.now monitor (after told.now change) };
+
+    /// The monitor's deviation. It takes no memory.
+    fn value(&self, inst: &Instance, monitor: Monitor) -> u64
+        requires keeps { (s : List Slot) × Keeps self.now inst.now monitor s }
+        ensures value { result ≡ value self.now inst.now monitor }
+        ensures small { result ≤ GREATEST_DEVIATION };
+
+    /// What is read is the definition's deviation.
+    ghost exact: { (g : Self) (p : Parts) (m : Monitor) (s : List Slot) → Keeps g p m s → deviation_in p s m ≡ value g p m };
+
+    /// A change of an event that the monitor does not name leaves it right as it is.
+    ghost elsewhere: { (g : Self) (p : Parts) (m : Monitor) (s : List Slot) (k : ℕ) (x : Slot) → k < length s → emptied x ≡ emptied (slot_at s k)
+        → names p (slot_at s k).event.0 m ≡ false → Keeps g p m s → Keeps g p m (slice_set s k x) };
+}

@@ -1,0 +1,31 @@
+//! The families of the kinds at events and at places of events, whose deviations are told by one
+//! event's own meets and tasks; and what such families share: the served monitors by the events
+//! that they name, and a gauge for each.
+#![tactic(auto)]
+
+mod assign_resource;
+mod assign_time;
+mod counted;
+mod distribute_split_events;
+mod gauges;
+mod indexes;
+mod lists;
+mod posts;
+mod prefer_resources;
+mod prefer_times;
+mod reports;
+mod shares;
+mod split_events;
+mod sums;
+
+pub use assign_resource::{AssignResource, Unfilled};
+pub use assign_time::{AssignTime, Unplaced};
+pub use counted::Counted;
+pub use distribute_split_events::{DistributeSplitEvents, OfDuration};
+pub use gauges::Gauge;
+pub use posts::Post;
+pub use prefer_resources::{Misfilled, PreferResources};
+pub use prefer_times::{Misplaced, PreferTimes};
+pub use shares::Share;
+pub use split_events::{Meets, Split, SplitEvents, Unfit};
+pub use sums::{Sum, Summed};

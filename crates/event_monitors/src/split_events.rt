@@ -1,0 +1,143 @@
+ghost use Rattle.std.specs.Prelude.{◌≡◌, ◌≤◌, ◌+◌};
+ghost use Rattle.khe_base.specs.declared.limits.TheConstants.{NUMBER};
+ghost use Rattle.khe_instance.specs.WellMade.{IsRule};
+ghost use Rattle.event_monitors.specs.Shares.{greatest_total};
+ghost use Rattle.event_monitors.specs.SplitEvents.{split_by};
+
+use crate::counted::Counted;
+use crate::gauges::Gauge;
+use crate::shares::{Share, turned};
+use khe_base::{NoMemory, ResourceId, count_out};
+use khe_instance::{Instance, Kind, Monitor, Rule};
+use khe_told::{Change, Span, Told};
+use std::alloc::Global;
+
+/// The family of Split Events: a monitor's deviation is how many of its event's meets are too short
+/// or too long, and by how many the event has too few or too many.
+pub type SplitEvents = Counted<Split>;
+
+/// The gauge of Split Events: two sums over the meets of the event.
+#[derive(Drop)]
+pub struct Split {
+    /// How many are too short or too long.
+    unfit: u64,
+    /// How many there are.
+    meets: u64,
+}
+
+impl Gauge for Split {
+    ghost use Rattle.std.specs.Prelude.{◌≡◌, ◌≤◌, true};
+    ghost use Rattle.khe_instance.specs.KindLaws.{is_kind};
+    ghost use Rattle.khe_instance.specs.WellMade.{IsMonitor};
+    ghost use Rattle.khe_instance.specs.declared.rules.Kind.TheVariants as kind;
+    ghost use Rattle.event_monitors.specs.ShareLaws.{total_elsewhere};
+    ghost use Rattle.event_monitors.specs.Shares.{greatest_total, total_of};
+    ghost use Rattle.event_monitors.specs.SplitEvents.{meets, split_exact, split_value, unfit};
+
+    ghost serves_kind = { λ k. is_kind k kind.SplitEvents };
+
+    ghost Keeps = { λ g p m s. IsMonitor p m × (is_kind m.kind kind.SplitEvents ≡ true) × (g.unfit ≡ total_of unfit p m s) × (g.unfit ≤ greatest_total)
+        × (g.meets ≡ total_of meets p m s) × (g.meets ≤ greatest_total) };
+
+    ghost value = { λ g p m. split_value p m g.unfit g.meets };
+
+    fn serves(kind: Kind) -> bool {
+        kind == Kind::SplitEvents
+    }
+
+    fn open(alloc: Global, inst: &Instance, monitor: Monitor) -> Result<Split, NoMemory> {
+        let _ = alloc;
+        let _ = inst;
+        let _ = monitor;
+        Ok(Split { unfit: 0, meets: 0 })
+    }
+
+    fn turn(&mut self, inst: &Instance, monitor: Monitor, told: &Told, change: Change) {
+        self.unfit = turned::<Unfit>(self.unfit, inst, monitor, told, change);
+        self.meets = turned::<Meets>(self.meets, inst, monitor, told, change);
+    }
+
+    fn value(&self, inst: &Instance, monitor: Monitor) -> u64 {
+        inst.facts();
+        let rule = &inst.constraint(monitor.constraint).rule;
+        measure(inst, rule, self.unfit, self.meets)
+    }
+
+    ghost exact = { λ g p m s k. split_exact p m s g.unfit g.meets k.0 k.1 k.2 k.4 };
+
+    ghost elsewhere = { λ g p m s k x l same named kept. (
+      kept.0,
+      kept.1,
+      total_elsewhere unfit p m s k x g.unfit l same named kept.0 kept.2,
+      kept.3,
+      total_elsewhere meets p m s k x g.meets l same named kept.0 kept.4,
+      kept.5,
+    ) };
+}
+
+// The deviation, by a rule of the instance and both sums.
+fn measure(inst: &Instance, rule: &Rule, unfit: u64, meets: u64) -> u64
+    requires rule { IsRule inst.now rule.now }
+    requires unfit { unfit ≤ greatest_total }
+    requires meets { meets ≤ greatest_total }
+    ensures value { result ≡ split_by rule.now unfit meets }
+    ensures bound { result ≤ unfit + meets + NUMBER }
+{
+    let _ = inst;
+    match rule {
+        Rule::SplitEvents {
+            min_amount,
+            max_amount,
+            ..
+        } => unfit + count_out(meets, *min_amount, *max_amount),
+        _ => 0,
+    }
+}
+
+/// A slot counts for 1 where its meet is too short or too long for the rule.
+#[derive(Drop)]
+pub struct Unfit;
+
+impl Share for Unfit {
+    ghost use Rattle.event_monitors.specs.SplitEvents.{unfit, unfit_bounded};
+
+    ghost share = { unfit };
+
+    fn share(rule: &Rule, span: Option<Span>, given: Option<Option<ResourceId>>) -> u64 {
+        let _ = given;
+        match (rule, span) {
+            (
+                Rule::SplitEvents {
+                    min_duration,
+                    max_duration,
+                    ..
+                },
+                Some(span),
+            ) => u64::from(span.duration < *min_duration || *max_duration < span.duration),
+            _ => 0,
+        }
+    }
+
+    ghost bounded = { unfit_bounded };
+}
+
+/// A slot counts for 1 where it has a meet.
+#[derive(Drop)]
+pub struct Meets;
+
+impl Share for Meets {
+    ghost use Rattle.event_monitors.specs.SplitEvents.{meets, meets_bounded};
+
+    ghost share = { meets };
+
+    fn share(rule: &Rule, span: Option<Span>, given: Option<Option<ResourceId>>) -> u64 {
+        let _ = rule;
+        let _ = given;
+        match span {
+            Some(_) => 1,
+            None => 0,
+        }
+    }
+
+    ghost bounded = { meets_bounded };
+}

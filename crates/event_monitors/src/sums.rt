@@ -1,0 +1,91 @@
+ghost use Rattle.std.specs.Prelude.{◌≡◌, ◌≤◌, ◌+◌, Bool, true, ℕ, List};
+ghost use Rattle.khe_base.specs.declared.limits.TheConstants.{NUMBER};
+ghost use Rattle.khe_instance.specs.Deviation.{deviation_at};
+ghost use Rattle.khe_instance.specs.Kinds.{kind_of};
+ghost use Rattle.khe_instance.specs.WellMade.{IsPointOf, IsRule};
+ghost use Rattle.khe_instance.specs.declared.parts.Parts.{Parts};
+ghost use Rattle.khe_instance.specs.declared.points.Point.{Point};
+ghost use Rattle.khe_instance.specs.declared.rules.Kind.{Kind};
+ghost use Rattle.khe_instance.specs.declared.rules.Rule.{Rule};
+ghost use Rattle.khe_told.specs.Lists.{meets_in, duties_in};
+ghost use Rattle.khe_told.specs.declared.slots.Slot.{Slot};
+ghost use Rattle.event_monitors.specs.Shares.{greatest_total, total_at};
+
+use crate::gauges::Gauge;
+use crate::shares::{Share, turned};
+use khe_base::NoMemory;
+use khe_instance::{Instance, Kind, Monitor, Rule};
+use khe_told::{Change, Told};
+use std::alloc::Global;
+use std::marker::PhantomData;
+
+/// A kind whose deviation is read from one sum.
+pub trait Summed: Share {
+    ghost serves_kind: { Kind → Bool };
+
+    /// The deviation, by the monitor's rule and its sum.
+    ghost measured: { Rule → ℕ → ℕ };
+
+    /// Whether it is this kind.
+    fn serves(kind: Kind) -> bool
+        ensures { result ≡ serves_kind kind };
+
+    /// The deviation, by a rule of the instance and a sum. It takes constant time and no memory.
+    fn measured(inst: &Instance, rule: &Rule, total: u64) -> u64
+        requires rule { IsRule inst.now rule.now }
+        requires small { total ≤ greatest_total }
+        ensures value { result ≡ measured rule.now total }
+        ensures bound { result ≤ total + NUMBER };
+
+    /// It is the definition's.
+    ghost exact: { (p : Parts) (s : List Slot) (rule : Rule) (point : Point) → serves_kind (kind_of rule) ≡ true → IsPointOf p rule point
+        → deviation_at p (meets_in s) (duties_in s) rule point ≡ measured rule (total_at Self.share p rule point s) };
+}
+
+/// The gauge of such a kind: the sum.
+#[derive(Drop)]
+pub struct Sum<S> {
+    total: u64,
+    of: PhantomData<S>,
+}
+
+impl<S: Summed> Gauge for Sum<S> {
+    ghost use Rattle.std.specs.Prelude.{◌≡◌, ◌≤◌, true};
+    ghost use Rattle.khe_instance.specs.WellMade.{IsMonitor};
+    ghost use Rattle.event_monitors.specs.ShareLaws.{measured_total, total_elsewhere};
+    ghost use Rattle.event_monitors.specs.Shares.{greatest_total, measured_by, total_of};
+
+    ghost serves_kind = { S.serves_kind };
+
+    ghost Keeps = { λ g p m s. IsMonitor p m × (S.serves_kind m.kind ≡ true) × (g.total ≡ total_of S.share p m s) × (g.total ≤ greatest_total) };
+
+    ghost value = { λ g p m. measured_by S.measured p m g.total };
+
+    fn serves(kind: Kind) -> bool {
+        S::serves(kind)
+    }
+
+    fn open(alloc: Global, inst: &Instance, monitor: Monitor) -> Result<Sum<S>, NoMemory> {
+        let _ = alloc;
+        let _ = inst;
+        let _ = monitor;
+        Ok(Sum {
+            total: 0,
+            of: PhantomData,
+        })
+    }
+
+    fn turn(&mut self, inst: &Instance, monitor: Monitor, told: &Told, change: Change) {
+        self.total = turned::<S>(self.total, inst, monitor, told, change);
+    }
+
+    fn value(&self, inst: &Instance, monitor: Monitor) -> u64 {
+        inst.facts();
+        let rule = &inst.constraint(monitor.constraint).rule;
+        S::measured(inst, rule, self.total)
+    }
+
+    ghost exact = { λ g p m s k. measured_total S.share S.serves_kind S.measured S.exact p m s g.total k.0 k.1 k.2 };
+
+    ghost elsewhere = { λ g p m s k x l same named kept. (kept.0, kept.1, total_elsewhere S.share p m s k x g.total l same named kept.0 kept.2, kept.3) };
+}
