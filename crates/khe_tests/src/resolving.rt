@@ -481,14 +481,14 @@ fn refuses_too_much(rt: HostRuntime) -> Result<(), Fail> {
         (
             "Event Id=\"F\"",
             "<Duration>2</Duration><Resources>",
-            "<Duration>99999</Duration><Resources><Resource><Role>A</Role><ResourceType Reference=\"staff\"/></Resource><Resource><Role>B</Role><ResourceType Reference=\"staff\"/></Resource>",
-            "16 Limit tasks 300001",
+            "<Duration>99999</Duration><Resources><Resource><Role>A</Role><ResourceType Reference=\"staff\"/></Resource><Resource><Role>B</Role><ResourceType Reference=\"staff\"/></Resource><Resource><Role>C</Role><ResourceType Reference=\"staff\"/></Resource><Resource><Role>D</Role><ResourceType Reference=\"staff\"/></Resource>",
+            "16 Limit tasks 499999",
         ),
         (
             "Event Id=\"F\"",
             "<Duration>2</Duration><Resources>",
-            "<Duration>99999</Duration><ResourceGroups><ResourceGroup Reference=\"staff\"/><ResourceGroup Reference=\"staff\"/></ResourceGroups><Resources>",
-            "16 Limit tasks 300001",
+            "<Duration>99999</Duration><ResourceGroups><ResourceGroup Reference=\"staff\"/><ResourceGroup Reference=\"staff\"/><ResourceGroup Reference=\"staff\"/><ResourceGroup Reference=\"staff\"/></ResourceGroups><Resources>",
+            "16 Limit tasks 499999",
         ),
         (
             "Event Id=\"F\"",

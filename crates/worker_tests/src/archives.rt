@@ -1,3 +1,6 @@
+//! An archive for tests. Its type is named by a definition, so it is there outside of tests too.
+#![allow(dead_code)]
+
 ghost use Rattle.std.specs.Prelude.{◌<◌, ◌^◌, IfSome, length};
 ghost use Rattle.xhstt_shape.specs.WellFormed.{IsInForm};
 ghost use Rattle.worker_tests.specs.Reading.{IsResolved};

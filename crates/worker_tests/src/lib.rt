@@ -1,7 +1,6 @@
 //! Tests of what several workers do at the same time, in threads of their own.
 #![tactic(auto)]
 
-#[cfg(test)]
 mod archives;
 #[cfg(test)]
 mod boards;
