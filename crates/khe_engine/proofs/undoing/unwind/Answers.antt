@@ -1,7 +1,7 @@
-use Rattle.std.proofs.Common.{◌≡◌, ◌≤◌, ◌+◌, ◌∷◌, arith, ap, sym, subst, ◌∙◌, length}
+use Rattle.std.proofs.Common.{◌≡◌, ◌+◌, ◌∷◌, arith, ap, sym, subst, ◌∙◌}
 use Rattle.khe_told.specs.Watchers.{watcher_counts}
 use Rattle.undo_paths.specs.Stack.{inner, outer}
-use Rattle.khe_engine.specs.States.{State, state_of, undone, undone_changes}
+use Rattle.khe_engine.specs.States.{state_of, undone, undone_changes}
 use Rattle.khe_engine.specs.Records.{undone_all, MarksLead, undo_cost}
 use Rattle.khe_engine.proofs.RecordLaws.{pop_lead, pop_marks, pop_records, marks_more}
 use Rattle.khe_engine.proofs.undoing.unwind.Goals as goal
