@@ -1,0 +1,5 @@
+pub mod CostLaws
+pub mod MarkLaws
+pub mod RecordLaws
+pub mod StateLaws
+pub mod ValueLaws

@@ -1,0 +1,260 @@
+//! Edits over the parts of an engine: refusals first, then memory, then the changes. The instance is
+//! that of the timetable.
+
+ghost use Rattle.std.specs.Prelude.{ℕ, ◌≡◌, ◌≢◌, ◌<◌, ◌≤◌, ◌+◌, [], true, false, None, Some, length, IfErr, IfOk, IsOk, OnErr, OnOk};
+ghost use Rattle.khe_told.specs.Watchers.{watcher_counts};
+ghost use Rattle.undo_paths.specs.Stack.{with_record};
+ghost use Rattle.monitor_graph.specs.Boards.{grouping_of};
+ghost use Rattle.monitor_graph.specs.Edits as groups;
+ghost use Rattle.monitor_graph.specs.Groups.{seated};
+ghost use Rattle.khe_engine.specs.States.{state_of, refusal, edited, made, changes};
+ghost use Rattle.khe_engine.specs.Values.{HasValues, ServesAll};
+ghost use Rattle.khe_engine.specs.Worlds.{IsCheck, IsFaultOf, grown};
+ghost use Rattle.khe_engine.specs.Records.{IsRecorded, MarksLead, records, saved_of};
+
+use crate::faults::EditFault;
+use crate::listeners::Listeners;
+use crate::undoing::is_of_groups;
+use khe_base::NoMemory;
+use khe_instance::Instance;
+use khe_solution::Solution;
+use khe_told::{Back, Edit, Family, Refusal, Steps};
+use monitor_graph::Graph;
+use std::sync::ledger::Ledger;
+use undo_paths::Journal;
+
+/// Whether an edit is accepted, and else why it is refused.
+#[tactic(auto, using(crate::proofs::StateLaws::other_sort, crate::proofs::StateLaws::refusal_groups, crate::proofs::StateLaws::refusal_meets, crate::proofs::StateLaws::checked_groups, crate::proofs::StateLaws::checked_meets))]
+pub(crate) fn check(solution: &Solution<'_>, graph: &Graph, edit: &Edit) -> Result<(), Refusal>
+    ensures { IsCheck (refusal solution.now.parts (state_of solution.now.slots graph.now) edit.now) result }
+{
+    if is_of_groups(edit) {
+        graph.check(edit)
+    } else {
+        solution.check(edit)
+    }
+}
+
+/// Room for one record, where a mark is open.
+fn room_for_record(journal: &mut Journal<Back>) -> Result<(), NoMemory>
+    ensures since { journal.new.since ≡ journal.old.since }
+    ensures kept { journal.old.spare ≤ journal.new.spare }
+    ensures ok { OnOk result (journal.new.since ≢ [] → journal.new.spare ≢ 0) }
+    ensures there { 1 ≤ journal.old.spare → IsOk result }
+    ensures unmarked { journal.old.since ≡ [] → IsOk result }
+{
+    if journal.marks() > 0 {
+        journal.reserve(1)?;
+    }
+    Ok(())
+}
+
+/// A seat for the child that an edit adds, where it adds one.
+fn room_for_child(graph: &mut Graph, edit: &Edit) -> Result<(), NoMemory>
+    ensures lines { graph.new.lines ≡ graph.old.lines }
+    ensures groups { graph.new.groups ≡ graph.old.groups }
+    ensures marked { graph.new.marked ≡ graph.old.marked }
+    ensures seats { graph.old.seats ≤ graph.new.seats }
+    ensures ok { OnOk result (groups.adds_child edit.now ≡ true → seated graph.new.groups < graph.new.seats) }
+    ensures err { OnErr result (graph.new ≡ graph.old) }
+    ensures there { groups.adds_child edit.now ≡ false → IsOk result }
+{
+    if matches!(edit, Edit::AddChild { .. }) {
+        graph.room(1)?;
+    }
+    Ok(())
+}
+
+/// Keeps a record, where a mark is open.
+fn keep(journal: &mut Journal<Back>, back: Back)
+    requires room { journal.old.since ≢ [] → journal.old.spare ≢ 0 }
+    ensures since { journal.new.since ≡ with_record back journal.old.since }
+    ensures spare { journal.new.spare + records journal.new.since ≡ journal.old.spare + records journal.old.since }
+{
+    if journal.marks() > 0 {
+        journal.push(back);
+    }
+}
+
+/// Makes an accepted edit of meets and tasks, for which there is room.
+#[tactic(auto, using(crate::proofs::StateLaws::other_sort, crate::proofs::StateLaws::refusal_meets, crate::proofs::StateLaws::edited_meets, crate::proofs::StateLaws::made_meets, crate::proofs::StateLaws::changes_meets, crate::proofs::StateLaws::recorded_meets))]
+fn edit_meets<F: Family, L: Ledger>(
+    inst: &Instance,
+    solution: &mut Solution<'_>,
+    listeners: &mut Listeners<F>,
+    journal: &mut Journal<Back>,
+    edit: Edit,
+    steps: &mut Steps<L>,
+) -> Option<u32>
+    requires sort { groups.is_of_groups edit ≡ false }
+    requires accepted { refusal inst.now (state_of solution.old.slots listeners.old.graph) edit ≡ None }
+    requires room { journal.old.since ≢ [] → journal.old.spare ≢ 0 }
+    requires seat { groups.adds_child edit ≡ true → seated listeners.old.graph.groups < listeners.old.graph.seats }
+    requires parts { solution.old.parts ≡ inst.now }
+    requires of { F.IsOf listeners.old.families inst.now }
+    requires serves { ServesAll F.serves_kind }
+    requires told { F.told listeners.old.families ≡ solution.old.slots }
+    requires values { HasValues inst.now solution.old.slots listeners.old.graph }
+    ensures parts { solution.new.parts ≡ inst.now }
+    ensures of { F.IsOf listeners.new.families inst.now }
+    ensures told { F.told listeners.new.families ≡ solution.new.slots }
+    ensures values { HasValues inst.now solution.new.slots listeners.new.graph }
+    ensures marked { listeners.new.graph.marked ≡ listeners.old.graph.marked }
+    ensures seats { listeners.old.graph.seats ≤ listeners.new.graph.seats }
+    ensures made { result ≡ made (state_of solution.old.slots listeners.old.graph) edit }
+    ensures state { (state_of solution.new.slots listeners.new.graph) ≡ edited (state_of solution.old.slots listeners.old.graph) edit }
+    ensures record_ { IsRecorded inst.now listeners.new.graph.seats (changes (state_of solution.old.slots listeners.old.graph) edit) (state_of solution.old.slots listeners.old.graph) (state_of solution.new.slots listeners.new.graph) journal.old.since journal.new.since }
+    ensures spare { journal.new.spare + records journal.new.since ≡ journal.old.spare + records journal.old.since }
+    ensures steps { steps.new ≤ steps.old + watcher_counts inst.now solution.old.slots (changes (state_of solution.old.slots listeners.old.graph) edit) }
+{
+    let _ = inst;
+    let back = solution.back(&edit);
+    keep(journal, back);
+    let Ok(made) = solution.edit(edit, listeners, steps) else {
+        unreachable!()
+    };
+    made
+}
+
+/// Makes an accepted edit of monitors and groups, for which there is room.
+#[tactic(auto, using(crate::proofs::StateLaws::refusal_groups, crate::proofs::StateLaws::edited_groups, crate::proofs::StateLaws::made_groups, crate::proofs::StateLaws::changes_groups, crate::proofs::StateLaws::recorded_groups, crate::proofs::ValueLaws::values_kept))]
+fn edit_groups<F: Family, L: Ledger>(
+    inst: &Instance,
+    solution: &mut Solution<'_>,
+    listeners: &mut Listeners<F>,
+    journal: &mut Journal<Back>,
+    edit: Edit,
+    steps: &mut Steps<L>,
+) -> Option<u32>
+    requires sort { groups.is_of_groups edit ≡ true }
+    requires accepted { refusal inst.now (state_of solution.old.slots listeners.old.graph) edit ≡ None }
+    requires room { journal.old.since ≢ [] → journal.old.spare ≢ 0 }
+    requires seat { groups.adds_child edit ≡ true → seated listeners.old.graph.groups < listeners.old.graph.seats }
+    requires parts { solution.old.parts ≡ inst.now }
+    requires of { F.IsOf listeners.old.families inst.now }
+    requires serves { ServesAll F.serves_kind }
+    requires told { F.told listeners.old.families ≡ solution.old.slots }
+    requires values { HasValues inst.now solution.old.slots listeners.old.graph }
+    ensures parts { solution.new.parts ≡ inst.now }
+    ensures of { F.IsOf listeners.new.families inst.now }
+    ensures told { F.told listeners.new.families ≡ solution.new.slots }
+    ensures values { HasValues inst.now solution.new.slots listeners.new.graph }
+    ensures marked { listeners.new.graph.marked ≡ listeners.old.graph.marked }
+    ensures seats { listeners.old.graph.seats ≤ listeners.new.graph.seats }
+    ensures made { result ≡ made (state_of solution.old.slots listeners.old.graph) edit }
+    ensures state { (state_of solution.new.slots listeners.new.graph) ≡ edited (state_of solution.old.slots listeners.old.graph) edit }
+    ensures record_ { IsRecorded inst.now listeners.new.graph.seats (changes (state_of solution.old.slots listeners.old.graph) edit) (state_of solution.old.slots listeners.old.graph) (state_of solution.new.slots listeners.new.graph) journal.old.since journal.new.since }
+    ensures spare { journal.new.spare + records journal.new.since ≡ journal.old.spare + records journal.old.since }
+    ensures steps { steps.new ≤ steps.old + watcher_counts inst.now solution.old.slots (changes (state_of solution.old.slots listeners.old.graph) edit) }
+{
+    let _ = inst;
+    let _ = solution;
+    let _ = steps;
+    listeners.graph.facts();
+    let back = listeners.graph.back(&edit);
+    keep(journal, back);
+    let Ok(made) = listeners.graph.edit(edit) else {
+        unreachable!()
+    };
+    made
+}
+
+/// Makes an accepted edit, for which there is room.
+pub(crate) fn make<F: Family, L: Ledger>(
+    inst: &Instance,
+    solution: &mut Solution<'_>,
+    listeners: &mut Listeners<F>,
+    journal: &mut Journal<Back>,
+    edit: Edit,
+    steps: &mut Steps<L>,
+) -> Option<u32>
+    requires accepted { refusal inst.now (state_of solution.old.slots listeners.old.graph) edit ≡ None }
+    requires room { journal.old.since ≢ [] → journal.old.spare ≢ 0 }
+    requires seat { groups.adds_child edit ≡ true → seated listeners.old.graph.groups < listeners.old.graph.seats }
+    requires parts { solution.old.parts ≡ inst.now }
+    requires of { F.IsOf listeners.old.families inst.now }
+    requires serves { ServesAll F.serves_kind }
+    requires told { F.told listeners.old.families ≡ solution.old.slots }
+    requires values { HasValues inst.now solution.old.slots listeners.old.graph }
+    ensures parts { solution.new.parts ≡ inst.now }
+    ensures of { F.IsOf listeners.new.families inst.now }
+    ensures told { F.told listeners.new.families ≡ solution.new.slots }
+    ensures values { HasValues inst.now solution.new.slots listeners.new.graph }
+    ensures marked { listeners.new.graph.marked ≡ listeners.old.graph.marked }
+    ensures seats { listeners.old.graph.seats ≤ listeners.new.graph.seats }
+    ensures made { result ≡ made (state_of solution.old.slots listeners.old.graph) edit }
+    ensures state { (state_of solution.new.slots listeners.new.graph) ≡ edited (state_of solution.old.slots listeners.old.graph) edit }
+    ensures record_ { IsRecorded inst.now listeners.new.graph.seats (changes (state_of solution.old.slots listeners.old.graph) edit) (state_of solution.old.slots listeners.old.graph) (state_of solution.new.slots listeners.new.graph) journal.old.since journal.new.since }
+    ensures spare { journal.new.spare + records journal.new.since ≡ journal.old.spare + records journal.old.since }
+    ensures steps { steps.new ≤ steps.old + watcher_counts inst.now solution.old.slots (changes (state_of solution.old.slots listeners.old.graph) edit) }
+{
+    if is_of_groups(&edit) {
+        edit_groups(inst, solution, listeners, journal, edit, steps)
+    } else {
+        edit_meets(inst, solution, listeners, journal, edit, steps)
+    }
+}
+
+/// Whether an edit can be made: it is accepted, and there is room for its record and its child.
+pub(crate) fn prepare(
+    solution: &Solution<'_>,
+    graph: &mut Graph,
+    journal: &mut Journal<Back>,
+    edit: &Edit,
+) -> Result<(), EditFault>
+    ensures lines { graph.new.lines ≡ graph.old.lines }
+    ensures groups { graph.new.groups ≡ graph.old.groups }
+    ensures marked { graph.new.marked ≡ graph.old.marked }
+    ensures seats { graph.old.seats ≤ graph.new.seats }
+    ensures since { journal.new.since ≡ journal.old.since }
+    ensures kept { journal.old.spare ≤ journal.new.spare }
+    ensures accepted { OnOk result (refusal solution.now.parts (state_of solution.now.slots graph.old) edit.now ≡ None) }
+    ensures room { OnOk result (journal.new.since ≢ [] → journal.new.spare ≢ 0) }
+    ensures seat { OnOk result (groups.adds_child edit.now ≡ true → seated graph.new.groups < graph.new.seats) }
+    ensures fault { IfErr result (IsFaultOf (refusal solution.now.parts (state_of solution.now.slots graph.old) edit.now)) }
+    ensures spare { refusal solution.now.parts (state_of solution.now.slots graph.old) edit.now ≡ None → groups.adds_child edit.now ≡ false → 1 ≤ journal.old.spare → IsOk result }
+    ensures unmarked { refusal solution.now.parts (state_of solution.now.slots graph.old) edit.now ≡ None → groups.adds_child edit.now ≡ false → journal.old.since ≡ [] → IsOk result }
+{
+    check(solution, graph, edit)?;
+    room_for_record(journal)?;
+    room_for_child(graph, edit)?;
+    Ok(())
+}
+
+/// Makes an edit, or says why not; then the timetable, the listeners' state and the records stay.
+#[tactic(auto, using(crate::proofs::RecordLaws::recorded_lead, crate::proofs::RecordLaws::recorded_saved, crate::proofs::RecordLaws::kept_records, crate::proofs::ValueLaws::values_same, crate::proofs::StateLaws::same_state))]
+pub(crate) fn edit_any<F: Family, L: Ledger>(
+    inst: &Instance,
+    solution: &mut Solution<'_>,
+    listeners: &mut Listeners<F>,
+    journal: &mut Journal<Back>,
+    edit: Edit,
+    steps: &mut Steps<L>,
+) -> Result<Option<u32>, EditFault>
+    requires leads { MarksLead inst.now listeners.old.graph.seats (state_of solution.old.slots listeners.old.graph) journal.old.since }
+    requires parts { solution.old.parts ≡ inst.now }
+    requires of { F.IsOf listeners.old.families inst.now }
+    requires serves { ServesAll F.serves_kind }
+    requires told { F.told listeners.old.families ≡ solution.old.slots }
+    requires values { HasValues inst.now solution.old.slots listeners.old.graph }
+    ensures parts { solution.new.parts ≡ inst.now }
+    ensures of { F.IsOf listeners.new.families inst.now }
+    ensures told { F.told listeners.new.families ≡ solution.new.slots }
+    ensures values { HasValues inst.now solution.new.slots listeners.new.graph }
+    ensures marked { listeners.new.graph.marked ≡ listeners.old.graph.marked }
+    ensures seats { listeners.old.graph.seats ≤ listeners.new.graph.seats }
+    ensures leads { MarksLead inst.now listeners.new.graph.seats (state_of solution.new.slots listeners.new.graph) journal.new.since }
+    ensures accepted { OnOk result (refusal inst.now (state_of solution.old.slots listeners.old.graph) edit ≡ None) }
+    ensures fault { IfErr result (IsFaultOf (refusal inst.now (state_of solution.old.slots listeners.old.graph) edit)) }
+    ensures made { IfOk result (λ n. n ≡ made (state_of solution.old.slots listeners.old.graph) edit) }
+    ensures state { OnOk result ((state_of solution.new.slots listeners.new.graph) ≡ edited (state_of solution.old.slots listeners.old.graph) edit) }
+    ensures saved { OnOk result (saved_of (state_of solution.new.slots listeners.new.graph) journal.new.since ≡ grown (changes (state_of solution.old.slots listeners.old.graph) edit) (saved_of (state_of solution.old.slots listeners.old.graph) journal.old.since)) }
+    ensures steps { OnOk result (steps.new ≤ steps.old + watcher_counts inst.now solution.old.slots (changes (state_of solution.old.slots listeners.old.graph) edit)) }
+    ensures err { OnErr result (((state_of solution.new.slots listeners.new.graph) ≡ (state_of solution.old.slots listeners.old.graph)) × (journal.new.since ≡ journal.old.since) × (steps.new ≡ steps.old)) }
+    ensures spare { journal.old.spare + records journal.old.since ≤ journal.new.spare + records journal.new.since }
+    ensures room { refusal inst.now (state_of solution.old.slots listeners.old.graph) edit ≡ None → groups.adds_child edit ≡ false → 1 ≤ journal.old.spare → IsOk result }
+    ensures unmarked { refusal inst.now (state_of solution.old.slots listeners.old.graph) edit ≡ None → groups.adds_child edit ≡ false → journal.old.since ≡ [] → IsOk result }
+{
+    prepare(solution, &mut listeners.graph, journal, &edit)?;
+    Ok(make(inst, solution, listeners, journal, edit, steps))
+}

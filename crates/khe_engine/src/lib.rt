@@ -1,0 +1,13 @@
+//! The engine: a timetable that is edited, with the deviations and costs of all monitors, groups of
+//! monitors, marks, and the way back to each mark.
+#![tactic(auto)]
+
+mod editing;
+mod engine;
+mod faults;
+mod listeners;
+mod undoing;
+mod values;
+
+pub use engine::Engine;
+pub use faults::EditFault;

@@ -1,0 +1,38 @@
+use khe_instance::Instance;
+use khe_told::{Change, Family, Steps, Watcher};
+use monitor_graph::Graph;
+use std::sync::ledger::Ledger;
+
+/// Who is noted of each change: the families, and through them the graph, which has the deviation
+/// of every monitor in the state that was told.
+#[derive(Drop)]
+pub(crate) struct Listeners<F: Family> {
+    pub(crate) families: F,
+    pub(crate) graph: Graph,
+}
+
+impl<F: Family> Watcher for Listeners<F> {
+    ghost use Rattle.std.specs.Prelude.{false, None};
+    ghost use Rattle.std.proofs.Common.{◌∙◌, refl};
+    ghost use Rattle.khe_engine.specs.Values.{HasValues, ServesAll};
+    ghost use Rattle.khe_engine.specs.States.{HaveSameGroups};
+
+    ghost told = { λ x. F.told x.families };
+
+    ghost IsOf = { λ x p. F.IsOf x.families p × ServesAll F.serves_kind × HasValues p (F.told x.families) x.graph };
+
+    ghost noted = { λ x. None };
+
+    ghost is_silent = { false };
+
+    ghost HasSameRest = { λ x y. HaveSameGroups x.graph y.graph };
+
+    #[tactic(auto, using(crate::proofs::ValueLaws::values_agree, crate::proofs::ValueLaws::values_noted, crate::proofs::ValueLaws::many_values, crate::proofs::ValueLaws::same_groups, crate::proofs::ValueLaws::served_few))]
+    fn note<L: Ledger>(&mut self, inst: &Instance, change: Change, steps: &mut Steps<L>) {
+        self.families.note(inst, change, &mut self.graph, steps);
+    }
+
+    ghost same_rest_refl = { λ x. record { grouping = refl; marked = refl; seats = refl } };
+
+    ghost same_rest_trans = { λ x y z a b. record { grouping = a.grouping ∙ b.grouping; marked = a.marked ∙ b.marked; seats = a.seats ∙ b.seats } };
+}
