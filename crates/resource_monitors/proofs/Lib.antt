@@ -1,0 +1,13 @@
+pub mod CountLaws
+pub mod FamilyLaws
+pub mod FollowLaws
+pub mod ListLaws
+pub mod MeasureLaws
+pub mod OpenLaws
+pub mod PlaceLaws
+pub mod PostLaws
+pub mod ReportLaws
+pub mod RunLaws
+pub mod SmallLaws
+pub mod StateLaws
+pub mod TurnLaws

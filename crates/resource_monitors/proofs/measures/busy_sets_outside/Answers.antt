@@ -1,0 +1,24 @@
+-- One set more, which has a busy time or has none.
+use Rattle.std.proofs.Common.{◌≡◌, ◌∙◌, sym, ap, ℕ, Bool, true, false, List, nat_lt, get_or, arith, lt-ltb, le-ltb}
+use Rattle.std.proofs.lemmas.List.Sums.{count_by_more_yes, count_by_more_no}
+use Rattle.timetables.specs.Counts.{row_of, busy_times}
+use Rattle.resource_monitors.proofs.measures.busy_sets_outside.Goals as goal
+use Rattle.resource_monitors.proofs.measures.busy_sets_outside.Goals.{then-busy_in-gt0, else-busy_in-gt0}
+
+pub loop-mask-preserved : goal.loop-mask-preserved
+loop-mask-preserved c =
+    let masks = c.args.masks.now in
+    let i = c.loop-mask.mask-index in
+    let mask = c.mask-item.result in
+    let count : List Bool → ℕ = busy_times (row_of c.args.table.now c.args.r.0) in
+    let busy : List Bool → Bool = λ m. nat_lt 0 (count m) in
+    elim c.if-busy_in-gt0.branch [
+      | then-busy_in-gt0 w ↦
+          let holds : busy (get_or masks i mask) ≡ true = ap busy (sym c.mask-item.is) ∙ lt-ltb 0 (count mask) (omega arith) in
+          let more = count_by_more_yes busy masks i mask c.loop-mask-test.true holds in
+          record { value = omega (arith, more); small = omega arith }
+      | else-busy_in-gt0 w ↦
+          let fails : busy (get_or masks i mask) ≡ false = ap busy (sym c.mask-item.is) ∙ le-ltb 0 (count mask) (omega arith) in
+          let more = count_by_more_no busy masks i mask c.loop-mask-test.true fails in
+          record { value = omega (arith, more); small = omega arith }
+    ]

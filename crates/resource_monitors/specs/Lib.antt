@@ -1,0 +1,6 @@
+pub mod Cells
+pub mod Families
+pub mod KindsAtCells
+pub mod Posts
+pub mod Runs
+pub mod Sets

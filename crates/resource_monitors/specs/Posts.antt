@@ -1,0 +1,67 @@
+-- The monitors that a family serves, for each resource.
+use Rattle.std.specs.Prelude.{ℕ, ◌≡◌, ◌<◌, ◌+◌, ◌&&◌, Bool, true, false, if◌then◌else◌, Option, Some, List, [], ◌∷◌, length, slice_get, slice_set, slice_index_or, count_by}
+use Rattle.std.specs.List.{sum_by}
+use Rattle.std.specs.Option.{option_map_or}
+use Rattle.khe_base.specs.declared.numbers.ResourceId.{ResourceId}
+use Rattle.khe_instance.specs.Watching.{is_at}
+use Rattle.khe_instance.specs.declared.parts.Parts.{Parts}
+use Rattle.khe_instance.specs.declared.points.Monitor.{Monitor}
+use Rattle.khe_instance.specs.declared.points.Point.TheVariants.{Resource}
+use Rattle.khe_instance.specs.declared.rules.Kind.{Kind}
+use Rattle.khe_told.specs.Agreement.{KeepsOthers}
+use Rattle.resource_monitors.specs.declared.posts.Post.{Post}
+
+-- a monitor with its number
+abbrev pub post : ℕ → Monitor → Post
+post k m = record { number = record { 0 = k }; monitor = m }
+
+-- those that pass a test, of monitors that are numbered on from this number
+abbrev pub posts_from : (Monitor → Bool) → ℕ → List Monitor → List Post
+posts_from test k [] = []
+posts_from test k (m ∷ ms) = if test m then post k m ∷ posts_from test (k + 1) ms else posts_from test (k + 1) ms
+
+-- a served monitor at the resource
+abbrev pub is_served_at : (Kind → Bool) → ℕ → Monitor → Bool
+is_served_at served r m = served m.kind && is_at m.point r
+
+abbrev pub posts_of : (Kind → Bool) → List Monitor → ℕ → List Post
+posts_of served monitors r = posts_from (is_served_at served r) 0 monitors
+
+-- a list for each resource
+pub record AreLists (served : Kind → Bool) (resources : ℕ) (monitors : List Monitor) (lists : List (List Post)) : Type 0 where
+  pub resources_all : length lists ≡ resources
+  pub each : (r : ℕ) → r < resources → slice_index_or lists r [] ≡ posts_of served monitors r
+
+-- the posts of what a place is given
+abbrev pub list_for : (Kind → Bool) → List Monitor → Option ResourceId → List Post
+list_for served monitors place = option_map_or (λ r. posts_of served monitors r.0) place []
+
+-- a post has its monitor's number
+abbrev pub ArePosts : Parts → List Post → Type 0
+ArePosts p list = (k : ℕ) (a : Post) → slice_get list k ≡ Some a → slice_get p.monitors a.number.0 ≡ Some a.monitor
+
+-- the first posts of a list that pass a test have their values, what was right is still right, and
+-- all other numbers are as they were
+pub record AreReported (p : Parts) (value : Monitor → ℕ) (test : Monitor → Bool) (list : List Post) (k : ℕ) (old new : List ℕ) : Type 0 where
+  pub amount : length new ≡ length old
+  pub each : (j : ℕ) (a : Post) → j < k → slice_get list j ≡ Some a → test a.monitor ≡ true → slice_get new a.number.0 ≡ Some (value a.monitor)
+  pub kept : (i : ℕ) (m : Monitor) → slice_get p.monitors i ≡ Some m → slice_get old i ≡ Some (value m) → slice_get new i ≡ Some (value m)
+  pub others : (i : ℕ) → ((j : ℕ) (a : Post) → slice_get list j ≡ Some a → a.number.0 ≡ i → ⊥) → slice_get new i ≡ slice_get old i
+
+-- so have all that are at what the first places are given
+pub record AreAllReported (p : Parts) (served : Kind → Bool) (value : Monitor → ℕ) (test : Monitor → Bool) (given : List (Option ResourceId)) (k : ℕ) (old new : List ℕ) : Type 0 where
+  pub amount : length new ≡ length old
+  pub each : (i : ℕ) (m : Monitor) (q : ResourceId) (j : ℕ) → j < k → slice_get given j ≡ Some (Some q) → slice_get p.monitors i ≡ Some m → served m.kind ≡ true → m.point ≡ Resource q → test m ≡ true
+      → slice_get new i ≡ Some (value m)
+  pub kept : (i : ℕ) (m : Monitor) → slice_get p.monitors i ≡ Some m → slice_get old i ≡ Some (value m) → slice_get new i ≡ Some (value m)
+  pub others : KeepsOthers p served old new
+
+-- how many posts pass a test, and those of what a place is given
+abbrev pub due : (Monitor → Bool) → List Post → ℕ
+due test list = count_by (λ a. test a.monitor) list
+
+abbrev pub due_for : (Kind → Bool) → List Monitor → (Monitor → Bool) → Option ResourceId → ℕ
+due_for served monitors test place = due test (list_for served monitors place)
+
+abbrev pub due_all : (Kind → Bool) → List Monitor → (Monitor → Bool) → List (Option ResourceId) → ℕ
+due_all served monitors test given = sum_by (due_for served monitors test) given

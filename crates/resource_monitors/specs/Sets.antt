@@ -1,0 +1,17 @@
+-- Monitors at resources, and the sets of times that a rule names for a resource.
+use Rattle.std.specs.Prelude.{Bool, true, false, List, [], ◌∷◌, map}
+use Rattle.khe_instance.specs.declared.parts.Parts.{Parts}
+use Rattle.khe_instance.specs.declared.rules.Rule.{Rule}
+use Rattle.khe_instance.specs.declared.rules.Rule.TheVariants.{AvoidUnavailableTimes, LimitIdleTimes, ClusterBusyTimes, LimitBusyTimes}
+
+-- in the order of its list, with repeats
+abbrev pub sets_of : Rule → List (List Bool)
+sets_of (AvoidUnavailableTimes times) = times ∷ []
+sets_of (LimitIdleTimes groups least greatest) = groups
+sets_of (ClusterBusyTimes groups least greatest) = groups
+sets_of (LimitBusyTimes groups least greatest) = groups
+sets_of _ = []
+
+-- those of each constraint of an instance
+abbrev pub room_for : Parts → List (List (List Bool))
+room_for p = map (λ c. sets_of c.rule) p.constraints

@@ -1,0 +1,137 @@
+ghost use Rattle.std.specs.Prelude.{◌≡◌, ◌≤◌, ◌+◌, ℕ, length};
+ghost use Rattle.khe_instance.specs.Running.{running_tasks};
+ghost use Rattle.khe_told.specs.Agreement.{Agrees, KeepsOthers};
+ghost use Rattle.khe_told.specs.Changes.{after};
+ghost use Rattle.khe_told.specs.Fits.{AreTold, Fits};
+ghost use Rattle.khe_told.specs.Lists.{duties_in};
+ghost use Rattle.khe_told.specs.Watchers.{served_watchers};
+ghost use Rattle.timetables.specs.Counts.{count_at};
+ghost use Rattle.resource_monitors.specs.Cells.{HasRows};
+ghost use Rattle.resource_monitors.specs.Posts.{AreLists};
+ghost use Rattle.resource_monitors.specs.Sets.{room_for};
+
+use crate::kinds::CellKinds;
+use crate::posts::{Post, lists_of};
+use crate::reports::report_all;
+use crate::rooms::TimeSets;
+use crate::runs::{given_by, named_by, run_of};
+use crate::turns::turn_all;
+use crate::values::value;
+use khe_base::{MonitorId, NoMemory, Seq};
+use khe_instance::{Instance, Kind};
+use khe_told::{Change, Family, Steps, Tally, Told};
+use std::alloc::Global;
+use std::marker::PhantomData;
+use std::sync::ledger::Ledger;
+use timetables::Timetable;
+
+/// A family of kinds that are measured by how many tasks of a resource run at each time.
+///
+/// It keeps a timetable, the masks of the constraints' sets of times and for each resource the
+/// monitors at it. A change turns the counts of the cells that it fills or empties, and then
+/// measures the monitors at their resources that list one of the times, each once for each place.
+#[derive(Drop)]
+pub struct Cells<K> {
+    told: Told,
+    table: Timetable,
+    sets: TimeSets,
+    lists: Vec<Seq<Post>>,
+    kinds: PhantomData<K>,
+}
+
+/// Turns the counts by a change, and reports the monitors that list one of its times. What was told
+/// is the state before the change.
+fn follow<K: CellKinds, Y: Tally, L: Ledger>(
+    inst: &Instance,
+    told: &Told,
+    change: Change,
+    sets: &TimeSets,
+    lists: &[Seq<Post>],
+    table: &mut Timetable,
+    tally: &mut Y,
+    steps: &mut Steps<L>,
+)
+    requires told { AreTold inst.now told.now }
+    requires fits { Fits inst.now told.now change }
+    requires sets { sets.now ≡ room_for inst.now }
+    requires lists { AreLists K.serves_kind (length inst.now.resources) inst.now.monitors lists.now }
+    requires rows { HasRows inst.now table.old }
+    requires counts { (r t : ℕ) → count_at table.old r t ≡ running_tasks (duties_in told.now) r t }
+    requires monitors { length (Y.deviations tally.old) ≡ length inst.now.monitors }
+    ensures rows { HasRows inst.now table.new }
+    ensures counts { (r t : ℕ) → count_at table.new r t ≡ running_tasks (duties_in (after told.now change)) r t }
+    ensures monitors { length (Y.deviations tally.new) ≡ length (Y.deviations tally.old) }
+    ensures served { Agrees inst.now K.serves_kind told.now (Y.deviations tally.old) → Agrees inst.now K.serves_kind (after told.now change) (Y.deviations tally.new) }
+    ensures others { KeepsOthers inst.now K.serves_kind (Y.deviations tally.old) (Y.deviations tally.new) }
+    ensures rest { Y.HasSameRest tally.old tally.new }
+    ensures steps { steps.new ≤ steps.old + served_watchers inst.now K.serves_kind told.now change }
+{
+    inst.facts();
+    let one = [named_by(change)];
+    let given = given_by(told, change, &one);
+    let Some(run) = run_of(inst, told, change) else {
+        return;
+    };
+    turn_all(table, given, run);
+    report_all::<K, Y, L>(
+        inst, sets, table, run.start, run.end, given, lists, tally, steps,
+    );
+}
+
+impl<K: CellKinds> Family for Cells<K> {
+    ghost use Rattle.std.specs.Prelude.{◌≡◌};
+    ghost use Rattle.resource_monitors.specs.Families.{IsFamily};
+
+    ghost serves_kind = { K.serves_kind };
+
+    ghost IsWellJoined = { Unit {0} };
+
+    ghost told = { λ f. f.told };
+
+    ghost IsOf = { λ f p. IsFamily K.serves_kind p f.told f.table f.sets f.lists.items };
+
+    fn open(alloc: Global, inst: &Instance) -> Result<Cells<K>, NoMemory> {
+        let lists = lists_of::<K>(alloc, inst)?;
+        let told = Told::open(alloc, inst)?;
+        let table = Timetable::open(alloc, inst.resources(), inst.times())?;
+        let sets = TimeSets::open(alloc, inst)?;
+        Ok(Cells {
+            told,
+            table,
+            sets,
+            lists,
+            kinds: PhantomData,
+        })
+    }
+
+    fn serves(&self, kind: Kind) -> bool {
+        K::serves(kind)
+    }
+
+    fn note<Y: Tally, L: Ledger>(
+        &mut self,
+        inst: &Instance,
+        change: Change,
+        tally: &mut Y,
+        steps: &mut Steps<L>,
+    ) {
+        let lists = self.lists.as_slice();
+        follow::<K, Y, L>(
+            inst,
+            &self.told,
+            change,
+            &self.sets,
+            lists,
+            &mut self.table,
+            tally,
+            steps,
+        );
+        self.told.note(inst, change);
+    }
+
+    fn deviation(&self, inst: &Instance, monitor: MonitorId) -> u64 {
+        inst.facts();
+        let of = inst.monitor(monitor);
+        value(inst, &self.sets, &self.table, of)
+    }
+}

@@ -1,0 +1,22 @@
+//! The families of the monitors at resources: five kinds that are measured by how many tasks of a
+//! resource run at each time, over one timetable a family.
+#![tactic(auto)]
+
+mod cells;
+mod kinds;
+mod masks;
+mod measures;
+mod posts;
+mod reports;
+mod rooms;
+mod runs;
+mod turns;
+mod values;
+
+pub use cells::Cells;
+pub use kinds::{
+    AvoidClashes, AvoidUnavailableTimes, BusyGroups, BusyTimes, CellKinds, Clashes,
+    ClusterBusyTimes, IdleTimes, LimitBusyTimes, LimitIdleTimes, UnavailableTimes,
+};
+pub use posts::Post;
+pub use runs::Run;

@@ -1,0 +1,179 @@
+ghost use Rattle.std.specs.Prelude.{◌≡◌, ◌≤◌, ◌<◌, ◌+◌, ℕ, true, nat_lt, if◌then◌else◌, length, slice_get, slice_set, Some, count_by};
+ghost use Rattle.khe_base.specs.IdSet.{has_member};
+ghost use Rattle.khe_base.specs.declared.limits.TheConstants.{TASKS};
+ghost use Rattle.khe_base.specs.declared.numbers.ResourceId.{ResourceId};
+ghost use Rattle.khe_instance.specs.Watching.{lists_time};
+ghost use Rattle.khe_instance.specs.WellMade.{IsMonitor};
+ghost use Rattle.timetables.specs.Counts.{count_at};
+ghost use Rattle.resource_monitors.specs.Cells.{is_at_cells, HasRows, lists, lists_any, value_in};
+ghost use Rattle.resource_monitors.specs.Posts.{ArePosts, AreLists, AreReported, AreAllReported, due, due_for, due_all, list_for};
+ghost use Rattle.resource_monitors.specs.Sets.{room_for};
+ghost use Rattle.resource_monitors.specs.declared.posts.Post.{Post};
+
+use crate::kinds::CellKinds;
+use crate::posts::Post;
+use crate::rooms::TimeSets;
+use crate::values::value;
+use khe_base::{IdSet, ResourceId, Seq};
+use khe_instance::{Instance, Monitor, Rule};
+use khe_told::{Steps, Tally};
+use std::sync::ledger::Ledger;
+use timetables::Timetable;
+
+/// Whether one of the groups has a time.
+fn has_time(groups: &[IdSet], time: u32) -> bool
+    ensures { result ≡ nat_lt 0 (count_by (λ g. has_member g time) groups.now) }
+{
+    for group in groups {
+        if group.has(time) {
+            return true;
+        }
+    }
+    false
+}
+
+/// Whether a rule lists a time.
+fn lists_time(rule: &Rule, time: u32) -> bool
+    ensures { result ≡ lists_time rule.now time }
+{
+    match rule {
+        Rule::AvoidClashes => true,
+        Rule::AvoidUnavailableTimes { times } => times.has(time),
+        Rule::LimitIdleTimes { groups, .. } => has_time(groups.as_slice(), time),
+        Rule::ClusterBusyTimes { groups, .. } => has_time(groups.as_slice(), time),
+        Rule::LimitBusyTimes { groups, .. } => has_time(groups.as_slice(), time),
+        _ => false,
+    }
+}
+
+/// Whether a monitor lists a time.
+fn lists(inst: &Instance, monitor: Monitor, time: u32) -> bool
+    requires { IsMonitor inst.now monitor }
+    ensures { result ≡ lists inst.now monitor time }
+{
+    lists_time(&inst.constraint(monitor.constraint).rule, time)
+}
+
+/// Whether a monitor lists one of the times of a run.
+fn lists_one(inst: &Instance, monitor: Monitor, start: u32, end: u32) -> bool
+    requires { IsMonitor inst.now monitor }
+    ensures { result ≡ lists_any inst.now start end monitor }
+{
+    for t in start..end {
+        if lists(inst, monitor, t) {
+            return true;
+        }
+    }
+    false
+}
+
+/// Reports a monitor, if it lists one of the times.
+fn report_one<Y: Tally, L: Ledger>(
+    inst: &Instance,
+    sets: &TimeSets,
+    table: &Timetable,
+    start: u32,
+    end: u32,
+    post: Post,
+    tally: &mut Y,
+    steps: &mut Steps<L>,
+)
+    requires sets { sets.now ≡ room_for inst.now }
+    requires rows { HasRows inst.now table.now }
+    requires few { (r t : ℕ) → count_at table.now r t ≤ TASKS }
+    requires monitor { IsMonitor inst.now post.monitor }
+    requires kind { is_at_cells post.monitor.kind ≡ true }
+    requires known { post.number.0 < length (Y.deviations tally.old) }
+    ensures set { Y.deviations tally.new ≡ (if lists_any inst.now start end post.monitor then slice_set (Y.deviations tally.old) post.number.0 (value_in inst.now table.now post.monitor) else Y.deviations tally.old) }
+    ensures rest { Y.HasSameRest tally.old tally.new }
+    ensures steps { steps.new ≡ steps.old + (if lists_any inst.now start end post.monitor then 1 else 0) }
+{
+    inst.facts();
+    if lists_one(inst, post.monitor, start, end) {
+        let value = value(inst, sets, table, post.monitor);
+        tally.set(post.number, value, steps);
+    }
+}
+
+/// Reports each monitor of a list that lists one of the times.
+fn report<Y: Tally, L: Ledger>(
+    inst: &Instance,
+    sets: &TimeSets,
+    table: &Timetable,
+    start: u32,
+    end: u32,
+    list: &[Post],
+    tally: &mut Y,
+    steps: &mut Steps<L>,
+)
+    requires sets { sets.now ≡ room_for inst.now }
+    requires rows { HasRows inst.now table.now }
+    requires few { (r t : ℕ) → count_at table.now r t ≤ TASKS }
+    requires posts { ArePosts inst.now list.now }
+    requires kinds { (k : ℕ) (a : Post) → slice_get list.now k ≡ Some a → is_at_cells a.monitor.kind ≡ true }
+    requires monitors { length (Y.deviations tally.old) ≡ length inst.now.monitors }
+    ensures reported { AreReported inst.now (value_in inst.now table.now) (lists_any inst.now start end) list.now (length list.now) (Y.deviations tally.old) (Y.deviations tally.new) }
+    ensures rest { Y.HasSameRest tally.old tally.new }
+    ensures steps { steps.new ≡ steps.old + due (lists_any inst.now start end) list.now }
+{
+    inst.facts();
+    for post in list {
+        report_one(inst, sets, table, start, end, *post, tally, steps);
+    }
+}
+
+/// Reports those at what a place is given.
+fn report_place<K: CellKinds, Y: Tally, L: Ledger>(
+    inst: &Instance,
+    sets: &TimeSets,
+    table: &Timetable,
+    start: u32,
+    end: u32,
+    place: Option<ResourceId>,
+    lists: &[Seq<Post>],
+    tally: &mut Y,
+    steps: &mut Steps<L>,
+)
+    requires sets { sets.now ≡ room_for inst.now }
+    requires rows { HasRows inst.now table.now }
+    requires few { (r t : ℕ) → count_at table.now r t ≤ TASKS }
+    requires lists { AreLists K.serves_kind (length inst.now.resources) inst.now.monitors lists.now }
+    requires resource { (r : ResourceId) → place ≡ Some r → r.0 < length inst.now.resources }
+    requires monitors { length (Y.deviations tally.old) ≡ length inst.now.monitors }
+    ensures reported { AreReported inst.now (value_in inst.now table.now) (lists_any inst.now start end) (list_for K.serves_kind inst.now.monitors place) (length (list_for K.serves_kind inst.now.monitors place)) (Y.deviations tally.old) (Y.deviations tally.new) }
+    ensures rest { Y.HasSameRest tally.old tally.new }
+    ensures steps { steps.new ≡ steps.old + due_for K.serves_kind inst.now.monitors (lists_any inst.now start end) place }
+{
+    let Some(r) = place else {
+        return;
+    };
+    let list = lists[r.0 as usize].as_slice();
+    report(inst, sets, table, start, end, list, tally, steps);
+}
+
+/// Reports those at what each place is given, one place after the other.
+pub(crate) fn report_all<K: CellKinds, Y: Tally, L: Ledger>(
+    inst: &Instance,
+    sets: &TimeSets,
+    table: &Timetable,
+    start: u32,
+    end: u32,
+    given: &[Option<ResourceId>],
+    lists: &[Seq<Post>],
+    tally: &mut Y,
+    steps: &mut Steps<L>,
+)
+    requires sets { sets.now ≡ room_for inst.now }
+    requires rows { HasRows inst.now table.now }
+    requires few { (r t : ℕ) → count_at table.now r t ≤ TASKS }
+    requires lists { AreLists K.serves_kind (length inst.now.resources) inst.now.monitors lists.now }
+    requires resources { (j : ℕ) (r : ResourceId) → slice_get given.now j ≡ Some (Some r) → r.0 < length inst.now.resources }
+    requires monitors { length (Y.deviations tally.old) ≡ length inst.now.monitors }
+    ensures reported { AreAllReported inst.now K.serves_kind (value_in inst.now table.now) (lists_any inst.now start end) given.now (length given.now) (Y.deviations tally.old) (Y.deviations tally.new) }
+    ensures rest { Y.HasSameRest tally.old tally.new }
+    ensures steps { steps.new ≡ steps.old + due_all K.serves_kind inst.now.monitors (lists_any inst.now start end) given.now }
+{
+    for place in given {
+        report_place::<K, Y, L>(inst, sets, table, start, end, *place, lists, tally, steps);
+    }
+}
