@@ -1,5 +1,5 @@
 //! Tests of the whole program at the greatest sizes that an archive may have, each met and then
-//! passed by one more.
+//! passed by one more, and on devices of which each call fails in turn.
 #![tactic(auto)]
 
 #[cfg(test)]
@@ -18,5 +18,7 @@ mod runs;
 mod solutions;
 #[cfg(test)]
 mod sums;
+#[cfg(test)]
+mod sweeps;
 #[cfg(test)]
 mod units;
