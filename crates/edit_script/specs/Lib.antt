@@ -1,0 +1,5 @@
+pub mod Faults
+pub mod Keywords
+pub mod Numbers
+pub mod Reading
+pub mod Words
