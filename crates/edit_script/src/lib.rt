@@ -2,6 +2,8 @@
 #![tactic(auto)]
 
 mod commands;
+#[allow(dead_code)]
+mod examples;
 mod keywords;
 mod numbers;
 mod reading;
