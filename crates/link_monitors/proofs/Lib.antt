@@ -1,1 +1,4 @@
 pub mod CountLaws
+pub mod MemberLaws
+pub mod StateLaws
+pub mod TurnLaws
