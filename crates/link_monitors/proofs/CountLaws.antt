@@ -9,10 +9,7 @@ use Rattle.std.proofs.lemmas.List.Sums.{sum_by-cons, sum_by-set, get_or-le-sum_b
 use Rattle.std.proofs.lemmas.Option.{get_or_from_slice_get, slice_get-get_or}
 use Rattle.khe_base.specs.declared.limits.TheConstants.{TIMES}
 use Rattle.timetables.specs.Counts.{row_of, count_at, with_count, is_busy, no_counts}
-use Rattle.link_monitors.specs.Counts.{AreLinked, apart_times, is_apart, running_at}
-
-abbrev pub one_if : Bool → ℕ
-one_if b = cond b 1 0
+use Rattle.link_monitors.specs.Counts.{AreLinked, apart_times, is_apart, one_if, running_at}
 
 -- how many numbers of a range pass two tests that differ at one number
 module _ (p q : ℕ → Bool) (t : ℕ) (same : (u : ℕ) → (u ≡ t → ⊥) → p u ≡ q u) where

@@ -1,4 +1,3 @@
 pub mod CountLaws
-pub mod MemberLaws
-pub mod StateLaws
+pub mod RankLaws
 pub mod TurnLaws

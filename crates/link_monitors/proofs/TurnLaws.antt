@@ -34,19 +34,12 @@ use Rattle.timetables.specs.Counts.{count_at, no_counts, row_of}
 use Rattle.event_monitors.specs.Posts.{names}
 use Rattle.event_monitors.specs.Shares.{most_of}
 use Rattle.event_monitors.proofs.SlotFacts.{none_of_no_meets}
-use Rattle.link_monitors.specs.Counts.{AreLinked}
+use Rattle.link_monitors.specs.Counts.{AreLinked, one_if}
 use Rattle.link_monitors.specs.Links.{AreOfGroup, members_at, meets_at, slot_runs}
 use Rattle.link_monitors.specs.Runs.{AreRaised, in_run}
-use Rattle.link_monitors.proofs.CountLaws.{one_if}
-use Rattle.link_monitors.proofs.MemberLaws.{member_named, members_ascend, named_member, same_place}
-use Rattle.link_monitors.proofs.StateLaws.{point_is}
-
--- a slot counts for an event's meets at a time
-abbrev test : ℕ → ℕ → Slot → Bool
-test e t x = (x.event.0 == e) && slot_runs x t
-
-meets_set : (s : List Slot) (k : ℕ) (x : Slot) (e t : ℕ) → k < length s → meets_at (set s k x) e t + one_if (test e t (slot_at s k)) ≡ meets_at s e t + one_if (test e t x)
-meets_set s k x e t l = sum_by-set (λ y. one_if (test e t y)) s k x no_slot l
+use Rattle.link_monitors.specs.ElsewhereLaws.{meets_set, named_by, test}
+use Rattle.link_monitors.specs.ExactLaws.{point_is}
+use Rattle.link_monitors.specs.MemberLaws.{member_named, members_ascend, named_member, same_place}
 
 -- no more meets run than there are slots
 slots_amount : (e : ℕ) (events : List EventInfo) → length (slots_from e events) ≡ sum_by (λ (x : EventInfo). x.duration) events
@@ -100,32 +93,6 @@ none_of_group p point n times many all = record {
   all = all;
   cells = λ i e t h. no_count n times i t ∙ sym (none_run p e t);
 }
-
--- a monitor's names are those of its rule and point
-named_by : (p : Parts) (m : Monitor) (monitor : IsMonitor p m) (e : ℕ) → names p e m ≡ names_event p monitor.0.rule m.point e
-named_by p m monitor e = ap (λ o. option_map_or (λ (c : Constraint). names_event p c.rule m.point e) o false) monitor.1
-
--- a change of a slot of another event leaves the counts
-pub group_elsewhere : (p : Parts) (m : Monitor) (s : List Slot) (rows : List (List ℕ)) (times k : ℕ) (x : Slot) → IsMonitor p m → k < length s → emptied x ≡ emptied (slot_at s k)
-    → names p (slot_at s k).event.0 m ≡ false → AreOfGroup p m.point s rows times → AreOfGroup p m.point (set s k x) rows times
-group_elsewhere p m s rows times k x monitor l same named of = record {
-  amount = of.amount;
-  all = of.all;
-  cells = λ i e t h. of.cells i e t h ∙ still e t (other i e h);
-}
-  where
-    other : (i e : ℕ) → slice_get (members_at p m.point) i ≡ Some e → (slot_at s k).event.0 ≡ e → ⊥
-    other i e h is = true≢false (sym (member_named p monitor.0.rule m.point i e h) ∙ sym (named_by p m monitor e) ∙ ap (λ n. names p n m) (sym is) ∙ named)
-
-    off : (y : Slot) (e t : ℕ) → (y.event.0 ≡ e → ⊥) → one_if (test e t y) ≡ 0
-    off y e t n = ap (λ b. one_if (b && slot_runs y t)) (ne_eqb y.event.0 e n)
-
-    still : (e t : ℕ) → ((slot_at s k).event.0 ≡ e → ⊥) → meets_at s e t ≡ meets_at (set s k x) e t
-    still e t n =
-        let a = meets_set s k x e t l in
-        let b = off (slot_at s k) e t n in
-        let d = off x e t (λ is. n (sym (ap (λ (y : Slot). y.event.0) same) ∙ is)) in
-        omega (arith, a, b, d)
 
 -- a change after which a slot's meet runs as before leaves them as well
 pub group_still : (p : Parts) (point : Point) (s : List Slot) (c : Change) (rows : List (List ℕ)) (times : ℕ) → meet_of c < length s → ((t : ℕ) → slot_runs (changed (slot_at s (meet_of c)) c) t ≡ slot_runs (slot_at s (meet_of c)) t)

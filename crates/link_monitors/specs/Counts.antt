@@ -1,9 +1,13 @@
 -- How many of some events run at each time, by the counts of their meets: a row for each event, with a
 -- count for each time.
-use Rattle.std.specs.Prelude.{ℕ, ◌≡◌, ◌<◌, ◌≤◌, ◌&&◌, nat_lt, Bool, List, length, slice_index, count_by}
+use Rattle.std.specs.Prelude.{ℕ, ◌≡◌, ◌<◌, ◌≤◌, ◌&&◌, if◌then◌else◌, nat_lt, Bool, List, length, slice_index, count_by}
 use Rattle.std.specs.List.{range_with_len}
 use Rattle.khe_base.specs.declared.limits.TheConstants.{TIMES}
 use Rattle.timetables.specs.Counts.{row_of, is_busy}
+
+-- one where a test passes
+abbrev pub one_if : Bool → ℕ
+one_if b = if b then 1 else 0
 
 -- whether some of so many events run, and not all
 abbrev pub is_apart : ℕ → ℕ → Bool

@@ -2,5 +2,11 @@
 //! time.
 #![tactic(auto)]
 
+mod link_events;
 mod links;
+mod ranks;
 mod runs;
+mod turns;
+
+pub use link_events::LinkEvents;
+pub use links::Links;

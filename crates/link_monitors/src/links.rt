@@ -12,34 +12,32 @@ use timetables::Timetable;
 #[derive(Drop)]
 pub struct Links {
     /// How many meets of each event run at each time: the events stand for resources.
-    pub table: Timetable,
+    pub(crate) table: Timetable,
     /// How many events there are.
-    pub events: u32,
+    pub(crate) events: u32,
     /// How many of them run at each time.
-    pub running: Vec<u32>,
+    pub(crate) running: Vec<u32>,
     /// At how many times some of them run and some do not.
-    pub apart: u32,
+    pub(crate) apart: u32,
 }
 
-impl Links {
-    /// So many events, of which none has a meet, and so many times. It takes time and memory in
-    /// proportion to events times times.
-    pub(crate) fn open(alloc: Global, events: u32, times: u32) -> Result<Links, NoMemory>
-        requires { times ≤ TIMES }
-        ensures table { IfOk result (λ l. l.table ≡ no_counts events times) }
-        ensures times { IfOk result (λ l. length l.running.items ≡ times) }
-        ensures linked { IfOk result (λ l. AreLinked l.table l.events l.running.items l.apart) }
-    {
-        let table = Timetable::open(alloc, events, times);
-        let running = none_running(alloc, times);
-        let (running, table) = both(running, table)?;
-        Ok(Links {
-            apart: 0,
-            events,
-            running: running.items,
-            table,
-        })
-    }
+/// So many events, of which none has a meet, and so many times. It takes time and memory in
+/// proportion to events times times.
+pub(crate) fn no_links(alloc: Global, events: u32, times: u32) -> Result<Links, NoMemory>
+    requires { times ≤ TIMES }
+    ensures table { IfOk result (λ l. l.table ≡ no_counts events times) }
+    ensures times { IfOk result (λ l. length l.running.items ≡ times) }
+    ensures linked { IfOk result (λ l. AreLinked l.table l.events l.running.items l.apart) }
+{
+    let table = Timetable::open(alloc, events, times);
+    let running = none_running(alloc, times);
+    let (running, table) = both(running, table)?;
+    Ok(Links {
+        apart: 0,
+        events,
+        running: running.items,
+        table,
+    })
 }
 
 /// A 0 for each time.

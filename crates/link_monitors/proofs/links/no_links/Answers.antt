@@ -3,7 +3,7 @@ use Rattle.khe_base.proofs.ResultLemmas.{if_ok}
 use Rattle.timetables.specs.Counts.{no_counts}
 use Rattle.link_monitors.specs.Counts.{AreLinked}
 use Rattle.link_monitors.proofs.CountLaws.{none_linked}
-use Rattle.link_monitors.proofs.links.Links.open.Goals as goal
+use Rattle.link_monitors.proofs.links.no_links.Goals as goal
 
 pub returns-clause-linked : goal.returns-clause-linked
 returns-clause-linked c =

@@ -28,9 +28,8 @@ use Rattle.khe_told.specs.Lists.{meets_in, duties_in}
 use Rattle.khe_told.specs.declared.slots.Slot.{Slot}
 use Rattle.khe_told.specs.declared.slots.Span.{Span}
 use Rattle.timetables.specs.Counts.{count_at, is_busy, row_of}
-use Rattle.link_monitors.specs.Counts.{AreLinked, apart_times, is_apart, running_at}
+use Rattle.link_monitors.specs.Counts.{AreLinked, apart_times, is_apart, one_if, running_at}
 use Rattle.link_monitors.specs.Links.{AreOfGroup, members_at, meets_at, slot_runs}
-use Rattle.link_monitors.proofs.CountLaws.{one_if}
 
 -- some of a list pass where the number of those that pass is above 0, and all where it is that of the
 -- list
