@@ -1,5 +1,5 @@
 -- How many events run at each time, and at how many times some but not all do, with one count changed.
-use Rattle.std.proofs.Common.{ℕ, ◌≡◌, ◌≤◌, ◌<◌, ◌+◌, ◌-◌, ◌∙◌, zero, suc, Bool, true, false, cond, List, [], ◌∷◌, get_or, set, length, zero-add, refl, sym, ap, ap₂, subst, arith, count_by, sum_by, ◌⊎◌, inl, inr, slice_index, get_or-set_same, replicate}
+use Rattle.std.proofs.Common.{ℕ, ◌≡◌, ◌≤◌, ◌<◌, ◌+◌, ◌-◌, ◌∙◌, zero, suc, Bool, true, false, List, [], ◌∷◌, get_or, set, length, zero-add, refl, sym, ap, ap₂, subst, arith, count_by, ◌⊎◌, inl, inr, slice_index, get_or-set_same, replicate}
 use Rattle.std.specs.Prelude.{nat_lt}
 use Rattle.std.specs.List.{range_with_len}
 use Rattle.std.proofs.lemmas.Bool.{cases_eq, lt-ltb}

@@ -14,7 +14,7 @@ module _ (xs : List ℕ) (number low end middle d : ℕ) (up : AreAscending xs) 
   here = slice_get-get_or xs middle d (let w = is.within in omega (arith, w, below))
 
   pub upper_half : get_or xs middle d < number → IsSought xs number (middle + 1) end
-  upper_half less = record { within = is.within; sought = λ k h. (from k h (cases_lt middle k), (is.sought k h).1); }
+  upper_half less = record { within = is.within; sought = λ k h. (from k h (cases_lt middle k), (is.sought k h).1) }
     where
       from : (k : ℕ) → slice_get xs k ≡ Some number → (middle < k) ⊎ (k ≤ middle) → middle + 1 ≤ k
       from k h (inl l) = omega (arith, l)
@@ -28,14 +28,14 @@ module _ (xs : List ℕ) (number low end middle d : ℕ) (up : AreAscending xs) 
               omega (arith, q, less)
 
   pub lower_half : number ≤ get_or xs middle d → IsSought xs number low middle
-  lower_half most = record { within = let w = is.within in omega (arith, w, below); sought = λ k h. ((is.sought k h).0, to k h (cases_lt middle k)); }
+  lower_half most = record { within = let w = is.within in omega (arith, w, below); sought = λ k h. ((is.sought k h).0, to k h (cases_lt middle k)) }
     where
       to : (k : ℕ) → slice_get xs k ≡ Some number → (middle < k) ⊎ (k ≤ middle) → k ≤ middle
       to k h (inl l) = absurd (let q = up middle k (get_or xs middle d) number l here h in omega (arith, q, most))
       to k h (inr l) = l
 
 pub all_sought : (xs : List ℕ) (number : ℕ) → IsSought xs number 0 (length xs)
-all_sought xs number = record { within = omega arith; sought = λ k h. (omega arith, let l = slice_get_within xs k number h in omega (arith, l)); }
+all_sought xs number = record { within = omega arith; sought = λ k h. (omega arith, let l = slice_get_within xs k number h in omega (arith, l)) }
 
 pub found_at : (xs : List ℕ) (number low end : ℕ) → IsSought xs number low end → end ≤ low → (k : ℕ) → slice_get xs k ≡ Some number → slice_get xs low ≡ Some number
 found_at xs number low end is past k h =

@@ -1,15 +1,14 @@
 -- The counts of a group's events and one more change.
-use Rattle.std.proofs.Common.{ℕ, ◌≡◌, ◌≤◌, ◌<◌, ◌+◌, ◌-◌, ◌==◌, ◌&&◌, ◌∙◌, zero, suc, Bool, true, false, cond, Option, Some, None, List, [], ◌∷◌, get_or, set, map, length, slice_get, refl, sym, ap, ap₂, subst, arith, count_by, sum_by, IfSome, IfOk, Result, Ok, Err, All, replicate, slice_index, get_or-set_same, ◌⊎◌, inl, inr}
+use Rattle.std.proofs.Common.{ℕ, ◌≡◌, ◌≤◌, ◌<◌, ◌+◌, ◌-◌, ◌==◌, ◌&&◌, ◌∙◌, zero, suc, Bool, true, false, Option, Some, None, List, [], ◌∷◌, get_or, length, slice_get, refl, sym, ap, subst, arith, sum_by, IfSome, IfOk, Result, Ok, Err, replicate, slice_index, get_or-set_same}
 use Rattle.std.specs.Prelude.{nat_le, nat_lt}
 use Rattle.std.specs.List.{range_with_len}
 use Rattle.std.specs.Option.{option_map_or}
-use Rattle.std.proofs.lemmas.Bool.{eq-eqb, ne_eqb, cases_eq, true≢false, and_right, lt-ltb, le-leb, ltb-true, leb-true, and_parts, and_from}
+use Rattle.std.proofs.lemmas.Bool.{eq-eqb, lt-ltb, le-leb, and_from}
 use Rattle.std.proofs.lemmas.List.{length-append, length-map, length-replicate, length-set}
 use Rattle.std.proofs.lemmas.List.Elements.{All-get_or}
 use Rattle.std.proofs.lemmas.List.FromFn.{length-range_with_len}
-use Rattle.std.proofs.lemmas.List.Sums.{sum_by-cons, sum_by-set, sum_by-le-sum_by, count_by-le-length, get_or-le-sum_by, length-filter}
-use Rattle.std.proofs.lemmas.Option.{slice_get_within}
-use Rattle.khe_base.specs.declared.limits.TheConstants.{DURATION, EVENTS, GREATEST_COUNT}
+use Rattle.std.proofs.lemmas.List.Sums.{sum_by-cons, sum_by-le-sum_by, count_by-le-length, get_or-le-sum_by, length-filter}
+use Rattle.khe_base.specs.declared.limits.TheConstants.{EVENTS, GREATEST_COUNT}
 use Rattle.khe_base.specs.declared.numbers.MeetId.{MeetId}
 use Rattle.khe_base.specs.IdSet.{has_member, members_of}
 use Rattle.khe_base.proofs.ListLemmas.{all-there}
@@ -23,12 +22,11 @@ use Rattle.khe_instance.specs.declared.parts.Parts.{Parts}
 use Rattle.khe_instance.specs.declared.points.Monitor.{Monitor}
 use Rattle.khe_instance.specs.declared.points.Point.{Point}
 use Rattle.khe_instance.specs.declared.points.Point.TheVariants.{Event, EventResource, EventGroup, EventPair as Pair, Resource}
-use Rattle.khe_instance.specs.declared.rules.Constraint.{Constraint}
 use Rattle.khe_instance.specs.declared.rules.Kind.TheVariants as kind
 use Rattle.khe_instance.specs.declared.rules.Rule.TheVariants.{LinkEvents}
 use Rattle.khe_base.specs.declared.numbers.TimeId.{TimeId}
 use Rattle.khe_told.specs.Changes.{after, changed, meet_of, span_after}
-use Rattle.khe_told.specs.Fits.{AreTold, Fits, IsSlot, Suits}
+use Rattle.khe_told.specs.Fits.{Fits, IsSlot}
 use Rattle.khe_told.specs.Slots.{emptied, length_of, no_meets, no_slot, slot_at, slots_from, slots_of_event}
 use Rattle.khe_told.specs.declared.changes.Change.{Change}
 use Rattle.khe_told.specs.declared.changes.Change.TheVariants.{Add, Drop, Place as PlaceAt, Lift, Give, Take}
@@ -38,12 +36,12 @@ use Rattle.timetables.specs.Counts.{count_at, no_counts, row_of}
 use Rattle.event_monitors.specs.Posts.{names}
 use Rattle.event_monitors.specs.Shares.{most_of}
 use Rattle.event_monitors.proofs.SlotFacts.{none_of_no_meets}
-use Rattle.link_monitors.specs.Counts.{AreLinked, one_if}
+use Rattle.link_monitors.specs.Counts.{one_if}
 use Rattle.link_monitors.specs.Links.{AreOfGroup, members_at, meets_at, slot_runs}
 use Rattle.link_monitors.specs.Runs.{AreRaised, in_run}
 use Rattle.link_monitors.specs.ElsewhereLaws.{meets_set, named_by, test}
 use Rattle.link_monitors.specs.ExactLaws.{point_is}
-use Rattle.link_monitors.specs.MemberLaws.{member_named, members_ascend, named_member, same_place}
+use Rattle.link_monitors.specs.MemberLaws.{members_ascend, named_member, same_place}
 
 -- no more meets run than there are slots
 slots_amount : (e : ℕ) (events : List EventInfo) → length (slots_from e events) ≡ sum_by (λ (x : EventInfo). x.duration) events

@@ -1,10 +1,10 @@
 -- What the counts of a group's events say of a told state.
-use Rattle.std.proofs.Common.{ℕ, ◌≡◌, ◌≤◌, ◌<◌, ◌+◌, ◌==◌, ◌&&◌, ◌||◌, ◌∙◌, zero, suc, Bool, true, false, not, cond, Option, Some, None, List, [], ◌∷◌, length, slice_get, refl, sym, ap, ap₂, subst, arith, zero-add, count_by, sum_by, filter, ◌⊎◌, inl, inr}
+use Rattle.std.proofs.Common.{ℕ, ◌≡◌, ◌≤◌, ◌<◌, ◌+◌, ◌==◌, ◌&&◌, ◌||◌, ◌∙◌, suc, Bool, true, false, not, cond, Option, Some, None, List, [], ◌∷◌, length, slice_get, refl, sym, ap, ap₂, subst, arith, zero-add, count_by, ◌⊎◌, inl, inr}
 use Rattle.std.specs.Prelude.{nat_lt}
 use Rattle.std.specs.List.{list_any, list_all, range_with_len}
 use Rattle.std.specs.Option.{option_map_or}
 use Rattle.std.proofs.lemmas.Bool.{cases_lt, le-ltb, lt-ltb}
-use Rattle.std.proofs.lemmas.List.Sums.{sum_by-cons, sum_by-le-sum_by, count_by-le-length}
+use Rattle.std.proofs.lemmas.List.Sums.{sum_by-cons, count_by-le-length}
 use Rattle.khe_base.specs.IdSet.{members_of}
 use Rattle.khe_base.proofs.ListLemmas.{there}
 use Rattle.khe_instance.specs.Deviation.{deviation_at}
@@ -20,14 +20,13 @@ use Rattle.khe_instance.specs.declared.points.Point.{Point}
 use Rattle.khe_instance.specs.declared.points.Point.TheVariants.{Event, EventResource, EventGroup, EventPair as Pair, Resource}
 use Rattle.khe_instance.specs.declared.rules.Constraint.{Constraint}
 use Rattle.khe_instance.specs.declared.rules.Kind.TheVariants as kind
-use Rattle.khe_instance.specs.declared.rules.Rule.{Rule}
 use Rattle.khe_instance.specs.declared.rules.Rule.TheVariants.{LinkEvents}
 use Rattle.khe_instance.specs.declared.states.Meet.{Meet}
 use Rattle.khe_told.specs.Agreement.{deviation_in}
 use Rattle.khe_told.specs.Lists.{meets_in, duties_in}
 use Rattle.khe_told.specs.declared.slots.Slot.{Slot}
 use Rattle.khe_told.specs.declared.slots.Span.{Span}
-use Rattle.timetables.specs.Counts.{count_at, is_busy, row_of}
+use Rattle.timetables.specs.Counts.{is_busy, row_of}
 use Rattle.link_monitors.specs.Counts.{AreLinked, apart_times, is_apart, one_if, running_at}
 use Rattle.link_monitors.specs.Links.{AreOfGroup, members_at, meets_at, slot_runs}
 
@@ -105,8 +104,8 @@ rows_exact p s rows times (EventGroup g) i k =
     let members = members_of group.value.events in
     let found : members_at p (EventGroup g) ≡ members = ap (λ o. option_map_or (λ (x : GroupInfo). members_of x.events) o []) group.found in
     let each : (t : ℕ) → is_apart (running_at rows t) (length rows) ≡ runs_apart (event_runs meets t) group.value.events =
-        λ t. apart_as t (event_runs meets t) rows members (k.amount ∙ ap length found)
-            (λ i e h. ap (nat_lt 0) (k.cells i e t (ap (λ ms. slice_get ms i) found ∙ h)) ∙ sym (events_run t e s)) in
+    λ t. apart_as t (event_runs meets t) rows members (k.amount ∙ ap length found)
+    (λ i e h. ap (nat_lt 0) (k.cells i e t (ap (λ ms. slice_get ms i) found ∙ h)) ∙ sym (events_run t e s)) in
     ap (λ o. option_map_or (λ (x : GroupInfo). count_by (λ t. runs_apart (event_runs meets t) x.events) (range_with_len 0 (length p.times))) o 0) group.found
     ∙ sym ((λ j. count_by (λ t. each t j) (range_with_len 0 times)) ∙ ap (λ n. count_by (λ t. runs_apart (event_runs meets t) group.value.events) (range_with_len 0 n)) k.all)
 rows_exact p s rows times (Event e) i k = absurd i

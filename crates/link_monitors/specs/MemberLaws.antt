@@ -1,5 +1,5 @@
 -- The members of a group: they ascend, and a monitor names them and no other event.
-use Rattle.std.proofs.Common.{ℕ, ◌≡◌, ◌≤◌, ◌<◌, ◌+◌, ◌==◌, ◌∙◌, zero, suc, Bool, true, false, cond, Option, Some, None, List, [], ◌∷◌, get_or, length, slice_get, filter, refl, sym, ap, subst, arith, ◌⊎◌, inl, inr}
+use Rattle.std.proofs.Common.{ℕ, ◌≡◌, ◌≤◌, ◌<◌, ◌+◌, ◌==◌, ◌∙◌, zero, suc, Bool, true, false, cond, Option, Some, None, List, [], ◌∷◌, length, slice_get, filter, refl, sym, ap, arith, ◌⊎◌, inl, inr}
 use Rattle.std.specs.List.{range_with_len}
 use Rattle.std.specs.Option.{option_map_or}
 use Rattle.std.proofs.lemmas.Bool.{cases_eq, cases_lt, eq-eqb, ne_eqb, true≢false}

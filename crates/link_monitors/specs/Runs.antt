@@ -1,6 +1,5 @@
 -- The counts of one event, raised at each time of a run.
-use Rattle.std.specs.Prelude.{ℕ, ◌≡◌, ◌+◌, ◌==◌, ◌&&◌, nat_le, nat_lt, Bool, if◌then◌else◌, List}
-use Rattle.timetables.specs.Counts.{count_at}
+use Rattle.std.specs.Prelude.{ℕ, ◌≡◌, ◌+◌, ◌==◌, ◌&&◌, nat_le, nat_lt, Bool, if◌then◌else◌}
 
 -- whether a time is one of a run
 abbrev pub in_run : ℕ → ℕ → ℕ → Bool

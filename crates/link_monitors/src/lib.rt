@@ -1,5 +1,5 @@
 //! The family of Link Events, whose deviations are told by how many of a group's events run at each
-//! time.
+//! time: an event counts once at a time, however many of its meets run then.
 #![tactic(auto)]
 
 mod link_events;

@@ -7,11 +7,12 @@ use khe_base::{NoMemory, ResourceId, Seq, TimeId, both};
 use std::alloc::Global;
 use timetables::Timetable;
 
-/// How many meets of each of some events run at each time, how many of the events run then, and at
-/// how many times some of them run and some do not.
+/// The gauge of Link Events: how many meets of each event of a group run at each time, how many of
+/// the events run then, and at how many times some of them run and some do not.
 #[derive(Drop)]
 pub struct Links {
-    /// How many meets of each event run at each time: the events stand for resources.
+    /// How many meets of each event run at each time: a row for each event, as a timetable has one
+    /// for each resource.
     pub(crate) table: Timetable,
     /// How many events there are.
     pub(crate) events: u32,

@@ -1,4 +1,4 @@
-use Rattle.std.proofs.Common.{ℕ, ◌≡◌, List, replicate, sym, subst, ◌∙◌}
+use Rattle.std.proofs.Common.{◌≡◌, replicate, sym, subst, ◌∙◌}
 use Rattle.khe_base.proofs.ResultLemmas.{if_ok}
 use Rattle.timetables.specs.Counts.{no_counts}
 use Rattle.link_monitors.specs.Counts.{AreLinked}

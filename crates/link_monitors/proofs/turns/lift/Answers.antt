@@ -1,7 +1,6 @@
-use Rattle.std.proofs.Common.{◌≡◌, ◌∙◌, ◌<◌, Some, length, slice_get, sym, ap, subst, arith}
+use Rattle.std.proofs.Common.{◌∙◌, Some, length, sym, ap, subst, arith}
 use Rattle.std.proofs.lemmas.Option.{slice_get_within}
 use Rattle.khe_told.specs.Changes.{after}
-use Rattle.khe_told.specs.Slots.{length_of, slot_at}
 use Rattle.khe_told.specs.declared.changes.Change.TheVariants.{Lift}
 use Rattle.link_monitors.specs.Links.{AreOfGroup, members_at}
 use Rattle.link_monitors.specs.Runs.{in_run}

@@ -1,8 +1,7 @@
-use Rattle.std.proofs.Common.{◌≡◌, ◌∙◌, ◌<◌, Some, length, slice_get, sym, ap, subst, arith}
+use Rattle.std.proofs.Common.{◌∙◌, ◌<◌, Some, length, sym, ap, subst, arith}
 use Rattle.std.proofs.lemmas.Option.{slice_get_within}
 use Rattle.khe_base.specs.declared.limits.TheConstants.{GREATEST_COUNT}
 use Rattle.khe_told.specs.Changes.{after}
-use Rattle.khe_told.specs.Slots.{slot_at}
 use Rattle.khe_told.specs.declared.changes.Change.TheVariants.{Place as PlaceAt}
 use Rattle.link_monitors.specs.Links.{AreOfGroup, members_at}
 use Rattle.link_monitors.specs.Runs.{in_run}

@@ -1,4 +1,4 @@
-use Rattle.std.proofs.Common.{◌≡◌, ◌∙◌, ◌≤◌, Some, length, slice_get, sym, ap, subst}
+use Rattle.std.proofs.Common.{◌∙◌, ◌≤◌, length, slice_get, sym, ap, subst}
 use Rattle.khe_base.specs.declared.limits.TheConstants.{EVENTS}
 use Rattle.link_monitors.specs.Links.{AreAscending}
 use Rattle.link_monitors.specs.MemberLaws.{members_ascend}
