@@ -1,0 +1,2 @@
+pub mod NamedSums
+pub mod SpreadEvents
