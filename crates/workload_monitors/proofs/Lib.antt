@@ -1,0 +1,4 @@
+pub mod BoundLaws
+pub mod FollowLaws
+pub mod LoadLaws
+pub mod ValueLaws

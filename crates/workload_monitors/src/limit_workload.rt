@@ -1,0 +1,112 @@
+ghost use Rattle.std.specs.Prelude.{◌≡◌, ◌≤◌, ◌+◌, length};
+ghost use Rattle.khe_told.specs.Agreement.{Agrees, KeepsOthers};
+ghost use Rattle.khe_told.specs.Changes.{after};
+ghost use Rattle.khe_told.specs.Fits.{AreTold, Fits};
+ghost use Rattle.khe_told.specs.Watchers.{served_watchers};
+ghost use Rattle.resource_monitors.specs.Posts.{AreLists};
+ghost use Rattle.workload_monitors.specs.Loads.{HasLoads, is_on_workload};
+
+use crate::loads::{named_by, no_loads, turn};
+use crate::posts::lists_of;
+use crate::reports::report;
+use crate::values::value;
+use khe_base::{MonitorId, NoMemory, Seq};
+use khe_instance::{Instance, Kind};
+use khe_told::{Change, Family, Steps, Tally, Told};
+use resource_monitors::Post;
+use std::alloc::Global;
+use std::sync::ledger::Ledger;
+
+/// The family of Limit Workload: how far the workload of a resource lies outside the bounds.
+///
+/// It keeps the workload of each resource in whole parts of one over the instance's unit, so that
+/// a deviation is rounded once. Only a change that gives or takes a resource alters a workload, and
+/// then the monitors on it are reported; every other change takes constant time.
+#[derive(Drop)]
+pub struct LimitWorkload {
+    told: Told,
+    loads: Vec<u128>,
+    lists: Vec<Seq<Post>>,
+}
+
+/// Turns the workloads by a change, and reports the monitors on the one that it alters. What was
+/// told is the state before the change.
+fn follow<Y: Tally, L: Ledger>(
+    inst: &Instance,
+    told: &Told,
+    change: Change,
+    lists: &[Seq<Post>],
+    loads: &mut Vec<u128>,
+    tally: &mut Y,
+    steps: &mut Steps<L>,
+)
+    requires told { AreTold inst.now told.now }
+    requires fits { Fits inst.now told.now change }
+    requires lists { AreLists is_on_workload (length inst.now.resources) inst.now.monitors lists.now }
+    requires loads { HasLoads inst.now told.now loads.old.items }
+    requires monitors { length (Y.deviations tally.old) ≡ length inst.now.monitors }
+    ensures loads { HasLoads inst.now (after told.now change) loads.new.items }
+    ensures monitors { length (Y.deviations tally.new) ≡ length (Y.deviations tally.old) }
+    ensures served { Agrees inst.now is_on_workload told.now (Y.deviations tally.old) → Agrees inst.now is_on_workload (after told.now change) (Y.deviations tally.new) }
+    ensures others { KeepsOthers inst.now is_on_workload (Y.deviations tally.old) (Y.deviations tally.new) }
+    ensures rest { Y.HasSameRest tally.old tally.new }
+    ensures steps { steps.new ≤ steps.old + served_watchers inst.now is_on_workload told.now change }
+{
+    inst.facts();
+    turn(inst, told, change, loads);
+    let Some(r) = named_by(change) else {
+        return;
+    };
+    let list = lists[r.0 as usize].as_slice();
+    report(inst, loads.as_slice(), list, tally, steps);
+}
+
+impl Family for LimitWorkload {
+    ghost use Rattle.std.specs.Prelude.{◌≡◌};
+    ghost use Rattle.workload_monitors.specs.Loads.{IsFamily, is_on_workload};
+
+    ghost serves_kind = { is_on_workload };
+
+    ghost IsWellJoined = { Unit {0} };
+
+    ghost told = { λ f. f.told };
+
+    ghost IsOf = { λ f p. IsFamily p f.told f.loads.items f.lists.items };
+
+    fn open(alloc: Global, inst: &Instance) -> Result<LimitWorkload, NoMemory> {
+        let lists = lists_of(alloc, inst)?;
+        let told = Told::open(alloc, inst)?;
+        let loads = no_loads(alloc, inst.resources())?;
+        Ok(LimitWorkload { told, loads, lists })
+    }
+
+    fn serves(&self, kind: Kind) -> bool {
+        kind == Kind::LimitWorkload
+    }
+
+    fn note<Y: Tally, L: Ledger>(
+        &mut self,
+        inst: &Instance,
+        change: Change,
+        tally: &mut Y,
+        steps: &mut Steps<L>,
+    ) {
+        let lists = self.lists.as_slice();
+        follow(
+            inst,
+            &self.told,
+            change,
+            lists,
+            &mut self.loads,
+            tally,
+            steps,
+        );
+        self.told.note(inst, change);
+    }
+
+    fn deviation(&self, inst: &Instance, monitor: MonitorId) -> u64 {
+        inst.facts();
+        let of = inst.monitor(monitor);
+        value(inst, self.loads.as_slice(), of)
+    }
+}
