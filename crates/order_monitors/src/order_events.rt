@@ -1,0 +1,140 @@
+ghost use Rattle.std.specs.Prelude.{◌≡◌, ◌≢◌, [], length, IfOk};
+ghost use Rattle.khe_told.specs.Changes.{after, meet_of};
+ghost use Rattle.khe_told.specs.Fits.{Fits};
+ghost use Rattle.khe_told.specs.Slots.{no_meets, slot_at};
+ghost use Rattle.order_monitors.specs.Edges.{AreEdges, IsEdges};
+
+use crate::edges::Edges;
+use crate::lists::lists_of;
+use crate::pairs::value;
+use crate::posts::posts_of;
+use crate::reports::report;
+use event_monitors::Post;
+use khe_base::{EventId, MonitorId, NoMemory, Seq, beside, both};
+use khe_instance::{EventInfo, Instance, Kind};
+use khe_told::{Change, Family, Steps, Tally, Told};
+use std::alloc::Global;
+use std::sync::ledger::Ledger;
+
+/// The family of Order Events: a monitor's deviation is how far the times from the end of its first
+/// event's meets to the start of its second's lie outside the bounds, while both have a start.
+///
+/// It keeps, for each event that a served monitor names, when the meet of each meet slot starts and
+/// ends, four numbers a slot. A change takes time of the logarithm of its event's meet slots, and
+/// then that of the monitors that name the event. Where there are none, it takes constant time.
+#[derive(Drop)]
+pub struct OrderEvents {
+    told: Told,
+    posts: Seq<Post>,
+    /// For each event the places of the posts that name it.
+    lists: Seq<Seq<u32>>,
+    /// For each event that has a list when its meets start and end.
+    edges: Vec<Edges>,
+}
+
+impl Family for OrderEvents {
+    ghost use Rattle.std.specs.Prelude.{◌≡◌};
+    ghost use Rattle.event_monitors.specs.Posts.{ArePosts, AreListed};
+    ghost use Rattle.order_monitors.specs.Edges.{AreEdges, AreShort};
+    ghost use Rattle.order_monitors.specs.Pairs.{is_order};
+
+    ghost serves_kind = { is_order };
+
+    ghost IsWellJoined = { Unit {0} };
+
+    ghost told = { λ f. f.told };
+
+    ghost IsOf = { λ f p. ArePosts p is_order f.posts × AreListed p f.posts f.lists × AreEdges p f.lists f.told f.edges.items × AreShort f.told };
+
+    fn open(alloc: Global, inst: &Instance) -> Result<OrderEvents, NoMemory> {
+        let posts = posts_of(alloc, inst)?;
+        let lists = lists_of(alloc, inst, posts.as_slice());
+        let (lists, posts) = beside(lists, posts)?;
+        let edges = edges_of(alloc, inst, lists.as_slice());
+        let told = Told::open(alloc, inst);
+        let ((told, edges), (lists, posts)) = beside(both(told, edges), (lists, posts))?;
+        Ok(OrderEvents {
+            told,
+            posts,
+            lists,
+            edges,
+        })
+    }
+
+    fn serves(&self, kind: Kind) -> bool {
+        kind == Kind::OrderEvents
+    }
+
+    fn note<Y: Tally, L: Ledger>(
+        &mut self,
+        inst: &Instance,
+        change: Change,
+        tally: &mut Y,
+        steps: &mut Steps<L>,
+    ) {
+        inst.facts();
+        let lists = self.lists.as_slice();
+        follow(inst, &self.told, lists, change, &mut self.edges);
+        let event = self.told.event(change.meet());
+        self.told.note(inst, change);
+        let list = lists[event.0 as usize].as_slice();
+        let edges = self.edges.as_slice();
+        let posts = self.posts.as_slice();
+        report(inst, edges, posts, event, list, tally, steps);
+    }
+
+    fn deviation(&self, inst: &Instance, monitor: MonitorId) -> u64 {
+        inst.facts();
+        value(inst, self.edges.as_slice(), inst.monitor(monitor))
+    }
+}
+
+/// When the meets of all events that have a list start and end, while there are none. It takes time
+/// and memory in proportion to the events and to the meet slots of those.
+fn edges_of(alloc: Global, inst: &Instance, lists: &[Seq<u32>]) -> Result<Vec<Edges>, NoMemory>
+    requires { length lists.now ≡ length inst.now.events }
+    ensures { IfOk result (λ edges. AreEdges inst.now lists.now (no_meets inst.now) edges.items) }
+{
+    let mut edges = Vec::new(alloc);
+    for i in 0..inst.events() {
+        let slots = slots_for(&lists[i as usize], inst.event(EventId(i)));
+        edges.push(Edges::open(alloc, slots)?)?;
+    }
+    Ok(edges)
+}
+
+/// How many meet slots are kept for an event with this list: none where it is empty.
+fn slots_for(list: &Seq<u32>, event: &EventInfo) -> u32
+    ensures { list.now ≢ [] → result ≡ event.now.duration }
+{
+    if list.is_empty() { 0 } else { event.duration }
+}
+
+/// Follows a change where the event of its meet has a list. What was told is the state before the
+/// change.
+fn follow(inst: &Instance, told: &Told, lists: &[Seq<u32>], change: Change, edges: &mut Vec<Edges>)
+    requires fits { Fits inst.now told.now change }
+    requires rows { length lists.now ≡ length inst.now.events }
+    requires of { AreEdges inst.now lists.now told.now edges.old.items }
+    ensures { AreEdges inst.now lists.now (after told.now change) edges.new.items }
+{
+    inst.facts();
+    let event = told.event(change.meet());
+    if lists[event.0 as usize].is_empty() {
+        return;
+    }
+    turn(inst, told, change, &mut edges[event.0 as usize]);
+}
+
+/// Follows a change of one of an event's meet slots. What was told is the state before the change.
+fn turn(inst: &Instance, told: &Told, change: Change, edges: &mut Edges)
+    requires fits { Fits inst.now told.now change }
+    requires of { IsEdges (slot_at told.now (meet_of change)).event.0 told.now edges.old }
+    ensures { IsEdges (slot_at told.now (meet_of change)).event.0 (after told.now change) edges.new }
+{
+    inst.facts();
+    let meet = change.meet();
+    let first = inst.event(told.event(meet)).first_meet;
+    let span = change.span_after(told.span(meet));
+    edges.set((meet.0 - first) as usize, span);
+}
