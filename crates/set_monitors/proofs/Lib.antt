@@ -1,2 +1,5 @@
+pub mod CandidateLaws
+pub mod HolderLaws
+pub mod HolderTurns
 pub mod ListLaws
 pub mod SpreadLaws

@@ -135,7 +135,7 @@ pub turned_all : (change : Change) (spreads : List Spread) (old counts : List �
 turned_all change spreads old counts i are past f all k q h = are.done k (f q.group) q (let l = slice_get_within spreads k q h in omega (arith, l, past)) (all k q h) h
 
 -- counts of nothing
-nothing_at : (n k : ℕ) → k < n → ◌≡◌ {A = Option ℕ} (slice_get {X = ℕ} (replicate n 0) k) (Some 0)
+pub nothing_at : (n k : ℕ) → k < n → ◌≡◌ {A = Option ℕ} (slice_get {X = ℕ} (replicate n 0) k) (Some 0)
 nothing_at zero k l = absurd (omega arith)
 nothing_at (suc n) zero l = refl
 nothing_at (suc n) (suc k) l = nothing_at n k (omega arith)
