@@ -1,43 +1,32 @@
 -- Counts of tasks in a role by resources, and one more change.
-use Rattle.std.proofs.Common.{ℕ, ◌≡◌, ◌≤◌, ◌<◌, ◌+◌, ◌-◌, ◌*◌, ◌==◌, ◌∙◌, ◌&&◌, ◌⊎◌, inl, inr, zero, suc, Bool, true, false, cond, Option, Some, None, is_none, List, [], ◌∷◌, map, set, length, get_or, slice_get, refl, sym, ap, subst, arith, sum_by, count_by, ltb, get_or-set_same, All}
+use Rattle.std.proofs.Common.{ℕ, ◌≡◌, ◌≤◌, ◌<◌, ◌+◌, ◌*◌, ◌==◌, ◌∙◌, ◌&&◌, ◌⊎◌, inl, inr, zero, suc, Bool, true, false, cond, Option, Some, None, is_none, List, [], ◌∷◌, map, set, length, slice_get, refl, sym, ap, subst, arith, sum_by, ltb}
 use Rattle.std.specs.Prelude.{replicate}
 use Rattle.std.specs.List.{range_with_len}
-use Rattle.std.specs.Option.{option_and_then, option_map_or}
-use mathlib.Core.Logic.{⊎_elim}
-use Rattle.std.proofs.lemmas.Bool.{cases_eq, eq-eqb, lt-ltb, ne_eqb, true≢false}
-use Rattle.std.proofs.lemmas.List.{length-map, length-replicate, length-set}
-use Rattle.std.proofs.lemmas.List.Elements.{All-get_or, All-map, All-weaker}
+use Rattle.std.proofs.lemmas.Bool.{cases_eq, eq-eqb, lt-ltb, ne_eqb}
+use Rattle.std.proofs.lemmas.List.{length-map, length-replicate}
+use Rattle.std.proofs.lemmas.List.Elements.{All-map, All-weaker}
 use Rattle.std.proofs.lemmas.List.FromFn.{length-range_with_len}
-use Rattle.std.proofs.lemmas.List.Sums.{count_by-le-length, get_or-le-sum_by, sum_by-append, sum_by-cons, sum_by-le}
-use Rattle.std.proofs.lemmas.Option.{none-some, same_Some, slice_get-get_or, slice_get_cases, slice_get_within}
+use Rattle.std.proofs.lemmas.List.Sums.{count_by-le-length, sum_by-append, sum_by-cons, sum_by-le}
+use Rattle.std.proofs.lemmas.Option.{none-some, same_Some}
 use Rattle.khe_base.specs.declared.limits.TheConstants.{RESOURCES, TASKS}
 use Rattle.khe_base.specs.declared.numbers.ResourceId.{ResourceId}
 use Rattle.khe_base.specs.declared.numbers.TaskId.{TaskId}
 use Rattle.khe_base.proofs.ListLemmas.{there}
-use Rattle.khe_instance.specs.KindLaws.{is_kind}
-use Rattle.khe_instance.specs.Lookups.{is_role, role_at}
 use Rattle.khe_instance.specs.Running.{is_resource}
-use Rattle.khe_instance.specs.WellMade.{AreWellMade, HasType}
+use Rattle.khe_instance.specs.WellMade.{AreWellMade}
 use Rattle.khe_instance.specs.declared.parts.EventInfo.{EventInfo}
 use Rattle.khe_instance.specs.declared.parts.Parts.{Parts}
-use Rattle.khe_instance.specs.declared.parts.Place.{Place}
 use Rattle.khe_instance.specs.declared.points.Monitor.{Monitor}
-use Rattle.khe_instance.specs.declared.rules.Constraint.{Constraint}
-use Rattle.khe_instance.specs.declared.rules.Kind.TheVariants as kind
-use Rattle.khe_instance.specs.declared.rules.Rule.{Rule}
 use Rattle.khe_told.specs.Changes.{after, changed, meet_of}
 use Rattle.khe_told.specs.Fits.{AreTold, Fits, IsSlot}
-use Rattle.khe_told.specs.Slots.{emptied, empty_slot, no_meets, no_slot, slot_at, slots_from, slots_of_event}
+use Rattle.khe_told.specs.Slots.{emptied, empty_slot, no_meets, slot_at, slots_from, slots_of_event}
 use Rattle.khe_told.specs.declared.changes.Change.{Change}
 use Rattle.khe_told.specs.declared.changes.Change.TheVariants.{Add, Drop, Place as PlaceAt, Lift, Give, Take}
 use Rattle.khe_told.specs.declared.slots.Slot.{Slot}
 use Rattle.khe_told.specs.declared.slots.Span.{Span}
 use Rattle.event_monitors.specs.Posts.{names}
-use Rattle.event_monitors.specs.ShareLaws.{rule_of_kind}
-use Rattle.event_monitors.proofs.SlotFacts.{fits_event}
-use Rattle.set_monitors.specs.AvoidSplitAssignments.{AreCandidates, AreHeld, AreWithin, CanHold, IsListed, IsShared, NamesListed, above_after, given_from, given_in, held, held_after, holders, in_role, is_in_role, loose, wants, with_one}
+use Rattle.set_monitors.specs.AvoidSplitAssignments.{given_from, given_in, held, holders, in_role, is_in_role, loose, with_one}
 use Rattle.set_monitors.specs.NamedSums.{named_part, sum_of_none, sum_turned}
-use Rattle.set_monitors.proofs.ListLaws.{get-set}
 
 -- what places are given, with one of them changed
 module _ (has : ℕ → Bool) (r : ℕ) where

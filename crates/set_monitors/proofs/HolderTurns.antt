@@ -1,5 +1,5 @@
 -- What is kept for a monitor on split assignments, after one more change.
-use Rattle.std.proofs.Common.{ℕ, ◌≡◌, ◌≤◌, ◌<◌, ◌+◌, ◌-◌, ◌==◌, ◌∙◌, ◌⊎◌, inl, inr, zero, suc, ltb, count_by, Bool, true, false, cond, Option, Some, None, List, set, length, get_or, slice_get, refl, sym, ap, subst, arith, get_or-set_same}
+use Rattle.std.proofs.Common.{ℕ, ◌≡◌, ◌≤◌, ◌<◌, ◌+◌, ◌==◌, ◌∙◌, ◌⊎◌, inl, inr, zero, suc, ltb, count_by, true, false, cond, Some, None, List, length, get_or, slice_get, refl, sym, ap, subst, arith, get_or-set_same}
 use Rattle.std.specs.Prelude.{replicate}
 use Rattle.std.specs.List.{range_with_len}
 use Rattle.std.specs.Option.{option_and_then, option_map_or}
@@ -13,7 +13,7 @@ use Rattle.khe_base.specs.declared.numbers.ResourceId.{ResourceId}
 use Rattle.khe_base.specs.declared.numbers.TaskId.{TaskId}
 use Rattle.khe_base.proofs.ListLemmas.{there}
 use Rattle.khe_instance.specs.KindLaws.{is_kind}
-use Rattle.khe_instance.specs.Lookups.{is_role, role_at}
+use Rattle.khe_instance.specs.Lookups.{role_at}
 use Rattle.khe_instance.specs.WellMade.{AreWellMade, IsMonitor}
 use Rattle.khe_instance.specs.declared.parts.EventInfo.{EventInfo}
 use Rattle.khe_instance.specs.declared.parts.Parts.{Parts}
@@ -21,9 +21,8 @@ use Rattle.khe_instance.specs.declared.parts.Place.{Place}
 use Rattle.khe_instance.specs.declared.points.Monitor.{Monitor}
 use Rattle.khe_instance.specs.declared.rules.Constraint.{Constraint}
 use Rattle.khe_instance.specs.declared.rules.Kind.TheVariants as kind
-use Rattle.khe_instance.specs.declared.rules.Rule.{Rule}
 use Rattle.khe_told.specs.Changes.{after, changed, meet_of}
-use Rattle.khe_told.specs.Fits.{AreTold, Fits, IsSlot}
+use Rattle.khe_told.specs.Fits.{Fits, IsSlot}
 use Rattle.khe_told.specs.Slots.{no_meets, no_slot, slot_at}
 use Rattle.khe_told.specs.declared.changes.Change.{Change}
 use Rattle.khe_told.specs.declared.changes.Change.TheVariants.{Add, Drop, Place as PlaceAt, Lift, Give, Take}
@@ -31,9 +30,9 @@ use Rattle.khe_told.specs.declared.slots.Slot.{Slot}
 use Rattle.event_monitors.specs.Posts.{names}
 use Rattle.event_monitors.specs.ShareLaws.{rule_of_kind}
 use Rattle.event_monitors.proofs.SlotFacts.{fits_event}
-use Rattle.set_monitors.specs.AvoidSplitAssignments.{AreCandidates, AreHeld, AreWithin, CanHold, IsListed, IsShared, NamesListed, above_after, held, held_after, holders, in_role, is_in_role, loose, wants, with_one, without_one}
+use Rattle.set_monitors.specs.AvoidSplitAssignments.{AreCandidates, AreHeld, AreWithin, IsListed, IsShared, NamesListed, above_after, held, held_after, holders, in_role, is_in_role, wants}
 use Rattle.set_monitors.proofs.HolderLaws.{free_none, held_few, held_given, held_kept, held_none, held_taken, holders_more, loose_none}
-use Rattle.set_monitors.proofs.ListLaws.{get-set}
+use Rattle.khe_told.proofs.SlotLaws.{set-there}
 use Rattle.set_monitors.proofs.SpreadLaws.{nothing_at}
 
 -- a place in the role is there
@@ -68,7 +67,7 @@ module _ (p : Parts) (m : Monitor) (s : List Slot) (numbers counts : List ℕ) (
       let place = placed x.event.0 t.place event.value event.found role in
       let l : t.meet.0 < length (after s (Give t r)) = let a = length-set s t.meet.0 y in let b = fits.there in omega (arith, a, b) in
       let is : IsSlot p y = subst (IsSlot p) (get_or-set_same s t.meet.0 y no_slot fits.there) (All-get_or (IsSlot p) (after s (Give t r)) t.meet.0 no_slot l fits.told.slots) in
-      let given : slice_get y.given t.place ≡ Some (Some r) = get-set x.given t.place (Some r) (slice_get_within x.given t.place None fits.suits.2) in
+      let given : slice_get y.given t.place ≡ Some (Some r) = set-there x.given t.place (Some r) None fits.suits.2 in
       kept.candidates.known r.0 (record {
         e = x.event.0;
         event = event.value;

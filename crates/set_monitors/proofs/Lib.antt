@@ -1,5 +1,4 @@
 pub mod CandidateLaws
 pub mod HolderLaws
 pub mod HolderTurns
-pub mod ListLaws
 pub mod SpreadLaws

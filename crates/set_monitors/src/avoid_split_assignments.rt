@@ -1,5 +1,4 @@
-ghost use Rattle.std.specs.Prelude.{◌≡◌, ◌≤◌, ◌<◌, ◌+◌, ◌-◌, ◌==◌, ℕ, if◌then◌else◌, Some, length, IfOk, slice_get};
-ghost use Rattle.std.specs.Prelude.{replicate};
+ghost use Rattle.std.specs.Prelude.{◌≡◌, ◌≤◌, ◌<◌, ◌+◌, ◌-◌, ◌==◌, ℕ, if◌then◌else◌, Some, length, replicate, IfOk, slice_get};
 ghost use Rattle.khe_base.specs.declared.limits.TheConstants.{RESOURCES};
 ghost use Rattle.khe_instance.specs.WellMade.{IsMonitor};
 ghost use Rattle.khe_told.specs.Changes.{meet_of};

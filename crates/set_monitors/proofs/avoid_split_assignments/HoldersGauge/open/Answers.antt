@@ -1,4 +1,4 @@
-use Rattle.std.proofs.Common.{ℕ, ◌≡◌, ◌∙◌, length, sym, ap, subst}
+use Rattle.std.proofs.Common.{◌≡◌, ◌∙◌, length, sym, ap, subst}
 use Rattle.std.specs.Prelude.{replicate}
 use Rattle.khe_base.proofs.ResultLemmas.{if_ok}
 use Rattle.set_monitors.specs.AvoidSplitAssignments.{AreCandidates}

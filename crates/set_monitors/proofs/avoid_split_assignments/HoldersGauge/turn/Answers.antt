@@ -1,4 +1,4 @@
-use Rattle.std.proofs.Common.{ℕ, ◌≡◌, ◌≤◌, ◌∙◌, List, length, sym, ap, subst, arith}
+use Rattle.std.proofs.Common.{ℕ, ◌≡◌, ◌∙◌, List, length, sym, ap, subst, arith}
 use Rattle.event_monitors.proofs.SlotFacts.{fits_event}
 use Rattle.set_monitors.specs.AvoidSplitAssignments.{AreHeld, NamesListed, above_after, held, held_after}
 use Rattle.set_monitors.proofs.HolderLaws.{holders_few}
