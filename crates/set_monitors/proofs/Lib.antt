@@ -1,2 +1,4 @@
-pub mod ListLaws
+pub mod CandidateLaws
+pub mod HolderLaws
+pub mod HolderTurns
 pub mod SpreadLaws

@@ -1,8 +1,6 @@
 -- Counts of starts and one more change.
-use mathlib.Core.Logic.{⊎_elim}
-use Rattle.std.proofs.lemmas.Bool.{cases_eq, cases_lt}
-use Rattle.std.proofs.Common.{ℕ, ◌≡◌, ◌≤◌, ◌<◌, ◌+◌, ◌∙◌, ◌⊎◌, inl, inr, zero, suc, set, Bool, true, false, cond, Option, Some, None, List, [], ◌∷◌, length, slice_get, refl, sym, ap, subst, arith, sum_by}
-use Rattle.std.proofs.lemmas.List.{length-append, length-map, length-set}
+use Rattle.std.proofs.Common.{ℕ, ◌≡◌, ◌≤◌, ◌<◌, ◌+◌, ◌∙◌, zero, suc, Bool, true, false, cond, Option, Some, None, List, [], ◌∷◌, length, slice_get, refl, sym, ap, subst, arith, sum_by}
+use Rattle.std.proofs.lemmas.List.{length-append, length-map}
 use Rattle.std.proofs.lemmas.List.FromFn.{length-range_with_len}
 use Rattle.std.proofs.lemmas.List.Sums.{sum_by-cons}
 use Rattle.std.proofs.lemmas.Option.{same_Some, slice_get_within}
@@ -25,7 +23,6 @@ use Rattle.khe_told.specs.declared.slots.Span.{Span}
 use Rattle.event_monitors.specs.Posts.{names}
 use Rattle.event_monitors.specs.Shares.{span_share}
 use Rattle.set_monitors.specs.NamedSums.{named_part, sum_of_none, sum_turned}
-use Rattle.set_monitors.proofs.ListLaws.{get-other, get-set}
 use Rattle.set_monitors.specs.SpreadEvents.{AreCounts, AreFew, IsSpread, count_after, moves_start, one_in, spread_by, spreads_of, started}
 
 -- what a change does to one slot's part is what it does to a count
@@ -105,37 +102,8 @@ pub record AreTurned (change : Change) (spreads : List Spread) (old counts : Lis
   pub done : (k n : ℕ) (q : Spread) → k < i → slice_get old k ≡ Some n → slice_get spreads k ≡ Some q → slice_get counts k ≡ Some (count_after n q.group change)
   pub rest : (k : ℕ) → i ≤ k → slice_get counts k ≡ slice_get old k
 
-pub turned_start : (change : Change) (spreads : List Spread) (old : List ℕ) → AreTurned change spreads old old 0
-turned_start change spreads old = record {
-  amount = refl;
-  done = λ k n q l h g. absurd (omega arith);
-  rest = λ k l. refl;
-}
-
-pub turned_next : (change : Change) (spreads : List Spread) (old counts : List ℕ) (i n : ℕ) (q : Spread) → AreTurned change spreads old counts i → slice_get counts i ≡ Some n → slice_get spreads i ≡ Some q
-    → AreTurned change spreads old (set counts i (count_after n q.group change)) (i + 1)
-turned_next change spreads old counts i n q are here group = record {
-  amount = length-set counts i (count_after n q.group change) ∙ are.amount;
-  done = λ k a b l h g. by k a b l h g (cases_eq i k);
-  rest = λ k l. get-other counts i k (count_after n q.group change) (λ e. omega (arith, e, l)) ∙ are.rest k (omega arith);
-}
-  where
-    by : (k a : ℕ) (b : Spread) → k < i + 1 → slice_get old k ≡ Some a → slice_get spreads k ≡ Some b → (i ≡ k) ⊎ (i ≡ k → ⊥) → slice_get (set counts i (count_after n q.group change)) k ≡ Some (count_after a b.group change)
-    by k a b l h g (inl e) =
-        ap (slice_get (set counts i (count_after n q.group change))) (sym e)
-        ∙ get-set counts i (count_after n q.group change) (slice_get_within counts i n here)
-        ∙ (λ j. Some (count_after (same_Some n a (sym here ∙ are.rest i (omega arith) ∙ ap (slice_get old) e ∙ h) j) (same_Some q b (sym group ∙ ap (slice_get spreads) e ∙ g) j).group change))
-    by k a b l h g (inr e) = get-other counts i k (count_after n q.group change) e ∙ are.done k a b (below k e l) h g
-      where
-        below : (k : ℕ) → (i ≡ k → ⊥) → k < i + 1 → k < i
-        below k e l = ⊎_elim (λ h. h) (λ (h : i ≤ k). absurd (e (omega (arith, h, l)))) (cases_lt k i)
-
-pub turned_all : (change : Change) (spreads : List Spread) (old counts : List ℕ) (i : ℕ) → AreTurned change spreads old counts i → length spreads ≤ i
-    → (f : List Bool → ℕ) → AreCounts f spreads old → AreCounts (λ g. count_after (f g) g change) spreads counts
-turned_all change spreads old counts i are past f all k q h = are.done k (f q.group) q (let l = slice_get_within spreads k q h in omega (arith, l, past)) (all k q h) h
-
 -- counts of nothing
-nothing_at : (n k : ℕ) → k < n → ◌≡◌ {A = Option ℕ} (slice_get {X = ℕ} (replicate n 0) k) (Some 0)
+pub nothing_at : (n k : ℕ) → k < n → ◌≡◌ {A = Option ℕ} (slice_get {X = ℕ} (replicate n 0) k) (Some 0)
 nothing_at zero k l = absurd (omega arith)
 nothing_at (suc n) zero l = refl
 nothing_at (suc n) (suc k) l = nothing_at n k (omega arith)

@@ -1,2 +1,4 @@
+pub mod AvoidSplitAssignments
+pub mod Candidates
 pub mod NamedSums
 pub mod SpreadEvents
