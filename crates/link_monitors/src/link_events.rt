@@ -1,0 +1,54 @@
+use crate::links::{Links, no_links};
+use crate::turns::{follow, members};
+use event_monitors::{Counted, Gauge};
+use khe_base::NoMemory;
+use khe_instance::{Instance, Kind, Monitor};
+use khe_told::{Change, Told};
+use std::alloc::Global;
+
+/// The family of Link Events: a monitor's deviation is the number of times at which some of its
+/// group's events run and some do not.
+///
+/// Each monitor keeps counts for the events of its group at all times.
+pub type LinkEvents = Counted<Links>;
+
+impl Gauge for Links {
+    ghost use Rattle.std.specs.Prelude.{◌≡◌, true, length};
+    ghost use Rattle.khe_instance.specs.KindLaws.{is_kind};
+    ghost use Rattle.khe_instance.specs.WellMade.{IsMonitor};
+    ghost use Rattle.khe_instance.specs.declared.rules.Kind.TheVariants as kind;
+    ghost use Rattle.link_monitors.specs.Counts.{AreLinked};
+    ghost use Rattle.link_monitors.specs.ElsewhereLaws.{group_elsewhere};
+    ghost use Rattle.link_monitors.specs.ExactLaws.{linked_exact};
+    ghost use Rattle.link_monitors.specs.Links.{AreOfGroup};
+
+    ghost serves_kind = { λ k. is_kind k kind.LinkEvents };
+
+    ghost Keeps = { λ g p m s. IsMonitor p m × (is_kind m.kind kind.LinkEvents ≡ true) × AreOfGroup p m.point s g.table (length g.running.items) × AreLinked g.table g.events g.running.items g.apart };
+
+    ghost value = { λ g p m. g.apart };
+
+    fn serves(kind: Kind) -> bool {
+        kind == Kind::LinkEvents
+    }
+
+    fn open(alloc: Global, inst: &Instance, monitor: Monitor) -> Result<Links, NoMemory> {
+        inst.facts();
+        let events = members(inst, monitor.point);
+        no_links(alloc, events.len() as u32, inst.times())
+    }
+
+    fn turn(&mut self, inst: &Instance, monitor: Monitor, told: &Told, change: Change) {
+        follow(self, inst, monitor, told, change);
+    }
+
+    fn value(&self, inst: &Instance, monitor: Monitor) -> u64 {
+        let _ = inst;
+        let _ = monitor;
+        u64::from(self.apart)
+    }
+
+    ghost exact = { λ g p m s k. linked_exact p m s g.table g.events g.running.items g.apart k.0 k.1 k.2 k.3 };
+
+    ghost elsewhere = { λ g p m s k x l same named kept. (kept.0, kept.1, group_elsewhere p m s g.table (length g.running.items) k x kept.0 l same named kept.2, kept.3) };
+}
