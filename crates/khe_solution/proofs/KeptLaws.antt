@@ -1,5 +1,5 @@
 -- The rows of tasks after a change of a slot, and while they are filled.
-use Rattle.std.proofs.Common.{ℕ, ◌≡◌, ◌≢◌, ◌+◌, ◌-◌, ◌*◌, ◌<◌, ◌≤◌, Bool, true, false, cond, nat_eq, nat_lt, Option, Some, None, List, length, get_or, map, set, refl, sym, ap, subst, ◌∙◌, arith, inl, inr, ◌⊎◌, get_or-set_same, get_or-set_other}
+use Rattle.std.proofs.Common.{ℕ, ◌≡◌, ◌≢◌, ◌+◌, ◌-◌, ◌*◌, ◌<◌, ◌≤◌, Bool, true, false, cond, nat_eq, nat_lt, Option, Some, None, List, length, get_or, set, refl, sym, ap, ◌∙◌, arith, inl, inr, ◌⊎◌, get_or-set_same, get_or-set_other}
 use Rattle.std.specs.Prelude.{◌&&◌, is_some, nat_le, slice_get, slice_index_or}
 use Rattle.std.specs.Option.{option_map}
 use Rattle.std.proofs.Math.Seq.{map-set_same}
@@ -24,11 +24,8 @@ use Rattle.khe_told.specs.declared.slots.Slot.{Slot}
 use Rattle.khe_solution.specs.TaskRows.{AreAllPut, AreEntered, AreKept, AreOut, AreRows, AreTurned, first_in, is_entered, is_in, is_row_of, places, row_of, tasks_of_all}
 use Rattle.khe_solution.specs.declared.tasks.TaskRows.{TaskRows}
 use Rattle.khe_solution.proofs.Basics.{cases_eq}
+use Rattle.khe_solution.proofs.SpotLaws.{no_and}
 use Rattle.khe_solution.proofs.NumberLaws.{first_next, first_told, number_below, slots_told, sum_all, sum_same}
-
-no_and : (a b : Bool) → b ≡ false → (a && b) ≡ false
-no_and true b h = h
-no_and false b h = refl
 
 -- a slot that gets another meet keeps the numbers of all tasks
 pub first_kept : (s : List Slot) (m : ℕ) (y : Slot) (j : ℕ) → places y ≡ places (slot_at s m) → first_in (set s m y) j ≡ first_in s j
@@ -42,9 +39,9 @@ pub apart : (s : List Slot) (m n k : ℕ) → n ≢ m → k < places (slot_at s 
 apart s m n k d l = elim (cases_lt n m) [
   | inl b ↦ let h = first_next s n m b in inl (omega (arith, h, l))
   | inr g ↦ elim (cases_lt m n) [
-      | inl b ↦ let h = first_next s m n b in inr (omega (arith, h))
-      | inr f ↦ absurd (d (omega (arith, g, f)))
-    ]
+    | inl b ↦ let h = first_next s m n b in inr (omega (arith, h))
+    | inr f ↦ absurd (d (omega (arith, g, f)))
+  ]
 ]
 
 -- the rows are kept where the bits of the slot are, and no others change
@@ -138,10 +135,12 @@ kept_task s m k y t u old new l kl g now before had kept rows same turned =
   where
     number : ℕ
     number = first_in s m + k
+
     others : (row j : ℕ) → row < 257 → j < 64 * t.stride → (j < first_in s m) ⊎ (first_in s m + places (slot_at s m) ≤ j) → is_in u row j ≡ is_in t row j
     others row j r a o =
         let d : j ≢ number = elim o [ inl b ↦ λ e. omega (arith, b, e) | inr b ↦ λ e. omega (arith, b, e, kl) ] in
         turned row j r a ∙ turned_other (nat_eq row (row_of new)) (nat_eq row (row_of old)) (nat_eq j number) (is_in t row j) (ne_eqb j number d)
+
     own : (row n : ℕ) → row < 257 → n < places (slot_at s m) → is_in u row (first_in s m + n) ≡ is_entered y n row
     own row n r a =
         let x = slot_at s m in
@@ -181,9 +180,9 @@ below_more : (m n : ℕ) → m ≢ n → nat_lt m (n + 1) ≡ nat_lt m n
 below_more m n d = elim (cases_lt m n) [
   | inl h ↦ lt-ltb m (n + 1) (omega (arith, h)) ∙ sym (lt-ltb m n h)
   | inr g ↦ elim (cases_lt n m) [
-      | inl h ↦ le-ltb m (n + 1) (omega (arith, h)) ∙ sym (le-ltb m n g)
-      | inr h ↦ absurd (d (omega (arith, g, h)))
-    ]
+    | inl h ↦ le-ltb m (n + 1) (omega (arith, h)) ∙ sym (le-ltb m n g)
+    | inr h ↦ absurd (d (omega (arith, g, h)))
+  ]
 ]
 
 entered_more : (s : List Slot) (n : ℕ) (t u : TaskRows) → AreEntered s n t → AreRows u → u.stride ≡ t.stride

@@ -1,17 +1,13 @@
--- Rows of bits with a marks.
-use Rattle.std.proofs.Common.{ℕ, ◌≡◌, ◌≤◌, ◌/◌, ◌*◌, ◌%◌, Bool, true, false, cond, nat_eq, List, length, get_or, refl, sym, ap, ◌∙◌, arith, inl, inr}
+-- Rows of bits with marks.
+use Rattle.std.proofs.Common.{ℕ, ◌≡◌, ◌/◌, ◌*◌, ◌%◌, Bool, true, false, cond, nat_eq, List, get_or, refl, sym, ap, ◌∙◌, arith, inl, inr}
 use Rattle.std.proofs.lemmas.Bool.{eqb-true, eq-eqb, cond_both, both_ways, cases_lt}
-use Rattle.std.proofs.lemmas.List.{get_or_past}
 use Rattle.khe_base.specs.Bits.{is_set, has_bit}
 use Rattle.khe_base.proofs.BitsLemmas.{has_bit-zero}
 use Rattle.khe_solution.specs.Marks.{AreMarked}
 use Rattle.khe_solution.specs.FreeBits.{AreClear}
 
--- beyond the last word, and in a word that is 0, no bit is set
-pub past_clear : (words : List ℕ) (m : ℕ) → length words ≤ m / 64 → is_set words m ≡ false
-past_clear words m l = ap (λ w. has_bit w (m % 64)) (get_or_past words (m / 64) 0 l) ∙ has_bit-zero (m % 64)
-
-pub zero_clear : (words : List ℕ) (k m : ℕ) → get_or words k 0 ≡ 0 → m / 64 ≡ k → is_set words m ≡ false
+-- in a word that is 0 no bit is set
+zero_clear : (words : List ℕ) (k m : ℕ) → get_or words k 0 ≡ 0 → m / 64 ≡ k → is_set words m ≡ false
 zero_clear words k m z e = ap (λ n. has_bit (get_or words n 0) (m % 64)) e ∙ ap (λ w. has_bit w (m % 64)) z ∙ has_bit-zero (m % 64)
 
 yes : (t : Bool) → t ≡ true → t ≡ false → ⊥
@@ -40,8 +36,8 @@ marked_zero words marks marks2 k a z w m h = at_test (nat_eq (m / 64) k) refl
     at_test true e = absurd (yes (is_set words m) h (zero_clear words k m z (eqb-true (m / 64) k e)))
     at_test false e = w (m / 64) ∙ ap (λ b. cond b false (is_set marks (m / 64))) e ∙ a m h
 
--- a word without its mark has no set bit
-pub unmarked : (words marks : List ℕ) (m : ℕ) → AreMarked words marks → is_set marks (m / 64) ≡ false → is_set words m ≡ false
+-- a word that is not marked has no set bit
+unmarked : (words marks : List ℕ) (m : ℕ) → AreMarked words marks → is_set marks (m / 64) ≡ false → is_set words m ≡ false
 unmarked words marks m a h = at_value (is_set words m) refl
   where
     at_value : (t : Bool) → is_set words m ≡ t → t ≡ false
@@ -57,6 +53,3 @@ gap_clear words marks from next word a c g m f l = elim (cases_lt m (64 * next))
 
 pub join_clear : (words : List ℕ) (from mid to : ℕ) → AreClear words from mid → AreClear words mid to → AreClear words from to
 join_clear words from mid to a b m f l = elim (cases_lt m mid) [ inl h ↦ a m f h | inr h ↦ b m h l ]
-
-pub end_clear : (words : List ℕ) (from word m : ℕ) → AreClear words from (64 * word) → length words ≤ word → from ≤ m → is_set words m ≡ false
-end_clear words from word m a l f = elim (cases_lt m (64 * word)) [ inl h ↦ a m f h | inr h ↦ past_clear words m (omega (arith, h, l)) ]

@@ -1,5 +1,5 @@
 -- The numbers of task slots: they ascend by meet and then by place, and are those of the instance.
-use Rattle.std.proofs.Common.{ℕ, ◌≡◌, ◌+◌, ◌-◌, ◌<◌, ◌≤◌, zero, suc, Bool, true, false, cond, Option, Some, None, List, [], ◌∷◌, ◌++◌, length, map, take, get_or, slice_get, sum, ◌*◌, refl, sym, ap, subst, ◌∙◌, arith, inl, inr, ◌⊎◌, length-append}
+use Rattle.std.proofs.Common.{ℕ, ◌≡◌, ◌+◌, ◌-◌, ◌<◌, ◌≤◌, zero, suc, Bool, true, false, cond, Option, Some, None, List, [], ◌∷◌, ◌++◌, length, map, take, get_or, slice_get, sum, ◌*◌, refl, sym, ap, ◌∙◌, arith, inl, inr, ◌⊎◌, length-append}
 use Rattle.std.specs.Prelude.{◌&&◌, All, MatchOption, replicate}
 use Rattle.std.specs.List.{sum_by, range_with_len}
 use Rattle.std.proofs.Math.ListN.{get_or-append}
@@ -21,7 +21,7 @@ use Rattle.khe_instance.proofs.SlotsLemmas.{length-slots_from}
 use Rattle.khe_instance.proofs.TasksLemmas.{length-all_tasks, length-tasks_from}
 use Rattle.khe_told.proofs.FrameLaws.{IsFrame, frames}
 use Rattle.khe_told.specs.Fits.{AreTold}
-use Rattle.khe_told.specs.Slots.{emptied, empty_slot, no_meets, no_slot, slot_at, slots_from, slots_of_event}
+use Rattle.khe_told.specs.Slots.{emptied, empty_slot, no_slot, slot_at, slots_from, slots_of_event}
 use Rattle.khe_told.specs.declared.slots.Slot.{Slot}
 use Rattle.khe_solution.specs.NextTask.{IsBefore, IsFrom, IsNextTask, has_task}
 use Rattle.khe_solution.specs.TaskRows.{AreUnwanted, IsFirstWanted, first_in, number_from, places, tasks_of_all}
@@ -81,11 +81,11 @@ pub order_of : (t u : TaskId) → IsBefore t u ⊎ IsFrom u t
 order_of t u = elim (cases_lt t.meet.0 u.meet.0) [
   | inl l ↦ inl (inl l)
   | inr g ↦ elim (cases_lt u.meet.0 t.meet.0) [
-      | inl m ↦ inr (inl m)
-      | inr f ↦
-          let e : t.meet.0 ≡ u.meet.0 = omega (arith, g, f) in
-          elim (cases_lt t.place u.place) [ inl l ↦ inl (inr (e, l)) | inr k ↦ inr (inr (sym e, k)) ]
-    ]
+    | inl m ↦ inr (inl m)
+    | inr f ↦
+        let e : t.meet.0 ≡ u.meet.0 = omega (arith, g, f) in
+        elim (cases_lt t.place u.place) [ inl l ↦ inl (inr (e, l)) | inr k ↦ inr (inr (sym e, k)) ]
+  ]
 ]
 
 -- the number that tasks from one on have
@@ -119,19 +119,19 @@ pub number_from_is : (s : List Slot) (t u : TaskId) → u.place < places (slot_a
 number_from_is s t u l h = elim (order_of u t) [
   | inr f ↦ f
   | inl b ↦ elim b [
-      | inl m ↦
-          let n = first_next s u.meet.0 t.meet.0 m in
-          let low : first_in s t.meet.0 ≤ number_from s t = omega arith in
-          absurd (omega (arith, n, l, h, low))
-      | inr p ↦
-          let e = ap (first_in s) p.0 in
-          let many = ap (λ m. places (slot_at s m)) p.0 in
-          let k = p.1 in
-          elim (cases_lt t.place (places (slot_at s t.meet.0))) [
-            | inl i ↦ let c = ap (λ b. first_in s t.meet.0 + cond b t.place (places (slot_at s t.meet.0))) (lt-ltb _ _ i) in absurd (omega (arith, e, k, c, h))
-            | inr g ↦ let c = ap (λ b. first_in s t.meet.0 + cond b t.place (places (slot_at s t.meet.0))) (le-ltb _ _ g) in absurd (omega (arith, e, c, h, l, many))
-          ]
-    ]
+    | inl m ↦
+        let n = first_next s u.meet.0 t.meet.0 m in
+        let low : first_in s t.meet.0 ≤ number_from s t = omega arith in
+        absurd (omega (arith, n, l, h, low))
+    | inr p ↦
+        let e = ap (first_in s) p.0 in
+        let many = ap (λ m. places (slot_at s m)) p.0 in
+        let k = p.1 in
+        elim (cases_lt t.place (places (slot_at s t.meet.0))) [
+          | inl i ↦ let c = ap (λ b. first_in s t.meet.0 + cond b t.place (places (slot_at s t.meet.0))) (lt-ltb _ _ i) in absurd (omega (arith, e, k, c, h))
+          | inr g ↦ let c = ap (λ b. first_in s t.meet.0 + cond b t.place (places (slot_at s t.meet.0))) (le-ltb _ _ g) in absurd (omega (arith, e, c, h, l, many))
+        ]
+  ]
 ]
 
 -- a task that is not there is not wanted

@@ -1,9 +1,9 @@
 -- Where the bit of a task slot stands in a row.
 use Rattle.std.proofs.Common.{ℕ, ◌^◌, ◌-◌, Some, ◌≡◌, ◌≢◌, ◌+◌, ◌*◌, ◌/◌, ◌<◌, ◌≤◌, Bool, true, false, cond, nat_eq, Option, None, List, length, refl, sym, ap, ◌∙◌, arith, inl, inr, ◌⊎◌}
-use Rattle.std.specs.Prelude.{◌&&◌, nat_le, nat_lt, slice_index_or, replicate, MatchOption}
-use Rattle.std.proofs.Math.Nat.{mul-le-mul_right, mul-add-div}
+use Rattle.std.specs.Prelude.{◌&&◌, nat_le, nat_lt, slice_index_or, replicate}
+use Rattle.std.proofs.Math.Nat.{mul-le-mul_right}
 use Rattle.std.proofs.lemmas.Bool.{eq-eqb, ne_eqb}
-use Rattle.std.proofs.lemmas.Nat.{div-mul-add, mod-mul-add}
+use Rattle.std.proofs.lemmas.Nat.{div-mul-add}
 use Rattle.std.proofs.lemmas.Bool.{cases_lt, lt-ltb, le-ltb, le-leb, leb-true}
 use Rattle.khe_base.specs.Bits.{is_set}
 use Rattle.khe_base.specs.declared.numbers.ResourceId.{ResourceId}
@@ -48,7 +48,7 @@ spot_number stride r row j n a b e =
     let same = ap (λ k. k * (64 * stride)) (spot_row stride r row j n a b e) in
     omega (arith, q, same)
 
-no_and : (a b : Bool) → b ≡ false → (a && b) ≡ false
+pub no_and : (a b : Bool) → b ≡ false → (a && b) ≡ false
 no_and true b h = h
 no_and false b h = refl
 
@@ -56,9 +56,9 @@ pub spot_eq : (stride r row j n : ℕ) → j < 64 * stride → n < 64 * stride �
 spot_eq stride r row j n a b = elim (cases_eq r row) [
   | inr d ↦ ne_eqb _ _ (λ e. d (spot_row stride r row j n a b e)) ∙ sym (ap (λ t. t && nat_eq j n) (ne_eqb r row d))
   | inl e ↦ elim (cases_eq j n) [
-      | inr d ↦ ne_eqb _ _ (λ q. d (spot_number stride r row j n a b q)) ∙ sym (no_and (nat_eq r row) (nat_eq j n) (ne_eqb j n d))
-      | inl f ↦ eq-eqb _ _ (λ i. spot_of stride (e i) (f i)) ∙ sym (λ i. eq-eqb r row e i && eq-eqb j n f i)
-    ]
+    | inr d ↦ ne_eqb _ _ (λ q. d (spot_number stride r row j n a b q)) ∙ sym (no_and (nat_eq r row) (nat_eq j n) (ne_eqb j n d))
+    | inl f ↦ eq-eqb _ _ (λ i. spot_of stride (e i) (f i)) ∙ sym (λ i. eq-eqb r row e i && eq-eqb j n f i)
+  ]
 ]
 
 -- the bit of one place is put
@@ -68,7 +68,6 @@ put_is t u row n b l e h r j rl jl =
     ap (λ k. is_set u.words.items (spot_of k r j)) e
     ∙ h (spot_of t.stride r j)
     ∙ ap (λ q. cond q b (is_in t r j)) (spot_eq t.stride r row j n jl l)
-
 
 pub put_there : (t : TaskRows) (row n : ℕ) → AreRows t → row < 257 → n < 64 * t.stride → spot_of t.stride row n / 64 < length t.words.items
 put_there t row n rows r l =
@@ -148,8 +147,10 @@ put_more t u v first k given b e had put r j rl jl = put r j rl (omega (arith, e
   where
     row : ℕ
     row = row_of (slice_index_or given k None)
+
     mine : Bool
     mine = nat_eq r (row_of (slice_index_or given (j - first) None))
+
     at : (j ≡ first + k) ⊎ (j ≢ first + k) → cond (nat_eq r row && nat_eq j (first + k)) b (is_in u r j) ≡ cond (is_row_of first (k + 1) given r j) b (is_in t r j)
     at (inl q) =
         let same : j - first ≡ k = omega (arith, q) in
@@ -162,9 +163,9 @@ put_more t u v first k given b e had put r j rl jl = put r j rl (omega (arith, e
         let a : nat_lt j (first + (k + 1)) ≡ nat_lt j (first + k) = elim (cases_lt j (first + k)) [
           | inl l ↦ lt-ltb j (first + (k + 1)) (omega (arith, l)) ∙ sym (lt-ltb j (first + k) l)
           | inr g ↦ elim (cases_lt (first + k) j) [
-              | inl l ↦ le-ltb j (first + (k + 1)) (omega (arith, l)) ∙ sym (le-ltb j (first + k) g)
-              | inr f ↦ absurd (d (omega (arith, g, f)))
-            ]
+            | inl l ↦ le-ltb j (first + (k + 1)) (omega (arith, l)) ∙ sym (le-ltb j (first + k) g)
+            | inr f ↦ absurd (d (omega (arith, g, f)))
+          ]
         ] in
         ap (λ c. cond c b (is_in u r j)) (no_and (nat_eq r row) (nat_eq j (first + k)) (ne_eqb j (first + k) d))
         ∙ had r j rl jl

@@ -1,17 +1,17 @@
 -- The first wanted task of a row.
-use Rattle.std.proofs.Common.{ℕ, ◌≡◌, ◌+◌, ◌*◌, ◌<◌, ◌≤◌, Bool, true, false, cond, nat_eq, Option, Some, None, List, length, refl, sym, ap, ◌∙◌, arith, inl, inr}
-use Rattle.std.specs.Prelude.{◌&&◌, ◌==◌, is_none, nat_lt}
+use Rattle.std.proofs.Common.{ℕ, ◌≡◌, ◌+◌, ◌<◌, ◌≤◌, Bool, true, false, nat_eq, Option, Some, None, List, length, refl, sym, ap, ◌∙◌, arith, inl, inr}
+use Rattle.std.specs.Prelude.{◌&&◌, nat_lt}
 use Rattle.std.proofs.lemmas.Bool.{cases_lt, eq-eqb, eqb-true}
 use Rattle.khe_base.specs.declared.numbers.ResourceId.{ResourceId}
 use Rattle.khe_base.specs.declared.numbers.TaskId.{TaskId}
 use Rattle.khe_told.specs.Slots.{given_at, is_live, slot_at}
 use Rattle.khe_told.specs.declared.slots.Slot.{Slot}
-use Rattle.khe_solution.specs.NextTask.{IsBefore, IsFrom, has_task}
+use Rattle.khe_solution.specs.NextTask.{has_task}
 use Rattle.khe_solution.specs.Reading.{same_resource}
-use Rattle.khe_solution.specs.TaskRows.{AreKept, AreOut, AreUnwanted, IsFirstIn, IsFirstWanted, first_in, is_entered, places, row_of, tasks_of_all}
+use Rattle.khe_solution.specs.TaskRows.{AreKept, AreOut, AreUnwanted, IsFirstIn, IsFirstWanted, first_in, is_entered, places, row_of}
 use Rattle.khe_solution.specs.declared.tasks.TaskRows.{TaskRows}
 use Rattle.khe_solution.proofs.Basics.{both-true, true-false}
-use Rattle.khe_solution.proofs.NumberLaws.{IsTaskOf, number_before, number_below, order_of}
+use Rattle.khe_solution.proofs.NumberLaws.{IsTaskOf, number_before, order_of}
 
 -- a task that has what is wanted stands in its row
 wanted_row : (wanted g : Option ResourceId) → same_resource wanted g ≡ true → row_of wanted ≡ row_of g
@@ -50,15 +50,15 @@ same_task : (s : List Slot) (wanted : Option ResourceId) (t u : TaskId) → t.pl
 same_task s wanted t u a b e = elim (order_of t u) [
   | inl h ↦ let l = number_before s t u a h in absurd (omega (arith, l, e))
   | inr f ↦ elim f [
-      | inl m ↦ let l = number_before s u t b (inl m) in absurd (omega (arith, l, e))
-      | inr p ↦ elim (cases_lt u.place t.place) [
-          | inl k ↦ let l = number_before s u t b (inr (p.0, k)) in absurd (omega (arith, l, e))
-          | inr g ↦
-              let k = p.1 in
-              let q : t.place ≡ u.place = omega (arith, g, k) in
-              λ i. has_task s wanted (record { meet = record { 0 = sym p.0 i }; place = q i })
-        ]
+    | inl m ↦ let l = number_before s u t b (inl m) in absurd (omega (arith, l, e))
+    | inr p ↦ elim (cases_lt u.place t.place) [
+      | inl k ↦ let l = number_before s u t b (inr (p.0, k)) in absurd (omega (arith, l, e))
+      | inr g ↦
+          let k = p.1 in
+          let q : t.place ≡ u.place = omega (arith, g, k) in
+          λ i. has_task s wanted (record { meet = record { 0 = sym p.0 i }; place = q i })
     ]
+  ]
 ]
 
 -- one more number that is not wanted, and one that is

@@ -1,6 +1,6 @@
 -- The tasks of live meets as rows of bits, one bit for each task slot: a row of those without a
 -- resource, and rows that the resources share.
-use Rattle.std.specs.Prelude.{ℕ, ◌≡◌, ◌<◌, ◌≤◌, ◌+◌, ◌*◌, ◌%◌, ◌^◌, ◌-◌, Bool, true, false, ◌&&◌, nat_eq, nat_le, nat_lt, if◌then◌else◌, Option, Some, None, List, length, take, slice_index_or, MatchOption}
+use Rattle.std.specs.Prelude.{ℕ, ◌≡◌, ◌<◌, ◌≤◌, ◌+◌, ◌*◌, ◌%◌, ◌^◌, ◌-◌, Bool, true, false, ◌&&◌, nat_eq, nat_le, nat_lt, if◌then◌else◌, Option, Some, None, List, length, take, slice_index_or}
 use Rattle.std.specs.List.{sum_by}
 use Rattle.khe_base.specs.Bits.{is_set}
 use Rattle.khe_base.specs.declared.numbers.ResourceId.{ResourceId}

@@ -1,4 +1,4 @@
-use Rattle.std.proofs.Common.{◌≡◌, ◌≤◌, ◌+◌, ◌*◌, arith, subst}
+use Rattle.std.proofs.Common.{◌≡◌, ◌+◌, ◌*◌, arith, subst}
 use Rattle.khe_solution.specs.FreeBits.{AreClear}
 use Rattle.khe_solution.proofs.MarkLaws.{gap_clear, join_clear}
 use Rattle.khe_solution.proofs.marks.first_marked.Goals as goal

@@ -1,6 +1,5 @@
-use Rattle.std.proofs.Common.{◌≡◌, ◌≤◌, ◌+◌, ◌*◌, true, length, ap, ◌∙◌, arith}
+use Rattle.std.proofs.Common.{◌≡◌, true, length, ap, ◌∙◌, arith}
 use Rattle.khe_told.proofs.ValidLaws.{subst2}
-use Rattle.khe_told.specs.Slots.{slot_at}
 use Rattle.khe_solution.specs.TaskRows.{AreAllPut, first_in}
 use Rattle.khe_solution.proofs.KeptLaws.{entered_free, entered_live}
 use Rattle.khe_solution.proofs.NumberLaws.{first_room, first_told, slots_told}

@@ -1,7 +1,7 @@
-use Rattle.std.proofs.Common.{◌≡◌, ◌+◌, ◌*◌, ◌-◌, ap, ◌∙◌, arith, subst, sym}
+use Rattle.std.proofs.Common.{◌+◌, ◌*◌, ◌-◌, arith, subst, sym}
 use Rattle.khe_solution.specs.FreeBits.{AreClear, IsFirst}
-use Rattle.khe_solution.specs.TaskRows.{AreOut, IsFirstIn, row_of, spot_of}
-use Rattle.khe_solution.proofs.SpotLaws.{in_row, out_row, row_below, spot_fits}
+use Rattle.khe_solution.specs.TaskRows.{AreOut, IsFirstIn}
+use Rattle.khe_solution.proofs.SpotLaws.{in_row, out_row, spot_fits}
 use Rattle.khe_solution.proofs.tasks.first_in_row.Goals as goal
 
 pub overflow_add-start : goal.overflow_add-start

@@ -1,6 +1,6 @@
-use Rattle.std.proofs.Common.{◌≡◌, ◌≤◌, ◌+◌, ◌*◌, sym, ap, ◌∙◌, arith}
-use Rattle.khe_solution.specs.TaskRows.{AreUnwanted, tasks_of_all}
-use Rattle.khe_solution.proofs.NumberLaws.{IsTaskOf, task_of, tasks_told}
+use Rattle.std.proofs.Common.{◌*◌, sym, ◌∙◌, arith}
+use Rattle.khe_solution.specs.TaskRows.{tasks_of_all}
+use Rattle.khe_solution.proofs.NumberLaws.{task_of, tasks_told}
 use Rattle.khe_solution.proofs.SpotLaws.{row_below}
 use Rattle.khe_solution.proofs.WantedLaws.{fewer_unwanted, out_unwanted, wanted_found, wanted_more}
 use Rattle.khe_solution.proofs.tasks.first_wanted.Goals as goal

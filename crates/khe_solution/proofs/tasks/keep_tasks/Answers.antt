@@ -1,9 +1,8 @@
-use Rattle.std.proofs.Common.{◌≡◌, ◌≤◌, ◌<◌, ◌+◌, ◌*◌, true, false, Some, None, length, sym, ap, ◌∙◌, arith, subst}
+use Rattle.std.proofs.Common.{◌≡◌, ◌+◌, true, false, Some, None, length, sym, ap, ◌∙◌, arith, subst}
 use Rattle.khe_told.proofs.ValidLaws.{subst2}
 use Rattle.khe_told.specs.Changes.{after, meet_of}
 use Rattle.khe_told.specs.Fits.{Fits}
 use Rattle.khe_told.specs.Slots.{slot_at}
-use Rattle.khe_told.specs.declared.changes.Change.TheVariants as change
 use Rattle.khe_solution.specs.TaskRows.{AreAllPut, AreKept, AreTurned, first_in}
 use Rattle.khe_solution.proofs.KeptLaws.{first_fits, given_there, keeps_add, keeps_drop, keeps_give, keeps_lift, keeps_place, keeps_take, slots_fit, taken_there}
 use Rattle.khe_solution.proofs.NumberLaws.{first_room}
