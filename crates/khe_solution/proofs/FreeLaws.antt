@@ -1,6 +1,6 @@
 -- The bits of free slots.
 use Rattle.std.proofs.Common.{ℕ, ◌≡◌, ◌<◌, ◌≤◌, ◌*◌, ◌^◌, true, false, cond, nat_eq, nat_lt, Option, Some, None, List, length, refl, sym, ap, ◌∙◌, arith, inl, inr, get_or-set_same, get_or-set_other}
-use Rattle.std.specs.Prelude.{◌&&◌, is_none, is_some}
+use Rattle.std.specs.Prelude.{◌&&◌, is_none, is_some, MatchOption}
 use Rattle.std.proofs.lemmas.Bool.{lt-ltb, ltb-true, eq-eqb, ne_eqb}
 use Rattle.std.proofs.lemmas.List.{length-set}
 use Rattle.khe_base.specs.Bits.{is_set}
@@ -27,14 +27,19 @@ live_at s words k a l h =
     let b : is_none (slot_at s k).span ≡ false = ap (λ t. t && is_none (slot_at s k).span) (sym (lt-ltb k (length s) l)) ∙ sym (a.bits k) ∙ h in
     live_one (slot_at s k).span b
 
-pub first_free_is : (s : List Slot) (words : List ℕ) (from n : ℕ) → AreFree s words → IsFirst words from n → IsFirstFree s from n
+first_free_is : (s : List Slot) (words : List ℕ) (from n : ℕ) → AreFree s words → IsFirst words from n → IsFirstFree s from n
 first_free_is s words from n a i =
     let b = both-true (nat_lt n (length s)) (is_none (slot_at s n).span) (sym (a.bits n) ∙ i.1) in
     let l = ltb-true n (length s) b.0 in
     (i.0, l, not_live (slot_at s n).span b.1, λ k f h. live_at s words k a (omega (arith, h, l)) (i.2 k f h))
 
-pub none_free : (s : List Slot) (words : List ℕ) (from : ℕ) → AreFree s words → ((m : ℕ) → from ≤ m → is_set words m ≡ false) → AreLive s from (length s)
+none_free : (s : List Slot) (words : List ℕ) (from : ℕ) → AreFree s words → ((m : ℕ) → from ≤ m → is_set words m ≡ false) → AreLive s from (length s)
 none_free s words from a h k f l = live_at s words k a l (h k f)
+
+pub first_free_or_none : (s : List Slot) (words : List ℕ) (from : ℕ) (r : Option ℕ) → AreFree s words → MatchOption r ((m : ℕ) → from ≤ m → is_set words m ≡ false) (λ n. IsFirst words from n)
+    → MatchOption r (AreLive s from (length s)) (λ n. IsFirstFree s from n)
+first_free_or_none s words from None a h = none_free s words from a h
+first_free_or_none s words from (Some n) a h = first_free_is s words from n a h
 
 -- whether a slot is free after a change
 freed : (o : Option Span) (c : Change) → is_none (span_after o c) ≡ frees c (is_none o)

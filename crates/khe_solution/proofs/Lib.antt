@@ -3,8 +3,11 @@ pub mod CutJoin
 pub mod EditLaws
 pub mod EditingLaws
 pub mod FreeLaws
+pub mod KeptLaws
+pub mod MarkLaws
 pub mod MeetEdits
 pub mod NoteLaws
+pub mod NumberLaws
 pub mod OpenLaws
 pub mod Owners
 pub mod ReadingLaws
@@ -13,6 +16,8 @@ pub mod RoomLaws
 pub mod Rows
 pub mod Spans
 pub mod Stages
+pub mod SpotLaws
 pub mod StartEdits
 pub mod StepLaws
+pub mod WantedLaws
 pub mod Works

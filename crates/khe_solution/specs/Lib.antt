@@ -2,7 +2,10 @@ pub mod Backs
 pub mod Changing
 pub mod Editing
 pub mod FreeBits
+pub mod Marks
+pub mod NextTask
 pub mod Refusing
 pub mod Reading
 pub mod Steps
+pub mod TaskRows
 pub mod Timetables

@@ -50,7 +50,7 @@ pub(crate) fn keep_free(words: &mut Vec<u64>, change: Change)
 }
 
 /// The first set bit of these numbers.
-fn first_in(words: &[u64], from: usize, end: usize) -> Option<usize>
+pub(crate) fn first_in(words: &[u64], from: usize, end: usize) -> Option<usize>
     ensures { MatchOption result (AreClear words.now from end) (λ n. IsFirst words.now from n × (n < end)) }
 {
     for n in from..end {

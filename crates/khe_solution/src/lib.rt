@@ -8,10 +8,12 @@ mod checks;
 mod edits;
 mod laws;
 mod lists;
+mod marks;
 mod notes;
 mod reads;
 mod room;
 mod slots;
 mod solution;
+mod tasks;
 
 pub use solution::Solution;

@@ -8,10 +8,12 @@ ghost use Rattle.khe_told.specs.Lists.{meets_in, tasks_in};
 ghost use Rattle.khe_told.specs.Slots.{slot_at, length_of};
 ghost use Rattle.khe_solution.specs.Reading.{free_slot};
 ghost use Rattle.khe_solution.specs.FreeBits.{AreLive, IsFirstFree};
+ghost use Rattle.khe_solution.specs.NextTask.{IsNextTask};
 
 use crate::bits::{first_set, free_bits, keep_free};
 use crate::reads::live;
-use khe_base::{MeetId, NoMemory};
+use crate::tasks::{TaskRows, keep_tasks, next_task, rows_of};
+use khe_base::{MeetId, NoMemory, ResourceId, TaskId};
 use khe_instance::{Instance, Plain};
 use khe_told::{Change, Told};
 use std::alloc::Global;
@@ -23,18 +25,20 @@ pub(crate) struct Slots {
     told: Told,
     /// One bit for each slot, set where it is free.
     free: Vec<u64>,
+    tasks: TaskRows,
 }
 
 impl Model for Slots {
     ghost use Rattle.std.specs.Prelude.{List};
     ghost use Rattle.khe_told.specs.declared.slots.Slot.{Slot};
     ghost use Rattle.khe_solution.specs.FreeBits.{AreFree};
+    ghost use Rattle.khe_solution.specs.TaskRows.{AreKept};
 
     ghost Value = { List Slot };
 
     ghost view = { λ s. s.told };
 
-    ghost invariant = { λ s. AreFree s.told s.free.items };
+    ghost invariant = { λ s. AreFree s.told s.free.items × AreKept s.told s.tasks };
 }
 
 impl Slots {
@@ -49,7 +53,8 @@ impl Slots {
         inst.facts();
         let told = Told::from_plain(alloc, inst, plain)?;
         let free = free_bits(alloc, &told)?;
-        Ok(Slots { told, free })
+        let tasks = rows_of(alloc, inst, &told)?;
+        Ok(Slots { told, free, tasks })
     }
 
     /// The told state.
@@ -60,19 +65,32 @@ impl Slots {
     }
 
     /// The first free slot from this one on.
-    #[tactic(auto, using(crate::proofs::FreeLaws::first_free_is, crate::proofs::FreeLaws::none_free))]
     fn first_free(&self, from: u32) -> Option<usize>
         ensures { MatchOption result (AreLive self.now from (length self.now)) (λ n. IsFirstFree self.now from n) }
     {
         first_set(self.free.as_slice(), from as usize)
     }
 
-    /// Follows a change that fits, in constant time.
-    #[tactic(auto, using(crate::proofs::FreeLaws::free_kept))]
+    /// The first task from this one on that has this resource, or has none where none is wanted.
+    pub(crate) fn next_task(
+        &self,
+        inst: &Instance,
+        wanted: Option<ResourceId>,
+        from: TaskId,
+    ) -> Option<TaskId>
+        requires { AreTold inst.now self.now }
+        ensures { IsNextTask self.now wanted from result }
+    {
+        next_task(&self.tasks, inst, &self.told, wanted, from)
+    }
+
+    /// Follows a change that fits, in constant time, but for a meet that comes or goes, whose places
+    /// it goes over.
     pub(crate) fn note(&mut self, inst: &Instance, change: Change)
         requires { Fits inst.now self.old change }
         ensures { self.new ≡ after self.old change }
     {
+        keep_tasks(&mut self.tasks, inst, &self.told, change);
         keep_free(&mut self.free, change);
         self.told.note(inst, change);
     }

@@ -5,6 +5,7 @@ ghost use Rattle.khe_told.specs.Lists.{meet_in, meets_in, tasks_in};
 ghost use Rattle.khe_told.specs.Slots.{slot_at, is_live};
 ghost use Rattle.khe_told.specs.Changes.{inverses};
 ghost use Rattle.khe_told.specs.Watchers.{watcher_counts};
+ghost use Rattle.khe_solution.specs.NextTask.{IsNextTask};
 ghost use Rattle.khe_solution.specs.Reading.{has_place, resource_at};
 ghost use Rattle.khe_solution.specs.Refusing.{is_of_meets, checked, refusal};
 ghost use Rattle.khe_solution.specs.Editing.{edited, made, answer};
@@ -92,6 +93,23 @@ impl<'i> Solution<'i> {
         ensures { result ≡ resource_at self.now.slots task }
     {
         resource_at(self.slots.told(), task)
+    }
+
+    /// The first task from this one on that has this resource, by meet and then by place, or `None`
+    /// where there is none. It looks at a bit for each 4,096 task slots up to there; and where the
+    /// instance has more than 256 resources, at the tasks of one in 256 of them.
+    pub fn next_task_of(&self, resource: ResourceId, from: TaskId) -> Option<TaskId>
+        ensures { IsNextTask self.now.slots (Some resource) from result }
+    {
+        self.slots.next_task(self.inst, Some(resource), from)
+    }
+
+    /// The first task from this one on that has no resource, by meet and then by place, or `None`
+    /// where there is none. It looks at a bit for each 4,096 task slots up to there.
+    pub fn next_task_without(&self, from: TaskId) -> Option<TaskId>
+        ensures { IsNextTask self.now.slots None from result }
+    {
+        self.slots.next_task(self.inst, None, from)
     }
 
     /// The first refusal of an edit of meets and tasks, if it is refused. It looks at no more than
