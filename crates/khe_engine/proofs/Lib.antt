@@ -1,5 +1,6 @@
 pub mod CostLaws
 pub mod MarkLaws
+pub mod OpeningLaws
 pub mod RecordLaws
 pub mod StateLaws
 pub mod ValueLaws

@@ -36,7 +36,7 @@ pub values_agree : (p : Parts) (served : Kind → Bool) (s : List Slot) (b : Boa
 unfolding deviations_in
 values_agree p served s b h i m at kind = ap (λ ds. slice_get ds i) h.deviations ∙ slice_get-map (deviation_in p s) p.monitors i ∙ ap (option_map (deviation_in p s)) at
 
-values_all : (p : Parts) (served : Kind → Bool) (s : List Slot) (ds : List ℕ) → ServesAll served → length ds ≡ length p.monitors → Agrees p served s ds → ds ≡ deviations_in p s
+pub values_all : (p : Parts) (served : Kind → Bool) (s : List Slot) (ds : List ℕ) → ServesAll served → length ds ≡ length p.monitors → Agrees p served s ds → ds ≡ deviations_in p s
 unfolding deviations_in
 values_all p served s ds all many agree =
     let long = length-map p.monitors (deviation_in p s) in

@@ -1,3 +1,4 @@
+pub mod Openings
 pub mod Records
 pub mod States
 pub mod Values

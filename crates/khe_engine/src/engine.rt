@@ -25,11 +25,11 @@ use undo_paths::Journal;
 /// An edit touches what watches its changes and nothing else.
 #[derive(Drop)]
 pub struct Engine<'i, F: Family> {
-    inst: &'i Instance,
-    solution: Solution<'i>,
+    pub(crate) inst: &'i Instance,
+    pub(crate) solution: Solution<'i>,
     pub(crate) listeners: Listeners<F>,
     /// A record for each edit since the outermost mark.
-    journal: Journal<Back>,
+    pub(crate) journal: Journal<Back>,
 }
 
 impl<'i, F: Family> Model for Engine<'i, F> {
@@ -131,6 +131,7 @@ impl<'i, F: Family> Engine<'i, F> {
         ensures parts { self.new.parts ≡ self.old.parts }
         ensures state { self.new.state ≡ self.old.state }
         ensures refused { (result ≡ Err MarksFull) ↔ (length self.old.saved ≡ MARKS) }
+        ensures only { IfErr result (λ r. r ≡ MarksFull) }
         ensures ok { OnOk result (self.new.saved ≡ fresh self.old.state ∷ self.old.saved) }
         ensures err { OnErr result (self.new.saved ≡ self.old.saved) }
         ensures marked { self.new.marked ≡ self.old.marked }
@@ -146,6 +147,7 @@ impl<'i, F: Family> Engine<'i, F> {
         ensures parts { self.new.parts ≡ self.old.parts }
         ensures state { self.new.state ≡ self.old.state }
         ensures refused { (result ≡ Err NoMark) ↔ (self.old.saved ≡ []) }
+        ensures only { IfErr result (λ r. r ≡ NoMark) }
         ensures saved { self.new.saved ≡ closed self.old.saved }
         ensures marked { self.new.marked ≡ self.old.marked }
         ensures spare { self.old.spare + kept self.old.saved ≤ self.new.spare + kept self.new.saved }
@@ -159,6 +161,7 @@ impl<'i, F: Family> Engine<'i, F> {
     pub fn undo<L: Ledger>(&mut self, steps: &mut Steps<L>) -> Result<(), Refusal>
         ensures parts { self.new.parts ≡ self.old.parts }
         ensures refused { (result ≡ Err NoMark) ↔ (self.old.saved ≡ []) }
+        ensures only { IfErr result (λ r. r ≡ NoMark) }
         ensures ok { OnOk result ((x : Saved) (xs : List Saved) → self.old.saved ≡ x ∷ xs → (self.new.state ≡ x.state) × (self.new.saved ≡ fresh x.state ∷ xs)) }
         ensures err { OnErr result (self.new ≡ self.old) }
         ensures marked { self.new.marked ≡ self.old.marked }

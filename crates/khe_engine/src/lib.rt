@@ -6,6 +6,8 @@ mod editing;
 mod engine;
 mod faults;
 mod listeners;
+mod opening;
+mod telling;
 mod undoing;
 mod values;
 

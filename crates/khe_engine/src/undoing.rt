@@ -1,6 +1,6 @@
 //! Undoing over the parts of an engine. The instance is that of the timetable.
 
-ghost use Rattle.std.specs.Prelude.{ℕ, ◌≡◌, ◌↔◌, ◌≤◌, ◌+◌, ◌-◌, ◌∷◌, [], Err, length};
+ghost use Rattle.std.specs.Prelude.{ℕ, ◌≡◌, ◌↔◌, ◌≤◌, ◌+◌, ◌-◌, ◌∷◌, [], Err, IfErr, length};
 ghost use Rattle.khe_told.specs.Watchers.{watcher_counts};
 ghost use Rattle.undo_paths.specs.Stack.{inner, outer};
 ghost use Rattle.monitor_graph.specs.Edits as groups;
@@ -113,6 +113,7 @@ pub(crate) fn unwind<F: Family, L: Ledger>(
 #[tactic(auto, using(crate::proofs::RecordLaws::lead_close, crate::proofs::RecordLaws::saved_close, crate::proofs::RecordLaws::spare_close, crate::proofs::RecordLaws::no_saved, crate::proofs::RecordLaws::no_mark))]
 pub(crate) fn close(journal: &mut Journal<Back>) -> Result<(), Refusal>
     ensures refused { (s : State) → (result ≡ Err NoMark) ↔ (saved_of s journal.old.since ≡ []) }
+    ensures only { IfErr result (λ r. r ≡ NoMark) }
     ensures leads { (p : Parts) (n : ℕ) (s : State) → MarksLead p n s journal.old.since → MarksLead p n s journal.new.since }
     ensures saved { (s : State) → saved_of s journal.new.since ≡ closed (saved_of s journal.old.since) }
     ensures spare { journal.old.spare + records journal.old.since ≤ journal.new.spare + records journal.new.since }

@@ -1,4 +1,4 @@
-ghost use Rattle.std.specs.Prelude.{◌≡◌, ◌≢◌, ◌↔◌, ◌≤◌, ◌+◌, ◌∷◌, [], length, Err, IfOk, IsOk, OnOk, OnErr, MatchOption};
+ghost use Rattle.std.specs.Prelude.{◌≡◌, ◌≢◌, ◌↔◌, ◌≤◌, ◌+◌, ◌∷◌, [], length, Err, IfErr, IfOk, IsOk, OnOk, OnErr, MatchOption};
 ghost use Rattle.khe_base.specs.declared.limits.TheConstants.{MARKS};
 ghost use Rattle.khe_told.specs.declared.refusals.Refusal.TheVariants.{NoMark, MarksFull};
 ghost use Rattle.undo_paths.specs.Stack.{with_record, without_mark, dropped, inner, outer};
@@ -94,6 +94,7 @@ impl<E: Copy + Drop> Journal<E> {
     #[tactic(auto, using(crate::proofs::StackLemmas::stack_mark, crate::proofs::StackLemmas::length_stack))]
     pub fn mark(&mut self) -> Result<(), Refusal>
         ensures refused { (result ≡ Err MarksFull) ↔ (length self.old.since ≡ MARKS) }
+        ensures only { IfErr result (λ r. r ≡ MarksFull) }
         ensures ok { OnOk result (self.new.since ≡ [] ∷ self.old.since) }
         ensures err { OnErr result (self.new.since ≡ self.old.since) }
         ensures spare { self.new.spare ≡ self.old.spare }
@@ -112,6 +113,7 @@ impl<E: Copy + Drop> Journal<E> {
     #[tactic(auto, using(crate::proofs::StackLemmas::stack_merged, crate::proofs::StackLemmas::stack_last, crate::proofs::StackLemmas::length_stack))]
     pub fn unmark(&mut self) -> Result<(), Refusal>
         ensures refused { (result ≡ Err NoMark) ↔ (self.old.since ≡ []) }
+        ensures only { IfErr result (λ r. r ≡ NoMark) }
         ensures since { self.new.since ≡ without_mark self.old.since }
         ensures spare { self.new.spare ≡ self.old.spare + dropped self.old.since }
     {

@@ -1,0 +1,100 @@
+//! An engine of a timetable.
+
+ghost use Rattle.std.specs.Prelude.{ℕ, ◌≡◌, ◌<◌, [], Some, length, slice_get, IfOk};
+ghost use Rattle.khe_instance.specs.States.{IsValid};
+ghost use Rattle.khe_told.specs.Agreement.{deviation_in};
+ghost use Rattle.khe_told.specs.Slots.{no_meets};
+ghost use Rattle.monitor_graph.specs.Boards.{HaveSameRest, deviations_of, grouping_of};
+ghost use Rattle.monitor_graph.specs.Values.{IsOf};
+ghost use Rattle.khe_engine.specs.Openings.{IsStateOf, grouping_in};
+ghost use Rattle.khe_engine.specs.Values.{HasValues, ServesAll};
+
+use crate::engine::Engine;
+use crate::listeners::Listeners;
+use crate::telling::tell_all;
+use khe_base::{MonitorId, NoMemory, both};
+use khe_instance::{Instance, Plain};
+use khe_solution::Solution;
+use khe_told::{Blank, Family, Steps, Tally};
+use monitor_graph::Graph;
+use std::alloc::Global;
+use std::marker::Brand;
+use std::sync::ledger::Ledger;
+use undo_paths::Journal;
+
+impl<'i, F: Family + Drop> Engine<'i, F> {
+    /// An engine of a valid timetable, without marks. It takes time and memory in proportion to the
+    /// meet slots, the task slots, the monitors and what the families keep; they are told of the
+    /// timetable's meets one after the other.
+    pub fn open(alloc: Global, inst: &'i Instance, plain: &Plain) -> Result<Engine<'i, F>, NoMemory>
+        requires joined { F.IsWellJoined }
+        requires serves { ServesAll F.serves_kind }
+        requires valid { IsValid inst.now plain.now }
+        ensures parts { IfOk result (λ e. e.parts ≡ inst.now) }
+        ensures state { IfOk result (λ e. IsStateOf inst.now plain.now e.state) }
+        ensures saved { IfOk result (λ e. e.saved ≡ []) }
+    {
+        let solution = Solution::open(alloc, inst, plain);
+        let journal = Journal::open(alloc);
+        let families = F::open(alloc, inst);
+        let graph = Graph::open(alloc, inst, plain);
+        let ((solution, journal), (families, graph)) = both(both(solution, journal), both(families, graph))?;
+        let mut listeners = Listeners { families, graph };
+        listen::<F, Brand>(inst, &solution, &mut listeners, Blank::new(1));
+        Ok(Engine {
+            inst,
+            solution,
+            listeners,
+            journal,
+        })
+    }
+}
+
+/// The families, which were told of no meets, are told of a timetable, and the graph has the
+/// deviations that they tell.
+fn listen<F: Family, L: Ledger>(
+    inst: &Instance,
+    solution: &Solution<'_>,
+    listeners: &mut Listeners<F>,
+    blank: Blank,
+)
+    requires name { blank.name ≡ L.name }
+    requires shares { blank.parts ≡ L.parts }
+    requires some { 0 < blank.parts }
+    requires parts { solution.now.parts ≡ inst.now }
+    requires of { F.IsOf listeners.old.families inst.now }
+    requires serves { ServesAll F.serves_kind }
+    requires none { F.told listeners.old.families ≡ no_meets inst.now }
+    requires rates { IsOf listeners.old.graph inst.now }
+    requires many { length (deviations_of listeners.old.graph) ≡ length inst.now.monitors }
+    ensures of { F.IsOf listeners.new.families inst.now }
+    ensures told { F.told listeners.new.families ≡ solution.now.slots }
+    ensures values { HasValues inst.now solution.now.slots listeners.new.graph }
+    ensures grouping { grouping_of listeners.new.graph ≡ grouping_of listeners.old.graph }
+{
+    let mut steps = Steps::<L>::new(blank);
+    set_all(inst, &listeners.families, &mut listeners.graph, &mut steps);
+    tell_all(inst, solution, listeners, &mut steps);
+}
+
+/// Sets every deviation to that of the state that the families were told.
+fn set_all<F: Family, L: Ledger>(
+    inst: &Instance,
+    families: &F,
+    graph: &mut Graph,
+    steps: &mut Steps<L>,
+)
+    requires of { F.IsOf families.now inst.now }
+    requires serves { ServesAll F.serves_kind }
+    requires rates { IsOf graph.old inst.now }
+    requires many { length (deviations_of graph.old) ≡ length inst.now.monitors }
+    ensures values { HasValues inst.now (F.told families.now) graph.new }
+    ensures rest { HaveSameRest graph.old graph.new }
+{
+    inst.facts();
+    for number in 0..inst.monitors() {
+        let monitor = MonitorId(number);
+        let deviation = families.deviation(inst, monitor);
+        graph.set(monitor, deviation, steps);
+    }
+}
