@@ -19,10 +19,10 @@ record Front (p : ℕ → Bool) (bs : List ℕ) : Type 0 where
   split : slice_split p bs ≡ take (position_or_len p bs) bs ∷ more
   same : filter (λ piece. not (length piece == 0)) more ≡ pieces p (drop (position_or_len p bs) bs)
 
-at-once : (p : ℕ → Bool) (b : ℕ) (bs : List ℕ) → p b ≡ true → position_or_len p (b ∷ bs) ≡ 0
+pub at-once : (p : ℕ → Bool) (b : ℕ) (bs : List ℕ) → p b ≡ true → position_or_len p (b ∷ bs) ≡ 0
 at-once p b bs h = rw h refl
 
-later : (p : ℕ → Bool) (b : ℕ) (bs : List ℕ) → p b ≡ false → position_or_len p (b ∷ bs) ≡ suc (position_or_len p bs)
+pub later : (p : ℕ → Bool) (b : ℕ) (bs : List ℕ) → p b ≡ false → position_or_len p (b ∷ bs) ≡ suc (position_or_len p bs)
 later p b bs h = rw h (omega arith)
 
 front-more : (p : ℕ → Bool) (b : ℕ) (bs : List ℕ) → p b ≡ false → Front p bs → Front p (b ∷ bs)
@@ -99,7 +99,7 @@ words-absent bs h =
       | inr past ↦ sym (words-skip bs) ∙ ap words (drop_all (position_or_len inside bs) bs past) ∙ words-none
     ]
 
-place-of : (p : ℕ → Bool) (bs : List ℕ) (n : ℕ) → position p bs ≡ Some n → (position_or_len p bs ≡ n) × (n < length bs)
+pub place-of : (p : ℕ → Bool) (bs : List ℕ) (n : ℕ) → position p bs ≡ Some n → (position_or_len p bs ≡ n) × (n < length bs)
 place-of p bs n h =
     elim (cases_lt (position_or_len p bs) (length bs)) [
       | inl less ↦ (let same : position_or_len p bs ≡ n = (let some : position p bs ≡ Some (position_or_len p bs) = rw (lt-ltb _ _ less) refl in cc) in (same, subst (λ k. k < length bs) same less))

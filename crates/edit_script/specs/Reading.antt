@@ -32,5 +32,5 @@ by_words [] = Ok command.Nothing
 by_words (word ∷ rest) = if is_comment word then Ok command.Nothing else by_word word rest
 
 -- what a line says
-abbrev pub reading : List ℕ → Result Command LineFault
+unfoldable pub reading : List ℕ → Result Command LineFault
 reading line = by_words (words line)

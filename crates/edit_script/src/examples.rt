@@ -1,12 +1,21 @@
-//! What some lines ask for: the contract of each function is an example. Nothing calls them, since
-//! it is the check that shows them.
+//! The lines of some scripts, and what some lines ask for: the contract of each function is an
+//! example. Nothing calls them, since it is the check that shows them.
 
-ghost use Rattle.std.specs.Prelude.{◌≡◌, codes};
+ghost use Rattle.std.specs.Prelude.{◌≡◌, ◌∷◌, [], codes};
 ghost use Rattle.edit_script.specs.Keywords.{meet, task, time, resource, monitor, group};
+ghost use Rattle.edit_script.specs.Lines.{lines};
 ghost use Rattle.edit_script.specs.Reading.{reading};
 
 use crate::{Command, LineFault};
 use khe_told::Edit;
+
+// The lines of scripts.
+fn lines_of_scripts()
+    ensures empty { lines (codes "") ≡ [] }
+    ensures ended { lines (codes "total\n") ≡ codes "total" ∷ [] }
+    ensures open_end { lines (codes "begin\n\nend") ≡ codes "begin" ∷ codes "" ∷ codes "end" ∷ [] }
+    ensures feeds { lines (codes "\n\n") ≡ codes "" ∷ codes "" ∷ [] }
+{}
 
 // Lines that ask for nothing.
 fn lines_of_nothing()

@@ -1,13 +1,15 @@
-//! What the lines of a script say: one line, one command.
+//! The lines of a script and what they say: one line, one command.
 #![tactic(auto)]
 
 mod commands;
 #[allow(dead_code)]
 mod examples;
 mod keywords;
+mod lines;
 mod numbers;
 mod reading;
 mod words;
 
 pub use commands::{Command, LineFault};
+pub use lines::first_line;
 pub use reading::read_line;

@@ -15,6 +15,7 @@ use crate::{Command, LineFault};
 /// `#`. The errors are tested in this order: no command has the name (`UnknownCommand`), there
 /// are more words or fewer (`BadCount`), one of them is no such number (`BadNumber`). It takes no
 /// memory, and time linear in the line.
+#[tactic(auto, unfolding(crate::specs::Reading::reading))]
 pub fn read_line(line: &[u8]) -> Result<Command, LineFault>
     ensures { result ≡ reading line.now }
 {

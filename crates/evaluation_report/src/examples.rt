@@ -1,9 +1,12 @@
 //! What the lines are on a small instance: the contract of each function is an example. Nothing
 //! calls them, since it is the check that shows them.
 
-ghost use Rattle.std.specs.Prelude.{◌≡◌, true, false, codes};
+ghost use Rattle.std.specs.Prelude.{◌≡◌, true, false, Some, None, codes};
+ghost use Rattle.evaluation_report.specs.Answers.{group_line, meet_line, task_line, ok_line, refused_line};
 ghost use Rattle.evaluation_report.specs.Examples.{two_events};
 ghost use Rattle.evaluation_report.specs.Lines.{header_line, solution_line, monitor_line, total_line, invalid_line};
+
+use khe_told::Refusal;
 
 // The lines of a report that speak of an archive and of its solutions.
 fn lines_of_solutions()
@@ -26,4 +29,17 @@ fn lines_of_monitors()
     ensures group { monitor_line two_events 7 2 2 true ≡ codes "monitor 7 LinkEvents \"c4\" group \"both\" deviation 2 hard 2\n" }
     ensures pair { monitor_line two_events 8 4 4 true ≡ codes "monitor 8 OrderEvents \"c5\" events \"E\" \"F\" deviation 4 soft 4\n" }
     ensures detached { monitor_line two_events 0 3 0 false ≡ codes "monitor 0 AssignTime \"c0\" event \"E\" deviation 3 hard 0 detached\n" }
+{}
+
+// The lines that answer a script: meets with a start and without one, tasks with a resource and
+// without one, and edits that were done and refused.
+fn lines_of_answers()
+    ensures group { group_line 0 (record { hard = 2; soft = 0 }) ≡ codes "group 0 hard 2 soft 0\n" }
+    ensures placed { meet_line two_events (record { meet = record { 0 = 1 }; event = record { 0 = 0 }; duration = 2; start = Some (record { 0 = 1 }) }) ≡ codes "meet 1 event \"E\" duration 2 time 1\n" }
+    ensures lifted { meet_line two_events (record { meet = record { 0 = 3 }; event = record { 0 = 1 }; duration = 1; start = None }) ≡ codes "meet 3 event \"F\" duration 1 time -\n" }
+    ensures given { task_line (record { task = record { meet = record { 0 = 3 }; place = 0 }; resource = Some (record { 0 = 1 }) }) ≡ codes "task 3 0 resource 1\n" }
+    ensures free { task_line (record { task = record { meet = record { 0 = 1 }; place = 0 }; resource = None }) ≡ codes "task 1 0 resource -\n" }
+    ensures done { ok_line None ≡ codes "ok\n" }
+    ensures made { ok_line (Some 1) ≡ codes "ok 1\n" }
+    ensures refused { refused_line Refusal.BadCut ≡ codes "refused 10 BadCut\n" }
 {}

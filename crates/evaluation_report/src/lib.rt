@@ -1,11 +1,14 @@
-//! The lines of the report on an archive's solutions: each call makes one line, which ends with a
-//! line feed. The source of the rules is this project's own form of a report.
+//! The lines of the report on an archive's solutions, and those that answer a script: each call
+//! makes one line, which ends with a line feed. The source of the rules is this project's own form
+//! of a report.
 #![tactic(auto)]
 
+mod answers;
 #[allow(dead_code)]
 mod examples;
 mod lines;
 mod points;
 mod words;
 
+pub use answers::{group_line, meet_line, ok_line, refused_line, task_line};
 pub use lines::{header_line, invalid_line, monitor_line, solution_line, total_line};

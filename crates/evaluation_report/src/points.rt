@@ -36,8 +36,8 @@ pub(crate) fn push_point(
     }
 }
 
-/// Adds an event as a point.
-fn push_event(
+/// Adds an event as a point. It takes time linear in the event's Id.
+pub(crate) fn push_event(
     alloc: Global,
     line: &mut Text,
     inst: &Instance,
