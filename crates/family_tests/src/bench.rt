@@ -1,0 +1,192 @@
+//! A family beside a tally, which is noted of the changes that fit.
+
+ghost use Rattle.std.specs.Prelude.{◌≡◌, ◌<◌, ◌≤◌, ◌+◌, ◌-◌, ◌^◌, length, replicate, slice_index, slice_set, IfOk};
+ghost use Rattle.khe_told.specs.Changes.{after};
+ghost use Rattle.khe_told.specs.Fits.{AreTold, Fits};
+ghost use Rattle.khe_told.specs.Slots.{no_meets};
+ghost use Rattle.khe_told.specs.Agreement.{Agrees};
+ghost use Rattle.family_tests.specs.Benches.{AreHeld, IsBench, IsSetFor};
+
+use crate::fitting::fits;
+use crate::marks::{Marks, no_marks};
+use khe_base::{EventId, MonitorId, NoMemory};
+use khe_instance::Instance;
+use khe_told::{Blank, Change, Family, Steps, Told};
+use std::alloc::Global;
+use std::marker::{Brand, Model};
+use std::sync::ledger::Ledger;
+
+/// A family with the deviations that it has told. It was opened on the instance, and at each moment
+/// the deviations of the monitors that it serves are those of what was told. Contracts see the told
+/// meets and tasks.
+#[derive(Drop)]
+pub struct Bench<'i, F: Family> {
+    inst: &'i Instance,
+    family: F,
+    told: Told,
+    /// How long the told meets of each event last together.
+    held: Vec<u32>,
+    marks: Marks,
+}
+
+impl<'i, F: Family> Model for Bench<'i, F> {
+    ghost use Rattle.std.specs.Prelude.{◌≡◌, List};
+    ghost use Rattle.khe_told.specs.declared.slots.Slot.{Slot};
+    ghost use Rattle.family_tests.specs.Benches.{IsBench};
+
+    ghost Value = { List Slot };
+
+    ghost view = { λ b. b.told };
+
+    ghost invariant = { λ b. F.IsOf b.family b.inst.now × (F.told b.family ≡ b.told) × IsBench b.inst.now F.serves_kind b.told b.held.items b.marks.values.items };
+}
+
+/// Notes a change that fits of a family, and of what is kept beside it.
+fn note_fitting<F: Family, L: Ledger>(
+    blank: Blank,
+    inst: &Instance,
+    family: &mut F,
+    told: &mut Told,
+    held: &mut Vec<u32>,
+    marks: &mut Marks,
+    change: Change,
+)
+    requires name { blank.name ≡ L.name }
+    requires parts { blank.parts ≡ L.parts }
+    requires some { 0 < blank.parts }
+    requires of { F.IsOf family.old inst.now }
+    requires same { F.told family.old ≡ told.old }
+    requires bench { IsBench inst.now F.serves_kind told.old held.old.items marks.old.values.items }
+    requires fits { Fits inst.now told.old change }
+    ensures of { F.IsOf family.new inst.now }
+    ensures same { F.told family.new ≡ told.new }
+    ensures told { told.new ≡ after told.old change }
+    ensures bench { IsBench inst.now F.serves_kind told.new held.new.items marks.new.values.items }
+{
+    let mut steps = Steps::<L>::new(blank);
+    family.note(inst, change, marks, &mut steps);
+    hold(inst, told, held, change);
+    told.note(inst, change);
+}
+
+/// Keeps how long the told meets of each event last together.
+fn hold(inst: &Instance, told: &Told, held: &mut Vec<u32>, change: Change)
+    requires told { AreTold inst.now told.now }
+    requires fits { Fits inst.now told.now change }
+    requires held { AreHeld inst.now told.now held.old.items }
+    ensures held { AreHeld inst.now (after told.now change) held.new.items }
+{
+    inst.facts();
+    match change {
+        Change::Add { meet, duration } => raise(held, told.event(meet), duration),
+        Change::Drop { meet, duration } => lower(held, told.event(meet), duration),
+        _ => {}
+    }
+}
+
+fn raise(held: &mut Vec<u32>, event: EventId, more: u32)
+    requires event { event.0 < length held.old.items }
+    requires small { slice_index held.old.items event.0 + more < 2 ^ 32 }
+    ensures { held.new.items ≡ slice_set held.old.items event.0 (slice_index held.old.items event.0 + more) }
+{
+    held[event.0 as usize] += more;
+}
+
+fn lower(held: &mut Vec<u32>, event: EventId, less: u32)
+    requires event { event.0 < length held.old.items }
+    requires enough { less ≤ slice_index held.old.items event.0 }
+    ensures { held.new.items ≡ slice_set held.old.items event.0 (slice_index held.old.items event.0 - less) }
+{
+    held[event.0 as usize] -= less;
+}
+
+/// Sets the deviations of the monitors that a family serves.
+fn set_all<F: Family>(inst: &Instance, family: &F, marks: &mut Marks)
+    requires of { F.IsOf family.now inst.now }
+    requires monitors { length marks.old.values.items ≡ length inst.now.monitors }
+    ensures monitors { length marks.new.values.items ≡ length inst.now.monitors }
+    ensures agrees { Agrees inst.now F.serves_kind (F.told family.now) marks.new.values.items }
+{
+    for k in 0..inst.monitors() {
+        set_one(inst, family, marks, MonitorId(k));
+    }
+}
+
+/// Sets the deviation of a monitor, if a family serves it.
+fn set_one<F: Family>(inst: &Instance, family: &F, marks: &mut Marks, number: MonitorId)
+    requires of { F.IsOf family.now inst.now }
+    requires monitors { length marks.old.values.items ≡ length inst.now.monitors }
+    requires known { number.0 < length inst.now.monitors }
+    ensures { IsSetFor inst.now F.serves_kind (F.told family.now) number.0 marks.old.values.items marks.new.values.items }
+{
+    if family.serves(inst.monitor(number).kind) {
+        marks.values[number.0 as usize] = family.deviation(inst, number);
+    }
+}
+
+/// So many numbers of 0.
+fn zeros(alloc: Global, count: u32) -> Result<Vec<u32>, NoMemory>
+    ensures { IfOk result (λ v. v.items ≡ replicate count 0) }
+{
+    Ok(vec![in alloc; 0; count as usize]?)
+}
+
+impl<'i, F: Family + Drop> Bench<'i, F> {
+    /// A family that was told of no meets.
+    pub fn open(alloc: Global, inst: &'i Instance) -> Result<Bench<'i, F>, NoMemory>
+        requires { F.IsWellJoined }
+    {
+        let family = F::open(alloc, inst)?;
+        let told = Told::open(alloc, inst)?;
+        let held = zeros(alloc, inst.events())?;
+        let mut marks = no_marks(alloc, inst.monitors())?;
+        set_all(inst, &family, &mut marks);
+        Ok(Bench {
+            inst,
+            family,
+            told,
+            held,
+            marks,
+        })
+    }
+
+    /// Notes a change, if it fits, and answers whether it does.
+    pub fn note(&mut self, change: Change) -> bool {
+        if !fits(self.inst, &self.told, self.held.as_slice(), change) {
+            return false;
+        }
+        note_fitting::<F, Brand>(
+            Blank::new(1),
+            self.inst,
+            &mut self.family,
+            &mut self.told,
+            &mut self.held,
+            &mut self.marks,
+            change,
+        );
+        true
+    }
+
+    /// The deviation of a monitor, as it was told, and 0 where the family does not serve it.
+    pub fn deviation(&self, monitor: u32) -> Option<u64> {
+        self.marks.values.get(monitor as usize).copied()
+    }
+
+    /// The deviation of a monitor, as the family itself tells it.
+    pub fn asked(&self, monitor: u32) -> Option<u64> {
+        if monitor >= self.inst.monitors() {
+            return None;
+        }
+        let number = MonitorId(monitor);
+        if self.family.serves(self.inst.monitor(number).kind) {
+            Some(self.family.deviation(self.inst, number))
+        } else {
+            None
+        }
+    }
+
+    /// How often a deviation was set.
+    pub fn calls(&self) -> u64 {
+        self.marks.calls
+    }
+}
