@@ -94,7 +94,7 @@ IsListed numbers r = (k : ℕ) × (slice_get numbers k ≡ Some r)
 abbrev pub AreAscending : List ℕ → Type 0
 AreAscending numbers = (j k a b : ℕ) → j < k → slice_get numbers j ≡ Some a → slice_get numbers k ≡ Some b → a < b
 
--- the resources that may have a task in the role, and they alone, where there are none yet
+-- resources by their numbers, among them all that may have a task in the role
 pub record AreCandidates (p : Parts) (m : Monitor) (numbers : List ℕ) : Type 0 where
   pub ascending : AreAscending numbers
   pub known : (r : ℕ) → CanHold p m r → IsListed numbers r
