@@ -1,5 +1,5 @@
 -- From cells and lists to what a family promises.
-use Rattle.std.proofs.Common.{ℕ, ◌≡◌, ◌≤◌, ◌<◌, ◌+◌, ◌*◌, ◌-◌, ◌==◌, ◌∙◌, ◌&&◌, ◌||◌, zero, suc, Bool, true, false, cond, Option, Some, None, List, [], ◌∷◌, ◌++◌, ◌⊎◌, inl, inr, map, replicate, length, get_or, slice_get, refl, sym, ap, subst, arith, sum_by, count_by, All, IfSome, zero-add, nat_le, nat_lt}
+use Rattle.std.proofs.Common.{ℕ, ◌≡◌, ◌≤◌, ◌<◌, ◌+◌, ◌*◌, ◌-◌, ◌==◌, ◌∙◌, ◌&&◌, ◌||◌, zero, suc, Bool, true, false, cond, Option, Some, None, List, [], ◌∷◌, ◌++◌, ◌⊎◌, inl, inr, map, replicate, length, get_or, slice_get, refl, sym, ap, subst, arith, sum_by, count_by, All, IfSome, zero-add, nat_le, nat_lt, not}
 use Rattle.std.specs.Option.{option_map, option_map_or}
 use Rattle.std.specs.List.{range_with_len, list_any, filter_map}
 use Rattle.std.proofs.lemmas.Bool.{true≢false, eqb-true}
@@ -26,20 +26,20 @@ use Rattle.khe_told.specs.declared.changes.Change.TheVariants.{Add, Drop, Place 
 use Rattle.khe_told.specs.declared.slots.Slot.{Slot}
 use Rattle.khe_told.specs.declared.slots.Span.{Span}
 use Rattle.timetables.specs.Counts.{count_at}
-use Rattle.resource_monitors.specs.Cells.{is_at_cells, value_in, lists, lists_any, in_run, given_to}
+use Rattle.resource_monitors.specs.Cells.{is_at_cells, is_by_busy, value_in, lists, lists_any, in_run, given_to, differs_at, is_due, is_low, limit_for}
 use Rattle.resource_monitors.specs.Posts.{AreAllReported, is_served_at, due_all, due_for, posts_of}
 use Rattle.resource_monitors.specs.Runs.{Turned, run_of, given_by}
 use Rattle.resource_monitors.specs.declared.posts.Post.{Post}
 use Rattle.resource_monitors.specs.declared.runs.Run.{Run}
-use Rattle.resource_monitors.proofs.MeasureLaws.{at_resource, value_is, value_same}
+use Rattle.resource_monitors.proofs.MeasureLaws.{at_resource, value_busy, value_is, value_same}
 use Rattle.resource_monitors.proofs.PostLaws.{posts_sum}
-use Rattle.resource_monitors.proofs.TurnLaws.{turned_same}
+use Rattle.resource_monitors.proofs.TurnLaws.{turned_busy, turned_same}
 use Rattle.khe_instance.proofs.MadeLemmas.{monitored}
 use Rattle.khe_told.specs.Slots.{start_of}
 use Rattle.khe_base.specs.declared.numbers.TimeId.{TimeId}
 use Rattle.std.proofs.lemmas.List.FromFn.{get_or-range_with_len, length-range_with_len}
 use Rattle.std.proofs.lemmas.List.Folds.{list_any_at}
-use Rattle.std.proofs.lemmas.Bool.{and_parts, leb-true, ltb-true}
+use Rattle.std.proofs.lemmas.Bool.{and_from, and_parts, leb-true, ltb-true, or_parts}
 use Rattle.std.proofs.lemmas.Nat.{mul-le}
 
 pub monitor_at : (p : Parts) → AreWellMade p → (i : ℕ) (m : Monitor) → slice_get p.monitors i ≡ Some m → IsMonitor p m
@@ -65,14 +65,28 @@ given_or_not (o ∷ given) q = by o (is_resource q.0 o) refl (given_or_not given
     by (Some x) true e r = inl (0, (let z : 0 < suc (length given) = omega arith in z), (λ i. Some (Some (record { 0 = eqb-true x.0 q.0 e i }))))
     by (Some x) false e r = next (Some x) e r
 
+-- a time of a run is among its times
+pub none_in_run : (f : ℕ → Bool) (start end t : ℕ) → list_any f (range_with_len start (end - start)) ≡ false → in_run start end t ≡ true → f t ≡ false
+none_in_run f start end t none e = by (f t) refl
+  where
+    by : (b : Bool) → f t ≡ b → b ≡ false
+    by false h = refl
+    by true h =
+        let parts = and_parts (nat_le start t) (nat_lt t end) e in
+        let low = leb-true start t parts.0 in
+        let high = ltb-true t end parts.1 in
+        let i : t - start < end - start = omega (arith, low, high) in
+        let value : get_or (range_with_len start (end - start)) (t - start) 0 ≡ t = get_or-range_with_len start (end - start) (t - start) 0 i ∙ (let z : start + (t - start) ≡ t = omega (arith, low) in z) in
+        absurd (true≢false (sym (list_any_at f (range_with_len start (end - start)) (t - start) 0 (let z = length-range_with_len start (end - start) in omega (arith, z, i)) (ap f value ∙ h)) ∙ none))
+
 -- what agreed agrees
-pub agrees_after : (p : Parts) (served : Kind → Bool) (made : AreWellMade p) (cells : (k : Kind) → served k ≡ true → is_at_cells k ≡ true) (s s2 : List Slot) (old new : List (List ℕ)) (given : List (Option ResourceId)) (b : Bool) (start end : ℕ) (ds0 ds : List ℕ)
+pub agrees_after : (p : Parts) (served : Kind → Bool) (made : AreWellMade p) (cells : (k : Kind) → served k ≡ true → is_at_cells k ≡ true) (by_busy : Bool) (alone : by_busy ≡ true → (k : Kind) → served k ≡ true → is_by_busy k ≡ true) (s s2 : List Slot) (old new : List (List ℕ)) (given : List (Option ResourceId)) (b : Bool) (start end : ℕ) (ds0 ds : List ℕ)
     → ((r t : ℕ) → count_at old r t ≡ running_tasks (duties_in s) r t) → ((r t : ℕ) → count_at new r t ≡ running_tasks (duties_in s2) r t)
     → Turned b given start end (count_at old) (count_at new)
-    → AreAllReported p served (value_in p new) (lists_any p start end) given (length given) ds0 ds
+    → AreAllReported p served (value_in p new) (is_due p by_busy new start end (limit_for b (length given))) given (length given) ds0 ds
     → Agrees p served s ds0 → Agrees p served s2 ds
-agrees_after p served made cells s s2 old new given b start end ds0 ds before now turned all agrees i m there serves =
-    by (given_or_not given at.0) (lists_any p start end m) refl ∙ ap Some (sym (value_is p s2 new m is kind now))
+agrees_after p served made cells by_busy alone s s2 old new given b start end ds0 ds before now turned all agrees i m there serves =
+    by (given_or_not given at.0) (lists_any p start end m) refl (differs_at by_busy new start end limit m.point) refl ∙ ap Some (sym (value_is p s2 new m is kind now))
   where
     is : IsMonitor p m
     is = monitor_at p made i m there
@@ -83,10 +97,24 @@ agrees_after p served made cells s s2 old new given b start end ds0 ds before no
     at : (r : ResourceId) × (m.point ≡ Resource r) × (r.0 < length p.resources)
     at = at_resource p m is kind
 
+    limit : ℕ
+    limit = limit_for b (length given)
+
+    still : value_in p new m ≡ value_in p old m → slice_get ds i ≡ Some (value_in p new m)
+    still e = all.kept i m there (agrees i m there serves ∙ ap Some (value_is p s old m is kind before) ∙ ap Some (sym e))
+
     kept : ((t : ℕ) → lists p m t ≡ true → cond (in_run start end t) (given_to at.0.0 given) 0 ≡ 0) → slice_get ds i ≡ Some (value_in p new m)
-    kept h = all.kept i m there
-        (agrees i m there serves ∙ ap Some (value_is p s old m is kind before)
-        ∙ ap Some (sym (value_same p old new m at.0 is kind at.1 (λ t e. turned_same b given start end (count_at old) (count_at new) turned at.0.0 t (h t e)))))
+    kept h = still (value_same p old new m at.0 is kind at.1 (λ t e. turned_same b given start end (count_at old) (count_at new) turned at.0.0 t (h t e)))
+
+    busy : differs_at by_busy new start end limit m.point ≡ false → value_in p new m ≡ value_in p old m
+    busy e =
+        let parts = or_parts (not by_busy) (is_low new start end limit at.0.0) (sym (ap (differs_at by_busy new start end limit) at.1) ∙ e) in
+        value_busy p old new m at.0 is (alone (on by_busy parts.0) m.kind serves) at.1
+        (turned_busy b given start end (count_at old) (count_at new) at.0.0 turned (λ t e. none_in_run (λ x. nat_le (count_at new at.0.0 x) limit) start end t parts.1 e))
+      where
+        on : (c : Bool) → not c ≡ false → c ≡ true
+        on true h = refl
+        on false h = absurd (true≢false h)
 
     none : (c : Bool) (n : ℕ) → n ≡ 0 → cond c n 0 ≡ 0
     none true n e = e
@@ -97,18 +125,13 @@ agrees_after p served made cells s s2 old new given b start end ds0 ds before no
       where
         by : (b : Bool) → in_run start end t ≡ b → b ≡ false
         by false e = refl
-        by true e =
-            let parts = and_parts (nat_le start t) (nat_lt t end) e in
-            let low = leb-true start t parts.0 in
-            let high = ltb-true t end parts.1 in
-            let i : t - start < end - start = omega (arith, low, high) in
-            let value : get_or (range_with_len start (end - start)) (t - start) 0 ≡ t = get_or-range_with_len start (end - start) (t - start) 0 i ∙ (let z : start + (t - start) ≡ t = omega (arith, low) in z) in
-            absurd (true≢false (sym (list_any_at (λ x. lists p m x) (range_with_len start (end - start)) (t - start) 0 (let z = length-range_with_len start (end - start) in omega (arith, z, i)) (ap (lists p m) value ∙ h)) ∙ l))
+        by true e = absurd (true≢false (sym h ∙ none_in_run (λ x. lists p m x) start end t l e))
 
-    by : IsGiven given at.0 ⊎ (given_to at.0.0 given ≡ 0) → (c : Bool) → lists_any p start end m ≡ c → slice_get ds i ≡ Some (value_in p new m)
-    by (inl g) true e = all.each i m at.0 g.0 g.1 g.2 there serves at.1 e
-    by (inl g) false e = kept (λ t h. ap (λ c. cond {A = ℕ} c (given_to at.0.0 given) 0) (outside e t h))
-    by (inr z) c e = kept (λ t h. none (in_run start end t) (given_to at.0.0 given) z)
+    by : IsGiven given at.0 ⊎ (given_to at.0.0 given ≡ 0) → (c : Bool) → lists_any p start end m ≡ c → (d : Bool) → differs_at by_busy new start end limit m.point ≡ d → slice_get ds i ≡ Some (value_in p new m)
+    by (inl g) true e true f = all.each i m at.0 g.0 g.1 g.2 there serves at.1 (and_from (lists_any p start end m) (differs_at by_busy new start end limit m.point) e f)
+    by (inl g) true e false f = still (busy f)
+    by (inl g) false e d f = kept (λ t h. ap (λ c. cond {A = ℕ} c (given_to at.0.0 given) 0) (outside e t h))
+    by (inr z) c e d f = kept (λ t h. none (in_run start end t) (given_to at.0.0 given) z)
 
 -- where no count turned
 pub agrees_same : (p : Parts) (served : Kind → Bool) (made : AreWellMade p) (cells : (k : Kind) → served k ≡ true → is_at_cells k ≡ true) (s s2 : List Slot) (rows : List (List ℕ)) (ds : List ℕ)

@@ -1,4 +1,4 @@
--- What is measured turns on the counts at the listed times alone.
+-- What is measured turns on the counts at the listed times alone, and mostly on which are busy.
 use Rattle.std.proofs.Common.{ℕ, ◌≡◌, ◌<◌, ◌+◌, ◌-◌, ◌∙◌, ◌&&◌, not, nat_lt, Bool, true, false, cond, Option, Some, None, List, [], ◌∷◌, length, slice_get, slice_index, refl, sym, ap, subst, arith, count_by, sum_by, lt-ltb, zero-add}
 use Rattle.std.specs.List.{range_with_len}
 use Rattle.std.specs.Option.{option_map_or}
@@ -25,24 +25,24 @@ use Rattle.khe_told.specs.Agreement.{deviation_in}
 use Rattle.khe_told.specs.Lists.{meets_in, duties_in}
 use Rattle.khe_told.specs.declared.slots.Slot.{Slot}
 use Rattle.timetables.specs.Counts.{row_of, count_at}
-use Rattle.resource_monitors.specs.Cells.{is_at_cells, value_at, value_in, lists}
+use Rattle.resource_monitors.specs.Cells.{is_at_cells, is_by_busy, value_at, value_in, lists}
 
 module _ (c d : ℕ → ℕ) where
   abbrev AreSame : List Bool → Type 0
-  AreSame g = (t : ℕ) → has_member g t ≡ true → c t ≡ d t
+  AreSame g = (t : ℕ) → has_member g t ≡ true → busy_by c t ≡ busy_by d t
 
   both_same : (g : List Bool) → AreSame g → (t : ℕ) → (has_member g t && busy_by c t) ≡ (has_member g t && busy_by d t)
   both_same g h t = by (has_member g t) refl
     where
       by : (b : Bool) → has_member g t ≡ b → (b && busy_by c t) ≡ (b && busy_by d t)
-      by true e = ap (nat_lt 0) (h t e)
+      by true e = h t e
       by false e = refl
 
   free_same : (g : List Bool) → AreSame g → (t : ℕ) → (has_member g t && not (busy_by c t)) ≡ (has_member g t && not (busy_by d t))
   free_same g h t = by (has_member g t) refl
     where
       by : (b : Bool) → has_member g t ≡ b → (b && not (busy_by c t)) ≡ (b && not (busy_by d t))
-      by true e = ap (λ n. not (nat_lt 0 n)) (h t e)
+      by true e = ap not (h t e)
       by false e = refl
 
   busy_same : (g : List Bool) → AreSame g → busy_times (busy_by c) g ≡ busy_times (busy_by d) g
@@ -52,7 +52,7 @@ module _ (c d : ℕ → ℕ) where
   idle_same g h = λ i. count_below (λ t. free_same g h t i && (any_between (λ s. both_same g h s i) 0 t && any_between (λ s. both_same g h s i) (t + 1) (length g))) (length g)
 
   abbrev AreListedSame : List (List Bool) → Type 0
-  AreListedSame groups = (t : ℕ) → nat_lt 0 (count_by (λ g. has_member g t) groups) ≡ true → c t ≡ d t
+  AreListedSame groups = (t : ℕ) → nat_lt 0 (count_by (λ g. has_member g t) groups) ≡ true → busy_by c t ≡ busy_by d t
 
   groups_same : (f e : List Bool → ℕ) → ((g : List Bool) → AreSame g → f g ≡ e g) → (groups : List (List Bool)) → AreListedSame groups → sum_by f groups ≡ sum_by e groups
   groups_same f e each [] h = refl
@@ -75,17 +75,25 @@ module _ (c d : ℕ → ℕ) where
           by true n e = lt-ltb 0 (1 + n) (omega arith)
           by false n e = ap (nat_lt 0) (zero-add n) ∙ e
 
-  single : (g : List Bool) → ((t : ℕ) → nat_lt 0 (cond (has_member g t) 1 0) ≡ true → c t ≡ d t) → AreSame g
+  single : (g : List Bool) → ((t : ℕ) → nat_lt 0 (cond (has_member g t) 1 0) ≡ true → busy_by c t ≡ busy_by d t) → AreSame g
   single g h t e = h t (ap (λ b. nat_lt 0 (cond b 1 0)) e)
+
+  -- where only busy times are measured
+  pub measured_busy : (p : Parts) (v w : ℕ) (rule : Rule) → is_by_busy (kind_of rule) ≡ true → ((t : ℕ) → lists_time rule t ≡ true → busy_by c t ≡ busy_by d t) → measured p rule c v ≡ measured p rule d w
+  measured_busy p v w (AvoidUnavailableTimes times) k h = busy_same times (single times h)
+  measured_busy p v w (LimitIdleTimes groups a b) k h = ap (λ n. count_outside n a b) (groups_same (idle_times (busy_by c)) (idle_times (busy_by d)) idle_same groups h)
+  measured_busy p v w (ClusterBusyTimes groups a b) k h =
+      ap (λ n. count_outside n a b) (groups_same (λ g. cond (nat_lt 0 (busy_times (busy_by c) g)) 1 0) (λ g. cond (nat_lt 0 (busy_times (busy_by d) g)) 1 0) (λ g e. ap (λ n. cond (nat_lt 0 n) 1 0) (busy_same g e)) groups h)
+  measured_busy p v w (LimitBusyTimes groups a b) k h =
+      groups_same (λ g. used_outside (busy_times (busy_by c) g) a b) (λ g. used_outside (busy_times (busy_by d) g) a b) (λ g e. ap (λ n. used_outside n a b) (busy_same g e)) groups h
+  measured_busy p v w _ k h = absurd (false≢true k)
 
   pub measured_same : (p : Parts) (v w : ℕ) (rule : Rule) → is_at_cells (kind_of rule) ≡ true → ((t : ℕ) → lists_time rule t ≡ true → c t ≡ d t) → measured p rule c v ≡ measured p rule d w
   measured_same p v w AvoidClashes k h = λ i. sum_by (λ t. h t refl i - 1) (range_with_len 0 (length p.times))
-  measured_same p v w (AvoidUnavailableTimes times) k h = busy_same times (single times h)
-  measured_same p v w (LimitIdleTimes groups a b) k h = ap (λ n. count_outside n a b) (groups_same (idle_times (busy_by c)) (idle_times (busy_by d)) idle_same groups h)
-  measured_same p v w (ClusterBusyTimes groups a b) k h =
-      ap (λ n. count_outside n a b) (groups_same (λ g. cond (nat_lt 0 (busy_times (busy_by c) g)) 1 0) (λ g. cond (nat_lt 0 (busy_times (busy_by d) g)) 1 0) (λ g e. ap (λ n. cond (nat_lt 0 n) 1 0) (busy_same g e)) groups h)
-  measured_same p v w (LimitBusyTimes groups a b) k h =
-      groups_same (λ g. used_outside (busy_times (busy_by c) g) a b) (λ g. used_outside (busy_times (busy_by d) g) a b) (λ g e. ap (λ n. used_outside n a b) (busy_same g e)) groups h
+  measured_same p v w (AvoidUnavailableTimes times) k h = measured_busy p v w (AvoidUnavailableTimes times) refl (λ t e. ap (nat_lt 0) (h t e))
+  measured_same p v w (LimitIdleTimes groups a b) k h = measured_busy p v w (LimitIdleTimes groups a b) refl (λ t e. ap (nat_lt 0) (h t e))
+  measured_same p v w (ClusterBusyTimes groups a b) k h = measured_busy p v w (ClusterBusyTimes groups a b) refl (λ t e. ap (nat_lt 0) (h t e))
+  measured_same p v w (LimitBusyTimes groups a b) k h = measured_busy p v w (LimitBusyTimes groups a b) refl (λ t e. ap (nat_lt 0) (h t e))
   measured_same p v w _ k h = absurd (false≢true k)
 
 -- a monitor of such a kind is at a resource
@@ -118,13 +126,27 @@ value_is p s rows m (c, there, kind, point) k h =
     ∙ sym (ap (value_at p rows c.rule) at.1)
     ∙ sym (ap (λ o. option_map_or (λ (x : Constraint). value_at p rows x.rule m.point) o 0) there)
 
+-- what the rule measures at two counts, the monitor does
+value_by : (p : Parts) (old new : List (List ℕ)) (m : Monitor) (r : ResourceId) (c : Constraint) → slice_get p.constraints m.constraint ≡ Some c → m.point ≡ Resource r
+    → measured p c.rule (slice_index (row_of new r.0)) 0 ≡ measured p c.rule (slice_index (row_of old r.0)) 0 → value_in p new m ≡ value_in p old m
+value_by p old new m r c there at same =
+    ap (λ o. option_map_or (λ (x : Constraint). value_at p new x.rule m.point) o 0) there
+    ∙ ap (value_at p new c.rule) at
+    ∙ same
+    ∙ sym (ap (value_at p old c.rule) at)
+    ∙ sym (ap (λ o. option_map_or (λ (x : Constraint). value_at p old x.rule m.point) o 0) there)
+
 -- and it turns on the counts at the listed times of its resource
 pub value_same : (p : Parts) (old new : List (List ℕ)) (m : Monitor) (r : ResourceId) → IsMonitor p m → is_at_cells m.kind ≡ true → m.point ≡ Resource r
     → ((t : ℕ) → lists p m t ≡ true → count_at new r.0 t ≡ count_at old r.0 t) → value_in p new m ≡ value_in p old m
 value_same p old new m r (c, there, kind, point) k at h =
-    ap (λ o. option_map_or (λ (x : Constraint). value_at p new x.rule m.point) o 0) there
-    ∙ ap (value_at p new c.rule) at
-    ∙ measured_same (slice_index (row_of new r.0)) (slice_index (row_of old r.0)) p 0 0 c.rule (ap is_at_cells (sym kind) ∙ k)
-    (λ t e. h t (ap (λ o. option_map_or (λ (x : Constraint). lists_time x.rule t) o false) there ∙ e))
-    ∙ sym (ap (value_at p old c.rule) at)
-    ∙ sym (ap (λ o. option_map_or (λ (x : Constraint). value_at p old x.rule m.point) o 0) there)
+    value_by p old new m r c there at
+    (measured_same (slice_index (row_of new r.0)) (slice_index (row_of old r.0)) p 0 0 c.rule (ap is_at_cells (sym kind) ∙ k)
+    (λ t e. h t (ap (λ o. option_map_or (λ (x : Constraint). lists_time x.rule t) o false) there ∙ e)))
+
+-- or on which of them are busy
+pub value_busy : (p : Parts) (old new : List (List ℕ)) (m : Monitor) (r : ResourceId) → IsMonitor p m → is_by_busy m.kind ≡ true → m.point ≡ Resource r
+    → ((t : ℕ) → nat_lt 0 (count_at new r.0 t) ≡ nat_lt 0 (count_at old r.0 t)) → value_in p new m ≡ value_in p old m
+value_busy p old new m r (c, there, kind, point) k at h =
+    value_by p old new m r c there at
+    (measured_busy (slice_index (row_of new r.0)) (slice_index (row_of old r.0)) p 0 0 c.rule (ap is_by_busy (sym kind) ∙ k) (λ t _. h t))

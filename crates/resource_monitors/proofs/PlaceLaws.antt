@@ -1,13 +1,15 @@
 -- The list of one resource.
-use Rattle.std.proofs.Common.{ℕ, ◌≡◌, ◌<◌, ◌∙◌, Bool, true, Option, Some, None, List, [], length, get_or, slice_get, refl, sym, ap, subst, arith, zero-add}
-use Rattle.std.proofs.lemmas.Bool.{and_parts}
+use Rattle.std.proofs.Common.{ℕ, ◌≡◌, ◌<◌, ◌∙◌, Bool, true, false, Option, Some, None, List, [], length, get_or, slice_get, refl, sym, ap, subst, arith, zero-add}
+use Rattle.std.proofs.lemmas.Bool.{and_parts, eqb-true, false≢true, true≢false}
 use Rattle.std.proofs.lemmas.Option.{slice_get-get_or, get_or_from_slice_get}
 use Rattle.khe_base.specs.declared.numbers.ResourceId.{ResourceId}
 use Rattle.khe_instance.specs.Watching.{is_at}
 use Rattle.khe_instance.specs.declared.parts.Parts.{Parts}
 use Rattle.khe_instance.specs.declared.points.Monitor.{Monitor}
+use Rattle.khe_instance.specs.declared.points.Point.{Point}
+use Rattle.khe_instance.specs.declared.points.Point.TheVariants.{Resource}
 use Rattle.khe_instance.specs.declared.rules.Kind.{Kind}
-use Rattle.resource_monitors.specs.Cells.{is_at_cells}
+use Rattle.resource_monitors.specs.Cells.{is_at_cells, differs_at, is_due, lists_any, may_differ}
 use Rattle.resource_monitors.specs.Posts.{AreLists, ArePosts, AreReported, due, due_for, is_served_at, list_for, posts_of}
 use Rattle.resource_monitors.specs.declared.posts.Post.{Post}
 use Rattle.resource_monitors.proofs.PostLaws.{posts_each}
@@ -39,3 +41,25 @@ pub reported_none : (p : Parts) (value : Monitor → ℕ) (test : Monitor → Bo
 reported_none p value test served place old at =
     subst (λ (xs : List Post). AreReported p value test xs (length xs) old old) (sym (ap (list_for served p.monitors) at))
     (record { amount = refl; each = λ j a l h t. absurd (omega (arith, l)); kept = λ i m g o. o; others = λ i n. refl })
+
+-- fewer of them
+pub reported_fewer : (p : Parts) (value : Monitor → ℕ) (test few : Monitor → Bool) (list : List Post) (k : ℕ) (old new : List ℕ) → ((m : Monitor) → few m ≡ true → test m ≡ true)
+    → AreReported p value test list k old new → AreReported p value few list k old new
+reported_fewer p value test few list k old new less u = record { amount = u.amount; each = λ j a l h t. u.each j a l h (less a.monitor t); kept = u.kept; others = u.others }
+
+-- no monitor of a resource at which none differs
+pub reported_skipped : (p : Parts) (value : Monitor → ℕ) (served : Kind → Bool) (by_busy : Bool) (rows : List (List ℕ)) (start end limit : ℕ) (place : Option ResourceId) (r : ResourceId) (old : List ℕ)
+    → place ≡ Some r → may_differ by_busy rows start end limit r.0 ≡ false
+    → AreReported p value (is_due p by_busy rows start end limit) (list_for served p.monitors place) (length (list_for served p.monitors place)) old old
+reported_skipped p value served by_busy rows start end limit place r old at none =
+    subst (λ (xs : List Post). AreReported p value (is_due p by_busy rows start end limit) xs (length xs) old old) (sym (ap (list_for served p.monitors) at))
+    (record { amount = refl; each = λ j a l h t. absurd (skipped j a h (and_parts (lists_any p start end a.monitor) (differs_at by_busy rows start end limit a.monitor.point) t).1); kept = λ i m g o. o; others = λ i n. refl })
+  where
+    differs : (point : Point) → is_at point r.0 ≡ true → differs_at by_busy rows start end limit point ≡ true → ⊥
+    differs (Resource q) e d = true≢false (sym d ∙ ap (may_differ by_busy rows start end limit) (eqb-true q.0 r.0 e) ∙ none)
+    differs _ e d = false≢true e
+
+    skipped : (j : ℕ) (a : Post) → slice_get (posts_of served p.monitors r.0) j ≡ Some a → differs_at by_busy rows start end limit a.monitor.point ≡ true → ⊥
+    skipped j a h =
+        let f = posts_each (is_served_at served r.0) p.monitors 0 p.monitors (λ n. ap (slice_get p.monitors) (zero-add n)) j a h in
+        differs a.monitor.point (and_parts (served a.monitor.kind) (is_at a.monitor.point r.0) f.1).1

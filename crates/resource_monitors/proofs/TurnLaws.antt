@@ -1,8 +1,8 @@
 -- What a change does to cells.
-use Rattle.std.proofs.Common.{ℕ, ◌≡◌, ◌≤◌, ◌<◌, ◌+◌, ◌==◌, ◌∙◌, ◌&&◌, zero, suc, Bool, true, false, cond, Option, Some, None, List, [], ◌∷◌, ◌++◌, set, take, get_or, length, slice_get, refl, sym, ap, subst, arith, sum_by, count_by, zero-add}
+use Rattle.std.proofs.Common.{ℕ, ◌≡◌, ◌≤◌, ◌<◌, ◌+◌, ◌==◌, ◌∙◌, ◌&&◌, zero, suc, Bool, true, false, cond, Option, Some, None, List, [], ◌∷◌, ◌++◌, set, take, get_or, length, slice_get, refl, sym, ap, subst, arith, sum_by, count_by, zero-add, nat_le, nat_lt, lt-ltb}
 use Rattle.std.specs.Option.{option_map_or}
-use Rattle.std.proofs.lemmas.Bool.{eq-eqb}
-use Rattle.std.proofs.lemmas.List.Sums.{sum_by-cons, sum_by-set, sum_by-append, sum_by_more, sum_by-take-le}
+use Rattle.std.proofs.lemmas.Bool.{eq-eqb, leb-false}
+use Rattle.std.proofs.lemmas.List.Sums.{sum_by-cons, sum_by-set, sum_by-append, sum_by_more, sum_by-take-le, count_by-le-length}
 use Rattle.std.proofs.lemmas.Option.{get_or_from_slice_get, slice_get_within}
 use Rattle.khe_base.specs.declared.numbers.ResourceId.{ResourceId}
 use Rattle.khe_base.specs.declared.numbers.TimeId.{TimeId}
@@ -18,7 +18,7 @@ use Rattle.khe_told.specs.declared.changes.Change.TheVariants.{Add, Drop, Place 
 use Rattle.khe_told.specs.declared.slots.Slot.{Slot}
 use Rattle.khe_told.specs.declared.slots.Span.{Span}
 use Rattle.timetables.specs.Counts.{count_at}
-use Rattle.resource_monitors.specs.Cells.{AreAbove, AreRaised, given_to, in_run}
+use Rattle.resource_monitors.specs.Cells.{AreAbove, AreRaised, given_to, in_run, limit_for}
 use Rattle.resource_monitors.specs.Runs.{run_from, run_of, given_by, Turned, IsTurn}
 use Rattle.resource_monitors.specs.declared.runs.Run.{Run}
 
@@ -68,6 +68,36 @@ turned_once false given start end old new other h k q t = let a = h q t in let b
 pub turned_same : (b : Bool) (given : List (Option ResourceId)) (start end : ℕ) (old new : ℕ → ℕ → ℕ) → Turned b given start end old new → (q t : ℕ) → cond (in_run start end t) (given_to q given) 0 ≡ 0 → new q t ≡ old q t
 turned_same true given start end old new h q t e = let a : new q t ≡ old q t + cond (in_run start end t) (given_to q given) 0 = h q t in omega (arith, a, e)
 turned_same false given start end old new h q t e = let a : old q t ≡ new q t + cond (in_run start end t) (given_to q given) 0 = h q t in omega (arith, a, e)
+
+-- where no count of the run is low, each time is busy as it was
+pub turned_busy : (b : Bool) (given : List (Option ResourceId)) (start end : ℕ) (old new : ℕ → ℕ → ℕ) (q : ℕ) → Turned b given start end old new
+    → ((t : ℕ) → in_run start end t ≡ true → nat_le (new q t) (limit_for b (length given)) ≡ false) → (t : ℕ) → nat_lt 0 (new q t) ≡ nat_lt 0 (old q t)
+turned_busy b given start end old new q h high t = by (in_run start end t) refl
+  where
+    few : given_to q given ≤ length given
+    few = count_by-le-length (is_resource q) given
+
+    both : (n m : ℕ) → 0 < n → 0 < m → nat_lt 0 n ≡ nat_lt 0 m
+    both n m k l = lt-ltb 0 n k ∙ sym (lt-ltb 0 m l)
+
+    above : (d : Bool) → Turned d given start end old new → nat_le (new q t) (limit_for d (length given)) ≡ false → (0 < new q t) × (0 < old q t)
+    above true u e =
+        let a : new q t ≡ old q t + cond (in_run start end t) (given_to q given) 0 = u q t in
+        let l = leb-false (new q t) (length given) e in
+        let z = part (in_run start end t) in
+        (omega (arith, l), omega (arith, a, l, z, few))
+      where
+        part : (c : Bool) → cond c (given_to q given) 0 ≤ given_to q given
+        part true = omega arith
+        part false = omega arith
+    above false u e =
+        let a : old q t ≡ new q t + cond (in_run start end t) (given_to q given) 0 = u q t in
+        let l = leb-false (new q t) 0 e in
+        (l, omega (arith, a, l))
+
+    by : (c : Bool) → in_run start end t ≡ c → nat_lt 0 (new q t) ≡ nat_lt 0 (old q t)
+    by true e = let a = above b h (high t e) in both (new q t) (old q t) a.0 a.1
+    by false e = ap (nat_lt 0) (turned_same b given start end old new h q t (ap (λ c. cond c (given_to q given) 0) e))
 
 -- cells by slots
 abbrev pub runs_at : ℕ → Option Span → Bool

@@ -1,6 +1,6 @@
 -- The kinds that are measured by how many tasks of a resource run at each time, and the counts that
 -- they read: a row for each resource, with a count for each time.
-use Rattle.std.specs.Prelude.{ℕ, ◌≡◌, ◌<◌, ◌≤◌, ◌+◌, ◌-◌, ◌==◌, ◌&&◌, nat_le, nat_lt, Bool, true, false, if◌then◌else◌, Option, Some, List, length, slice_get, slice_index, count_by}
+use Rattle.std.specs.Prelude.{ℕ, ◌≡◌, ◌<◌, ◌≤◌, ◌+◌, ◌-◌, ◌==◌, ◌&&◌, ◌||◌, not, nat_le, nat_lt, Bool, true, false, if◌then◌else◌, Option, Some, List, length, slice_get, slice_index, count_by}
 use Rattle.std.specs.List.{range_with_len, list_any}
 use Rattle.std.specs.Option.{option_map_or}
 use Rattle.khe_base.specs.declared.numbers.ResourceId.{ResourceId}
@@ -23,6 +23,14 @@ is_at_cells kind.LimitIdleTimes = true
 is_at_cells kind.ClusterBusyTimes = true
 is_at_cells kind.LimitBusyTimes = true
 is_at_cells _ = false
+
+-- those of them that are measured by whether any of its tasks runs
+abbrev pub is_by_busy : Kind → Bool
+is_by_busy kind.AvoidUnavailableTimes = true
+is_by_busy kind.LimitIdleTimes = true
+is_by_busy kind.ClusterBusyTimes = true
+is_by_busy kind.LimitBusyTimes = true
+is_by_busy _ = false
 
 -- a row of counts for each resource, with a count for each time
 pub record HasRows (p : Parts) (rows : List (List ℕ)) : Type 0 where
@@ -47,6 +55,28 @@ lists p m t = option_map_or (λ c. lists_time c.rule t) (slice_get p.constraints
 
 abbrev pub lists_any : Parts → ℕ → ℕ → Monitor → Bool
 lists_any p start end m = list_any (λ t. lists p m t) (range_with_len start (end - start))
+
+-- a count above this was and is above 0, when it rises for each of so many places or falls
+abbrev pub limit_for : Bool → ℕ → ℕ
+limit_for true places = places
+limit_for false places = 0
+
+-- whether one of a resource's counts in a run is no more than a limit
+abbrev pub is_low : List (List ℕ) → ℕ → ℕ → ℕ → ℕ → Bool
+is_low rows start end limit r = list_any (λ t. nat_le (count_at rows r t) limit) (range_with_len start (end - start))
+
+-- whether what is measured at a resource may be another: where it is measured by busy times alone,
+-- only if one of the counts is low
+abbrev pub may_differ : Bool → List (List ℕ) → ℕ → ℕ → ℕ → ℕ → Bool
+may_differ by_busy rows start end limit r = not by_busy || is_low rows start end limit r
+
+abbrev pub differs_at : Bool → List (List ℕ) → ℕ → ℕ → ℕ → Point → Bool
+differs_at by_busy rows start end limit (Resource r) = may_differ by_busy rows start end limit r.0
+differs_at by_busy rows start end limit _ = false
+
+-- whether a monitor lists one of the times and may measure another value
+abbrev pub is_due : Parts → Bool → List (List ℕ) → ℕ → ℕ → ℕ → Monitor → Bool
+is_due p by_busy rows start end limit m = lists_any p start end m && differs_at by_busy rows start end limit m.point
 
 -- how many places are given a resource
 abbrev pub given_to : ℕ → List (Option ResourceId) → ℕ

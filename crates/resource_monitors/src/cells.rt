@@ -14,7 +14,7 @@ use crate::kinds::CellKinds;
 use crate::posts::{Post, lists_of};
 use crate::reports::report_all;
 use crate::rooms::TimeSets;
-use crate::runs::{given_by, named_by, run_of};
+use crate::runs::{given_by, limit_for, named_by, run_of};
 use crate::turns::turn_all;
 use crate::values::value;
 use khe_base::{MonitorId, NoMemory, Seq};
@@ -30,6 +30,8 @@ use timetables::Timetable;
 /// It keeps a timetable, the masks of the constraints' sets of times and for each resource the
 /// monitors at it. A change turns the counts of the cells that it fills or empties, and then
 /// measures the monitors at their resources that list one of the times, each once for each place.
+/// Kinds that are measured by busy times alone are looked at only where a resource may have become
+/// busy or free.
 #[derive(Drop)]
 pub struct Cells<K> {
     told: Told,
@@ -74,7 +76,16 @@ fn follow<K: CellKinds, Y: Tally, L: Ledger>(
     };
     turn_all(table, given, run);
     report_all::<K, Y, L>(
-        inst, sets, table, run.start, run.end, given, lists, tally, steps,
+        inst,
+        sets,
+        table,
+        run.start,
+        run.end,
+        limit_for(run, given),
+        given,
+        lists,
+        tally,
+        steps,
     );
 }
 

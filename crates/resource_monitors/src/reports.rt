@@ -4,8 +4,8 @@ ghost use Rattle.khe_base.specs.declared.limits.TheConstants.{TASKS};
 ghost use Rattle.khe_base.specs.declared.numbers.ResourceId.{ResourceId};
 ghost use Rattle.khe_instance.specs.Watching.{lists_time};
 ghost use Rattle.khe_instance.specs.WellMade.{IsMonitor};
-ghost use Rattle.timetables.specs.Counts.{count_at};
-ghost use Rattle.resource_monitors.specs.Cells.{is_at_cells, HasRows, lists, lists_any, value_in};
+ghost use Rattle.timetables.specs.Counts.{count_at, row_of};
+ghost use Rattle.resource_monitors.specs.Cells.{is_at_cells, HasRows, is_due, is_low, lists, lists_any, may_differ, value_in};
 ghost use Rattle.resource_monitors.specs.Posts.{ArePosts, AreLists, AreReported, AreAllReported, due, due_for, due_all, list_for};
 ghost use Rattle.resource_monitors.specs.Sets.{room_for};
 ghost use Rattle.resource_monitors.specs.declared.posts.Post.{Post};
@@ -14,7 +14,7 @@ use crate::kinds::CellKinds;
 use crate::posts::Post;
 use crate::rooms::TimeSets;
 use crate::values::value;
-use khe_base::{IdSet, ResourceId, Seq};
+use khe_base::{IdSet, ResourceId, Seq, TimeId};
 use khe_instance::{Instance, Monitor, Rule};
 use khe_told::{Steps, Tally};
 use std::sync::ledger::Ledger;
@@ -122,13 +122,43 @@ fn report<Y: Tally, L: Ledger>(
     }
 }
 
-/// Reports those at what a place is given.
+/// Whether one of a resource's counts at the times of a run is no more than a limit.
+fn is_low(table: &Timetable, r: ResourceId, start: u32, end: u32, limit: usize) -> bool
+    requires resource { r.0 < length table.now }
+    requires times { end ≤ length (row_of table.now r.0) }
+    ensures { result ≡ is_low table.now start end limit r.0 }
+{
+    for t in start..end {
+        if table.count(r, TimeId(t)) as usize <= limit {
+            return true;
+        }
+    }
+    false
+}
+
+/// Whether the monitors of a resource may measure other values than before.
+fn may_differ<K: CellKinds>(
+    table: &Timetable,
+    r: ResourceId,
+    start: u32,
+    end: u32,
+    limit: usize,
+) -> bool
+    requires resource { r.0 < length table.now }
+    requires times { end ≤ length (row_of table.now r.0) }
+    ensures { result ≡ may_differ K.by_busy table.now start end limit r.0 }
+{
+    !K::by_busy() || is_low(table, r, start, end, limit)
+}
+
+/// Reports those at what a place is given, unless none of them may measure another value.
 fn report_place<K: CellKinds, Y: Tally, L: Ledger>(
     inst: &Instance,
     sets: &TimeSets,
     table: &Timetable,
     start: u32,
     end: u32,
+    limit: usize,
     place: Option<ResourceId>,
     lists: &[Seq<Post>],
     tally: &mut Y,
@@ -136,28 +166,33 @@ fn report_place<K: CellKinds, Y: Tally, L: Ledger>(
 )
     requires sets { sets.now ≡ room_for inst.now }
     requires rows { HasRows inst.now table.now }
+    requires times { end ≤ length inst.now.times }
     requires few { (r t : ℕ) → count_at table.now r t ≤ TASKS }
     requires lists { AreLists K.serves_kind (length inst.now.resources) inst.now.monitors lists.now }
     requires resource { (r : ResourceId) → place ≡ Some r → r.0 < length inst.now.resources }
     requires monitors { length (Y.deviations tally.old) ≡ length inst.now.monitors }
-    ensures reported { AreReported inst.now (value_in inst.now table.now) (lists_any inst.now start end) (list_for K.serves_kind inst.now.monitors place) (length (list_for K.serves_kind inst.now.monitors place)) (Y.deviations tally.old) (Y.deviations tally.new) }
+    ensures reported { AreReported inst.now (value_in inst.now table.now) (is_due inst.now K.by_busy table.now start end limit) (list_for K.serves_kind inst.now.monitors place) (length (list_for K.serves_kind inst.now.monitors place)) (Y.deviations tally.old) (Y.deviations tally.new) }
     ensures rest { Y.HasSameRest tally.old tally.new }
-    ensures steps { steps.new ≡ steps.old + due_for K.serves_kind inst.now.monitors (lists_any inst.now start end) place }
+    ensures steps { steps.new ≤ steps.old + due_for K.serves_kind inst.now.monitors (lists_any inst.now start end) place }
 {
     let Some(r) = place else {
         return;
     };
-    let list = lists[r.0 as usize].as_slice();
-    report(inst, sets, table, start, end, list, tally, steps);
+    if may_differ::<K>(table, r, start, end, limit) {
+        let list = lists[r.0 as usize].as_slice();
+        report(inst, sets, table, start, end, list, tally, steps);
+    }
 }
 
-/// Reports those at what each place is given, one place after the other.
+/// Reports those at what each place is given, one place after the other. Where all are measured by
+/// busy times alone, those of a resource whose counts are all above a limit are not looked at.
 pub(crate) fn report_all<K: CellKinds, Y: Tally, L: Ledger>(
     inst: &Instance,
     sets: &TimeSets,
     table: &Timetable,
     start: u32,
     end: u32,
+    limit: usize,
     given: &[Option<ResourceId>],
     lists: &[Seq<Post>],
     tally: &mut Y,
@@ -165,15 +200,18 @@ pub(crate) fn report_all<K: CellKinds, Y: Tally, L: Ledger>(
 )
     requires sets { sets.now ≡ room_for inst.now }
     requires rows { HasRows inst.now table.now }
+    requires times { end ≤ length inst.now.times }
     requires few { (r t : ℕ) → count_at table.now r t ≤ TASKS }
     requires lists { AreLists K.serves_kind (length inst.now.resources) inst.now.monitors lists.now }
     requires resources { (j : ℕ) (r : ResourceId) → slice_get given.now j ≡ Some (Some r) → r.0 < length inst.now.resources }
     requires monitors { length (Y.deviations tally.old) ≡ length inst.now.monitors }
-    ensures reported { AreAllReported inst.now K.serves_kind (value_in inst.now table.now) (lists_any inst.now start end) given.now (length given.now) (Y.deviations tally.old) (Y.deviations tally.new) }
+    ensures reported { AreAllReported inst.now K.serves_kind (value_in inst.now table.now) (is_due inst.now K.by_busy table.now start end limit) given.now (length given.now) (Y.deviations tally.old) (Y.deviations tally.new) }
     ensures rest { Y.HasSameRest tally.old tally.new }
-    ensures steps { steps.new ≡ steps.old + due_all K.serves_kind inst.now.monitors (lists_any inst.now start end) given.now }
+    ensures steps { steps.new ≤ steps.old + due_all K.serves_kind inst.now.monitors (lists_any inst.now start end) given.now }
 {
     for place in given {
-        report_place::<K, Y, L>(inst, sets, table, start, end, *place, lists, tally, steps);
+        report_place::<K, Y, L>(
+            inst, sets, table, start, end, limit, *place, lists, tally, steps,
+        );
     }
 }

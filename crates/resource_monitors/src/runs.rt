@@ -1,9 +1,10 @@
-ghost use Rattle.std.specs.Prelude.{◌≡◌, ◌<◌, ◌+◌, ◌^◌, ◌∷◌, [], Some};
+ghost use Rattle.std.specs.Prelude.{◌≡◌, ◌<◌, ◌+◌, ◌^◌, ◌∷◌, [], Some, length};
 ghost use Rattle.khe_base.specs.declared.numbers.TimeId.{TimeId};
 ghost use Rattle.khe_told.specs.Changes.{meet_of};
 ghost use Rattle.khe_told.specs.Fits.{AreTold, Fits};
 ghost use Rattle.khe_told.specs.Slots.{slot_at};
 ghost use Rattle.khe_told.specs.declared.slots.Span.{Span};
+ghost use Rattle.resource_monitors.specs.Cells.{limit_for};
 ghost use Rattle.resource_monitors.specs.Runs.{run_from, run_of, named_by, given_by};
 
 use khe_base::{ResourceId, TimeId};
@@ -76,4 +77,11 @@ pub(crate) fn given_by<'a>(
         Change::Take { .. } => one,
         _ => told.given(change.meet()),
     }
+}
+
+/// A count above this was and is above 0, when it rises or falls for each of the places.
+pub(crate) fn limit_for(run: Run, given: &[Option<ResourceId>]) -> usize
+    ensures { result ≡ limit_for run.rises (length given.now) }
+{
+    if run.rises { given.len() } else { 0 }
 }

@@ -2,6 +2,8 @@
 use Rattle.std.proofs.Common.{◌≡◌, ◌≤◌, ◌<◌, ◌∙◌, ℕ, Some, None, length, refl, sym, ap, subst, arith}
 use Rattle.khe_told.specs.Changes.{meet_of}
 use Rattle.khe_told.specs.Slots.{slot_at}
+use Rattle.resource_monitors.specs.Cells.{is_due, value_in}
+use Rattle.resource_monitors.specs.Posts.{AreAllReported}
 use Rattle.resource_monitors.specs.Runs.{run_of}
 use Rattle.resource_monitors.proofs.FollowLaws.{counts_none, agrees_none, turnable, resources, counts_then, few_then, agrees_then, watchers_then}
 use Rattle.resource_monitors.proofs.RunLaws.{run_within}
@@ -22,6 +24,9 @@ turn_all-requires-clause-counts g c = turnable c.args.inst.now c.facts.ensures c
 pub report_all-requires-clause-rows : goal.report_all-requires-clause-rows
 report_all-requires-clause-rows g c = record { resources = c.turn_all.ensures.resources ∙ c.requires.rows.resources; times = λ r l. c.turn_all.ensures.times r ∙ c.requires.rows.times r l }
 
+pub report_all-requires-clause-times : goal.report_all-requires-clause-times
+report_all-requires-clause-times g c = (run_within c.args.inst.now c.args.told.now c.args.change c.in-Some.run' c.requires.told c.requires.fits (sym (sym c.in-Some.is ∙ c.run_of.ensures))).times
+
 pub report_all-requires-clause-few : goal.report_all-requires-clause-few
 report_all-requires-clause-few g c = few_then c.args.inst.now c.facts.ensures c.args.told.now c.args.change c.requires.told c.requires.fits c.args.table.now c.requires.counts c.in-Some.run' (sym (sym c.in-Some.is ∙ c.run_of.ensures)) c.given_by-given.result.now c.given_by-given.ensures c.turn_all.new.table c.turn_all.ensures.counts
 
@@ -38,7 +43,7 @@ pub returns-clause-monitors : goal.returns-clause-monitors
 returns-clause-monitors g c = c.report_all.ensures.reported.amount
 
 pub returns-clause-served : goal.returns-clause-served
-returns-clause-served g c = agrees_then c.args.inst.now c.facts.ensures c.args.told.now c.args.change c.requires.told c.requires.fits c.args.table.now c.requires.counts c.in-Some.run' (sym (sym c.in-Some.is ∙ c.run_of.ensures)) c.given_by-given.result.now c.given_by-given.ensures c.turn_all.new.table c.turn_all.ensures.counts g.K.CellKinds.serves_kind g.met.K.CellKinds.at_cells (g.Y.Tally.deviations c.args.tally.now) (g.Y.Tally.deviations c.report_all.new.tally) c.report_all.ensures.reported
+returns-clause-served g c = agrees_then c.args.inst.now c.facts.ensures c.args.told.now c.args.change c.requires.told c.requires.fits c.args.table.now c.requires.counts c.in-Some.run' (sym (sym c.in-Some.is ∙ c.run_of.ensures)) c.given_by-given.result.now c.given_by-given.ensures c.turn_all.new.table c.turn_all.ensures.counts g.K.CellKinds.serves_kind g.met.K.CellKinds.at_cells g.K.CellKinds.by_busy g.met.K.CellKinds.busy_alone (g.Y.Tally.deviations c.args.tally.now) (g.Y.Tally.deviations c.report_all.new.tally) (subst (λ n. AreAllReported c.args.inst.now g.K.CellKinds.serves_kind (value_in c.args.inst.now c.turn_all.new.table) (is_due c.args.inst.now g.K.CellKinds.by_busy c.turn_all.new.table c.in-Some.run'.start c.in-Some.run'.end n) c.given_by-given.result.now (length c.given_by-given.result.now) (g.Y.Tally.deviations c.args.tally.now) (g.Y.Tally.deviations c.report_all.new.tally)) c.limit_for.ensures c.report_all.ensures.reported)
 
 pub returns-clause-others : goal.returns-clause-others
 returns-clause-others g c = c.report_all.ensures.reported.others

@@ -1,5 +1,5 @@
 -- One more monitor.
-use Rattle.std.proofs.Common.{◌≡◌, sym, ap, subst, arith, length}
+use Rattle.std.proofs.Common.{arith, length}
 use Rattle.std.proofs.lemmas.Option.{get_or_from_slice_get, slice_get_within}
 use Rattle.khe_instance.proofs.MadeLemmas.{monitored}
 use Rattle.resource_monitors.proofs.FamilyLaws.{monitor_at}

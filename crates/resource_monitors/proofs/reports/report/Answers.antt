@@ -1,5 +1,5 @@
 -- One more post.
-use Rattle.std.proofs.Common.{◌≡◌, ◌<◌, ◌+◌, ◌∙◌, ℕ, Bool, cond, get_or, length, take, sym, ap, arith}
+use Rattle.std.proofs.Common.{◌<◌, ℕ, Bool, cond, get_or, length, arith}
 use Rattle.std.proofs.lemmas.List.Sums.{sum_by_more}
 use Rattle.std.proofs.lemmas.Option.{slice_get-get_or, slice_get_within}
 use Rattle.khe_instance.specs.declared.points.Monitor.{Monitor}

@@ -4,7 +4,7 @@ use Rattle.std.proofs.lemmas.List.Sums.{sum_by_more}
 use Rattle.std.proofs.lemmas.Option.{slice_get-get_or}
 use Rattle.khe_base.specs.declared.numbers.ResourceId.{ResourceId}
 use Rattle.khe_instance.specs.declared.points.Monitor.{Monitor}
-use Rattle.resource_monitors.specs.Cells.{lists_any, value_in}
+use Rattle.resource_monitors.specs.Cells.{is_due, lists_any, value_in}
 use Rattle.resource_monitors.specs.Posts.{due_for}
 use Rattle.resource_monitors.proofs.ReportLaws.{all_step}
 use Rattle.resource_monitors.proofs.reports.report_all.Goals as goal
@@ -20,9 +20,10 @@ loop-place-preserved g c =
     let o : Option ResourceId = get_or given i None in
     let there = slice_get-get_or given i None c.loop-place-test.true in
     let test : Monitor → Bool = lists_any p c.args.start c.args.end in
+    let due : Monitor → Bool = is_due p g.K.CellKinds.by_busy c.args.table.now c.args.start c.args.end c.args.limit in
     let value : Monitor → ℕ = value_in p c.args.table.now in
     record {
-      reported = all_step p value test g.K.CellKinds.serves_kind given (g.Y.Tally.deviations c.args.tally.now) i o (g.Y.Tally.deviations c.loop-place.tally) (g.Y.Tally.deviations c.report_place.new.tally) there c.report_place.ensures.reported c.loop-place.invariant.reported;
+      reported = all_step p value due g.K.CellKinds.serves_kind given (g.Y.Tally.deviations c.args.tally.now) i o (g.Y.Tally.deviations c.loop-place.tally) (g.Y.Tally.deviations c.report_place.new.tally) there c.report_place.ensures.reported c.loop-place.invariant.reported;
       same_rest = g.met.Y.Tally.same_rest_trans _ _ _ c.loop-place.invariant.same_rest c.report_place.ensures.rest;
       steps =
           let x = c.report_place.ensures.steps in

@@ -1,4 +1,4 @@
-use Rattle.std.proofs.Common.{◌≡◌, ◌≤◌, arith}
+use Rattle.std.proofs.Common.{arith}
 use Rattle.resource_monitors.proofs.SmallLaws.{value_small}
 use Rattle.resource_monitors.proofs.reports.report_one.Goals as goal
 

@@ -1,4 +1,3 @@
-use Rattle.std.proofs.Common.{arith}
 use Rattle.khe_base.specs.declared.limits.TheConstants.{GREATEST_COUNT}
 use Rattle.timetables.specs.Counts.{count_at}
 use Rattle.resource_monitors.proofs.TurnLaws.{room_at}

@@ -1,4 +1,3 @@
-use Rattle.std.proofs.Common.{arith}
 use Rattle.timetables.specs.Counts.{count_at}
 use Rattle.resource_monitors.proofs.TurnLaws.{some_at}
 use Rattle.resource_monitors.proofs.turns.free_all.Goals as goal

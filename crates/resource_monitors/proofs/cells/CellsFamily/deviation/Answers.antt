@@ -1,11 +1,9 @@
 -- What is measured is the deviation.
-use Rattle.std.proofs.Common.{◌≡◌, ◌≤◌, ◌∙◌, ℕ, true, Some, IfSome, sym, ap, subst, arith}
+use Rattle.std.proofs.Common.{◌≡◌, ◌∙◌, true, Some, IfSome, sym, ap, subst, arith}
 use Rattle.std.specs.Option.{option_map}
-use Rattle.khe_base.specs.declared.limits.TheConstants.{TASKS}
 use Rattle.khe_instance.specs.declared.points.Monitor.{Monitor}
 use Rattle.khe_instance.specs.WellMade.{IsMonitor}
 use Rattle.khe_told.specs.Agreement.{deviation_in}
-use Rattle.timetables.specs.Counts.{count_at}
 use Rattle.resource_monitors.specs.Cells.{is_at_cells}
 use Rattle.resource_monitors.proofs.FamilyLaws.{monitor_at}
 use Rattle.resource_monitors.proofs.MeasureLaws.{value_is}
