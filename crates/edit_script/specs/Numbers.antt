@@ -12,11 +12,15 @@ abbrev pub value_after : ℕ → List ℕ → ℕ
 value_after before [] = before
 value_after before (digit ∷ more) = value_after (before * 10 + (digit - 48)) more
 
--- the number that 1 to 10 digits write, where it is below 2^32
-unfoldable pub number : List ℕ → Option ℕ
-number word =
-    if list_all is_digit word && nat_lt 0 (length word) && nat_le (length word) 10 && nat_lt (value_after 0 word) (2 ^ 32)
+-- the number that 1 to so many digits write, where it is below 2^32
+unfoldable pub number_of : ℕ → List ℕ → Option ℕ
+number_of most word =
+    if list_all is_digit word && nat_lt 0 (length word) && nat_le (length word) most && nat_lt (value_after 0 word) (2 ^ 32)
     then Some (value_after 0 word) else None
+
+-- in a script it has at most 10 digits
+abbrev pub number : List ℕ → Option ℕ
+number word = number_of 10 word
 
 -- the numbers of some words, where each of them writes one
 abbrev pub numbers : List (List ℕ) → Option (List ℕ)

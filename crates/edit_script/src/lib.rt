@@ -12,4 +12,5 @@ mod words;
 
 pub use commands::{Command, LineFault};
 pub use lines::first_line;
+pub use numbers::number_of;
 pub use reading::read_line;

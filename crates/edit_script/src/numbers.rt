@@ -29,12 +29,22 @@ fn next_number(line: &[u8]) -> Option<(u32, &[u8])>
     }
 }
 
-/// The number that a word of 1 to 10 digits writes, where it is below 2^32.
-#[tactic(auto, unfolding(crate::specs::Numbers::number))]
+/// The number that a word of a script writes.
 fn number(word: &[u8]) -> Option<u32>
     ensures { result ≡ spec.number word.now }
 {
-    if !are_digits(word) || word.is_empty() || word.len() > 10 {
+    number_of(10, word)
+}
+
+/// The number that a word of 1 to so many digits writes, or `None` where it writes none, or one of 2^32
+/// or more. Leading zeros are allowed, a sign is not. It takes time in proportion to the word, and no
+/// memory.
+#[tactic(auto, unfolding(crate::specs::Numbers::number_of))]
+pub fn number_of(most: usize, word: &[u8]) -> Option<u32>
+    requires { most ≤ 18 }
+    ensures { result ≡ spec.number_of most word.now }
+{
+    if !are_digits(word) || word.is_empty() || word.len() > most {
         return None;
     }
     u32::try_from(value_of(word)).ok()
@@ -54,10 +64,10 @@ fn is_digit(byte: u8) -> bool
     b'0' <= byte && byte <= b'9'
 }
 
-/// The number that up to 10 digits write.
+/// The number that up to 18 digits write.
 fn value_of(digits: &[u8]) -> u64
     requires digits { IsTrue (list_all spec.is_digit digits.now) }
-    requires short { length digits.now ≤ 10 }
+    requires short { length digits.now ≤ 18 }
     ensures { result ≡ spec.value_after 0 digits.now }
 {
     let mut value = 0;

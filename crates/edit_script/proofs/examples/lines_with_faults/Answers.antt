@@ -1,11 +1,11 @@
 -- Both sides compute.
 use Rattle.std.proofs.Common.{refl}
 use Rattle.edit_script.specs.Keywords.{row_of, keyword_among, command_by}
-use Rattle.edit_script.specs.Numbers.{number}
+use Rattle.edit_script.specs.Numbers.{number_of}
 use Rattle.edit_script.specs.Reading.{reading}
 use Rattle.edit_script.specs.Words.{words}
 use Rattle.edit_script.proofs.examples.lines_with_faults.Goals as goal
 
 pub returns : goal.returns
-unfolding row_of keyword_among command_by number reading words
+unfolding row_of keyword_among command_by number_of reading words
 returns c = record { unknown = refl; capital = refl; fewer = refl; more = refl; remark = refl; sign = refl; long = refl; large = refl }

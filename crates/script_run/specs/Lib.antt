@@ -1,0 +1,5 @@
+pub mod Amid
+pub mod Answers
+pub mod Faults
+pub mod Plays
+pub mod Scripts

@@ -1,0 +1,74 @@
+-- What a script plays on: a state, and the whole states that were saved at the open marks. Each command
+-- makes of it what the tables of edits and marks say.
+use Rattle.std.specs.Prelude.{ℕ, ◌-◌, ◌==◌, nat_lt, ◌||◌, Bool, true, false, if◌then◌else◌, Option, Some, None, List, [], ◌∷◌, drop, length, map}
+use Rattle.std.specs.Option.{option_map_or}
+use Rattle.khe_base.specs.declared.limits.TheConstants.{MARKS}
+use Rattle.khe_instance.specs.declared.parts.Parts.{Parts}
+use Rattle.khe_told.specs.declared.edits.Edit.{Edit}
+use Rattle.khe_told.specs.declared.refusals.Refusal.{Refusal}
+use Rattle.khe_told.specs.declared.refusals.Refusal.TheVariants.{NoMark, MarksFull}
+use Rattle.khe_engine.specs.States.{State, refusal, edited}
+use Rattle.khe_engine.specs.Worlds.{Saved, World}
+use Rattle.edit_script.specs.declared.commands.Command.{Command}
+use Rattle.edit_script.specs.declared.commands.Command.TheVariants as command
+
+pub record Play : Type 0 where
+  pub state : State
+  -- that of the innermost mark first
+  pub saved : List State
+
+-- what an engine's world is to a script
+abbrev pub play_of : World → Play
+play_of w = record { state = w.state; saved = map (λ (x : Saved). x.state) w.saved }
+
+-- a play that begins with a state
+abbrev pub begun : State → Play
+begun s = record { state = s; saved = [] }
+
+-- the states saved at a mark, counted from 1 at the outermost, and at those around it
+abbrev pub saved_to : ℕ → List State → List State
+saved_to k saved = drop (length saved - k) saved
+
+-- the state of the innermost mark again, with these marks
+abbrev pub restored : Play → List State → Play
+restored w [] = w
+restored w (x ∷ xs) = record { state = x; saved = x ∷ xs }
+
+-- why a mark is not opened, closed or gone back to, if it is not
+abbrev pub begin_refusal : List State → Option Refusal
+begin_refusal saved = if length saved == MARKS then Some MarksFull else None
+
+abbrev pub last_refusal : List State → Option Refusal
+last_refusal [] = Some NoMark
+last_refusal (x ∷ xs) = None
+
+abbrev pub mark_refusal : ℕ → List State → Option Refusal
+mark_refusal k saved = if (k == 0) || nat_lt (length saved) k then Some NoMark else None
+
+-- what is made of a play where nothing is refused
+abbrev pub unless : Option Refusal → Play → Play → Play
+unless (Some r) w w2 = w
+unless None w w2 = w2
+
+-- what a command makes of a play
+unfoldable pub played : Parts → Play → Command → Play
+played p w (command.Edit e) = unless (refusal p w.state e) w (record w { state = edited w.state e })
+played p w command.Begin = unless (begin_refusal w.saved) w (record w { saved = w.state ∷ w.saved })
+played p w command.End = record w { saved = drop 1 w.saved }
+played p w command.Undo = restored w w.saved
+played p w (command.UndoTo k) = unless (mark_refusal k w.saved) w (restored w (saved_to k w.saved))
+played p w command.Nothing = w
+played p w (command.Monitor n) = w
+played p w command.Monitors = w
+played p w (command.GroupCost g) = w
+played p w command.Total = w
+played p w command.Show = w
+
+-- whether a command asks and changes nothing
+abbrev pub is_question : Command → Bool
+is_question (command.Edit e) = false
+is_question command.Begin = false
+is_question command.End = false
+is_question command.Undo = false
+is_question (command.UndoTo k) = false
+is_question _ = true
