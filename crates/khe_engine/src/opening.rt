@@ -38,7 +38,10 @@ impl<'i, F: Family + Drop> Engine<'i, F> {
         let journal = Journal::open(alloc);
         let families = F::open(alloc, inst);
         let graph = Graph::open(alloc, inst, plain);
-        let ((solution, journal), (families, graph)) = both(both(solution, journal), both(families, graph))?;
+        let ((solution, journal), (families, graph)) = both(
+            both(solution, journal),
+            both(families, graph),
+        )?;
         let mut listeners = Listeners { families, graph };
         listen::<F, Brand>(inst, &solution, &mut listeners, Blank::new(1));
         Ok(Engine {

@@ -89,7 +89,16 @@ fn tell_tasks<V: Watcher, L: Ledger>(
     inst.facts();
     solution.facts();
     for place in 0..inst.event(meet.event).places.len() as u32 {
-        tell_task(inst, solution, watcher, TaskId { meet: number, place }, steps);
+        tell_task(
+            inst,
+            solution,
+            watcher,
+            TaskId {
+                meet: number,
+                place,
+            },
+            steps,
+        );
     }
 }
 
@@ -142,5 +151,12 @@ fn tell_start<V: Watcher, L: Ledger>(
     let Some(start) = meet.start else {
         return;
     };
-    watcher.note(inst, Change::Place { meet: number, start }, steps);
+    watcher.note(
+        inst,
+        Change::Place {
+            meet: number,
+            start,
+        },
+        steps,
+    );
 }

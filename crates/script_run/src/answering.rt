@@ -290,7 +290,10 @@ fn push_tasks(
     inst.facts();
     solution.facts();
     for place in 0..inst.event(meet.event).places.len() as u32 {
-        let resource = solution.resource(TaskId { meet: number, place });
+        let resource = solution.resource(TaskId {
+            meet: number,
+            place,
+        });
         let task = TaskId {
             meet: meet.meet,
             place,

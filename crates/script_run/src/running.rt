@@ -15,7 +15,6 @@ use khe_base::Text;
 use khe_engine::Engine;
 use khe_io::Sink;
 use khe_told::{Blank, Family, Steps};
-
 use std::alloc::Global;
 use std::marker::Brand;
 use std::sync::ledger::Ledger;
