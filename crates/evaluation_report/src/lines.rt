@@ -140,8 +140,10 @@ pub fn invalid_line(alloc: Global, cause: u32, entry: u32) -> Result<Text, NoMem
     Ok(line)
 }
 
-/// Adds why and at which entry a solution is invalid.
-fn push_cause(line: &mut Text, cause: u32, entry: u32) -> Result<(), NoMemory>
+/// Adds why and at which entry a solution is invalid, `CAUSE NAME entry J`, and a line feed.
+///
+/// Its only error is want of memory. It takes constant time and memory.
+pub fn push_cause(line: &mut Text, cause: u32, entry: u32) -> Result<(), NoMemory>
     requires { IsCause cause }
     ensures { OnOk result (line.new ≡ line.old ++ cause_at cause entry) }
 {

@@ -1,7 +1,9 @@
-pub mod AmidLemmas
 pub mod CauseLemmas
 pub mod EndsLemmas
 pub mod FewLemmas
+pub mod OnlyLemmas
+pub mod PlayEnds
 pub mod ReadingLemmas
 pub mod ReadyLemmas
 pub mod ReportLemmas
+pub mod StartLemmas

@@ -1,20 +1,93 @@
--- What the program holds of an archive before it writes.
-use Rattle.std.specs.Prelude.{ℕ, Option, Some, None, List}
-use Rattle.khe_app.specs.Outcome.{Reading, evaluable, refused, IsReadingOf}
+-- What the program holds before it writes.
+use Rattle.std.specs.Prelude.{ℕ, ◌≡◌, ◌<◌, ◌≤◌, Option, Some, None, List, [], length, slice_get}
+use Rattle.khe_instance.specs.States.{IsValid}
+use Rattle.khe_instance.specs.declared.parts.Parts.{Parts}
+use Rattle.khe_app.specs.Outcome.{Reading, evaluable, refused, IsReadingOf, IsRunOf, IsScripted, Start, begins, barred, start_in}
 use Rattle.khe_app.specs.Ready.{IsReady}
+use Rattle.khe_app.specs.Refusals.{IsNamed, refusal_line, script_too_large_line}
 use Rattle.khe_app.specs.declared.program.Answer.{Answer}
 use Rattle.khe_app.specs.declared.program.Answer.TheVariants.{Read, Refused}
+use Rattle.khe_app.specs.declared.program.Play.{Play}
+use Rattle.khe_app.specs.declared.program.Play.TheVariants as play
+use Rattle.khe_app.specs.declared.reading.Unread.{Unread}
+use Rattle.khe_app.specs.declared.reading.Unread.TheVariants as unread
+use Rattle.khe_app.specs.declared.scripts.TheConstants.{SCRIPT_BYTES}
+use Rattle.khe_app.specs.declared.starting.Begun.{Begun}
+use Rattle.xhstt_resolve.specs.declared.resolving.Resolved.{Resolved}
+use Rattle.xhstt_shape.specs.declared.records.Archive.{Archive}
 
 abbrev pub reading_of : Answer → Reading
 reading_of (Read r) = evaluable r.archive r.resolved
 reading_of (Refused refusal) = refused refusal
 
--- the answer is that of the bytes, which stand there
+-- the answer is that of the bytes, which stand there, and these have no other
 abbrev pub IsAnswerOf : Option (List ℕ) → Answer → Type 0
 IsAnswerOf None answer = ⊥
 IsAnswerOf (Some bytes) answer = IsReadingOf bytes (reading_of answer)
 
+abbrev pub IsOnlyAnswerOf : Option (List ℕ) → Answer → Type 0
+IsOnlyAnswerOf None answer = ⊥
+IsOnlyAnswerOf (Some bytes) (Read r) = (x : Reading) → IsReadingOf bytes x → x ≡ evaluable r.archive r.resolved
+IsOnlyAnswerOf (Some bytes) (Refused refusal) = (a : Archive) (r : Resolved) → IsReadingOf bytes (evaluable a r) → ⊥
+
 -- where there is a report to write, its solutions have their instances
 abbrev pub IsReadyAnswer : Answer → Type 0
 IsReadyAnswer (Read r) = IsReady r.archive r.resolved
-IsReadyAnswer (Refused refusal) = Unit {0}
+IsReadyAnswer (Refused refusal) = IsNamed refusal
+
+-- a start that is held: the instance stands among those of the archive, and the timetable is valid
+pub record IsBegun (s : Start) (b : Begun) : Type 0 where
+  pub parts : Parts
+  pub at : slice_get b.resolved.instances b.instance ≡ Some parts
+  pub valid : IsValid parts b.plain
+  pub is : s ≡ begins parts b.plain
+
+-- there is none, for this reason, or memory ran out
+abbrev pub IsBarredBy : Start → Unread → Type 0
+IsBarredBy s (unread.Refused refusal) = (s ≡ barred refusal) × IsNamed refusal
+IsBarredBy s unread.NoMemory = Unit {0}
+
+-- what a script leads to, of the start that is held and of what stands under its name
+abbrev pub IsScriptOf : Begun → Option (List ℕ) → Play → Type 0
+IsScriptOf b None a = ⊥
+IsScriptOf b (Some script) (play.Refused refusal) = ⊥
+IsScriptOf b (Some script) play.TooLarge = SCRIPT_BYTES < length script
+IsScriptOf b (Some script) (play.Run begun bytes) = (bytes ≡ script) × (begun ≡ b) × (length script ≤ SCRIPT_BYTES)
+
+-- what is to be written is what comes of a start and of what stands under the script's name
+abbrev pub IsPlayOf : Start → Option (List ℕ) → Play → Type 0
+IsPlayOf s script (play.Refused refusal) = s ≡ barred refusal
+IsPlayOf s None play.TooLarge = ⊥
+IsPlayOf s (Some script) play.TooLarge = (b : Begun) × IsBegun s b × (SCRIPT_BYTES < length script)
+IsPlayOf s None (play.Run b bytes) = ⊥
+IsPlayOf s (Some script) (play.Run b bytes) = IsBegun s b × (bytes ≡ script) × (length script ≤ SCRIPT_BYTES)
+
+-- and of what stands under both names; whatever else is read from the archive, the script is not what is
+-- missing
+pub record IsPlayed (number : ℕ) (bytes : List ℕ) (script : Option (List ℕ)) (a : Play) : Type 0 where
+  pub reading : Reading
+  pub is : IsReadingOf bytes reading
+  pub play : IsPlayOf (start_in number reading) script a
+  pub there : (x : Reading) → IsReadingOf bytes x → IsScripted (start_in number x) script 4 [] → ⊥
+
+abbrev pub IsPlayAnswer : ℕ → Option (List ℕ) → Option (List ℕ) → Play → Type 0
+IsPlayAnswer number None script a = ⊥
+IsPlayAnswer number (Some bytes) script a = IsPlayed number bytes script a
+
+-- the instance stands among those of the archive, the timetable is valid, and the script is not too large
+pub record IsHeld (b : Begun) (script : List ℕ) : Type 0 where
+  pub parts : Parts
+  pub at : slice_get b.resolved.instances b.instance ≡ Some parts
+  pub valid : IsValid parts b.plain
+  pub small : length script ≤ SCRIPT_BYTES
+
+abbrev pub IsReadyPlay : Play → Type 0
+IsReadyPlay (play.Refused refusal) = IsNamed refusal
+IsReadyPlay play.TooLarge = Unit {0}
+IsReadyPlay (play.Run b script) = IsHeld b script
+
+-- a status and a text that come of it
+abbrev pub IsTextOf : Play → ℕ → List ℕ → Type 0
+IsTextOf (play.Refused refusal) status text = (status ≡ 3) × (text ≡ refusal_line refusal)
+IsTextOf play.TooLarge status text = (status ≡ 7) × (text ≡ script_too_large_line)
+IsTextOf (play.Run b script) status text = (p : Parts) → slice_get b.resolved.instances b.instance ≡ Some p → IsRunOf p b.plain script status text

@@ -1,30 +1,41 @@
 -- How a run of `khe` ends: by the outcome that the definitions give, by a device that refused a
 -- call, or for want of memory.
-use Rattle.std.specs.Prelude.{ℕ, ◌≡◌, ◌⊎◌, Option, IfSome, IsSomeAnd, List, [], encode_utf8_all}
+use Rattle.std.specs.Prelude.{ℕ, ◌≡◌, ◌⊎◌, Bool, IsTrue, Option, IfSome, IsSomeAnd, List, [], encode_utf8_all}
 use Rattle.khe_io.specs.Faults.{Rose, Took, TookFront}
-use Rattle.khe_app.specs.Outcome.{IsOutcome}
+use Rattle.khe_app.specs.Outcome.{IsOutcomeOf}
+use Rattle.khe_app.specs.Words.{Asked, asked}
 
 -- what a shelf holds under its names, where it tells it
 abbrev pub Holdings : Type 0
 Holdings = Option (List ℕ → Option (List ℕ))
 
 -- the run ended by the outcome with this status, and the sink took the outcome's whole text
-abbrev pub EndedBy : List (List ℕ) → Holdings → Option (List ℕ) → Option (List ℕ) → ℕ → Type 0
-EndedBy words holdings before after status =
-    IfSome holdings (λ under. (text : List ℕ) × IsOutcome words under status text × Took before after (encode_utf8_all text))
+abbrev pub EndedOf : Option Asked → Holdings → Option (List ℕ) → Option (List ℕ) → ℕ → Type 0
+EndedOf asked holdings before after status =
+    IfSome holdings (λ under. (text : List ℕ) × IsOutcomeOf asked under status text × Took before after (encode_utf8_all text))
 
 -- the run was cut off: the sink took some first bytes of an outcome's text
-abbrev pub CutOff : List (List ℕ) → Holdings → Option (List ℕ) → Option (List ℕ) → Type 0
-CutOff words holdings before after =
-    IfSome holdings (λ under. (status : ℕ) × (text : List ℕ) × IsOutcome words under status text × TookFront before after (encode_utf8_all text))
+abbrev pub CutOffOf : Option Asked → Holdings → Option (List ℕ) → Option (List ℕ) → Type 0
+CutOffOf asked holdings before after =
+    IfSome holdings (λ under. (status : ℕ) × (text : List ℕ) × IsOutcomeOf asked under status text × TookFront before after (encode_utf8_all text))
 
--- the shelf tells that nothing stands under the archive's name
-abbrev pub LacksArchive : List (List ℕ) → Holdings → Type 0
-LacksArchive words holdings = IsSomeAnd holdings (λ under. IsOutcome words under 4 [])
+-- the shelf tells that nothing stands under a name whose reading is reached
+abbrev pub LacksOf : Option Asked → Holdings → Type 0
+LacksOf asked holdings = IsSomeAnd holdings (λ under. IsOutcomeOf asked under 4 [])
+
+-- the same, by the words
+abbrev pub EndedBy : List (List ℕ) → Holdings → Option (List ℕ) → Option (List ℕ) → ℕ → Type 0
+EndedBy words = EndedOf (asked words)
+
+abbrev pub CutOff : List (List ℕ) → Holdings → Option (List ℕ) → Option (List ℕ) → Type 0
+CutOff words = CutOffOf (asked words)
+
+abbrev pub LacksName : List (List ℕ) → Holdings → Type 0
+LacksName words = LacksOf (asked words)
 
 -- the statuses of a run that was neither cut off by a device nor for want of memory
 abbrev pub IsDecided : ℕ → Type 0
-IsDecided status = (status ≡ 0) ⊎ (status ≡ 2) ⊎ (status ≡ 3)
+IsDecided status = (status ≡ 0) ⊎ (status ≡ 2) ⊎ (status ≡ 3) ⊎ (status ≡ 7)
 
 -- all statuses
 abbrev pub IsStatus : ℕ → Type 0
@@ -37,3 +48,17 @@ Written before after faults_before faults_after bytes status result =
     ((result ≡ status) × Took before after bytes)
     ⊎ ((result ≡ 5) × Rose faults_before faults_after × TookFront before after bytes)
     ⊎ ((result ≡ 6) × TookFront before after bytes)
+
+-- a run of what is asked for ended with this status: a shelf that is sound or not with its faults before
+-- and after, what a sink had taken before and after, and its faults
+pub record IsEnd (a : Option Asked) (h : Holdings) (sound : Bool) (shelf shelf2 : ℕ) (before after : Option (List ℕ)) (sink sink2 status : ℕ) : Type 0 where
+  pub known : IsStatus status
+  pub decided : IsDecided status → EndedOf a h before after status
+  pub read_fault : status ≡ 4 → Rose shelf shelf2
+  pub nothing_written : status ≡ 4 → after ≡ before
+  pub missing : IsTrue sound → status ≡ 4 → LacksOf a h
+  pub found : IsTrue sound → LacksOf a h → (status ≡ 4) ⊎ (status ≡ 6)
+  pub write_fault : status ≡ 5 → Rose sink sink2
+  pub cut_off : status ≡ 5 → CutOffOf a h before after
+  pub no_memory : status ≡ 6 → (after ≡ before) ⊎ CutOffOf a h before after
+  pub complete : IsTrue sound ⊎ (Rose shelf shelf2 → ⊥) → (Rose sink sink2 → ⊥) → (status ≡ 6) ⊎ EndedOf a h before after status

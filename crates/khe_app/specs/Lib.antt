@@ -1,4 +1,3 @@
-pub mod Amid
 pub mod Answers
 pub mod Ends
 pub mod Outcome
@@ -6,4 +5,5 @@ pub mod Readings
 pub mod Ready
 pub mod Refusals
 pub mod Report
+pub mod Requests
 pub mod Words

@@ -1,6 +1,16 @@
 -- What `khe` is to answer: a status and a text, by the words and by what stands under the names.
-use Rattle.std.specs.Prelude.{ℕ, ◌≡◌, ◌<◌, ◌≤◌, ◌⊎◌, Bool, Option, Some, None, Result, Ok, Err, List, [], length}
+use Rattle.std.specs.Prelude.{ℕ, ◌≡◌, ◌<◌, ◌≤◌, ◌⊎◌, Bool, if◌then◌else◌, Option, Some, None, Result, Ok, Err, List, [], length, slice_get}
+use Rattle.std.specs.Option.{option_map_or}
 use Rattle.khe_base.specs.declared.limits.TheConstants.{ARCHIVE_BYTES}
+use Rattle.khe_engine.specs.Openings.{IsStateOf}
+use Rattle.khe_engine.specs.States.{State}
+use Rattle.khe_instance.specs.declared.parts.Parts.{Parts}
+use Rattle.khe_instance.specs.declared.states.Plain.{Plain}
+use Rattle.script_run.specs.Plays.{begun}
+use Rattle.script_run.specs.Scripts.{is_script, script_text}
+use Rattle.xhstt_completion.specs.Completed.{completed}
+use Rattle.xhstt_completion.specs.declared.faults.Cause.{Cause}
+use Rattle.xhstt_references.specs.References.{solutions_of}
 use Rattle.xhstt_text.specs.Document.{Spelled}
 use Rattle.xhstt_text.specs.FirstFault.{IsFirstFault}
 use Rattle.xhstt_text.specs.Forest.{Forest}
@@ -12,11 +22,12 @@ use Rattle.xhstt_resolve.specs.Resolved.{resolved}
 use Rattle.xhstt_resolve.specs.declared.faults.ResolveFault.{ResolveFault}
 use Rattle.xhstt_resolve.specs.declared.faults.ResolveFault.TheVariants as resolve
 use Rattle.xhstt_resolve.specs.declared.resolving.Resolved.{Resolved}
-use Rattle.khe_app.specs.Refusals.{refusal_line, not_understood_line}
-use Rattle.khe_app.specs.Report.{report}
-use Rattle.khe_app.specs.Words.{Asked, asked}
+use Rattle.khe_app.specs.Refusals.{refusal_line, not_understood_line, script_too_large_line}
+use Rattle.khe_app.specs.Report.{parts_at, report}
+use Rattle.khe_app.specs.Words.{Asked, asked, evaluating, scripting}
+use Rattle.khe_app.specs.declared.scripts.TheConstants.{SCRIPT_BYTES}
 use Rattle.khe_app.specs.declared.refusals.Refusal.{Refusal}
-use Rattle.khe_app.specs.declared.refusals.Refusal.TheVariants.{Fault, Limit, TooLarge}
+use Rattle.khe_app.specs.declared.refusals.Refusal.TheVariants.{Fault, Limit, TooLarge, NoSuchSolution, Invalid}
 
 -- an archive is read, with its instances; or refused
 pub data Reading : Type 0 where
@@ -76,10 +87,62 @@ abbrev pub IsAnswerTo : Bool → Option (List ℕ) → ℕ → List ℕ → Type
 IsAnswerTo all None status text = (status ≡ 4) × (text ≡ [])
 IsAnswerTo all (Some bytes) status text = IsAnswered all bytes status text
 
--- the outcome of a run, by the words and by what stands under each name
+-- what a script begins with: the state of a solution of an instance; or a refusal in its place
+pub data Start : Type 0 where
+  begins : Parts → Plain → Start
+  barred : Refusal → Start
+
+-- a solution that is completed, or is invalid for a cause
+abbrev pub start_by : Parts → Result Plain Cause → Start
+start_by p (Ok plain) = begins p plain
+start_by p (Err cause) = barred (Invalid cause.cause cause.entry)
+
+-- the solution of an archive with this number, if there is one
+abbrev pub start_of : Archive → Resolved → ℕ → Start
+start_of a r number =
+    option_map_or (λ raw. option_map_or (λ p. start_by p (completed p raw)) (parts_at r number) (barred NoSuchSolution))
+    (slice_get (solutions_of a) number) (barred NoSuchSolution)
+
+abbrev pub start_in : ℕ → Reading → Start
+start_in number (evaluable a r) = start_of a r number
+start_in number (refused refusal) = barred refusal
+
+-- the answers to a script on a state that lists this timetable; the status tells whether it was read
+-- to its end
+pub record IsRunOf (p : Parts) (plain : Plain) (script : List ℕ) (status : ℕ) (text : List ℕ) : Type 0 where
+  pub state : State
+  pub is : IsStateOf p plain state
+  pub status_is : status ≡ (if is_script script then 0 else 7)
+  pub text_is : text ≡ script_text p (begun state) script
+
+-- a script of these bytes: above the greatest size it is not run
+abbrev pub IsRunOr : Parts → Plain → List ℕ → ℕ → List ℕ → Type 0
+IsRunOr p plain script status text =
+    ((SCRIPT_BYTES < length script) × (status ≡ 7) × (text ≡ script_too_large_line))
+    ⊎ ((length script ≤ SCRIPT_BYTES) × IsRunOf p plain script status text)
+
+-- what comes of a start and of what stands under the script's name; where nothing stands there, status 4
+-- and no text
+abbrev pub IsScripted : Start → Option (List ℕ) → ℕ → List ℕ → Type 0
+IsScripted (barred refusal) script status text = (status ≡ 3) × (text ≡ refusal_line refusal)
+IsScripted (begins p plain) None status text = (status ≡ 4) × (text ≡ [])
+IsScripted (begins p plain) (Some script) status text = IsRunOr p plain script status text
+
+-- a reading of the archive's bytes, and what comes of it with the script
+pub record IsPlayed (number : ℕ) (bytes : List ℕ) (script : Option (List ℕ)) (status : ℕ) (text : List ℕ) : Type 0 where
+  pub reading : Reading
+  pub is : IsReadingOf bytes reading
+  pub scripted : IsScripted (start_in number reading) script status text
+
+abbrev pub IsPlayTo : ℕ → Option (List ℕ) → Option (List ℕ) → ℕ → List ℕ → Type 0
+IsPlayTo number None script status text = (status ≡ 4) × (text ≡ [])
+IsPlayTo number (Some bytes) script status text = IsPlayed number bytes script status text
+
+-- the outcome of what is asked for, and of words without a reading, by what stands under each name
 abbrev pub IsOutcomeOf : Option Asked → (List ℕ → Option (List ℕ)) → ℕ → List ℕ → Type 0
 IsOutcomeOf None under status text = (status ≡ 2) × (text ≡ not_understood_line)
-IsOutcomeOf (Some asked) under status text = IsAnswerTo asked.all (under asked.archive) status text
+IsOutcomeOf (Some (evaluating archive all)) under status text = IsAnswerTo all (under archive) status text
+IsOutcomeOf (Some (scripting archive number script)) under status text = IsPlayTo number (under archive) (under script) status text
 
 -- `khe` on these words, where these bytes stand under the names, ends with this status after this text
 abbrev pub IsOutcome : List (List ℕ) → (List ℕ → Option (List ℕ)) → ℕ → List ℕ → Type 0

@@ -1,11 +1,12 @@
 -- What the steps of reading an archive answer, and how that leads to the archive's reading.
 use Rattle.std.specs.Prelude.{ℕ, ◌≡◌, ◌⊎◌, List, Ok, Err}
-use Rattle.khe_app.specs.Outcome.{IsFaulty, IsReadingOf, refused}
+use Rattle.khe_app.specs.Outcome.{IsFaulty, IsReadingOf, evaluable, refused}
 use Rattle.khe_app.specs.declared.reading.Unread.{Unread}
 use Rattle.khe_app.specs.declared.reading.Unread.TheVariants.{Refused, NoMemory}
 use Rattle.khe_app.specs.declared.refusals.Refusal.TheVariants.{Fault, Limit}
 use Rattle.xhstt_resolve.specs.declared.faults.ResolveFault.{ResolveFault}
 use Rattle.xhstt_resolve.specs.declared.faults.ResolveFault.TheVariants as resolve
+use Rattle.xhstt_resolve.specs.declared.resolving.Resolved.{Resolved}
 use Rattle.xhstt_shape.specs.Shape.{shape_of}
 use Rattle.xhstt_shape.specs.declared.faults.ShapeFault.{ShapeFault}
 use Rattle.xhstt_shape.specs.declared.faults.ShapeFault.TheVariants as shape
@@ -51,3 +52,13 @@ IsStoppedTree bytes NoMemory = Unit {0}
 abbrev pub IsStopped : List ℕ → Unread → Type 0
 IsStopped bytes (Refused refusal) = IsReadingOf bytes (refused refusal)
 IsStopped bytes NoMemory = Unit {0}
+
+-- the bytes spell no tree with an archive, unless memory ran out
+abbrev pub IsUnshaped : List ℕ → Unread → Type 0
+IsUnshaped bytes (Refused refusal) = (t : Forest) (a : Archive) → Spelled bytes t → shape_of t ≡ Ok a → ⊥
+IsUnshaped bytes NoMemory = Unit {0}
+
+-- no archive is read from the bytes, unless memory ran out
+abbrev pub IsUnread : List ℕ → Unread → Type 0
+IsUnread bytes (Refused refusal) = (a : Archive) (r : Resolved) → IsReadingOf bytes (evaluable a r) → ⊥
+IsUnread bytes NoMemory = Unit {0}

@@ -1,8 +1,10 @@
 -- The lines that refuse words and archives. Each ends with a line feed.
 use Rattle.std.specs.Prelude.{ℕ, ◌==◌, List, ◌++◌, if◌then◌else◌, codes}
 use Rattle.std.specs.Fmt.{decimal}
+use Rattle.evaluation_report.specs.Lines.{cause_at}
+use Rattle.evaluation_report.specs.Words.{IsCause}
 use Rattle.khe_app.specs.declared.refusals.Refusal.{Refusal}
-use Rattle.khe_app.specs.declared.refusals.Refusal.TheVariants.{Fault, Limit, TooLarge}
+use Rattle.khe_app.specs.declared.refusals.Refusal.TheVariants.{Fault, Limit, TooLarge, NoSuchSolution, Invalid}
 
 -- the kinds of faults that stand at a byte of the archive: of its text, of the shape of its elements,
 -- and of its names and references
@@ -56,11 +58,22 @@ abbrev pub refusal_words : Refusal → List ℕ
 refusal_words (Fault kind at) = fault_words kind at
 refusal_words (Limit which value) = limit_words which value
 refusal_words TooLarge = codes "17 TooLarge\n"
+refusal_words NoSuchSolution = codes "18 NoSuchSolution\n"
+refusal_words (Invalid cause entry) = codes "19 Invalid " ++ cause_at cause entry
 
--- why an archive is refused
+-- the cause for which a solution is refused is one of the seven
+abbrev pub IsNamed : Refusal → Type 0
+IsNamed (Invalid cause entry) = IsCause cause
+IsNamed _ = Unit {0}
+
+-- why an archive, or its solution, is refused
 abbrev pub refusal_line : Refusal → List ℕ
 refusal_line refusal = codes "khe: archive refused: " ++ refusal_words refusal
 
 -- what is written where the words have no reading
 abbrev pub not_understood_line : List ℕ
 not_understood_line = codes "khe: words not understood\n"
+
+-- what is written in place of a script's answers where it is too large
+abbrev pub script_too_large_line : List ℕ
+script_too_large_line = codes "script fault 4 TooLarge\n"

@@ -1,13 +1,15 @@
 //! The whole program as one call, `khe`: from the words of the command line and the bytes of an
-//! archive to the bytes of the report and the status.
+//! archive, and of a script, to the bytes of the answer and the status.
 #![tactic(auto)]
 
+mod families;
 mod program;
 mod reading;
 mod refusals;
 mod reports;
+mod scripts;
+mod starting;
 mod words;
-mod writing;
 
 pub use program::{Status, khe};
 pub use refusals::Refusal;

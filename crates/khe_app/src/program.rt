@@ -1,20 +1,24 @@
-ghost use Rattle.std.specs.Prelude.{◌≡◌, ◌≤◌, ◌⊎◌, ◌↔◌, None, map, IsTrue, IfOk, IfSome, IsErrOf, length, string_bytes, encode_utf8_all};
+ghost use Rattle.std.specs.Prelude.{◌≡◌, ◌<◌, ◌≤◌, ◌⊎◌, ◌↔◌, ℕ, Bool, List, None, Some, map, IsTrue, IfOk, IfSome, IsErrOf, length, slice_get, string_bytes, encode_utf8_all};
 ghost use Rattle.khe_base.specs.declared.limits.TheConstants.{ARCHIVE_BYTES};
 ghost use Rattle.khe_io.specs.Faults.{Rose};
 ghost use Rattle.khe_io.specs.Shelf.{IsMissing};
-ghost use Rattle.khe_app.specs.Answers.{reading_of, IsAnswerOf, IsReadyAnswer};
-ghost use Rattle.khe_app.specs.Ends.{EndedBy, CutOff, LacksArchive, IsDecided, IsStatus, Written};
+ghost use Rattle.khe_app.specs.Answers.{reading_of, IsAnswerOf, IsOnlyAnswerOf, IsReadyAnswer, IsPlayAnswer, IsReadyPlay, IsScriptOf, IsTextOf};
+ghost use Rattle.khe_app.specs.Ends.{EndedBy, CutOff, Holdings, LacksName, LacksOf, IsDecided, IsEnd, IsStatus, Written};
 ghost use Rattle.khe_app.specs.Outcome.{IsReadingOf, status_of, text_of};
-ghost use Rattle.khe_app.specs.Refusals.{not_understood_line};
-ghost use Rattle.khe_app.specs.Words.{asked};
+ghost use Rattle.khe_app.specs.Refusals as refusals;
+ghost use Rattle.khe_app.specs.Words.{asked, evaluating, scripting};
 
+use crate::families::Families;
 use crate::reading::{ReadArchive, Unread, read};
 use crate::refusals::{Refusal, refusal_line};
 use crate::reports::report;
-use crate::words::request_of;
-use crate::writing::Cut;
+use crate::scripts::{SCRIPT_BYTES, play_script};
+use crate::starting::{Begun, start};
+use crate::words::{Request, request_of};
 use khe_base::{NoMemory, Seq, limits};
+use khe_instance::Instance;
 use khe_io::{Gate, Shelf, Sink, TakeFault, put_all, take_all};
+use script_run::Cut;
 use std::alloc::Global;
 use std::thread::Threads;
 use thiserror::Error;
@@ -23,22 +27,34 @@ use thiserror::Error;
 ///
 /// | Status | Meaning |
 /// |---|---|
-/// | 0 | the archive was evaluated |
+/// | 0 | the archive was evaluated, or the script was read to its end |
 /// | 2 | the words were not understood |
-/// | 3 | the archive was refused |
-/// | 4 | the archive could not be read |
+/// | 3 | the archive was refused, or the solution that the script begins with |
+/// | 4 | the archive or the script could not be read |
 /// | 5 | the text could not be written |
 /// | 6 | memory ran out |
+/// | 7 | a line of the script was not understood, or the script is too large |
 #[derive(Clone, Copy, Debug, PartialEq, Eq)]
 pub struct Status(pub u8);
 
 /// What an archive leads to.
 #[derive(Drop)]
 pub enum Answer {
-    /// It is to be evaluated.
+    /// It is read.
     Read(ReadArchive),
     /// It is refused.
     Refused(Refusal),
+}
+
+/// What a script on a solution of an archive leads to.
+#[derive(Drop)]
+pub enum Play {
+    /// The archive or the solution is refused.
+    Refused(Refusal),
+    /// The script is too large.
+    TooLarge,
+    /// It is to be run.
+    Run(Begun, Seq<u8>),
 }
 
 /// Why an archive has no answer.
@@ -63,17 +79,19 @@ impl From<NoMemory> for Stop {
     }
 }
 
-/// Runs the program on these words: reads the archive that they name from the shelf, and writes
-/// its report, or the line that refuses it, to the sink.
+/// Runs the program on these words: reads the archive that they name from the shelf, and writes its
+/// report, the answers to a script, or the line that refuses it, to the sink.
 ///
 /// The words are `evaluate`, the archive's name, and `--all` where the report is to have all
-/// monitors. The answer is a status, as in `Status`. What was written before a status of 4 is
-/// nothing, and before a status of 5 or 6 a first part of the text.
+/// monitors; or `script`, the archive's name, the number of a solution, and the name of the script. The
+/// answer is a status, as in `Status`. What was written before a status of 4 is nothing, and before a
+/// status of 5 or 6 a first part of the text.
 ///
-/// It takes time about linear in the archive's bytes, in what its instances follow out, and, for
+/// A report takes time about linear in the archive's bytes, in what its instances follow out, and, for
 /// each solution, in the meets, tasks, covered times, watches and monitors. It keeps in memory the
 /// archive's bytes with their tree or, after that, the archive with its instances; and of the report
-/// what one solution adds.
+/// what one solution adds. A script takes besides what opening an engine takes, and for each edit what
+/// watches its changes.
 pub fn khe<R: Threads + Sync, S: Shelf, K: Sink, G: Gate>(
     _rt: &R,
     alloc: Global,
@@ -84,7 +102,7 @@ pub fn khe<R: Threads + Sync, S: Shelf, K: Sink, G: Gate>(
 ) -> Status
     ensures status { IsStatus result.0 }
 
-    // Statuses 0, 2 and 3 are those of the definitions, after their whole text.
+    // Statuses 0, 2, 3 and 7 are those of the definitions, after their whole text.
     ensures decided { IsDecided result.0 → EndedBy (map string_bytes words.now) (S.holdings shelf.old) (K.taken out.old) (K.taken out.new) result.0 }
 
     // Words without a reading end with status 2, or with 5 where the line could not be written,
@@ -93,11 +111,11 @@ pub fn khe<R: Threads + Sync, S: Shelf, K: Sink, G: Gate>(
     ensures not_understood { result.0 ≡ 2 → asked (map string_bytes words.now) ≡ None }
 
     // Status 4 comes only by a fault of the shelf, and on a sound shelf exactly where nothing
-    // stands under the name; nothing was written.
+    // stands under a name whose reading is reached; nothing was written.
     ensures read_fault { result.0 ≡ 4 → Rose (S.faults shelf.old) (S.faults shelf.new) }
     ensures nothing_written { result.0 ≡ 4 → K.taken out.new ≡ K.taken out.old }
-    ensures missing { IsTrue (S.is_sound shelf.old) → result.0 ≡ 4 → LacksArchive (map string_bytes words.now) (S.holdings shelf.old) }
-    ensures found { IsTrue (S.is_sound shelf.old) → LacksArchive (map string_bytes words.now) (S.holdings shelf.old) → (result.0 ≡ 4) ⊎ (result.0 ≡ 6) }
+    ensures missing { IsTrue (S.is_sound shelf.old) → result.0 ≡ 4 → LacksName (map string_bytes words.now) (S.holdings shelf.old) }
+    ensures found { IsTrue (S.is_sound shelf.old) → LacksName (map string_bytes words.now) (S.holdings shelf.old) → (result.0 ≡ 4) ⊎ (result.0 ≡ 6) }
 
     // Status 5 comes only by a fault of the sink, which took some first bytes of the text.
     ensures write_fault { result.0 ≡ 5 → Rose (K.faults out.old) (K.faults out.new) }
@@ -116,21 +134,99 @@ pub fn khe<R: Threads + Sync, S: Shelf, K: Sink, G: Gate>(
     ensures sound { IsTrue (S.is_sound shelf.old) → IsTrue (S.is_sound shelf.new) }
     ensures sink_faults { K.faults out.old ≤ K.faults out.new }
 {
-    let Some(request) = request_of(words) else {
-        return put(out, 2, not_understood());
-    };
-    match answer_to(alloc, shelf, request.archive) {
-        Ok(answer) => write(alloc, out, &answer, request.all),
+    respond(alloc, words, shelf, out)
+}
+
+/// Does what the words ask for, or refuses them.
+#[tactic(auto, using(crate::proofs::EndsLemmas::by_words))]
+fn respond<S: Shelf, K: Sink>(alloc: Global, words: &[String], shelf: &mut S, out: &mut K) -> Status
+    ensures end { IsEnd (asked (map string_bytes words.now)) (S.holdings shelf.old) (S.is_sound shelf.old) (S.faults shelf.old) (S.faults shelf.new) (K.taken out.old) (K.taken out.new) (K.faults out.old) (K.faults out.new) result.0 }
+    ensures no_reading { asked (map string_bytes words.now) ≡ None → ((result.0 ≡ 2) ⊎ (result.0 ≡ 5)) × (shelf.new ≡ shelf.old) }
+    ensures not_understood { result.0 ≡ 2 → asked (map string_bytes words.now) ≡ None }
+    ensures holdings { S.holdings shelf.new ≡ S.holdings shelf.old }
+    ensures shelf_faults { S.faults shelf.old ≤ S.faults shelf.new }
+    ensures sound { IsTrue (S.is_sound shelf.old) → IsTrue (S.is_sound shelf.new) }
+    ensures sink_faults { K.faults out.old ≤ K.faults out.new }
+{
+    match request_of(words) {
+        Some(Request::Evaluate { archive, all }) => evaluate(alloc, shelf, out, archive, all),
+        Some(Request::Script {
+            archive,
+            solution,
+            script,
+        }) => run_script(alloc, shelf, out, archive, solution, script),
+        None => refuse_words(out),
+    }
+}
+
+/// Refuses words without a reading.
+fn refuse_words<K: Sink>(out: &mut K) -> Status
+    ensures end { (h : Holdings) (sound : Bool) (faults : ℕ) → IsEnd None h sound faults faults (K.taken out.old) (K.taken out.new) (K.faults out.old) (K.faults out.new) result.0 }
+    ensures status { (result.0 ≡ 2) ⊎ (result.0 ≡ 5) }
+    ensures sink_faults { K.faults out.old ≤ K.faults out.new }
+{
+    put(out, 2, not_understood())
+}
+
+/// The line for words without a reading.
+fn not_understood() -> &'static [u8]
+    ensures { result.now ≡ encode_utf8_all refusals.not_understood_line }
+{
+    b"khe: words not understood\n"
+}
+
+/// The line in place of the answers to a script that is too large.
+fn script_too_large() -> &'static [u8]
+    ensures { result.now ≡ encode_utf8_all refusals.script_too_large_line }
+{
+    b"script fault 4 TooLarge\n"
+}
+
+/// Writes the report of the archive under a name.
+#[tactic(auto, using(crate::proofs::EndsLemmas::end_starved, crate::proofs::EndsLemmas::end_stopped, crate::proofs::EndsLemmas::report_lacks))]
+fn evaluate<S: Shelf, K: Sink>(
+    alloc: Global,
+    shelf: &mut S,
+    out: &mut K,
+    name: &str,
+    all: bool,
+) -> Status
+    ensures end { IsEnd (Some (evaluating name.now all)) (S.holdings shelf.old) (S.is_sound shelf.old) (S.faults shelf.old) (S.faults shelf.new) (K.taken out.old) (K.taken out.new) (K.faults out.old) (K.faults out.new) result.0 }
+    ensures status { result.0 ≡ 2 → ⊥ }
+    ensures holdings { S.holdings shelf.new ≡ S.holdings shelf.old }
+    ensures shelf_faults { S.faults shelf.old ≤ S.faults shelf.new }
+    ensures sound { IsTrue (S.is_sound shelf.old) → IsTrue (S.is_sound shelf.new) }
+    ensures sink_faults { K.faults out.old ≤ K.faults out.new }
+{
+    match answer_to(alloc, shelf, name) {
+        Ok(answer) => write(alloc, out, &answer, all),
         Err(Stop::ReadFault) => Status(4),
         Err(Stop::NoMemory) => Status(6),
     }
 }
 
-/// The line for words without a reading.
-fn not_understood() -> &'static [u8]
-    ensures { result.now ≡ encode_utf8_all not_understood_line }
+/// Writes the answers to a script on a solution of the archive under a name.
+#[tactic(auto, using(crate::proofs::EndsLemmas::end_starved, crate::proofs::EndsLemmas::end_stopped))]
+fn run_script<S: Shelf, K: Sink>(
+    alloc: Global,
+    shelf: &mut S,
+    out: &mut K,
+    name: &str,
+    number: u32,
+    script: &str,
+) -> Status
+    ensures end { IsEnd (Some (scripting name.now number script.now)) (S.holdings shelf.old) (S.is_sound shelf.old) (S.faults shelf.old) (S.faults shelf.new) (K.taken out.old) (K.taken out.new) (K.faults out.old) (K.faults out.new) result.0 }
+    ensures status { result.0 ≡ 2 → ⊥ }
+    ensures holdings { S.holdings shelf.new ≡ S.holdings shelf.old }
+    ensures shelf_faults { S.faults shelf.old ≤ S.faults shelf.new }
+    ensures sound { IsTrue (S.is_sound shelf.old) → IsTrue (S.is_sound shelf.new) }
+    ensures sink_faults { K.faults out.old ≤ K.faults out.new }
 {
-    b"khe: words not understood\n"
+    match play_of(alloc, shelf, name, number, script) {
+        Ok(play) => write_play(alloc, out, &play),
+        Err(Stop::ReadFault) => Status(4),
+        Err(Stop::NoMemory) => Status(6),
+    }
 }
 
 /// Writes a text, and answers the status that stands before it, or 5 where it was not written
@@ -143,6 +239,18 @@ fn put<K: Sink>(out: &mut K, status: u8, bytes: &[u8]) -> Status
     match put_all(out, bytes) {
         Ok(()) => Status(status),
         Err(_) => Status(5),
+    }
+}
+
+/// Writes the line that refuses an archive or a solution.
+fn put_refusal<K: Sink>(alloc: Global, out: &mut K, refusal: Refusal) -> Status
+    requires { refusals.IsNamed refusal }
+    ensures written { Written (K.taken out.old) (K.taken out.new) (K.faults out.old) (K.faults out.new) (encode_utf8_all (refusals.refusal_line refusal)) 3 result.0 }
+    ensures sink_faults { K.faults out.old ≤ K.faults out.new }
+{
+    match refusal_line(alloc, refusal) {
+        Ok(line) => put(out, 3, line.as_bytes()),
+        Err(NoMemory) => Status(6),
     }
 }
 
@@ -160,16 +268,39 @@ fn write<K: Sink>(alloc: Global, out: &mut K, answer: &Answer, all: bool) -> Sta
                 Err(Cut::NoMemory) => Status(6),
             }
         }
-        Answer::Refused(refusal) => match refusal_line(alloc, *refusal) {
-            Ok(line) => put(out, 3, line.as_bytes()),
-            Err(NoMemory) => Status(6),
-        },
+        Answer::Refused(refusal) => put_refusal(alloc, out, *refusal),
     }
+}
+
+/// Writes the answers to a script, or the line in their place.
+fn write_play<K: Sink>(alloc: Global, out: &mut K, play: &Play) -> Status
+    requires { IsReadyPlay play.now }
+    ensures written { ((result.0 ≡ 6) × (K.taken out.new ≡ K.taken out.old)) ⊎ ((status : ℕ) × (text : List ℕ) × IsTextOf play.now status text
+        × Written (K.taken out.old) (K.taken out.new) (K.faults out.old) (K.faults out.new) (encode_utf8_all text) status result.0) }
+    ensures sink_faults { K.faults out.old ≤ K.faults out.new }
+{
+    match play {
+        Play::Refused(refusal) => put_refusal(alloc, out, *refusal),
+        Play::TooLarge => put(out, 7, script_too_large()),
+        Play::Run(begun, script) => {
+            let inst = instance_of(begun);
+            play_script::<K, Families>(alloc, out, inst, &begun.plain, script.as_slice())
+        }
+    }
+}
+
+/// The instance of a timetable.
+fn instance_of(begun: &Begun) -> &Instance
+    requires { begun.now.instance < length begun.now.resolved.instances }
+    ensures { slice_get begun.now.resolved.instances begun.now.instance ≡ Some result.now }
+{
+    &begun.resolved.instances.as_slice()[begun.instance]
 }
 
 /// What the archive under a name leads to.
 fn answer_to<S: Shelf>(alloc: Global, shelf: &mut S, name: &str) -> Result<Answer, Stop>
     ensures answer { IfOk result (λ a. IfSome (S.holdings shelf.old) (λ under. IsAnswerOf (under name.now) a)) }
+    ensures only { IfOk result (λ a. IfSome (S.holdings shelf.old) (λ under. IsOnlyAnswerOf (under name.now) a)) }
     ensures ready { IfOk result IsReadyAnswer }
     ensures fault { IsErrOf result Stop.ReadFault → Rose (S.faults shelf.old) (S.faults shelf.new) }
     ensures missing { IsTrue (S.is_sound shelf.old) → (IsErrOf result Stop.ReadFault ↔ IsMissing (S.holdings shelf.old) name.now) }
@@ -189,11 +320,62 @@ fn answer_to<S: Shelf>(alloc: Global, shelf: &mut S, name: &str) -> Result<Answe
 fn answer_of(alloc: Global, bytes: Seq<u8>) -> Result<Answer, NoMemory>
     requires { length bytes ≤ ARCHIVE_BYTES }
     ensures answer { IfOk result (λ a. IsReadingOf bytes (reading_of a)) }
+    ensures only { IfOk result (IsOnlyAnswerOf (Some bytes)) }
     ensures ready { IfOk result IsReadyAnswer }
 {
     match read(alloc, bytes) {
         Ok(read) => Ok(Answer::Read(read)),
         Err(Unread::Refused(refusal)) => Ok(Answer::Refused(refusal)),
         Err(Unread::NoMemory) => Err(NoMemory),
+    }
+}
+
+/// What a script on a solution of the archive under a name leads to: the archive is read first, then its
+/// solution, then the script.
+#[tactic(auto, using(crate::proofs::PlayEnds::play_refused, crate::proofs::PlayEnds::play_barred, crate::proofs::PlayEnds::play_script, crate::proofs::PlayEnds::lacks_archive, crate::proofs::PlayEnds::lacks_script))]
+fn play_of<S: Shelf>(
+    alloc: Global,
+    shelf: &mut S,
+    name: &str,
+    number: u32,
+    script: &str,
+) -> Result<Play, Stop>
+    ensures play { IfOk result (λ a. IfSome (S.holdings shelf.old) (λ under. IsPlayAnswer number (under name.now) (under script.now) a)) }
+    ensures ready { IfOk result IsReadyPlay }
+    ensures fault { IsErrOf result Stop.ReadFault → Rose (S.faults shelf.old) (S.faults shelf.new) }
+    ensures missing { IsTrue (S.is_sound shelf.old) → IsErrOf result Stop.ReadFault → LacksOf (Some (scripting name.now number script.now)) (S.holdings shelf.old) }
+    ensures unchanged { S.holdings shelf.new ≡ S.holdings shelf.old }
+    ensures counted { S.faults shelf.old ≤ S.faults shelf.new }
+    ensures stays_sound { IsTrue (S.is_sound shelf.old) → IsTrue (S.is_sound shelf.new) }
+{
+    match answer_to(alloc, shelf, name)? {
+        Answer::Refused(refusal) => Ok(Play::Refused(refusal)),
+        Answer::Read(read) => match start(alloc, read, number) {
+            Ok(begun) => script_under(alloc, shelf, begun, script),
+            Err(Unread::Refused(refusal)) => Ok(Play::Refused(refusal)),
+            Err(Unread::NoMemory) => Err(Stop::NoMemory),
+        },
+    }
+}
+
+/// What the script under a name leads to, on this timetable.
+fn script_under<S: Shelf>(
+    alloc: Global,
+    shelf: &mut S,
+    begun: Begun,
+    script: &str,
+) -> Result<Play, Stop>
+    ensures play { IfOk result (λ a. IfSome (S.holdings shelf.old) (λ under. IsScriptOf begun (under script.now) a)) }
+    ensures fault { IsErrOf result Stop.ReadFault → Rose (S.faults shelf.old) (S.faults shelf.new) }
+    ensures missing { IsTrue (S.is_sound shelf.old) → (IsErrOf result Stop.ReadFault ↔ IsMissing (S.holdings shelf.old) script.now) }
+    ensures unchanged { S.holdings shelf.new ≡ S.holdings shelf.old }
+    ensures counted { S.faults shelf.old ≤ S.faults shelf.new }
+    ensures stays_sound { IsTrue (S.is_sound shelf.old) → IsTrue (S.is_sound shelf.new) }
+{
+    match take_all(alloc, shelf, script, SCRIPT_BYTES) {
+        Ok(bytes) => Ok(Play::Run(begun, bytes)),
+        Err(TakeFault::TooLarge) => Ok(Play::TooLarge),
+        Err(TakeFault::ReadFault) => Err(Stop::ReadFault),
+        Err(TakeFault::NoMemory) => Err(Stop::NoMemory),
     }
 }

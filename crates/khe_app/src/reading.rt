@@ -1,9 +1,13 @@
-ghost use Rattle.std.specs.Prelude.{◌≡◌, ◌≤◌, length, IfOk, IfErr};
+ghost use Rattle.std.specs.Prelude.{ℕ, ◌≡◌, ◌≤◌, length, Ok, IfOk, IfErr};
 ghost use Rattle.khe_base.specs.declared.limits.TheConstants.{ARCHIVE_BYTES};
-ghost use Rattle.khe_app.specs.Outcome.{evaluable, IsReadingOf};
-ghost use Rattle.khe_app.specs.Readings.{IsTree, IsStoppedTree, IsStopped, of_resolve};
+ghost use Rattle.khe_app.specs.Outcome.{Reading, evaluable, IsReadingOf};
+ghost use Rattle.khe_app.specs.Readings.{IsTree, IsStoppedTree, IsStopped, IsUnread, IsUnshaped, of_resolve};
 ghost use Rattle.khe_app.specs.Ready.{IsReady};
+ghost use Rattle.xhstt_shape.specs.Shape.{shape_of};
 ghost use Rattle.xhstt_shape.specs.WellFormed.{IsInForm};
+ghost use Rattle.xhstt_text.specs.Document.{Spelled};
+ghost use Rattle.xhstt_text.specs.FirstFault.{IsFirstFault};
+ghost use Rattle.xhstt_text.specs.Forest.{Forest};
 
 use crate::refusals::Refusal;
 use khe_base::{NoMemory, Seq};
@@ -62,6 +66,9 @@ fn archive_of(alloc: Global, bytes: &[u8]) -> Result<Archive, Unread>
     requires { length bytes.now ≤ ARCHIVE_BYTES }
     ensures tree { IfOk result (IsTree bytes.now) }
     ensures stopped { IfErr result (IsStoppedTree bytes.now) }
+    ensures only { IfOk result (λ a. (t : Forest) → Spelled bytes.now t → shape_of t ≡ Ok a) }
+    ensures none { IfErr result (IsUnshaped bytes.now) }
+    ensures sound { IfOk result (λ a. (kind at : ℕ) → IsFirstFault bytes.now kind at → ⊥) }
     ensures formed { IfOk result IsInForm }
 {
     let tree = elements(alloc, bytes)?;
@@ -74,7 +81,9 @@ pub(crate) fn read(alloc: Global, bytes: Seq<u8>) -> Result<ReadArchive, Unread>
     requires { length bytes ≤ ARCHIVE_BYTES }
     ensures read { IfOk result (λ r. IsReadingOf bytes (evaluable r.archive r.resolved)) }
     ensures ready { IfOk result (λ r. IsReady r.archive r.resolved) }
+    ensures only { IfOk result (λ r. (x : Reading) → IsReadingOf bytes x → x ≡ evaluable r.archive r.resolved) }
     ensures stopped { IfErr result (IsStopped bytes) }
+    ensures none { IfErr result (IsUnread bytes) }
 {
     let archive = archive_of(alloc, bytes.as_slice())?;
     drop(bytes);

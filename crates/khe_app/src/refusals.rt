@@ -2,6 +2,7 @@ ghost use Rattle.std.specs.Prelude.{◌≡◌, ◌++◌, IfOk, OnOk, IsTrue, enc
 ghost use Rattle.khe_base.specs.Text.{is_ascii};
 ghost use Rattle.khe_app.specs.Refusals as spec;
 
+use evaluation_report::push_cause;
 use khe_base::{NoMemory, Text};
 use std::alloc::Global;
 
@@ -15,10 +16,15 @@ pub enum Refusal {
     Limit { which: u32, value: u128 },
     /// More bytes than the greatest archive has.
     TooLarge,
+    /// The archive has no solution of the number that is asked for.
+    NoSuchSolution,
+    /// That solution is invalid, for the cause with this number at the entry with this number.
+    Invalid { cause: u32, entry: u32 },
 }
 
 /// The line that refuses an archive.
 pub(crate) fn refusal_line(alloc: Global, refusal: Refusal) -> Result<Text, NoMemory>
+    requires { spec.IsNamed refusal }
     ensures { IfOk result (λ t. t ≡ spec.refusal_line refusal) }
 {
     let mut line = Text::new(alloc);
@@ -28,12 +34,18 @@ pub(crate) fn refusal_line(alloc: Global, refusal: Refusal) -> Result<Text, NoMe
 }
 
 fn push_refusal(line: &mut Text, refusal: Refusal) -> Result<(), NoMemory>
+    requires { spec.IsNamed refusal }
     ensures { OnOk result (line.new ≡ line.old ++ spec.refusal_words refusal) }
 {
     match refusal {
         Refusal::Fault { kind, at } => push_fault(line, kind, at),
         Refusal::Limit { which, value } => push_limit(line, which, value),
         Refusal::TooLarge => line.push_literal("17 TooLarge\n"),
+        Refusal::NoSuchSolution => line.push_literal("18 NoSuchSolution\n"),
+        Refusal::Invalid { cause, entry } => {
+            line.push_literal("19 Invalid ")?;
+            push_cause(line, cause, entry)
+        }
     }
 }
 

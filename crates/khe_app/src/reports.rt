@@ -3,19 +3,19 @@ ghost use Rattle.khe_instance.specs.Evaluated.{deviation_in, cost_in, is_detache
 ghost use Rattle.khe_instance.specs.declared.points.Monitor.{Monitor};
 ghost use Rattle.khe_instance.specs.declared.states.Plain.{Plain};
 ghost use Rattle.khe_io.specs.Faults.{Rose, Took, TookFront};
-ghost use Rattle.khe_app.specs.Amid.{IsAmid};
+ghost use Rattle.script_run.specs.Amid.{IsAmid};
 ghost use Rattle.khe_app.specs.Report as spec;
 ghost use Rattle.khe_instance.specs.States.{IsValid};
 ghost use Rattle.khe_app.specs.Ready.{IsOne, AreOnes, IsReady};
 ghost use Rattle.xhstt_completion.specs.Entries.{IsSolution};
 ghost use Rattle.xhstt_completion.specs.Completed as completion;
 
-use crate::writing::{Cut, flush, flush_long};
 use evaluation_report::{header_line, invalid_line, monitor_line, solution_line, total_line};
 use khe_base::{MonitorId, NoMemory, Text};
 use khe_instance::{Instance, Plain};
 use khe_io::Sink;
 use plain_eval::Evaluator;
+use script_run::{Cut, flush, flush_long};
 use std::alloc::Global;
 use xhstt_completion::{SolutionFault, completed};
 use xhstt_resolve::Resolved;

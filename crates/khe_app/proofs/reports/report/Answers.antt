@@ -5,10 +5,10 @@ use Rattle.std.proofs.Math.ListN.{drop_of_length-le}
 use Rattle.std.proofs.lemmas.List.Concat.{flat_map-cons}
 use Rattle.std.proofs.lemmas.Option.{slice_get-get_or}
 use Rattle.khe_base.proofs.ListLemmas.{drop-there}
-use Rattle.khe_app.specs.Amid.{IsAmid}
+use Rattle.script_run.specs.Amid.{IsAmid}
 use Rattle.khe_app.specs.Ready.{AreOnes}
 use Rattle.khe_app.specs.Report.{groups_text, report}
-use Rattle.khe_app.proofs.AmidLemmas.{always-err, amid-cut, amid-end, amid-flush, err-of, one-err, one-ok}
+use Rattle.script_run.proofs.AmidLemmas.{always-err, amid-cut, amid-end, amid-flush, err-of, one-err, one-ok}
 use Rattle.khe_app.proofs.ReadyLemmas.{ones-left, ones-right}
 use Rattle.khe_app.proofs.reports.report.Goals as goal
 use Rattle.xhstt_shape.specs.declared.records.SolutionGroup.{SolutionGroup}

@@ -1,7 +1,7 @@
 -- What was written and what waits, with the groups that are left, make up the report.
 use Rattle.std.proofs.Common.{◌≡◌, ◌≤◌, ◌<◌, ◌+◌, ◌^◌, length, drop}
 use Rattle.std.specs.List.{flat_map}
-use Rattle.khe_app.specs.Amid.{IsAmid}
+use Rattle.script_run.specs.Amid.{IsAmid}
 use Rattle.khe_app.specs.Ready.{AreOnes}
 use Rattle.khe_app.specs.Report.{groups_text, report}
 use Rattle.khe_app.proofs.reports.report.Given as goal

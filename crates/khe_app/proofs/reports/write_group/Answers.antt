@@ -2,9 +2,9 @@
 use Rattle.std.proofs.Common.{◌≡◌, ◌+◌, ◌<◌, ◌++◌, Some, ap, sym, subst, ◌∙◌, arith, length, drop, get_or, append_assoc, slice_get}
 use Rattle.std.specs.List.{enumerate_from, flat_map}
 use Rattle.std.proofs.lemmas.Option.{slice_get-get_or}
-use Rattle.khe_app.specs.Amid.{IsAmid}
+use Rattle.script_run.specs.Amid.{IsAmid}
 use Rattle.khe_app.specs.Report.{numbered_text}
-use Rattle.khe_app.proofs.AmidLemmas.{always-err, err-of}
+use Rattle.script_run.proofs.AmidLemmas.{always-err, err-of}
 use Rattle.khe_app.proofs.ReportLemmas.{lines-there}
 use Rattle.khe_app.proofs.reports.write_group.Goals as goal
 

@@ -1,7 +1,7 @@
 -- What was written and what waits, with the solutions that are left.
 use Rattle.std.proofs.Common.{ℕ, ◌≡◌, ◌≤◌, ◌+◌, ◌++◌, List, Option, drop}
 use Rattle.std.specs.List.{enumerate_from, flat_map}
-use Rattle.khe_app.specs.Amid.{IsAmid}
+use Rattle.script_run.specs.Amid.{IsAmid}
 use Rattle.khe_app.specs.Report.{group_text, numbered_text}
 use Rattle.khe_app.proofs.reports.write_group.Given as goal
 

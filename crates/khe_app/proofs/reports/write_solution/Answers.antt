@@ -1,8 +1,8 @@
 -- The solution's part joins what waits, and some of that is taken.
 use Rattle.std.proofs.Common.{◌++◌, subst, sym}
-use Rattle.khe_app.specs.Amid.{IsAmid}
+use Rattle.script_run.specs.Amid.{IsAmid}
 use Rattle.khe_app.specs.Report.{numbered_text}
-use Rattle.khe_app.proofs.AmidLemmas.{amid-cut, amid-push, amid-stop, always-err, one-err}
+use Rattle.script_run.proofs.AmidLemmas.{amid-cut, amid-push, amid-stop, always-err, one-err}
 use Rattle.khe_app.proofs.reports.write_solution.Goals as goal
 
 pub returns-in_err-push_numbered-clause-front : goal.returns-in_err-push_numbered-clause-front

@@ -1,0 +1,110 @@
+//! Changes in short, and benches that follow them.
+
+use crate::archives::{resolved_of, text_of};
+use crate::bench::Bench;
+use khe_base::{MeetId, NoMemory, ResourceId, TaskId, TimeId};
+use khe_instance::Instance;
+use khe_told::{Change, Family};
+use std::alloc::Global;
+
+/// A change by its numbers: the meet, for a task also the place, and then the duration, the start or
+/// the resource.
+#[derive(Clone, Copy)]
+pub(crate) enum Move {
+    Add(u32, u32),
+    Drop(u32, u32),
+    Place(u32, u32),
+    Lift(u32, u32),
+    Give(u32, u32, u32),
+    Take(u32, u32, u32),
+}
+
+fn task(meet: u32, place: u32) -> TaskId {
+    TaskId {
+        meet: MeetId(meet),
+        place,
+    }
+}
+
+impl Move {
+    pub(crate) fn change(self) -> Change {
+        match self {
+            Move::Add(meet, duration) => Change::Add {
+                meet: MeetId(meet),
+                duration,
+            },
+            Move::Drop(meet, duration) => Change::Drop {
+                meet: MeetId(meet),
+                duration,
+            },
+            Move::Place(meet, start) => Change::Place {
+                meet: MeetId(meet),
+                start: TimeId(start),
+            },
+            Move::Lift(meet, start) => Change::Lift {
+                meet: MeetId(meet),
+                start: TimeId(start),
+            },
+            Move::Give(meet, place, resource) => Change::Give {
+                task: task(meet, place),
+                resource: ResourceId(resource),
+            },
+            Move::Take(meet, place, resource) => Change::Take {
+                task: task(meet, place),
+                resource: ResourceId(resource),
+            },
+        }
+    }
+}
+
+/// A change, and the deviation of the only monitor after it.
+pub(crate) type Step = (Move, u64);
+
+/// The events and the constraint of an instance, and changes from no meets on.
+pub(crate) type Row = ((&'static str, &'static str), &'static [Step]);
+
+/// Whether a monitor's deviation is this one, as it was told and as it is asked for.
+pub(crate) fn stands_at<F: Family + Drop>(
+    bench: &Bench<'_, F>,
+    monitor: u32,
+    deviation: u64,
+) -> bool {
+    bench.deviation(monitor) == Some(deviation) && bench.asked(monitor) == Some(deviation)
+}
+
+/// Whether all changes fit, and the deviation after each is as the list has it.
+fn follows<F: Family + Drop>(bench: &mut Bench<'_, F>, steps: &[Step]) -> bool {
+    for step in steps {
+        let (each, deviation) = *step;
+        if !bench.note(each.change()) || !stands_at(bench, 0, deviation) {
+            return false;
+        }
+    }
+    true
+}
+
+fn follows_on<F: Family + Drop>(
+    alloc: Global,
+    inst: &Instance,
+    steps: &[Step],
+) -> Result<bool, NoMemory>
+    requires { F.IsWellJoined }
+{
+    let mut bench = Bench::<F>::open(alloc, inst)?;
+    Ok(follows(&mut bench, steps))
+}
+
+/// Whether a row holds of a family.
+pub(crate) fn holds<F: Family + Drop>(alloc: Global, row: &Row) -> Result<bool, NoMemory>
+    requires { F.IsWellJoined }
+{
+    let (texts, steps) = *row;
+    let text = text_of(alloc, texts)?;
+    let Some(resolved) = resolved_of(alloc, text.as_str()) else {
+        return Ok(false);
+    };
+    match resolved.instances.as_slice().first() {
+        Some(inst) => follows_on::<F>(alloc, inst, steps),
+        None => Ok(false),
+    }
+}

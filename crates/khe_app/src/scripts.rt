@@ -1,0 +1,46 @@
+//! Scripts: what is run, on what, and what is written.
+
+ghost use Rattle.std.specs.Prelude.{◌≡◌, ◌≤◌, ◌⊎◌, ℕ, List, encode_utf8_all, length};
+ghost use Rattle.khe_engine.specs.Values.{ServesAll};
+ghost use Rattle.khe_instance.specs.States.{IsValid};
+ghost use Rattle.khe_app.specs.Ends.{Written};
+ghost use Rattle.khe_app.specs.Outcome.{IsRunOf};
+
+use crate::program::Status;
+use khe_engine::Engine;
+use khe_instance::{Instance, Plain};
+use khe_io::Sink;
+use khe_told::Family;
+use script_run::{Cut, run};
+use std::alloc::Global;
+
+/// The greatest number of bytes of a script: 16 MiB.
+pub const SCRIPT_BYTES: u64 = 16_777_216;
+
+/// Runs a script on a timetable, and writes its answers. It takes what opening an engine takes, and then
+/// what the script takes.
+pub(crate) fn play_script<K: Sink, F: Family + Drop>(
+    alloc: Global,
+    out: &mut K,
+    inst: &Instance,
+    plain: &Plain,
+    script: &[u8],
+) -> Status
+    requires joined { F.IsWellJoined }
+    requires serves { ServesAll F.serves_kind }
+    requires valid { IsValid inst.now plain.now }
+    requires small { length script.now ≤ SCRIPT_BYTES }
+    ensures written { ((result.0 ≡ 6) × (K.taken out.new ≡ K.taken out.old)) ⊎ ((status : ℕ) × (text : List ℕ) × IsRunOf inst.now plain.now script.now status text
+        × Written (K.taken out.old) (K.taken out.new) (K.faults out.old) (K.faults out.new) (encode_utf8_all text) status result.0) }
+    ensures sink_faults { K.faults out.old ≤ K.faults out.new }
+{
+    let Ok(mut engine) = Engine::<F>::open(alloc, inst, plain) else {
+        return Status(6);
+    };
+    match run(alloc, &mut engine, script, out) {
+        Ok(true) => Status(0),
+        Ok(false) => Status(7),
+        Err(Cut::WriteFault) => Status(5),
+        Err(Cut::NoMemory) => Status(6),
+    }
+}
