@@ -4,6 +4,7 @@ pub mod EditLaws
 pub mod JoinedLaws
 pub mod LineLaws
 pub mod ListLaws
+pub mod ListedLaws
 pub mod OpenLaws
 pub mod RowLaws
 pub mod SeatLaws

@@ -185,14 +185,14 @@ put_more gs g i xs d h l =
     ∙ ap (λ ys. set gs g (Some ys)) (insert_end (take i xs) (get_or xs i d) ∙ sym (take_more xs i d l))
 
 -- groups that are made one by one
-abbrev group_of : ℕ → List Group → Option (List MonitorId)
+abbrev pub group_of : ℕ → List Group → Option (List MonitorId)
 group_of n groups = option_map (λ (x : Group). x.children) (find (λ x. x.group.0 == n) groups)
 
-at_number : (many : ℕ) (groups : List Group) (n : ℕ) (d : Option (List MonitorId)) → n < many → get_or (numbered_groups many groups) n d ≡ group_of n groups
+pub at_number : (many : ℕ) (groups : List Group) (n : ℕ) (d : Option (List MonitorId)) → n < many → get_or (numbered_groups many groups) n d ≡ group_of n groups
 unfolding numbered_groups
 at_number many groups n d l = get_or-map-range_with_len (λ k. group_of k groups) 0 many n n d l (omega arith)
 
-long_numbered : (many : ℕ) (groups : List Group) → length (numbered_groups many groups) ≡ many
+pub long_numbered : (many : ℕ) (groups : List Group) → length (numbered_groups many groups) ≡ many
 unfolding numbered_groups
 long_numbered many groups = length-map-range_with_len (λ k. group_of k groups) 0 many
 

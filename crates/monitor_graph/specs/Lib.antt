@@ -4,6 +4,7 @@ pub mod Defects
 pub mod Edits
 pub mod Groups
 pub mod Lines
+pub mod Listed
 pub mod Opened
 pub mod Rows
 pub mod Seating

@@ -7,6 +7,7 @@ mod edits;
 mod graph;
 mod groups;
 mod lines;
+mod listing;
 mod opening;
 mod rows;
 mod tally;
