@@ -1,4 +1,5 @@
 pub mod CostLaws
+pub mod ListedLaws
 pub mod MarkLaws
 pub mod OpeningLaws
 pub mod RecordLaws

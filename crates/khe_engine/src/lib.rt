@@ -6,6 +6,7 @@ mod editing;
 mod engine;
 mod faults;
 mod listeners;
+mod listing;
 mod opening;
 mod telling;
 mod undoing;
