@@ -1,5 +1,5 @@
 -- Totals, and what else is kept, when one line is put in the place of another.
-use Rattle.std.proofs.Common.{ℕ, ◌≡◌, ◌+◌, ◌-◌, ◌*◌, ◌<◌, ◌≤◌, nat_lt, List, map, length, get_or, set, sym, arith}
+use Rattle.std.proofs.Common.{ℕ, ◌≡◌, ◌+◌, ◌-◌, ◌*◌, ◌<◌, ◌≤◌, nat_lt, List, map, length, get_or, set, sym, ◌∙◌, arith}
 use Rattle.std.specs.Prelude.{All}
 use Rattle.std.specs.List.{sum_by}
 use Rattle.std.proofs.Math.Nat.{mul-le-mul_left, mul-le-mul_right}
@@ -55,10 +55,10 @@ cost_small Step w d h k = cond_both (nat_lt 0 d) w 0 (λ x. x ≤ GREATEST_COST)
 pub line_small : (x : Line) → IsLine x → line_cost x ≤ GREATEST_COST
 line_small x h = cond_both x.attached (cost_of x.function x.weight x.deviation) 0 (λ n. n ≤ GREATEST_COST) (λ e. cost_small x.function x.weight x.deviation h.0 h.1) (λ e. omega arith)
 
-hard_small : (x : Line) → IsLine x → hard_cost x ≤ GREATEST_COST
+pub hard_small : (x : Line) → IsLine x → hard_cost x ≤ GREATEST_COST
 hard_small x h = cond_both x.required (line_cost x) 0 (λ n. n ≤ GREATEST_COST) (λ e. line_small x h) (λ e. omega arith)
 
-soft_small : (x : Line) → IsLine x → soft_cost x ≤ GREATEST_COST
+pub soft_small : (x : Line) → IsLine x → soft_cost x ≤ GREATEST_COST
 soft_small x h = cond_both x.required 0 (line_cost x) (λ n. n ≤ GREATEST_COST) (λ e. omega arith) (λ e. line_small x h)
 
 pub totals_small : (lines : List Line) (hard soft : ℕ) → AreTotalled lines hard soft → (hard ≤ MONITORS * GREATEST_COST) × (soft ≤ MONITORS * GREATEST_COST)
@@ -70,6 +70,11 @@ totals_small lines hard soft k =
 -- each part of the lines by itself
 pub deviations_set : (lines : List Line) (i : ℕ) (y : Line) → map (λ (x : Line). x.deviation) (set lines i y) ≡ set (map (λ (x : Line). x.deviation) lines) i y.deviation
 deviations_set lines i y = map-set (λ (x : Line). x.deviation) lines i y
+
+-- what has a deviation already is as it was after it gets it
+pub deviations_same : (lines : List Line) (i : ℕ) (d : Line) (n : ℕ) → n ≡ (get_or lines i d).deviation
+    → map (λ (x : Line). x.deviation) lines ≡ set (map (λ (x : Line). x.deviation) lines) i n
+deviations_same lines i d n e = sym (sym (map-set (λ (x : Line). x.deviation) lines i (record d { deviation = n })) ∙ map-set_same (λ (x : Line). x.deviation) lines i (record d { deviation = n }) d e)
 
 pub rest_set : (lines : List Line) (i : ℕ) (y d : Line) → fixed_of y ≡ fixed_of (get_or lines i d) → map fixed_of lines ≡ map fixed_of (set lines i y)
 rest_set lines i y d h = sym (map-set_same fixed_of lines i y d h)

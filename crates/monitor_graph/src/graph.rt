@@ -231,6 +231,14 @@ impl Graph {
             after,
             monitor.0,
         );
-        replace(&mut self.lines, &mut self.hard, &mut self.soft, place, line);
+        replace(
+            &mut self.lines,
+            &mut self.hard,
+            &mut self.soft,
+            place,
+            line,
+            before,
+            after,
+        );
     }
 }

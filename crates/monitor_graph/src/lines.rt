@@ -38,7 +38,7 @@ pub(crate) fn hard_of(line: &Line) -> u128
     ensures value { result ≡ hard_cost line.now }
     ensures small { result ≤ GREATEST_COST }
 {
-    if line.required { cost_of(line) } else { 0 }
+    hard_part(line, cost_of(line))
 }
 
 /// What of a monitor's cost is soft.
@@ -47,10 +47,27 @@ pub(crate) fn soft_of(line: &Line) -> u128
     ensures value { result ≡ soft_cost line.now }
     ensures small { result ≤ GREATEST_COST }
 {
-    if line.required { 0 } else { cost_of(line) }
+    soft_part(line, cost_of(line))
 }
 
-/// Puts a line in the place of another, and keeps the totals by the difference.
+/// What is hard of what a monitor costs.
+fn hard_part(line: &Line, cost: u128) -> u128
+    requires { cost ≡ line_cost line.now }
+    ensures { result ≡ hard_cost line.now }
+{
+    if line.required { cost } else { 0 }
+}
+
+/// What is soft of what a monitor costs.
+fn soft_part(line: &Line, cost: u128) -> u128
+    requires { cost ≡ line_cost line.now }
+    ensures { result ≡ soft_cost line.now }
+{
+    if line.required { 0 } else { cost }
+}
+
+/// Puts a line in the place of another, of which both costs are known, and keeps the totals by the
+/// difference.
 #[tactic(auto, using(crate::proofs::LineLaws::totalled_set))]
 pub(crate) fn replace(
     lines: &mut Vec<Line>,
@@ -58,18 +75,22 @@ pub(crate) fn replace(
     soft: &mut u128,
     place: usize,
     line: Line,
+    before: u128,
+    after: u128,
 )
     requires totalled { AreTotalled lines.old.items hard.old soft.old }
     requires known { place < length lines.old.items }
     requires line { IsLine line }
+    requires before { (d : Line) → before ≡ line_cost (slice_index_or lines.old.items place d) }
+    requires after { after ≡ line_cost line }
     ensures lines { lines.new.items ≡ slice_set lines.old.items place line }
     ensures totalled { AreTotalled lines.new.items hard.new soft.new }
 {
     let old = lines[place];
-    let hard_before = hard_of(&old);
-    let soft_before = soft_of(&old);
-    let hard_after = hard_of(&line);
-    let soft_after = soft_of(&line);
+    let hard_before = hard_part(&old, before);
+    let soft_before = soft_part(&old, before);
+    let hard_after = hard_part(&line, after);
+    let soft_after = soft_part(&line, after);
     *hard = *hard - hard_before + hard_after;
     *soft = *soft - soft_before + soft_after;
     lines[place] = line;

@@ -12,13 +12,15 @@ impl Tally for Graph {
 
     ghost HasSameRest = { λ a b. HaveSameRest a b };
 
-    /// Changes the deviation of a monitor, and what it costs, in constant time.
+    /// Changes the deviation of a monitor, and what it costs, in constant time. A deviation that
+    /// stays the same, as most do, is only looked at.
     fn set<L: Ledger>(&mut self, monitor: MonitorId, deviation: u64, steps: &mut Steps<L>) {
-        let line = Line {
-            deviation,
-            ..self.lines[monitor.0 as usize]
-        };
-        self.turn(monitor, line);
+        let old = self.lines[monitor.0 as usize];
+        if old.deviation == deviation {
+            steps.tick();
+            return;
+        }
+        self.turn(monitor, Line { deviation, ..old });
         steps.tick();
     }
 

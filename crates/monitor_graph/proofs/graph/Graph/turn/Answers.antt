@@ -29,6 +29,13 @@ recount-requires c =
           (subst (λ x. CanRecount (get_or s.marked.items m 0) x s.dearer s.numbers m) (sym before) (can_recount costs s.marked.items s.dearer s.numbers m kept below));
     }
 
+pub replace-requires-clause-before : goal.replace-requires-clause-before
+replace-requires-clause-before c d =
+    let s = c.self.inside in
+    let m = c.args.monitor.0 in
+    let low : m < length s.lines.items = subst (λ (b : Board). m < length b.lines) (sym c.self.view_is) c.requires.known in
+    c.cost_of-before.ensures.value ∙ ap line_cost (c.index.ensures ∙ get-any s.lines.items m c.index.result.now d low)
+
 pub invariant_of-self : goal.invariant_of-self
 invariant_of-self c =
     let s = c.self.inside in
