@@ -1,5 +1,6 @@
 -- What the bytes of an archive lead to is one thing alone.
 use Rattle.std.proofs.Common.{ℕ, ◌≡◌, ◌<◌, ◌≤◌, ◌⊎◌, inl, inr, Result, Ok, Err, List, length, refl, sym, ap, subst, ◌∙◌, arith}
+use Rattle.std.specs.Result.{IfErr, IsErrAnd}
 use Rattle.khe_base.specs.declared.limits.TheConstants.{ARCHIVE_BYTES}
 use Rattle.khe_app.specs.Outcome.{IsFaulty, IsRead, IsReadingOf, IsShaped, IsSpelled, Reading, evaluable, refused}
 use Rattle.khe_app.specs.Readings.{IsUnread, IsUnshaped, of_resolve, of_shape, of_text}
@@ -28,6 +29,11 @@ read_refused a r x e = subst is_read e tt
     is_read : Reading → Type 0
     is_read (evaluable a r) = Unit {0}
     is_read (refused x) = ⊥
+
+-- an error that is passed on as this one
+pub passed : {A : Type 0} (r : Result A Unread) (u : Unread) (P : Unread → Type 0) → IsErrAnd r (λ y. y ≡ u) → P u → IfErr r P
+passed (Ok x) u P h p = tt
+passed (Err y) u P h p = subst P (sym h) p
 
 -- bytes with a fault spell nothing, and so no archive
 pub unshaped_text : (bytes : List ℕ) (fault : TextFault) → ((kind at : ℕ) → fault ≡ text.Bad kind at → (d : Document) → IsSpellingOf bytes d → ⊥) → IsUnshaped bytes (of_text fault)
@@ -68,7 +74,7 @@ unresolved_read b answer (resolve.Bad kind at) a r e h = read_refused a r _ (sub
 unresolved_read b answer (resolve.Limit which value) a r e h = read_refused a r _ (subst (λ q. IsRead b q (evaluable a r)) e h)
 unresolved_read b answer resolve.NoMemory a r e h = subst (λ q. IsRead b q (evaluable a r)) e h
 
-same_archive : (x y : Archive) → Ok {E = ShapeFault} x ≡ Ok y → x ≡ y
+same_archive : (x y : Archive) → ◌≡◌ {A = Result Archive ShapeFault} (Ok x) (Ok y) → x ≡ y
 same_archive x y e = ap value e
   where
     value : Result Archive ShapeFault → Archive

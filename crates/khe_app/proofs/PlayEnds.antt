@@ -1,9 +1,10 @@
 -- What a script on an archive leads to.
 use Rattle.std.proofs.Common.{ℕ, ◌≡◌, ◌<◌, ◌≤◌, ◌⊎◌, inl, inr, Bool, true, false, cond, List, [], Option, Some, None, IfSome, IsSomeAnd, IsTrue, length, slice_get, sym, ap, subst, ◌∙◌, refl, arith, encode_utf8_all}
 use Rattle.std.specs.Option.{option_map_or}
+use Rattle.khe_instance.specs.States.{IsValid}
 use Rattle.khe_instance.specs.declared.parts.Parts.{Parts}
 use Rattle.khe_io.specs.Shelf.{IsMissing, StandsAbove, StandsUnder}
-use Rattle.khe_app.specs.Answers.{IsAnswerOf, IsBarredBy, IsBegun, IsHeld, IsOnlyAnswerOf, IsPlayAnswer, IsPlayOf, IsPlayed as IsPlayedBy, IsReadyPlay, IsScriptOf, IsTextOf}
+use Rattle.khe_app.specs.Answers.{IsAnswerOf, IsBarredBy, IsBegun, IsHeld, IsOnlyAnswerOf, IsPlayAnswer, IsPlayOf, IsPlayed as IsPlayedBy, IsReadyPlay, IsScriptOf, IsTextOf, IsWith}
 use Rattle.khe_app.specs.Ends.{Holdings, LacksOf, IsDecided, IsEnd, Written}
 use Rattle.khe_app.specs.Outcome.{Reading, evaluable, refused, Start, begins, barred, start_in, start_of, IsOutcomeOf, IsPlayed, IsPlayTo, IsReadingOf, IsRunOf, IsRunOr, IsScripted}
 use Rattle.khe_app.specs.Words.{scripting}
@@ -57,6 +58,12 @@ play_barred (Some under) name number script r refusal is only bar = by (under na
       there = λ x i. barred_there (start_in number x) refusal (under script) (ap (start_in number) (one x i) ∙ bar);
     }
 
+pub barred_as : (h : Holdings) (name : List ℕ) (number : ℕ) (script : List ℕ) (r : ReadArchive) (refusal : Refusal) (a : Play) → IfSome h (λ under. IsAnswerOf (under name) (Read r))
+    → IfSome h (λ under. IsOnlyAnswerOf (under name) (Read r)) → start_of r.archive r.resolved number ≡ barred refusal → a ≡ play.Refused refusal
+    → IfSome h (λ under. IsPlayAnswer number (under name) (under script) a)
+barred_as h name number script r refusal a is only bar e =
+    subst (λ x. IfSome h (λ under. IsPlayAnswer number (under name) (under script) x)) (sym e) (play_barred h name number script r refusal is only bar)
+
 -- there is a script
 begun_there : (s : Start) (b : Begun) (script : List ℕ) → IsBegun s b → IsScripted s (Some script) 4 [] → ⊥
 begun_there s b script g h = by (subst (λ x. IsScripted x (Some script) 4 []) g.is h)
@@ -89,6 +96,17 @@ play_script (Some under) name number script r b a is only g k = by (under name) 
       play = script_play (start_of r.archive r.resolved number) b (under script) a g k;
       there = λ x i l. script_there (start_of r.archive r.resolved number) b (under script) a g k (subst (λ y. IsScripted (start_in number y) (under script) 4 []) (one x i) l);
     }
+
+-- what is held is ready to be run
+pub with_ready : (s : Start) (b : Begun) (a : Play) → IsBegun s b → IsWith b a → IsReadyPlay a
+with_ready s b (play.Refused refusal) g w = absurd w
+with_ready s b play.TooLarge g w = tt
+with_ready s b (play.Run begun script) g w = record {
+  parts = g.parts;
+  at = subst (λ (x : Begun). slice_get x.resolved.instances x.instance ≡ Some g.parts) (sym w.0) g.at;
+  valid = subst (λ (x : Begun). IsValid g.parts x.plain) (sym w.0) g.valid;
+  small = w.1;
+}
 
 -- what is missing
 pub lacks_archive : (h : Holdings) (name : List ℕ) (number : ℕ) (script : List ℕ) → IsMissing h name → LacksOf (Some (scripting name number script)) h

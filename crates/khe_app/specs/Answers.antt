@@ -54,6 +54,12 @@ IsScriptOf b (Some script) (play.Refused refusal) = ⊥
 IsScriptOf b (Some script) play.TooLarge = SCRIPT_BYTES < length script
 IsScriptOf b (Some script) (play.Run begun bytes) = (bytes ≡ script) × (begun ≡ b) × (length script ≤ SCRIPT_BYTES)
 
+-- it is held with a script that is not too large, or is not run
+abbrev pub IsWith : Begun → Play → Type 0
+IsWith b (play.Refused refusal) = ⊥
+IsWith b play.TooLarge = Unit {0}
+IsWith b (play.Run begun script) = (begun ≡ b) × (length script ≤ SCRIPT_BYTES)
+
 -- what is to be written is what comes of a start and of what stands under the script's name
 abbrev pub IsPlayOf : Start → Option (List ℕ) → Play → Type 0
 IsPlayOf s script (play.Refused refusal) = s ≡ barred refusal

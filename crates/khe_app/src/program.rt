@@ -2,7 +2,7 @@ ghost use Rattle.std.specs.Prelude.{◌≡◌, ◌<◌, ◌≤◌, ◌⊎◌, �
 ghost use Rattle.khe_base.specs.declared.limits.TheConstants.{ARCHIVE_BYTES};
 ghost use Rattle.khe_io.specs.Faults.{Rose};
 ghost use Rattle.khe_io.specs.Shelf.{IsMissing};
-ghost use Rattle.khe_app.specs.Answers.{reading_of, IsAnswerOf, IsOnlyAnswerOf, IsReadyAnswer, IsPlayAnswer, IsReadyPlay, IsScriptOf, IsTextOf};
+ghost use Rattle.khe_app.specs.Answers.{reading_of, IsAnswerOf, IsOnlyAnswerOf, IsReadyAnswer, IsPlayAnswer, IsReadyPlay, IsScriptOf, IsTextOf, IsWith};
 ghost use Rattle.khe_app.specs.Ends.{EndedBy, CutOff, Holdings, LacksName, LacksOf, IsDecided, IsEnd, IsStatus, Written};
 ghost use Rattle.khe_app.specs.Outcome.{IsReadingOf, status_of, text_of};
 ghost use Rattle.khe_app.specs.Refusals as refusals;
@@ -150,11 +150,13 @@ fn respond<S: Shelf, K: Sink>(alloc: Global, words: &[String], shelf: &mut S, ou
 {
     match request_of(words) {
         Some(Request::Evaluate { archive, all }) => evaluate(alloc, shelf, out, archive, all),
-        Some(Request::Script {
-            archive,
-            solution,
-            script,
-        }) => run_script(alloc, shelf, out, archive, solution, script),
+        Some(
+            Request::Script {
+                archive,
+                solution,
+                script,
+            },
+        ) => run_script(alloc, shelf, out, archive, solution, script),
         None => refuse_words(out),
     }
 }
@@ -366,6 +368,7 @@ fn script_under<S: Shelf>(
     script: &str,
 ) -> Result<Play, Stop>
     ensures play { IfOk result (λ a. IfSome (S.holdings shelf.old) (λ under. IsScriptOf begun (under script.now) a)) }
+    ensures held { IfOk result (IsWith begun) }
     ensures fault { IsErrOf result Stop.ReadFault → Rose (S.faults shelf.old) (S.faults shelf.new) }
     ensures missing { IsTrue (S.is_sound shelf.old) → (IsErrOf result Stop.ReadFault ↔ IsMissing (S.holdings shelf.old) script.now) }
     ensures unchanged { S.holdings shelf.new ≡ S.holdings shelf.old }

@@ -32,9 +32,7 @@ pub(crate) fn request_of(words: &[String]) -> Option<Request<'_>>
     ensures { MatchOption result (asked (map string_bytes words.now) ≡ None) (λ r. asked (map string_bytes words.now) ≡ Some (asked_of r)) }
 {
     match words {
-        [command, archive, more @ ..] => {
-            request_by(command.as_str(), archive.as_str(), more)
-        }
+        [command, archive, more @ ..] => { request_by(command.as_str(), archive.as_str(), more) }
         _ => None,
     }
 }
