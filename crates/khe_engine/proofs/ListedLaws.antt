@@ -2,7 +2,6 @@
 use Rattle.std.proofs.Common.{ℕ, ◌≡◌, ◌+◌, ◌<◌, ◌≤◌, nat_lt, true, Option, Some, None, List, [], ◌∷◌, ◌++◌, length, get_or, drop, refl, sym, ap, ◌∙◌}
 use Rattle.std.specs.Prelude.{is_some}
 use Rattle.std.specs.List.{cons_option}
-use Rattle.std.specs.Option.{option_map_or}
 use Rattle.std.proofs.lemmas.Bool.{and_from, lt-ltb}
 use Rattle.std.proofs.lemmas.List.{append-nil, append_assoc, at_drop_all, at_drop_more}
 use Rattle.std.proofs.lemmas.List.Concat.{flat_map-cons}
@@ -55,12 +54,9 @@ tasks_next made more whole k s l m w =
     ∙ ap (λ ts. made ++ ts) (sym (flat_map-cons tasks_of (slot_at s k) (drop (k + 1) s)) ∙ sym (at_drop_more tasks_in s k no_slot l))
     ∙ w
 
--- a place of a meet, and the tasks of its slot
+-- a place of a meet
 pub place_is : (x : Slot) (m : Meet) (k : ℕ) → meet_in x ≡ Some m → k < length x.given → has_place x k ≡ true
 place_is x m k h l = and_from (is_live x) (nat_lt k (length x.given)) (ap is_some (span_is x m h)) (lt-ltb k (length x.given) l)
-
-pub tasks_are : (x : Slot) (o : Option Meet) → meet_in x ≡ o → tasks_of x ≡ option_map_or (λ (m : Meet). tasks_with m 0 x.given) o []
-tasks_are x o h = ap (λ q. option_map_or (λ (m : Meet). tasks_with m 0 x.given) q []) h
 
 -- one more place's task
 pub task_next : (made more whole : List Task) (m : Meet) (k : ℕ) (given : List (Option ResourceId)) (r : Option ResourceId) → k < length given → r ≡ get_or given k None

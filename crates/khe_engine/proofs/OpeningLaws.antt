@@ -4,9 +4,9 @@ use Rattle.std.specs.Prelude.{All, IfSome, ◌==◌, replicate}
 use Rattle.std.specs.List.{sum_by}
 use Rattle.std.specs.Option.{option_map, option_map_or}
 use Rattle.std.proofs.lemmas.List.{length-set, length-map}
-use Rattle.std.proofs.lemmas.List.Elements.{All-cons, All-head, All-tail, All-set, All-get_or}
+use Rattle.std.proofs.lemmas.List.Elements.{All-cons, All-head, All-tail, All-get_or}
 use Rattle.std.proofs.lemmas.List.Sums.{sum_by-cons}
-use Rattle.std.proofs.lemmas.Option.{slice_get-get_or, slice_get_within}
+use Rattle.std.proofs.lemmas.Option.{slice_get_within}
 use Rattle.std.proofs.lemmas.Simd.{map-map}
 use Rattle.khe_base.specs.declared.numbers.EventId.{EventId}
 use Rattle.khe_base.specs.declared.numbers.MeetId.{MeetId}
@@ -20,12 +20,12 @@ use Rattle.khe_told.proofs.SlotLaws.{told_set}
 use Rattle.khe_told.specs.Changes.{after, changed, meet_of}
 use Rattle.khe_told.specs.Fits.{AreTold, Fits, IsSlot, Suits}
 use Rattle.khe_told.specs.Lists.{meet_in}
-use Rattle.khe_told.specs.Slots.{IsBareIfFree, emptied, held, held_by, is_live, length_of, no_meets, no_slot, slot_at, slots_from, slots_of_event}
+use Rattle.khe_told.specs.Slots.{IsBareIfFree, emptied, held, held_by, is_live, length_of, no_slot, slot_at, slots_from, slots_of_event}
 use Rattle.khe_told.specs.declared.changes.Change.{Change}
 use Rattle.khe_told.specs.declared.changes.Change.TheVariants as change
 use Rattle.khe_told.specs.declared.slots.Slot.{Slot}
 use Rattle.khe_told.specs.declared.slots.Span.{Span}
-use Rattle.khe_solution.proofs.Basics.{IsThere, there-none, some_value}
+use Rattle.khe_solution.proofs.Basics.{there-none, some_value}
 use Rattle.khe_instance.specs.WellMade.{AreFirstMeets}
 use Rattle.khe_instance.specs.declared.points.Monitor.{Monitor}
 use Rattle.khe_instance.specs.declared.rules.Kind.{Kind}

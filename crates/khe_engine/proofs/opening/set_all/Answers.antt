@@ -1,5 +1,5 @@
 -- All values are set.
-use Rattle.std.proofs.Common.{◌<◌, arith}
+use Rattle.std.proofs.Common.{arith}
 use Rattle.std.proofs.lemmas.Option.{slice_get_within}
 use Rattle.khe_engine.proofs.OpeningLaws.{all_set}
 use Rattle.khe_engine.proofs.opening.set_all.Goals as goal

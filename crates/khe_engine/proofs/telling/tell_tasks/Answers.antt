@@ -1,5 +1,5 @@
 -- The meet's event is one of the instance, with as many places as the slot has.
-use Rattle.std.proofs.Common.{subst, sym, arith, ap, ◌∙◌, ◌<◌, ◌≡◌, length, set}
+use Rattle.std.proofs.Common.{subst, arith, ap, ◌∙◌, ◌≡◌, length, set}
 use Rattle.khe_told.specs.Fits.{AreTold}
 use Rattle.khe_told.specs.Slots.{slot_at}
 use Rattle.khe_engine.specs.Openings.{coming, told_to}
