@@ -1,11 +1,10 @@
 -- From cells and lists to what a family promises.
-use Rattle.std.proofs.Common.{ℕ, ◌≡◌, ◌≤◌, ◌<◌, ◌+◌, ◌*◌, ◌-◌, ◌==◌, ◌∙◌, ◌&&◌, ◌||◌, zero, suc, Bool, true, false, cond, Option, Some, None, List, [], ◌∷◌, ◌++◌, ◌⊎◌, inl, inr, map, replicate, length, get_or, slice_get, refl, sym, ap, subst, arith, sum_by, count_by, All, IfSome, zero-add, nat_le, nat_lt, not}
-use Rattle.std.specs.Option.{option_map, option_map_or}
+use Rattle.std.proofs.Common.{ℕ, ◌≡◌, ◌≤◌, ◌<◌, ◌+◌, ◌*◌, ◌-◌, ◌∙◌, ◌&&◌, ◌||◌, suc, Bool, true, false, cond, Option, Some, None, List, [], ◌∷◌, ◌⊎◌, inl, inr, length, get_or, slice_get, refl, sym, ap, subst, arith, sum_by, count_by, zero-add, nat_le, nat_lt, not}
+use Rattle.std.specs.Option.{option_map_or}
 use Rattle.std.specs.List.{range_with_len, list_any, filter_map}
 use Rattle.std.proofs.lemmas.Bool.{true≢false, eqb-true}
-use Rattle.std.proofs.lemmas.List.Sums.{sum_by-cons, sum_by-append}
-use Rattle.std.proofs.lemmas.Option.{slice_get_within, slice_get-get_or, get_or_from_slice_get, same_Some, none-some}
-use Rattle.khe_base.specs.declared.limits.TheConstants.{TASKS}
+use Rattle.std.proofs.lemmas.List.Sums.{sum_by-cons}
+use Rattle.std.proofs.lemmas.Option.{slice_get_within, get_or_from_slice_get, same_Some, none-some}
 use Rattle.khe_base.specs.declared.numbers.ResourceId.{ResourceId}
 use Rattle.khe_instance.specs.Running.{is_resource, running_tasks}
 use Rattle.khe_instance.specs.Watching.{is_at, lists_time}
@@ -20,22 +19,19 @@ use Rattle.khe_told.specs.Agreement.{Agrees}
 use Rattle.khe_told.specs.Changes.{meet_of}
 use Rattle.khe_told.specs.Lists.{duties_in}
 use Rattle.khe_told.specs.Slots.{slot_at}
-use Rattle.khe_told.specs.Watchers.{served_watchers, watch_count, watches_with, touched_resources, touched_times, given_in}
+use Rattle.khe_told.specs.Watchers.{served_watchers, watch_count, watches_with, touched_resources, touched_times}
 use Rattle.khe_told.specs.declared.changes.Change.{Change}
 use Rattle.khe_told.specs.declared.changes.Change.TheVariants.{Add, Drop, Place as PlaceAt, Lift, Give, Take}
 use Rattle.khe_told.specs.declared.slots.Slot.{Slot}
 use Rattle.khe_told.specs.declared.slots.Span.{Span}
 use Rattle.timetables.specs.Counts.{count_at}
 use Rattle.resource_monitors.specs.Cells.{is_at_cells, is_by_busy, value_in, lists, lists_any, in_run, given_to, differs_at, is_due, is_low, limit_for}
-use Rattle.resource_monitors.specs.Posts.{AreAllReported, is_served_at, due_all, due_for, posts_of}
+use Rattle.resource_monitors.specs.Posts.{AreAllReported, is_served_at, due_all, due_for}
 use Rattle.resource_monitors.specs.Runs.{Turned, run_of, given_by}
-use Rattle.resource_monitors.specs.declared.posts.Post.{Post}
 use Rattle.resource_monitors.specs.declared.runs.Run.{Run}
 use Rattle.resource_monitors.proofs.MeasureLaws.{at_resource, value_busy, value_is, value_same}
 use Rattle.resource_monitors.proofs.PostLaws.{posts_sum}
 use Rattle.resource_monitors.proofs.TurnLaws.{turned_busy, turned_same}
-use Rattle.khe_instance.proofs.MadeLemmas.{monitored}
-use Rattle.khe_told.specs.Slots.{start_of}
 use Rattle.khe_base.specs.declared.numbers.TimeId.{TimeId}
 use Rattle.std.proofs.lemmas.List.FromFn.{get_or-range_with_len, length-range_with_len}
 use Rattle.std.proofs.lemmas.List.Folds.{list_any_at}
@@ -80,13 +76,13 @@ none_in_run f start end t none e = by (f t) refl
         absurd (true≢false (sym (list_any_at f (range_with_len start (end - start)) (t - start) 0 (let z = length-range_with_len start (end - start) in omega (arith, z, i)) (ap f value ∙ h)) ∙ none))
 
 -- what agreed agrees
-pub agrees_after : (p : Parts) (served : Kind → Bool) (made : AreWellMade p) (cells : (k : Kind) → served k ≡ true → is_at_cells k ≡ true) (by_busy : Bool) (alone : by_busy ≡ true → (k : Kind) → served k ≡ true → is_by_busy k ≡ true) (s s2 : List Slot) (old new : List (List ℕ)) (given : List (Option ResourceId)) (b : Bool) (start end : ℕ) (ds0 ds : List ℕ)
+pub agrees_after : (p : Parts) (served : Kind → Bool) (made : AreWellMade p) (cells : (k : Kind) → served k ≡ true → is_at_cells k ≡ true) (s s2 : List Slot) (old new : List (List ℕ)) (given : List (Option ResourceId)) (b : Bool) (start end : ℕ) (ds0 ds : List ℕ)
     → ((r t : ℕ) → count_at old r t ≡ running_tasks (duties_in s) r t) → ((r t : ℕ) → count_at new r t ≡ running_tasks (duties_in s2) r t)
     → Turned b given start end (count_at old) (count_at new)
-    → AreAllReported p served (value_in p new) (is_due p by_busy new start end (limit_for b (length given))) given (length given) ds0 ds
+    → AreAllReported p served (value_in p new) (is_due p new start end (limit_for b (length given))) given (length given) ds0 ds
     → Agrees p served s ds0 → Agrees p served s2 ds
-agrees_after p served made cells by_busy alone s s2 old new given b start end ds0 ds before now turned all agrees i m there serves =
-    by (given_or_not given at.0) (lists_any p start end m) refl (differs_at by_busy new start end limit m.point) refl ∙ ap Some (sym (value_is p s2 new m is kind now))
+agrees_after p served made cells s s2 old new given b start end ds0 ds before now turned all agrees i m there serves =
+    by (given_or_not given at.0) (lists_any p start end m) refl (differs_at m.kind new start end limit m.point) refl ∙ ap Some (sym (value_is p s2 new m is kind now))
   where
     is : IsMonitor p m
     is = monitor_at p made i m there
@@ -106,10 +102,10 @@ agrees_after p served made cells by_busy alone s s2 old new given b start end ds
     kept : ((t : ℕ) → lists p m t ≡ true → cond (in_run start end t) (given_to at.0.0 given) 0 ≡ 0) → slice_get ds i ≡ Some (value_in p new m)
     kept h = still (value_same p old new m at.0 is kind at.1 (λ t e. turned_same b given start end (count_at old) (count_at new) turned at.0.0 t (h t e)))
 
-    busy : differs_at by_busy new start end limit m.point ≡ false → value_in p new m ≡ value_in p old m
+    busy : differs_at m.kind new start end limit m.point ≡ false → value_in p new m ≡ value_in p old m
     busy e =
-        let parts = or_parts (not by_busy) (is_low new start end limit at.0.0) (sym (ap (differs_at by_busy new start end limit) at.1) ∙ e) in
-        value_busy p old new m at.0 is (alone (on by_busy parts.0) m.kind serves) at.1
+        let parts = or_parts (not (is_by_busy m.kind)) (is_low new start end limit at.0.0) (sym (ap (differs_at m.kind new start end limit) at.1) ∙ e) in
+        value_busy p old new m at.0 is (on (is_by_busy m.kind) parts.0) at.1
         (turned_busy b given start end (count_at old) (count_at new) at.0.0 turned (λ t e. none_in_run (λ x. nat_le (count_at new at.0.0 x) limit) start end t parts.1 e))
       where
         on : (c : Bool) → not c ≡ false → c ≡ true
@@ -127,8 +123,8 @@ agrees_after p served made cells by_busy alone s s2 old new given b start end ds
         by false e = refl
         by true e = absurd (true≢false (sym h ∙ none_in_run (λ x. lists p m x) start end t l e))
 
-    by : IsGiven given at.0 ⊎ (given_to at.0.0 given ≡ 0) → (c : Bool) → lists_any p start end m ≡ c → (d : Bool) → differs_at by_busy new start end limit m.point ≡ d → slice_get ds i ≡ Some (value_in p new m)
-    by (inl g) true e true f = all.each i m at.0 g.0 g.1 g.2 there serves at.1 (and_from (lists_any p start end m) (differs_at by_busy new start end limit m.point) e f)
+    by : IsGiven given at.0 ⊎ (given_to at.0.0 given ≡ 0) → (c : Bool) → lists_any p start end m ≡ c → (d : Bool) → differs_at m.kind new start end limit m.point ≡ d → slice_get ds i ≡ Some (value_in p new m)
+    by (inl g) true e true f = all.each i m at.0 g.0 g.1 g.2 there serves at.1 (and_from (lists_any p start end m) (differs_at m.kind new start end limit m.point) e f)
     by (inl g) true e false f = still (busy f)
     by (inl g) false e d f = kept (λ t h. ap (λ c. cond {A = ℕ} c (given_to at.0.0 given) 0) (outside e t h))
     by (inr z) c e d f = kept (λ t h. none (in_run start end t) (given_to at.0.0 given) z)

@@ -1,5 +1,5 @@
 -- What a change does to the counts and the monitors.
-use Rattle.std.proofs.Common.{ℕ, ◌≡◌, ◌≤◌, ◌<◌, ◌∙◌, Bool, true, Option, Some, None, List, length, sym, ap, subst, arith}
+use Rattle.std.proofs.Common.{ℕ, ◌≡◌, ◌≤◌, Bool, true, Option, Some, None, List, length, sym, subst, arith}
 use Rattle.khe_base.specs.declared.limits.TheConstants.{GREATEST_COUNT, TASKS}
 use Rattle.khe_base.specs.declared.numbers.ResourceId.{ResourceId}
 use Rattle.khe_instance.specs.Running.{running_tasks}
@@ -15,7 +15,7 @@ use Rattle.khe_told.specs.Watchers.{served_watchers}
 use Rattle.khe_told.specs.declared.changes.Change.{Change}
 use Rattle.khe_told.specs.declared.slots.Slot.{Slot}
 use Rattle.timetables.specs.Counts.{count_at}
-use Rattle.resource_monitors.specs.Cells.{is_at_cells, is_by_busy, is_due, limit_for, lists_any, value_in}
+use Rattle.resource_monitors.specs.Cells.{is_at_cells, is_due, limit_for, lists_any, value_in}
 use Rattle.resource_monitors.specs.Posts.{AreAllReported, due_all}
 use Rattle.resource_monitors.specs.Runs.{AreOf, Turned, IsTurn, run_of, given_by}
 use Rattle.resource_monitors.specs.declared.runs.Run.{Run}
@@ -57,9 +57,9 @@ module _ (p : Parts) (made : AreWellMade p) (s : List Slot) (c : Change) (told :
     pub few_then : (rows2 : List (List ℕ)) → Turned run.rises given run.start run.end (count_at rows) (count_at rows2) → (r t : ℕ) → count_at rows2 r t ≤ TASKS
     few_then rows2 h r t = let l = tasks_few p made (after s c) fits.told r t in let q = counts_then rows2 h r t in omega (arith, l, q)
 
-    pub agrees_then : (rows2 : List (List ℕ)) → Turned run.rises given run.start run.end (count_at rows) (count_at rows2) → (served : Kind → Bool) → ((k : Kind) → served k ≡ true → is_at_cells k ≡ true) → (by_busy : Bool) → (by_busy ≡ true → (k : Kind) → served k ≡ true → is_by_busy k ≡ true) → (ds0 ds : List ℕ)
-        → AreAllReported p served (value_in p rows2) (is_due p by_busy rows2 run.start run.end (limit_for run.rises (length given))) given (length given) ds0 ds → Agrees p served s ds0 → Agrees p served (after s c) ds
-    agrees_then rows2 h served cells by_busy alone ds0 ds all = agrees_after p served made cells by_busy alone s (after s c) rows rows2 given run.rises run.start run.end ds0 ds before (counts_then rows2 h) h all
+    pub agrees_then : (rows2 : List (List ℕ)) → Turned run.rises given run.start run.end (count_at rows) (count_at rows2) → (served : Kind → Bool) → ((k : Kind) → served k ≡ true → is_at_cells k ≡ true) → (ds0 ds : List ℕ)
+        → AreAllReported p served (value_in p rows2) (is_due p rows2 run.start run.end (limit_for run.rises (length given))) given (length given) ds0 ds → Agrees p served s ds0 → Agrees p served (after s c) ds
+    agrees_then rows2 h served cells ds0 ds all = agrees_after p served made cells s (after s c) rows rows2 given run.rises run.start run.end ds0 ds before (counts_then rows2 h) h all
 
     pub watchers_then : (served : Kind → Bool) → due_all served p.monitors (lists_any p run.start run.end) given ≤ served_watchers p served s c
     watchers_then served = subst (λ g. due_all served p.monitors (lists_any p run.start run.end) g ≤ served_watchers p served s c) (sym is) (due_watchers p served s c run e)

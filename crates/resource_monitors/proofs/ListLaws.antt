@@ -1,12 +1,11 @@
 -- The lists of resources while monitors are added.
-use Rattle.std.proofs.Common.{ℕ, zero, suc, ◌≡◌, ◌≤◌, ◌<◌, ◌+◌, ◌==◌, ◌∙◌, ◌&&◌, Bool, true, false, cond, List, [], ◌∷◌, ◌++◌, take, set, replicate, length, get_or, refl, sym, ap, arith, length-take-le, zero-add, ◌⊎◌, inl, inr}
+use Rattle.std.proofs.Common.{ℕ, zero, suc, ◌≡◌, ◌<◌, ◌+◌, ◌==◌, ◌∙◌, ◌&&◌, Bool, true, false, cond, List, [], ◌∷◌, ◌++◌, take, set, replicate, length, get_or, refl, sym, ap, arith, length-take-le, zero-add, ◌⊎◌, inl, inr}
 use Rattle.std.proofs.lemmas.Bool.{eq-eqb, ne_eqb, cases_eq}
-use Rattle.std.proofs.lemmas.List.{take_more, length-set, length-replicate, get_or-replicate, append-nil}
+use Rattle.std.proofs.lemmas.List.{take_more, length-replicate, get_or-replicate, append-nil}
 use Rattle.std.proofs.Common.{get_or-set_same}
 use Rattle.khe_base.specs.declared.numbers.ResourceId.{ResourceId}
 use Rattle.khe_instance.specs.Watching.{is_at}
 use Rattle.khe_instance.specs.declared.points.Monitor.{Monitor}
-use Rattle.khe_instance.specs.declared.points.Point.{Point}
 use Rattle.khe_instance.specs.declared.points.Point.TheVariants.{Resource}
 use Rattle.khe_instance.specs.declared.rules.Kind.{Kind}
 use Rattle.resource_monitors.specs.Posts.{AreLists, post, posts_of, is_served_at}

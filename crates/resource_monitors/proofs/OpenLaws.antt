@@ -1,5 +1,5 @@
 -- A family that was told of no meets.
-use Rattle.std.proofs.Common.{ℕ, ◌≡◌, ◌<◌, ◌∙◌, zero, suc, Bool, List, [], length, slice_index, refl, sym, ap, subst, arith}
+use Rattle.std.proofs.Common.{ℕ, ◌≡◌, ◌<◌, ◌∙◌, zero, suc, Bool, List, length, slice_index, refl, sym, ap, subst, arith}
 use Rattle.std.proofs.lemmas.List.{length-replicate}
 use Rattle.std.specs.Prelude.{replicate}
 use Rattle.khe_instance.specs.Running.{running_tasks}

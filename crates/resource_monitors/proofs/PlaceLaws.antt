@@ -1,6 +1,6 @@
 -- The list of one resource.
-use Rattle.std.proofs.Common.{ℕ, ◌≡◌, ◌<◌, ◌∙◌, Bool, true, false, Option, Some, None, List, [], length, get_or, slice_get, refl, sym, ap, subst, arith, zero-add}
-use Rattle.std.proofs.lemmas.Bool.{and_parts, eqb-true, false≢true, true≢false}
+use Rattle.std.proofs.Common.{ℕ, ◌≡◌, ◌<◌, ◌∙◌, Bool, true, Option, Some, None, List, [], length, get_or, slice_get, refl, sym, ap, subst, arith, zero-add}
+use Rattle.std.proofs.lemmas.Bool.{and_from, and_parts, eqb-true, false≢true}
 use Rattle.std.proofs.lemmas.Option.{slice_get-get_or, get_or_from_slice_get}
 use Rattle.khe_base.specs.declared.numbers.ResourceId.{ResourceId}
 use Rattle.khe_instance.specs.Watching.{is_at}
@@ -9,7 +9,7 @@ use Rattle.khe_instance.specs.declared.points.Monitor.{Monitor}
 use Rattle.khe_instance.specs.declared.points.Point.{Point}
 use Rattle.khe_instance.specs.declared.points.Point.TheVariants.{Resource}
 use Rattle.khe_instance.specs.declared.rules.Kind.{Kind}
-use Rattle.resource_monitors.specs.Cells.{is_at_cells, differs_at, is_due, lists_any, may_differ}
+use Rattle.resource_monitors.specs.Cells.{is_at_cells, differs_at, is_due, is_due_if, is_low, lists_any, may_differ}
 use Rattle.resource_monitors.specs.Posts.{AreLists, ArePosts, AreReported, due, due_for, is_served_at, list_for, posts_of}
 use Rattle.resource_monitors.specs.declared.posts.Post.{Post}
 use Rattle.resource_monitors.proofs.PostLaws.{posts_each}
@@ -43,23 +43,18 @@ reported_none p value test served place old at =
     (record { amount = refl; each = λ j a l h t. absurd (omega (arith, l)); kept = λ i m g o. o; others = λ i n. refl })
 
 -- fewer of them
-pub reported_fewer : (p : Parts) (value : Monitor → ℕ) (test few : Monitor → Bool) (list : List Post) (k : ℕ) (old new : List ℕ) → ((m : Monitor) → few m ≡ true → test m ≡ true)
+pub reported_fewer : (p : Parts) (value : Monitor → ℕ) (test few : Monitor → Bool) (list : List Post) (k : ℕ) (old new : List ℕ) → ((j : ℕ) (a : Post) → slice_get list j ≡ Some a → few a.monitor ≡ true → test a.monitor ≡ true)
     → AreReported p value test list k old new → AreReported p value few list k old new
-reported_fewer p value test few list k old new less u = record { amount = u.amount; each = λ j a l h t. u.each j a l h (less a.monitor t); kept = u.kept; others = u.others }
+reported_fewer p value test few list k old new less u = record { amount = u.amount; each = λ j a l h t. u.each j a l h (less j a h t); kept = u.kept; others = u.others }
 
--- no monitor of a resource at which none differs
-pub reported_skipped : (p : Parts) (value : Monitor → ℕ) (served : Kind → Bool) (by_busy : Bool) (rows : List (List ℕ)) (start end limit : ℕ) (place : Option ResourceId) (r : ResourceId) (old : List ℕ)
-    → place ≡ Some r → may_differ by_busy rows start end limit r.0 ≡ false
-    → AreReported p value (is_due p by_busy rows start end limit) (list_for served p.monitors place) (length (list_for served p.monitors place)) old old
-reported_skipped p value served by_busy rows start end limit place r old at none =
-    subst (λ (xs : List Post). AreReported p value (is_due p by_busy rows start end limit) xs (length xs) old old) (sym (ap (list_for served p.monitors) at))
-    (record { amount = refl; each = λ j a l h t. absurd (skipped j a h (and_parts (lists_any p start end a.monitor) (differs_at by_busy rows start end limit a.monitor.point) t).1); kept = λ i m g o. o; others = λ i n. refl })
+-- at one resource it is known whether one of the counts is low
+pub due_at : (p : Parts) (served : Kind → Bool) (rows : List (List ℕ)) (start end limit : ℕ) (r : ResourceId) (list : List Post) → list ≡ posts_of served p.monitors r.0
+    → (j : ℕ) (a : Post) → slice_get list j ≡ Some a → is_due p rows start end limit a.monitor ≡ true → is_due_if p start end (is_low rows start end limit r.0) a.monitor ≡ true
+due_at p served rows start end limit r list is j a h t =
+    let f = posts_each (is_served_at served r.0) p.monitors 0 p.monitors (λ n. ap (slice_get p.monitors) (zero-add n)) j a (ap (λ xs. slice_get xs j) (sym is) ∙ h) in
+    let parts = and_parts (lists_any p start end a.monitor) (differs_at a.monitor.kind rows start end limit a.monitor.point) t in
+    and_from (may_differ a.monitor.kind (is_low rows start end limit r.0)) (lists_any p start end a.monitor) (differs a.monitor.point (and_parts (served a.monitor.kind) (is_at a.monitor.point r.0) f.1).1 parts.1) parts.0
   where
-    differs : (point : Point) → is_at point r.0 ≡ true → differs_at by_busy rows start end limit point ≡ true → ⊥
-    differs (Resource q) e d = true≢false (sym d ∙ ap (may_differ by_busy rows start end limit) (eqb-true q.0 r.0 e) ∙ none)
-    differs _ e d = false≢true e
-
-    skipped : (j : ℕ) (a : Post) → slice_get (posts_of served p.monitors r.0) j ≡ Some a → differs_at by_busy rows start end limit a.monitor.point ≡ true → ⊥
-    skipped j a h =
-        let f = posts_each (is_served_at served r.0) p.monitors 0 p.monitors (λ n. ap (slice_get p.monitors) (zero-add n)) j a h in
-        differs a.monitor.point (and_parts (served a.monitor.kind) (is_at a.monitor.point r.0) f.1).1
+    differs : (point : Point) → is_at point r.0 ≡ true → differs_at a.monitor.kind rows start end limit point ≡ true → may_differ a.monitor.kind (is_low rows start end limit r.0) ≡ true
+    differs (Resource q) e d = ap (λ n. may_differ a.monitor.kind (is_low rows start end limit n)) (sym (eqb-true q.0 r.0 e)) ∙ d
+    differs _ e d = absurd (false≢true e)

@@ -1,7 +1,7 @@
 -- Monitors while they are reported.
 use Rattle.std.proofs.Common.{ℕ, ◌≡◌, ◌<◌, ◌+◌, ◌-◌, ◌∙◌, ◌||◌, ◌&&◌, zero, suc, Bool, true, false, cond, Option, Some, None, List, [], ◌∷◌, set, length, slice_get, refl, sym, ap, subst, arith, zero-add, ◌⊎◌, inl, inr}
 use Rattle.std.specs.List.{range_with_len, list_any}
-use Rattle.std.proofs.lemmas.Bool.{cases_eq, false≢true, true≢false, and_parts}
+use Rattle.std.proofs.lemmas.Bool.{cases_eq, true≢false, and_parts}
 use Rattle.std.proofs.lemmas.List.{length-set}
 use Rattle.std.proofs.lemmas.Option.{same_Some, slice_get_within, none-some}
 use Rattle.khe_base.specs.declared.numbers.ResourceId.{ResourceId}
@@ -11,7 +11,7 @@ use Rattle.khe_instance.specs.declared.parts.Parts.{Parts}
 use Rattle.khe_instance.specs.declared.points.Monitor.{Monitor}
 use Rattle.khe_instance.specs.declared.points.Point.TheVariants.{Resource}
 use Rattle.khe_instance.specs.declared.rules.Kind.{Kind}
-use Rattle.resource_monitors.specs.Posts.{AreReported, AreAllReported, ArePosts, post, posts_of, is_served_at, list_for}
+use Rattle.resource_monitors.specs.Posts.{AreReported, AreAllReported, ArePosts, post, is_served_at, list_for}
 use Rattle.resource_monitors.specs.declared.posts.Post.{Post}
 use Rattle.resource_monitors.proofs.PostLaws.{posts_each, posts_all}
 

@@ -1,5 +1,5 @@
 -- The times of runs.
-use Rattle.std.proofs.Common.{ℕ, ◌≡◌, ◌≤◌, ◌<◌, ◌+◌, ◌∙◌, ◌^◌, Bool, true, false, Option, Some, None, List, set, length, refl, sym, ap, subst, arith, IfSome, All, get_or-set_same}
+use Rattle.std.proofs.Common.{◌≡◌, ◌≤◌, ◌<◌, ◌+◌, ◌∙◌, ◌^◌, Bool, true, false, Option, Some, None, List, length, refl, sym, ap, subst, arith, IfSome, get_or-set_same}
 use Rattle.std.proofs.lemmas.List.{length-set}
 use Rattle.std.proofs.lemmas.List.Elements.{All-get_or}
 use Rattle.std.proofs.lemmas.Option.{same_Some, none-some}

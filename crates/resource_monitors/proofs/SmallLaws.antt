@@ -1,5 +1,5 @@
 -- No value is above the greatest deviation.
-use Rattle.std.proofs.Common.{ℕ, ◌≡◌, ◌≤◌, ◌<◌, ◌∙◌, Some, List, slice_get, slice_index, sym, ap, arith, subst}
+use Rattle.std.proofs.Common.{ℕ, ◌≤◌, List, slice_index, ap, arith}
 use Rattle.std.specs.Option.{option_map_or}
 use Rattle.khe_base.specs.declared.limits.TheConstants.{GREATEST_DEVIATION, TASKS}
 use Rattle.khe_instance.proofs.MadeLemmas.{constraint_made}

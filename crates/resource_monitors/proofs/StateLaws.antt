@@ -1,15 +1,14 @@
 -- Told states: the one without meets, what the slots of others are given, and how many tasks run.
-use Rattle.std.proofs.Common.{ℕ, ◌≡◌, ◌≤◌, ◌<◌, ◌+◌, ◌∙◌, zero, suc, cond, Bool, true, false, Option, Some, None, List, [], ◌∷◌, ◌++◌, map, set, replicate, length, get_or, slice_get, refl, sym, ap, subst, arith, sum_by, All, IfSome, slice_index, get_or-set_same}
+use Rattle.std.proofs.Common.{ℕ, ◌≡◌, ◌≤◌, ◌<◌, ◌+◌, ◌∙◌, zero, suc, cond, Bool, true, false, Option, Some, None, List, [], ◌∷◌, ◌++◌, map, replicate, length, get_or, slice_get, refl, sym, ap, subst, arith, IfSome, get_or-set_same}
 use Rattle.std.specs.Prelude.{◌==◌, ◌&&◌}
 use Rattle.std.specs.Option.{option_map, option_map_or}
 use Rattle.std.specs.List.{range_with_len}
 use Rattle.std.proofs.lemmas.List.{length-replicate, length-set}
 use Rattle.std.proofs.lemmas.List.Elements.{All-get_or}
 use Rattle.std.proofs.lemmas.List.Sums.{sum_by-cons, count_by-le-length}
-use Rattle.std.proofs.lemmas.Option.{slice_get_within, slice_get-get_or, get_or_from_slice_get, same_Some, none-some}
+use Rattle.std.proofs.lemmas.Option.{slice_get_within, same_Some, none-some}
 use Rattle.khe_base.specs.declared.limits.TheConstants.{TASKS}
 use Rattle.khe_base.specs.declared.numbers.ResourceId.{ResourceId}
-use Rattle.khe_instance.specs.Lookups.{places_at}
 use Rattle.khe_instance.specs.Running.{is_resource, runs, running_tasks}
 use Rattle.khe_instance.specs.States.{AreOfState}
 use Rattle.khe_instance.specs.WellMade.{AreWellMade, HasType}
@@ -20,9 +19,9 @@ use Rattle.khe_instance.specs.declared.parts.ResourceInfo.{ResourceInfo}
 use Rattle.khe_instance.specs.declared.states.Duty.{Duty}
 use Rattle.khe_instance.proofs.DutiesLemmas.{are-duties}
 use Rattle.khe_told.specs.Changes.{after, changed, meet_of}
-use Rattle.khe_told.specs.Fits.{AreTold, IsSlot, Fits, Suits}
+use Rattle.khe_told.specs.Fits.{AreTold, IsSlot, Fits}
 use Rattle.khe_told.specs.Lists.{meets_in, tasks_in, duties_in}
-use Rattle.khe_told.specs.Slots.{no_meets, slots_from, slots_of_event, empty_slot, emptied, slot_at, no_slot, held, held_by, start_of}
+use Rattle.khe_told.specs.Slots.{no_meets, slots_from, slots_of_event, empty_slot, emptied, slot_at, no_slot, held, held_by}
 use Rattle.khe_told.specs.declared.changes.Change.{Change}
 use Rattle.khe_told.specs.declared.changes.Change.TheVariants.{Add, Drop, Place as PlaceAt, Lift, Give, Take}
 use Rattle.khe_told.specs.declared.slots.Slot.{Slot}
@@ -31,8 +30,7 @@ use Rattle.khe_told.proofs.DutyLaws.{duties_listed}
 use Rattle.khe_told.proofs.FrameLaws.{frames, told_from, IsFrame}
 use Rattle.khe_told.proofs.SlotLaws.{set-there}
 use Rattle.khe_told.proofs.ValidLaws.{listed_told}
-use Rattle.resource_monitors.specs.Runs.{AreOf, given_by, run_of}
-use Rattle.resource_monitors.specs.declared.runs.Run.{Run}
+use Rattle.resource_monitors.specs.Runs.{AreOf, given_by}
 
 -- a slot with nothing in it
 record IsFree (x : Slot) : Type 0 where

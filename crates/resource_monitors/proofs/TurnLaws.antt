@@ -1,6 +1,5 @@
 -- What a change does to cells.
-use Rattle.std.proofs.Common.{ℕ, ◌≡◌, ◌≤◌, ◌<◌, ◌+◌, ◌==◌, ◌∙◌, ◌&&◌, zero, suc, Bool, true, false, cond, Option, Some, None, List, [], ◌∷◌, ◌++◌, set, take, get_or, length, slice_get, refl, sym, ap, subst, arith, sum_by, count_by, zero-add, nat_le, nat_lt, lt-ltb}
-use Rattle.std.specs.Option.{option_map_or}
+use Rattle.std.proofs.Common.{ℕ, ◌≡◌, ◌≤◌, ◌<◌, ◌+◌, ◌==◌, ◌∙◌, ◌&&◌, Bool, true, false, cond, Option, Some, None, List, [], ◌∷◌, set, take, get_or, length, slice_get, refl, sym, ap, subst, arith, sum_by, zero-add, nat_le, nat_lt, lt-ltb}
 use Rattle.std.proofs.lemmas.Bool.{eq-eqb, leb-false}
 use Rattle.std.proofs.lemmas.List.Sums.{sum_by-cons, sum_by-set, sum_by-append, sum_by_more, sum_by-take-le, count_by-le-length}
 use Rattle.std.proofs.lemmas.Option.{get_or_from_slice_get, slice_get_within}
@@ -19,7 +18,7 @@ use Rattle.khe_told.specs.declared.slots.Slot.{Slot}
 use Rattle.khe_told.specs.declared.slots.Span.{Span}
 use Rattle.timetables.specs.Counts.{count_at}
 use Rattle.resource_monitors.specs.Cells.{AreAbove, AreRaised, given_to, in_run, limit_for}
-use Rattle.resource_monitors.specs.Runs.{run_from, run_of, given_by, Turned, IsTurn}
+use Rattle.resource_monitors.specs.Runs.{run_of, given_by, Turned, IsTurn}
 use Rattle.resource_monitors.specs.declared.runs.Run.{Run}
 
 -- one resource's cells as those of one place

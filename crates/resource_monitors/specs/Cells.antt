@@ -1,6 +1,6 @@
 -- The kinds that are measured by how many tasks of a resource run at each time, and the counts that
 -- they read: a row for each resource, with a count for each time.
-use Rattle.std.specs.Prelude.{ℕ, ◌≡◌, ◌<◌, ◌≤◌, ◌+◌, ◌-◌, ◌==◌, ◌&&◌, ◌||◌, not, nat_le, nat_lt, Bool, true, false, if◌then◌else◌, Option, Some, List, length, slice_get, slice_index, count_by}
+use Rattle.std.specs.Prelude.{ℕ, ◌≡◌, ◌<◌, ◌+◌, ◌-◌, ◌==◌, ◌&&◌, ◌||◌, not, nat_le, nat_lt, Bool, true, false, if◌then◌else◌, Option, List, length, slice_get, slice_index, count_by}
 use Rattle.std.specs.List.{range_with_len, list_any}
 use Rattle.std.specs.Option.{option_map_or}
 use Rattle.khe_base.specs.declared.numbers.ResourceId.{ResourceId}
@@ -65,18 +65,22 @@ limit_for false places = 0
 abbrev pub is_low : List (List ℕ) → ℕ → ℕ → ℕ → ℕ → Bool
 is_low rows start end limit r = list_any (λ t. nat_le (count_at rows r t) limit) (range_with_len start (end - start))
 
--- whether what is measured at a resource may be another: where it is measured by busy times alone,
+-- whether what a kind measures at a resource may be another: where it measures by busy times alone,
 -- only if one of the counts is low
-abbrev pub may_differ : Bool → List (List ℕ) → ℕ → ℕ → ℕ → ℕ → Bool
-may_differ by_busy rows start end limit r = not by_busy || is_low rows start end limit r
+abbrev pub may_differ : Kind → Bool → Bool
+may_differ k low = not (is_by_busy k) || low
 
-abbrev pub differs_at : Bool → List (List ℕ) → ℕ → ℕ → ℕ → Point → Bool
-differs_at by_busy rows start end limit (Resource r) = may_differ by_busy rows start end limit r.0
-differs_at by_busy rows start end limit _ = false
+abbrev pub differs_at : Kind → List (List ℕ) → ℕ → ℕ → ℕ → Point → Bool
+differs_at k rows start end limit (Resource r) = may_differ k (is_low rows start end limit r.0)
+differs_at k rows start end limit _ = false
 
 -- whether a monitor lists one of the times and may measure another value
-abbrev pub is_due : Parts → Bool → List (List ℕ) → ℕ → ℕ → ℕ → Monitor → Bool
-is_due p by_busy rows start end limit m = lists_any p start end m && differs_at by_busy rows start end limit m.point
+abbrev pub is_due : Parts → List (List ℕ) → ℕ → ℕ → ℕ → Monitor → Bool
+is_due p rows start end limit m = lists_any p start end m && differs_at m.kind rows start end limit m.point
+
+-- the same, where it is known whether one of the counts is low
+abbrev pub is_due_if : Parts → ℕ → ℕ → Bool → Monitor → Bool
+is_due_if p start end low m = may_differ m.kind low && lists_any p start end m
 
 -- how many places are given a resource
 abbrev pub given_to : ℕ → List (Option ResourceId) → ℕ

@@ -1,10 +1,9 @@
--- Each of the five kinds is one that is measured at cells, and each but AvoidClashes by busy times.
-use Rattle.std.proofs.Common.{◌≡◌, ◌∙◌, true, false, refl, ap}
-use Rattle.std.proofs.lemmas.Bool.{false≢true}
+-- Each of the five kinds is one that is measured at cells.
+use Rattle.std.proofs.Common.{◌≡◌, ◌∙◌, true, refl, ap}
 use Rattle.khe_instance.specs.KindLaws.{is_kind, same_kind}
 use Rattle.khe_instance.specs.declared.rules.Kind.{Kind}
 use Rattle.khe_instance.specs.declared.rules.Kind.TheVariants as kind
-use Rattle.resource_monitors.specs.Cells.{is_at_cells, is_by_busy}
+use Rattle.resource_monitors.specs.Cells.{is_at_cells}
 
 one_of : (a : Kind) → is_at_cells a ≡ true → (k : Kind) → is_kind k a ≡ true → is_at_cells k ≡ true
 one_of a h k e = ap is_at_cells (same_kind k a e) ∙ h
@@ -23,21 +22,3 @@ cluster_busy_times_at_cells = one_of kind.ClusterBusyTimes refl
 
 pub limit_busy_times_at_cells : (k : Kind) → is_kind k kind.LimitBusyTimes ≡ true → is_at_cells k ≡ true
 limit_busy_times_at_cells = one_of kind.LimitBusyTimes refl
-
-busy_one_of : (a : Kind) → is_by_busy a ≡ true → (k : Kind) → is_kind k a ≡ true → is_by_busy k ≡ true
-busy_one_of a h k e = ap is_by_busy (same_kind k a e) ∙ h
-
-pub avoid_unavailable_times_by_busy : (k : Kind) → is_kind k kind.AvoidUnavailableTimes ≡ true → is_by_busy k ≡ true
-avoid_unavailable_times_by_busy = busy_one_of kind.AvoidUnavailableTimes refl
-
-pub limit_idle_times_by_busy : (k : Kind) → is_kind k kind.LimitIdleTimes ≡ true → is_by_busy k ≡ true
-limit_idle_times_by_busy = busy_one_of kind.LimitIdleTimes refl
-
-pub cluster_busy_times_by_busy : (k : Kind) → is_kind k kind.ClusterBusyTimes ≡ true → is_by_busy k ≡ true
-cluster_busy_times_by_busy = busy_one_of kind.ClusterBusyTimes refl
-
-pub limit_busy_times_by_busy : (k : Kind) → is_kind k kind.LimitBusyTimes ≡ true → is_by_busy k ≡ true
-limit_busy_times_by_busy = busy_one_of kind.LimitBusyTimes refl
-
-pub avoid_clashes_by_counts : (P : Type 0) → false ≡ true → P
-avoid_clashes_by_counts P e = absurd (false≢true e)

@@ -1,5 +1,5 @@
 -- The monitors that a family serves, for each resource.
-use Rattle.std.specs.Prelude.{ℕ, ◌≡◌, ◌<◌, ◌+◌, ◌&&◌, Bool, true, false, if◌then◌else◌, Option, Some, List, [], ◌∷◌, length, slice_get, slice_set, slice_index_or, count_by}
+use Rattle.std.specs.Prelude.{ℕ, ◌≡◌, ◌<◌, ◌+◌, ◌&&◌, Bool, true, if◌then◌else◌, Option, Some, List, [], ◌∷◌, length, slice_get, slice_index_or, count_by}
 use Rattle.std.specs.List.{sum_by}
 use Rattle.std.specs.Option.{option_map_or}
 use Rattle.khe_base.specs.declared.numbers.ResourceId.{ResourceId}

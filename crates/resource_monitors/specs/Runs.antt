@@ -1,5 +1,5 @@
 -- The cells that a change fills or empties.
-use Rattle.std.specs.Prelude.{ℕ, ◌≡◌, ◌<◌, ◌+◌, Bool, true, false, Option, Some, None, List, [], ◌∷◌, length, slice_get}
+use Rattle.std.specs.Prelude.{ℕ, ◌≡◌, ◌<◌, ◌+◌, Bool, true, false, Option, Some, None, List, [], ◌∷◌, slice_get}
 use Rattle.std.specs.Option.{option_and_then, option_map}
 use Rattle.khe_base.specs.declared.numbers.ResourceId.{ResourceId}
 use Rattle.khe_base.specs.declared.numbers.TimeId.{TimeId}

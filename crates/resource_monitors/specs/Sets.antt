@@ -1,5 +1,5 @@
 -- Monitors at resources, and the sets of times that a rule names for a resource.
-use Rattle.std.specs.Prelude.{Bool, true, false, List, [], ◌∷◌, map}
+use Rattle.std.specs.Prelude.{Bool, List, [], ◌∷◌, map}
 use Rattle.khe_instance.specs.declared.parts.Parts.{Parts}
 use Rattle.khe_instance.specs.declared.rules.Rule.{Rule}
 use Rattle.khe_instance.specs.declared.rules.Rule.TheVariants.{AvoidUnavailableTimes, LimitIdleTimes, ClusterBusyTimes, LimitBusyTimes}

@@ -30,7 +30,7 @@ use timetables::Timetable;
 /// It keeps a timetable, the masks of the constraints' sets of times and for each resource the
 /// monitors at it. A change turns the counts of the cells that it fills or empties, and then
 /// measures the monitors at their resources that list one of the times, each once for each place.
-/// Kinds that are measured by busy times alone are looked at only where a resource may have become
+/// Monitors that are measured by busy times alone are passed over where no resource may have become
 /// busy or free.
 #[derive(Drop)]
 pub struct Cells<K> {

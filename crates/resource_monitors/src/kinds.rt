@@ -14,17 +14,45 @@ pub trait CellKinds {
     fn serves(kind: Kind) -> bool
         ensures { result ≡ serves_kind kind };
 
-    /// Whether each of them is measured by its resource's busy times alone.
-    ghost by_busy: { Bool };
-
-    /// Whether each of them is measured by whether tasks run, and not by how many. It takes
-    /// constant time.
-    fn by_busy() -> bool
-        ensures { result ≡ by_busy };
-
     ghost at_cells: { (k : Kind) → serves_kind k ≡ true → is_at_cells k ≡ true };
+}
 
-    ghost busy_alone: { by_busy ≡ true → (k : Kind) → serves_kind k ≡ true → is_by_busy k ≡ true };
+/// Whether a kind is measured by whether tasks run, and not by how many.
+pub(crate) fn is_by_busy(kind: Kind) -> bool
+    ensures { result ≡ is_by_busy kind }
+{
+    match kind {
+        Kind::AvoidUnavailableTimes => true,
+        Kind::LimitIdleTimes => true,
+        Kind::ClusterBusyTimes => true,
+        Kind::LimitBusyTimes => true,
+        _ => false,
+    }
+}
+
+/// The family of all five kinds, which fill and empty the same cells.
+pub type AtCells = Cells<FiveKinds>;
+
+/// All five.
+pub struct FiveKinds;
+
+impl CellKinds for FiveKinds {
+    ghost use Rattle.resource_monitors.specs.Cells.{is_at_cells};
+
+    ghost serves_kind = { is_at_cells };
+
+    fn serves(kind: Kind) -> bool {
+        match kind {
+            Kind::AvoidClashes => true,
+            Kind::AvoidUnavailableTimes => true,
+            Kind::LimitIdleTimes => true,
+            Kind::ClusterBusyTimes => true,
+            Kind::LimitBusyTimes => true,
+            _ => false,
+        }
+    }
+
+    ghost at_cells = { λ k e. e };
 }
 
 /// The family of Avoid Clashes: for each time, how many tasks of the resource run then beyond one.
@@ -36,8 +64,7 @@ pub struct Clashes;
 impl CellKinds for Clashes {
     ghost use Rattle.khe_instance.specs.KindLaws.{is_kind};
     ghost use Rattle.khe_instance.specs.declared.rules.Kind.TheVariants as kind;
-    ghost use Rattle.std.specs.Prelude.{false};
-    ghost use Rattle.resource_monitors.specs.KindsAtCells.{avoid_clashes_at_cells, avoid_clashes_by_counts};
+    ghost use Rattle.resource_monitors.specs.KindsAtCells.{avoid_clashes_at_cells};
 
     ghost serves_kind = { λ k. is_kind k kind.AvoidClashes };
 
@@ -45,15 +72,7 @@ impl CellKinds for Clashes {
         kind == Kind::AvoidClashes
     }
 
-    ghost by_busy = { false };
-
-    fn by_busy() -> bool {
-        false
-    }
-
     ghost at_cells = { avoid_clashes_at_cells };
-
-    ghost busy_alone = { λ e k s. avoid_clashes_by_counts _ e };
 }
 
 /// The family of Avoid Unavailable Times: how many of the listed times the resource is busy at.
@@ -65,8 +84,7 @@ pub struct UnavailableTimes;
 impl CellKinds for UnavailableTimes {
     ghost use Rattle.khe_instance.specs.KindLaws.{is_kind};
     ghost use Rattle.khe_instance.specs.declared.rules.Kind.TheVariants as kind;
-    ghost use Rattle.std.specs.Prelude.{true};
-    ghost use Rattle.resource_monitors.specs.KindsAtCells.{avoid_unavailable_times_at_cells, avoid_unavailable_times_by_busy};
+    ghost use Rattle.resource_monitors.specs.KindsAtCells.{avoid_unavailable_times_at_cells};
 
     ghost serves_kind = { λ k. is_kind k kind.AvoidUnavailableTimes };
 
@@ -74,15 +92,7 @@ impl CellKinds for UnavailableTimes {
         kind == Kind::AvoidUnavailableTimes
     }
 
-    ghost by_busy = { true };
-
-    fn by_busy() -> bool {
-        true
-    }
-
     ghost at_cells = { avoid_unavailable_times_at_cells };
-
-    ghost busy_alone = { λ e. avoid_unavailable_times_by_busy };
 }
 
 /// The family of Limit Idle Times: how far the idle times of the listed groups together lie outside the bounds.
@@ -94,8 +104,7 @@ pub struct IdleTimes;
 impl CellKinds for IdleTimes {
     ghost use Rattle.khe_instance.specs.KindLaws.{is_kind};
     ghost use Rattle.khe_instance.specs.declared.rules.Kind.TheVariants as kind;
-    ghost use Rattle.std.specs.Prelude.{true};
-    ghost use Rattle.resource_monitors.specs.KindsAtCells.{limit_idle_times_at_cells, limit_idle_times_by_busy};
+    ghost use Rattle.resource_monitors.specs.KindsAtCells.{limit_idle_times_at_cells};
 
     ghost serves_kind = { λ k. is_kind k kind.LimitIdleTimes };
 
@@ -103,15 +112,7 @@ impl CellKinds for IdleTimes {
         kind == Kind::LimitIdleTimes
     }
 
-    ghost by_busy = { true };
-
-    fn by_busy() -> bool {
-        true
-    }
-
     ghost at_cells = { limit_idle_times_at_cells };
-
-    ghost busy_alone = { λ e. limit_idle_times_by_busy };
 }
 
 /// The family of Cluster Busy Times: how far the number of listed groups with a busy time lies outside the bounds.
@@ -123,8 +124,7 @@ pub struct BusyGroups;
 impl CellKinds for BusyGroups {
     ghost use Rattle.khe_instance.specs.KindLaws.{is_kind};
     ghost use Rattle.khe_instance.specs.declared.rules.Kind.TheVariants as kind;
-    ghost use Rattle.std.specs.Prelude.{true};
-    ghost use Rattle.resource_monitors.specs.KindsAtCells.{cluster_busy_times_at_cells, cluster_busy_times_by_busy};
+    ghost use Rattle.resource_monitors.specs.KindsAtCells.{cluster_busy_times_at_cells};
 
     ghost serves_kind = { λ k. is_kind k kind.ClusterBusyTimes };
 
@@ -132,15 +132,7 @@ impl CellKinds for BusyGroups {
         kind == Kind::ClusterBusyTimes
     }
 
-    ghost by_busy = { true };
-
-    fn by_busy() -> bool {
-        true
-    }
-
     ghost at_cells = { cluster_busy_times_at_cells };
-
-    ghost busy_alone = { λ e. cluster_busy_times_by_busy };
 }
 
 /// The family of Limit Busy Times: for each listed group with a busy time, how far the number of its busy times
@@ -153,8 +145,7 @@ pub struct BusyTimes;
 impl CellKinds for BusyTimes {
     ghost use Rattle.khe_instance.specs.KindLaws.{is_kind};
     ghost use Rattle.khe_instance.specs.declared.rules.Kind.TheVariants as kind;
-    ghost use Rattle.std.specs.Prelude.{true};
-    ghost use Rattle.resource_monitors.specs.KindsAtCells.{limit_busy_times_at_cells, limit_busy_times_by_busy};
+    ghost use Rattle.resource_monitors.specs.KindsAtCells.{limit_busy_times_at_cells};
 
     ghost serves_kind = { λ k. is_kind k kind.LimitBusyTimes };
 
@@ -162,13 +153,5 @@ impl CellKinds for BusyTimes {
         kind == Kind::LimitBusyTimes
     }
 
-    ghost by_busy = { true };
-
-    fn by_busy() -> bool {
-        true
-    }
-
     ghost at_cells = { limit_busy_times_at_cells };
-
-    ghost busy_alone = { λ e. limit_busy_times_by_busy };
 }

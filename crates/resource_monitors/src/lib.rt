@@ -15,8 +15,8 @@ mod values;
 
 pub use cells::Cells;
 pub use kinds::{
-    AvoidClashes, AvoidUnavailableTimes, BusyGroups, BusyTimes, CellKinds, Clashes,
-    ClusterBusyTimes, IdleTimes, LimitBusyTimes, LimitIdleTimes, UnavailableTimes,
+    AtCells, AvoidClashes, AvoidUnavailableTimes, BusyGroups, BusyTimes, CellKinds, Clashes,
+    ClusterBusyTimes, FiveKinds, IdleTimes, LimitBusyTimes, LimitIdleTimes, UnavailableTimes,
 };
 pub use posts::Post;
 pub use runs::Run;

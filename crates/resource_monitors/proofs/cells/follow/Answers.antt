@@ -1,10 +1,7 @@
 -- A change turns the counts, and what agreed agrees.
-use Rattle.std.proofs.Common.{◌≡◌, ◌≤◌, ◌<◌, ◌∙◌, ℕ, Some, None, length, refl, sym, ap, subst, arith}
-use Rattle.khe_told.specs.Changes.{meet_of}
-use Rattle.khe_told.specs.Slots.{slot_at}
+use Rattle.std.proofs.Common.{◌∙◌, length, refl, sym, subst, arith}
 use Rattle.resource_monitors.specs.Cells.{is_due, value_in}
 use Rattle.resource_monitors.specs.Posts.{AreAllReported}
-use Rattle.resource_monitors.specs.Runs.{run_of}
 use Rattle.resource_monitors.proofs.FollowLaws.{counts_none, agrees_none, turnable, resources, counts_then, few_then, agrees_then, watchers_then}
 use Rattle.resource_monitors.proofs.RunLaws.{run_within}
 use Rattle.resource_monitors.proofs.cells.follow.Goals as goal
@@ -43,7 +40,7 @@ pub returns-clause-monitors : goal.returns-clause-monitors
 returns-clause-monitors g c = c.report_all.ensures.reported.amount
 
 pub returns-clause-served : goal.returns-clause-served
-returns-clause-served g c = agrees_then c.args.inst.now c.facts.ensures c.args.told.now c.args.change c.requires.told c.requires.fits c.args.table.now c.requires.counts c.in-Some.run' (sym (sym c.in-Some.is ∙ c.run_of.ensures)) c.given_by-given.result.now c.given_by-given.ensures c.turn_all.new.table c.turn_all.ensures.counts g.K.CellKinds.serves_kind g.met.K.CellKinds.at_cells g.K.CellKinds.by_busy g.met.K.CellKinds.busy_alone (g.Y.Tally.deviations c.args.tally.now) (g.Y.Tally.deviations c.report_all.new.tally) (subst (λ n. AreAllReported c.args.inst.now g.K.CellKinds.serves_kind (value_in c.args.inst.now c.turn_all.new.table) (is_due c.args.inst.now g.K.CellKinds.by_busy c.turn_all.new.table c.in-Some.run'.start c.in-Some.run'.end n) c.given_by-given.result.now (length c.given_by-given.result.now) (g.Y.Tally.deviations c.args.tally.now) (g.Y.Tally.deviations c.report_all.new.tally)) c.limit_for.ensures c.report_all.ensures.reported)
+returns-clause-served g c = agrees_then c.args.inst.now c.facts.ensures c.args.told.now c.args.change c.requires.told c.requires.fits c.args.table.now c.requires.counts c.in-Some.run' (sym (sym c.in-Some.is ∙ c.run_of.ensures)) c.given_by-given.result.now c.given_by-given.ensures c.turn_all.new.table c.turn_all.ensures.counts g.K.CellKinds.serves_kind g.met.K.CellKinds.at_cells (g.Y.Tally.deviations c.args.tally.now) (g.Y.Tally.deviations c.report_all.new.tally) (subst (λ n. AreAllReported c.args.inst.now g.K.CellKinds.serves_kind (value_in c.args.inst.now c.turn_all.new.table) (is_due c.args.inst.now c.turn_all.new.table c.in-Some.run'.start c.in-Some.run'.end n) c.given_by-given.result.now (length c.given_by-given.result.now) (g.Y.Tally.deviations c.args.tally.now) (g.Y.Tally.deviations c.report_all.new.tally)) c.limit_for.ensures c.report_all.ensures.reported)
 
 pub returns-clause-others : goal.returns-clause-others
 returns-clause-others g c = c.report_all.ensures.reported.others

@@ -5,7 +5,7 @@ use Rattle.std.proofs.lemmas.Option.{slice_get-get_or, slice_get_within}
 use Rattle.khe_instance.specs.declared.points.Monitor.{Monitor}
 use Rattle.khe_instance.specs.declared.points.Point.TheVariants as point
 use Rattle.khe_instance.specs.declared.rules.Kind.TheVariants as kind
-use Rattle.resource_monitors.specs.Cells.{lists_any, value_in}
+use Rattle.resource_monitors.specs.Cells.{is_due_if, lists_any, value_in}
 use Rattle.resource_monitors.specs.declared.posts.Post.{Post}
 use Rattle.resource_monitors.proofs.FamilyLaws.{monitor_at}
 use Rattle.resource_monitors.proofs.ReportLaws.{reported_step}
@@ -35,11 +35,12 @@ loop-post-preserved g c =
     let a : Post = get_or list i no_post in
     let there = slice_get-get_or list i no_post c.loop-post-test.true in
     let test : Monitor → Bool = lists_any p c.args.start c.args.end in
+    let called : Monitor → Bool = is_due_if p c.args.start c.args.end c.args.low in
     let value : Monitor → ℕ = value_in p c.args.table.now in
     let u = c.loop-post.invariant.reported in
     let known : a.number.0 < length (g.Y.Tally.deviations c.loop-post.tally) = let x = slice_get_within p.monitors _ _ (c.requires.posts _ _ there) in let b = u.amount in let d = c.requires.monitors in omega (arith, x, b, d) in
     record {
-      reported = reported_step p value test list (g.Y.Tally.deviations c.args.tally.now) c.requires.posts i a (g.Y.Tally.deviations c.loop-post.tally) (g.Y.Tally.deviations c.report_one.new.tally) there known c.report_one.ensures.set u;
+      reported = reported_step p value called list (g.Y.Tally.deviations c.args.tally.now) c.requires.posts i a (g.Y.Tally.deviations c.loop-post.tally) (g.Y.Tally.deviations c.report_one.new.tally) there known c.report_one.ensures.set u;
       same_rest = g.met.Y.Tally.same_rest_trans _ _ _ c.loop-post.invariant.same_rest c.report_one.ensures.rest;
       steps =
           let x = c.report_one.ensures.steps in

@@ -1,5 +1,5 @@
 -- One more place.
-use Rattle.std.proofs.Common.{◌≡◌, ◌<◌, ◌+◌, ◌∙◌, ℕ, Bool, Option, Some, None, get_or, length, take, sym, ap, arith}
+use Rattle.std.proofs.Common.{◌∙◌, ℕ, Bool, Option, Some, None, get_or, ap, arith}
 use Rattle.std.proofs.lemmas.List.Sums.{sum_by_more}
 use Rattle.std.proofs.lemmas.Option.{slice_get-get_or}
 use Rattle.khe_base.specs.declared.numbers.ResourceId.{ResourceId}
@@ -20,7 +20,7 @@ loop-place-preserved g c =
     let o : Option ResourceId = get_or given i None in
     let there = slice_get-get_or given i None c.loop-place-test.true in
     let test : Monitor → Bool = lists_any p c.args.start c.args.end in
-    let due : Monitor → Bool = is_due p g.K.CellKinds.by_busy c.args.table.now c.args.start c.args.end c.args.limit in
+    let due : Monitor → Bool = is_due p c.args.table.now c.args.start c.args.end c.args.limit in
     let value : Monitor → ℕ = value_in p c.args.table.now in
     record {
       reported = all_step p value due g.K.CellKinds.serves_kind given (g.Y.Tally.deviations c.args.tally.now) i o (g.Y.Tally.deviations c.loop-place.tally) (g.Y.Tally.deviations c.report_place.new.tally) there c.report_place.ensures.reported c.loop-place.invariant.reported;
