@@ -11,6 +11,4 @@ mod points;
 mod words;
 
 pub use answers::{group_line, meet_line, ok_line, refused_line, task_line};
-pub use lines::{
-    header_line, invalid_line, monitor_line, push_cause, solution_line, total_line,
-};
+pub use lines::{header_line, invalid_line, monitor_line, push_cause, solution_line, total_line};
