@@ -2,6 +2,7 @@ use crate::hands::{
     Row, cost, edit, edit_and_undo, graph_of, group_cost, has_children, set_all, set_each,
 };
 use khe_base::{GroupId, MonitorId, NoMemory, Totals};
+use khe_instance::Group;
 use khe_told::{Edit, Refusal};
 use monitor_graph::Graph;
 use std::process::Abort;
@@ -129,6 +130,46 @@ fn make_two_groups(rt: &impl Abort, graph: &mut Graph) -> Result<(), NoMemory> {
     assert!(rt; has_children(graph, 1, &[]));
     assert_eq!(rt; group_cost(graph, 0), Some(Totals { hard: 8, soft: 0 }));
     Ok(())
+}
+
+#[test]
+fn the_detached_monitors_are_listed(rt: HostRuntime) -> Result<(), Fail> {
+    let mut graph = graph_of(rt.alloc(), SEVEN, 1)?;
+    let _ = edit(
+        &mut graph,
+        Edit::Detach {
+            monitor: MonitorId(6),
+        },
+    )?;
+    let _ = edit(
+        &mut graph,
+        Edit::Detach {
+            monitor: MonitorId(3),
+        },
+    )?;
+    let detached = graph.detached(rt.alloc())?;
+    assert!(&rt; detached.as_slice() == [MonitorId(3), MonitorId(6)].as_slice());
+    Ok(())
+}
+
+#[test]
+fn groups_are_listed(rt: HostRuntime) -> Result<(), Fail> {
+    let mut graph = graph_of(rt.alloc(), SEVEN, 1)?;
+    make_two_groups(&rt, &mut graph)?;
+    let groups = graph.groups(rt.alloc())?;
+    assert!(&rt; are_the_two(groups.as_slice()));
+    Ok(())
+}
+
+/// Whether these are group 0 of the monitors 1 and 0 in this order, and group 1 without any.
+fn are_the_two(groups: &[Group]) -> bool {
+    let [first, second] = groups else {
+        return false;
+    };
+    first.group == GroupId(0)
+        && first.children.as_slice() == [MonitorId(1), MonitorId(0)].as_slice()
+        && second.group == GroupId(1)
+        && second.children.is_empty()
 }
 
 #[test]
