@@ -145,10 +145,14 @@ fn undo_to<F: Family, L: Ledger>(
     push_mark(alloc, done, text)
 }
 
-/// Adds that something was done, and the number of what was made.
+/// Adds that something was done, and the number of what was made. Where nothing was made, as after most
+/// edits, the answer is no text of its own first.
 fn push_ok(alloc: Global, made: Option<u32>, text: &mut Text) -> Result<(), NoMemory>
     ensures { OnOk result (text.new ≡ text.old ++ lines.ok_line made) }
 {
+    if made.is_none() {
+        return text.push_literal("ok\n");
+    }
     text.push_text(&ok_line(alloc, made)?)
 }
 
