@@ -30,8 +30,11 @@ const MIDDLE: &str = "</Events>\n<Constraints>";
 
 const TAIL: &str = "</Constraints>\n</Instance></Instances>\n</HighSchoolTimetableArchive>\n";
 
+/// The events and the constraints of an archive, as texts.
+pub(crate) type Texts = (&'static str, &'static str);
+
 /// The text of an archive of an instance with these events and constraints.
-pub(crate) fn text_of(alloc: Global, (events, rules): (&str, &str)) -> Result<String, NoMemory> {
+fn text_of(alloc: Global, (events, rules): Texts) -> Result<String, NoMemory> {
     let mut text = String::new(alloc);
     text.push_str(HEAD)?;
     text.push_str(events)?;
@@ -62,9 +65,12 @@ fn archive_of(alloc: Global, text: &str) -> Option<Archive>
     Some(found)
 }
 
-/// The instances of the archive that a text spells, if it has no fault.
-pub(crate) fn resolved_of(alloc: Global, text: &str) -> Option<Resolved> {
-    let archive = archive_of(alloc, text)?;
+/// The instances of the archive with these events and constraints, if it has no fault.
+pub(crate) fn resolved_of(alloc: Global, texts: Texts) -> Option<Resolved> {
+    let Ok(text) = text_of(alloc, texts) else {
+        return None;
+    };
+    let archive = archive_of(alloc, text.as_str())?;
     let Ok(resolved) = resolve(alloc, &archive) else {
         return None;
     };

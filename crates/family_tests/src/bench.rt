@@ -9,9 +9,9 @@ ghost use Rattle.family_tests.specs.Benches.{AreHeld, IsBench, IsSetFor};
 
 use crate::fitting::fits;
 use crate::marks::{Marks, no_marks};
-use khe_base::{EventId, MonitorId, NoMemory};
+use khe_base::{EventId, MeetId, MonitorId, NoMemory, ResourceId};
 use khe_instance::Instance;
-use khe_told::{Blank, Change, Family, Steps, Told};
+use khe_told::{Blank, Change, Family, Span, Steps, Told};
 use std::alloc::Global;
 use std::marker::{Brand, Model};
 use std::sync::ledger::Ledger;
@@ -183,6 +183,16 @@ impl<'i, F: Family + Drop> Bench<'i, F> {
         } else {
             None
         }
+    }
+
+    /// The duration and the start of a meet, or `None` where no meet has the number.
+    pub fn span(&self, meet: u32) -> Option<Span> {
+        self.told.span(MeetId(meet))
+    }
+
+    /// What each place of a meet slot is given.
+    pub fn given(&self, meet: u32) -> &[Option<ResourceId>] {
+        self.told.given(MeetId(meet))
     }
 
     /// How often a deviation was set.

@@ -83,25 +83,10 @@ const ORDERS: Row = (
 );
 
 #[test]
-fn meets_of_an_event_are_short_long_and_few(rt: HostRuntime) -> Result<(), Fail> {
+fn kinds_at_events(rt: HostRuntime) -> Result<(), Fail> {
     assert!(rt; holds::<SplitEvents>(rt.alloc(), &SPLITS)?);
-    Ok(())
-}
-
-#[test]
-fn linked_events_run_together(rt: HostRuntime) -> Result<(), Fail> {
     assert!(rt; holds::<LinkEvents>(rt.alloc(), &LINKS)?);
-    Ok(())
-}
-
-#[test]
-fn an_event_with_two_meets_at_a_time_runs_once(rt: HostRuntime) -> Result<(), Fail> {
     assert!(rt; holds::<LinkEvents>(rt.alloc(), &TWO_MEETS_LINKED)?);
-    Ok(())
-}
-
-#[test]
-fn one_event_follows_another(rt: HostRuntime) -> Result<(), Fail> {
     assert!(rt; holds::<OrderEvents>(rt.alloc(), &ORDERS)?);
     Ok(())
 }

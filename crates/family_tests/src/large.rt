@@ -1,14 +1,14 @@
 //! An event of 100,000 times in meets of one time each, to see that no change walks over all of them.
 
 use crate::all_kinds::ALL_KINDS;
-use crate::archives::{resolved_of, text_of};
+use crate::archives::resolved_of;
 use crate::bench::Bench;
+use crate::families::Families;
 use crate::moves::{Move, stands_at};
 use event_monitors::{
     AssignResource, AssignTime, DistributeSplitEvents, PreferResources, PreferTimes, SplitEvents,
 };
 use khe_base::NoMemory;
-use khe_instance::Instance;
 use khe_told::{Change, Family};
 use link_monitors::LinkEvents;
 use order_monitors::OrderEvents;
@@ -19,9 +19,29 @@ use set_monitors::{AvoidSplitAssignments, SpreadEvents};
 use std::alloc::Global;
 use std::test::Fail;
 use workload_monitors::LimitWorkload;
+use xhstt_resolve::Resolved;
 
 /// The meets.
 const MEETS: u32 = 100_000;
+
+/// How often all is done with one family.
+const OFTEN: u32 = 20;
+
+/// The deviation of the monitor of each kind where each meet has a start and its task a resource.
+const WHOLE: &[u64] = &[
+    0, 0, 100_000, 100_000, 90_000, 100_000, 0, 100_000, 0, 10, 99_990, 10, 0, 1, 10, 100_000,
+];
+
+/// The same where no meet has a start and no task a resource.
+const BARE: &[u64] = &[
+    100_000, 100_000, 100_000, 100_000, 0, 0, 0, 0, 0, 0, 0, 0, 0, 0, 0, 0,
+];
+
+/// The same where there are no meets.
+const EMPTY: &[u64] = &[0, 0, 0, 0, 0, 0, 0, 0, 0, 0, 0, 0, 0, 0, 0, 0];
+
+/// The first of a family's monitors, and the number after the last.
+type Monitors = (u32, u32);
 
 const EVENT: &str =
     r#"<Event Id="E"><Duration>100000</Duration><EventGroups><EventGroup Reference="g"/></EventGroups>
@@ -66,151 +86,170 @@ fn back<F: Family + Drop>(bench: &mut Bench<'_, F>, phase: Phase) -> bool {
     true
 }
 
-/// Whether a monitor deviates by the first number when each meet has a start and its task a
-/// resource, by the second when none has, and by 0 when there are none.
-fn turns<F: Family + Drop>(
-    bench: &mut Bench<'_, F>,
-    monitor: u32,
-    (whole, bare): (u64, u64),
-) -> bool {
+/// Whether monitors deviate as the table has it.
+fn stand<F: Family + Drop>(bench: &Bench<'_, F>, monitors: Monitors, amounts: &[u64]) -> bool {
+    for monitor in monitors.0..monitors.1 {
+        let Some(amount) = amounts.get(monitor as usize) else {
+            return false;
+        };
+        if !stands_at(bench, monitor, *amount) {
+            return false;
+        }
+    }
+    true
+}
+
+/// Whether monitors deviate as the tables have it, when each meet has a start and its task a
+/// resource, when none has, and when there are none.
+fn turns<F: Family + Drop>(bench: &mut Bench<'_, F>, monitors: Monitors) -> bool {
     forth(bench, Phase::Add)
         && forth(bench, Phase::Place)
         && forth(bench, Phase::Give)
-        && stands_at(bench, monitor, whole)
+        && stand(bench, monitors, WHOLE)
         && back(bench, Phase::Give)
         && back(bench, Phase::Place)
-        && stands_at(bench, monitor, bare)
+        && stand(bench, monitors, BARE)
         && back(bench, Phase::Add)
-        && stands_at(bench, monitor, 0)
+        && stand(bench, monitors, EMPTY)
 }
 
+/// Whether they do so many times over.
 fn turns_often<F: Family + Drop>(
-    alloc: Global,
-    inst: &Instance,
-    monitor: u32,
-    amounts: (u64, u64),
-) -> Result<bool, NoMemory>
-    requires { F.IsWellJoined }
-{
-    let mut bench = Bench::<F>::open(alloc, inst)?;
-    for _ in 0..20 {
-        if !turns(&mut bench, monitor, amounts) {
-            return Ok(false);
+    bench: &mut Bench<'_, F>,
+    monitors: Monitors,
+    rounds: u32,
+) -> bool {
+    for _ in 0..rounds {
+        if !turns(bench, monitors) {
+            return false;
         }
     }
-    Ok(true)
+    true
 }
 
-/// Whether a family's monitor deviates so, twenty times over.
-fn holds<F: Family + Drop>(
+fn turns_from<F: Family + Drop>(
     alloc: Global,
-    monitor: u32,
-    amounts: (u64, u64),
+    resolved: &Resolved,
+    monitors: Monitors,
+    rounds: u32,
 ) -> Result<bool, NoMemory>
     requires { F.IsWellJoined }
 {
-    let text = text_of(alloc, (EVENT, ALL_KINDS))?;
-    let Some(resolved) = resolved_of(alloc, text.as_str()) else {
+    let Some(inst) = resolved.instances.as_slice().first() else {
         return Ok(false);
     };
-    match resolved.instances.as_slice().first() {
-        Some(inst) => turns_often::<F>(alloc, inst, monitor, amounts),
+    let mut bench = Bench::<F>::open(alloc, inst)?;
+    Ok(turns_often(&mut bench, monitors, rounds))
+}
+
+/// Whether a family's monitors deviate so, so many times over.
+fn holds<F: Family + Drop>(alloc: Global, monitors: Monitors, rounds: u32) -> Result<bool, NoMemory>
+    requires { F.IsWellJoined }
+{
+    match resolved_of(alloc, (EVENT, ALL_KINDS)) {
+        Some(resolved) => turns_from::<F>(alloc, &resolved, monitors, rounds),
         None => Ok(false),
     }
 }
 
 #[test]
 fn assign_time(rt: HostRuntime) -> Result<(), Fail> {
-    assert!(rt; holds::<AssignTime>(rt.alloc(), 0, (0, 100_000))?);
+    assert!(rt; holds::<AssignTime>(rt.alloc(), (0, 1), OFTEN)?);
     Ok(())
 }
 
 #[test]
 fn assign_resource(rt: HostRuntime) -> Result<(), Fail> {
-    assert!(rt; holds::<AssignResource>(rt.alloc(), 1, (0, 100_000))?);
+    assert!(rt; holds::<AssignResource>(rt.alloc(), (1, 2), OFTEN)?);
     Ok(())
 }
 
 #[test]
 fn split_events(rt: HostRuntime) -> Result<(), Fail> {
-    assert!(rt; holds::<SplitEvents>(rt.alloc(), 2, (100_000, 100_000))?);
+    assert!(rt; holds::<SplitEvents>(rt.alloc(), (2, 3), OFTEN)?);
     Ok(())
 }
 
 #[test]
 fn distribute_split_events(rt: HostRuntime) -> Result<(), Fail> {
-    assert!(rt; holds::<DistributeSplitEvents>(rt.alloc(), 3, (100_000, 100_000))?);
+    assert!(rt; holds::<DistributeSplitEvents>(rt.alloc(), (3, 4), OFTEN)?);
     Ok(())
 }
 
 #[test]
 fn prefer_times(rt: HostRuntime) -> Result<(), Fail> {
-    assert!(rt; holds::<PreferTimes>(rt.alloc(), 4, (90_000, 0))?);
+    assert!(rt; holds::<PreferTimes>(rt.alloc(), (4, 5), OFTEN)?);
     Ok(())
 }
 
 #[test]
 fn prefer_resources(rt: HostRuntime) -> Result<(), Fail> {
-    assert!(rt; holds::<PreferResources>(rt.alloc(), 5, (100_000, 0))?);
+    assert!(rt; holds::<PreferResources>(rt.alloc(), (5, 6), OFTEN)?);
     Ok(())
 }
 
 #[test]
 fn avoid_split_assignments(rt: HostRuntime) -> Result<(), Fail> {
-    assert!(rt; holds::<AvoidSplitAssignments>(rt.alloc(), 6, (0, 0))?);
+    assert!(rt; holds::<AvoidSplitAssignments>(rt.alloc(), (6, 7), OFTEN)?);
     Ok(())
 }
 
 #[test]
 fn spread_events(rt: HostRuntime) -> Result<(), Fail> {
-    assert!(rt; holds::<SpreadEvents>(rt.alloc(), 7, (100_000, 0))?);
+    assert!(rt; holds::<SpreadEvents>(rt.alloc(), (7, 8), OFTEN)?);
     Ok(())
 }
 
 #[test]
 fn link_events(rt: HostRuntime) -> Result<(), Fail> {
-    assert!(rt; holds::<LinkEvents>(rt.alloc(), 8, (0, 0))?);
+    assert!(rt; holds::<LinkEvents>(rt.alloc(), (8, 9), OFTEN)?);
     Ok(())
 }
 
 #[test]
 fn order_events(rt: HostRuntime) -> Result<(), Fail> {
-    assert!(rt; holds::<OrderEvents>(rt.alloc(), 9, (10, 0))?);
+    assert!(rt; holds::<OrderEvents>(rt.alloc(), (9, 10), OFTEN)?);
     Ok(())
 }
 
 #[test]
 fn avoid_clashes(rt: HostRuntime) -> Result<(), Fail> {
-    assert!(rt; holds::<AvoidClashes>(rt.alloc(), 10, (99_990, 0))?);
+    assert!(rt; holds::<AvoidClashes>(rt.alloc(), (10, 11), OFTEN)?);
     Ok(())
 }
 
 #[test]
 fn avoid_unavailable_times(rt: HostRuntime) -> Result<(), Fail> {
-    assert!(rt; holds::<AvoidUnavailableTimes>(rt.alloc(), 11, (10, 0))?);
+    assert!(rt; holds::<AvoidUnavailableTimes>(rt.alloc(), (11, 12), OFTEN)?);
     Ok(())
 }
 
 #[test]
 fn limit_idle_times(rt: HostRuntime) -> Result<(), Fail> {
-    assert!(rt; holds::<LimitIdleTimes>(rt.alloc(), 12, (0, 0))?);
+    assert!(rt; holds::<LimitIdleTimes>(rt.alloc(), (12, 13), OFTEN)?);
     Ok(())
 }
 
 #[test]
 fn cluster_busy_times(rt: HostRuntime) -> Result<(), Fail> {
-    assert!(rt; holds::<ClusterBusyTimes>(rt.alloc(), 13, (1, 0))?);
+    assert!(rt; holds::<ClusterBusyTimes>(rt.alloc(), (13, 14), OFTEN)?);
     Ok(())
 }
 
 #[test]
 fn limit_busy_times(rt: HostRuntime) -> Result<(), Fail> {
-    assert!(rt; holds::<LimitBusyTimes>(rt.alloc(), 14, (10, 0))?);
+    assert!(rt; holds::<LimitBusyTimes>(rt.alloc(), (14, 15), OFTEN)?);
     Ok(())
 }
 
 #[test]
 fn limit_workload(rt: HostRuntime) -> Result<(), Fail> {
-    assert!(rt; holds::<LimitWorkload>(rt.alloc(), 15, (100_000, 0))?);
+    assert!(rt; holds::<LimitWorkload>(rt.alloc(), (15, 16), OFTEN)?);
+    Ok(())
+}
+
+#[test]
+fn all_kinds(rt: HostRuntime) -> Result<(), Fail> {
+    assert!(rt; holds::<Families>(rt.alloc(), (0, 16), 1)?);
     Ok(())
 }

@@ -9,6 +9,8 @@ mod archives;
 mod bench;
 #[cfg(test)]
 mod event_rows;
+#[cfg(test)]
+mod families;
 mod fitting;
 #[cfg(test)]
 mod large;

@@ -1,11 +1,13 @@
 //! Changes in short, and benches that follow them.
 
-use crate::archives::{resolved_of, text_of};
+use crate::archives::{Texts, resolved_of};
 use crate::bench::Bench;
+use crate::families::Families;
 use khe_base::{MeetId, NoMemory, ResourceId, TaskId, TimeId};
 use khe_instance::Instance;
 use khe_told::{Change, Family};
 use std::alloc::Global;
+use xhstt_resolve::Resolved;
 
 /// A change by its numbers: the meet, for a task also the place, and then the duration, the start or
 /// the resource.
@@ -61,7 +63,7 @@ impl Move {
 pub(crate) type Step = (Move, u64);
 
 /// The events and the constraint of an instance, and changes from no meets on.
-pub(crate) type Row = ((&'static str, &'static str), &'static [Step]);
+pub(crate) type Row = (Texts, &'static [Step]);
 
 /// Whether a monitor's deviation is this one, as it was told and as it is asked for.
 pub(crate) fn stands_at<F: Family + Drop>(
@@ -83,6 +85,7 @@ fn follows<F: Family + Drop>(bench: &mut Bench<'_, F>, steps: &[Step]) -> bool {
     true
 }
 
+/// Whether they do so from no meets on.
 fn follows_on<F: Family + Drop>(
     alloc: Global,
     inst: &Instance,
@@ -94,17 +97,29 @@ fn follows_on<F: Family + Drop>(
     Ok(follows(&mut bench, steps))
 }
 
-/// Whether a row holds of a family.
+/// Whether they do so of a family, and of the sixteen as one.
+fn both_follow<F: Family + Drop>(
+    alloc: Global,
+    resolved: &Resolved,
+    steps: &[Step],
+) -> Result<bool, NoMemory>
+    requires { F.IsWellJoined }
+{
+    match resolved.instances.as_slice().first() {
+        Some(inst) => {
+            Ok(follows_on::<F>(alloc, inst, steps)? && follows_on::<Families>(alloc, inst, steps)?)
+        }
+        None => Ok(false),
+    }
+}
+
+/// Whether a row holds of a family, and of the sixteen as one.
 pub(crate) fn holds<F: Family + Drop>(alloc: Global, row: &Row) -> Result<bool, NoMemory>
     requires { F.IsWellJoined }
 {
     let (texts, steps) = *row;
-    let text = text_of(alloc, texts)?;
-    let Some(resolved) = resolved_of(alloc, text.as_str()) else {
-        return Ok(false);
-    };
-    match resolved.instances.as_slice().first() {
-        Some(inst) => follows_on::<F>(alloc, inst, steps),
+    match resolved_of(alloc, texts) {
+        Some(resolved) => both_follow::<F>(alloc, &resolved, steps),
         None => Ok(false),
     }
 }

@@ -1,14 +1,16 @@
 //! Rows of the kinds at resources.
 
-use crate::archives::{resolved_of, text_of};
+use crate::archives::resolved_of;
 use crate::bench::Bench;
 use crate::moves::{Move, Row, holds, stands_at};
 use khe_base::NoMemory;
 use khe_instance::Instance;
+use khe_told::Family;
 use resource_monitors::{AvoidClashes, LimitBusyTimes, LimitIdleTimes};
 use std::alloc::Global;
 use std::test::Fail;
 use workload_monitors::LimitWorkload;
+use xhstt_resolve::Resolved;
 
 const THREE_TIMES: &str = r#"<Event Id="E"><Duration>3</Duration><Workload>4</Workload>
 <Resources><Resource><Role>R</Role><ResourceType Reference="X"/></Resource></Resources></Event>"#;
@@ -80,28 +82,30 @@ const BUSY_TIMES: Row = (
     ],
 );
 
-/// A third is too much, and then three parts that are whole together are not.
-const WORKLOADS: &[Row] = &[
-    (
-        (THREE_TIMES, AT_MOST_ONE),
-        &[(Move::Add(0, 1), 0), (Move::Give(0, 0, 0), 1)],
-    ),
-    (
-        (THREE_TIMES, AT_MOST_FOUR),
-        &[
-            (Move::Add(0, 1), 0),
-            (Move::Add(1, 1), 0),
-            (Move::Add(2, 1), 0),
-            (Move::Give(0, 0, 0), 0),
-            (Move::Give(1, 0, 0), 0),
-            (Move::Give(2, 0, 0), 0),
-        ],
-    ),
-    (
-        (THREE_TIMES, TWO_OR_THREE),
-        &[(Move::Add(0, 1), 2), (Move::Give(0, 0, 0), 1)],
-    ),
-];
+/// A third is too much.
+const ONE_PART: Row = (
+    (THREE_TIMES, AT_MOST_ONE),
+    &[(Move::Add(0, 1), 0), (Move::Give(0, 0, 0), 1)],
+);
+
+/// Three parts that are whole together are not too much: no part is rounded by itself.
+const ALL_PARTS: Row = (
+    (THREE_TIMES, AT_MOST_FOUR),
+    &[
+        (Move::Add(0, 1), 0),
+        (Move::Add(1, 1), 0),
+        (Move::Add(2, 1), 0),
+        (Move::Give(0, 0, 0), 0),
+        (Move::Give(1, 0, 0), 0),
+        (Move::Give(2, 0, 0), 0),
+    ],
+);
+
+/// Two thirds are missing.
+const TOO_LITTLE: Row = (
+    (THREE_TIMES, TWO_OR_THREE),
+    &[(Move::Add(0, 1), 2), (Move::Give(0, 0, 0), 1)],
+);
 
 /// Three tasks at one time, two of them of one meet.
 const THREE_TASKS: Row = (
@@ -126,34 +130,19 @@ const TWO_TASKS: &[Move] = &[
 ];
 
 #[test]
-fn idle_between_busy_times(rt: HostRuntime) -> Result<(), Fail> {
+fn kinds_at_resources(rt: HostRuntime) -> Result<(), Fail> {
     assert!(rt; holds::<LimitIdleTimes>(rt.alloc(), &IDLE_TIMES)?);
-    Ok(())
-}
-
-#[test]
-fn busy_once_a_day(rt: HostRuntime) -> Result<(), Fail> {
     assert!(rt; holds::<LimitBusyTimes>(rt.alloc(), &BUSY_TIMES)?);
-    Ok(())
-}
-
-#[test]
-fn parts_of_a_workload_are_rounded_once(rt: HostRuntime) -> Result<(), Fail> {
-    for row in WORKLOADS {
-        assert!(rt; holds::<LimitWorkload>(rt.alloc(), row)?);
-    }
-    Ok(())
-}
-
-#[test]
-fn two_tasks_of_a_meet_clash(rt: HostRuntime) -> Result<(), Fail> {
+    assert!(rt; holds::<LimitWorkload>(rt.alloc(), &ONE_PART)?);
+    assert!(rt; holds::<LimitWorkload>(rt.alloc(), &ALL_PARTS)?);
+    assert!(rt; holds::<LimitWorkload>(rt.alloc(), &TOO_LITTLE)?);
     assert!(rt; holds::<AvoidClashes>(rt.alloc(), &THREE_TASKS)?);
     Ok(())
 }
 
 /// Whether a resource clashes at two times, and the tally is set at most twice when one task loses
 /// it.
-fn takes_one_of_two(bench: &mut Bench<'_, AvoidClashes>) -> bool {
+fn takes_one_of_two<F: Family + Drop>(bench: &mut Bench<'_, F>) -> bool {
     for each in TWO_TASKS {
         if !bench.note(each.change()) {
             return false;
@@ -166,18 +155,23 @@ fn takes_one_of_two(bench: &mut Bench<'_, AvoidClashes>) -> bool {
     clashed && taken && stands_at(bench, 0, 0) && calls <= 2
 }
 
-fn takes_on(alloc: Global, inst: &Instance) -> Result<bool, NoMemory> {
-    let mut bench = Bench::open(alloc, inst)?;
+fn takes_on<F: Family + Drop>(alloc: Global, inst: &Instance) -> Result<bool, NoMemory>
+    requires { F.IsWellJoined }
+{
+    let mut bench = Bench::<F>::open(alloc, inst)?;
     Ok(takes_one_of_two(&mut bench))
 }
 
-fn takes(alloc: Global) -> Result<bool, NoMemory> {
-    let text = text_of(alloc, (TWO_PLACES, CLASHES))?;
-    let Some(resolved) = resolved_of(alloc, text.as_str()) else {
-        return Ok(false);
-    };
+fn takes_from(alloc: Global, resolved: &Resolved) -> Result<bool, NoMemory> {
     match resolved.instances.as_slice().first() {
-        Some(inst) => takes_on(alloc, inst),
+        Some(inst) => takes_on::<AvoidClashes>(alloc, inst),
+        None => Ok(false),
+    }
+}
+
+fn takes(alloc: Global) -> Result<bool, NoMemory> {
+    match resolved_of(alloc, (TWO_PLACES, CLASHES)) {
+        Some(resolved) => takes_from(alloc, &resolved),
         None => Ok(false),
     }
 }

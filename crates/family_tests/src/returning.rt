@@ -1,21 +1,22 @@
 //! Changes and then their inverses, in the opposite order.
 
 use crate::all_kinds::ALL_KINDS;
-use crate::archives::{resolved_of, text_of};
+use crate::archives::resolved_of;
 use crate::bench::Bench;
+use crate::families::Families;
 use crate::moves::Move;
-use event_monitors::{
-    AssignResource, AssignTime, DistributeSplitEvents, PreferResources, PreferTimes, SplitEvents,
-};
 use khe_base::NoMemory;
 use khe_instance::Instance;
 use khe_told::Family;
-use link_monitors::LinkEvents;
-use order_monitors::OrderEvents;
-use set_monitors::{AvoidSplitAssignments, SpreadEvents};
 use std::alloc::Global;
 use std::test::Fail;
-use workload_monitors::ResourceFamilies;
+use xhstt_resolve::Resolved;
+
+/// The meet slots of the instance.
+const SLOTS: u32 = 9;
+
+/// The monitors of the instance.
+const MONITORS: u32 = 16;
 
 /// Two events of a group, of six and three times.
 const EVENTS: &str =
@@ -30,7 +31,7 @@ const FORTY: &[Move] = &[
     Move::Place(0, 0),
     Move::Give(0, 0, 0),
     Move::Add(2, 3),
-    Move::Place(2, 8),
+    Move::Place(2, 7),
     Move::Give(2, 0, 1),
     Move::Add(7, 2),
     Move::Give(7, 0, 0),
@@ -50,7 +51,7 @@ const FORTY: &[Move] = &[
     Move::Place(7, 3),
     Move::Take(2, 0, 1),
     Move::Give(2, 0, 0),
-    Move::Lift(2, 8),
+    Move::Lift(2, 7),
     Move::Place(2, 5),
     Move::Add(5, 1),
     Move::Give(5, 0, 0),
@@ -67,10 +68,20 @@ const FORTY: &[Move] = &[
     Move::Lift(5, 9),
 ];
 
-/// Whether two benches were told the same of each of so many monitors.
-fn agree<F: Family + Drop>(first: &Bench<'_, F>, second: &Bench<'_, F>, monitors: u32) -> bool {
-    for monitor in 0..monitors {
-        if first.deviation(monitor) != second.deviation(monitor) {
+/// Whether two benches were told the same of each monitor.
+fn agree<F: Family + Drop>(first: &Bench<'_, F>, second: &Bench<'_, F>) -> bool {
+    for monitor in 0..MONITORS {
+        if first.asked(monitor).is_none() || first.deviation(monitor) != second.deviation(monitor) {
+            return false;
+        }
+    }
+    true
+}
+
+/// Whether two benches have the same meets and tasks.
+fn are_alike<F: Family + Drop>(first: &Bench<'_, F>, second: &Bench<'_, F>) -> bool {
+    for meet in 0..SLOTS {
+        if first.span(meet) != second.span(meet) || first.given(meet) != second.given(meet) {
             return false;
         }
     }
@@ -98,102 +109,59 @@ fn leads_back<F: Family + Drop>(
 {
     let (number, each) = change;
     let mut before = Bench::<F>::open(alloc, inst)?;
-    let fits = bench.note(each.change().inverse());
-    Ok(fits && noted(&mut before, number) && agree(bench, &before, inst.monitors()))
+    Ok(
+        bench.note(each.change().inverse())
+            && noted(&mut before, number)
+            && are_alike(bench, &before)
+            && agree(bench, &before),
+    )
 }
 
-/// Whether all changes fit, and each one's inverse after them leads back by one.
-fn returns<F: Family + Drop>(alloc: Global, inst: &Instance) -> Result<bool, NoMemory>
+/// Whether each change's inverse leads back by one, from the last change to the first.
+fn all_lead_back<F: Family + Drop>(
+    alloc: Global,
+    inst: &Instance,
+    bench: &mut Bench<'_, F>,
+) -> Result<bool, NoMemory>
     requires { F.IsWellJoined }
 {
-    let mut bench = Bench::<F>::open(alloc, inst)?;
-    if !noted(&mut bench, FORTY.len()) {
-        return Ok(false);
-    }
     for (number, each) in FORTY.iter().enumerate().rev() {
-        if !leads_back(alloc, inst, &mut bench, (number, *each))? {
+        if !leads_back(alloc, inst, bench, (number, *each))? {
             return Ok(false);
         }
     }
     Ok(true)
 }
 
-/// Whether they do so in a family.
-fn holds<F: Family + Drop>(alloc: Global) -> Result<bool, NoMemory>
+/// Whether all changes fit, and each one's inverse leads back by one.
+fn returns_on<F: Family + Drop>(alloc: Global, inst: &Instance) -> Result<bool, NoMemory>
     requires { F.IsWellJoined }
 {
-    let text = text_of(alloc, (EVENTS, ALL_KINDS))?;
-    let Some(resolved) = resolved_of(alloc, text.as_str()) else {
-        return Ok(false);
-    };
+    let mut bench = Bench::<F>::open(alloc, inst)?;
+    if noted(&mut bench, FORTY.len()) {
+        all_lead_back(alloc, inst, &mut bench)
+    } else {
+        Ok(false)
+    }
+}
+
+fn returns_from(alloc: Global, resolved: &Resolved) -> Result<bool, NoMemory> {
     match resolved.instances.as_slice().first() {
-        Some(inst) => returns::<F>(alloc, inst),
+        Some(inst) => returns_on::<Families>(alloc, inst),
+        None => Ok(false),
+    }
+}
+
+fn returns(alloc: Global) -> Result<bool, NoMemory> {
+    match resolved_of(alloc, (EVENTS, ALL_KINDS)) {
+        Some(resolved) => returns_from(alloc, &resolved),
         None => Ok(false),
     }
 }
 
 #[test]
-fn assign_time_leads_back(rt: HostRuntime) -> Result<(), Fail> {
-    assert!(rt; holds::<AssignTime>(rt.alloc())?);
-    Ok(())
-}
-
-#[test]
-fn assign_resource_leads_back(rt: HostRuntime) -> Result<(), Fail> {
-    assert!(rt; holds::<AssignResource>(rt.alloc())?);
-    Ok(())
-}
-
-#[test]
-fn split_events_leads_back(rt: HostRuntime) -> Result<(), Fail> {
-    assert!(rt; holds::<SplitEvents>(rt.alloc())?);
-    Ok(())
-}
-
-#[test]
-fn distribute_split_events_leads_back(rt: HostRuntime) -> Result<(), Fail> {
-    assert!(rt; holds::<DistributeSplitEvents>(rt.alloc())?);
-    Ok(())
-}
-
-#[test]
-fn prefer_times_leads_back(rt: HostRuntime) -> Result<(), Fail> {
-    assert!(rt; holds::<PreferTimes>(rt.alloc())?);
-    Ok(())
-}
-
-#[test]
-fn prefer_resources_leads_back(rt: HostRuntime) -> Result<(), Fail> {
-    assert!(rt; holds::<PreferResources>(rt.alloc())?);
-    Ok(())
-}
-
-#[test]
-fn avoid_split_assignments_leads_back(rt: HostRuntime) -> Result<(), Fail> {
-    assert!(rt; holds::<AvoidSplitAssignments>(rt.alloc())?);
-    Ok(())
-}
-
-#[test]
-fn spread_events_leads_back(rt: HostRuntime) -> Result<(), Fail> {
-    assert!(rt; holds::<SpreadEvents>(rt.alloc())?);
-    Ok(())
-}
-
-#[test]
-fn link_events_leads_back(rt: HostRuntime) -> Result<(), Fail> {
-    assert!(rt; holds::<LinkEvents>(rt.alloc())?);
-    Ok(())
-}
-
-#[test]
-fn order_events_leads_back(rt: HostRuntime) -> Result<(), Fail> {
-    assert!(rt; holds::<OrderEvents>(rt.alloc())?);
-    Ok(())
-}
-
-#[test]
-fn kinds_at_resources_lead_back(rt: HostRuntime) -> Result<(), Fail> {
-    assert!(rt; holds::<ResourceFamilies>(rt.alloc())?);
+fn inverses_lead_back(rt: HostRuntime) -> Result<(), Fail> {
+    assert_eq!(rt; FORTY.len(), 40);
+    assert!(rt; returns(rt.alloc())?);
     Ok(())
 }
