@@ -1,6 +1,6 @@
 //! A timetable beside a watcher that keeps what it was noted of.
 
-ghost use Rattle.std.specs.Prelude.{◌≡◌, ◌×◌, true, IfOk};
+ghost use Rattle.std.specs.Prelude.{◌≡◌, true, IfOk};
 ghost use Rattle.khe_instance.specs.States.{IsValid};
 ghost use Rattle.khe_solution.specs.Backs.{LeadsBack};
 ghost use Rattle.khe_solution.specs.Refusing.{is_of_meets};

@@ -122,11 +122,7 @@ const REFUSED: Play = Play {
             Made(
                 None,
                 &[Move::Place(0, 1)],
-                &[
-                    (0, 0, 1, Some(1), &[None]),
-                    (1, 0, 2, None, &[None]),
-                    SHORT,
-                ],
+                &[(0, 0, 1, Some(1), &[None]), (1, 0, 2, None, &[None]), SHORT],
             ),
         ),
         (Act::Merge(0, 1), Refused(Refusal::NotAdjacent)),
@@ -162,9 +158,13 @@ const CUT: Play = Play {
 /// The events `F`, `G` and `H` of the mixed archive, where nothing is done with them, and `H` with a
 /// resource, and with a start beside it.
 const F: Sight = (4, 1, 2, None, &[None, Some(2)]);
+
 const G: Sight = (6, 2, 2, Some(1), &[None]);
+
 const H: Sight = (8, 3, 1, None, &[None]);
+
 const H_GIVEN: Sight = (8, 3, 1, None, &[Some(2)]);
+
 const H_PLACED: Sight = (8, 3, 1, Some(4), &[Some(2)]);
 
 const MIXED_EMPTY: &[Sight] = &[(0, 0, 4, None, &[None, None]), F, G, H];

@@ -16,7 +16,9 @@ pub(crate) fn shows(hand: &Hand<'_>, sights: &[Sight]) -> bool {
     let inst = hand.instance();
     let slots = inst.meet_slots();
     let resources = inst.resources();
-    shows_meets(hand, sights, slots) && shows_tasks(hand, sights) && finds_all(hand, sights, resources)
+    shows_meets(hand, sights, slots)
+        && shows_tasks(hand, sights)
+        && finds_all(hand, sights, resources)
 }
 
 /// Whether these are the live meets, and no slot up to one after the last has another.

@@ -97,7 +97,7 @@ fn is_entry(inst: &Instance, entry: &RawEntry) -> bool
 {
     inst.event_named(&entry.reference.id).is_some()
         && is_duration(entry.duration)
-        && is_time(inst, entry.time.as_ref())
+        && is_time(inst, &entry.time)
         && are_resources(inst, entry.resources.as_slice())
 }
 
@@ -110,7 +110,7 @@ fn is_duration(duration: Option<u32>) -> bool
     }
 }
 
-fn is_time(inst: &Instance, time: Option<&Ref>) -> bool
+fn is_time(inst: &Instance, time: &Option<Ref>) -> bool
     ensures { result ≡ true → IfSome time.now (λ t. IsSome (time_named inst.now t.id)) }
 {
     match time {
