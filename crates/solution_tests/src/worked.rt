@@ -95,10 +95,16 @@ fn is_solution(inst: &Instance, entries: &[RawEntry]) -> bool
 fn is_entry(inst: &Instance, entry: &RawEntry) -> bool
     ensures { result ≡ true → IsEntry inst.now entry.now }
 {
-    inst.event_named(&entry.reference.id).is_some()
-        && is_duration(entry.duration)
-        && is_time(inst, &entry.time)
-        && are_resources(inst, entry.resources.as_slice())
+    let Some(_) = inst.event_named(&entry.reference.id) else {
+        return false;
+    };
+    if !is_duration(entry.duration) {
+        return false;
+    }
+    if !is_time(inst, &entry.time) {
+        return false;
+    }
+    are_resources(inst, entry.resources.as_slice())
 }
 
 fn is_duration(duration: Option<u32>) -> bool
@@ -123,9 +129,9 @@ fn are_resources(inst: &Instance, all: &[RawGiven]) -> bool
     ensures { result ≡ true → All (λ given. IsSome (resource_named inst.now given.reference.id)) all.now }
 {
     for given in all {
-        if inst.resource_named(&given.reference.id).is_none() {
+        let Some(_) = inst.resource_named(&given.reference.id) else {
             return false;
-        }
+        };
     }
     true
 }
