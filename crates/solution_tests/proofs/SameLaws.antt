@@ -1,5 +1,5 @@
 -- Slots of one instance that list the same meets and tasks are the same.
-use Rattle.std.proofs.Common.{ℕ, ◌≡◌, ◌+◌, ◌≤◌, Option, Some, None, List, [], ◌∷◌, ◌++◌, length, map, refl, sym, ap, subst, ◌∙◌, arith}
+use Rattle.std.proofs.Common.{ℕ, ◌≡◌, ◌+◌, ◌≤◌, Option, Some, None, List, [], ◌∷◌, ◌++◌, length, map, refl, sym, ap, ◌∙◌, arith}
 use Rattle.std.specs.Prelude.{All, replicate}
 use Rattle.std.proofs.lemmas.List.{length-replicate}
 use Rattle.std.proofs.lemmas.List.Elements.{All-head, All-tail, All-weaker}
@@ -13,7 +13,7 @@ use Rattle.khe_instance.specs.declared.states.Task.{Task}
 use Rattle.khe_told.proofs.DutyLaws.{AreFrom}
 use Rattle.khe_told.proofs.FrameLaws.{told_from}
 use Rattle.khe_told.specs.Fits.{AreTold, IsSlot}
-use Rattle.khe_told.specs.Lists.{meet_in, meets_in, tasks_in, tasks_with}
+use Rattle.khe_told.specs.Lists.{meets_in, tasks_in, tasks_with}
 use Rattle.khe_told.specs.Slots.{IsBareIfFree, emptied}
 use Rattle.khe_told.specs.declared.slots.Slot.{Slot}
 use Rattle.khe_told.specs.declared.slots.Span.{Span}

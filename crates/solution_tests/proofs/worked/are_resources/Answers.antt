@@ -1,5 +1,5 @@
 -- One more resource is that of the instance.
-use Rattle.std.proofs.Common.{◌∙◌, ap, arith, is_some, length, subst, sym}
+use Rattle.std.proofs.Common.{◌∙◌, ap, arith, is_some, subst, sym}
 use Rattle.std.specs.Prelude.{IsSome}
 use Rattle.std.proofs.lemmas.List.{take_all}
 use Rattle.std.proofs.lemmas.List.Elements.{All-more, All-same}
