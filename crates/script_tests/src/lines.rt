@@ -150,23 +150,34 @@ fn lines_are_read_and_answered(rt: HostRuntime) -> Result<(), Fail> {
     Ok(())
 }
 
-/// A comment of 64 bytes with its line feed.
-const COMMENT: &str = "#..............................................................\n";
+/// The first lines of a script of 16 bytes, of which the second has no reading.
+const FIRST_LINES: Piece = Once("total\nfly\ntotal\n");
 
-/// A script of 16 MiB.
+/// 64 bytes of a long line.
+const PART: &str = "#...............................................................";
+
+/// A script of 16 MiB is run.
 const GREATEST: Play = Play {
     archive: SMALL,
     solution: "0",
-    script: &[Copies(262_144, COMMENT)],
-    status: 0,
-    text: &[],
+    script: &[
+        FIRST_LINES,
+        Copies(262_143, PART),
+        Once("................................................"),
+    ],
+    status: 7,
+    text: &[TOTAL, Once("line 2 fault 1 UnknownCommand\n")],
 };
 
-/// A script of one byte more.
+/// A script of one byte more is not.
 const TOO_LARGE: Play = Play {
     archive: SMALL,
     solution: "0",
-    script: &[Copies(262_144, COMMENT), Once("\n")],
+    script: &[
+        FIRST_LINES,
+        Copies(262_143, PART),
+        Once("................................................\n"),
+    ],
     status: 7,
     text: &[Once("script fault 4 TooLarge\n")],
 };

@@ -3,12 +3,8 @@ use crate::pieces::Piece::{Copies, Once};
 use crate::plays::{Play, first_wrong};
 use std::test::Fail;
 
-/// A mark in a mark: each undo goes back to its own.
-const NESTED: Play = Play {
-    archive: SMALL,
-    solution: "0",
-    script: &[Once(
-        "\
+/// A script with a mark in a mark.
+pub(crate) const NESTED_SCRIPT: &str = "\
 begin
 assign 0 0
 total
@@ -28,11 +24,10 @@ undo
 total
 end
 undo
-",
-    )],
-    status: 0,
-    text: &[Once(
-        "\
+";
+
+/// What it answers: each undo goes back to its own mark.
+pub(crate) const NESTED_TEXT: &str = "\
 ok
 ok
 total hard 6 soft 0
@@ -52,8 +47,14 @@ ok
 total hard 12 soft 0
 ok
 refused 25 NoMark
-",
-    )],
+";
+
+const NESTED: Play = Play {
+    archive: SMALL,
+    solution: "0",
+    script: &[Once(NESTED_SCRIPT)],
+    status: 0,
+    text: &[Once(NESTED_TEXT)],
 };
 
 /// Meets, resources, groups and detached monitors are all as they were.

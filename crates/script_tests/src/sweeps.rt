@@ -1,65 +1,122 @@
 ghost use Rattle.std.specs.Prelude.{◌≤◌};
 
 use crate::archives::SMALL;
+use crate::marks::{NESTED_SCRIPT, NESTED_TEXT};
 use crate::runs::{Devices, Files, run};
 use khe_base::NoMemory;
 use std::alloc::Global;
 use std::test::Fail;
 use std::thread::Threads;
 
-/// An archive of 2,009 bytes with a script of 77.
-const FILES: Files<'static> = Files {
-    archive: SMALL,
-    script: "begin\nassign 0 0\ntotal\nundo\nsplit 0 2\nshow\n# and a line without a reading\nfly",
+/// A script on a solution of the small archive, and how a run of it ends where no call fails.
+struct Whole {
+    /// The word that numbers the solution.
+    solution: &'static str,
+    script: &'static str,
+    status: u8,
+    text: &'static str,
+}
+
+/// A script of 130 bytes that is read to its end, with a text of 199.
+const READ: Whole = Whole {
+    solution: "0",
+    script: NESTED_SCRIPT,
+    status: 0,
+    text: NESTED_TEXT,
 };
 
-/// All that the script answers.
-const TEXT: &str = "\
-ok
-ok
-total hard 6 soft 0
-ok
-ok 1
-meet 0 event \"E\" duration 2 time -
-task 0 0 resource -
-meet 1 event \"E\" duration 1 time -
-task 1 0 resource -
-meet 3 event \"F\" duration 1 time -
-task 3 0 resource -
-line 8 fault 1 UnknownCommand
-";
+/// A script of 28 bytes with a line without a reading, with a text of 51.
+const FAULTY: Whole = Whole {
+    solution: "0",
+    script: "total\n# and then:\nfly\ntotal\n",
+    status: 7,
+    text: "total hard 12 soft 0\nline 3 fault 1 UnknownCommand\n",
+};
 
-const WORDS: &[&str] = &["script", "archive", "0", "script"];
+/// A script on a solution that is not there, with a text of 40. The script is not read.
+const REFUSED: Whole = Whole {
+    solution: "2",
+    script: "total\n",
+    status: 3,
+    text: "khe: archive refused: 18 NoSuchSolution\n",
+};
 
 /// More calls of a device than any run here makes.
 const CALLS: u64 = 10_000;
 
 /// The greatest number of bytes of a read, and the number of the first call of the shelf that a run
-/// then does not make: for each file one call opens it, some read it, and one sees its end.
-const READS: &[(u32, u64)] = &[(1, 2_091), (3, 701), (1_000_000, 7)];
+/// then does not make: for each file one call opens it, some read it, and one sees its end. The archive
+/// has 2,009 bytes.
+const READS: &[(&Whole, u32, u64)] = &[
+    (&READ, 7, 311),
+    (&READ, 100, 28),
+    (&READ, 1_000_000, 7),
+    (&FAULTY, 100, 27),
+    (&REFUSED, 100, 24),
+];
 
-/// The greatest number of bytes of a write, and the number of the first write that a run then does
-/// not make: the text has 229 bytes, and is given in one piece.
-const WRITES: &[(u32, u64)] = &[(1, 230), (3, 78), (1_000_000, 2)];
+/// The greatest number of bytes of a read and of a write, and the number of the first write that a run
+/// then does not make: a text is given in one piece.
+const WRITES: &[(&Whole, u32, u64)] = &[
+    (&READ, 1, 200),
+    (&READ, 3, 68),
+    (&READ, 1_000_000, 2),
+    (&FAULTY, 3, 18),
+    (&REFUSED, 3, 15),
+];
 
-/// Whether a run ended as it should where no call fails.
-fn is_whole(status: u8, taken: &[u8]) -> bool {
-    status == 7 && taken == TEXT.as_bytes()
+/// How a run on devices that fail at a call ended.
+#[derive(Clone, Copy)]
+enum End {
+    /// As where no call fails.
+    Whole,
+    /// For a fault of the shelf, with nothing written.
+    Unread,
+    /// For a fault of the sink, after so many first bytes of the text.
+    CutAt(u64),
+    /// Otherwise.
+    Wrong,
 }
 
-/// Whether a run ended for a fault of the shelf, with nothing written.
-fn is_unread(status: u8, taken: &[u8]) -> bool {
-    status == 4 && taken.is_empty()
+/// How a run with this status ended, after which the sink has taken these bytes.
+fn judged(whole: &Whole, status: u8, taken: &[u8]) -> End {
+    let text = whole.text.as_bytes();
+    if status == whole.status && taken == text {
+        return End::Whole;
+    }
+    if status == 4 && taken.is_empty() {
+        return End::Unread;
+    }
+    if status == 5 && text.starts_with(taken) {
+        return End::CutAt(taken.len() as u64);
+    }
+    End::Wrong
 }
 
-/// Whether a run ended for a fault of the sink, after so many first bytes of the text.
-fn is_cut_at(status: u8, taken: &[u8], bytes: u64) -> bool {
-    status == 5 && taken.len() as u64 == bytes && TEXT.as_bytes().starts_with(taken)
+/// How a run on these devices ends.
+fn ended<R: Threads + Sync>(
+    rt: &R,
+    alloc: Global,
+    whole: &Whole,
+    devices: Devices,
+) -> Result<End, NoMemory> {
+    let files = Files {
+        archive: SMALL,
+        script: whole.script,
+    };
+    let words = ["script", "archive", whole.solution, "script"];
+    let (status, sink) = run(rt, alloc, &words, files, devices, whole.text.len())?;
+    Ok(judged(whole, status, sink.taken().as_slice()))
 }
 
 /// The number of the first call of the shelf that a run does not make, where each call before it,
 /// when it fails, ends the run with nothing written. `None` where a run ends otherwise.
-fn reads_made<R: Threads + Sync>(rt: &R, alloc: Global, piece: u32) -> Result<Option<u64>, NoMemory>
+fn reads_made<R: Threads + Sync>(
+    rt: &R,
+    alloc: Global,
+    whole: &Whole,
+    piece: u32,
+) -> Result<Option<u64>, NoMemory>
     requires { 1 ≤ piece }
 {
     for call in 1..CALLS {
@@ -68,12 +125,10 @@ fn reads_made<R: Threads + Sync>(rt: &R, alloc: Global, piece: u32) -> Result<Op
             failing_read: call,
             failing_write: 0,
         };
-        let (status, sink) = run(rt, alloc, WORDS, FILES, devices, TEXT.len())?;
-        if is_whole(status, sink.taken().as_slice()) {
-            return Ok(Some(call));
-        }
-        if !is_unread(status, sink.taken().as_slice()) {
-            return Ok(None);
+        match ended(rt, alloc, whole, devices)? {
+            End::Whole => return Ok(Some(call)),
+            End::Unread => {}
+            _ => return Ok(None),
         }
     }
     Ok(None)
@@ -84,6 +139,7 @@ fn reads_made<R: Threads + Sync>(rt: &R, alloc: Global, piece: u32) -> Result<Op
 fn writes_made<R: Threads + Sync>(
     rt: &R,
     alloc: Global,
+    whole: &Whole,
     piece: u32,
 ) -> Result<Option<u64>, NoMemory>
     requires { 1 ≤ piece }
@@ -94,13 +150,14 @@ fn writes_made<R: Threads + Sync>(
             failing_read: 0,
             failing_write: call,
         };
-        let (status, sink) = run(rt, alloc, WORDS, FILES, devices, TEXT.len())?;
-        if is_whole(status, sink.taken().as_slice()) {
-            return Ok(Some(call));
-        }
-        let bytes = (call - 1) * u64::from(piece);
-        if !is_cut_at(status, sink.taken().as_slice(), bytes) {
-            return Ok(None);
+        match ended(rt, alloc, whole, devices)? {
+            End::Whole => return Ok(Some(call)),
+            End::CutAt(bytes) => {
+                if bytes != (call - 1) * u64::from(piece) {
+                    return Ok(None);
+                }
+            }
+            _ => return Ok(None),
         }
     }
     Ok(None)
@@ -108,9 +165,9 @@ fn writes_made<R: Threads + Sync>(
 
 #[test]
 fn each_read_fails_in_turn(rt: HostRuntime) -> Result<(), Fail> {
-    for (piece, calls) in READS {
+    for (whole, piece, calls) in READS {
         assert!(rt; *piece > 0);
-        let made = reads_made(&rt, rt.alloc(), *piece)?;
+        let made = reads_made(&rt, rt.alloc(), whole, *piece)?;
         assert_eq!(rt; made, Some(*calls));
     }
     Ok(())
@@ -118,9 +175,9 @@ fn each_read_fails_in_turn(rt: HostRuntime) -> Result<(), Fail> {
 
 #[test]
 fn each_write_fails_in_turn(rt: HostRuntime) -> Result<(), Fail> {
-    for (piece, calls) in WRITES {
+    for (whole, piece, calls) in WRITES {
         assert!(rt; *piece > 0);
-        let made = writes_made(&rt, rt.alloc(), *piece)?;
+        let made = writes_made(&rt, rt.alloc(), whole, *piece)?;
         assert_eq!(rt; made, Some(*calls));
     }
     Ok(())
