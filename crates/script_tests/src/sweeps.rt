@@ -44,25 +44,27 @@ const REFUSED: Whole = Whole {
 /// More calls of a device than any run here makes.
 const CALLS: u64 = 10_000;
 
-/// The greatest number of bytes of a read, and the number of the first call of the shelf that a run
-/// then does not make: for each file one call opens it, some read it, and one sees its end. The archive
-/// has 2,009 bytes.
-const READS: &[(&Whole, u32, u64)] = &[
-    (&READ, 7, 311),
-    (&READ, 100, 28),
-    (&READ, 1_000_000, 7),
-    (&FAULTY, 100, 27),
-    (&REFUSED, 100, 24),
+/// The greatest number of bytes of a read and of a write, the number of the first call that fails, and
+/// the number of the first call that the run then does not make.
+type Sweep = (&'static Whole, u32, u64, u64);
+
+/// Calls of the shelf: for each file one opens it, some read it, and one sees its end. The archive has
+/// 2,009 bytes.
+const READS: &[Sweep] = &[
+    (&READ, 1, 2_130, 2_144),
+    (&READ, 20, 1, 113),
+    (&READ, 1_000_000, 1, 7),
+    (&FAULTY, 100, 1, 27),
+    (&REFUSED, 100, 1, 24),
 ];
 
-/// The greatest number of bytes of a read and of a write, and the number of the first write that a run
-/// then does not make: a text is given in one piece.
-const WRITES: &[(&Whole, u32, u64)] = &[
-    (&READ, 1, 200),
-    (&READ, 3, 68),
-    (&READ, 1_000_000, 2),
-    (&FAULTY, 3, 18),
-    (&REFUSED, 3, 15),
+/// Writes: a text is given in one piece.
+const WRITES: &[Sweep] = &[
+    (&READ, 1, 185, 200),
+    (&READ, 7, 1, 30),
+    (&READ, 1_000_000, 1, 2),
+    (&FAULTY, 3, 1, 18),
+    (&REFUSED, 3, 1, 15),
 ];
 
 /// How a run on devices that fail at a call ended.
@@ -109,17 +111,19 @@ fn ended<R: Threads + Sync>(
     Ok(judged(whole, status, sink.taken().as_slice()))
 }
 
-/// The number of the first call of the shelf that a run does not make, where each call before it,
-/// when it fails, ends the run with nothing written. `None` where a run ends otherwise.
+/// The number of the first call of the shelf that a run does not make, where each call before it from
+/// this one on, when it fails, ends the run with nothing written. `None` where a run ends otherwise.
 fn reads_made<R: Threads + Sync>(
     rt: &R,
     alloc: Global,
     whole: &Whole,
     piece: u32,
+    from: u64,
 ) -> Result<Option<u64>, NoMemory>
-    requires { 1 ≤ piece }
+    requires piece { 1 ≤ piece }
+    requires from { 1 ≤ from }
 {
-    for call in 1..CALLS {
+    for call in from..CALLS {
         let devices = Devices {
             piece,
             failing_read: call,
@@ -134,17 +138,19 @@ fn reads_made<R: Threads + Sync>(
     Ok(None)
 }
 
-/// The number of the first write that a run does not make, where each write before it, when it
-/// fails, ends the run after what the earlier ones took. `None` where a run ends otherwise.
+/// The number of the first write that a run does not make, where each write before it from this one
+/// on, when it fails, ends the run after what the earlier ones took. `None` where a run ends otherwise.
 fn writes_made<R: Threads + Sync>(
     rt: &R,
     alloc: Global,
     whole: &Whole,
     piece: u32,
+    from: u64,
 ) -> Result<Option<u64>, NoMemory>
-    requires { 1 ≤ piece }
+    requires piece { 1 ≤ piece }
+    requires from { 1 ≤ from }
 {
-    for call in 1..CALLS {
+    for call in from..CALLS {
         let devices = Devices {
             piece,
             failing_read: 0,
@@ -165,9 +171,9 @@ fn writes_made<R: Threads + Sync>(
 
 #[test]
 fn each_read_fails_in_turn(rt: HostRuntime) -> Result<(), Fail> {
-    for (whole, piece, calls) in READS {
-        assert!(rt; *piece > 0);
-        let made = reads_made(&rt, rt.alloc(), whole, *piece)?;
+    for (whole, piece, from, calls) in READS {
+        assert!(rt; *piece > 0 && *from > 0);
+        let made = reads_made(&rt, rt.alloc(), whole, *piece, *from)?;
         assert_eq!(rt; made, Some(*calls));
     }
     Ok(())
@@ -175,9 +181,9 @@ fn each_read_fails_in_turn(rt: HostRuntime) -> Result<(), Fail> {
 
 #[test]
 fn each_write_fails_in_turn(rt: HostRuntime) -> Result<(), Fail> {
-    for (whole, piece, calls) in WRITES {
-        assert!(rt; *piece > 0);
-        let made = writes_made(&rt, rt.alloc(), whole, *piece)?;
+    for (whole, piece, from, calls) in WRITES {
+        assert!(rt; *piece > 0 && *from > 0);
+        let made = writes_made(&rt, rt.alloc(), whole, *piece, *from)?;
         assert_eq!(rt; made, Some(*calls));
     }
     Ok(())
