@@ -1,10 +1,10 @@
 -- How a run ends, from what was written of an outcome's text.
-use Rattle.std.proofs.Common.{ℕ, ◌≡◌, ◌<◌, ◌≤◌, ◌⊎◌, inl, inr, Bool, true, false, cond, List, [], ◌++◌, Option, Some, None, IfSome, IsSomeAnd, IsTrue, length, slice_get, sym, ap, subst, ◌∙◌, refl, encode_utf8_all, option_map, arith}
+use Rattle.std.proofs.Common.{ℕ, ◌≡◌, ◌⊎◌, inl, inr, Bool, List, [], Option, Some, None, IfSome, IsTrue, sym, ap, subst, ◌∙◌, refl, encode_utf8_all, arith}
 use Rattle.std.proofs.lemmas.List.{append-nil}
 use Rattle.khe_io.specs.Faults.{Rose, Took, TookFront}
-use Rattle.khe_io.specs.Shelf.{IsMissing, StandsAbove, StandsUnder}
+use Rattle.khe_io.specs.Shelf.{IsMissing, StandsUnder}
 use Rattle.khe_app.specs.Answers.{reading_of, IsAnswerOf, IsOnlyAnswerOf}
-use Rattle.khe_app.specs.Ends.{Holdings, EndedOf, CutOffOf, LacksOf, IsDecided, IsEnd, IsStatus, Written}
+use Rattle.khe_app.specs.Ends.{Holdings, EndedOf, CutOffOf, LacksOf, IsDecided, IsEnd, Written}
 use Rattle.khe_app.specs.Outcome.{Reading, evaluable, refused, IsAnswerTo, IsOutcomeOf, IsReadingOf, status_of, text_of}
 use Rattle.khe_app.specs.Words.{Asked, asked, evaluating}
 use Rattle.khe_app.specs.declared.program.Answer.{Answer}

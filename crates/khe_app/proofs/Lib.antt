@@ -1,7 +1,9 @@
 pub mod CauseLemmas
 pub mod EndsLemmas
 pub mod FewLemmas
+pub mod GroupLemmas
 pub mod OnlyLemmas
+pub mod OutcomeLemmas
 pub mod PlayEnds
 pub mod ReadingLemmas
 pub mod ReadyLemmas

@@ -1,8 +1,8 @@
 -- What the bytes of an archive lead to is one thing alone.
-use Rattle.std.proofs.Common.{ℕ, ◌≡◌, ◌<◌, ◌≤◌, ◌⊎◌, inl, inr, Result, Ok, Err, List, length, refl, sym, ap, subst, ◌∙◌, arith}
+use Rattle.std.proofs.Common.{ℕ, ◌≡◌, ◌≤◌, inl, inr, Result, Ok, Err, List, length, refl, sym, ap, subst, ◌∙◌, arith}
 use Rattle.std.specs.Result.{IfErr, IsErrAnd}
 use Rattle.khe_base.specs.declared.limits.TheConstants.{ARCHIVE_BYTES}
-use Rattle.khe_app.specs.Outcome.{IsFaulty, IsRead, IsReadingOf, IsShaped, IsSpelled, Reading, evaluable, refused}
+use Rattle.khe_app.specs.Outcome.{IsRead, IsReadingOf, IsShaped, Reading, evaluable, refused}
 use Rattle.khe_app.specs.Readings.{IsUnread, IsUnshaped, of_resolve, of_shape, of_text}
 use Rattle.khe_app.specs.declared.reading.Unread.{Unread}
 use Rattle.khe_app.specs.declared.reading.Unread.TheVariants.{Refused, NoMemory}

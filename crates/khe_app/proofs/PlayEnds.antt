@@ -1,21 +1,19 @@
 -- What a script on an archive leads to.
-use Rattle.std.proofs.Common.{ℕ, ◌≡◌, ◌<◌, ◌≤◌, ◌⊎◌, inl, inr, Bool, true, false, cond, List, [], Option, Some, None, IfSome, IsSomeAnd, IsTrue, length, slice_get, sym, ap, subst, ◌∙◌, refl, arith, encode_utf8_all}
+use Rattle.std.proofs.Common.{ℕ, ◌≡◌, ◌⊎◌, inl, inr, Bool, true, false, cond, List, [], Option, Some, None, IfSome, slice_get, sym, ap, subst, ◌∙◌, refl, arith, encode_utf8_all}
 use Rattle.std.specs.Option.{option_map_or}
 use Rattle.khe_instance.specs.States.{IsValid}
 use Rattle.khe_instance.specs.declared.parts.Parts.{Parts}
-use Rattle.khe_io.specs.Shelf.{IsMissing, StandsAbove, StandsUnder}
-use Rattle.khe_app.specs.Answers.{IsAnswerOf, IsBarredBy, IsBegun, IsHeld, IsOnlyAnswerOf, IsPlayAnswer, IsPlayOf, IsPlayed as IsPlayedBy, IsReadyPlay, IsScriptOf, IsTextOf, IsWith}
+use Rattle.khe_io.specs.Shelf.{IsMissing}
+use Rattle.khe_app.specs.Answers.{IsAnswerOf, IsBegun, IsOnlyAnswerOf, IsPlayAnswer, IsPlayOf, IsReadyPlay, IsScriptOf, IsTextOf, IsWith}
 use Rattle.khe_app.specs.Ends.{Holdings, LacksOf, IsDecided, IsEnd, Written}
-use Rattle.khe_app.specs.Outcome.{Reading, evaluable, refused, Start, begins, barred, start_in, start_of, IsOutcomeOf, IsPlayed, IsPlayTo, IsReadingOf, IsRunOf, IsRunOr, IsScripted}
+use Rattle.khe_app.specs.Outcome.{Reading, evaluable, refused, Start, barred, start_in, start_of, IsOutcomeOf, IsPlayTo, IsReadingOf, IsRunOf, IsRunOr, IsScripted}
 use Rattle.khe_app.specs.Words.{scripting}
 use Rattle.khe_app.proofs.EndsLemmas.{end_starved, end_written, not_two}
 use Rattle.khe_app.specs.declared.program.Answer.TheVariants.{Read, Refused}
 use Rattle.khe_app.specs.declared.program.Play.{Play}
 use Rattle.khe_app.specs.declared.program.Play.TheVariants as play
 use Rattle.khe_app.specs.declared.reading.ReadArchive.{ReadArchive}
-use Rattle.khe_app.specs.declared.reading.Unread.TheVariants as unread
 use Rattle.khe_app.specs.declared.refusals.Refusal.{Refusal}
-use Rattle.khe_app.specs.declared.scripts.TheConstants.{SCRIPT_BYTES}
 use Rattle.khe_app.specs.declared.starting.Begun.{Begun}
 use Rattle.script_run.specs.Scripts.{is_script}
 

@@ -1,5 +1,5 @@
 -- The solution that a script begins with.
-use Rattle.std.proofs.Common.{ℕ, ◌≡◌, ◌+◌, ◌<◌, Option, Some, Ok, Err, List, length, get_or, slice_get, sym, ap, subst, ◌∙◌, arith, zero-add}
+use Rattle.std.proofs.Common.{ℕ, ◌≡◌, ◌<◌, Some, Ok, Err, length, get_or, slice_get, sym, ap, subst, ◌∙◌, arith, zero-add}
 use Rattle.std.specs.Option.{option_and_then, option_map_or}
 use Rattle.std.proofs.lemmas.Option.{slice_get-get_or}
 use Rattle.khe_base.proofs.ListLemmas.{there}
@@ -7,7 +7,7 @@ use Rattle.khe_instance.specs.declared.parts.Parts.{Parts}
 use Rattle.khe_instance.specs.declared.states.Plain.{Plain}
 use Rattle.khe_app.specs.Outcome.{barred, begins, start_by, start_of}
 use Rattle.khe_app.specs.Ready.{IsReady}
-use Rattle.khe_app.specs.Report.{parts_at}
+use Rattle.parallel_solve.specs.Verdicts.{parts_at}
 use Rattle.khe_app.specs.declared.refusals.Refusal.TheVariants.{NoSuchSolution, Invalid}
 use Rattle.xhstt_completion.specs.Completed.{completed}
 use Rattle.xhstt_completion.specs.Entries.{IsSolution}
@@ -28,9 +28,9 @@ pub record IsChosen (a : Archive) (r : Resolved) (number : ℕ) : Type 0 where
 
 pub chosen : (a : Archive) (r : Resolved) (number : ℕ) → IsReady a r → number < length r.of → IsChosen a r number
 chosen a r number ready l =
-    let counted = ready.counted in
+    let counted = ready.ready.counted in
     let t = there (solutions_of a) number (omega (arith, counted, l)) in
-    let one = ready.ones number t.value t.found in
+    let one = ready.ready.ones number t.value t.found in
     let at : parts_at r number ≡ Some one.parts = subst (λ n. parts_at r n ≡ Some one.parts) (zero-add number) one.at in
     let k : slice_get r.of number ≡ Some (get_or r.of number 0) = slice_get-get_or r.of number 0 l in
     record {

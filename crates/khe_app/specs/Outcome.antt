@@ -6,6 +6,7 @@ use Rattle.khe_engine.specs.Openings.{IsStateOf}
 use Rattle.khe_engine.specs.States.{State}
 use Rattle.khe_instance.specs.declared.parts.Parts.{Parts}
 use Rattle.khe_instance.specs.declared.states.Plain.{Plain}
+use Rattle.parallel_solve.specs.Verdicts.{parts_at}
 use Rattle.script_run.specs.Plays.{begun}
 use Rattle.script_run.specs.Scripts.{is_script, script_text}
 use Rattle.xhstt_completion.specs.Completed.{completed}
@@ -23,7 +24,7 @@ use Rattle.xhstt_resolve.specs.declared.faults.ResolveFault.{ResolveFault}
 use Rattle.xhstt_resolve.specs.declared.faults.ResolveFault.TheVariants as resolve
 use Rattle.xhstt_resolve.specs.declared.resolving.Resolved.{Resolved}
 use Rattle.khe_app.specs.Refusals.{refusal_line, not_understood_line, script_too_large_line}
-use Rattle.khe_app.specs.Report.{parts_at, report}
+use Rattle.khe_app.specs.Report.{report}
 use Rattle.khe_app.specs.Words.{Asked, asked, evaluating, scripting}
 use Rattle.khe_app.specs.declared.scripts.TheConstants.{SCRIPT_BYTES}
 use Rattle.khe_app.specs.declared.refusals.Refusal.{Refusal}

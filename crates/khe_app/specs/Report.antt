@@ -1,12 +1,13 @@
 -- The report of an archive.
-use Rattle.std.specs.Prelude.{ℕ, ◌==◌, Bool, not, ◌&&◌, if◌then◌else◌, Option, Result, Ok, Err, List, [], ◌∷◌, ◌++◌, length, slice_get, ◌+◌}
+use Rattle.std.specs.Prelude.{ℕ, ◌==◌, Bool, not, ◌&&◌, if◌then◌else◌, Result, Ok, Err, List, [], ◌∷◌, ◌++◌, length, ◌+◌}
 use Rattle.std.specs.List.{flat_map, enumerate_from}
-use Rattle.std.specs.Option.{option_map_or, option_and_then}
+use Rattle.std.specs.Option.{option_map_or}
 use Rattle.evaluation_report.specs.Lines.{header_line, solution_line, monitor_line, total_line, invalid_line}
 use Rattle.khe_instance.specs.Evaluated.{deviation_in, cost_in, is_detached, totals}
 use Rattle.khe_instance.specs.declared.parts.Parts.{Parts}
 use Rattle.khe_instance.specs.declared.points.Monitor.{Monitor}
 use Rattle.khe_instance.specs.declared.states.Plain.{Plain}
+use Rattle.parallel_solve.specs.Verdicts.{parts_at}
 use Rattle.xhstt_completion.specs.Completed.{completed}
 use Rattle.xhstt_completion.specs.declared.faults.Cause.{Cause}
 use Rattle.xhstt_references.specs.References.{solutions_of}
@@ -33,10 +34,6 @@ outcome_text all p (Err cause) = invalid_line cause.cause cause.entry
 -- a solution with its number and the Id of its group, of an instance with these parts
 abbrev pub solution_text : Bool → ℕ → List ℕ → RawSolution → Parts → List ℕ
 solution_text all number group raw p = solution_line number group p.id ++ outcome_text all p (completed p raw)
-
--- the parts of the instance of the solution with this number
-abbrev pub parts_at : Resolved → ℕ → Option Parts
-parts_at r number = option_and_then (λ k. slice_get r.instances k) (slice_get r.of number)
 
 abbrev pub numbered_text : Bool → Resolved → List ℕ → ℕ × RawSolution → List ℕ
 numbered_text all r group (number, raw) = option_map_or (solution_text all number group raw) (parts_at r number) []

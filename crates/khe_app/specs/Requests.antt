@@ -1,9 +1,14 @@
 -- What a request stands for.
-use Rattle.std.specs.Prelude.{ℕ}
+use Rattle.std.specs.Prelude.{◌≤◌}
 use Rattle.khe_app.specs.Words.{Asked, evaluating, scripting}
 use Rattle.khe_app.specs.declared.words.Request.{Request}
 use Rattle.khe_app.specs.declared.words.Request.TheVariants.{Evaluate, Script}
 
 abbrev pub asked_of : Request → Asked
-asked_of (Evaluate archive all) = evaluating archive.now all
+asked_of (Evaluate archive all workers) = evaluating archive.now all
 asked_of (Script archive solution script) = scripting archive.now solution script.now
+
+-- the workers of a report are 1 to 64
+abbrev pub IsFit : Request → Type 0
+IsFit (Evaluate archive all workers) = (1 ≤ workers) × (workers ≤ 64)
+IsFit (Script archive solution script) = Unit {0}

@@ -1,12 +1,13 @@
 -- The words of the command line.
-use Rattle.std.specs.Prelude.{ℕ, Bool, true, false, if◌then◌else◌, Option, Some, None, List, [], ◌∷◌, codes}
-use Rattle.std.specs.Option.{option_map}
+use Rattle.std.specs.Prelude.{ℕ, ◌&&◌, Bool, true, false, if◌then◌else◌, nat_le, Option, Some, None, List, [], ◌∷◌, codes}
+use Rattle.std.specs.Option.{option_and_then, option_map}
 use Rattle.std.specs.Str.{bytes_eq}
 use Rattle.edit_script.specs.Numbers.{number_of}
 
 -- what is asked for
 pub data Asked : Type 0 where
-  -- the report of the archive with this name, of all monitors or of those with a deviation
+  -- the report of the archive with this name, of all monitors or of those with a deviation; it is the
+  -- same for every number of workers
   evaluating : List ℕ → Bool → Asked
   -- the answers to a script on one solution of an archive: the archive's name, the solution's number,
   -- and the script's name
@@ -17,11 +18,33 @@ abbrev pub archive_of : Asked → List ℕ
 archive_of (evaluating archive all) = archive
 archive_of (scripting archive solution script) = archive
 
--- whether all monitors are asked for, by the words after the name
-abbrev pub all_by : List (List ℕ) → Option Bool
-all_by [] = Some false
-all_by (option ∷ []) = if bytes_eq (codes "--all") option then Some true else None
-all_by (option ∷ more ∷ options) = None
+-- a number of workers: 1 to 18 digits that write 1 to 64
+unfoldable pub workers_of : List ℕ → Option ℕ
+workers_of word = option_and_then (λ n. if nat_le 1 n && nat_le n 64 then Some n else None) (number_of 18 word)
+
+-- a number of workers that is asked for by an option and its value
+unfoldable pub workers_by : Bool → List ℕ → List ℕ → Option (Bool × ℕ)
+workers_by all option value = if bytes_eq (codes "--workers") option then option_map (λ n. (all, n)) (workers_of value) else None
+
+-- one option alone, which asks for all monitors
+unfoldable pub all_by : List ℕ → Option (Bool × ℕ)
+all_by option = if bytes_eq (codes "--all") option then Some (true, 1) else None
+
+-- both options, the one for all monitors first or last
+unfoldable pub both_by : List ℕ → List ℕ → List ℕ → Option (Bool × ℕ)
+both_by first second third =
+    if bytes_eq (codes "--all") first then workers_by true second third
+    else if bytes_eq (codes "--all") third then workers_by true first second
+    else None
+
+-- the options of a report, in any order: whether all monitors are asked for, and how many workers, one
+-- where none are named
+abbrev pub options_by : List (List ℕ) → Option (Bool × ℕ)
+options_by [] = Some (false, 1)
+options_by (option ∷ []) = all_by option
+options_by (option ∷ value ∷ []) = workers_by false option value
+options_by (first ∷ second ∷ third ∷ []) = both_by first second third
+options_by (first ∷ second ∷ third ∷ fourth ∷ more) = None
 
 -- a script is asked for by the number of the solution, of 1 to 18 digits and below 2^32, and its own name
 abbrev pub script_by : List ℕ → List (List ℕ) → Option Asked
@@ -31,12 +54,12 @@ script_by archive _ = None
 -- what is asked for by a command, the archive's name and the words after it
 unfoldable pub asked_by : List ℕ → List ℕ → List (List ℕ) → Option Asked
 asked_by command name more =
-    if bytes_eq (codes "evaluate") command then option_map (evaluating name) (all_by more)
+    if bytes_eq (codes "evaluate") command then option_map (λ o. evaluating name o.0) (options_by more)
     else if bytes_eq (codes "script") command then script_by name more
     else None
 
--- `evaluate ARCHIVE`, `evaluate ARCHIVE --all` or `script ARCHIVE SOLUTION SCRIPT`; the second word is
--- the archive's name, whatever it begins with
+-- `evaluate ARCHIVE [--all] [--workers N]` or `script ARCHIVE SOLUTION SCRIPT`; the second word is the
+-- archive's name, whatever it begins with
 abbrev pub asked : List (List ℕ) → Option Asked
 asked (command ∷ name ∷ more) = asked_by command name more
 asked _ = None

@@ -82,23 +82,26 @@ impl From<NoMemory> for Stop {
 /// Runs the program on these words: reads the archive that they name from the shelf, and writes its
 /// report, the answers to a script, or the line that refuses it, to the sink.
 ///
-/// The words are `evaluate`, the archive's name, and `--all` where the report is to have all
-/// monitors; or `script`, the archive's name, the number of a solution, and the name of the script. The
-/// answer is a status, as in `Status`. What was written before a status of 4 is nothing, and before a
-/// status of 5 or 6 a first part of the text.
+/// The words are `evaluate`, the archive's name, and in any order `--all` where the report is to have all
+/// monitors and `--workers` with the number of workers, 1 to 64; or `script`, the archive's name, the
+/// number of a solution, and the name of the script. The answer is a status, as in `Status`. What was
+/// written before a status of 4 is nothing, and before a status of 5 or 6 a first part of the text. The
+/// text does not depend on the number of workers, who pass the gate before each solution that they
+/// evaluate, with its number.
 ///
 /// A report takes time about linear in the archive's bytes, in what its instances follow out, and, for
-/// each solution, in the meets, tasks, covered times, watches and monitors. It keeps in memory the
-/// archive's bytes with their tree or, after that, the archive with its instances; and of the report
-/// what one solution adds. A script takes besides what opening an engine takes, and for each edit what
+/// each solution, in the meets, tasks, covered times, watches and monitors; the workers that run at the
+/// same time divide the solutions. It keeps in memory the archive's bytes with their tree or, after that,
+/// the archive with its instances, and what the solutions of one window cost; and of the report what one
+/// solution adds. A script takes besides what opening an engine takes, and for each edit what
 /// watches its changes.
 pub fn khe<R: Threads + Sync, S: Shelf, K: Sink, G: Gate>(
-    _rt: &R,
+    rt: &R,
     alloc: Global,
     words: &[String],
     shelf: &mut S,
     out: &mut K,
-    _gate: &G,
+    gate: &G,
 ) -> Status
     ensures status { IsStatus result.0 }
 
@@ -134,12 +137,19 @@ pub fn khe<R: Threads + Sync, S: Shelf, K: Sink, G: Gate>(
     ensures sound { IsTrue (S.is_sound shelf.old) → IsTrue (S.is_sound shelf.new) }
     ensures sink_faults { K.faults out.old ≤ K.faults out.new }
 {
-    respond(alloc, words, shelf, out)
+    respond(rt, alloc, words, shelf, out, gate)
 }
 
 /// Does what the words ask for, or refuses them.
 #[tactic(auto, using(crate::proofs::EndsLemmas::by_words))]
-fn respond<S: Shelf, K: Sink>(alloc: Global, words: &[String], shelf: &mut S, out: &mut K) -> Status
+fn respond<R: Threads + Sync, S: Shelf, K: Sink, G: Gate>(
+    rt: &R,
+    alloc: Global,
+    words: &[String],
+    shelf: &mut S,
+    out: &mut K,
+    gate: &G,
+) -> Status
     ensures end { IsEnd (asked (map string_bytes words.now)) (S.holdings shelf.old) (S.is_sound shelf.old) (S.faults shelf.old) (S.faults shelf.new) (K.taken out.old) (K.taken out.new) (K.faults out.old) (K.faults out.new) result.0 }
     ensures no_reading { asked (map string_bytes words.now) ≡ None → ((result.0 ≡ 2) ⊎ (result.0 ≡ 5)) × (shelf.new ≡ shelf.old) }
     ensures not_understood { result.0 ≡ 2 → asked (map string_bytes words.now) ≡ None }
@@ -149,7 +159,13 @@ fn respond<S: Shelf, K: Sink>(alloc: Global, words: &[String], shelf: &mut S, ou
     ensures sink_faults { K.faults out.old ≤ K.faults out.new }
 {
     match request_of(words) {
-        Some(Request::Evaluate { archive, all }) => evaluate(alloc, shelf, out, archive, all),
+        Some(
+            Request::Evaluate {
+                archive,
+                all,
+                workers,
+            },
+        ) => evaluate(rt, alloc, shelf, out, gate, archive, all, workers),
         Some(
             Request::Script {
                 archive,
@@ -184,15 +200,19 @@ fn script_too_large() -> &'static [u8]
     b"script fault 4 TooLarge\n"
 }
 
-/// Writes the report of the archive under a name.
+/// Writes the report of the archive under a name, by so many workers.
 #[tactic(auto, using(crate::proofs::EndsLemmas::end_starved, crate::proofs::EndsLemmas::end_stopped, crate::proofs::EndsLemmas::report_lacks))]
-fn evaluate<S: Shelf, K: Sink>(
+fn evaluate<R: Threads + Sync, S: Shelf, K: Sink, G: Gate>(
+    rt: &R,
     alloc: Global,
     shelf: &mut S,
     out: &mut K,
+    gate: &G,
     name: &str,
     all: bool,
+    workers: u32,
 ) -> Status
+    requires { (1 ≤ workers) × (workers ≤ 64) }
     ensures end { IsEnd (Some (evaluating name.now all)) (S.holdings shelf.old) (S.is_sound shelf.old) (S.faults shelf.old) (S.faults shelf.new) (K.taken out.old) (K.taken out.new) (K.faults out.old) (K.faults out.new) result.0 }
     ensures status { result.0 ≡ 2 → ⊥ }
     ensures holdings { S.holdings shelf.new ≡ S.holdings shelf.old }
@@ -201,7 +221,7 @@ fn evaluate<S: Shelf, K: Sink>(
     ensures sink_faults { K.faults out.old ≤ K.faults out.new }
 {
     match answer_to(alloc, shelf, name) {
-        Ok(answer) => write(alloc, out, &answer, all),
+        Ok(answer) => write(rt, alloc, out, gate, &answer, all, workers),
         Err(Stop::ReadFault) => Status(4),
         Err(Stop::NoMemory) => Status(6),
     }
@@ -256,15 +276,33 @@ fn put_refusal<K: Sink>(alloc: Global, out: &mut K, refusal: Refusal) -> Status
     }
 }
 
-/// Writes the report of an archive, or the line that refuses it.
-fn write<K: Sink>(alloc: Global, out: &mut K, answer: &Answer, all: bool) -> Status
-    requires { IsReadyAnswer answer.now }
+/// Writes the report of an archive, by so many workers, or the line that refuses it.
+fn write<R: Threads + Sync, K: Sink, G: Gate>(
+    rt: &R,
+    alloc: Global,
+    out: &mut K,
+    gate: &G,
+    answer: &Answer,
+    all: bool,
+    workers: u32,
+) -> Status
+    requires ready { IsReadyAnswer answer.now }
+    requires workers { (1 ≤ workers) × (workers ≤ 64) }
     ensures written { Written (K.taken out.old) (K.taken out.new) (K.faults out.old) (K.faults out.new) (encode_utf8_all (text_of all (reading_of answer.now))) (status_of (reading_of answer.now)) result.0 }
     ensures sink_faults { K.faults out.old ≤ K.faults out.new }
 {
     match answer {
         Answer::Read(read) => {
-            match report(alloc, out, &read.archive, &read.resolved, all) {
+            match report(
+                rt,
+                alloc,
+                out,
+                &read.archive,
+                &read.resolved,
+                all,
+                workers,
+                gate,
+            ) {
                 Ok(()) => Status(0),
                 Err(Cut::WriteFault) => Status(5),
                 Err(Cut::NoMemory) => Status(6),

@@ -1,23 +1,29 @@
-ghost use Rattle.std.specs.Prelude.{◌≡◌, ◌≤◌, ◌<◌, ◌+◌, ◌++◌, ◌^◌, ℕ, List, [], Option, IfOk, false, length, OnOk, OnErr, IsErrOf, encode_utf8_all};
+ghost use Rattle.std.specs.Prelude.{◌≡◌, ◌≤◌, ◌<◌, ◌+◌, ◌++◌, ◌^◌, ℕ, List, [], Option, Some, IfOk, IsSome, false, length, map, slice_get, OnOk, OnErr, IsErrOf, encode_utf8_all};
 ghost use Rattle.khe_instance.specs.Evaluated.{deviation_in, cost_in, is_detached};
 ghost use Rattle.khe_instance.specs.declared.points.Monitor.{Monitor};
 ghost use Rattle.khe_instance.specs.declared.states.Plain.{Plain};
 ghost use Rattle.khe_io.specs.Faults.{Rose, Took, TookFront};
 ghost use Rattle.script_run.specs.Amid.{IsAmid};
 ghost use Rattle.khe_app.specs.Report as spec;
-ghost use Rattle.khe_instance.specs.States.{IsValid};
-ghost use Rattle.khe_app.specs.Ready.{IsOne, AreOnes, IsReady};
-ghost use Rattle.xhstt_completion.specs.Entries.{IsSolution};
+ghost use Rattle.khe_app.specs.Ready.{IsReady};
+ghost use Rattle.evaluation_report.specs.Lines as lines;
+ghost use Rattle.parallel_solve.specs.Ready.{IsOne, AreOnes};
+ghost use Rattle.parallel_solve.specs.Ready as solutions;
+ghost use Rattle.parallel_solve.specs.Verdicts.{numbered_verdict, parts_at, values_of, verdict_of};
+ghost use Rattle.parallel_solve.specs.Windows.{IsAhead};
 ghost use Rattle.xhstt_completion.specs.Completed as completion;
+ghost use Rattle.xhstt_references.specs.References.{solutions_of};
+ghost use Rattle.xhstt_shape.specs.declared.records.RawSolution.{RawSolution};
 
 use evaluation_report::{header_line, invalid_line, monitor_line, solution_line, total_line};
 use khe_base::{MonitorId, NoMemory, Text};
 use khe_instance::{Instance, Plain};
-use khe_io::Sink;
-use plain_eval::Evaluator;
+use khe_io::{Gate, Sink};
+use parallel_solve::{Ahead, Verdict, all_solutions};
+use plain_eval::Values;
 use script_run::{Cut, flush, flush_long};
 use std::alloc::Global;
-use xhstt_completion::{SolutionFault, completed};
+use std::thread::Threads;
 use xhstt_resolve::Resolved;
 use xhstt_shape::{Archive, RawSolution, SolutionGroup};
 
@@ -43,23 +49,18 @@ fn push_monitor(
     text.push_text(&line)
 }
 
-/// Adds the lines of the monitors of a timetable, of all or of those with a deviation, and its
-/// totals.
+/// Adds the lines of the monitors by what a timetable costs, of all or of those with a deviation, and
+/// its totals.
 fn push_evaluation(
     alloc: Global,
     text: &mut Text,
     inst: &Instance,
-    evaluator: &mut Evaluator<'_>,
-    plain: &Plain,
+    values: &Values,
     all: bool,
 ) -> Result<(), NoMemory>
-    requires state { IsValid inst.now plain.now }
-    requires attached { plain.now.detached ≡ [] }
-    requires evaluator { evaluator.old ≡ inst.now }
-    ensures evaluator { evaluator.new ≡ evaluator.old }
-    ensures text { OnOk result (text.new ≡ text.old ++ spec.evaluation all inst.now plain.now) }
+    requires { (length values.now.deviations ≡ length inst.now.monitors) × (length values.now.costs ≡ length inst.now.monitors) }
+    ensures { (s : Plain) → values.now ≡ values_of inst.now s → s.detached ≡ [] → OnOk result (text.new ≡ text.old ++ spec.evaluation all inst.now s) }
 {
-    let values = evaluator.evaluate(alloc, plain)?;
     let deviations = values.deviations.as_slice();
     let costs = values.costs.as_slice();
     for number in 0..inst.monitors() {
@@ -70,82 +71,69 @@ fn push_evaluation(
     text.push_text(&total_line(alloc, values.totals)?)
 }
 
-/// Adds what comes of a solution: its evaluation, or why it is invalid.
+/// Adds what comes of a solution by its verdict: its evaluation, or why it is invalid.
 fn push_outcome(
     alloc: Global,
     text: &mut Text,
     inst: &Instance,
-    evaluator: &mut Evaluator<'_>,
-    solution: &RawSolution,
+    verdict: &Verdict,
+    _solution: &RawSolution,
     all: bool,
 ) -> Result<(), NoMemory>
-    requires solution { IsSolution inst.now solution.now }
-    requires evaluator { evaluator.old ≡ inst.now }
-    ensures evaluator { evaluator.new ≡ evaluator.old }
-    ensures text { OnOk result (text.new ≡ text.old ++ spec.outcome_text all inst.now (completion.completed inst.now solution.now)) }
+    requires { verdict.now ≡ verdict_of inst.now (completion.completed inst.now _solution.now) }
+    ensures { OnOk result (text.new ≡ text.old ++ spec.outcome_text all inst.now (completion.completed inst.now _solution.now)) }
 {
-    match completed(alloc, inst, solution) {
-        Ok(plain) => push_evaluation(alloc, text, inst, evaluator, &plain, all),
-        Err(SolutionFault::Invalid { cause, entry }) => {
-            text.push_text(&invalid_line(alloc, cause, entry)?)
-        }
-        Err(SolutionFault::NoMemory) => Err(NoMemory),
+    match verdict {
+        Verdict::Valid(values) => push_evaluation(alloc, text, inst, values, all),
+        Verdict::Invalid { cause, entry } => text.push_text(&invalid_line(alloc, *cause, *entry)?),
     }
 }
 
-/// Adds the part of a report on one solution: its line, and what comes of it.
+/// Adds the part of a report on one solution: its line, and what comes of it by its verdict.
 fn push_solution(
     alloc: Global,
     text: &mut Text,
     number: u32,
     group: &Text,
     inst: &Instance,
-    evaluator: &mut Evaluator<'_>,
+    verdict: &Verdict,
     solution: &RawSolution,
     all: bool,
 ) -> Result<(), NoMemory>
-    requires solution { IsSolution inst.now solution.now }
-    requires evaluator { evaluator.old ≡ inst.now }
-    ensures evaluator { evaluator.new ≡ evaluator.old }
-    ensures text { OnOk result (text.new ≡ text.old ++ spec.solution_text all number group.now solution.now inst.now) }
+    requires { verdict.now ≡ verdict_of inst.now (completion.completed inst.now solution.now) }
+    ensures { OnOk result (text.new ≡ text.old ++ spec.solution_text all number group.now solution.now inst.now) }
 {
     let line = solution_line(alloc, number, group, inst.id())?;
     text.push_text(&line)?;
-    push_outcome(alloc, text, inst, evaluator, solution, all)
+    push_outcome(alloc, text, inst, verdict, solution, all)
 }
 
-/// An evaluator for each instance of an archive, in their order. It takes the time and memory of
-/// opening each.
-fn evaluators_of<'a>(alloc: Global, resolved: &'a Resolved) -> Result<Vec<Evaluator<'a>>, NoMemory>
-    ensures { IfOk result (λ evaluators. evaluators.items ≡ resolved.now.instances) }
+/// The instance of the solution with this number.
+fn instance_at(resolved: &Resolved, number: u32) -> &Instance
+    requires { IsSome (parts_at resolved.now number) }
+    ensures { parts_at resolved.now number ≡ Some result.now }
 {
-    let mut evaluators = Vec::new(alloc);
-    for inst in resolved.instances.as_slice() {
-        evaluators.push(Evaluator::open(alloc, inst)?)?;
-    }
-    Ok(evaluators)
+    let instance = resolved.of.as_slice()[number as usize];
+    &resolved.instances.as_slice()[instance as usize]
 }
 
-/// Adds the part of a report on the solution with a number, by the evaluator of its instance.
+/// Adds the part of a report on the solution with a number, by its verdict.
 fn push_numbered(
     alloc: Global,
     text: &mut Text,
     resolved: &Resolved,
-    evaluators: &mut Vec<Evaluator<'_>>,
     number: u32,
     group: &Text,
+    verdict: &Verdict,
     solution: &RawSolution,
     all: bool,
 ) -> Result<(), NoMemory>
     requires one { IsOne resolved.now number solution.now }
-    requires evaluators { evaluators.old.items ≡ resolved.now.instances }
-    ensures evaluators { evaluators.new.items ≡ evaluators.old.items }
-    ensures text { OnOk result (text.new ≡ text.old ++ spec.numbered_text all resolved.now group.now (number, solution.now)) }
+    requires verdict { verdict.now ≡ numbered_verdict resolved.now (number, solution.now) }
+    ensures { OnOk result (text.new ≡ text.old ++ spec.numbered_text all resolved.now group.now (number, solution.now)) }
 {
-    let instance = resolved.of.as_slice()[number as usize] as usize;
-    let inst = &resolved.instances.as_slice()[instance];
-    let evaluator = &mut evaluators[instance];
-    push_solution(alloc, text, number, group, inst, evaluator, solution, all)
+    let inst = instance_at(resolved, number);
+    push_solution(alloc, text, number, group, inst, verdict, solution, all)
 }
 
 /// Adds the part of a report on one solution to what waits, and gives that to the sink where it is
@@ -155,41 +143,45 @@ fn write_solution<K: Sink>(
     out: &mut K,
     text: &mut Text,
     resolved: &Resolved,
-    evaluators: &mut Vec<Evaluator<'_>>,
     number: u32,
     group: &Text,
+    verdict: &Verdict,
     solution: &RawSolution,
     all: bool,
 ) -> Result<(), Cut>
     requires one { IsOne resolved.now number solution.now }
-    requires evaluators { evaluators.old.items ≡ resolved.now.instances }
-    ensures evaluators { evaluators.new.items ≡ evaluators.old.items }
+    requires verdict { verdict.now ≡ numbered_verdict resolved.now (number, solution.now) }
     ensures amid { (before : Option (List ℕ)) (rest whole : List ℕ) → IsAmid before (K.taken out.old) text.old (spec.numbered_text all resolved.now group.now (number, solution.now) ++ rest) whole → OnOk result (IsAmid before (K.taken out.new) text.new rest whole) }
     ensures front { (before : Option (List ℕ)) (rest whole : List ℕ) → IsAmid before (K.taken out.old) text.old (spec.numbered_text all resolved.now group.now (number, solution.now) ++ rest) whole → OnErr result (TookFront before (K.taken out.new) (encode_utf8_all whole)) }
     ensures fault { IsErrOf result Cut.WriteFault → Rose (K.faults out.old) (K.faults out.new) }
     ensures counted { K.faults out.old ≤ K.faults out.new }
 {
-    push_numbered(
-        alloc, text, resolved, evaluators, number, group, solution, all,
-    )?;
+    push_numbered(alloc, text, resolved, number, group, verdict, solution, all)?;
     flush_long(alloc, out, text)
 }
 
-/// Writes the solutions of a group, numbered on from this number.
-fn write_group<K: Sink>(
+/// Writes the solutions of a group, numbered on from this number among all. Their verdicts are those of
+/// a window that goes ahead.
+fn write_group<R: Threads + Sync, K: Sink, G: Gate>(
+    rt: &R,
     alloc: Global,
     out: &mut K,
     text: &mut Text,
     resolved: &Resolved,
-    evaluators: &mut Vec<Evaluator<'_>>,
+    raws: &[&RawSolution],
+    gate: &G,
+    ahead: &mut Ahead,
     first: u32,
     group: &SolutionGroup,
     all: bool,
 ) -> Result<(), Cut>
-    requires evaluators { evaluators.old.items ≡ resolved.now.instances }
     requires ones { AreOnes resolved.now first group.now.solutions }
-    requires small { first + length group.now.solutions < 2 ^ 32 }
-    ensures evaluators { evaluators.new.items ≡ evaluators.old.items }
+    requires small { first + length group.now.solutions ≤ length raws.now }
+    requires all_ones { AreOnes resolved.now 0 (map (λ x. x.now) raws.now) }
+    requires few { length raws.now < 2 ^ 32 }
+    requires standing { (k : ℕ) (raw : RawSolution) → slice_get group.now.solutions k ≡ Some raw → slice_get (map (λ x. x.now) raws.now) (first + k) ≡ Some raw }
+    requires ahead { IsAhead resolved.now (map (λ x. x.now) raws.now) ahead.old }
+    ensures ahead { IsAhead resolved.now (map (λ x. x.now) raws.now) ahead.new }
     ensures amid { (before : Option (List ℕ)) (rest whole : List ℕ) → IsAmid before (K.taken out.old) text.old (spec.group_text all resolved.now first group.now ++ rest) whole → OnOk result (IsAmid before (K.taken out.new) text.new rest whole) }
     ensures front { (before : Option (List ℕ)) (rest whole : List ℕ) → IsAmid before (K.taken out.old) text.old (spec.group_text all resolved.now first group.now ++ rest) whole → OnErr result (TookFront before (K.taken out.new) (encode_utf8_all whole)) }
     ensures fault { IsErrOf result Cut.WriteFault → Rose (K.faults out.old) (K.faults out.new) }
@@ -198,42 +190,62 @@ fn write_group<K: Sink>(
     let id = &group.id.text;
     for (k, solution) in group.solutions.as_slice().iter().enumerate() {
         let number = first + k as u32;
-        write_solution(
-            alloc, out, text, resolved, evaluators, number, id, solution, all,
-        )?;
+        ahead.reach(rt, alloc, resolved, raws, gate, number)?;
+        let told = ahead.verdict(number);
+        write_solution(alloc, out, text, resolved, number, id, told, solution, all)?;
     }
     Ok(())
 }
 
-/// Writes the report of an archive: its header, and for each solution its line and what comes of it.
+/// The header of a report.
+fn header(alloc: Global, _archive: &Archive, resolved: &Resolved) -> Result<Text, NoMemory>
+    requires ready { solutions.IsReady _archive.now resolved.now }
+    requires instances { length resolved.now.instances < 2 ^ 32 }
+    ensures { IfOk result (λ text. text ≡ lines.header_line (length resolved.now.instances) (length (solutions_of _archive.now))) }
+{
+    let solutions = resolved.of.len() as u32;
+    header_line(alloc, resolved.instances.len() as u32, solutions)
+}
+
+/// Writes the report of an archive: its header, and for each solution its line and what comes of it. The
+/// workers evaluate the solutions, and pass the gate before each of them with its number; the text is the
+/// same for every number of them.
 ///
-/// It takes time about linear in the instances, the solutions and the report. It keeps in memory an
-/// evaluator for each instance, what one solution adds to the report, and of the rest no more than a
-/// piece.
-pub(crate) fn report<K: Sink>(
+/// It takes time about linear in the instances, the solutions and the report; that of evaluating is
+/// divided among the workers that run at the same time. It keeps in memory what the solutions of one
+/// window cost, for each worker that of evaluating one, what one solution adds to the report, and of the
+/// rest no more than a piece.
+pub(crate) fn report<R: Threads + Sync, K: Sink, G: Gate>(
+    rt: &R,
     alloc: Global,
     out: &mut K,
     archive: &Archive,
     resolved: &Resolved,
     all: bool,
+    workers: u32,
+    gate: &G,
 ) -> Result<(), Cut>
-    requires { IsReady archive.now resolved.now }
+    requires ready { IsReady archive.now resolved.now }
+    requires workers { (1 ≤ workers) × (workers ≤ 64) }
     ensures whole { OnOk result (Took (K.taken out.old) (K.taken out.new) (encode_utf8_all (spec.report all archive.now resolved.now))) }
     ensures front { OnErr result (TookFront (K.taken out.old) (K.taken out.new) (encode_utf8_all (spec.report all archive.now resolved.now))) }
     ensures fault { IsErrOf result Cut.WriteFault → Rose (K.faults out.old) (K.faults out.new) }
     ensures counted { K.faults out.old ≤ K.faults out.new }
 {
-    let mut evaluators = evaluators_of(alloc, resolved)?;
-    let solutions = resolved.of.len() as u32;
-    let mut text = header_line(alloc, resolved.instances.len() as u32, solutions)?;
+    let raws = all_solutions(alloc, archive)?;
+    let mut text = header(alloc, archive, resolved)?;
+    let mut ahead = Ahead::new(alloc, resolved, workers);
     let mut number = 0;
     for group in archive.solution_groups.as_slice() {
         write_group(
+            rt,
             alloc,
             out,
             &mut text,
             resolved,
-            &mut evaluators,
+            raws.as_slice(),
+            gate,
+            &mut ahead,
             number,
             group,
             all,

@@ -1,6 +1,6 @@
-ghost use Rattle.std.specs.Prelude.{◌≡◌, None, Some, map, MatchOption, string_bytes};
-ghost use Rattle.khe_app.specs.Requests.{asked_of};
-ghost use Rattle.khe_app.specs.Words.{asked, asked_by, all_by, evaluating, script_by};
+ghost use Rattle.std.specs.Prelude.{◌≡◌, ◌≤◌, None, Some, map, IfSome, MatchOption, string_bytes};
+ghost use Rattle.khe_app.specs.Requests.{IsFit, asked_of};
+ghost use Rattle.khe_app.specs.Words.{asked, asked_by, all_by, both_by, evaluating, options_by, script_by, workers_by, workers_of};
 ghost use Rattle.std.specs.Option.{option_map};
 
 use edit_script::number_of;
@@ -14,6 +14,8 @@ pub(crate) enum Request<'a> {
         archive: &'a str,
         /// Whether the report is to have all monitors, also those without a deviation.
         all: bool,
+        /// How many workers evaluate, 1 to 64.
+        workers: u32,
     },
     /// The answers to a script.
     Script {
@@ -27,9 +29,11 @@ pub(crate) enum Request<'a> {
 }
 
 /// What these words ask for, or `None` where they have no reading: the words are `evaluate`, a name,
-/// and `--all` or nothing more; or `script`, a name, a number and a name.
+/// and in any order `--all` and `--workers` with a number, or nothing more; or `script`, a name, a number
+/// and a name.
 pub(crate) fn request_of(words: &[String]) -> Option<Request<'_>>
-    ensures { MatchOption result (asked (map string_bytes words.now) ≡ None) (λ r. asked (map string_bytes words.now) ≡ Some (asked_of r)) }
+    ensures asked { MatchOption result (asked (map string_bytes words.now) ≡ None) (λ r. asked (map string_bytes words.now) ≡ Some (asked_of r)) }
+    ensures fit { IfSome result IsFit }
 {
     match words {
         [command, archive, more @ ..] => { request_by(command.as_str(), archive.as_str(), more) }
@@ -40,7 +44,8 @@ pub(crate) fn request_of(words: &[String]) -> Option<Request<'_>>
 /// What a command asks for with the archive's name and the words after it.
 #[tactic(auto, unfolding(crate::specs::Words::asked_by))]
 fn request_by<'a>(command: &str, archive: &'a str, more: &'a [String]) -> Option<Request<'a>>
-    ensures { MatchOption result (asked_by command.now archive.now (map string_bytes more.now) ≡ None) (λ r. asked_by command.now archive.now (map string_bytes more.now) ≡ Some (asked_of r)) }
+    ensures asked { MatchOption result (asked_by command.now archive.now (map string_bytes more.now) ≡ None) (λ r. asked_by command.now archive.now (map string_bytes more.now) ≡ Some (asked_of r)) }
+    ensures fit { IfSome result IsFit }
 {
     if command == "evaluate" {
         return evaluate_by(archive, more);
@@ -53,26 +58,92 @@ fn request_by<'a>(command: &str, archive: &'a str, more: &'a [String]) -> Option
 
 /// The report that is asked for by the options after the archive's name.
 fn evaluate_by<'a>(archive: &'a str, options: &'a [String]) -> Option<Request<'a>>
-    ensures { MatchOption result (option_map (evaluating archive.now) (all_by (map string_bytes options.now)) ≡ None) (λ r. option_map (evaluating archive.now) (all_by (map string_bytes options.now)) ≡ Some (asked_of r)) }
+    ensures asked { MatchOption result (option_map (λ o. evaluating archive.now o.0) (options_by (map string_bytes options.now)) ≡ None) (λ r. option_map (λ o. evaluating archive.now o.0) (options_by (map string_bytes options.now)) ≡ Some (asked_of r)) }
+    ensures fit { IfSome result IsFit }
 {
-    let all = all_by(options)?;
-    Some(Request::Evaluate { archive, all })
+    let (all, workers) = options_by(options)?;
+    Some(Request::Evaluate {
+        archive,
+        all,
+        workers,
+    })
 }
 
-/// Whether these options ask for all monitors, or `None` where they have no reading.
-fn all_by(options: &[String]) -> Option<bool>
-    ensures { result ≡ all_by (map string_bytes options.now) }
+/// Whether these options ask for all monitors, and for how many workers; or `None` where they have no
+/// reading.
+fn options_by(options: &[String]) -> Option<(bool, u32)>
+    ensures options { result ≡ options_by (map string_bytes options.now) }
+    ensures fit { IfSome result (λ o. (1 ≤ o.1) × (o.1 ≤ 64)) }
 {
     match options {
-        [] => Some(false),
-        [option] if option.as_str() == "--all" => Some(true),
+        [] => Some((false, 1)),
+        [option] => all_by(option.as_str()),
+        [option, value] => workers_by(false, option.as_str(), value.as_str()),
+        [first, second, third] => both_by(first.as_str(), second.as_str(), third.as_str()),
         _ => None,
+    }
+}
+
+/// All monitors by one worker, where the one option asks for all.
+#[tactic(auto, unfolding(crate::specs::Words::all_by))]
+fn all_by(option: &str) -> Option<(bool, u32)>
+    ensures options { result ≡ all_by option.now }
+    ensures fit { IfSome result (λ o. (1 ≤ o.1) × (o.1 ≤ 64)) }
+{
+    if option == "--all" {
+        Some((true, 1))
+    } else {
+        None
+    }
+}
+
+/// All monitors by so many workers, where the words are both options in any order.
+#[tactic(auto, unfolding(crate::specs::Words::both_by))]
+fn both_by(first: &str, second: &str, third: &str) -> Option<(bool, u32)>
+    ensures options { result ≡ both_by first.now second.now third.now }
+    ensures fit { IfSome result (λ o. (1 ≤ o.1) × (o.1 ≤ 64)) }
+{
+    if first == "--all" {
+        return workers_by(true, second, third);
+    }
+    if third == "--all" {
+        return workers_by(true, first, second);
+    }
+    None
+}
+
+/// The number of workers that an option asks for with its value, beside whether all monitors are asked
+/// for.
+#[tactic(auto, unfolding(crate::specs::Words::workers_by))]
+fn workers_by(all: bool, option: &str, value: &str) -> Option<(bool, u32)>
+    ensures workers { result ≡ workers_by all option.now value.now }
+    ensures fit { IfSome result (λ o. (1 ≤ o.1) × (o.1 ≤ 64)) }
+{
+    if option == "--workers" {
+        let workers = workers_of(value)?;
+        return Some((all, workers));
+    }
+    None
+}
+
+/// The number of workers that a word writes, 1 to 64.
+#[tactic(auto, unfolding(crate::specs::Words::workers_of))]
+fn workers_of(word: &str) -> Option<u32>
+    ensures workers { result ≡ workers_of word.now }
+    ensures fit { IfSome result (λ n. (1 ≤ n) × (n ≤ 64)) }
+{
+    let workers = number_of(18, word.as_bytes())?;
+    if 1 <= workers && workers <= 64 {
+        Some(workers)
+    } else {
+        None
     }
 }
 
 /// What a script is asked for by these words after the archive's name.
 fn script_by<'a>(archive: &'a str, words: &'a [String]) -> Option<Request<'a>>
-    ensures { MatchOption result (script_by archive.now (map string_bytes words.now) ≡ None) (λ r. script_by archive.now (map string_bytes words.now) ≡ Some (asked_of r)) }
+    ensures asked { MatchOption result (script_by archive.now (map string_bytes words.now) ≡ None) (λ r. script_by archive.now (map string_bytes words.now) ≡ Some (asked_of r)) }
+    ensures fit { IfSome result IsFit }
 {
     let [solution, script] = words else {
         return None;

@@ -7,7 +7,41 @@ use std::thread::Threads;
 
 const EVALUATE: [&str; 2] = ["evaluate", "archive"];
 
-const EVALUATE_ALL: [&str; 3] = ["evaluate", "archive", "--all"];
+/// Words that ask for all monitors.
+const EVALUATE_ALL: [&[&str]; 3] = [
+    &["evaluate", "archive", "--all"],
+    &["evaluate", "archive", "--all", "--workers", "3"],
+    &["evaluate", "archive", "--workers", "3", "--all"],
+];
+
+/// Words that ask for some number of workers.
+const BY_WORKERS: [&[&str]; 6] = [
+    &["evaluate", "archive"],
+    &["evaluate", "archive", "--workers", "1"],
+    &["evaluate", "archive", "--workers", "2"],
+    &["evaluate", "archive", "--workers", "003"],
+    &["evaluate", "archive", "--workers", "4"],
+    &["evaluate", "archive", "--workers", "64"],
+];
+
+/// Words without a reading.
+const WITHOUT_READING: [&[&str]; 15] = [
+    &[],
+    &["evaluate"],
+    &["archive", "evaluate"],
+    &["Evaluate", "archive"],
+    &["evaluate", "archive", "archive"],
+    &["evaluate", "--all", "archive"],
+    &["evaluate", "archive", "--all", "--all"],
+    &["evaluate", "archive", "--workers"],
+    &["evaluate", "archive", "--workers", "0"],
+    &["evaluate", "archive", "--workers", "65"],
+    &["evaluate", "archive", "--workers", "0000000000000000001"],
+    &["evaluate", "archive", "--workers", "--all"],
+    &["evaluate", "archive", "--all", "--workers"],
+    &["evaluate", "archive", "--all", "3", "--workers"],
+    &["evaluate", "archive", "--workers", "3", "--workers", "3"],
+];
 
 const HEADER: &str = "archive instances 1 solutions 1\nsolution 0 group \"G\" instance \"I\"\n";
 
@@ -178,17 +212,31 @@ fn evaluates_resources(rt: HostRuntime) -> Result<(), Fail> {
     let met =
         "monitor 0 AssignTime \"c0\" event \"E\" deviation 0 hard 0\nmonitor 1 AssignTime \"c0\" event \"F\" deviation 0 hard 0\nmonitor 2 AssignResource \"c1\" event \"E\" role \"R\" deviation 0 hard 0\nmonitor 3 AssignResource \"c1\" event \"F\" role \"R\" deviation 0 hard 0\n";
     let last = "total hard 0 soft 0\n";
-    let bytes = WITH_RESOURCES.as_bytes().to_vec(rt.alloc())?;
-    let ended = run(&rt, rt.alloc(), &EVALUATE, bytes, GOOD)?;
     let text = format!(in rt.alloc(); "{first}{second}{last}")?;
-    assert_eq!(rt; ended.text.as_slice(), text.as_bytes());
-    assert_eq!(rt; ended.status, 0);
-    let bytes = WITH_RESOURCES.as_bytes().to_vec(rt.alloc())?;
-    let ended = run(&rt, rt.alloc(), &EVALUATE_ALL, bytes, GOOD)?;
+    for words in BY_WORKERS {
+        let seen = writes(&rt, rt.alloc(), words, WITH_RESOURCES, text.as_str())?;
+        assert!(rt; seen);
+    }
     let text = format!(in rt.alloc(); "{first}{rest}{second}{met}{rest}{last}")?;
-    assert_eq!(rt; ended.text.as_slice(), text.as_bytes());
-    assert_eq!(rt; ended.status, 0);
+    for words in EVALUATE_ALL {
+        let seen = writes(&rt, rt.alloc(), words, WITH_RESOURCES, text.as_str())?;
+        assert!(rt; seen);
+    }
     Ok(())
+}
+
+/// Whether a run on these words, where this archive stands under the name, writes this text and ends
+/// well.
+fn writes<R: Threads + Sync>(
+    rt: &R,
+    alloc: Global,
+    words: &[&str],
+    archive: &str,
+    text: &str,
+) -> Result<bool, NoMemory> {
+    let bytes = archive.as_bytes().to_vec(alloc)?;
+    let ended = run(rt, alloc, words, bytes, GOOD)?;
+    Ok(ended.status == 0 && ended.text.as_slice() == text.as_bytes())
 }
 
 #[test]
@@ -233,13 +281,10 @@ fn has_no_reading<R: Threads + Sync>(
 
 #[test]
 fn reads_the_words(rt: HostRuntime) -> Result<(), Fail> {
-    assert!(rt; has_no_reading(&rt, rt.alloc(), &[])?);
-    assert!(rt; has_no_reading(&rt, rt.alloc(), &["evaluate"])?);
-    assert!(rt; has_no_reading(&rt, rt.alloc(), &["archive", "evaluate"])?);
-    assert!(rt; has_no_reading(&rt, rt.alloc(), &["Evaluate", "archive"])?);
-    assert!(rt; has_no_reading(&rt, rt.alloc(), &["evaluate", "archive", "archive"])?);
-    assert!(rt; has_no_reading(&rt, rt.alloc(), &["evaluate", "--all", "archive"])?);
-    assert!(rt; has_no_reading(&rt, rt.alloc(), &["evaluate", "archive", "--all", "--all"])?);
+    for words in WITHOUT_READING {
+        let seen = has_no_reading(&rt, rt.alloc(), words)?;
+        assert!(rt; seen);
+    }
     Ok(())
 }
 

@@ -92,12 +92,12 @@ solutions-formed (g ∷ gs) form =
     (All-append formed.IsSolution g.solutions (flat_map (λ x. x.solutions) gs) (All-head formed.IsSolutionGroup g gs form) (solutions-formed gs (All-tail formed.IsSolutionGroup g gs form)))
 
 -- what an archive without a fault gives
-record IsResolvedAs (a : Archive) (r : Resolved) : Type 0 where
+pub record IsResolvedAs (a : Archive) (r : Resolved) : Type 0 where
   pub sound : archive_fault a ≡ None
   pub instances : r.instances ≡ map parts_of a.instances
   pub of : r.of ≡ instances_of a
 
-resolved-as : (a : Archive) (r : Resolved) → resolved a ≡ Ok r → IsResolvedAs a r
+pub resolved-as : (a : Archive) (r : Resolved) → resolved a ≡ Ok r → IsResolvedAs a r
 resolved-as a r e = by (archive_fault a) refl e
   where
     by : (o : Option ResolveFault) → archive_fault a ≡ o → option_map_or Err o (Ok (record { instances = map parts_of a.instances; of = instances_of a })) ≡ Ok r → IsResolvedAs a r

@@ -1,12 +1,11 @@
 -- The archive, then its solution, then the script.
-use Rattle.std.proofs.Common.{IfSome, subst, ◌≡◌, sym}
+use Rattle.std.proofs.Common.{IfSome, subst}
 use Rattle.std.proofs.lemmas.Result.{IfOk-weaker}
 use Rattle.khe_app.specs.Answers.{IsAnswerOf, IsBarredBy, IsOnlyAnswerOf, IsPlayAnswer, IsReadyPlay, IsScriptOf, IsWith}
 use Rattle.khe_app.specs.Ends.{Holdings}
 use Rattle.khe_app.specs.Outcome.{start_of}
 use Rattle.khe_app.specs.declared.program.Answer.{Answer}
 use Rattle.khe_app.specs.declared.program.Answer.TheVariants.{Read}
-use Rattle.khe_app.specs.declared.program.Play.{Play}
 use Rattle.khe_app.proofs.PlayEnds.{barred_as, play_script, with_ready}
 use Rattle.khe_app.proofs.program.play_of.Goals as goal
 

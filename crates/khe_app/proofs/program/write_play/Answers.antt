@@ -1,5 +1,5 @@
 -- The line in place of the answers is the whole text.
-use Rattle.std.proofs.Common.{inr, refl, subst, sym, encode_utf8_all}
+use Rattle.std.proofs.Common.{inr, refl, subst, sym}
 use Rattle.khe_app.specs.Answers.{IsTextOf}
 use Rattle.khe_app.specs.Ends.{Written}
 use Rattle.khe_app.specs.Refusals.{refusal_line, script_too_large_line}

@@ -1,8 +1,10 @@
 -- What was written and what waits, with the groups that are left, make up the report.
-use Rattle.std.proofs.Common.{◌≡◌, ◌≤◌, ◌<◌, ◌+◌, ◌^◌, length, drop}
+use Rattle.std.proofs.Common.{map, ◌≡◌, ◌≤◌, ◌<◌, ◌+◌, ◌^◌, length, drop}
 use Rattle.std.specs.List.{flat_map}
+use Rattle.parallel_solve.specs.Ready.{AreOnes}
+use Rattle.parallel_solve.specs.Windows.{IsAhead}
 use Rattle.script_run.specs.Amid.{IsAmid}
-use Rattle.khe_app.specs.Ready.{AreOnes}
+use Rattle.xhstt_completion.specs.Entries.{solutions}
 use Rattle.khe_app.specs.Report.{groups_text, report}
 use Rattle.khe_app.proofs.reports.report.Given as goal
 
@@ -12,7 +14,9 @@ invariant-loop-group g l =
     record {
       amid : IsAmid (g.K.Sink.taken l.fn.out) (g.K.Sink.taken l.out) l.text (groups_text l.fn.all l.fn.resolved l.number left) (report l.fn.all l.fn.archive l.fn.resolved);
       ones : AreOnes l.fn.resolved l.number (flat_map (λ x. x.solutions) left);
+      to_come : drop l.number (solutions l.fn.archive) ≡ flat_map (λ x. x.solutions) left;
+      size : l.number + length (flat_map (λ x. x.solutions) left) ≡ length (solutions l.fn.archive);
+      ahead : IsAhead l.fn.resolved (map (λ x. x.now) l.raws.items) l.ahead;
       small : l.number + length (flat_map (λ x. x.solutions) left) < 2 ^ 32;
-      evaluators : l.evaluators.items ≡ l.fn.resolved.instances;
       counted : g.K.Sink.faults l.fn.out ≤ g.K.Sink.faults l.out;
     }

@@ -16,7 +16,7 @@ returns-clause-amid g c = λ before rest whole h.
     let taken = g.K.Sink.taken c.args.out.now in
     let part = numbered_text c.args.all c.args.resolved.now c.args.group.now (c.args.number, c.args.solution.now) in
     let pushed = amid-push before taken c.args.text.now part rest whole h in
-    c.flush_long.ensures.amid before rest whole (subst (λ t. IsAmid before taken t rest whole) (sym c.in_ok-push_numbered.ensures.text) pushed)
+    c.flush_long.ensures.amid before rest whole (subst (λ t. IsAmid before taken t rest whole) (sym c.in_ok-push_numbered.ensures) pushed)
 
 pub returns-clause-front : goal.returns-clause-front
 returns-clause-front g c = λ before rest whole h.
@@ -25,4 +25,4 @@ returns-clause-front g c = λ before rest whole h.
     let pushed = amid-push before taken c.args.text.now part rest whole h in
     one-err c.flush_long.result c.flush_long.ensures.front
     (λ cut. amid-cut before taken (g.K.Sink.taken c.flush_long.new.out) c.push_numbered.new.text rest whole
-    (subst (λ t. IsAmid before taken t rest whole) (sym c.in_ok-push_numbered.ensures.text) pushed) cut)
+    (subst (λ t. IsAmid before taken t rest whole) (sym c.in_ok-push_numbered.ensures) pushed) cut)
