@@ -9,6 +9,7 @@ use Rattle.demand_matching.specs.declared.domains.Pick.{Pick}
 use Rattle.demand_matching.specs.declared.domains.Pick.TheVariants.{One, «Set»}
 use Rattle.demand_matching.specs.Domains.{is_picked}
 use Rattle.demand_matching.specs.Members.{picked, first_word, end_word}
+use Rattle.khe_base.proofs.IdSetLemmas.{member_below}
 
 -- what passes a test is among what is kept
 kept_found : (p : ℕ → Bool) (xs : List ℕ) (j : ℕ) → j < length xs → p (get_or xs j 0) ≡ true → (i : ℕ) × (i < length (filter p xs)) × (get_or (filter p xs) i 0 ≡ get_or xs j 0)
@@ -24,12 +25,6 @@ kept_found p (x ∷ xs) (suc j) l h = behind (p x) (kept_found p xs j (omega ari
         → (i : ℕ) × (i < length (cond b (x ∷ filter p xs) (filter p xs))) × (get_or (cond b (x ∷ filter p xs) (filter p xs)) i 0 ≡ get_or xs j 0)
     behind true it = (suc it.0, omega (arith, it.1), it.2)
     behind false it = it
-
--- a member is below the size
-member_below : (set : List Bool) (y : ℕ) → has_member set y ≡ true → y < length set
-member_below [] y h = absurd (false≢true h)
-member_below (b ∷ bs) zero h = omega arith
-member_below (b ∷ bs) (suc y) h = omega (arith, member_below bs y h)
 
 -- each listed number is a member
 pub members_hit : (set : List Bool) (i : ℕ) → i < length (members_of set) → has_member set (get_or (members_of set) i 0) ≡ true

@@ -17,13 +17,7 @@ use Rattle.demand_matching.proofs.Counting.{cases_eqb, cases_last, count_partner
 use Rattle.demand_matching.proofs.Duality.{same_some}
 use Rattle.demand_matching.proofs.Picks.{picked_found}
 use Rattle.demand_matching.proofs.Supplies.{supply_at, picked_below, picked_supply, supply_found, may_is, may_present}
-
--- a member is below the size
-pub marked_below : (marks : List Bool) (d : ℕ) → has_member marks d ≡ true → d < length marks
-marked_below marks d h = elim (cases_lt d (length marks)) [
-  | inl l ↦ l
-  | inr g ↦ absurd (true≢false (sym h ∙ get_or_past marks d false (omega arith)))
-]
+use Rattle.khe_base.proofs.IdSetLemmas.{member_below}
 
 -- whoever has a supply that a demand may have is in all sets that this one is in
 pub in_all_next : (t : Table) (d by s : ℕ) → IsTable t → d < demands_in t → IsInAll t d → may_take (domains_of t) d s ≡ true → owner_of t s ≡ Some by → IsInAll t by
@@ -106,7 +100,7 @@ reach_fits t demands marks is =
     let n : ℕ = length demands in
     let low : count_below n (λ _. true) ≤ count_below (demands_in t) (λ _. true) =
     count_partners n (demands_in t) (λ _. true) (λ _. true) (λ k d. (k < n) × (get_or demands k 0 ≡ d))
-    (λ k l h. (get_or demands k 0, omega (arith, marked_below marks (get_or demands k 0) (is.marked k l), is.size), refl, (l, refl)))
+    (λ k l h. (get_or demands k 0, omega (arith, member_below marks (get_or demands k 0) (is.marked k l), is.size), refl, (l, refl)))
     (λ j k d x y. elim (cases_order j k) [
       | inl e ↦ e
       | inr r ↦ elim r [

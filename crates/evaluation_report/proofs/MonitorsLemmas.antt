@@ -15,21 +15,15 @@ use Rattle.khe_instance.specs.declared.rules.EventPair.{EventPair}
 use Rattle.khe_instance.specs.declared.rules.Rule.{Rule}
 use Rattle.khe_instance.specs.declared.rules.Rule.TheVariants.{AssignTime, AssignResource, SplitEvents, DistributeSplitEvents, PreferTimes, PreferResources, AvoidSplitAssignments, SpreadEvents, LinkEvents, OrderEvents, AvoidClashes, AvoidUnavailableTimes, LimitIdleTimes, ClusterBusyTimes, LimitBusyTimes, LimitWorkload}
 use Rattle.evaluation_report.specs.Points.{IsNamed}
-
--- an event of which a place has a role is there
-role-within : (events : List EventInfo) (e place : ℕ) (role : List ℕ) → role_at events e place ≡ Some role → e < length events
-role-within events e place role h =
-    elim (cases_lt e (length events)) [
-      | inl less ↦ less
-      | inr past ↦ absurd (let none = slice_get_past events e past in let at : role_at events e place ≡ None = (λ i. option_and_then (λ event. option_and_then (λ p. p.role) (slice_get event.places place)) (none i)) in let no : None ≡ Some role = sym at ∙ h in cc)
-    ]
+use Rattle.khe_instance.proofs.MadeLemmas.{monitor_made}
+use Rattle.khe_instance.proofs.WatchedLaws.{with-role}
 
 single-named : (p : Parts) (point : Point) → IsSinglePoint p point → IsNamed p point
 single-named p (Event e) h = h
 single-named p _ h = absurd h
 
 place-named : (p : Parts) (role : List ℕ) (point : Point) → IsPlacePoint p role point → IsNamed p point
-place-named p role (EventResource e place) h = role-within p.events e.0 place role h
+place-named p role (EventResource e place) h = with-role p.events e.0 place role h
 place-named p role _ h = absurd h
 
 group-named : (p : Parts) (point : Point) → IsGroupPoint p point → IsNamed p point
@@ -63,20 +57,15 @@ point-named p (ClusterBusyTimes groups least greatest) point h = resource-named 
 point-named p (LimitBusyTimes groups least greatest) point h = resource-named p point h
 point-named p (LimitWorkload least greatest) point h = resource-named p point h
 
--- each monitor of an instance is one
-pub monitor-is : (p : Parts) → AreWellMade p → (number : ℕ) (m : Monitor) → slice_get p.monitors number ≡ Some m → IsMonitor p m
-monitor-is p made number m e =
-    subst (IsMonitor p) (get_or_from_slice_get p.monitors number m m e) (made.monitors.each number m (slice_get_within p.monitors number m e))
-
 -- its constraint is there
 pub constraint-within : (p : Parts) → AreWellMade p → (number : ℕ) (m : Monitor) → slice_get p.monitors number ≡ Some m → m.constraint < length p.constraints
 constraint-within p made number m e =
-    let is = monitor-is p made number m e in slice_get_within p.constraints m.constraint is.0 is.1
+    let is = monitor_made p made number m e in slice_get_within p.constraints m.constraint is.0 is.1
 
 -- and so is what its point names
 pub monitor-named : (p : Parts) → AreWellMade p → (number : ℕ) (m : Monitor) → slice_get p.monitors number ≡ Some m → IsNamed p m.point
 monitor-named p made number m e =
-    let is = monitor-is p made number m e in point-named p is.0.rule m.point is.3
+    let is = monitor_made p made number m e in point-named p is.0.rule m.point is.3
 
 -- what a constraint of an instance says is in range
 pub constraint-rule : (p : Parts) → AreWellMade p → (number : ℕ) (c : Constraint) → slice_get p.constraints number ≡ Some c → IsRule p c.rule

@@ -3,7 +3,7 @@ use Rattle.std.proofs.Common.{◌≡◌, ◌∙◌, sym, ap, ap₂, subst, refl,
 use Rattle.std.specs.Option.{option_map_or}
 use Rattle.khe_instance.specs.declared.parts.EventInfo.{EventInfo}
 use Rattle.std.specs.List.{list_any, list_all, range_with_len}
-use Rattle.std.proofs.lemmas.Bool.{eq-eqb, lt-ltb}
+use Rattle.std.proofs.lemmas.Bool.{and_parts, eq-eqb, lt-ltb}
 use Rattle.std.proofs.lemmas.Bool.Decides.{nat_tests}
 use Rattle.std.proofs.lemmas.List.{length-map, get_or-map, length-append, take_at, drop_at, take-map, drop-map, take-append-drop, append-nil}
 use Rattle.std.proofs.Math.Nat.{mul-le-mul_right}
@@ -21,7 +21,7 @@ use Rattle.khe_instance.specs.declared.parts.Parts.{Parts}
 use Rattle.khe_instance.specs.declared.states.Duty.{Duty}
 use Rattle.khe_instance.specs.declared.states.Meet.{Meet}
 use Rattle.khe_instance.specs.declared.states.Task.{Task}
-use Rattle.event_deviations.proofs.Kit.{both_true, filter_none, filter_every, any_false, all_true, count_one, All-from_map}
+use Rattle.event_deviations.proofs.Kit.{filter_none, filter_every, any_false, all_true, count_one, All-from_map}
 
 -- each meet has a lower number than all later ones
 abbrev pub Rising : List Meet → Type 0
@@ -73,7 +73,7 @@ module _ (p : Parts) where
   later_tasks : (n : ℕ) (ms : List Meet) → list_all (λ x. nat_lt n x.meet.0) ms ≡ true → list_any (λ x. x.meet.0 == n) (flat_map (tasks_of p) ms) ≡ false
   later_tasks n [] e = refl
   later_tasks n (m ∷ ms) e =
-      let b = both_true (nat_lt n m.meet.0) (list_all (λ x. nat_lt n x.meet.0) ms) e in
+      let b = and_parts (nat_lt n m.meet.0) (list_all (λ x. nat_lt n x.meet.0) ms) e in
       let other : (m.meet.0 == n) ≡ false = let f = b.0 in grind (arith, nat_tests) in
       list_any-append (λ x. x.meet.0 == n) (tasks_of p m) (flat_map (tasks_of p) ms) ∙ ap₂ (λ x y. x || y) (own_tasks n m other) (later_tasks n ms b.1)
 
@@ -128,7 +128,7 @@ module _ (p : Parts) where
     rest : (xs : List Meet) → list_all (λ x. nat_lt m.meet.0 x.meet.0) xs ≡ true → duties xs ts ≡ duties xs (drop n ts)
     rest [] e = refl
     rest (x ∷ xs) e =
-        let b = both_true (nat_lt m.meet.0 x.meet.0) (list_all (λ y. nat_lt m.meet.0 y.meet.0) xs) e in
+        let b = and_parts (nat_lt m.meet.0 x.meet.0) (list_all (λ y. nat_lt m.meet.0 y.meet.0) xs) e in
         ap₂ (λ a b. map (duty_of x) a ++ b) (others x b.0) (rest xs b.1)
 
     -- the duties of the first meet stand first, and those of the later ones after them

@@ -23,10 +23,6 @@ pub sum_of_ones : (ms : List Meet) → sum_by (λ m. 1) ms ≡ length ms
 sum_of_ones [] = refl
 sum_of_ones (m ∷ ms) = let rest = sum_of_ones ms in omega (arith, sum_by-cons (λ (x : Meet). 1) m ms)
 
--- how far a difference of two numbers lies outside bounds
-pub outside_small : (a b least greatest : ℕ) → outside (pos a -ℤ pos b) (pos least) (pos greatest) ≤ a + b + least
-outside_small a b least greatest = grind (arith, ints)
-
 -- the greatest and the least with one more
 greatest_of-push : (xs : List ℕ) (y : ℕ) → greatest_of (xs ++ y ∷ []) ≡ Some (option_map_or (λ n. max n y) (greatest_of xs) y)
 greatest_of-push [] y = refl

@@ -3,7 +3,7 @@
 use Rattle.std.proofs.Common.{◌≡◌, ◌∙◌, sym, ap, ap₂, refl, ℕ, zero, suc, ◌+◌, ◌-◌, ◌<◌, ◌≤◌, ◌==◌, Bool, true, false, cond, ◌&&◌, ◌||◌, Option, Some, None, List, [], ◌∷◌, length, get_or, set, take, slice_get, arith, zero-add, ◌⊎◌, inl, inr, filter, sum_by, count_by, option_map, option_and_then}
 use Rattle.std.specs.List.{list_any, range_with_len}
 use Rattle.std.specs.Option.{option_map_or}
-use Rattle.std.proofs.lemmas.Bool.{false≢true, eqb-true, eq-eqb, ne_eqb, cases_eq, cases_lt}
+use Rattle.std.proofs.lemmas.Bool.{and_parts, cases_eq, cases_lt, eq-eqb, eqb-true, false≢true, ne_eqb}
 use Rattle.std.proofs.lemmas.List.{get_or_past}
 use Rattle.std.proofs.lemmas.List.Folds.{Any-from_list_any, list_any-from_Any, list_any-append, list_any_more}
 use Rattle.std.proofs.lemmas.List.Sums.{sum_by-cons}
@@ -23,8 +23,10 @@ use Rattle.khe_instance.specs.declared.states.Meet.{Meet}
 use Rattle.event_deviations.specs.Groups.{some_has, has_duty_at, has_duty, has_duty_among, starting_at, starting_in, spread_over}
 use Rattle.event_deviations.specs.Marked.{is_marked}
 use Rattle.khe_base.specs.IdSet.{members_of}
-use Rattle.event_deviations.proofs.Kit.{both_true, from_both, same_truth, list_any-filter, from_any_range, any_in_range, InRange, count_by-agree, sum_by-filter}
+use Rattle.event_deviations.proofs.Kit.{from_both, same_truth, list_any-filter, from_any_range, any_in_range, InRange, count_by-agree, sum_by-filter}
 use Rattle.event_deviations.proofs.MarkLemmas.{or_false, or_assoc, is_marked-set}
+use Rattle.khe_base.proofs.IdSetLemmas.{member_below}
+use Rattle.khe_instance.proofs.DutiesLemmas.{sum_by-plus}
 
 -- one more duty
 module _ (vs start : List ℕ) (ds : List Duty) (i : ℕ) (d : Duty) (l : i < length ds)
@@ -87,14 +89,6 @@ role_within infos role e k h = by (role_at infos e k) refl h
     by None is g = absurd (false≢true g)
     by (Some own) is g = place_within infos e k own is
 
--- a member of a set is below its size
-member_below : (set : List Bool) (n : ℕ) → has_member set n ≡ true → n < length set
-member_below set n h = by (cases_lt n (length set))
-  where
-    by : (n < length set) ⊎ (length set ≤ n) → n < length set
-    by (inl l) = l
-    by (inr l) = absurd (false≢true (sym (get_or_past set n false l) ∙ h))
-
 -- some member passes where some number does that is a member
 module _ (set : List Bool) (p : ℕ → Bool) where
   pub any_member : (n : ℕ) → has_member set n ≡ true → p n ≡ true → list_any p (members_of set) ≡ true
@@ -116,14 +110,14 @@ module _ (infos : List EventInfo) (ds : List Duty) (set : List Bool) (role : Lis
   to : found_among ≡ true → list_any (λ d. is_there d && is_resource r d.resource) ds ≡ true
   to h =
       let e = from_any_member set (has_duty infos ds role r) h in
-      let at_event = both_true (has_member set e.number) (has_duty infos ds role r e.number) e.passes in
+      let at_event = and_parts (has_member set e.number) (has_duty infos ds role r e.number) e.passes in
       let k = from_any_range (has_duty_at infos ds role r e.number) (places_at infos e.number) at_event.1 in
-      let at_place = both_true (is_role role (role_at infos e.number k.number)) (some_has (duties_at e.number k.number ds) r) k.passes in
+      let at_place = and_parts (is_role role (role_at infos e.number k.number)) (some_has (duties_at e.number k.number ds) r) k.passes in
       let own = λ (d : Duty). (d.meet.event.0 == e.number) && (d.place == k.number) in
       let d = Any-from_list_any (λ (x : Duty). own x && is_resource r x.resource) ds (sym (list_any-filter (λ (x : Duty). is_resource r x.resource) own ds) ∙ at_place.1) in
       let x = d.1 in
-      let parts = both_true (own x) (is_resource r x.resource) d.4 in
-      let here = both_true (x.meet.event.0 == e.number) (x.place == k.number) parts.0 in
+      let parts = and_parts (own x) (is_resource r x.resource) d.4 in
+      let here = and_parts (x.meet.event.0 == e.number) (x.place == k.number) parts.0 in
       let e_is : e.number ≡ x.meet.event.0 = sym (eqb-true x.meet.event.0 e.number here.0) in
       let k_is : k.number ≡ x.place = sym (eqb-true x.place k.number here.1) in
       let there : is_there x ≡ true =
@@ -135,8 +129,8 @@ module _ (infos : List EventInfo) (ds : List Duty) (set : List Bool) (role : Lis
   from h =
       let d = Any-from_list_any (λ x. is_there x && is_resource r x.resource) ds h in
       let x = d.1 in
-      let parts = both_true (is_there x) (is_resource r x.resource) d.4 in
-      let here = both_true (has_member set x.meet.event.0) (is_role role (role_at infos x.meet.event.0 x.place)) parts.0 in
+      let parts = and_parts (is_there x) (is_resource r x.resource) d.4 in
+      let here = and_parts (has_member set x.meet.event.0) (is_role role (role_at infos x.meet.event.0 x.place)) parts.0 in
       let e = x.meet.event.0 in
       let k = x.place in
       let own = λ (y : Duty). (y.meet.event.0 == e) && (y.place == k) in
@@ -190,15 +184,6 @@ module _ (h : ℕ → ℕ) (x : ℕ) (others : (e : ℕ) → (e ≡ x → ⊥) �
 
   pub sum_one : (n : ℕ) → (n ≤ x → h x ≡ 0) → sum_by h (range_with_len 0 n) ≡ h x
   sum_one n beyond = from_on 0 n (omega arith) (λ le. beyond (omega arith))
-
-sum_by-plus : {X : Type 0} (f g : X → ℕ) (xs : List X) → sum_by (λ x. f x + g x) xs ≡ sum_by f xs + sum_by g xs
-sum_by-plus f g [] = refl
-sum_by-plus f g (x ∷ xs) =
-    let rest = sum_by-plus f g xs in
-    let a = sum_by-cons (λ y. f y + g y) x xs in
-    let b = sum_by-cons f x xs in
-    let c = sum_by-cons g x xs in
-    omega arith
 
 module _ (set times : List Bool) where
   abbrev value : Meet → ℕ

@@ -8,11 +8,7 @@ use Rattle.std.proofs.lemmas.List.Filters.{sum_by-filter_both}
 use Rattle.std.proofs.lemmas.List.Folds.{Any-from_list_any, list_any_at, fold-map}
 use Rattle.std.proofs.lemmas.List.FromFn.{length-range_with_len, get_or-range_with_len, length-map-range_with_len, get_or-map-range_with_len, fill_by_all}
 use Rattle.std.proofs.lemmas.List.Sums.{sum_by-cons, sum-map, count_by-le-length}
-
--- both of two tests
-pub both_true : (a b : Bool) → (a && b) ≡ true → (a ≡ true) × (b ≡ true)
-both_true true b e = (refl, e)
-both_true false b e = absurd (false≢true e)
+use Rattle.khe_base.proofs.ListLemmas.{get-map}
 
 pub from_both : (a b : Bool) → a ≡ true → b ≡ true → (a && b) ≡ true
 from_both true b e f = f
@@ -142,10 +138,6 @@ count_by-agree p q n h = by 0 n (λ k low high. h k (omega arith))
         ∙ ap₂ (λ x y. cond x 1 0 + y) (g a (omega arith) (omega arith)) (by (a + 1) m (λ k low high. g k (omega arith) (omega arith)))
         ∙ sym (sum_by-cons (λ x. cond (q x) 1 0) a (range_with_len (a + 1) m))
 
--- a count of a range is no greater than it
-pub count_by-range : (p : ℕ → Bool) (n : ℕ) → count_by p (range_with_len 0 n) ≤ n
-count_by-range p n = omega (arith, count_by-le-length p (range_with_len 0 n), length-range_with_len 0 n)
-
 -- at most one number of a range is this one
 pub count_one : (k n : ℕ) → count_by (λ j. j == k) (range_with_len 0 n) ≤ 1
 count_one k n = by 0 n
@@ -169,15 +161,3 @@ count_one k n = by 0 n
             let y : cond {A = ℕ} (a == k) 1 0 ≡ 0 = ap (λ b. cond {A = ℕ} b 1 0) (ne_eqb a k ne) in
             omega arith
 
--- numbers of a list by their places
-looked_up : {X : Type 0} (f : X → ℕ) (ys : List X) (k : ℕ) → get_or (map f ys) k 0 ≡ option_map_or f (slice_get ys k) 0
-looked_up f [] k = refl
-looked_up f (y ∷ ys) zero = refl
-looked_up f (y ∷ ys) (suc k) = looked_up f ys k
-
-pub sum_by-looked_up : {X : Type 0} (f : X → ℕ) (xs : List X) → sum_by (λ i. option_map_or f (slice_get xs i) 0) (range_with_len 0 (length xs)) ≡ sum_by f xs
-sum_by-looked_up f xs =
-    let F = λ (i : ℕ). option_map_or f (slice_get xs i) 0 in
-    sym (sum-map F (range_with_len 0 (length xs)))
-    ∙ ap (sum_by (λ n. n)) (sym (fill_by_all F (map f xs) (length xs) 0 (length-map xs f) (λ k l. looked_up f xs k)))
-    ∙ sum-map f xs

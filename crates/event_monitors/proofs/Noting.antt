@@ -143,9 +143,6 @@ steps_on p served posts s c all =
         let w = watched a.monitor in
         omega (arith, v, s, w)
 
-pub monitor_at : (p : Parts) → AreWellMade p → (i : ℕ) (m : Monitor) → slice_get p.monitors i ≡ Some m → IsMonitor p m
-monitor_at p made i m h = subst (λ x. IsMonitor p x) (get_or_from_slice_get p.monitors i m m h) (made.monitors.each i m (slice_get_within p.monitors i m h))
-
 pub kept_more : {G : Type 0} (keeps : G → Parts → Monitor → List Slot → Type 0) (p : Parts) (posts : List Post) (s : List Slot) (gauges : List G) (g : G) (d : Post)
     → length gauges < length posts → keeps g p (get_or posts (length gauges) d).monitor s → AreKept keeps p posts gauges s → AreKept keeps p posts (gauges ++ g ∷ []) s
 kept_more {G} keeps p posts s gauges g d l one all k a x there here = by (last_of gauges g x k here)

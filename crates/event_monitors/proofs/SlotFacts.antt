@@ -21,6 +21,7 @@ use Rattle.khe_told.specs.declared.changes.Change.TheVariants.{Add, Drop, Place 
 use Rattle.khe_told.specs.declared.slots.Slot.{Slot}
 use Rattle.khe_told.specs.declared.slots.Span.{Span}
 use Rattle.event_monitors.specs.Shares.{greatest_total, most_of}
+use Rattle.khe_told.proofs.OpeningLaws.{slots_amount}
 
 -- what an element counts for is no more than all of them do
 pub part_of_sum : (f : Slot → ℕ) (s : List Slot) (i : ℕ) (d : Slot) → i < length s → f (get_or s i d) ≤ sum_by f s
@@ -59,13 +60,6 @@ slot_length p s m made told l = by (slice_get_cases p.events (slot_at s m).event
         let d : h.0.duration ≤ NUMBER = (subst (λ (y : EventInfo). IsEvent p y) h.3 (made.events e h.0 h.1)).duration.1 in
         omega (arith, a, b, c, d)
     by (inr h) = absurd (let a = slot_event p s m told.whose l in let b = h.0 in omega (arith, a, b))
-
-slots_amount : (e : ℕ) (events : List EventInfo) → length (slots_from e events) ≡ sum_by (λ (x : EventInfo). x.duration) events
-slots_amount e [] = refl
-slots_amount e (event ∷ events) =
-    length-append (slots_of_event e event) (slots_from (e + 1) events)
-    ∙ ap (λ n. n + length (slots_from (e + 1) events)) (length-map (range_with_len event.first_meet event.duration) (λ m. empty_slot m e event) ∙ length-range_with_len event.first_meet event.duration)
-    ∙ ap (λ n. event.duration + n) (slots_amount (e + 1) events) ∙ sym (sum_by-cons (λ (x : EventInfo). x.duration) event events)
 
 -- all slots together count for no more than this
 pub totals_small : (p : Parts) (s : List Slot) → AreWellMade p → AreTold p s → sum_by (λ x. most_of x.span) s ≤ greatest_total

@@ -29,7 +29,7 @@ turned_sum f s c amount before later l h b a =
     (omega (arith, part, h, b), omega (arith, e, part, h, b, a))
 
 -- sums grow with their parts
-sum_le : (f g : Slot → ℕ) (s : List Slot) → ((x : Slot) → f x ≤ g x) → sum_by f s ≤ sum_by g s
+pub sum_le : (f g : Slot → ℕ) (s : List Slot) → ((x : Slot) → f x ≤ g x) → sum_by f s ≤ sum_by g s
 sum_le f g [] h = omega arith
 sum_le f g (x ∷ s) h = let a = sum_by-cons f x s in let b = sum_by-cons g x s in let k = h x in let r = sum_le f g s h in omega (arith, a, b, k, r)
 

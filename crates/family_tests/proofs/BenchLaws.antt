@@ -24,6 +24,7 @@ use Rattle.khe_told.proofs.FrameLaws.{IsFrame, frames}
 use Rattle.resource_monitors.proofs.StateLaws.{told_opened}
 use Rattle.workload_monitors.proofs.LoadLaws.{lowered, raised}
 use Rattle.family_tests.specs.Benches.{AreHeld, IsBench, IsSetFor}
+use Rattle.resource_monitors.proofs.OpenLaws.{none_row}
 
 -- nothing is given
 pub none_given : {X : Type 0} (xs : List (Option X)) → ((j : ℕ) → j < length xs → get_or xs j None ≡ None) → xs ≡ replicate (length xs) None
@@ -165,17 +166,12 @@ held_none e k (event ∷ events) =
     let c = held_none e (k + 1) events in
     omega (arith, a, b, c)
 
-none_at : (n e : ℕ) → slice_index (replicate n 0) e ≡ 0
-none_at zero e = refl
-none_at (suc n) zero = refl
-none_at (suc n) (suc e) = none_at n e
-
 pub bench_opened : (p : Parts) (served : Kind → Bool) (s f : List Slot) (amounts ds : List ℕ) → s ≡ no_meets p → f ≡ no_meets p → amounts ≡ replicate (length p.events) 0 → length ds ≡ length p.monitors → Agrees p served f ds → IsBench p served s amounts ds
 bench_opened p served s f amounts ds is family counts many agrees = record {
   told = subst (AreTold p) (sym is) (told_opened p);
   held_all = record {
     events = ap length counts ∙ length-replicate (length p.events) 0;
-    each = λ e l. (ap (λ xs. slice_index xs e) counts ∙ none_at (length p.events) e ∙ sym (ap (held e) is ∙ held_none e 0 p.events));
+    each = λ e l. (ap (λ xs. slice_index xs e) counts ∙ none_row (length p.events) e ∙ sym (ap (held e) is ∙ held_none e 0 p.events));
   };
   monitors = many;
   agrees = subst (λ x. Agrees p served x ds) (family ∙ sym is) agrees;

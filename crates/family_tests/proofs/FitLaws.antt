@@ -22,13 +22,7 @@ use Rattle.khe_told.specs.declared.slots.Slot.{Slot}
 use Rattle.khe_told.specs.declared.slots.Span.{Span}
 use Rattle.khe_told.proofs.SlotLaws.{set-there, told_kept, told_set}
 use Rattle.family_tests.specs.Benches.{AreHeld, MayHave, is_open, unplaced}
-
-get-other : {X : Type 0} (xs : List X) (i j : ℕ) (x : X) → (i ≡ j → ⊥) → slice_get (set xs i x) j ≡ slice_get xs j
-get-other [] i j x n = refl
-get-other (z ∷ xs) zero zero x n = absurd (n refl)
-get-other (z ∷ xs) zero (suc j) x n = refl
-get-other (z ∷ xs) (suc i) zero x n = refl
-get-other (z ∷ xs) (suc i) (suc j) x n = get-other xs i j x (λ h. n (ap suc h))
+use Rattle.khe_base.proofs.ListLemmas.{get-other}
 
 module _ (p : Parts) (s : List Slot) (told : AreTold p s) where
   slot_is : (m : ℕ) → m < length s → IsSlot p (slot_at s m)

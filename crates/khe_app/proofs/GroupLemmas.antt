@@ -2,6 +2,7 @@
 use Rattle.std.proofs.Common.{ℕ, zero, suc, ◌≡◌, ◌+◌, List, [], ◌∷◌, ◌++◌, Some, length, drop, slice_get, refl, sym, ap, ◌∙◌, arith}
 use Rattle.std.proofs.Math.Seq.{drop-append_seam}
 use Rattle.xhstt_shape.specs.declared.records.RawSolution.{RawSolution}
+use Rattle.parallel_solve.proofs.CutLemmas.{get_front}
 
 none : (n : ℕ) → drop {A = RawSolution} n [] ≡ []
 none zero = refl
@@ -16,11 +17,6 @@ dropped (suc n) k (x ∷ xs) = ap (λ j. drop j (x ∷ xs)) (let e : suc n + k �
 pub later_come : (n : ℕ) (all xs later : List RawSolution) → drop n all ≡ xs ++ later → drop (n + length xs) all ≡ later
 later_come n all xs later is = dropped n (length xs) all ∙ ap (drop (length xs)) is ∙ drop-append_seam xs later
 
-in_front : (xs later : List RawSolution) (k : ℕ) (x : RawSolution) → slice_get xs k ≡ Some x → slice_get (xs ++ later) k ≡ Some x
-in_front [] later k x e = absurd (cc)
-in_front (y ∷ xs) later zero x e = e
-in_front (y ∷ xs) later (suc k) x e = in_front xs later k x e
-
 undropped : (xs : List RawSolution) (n k : ℕ) (x : RawSolution) → slice_get (drop n xs) k ≡ Some x → slice_get xs (n + k) ≡ Some x
 undropped xs zero k x e = ap (slice_get xs) (let z : zero + k ≡ k = omega arith in z) ∙ e
 undropped [] (suc n) k x e = absurd (cc)
@@ -28,4 +24,4 @@ undropped (y ∷ xs) (suc n) k x e = ap (slice_get (y ∷ xs)) (let z : suc n + 
 
 -- a solution of a group stands at its number among all
 pub standing_at : (n : ℕ) (all xs later : List RawSolution) (k : ℕ) (x : RawSolution) → drop n all ≡ xs ++ later → slice_get xs k ≡ Some x → slice_get all (n + k) ≡ Some x
-standing_at n all xs later k x is at = undropped all n k x (ap (λ l. slice_get l k) is ∙ in_front xs later k x at)
+standing_at n all xs later k x is at = undropped all n k x (ap (λ l. slice_get l k) is ∙ get_front xs later k x at)

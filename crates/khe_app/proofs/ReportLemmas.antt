@@ -16,9 +16,3 @@ numbered-there f xs i x d at =
     ∙ ap (λ e. Some e) (get_or-enumerate_from 0 xs i (0, x) h ∙ ap (λ y. (0 + i, y)) (get_or_from_slice_get xs i x x at) ∙ ap (λ n. (n, x)) (zero-add i)) in
     mapped-there f (enumerate_from 0 xs) i (i, x) d entry
 
--- what is left of numbered lines begins with those of the element at hand
-pub lines-there : {A : Type 0} (f : ℕ × A → List ℕ) (xs : List A) (i j : ℕ) (x : A) → slice_get xs i ≡ Some x
-    → flat_map f (enumerate_from j (drop i xs)) ≡ f (j, x) ++ flat_map f (enumerate_from (j + 1) (drop (i + 1) xs))
-lines-there f xs i j x at =
-    ap (λ ys. flat_map f (enumerate_from j ys)) (drop-there xs i x at)
-    ∙ flat_map-cons f (j, x) (enumerate_from (j + 1) (drop (i + 1) xs))

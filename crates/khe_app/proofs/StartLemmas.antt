@@ -1,7 +1,7 @@
 -- The solution that a script begins with.
 use Rattle.std.proofs.Common.{ℕ, ◌≡◌, ◌<◌, Some, Ok, Err, length, get_or, slice_get, sym, ap, subst, ◌∙◌, arith, zero-add}
 use Rattle.std.specs.Option.{option_and_then, option_map_or}
-use Rattle.std.proofs.lemmas.Option.{slice_get-get_or}
+use Rattle.std.proofs.lemmas.Option.{same_Some, slice_get-get_or}
 use Rattle.khe_base.proofs.ListLemmas.{there}
 use Rattle.khe_instance.specs.declared.parts.Parts.{Parts}
 use Rattle.khe_instance.specs.declared.states.Plain.{Plain}
@@ -47,17 +47,14 @@ started a r number c =
     ap (λ o. option_map_or (λ raw. option_map_or (λ p. start_by p (completed p raw)) (parts_at r number) (barred NoSuchSolution)) o (barred NoSuchSolution)) c.found
     ∙ ap (λ o. option_map_or (λ p. start_by p (completed p c.raw)) o (barred NoSuchSolution)) c.at
 
-injective : {A : Type 0} (x y : A) → Some x ≡ Some y → x ≡ y
-injective x y e = ap (λ o. option_map_or (λ z. z) o x) e
-
 -- by the instance that was found
 pub same_parts : (a : Archive) (r : Resolved) (number : ℕ) (c : IsChosen a r number) (p : Parts) → slice_get r.instances (get_or r.of number 0) ≡ Some p → c.parts ≡ p
-same_parts a r number c p at = injective c.parts p (sym c.there ∙ at)
+same_parts a r number c p at = same_Some c.parts p (sym c.there ∙ at)
 
 pub names : (a : Archive) (r : Resolved) (number : ℕ) (c : IsChosen a r number) (p : Parts) → slice_get r.instances (get_or r.of number 0) ≡ Some p
     → (raw : RawSolution) → slice_get (solutions_of a) number ≡ Some raw → IsSolution p raw
 names a r number c p at raw found =
-    subst (λ q. IsSolution q raw) (same_parts a r number c p at) (subst (IsSolution c.parts) (injective c.raw raw (sym c.found ∙ found)) c.solution)
+    subst (λ q. IsSolution q raw) (same_parts a r number c p at) (subst (IsSolution c.parts) (same_Some c.raw raw (sym c.found ∙ found)) c.solution)
 
 pub begun_at : (a : Archive) (r : Resolved) (number : ℕ) (c : IsChosen a r number) (p : Parts) (plain : Plain) → slice_get r.instances (get_or r.of number 0) ≡ Some p
     → ((raw : RawSolution) → slice_get (solutions_of a) number ≡ Some raw → completed p raw ≡ Ok plain) → start_of a r number ≡ begins p plain

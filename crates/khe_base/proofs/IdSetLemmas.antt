@@ -1,6 +1,7 @@
 -- Members of a set of numbers, and the bits that stand for them.
-use Rattle.std.proofs.Common.{◌≡◌, ◌≢◌, ◌∙◌, sym, ap, subst, refl, ℕ, ◌+◌, ◌<◌, ◌≤◌, ◌^◌, Bool, true, false, cond, if◌then◌else◌, nat_eq, List, length, get_or, set, replicate, length-set, arith, zero, suc, ◌⊎◌, inl, inr}
+use Rattle.std.proofs.Common.{◌≡◌, ◌≢◌, ◌∙◌, sym, ap, subst, refl, ℕ, ◌+◌, ◌<◌, ◌≤◌, ◌^◌, Bool, true, false, cond, if◌then◌else◌, nat_eq, List, [], ◌∷◌, length, get_or, set, replicate, length-set, arith, zero, suc, ◌⊎◌, inl, inr}
 use Rattle.std.proofs.lemmas.Bool.Decides.{nat_tests}
+use Rattle.std.proofs.lemmas.Bool.{false≢true}
 use Rattle.std.proofs.lemmas.List.{set-get_or, get_or-set_same, get_or-set_other, length-replicate, get_or_past}
 use Rattle.std.proofs.lemmas.List.FromFn.{fill_by_all, length-map-range_with_len, get_or-map-range_with_len}
 use Rattle.std.proofs.lemmas.List.Sums.{sum_by-set, count_by-le-length}
@@ -115,3 +116,9 @@ pub set_of_bits-member : (words : List ℕ) (t size : ℕ) → t < size → is_s
 set_of_bits-member words t size here present =
     sym (with_member-member (set_of_bits words size) t false (subst (λ n. t < n) (sym (length-set_of_bits words size)) here)
     (get_or-map-range_with_len (λ t. is_set words t) 0 size t t false here (omega arith) ∙ present))
+
+-- a member is below the size
+pub member_below : (set : List Bool) (y : ℕ) → has_member set y ≡ true → y < length set
+member_below [] y h = absurd (false≢true h)
+member_below (b ∷ bs) zero h = omega arith
+member_below (b ∷ bs) (suc y) h = omega (arith, member_below bs y h)

@@ -1,10 +1,12 @@
 -- What stands at a place of a list, and lists that are joined, for the proofs of all layers.
-use Rattle.std.proofs.Common.{ℕ, ◌≡◌, ◌+◌, ◌<◌, Bool, true, false, not, cond, ◌||◌, Some, List, [], ◌∷◌, ◌++◌, length, get_or, drop, map, map-id, refl, sym, ap, subst, ◌∙◌, add-one, zero-add, arith, drop-cons, zero, suc, slice_get, option_map, ltb, All, flat_map}
-use Rattle.std.specs.List.{list_any, position_or_len, range_with_len}
+use Rattle.std.proofs.Common.{ℕ, ◌≡◌, ◌+◌, ◌<◌, Bool, true, false, not, cond, ◌||◌, Some, List, [], ◌∷◌, ◌++◌, length, get_or, if◌then◌else◌, drop, map, map-id, refl, sym, ap, subst, ◌∙◌, add-one, zero-add, arith, drop-cons, zero, suc, slice_get, option_map, ltb, set, All, flat_map}
+use Rattle.std.specs.Option.{option_map_or}
+use Rattle.std.specs.List.{enumerate_from, filter, fold, list_any, position_or_len, range_with_len, sum_by}
 use Rattle.std.proofs.lemmas.Bool.Decides.{nat_tests}
 use Rattle.std.proofs.lemmas.List.Concat.{flat_map-cons}
 use Rattle.std.proofs.lemmas.List.Elements.{All-nil, All-cons, All-head, All-tail, All-append, All-get_or}
 use Rattle.std.proofs.lemmas.List.FromFn.{map-range_with_len_more}
+use Rattle.std.proofs.lemmas.List.Folds.{fold-map}
 use Rattle.std.proofs.lemmas.Option.{get_or_from_slice_get, slice_get_within, slice_get-map}
 
 -- an element that is there
@@ -62,3 +64,52 @@ below_length p (x ∷ xs) = by (p x) (below_length p xs)
 -- the numbers below one more number
 pub range_more : (n : ℕ) → range_with_len 0 (n + 1) ≡ range_with_len 0 n ++ n ∷ []
 range_more n = sym (map-id (range_with_len 0 (n + 1))) ∙ map-range_with_len_more (λ k. k) 0 n n (zero-add n) ∙ ap (λ r. r ++ n ∷ []) (map-id (range_with_len 0 n))
+
+-- what stands at a place that is set, and at any other
+pub get-set : {X : Type 0} (xs : List X) (i : ℕ) (x : X) → i < length xs → slice_get (set xs i x) i ≡ Some x
+get-set [] i x l = absurd (omega arith)
+get-set (z ∷ xs) zero x l = refl
+get-set (z ∷ xs) (suc i) x l = get-set xs i x (omega (arith, l))
+
+pub get-other : {X : Type 0} (xs : List X) (i j : ℕ) (x : X) → (i ≡ j → ⊥) → slice_get (set xs i x) j ≡ slice_get xs j
+get-other [] i j x n = refl
+get-other (z ∷ xs) zero zero x n = absurd (n refl)
+get-other (z ∷ xs) zero (suc j) x n = refl
+get-other (z ∷ xs) (suc i) zero x n = refl
+get-other (z ∷ xs) (suc i) (suc j) x n = get-other xs i j x (λ h. n (ap suc h))
+
+-- the element at hand is the first that is left
+pub drop-next : {A : Type 0} (xs : List A) (i : ℕ) (x : A) → i < length xs → x ≡ get_or xs i x → drop i xs ≡ x ∷ drop (i + 1) xs
+drop-next xs i x l at = drop-cons xs i x l ∙ ap (λ y. y ∷ drop (suc i) xs) (sym at) ∙ ap (λ k. x ∷ drop k xs) (sym (add-one i))
+
+-- what is left of numbered lines begins with those of the element at hand
+pub lines-there : {A : Type 0} (f : ℕ × A → List ℕ) (xs : List A) (i j : ℕ) (x : A) → slice_get xs i ≡ Some x
+    → flat_map f (enumerate_from j (drop i xs)) ≡ f (j, x) ++ flat_map f (enumerate_from (j + 1) (drop (i + 1) xs))
+lines-there f xs i j x at =
+    ap (λ ys. flat_map f (enumerate_from j ys)) (drop-there xs i x at)
+    ∙ flat_map-cons f (j, x) (enumerate_from (j + 1) (drop (i + 1) xs))
+
+-- a number of what stands at a place, and the sum of such numbers
+pub get-map : {A : Type 0} (f : A → ℕ) (xs : List A) (n : ℕ) → get_or (map f xs) n 0 ≡ option_map_or f (slice_get xs n) 0
+get-map f [] n = refl
+get-map f (x ∷ xs) zero = refl
+get-map f (x ∷ xs) (suc n) = get-map f xs n
+
+pub sum-mapped : {A B : Type 0} (f : B → ℕ) (g : A → B) (xs : List A) → sum_by f (map g xs) ≡ sum_by (λ x. f (g x)) xs
+sum-mapped f g xs = fold-map (λ a x. a + f x) g 0 xs
+
+-- a filter that all pass, and one that none passes
+
+pub filter-all : {X : Type 0} (test : X → Bool) (xs : List X) → All (λ x. test x ≡ true) xs → filter test xs ≡ xs
+filter-all test [] h = refl
+filter-all test (x ∷ xs) h =
+    let first = All-head (λ y. test y ≡ true) x xs h in
+    let rest = filter-all test xs (All-tail (λ y. test y ≡ true) x xs h) in
+    λ i. if first i then x ∷ rest i else rest i
+
+pub filter-none : {X : Type 0} (test : X → Bool) (xs : List X) → All (λ x. test x ≡ false) xs → filter test xs ≡ []
+filter-none test [] h = refl
+filter-none test (x ∷ xs) h =
+    let first = All-head (λ y. test y ≡ false) x xs h in
+    let rest = filter-none test xs (All-tail (λ y. test y ≡ false) x xs h) in
+    λ i. if first i then x ∷ rest i else rest i

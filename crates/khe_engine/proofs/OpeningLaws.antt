@@ -6,7 +6,7 @@ use Rattle.std.specs.Option.{option_map, option_map_or}
 use Rattle.std.proofs.lemmas.List.{length-set, length-map}
 use Rattle.std.proofs.lemmas.List.Elements.{All-cons, All-head, All-tail, All-get_or}
 use Rattle.std.proofs.lemmas.List.Sums.{sum_by-cons}
-use Rattle.std.proofs.lemmas.Option.{slice_get_within}
+use Rattle.std.proofs.lemmas.Option.{same_Some, slice_get_within}
 use Rattle.std.proofs.lemmas.Simd.{map-map}
 use Rattle.khe_base.specs.declared.numbers.EventId.{EventId}
 use Rattle.khe_base.specs.declared.numbers.MeetId.{MeetId}
@@ -29,7 +29,7 @@ use Rattle.khe_solution.proofs.Basics.{there-none, some_value}
 use Rattle.khe_instance.specs.WellMade.{AreFirstMeets}
 use Rattle.khe_instance.specs.declared.points.Monitor.{Monitor}
 use Rattle.khe_instance.specs.declared.rules.Kind.{Kind}
-use Rattle.khe_told.proofs.OpeningLaws.{few_places}
+use Rattle.khe_told.proofs.OpeningLaws.{few_places, slots_amount}
 use Rattle.khe_told.specs.Agreement.{deviation_in}
 use Rattle.monitor_graph.specs.Boards.{Board, HaveSameRest, deviations_of, fixed_of, rate_of}
 use Rattle.monitor_graph.specs.Values.{IsOf}
@@ -246,22 +246,19 @@ given_still (suc k) (a ∷ g) e = ap (λ xs. a ∷ xs) (given_still k g e)
 some-none : {A : Type 0} (a : A) → None ≡ Some a → ⊥
 some-none a h = there-none a (sym h)
 
-injective : {A : Type 0} (a b : A) → Some a ≡ Some b → a ≡ b
-injective a b h = ap (λ o. option_map_or (λ z. z) o a) h
-
 pub span_is : (x : Slot) (m : Meet) → meet_in x ≡ Some m → x.span ≡ Some (record { duration = m.duration; start = m.start })
 span_is x m h = at x.span h
   where
     at : (o : Option Span) → option_map (λ (y : Span). record { meet = x.meet; event = x.event; duration = y.duration; start = y.start }) o ≡ Some m → o ≡ Some (record { duration = m.duration; start = m.start })
     at None h = absurd (some-none m h)
-    at (Some y) h = let e = injective (record { meet = x.meet; event = x.event; duration = y.duration; start = y.start }) m h in λ i. Some (record { duration = (e i).duration; start = (e i).start })
+    at (Some y) h = let e = same_Some (record { meet = x.meet; event = x.event; duration = y.duration; start = y.start }) m h in λ i. Some (record { duration = (e i).duration; start = (e i).start })
 
 pub event_is : (x : Slot) (m : Meet) → meet_in x ≡ Some m → m.event ≡ x.event
 event_is x m h = at x.span h
   where
     at : (o : Option Span) → option_map (λ (y : Span). record { meet = x.meet; event = x.event; duration = y.duration; start = y.start }) o ≡ Some m → m.event ≡ x.event
     at None h = absurd (some-none m h)
-    at (Some y) h = sym (ap (λ (z : Meet). z.event) (injective (record { meet = x.meet; event = x.event; duration = y.duration; start = y.start }) m h))
+    at (Some y) h = sym (ap (λ (z : Meet). z.event) (same_Some (record { meet = x.meet; event = x.event; duration = y.duration; start = y.start }) m h))
 
 no_span : (x : Slot) → meet_in x ≡ None → x.span ≡ None
 no_span x h = at x.span h
@@ -392,16 +389,6 @@ place_fits p s k m t told l h n =
     (m.duration, ap (option_map (λ (z : Span). record z { start = None })) is)
     (subst (λ z. IsPartOf z x) (sym (place_changes x k m t h n)) (whole_part x (record { duration = m.duration; start = m.start }) is))
 
--- the first and the last
-slots_amount : (e : ℕ) (events : List EventInfo) → length (slots_from e events) ≡ sum_by (λ (x : EventInfo). x.duration) events
-slots_amount e [] = refl
-slots_amount e (x ∷ xs) =
-    let a = length-append (slots_of_event e x) (slots_from (e + 1) xs) in
-    let b = length_slots e x in
-    let c = slots_amount (e + 1) xs in
-    let d = sum_by-cons (λ (z : EventInfo). z.duration) x xs in
-    omega (arith, a, b, c, d)
-
 pub slots_number : (p : Parts) (s : List Slot) → AreTold p s → length s ≡ sum_by (λ (x : EventInfo). x.duration) p.events
 slots_number p s t = sym (length-map s emptied) ∙ ap length t.whose ∙ slots_amount 0 p.events
 
@@ -425,7 +412,7 @@ pub places_there : (p : Parts) (s : List Slot) (k : ℕ) (m : Meet) (event : Eve
 places_there p s k m event t l h at =
     let o = owner p s k t l in
     let e = ap (λ (z : EventId). slice_get p.events z.0) (event_is (slot_at s k) m h) in
-    let same : event ≡ o.event = injective event o.event (sym at ∙ e ∙ o.there) in
+    let same : event ≡ o.event = same_Some event o.event (sym at ∙ e ∙ o.there) in
     ap (λ (z : EventInfo). length z.places) same ∙ o.places
 
 pub places_few : (p : Parts) (s : List Slot) (k : ℕ) (m : Meet) (event : EventInfo) → AreFirstMeets 0 p.events → AreTold p s → k < length s → meet_in (slot_at s k) ≡ Some m

@@ -120,7 +120,7 @@ within e (x ∷ xs) =
     All-cons (λ m. m.event.0 ≡ e → m.duration ≤ whole) x xs head (λ k d l same. le_trans (within e xs k d l same) grown)
 
 -- a given resource is one of the instance
-typed : (p : Parts) (rtype : ℕ) (r : ResourceId) → HasType p rtype r → r.0 < length p.resources
+pub typed : (p : Parts) (rtype : ℕ) (r : ResourceId) → HasType p rtype r → r.0 < length p.resources
 typed p rtype r h = by (cases_lt r.0 (length p.resources))
   where
     by : (r.0 < length p.resources) ⊎ (length p.resources ≤ r.0) → r.0 < length p.resources
@@ -170,7 +170,7 @@ abbrev one_if : Bool → ℕ
 one_if b = cond b 1 0
 
 -- sums over two numberings
-sum_by-plus : {X : Type 0} (f g : X → ℕ) (xs : List X) → sum_by (λ x. f x + g x) xs ≡ sum_by f xs + sum_by g xs
+pub sum_by-plus : {X : Type 0} (f g : X → ℕ) (xs : List X) → sum_by (λ x. f x + g x) xs ≡ sum_by f xs + sum_by g xs
 sum_by-plus f g [] = refl
 sum_by-plus f g (x ∷ xs) =
     let e = sum_by-cons (λ y. f y + g y) x xs in

@@ -44,7 +44,7 @@ part_sum f most many keep xs few small =
     omega arith
 
 -- the difference of two numbers lies outside two bounds by no more than them and the least
-difference_small : (a b least greatest : ℕ) → outside (pos a -ℤ pos b) (pos least) (pos greatest) ≤ a + b + least
+pub difference_small : (a b least greatest : ℕ) → outside (pos a -ℤ pos b) (pos least) (pos greatest) ≤ a + b + least
 difference_small a b least greatest =
     let n = pos a -ℤ pos b in
     let below : unsigned_abs (pos least -ℤ n) ≤ a + b + least = omega (arith, ints) in
@@ -54,7 +54,7 @@ difference_small a b least greatest =
     (λ _. cond_both (int_lt (pos greatest) n) (unsigned_abs (n -ℤ pos greatest)) 0 (λ k. k ≤ a + b + least) above (λ _. omega arith))
 
 -- the least of some numbers, and the greatest
-least_small : (a : ℕ) (ns : List ℕ) → fold min a ns ≤ a
+pub least_small : (a : ℕ) (ns : List ℕ) → fold min a ns ≤ a
 least_small a [] = omega arith
 least_small a (n ∷ ns) = le_trans (least_small (min a n) ns) (min-le_left a n)
 

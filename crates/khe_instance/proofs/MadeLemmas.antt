@@ -47,3 +47,7 @@ at_resource p _ r h = absurd h
 
 pub monitored : (p : Parts) (m : Monitor) (r : ResourceId) → IsMonitor p m → m.point ≡ Resource r → r.0 < length p.resources
 monitored p m r (c, there, kind, point) e = at_resource p c.rule r (subst (IsPointOf p c.rule) e point)
+
+-- a monitor of the instance is one
+pub monitor_made : (p : Parts) → AreWellMade p → (i : ℕ) (m : Monitor) → slice_get p.monitors i ≡ Some m → IsMonitor p m
+monitor_made p made i m there = subst (IsMonitor p) (get_or_from_slice_get p.monitors i m m there) (made.monitors.each i m (slice_get_within p.monitors i m there))

@@ -117,7 +117,7 @@ event-there p (DistributeSplitEvents d least greatest) e h = h
 event-there p (PreferTimes times duration) e h = h
 event-there p _ e h = absurd h
 
-with-role : (events : List EventInfo) (e place : ℕ) (role : List ℕ) → role_at events e place ≡ Some role → e < length events
+pub with-role : (events : List EventInfo) (e place : ℕ) (role : List ℕ) → role_at events e place ≡ Some role → e < length events
 with-role events e place role h = by (slice_get events e) refl
   where
     by : (o : Option EventInfo) → slice_get events e ≡ o → e < length events

@@ -23,17 +23,9 @@ IsYes false = ⊥
 pub true-false : true ≡ false → ⊥
 true-false k = subst IsYes k tt
 
-pub injective : {A : Type 0} (a b : A) → Some a ≡ Some b → a ≡ b
-injective a b h = ap (λ o. option_map_or (λ z. z) o a) h
-
 pub not-false : (b : Bool) → not b ≡ false → b ≡ true
 not-false true h = refl
 not-false false h = sym h
-
-pub both-true : (a b : Bool) → (a && b) ≡ true → (a ≡ true) × (b ≡ true)
-both-true true b h = (refl, h)
-both-true false true h = (h, refl)
-both-true false false h = (h, h)
 
 pub some_value : {A : Type 0} (o : Option A) → is_some o ≡ true → (a : A) × (o ≡ Some a)
 some_value (Some a) h = (a, refl)

@@ -1,7 +1,7 @@
 -- The bits of free slots.
 use Rattle.std.proofs.Common.{ℕ, ◌≡◌, ◌<◌, ◌≤◌, ◌*◌, ◌^◌, true, false, cond, nat_eq, nat_lt, Option, Some, None, List, length, refl, sym, ap, ◌∙◌, arith, inl, inr, get_or-set_same, get_or-set_other}
 use Rattle.std.specs.Prelude.{◌&&◌, is_none, is_some, MatchOption}
-use Rattle.std.proofs.lemmas.Bool.{lt-ltb, ltb-true, eq-eqb, ne_eqb}
+use Rattle.std.proofs.lemmas.Bool.{and_parts, eq-eqb, lt-ltb, ltb-true, ne_eqb}
 use Rattle.std.proofs.lemmas.List.{length-set}
 use Rattle.khe_base.specs.Bits.{is_set}
 use Rattle.khe_told.specs.Changes.{after, changed, span_after, meet_of}
@@ -11,7 +11,7 @@ use Rattle.khe_told.specs.declared.changes.Change.TheVariants as change
 use Rattle.khe_told.specs.declared.slots.Slot.{Slot}
 use Rattle.khe_told.specs.declared.slots.Span.{Span}
 use Rattle.khe_solution.specs.FreeBits.{is_free, AreFree, frees, IsFirst, AreLive, IsFirstFree, AreSetBelow}
-use Rattle.khe_solution.proofs.Basics.{true-false, both-true, cases_eq}
+use Rattle.khe_solution.proofs.Basics.{true-false, cases_eq}
 
 not_live : (o : Option Span) → is_none o ≡ true → is_some o ≡ false
 not_live None h = refl
@@ -29,7 +29,7 @@ live_at s words k a l h =
 
 first_free_is : (s : List Slot) (words : List ℕ) (from n : ℕ) → AreFree s words → IsFirst words from n → IsFirstFree s from n
 first_free_is s words from n a i =
-    let b = both-true (nat_lt n (length s)) (is_none (slot_at s n).span) (sym (a.bits n) ∙ i.1) in
+    let b = and_parts (nat_lt n (length s)) (is_none (slot_at s n).span) (sym (a.bits n) ∙ i.1) in
     let l = ltb-true n (length s) b.0 in
     (i.0, l, not_live (slot_at s n).span b.1, λ k f h. live_at s words k a (omega (arith, h, l)) (i.2 k f h))
 

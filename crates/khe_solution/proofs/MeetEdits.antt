@@ -2,7 +2,7 @@
 use Rattle.std.proofs.Common.{ℕ, ◌≡◌, ◌+◌, ◌-◌, ◌<◌, ◌≤◌, zero, suc, Bool, true, false, cond, Option, Some, None, List, [], ◌∷◌, length, set, slice_get, refl, sym, ap, subst, ◌∙◌, arith, get_or-set_same, get_or-set_other, set-set}
 use Rattle.std.specs.Prelude.{IfSome, ◌==◌, is_none, is_some, replicate}
 use Rattle.std.specs.Option.{option_map_or}
-use Rattle.std.proofs.lemmas.Bool.{eq-eqb, eqb-true, leb-false}
+use Rattle.std.proofs.lemmas.Bool.{and_parts, eq-eqb, eqb-true, leb-false}
 use Rattle.std.proofs.lemmas.List.{length-set, set-get_or}
 use Rattle.std.proofs.lemmas.List.Elements.{All-get_or, All-set}
 use Rattle.std.proofs.lemmas.List.Sums.{sum_by-set, passes_at_first}
@@ -25,7 +25,7 @@ use Rattle.khe_solution.specs.Editing.{edited, with_meet, later, cut_at, joined_
 use Rattle.khe_solution.specs.Changing.{changes, cutting, joining, whole, first_part, second_part, joined, cut_changes, join_changes}
 use Rattle.khe_solution.specs.Backs.{back_of, undone, undone_changes}
 use Rattle.khe_told.specs.Valid.{AreValid, IsKeptBy, IsFixedAs}
-use Rattle.khe_solution.proofs.Basics.{true-false, not-false, both-true, passed, live_there, set_comm}
+use Rattle.khe_solution.proofs.Basics.{true-false, not-false, passed, live_there, set_comm}
 use Rattle.khe_solution.proofs.EditingLaws.{span_of}
 use Rattle.khe_solution.proofs.Stages.{Goes, not_fixed}
 use Rattle.khe_solution.proofs.CutJoin.{ArePair, both_set, with_none, row, cutting_leads, joining_leads}
@@ -116,7 +116,7 @@ new_slot p s m t live d =
     let z = slot_at s n in
     let l = live_there s m.0 live in
     let k = free_there p s m.0 t l d in
-    let is = both-true (z.event.0 == e) (is_none z.span) (passes_at_first (is_free_of e) s no_slot k) in
+    let is = and_parts (z.event.0 == e) (is_none z.span) (passes_at_first (is_free_of e) s no_slot k) in
     let own : z.event.0 ≡ e = eqb-true z.event.0 e is.0 in
     let none : z.span ≡ None = no_span z.span is.1 in (
       record {
@@ -213,7 +213,7 @@ given_same [] [] e h = refl
 given_same [] (b ∷ bs) e h = absurd (omega (arith, e))
 given_same (a ∷ rest) [] e h = absurd (true-false (sym h))
 given_same (a ∷ rest) (b ∷ bs) e h =
-    let k = both-true (same_resource a b) (same_given rest bs) h in
+    let k = and_parts (same_resource a b) (same_given rest bs) h in
     let l : length bs ≡ length rest = omega (arith, e) in
     λ i. sym (resource_same a b k.0) i ∷ given_same rest bs l k.1 i
 

@@ -25,6 +25,7 @@ use Rattle.khe_told.specs.Slots.{emptied, empty_slot, no_slot, slot_at, slots_fr
 use Rattle.khe_told.specs.declared.slots.Slot.{Slot}
 use Rattle.khe_solution.specs.NextTask.{IsBefore, IsFrom, IsNextTask, has_task}
 use Rattle.khe_solution.specs.TaskRows.{AreUnwanted, IsFirstWanted, first_in, number_from, places, tasks_of_all}
+use Rattle.khe_told.proofs.OpeningLaws.{events_of}
 
 -- a sum over the front of a list goes by what each element counts
 pub sum_same : {X Y : Type 0} (f : X → ℕ) (g : Y → ℕ) (xs : List X) (ys : List Y) (m : ℕ) → map f xs ≡ map g ys → sum_by f (take m xs) ≡ sum_by g (take m ys)
@@ -162,16 +163,6 @@ next_is s wanted from (Some t) h =
 places_emptied : (s : List Slot) → map places (map emptied s) ≡ map places s
 places_emptied [] = refl
 places_emptied (x ∷ s) = λ i. length-replicate {A = Option ResourceId} (length x.given) None i ∷ places_emptied s i
-
-own_events : (e : ℕ) (event : EventInfo) (m n : ℕ) → map (λ (x : Slot). x.event.0) (map (λ k. empty_slot k e event) (range_with_len m n)) ≡ replicate n e
-own_events e event m zero = refl
-own_events e event m (suc n) = ap (λ es. e ∷ es) (own_events e event (m + 1) n)
-
-events_of : (e : ℕ) (events : List EventInfo) → map (λ (x : Slot). x.event.0) (slots_from e events) ≡ events_from e events
-events_of e [] = refl
-events_of e (x ∷ events) =
-    map-append (λ (x : Slot). x.event.0) (slots_of_event e x) (slots_from (e + 1) events)
-    ∙ (λ i. own_events e x x.first_meet x.duration i ++ events_of (e + 1) events i)
 
 framed : (events : List EventInfo) (s : List Slot) → All (IsFrame events) s → map places s ≡ map (places_at events) (map (λ (x : Slot). x.event.0) s)
 framed events [] h = refl

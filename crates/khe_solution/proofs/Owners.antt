@@ -22,7 +22,8 @@ use Rattle.khe_told.specs.declared.slots.Slot.{Slot}
 use Rattle.khe_told.specs.declared.slots.Span.{Span}
 use Rattle.khe_solution.specs.Reading.{is_free_of, free_slot}
 use Rattle.khe_solution.specs.Timetables.{HasRoom, AreRoomy}
-use Rattle.khe_solution.proofs.Basics.{true-false, injective}
+use Rattle.khe_solution.proofs.Basics.{true-false}
+use Rattle.std.proofs.lemmas.Option.{same_Some}
 
 -- how many of these slots are an event's
 abbrev pub owns : ℕ → List Slot → ℕ
@@ -74,7 +75,7 @@ owns_from n zero (x ∷ xs) event h =
     let b = owns_range n n x.first_meet x.duration x in
     let c : cond (n == n) x.duration 0 ≡ x.duration = ap (λ t. cond t x.duration 0) (eq-eqb n n refl) in
     let d = owns_above n (n + 1) xs (omega arith) in
-    let f : x.duration ≡ event.duration = ap (λ (z : EventInfo). z.duration) (injective x event h) in
+    let f : x.duration ≡ event.duration = ap (λ (z : EventInfo). z.duration) (same_Some x event h) in
     ap (λ q. owns q (slots_from n (x ∷ xs))) e ∙ omega (arith, a, b, c, d, f)
 owns_from n (suc j) (x ∷ xs) event h =
     let e : n + suc j ≡ (n + 1) + j = omega arith in
@@ -171,7 +172,7 @@ pub equal_places : (p : Parts) (s : List Slot) (m n : ℕ) → AreTold p s → m
 equal_places p s m n t l k e =
     let a = owner p s m t l in
     let b = owner p s n t k in
-    let same : b.event ≡ a.event = injective b.event a.event (sym b.there ∙ ap (slice_get p.events) e ∙ a.there) in
+    let same : b.event ≡ a.event = same_Some b.event a.event (sym b.there ∙ ap (slice_get p.events) e ∙ a.there) in
     sym b.places ∙ ap (λ (z : EventInfo). length z.places) same ∙ a.places
 
 -- a meet that could be cut leaves a slot of its event free

@@ -3,21 +3,21 @@ use Rattle.std.proofs.Common.{ℕ, ◌≡◌, ◌+◌, ◌*◌, ◌<◌, ◌≤�
 use Rattle.std.specs.List.{sum_by}
 use Rattle.std.proofs.Math.Nat.{suc-mul}
 use Rattle.std.proofs.lemmas.List.Sums.{sum_by-cons}
-use Rattle.std.proofs.lemmas.Option.{slice_get_within}
+use Rattle.std.proofs.lemmas.Option.{same_Some, slice_get_within}
 use Rattle.khe_base.proofs.ListLemmas.{all-there}
 use Rattle.khe_base.specs.declared.limits.TheConstants.{TASKS}
 use Rattle.khe_instance.specs.WellMade.{AreWellMade, IsEvent}
 use Rattle.khe_instance.specs.declared.parts.EventInfo.{EventInfo}
 use Rattle.khe_instance.specs.declared.parts.Parts.{Parts}
 use Rattle.khe_solution.specs.Timetables.{HasRoom}
-use Rattle.khe_solution.proofs.Basics.{injective, cases_eq}
+use Rattle.khe_solution.proofs.Basics.{cases_eq}
 
 -- a part of a sum is no more than the sum
 part_least : (f : EventInfo → ℕ) (xs : List EventInfo) (i : ℕ) (x : EventInfo) → slice_get xs i ≡ Some x → f x ≤ sum_by f xs
 part_least f [] i x g = let l = slice_get_within [] i x g in absurd (omega (arith, l))
 part_least f (y ∷ ys) zero x g =
     let a = sum_by-cons f y ys in
-    let b = ap f (injective y x g) in
+    let b = ap f (same_Some y x g) in
     omega (arith, a, b)
 part_least f (y ∷ ys) (suc i) x g =
     let a = sum_by-cons f y ys in
@@ -41,7 +41,7 @@ pub most_more : (p : Parts) (e most new : ℕ) (event : EventInfo) → ((k : ℕ
     → slice_get p.events e ≡ Some event → most ≤ new → length event.places ≤ new → (k : ℕ) (x : EventInfo) → k < e + 1 → slice_get p.events k ≡ Some x → length x.places ≤ new
 most_more p e most new event h g a b k x l q = elim (cases_eq k e) [
   | inl same ↦
-      let f : event ≡ x = injective event x (sym g ∙ ap (slice_get p.events) (sym same) ∙ q) in
+      let f : event ≡ x = same_Some event x (sym g ∙ ap (slice_get p.events) (sym same) ∙ q) in
       let n = ap (λ (z : EventInfo). length z.places) f in
       omega (arith, b, n)
   | inr d ↦ let c = h k x (less k e l d) q in omega (arith, c, a)

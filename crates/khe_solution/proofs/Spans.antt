@@ -4,11 +4,11 @@ use Rattle.std.specs.Prelude.{◌&&◌, ◌==◌, is_none, is_some}
 use Rattle.std.specs.List.{sum_by}
 use Rattle.std.proofs.Math.ListN.{get_or-append}
 use Rattle.std.proofs.Math.Seq.{get_or-append_right}
-use Rattle.std.proofs.lemmas.Bool.{cases_lt, ne_eqb, eq-eqb, eqb-true}
+use Rattle.std.proofs.lemmas.Bool.{and_parts, cases_lt, eq-eqb, eqb-true, ne_eqb}
 use Rattle.std.proofs.lemmas.List.FromFn.{get_or-map-range_with_len}
 use Rattle.std.proofs.lemmas.List.{length-map}
 use Rattle.std.proofs.lemmas.List.Sums.{sum_by-cons, position_or_len_is, passes_at_first}
-use Rattle.std.proofs.lemmas.Option.{slice_get_within}
+use Rattle.std.proofs.lemmas.Option.{same_Some, slice_get_within}
 use Rattle.khe_base.specs.declared.numbers.EventId.{EventId}
 use Rattle.khe_instance.specs.WellMade.{AreFirstMeets, AreWellMade}
 use Rattle.khe_instance.specs.declared.parts.EventInfo.{EventInfo}
@@ -20,8 +20,9 @@ use Rattle.khe_told.specs.declared.slots.Slot.{Slot}
 use Rattle.khe_told.specs.declared.slots.Span.{Span}
 use Rattle.khe_solution.specs.Reading.{Shows, is_free_of, free_slot}
 use Rattle.khe_solution.specs.FreeBits.{AreLive, IsFirstFree}
-use Rattle.khe_solution.proofs.Basics.{true-false, both-true, injective, live_there}
+use Rattle.khe_solution.proofs.Basics.{true-false, live_there}
 use Rattle.khe_solution.proofs.Owners.{owner, free_there, emptied_at, length_slots}
+use Rattle.khe_told.proofs.OpeningLaws.{slots_amount}
 
 -- a slot of the first event, and one of those after it
 front_slot : (n m : ℕ) (x : EventInfo) (xs : List EventInfo) → m < x.duration → slot_at (slots_from n (x ∷ xs)) m ≡ empty_slot (x.first_meet + m) n x
@@ -58,7 +59,7 @@ event_least n m (x ∷ xs) l =
 first_least : (next k : ℕ) (events : List EventInfo) (event : EventInfo) → AreFirstMeets next events → slice_get events k ≡ Some event → next ≤ event.first_meet
 first_least next k [] event f g = let l = slice_get_within [] k event g in absurd (omega (arith, l))
 first_least next zero (x ∷ xs) event f g =
-    let e = ap (λ (z : EventInfo). z.first_meet) (injective x event g) in
+    let e = ap (λ (z : EventInfo). z.first_meet) (same_Some x event g) in
     let h = f.0 in
     omega (arith, e, h)
 first_least next (suc k) (x ∷ xs) event f g = let h = first_least (next + x.duration) k xs event f.1 g in omega (arith, h)
@@ -69,8 +70,8 @@ in_span : (n next m k : ℕ) (events : List EventInfo) (event : EventInfo) → A
 in_span n next m k [] event f g l w = absurd (omega (arith, l))
 in_span n next m zero (x ∷ xs) event f g l w =
     let all = both_slots n x xs in
-    let e = ap (λ (z : EventInfo). z.first_meet) (injective x event g) in
-    let d = ap (λ (z : EventInfo). z.duration) (injective x event g) in
+    let e = ap (λ (z : EventInfo). z.first_meet) (same_Some x event g) in
+    let d = ap (λ (z : EventInfo). z.duration) (same_Some x event g) in
     let h = f.0 in
     elim (cases_lt m x.duration) [
       | inl i ↦ (omega (arith, e, h), omega (arith, e, d, h, i))
@@ -96,8 +97,8 @@ at_span : (n next m k : ℕ) (events : List EventInfo) (event : EventInfo) → A
 at_span n next m k [] event f g a b = let l = slice_get_within [] k event g in absurd (omega (arith, l))
 at_span n next m zero (x ∷ xs) event f g a b =
     let all = both_slots n x xs in
-    let e = ap (λ (z : EventInfo). z.first_meet) (injective x event g) in
-    let d = ap (λ (z : EventInfo). z.duration) (injective x event g) in
+    let e = ap (λ (z : EventInfo). z.first_meet) (same_Some x event g) in
+    let d = ap (λ (z : EventInfo). z.duration) (same_Some x event g) in
     let h = f.0 in
     let i : m < x.duration = omega (arith, e, d, h, a, b) in
     let q = ap (λ (z : Slot). z.event.0) (front_slot n m x xs i) in
@@ -170,7 +171,7 @@ first_is p s e n event t f g there i = (same, last)
     is : ((slot_at s (free_slot s e)).event.0 ≡ e) × (is_live (slot_at s (free_slot s e)) ≡ false)
     is =
         let x = slot_at s (free_slot s e) in
-        let b = both-true (x.event.0 == e) (is_none x.span) (passes_at_first (is_free_of e) s no_slot there) in
+        let b = and_parts (x.event.0 == e) (is_none x.span) (passes_at_first (is_free_of e) s no_slot there) in
         (eqb-true x.event.0 e b.0, off x.span b.1)
       where
         off : (o : Option Span) → is_none o ≡ true → is_some o ≡ false
@@ -209,8 +210,8 @@ span_end : (next i : ℕ) (events : List EventInfo) (event : EventInfo) → AreF
 span_end next i [] event f g = let l = slice_get_within [] i event g in absurd (omega (arith, l))
 span_end next zero (x ∷ xs) event f g =
     let s = sum_by-cons (λ (e : EventInfo). e.duration) x xs in
-    let e = ap (λ (z : EventInfo). z.first_meet) (injective x event g) in
-    let d = ap (λ (z : EventInfo). z.duration) (injective x event g) in
+    let e = ap (λ (z : EventInfo). z.first_meet) (same_Some x event g) in
+    let d = ap (λ (z : EventInfo). z.duration) (same_Some x event g) in
     let n = f.0 in
     omega (arith, s, e, d, n)
 span_end next (suc i) (x ∷ xs) event f g =
@@ -237,7 +238,7 @@ never_full p s m own event t w d h g a =
     let e = x.event.0 in
     let n = free_slot s e in
     let l = free_there p s m t (live_there s m h.live) d in
-    let is = both-true ((slot_at s n).event.0 == e) (is_none (slot_at s n).span) (passes_at_first (is_free_of e) s no_slot l) in
+    let is = and_parts ((slot_at s n).event.0 == e) (is_none (slot_at s n).span) (passes_at_first (is_free_of e) s no_slot l) in
     let g2 : slice_get p.events e ≡ Some event = ap (λ (q : EventId). slice_get p.events q.0) h.event ∙ g in
     let i = in_event p s n e event t w.first_meets g2 l (eqb-true (slot_at s n).event.0 e is.0) in
     absurd (busy (slot_at s n).span (a n i.0 l) is.1)
@@ -262,18 +263,9 @@ first_small p s m n own event t w d h g i =
     let b = span_small p own.event.0 event w g in
     omega (arith, a, b)
 
--- there are no more slots than numbers of slots
-slots_long : (n : ℕ) (events : List EventInfo) → length (slots_from n events) ≡ sum_by (λ (e : EventInfo). e.duration) events
-slots_long n [] = refl
-slots_long n (x ∷ xs) =
-    let a = both_slots n x xs in
-    let b = slots_long (n + 1) xs in
-    let c = sum_by-cons (λ (e : EventInfo). e.duration) x xs in
-    omega (arith, a, b, c)
-
 pub slots_few : (p : Parts) (s : List Slot) → AreTold p s → AreWellMade p → length s < 2 ^ 32
 slots_few p s t w =
     let a = told_length p s t in
-    let b = slots_long 0 p.events in
+    let b = slots_amount 0 p.events in
     let c = w.limits.duration in
     omega (arith, a, b, c)

@@ -3,11 +3,11 @@
 use Rattle.std.proofs.Common.{ℕ, ◌≡◌, ◌+◌, ◌<◌, ◌≤◌, true, false, cond, Option, Some, None, List, [], ◌++◌, length, get_or, set, slice_get, refl, sym, ap, subst, ◌∙◌, arith, inl, inr, get_or-set_other}
 use Rattle.std.specs.Prelude.{replicate, IfSome, ◌&&◌, is_some, nat_lt, ◌==◌}
 use Rattle.std.specs.Option.{option_map, option_map_or, option_and_then}
-use Rattle.std.proofs.lemmas.Bool.{ltb-false, ltb-true, eqb-true}
+use Rattle.std.proofs.lemmas.Bool.{and_parts, eqb-true, ltb-false, ltb-true}
 use Rattle.std.proofs.lemmas.List.{length-set}
 use Rattle.std.proofs.lemmas.List.Elements.{All-set, All-get_or}
 use Rattle.std.proofs.lemmas.List.Sums.{sum_by-set}
-use Rattle.std.proofs.lemmas.Option.{slice_get-get_or}
+use Rattle.std.proofs.lemmas.Option.{same_Some, slice_get-get_or}
 use Rattle.khe_base.specs.declared.numbers.MeetId.{MeetId}
 use Rattle.khe_base.specs.declared.numbers.ResourceId.{ResourceId}
 use Rattle.khe_base.specs.declared.numbers.TaskId.{TaskId}
@@ -28,7 +28,7 @@ use Rattle.khe_solution.specs.Reading.{has_place, resource_at, is_fixed_event, i
 use Rattle.khe_solution.specs.Editing.{with_start, with_resource, timed, staffed}
 use Rattle.khe_solution.specs.Changing.{lifts, places, takes, gives}
 use Rattle.khe_told.specs.Valid.{AreValid, IsKeptBy, IsFixedAs}
-use Rattle.khe_solution.proofs.Basics.{there-none, true-false, injective, both-true, some_value, cases_eq, live_there, slice_get-set_other}
+use Rattle.khe_solution.proofs.Basics.{there-none, true-false, some_value, cases_eq, live_there, slice_get-set_other}
 use Rattle.khe_solution.proofs.EditingLaws.{span_of, start_lasts, timed_none, timed_reads, staffed_none, staffed_reads}
 
 -- a list of changes that leads from one state to a valid one
@@ -140,11 +140,11 @@ place_still p s a b q l = ap (λ e. place_at p.events e.0 b.place) (staffed_read
 pub turn_there : (p : Parts) (s : List Slot) (t : TaskId) → MayTurn p s t → (t.meet.0 < length s) × (t.place < length (slot_at s t.meet.0).given)
 turn_there p s t h =
     let x = slot_at s t.meet.0 in
-    let b = both-true (is_live x) (nat_lt t.place (length x.given)) h.place in
+    let b = and_parts (is_live x) (nat_lt t.place (length x.given)) h.place in
     (live_there s t.meet.0 b.0, ltb-true t.place (length x.given) b.1)
 
 pub turn_live : (p : Parts) (s : List Slot) (t : TaskId) → MayTurn p s t → is_live (slot_at s t.meet.0) ≡ true
-turn_live p s t h = (both-true (is_live (slot_at s t.meet.0)) (nat_lt t.place (length (slot_at s t.meet.0).given)) h.place).0
+turn_live p s t h = (and_parts (is_live (slot_at s t.meet.0)) (nat_lt t.place (length (slot_at s t.meet.0).given)) h.place).0
 
 typed : (o : Option ResourceInfo) (n : ℕ) → option_map_or (λ (z : ResourceInfo). z.rtype == n) o false ≡ true → option_map (λ (z : ResourceInfo). z.rtype) o ≡ Some n
 typed None n h = absurd (true-false (sym h))
@@ -159,7 +159,7 @@ slot_staffed p x k r i live l t = record {
         let mine : Some r ≡ Some (Some u) = sym (set-there x.given k r (get_or x.given k None) (slice_get-get_or x.given k None l)) ∙ ap (slice_get (set x.given k r)) (sym same) ∙ w in
         let here : place_at p.events x.event.0 k ≡ Some place = ap (option_and_then (λ (z : EventInfo). slice_get z.places k)) g ∙ ap (slice_get e.places) (sym same) ∙ h in
         typed (slice_get p.resources u.0) place.rtype
-        (sym (ap (λ o. may_have p o (place_at p.events x.event.0 k)) (injective r (Some u) mine) ∙ ap (has_type p u.0) here) ∙ t)
+        (sym (ap (λ o. may_have p o (place_at p.events x.event.0 k)) (same_Some r (Some u) mine) ∙ ap (has_type p u.0) here) ∙ t)
     | inr other ↦ i.given e j place u g h (sym (slice_get-set_other x.given k j r other) ∙ w)
   ];
   empty = λ n. let y = some_value x.span live in absurd (there-none y.0 (sym y.1 ∙ n));

@@ -1,7 +1,7 @@
 -- The first wanted task of a row.
 use Rattle.std.proofs.Common.{ℕ, ◌≡◌, ◌+◌, ◌<◌, ◌≤◌, Bool, true, false, nat_eq, Option, Some, None, List, length, refl, sym, ap, ◌∙◌, arith, inl, inr}
 use Rattle.std.specs.Prelude.{◌&&◌, nat_lt}
-use Rattle.std.proofs.lemmas.Bool.{cases_lt, eq-eqb, eqb-true}
+use Rattle.std.proofs.lemmas.Bool.{and_parts, cases_lt, eq-eqb, eqb-true}
 use Rattle.khe_base.specs.declared.numbers.ResourceId.{ResourceId}
 use Rattle.khe_base.specs.declared.numbers.TaskId.{TaskId}
 use Rattle.khe_told.specs.Slots.{given_at, is_live, slot_at}
@@ -10,7 +10,7 @@ use Rattle.khe_solution.specs.NextTask.{has_task}
 use Rattle.khe_solution.specs.Reading.{same_resource}
 use Rattle.khe_solution.specs.TaskRows.{AreKept, AreOut, AreUnwanted, IsFirstIn, IsFirstWanted, first_in, is_entered, places, row_of}
 use Rattle.khe_solution.specs.declared.tasks.TaskRows.{TaskRows}
-use Rattle.khe_solution.proofs.Basics.{both-true, true-false}
+use Rattle.khe_solution.proofs.Basics.{true-false}
 use Rattle.khe_solution.proofs.NumberLaws.{IsTaskOf, number_before, order_of}
 
 -- a task that has what is wanted stands in its row
@@ -27,8 +27,8 @@ unwanted s wanted u h = at (has_task s wanted u) refl
     at false e = refl
     at true e =
         let x = slot_at s u.meet.0 in
-        let p = both-true (is_live x && nat_lt u.place (length x.given)) (same_resource wanted (given_at x u.place)) e in
-        let q = both-true (is_live x) (nat_lt u.place (length x.given)) p.0 in
+        let p = and_parts (is_live x && nat_lt u.place (length x.given)) (same_resource wanted (given_at x u.place)) e in
+        let q = and_parts (is_live x) (nat_lt u.place (length x.given)) p.0 in
         let r : nat_eq (row_of wanted) (row_of (given_at x u.place)) ≡ true = eq-eqb _ _ (wanted_row wanted (given_at x u.place) p.1) in
         absurd (true-false (sym (λ i. q.0 i && r i) ∙ h))
 

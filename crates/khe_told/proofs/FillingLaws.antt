@@ -9,7 +9,7 @@ use Rattle.std.proofs.lemmas.List.{append-nil, drop_all, drop-drop, drop-map, le
 use Rattle.std.proofs.lemmas.List.Concat.{flat_map-cons}
 use Rattle.std.proofs.lemmas.List.Elements.{All-nil, All-cons, All-set}
 use Rattle.std.proofs.lemmas.List.FromFn.{length-map-range_with_len}
-use Rattle.std.proofs.lemmas.Option.{get_or_from_slice_get, slice_get-get_or, slice_get_within}
+use Rattle.std.proofs.lemmas.Option.{get_or_from_slice_get, same_Some, slice_get-get_or, slice_get_within}
 use Rattle.khe_base.proofs.ListLemmas.{all-there, drop-there, mapped-there}
 use Rattle.khe_base.specs.declared.numbers.ResourceId.{ResourceId}
 use Rattle.khe_instance.specs.Lookups.{places_at}
@@ -22,7 +22,6 @@ use Rattle.khe_instance.specs.declared.states.Meet.{Meet}
 use Rattle.khe_instance.specs.declared.states.Task.{Task}
 use Rattle.khe_told.proofs.FrameLaws.{standing}
 use Rattle.khe_told.proofs.PlainLaws.{IsLive}
-use Rattle.khe_told.proofs.StoredLaws.{same}
 use Rattle.khe_told.specs.Filled.{AreFilled, filled}
 use Rattle.khe_told.specs.Lists.{meet_in, meets_in, tasks_in, tasks_of, tasks_with}
 use Rattle.khe_told.specs.Slots.{IsBareIfFree, emptied, empty_slot, no_meets, no_slot, slot_at, slots_from, slots_of_event}
@@ -130,7 +129,7 @@ bare_emptied (x ∷ s) =
 
 free_emptied : (s : List Slot) (j : ℕ) (x : Slot) → slice_get (map emptied s) j ≡ Some x → x.span ≡ None
 free_emptied [] j x at = absurd (let l = slice_get_within [] j x at in omega (arith, l))
-free_emptied (y ∷ s) zero x at = sym (ap (λ (z : Slot). z.span) (same (emptied y) x at))
+free_emptied (y ∷ s) zero x at = sym (ap (λ (z : Slot). z.span) (same_Some (emptied y) x at))
 free_emptied (y ∷ s) (suc j) x at = free_emptied s j x at
 
 -- the slots so far list so many of the meets and tasks, and those from the next meet on are free

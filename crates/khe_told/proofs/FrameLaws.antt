@@ -6,7 +6,7 @@ use Rattle.std.specs.Option.{option_map_or}
 use Rattle.std.proofs.Math.Seq.{get_or-append_right}
 use Rattle.std.proofs.lemmas.List.{get_or_append_left, length-append, length-replicate}
 use Rattle.std.proofs.lemmas.List.FromFn.{get_or-map-range_with_len, length-map-range_with_len}
-use Rattle.std.proofs.lemmas.Option.{slice_get_within}
+use Rattle.std.proofs.lemmas.Option.{same_Some, slice_get_within}
 use Rattle.std.proofs.lemmas.List.Elements.{All-nil, All-cons, All-head, All-tail, All-append}
 use Rattle.khe_instance.specs.Lookups.{places_at}
 use Rattle.khe_instance.specs.Slots.{HasSlot}
@@ -14,7 +14,6 @@ use Rattle.khe_instance.specs.WellMade.{AreFirstMeets}
 use Rattle.khe_instance.specs.declared.parts.EventInfo.{EventInfo}
 use Rattle.khe_instance.specs.declared.parts.Parts.{Parts}
 use Rattle.khe_told.proofs.DutyLaws.{AreFrom}
-use Rattle.khe_told.proofs.StoredLaws.{same}
 use Rattle.khe_told.specs.Slots.{emptied, empty_slot, no_meets, no_slot, slot_at, slots_from, slots_of_event}
 use Rattle.khe_told.specs.declared.slots.Slot.{Slot}
 
@@ -100,7 +99,7 @@ pub standing : (e first k number : ℕ) (event : EventInfo) (events : List Event
     → event.first_meet ≤ k → k < event.first_meet + event.duration → IsStanding e first k number event events
 standing e first k number event [] f at from to = absurd (let l = slice_get_within [] number event at in omega (arith, l))
 standing e first k zero event (x ∷ events) f at from to =
-    let is = same x event at in
+    let is = same_Some x event at in
     let a = f.0 in
     let b = ap (λ (y : EventInfo). y.first_meet) is in
     let d = ap (λ (y : EventInfo). y.duration) is in

@@ -128,7 +128,7 @@ tasks_listed p (x ∷ s) h =
         ∙ sym (flat_map-cons (tasks_wanted p) m (meets_in s))
 
 -- the numbers of its meets ascend
-abbrev AreRising : ℕ → List ℕ → Type 0
+abbrev pub AreRising : ℕ → List ℕ → Type 0
 AreRising low [] = Unit {0}
 AreRising low (n ∷ ns) = (low ≤ n) × AreRising (n + 1) ns
 
@@ -144,7 +144,7 @@ meets_rise low (x ∷ s) h = by x.span (meets_rise (x.meet.0 + 1) s h.1)
     by None r = rising_more low (x.meet.0 + 1) (map (λ (m : Meet). m.meet.0) (meets_in s)) (let k = h.0 in omega (arith, k)) r
     by (Some y) r = (h.0, r)
 
-increasing : (low : ℕ) (ns : List ℕ) → AreRising low ns → IsStrictlyIncreasing ns
+pub increasing : (low : ℕ) (ns : List ℕ) → AreRising low ns → IsStrictlyIncreasing ns
 increasing low [] h k l = absurd (omega (arith, l))
 increasing low (n ∷ []) h k l = absurd (omega (arith, l))
 increasing low (n ∷ (m ∷ ns)) h zero l = let k = h.1.0 in omega (arith, k)

@@ -34,14 +34,15 @@ own_events : (e : ℕ) (event : EventInfo) (m n : ℕ) → map (λ (x : Slot). x
 own_events e event m zero = refl
 own_events e event m (suc n) = ap (λ es. e ∷ es) (own_events e event (m + 1) n)
 
-events_of : (e : ℕ) (events : List EventInfo) → map (λ (x : Slot). x.event.0) (slots_from e events) ≡ events_from e events
+pub events_of : (e : ℕ) (events : List EventInfo) → map (λ (x : Slot). x.event.0) (slots_from e events) ≡ events_from e events
 events_of e [] = refl
 events_of e (x ∷ events) =
     map-append (λ (x : Slot). x.event.0) (slots_of_event e x) (slots_from (e + 1) events)
     ∙ (λ i. own_events e x x.first_meet x.duration i ++ events_of (e + 1) events i)
 
-many_slots : (events : List EventInfo) → length (slots_from 0 events) ≡ sum_by (λ (x : EventInfo). x.duration) events
-many_slots events = sym (length-map (slots_from 0 events) (λ (x : Slot). x.event.0)) ∙ ap length (events_of 0 events) ∙ length-slots_from 0 events
+-- there are as many slots as the events last together
+pub slots_amount : (e : ℕ) (events : List EventInfo) → length (slots_from e events) ≡ sum_by (λ (x : EventInfo). x.duration) events
+slots_amount e events = sym (length-map (slots_from e events) (λ (x : Slot). x.event.0)) ∙ ap length (events_of e events) ∙ length-slots_from e events
 
 -- the rows of so many slots
 pub record IsOpened (p : Parts) (rs : List Row) (n : ℕ) : Type 0 where
@@ -71,7 +72,7 @@ next_slot p n e first h =
       below = below;
       slot = slot;
       owner = ap (λ es. get_or es n 0) (sym (events_of 0 p.events)) ∙ get_or-map (λ (x : Slot). x.event.0) (no_meets p) n no_slot 0 below ∙ ap (λ (x : Slot). x.event.0) slot;
-      within = let a = many_slots p.events in let b = length-slots_from 0 p.events in omega (arith, a, b, below);
+      within = let a = slots_amount 0 p.events in let b = length-slots_from 0 p.events in omega (arith, a, b, below);
       places = ap (λ o. option_map_or (λ (x : EventInfo). length x.places) o 0) h.1;
     }
 
@@ -110,7 +111,7 @@ opened_more p rs n e event r first h has at is =
 
 -- all rows
 pub opened_slots : (p : Parts) (rs : List Row) (n : ℕ) → n ≡ sum_by (λ (x : EventInfo). x.duration) p.events → IsOpened p rs n → free_slots 0 rs ≡ no_meets p
-opened_slots p rs n all h = let m = many_slots p.events in h.slots ∙ take_all n (no_meets p) (omega (arith, all, m))
+opened_slots p rs n all h = let m = slots_amount 0 p.events in h.slots ∙ take_all n (no_meets p) (omega (arith, all, m))
 
 pub opened_order : (p : Parts) (rs : List Row) (n : ℕ) → n ≡ sum_by (λ (x : EventInfo). x.duration) p.events → IsOpened p rs n
     → AreInOrder 0 (sum_by (λ (x : EventInfo). x.duration * length x.places) p.events) rs

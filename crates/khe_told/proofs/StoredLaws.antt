@@ -4,7 +4,7 @@ use Rattle.std.specs.Option.{option_map_or}
 use Rattle.std.specs.Prelude.{MatchOption}
 use Rattle.std.proofs.Math.Seq.{take-set-lt}
 use Rattle.std.proofs.lemmas.List.{set-get_or, length-set, length-take, take-set-le, drop-set-lt, drop-set-add}
-use Rattle.std.proofs.lemmas.Option.{get_or_from_slice_get, slice_get-get_or, slice_get_within}
+use Rattle.std.proofs.lemmas.Option.{get_or_from_slice_get, same_Some, slice_get-get_or, slice_get_within}
 use Rattle.khe_base.specs.declared.numbers.ResourceId.{ResourceId}
 use Rattle.khe_told.specs.Changes.{after, changed, meet_of, span_after}
 use Rattle.khe_told.specs.Fits.{Suits}
@@ -62,9 +62,6 @@ row_seen s rs xs given k (Some r) view eq at =
     let e = slot_seen s rs xs given k (Some r) view eq at in
     (ap (λ (x : Slot). x.meet.0) e, ap (λ (x : Slot). x.event) e, ap (λ (x : Slot). x.span) e)
 
-pub same : {A : Type 0} (a b : A) → Some a ≡ Some b → a ≡ b
-same a b h = ap (λ o. option_map_or (λ z. z) o a) h
-
 none_there : {A : Type 0} (k : ℕ) (a : A) → slice_get [] k ≡ Some a → ⊥
 none_there k a at = let l = slice_get_within [] k a at in omega (arith, l)
 
@@ -75,14 +72,14 @@ in_order next end (r ∷ rs) h = let k = in_order (next + r.places) end rs h.1 i
 
 pub row_from : (next end : ℕ) (rs : List Row) (k : ℕ) (r : Row) → AreInOrder next end rs → slice_get rs k ≡ Some r → next ≤ r.first_task
 row_from next end [] k r h at = absurd (none_there k r at)
-row_from next end (x ∷ rs) zero r h at = let e = ap (λ (y : Row). y.first_task) (same x r at) in let f = h.0 in omega (arith, e, f)
+row_from next end (x ∷ rs) zero r h at = let e = ap (λ (y : Row). y.first_task) (same_Some x r at) in let f = h.0 in omega (arith, e, f)
 row_from next end (x ∷ rs) (suc k) r h at = let f = row_from (next + x.places) end rs k r h.1 at in omega (arith, f)
 
 pub row_to : (next end : ℕ) (rs : List Row) (k : ℕ) (r : Row) → AreInOrder next end rs → slice_get rs k ≡ Some r → r.first_task + r.places ≤ end
 row_to next end [] k r h at = absurd (none_there k r at)
 row_to next end (x ∷ rs) zero r h at =
-    let e = ap (λ (y : Row). y.first_task) (same x r at) in
-    let f = ap (λ (y : Row). y.places) (same x r at) in
+    let e = ap (λ (y : Row). y.first_task) (same_Some x r at) in
+    let f = ap (λ (y : Row). y.places) (same_Some x r at) in
     let g = h.0 in
     let i = in_order (next + x.places) end rs h.1 in
     omega (arith, e, f, g, i)
@@ -101,7 +98,7 @@ span_turned m (x ∷ rs) given (suc k) r y at =
 
 pub order_turned : (next end : ℕ) (rs : List Row) (k : ℕ) (r : Row) (y : Option Span) → slice_get rs k ≡ Some r → AreInOrder next end rs → AreInOrder next end (set rs k (record r { span = y }))
 order_turned next end [] k r y at h = absurd (none_there k r at)
-order_turned next end (x ∷ rs) zero r y at h = subst (λ (z : Row). (z.first_task ≡ next) × AreInOrder (next + z.places) end rs) (same x r at) h
+order_turned next end (x ∷ rs) zero r y at h = subst (λ (z : Row). (z.first_task ≡ next) × AreInOrder (next + z.places) end rs) (same_Some x r at) h
 order_turned next end (x ∷ rs) (suc k) r y at h = (h.0, order_turned (next + x.places) end rs k r y at h.1)
 
 -- a task slot before those of all rows
@@ -120,10 +117,10 @@ pub given_turned : (m : ℕ) (rs : List Row) (given : List (Option ResourceId)) 
 given_turned m [] given k r place v next end h at l = absurd (none_there k r at)
 given_turned m (x ∷ rs) given zero r place v next end h at l =
     subst (λ (z : Row). slots_in m (z ∷ rs) (set given (r.first_task + place) v) ≡ set (slots_in m (z ∷ rs) given) 0 (record (slot_in (m + 0) given r) { given = set (take r.places (drop r.first_task given)) place v }))
-    (sym (same x r at))
+    (sym (same_Some x r at))
     (let e : m ≡ m + 0 = omega arith in
-    let first = ap (λ (z : Row). z.first_task) (same x r at) in
-    let many = ap (λ (z : Row). z.places) (same x r at) in
+    let first = ap (λ (z : Row). z.first_task) (same_Some x r at) in
+    let many = ap (λ (z : Row). z.places) (same_Some x r at) in
     let f = h.0 in
     let own : take r.places (drop r.first_task (set given (r.first_task + place) v)) ≡ set (take r.places (drop r.first_task given)) place v =
     ap (take r.places) (drop-set-add r.first_task given place v) ∙ take-set-lt r.places (drop r.first_task given) place v l in

@@ -42,14 +42,7 @@ use Rattle.link_monitors.specs.Runs.{AreRaised, in_run}
 use Rattle.link_monitors.specs.ElsewhereLaws.{meets_set, named_by, test}
 use Rattle.link_monitors.specs.ExactLaws.{point_is}
 use Rattle.link_monitors.specs.MemberLaws.{members_ascend, named_member, same_place}
-
--- no more meets run than there are slots
-slots_amount : (e : ℕ) (events : List EventInfo) → length (slots_from e events) ≡ sum_by (λ (x : EventInfo). x.duration) events
-slots_amount e [] = refl
-slots_amount e (event ∷ events) =
-    length-append (slots_of_event e event) (slots_from (e + 1) events)
-    ∙ ap (λ n. n + length (slots_from (e + 1) events)) (length-map (range_with_len event.first_meet event.duration) _ ∙ length-range_with_len event.first_meet event.duration)
-    ∙ ap (λ n. event.duration + n) (slots_amount (e + 1) events) ∙ sym (sum_by-cons (λ (x : EventInfo). x.duration) event events)
+use Rattle.khe_told.proofs.OpeningLaws.{slots_amount}
 
 pub meets_few : (p : Parts) (s : List Slot) (c : Change) (e t : ℕ) → AreWellMade p → Fits p s c → meets_at s e t < GREATEST_COUNT
 meets_few p s c e t made fits =

@@ -5,7 +5,7 @@ use Rattle.std.proofs.lemmas.Bool.{eqb-true, eqb-false, both_ways, cases_lt}
 use Rattle.std.proofs.lemmas.List.{length-set}
 use Rattle.std.proofs.lemmas.Option.{slice_get_past}
 use Rattle.khe_base.specs.Bits.{is_set}
-use Rattle.monitor_graph.proofs.ListLaws.{get-set, get-set_other}
+use Rattle.monitor_graph.proofs.ListLaws.{get-set_other}
 use Rattle.khe_instance.specs.Costs.{is_defect}
 use Rattle.khe_instance.specs.declared.parts.Parts.{Parts}
 use Rattle.monitor_graph.proofs.ValueLaws.{defect_is}
@@ -15,6 +15,7 @@ use Rattle.monitor_graph.specs.Values.{IsOf, costs_in}
 use Rattle.monitor_graph.specs.Defects.{AreDefects}
 use Rattle.monitor_graph.specs.Lines.{line_cost, is_defect_at, AreTotalled}
 use Rattle.monitor_graph.specs.declared.lines.Line.{Line}
+use Rattle.khe_base.proofs.ListLemmas.{get-set}
 
 one_bit : (lines : List Line) (words words2 : List ℕ) (i m : ℕ) (y : Line) (t : Bool) → nat_eq m i ≡ t → i < length lines → is_set words m ≡ is_defect_at lines m
     → is_set words2 m ≡ cond (nat_eq m i) (nat_lt 0 (line_cost y)) (is_set words m) → is_set words2 m ≡ is_defect_at (set lines i y) m

@@ -14,11 +14,11 @@ use Rattle.khe_told.specs.declared.edits.Edit.{Edit}
 use Rattle.khe_told.specs.declared.edits.Edit.TheVariants.{Assign, Unassign, MoveTo, Split, Merge, SwapMeets, Give, Take, Regive, SwapTasks, Attach, Detach, MakeGroup, DropGroup, AddChild, RemoveChild}
 use Rattle.khe_told.specs.declared.refusals.Refusal.{Refusal}
 use Rattle.khe_told.specs.declared.refusals.Refusal.TheVariants.{NoSuchMonitor, NoSuchGroup, Attached, Detached, IsChild, NotChild, GroupsFull, NotEmpty}
-use Rattle.monitor_graph.proofs.ListLaws.{get-set}
 use Rattle.monitor_graph.proofs.SeatLaws.{group_is, child_place, child_in_group, no_among, listed}
 use Rattle.monitor_graph.specs.Boards.{Grouping}
 use Rattle.monitor_graph.specs.Edits.{is_of_groups, is_attached, first_refusal, no_monitor, no_group, refusal, edited, back_of, undone, CanInsert, CanUndo}
 use Rattle.monitor_graph.specs.Groups.{Groups, AreGroups, children_at, has_group, has_child, is_among, occurs, place_of, without, free_number}
+use Rattle.khe_base.proofs.ListLemmas.{get-set}
 
 -- tests that an accepted edit passed
 abbrev IsThere : {A : Type 0} → Option A → Type 0

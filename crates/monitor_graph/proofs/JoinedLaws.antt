@@ -9,6 +9,7 @@ use Rattle.std.proofs.lemmas.List.Sums.{sum_by-cons}
 use Rattle.khe_base.specs.declared.numbers.MonitorId.{MonitorId}
 use Rattle.monitor_graph.specs.Groups.{Groups, seated, free_number}
 use Rattle.monitor_graph.specs.Seating.{groups_of, sizes_of, joined, start_of}
+use Rattle.std.proofs.lemmas.Option.{same_Some}
 
 -- the cut gives the groups back
 pub groups_of-joined : (gs : Groups) → groups_of (sizes_of gs) (joined gs) ≡ gs
@@ -31,10 +32,6 @@ held_in : {A : Type 0} → A → Option A → A
 held_in d None = d
 held_in d (Some a) = a
 
-pub same_held : {A : Type 0} (a b : A) → Some a ≡ Some b → a ≡ b
-unfolding held_in
-same_held a b h = ap (held_in a) h
-
 abbrev IsThere : {A : Type 0} → Option A → Type 0
 IsThere None = ⊥
 IsThere (Some a) = Unit {0}
@@ -46,9 +43,9 @@ not_none a h = subst IsThere (sym h) tt
 pub joined-insert : (gs : Groups) (g k : ℕ) (xs : List MonitorId) (v : MonitorId) → slice_get gs g ≡ Some (Some xs) → k ≤ length xs
     → joined (set gs g (Some (insert xs k v))) ≡ insert (joined gs) (start_of g (sizes_of gs) + k) v
 joined-insert [] g k xs v h l = absurd (not_none (Some xs) h)
-joined-insert (None ∷ gs) zero k xs v h l = absurd (not_none xs (same_held None (Some xs) h))
+joined-insert (None ∷ gs) zero k xs v h l = absurd (not_none xs (same_Some None (Some xs) h))
 joined-insert (Some ys ∷ gs) zero k xs v h l =
-    let same : ys ≡ xs = same_held ys xs (same_held (Some ys) (Some xs) h) in
+    let same : ys ≡ xs = same_Some ys xs (same_Some (Some ys) (Some xs) h) in
     let l2 : k ≤ length ys = subst (λ zs. k ≤ length zs) (sym same) l in
     ap (λ zs. insert zs k v ++ joined gs) (sym same)
     ∙ sym (insert-append_left ys (joined gs) k v l2)
@@ -67,9 +64,9 @@ joined-insert (Some ys ∷ gs) (suc g) k xs v h l =
 pub joined-remove : (gs : Groups) (g k : ℕ) (xs : List MonitorId) → slice_get gs g ≡ Some (Some xs) → k < length xs
     → joined (set gs g (Some (remove xs k))) ≡ remove (joined gs) (start_of g (sizes_of gs) + k)
 joined-remove [] g k xs h l = absurd (not_none (Some xs) h)
-joined-remove (None ∷ gs) zero k xs h l = absurd (not_none xs (same_held None (Some xs) h))
+joined-remove (None ∷ gs) zero k xs h l = absurd (not_none xs (same_Some None (Some xs) h))
 joined-remove (Some ys ∷ gs) zero k xs h l =
-    let same : ys ≡ xs = same_held ys xs (same_held (Some ys) (Some xs) h) in
+    let same : ys ≡ xs = same_Some ys xs (same_Some (Some ys) (Some xs) h) in
     let l2 : k < length ys = subst (λ zs. k < length zs) (sym same) l in
     ap (λ zs. remove zs k ++ joined gs) (sym same)
     ∙ sym (remove-append_left ys (joined gs) k l2)
@@ -88,14 +85,14 @@ joined-remove (Some ys ∷ gs) (suc g) k xs h l =
 pub joined-make : (gs : Groups) (g : ℕ) → slice_get gs g ≡ Some None → joined (set gs g (Some [])) ≡ joined gs
 joined-make [] g h = refl
 joined-make (None ∷ gs) zero h = refl
-joined-make (Some ys ∷ gs) zero h = absurd (not_none ys (sym (same_held (Some ys) None h)))
+joined-make (Some ys ∷ gs) zero h = absurd (not_none ys (sym (same_Some (Some ys) None h)))
 joined-make (None ∷ gs) (suc g) h = joined-make gs g h
 joined-make (Some ys ∷ gs) (suc g) h = ap (λ zs. ys ++ zs) (joined-make gs g h)
 
 pub joined-drop : (gs : Groups) (g : ℕ) → slice_get gs g ≡ Some (Some []) → joined (set gs g None) ≡ joined gs
 joined-drop [] g h = refl
 joined-drop (None ∷ gs) zero h = refl
-joined-drop (Some ys ∷ gs) zero h = ap (λ zs. zs ++ joined gs) (sym (same_held ys [] (same_held (Some ys) (Some []) h)))
+joined-drop (Some ys ∷ gs) zero h = ap (λ zs. zs ++ joined gs) (sym (same_Some ys [] (same_Some (Some ys) (Some []) h)))
 joined-drop (None ∷ gs) (suc g) h = joined-drop gs g h
 joined-drop (Some ys ∷ gs) (suc g) h = ap (λ zs. ys ++ zs) (joined-drop gs g h)
 
@@ -103,9 +100,9 @@ joined-drop (Some ys ∷ gs) (suc g) h = ap (λ zs. ys ++ zs) (joined-drop gs g 
 pub joined-part : (gs : Groups) (g : ℕ) (xs : List MonitorId) → slice_get gs g ≡ Some (Some xs)
     → (take (length xs) (drop (start_of g (sizes_of gs)) (joined gs)) ≡ xs) × (start_of g (sizes_of gs) + length xs ≤ length (joined gs))
 joined-part [] g xs h = absurd (not_none (Some xs) h)
-joined-part (None ∷ gs) zero xs h = absurd (not_none xs (same_held None (Some xs) h))
+joined-part (None ∷ gs) zero xs h = absurd (not_none xs (same_Some None (Some xs) h))
 joined-part (Some ys ∷ gs) zero xs h =
-    let same : ys ≡ xs = same_held ys xs (same_held (Some ys) (Some xs) h) in
+    let same : ys ≡ xs = same_Some ys xs (same_Some (Some ys) (Some xs) h) in
     let P : List MonitorId → Type 0 = λ zs. (take (length zs) (ys ++ joined gs) ≡ zs) × (0 + length zs ≤ length (ys ++ joined gs)) in
     let a = length-append ys (joined gs) in
     subst P same (take-append_seam ys (joined gs), omega (arith, a))

@@ -10,9 +10,6 @@ get-set_other (x ∷ xs) zero (suc k) a n = refl
 get-set_other (x ∷ xs) (suc i) zero a n = refl
 get-set_other (x ∷ xs) (suc i) (suc k) a n = get-set_other xs i k a (λ e. n (ap suc e))
 
-pub get-set : {A : Type 0} (xs : List A) (i : ℕ) (a : A) → i < length xs → slice_get (set xs i a) i ≡ Some a
-get-set xs i a l = let m : i < length (set xs i a) = (let k = length-set xs i a in omega (arith, k, l)) in slice_get-get_or (set xs i a) i a m ∙ ap Some (get_or-set_same xs i a a l)
-
 -- what stands there, whatever stands beyond the end
 pub get-any : {A : Type 0} (xs : List A) (k : ℕ) (d e : A) → k < length xs → get_or xs k d ≡ get_or xs k e
 get-any [] k d e l = absurd (omega arith)

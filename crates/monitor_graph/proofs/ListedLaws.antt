@@ -25,6 +25,7 @@ use Rattle.monitor_graph.specs.Groups.{Groups, AreGroups, children_at, group_at,
 use Rattle.monitor_graph.specs.Listed.{detached_from, groups_from}
 use Rattle.monitor_graph.specs.Opened.{IsGroupOf, attached_in, groups_in, numbered_groups}
 use Rattle.monitor_graph.specs.declared.lines.Line.{Line}
+use Rattle.khe_told.proofs.ListingLaws.{AreRising, increasing}
 
 abbrev attached_of : Line → Bool
 attached_of x = x.attached
@@ -115,21 +116,9 @@ numbered_back n groups all =
     sym (at_number n (groups_from 0 groups) k None low ∙ ap (λ j. group_of j (groups_from 0 groups)) (sym z) ∙ group_there 0 k groups))
 
 -- the numbers of a list ascend, from this one on
-abbrev AreRising : ℕ → List ℕ → Type 0
-AreRising low [] = Unit {0}
-AreRising low (n ∷ ns) = (low ≤ n) × AreRising (n + 1) ns
-
 rising_more : (low : ℕ) (ns : List ℕ) → AreRising (low + 1) ns → AreRising low ns
 rising_more low [] h = tt
 rising_more low (n ∷ ns) h = (let k = h.0 in omega (arith, k), h.1)
-
-increasing : (low : ℕ) (ns : List ℕ) → AreRising low ns → IsStrictlyIncreasing ns
-increasing low [] h k l = absurd (omega (arith, l))
-increasing low (n ∷ []) h k l = absurd (omega (arith, l))
-increasing low (n ∷ (m ∷ ns)) h zero l = let k = h.1.0 in omega (arith, k)
-increasing low (n ∷ (m ∷ ns)) h (suc k) l =
-    let next : suc (k + 1) ≡ suc k + 1 = omega arith in
-    subst (λ j. slice_index (m ∷ ns) k < slice_index (n ∷ (m ∷ ns)) j) next (increasing (n + 1) (m ∷ ns) h.1 k (omega (arith, l)))
 
 detached_rise : (low : ℕ) (attached : List Bool) → AreRising low (map (λ (m : MonitorId). m.0) (detached_from low attached))
 detached_rise low [] = tt

@@ -14,7 +14,7 @@ use Rattle.std.proofs.lemmas.List.Kept.{AllPairs-from_increasing}
 use Rattle.std.proofs.lemmas.List.Sums.{sum_by-cons, sum_by-set, sum-map}
 use Rattle.std.proofs.lemmas.Option.{get_or_from_slice_get, slice_get-get_or, slice_get_past, slice_get_within}
 use Rattle.khe_base.proofs.BitsLemmas.{is_set-zeros}
-use Rattle.khe_base.proofs.ListLemmas.{all-there}
+use Rattle.khe_base.proofs.ListLemmas.{all-there, get-set}
 use Rattle.khe_base.specs.Bits.{is_set}
 use Rattle.khe_base.specs.Costs.{cost_of}
 use Rattle.khe_base.specs.declared.costs.CostFn.{CostFn}
@@ -30,7 +30,6 @@ use Rattle.khe_instance.specs.declared.rules.Constraint.{Constraint}
 use Rattle.khe_instance.specs.declared.states.Group.{Group}
 use Rattle.khe_instance.specs.declared.states.Plain.{Plain}
 use Rattle.monitor_graph.proofs.DearerLaws.{marked_now}
-use Rattle.monitor_graph.proofs.ListLaws.{get-set}
 use Rattle.monitor_graph.proofs.SeatLaws.{seating, listed}
 use Rattle.monitor_graph.specs.Boards.{rate_of}
 use Rattle.monitor_graph.specs.Dearer.{AreCompared}

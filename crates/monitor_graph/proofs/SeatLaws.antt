@@ -10,14 +10,14 @@ use Rattle.std.proofs.lemmas.List.Sums.{sum_by-cons, sum_by-insert, sum_by-remov
 use Rattle.std.proofs.Math.Dec.{eqb}
 use Rattle.std.proofs.lemmas.List.Folds.{list_any_at}
 use Rattle.std.proofs.lemmas.Map.Steps.{length-le_from_distinct_below}
-use Rattle.std.proofs.lemmas.Option.{slice_get-map, slice_get_past, slice_get_within, slice_get-get_or}
-use Rattle.khe_base.proofs.ListLemmas.{below_length}
+use Rattle.std.proofs.lemmas.Option.{same_Some, slice_get-get_or, slice_get-map, slice_get_past, slice_get_within}
+use Rattle.khe_base.proofs.ListLemmas.{below_length, get-set}
 use Rattle.khe_base.specs.Bits.{is_set}
 use Rattle.khe_base.specs.declared.limits.TheConstants.{GROUPS}
 use Rattle.khe_base.specs.declared.numbers.GroupId.{GroupId}
 use Rattle.khe_base.specs.declared.numbers.MonitorId.{MonitorId}
-use Rattle.monitor_graph.proofs.JoinedLaws.{groups_of-joined, joined-insert, joined-remove, joined-make, joined-drop, joined-part, length-joined, sum_sizes, free_sizes, same_held, not_none}
-use Rattle.monitor_graph.proofs.ListLaws.{get-set, get-set_other}
+use Rattle.monitor_graph.proofs.JoinedLaws.{groups_of-joined, joined-insert, joined-remove, joined-make, joined-drop, joined-part, length-joined, sum_sizes, free_sizes, not_none}
+use Rattle.monitor_graph.proofs.ListLaws.{get-set_other}
 use Rattle.monitor_graph.specs.Groups.{Groups, AreGroups, children_at, has_group, has_child, group_at, is_among, occurs, place_of, free_number, seated}
 use Rattle.monitor_graph.specs.Seating.{Seating, groups_of, sizes_of, joined, start_of, bit_of, AreSeated, IsSeating}
 
@@ -258,7 +258,7 @@ part_is gs monitors sizes children held g n s h =
     long : (o : Option (Option (List MonitorId))) → Some n ≡ option_map length (option_and_then (λ x. x) o) → n ≡ length (listed o)
     long None h = absurd (not_none n (sym h))
     long (Some None) h = absurd (not_none n (sym h))
-    long (Some (Some xs)) h = same_held n (length xs) h
+    long (Some (Some xs)) h = same_Some n (length xs) h
 
 -- how many children there are
 pub seated_is : (gs : Groups) (monitors : ℕ) (sizes : List (Option ℕ)) (children : List MonitorId) (held : List ℕ) → AreSeated gs monitors sizes children held → seated gs ≡ length children

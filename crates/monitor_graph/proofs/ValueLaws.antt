@@ -20,12 +20,7 @@ use Rattle.monitor_graph.specs.Lines.{line_cost, hard_cost, soft_cost, line_cost
 use Rattle.monitor_graph.specs.Opened.{line_for, no_line, line_of}
 use Rattle.monitor_graph.specs.Values.{IsOf, is_detached, costs_in}
 use Rattle.monitor_graph.specs.declared.lines.Line.{Line}
-
--- what stands at a place of a mapped list, or nothing
-pub get-map : {A : Type 0} (f : A → ℕ) (xs : List A) (n : ℕ) → get_or (map f xs) n 0 ≡ option_map_or f (slice_get xs n) 0
-get-map f [] n = refl
-get-map f (x ∷ xs) zero = refl
-get-map f (x ∷ xs) (suc n) = get-map f xs n
+use Rattle.khe_base.proofs.ListLemmas.{get-map, sum-mapped}
 
 get-flags : {A : Type 0} (f : A → Bool) (xs : List A) (n : ℕ) → get_or (map f xs) n false ≡ option_map_or f (slice_get xs n) false
 get-flags f [] n = refl
@@ -145,10 +140,6 @@ sum_range f lines =
     (λ k l. get_or-map-range_with_len g 0 (length lines) k k 0 (omega (arith, l, long)) (omega arith) ∙ sym (get-map f lines k)) in
     sym (sum-map g (range_with_len 0 (length lines))) ∙ ap sum each ∙ sum-map f lines
 
-sum_mapped : {A B : Type 0} (f : B → ℕ) (g : A → B) (xs : List A) → sum_by f (map g xs) ≡ sum_by (λ x. f (g x)) xs
-sum_mapped f g [] = refl
-sum_mapped f g (x ∷ xs) = sum_by-cons f (g x) (map g xs) ∙ ap (λ n. f (g x) + n) (sum_mapped f g xs) ∙ sym (sum_by-cons (λ y. f (g y)) x xs)
-
 -- the totals
 pub totals_are : (b : Board) (p : Parts) → IsOf b p → (t : Totals) → t.hard ≡ sum_by hard_cost b.lines → t.soft ≡ sum_by soft_cost b.lines → t ≡ totals_of p (costs_in p b)
 totals_are b p e t h k = λ i. record { hard = hard_sum i; soft = soft_sum i }
@@ -168,11 +159,11 @@ pub group_is : (b : Board) (p : Parts) (children : List MonitorId) → IsOf b p 
 group_is b p children e t h k = λ i. record { hard = hard_sum i; soft = soft_sum i }
   where
     hard_sum : t.hard ≡ (totals_among p (costs_in p b) (map (λ (c : MonitorId). c.0) children)).hard
-    hard_sum = h ∙ sym (sum_mapped (λ n. cond (is_hard_at p n) (get_or (costs_in p b) n 0) 0) (λ (c : MonitorId). c.0) children
+    hard_sum = h ∙ sym (sum-mapped (λ n. cond (is_hard_at p n) (get_or (costs_in p b) n 0) 0) (λ (c : MonitorId). c.0) children
         ∙ sum_same (λ (c : MonitorId). cond (is_hard_at p c.0) (get_or (costs_in p b) c.0 0) 0) (λ (c : MonitorId). option_map_or hard_cost (slice_get b.lines c.0) 0) (λ c. hard_is b p c.0 e) children)
 
     soft_sum : t.soft ≡ (totals_among p (costs_in p b) (map (λ (c : MonitorId). c.0) children)).soft
-    soft_sum = k ∙ sym (sum_mapped (λ n. cond (is_hard_at p n) 0 (get_or (costs_in p b) n 0)) (λ (c : MonitorId). c.0) children
+    soft_sum = k ∙ sym (sum-mapped (λ n. cond (is_hard_at p n) 0 (get_or (costs_in p b) n 0)) (λ (c : MonitorId). c.0) children
         ∙ sum_same (λ (c : MonitorId). cond (is_hard_at p c.0) 0 (get_or (costs_in p b) c.0 0)) (λ (c : MonitorId). option_map_or soft_cost (slice_get b.lines c.0) 0) (λ c. soft_is b p c.0 e) children)
 
 -- a line that is there

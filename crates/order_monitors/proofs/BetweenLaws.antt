@@ -18,6 +18,7 @@ use Rattle.order_monitors.specs.Edges.{AreShort, IsEdges, IsShort, end_key, own_
 use Rattle.order_monitors.specs.Pairs.{between}
 use Rattle.order_monitors.specs.declared.edges.Edges.{Edges}
 use Rattle.order_monitors.specs.declared.trees.TheConstants.{NOTHING}
+use Rattle.khe_instance.proofs.EventBounds.{least_small}
 
 -- a number of a meet with a start
 abbrev num_at : (TimeId → ℕ → ℕ) → Option Span → Option ℕ
@@ -124,10 +125,6 @@ IsStart n = n < NOTHING
 abbrev IsEnd : ℕ → Type 0
 IsEnd n = (1 ≤ n) × (n ≤ NOTHING)
 
-fold_low : (n : ℕ) (ns : List ℕ) → fold min n ns ≤ n
-fold_low n [] = omega arith
-fold_low n (x ∷ ns) = let r = fold_low (min n x) ns in omega (arith, r)
-
 fold_high : (n : ℕ) (ns : List ℕ) → n ≤ NOTHING → All_of IsEnd ns → (n ≤ fold max n ns) × (fold max n ns ≤ NOTHING)
 fold_high n [] l a = (omega arith, l)
 fold_high n (x ∷ ns) l a =
@@ -168,7 +165,7 @@ between_is (f ∷ ends) (s ∷ starts) least greatest a b =
     let last : v ≡ NOTHING - fold max f ends = ap (λ k. fold min k (map (λ (k : ℕ). NOTHING - k) ends)) z ∙ ends_fold f ends f2 a.1 in
     let y : min NOTHING s ≡ s = omega (arith, s1) in
     let first : w ≡ fold min s starts = ap (λ k. fold min k starts) y in
-    let low = fold_low s starts in
+    let low = least_small s starts in
     let back : NOTHING - v ≡ fold max f ends = omega (arith, last, h1) in
     let not_last : (v == NOTHING) ≡ false = ne_eqb v NOTHING (λ e. omega (arith, e, last, f1, h0, h1)) in
     let not_first : (w == NOTHING) ≡ false = ne_eqb w NOTHING (λ e. omega (arith, e, first, s1, low)) in

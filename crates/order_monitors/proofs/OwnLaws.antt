@@ -21,6 +21,7 @@ use Rattle.khe_told.specs.declared.slots.Span.{Span}
 use Rattle.khe_told.specs.Fits.{AreTold, IsSlot}
 use Rattle.khe_told.proofs.FillingLaws.{slot_of}
 use Rattle.order_monitors.specs.Edges.{AreShort, IsShort, own_slots}
+use Rattle.khe_told.proofs.OpeningLaws.{slots_amount}
 
 -- one element of a list that is filtered
 module _ {X : Type 0} (p : X → Bool) (d : X) where
@@ -62,22 +63,13 @@ map_set f [] m y = refl
 map_set f (x ∷ xs) zero y = refl
 map_set f (x ∷ xs) (suc m) y = ap (λ t. f x ∷ t) (map_set f xs m y)
 
-many : (e : ℕ) (events : List EventInfo) → length (slots_from e events) ≡ sum_by (λ (x : EventInfo). x.duration) events
-many e [] = refl
-many e (x ∷ events) =
-    let a = length-append (slots_of_event e x) (slots_from (e + 1) events) in
-    let b = length-map-range_with_len (λ m. empty_slot m e x) x.first_meet x.duration in
-    let c = many (e + 1) events in
-    let h = sum_by-cons (λ (y : EventInfo). y.duration) x events in
-    omega (arith, a, b, c, h)
-
 -- where an event's slots stand
 module _ (p : Parts) (s : List Slot) (first : AreFirstMeets 0 p.events) (whose : map emptied s ≡ no_meets p) where
   pub has_slot : (m : ℕ) → m < length s → HasSlot p.events (slot_at s m).event.0 m
   has_slot m l =
       let a = length-map s emptied in
       let b = ap length whose in
-      let c = many 0 p.events in
+      let c = slots_amount 0 p.events in
       let d = length-slots_from 0 p.events in
       let h = slot-event m p.events first (omega (arith, a, b, c, d, l)) in
       subst (λ e. HasSlot p.events e m) (sym (slot_of p s _ m first whose h).event) h

@@ -4,7 +4,7 @@ use Rattle.std.specs.Option.{option_map_or}
 use Rattle.std.proofs.lemmas.Bool.{cases_eq, eq-eqb, ne_eqb, true≢false}
 use Rattle.std.proofs.lemmas.List.{length-set}
 use Rattle.std.proofs.lemmas.Option.{same_Some, slice_get-get_or, slice_get_within}
-use Rattle.khe_base.proofs.ListLemmas.{there}
+use Rattle.khe_base.proofs.ListLemmas.{get-other, get-set, there}
 use Rattle.khe_instance.specs.WellMade.{AreWellMade, IsMonitor}
 use Rattle.khe_instance.specs.declared.parts.Parts.{Parts}
 use Rattle.khe_instance.specs.declared.points.Monitor.{Monitor}
@@ -12,7 +12,6 @@ use Rattle.khe_instance.specs.declared.rules.EventPair.{EventPair}
 use Rattle.khe_told.specs.Agreement.{Agrees, KeepsOthers, deviation_in}
 use Rattle.khe_told.specs.Lists.{duties_in, meets_in}
 use Rattle.khe_told.specs.declared.slots.Slot.{Slot}
-use Rattle.event_monitors.proofs.Noting.{monitor_at}
 use Rattle.event_monitors.proofs.Reporting.{has_range, posts_once}
 use Rattle.event_monitors.specs.Posts.{AreListed, ArePosts, names, names_at, posts_at}
 use Rattle.event_monitors.specs.Reports.{has}
@@ -23,7 +22,7 @@ use Rattle.order_monitors.specs.Reports.{AreReported}
 use Rattle.order_monitors.specs.declared.edges.Edges.{Edges}
 use Rattle.order_monitors.proofs.BetweenLaws.{order_is, order_same}
 use Rattle.order_monitors.proofs.PairLaws.{HasPair, its_pair}
-use Rattle.order_monitors.proofs.TurnLaws.{get_other, get_set}
+use Rattle.khe_instance.proofs.MadeLemmas.{monitor_made}
 
 named_there : (p : Parts) (posts : List Post) (e k : ℕ) (a : Post) → slice_get posts k ≡ Some a → names p e a.monitor ≡ true → has (posts_at p posts e) k ≡ true
 named_there p posts e k a at named =
@@ -50,15 +49,15 @@ module _ (p : Parts) (posts : List Post) (all : ArePosts p is_order posts) (e : 
   reported_step k v a now rest at named l is u = record {
     amount = length-set now a.number.0 v ∙ u.amount;
     named = λ j b there n h. by j b there n h (cases_eq k j);
-    others = λ i h. get_other now a.number.0 i v (h k a at named) ∙ u.others i h;
+    others = λ i h. get-other now a.number.0 i v (h k a at named) ∙ u.others i h;
   }
     where
       by : (j : ℕ) (b : Post) → slice_get posts j ≡ Some b → names p e b.monitor ≡ true → has rest j ≡ false → (k ≡ j) ⊎ (k ≡ j → ⊥) → slice_get (set now a.number.0 v) b.number.0 ≡ Some (value_of p edges b.monitor)
       by j b there n h (inl o) =
           let same : a ≡ b = same_Some a b (sym at ∙ ap (slice_get posts) o ∙ there) in
-          ap (λ (c : Post). slice_get (set now a.number.0 v) c.number.0) (sym same) ∙ get_set now a.number.0 v l ∙ ap Some is ∙ ap (λ (c : Post). Some (value_of p edges c.monitor)) same
+          ap (λ (c : Post). slice_get (set now a.number.0 v) c.number.0) (sym same) ∙ get-set now a.number.0 v l ∙ ap Some is ∙ ap (λ (c : Post). Some (value_of p edges c.monitor)) same
       by j b there n h (inr o) =
-          get_other now a.number.0 b.number.0 v (λ q. o (posts_once p is_order posts all k j a b at there q))
+          get-other now a.number.0 b.number.0 v (λ q. o (posts_once p is_order posts all k j a b at there q))
           ∙ u.named j b there n (λ i. ne_eqb k j o i || h i)
 
 -- a monitor's deviation is its value
@@ -107,7 +106,7 @@ agrees_on p posts lists s s2 edges old new e made all listed are short same told
     by found.0 found.1 (names p e m) refl
   where
     monitor : IsMonitor p m
-    monitor = monitor_at p made i m there
+    monitor = monitor_made p made i m there
 
     by : (k : ℕ) → slice_get posts k ≡ Some (record { number = record { 0 = i }; monitor = m }) → (b : Bool) → names p e m ≡ b → slice_get new i ≡ Some (deviation_in p s2 m)
     by k at true h = told.named k (record { number = record { 0 = i }; monitor = m }) at h refl ∙ sym (ap Some (value_is p posts lists s2 edges made listed are short k (record { number = record { 0 = i }; monitor = m }) at monitor serves))

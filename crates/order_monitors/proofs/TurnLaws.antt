@@ -20,18 +20,7 @@ use Rattle.order_monitors.specs.Edges.{AreEdges, AreShort, IsEdges, IsShort, IsW
 use Rattle.order_monitors.specs.declared.edges.Edges.{Edges}
 use Rattle.order_monitors.specs.declared.trees.TheConstants.{NOTHING}
 use Rattle.order_monitors.proofs.OwnLaws.{free_keys, in_range, map_set, own_free, own_other, own_set, own_within, told_short}
-
-pub get_set : {X : Type 0} (xs : List X) (i : ℕ) (x : X) → i < length xs → slice_get (set xs i x) i ≡ Some x
-get_set [] i x l = absurd (omega arith)
-get_set (z ∷ xs) zero x l = refl
-get_set (z ∷ xs) (suc i) x l = get_set xs i x (omega (arith, l))
-
-pub get_other : {X : Type 0} (xs : List X) (i j : ℕ) (x : X) → (i ≡ j → ⊥) → slice_get (set xs i x) j ≡ slice_get xs j
-get_other [] i j x n = refl
-get_other (z ∷ xs) zero zero x n = absurd (n refl)
-get_other (z ∷ xs) zero (suc j) x n = refl
-get_other (z ∷ xs) (suc i) zero x n = refl
-get_other (z ∷ xs) (suc i) (suc j) x n = get_other xs i j x (λ h. n (ap suc h))
+use Rattle.khe_base.proofs.ListLemmas.{get-other, get-set}
 
 module _ (p : Parts) (s : List Slot) (c : Change) (made : AreWellMade p) (fits : Fits p s c) where
   abbrev m : ℕ
@@ -96,9 +85,9 @@ module _ (p : Parts) (s : List Slot) (c : Change) (made : AreWellMade p) (fits :
     where
       by : (f : ℕ) (a : Edges) → slice_get (set edges e b) f ≡ Some a → IsWatched lists f → (e ≡ f) ⊎ (e ≡ f → ⊥) → IsEdges f (after s c) a
       by f a at w (inl same) =
-          let new : b ≡ a = same_Some b a (sym (get_set edges e b l) ∙ ap (slice_get (set edges e b)) same ∙ at) in
+          let new : b ≡ a = same_Some b a (sym (get-set edges e b l) ∙ ap (slice_get (set edges e b)) same ∙ at) in
           subst (λ k. IsEdges k (after s c) a) same (subst (IsEdges e (after s c)) new is)
-      by f a at w (inr n) = edges_same f a n (are.each f a (sym (get_other edges e f b n) ∙ at) w)
+      by f a at w (inr n) = edges_same f a n (are.each f a (sym (get-other edges e f b n) ∙ at) w)
 
 -- without meets, those of the events so far
 pub record AreOpened (p : Parts) (lists : List (List ℕ)) (edges : List Edges) (n : ℕ) : Type 0 where

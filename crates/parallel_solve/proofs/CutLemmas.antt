@@ -8,7 +8,7 @@ use Rattle.parallel_solve.specs.declared.verdicts.Verdict.{Verdict}
 use Rattle.xhstt_resolve.specs.declared.resolving.Resolved.{Resolved}
 use Rattle.xhstt_shape.specs.declared.records.RawSolution.{RawSolution}
 
-get_front : (xs ys : List RawSolution) (k : ℕ) (x : RawSolution) → slice_get xs k ≡ Some x → slice_get (xs ++ ys) k ≡ Some x
+pub get_front : (xs ys : List RawSolution) (k : ℕ) (x : RawSolution) → slice_get xs k ≡ Some x → slice_get (xs ++ ys) k ≡ Some x
 get_front [] ys k x e = absurd (cc)
 get_front (y ∷ xs) ys zero x e = e
 get_front (y ∷ xs) ys (suc k) x e = get_front xs ys k x e

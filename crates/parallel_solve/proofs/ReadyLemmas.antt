@@ -19,7 +19,7 @@ use Rattle.xhstt_references.specs.Directories.{directory_of}
 use Rattle.xhstt_references.specs.declared.directories.Directory.{Directory}
 use Rattle.xhstt_references.specs.Faults.{at_first, fault_of_solutions}
 use Rattle.xhstt_references.specs.declared.faults.TheConstants.{UNKNOWN_REFERENCE}
-use Rattle.xhstt_resolve.proofs.WellMadeIds.{event-ids}
+use Rattle.xhstt_resolve.proofs.WellMadeIds.{event-ids, resource-ids}
 use Rattle.xhstt_resolve.proofs.WellMadeLists.{known, among}
 use Rattle.xhstt_resolve.specs.Parts.{parts_of, events_from, resource_of}
 use Rattle.xhstt_resolve.specs.Faults.{as_fault}
@@ -37,17 +37,12 @@ use Rattle.xhstt_shape.specs.declared.records.RawResource.{RawResource}
 use Rattle.xhstt_shape.specs.declared.records.RawSolution.{RawSolution}
 use Rattle.xhstt_shape.specs.declared.records.Ref.{Ref}
 use Rattle.xhstt_shape.specs.declared.records.SolutionGroup.{SolutionGroup}
+use Rattle.khe_base.proofs.ResultLemmas.{some-mapped}
+use Rattle.xhstt_resolve.proofs.WellMadeFaults.{not-above}
+use Rattle.xhstt_references.proofs.ToldLemmas.{none_left}
 
 known-some : (id : List ℕ) (ids : List (List ℕ)) → is_among_names id ids ≡ true → IsSome (number_of id ids)
 known-some id ids e = ap is_some (known id ids e).is
-
-some-mapped : {A B : Type 0} (f : A → B) (o : Option A) → IsSome o → IsSome (option_map f o)
-some-mapped f None e = absurd (let g : ⊥ = cc in g)
-some-mapped f (Some x) e = refl
-
-resource-ids : (i : RawInstance) (rs : List RawResource) → map (λ r. r.id) (map (resource_of i) rs) ≡ map (λ r. r.id.text) rs
-resource-ids i [] = refl
-resource-ids i (r ∷ rs) = ap (λ xs. r.id.text ∷ xs) (resource-ids i rs)
 
 event-known : (i : RawInstance) (id : List ℕ) → is_among_names id (event_ids i) ≡ true → IsSome (event_named (parts_of i) id)
 event-known i id e =
@@ -111,20 +106,9 @@ neither : {A : Type 0} (o q : Option A) → option_or o q ≡ None → (o ≡ No
 neither None q e = (refl, e)
 neither (Some x) q e = absurd (let g : ⊥ = cc in g)
 
-not-above : (which greatest value : ℕ) → above which greatest value ≡ None → value ≤ greatest
-not-above which greatest value e = by (nat_lt greatest value) refl e
-  where
-    by : (b : Bool) → nat_lt greatest value ≡ b → (if b then Some (Limit which value) else None) ≡ None → value ≤ greatest
-    by true is e = absurd (let g : ⊥ = cc in g)
-    by false is e = ltb-false _ _ is
-
 none-mapped : {A B : Type 0} (f : A → B) (o : Option A) → option_map f o ≡ None → o ≡ None
 none-mapped f None e = refl
 none-mapped f (Some x) e = absurd (let g : ⊥ = cc in g)
-
-at_first-none : (kind : ℕ) (places : List ℕ) → at_first kind places None ≡ None → places ≡ []
-at_first-none kind [] e = refl
-at_first-none kind (x ∷ xs) e = absurd (let g : ⊥ = cc in g)
 
 -- a solution of a resolved archive has its instance
 one-ready : (a : Archive) (r : Resolved) → IsResolvedAs a r → All (λ s. unknown_in_solution (instance_ids a) (map directory_of a.instances) s ≡ []) (solutions_of a) → All formed.IsSolution (solutions_of a)
@@ -167,7 +151,7 @@ ready a r e form =
     let number = neither (above TOO_MANY_SOLUTIONS SOLUTIONS (length (solutions_of a))) _ last.0 in
     let references = neither (option_map as_fault (fault_of_solutions a)) None number.1 in
     let within : length (solutions_of a) ≤ SOLUTIONS = not-above TOO_MANY_SOLUTIONS SOLUTIONS (length (solutions_of a)) number.0 in
-    let none : unknown_in_solutions a ≡ [] = at_first-none UNKNOWN_REFERENCE (unknown_in_solutions a) (none-mapped as_fault (fault_of_solutions a) references.0) in
+    let none : unknown_in_solutions a ≡ [] = none_left UNKNOWN_REFERENCE (unknown_in_solutions a) (none-mapped as_fault (fault_of_solutions a) references.0) in
     let each = none-each (unknown_in_solution (instance_ids a) (map directory_of a.instances)) (solutions_of a) none in
     let count : length r.of ≡ length (solutions_of a) = ap length held.of ∙ length-map (solutions_of a) (λ s. unwrap_or (number_of s.reference.id (instance_ids a)) 0) in
     record {

@@ -4,7 +4,7 @@ ghost use Rattle.xhstt_completion.specs.Entries.{IsSolution};
 ghost use Rattle.parallel_solve.specs.Verdicts.{verdict_of, numbered_verdict, parts_at};
 ghost use Rattle.parallel_solve.specs.Ready.{IsOne};
 
-use khe_base::NoMemory;
+use khe_base::{NoMemory, lends_to_threads};
 use khe_instance::Instance;
 use plain_eval::{Values, evaluate};
 use std::alloc::Global;
@@ -57,9 +57,6 @@ pub(crate) fn numbered(
     let told = judge(alloc, inst, raw)?;
     Ok(told)
 }
-
-// Threads may be handed such a value, and read it together.
-fn lends_to_threads<T: Send + Sync>(_value: &T) {}
 
 // Workers share what comes of solutions: the types show it, and no program calls this.
 #[allow(dead_code)]

@@ -37,9 +37,7 @@ use Rattle.std.proofs.lemmas.List.FromFn.{get_or-range_with_len, length-range_wi
 use Rattle.std.proofs.lemmas.List.Folds.{list_any_at}
 use Rattle.std.proofs.lemmas.Bool.{and_from, and_parts, leb-true, ltb-true, or_parts}
 use Rattle.std.proofs.lemmas.Nat.{mul-le}
-
-pub monitor_at : (p : Parts) → AreWellMade p → (i : ℕ) (m : Monitor) → slice_get p.monitors i ≡ Some m → IsMonitor p m
-monitor_at p made i m h = subst (λ x. IsMonitor p x) (get_or_from_slice_get p.monitors i m m h) (made.monitors.each i m (slice_get_within p.monitors i m h))
+use Rattle.khe_instance.proofs.MadeLemmas.{monitor_made}
 
 -- a resource is given to a place, or to none
 abbrev IsGiven : List (Option ResourceId) → ResourceId → Type 0
@@ -85,7 +83,7 @@ agrees_after p served made cells s s2 old new given b start end ds0 ds before no
     by (given_or_not given at.0) (lists_any p start end m) refl (differs_at m.kind new start end limit m.point) refl ∙ ap Some (sym (value_is p s2 new m is kind now))
   where
     is : IsMonitor p m
-    is = monitor_at p made i m there
+    is = monitor_made p made i m there
 
     kind : is_at_cells m.kind ≡ true
     kind = cells m.kind serves
@@ -133,7 +131,7 @@ agrees_after p served made cells s s2 old new given b start end ds0 ds before no
 pub agrees_same : (p : Parts) (served : Kind → Bool) (made : AreWellMade p) (cells : (k : Kind) → served k ≡ true → is_at_cells k ≡ true) (s s2 : List Slot) (rows : List (List ℕ)) (ds : List ℕ)
     → ((r t : ℕ) → count_at rows r t ≡ running_tasks (duties_in s) r t) → ((r t : ℕ) → count_at rows r t ≡ running_tasks (duties_in s2) r t) → Agrees p served s ds → Agrees p served s2 ds
 agrees_same p served made cells s s2 rows ds before now agrees i m there serves =
-    let is = monitor_at p made i m there in
+    let is = monitor_made p made i m there in
     agrees i m there serves ∙ ap Some (value_is p s rows m is (cells m.kind serves) before) ∙ ap Some (sym (value_is p s2 rows m is (cells m.kind serves) now))
 
 -- sums

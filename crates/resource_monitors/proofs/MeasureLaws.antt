@@ -100,7 +100,7 @@ module _ (c d : ℕ → ℕ) where
 abbrev pub IsAtResource : Parts → Point → Type 0
 IsAtResource p point = (r : ResourceId) × (point ≡ Resource r) × (r.0 < length p.resources)
 
-of_point : (p : Parts) (point : Point) → IsResourcePoint p point → IsAtResource p point
+pub of_point : (p : Parts) (point : Point) → IsResourcePoint p point → IsAtResource p point
 of_point p (Resource r) h = (r, refl, h)
 of_point p _ h = absurd h
 

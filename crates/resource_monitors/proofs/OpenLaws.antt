@@ -18,7 +18,7 @@ use Rattle.resource_monitors.specs.Sets.{room_for}
 use Rattle.resource_monitors.specs.declared.posts.Post.{Post}
 use Rattle.resource_monitors.proofs.StateLaws.{told_opened, no_duties}
 
-none_row : (n t : ℕ) → slice_index (replicate n 0) t ≡ 0
+pub none_row : (n t : ℕ) → slice_index (replicate n 0) t ≡ 0
 none_row zero t = refl
 none_row (suc n) zero = refl
 none_row (suc n) (suc t) = none_row n t

@@ -14,18 +14,7 @@ use Rattle.khe_instance.specs.declared.rules.Kind.{Kind}
 use Rattle.resource_monitors.specs.Posts.{AreReported, AreAllReported, ArePosts, post, is_served_at, list_for}
 use Rattle.resource_monitors.specs.declared.posts.Post.{Post}
 use Rattle.resource_monitors.proofs.PostLaws.{posts_each, posts_all}
-
-get-set : {X : Type 0} (xs : List X) (i : ℕ) (x : X) → i < length xs → slice_get (set xs i x) i ≡ Some x
-get-set [] i x l = absurd (omega arith)
-get-set (z ∷ xs) zero x l = refl
-get-set (z ∷ xs) (suc i) x l = get-set xs i x (omega arith)
-
-get-other : {X : Type 0} (xs : List X) (i j : ℕ) (x : X) → (i ≡ j → ⊥) → slice_get (set xs i x) j ≡ slice_get xs j
-get-other [] i j x n = refl
-get-other (z ∷ xs) zero zero x n = absurd (n refl)
-get-other (z ∷ xs) zero (suc j) x n = refl
-get-other (z ∷ xs) (suc i) zero x n = refl
-get-other (z ∷ xs) (suc i) (suc j) x n = get-other xs i j x (λ h. n (ap suc h))
+use Rattle.khe_base.proofs.ListLemmas.{get-other, get-set}
 
 -- one more time that isn't listed
 pub run_step : (f : ℕ → Bool) (t end : ℕ) → t < end → f t ≡ false → list_any f (range_with_len (t + 1) (end - (t + 1))) ≡ list_any f (range_with_len t (end - t))

@@ -17,7 +17,7 @@ use Rattle.khe_instance.specs.declared.parts.Parts.{Parts}
 use Rattle.khe_instance.specs.declared.parts.Place.{Place}
 use Rattle.khe_instance.specs.declared.parts.ResourceInfo.{ResourceInfo}
 use Rattle.khe_instance.specs.declared.states.Duty.{Duty}
-use Rattle.khe_instance.proofs.DutiesLemmas.{are-duties}
+use Rattle.khe_instance.proofs.DutiesLemmas.{are-duties, typed}
 use Rattle.khe_told.specs.Changes.{after, changed, meet_of}
 use Rattle.khe_told.specs.Fits.{AreTold, IsSlot, Fits}
 use Rattle.khe_told.specs.Lists.{meets_in, tasks_in, duties_in}
@@ -108,21 +108,13 @@ tasks_few p made s told r t =
     let l = count_by-le-length (λ (d : Duty). is_resource r d.resource && runs d.meet t) (duties_in s) in
     omega (arith, few, l)
 
--- what a slot's places are given are resources
-typed_within : (p : Parts) (rtype : ℕ) (r : ResourceId) → HasType p rtype r → r.0 < length p.resources
-typed_within p rtype r h = by (slice_get p.resources r.0) refl h
-  where
-    by : (o : Option ResourceInfo) → slice_get p.resources r.0 ≡ o → option_map (λ (x : ResourceInfo). x.rtype) o ≡ Some rtype → r.0 < length p.resources
-    by None e h = absurd (none-some rtype h)
-    by (Some x) e h = slice_get_within p.resources r.0 x e
-
 slot_of : (p : Parts) (x : Slot) → IsFrame p.events x → IsSlot p x → AreOf x.given (length p.resources)
 slot_of p x frame is j r h =
     let event = frame.slot.0 in
     let there = frame.slot.1 in
     let many : length x.given ≡ length event.places = frame.places ∙ ap (λ o. option_map_or (λ (y : EventInfo). length y.places) o 0) there in
     let l = slice_get_within x.given j (Some r) h in
-    by event.places (slice_get event.places j) refl (omega (arith, many, l)) (λ place e. typed_within p place.rtype r (is.given event j place r there e h))
+    by event.places (slice_get event.places j) refl (omega (arith, many, l)) (λ place e. typed p place.rtype r (is.given event j place r there e h))
   where
     by : (places : List Place) (o : Option Place) → slice_get places j ≡ o → j < length places → ((place : Place) → slice_get places j ≡ Some place → r.0 < length p.resources) → r.0 < length p.resources
     by places (Some place) e l f = f place e

@@ -15,13 +15,6 @@ use Rattle.khe_instance.specs.declared.states.Task.{Task}
 use Rattle.khe_told.specs.Lists.{meet_in, tasks_of, tasks_with}
 use Rattle.khe_told.specs.declared.slots.Slot.{Slot}
 
--- what is left of numbered lines begins with those of the element at hand
-pub lines-there : {A : Type 0} (f : ℕ × A → List ℕ) (xs : List A) (i j : ℕ) (x : A) → slice_get xs i ≡ Some x
-    → flat_map f (enumerate_from j (drop i xs)) ≡ f (j, x) ++ flat_map f (enumerate_from (j + 1) (drop (i + 1) xs))
-lines-there f xs i j x at =
-    ap (λ ys. flat_map f (enumerate_from j ys)) (drop-there xs i x at)
-    ∙ flat_map-cons f (j, x) (enumerate_from (j + 1) (drop (i + 1) xs))
-
 -- and so of lines without numbers
 pub texts-there : {A : Type 0} (f : A → List ℕ) (xs : List A) (i : ℕ) (x : A) → slice_get xs i ≡ Some x → flat_map f (drop i xs) ≡ f x ++ flat_map f (drop (i + 1) xs)
 texts-there f xs i x at = ap (flat_map f) (drop-there xs i x at) ∙ flat_map-cons f x (drop (i + 1) xs)

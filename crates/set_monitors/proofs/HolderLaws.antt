@@ -27,6 +27,7 @@ use Rattle.khe_told.specs.declared.slots.Span.{Span}
 use Rattle.event_monitors.specs.Posts.{names}
 use Rattle.set_monitors.specs.AvoidSplitAssignments.{given_from, given_in, held, holders, in_role, is_in_role, loose, with_one}
 use Rattle.set_monitors.specs.NamedSums.{named_part, sum_of_none, sum_turned}
+use Rattle.event_monitors.proofs.Turning.{sum_le}
 
 -- what places are given, with one of them changed
 module _ (has : ℕ → Bool) (r : ℕ) where
@@ -195,10 +196,6 @@ places_total e (event ∷ events) =
         (All-map (λ (x : Slot). length x.given ≤ length event.places) (λ k. empty_slot k e event) ks (λ i d l. let z : length (empty_slot 0 e event).given ≡ length event.places = length-replicate (length event.places) None in omega (arith, z))) in
         let b : length (map (λ k. empty_slot k e event) ks) * length event.places ≡ length ks * length event.places = ap (λ n. n * length event.places) (length-map ks (λ k. empty_slot k e event)) in
         omega (arith, a, b)
-
-sum_le : (f g : Slot → ℕ) (s : List Slot) → ((x : Slot) → f x ≤ g x) → sum_by f s ≤ sum_by g s
-sum_le f g [] h = omega arith
-sum_le f g (x ∷ s) h = let a = sum_by-cons f x s in let b = sum_by-cons g x s in let k = h x in let r = sum_le f g s h in omega (arith, a, b, k, r)
 
 pub held_few : (p : Parts) (m : Monitor) (s : List Slot) (q : ℕ) → AreWellMade p → AreTold p s → held p m s q ≤ TASKS
 held_few p m s q made told =

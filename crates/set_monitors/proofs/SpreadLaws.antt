@@ -24,6 +24,7 @@ use Rattle.event_monitors.specs.Posts.{names}
 use Rattle.event_monitors.specs.Shares.{span_share}
 use Rattle.set_monitors.specs.NamedSums.{named_part, sum_of_none, sum_turned}
 use Rattle.set_monitors.specs.SpreadEvents.{AreCounts, AreFew, IsSpread, count_after, moves_start, one_in, spread_by, spreads_of, started}
+use Rattle.khe_told.proofs.OpeningLaws.{slots_amount}
 
 -- what a change does to one slot's part is what it does to a count
 slot_turned : (times : List Bool) (x : Slot) (c : Change) (n later : ℕ) → Suits x c → later + span_share (one_in times) x.span ≡ n + span_share (one_in times) (changed x c).span → later ≡ count_after n times c
@@ -60,13 +61,6 @@ started_kept n times (Take t r) h = refl
 one_each : (f : Slot → ℕ) (s : List Slot) → ((x : Slot) → f x ≤ 1) → sum_by f s ≤ length s
 one_each f [] h = omega arith
 one_each f (x ∷ s) h = let a = sum_by-cons f x s in let b = one_each f s h in let c = h x in omega (arith, a, b, c)
-
-slots_amount : (e : ℕ) (events : List EventInfo) → length (slots_from e events) ≡ sum_by (λ (x : EventInfo). x.duration) events
-slots_amount e [] = refl
-slots_amount e (event ∷ events) =
-    length-append (slots_of_event e event) (slots_from (e + 1) events)
-    ∙ ap (λ n. n + length (slots_from (e + 1) events)) (length-map (range_with_len event.first_meet event.duration) _ ∙ length-range_with_len event.first_meet event.duration)
-    ∙ ap (λ n. event.duration + n) (slots_amount (e + 1) events) ∙ sym (sum_by-cons (λ (x : EventInfo). x.duration) event events)
 
 pub started_few : (p : Parts) (m : Monitor) (s : List Slot) (times : List Bool) → AreWellMade p → AreTold p s → started p m s times ≤ DURATION
 started_few p m s times made told =

@@ -3,12 +3,11 @@ use Rattle.std.proofs.Common.{ℕ, ◌≡◌, ◌<◌, ◌∙◌, true, Option, 
 use Rattle.std.specs.Prelude.{◌&&◌, nat_lt}
 use Rattle.std.proofs.lemmas.Bool.{cases_lt, lt-ltb}
 use Rattle.std.proofs.lemmas.List.{get_or_past}
-use Rattle.std.proofs.lemmas.Option.{slice_get_within}
+use Rattle.std.proofs.lemmas.Option.{same_Some, slice_get_within}
 use Rattle.khe_base.specs.declared.numbers.EventId.{EventId}
 use Rattle.khe_instance.specs.declared.parts.EventInfo.{EventInfo}
 use Rattle.khe_instance.specs.declared.parts.Parts.{Parts}
 use Rattle.khe_instance.specs.declared.states.Meet.{Meet}
-use Rattle.khe_solution.proofs.Basics.{injective}
 use Rattle.khe_solution.proofs.Owners.{owner}
 use Rattle.khe_solution.specs.Reading.{has_place}
 use Rattle.khe_told.specs.Fits.{AreTold}
@@ -27,7 +26,7 @@ of_event x m e = by x.span e
   where
     by : (o : Option Span) → meet_in (record x { span = o }) ≡ Some m → IsOfEvent (record x { span = o }) m
     by None h = absurd (let g : ⊥ = cc in g)
-    by (Some y) h = record { live = refl; event = sym (ap (λ (z : Meet). z.event) (injective _ _ h)) }
+    by (Some y) h = record { live = refl; event = sym (ap (λ (z : Meet). z.event) (same_Some _ _ h)) }
 
 there : (s : List Slot) (k : ℕ) (m : Meet) → meet_in (slot_at s k) ≡ Some m → k < length s
 there s k m e = elim (cases_lt k (length s)) [
@@ -50,7 +49,7 @@ pub place_known : (p : Parts) (s : List Slot) (k : ℕ) (m : Meet) (event : Even
 place_known p s k m event place told e at l =
     let o = owner p s k told (there s k m e) in
     let is = of_event (slot_at s k) m e in
-    let same : event ≡ o.event = injective event o.event (sym at ∙ ap (λ (z : EventId). slice_get p.events z.0) is.event ∙ o.there) in
+    let same : event ≡ o.event = same_Some event o.event (sym at ∙ ap (λ (z : EventId). slice_get p.events z.0) is.event ∙ o.there) in
     let places : length event.places ≡ length (slot_at s k).given = ap (λ (z : EventInfo). length z.places) same ∙ o.places in
     let within : nat_lt place (length (slot_at s k).given) ≡ true = lt-ltb place (length (slot_at s k).given) (omega (arith, places, l)) in
     ap (λ b. b && nat_lt place (length (slot_at s k).given)) is.live ∙ within

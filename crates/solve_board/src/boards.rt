@@ -4,7 +4,7 @@ ghost use Rattle.solve_board.specs.Counts.{IsAmong, times, once_below};
 use crate::rules::{BoardRule, Both, Claim, Look, Offer, Part, Tell};
 use crate::views::BoardView;
 use atomic_table::Table;
-use khe_base::NoMemory;
+use khe_base::{NoMemory, lends_to_threads};
 use std::alloc::Global;
 
 /// What a worker acts on a board with, and what it knows of it, its `BoardView`. A seat has no
@@ -148,9 +148,6 @@ impl Board {
         Closed { next, least }
     }
 }
-
-// Threads may be handed such a value, and read it together.
-fn lends_to_threads<T: Send + Sync>(_value: &T) {}
 
 // A thread may be given such a value.
 fn goes_to_threads<T: Send>(_value: &T) {}

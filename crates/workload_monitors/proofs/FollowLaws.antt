@@ -30,13 +30,13 @@ use Rattle.khe_told.specs.declared.slots.Slot.{Slot}
 use Rattle.khe_told.proofs.FrameLaws.{IsFrame, frames}
 use Rattle.resource_monitors.specs.Posts.{AreLists, AreReported, is_served_at, post, posts_of}
 use Rattle.resource_monitors.specs.declared.posts.Post.{Post}
-use Rattle.resource_monitors.proofs.FamilyLaws.{monitor_at}
 use Rattle.resource_monitors.proofs.PostLaws.{posts_all, posts_each, posts_sum}
 use Rattle.resource_monitors.proofs.StateLaws.{given_of, no_duties, told_opened}
 use Rattle.workload_monitors.specs.Loads.{HasLoads, IsFamily, is_on_workload, named_by, value_in, worth_in}
 use Rattle.workload_monitors.proofs.BoundLaws.{load_small}
 use Rattle.workload_monitors.proofs.LoadLaws.{gained, loads_turned, lost, lowered, raised}
 use Rattle.workload_monitors.proofs.ValueLaws.{IsOnWorkload, on_workload, value_is, value_same}
+use Rattle.khe_instance.proofs.MadeLemmas.{monitor_made}
 
 -- sums
 ones : {X : Type 0} (xs : List X) → sum_by (λ (x : X). 1) xs ≡ length xs
@@ -183,7 +183,7 @@ module _ (p : Parts) (made : AreWellMade p) (s : List Slot) (told : AreTold p s)
 
   pub agrees_kept : (c : Change) (loads : List ℕ) → HasLoads p s loads → HasLoads p (after s c) loads → (ds : List ℕ) → Agrees p is_on_workload s ds → Agrees p is_on_workload (after s c) ds
   agrees_kept c loads before now ds agrees i m there serves =
-      let is = monitor_at p made i m there in
+      let is = monitor_made p made i m there in
       agrees i m there serves ∙ ap Some (value_is p s loads m is serves before) ∙ ap Some (sym (value_is p (after s c) loads m is serves now))
 
   module _ (c : Change) (fits : Fits p s c) (r : ResourceId) (named : named_by c ≡ Some r) (list : List Post) (is_list : list ≡ posts_of is_on_workload p.monitors r.0) where
@@ -192,7 +192,7 @@ module _ (p : Parts) (made : AreWellMade p) (s : List Slot) (told : AreTold p s)
         by (cases_eq r.0 on.resource.0) ∙ ap Some (sym (value_is p (after s c) new m is serves now))
       where
         is : IsMonitor p m
-        is = monitor_at p made i m there
+        is = monitor_made p made i m there
 
         on : IsOnWorkload p m
         on = on_workload p m is serves

@@ -21,6 +21,7 @@ use Rattle.khe_told.specs.Agreement.{deviation_in}
 use Rattle.khe_told.specs.Lists.{duties_in, meets_in}
 use Rattle.khe_told.specs.declared.slots.Slot.{Slot}
 use Rattle.workload_monitors.specs.Loads.{HasLoads, is_on_workload, outside, value_at, value_in}
+use Rattle.resource_monitors.proofs.MeasureLaws.{of_point}
 
 -- a monitor on a workload has such a rule, and a resource
 pub record IsOnWorkload (p : Parts) (m : Monitor) : Type 0 where
@@ -32,13 +33,6 @@ pub record IsOnWorkload (p : Parts) (m : Monitor) : Type 0 where
   pub resource : ResourceId
   pub point : m.point ≡ Resource resource
   pub known : resource.0 < length p.resources
-
-abbrev IsAtResource : Parts → Point → Type 0
-IsAtResource p point = (r : ResourceId) × (point ≡ Resource r) × (r.0 < length p.resources)
-
-of_point : (p : Parts) (point : Point) → IsResourcePoint p point → IsAtResource p point
-of_point p (Resource r) h = (r, refl, h)
-of_point p _ h = absurd h
 
 pub on_workload : (p : Parts) (m : Monitor) → IsMonitor p m → is_on_workload m.kind ≡ true → IsOnWorkload p m
 on_workload p m (c, there, of_rule, point) served =

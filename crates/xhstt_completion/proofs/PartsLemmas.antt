@@ -50,10 +50,6 @@ slice_get-append_right (x ∷ xs) ys zero h = absurd (omega arith)
 slice_get-append_right (x ∷ xs) ys (suc i) h =
     slice_get-append_right xs ys i (omega arith) ∙ ap (slice_get ys) (let e : i - length xs ≡ suc i - suc (length xs) = omega arith in e)
 
--- what is left of a list begins with the element at hand
-pub drop-next : {A : Type 0} (xs : List A) (i : ℕ) (x : A) → i < length xs → x ≡ get_or xs i x → drop i xs ≡ x ∷ drop (i + 1) xs
-drop-next xs i x l at = drop_more xs i x l ∙ ap (λ y. y ∷ drop (i + 1) xs) (sym at)
-
 -- a loop that adds pieces to a list: one piece more
 pub append-step : {A : Type 0} (new old piece later rest all : List A) → new ≡ old ++ piece → rest ≡ piece ++ later → old ++ rest ≡ all → new ++ later ≡ all
 append-step new old piece later rest all added begins sofar =

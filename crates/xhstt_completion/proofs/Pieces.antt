@@ -28,21 +28,6 @@ found {X} test P (y ∷ ys) x h all = by (test y) refl h (All-head P y ys all) (
         (subst P same holds, subst (λ z. test z ≡ true) same e)
     by false e at holds later = later at
 
--- a filter that passes all elements, or none
-pub filter-all : {X : Type 0} (test : X → Bool) (xs : List X) → All (λ x. test x ≡ true) xs → filter test xs ≡ xs
-filter-all test [] h = refl
-filter-all test (x ∷ xs) h =
-    let first = All-head (λ y. test y ≡ true) x xs h in
-    let rest = filter-all test xs (All-tail (λ y. test y ≡ true) x xs h) in
-    λ i. if first i then x ∷ rest i else rest i
-
-pub filter-none : {X : Type 0} (test : X → Bool) (xs : List X) → All (λ x. test x ≡ false) xs → filter test xs ≡ []
-filter-none test [] h = refl
-filter-none test (x ∷ xs) h =
-    let first = All-head (λ y. test y ≡ false) x xs h in
-    let rest = filter-none test xs (All-tail (λ y. test y ≡ false) x xs h) in
-    λ i. if first i then x ∷ rest i else rest i
-
 -- the elements of a list with their numbers
 pub All-numbered : {X : Type 0} (Q : ℕ × X → Type 0) (n : ℕ) (xs : List X) → ((i : ℕ) (x : X) → slice_get xs i ≡ Some x → Q (n + i, x)) → All Q (enumerate_from n xs)
 All-numbered Q n [] h = All-nil Q

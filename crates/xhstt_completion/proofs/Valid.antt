@@ -10,7 +10,7 @@ use Rattle.std.proofs.lemmas.List.Concat.{flat_map_single}
 use Rattle.std.proofs.lemmas.List.Elements.{All-nil, All-head, All-tail, All-map, All-weaker}
 use Rattle.std.proofs.lemmas.List.Sums.{sum_by-cons}
 use Rattle.std.proofs.lemmas.Option.{same_Some}
-use Rattle.khe_base.proofs.ListLemmas.{All-flat_map}
+use Rattle.khe_base.proofs.ListLemmas.{All-flat_map, filter-all, filter-none}
 use Rattle.khe_base.specs.declared.numbers.ResourceId.{ResourceId}
 use Rattle.khe_base.specs.declared.numbers.TaskId.{TaskId}
 use Rattle.khe_base.specs.declared.numbers.TimeId.{TimeId}
@@ -31,7 +31,7 @@ use Rattle.xhstt_completion.specs.Completed.{Part, parts_of, slotted_parts, meet
 use Rattle.xhstt_completion.specs.Entries.{IsEntry, entries_of}
 use Rattle.xhstt_completion.proofs.FitLemmas.{AreFit, entries-fit}
 use Rattle.xhstt_completion.proofs.PartFacts.{IsPart, parts-are, parts-last, parts-few, fixed-starts}
-use Rattle.xhstt_completion.proofs.Pieces.{All-filter, filter-all, filter-none, All-numbered, All-slotted, IsSlotted, filter-picks, map-pieces, Rises, Rises-append, Rises-strictly}
+use Rattle.xhstt_completion.proofs.Pieces.{All-filter, All-numbered, All-slotted, IsSlotted, filter-picks, map-pieces, Rises, Rises-append, Rises-strictly}
 use Rattle.xhstt_completion.proofs.WellMadeLemmas.{event-made}
 use Rattle.xhstt_shape.specs.declared.records.RawEntry.{RawEntry}
 use Rattle.xhstt_shape.specs.declared.records.RawGiven.{RawGiven}

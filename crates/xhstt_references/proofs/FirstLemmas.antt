@@ -4,6 +4,7 @@ use Rattle.std.specs.List.{flat_map}
 use Rattle.std.proofs.lemmas.List.{drop_all}
 use Rattle.std.proofs.lemmas.List.Sums.{fold-append}
 use Rattle.xhstt_references.specs.First.{noted, first_of}
+use Rattle.khe_base.proofs.ListLemmas.{drop-next}
 
 pub first_of_append : (first : Option ℕ) (xs ys : List ℕ) → first_of first (xs ++ ys) ≡ first_of (first_of first xs) ys
 unfolding first_of
@@ -29,10 +30,6 @@ pub ruleset place_steps = (first_of_append, first_of_nil)
 pub drop_step : {X : Type 0} (xs : List X) (i : ℕ) (d : X) → i < length xs → drop i xs ≡ get_or xs i d ∷ drop (i + 1) xs
 drop_step xs i d h = drop-cons xs i d h ∙ ap (λ k. get_or xs i d ∷ drop k xs) (sym (add-one i))
 
--- the element at hand is the first of the rest
-pub drop_at : {X : Type 0} (xs : List X) (i : ℕ) (x : X) → i < length xs → x ≡ get_or xs i x → drop i xs ≡ x ∷ drop (i + 1) xs
-drop_at xs i x h at = drop_step xs i x h ∙ ap (λ y. y ∷ drop (i + 1) xs) (sym at)
-
 module _ {X : Type 0} (f : X → List ℕ) (xs : List X) (i : ℕ) where
   -- the places of the element at hand, and then those of the rest
   pub walk_step : (x : X) (before after whole : Option ℕ) → i < length xs → x ≡ get_or xs i x → after ≡ first_of before (f x)
@@ -40,7 +37,7 @@ module _ {X : Type 0} (f : X → List ℕ) (xs : List X) (i : ℕ) where
   walk_step x before after whole h at is old =
       ap (λ y. first_of y (flat_map f (drop (i + 1) xs))) is
       ∙ sym (first_of_append before (f x) (flat_map f (drop (i + 1) xs)))
-      ∙ ap (λ r. first_of before (flat_map f r)) (sym (drop_at xs i x h at))
+      ∙ ap (λ r. first_of before (flat_map f r)) (sym (drop-next xs i x h at))
       ∙ old
 
   -- nothing is left

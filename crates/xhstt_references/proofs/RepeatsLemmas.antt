@@ -11,15 +11,16 @@ use Rattle.std.proofs.lemmas.Slice.Eq.{bytes_eq-Decides}
 use Rattle.khe_base.specs.Names.{is_among_names, with_name}
 use Rattle.xhstt_references.specs.First.{noted, first_of}
 use Rattle.xhstt_references.specs.References.{repeated, repeated_after}
-use Rattle.xhstt_references.proofs.FirstLemmas.{first_of_append, first_of_nil, first_of_one, drop_at}
+use Rattle.xhstt_references.proofs.FirstLemmas.{first_of_append, first_of_nil, first_of_one}
 use Rattle.xhstt_shape.specs.declared.records.Name.{Name}
+use Rattle.khe_base.proofs.ListLemmas.{drop-next}
 
 -- the names that came before, with these, each once
 abbrev pub all_names : List (List ℕ) → List Name → List (List ℕ)
 all_names seen [] = seen
 all_names seen (n ∷ ns) = all_names (with_name n.text seen) ns
 
-among_more : (x n : List ℕ) (seen : List (List ℕ)) → is_among_names x (seen ++ n ∷ []) ≡ (is_among_names x seen || (bytes_eq x n || false))
+pub among_more : (x n : List ℕ) (seen : List (List ℕ)) → is_among_names x (seen ++ n ∷ []) ≡ (is_among_names x seen || (bytes_eq x n || false))
 among_more x n seen = list_any-append (λ y. bytes_eq x y) seen (n ∷ [])
 
 or_false : (b : Bool) → (b || false) ≡ b
@@ -133,7 +134,7 @@ module _ {X : Type 0} (id : X → Name) (xs : List X) (i : ℕ) where
       → all_names names (map id (drop i xs)) ≡ whole → all_names more (map id (drop (i + 1) xs)) ≡ whole
   names_step x n names more h at is adds old =
       ap (λ s. all_names s (map id (drop (i + 1) xs))) (adds ∙ ap (λ m. with_name m.text names) is)
-      ∙ ap (λ r. all_names names (map id r)) (sym (drop_at xs i x h at))
+      ∙ ap (λ r. all_names names (map id r)) (sym (drop-next xs i x h at))
       ∙ old
 
   pub places_step : (x : X) (n : Name) (names more : List (List ℕ)) (before after : Option ℕ) {whole : Option ℕ} → i < length xs → x ≡ get_or xs i x → n ≡ id x → more ≡ with_name n.text names
@@ -144,7 +145,7 @@ module _ {X : Type 0} (id : X → Name) (xs : List X) (i : ℕ) where
       (λ j. first_of (notes j) (repeated_after (adds j) rest))
       ∙ sym (repeated_step before names n rest)
       ∙ ap (λ m. first_of before (repeated_after names (m ∷ rest))) is
-      ∙ ap (λ r. first_of before (repeated_after names (map id r))) (sym (drop_at xs i x h at))
+      ∙ ap (λ r. first_of before (repeated_after names (map id r))) (sym (drop-next xs i x h at))
       ∙ old
 
   -- nothing is left
@@ -170,7 +171,7 @@ module _ {X : Type 0} (role : X → Option Name) (xs : List X) (i : ℕ) where
       let rest = filter_map role (drop (i + 1) xs) in
       (λ j. first_of (notes j) (repeated_after (adds j) rest))
       ∙ by (role x) rest
-      ∙ ap (λ r. first_of before (repeated_after names (filter_map role r))) (sym (drop_at xs i x h at))
+      ∙ ap (λ r. first_of before (repeated_after names (filter_map role r))) (sym (drop-next xs i x h at))
       ∙ old
     where
       by : (o : Option Name) (rest : List Name)

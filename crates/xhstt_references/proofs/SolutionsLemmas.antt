@@ -6,7 +6,8 @@ use Rattle.std.proofs.lemmas.List.{append-nil, drop_all}
 use Rattle.std.proofs.lemmas.List.Elements.{filter_map-append}
 use Rattle.std.proofs.lemmas.Grind.{flat_map-append}
 use Rattle.xhstt_references.specs.First.{first_of}
-use Rattle.xhstt_references.proofs.FirstLemmas.{first_of_append, first_of_nil, drop_at}
+use Rattle.xhstt_references.proofs.FirstLemmas.{first_of_append, first_of_nil}
+use Rattle.khe_base.proofs.ListLemmas.{drop-next}
 
 cons_option_is : {X : Type 0} (o : Option X) (xs : List X) → cons_option o xs ≡ option_to_list o ++ xs
 cons_option_is None xs = λ i. xs
@@ -21,7 +22,7 @@ module _ {X : Type 0} (h : X → Option ℕ) (xs : List X) (i : ℕ) where
       ap (λ y. y ++ rest) adds
       ∙ append_assoc old (option_to_list (h x)) rest
       ∙ ap (λ y. old ++ y) (sym (cons_option_is (h x) rest))
-      ∙ ap (λ r. old ++ filter_map h r) (sym (drop_at xs i x l at))
+      ∙ ap (λ r. old ++ filter_map h r) (sym (drop-next xs i x l at))
       ∙ before
 
   pub numbers_end : (numbers : List ℕ) {whole : List ℕ} → length xs ≤ i → numbers ++ filter_map h (drop i xs) ≡ whole → numbers ≡ whole
@@ -36,7 +37,7 @@ module _ {G X : Type 0} (members : G → List X) (gs : List G) (i : ℕ) where
       ap (λ y. y ++ filter_map h rest) adds
       ∙ append_assoc old (filter_map h (members g)) (filter_map h rest)
       ∙ ap (λ y. old ++ y) (sym (filter_map-append h (members g) rest))
-      ∙ ap (λ r. old ++ filter_map h (flat_map members r)) (sym (drop_at gs i g l at))
+      ∙ ap (λ r. old ++ filter_map h (flat_map members r)) (sym (drop-next gs i g l at))
       ∙ before
 
   pub groups_numbers_end : (h : X → Option ℕ) (numbers : List ℕ) {whole : List ℕ} → length gs ≤ i → numbers ++ filter_map h (flat_map members (drop i gs)) ≡ whole → numbers ≡ whole
@@ -49,7 +50,7 @@ module _ {G X : Type 0} (members : G → List X) (gs : List G) (i : ℕ) where
       ap (λ y. first_of y (flat_map f rest)) notes
       ∙ sym (first_of_append before (flat_map f (members g)) (flat_map f rest))
       ∙ ap (first_of before) (sym (flat_map-append f (members g) rest))
-      ∙ ap (λ r. first_of before (flat_map f (flat_map members r))) (sym (drop_at gs i g l at))
+      ∙ ap (λ r. first_of before (flat_map f (flat_map members r))) (sym (drop-next gs i g l at))
       ∙ old
 
   pub groups_places_end : (f : X → List ℕ) (first : Option ℕ) {whole : Option ℕ} → length gs ≤ i → first_of first (flat_map f (flat_map members (drop i gs))) ≡ whole → first ≡ whole

@@ -18,7 +18,7 @@ first_is kind [] = refl
 first_is kind (at ∷ more) = ap (option_map (λ x. Bad kind x)) (fold_is at more)
 
 -- where no fault is told, there is no place
-none_left : (kind : ℕ) (xs : List ℕ) → at_first kind xs None ≡ None → xs ≡ []
+pub none_left : (kind : ℕ) (xs : List ℕ) → at_first kind xs None ≡ None → xs ≡ []
 none_left kind [] h = refl
 none_left kind (at ∷ more) h = cc
 

@@ -6,7 +6,7 @@ use Rattle.std.specs.Option.{is_some, option_and_then, option_map_or}
 use Rattle.std.proofs.lemmas.Option.{slice_get-get_or}
 use Rattle.std.proofs.lemmas.List.Quantifiers.{position-Some}
 use Rattle.std.proofs.lemmas.Bool.Decides.{nat_tests}
-use Rattle.khe_base.proofs.ListLemmas.{below_length}
+use Rattle.khe_base.proofs.ListLemmas.{below_length, none_of}
 use Rattle.khe_base.specs.Names.{is_among_names, number_of}
 use Rattle.xhstt_references.specs.First.{noted, first_of}
 use Rattle.xhstt_references.specs.References.{unknown, unknown_in_entry, unknown_in_solution, off_end_from}
@@ -96,17 +96,12 @@ module _ (ids : List (List ℕ)) (directories : List Directory) (s : RawSolution
       (sym (is_some_position _ ids) ∙ ap is_some is)
       ∙ ap (λ o. s.reference.at ∷ option_map_or (λ e. flat_map (unknown_in_entry e) s.events) (option_and_then (λ j. slice_get directories j) o) []) is
 
--- two lists that together have no element
-pub nil_parts : {X : Type 0} (xs ys : List X) → xs ++ ys ≡ [] → (xs ≡ []) × (ys ≡ [])
-nil_parts [] ys h = (refl, h)
-nil_parts (x ∷ xs) ys h = cc
-
 -- where no reference of the solutions is unknown, each of them has a number
 pub all_numbered : (ids : List (List ℕ)) (directories : List Directory) (ss : List RawSolution) → flat_map (unknown_in_solution ids directories) ss ≡ []
     → map Some (filter_map (λ s. number_of s.reference.id ids) ss) ≡ map (λ s. number_of s.reference.id ids) ss
 all_numbered ids directories [] h = refl
 all_numbered ids directories (s ∷ ss) h =
-    let parts = nil_parts (unknown_in_solution ids directories s) (flat_map (unknown_in_solution ids directories) ss) h in
+    let parts = none_of (unknown_in_solution ids directories s) (flat_map (unknown_in_solution ids directories) ss) h in
     by (number_of s.reference.id ids) refl parts.0 (all_numbered ids directories ss parts.1)
   where
     by : (o : Option ℕ) → number_of s.reference.id ids ≡ o → unknown_in_solution ids directories s ≡ []

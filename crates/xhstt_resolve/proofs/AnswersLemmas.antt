@@ -63,10 +63,6 @@ pub passed-fault : {A : Type 0} (r : Result A ResolveFault) (e : ResolveFault) (
 passed-fault (Ok x) e a h is = tt
 passed-fault (Err x) e a h is = subst (IsFaultOf (resolved a)) (sym h) is
 
--- the item at hand is the first that is left
-pub drop-item : {A : Type 0} (xs : List A) (i : ℕ) (x : A) → i < length xs → x ≡ get_or xs i x → drop i xs ≡ x ∷ drop (i + 1) xs
-drop-item xs i x h is = drop-cons xs i x h ∙ ap (λ y. y ∷ drop (suc i) xs) (sym is) ∙ ap (λ k. x ∷ drop k xs) (sym (add-one i))
-
 -- a list in which one more item was made
 pub pushed : {A B : Type 0} (f : A → B) (old new all : List B) (x : A) (y : B) (before after : List A) → new ≡ old ++ y ∷ [] → y ≡ f x → before ≡ x ∷ after
     → old ++ map f before ≡ all → new ++ map f after ≡ all

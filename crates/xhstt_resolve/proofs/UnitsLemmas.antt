@@ -9,6 +9,7 @@ use Rattle.std.proofs.lemmas.List.Elements.{All-nil, All-cons, All-head, All-tai
 use Rattle.khe_base.specs.Units.{IsUnit, IsLeastMultiple}
 use Rattle.xhstt_resolve.specs.Units.{least_multiple, running_units}
 use Rattle.xhstt_resolve.proofs.WellMadeUnits.{unit_is}
+use Rattle.khe_base.proofs.ListLemmas.{drop-next}
 
 -- the unit of one duration is that duration
 unit_of_one : (a : ℕ) → 0 < a → least_multiple 1 a ≡ a
@@ -37,13 +38,10 @@ least_multiple-same a b m pa pb is =
     (is.least n left right)
     (two.least m (All-cons (λ x. x ∣ m) a (b ∷ []) is.left (All-cons (λ x. x ∣ m) b [] is.right (All-nil (λ x. x ∣ m)))))
 
-rest_of : {X : Type 0} (xs : List X) (k : ℕ) (x : X) → k < length xs → x ≡ get_or xs k x → drop k xs ≡ x ∷ drop (k + 1) xs
-rest_of xs k x l at = drop_more xs k x l ∙ ap (λ y. y ∷ drop (k + 1) xs) (sym at)
-
 -- the unit with what is left, one item more
 pub unit_step : {X : Type 0} (f : X → ℕ) (u : ℕ) (xs : List X) (k : ℕ) (x : X) → k < length xs → x ≡ get_or xs k x
     → fold least_multiple u (map f (drop k xs)) ≡ fold least_multiple (least_multiple u (f x)) (map f (drop (k + 1) xs))
-unit_step f u xs k x l at = ap (λ ys. fold least_multiple u (map f ys)) (rest_of xs k x l at)
+unit_step f u xs k x l at = ap (λ ys. fold least_multiple u (map f ys)) (drop-next xs k x l at)
 
 -- and so with the first running multiple above the greatest
 pub above_step : {X : Type 0} (f : X → ℕ) (greatest u : ℕ) (xs : List X) (k : ℕ) (x : X) (b : Bool) → k < length xs → x ≡ get_or xs k x → nat_lt greatest (least_multiple u (f x)) ≡ b
@@ -51,5 +49,5 @@ pub above_step : {X : Type 0} (f : X → ℕ) (greatest u : ℕ) (xs : List X) (
     ≡ cond b (Some (least_multiple u (f x))) (find (nat_lt greatest) (running_units (least_multiple u (f x)) (map f (drop (k + 1) xs))))
 above_step f greatest u xs k x b l at is =
     let m = least_multiple u (f x) in
-    ap (λ ys. find (nat_lt greatest) (running_units u (map f ys))) (rest_of xs k x l at)
+    ap (λ ys. find (nat_lt greatest) (running_units u (map f ys))) (drop-next xs k x l at)
     ∙ ap (λ t. cond t (Some m) (find (nat_lt greatest) (running_units m (map f (drop (k + 1) xs))))) is

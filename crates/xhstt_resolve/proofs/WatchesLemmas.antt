@@ -20,10 +20,7 @@ use Rattle.xhstt_shape.specs.declared.constraints.RawConstraint.{RawConstraint}
 use Rattle.xhstt_shape.specs.declared.constraints.RawPair.{RawPair}
 use Rattle.xhstt_shape.specs.declared.records.RawInstance.{RawInstance}
 use Rattle.xhstt_shape.specs.declared.records.Ref.{Ref}
-
--- the sum of what is mapped
-sum_map : {X Y : Type 0} (f : Y → ℕ) (g : X → Y) (xs : List X) → sum_by f (map g xs) ≡ sum_by (λ x. f (g x)) xs
-sum_map f g xs = fold-map (λ a x. a + f x) g 0 xs
+use Rattle.khe_base.proofs.ListLemmas.{sum-mapped}
 
 -- where each counts as much as any other
 sum_same : {X : Type 0} (n : ℕ) (xs : List X) → sum_by (λ x. n) xs ≡ length xs * n
@@ -48,7 +45,7 @@ length_listed_times i groups times =
 
 -- events and event resources are watched once each
 places_once : (i : RawInstance) (c : RawConstraint) (e : ℕ) (ns : List ℕ) → sum_by (watches_at i c) (map (place_point e) ns) ≡ length (map (place_point e) ns)
-places_once i c e ns = let one = sum_map (watches_at i c) (place_point e) ns in let all = sum_same 1 ns in let size = length-map ns (place_point e) in omega (arith, one, all, size)
+places_once i c e ns = let one = sum-mapped (watches_at i c) (place_point e) ns in let all = sum_same 1 ns in let size = length-map ns (place_point e) in omega (arith, one, all, size)
 
 roles_once : (i : RawInstance) (c : RawConstraint) (role : List ℕ) (es : List ℕ) → sum_by (watches_at i c) (flat_map (role_points i role) es) ≡ length (flat_map (role_points i role) es)
 roles_once i c role [] = refl
@@ -58,7 +55,7 @@ roles_once i c role (e ∷ es) =
     ∙ sym (length-append (role_points i role e) (flat_map (role_points i role) es))
 
 events_once : (i : RawInstance) (c : RawConstraint) (role : Option (List ℕ)) (es : List ℕ) → sum_by (watches_at i c) (points_of_events i role es) ≡ length (points_of_events i role es)
-events_once i c None es = let one = sum_map (watches_at i c) event_point es in let all = sum_same 1 es in let size = length-map es event_point in omega (arith, one, all, size)
+events_once i c None es = let one = sum-mapped (watches_at i c) event_point es in let all = sum_same 1 es in let size = length-map es event_point in omega (arith, one, all, size)
 events_once i c (Some role) es = roles_once i c role es
 
 pub event_watches : (i : RawInstance) (c : RawConstraint) (groups events : List Ref) → c.applies ≡ Events groups events → watches_of i c ≡ length (points_of i c)
@@ -71,14 +68,14 @@ event_watches i c groups events is =
 pub group_watches : (i : RawInstance) (c : RawConstraint) (groups : List Ref) → c.applies ≡ Groups groups
     → watches_of i c ≡ sum_by (group_size i) (first_mentions (numbers_of (event_group_ids i) groups))
 group_watches i c groups is =
-    ap (λ a. sum_by (watches_at i c) (points_in i (role_of c.rule) a)) is ∙ sum_map (watches_at i c) EventGroup (first_mentions (numbers_of (event_group_ids i) groups))
+    ap (λ a. sum_by (watches_at i c) (points_in i (role_of c.rule) a)) is ∙ sum-mapped (watches_at i c) EventGroup (first_mentions (numbers_of (event_group_ids i) groups))
 
 -- at a resource the times of the rule are watched
 pub resource_watches : (i : RawInstance) (c : RawConstraint) (groups resources : List Ref) → c.applies ≡ Resources groups resources
     → watches_of i c ≡ length (first_mentions (listed_resources i groups resources)) * watched_times i c.rule
 resource_watches i c groups resources is =
     let ns = first_mentions (listed_resources i groups resources) in
-    ap (λ a. sum_by (watches_at i c) (points_in i (role_of c.rule) a)) is ∙ sum_map (watches_at i c) resource_point ns ∙ sum_same (watched_times i c.rule) ns
+    ap (λ a. sum_by (watches_at i c) (points_in i (role_of c.rule) a)) is ∙ sum-mapped (watches_at i c) resource_point ns ∙ sum_same (watched_times i c.rule) ns
 
 -- how many events a pair names, by its numbers and by its references
 abbrev named_in : Pair → ℕ
@@ -104,6 +101,6 @@ pub pair_watches : (i : RawInstance) (c : RawConstraint) (pairs : List RawPair) 
 pair_watches i c pairs is =
     let ks = range_with_len 0 (length pairs) in
     ap (λ a. sum_by (watches_at i c) (points_in i (role_of c.rule) a)) is
-    ∙ sum_map (watches_at i c) EventPair ks
+    ∙ sum-mapped (watches_at i c) EventPair ks
     ∙ ap (λ a. sum_by (λ k. option_map_or named_in (slice_get (pairs_of i a) k) 0) ks) is
     ∙ sum_numbers named_in (pair_of i) (map (pair_of i) pairs) 0 pairs (λ j. (let z : j ≡ 0 + j = omega arith in ap (slice_get (map (pair_of i) pairs)) z))

@@ -29,6 +29,7 @@ use Rattle.xhstt_shape.specs.declared.records.RawEventResource.{RawEventResource
 use Rattle.xhstt_shape.specs.declared.records.RawInstance.{RawInstance}
 use Rattle.xhstt_shape.specs.declared.records.Ref.{Ref}
 use Rattle.xhstt_references.specs.Directories.{directory_of}
+use Rattle.khe_base.proofs.ResultLemmas.{some-mapped}
 
 -- an event that has a time and is not off the end ends in time
 ends_in_time : (i : RawInstance) (duration : ℕ) (o : Option Ref) → option_map_or (off_end_from (directory_of i) duration) o [] ≡ [] → IfSome (fixed_time i o) (λ t. t.0 + duration ≤ length (time_ids i))
@@ -66,10 +67,6 @@ place_fixed i (Some r) wanted one =
     let k = resource_known i r one in
     subst (λ n. IfSome (option_map (λ m. let x : ResourceId = record { 0 = m } in x) n) (HasType (parts_of i) (option_map_or (type_at i) n 0))) (sym k.is)
     (type_at-has i k.n (below_resources i k.n k.within))
-
-some-mapped : {A B : Type 0} (f : A → B) (o : Option A) → IsSome o → IsSome (option_map f o)
-some-mapped f None e = absurd (let g : ⊥ = cc in g)
-some-mapped f (Some x) e = refl
 
 fixed_there : (i : RawInstance) (o : Option Ref) → unknown_one (resource_ids i) o ≡ [] → IsSome o → IsSome (fixed_resource i o)
 fixed_there i None one e = absurd (let g : ⊥ = cc in g)

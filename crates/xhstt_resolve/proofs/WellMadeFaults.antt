@@ -73,7 +73,7 @@ none-above which greatest (x ∷ xs) e = by (nat_lt greatest x) refl e (none-abo
     by true is e later = absurd (let g : ⊥ = cc in g)
     by false is e later = All-cons (λ v. v ≤ greatest) x xs (ltb-false _ _ is) (later e)
 
-not-above : (which greatest value : ℕ) → above which greatest value ≡ None → value ≤ greatest
+pub not-above : (which greatest value : ℕ) → above which greatest value ≡ None → value ≤ greatest
 not-above which greatest value e = by (nat_lt greatest value) refl e
   where
     by : (b : Bool) → nat_lt greatest value ≡ b → (if b then Some (Limit which value) else None) ≡ None → value ≤ greatest

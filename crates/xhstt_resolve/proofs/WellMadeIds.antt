@@ -15,19 +15,7 @@ use Rattle.xhstt_shape.specs.declared.records.Name.{Name}
 use Rattle.xhstt_shape.specs.declared.records.RawEvent.{RawEvent}
 use Rattle.xhstt_shape.specs.declared.records.RawInstance.{RawInstance}
 use Rattle.xhstt_shape.specs.declared.records.RawResource.{RawResource}
-
--- where no name comes again, the first one is new, and none of the others comes again after it
-fresh : (seen : List (List ℕ)) (n : Name) (ns : List Name) → repeated_after seen (n ∷ ns) ≡ []
-    → (is_among_names n.text seen ≡ false) × (repeated_after (seen ++ n.text ∷ []) ns ≡ [])
-fresh seen n ns h = by (is_among_names n.text seen) refl h
-  where
-    by : (b : Bool) → is_among_names n.text seen ≡ b → (if b then n.at ∷ [] else []) ++ repeated_after (seen ++ n.text ∷ []) ns ≡ []
-        → (is_among_names n.text seen ≡ false) × (repeated_after (seen ++ n.text ∷ []) ns ≡ [])
-    by true e r = cc
-    by false e r = (e, r)
-
-among_more : (x n : List ℕ) (seen : List (List ℕ)) → is_among_names x (seen ++ n ∷ []) ≡ (is_among_names x seen || (bytes_eq x n || false))
-among_more x n seen = list_any-append (λ y. bytes_eq x y) seen (n ∷ [])
+use Rattle.xhstt_references.proofs.RepeatsLemmas.{among_more, fresh}
 
 -- names of which none comes again are distinct, and none is among those before them
 record AreFresh (seen : List (List ℕ)) (names : List (List ℕ)) : Type 0 where
@@ -61,7 +49,7 @@ pub event-ids : (i : RawInstance) (next : ℕ) (es : List RawEvent) → map (λ 
 event-ids i next [] = refl
 event-ids i next (e ∷ es) = ap (λ xs. e.id.text ∷ xs) (event-ids i (next + e.duration) es)
 
-resource-ids : (i : RawInstance) (rs : List RawResource) → map (λ r. r.id) (map (resource_of i) rs) ≡ map (λ r. r.id.text) rs
+pub resource-ids : (i : RawInstance) (rs : List RawResource) → map (λ r. r.id) (map (resource_of i) rs) ≡ map (λ r. r.id.text) rs
 resource-ids i [] = refl
 resource-ids i (r ∷ rs) = ap (λ xs. r.id.text ∷ xs) (resource-ids i rs)
 

@@ -13,6 +13,7 @@ use Rattle.khe_base.specs.Names.{is_among_names, number_of}
 use Rattle.xhstt_references.specs.References.{unknown}
 use Rattle.xhstt_resolve.specs.Members.{numbers_from, numbers_where, members, members_in, numbers_of, listed, first_mentions, set_of}
 use Rattle.xhstt_shape.specs.declared.records.Ref.{Ref}
+use Rattle.xhstt_references.proofs.UnknownLemmas.{number_below}
 
 -- an Id among others has a number among them
 pub record IsKnown (id : List ℕ) (ids : List (List ℕ)) : Type 0 where
@@ -37,9 +38,6 @@ among ids r rs e = by (is_among_names r.id ids) e
     by : (b : Bool) → map (λ x. x.at) (cond (not b) (r ∷ filter (λ x. not (is_among_names x.id ids)) rs) (filter (λ x. not (is_among_names x.id ids)) rs)) ≡ [] → (b ≡ true) × (unknown ids rs ≡ [])
     by true e = (refl, e)
     by false e = absurd (let g : ⊥ = cc in g)
-
-pub number_within : (id : List ℕ) (ids : List (List ℕ)) (n : ℕ) → number_of id ids ≡ Some n → n < length ids
-number_within id ids n e = (position-Some (λ x. bytes_eq id x) ids n id e).0
 
 -- all elements of joined lists
 pub All-flat_map : {A B : Type 0} (P : B → Type 0) (f : A → List B) (xs : List A) → ((x : A) → All P (f x)) → All P (flat_map f xs)
@@ -76,7 +74,7 @@ numbers_of-within ids (r ∷ refs) = by (number_of r.id ids) refl (numbers_of-wi
   where
     by : (o : Option ℕ) → number_of r.id ids ≡ o → All (λ n. n < length ids) (numbers_of ids refs) → All (λ n. n < length ids) (cons_option o (numbers_of ids refs))
     by None e later = later
-    by (Some n) e later = All-cons (λ m. m < length ids) n (numbers_of ids refs) (number_within r.id ids n e) later
+    by (Some n) e later = All-cons (λ m. m < length ids) n (numbers_of ids refs) (number_below r.id ids n e) later
 
 -- what is listed is in range where members and names are
 pub listed-within : (size : ℕ) (in_group : List ℕ → List ℕ) (ids : List (List ℕ)) (groups singles : List Ref) → length ids ≡ size → ((id : List ℕ) → All (λ n. n < size) (in_group id))

@@ -9,7 +9,7 @@ use Rattle.std.proofs.lemmas.List.{append-nil, length-map}
 use Rattle.std.proofs.lemmas.List.Concat.{flat_map-cons}
 use Rattle.std.proofs.lemmas.List.Elements.{All-nil, All-head, All-tail, All-append, All-map, All-weaker, filter-append}
 use Rattle.std.proofs.lemmas.Option.{none-some, same_Some, slice_get-map}
-use Rattle.khe_base.proofs.ListLemmas.{all-there}
+use Rattle.khe_base.proofs.ListLemmas.{all-there, filter-all, filter-none}
 use Rattle.khe_instance.specs.WellMade as made
 use Rattle.khe_instance.specs.declared.points.Monitor.{Monitor}
 use Rattle.khe_instance.specs.declared.points.Point.{Point}
@@ -86,15 +86,6 @@ order i k (c ∷ cs) =
 ordered : (i : RawInstance) → IsNonDecreasing (map (λ (m : Monitor). m.constraint) (monitors_of i))
 ordered i = non_decreasing (map (λ (m : Monitor). m.constraint) (monitors_of i)) (Pairwise-map (λ a b. a ≤ b) (λ (m : Monitor). m.constraint) (monitors_of i) (order i 0 i.constraints))
 
--- the points of the monitors of one constraint
-filter_none : {X : Type 0} (p : X → Bool) (xs : List X) → All (λ x. p x ≡ false) xs → filter p xs ≡ []
-filter_none p [] h = refl
-filter_none p (x ∷ xs) h = cond-false (p x) (x ∷ filter p xs) (filter p xs) (All-head (λ y. p y ≡ false) x xs h) ∙ filter_none p xs (All-tail (λ y. p y ≡ false) x xs h)
-
-filter_all : {X : Type 0} (p : X → Bool) (xs : List X) → All (λ x. p x ≡ true) xs → filter p xs ≡ xs
-filter_all p [] h = refl
-filter_all p (x ∷ xs) h = cond-true (p x) (x ∷ filter p xs) (filter p xs) (All-head (λ y. p y ≡ true) x xs h) ∙ ap (λ ys. x ∷ ys) (filter_all p xs (All-tail (λ y. p y ≡ true) x xs h))
-
 own_points : (i : RawInstance) (k : ℕ) (c : RawConstraint) (ps : List Point) → map (λ (m : Monitor). m.point) (map (monitor_at i k c) ps) ≡ ps
 own_points i k c [] = refl
 own_points i k c (p ∷ ps) = ap (λ qs. p ∷ qs) (own_points i k c ps)
@@ -111,9 +102,9 @@ points_at i k (c ∷ cs) zero =
     let own = map (monitor_at i k c) (points_of i c) in
     let rest = from i (k + 1) cs in
     let test = is_of (k + 0) in
-    let mine : filter test own ≡ own = filter_all test own (All-map (λ m. test m ≡ true) (monitor_at i k c) (points_of i c) (λ j d l. eq-eqb k (k + 0) (omega arith))) in
+    let mine : filter test own ≡ own = filter-all test own (All-map (λ m. test m ≡ true) (monitor_at i k c) (points_of i c) (λ j d l. eq-eqb k (k + 0) (omega arith))) in
     let others : filter test rest ≡ [] =
-    filter_none test rest (All-weaker (λ (m : Monitor). k + 1 ≤ m.constraint) (λ m. test m ≡ false) (λ m l. ne_eqb m.constraint (k + 0) (λ e. omega arith)) rest (later_number i (k + 1) cs))
+    filter-none test rest (All-weaker (λ (m : Monitor). k + 1 ≤ m.constraint) (λ m. test m ≡ false) (λ m l. ne_eqb m.constraint (k + 0) (λ e. omega arith)) rest (later_number i (k + 1) cs))
     in
     ap (λ ms. map (λ (m : Monitor). m.point) ms)
     (ap (filter test) (from-cons i k c cs) ∙ filter-append test own rest ∙ (λ j. mine j ++ others j) ∙ append-nil own)
@@ -122,7 +113,7 @@ points_at i k (c ∷ cs) (suc j) =
     let own = map (monitor_at i k c) (points_of i c) in
     let rest = from i (k + 1) cs in
     let test = is_of (k + suc j) in
-    let mine : filter test own ≡ [] = filter_none test own (All-map (λ m. test m ≡ false) (monitor_at i k c) (points_of i c) (λ n d l. ne_eqb k (k + suc j) (λ e. omega arith))) in
+    let mine : filter test own ≡ [] = filter-none test own (All-map (λ m. test m ≡ false) (monitor_at i k c) (points_of i c) (λ n d l. ne_eqb k (k + suc j) (λ e. omega arith))) in
     let z : k + suc j ≡ k + 1 + j = omega arith in
     ap (λ ms. map (λ (m : Monitor). m.point) ms) (ap (filter test) (from-cons i k c cs) ∙ filter-append test own rest ∙ ap (λ ms. ms ++ filter test rest) mine)
     ∙ ap (points_from i (k + 1) cs) z

@@ -36,6 +36,7 @@ use Rattle.xhstt_shape.specs.Walk.{attribute, child, fault_of, settled, rule_for
 use Rattle.xhstt_shape.specs.WellFormed.{IsRole, IsNumber, IsDuration, AreBounds, IsEventResource, IsEvent, IsPair, IsSpread, IsRule, FitsRule, IsConstraint, IsInstance, IsGiven, IsEntry, IsSolution, IsSolutionGroup, IsInForm}
 use Rattle.xhstt_shape.specs.Words.{word, kind_word}
 use Rattle.xhstt_shape.proofs.Fine.{IsFine, FineChild, AreFine, FineInside, FineInside-from, fine_role, FineNamed, child_fine, elements_fine, named_fine, named_own, has_found, Leads, named_inside, kids_fine, only_own}
+use Rattle.khe_base.proofs.ResultLemmas.{some-mapped}
 
 -- each element of a list that is made of another
 all_made : {X Y : Type 0} (P : Y → Type 0) (Q : X → Type 0) (f : X → Y) → ((x : X) → Q x → P (f x)) → (xs : List X) → All Q xs → All P (map f xs)
@@ -171,10 +172,6 @@ there : {X : Type 0} (o : Option X) (d : X) (P : X → Type 0) → IsSome o → 
 there None d P some h = cc
 there (Some x) d P some h = h
 
-some_map : {X Y : Type 0} (f : X → Y) (o : Option X) → IsSome o → IsSome (option_map f o)
-some_map f None h = cc
-some_map f (Some x) h = refl
-
 -- the table has a role in a row, and it must stand
 record NeedsRole (r : Row) : Type 0 where
   found : rule_for (children r) (word tag.Role) ≡ Some (once tag.Role row.Role)
@@ -186,7 +183,7 @@ the_role_in r e needs h =
     let inside = FineInside-from r e needs.has_elements h in
     let has : HasRole r = record { rule = once tag.Role row.Role; found = needs.found; settles = λ i. refl } in
     let some : IsSome (child tag.Role e.kids) = has_found (children r) (word tag.Role) (once tag.Role row.Role) e.kids needs.found inside.has in
-    there (optional role tag.Role e) no_name IsRole (some_map role (child tag.Role e.kids) some) (optional_role_in r e has inside.kids)
+    there (optional role tag.Role e) no_name IsRole (some-mapped role (child tag.Role e.kids) some) (optional_role_in r e has inside.kids)
 
 -- event resources
 
@@ -240,7 +237,7 @@ open_resource e h =
     record {
       role = optional_role_in row.OpenResource e role_of_open inside.kids;
       workload = workload_in e;
-      closed = λ _. (some_map role (child tag.Role e.kids) named_role, some_map reference (child tag.ResourceType e.kids) typed);
+      closed = λ _. (some-mapped role (child tag.Role e.kids) named_role, some-mapped reference (child tag.ResourceType e.kids) typed);
     }
 
 resource_in : (e : Standing) → IsFine (fault_of (settled row.EventResource e.info) e) → IsEventResource (event_resource e)

@@ -9,6 +9,7 @@ use Rattle.xhstt_text.specs.Document.{Value, done, plain, piece_of, value_text, 
 use Rattle.xhstt_text.specs.Machine.{Within, in_text, in_quotes, after_piece, wide_1, wide_2, reference, reference_a, word, hash, hash_x, in_decimal, in_hexadecimal, step_word, beginning, mark_1, mark_2, at_declaration, declared_open, question, in_declaration, closed, step_declaration, step_question, other_word, no_character, after_number, step_other_word, Frame, Read, Tag, Phase, content, ended, ended_open, Place, early, late, phase_of, bang, bang_dash, in_comment, opened, start_name, valued, in_tag, slash, attribute_name, named, equals, in_value, shut_begin, shut, shut_gap, State, Step, refused, state, noted, resume, open_element, add_node, opened_row, close_element, attribute_row, with_name, start_of, step, step_content, step_opened, step_valued, step_named, step_shut, finish, and_then, run, Outcome, outcome_of}
 use Rattle.xhstt_text.specs.declared.faults.TextFault.{TextFault}
 use Rattle.xhstt_text.proofs.Complete.{attribute_shape, start_shape, long_shape, declaration_shape}
+use Rattle.std.proofs.lemmas.Bool.{and_parts}
 
 -- what may follow inside these open elements, the innermost first, or after the outermost element
 abbrev Later : List (List ℕ) → List ℕ → Type 0
@@ -210,10 +211,6 @@ both_parts : (x y : Bool) → (not x && y) ≡ true → (x ≡ false) × (y ≡ 
 both_parts true y h = cc
 both_parts false y h = (refl, h)
 
-both_pass : (x y : Bool) → (x && y) ≡ true → (x ≡ true) × (y ≡ true)
-both_pass true y h = (refl, h)
-both_pass false y h = cc
-
 open_push : (front : List ℕ) (count b : ℕ) → stays_open count front ≡ true → (leb 2 (dashes_after count front) && eqb b 62) ≡ false → stays_open count (front ++ b ∷ []) ≡ true
 open_push [] count b h e = rw e refl
 open_push (c ∷ front) count b h e =
@@ -337,7 +334,7 @@ comment_at late ns inner bs h k = comment_after inner bs h k
 
 back_comment : (place : Place) (ns : List (List ℕ)) (front : List ℕ) (b : ℕ) (bs : List ℕ) (count : ℕ) → stays_open 0 front ≡ true → dashes_after 0 front ≡ count → (leb 2 count && eqb b 62) ≡ true → Follows (phase_of place) ns bs → AtPlace place ns (60 ∷ 33 ∷ 45 ∷ 45 ∷ (front ++ (b ∷ bs)))
 back_comment place ns front b bs count stays same is k =
-    let e = both_pass (leb 2 count) (eqb b 62) is in
+    let e = and_parts (leb 2 count) (eqb b 62) is in
     let least : 2 ≤ dashes_after 0 front = subst (λ n. 2 ≤ n) (sym same) (let l : 2 ≤ count = grind (arith, nat_tests, e.0) in l) in
     subst (λ n. AtPlace place ns (60 ∷ 33 ∷ 45 ∷ 45 ∷ (front ++ (n ∷ bs)))) (sym (same_byte b 62 e.1)) (comment_at place ns front bs (stays, least) k)
 
@@ -459,7 +456,7 @@ back_declared : (seen : Bool) (r : Read) (b : ℕ) (bs : List ℕ) (s : State) �
 back_declared seen r b bs s e h =
     choose (seen && eqb b 62) (state content (closed r)) (state (in_declaration (eqb b 63)) r) s
     (λ is here w hw front stays same.
-    let k = both_pass seen (eqb b 62) is in
+    let k = and_parts seen (eqb b 62) is in
     subst (λ n. Declarable (declaration_start ++ (w ∷ (front ++ (n ∷ bs))))) (sym (same_byte b 62 k.1)) (declare w front bs hw (stays, same ∙ k.0) (arrives (After bs) content (closed r) s here h)))
     (λ isnt here w hw front stays same.
     let q = arrives (After bs) (in_declaration (eqb b 63)) r s here h w hw (front ++ b ∷ []) (stays_push front false b stays (ap (λ v. v && eqb b 62) same ∙ isnt)) (declared_push front false b) in

@@ -4,8 +4,8 @@ use Rattle.khe_instance.specs.Deviation.{group_deviation}
 use Rattle.khe_instance.specs.declared.rules.Rule.{Rule}
 use Rattle.event_deviations.specs.Groups.{has_duty_among, spread_over, some_run, all_run}
 use Rattle.event_deviations.proofs.GroupLemmas.{by_members, split-is, spread-is}
-use Rattle.event_deviations.proofs.Kit.{count_by-range}
 use Rattle.event_deviations.proofs.deviations.at_group.Goals as goal
+use Rattle.khe_instance.proofs.ResourceBounds.{counted}
 
 pub returns-in-AvoidSplitAssignments-clause-exact : goal.returns-in-AvoidSplitAssignments-clause-exact
 returns-in-AvoidSplitAssignments-clause-exact c =
@@ -22,7 +22,7 @@ pub returns-in-AvoidSplitAssignments-clause-bound : goal.returns-in-AvoidSplitAs
 returns-in-AvoidSplitAssignments-clause-bound c =
     let s = c.args.index.now in
     let holds = has_duty_among s.parts.events s.duties c.in-AvoidSplitAssignments.role c.members-events.result.now in
-    omega (arith, c.split_assignments.ensures.exact, count_by-range holds (length s.parts.resources), c.facts.ensures.made.limits.resources)
+    omega (arith, c.split_assignments.ensures.exact, counted holds (length s.parts.resources), c.facts.ensures.made.limits.resources)
 
 pub returns-in-SpreadEvents-clause-exact : goal.returns-in-SpreadEvents-clause-exact
 returns-in-SpreadEvents-clause-exact c =
@@ -38,4 +38,4 @@ pub returns-in-LinkEvents-clause-bound : goal.returns-in-LinkEvents-clause-bound
 returns-in-LinkEvents-clause-bound c =
     let s = c.args.index.now in
     let es = c.members-events.result.now in
-    omega (arith, c.unlinked_times.ensures.exact, count_by-range (λ t. some_run s.meets es t && not (all_run s.meets es t)) (length s.parts.times), c.facts.ensures.made.limits.times)
+    omega (arith, c.unlinked_times.ensures.exact, counted (λ t. some_run s.meets es t && not (all_run s.meets es t)) (length s.parts.times), c.facts.ensures.made.limits.times)

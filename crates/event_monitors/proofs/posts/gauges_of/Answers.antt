@@ -3,12 +3,13 @@ use Rattle.std.proofs.lemmas.List.{length-append}
 use Rattle.khe_told.specs.Slots.{no_meets}
 use Rattle.event_monitors.specs.Posts.{AreKept}
 use Rattle.std.proofs.lemmas.Option.{slice_get-get_or}
-use Rattle.event_monitors.proofs.Noting.{monitor_at, kept_more}
+use Rattle.event_monitors.proofs.Noting.{kept_more}
 use Rattle.event_monitors.proofs.Reporting.{no_post}
 use Rattle.event_monitors.proofs.posts.gauges_of.Goals as goal
+use Rattle.khe_instance.proofs.MadeLemmas.{monitor_made}
 
 pub open-requires-clause-monitor : goal.open-requires-clause-monitor
-open-requires-clause-monitor g c = monitor_at c.args.inst.now c.facts.ensures _ _ (c.requires.each _ _ (slice_get-get_or c.args.posts.now c.loop-post.post-index no_post c.loop-post-test.true)).there
+open-requires-clause-monitor g c = monitor_made c.args.inst.now c.facts.ensures _ _ (c.requires.each _ _ (slice_get-get_or c.args.posts.now c.loop-post.post-index no_post c.loop-post-test.true)).there
 
 pub open-requires-clause-served : goal.open-requires-clause-served
 open-requires-clause-served g c = (c.requires.each _ _ (slice_get-get_or c.args.posts.now c.loop-post.post-index no_post c.loop-post-test.true)).kind

@@ -3,13 +3,12 @@ use Rattle.std.proofs.Common.{◌≡◌, ◌≤◌, ◌<◌, ◌+◌, ◌++◌, 
 use Rattle.std.proofs.Math.ListN.{drop_of_length-le}
 use Rattle.std.proofs.lemmas.List.{append-nil}
 use Rattle.std.specs.List.{enumerate_from, flat_map, list_any}
-use Rattle.khe_base.proofs.ListLemmas.{there, mapped-there}
+use Rattle.khe_base.proofs.ListLemmas.{lines-there, mapped-there, there}
 use Rattle.evaluation_report.specs.Lines.{total_line}
 use Rattle.khe_app.specs.Report.{monitor_text}
 use Rattle.khe_instance.proofs.CostsLaws.{cost-there}
 use Rattle.khe_instance.specs.Evaluated as evaluated
 use Rattle.plain_eval.specs.declared.evaluation.Values.{Values}
-use Rattle.khe_app.proofs.ReportLemmas.{lines-there}
 use Rattle.khe_app.proofs.reports.push_evaluation.Goals as goal
 
 pub loop-number-preserved : goal.loop-number-preserved

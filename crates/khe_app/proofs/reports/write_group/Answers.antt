@@ -6,8 +6,8 @@ use Rattle.xhstt_shape.specs.declared.records.RawSolution.{RawSolution}
 use Rattle.script_run.specs.Amid.{IsAmid}
 use Rattle.khe_app.specs.Report.{numbered_text}
 use Rattle.script_run.proofs.AmidLemmas.{always-err, amid-stop, err-of}
-use Rattle.khe_app.proofs.ReportLemmas.{lines-there}
 use Rattle.khe_app.proofs.reports.write_group.Goals as goal
+use Rattle.khe_base.proofs.ListLemmas.{lines-there}
 
 -- the solution at hand
 found : (xs items : List RawSolution) (k : ℕ) (x : RawSolution) → items ≡ xs → k < length items → x ≡ get_or items k x → slice_get xs k ≡ Some x

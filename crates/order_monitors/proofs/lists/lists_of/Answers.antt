@@ -1,16 +1,16 @@
 use Rattle.std.proofs.Common.{◌≡◌, get_or, length, subst, arith}
 use Rattle.std.proofs.lemmas.Option.{slice_get-get_or}
 use Rattle.event_monitors.proofs.Listing.{AreListedTo, all_listed, none_listed, one_listed}
-use Rattle.event_monitors.proofs.Noting.{monitor_at}
 use Rattle.event_monitors.proofs.Reporting.{no_post}
 use Rattle.order_monitors.proofs.lists.lists_of.Goals as goal
+use Rattle.khe_instance.proofs.MadeLemmas.{monitor_made}
 
 pub add-requires-clause-monitor : goal.add-requires-clause-monitor
 add-requires-clause-monitor c =
     let posts = c.args.posts.now in
     let k = c.loop-place.place in
     let a = get_or posts k no_post in
-    monitor_at c.args.inst.now c.facts.ensures a.number.0 a.monitor (c.requires.each k a (slice_get-get_or posts k no_post c.loop-place-test.true)).there
+    monitor_made c.args.inst.now c.facts.ensures a.number.0 a.monitor (c.requires.each k a (slice_get-get_or posts k no_post c.loop-place-test.true)).there
 
 pub loop-place-preserved : goal.loop-place-preserved
 loop-place-preserved c =

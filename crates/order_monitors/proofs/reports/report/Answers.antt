@@ -1,11 +1,11 @@
 use Rattle.std.proofs.Common.{◌<◌, ◌+◌, length, get_or, drop, sym, subst, arith}
 use Rattle.std.proofs.lemmas.Option.{slice_get_within}
 use Rattle.event_monitors.specs.declared.posts.Post.{Post}
-use Rattle.event_monitors.proofs.Noting.{monitor_at}
 use Rattle.event_monitors.proofs.Reporting.{no_post, spot_within, spot_post, spot_named, spot_drop}
 use Rattle.order_monitors.specs.Reports.{AreReported}
 use Rattle.order_monitors.proofs.ReportLaws.{reported_start, reported_step}
 use Rattle.order_monitors.proofs.reports.report.Goals as goal
+use Rattle.khe_instance.proofs.MadeLemmas.{monitor_made}
 
 pub loop-place-init : goal.loop-place-init
 loop-place-init g c =
@@ -26,7 +26,7 @@ value-deviation-requires-clause-monitor g c =
     let k = get_or c.args.list.now c.loop-place.place-index 0 in
     let a : Post = get_or posts k no_post in
     let at = spot_post p posts c.args.event.0 c.args.list.now c.loop-place.place-index no_post c.requires.list c.loop-place-test.true in
-    monitor_at p c.facts.ensures a.number.0 a.monitor (c.requires.posts.each k a at).there
+    monitor_made p c.facts.ensures a.number.0 a.monitor (c.requires.posts.each k a at).there
 
 pub set-requires-clause-known : goal.set-requires-clause-known
 set-requires-clause-known g c =

@@ -7,15 +7,15 @@ use Rattle.khe_instance.specs.declared.points.Point.TheVariants as point
 use Rattle.khe_instance.specs.declared.rules.Kind.TheVariants as kind
 use Rattle.resource_monitors.specs.Cells.{is_due_if, lists_any, value_in}
 use Rattle.resource_monitors.specs.declared.posts.Post.{Post}
-use Rattle.resource_monitors.proofs.FamilyLaws.{monitor_at}
 use Rattle.resource_monitors.proofs.ReportLaws.{reported_step}
 use Rattle.resource_monitors.proofs.reports.report.Goals as goal
+use Rattle.khe_instance.proofs.MadeLemmas.{monitor_made}
 
 abbrev no_post : Post
 no_post = record { number = record { 0 = 0 }; monitor = record { kind = kind.AssignTime; constraint = 0; point = point.Event (record { 0 = 0 }) } }
 
 pub report_one-requires-clause-monitor : goal.report_one-requires-clause-monitor
-report_one-requires-clause-monitor g c = monitor_at c.args.inst.now c.facts.ensures _ _ (c.requires.posts _ _ (slice_get-get_or c.args.list.now c.loop-post.post-index no_post c.loop-post-test.true))
+report_one-requires-clause-monitor g c = monitor_made c.args.inst.now c.facts.ensures _ _ (c.requires.posts _ _ (slice_get-get_or c.args.list.now c.loop-post.post-index no_post c.loop-post-test.true))
 
 pub report_one-requires-clause-kind : goal.report_one-requires-clause-kind
 report_one-requires-clause-kind g c = c.requires.kinds _ _ (slice_get-get_or c.args.list.now c.loop-post.post-index no_post c.loop-post-test.true)

@@ -3,11 +3,11 @@ use Rattle.std.proofs.Common.{◌≡◌, ◌≤◌, ◌<◌, ◌+◌, ◌++◌, 
 use Rattle.std.proofs.Math.ListN.{drop_of_length-le}
 use Rattle.std.proofs.lemmas.List.{append-nil}
 use Rattle.std.specs.List.{enumerate_from, flat_map}
-use Rattle.khe_base.proofs.ListLemmas.{there}
+use Rattle.khe_base.proofs.ListLemmas.{lines-there, there}
 use Rattle.evaluation_report.specs.Lines.{total_line}
 use Rattle.khe_engine.specs.Values.{totals}
 use Rattle.script_run.specs.Answers.{monitor_answer, monitor_text}
-use Rattle.script_run.proofs.ShowLaws.{lines-there, one_more}
+use Rattle.script_run.proofs.ShowLaws.{one_more}
 use Rattle.script_run.proofs.answering.push_monitors.Goals as goal
 
 pub loop-number-preserved : goal.loop-number-preserved

@@ -1,15 +1,14 @@
 -- One more monitor.
 use Rattle.std.proofs.Common.{arith, length}
 use Rattle.std.proofs.lemmas.Option.{get_or_from_slice_get, slice_get_within}
-use Rattle.khe_instance.proofs.MadeLemmas.{monitored}
-use Rattle.resource_monitors.proofs.FamilyLaws.{monitor_at}
+use Rattle.khe_instance.proofs.MadeLemmas.{monitor_made, monitored}
 use Rattle.resource_monitors.proofs.ListLaws.{lists_more}
 use Rattle.workload_monitors.specs.Loads.{is_on_workload}
 use Rattle.workload_monitors.proofs.posts.lists_of.Goals as goal
 
 pub add_post-requires : goal.add_post-requires
 add_post-requires c = λ r e.
-    let a = monitored c.args.inst.now c.monitor-monitor.result r (monitor_at c.args.inst.now c.facts.ensures c.loop-k.k c.monitor-monitor.result c.monitor-monitor.ensures) e in
+    let a = monitored c.args.inst.now c.monitor-monitor.result r (monitor_made c.args.inst.now c.facts.ensures c.loop-k.k c.monitor-monitor.result c.monitor-monitor.ensures) e in
     let b = c.loop-k.invariant.resources_all in
     omega (arith, a, b)
 

@@ -5,17 +5,17 @@ use Rattle.khe_instance.specs.declared.points.Monitor.{Monitor}
 use Rattle.khe_instance.specs.declared.points.Point.TheVariants as point
 use Rattle.khe_instance.specs.declared.rules.Kind.TheVariants as kind
 use Rattle.resource_monitors.specs.declared.posts.Post.{Post}
-use Rattle.resource_monitors.proofs.FamilyLaws.{monitor_at}
 use Rattle.resource_monitors.proofs.ReportLaws.{reported_step}
 use Rattle.workload_monitors.specs.Loads.{value_in}
 use Rattle.workload_monitors.proofs.ValueLaws.{value_small}
 use Rattle.workload_monitors.proofs.reports.report.Goals as goal
+use Rattle.khe_instance.proofs.MadeLemmas.{monitor_made}
 
 abbrev no_post : Post
 no_post = record { number = record { 0 = 0 }; monitor = record { kind = kind.AssignTime; constraint = 0; point = point.Event (record { 0 = 0 }) } }
 
 pub value-deviation-requires-clause-monitor : goal.value-deviation-requires-clause-monitor
-value-deviation-requires-clause-monitor g c = monitor_at c.args.inst.now c.facts.ensures _ _ (c.requires.posts _ _ (slice_get-get_or c.args.list.now c.loop-post.post-index no_post c.loop-post-test.true))
+value-deviation-requires-clause-monitor g c = monitor_made c.args.inst.now c.facts.ensures _ _ (c.requires.posts _ _ (slice_get-get_or c.args.list.now c.loop-post.post-index no_post c.loop-post-test.true))
 
 pub set-requires-clause-known : goal.set-requires-clause-known
 set-requires-clause-known g c =
@@ -26,7 +26,7 @@ set-requires-clause-known g c =
 
 pub set-requires-clause-small : goal.set-requires-clause-small
 set-requires-clause-small g c =
-    let l = value_small c.args.inst.now c.facts.ensures c.args.loads.now c.requires.small _ (monitor_at c.args.inst.now c.facts.ensures _ _ (c.requires.posts _ _ (slice_get-get_or c.args.list.now c.loop-post.post-index no_post c.loop-post-test.true))) in
+    let l = value_small c.args.inst.now c.facts.ensures c.args.loads.now c.requires.small _ (monitor_made c.args.inst.now c.facts.ensures _ _ (c.requires.posts _ _ (slice_get-get_or c.args.list.now c.loop-post.post-index no_post c.loop-post-test.true))) in
     let e = c.value-deviation.ensures in
     omega (arith, l, e)
 

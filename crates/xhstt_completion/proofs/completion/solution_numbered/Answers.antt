@@ -3,8 +3,9 @@ use Rattle.std.proofs.Common.{◌∙◌, ◌+◌, ◌++◌, sym, ap, drop, slice
 use Rattle.std.specs.List.{flat_map}
 use Rattle.std.proofs.lemmas.Option.{slice_get_read}
 use Rattle.xhstt_shape.specs.declared.records.SolutionGroup.{SolutionGroup}
-use Rattle.xhstt_completion.proofs.PartsLemmas.{slice_get-append_left, slice_get-append_right, drop-next}
+use Rattle.xhstt_completion.proofs.PartsLemmas.{slice_get-append_left, slice_get-append_right}
 use Rattle.xhstt_completion.proofs.completion.solution_numbered.Goals as goal
+use Rattle.khe_base.proofs.ListLemmas.{drop-next}
 
 pub returns-then-left-solutions : goal.returns-then-left-solutions
 returns-then-left-solutions c =

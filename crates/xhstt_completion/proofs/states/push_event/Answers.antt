@@ -7,9 +7,10 @@ use Rattle.khe_instance.specs.declared.states.Meet.{Meet}
 use Rattle.xhstt_completion.specs.Completed.{part_of, meet_of, tasks_of, task_of}
 use Rattle.xhstt_completion.specs.Entries.{IsEntry, duration_of, start_of, entries_of}
 use Rattle.xhstt_completion.proofs.CausesLemmas.{unwrap_or-positive}
-use Rattle.xhstt_completion.proofs.PartsLemmas.{parts_left, parts_left-cons, number-taken, drop-next, append-step}
+use Rattle.xhstt_completion.proofs.PartsLemmas.{parts_left, parts_left-cons, number-taken, append-step}
 use Rattle.xhstt_completion.proofs.WellMadeLemmas.{event-made, places-few, slots-few}
 use Rattle.xhstt_completion.proofs.states.push_event.Goals as goal
+use Rattle.khe_base.proofs.ListLemmas.{drop-next}
 
 pub entry_at-entry-requires : goal.entry_at-entry-requires
 entry_at-entry-requires c =

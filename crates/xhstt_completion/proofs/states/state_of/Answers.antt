@@ -2,8 +2,9 @@
 use Rattle.std.proofs.Common.{◌≡◌, ◌+◌, ◌<◌, ◌∷◌, ap, subst, length, drop}
 use Rattle.std.specs.List.{enumerate_from, flat_map}
 use Rattle.xhstt_completion.specs.Completed.{meets_at, tasks_at}
-use Rattle.xhstt_completion.proofs.PartsLemmas.{element-there, drop-next, append-step}
+use Rattle.xhstt_completion.proofs.PartsLemmas.{element-there, append-step}
 use Rattle.xhstt_completion.proofs.states.state_of.Goals as goal
+use Rattle.khe_base.proofs.ListLemmas.{drop-next}
 
 pub loop-event-preserved : goal.loop-event-preserved
 loop-event-preserved c =

@@ -6,8 +6,8 @@ use Rattle.xhstt_references.specs.First.{first_of}
 use Rattle.xhstt_references.specs.References.{repeated}
 use Rattle.xhstt_references.proofs.FirstLemmas.{first_of_eight}
 use Rattle.xhstt_references.proofs.RepeatsLemmas.{noted_along}
-use Rattle.xhstt_references.proofs.UnknownLemmas.{nil_parts}
 use Rattle.xhstt_references.proofs.instances.numbered_parts.Goals as goal
+use Rattle.khe_base.proofs.ListLemmas.{none_of}
 
 -- what holds after a call that gave this value
 on_ok : {A E : Type 0} (r : Result A E) (v : A) (P : Type 0) → r ≡ Ok v → OnOk r P → P
@@ -31,13 +31,13 @@ returns c =
     let r7 = repeated (map (λ e. e.id) i.events) in
     let r8 = repeated (map (λ k. k.id) i.constraints) in (
       λ none.
-          let p1 = nil_parts r1 _ none in
-          let p2 = nil_parts r2 _ p1.1 in
-          let p3 = nil_parts r3 _ p2.1 in
-          let p4 = nil_parts r4 _ p3.1 in
-          let p5 = nil_parts r5 _ p4.1 in
-          let p6 = nil_parts r6 _ p5.1 in
-          let p7 = nil_parts r7 r8 p6.1 in
+          let p1 = none_of r1 _ none in
+          let p2 = none_of r2 _ p1.1 in
+          let p3 = none_of r3 _ p2.1 in
+          let p4 = none_of r4 _ p3.1 in
+          let p5 = none_of r5 _ p4.1 in
+          let p6 = none_of r6 _ p5.1 in
+          let p7 = none_of r7 r8 p6.1 in
           λ j. record {
             time_groups = if_ok _ _ (λ n. r1 ≡ [] → n.groups ≡ time_group_ids i) made.0 times.ensures.groups p1.0 j;
             weeks = if_ok _ _ (λ n. r1 ≡ [] → n.weeks ≡ week_ids i) made.0 times.ensures.weeks p1.0 j;

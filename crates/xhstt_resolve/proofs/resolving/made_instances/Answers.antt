@@ -8,8 +8,9 @@ use Rattle.xhstt_resolve.specs.Limits.{earliest}
 use Rattle.xhstt_resolve.specs.Parts.{parts_of}
 use Rattle.xhstt_resolve.specs.Resolved.{instance_fault}
 use Rattle.xhstt_resolve.specs.WellFormed.{IsFormedInstance}
-use Rattle.xhstt_resolve.proofs.AnswersLemmas.{drop-item, passed-first, pushed, this-first}
+use Rattle.xhstt_resolve.proofs.AnswersLemmas.{passed-first, pushed, this-first}
 use Rattle.xhstt_resolve.proofs.resolving.made_instances.Goals as goal
+use Rattle.khe_base.proofs.ListLemmas.{drop-next}
 
 pub made_instance-requires : goal.made_instance-requires
 made_instance-requires c =
@@ -23,7 +24,7 @@ returns-in_err-instance-clause-fault c =
     let e = c.in_err-instance.field-0.0 in
     let rest = earliest (map instance_fault (drop (i + 1) raws)) in
     let same : option_or (instance_fault x) rest ≡ earliest (map instance_fault raws) =
-    ap (λ ys. earliest (map instance_fault ys)) (sym (drop-item raws i x c.loop-raw-test.true c.raw-item.is)) ∙ c.loop-raw.invariant.sound in
+    ap (λ ys. earliest (map instance_fault ys)) (sym (drop-next raws i x c.loop-raw-test.true c.raw-item.is)) ∙ c.loop-raw.invariant.sound in
     passed-first c.from_residual.result e (earliest (map instance_fault raws)) c.from_residual.ensures.1
     (subst (λ o. IsFirst o e) same (this-first (instance_fault x) rest e c.in_err-instance.ensures.fault))
 
@@ -34,7 +35,7 @@ loop-raw-preserved c =
     let x = c.raw-item.result in
     let after = drop (i + 1) raws in
     let rest = earliest (map instance_fault after) in
-    let left = drop-item raws i x c.loop-raw-test.true c.raw-item.is in
+    let left = drop-next raws i x c.loop-raw-test.true c.raw-item.is in
     record {
       instances = pushed parts_of c.loop-raw.made.instances c.keep.new.made.instances (map parts_of raws) x c.in_ok-instance.instance (drop i raws) after
           c.in_ok-keep.ensures.instances c.in_ok-instance.ensures.instance left c.loop-raw.invariant.instances;

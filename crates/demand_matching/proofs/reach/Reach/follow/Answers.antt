@@ -3,8 +3,9 @@ use Rattle.std.proofs.lemmas.List.{get_or_read}
 use Rattle.demand_matching.specs.Domains.{is_picked}
 use Rattle.demand_matching.proofs.Counting.{cases_last}
 use Rattle.demand_matching.proofs.Picks.{picked_hit}
-use Rattle.demand_matching.proofs.Reaching.{reaches_trans, all_picked_reached, marked_below}
+use Rattle.demand_matching.proofs.Reaching.{reaches_trans, all_picked_reached}
 use Rattle.demand_matching.proofs.reach.Reach.follow.Goals as goal
+use Rattle.khe_base.proofs.IdSetLemmas.{member_below}
 
 pub follow_at-requires-clause-picked : goal.follow_at-requires-clause-picked
 follow_at-requires-clause-picked c =
@@ -26,5 +27,5 @@ loop-i-preserved c =
 pub returns-clause-reached : goal.returns-clause-reached
 returns-clause-reached c =
     let t = c.args.table.now in
-    let its = sym (get_or_read t.demands.items c.args.from c.index.result.now (omega (arith, marked_below c.args.self.now.marks c.args.from c.requires.from, c.requires.reach.size)) c.index.ensures None) ∙ c.in-Some.is in
+    let its = sym (get_or_read t.demands.items c.args.from c.index.result.now (omega (arith, member_below c.args.self.now.marks c.args.from c.requires.from, c.requires.reach.size)) c.index.ensures None) ∙ c.in-Some.is in
     λ s by may owner. all_picked_reached t c.in-Some.domain c.loop-i.self c.args.from c.loop-i.i s by its (omega (arith, c.count-i-end.ensures)) c.loop-i.invariant.reached may owner

@@ -8,8 +8,9 @@ use Rattle.monitor_graph.specs.Lines.{line_cost, line_costs}
 use Rattle.monitor_graph.proofs.DearerLaws.{can_recount, recounted}
 use Rattle.monitor_graph.proofs.DefectLaws.{defects_set}
 use Rattle.monitor_graph.proofs.ListLaws.{get-any}
-use Rattle.monitor_graph.proofs.ValueLaws.{at_line, get-map}
+use Rattle.monitor_graph.proofs.ValueLaws.{at_line}
 use Rattle.monitor_graph.proofs.graph.Graph.turn.Goals as goal
+use Rattle.khe_base.proofs.ListLemmas.{get-map}
 
 pub recount-requires : goal.recount-requires
 recount-requires c =

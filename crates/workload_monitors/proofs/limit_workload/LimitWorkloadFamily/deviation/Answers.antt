@@ -5,14 +5,14 @@ use Rattle.khe_base.specs.declared.limits.TheConstants.{GREATEST_DEVIATION}
 use Rattle.khe_instance.specs.WellMade.{IsMonitor}
 use Rattle.khe_instance.specs.declared.points.Monitor.{Monitor}
 use Rattle.khe_told.specs.Agreement.{deviation_in}
-use Rattle.resource_monitors.proofs.FamilyLaws.{monitor_at}
 use Rattle.workload_monitors.specs.Loads.{is_on_workload, value_in}
 use Rattle.workload_monitors.proofs.FollowLaws.{small_then}
 use Rattle.workload_monitors.proofs.ValueLaws.{value_is, value_small}
 use Rattle.workload_monitors.proofs.limit_workload.LimitWorkloadFamily.deviation.Goals as goal
+use Rattle.khe_instance.proofs.MadeLemmas.{monitor_made}
 
 pub value-requires-clause-monitor : goal.value-requires-clause-monitor
-value-requires-clause-monitor c = monitor_at c.args.inst.now c.facts.ensures _ _ c.monitor-of.ensures
+value-requires-clause-monitor c = monitor_made c.args.inst.now c.facts.ensures _ _ c.monitor-of.ensures
 
 pub value-requires-clause-small : goal.value-requires-clause-small
 value-requires-clause-small c =
@@ -23,7 +23,7 @@ pub returns-clause-value : goal.returns-clause-value
 returns-clause-value c =
     let p = c.args.inst.now in
     let m = c.monitor-of.result in
-    let is : IsMonitor p m = monitor_at p c.facts.ensures _ _ c.monitor-of.ensures in
+    let is : IsMonitor p m = monitor_made p c.facts.ensures _ _ c.monitor-of.ensures in
     let kind : is_on_workload m.kind ≡ true = subst (λ o. IfSome o (λ (x : Monitor). is_on_workload x.kind ≡ true)) c.monitor-of.ensures c.requires.served in
     ap (option_map (deviation_in p c.args.self.now.told)) c.monitor-of.ensures
     ∙ ap Some (value_is p c.args.self.now.told c.args.self.now.loads.items m is kind c.requires.of.loads_all ∙ sym (c.value.ensures ∙ ap (λ xs. value_in p xs m) c.as_slice.ensures.value))
@@ -32,7 +32,7 @@ pub returns-clause-small : goal.returns-clause-small
 returns-clause-small c =
     let p = c.args.inst.now in
     let m = c.monitor-of.result in
-    let is : IsMonitor p m = monitor_at p c.facts.ensures _ _ c.monitor-of.ensures in
+    let is : IsMonitor p m = monitor_made p c.facts.ensures _ _ c.monitor-of.ensures in
     let l = value_small p c.facts.ensures c.args.self.now.loads.items (small_then p c.facts.ensures c.args.self.now.told c.requires.of.told c.args.self.now.told c.args.self.now.loads.items c.requires.of.told c.requires.of.loads_all) m is in
     let e = c.value.ensures ∙ ap (λ xs. value_in p xs m) c.as_slice.ensures.value in
     omega (arith, l, e)
