@@ -103,12 +103,7 @@ fn first_word(words: &[u64]) -> usize
     ensures before { (t : ℕ) → t < 64 * result → is_set words.now t ≡ false }
     ensures first { result < length words.now → 0 < slice_index words.now result }
 {
-    for k in 0..words.len() {
-        if words[k] != 0 {
-            return k;
-        }
-    }
-    words.len()
+    words.iter().position(|&word| word != 0).unwrap_or(words.len())
 }
 
 // The number after that of the last word that has a bit set, or 0 where none has. It takes time in
@@ -118,13 +113,7 @@ fn end_word(words: &[u64]) -> usize
     ensures after { (t : ℕ) → 64 * result ≤ t → is_set words.now t ≡ false }
     ensures last { 0 < result → 0 < slice_index words.now (result - 1) }
 {
-    let mut end = 0;
-    for k in 0..words.len() {
-        if words[k] != 0 {
-            end = k + 1;
-        }
-    }
-    end
+    words.iter().rposition(|&word| word != 0).map_or(0, |last| last + 1)
 }
 
 // The span with the busy and the unbusy times of one more word. The first busy time of a word is
