@@ -1,11 +1,7 @@
 -- What the text of a monitor looks up is there.
-use Rattle.std.proofs.Common.{◌≡◌, ℕ, ◌<◌, inl, inr, Some, None, List, length, sym, subst, ◌∙◌, slice_get}
-use Rattle.std.specs.Option.{option_and_then}
-use Rattle.std.proofs.lemmas.Bool.{cases_lt}
-use Rattle.std.proofs.lemmas.Option.{slice_get_within, slice_get_past, get_or_from_slice_get}
-use Rattle.khe_instance.specs.Lookups.{role_at}
-use Rattle.khe_instance.specs.WellMade.{AreWellMade, IsMonitor, IsConstraint, IsRule, IsPointOf, IsSinglePoint, IsPlacePoint, IsGroupPoint, IsPairPoint, IsResourcePoint}
-use Rattle.khe_instance.specs.declared.parts.EventInfo.{EventInfo}
+use Rattle.std.proofs.Common.{◌≡◌, ℕ, ◌<◌, Some, List, length, subst, slice_get}
+use Rattle.std.proofs.lemmas.Option.{slice_get_within, get_or_from_slice_get}
+use Rattle.khe_instance.specs.WellMade.{AreWellMade, IsConstraint, IsRule, IsPointOf, IsSinglePoint, IsPlacePoint, IsGroupPoint, IsPairPoint, IsResourcePoint}
 use Rattle.khe_instance.specs.declared.parts.Parts.{Parts}
 use Rattle.khe_instance.specs.declared.points.Monitor.{Monitor}
 use Rattle.khe_instance.specs.declared.points.Point.{Point}

@@ -1,12 +1,9 @@
 -- Deviations at events, places and pairs.
-use Rattle.std.proofs.Common.{◌≡◌, ◌∙◌, sym, ap, refl, ℕ, pos, ◌+◌, ◌<◌, ◌≤◌, max, min, Option, Some, None, List, [], ◌∷◌, ◌++◌, length, get_or, take, arith, All, IfSome, sum_by, filter_map}
+use Rattle.std.proofs.Common.{◌≡◌, ◌∙◌, sym, ap, refl, ℕ, ◌+◌, ◌<◌, ◌≤◌, max, min, Option, Some, None, List, [], ◌∷◌, ◌++◌, length, get_or, take, arith, All, IfSome, sum_by, filter_map}
 use Rattle.std.specs.Option.{option_map_or}
-use Rattle.std.specs.Prelude.{◌-ℤ◌}
-use Rattle.std.proofs.lemmas.Int.{ints}
 use Rattle.std.proofs.lemmas.List.{take_more, append-nil}
 use Rattle.std.proofs.lemmas.List.Elements.{All-head, All-tail, filter_map-append}
 use Rattle.std.proofs.lemmas.List.Sums.{sum_by-cons, fold_push}
-use Rattle.khe_base.specs.Bounds.{outside}
 use Rattle.khe_instance.specs.declared.states.Meet.{Meet}
 use Rattle.event_deviations.specs.Ends.{greatest_of, least_of}
 

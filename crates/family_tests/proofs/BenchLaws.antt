@@ -1,5 +1,5 @@
 -- What a bench keeps.
-use Rattle.std.proofs.Common.{ℕ, ◌≡◌, ◌≤◌, ◌<◌, ◌+◌, ◌-◌, ◌^◌, ◌==◌, ◌∙◌, ◌⊎◌, inl, inr, zero, suc, Bool, true, false, cond, Option, Some, None, List, [], ◌∷◌, map, sum_by, set, get_or, replicate, length, slice_get, slice_index, refl, sym, ap, subst, arith}
+use Rattle.std.proofs.Common.{ℕ, ◌≡◌, ◌≤◌, ◌<◌, ◌+◌, ◌-◌, ◌^◌, ◌==◌, ◌∙◌, ◌⊎◌, inl, inr, suc, Bool, true, false, cond, Option, Some, None, List, [], ◌∷◌, map, sum_by, set, get_or, replicate, length, slice_get, slice_index, refl, sym, ap, subst, arith}
 use Rattle.std.specs.List.{range_with_len}
 use Rattle.std.proofs.lemmas.Bool.{cases_eq, eq-eqb}
 use Rattle.std.proofs.lemmas.List.{length-replicate, length-set}

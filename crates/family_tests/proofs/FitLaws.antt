@@ -1,5 +1,5 @@
 -- Which changes fit.
-use Rattle.std.proofs.Common.{ℕ, ◌≡◌, ◌≤◌, ◌<◌, ◌+◌, ◌==◌, ◌∙◌, ◌⊎◌, inl, inr, zero, suc, Bool, true, false, cond, Option, Some, None, List, [], ◌∷◌, set, replicate, length, slice_get, slice_index, nat_le, refl, sym, ap, subst, arith, IfSome}
+use Rattle.std.proofs.Common.{ℕ, ◌≡◌, ◌≤◌, ◌<◌, ◌+◌, ◌==◌, ◌∙◌, ◌⊎◌, inl, inr, Bool, true, false, cond, Option, Some, None, List, set, replicate, length, slice_get, slice_index, nat_le, refl, sym, ap, subst, arith, IfSome}
 use Rattle.std.specs.Option.{option_and_then, option_map, option_map_or}
 use Rattle.std.proofs.lemmas.Bool.{cases_eq, eqb-true, leb-true, true≢false}
 use Rattle.std.proofs.lemmas.List.{length-set}

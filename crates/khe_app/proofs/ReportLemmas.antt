@@ -1,10 +1,9 @@
 -- The pieces of a report.
-use Rattle.std.proofs.Common.{ℕ, ◌≡◌, ◌+◌, ◌<◌, Some, List, ◌++◌, length, get_or, drop, map, ap, ◌∙◌, arith, slice_get, zero-add}
-use Rattle.std.specs.List.{enumerate_from, flat_map}
-use Rattle.std.proofs.lemmas.List.Concat.{flat_map-cons}
+use Rattle.std.proofs.Common.{ℕ, ◌≡◌, ◌+◌, ◌<◌, Some, List, length, get_or, map, ap, ◌∙◌, arith, slice_get, zero-add}
+use Rattle.std.specs.List.{enumerate_from}
 use Rattle.std.proofs.lemmas.Option.{get_or_from_slice_get, slice_get_within, slice_get-get_or}
 use Rattle.std.proofs.lemmas.List.FromFn.{length-enumerate_from, get_or-enumerate_from}
-use Rattle.khe_base.proofs.ListLemmas.{drop-there, mapped-there}
+use Rattle.khe_base.proofs.ListLemmas.{mapped-there}
 
 -- and of one that is numbered from 0
 pub numbered-there : {A : Type 0} (f : ℕ × A → ℕ) (xs : List A) (i : ℕ) (x : A) (d : ℕ) → slice_get xs i ≡ Some x → get_or (map f (enumerate_from 0 xs)) i d ≡ f (i, x)

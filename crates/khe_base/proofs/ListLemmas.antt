@@ -1,7 +1,7 @@
 -- What stands at a place of a list, and lists that are joined, for the proofs of all layers.
 use Rattle.std.proofs.Common.{ℕ, ◌≡◌, ◌+◌, ◌<◌, Bool, true, false, not, cond, ◌||◌, Some, List, [], ◌∷◌, ◌++◌, length, get_or, if◌then◌else◌, drop, map, map-id, refl, sym, ap, subst, ◌∙◌, add-one, zero-add, arith, drop-cons, zero, suc, slice_get, option_map, ltb, set, All, flat_map}
 use Rattle.std.specs.Option.{option_map_or}
-use Rattle.std.specs.List.{enumerate_from, filter, fold, list_any, position_or_len, range_with_len, sum_by}
+use Rattle.std.specs.List.{enumerate_from, filter, list_any, position_or_len, range_with_len, sum_by}
 use Rattle.std.proofs.lemmas.Bool.Decides.{nat_tests}
 use Rattle.std.proofs.lemmas.List.Concat.{flat_map-cons}
 use Rattle.std.proofs.lemmas.List.Elements.{All-nil, All-cons, All-head, All-tail, All-append, All-get_or}

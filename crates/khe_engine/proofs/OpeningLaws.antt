@@ -1,5 +1,5 @@
 -- A timetable as it is told, one meet after the other: each change fits, and in the end all is told.
-use Rattle.std.proofs.Common.{ℕ, zero, suc, ◌≡◌, ◌+◌, ◌*◌, ◌<◌, ◌≤◌, ◌⊎◌, inl, inr, Bool, true, false, cond, Option, Some, None, List, [], ◌∷◌, length, map, set, get_or, slice_get, refl, sym, ap, subst, ◌∙◌, arith, add-one, get_or-set_same, set-set, length-append}
+use Rattle.std.proofs.Common.{ℕ, zero, suc, ◌≡◌, ◌+◌, ◌*◌, ◌<◌, ◌≤◌, ◌⊎◌, inl, inr, Bool, true, false, cond, Option, Some, None, List, [], ◌∷◌, length, map, set, get_or, slice_get, refl, sym, ap, subst, ◌∙◌, arith, add-one, get_or-set_same, set-set}
 use Rattle.std.specs.Prelude.{All, IfSome, ◌==◌, replicate}
 use Rattle.std.specs.List.{sum_by}
 use Rattle.std.specs.Option.{option_map, option_map_or}
@@ -20,7 +20,7 @@ use Rattle.khe_told.proofs.SlotLaws.{told_set}
 use Rattle.khe_told.specs.Changes.{after, changed, meet_of}
 use Rattle.khe_told.specs.Fits.{AreTold, Fits, IsSlot, Suits}
 use Rattle.khe_told.specs.Lists.{meet_in}
-use Rattle.khe_told.specs.Slots.{IsBareIfFree, emptied, held, held_by, is_live, length_of, no_slot, slot_at, slots_from, slots_of_event}
+use Rattle.khe_told.specs.Slots.{IsBareIfFree, emptied, held, held_by, is_live, length_of, no_slot, slot_at}
 use Rattle.khe_told.specs.declared.changes.Change.{Change}
 use Rattle.khe_told.specs.declared.changes.Change.TheVariants as change
 use Rattle.khe_told.specs.declared.slots.Slot.{Slot}
@@ -35,7 +35,7 @@ use Rattle.monitor_graph.specs.Boards.{Board, HaveSameRest, deviations_of, fixed
 use Rattle.monitor_graph.specs.Values.{IsOf}
 use Rattle.khe_engine.specs.Values.{HasValues, ServesAll}
 use Rattle.khe_engine.proofs.ValueLaws.{values_all}
-use Rattle.khe_solution.proofs.Owners.{length_slots, owner}
+use Rattle.khe_solution.proofs.Owners.{owner}
 use Rattle.khe_solution.proofs.Spans.{in_event}
 use Rattle.khe_solution.proofs.Rows.{Below, nothing_given}
 use Rattle.khe_engine.specs.Openings.{coming, given_to, told_to}

@@ -1,11 +1,11 @@
 -- The numbers of task slots: they ascend by meet and then by place, and are those of the instance.
 use Rattle.std.proofs.Common.{ℕ, ◌≡◌, ◌+◌, ◌-◌, ◌<◌, ◌≤◌, zero, suc, Bool, true, false, cond, Option, Some, None, List, [], ◌∷◌, ◌++◌, length, map, take, get_or, slice_get, sum, ◌*◌, refl, sym, ap, ◌∙◌, arith, inl, inr, ◌⊎◌, length-append}
-use Rattle.std.specs.Prelude.{◌&&◌, All, MatchOption, replicate}
-use Rattle.std.specs.List.{sum_by, range_with_len}
+use Rattle.std.specs.Prelude.{◌&&◌, All, MatchOption}
+use Rattle.std.specs.List.{sum_by}
 use Rattle.std.proofs.Math.ListN.{get_or-append}
 use Rattle.std.proofs.Math.Seq.{get_or-append_right}
 use Rattle.std.proofs.lemmas.Bool.{cases_lt, lt-ltb, le-ltb}
-use Rattle.std.proofs.lemmas.List.{get_or-map, take-map, take_all, get_or_past, map-append, length-map, length-replicate}
+use Rattle.std.proofs.lemmas.List.{get_or-map, take-map, take_all, get_or_past, length-map, length-replicate}
 use Rattle.std.proofs.lemmas.List.Elements.{All-head, All-tail}
 use Rattle.std.proofs.lemmas.List.FromFn.{get_or-map-range_with_len, length-map-range_with_len}
 use Rattle.std.proofs.lemmas.List.Sums.{sum-map, sum_by-cons, sum_by_more, sum_by_more_le}
@@ -21,7 +21,7 @@ use Rattle.khe_instance.proofs.SlotsLemmas.{length-slots_from}
 use Rattle.khe_instance.proofs.TasksLemmas.{length-all_tasks, length-tasks_from}
 use Rattle.khe_told.proofs.FrameLaws.{IsFrame, frames}
 use Rattle.khe_told.specs.Fits.{AreTold}
-use Rattle.khe_told.specs.Slots.{emptied, empty_slot, no_slot, slot_at, slots_from, slots_of_event}
+use Rattle.khe_told.specs.Slots.{emptied, no_slot, slot_at}
 use Rattle.khe_told.specs.declared.slots.Slot.{Slot}
 use Rattle.khe_solution.specs.NextTask.{IsBefore, IsFrom, IsNextTask, has_task}
 use Rattle.khe_solution.specs.TaskRows.{AreUnwanted, IsFirstWanted, first_in, number_from, places, tasks_of_all}

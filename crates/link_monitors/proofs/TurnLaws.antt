@@ -4,10 +4,10 @@ use Rattle.std.specs.Prelude.{nat_le, nat_lt}
 use Rattle.std.specs.List.{range_with_len}
 use Rattle.std.specs.Option.{option_map_or}
 use Rattle.std.proofs.lemmas.Bool.{eq-eqb, lt-ltb, le-leb, and_from}
-use Rattle.std.proofs.lemmas.List.{length-append, length-map, length-replicate, length-set}
+use Rattle.std.proofs.lemmas.List.{length-map, length-replicate, length-set}
 use Rattle.std.proofs.lemmas.List.Elements.{All-get_or}
 use Rattle.std.proofs.lemmas.List.FromFn.{length-range_with_len}
-use Rattle.std.proofs.lemmas.List.Sums.{sum_by-cons, sum_by-le-sum_by, count_by-le-length, get_or-le-sum_by, length-filter}
+use Rattle.std.proofs.lemmas.List.Sums.{sum_by-le-sum_by, count_by-le-length, get_or-le-sum_by, length-filter}
 use Rattle.khe_base.specs.declared.limits.TheConstants.{EVENTS, GREATEST_COUNT}
 use Rattle.khe_base.specs.declared.numbers.MeetId.{MeetId}
 use Rattle.khe_base.specs.IdSet.{has_member, members_of}
@@ -27,7 +27,7 @@ use Rattle.khe_instance.specs.declared.rules.Rule.TheVariants.{LinkEvents}
 use Rattle.khe_base.specs.declared.numbers.TimeId.{TimeId}
 use Rattle.khe_told.specs.Changes.{after, changed, meet_of, span_after}
 use Rattle.khe_told.specs.Fits.{Fits, IsSlot}
-use Rattle.khe_told.specs.Slots.{emptied, length_of, no_meets, no_slot, slot_at, slots_from, slots_of_event}
+use Rattle.khe_told.specs.Slots.{emptied, length_of, no_meets, no_slot, slot_at}
 use Rattle.khe_told.specs.declared.changes.Change.{Change}
 use Rattle.khe_told.specs.declared.changes.Change.TheVariants.{Add, Drop, Place as PlaceAt, Lift, Give, Take}
 use Rattle.khe_told.specs.declared.slots.Slot.{Slot}

@@ -1,7 +1,5 @@
 -- What stands at a place after one element changes.
-use Rattle.std.proofs.Common.{ℕ, ◌≡◌, ◌<◌, zero, suc, Some, List, [], ◌∷◌, length, get_or, set, slice_get, refl, ap, ◌∙◌, arith, get_or-set_same}
-use Rattle.std.proofs.lemmas.List.{length-set}
-use Rattle.std.proofs.lemmas.Option.{slice_get-get_or}
+use Rattle.std.proofs.Common.{ℕ, ◌≡◌, ◌<◌, zero, suc, List, [], ◌∷◌, length, get_or, set, slice_get, refl, ap, arith}
 
 pub get-set_other : {A : Type 0} (xs : List A) (i k : ℕ) (a : A) → (k ≡ i → ⊥) → slice_get (set xs i a) k ≡ slice_get xs k
 get-set_other [] i k a n = refl

@@ -1,6 +1,6 @@
 -- A grouping is given back by its plain lists, which are in order.
 use Rattle.std.proofs.Common.{ℕ, zero, suc, ◌≡◌, ◌≢◌, ◌+◌, ◌<◌, ◌≤◌, Bool, true, false, cond, Option, Some, None, List, [], ◌∷◌, ◌++◌, length, map, get_or, drop, drop-cons, refl, sym, ap, ◌∙◌, subst, arith}
-use Rattle.std.specs.Prelude.{◌==◌, ◌||◌, not, All, AllPairs, slice_index}
+use Rattle.std.specs.Prelude.{◌==◌, ◌||◌, not, All, AllPairs}
 use Rattle.std.specs.List.{find, list_any, range_with_len}
 use Rattle.std.specs.List.Sorted.{IsStrictlyIncreasing}
 use Rattle.std.specs.Option.{option_and_then, option_map}

@@ -1,8 +1,7 @@
 -- An archive that was resolved: each solution has its instance, of which its references name parts.
-use Rattle.std.proofs.Common.{ℕ, ◌≡◌, ◌<◌, ◌≤◌, ◌^◌, Bool, true, false, Option, Some, None, IsSome, IfSome, is_some, Ok, Err, List, [], ◌∷◌, ◌++◌, length, map, refl, sym, ap, subst, ◌∙◌, arith, slice_get, option_map, All, flat_map, nat_lt, inl, inr, zero-add, if◌then◌else◌}
+use Rattle.std.proofs.Common.{ℕ, ◌≡◌, ◌<◌, ◌≤◌, ◌^◌, true, Option, Some, None, IsSome, IfSome, is_some, Ok, Err, List, [], ◌∷◌, ◌++◌, length, map, refl, sym, ap, subst, ◌∙◌, arith, slice_get, option_map, All, flat_map, inl, inr, zero-add}
 use Rattle.std.specs.Option.{option_and_then, option_map_or, option_or}
 use Rattle.std.specs.Prelude.{unwrap_or}
-use Rattle.std.proofs.lemmas.Bool.{ltb-false}
 use Rattle.std.proofs.lemmas.Option.{slice_get-map, slice_get_cases}
 use Rattle.std.proofs.lemmas.List.{length-map}
 use Rattle.std.proofs.lemmas.List.Concat.{flat_map-cons}
@@ -17,7 +16,7 @@ use Rattle.xhstt_references.specs.Ids.{instance_ids, time_ids, resource_ids, eve
 use Rattle.xhstt_references.specs.References.{unknown, unknown_one, unknown_in_entry, unknown_in_given, unknown_in_solution, unknown_in_solutions, solutions_of}
 use Rattle.xhstt_references.specs.Directories.{directory_of}
 use Rattle.xhstt_references.specs.declared.directories.Directory.{Directory}
-use Rattle.xhstt_references.specs.Faults.{at_first, fault_of_solutions}
+use Rattle.xhstt_references.specs.Faults.{fault_of_solutions}
 use Rattle.xhstt_references.specs.declared.faults.TheConstants.{UNKNOWN_REFERENCE}
 use Rattle.xhstt_resolve.proofs.WellMadeIds.{event-ids, resource-ids}
 use Rattle.xhstt_resolve.proofs.WellMadeLists.{known, among}
@@ -26,14 +25,12 @@ use Rattle.xhstt_resolve.specs.Faults.{as_fault}
 use Rattle.xhstt_resolve.specs.Resolved.{resolved, archive_fault, instances_of, solutions_fault}
 use Rattle.xhstt_resolve.specs.Limits.{above}
 use Rattle.xhstt_resolve.specs.declared.faults.ResolveFault.{ResolveFault}
-use Rattle.xhstt_resolve.specs.declared.faults.ResolveFault.TheVariants.{Limit}
 use Rattle.xhstt_resolve.specs.declared.faults.TheConstants.{TOO_MANY_SOLUTIONS}
 use Rattle.xhstt_resolve.specs.declared.resolving.Resolved.{Resolved}
 use Rattle.xhstt_shape.specs.WellFormed as formed
 use Rattle.xhstt_shape.specs.declared.records.Archive.{Archive}
 use Rattle.xhstt_shape.specs.declared.records.RawEntry.{RawEntry}
 use Rattle.xhstt_shape.specs.declared.records.RawInstance.{RawInstance}
-use Rattle.xhstt_shape.specs.declared.records.RawResource.{RawResource}
 use Rattle.xhstt_shape.specs.declared.records.RawSolution.{RawSolution}
 use Rattle.xhstt_shape.specs.declared.records.Ref.{Ref}
 use Rattle.xhstt_shape.specs.declared.records.SolutionGroup.{SolutionGroup}

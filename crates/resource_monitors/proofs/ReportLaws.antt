@@ -1,5 +1,5 @@
 -- Monitors while they are reported.
-use Rattle.std.proofs.Common.{ℕ, ◌≡◌, ◌<◌, ◌+◌, ◌-◌, ◌∙◌, ◌||◌, ◌&&◌, zero, suc, Bool, true, false, cond, Option, Some, None, List, [], ◌∷◌, set, length, slice_get, refl, sym, ap, subst, arith, zero-add, ◌⊎◌, inl, inr}
+use Rattle.std.proofs.Common.{ℕ, ◌≡◌, ◌<◌, ◌+◌, ◌-◌, ◌∙◌, ◌||◌, ◌&&◌, suc, Bool, true, false, cond, Option, Some, None, List, set, length, slice_get, refl, sym, ap, subst, arith, zero-add, ◌⊎◌, inl, inr}
 use Rattle.std.specs.List.{range_with_len, list_any}
 use Rattle.std.proofs.lemmas.Bool.{cases_eq, true≢false, and_parts}
 use Rattle.std.proofs.lemmas.List.{length-set}

@@ -1,7 +1,7 @@
 -- Told states: the one without meets, what the slots of others are given, and how many tasks run.
 use Rattle.std.proofs.Common.{ℕ, ◌≡◌, ◌≤◌, ◌<◌, ◌+◌, ◌∙◌, zero, suc, cond, Bool, true, false, Option, Some, None, List, [], ◌∷◌, ◌++◌, map, replicate, length, get_or, slice_get, refl, sym, ap, subst, arith, IfSome, get_or-set_same}
 use Rattle.std.specs.Prelude.{◌==◌, ◌&&◌}
-use Rattle.std.specs.Option.{option_map, option_map_or}
+use Rattle.std.specs.Option.{option_map_or}
 use Rattle.std.specs.List.{range_with_len}
 use Rattle.std.proofs.lemmas.List.{length-replicate, length-set}
 use Rattle.std.proofs.lemmas.List.Elements.{All-get_or}
@@ -11,11 +11,10 @@ use Rattle.khe_base.specs.declared.limits.TheConstants.{TASKS}
 use Rattle.khe_base.specs.declared.numbers.ResourceId.{ResourceId}
 use Rattle.khe_instance.specs.Running.{is_resource, runs, running_tasks}
 use Rattle.khe_instance.specs.States.{AreOfState}
-use Rattle.khe_instance.specs.WellMade.{AreWellMade, HasType}
+use Rattle.khe_instance.specs.WellMade.{AreWellMade}
 use Rattle.khe_instance.specs.declared.parts.EventInfo.{EventInfo}
 use Rattle.khe_instance.specs.declared.parts.Parts.{Parts}
 use Rattle.khe_instance.specs.declared.parts.Place.{Place}
-use Rattle.khe_instance.specs.declared.parts.ResourceInfo.{ResourceInfo}
 use Rattle.khe_instance.specs.declared.states.Duty.{Duty}
 use Rattle.khe_instance.proofs.DutiesLemmas.{are-duties, typed}
 use Rattle.khe_told.specs.Changes.{after, changed, meet_of}

@@ -1,17 +1,16 @@
 -- Lists that are printed element by element.
-use Rattle.std.proofs.Common.{ℕ, zero, suc, ◌≡◌, ◌+◌, ◌<◌, Option, Some, None, List, [], ◌∷◌, ◌++◌, length, get_or, drop, slice_get, refl, sym, ap, ◌∙◌, arith, append_assoc, zero-add, true}
+use Rattle.std.proofs.Common.{ℕ, zero, suc, ◌≡◌, ◌+◌, ◌<◌, Option, Some, None, List, [], ◌∷◌, ◌++◌, length, get_or, drop, slice_get, refl, ap, ◌∙◌, arith, append_assoc, zero-add, true}
 use Rattle.std.specs.Prelude.{◌&&◌, is_some, nat_lt}
 use Rattle.std.proofs.lemmas.Bool.{lt-ltb}
 use Rattle.khe_engine.proofs.OpeningLaws.{span_is}
 use Rattle.khe_told.specs.Slots.{is_live}
-use Rattle.std.specs.List.{enumerate_from, flat_map}
+use Rattle.std.specs.List.{flat_map}
 use Rattle.std.specs.Option.{option_map_or}
 use Rattle.std.proofs.lemmas.List.Concat.{flat_map-cons}
 use Rattle.std.proofs.lemmas.Option.{slice_get-get_or}
 use Rattle.khe_base.proofs.ListLemmas.{drop-there}
 use Rattle.khe_base.specs.declared.numbers.ResourceId.{ResourceId}
 use Rattle.khe_instance.specs.declared.states.Meet.{Meet}
-use Rattle.khe_instance.specs.declared.states.Task.{Task}
 use Rattle.khe_told.specs.Lists.{meet_in, tasks_of, tasks_with}
 use Rattle.khe_told.specs.declared.slots.Slot.{Slot}
 

@@ -1,12 +1,12 @@
 -- What a monitor on a workload measures.
-use Rattle.std.proofs.Common.{ℕ, ◌≡◌, ◌≤◌, ◌<◌, ◌*◌, ◌∙◌, true, Some, List, length, slice_get, slice_index, refl, sym, ap, subst, arith}
+use Rattle.std.proofs.Common.{ℕ, ◌≡◌, ◌≤◌, ◌<◌, ◌*◌, ◌∙◌, true, Some, List, length, slice_get, slice_index, sym, ap, subst, arith}
 use Rattle.std.specs.Option.{option_map_or}
 use Rattle.khe_base.specs.declared.limits.TheConstants.{GREATEST_DEVIATION}
 use Rattle.khe_base.specs.declared.numbers.ResourceId.{ResourceId}
 use Rattle.khe_instance.specs.Deviation.{deviation_at}
 use Rattle.khe_instance.specs.KindLaws.{IsOfKind, of_kind, same_kind}
 use Rattle.khe_instance.specs.ResourceDeviation.{limit_workload}
-use Rattle.khe_instance.specs.WellMade.{AreWellMade, IsMonitor, IsPointOf, IsResourcePoint, IsRule}
+use Rattle.khe_instance.specs.WellMade.{AreWellMade, IsMonitor, IsPointOf, IsRule}
 use Rattle.khe_instance.specs.declared.parts.Parts.{Parts}
 use Rattle.khe_instance.specs.declared.points.Monitor.{Monitor}
 use Rattle.khe_instance.specs.declared.points.Point.{Point}

@@ -16,7 +16,7 @@ use Rattle.khe_base.specs.declared.numbers.TaskId.{TaskId}
 use Rattle.khe_base.specs.declared.numbers.TimeId.{TimeId}
 use Rattle.khe_instance.specs.Running.{duties, meets_of}
 use Rattle.khe_instance.specs.Slots.{HasSlot}
-use Rattle.khe_instance.specs.States.{IsValid, IsTold, IsPlaced, IsMeet, IsGiven, IsKept, IsGroup, place_of}
+use Rattle.khe_instance.specs.States.{IsValid, IsMeet, IsGiven, IsKept, IsGroup, place_of}
 use Rattle.khe_instance.specs.Lookups.{places_at}
 use Rattle.khe_instance.specs.States as states
 use Rattle.khe_instance.specs.WellMade.{AreWellMade, AreFirstMeets, HasType, IsEvent}

@@ -1,5 +1,5 @@
 -- The first fault of looks for one, in their order.
-use Rattle.std.proofs.Common.{◌≡◌, ◌∙◌, ap, refl, sym, Option, Some, None, Result, Ok, Err, map, option_map, subst, IsErrAnd, IfErr, ℕ, ◌+◌, ◌<◌, List, [], ◌∷◌, ◌++◌, length, drop, get_or, drop-cons, add-one, suc, append_assoc}
+use Rattle.std.proofs.Common.{◌≡◌, ◌∙◌, ap, refl, sym, Option, Some, None, Result, Ok, Err, map, option_map, subst, IsErrAnd, IfErr, ℕ, ◌+◌, List, [], ◌∷◌, ◌++◌, append_assoc}
 use Rattle.std.specs.Prelude.{unwrap_or}
 use Rattle.std.specs.Option.{option_map_or, option_or}
 use Rattle.xhstt_references.specs.Faults.{IsTold}

@@ -1,10 +1,9 @@
 -- Least common multiples, one duration more.
-use Rattle.std.proofs.Common.{ℕ, ◌≡◌, ◌∙◌, sym, ap, subst, ◌+◌, ◌<◌, Bool, cond, Some, List, [], ◌∷◌, length, map, drop, get_or}
+use Rattle.std.proofs.Common.{ℕ, ◌≡◌, ◌∙◌, ap, subst, ◌+◌, ◌<◌, Bool, cond, Some, List, [], ◌∷◌, length, map, drop, get_or}
 use Prim.Native.Nat.{◌∣◌}
 use Rattle.std.specs.Prelude.{find, nat_lt}
 use Rattle.std.specs.List.{fold}
 use Rattle.std.proofs.lemmas.Nat.Gcd.{dvd_refl, dvd_antisymm}
-use Rattle.std.proofs.lemmas.List.{drop_more}
 use Rattle.std.proofs.lemmas.List.Elements.{All-nil, All-cons, All-head, All-tail}
 use Rattle.khe_base.specs.Units.{IsUnit, IsLeastMultiple}
 use Rattle.xhstt_resolve.specs.Units.{least_multiple, running_units}

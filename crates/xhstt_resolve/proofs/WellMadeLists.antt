@@ -6,7 +6,6 @@ use Rattle.std.proofs.lemmas.Bool.{ltb-true}
 use Rattle.std.proofs.lemmas.List.{length-set, length-replicate}
 use Rattle.std.proofs.lemmas.List.Concat.{flat_map-cons}
 use Rattle.std.proofs.lemmas.List.Elements.{All-nil, All-cons, All-append, All-weaker, All-filter, All-head, All-tail}
-use Rattle.std.proofs.lemmas.List.Quantifiers.{position-Some}
 use Rattle.khe_base.proofs.ListLemmas.{below_length}
 use Rattle.khe_base.specs.IdSet.{with_member, no_members}
 use Rattle.khe_base.specs.Names.{is_among_names, number_of}
