@@ -14,4 +14,3 @@ numbered-there f xs i x d at =
     slice_get-get_or (enumerate_from 0 xs) i (0, x) long
     ∙ ap (λ e. Some e) (get_or-enumerate_from 0 xs i (0, x) h ∙ ap (λ y. (0 + i, y)) (get_or_from_slice_get xs i x x at) ∙ ap (λ n. (n, x)) (zero-add i)) in
     mapped-there f (enumerate_from 0 xs) i (i, x) d entry
-

@@ -19,8 +19,8 @@ use evaluation_report::{header_line, invalid_line, monitor_line, solution_line, 
 use khe_base::{MonitorId, NoMemory, Text};
 use khe_instance::{Instance, Plain};
 use khe_io::{Gate, Sink};
-use parallel_solve::{Ahead, Verdict, all_solutions};
-use plain_eval::Values;
+use parallel_solve::{Ahead, Verdict, all_solutions, evaluators_of};
+use plain_eval::{Evaluator, Values};
 use script_run::{Cut, flush, flush_long};
 use std::alloc::Global;
 use std::thread::Threads;
@@ -168,6 +168,7 @@ fn write_group<R: Threads + Sync, K: Sink, G: Gate>(
     out: &mut K,
     text: &mut Text,
     resolved: &Resolved,
+    evaluators: &[Evaluator<'_>],
     raws: &[&RawSolution],
     gate: &G,
     ahead: &mut Ahead,
@@ -180,6 +181,7 @@ fn write_group<R: Threads + Sync, K: Sink, G: Gate>(
     requires all_ones { AreOnes resolved.now 0 (map (λ x. x.now) raws.now) }
     requires few { length raws.now < 2 ^ 32 }
     requires standing { (k : ℕ) (raw : RawSolution) → slice_get group.now.solutions k ≡ Some raw → slice_get (map (λ x. x.now) raws.now) (first + k) ≡ Some raw }
+    requires evaluators { evaluators.now ≡ resolved.now.instances }
     requires ahead { IsAhead resolved.now (map (λ x. x.now) raws.now) ahead.old }
     ensures ahead { IsAhead resolved.now (map (λ x. x.now) raws.now) ahead.new }
     ensures amid { (before : Option (List ℕ)) (rest whole : List ℕ) → IsAmid before (K.taken out.old) text.old (spec.group_text all resolved.now first group.now ++ rest) whole → OnOk result (IsAmid before (K.taken out.new) text.new rest whole) }
@@ -190,7 +192,7 @@ fn write_group<R: Threads + Sync, K: Sink, G: Gate>(
     let id = &group.id.text;
     for (k, solution) in group.solutions.as_slice().iter().enumerate() {
         let number = first + k as u32;
-        ahead.reach(rt, alloc, resolved, raws, gate, number)?;
+        ahead.reach(rt, alloc, resolved, evaluators, raws, gate, number)?;
         let told = ahead.verdict(number);
         write_solution(alloc, out, text, resolved, number, id, told, solution, all)?;
     }
@@ -212,9 +214,9 @@ fn header(alloc: Global, _archive: &Archive, resolved: &Resolved) -> Result<Text
 /// same for every number of them.
 ///
 /// It takes time about linear in the instances, the solutions and the report; that of evaluating is
-/// divided among the workers that run at the same time. It keeps in memory what the solutions of one
-/// window cost, for each worker that of evaluating one, what one solution adds to the report, and of the
-/// rest no more than a piece.
+/// divided among the workers that run at the same time. It keeps in memory an evaluator for each
+/// instance, what the solutions of one window cost, for each worker that of evaluating one, what one
+/// solution adds to the report, and of the rest no more than a piece.
 pub(crate) fn report<R: Threads + Sync, K: Sink, G: Gate>(
     rt: &R,
     alloc: Global,
@@ -233,6 +235,7 @@ pub(crate) fn report<R: Threads + Sync, K: Sink, G: Gate>(
     ensures counted { K.faults out.old ≤ K.faults out.new }
 {
     let raws = all_solutions(alloc, archive)?;
+    let evaluators = evaluators_of(alloc, resolved)?;
     let mut text = header(alloc, archive, resolved)?;
     let mut ahead = Ahead::new(alloc, resolved, workers);
     let mut number = 0;
@@ -243,6 +246,7 @@ pub(crate) fn report<R: Threads + Sync, K: Sink, G: Gate>(
             out,
             &mut text,
             resolved,
+            evaluators.as_slice(),
             raws.as_slice(),
             gate,
             &mut ahead,

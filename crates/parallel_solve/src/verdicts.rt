@@ -5,8 +5,7 @@ ghost use Rattle.parallel_solve.specs.Verdicts.{verdict_of, numbered_verdict, pa
 ghost use Rattle.parallel_solve.specs.Ready.{IsOne};
 
 use khe_base::{NoMemory, lends_to_threads};
-use khe_instance::Instance;
-use plain_eval::{Values, evaluate};
+use plain_eval::{Evaluator, Values};
 use std::alloc::Global;
 use xhstt_completion::{SolutionFault, completed};
 use xhstt_resolve::Resolved;
@@ -21,40 +20,62 @@ pub enum Verdict {
     Invalid { cause: u32, entry: u32 },
 }
 
-/// What comes of a solution of an instance. It takes the time and memory of completing it and
-/// evaluating its state.
-fn judge(alloc: Global, inst: &Instance, raw: &RawSolution) -> Result<Verdict, NoMemory>
-    requires { IsSolution inst.now raw.now }
-    ensures { IfOk result (λ v. v ≡ verdict_of inst.now (completion.completed inst.now raw.now)) }
+/// What comes of a solution by the evaluator of its instance. It takes the time and memory of
+/// completing it and evaluating its state.
+fn judge(alloc: Global, evaluator: &Evaluator<'_>, raw: &RawSolution) -> Result<Verdict, NoMemory>
+    requires { IsSolution evaluator.now raw.now }
+    ensures { IfOk result (λ v. v ≡ verdict_of evaluator.now (completion.completed evaluator.now raw.now)) }
 {
-    match completed(alloc, inst, raw) {
-        Ok(plain) => Ok(Verdict::Valid(evaluate(alloc, inst, &plain)?)),
+    match completed(alloc, evaluator.instance(), raw) {
+        Ok(plain) => Ok(Verdict::Valid(evaluator.evaluate(alloc, &plain)?)),
         Err(SolutionFault::Invalid { cause, entry }) => Ok(Verdict::Invalid { cause, entry }),
         Err(SolutionFault::NoMemory) => Err(NoMemory),
     }
 }
 
-/// The instance of the solution with this number.
-fn instance_at(resolved: &Resolved, number: u32) -> &Instance
-    requires { IsSome (parts_at resolved.now number) }
+/// An evaluator for each instance of an archive, in their order, which workers share. It takes the
+/// time and memory of opening each.
+pub fn evaluators_of<'a>(
+    alloc: Global,
+    resolved: &'a Resolved,
+) -> Result<Vec<Evaluator<'a>>, NoMemory>
+    ensures { IfOk result (λ evaluators. evaluators.items ≡ resolved.now.instances) }
+{
+    let mut evaluators = Vec::new(alloc);
+    for inst in resolved.instances.as_slice() {
+        evaluators.push(Evaluator::open(alloc, inst)?)?;
+    }
+    Ok(evaluators)
+}
+
+/// The evaluator of the instance of the solution with this number.
+fn evaluator_at<'e, 'a>(
+    resolved: &Resolved,
+    evaluators: &'e [Evaluator<'a>],
+    number: u32,
+) -> &'e Evaluator<'a>
+    requires there { IsSome (parts_at resolved.now number) }
+    requires evaluators { evaluators.now ≡ resolved.now.instances }
     ensures { parts_at resolved.now number ≡ Some result.now }
 {
     let instance = resolved.of.as_slice()[number as usize];
-    &resolved.instances.as_slice()[instance as usize]
+    &evaluators[instance as usize]
 }
 
 /// What comes of the solution with this number.
 pub(crate) fn numbered(
     alloc: Global,
     resolved: &Resolved,
+    evaluators: &[Evaluator<'_>],
     number: u32,
     raw: &RawSolution,
 ) -> Result<Verdict, NoMemory>
-    requires { IsOne resolved.now number raw.now }
+    requires one { IsOne resolved.now number raw.now }
+    requires evaluators { evaluators.now ≡ resolved.now.instances }
     ensures { IfOk result (λ v. v ≡ numbered_verdict resolved.now (number, raw.now)) }
 {
-    let inst = instance_at(resolved, number);
-    let told = judge(alloc, inst, raw)?;
+    let evaluator = evaluator_at(resolved, evaluators, number);
+    let told = judge(alloc, evaluator, raw)?;
     Ok(told)
 }
 

@@ -10,6 +10,7 @@ use crate::shares::{cut, verdicts_by};
 use crate::verdicts::Verdict;
 use khe_base::NoMemory;
 use khe_io::Gate;
+use plain_eval::Evaluator;
 use std::alloc::Global;
 use std::thread::Threads;
 use xhstt_resolve::Resolved;
@@ -52,6 +53,7 @@ fn window<R: Threads + Sync, G: Gate>(
     rt: &R,
     alloc: Global,
     resolved: &Resolved,
+    evaluators: &[Evaluator<'_>],
     raws: &[&RawSolution],
     number: u32,
     size: usize,
@@ -61,11 +63,14 @@ fn window<R: Threads + Sync, G: Gate>(
     requires ones { AreOnes resolved.now 0 (map (λ x. x.now) raws.now) }
     requires within { number + size ≤ length raws.now }
     requires small { length raws.now < 2 ^ 32 }
+    requires evaluators { evaluators.now ≡ resolved.now.instances }
     ensures { IfOk result (λ v. v.items ≡ map (numbered_verdict resolved.now) (enumerate_from number (map (λ x. x.now) (take size (drop number raws.now))))) }
 {
     let (_, back) = cut(resolved, 0, raws, number as usize);
     let (middle, _) = cut(resolved, number, back, size);
-    let made = verdicts_by(rt, alloc, resolved, number, middle, workers, gate)?;
+    let made = verdicts_by(
+        rt, alloc, resolved, evaluators, number, middle, workers, gate,
+    )?;
     Ok(made)
 }
 
@@ -92,8 +97,8 @@ impl Ahead {
     }
 
     /// Moves the window on to the solution with this number, unless it is there already. The
-    /// workers evaluate the solutions of a new window, and pass the gate before each of them, with
-    /// its number.
+    /// workers evaluate the solutions of a new window by the evaluators of all instances, and pass
+    /// the gate before each of them, with its number.
     ///
     /// The only error is want of memory, after which the window is empty. It takes the time and
     /// memory of evaluating the window's solutions, divided among the workers, or constant time.
@@ -102,6 +107,7 @@ impl Ahead {
         rt: &R,
         alloc: Global,
         resolved: &Resolved,
+        evaluators: &[Evaluator<'_>],
         raws: &[&RawSolution],
         gate: &G,
         number: u32,
@@ -109,6 +115,7 @@ impl Ahead {
         requires ones { AreOnes resolved.now 0 (map (λ x. x.now) raws.now) }
         requires within { number < length raws.now }
         requires small { length raws.now < 2 ^ 32 }
+        requires evaluators { evaluators.now ≡ resolved.now.instances }
         requires ahead { IsAhead resolved.now (map (λ x. x.now) raws.now) self.old }
         ensures ahead { IsAhead resolved.now (map (λ x. x.now) raws.now) self.new }
         ensures there { OnOk result (Reaches self.new number) }
@@ -120,7 +127,9 @@ impl Ahead {
         self.verdicts = Vec::new(alloc);
         let size = self.size.min(raws.len() - number as usize);
         let workers = self.workers;
-        self.verdicts = window(rt, alloc, resolved, raws, number, size, workers, gate)?;
+        self.verdicts = window(
+            rt, alloc, resolved, evaluators, raws, number, size, workers, gate,
+        )?;
         Ok(())
     }
 

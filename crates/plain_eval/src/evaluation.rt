@@ -5,7 +5,6 @@ ghost use Rattle.khe_instance.specs.States.{IsValid};
 
 use crate::costing::{costs_of, totals_of};
 use crate::measuring::deviations_of;
-use event_deviations::EventRoom;
 use khe_base::{NoMemory, Seq, Totals, lends_to_threads};
 use khe_instance::{Instance, Plain};
 use resource_deviations::ResourceRoom;
@@ -26,18 +25,17 @@ pub struct Values {
     pub totals: Totals,
 }
 
-/// Evaluates timetables of one instance, one after another: what depends on the instance alone is
-/// made once. Contracts see the instance's parts.
+/// Evaluates timetables of one instance, as many as there are and in any number of threads at a
+/// time: what depends on the instance alone is made once, and only read. Contracts see the
+/// instance's parts.
 #[derive(Drop)]
 pub struct Evaluator<'a> {
     inst: &'a Instance,
-    events: EventRoom,
     resources: ResourceRoom,
 }
 
 impl<'a> Model for Evaluator<'a> {
     ghost use Rattle.std.specs.Prelude.{◌≡◌};
-    ghost use Rattle.event_deviations.specs.Rooms.{room_for as event_room};
     ghost use Rattle.khe_instance.specs.declared.parts.Parts.{Parts};
     ghost use Rattle.resource_deviations.specs.Sets.{room_for as resource_room};
 
@@ -45,38 +43,39 @@ impl<'a> Model for Evaluator<'a> {
 
     ghost view = { λ e. e.inst.now };
 
-    ghost invariant = { λ e. (e.events ≡ event_room e.inst.now) × (e.resources ≡ resource_room e.inst.now) };
+    ghost invariant = { λ e. e.resources ≡ resource_room e.inst.now };
 }
 
 impl<'a> Evaluator<'a> {
     /// An evaluator of timetables of an instance. It takes time and memory in proportion to the
-    /// resources, the times, and a bit of each time of each time group that a constraint lists for
+    /// constraints, and a bit of each time of each time group that a constraint lists for
     /// resources.
     pub fn open(alloc: Global, inst: &'a Instance) -> Result<Evaluator<'a>, NoMemory>
         ensures { IfOk result (λ e. e ≡ inst.now) }
     {
-        let events = EventRoom::open(alloc, inst)?;
         let resources = ResourceRoom::open(alloc, inst)?;
-        Ok(Evaluator {
-            inst,
-            events,
-            resources,
-        })
+        Ok(Evaluator { inst, resources })
+    }
+
+    /// The instance. It takes constant time.
+    pub fn instance(&self) -> &Instance
+        ensures { result.now ≡ self.now }
+    {
+        self.inst
     }
 
     /// What a valid timetable of the instance costs, as `evaluate` says it. It takes the time and
     /// memory of that call, but for what was made once.
-    pub fn evaluate(&mut self, alloc: Global, plain: &Plain) -> Result<Values, NoMemory>
-        requires { IsValid self.old plain.now }
-        ensures same { self.new ≡ self.old }
-        ensures deviations { IfOk result (λ v. v.deviations ≡ evaluated.deviations self.old plain.now) }
-        ensures costs { IfOk result (λ v. v.costs ≡ evaluated.costs self.old plain.now) }
-        ensures totals { IfOk result (λ v. v.totals ≡ evaluated.totals self.old plain.now) }
+    pub fn evaluate(&self, alloc: Global, plain: &Plain) -> Result<Values, NoMemory>
+        requires { IsValid self.now plain.now }
+        ensures deviations { IfOk result (λ v. v.deviations ≡ evaluated.deviations self.now plain.now) }
+        ensures costs { IfOk result (λ v. v.costs ≡ evaluated.costs self.now plain.now) }
+        ensures totals { IfOk result (λ v. v.totals ≡ evaluated.totals self.now plain.now) }
         ensures small_deviations { IfOk result (λ v. All (λ d. d ≤ GREATEST_DEVIATION) v.deviations) }
         ensures small_costs { IfOk result (λ v. All (λ c. c ≤ GREATEST_COST) v.costs) }
         ensures small_totals { IfOk result (λ v. (v.totals.hard ≤ GREATEST_TOTAL) × (v.totals.soft ≤ GREATEST_TOTAL)) }
     {
-        let deviations = deviations_of(alloc, self.inst, plain, &mut self.events, &self.resources)?;
+        let deviations = deviations_of(alloc, self.inst, plain, &self.resources)?;
         valued(alloc, self.inst, plain, deviations)
     }
 }
@@ -100,7 +99,7 @@ pub fn evaluate(alloc: Global, inst: &Instance, plain: &Plain) -> Result<Values,
     ensures small_costs { IfOk result (λ v. All (λ c. c ≤ GREATEST_COST) v.costs) }
     ensures small_totals { IfOk result (λ v. (v.totals.hard ≤ GREATEST_TOTAL) × (v.totals.soft ≤ GREATEST_TOTAL)) }
 {
-    let mut evaluator = Evaluator::open(alloc, inst)?;
+    let evaluator = Evaluator::open(alloc, inst)?;
     evaluator.evaluate(alloc, plain)
 }
 
@@ -131,8 +130,10 @@ fn valued(
     })
 }
 
-// Workers share what a timetable costs: the types show it, and no program calls this.
+// Workers share an evaluator, and what a timetable costs: the types show it, and no program calls
+// this.
 #[allow(dead_code)]
-fn values_are_shared(values: &Values) {
+fn evaluations_are_shared(evaluator: &Evaluator<'_>, values: &Values) {
+    lends_to_threads(evaluator);
     lends_to_threads(values);
 }

@@ -14,19 +14,16 @@ use khe_instance::{Duty, Instance, Meet, Monitor, Plain, Point};
 use resource_deviations::{ResourceDeviations, ResourceRoom};
 use std::alloc::Global;
 
-/// The deviations of all monitors of a timetable, with the rooms for its instance, which are as good
-/// afterwards as before.
+/// The deviations of all monitors of a timetable, with what depends on its instance alone. What looks
+/// at event groups mark is small beside the timetable itself, and made anew.
 pub(crate) fn deviations_of(
     alloc: Global,
     inst: &Instance,
     plain: &Plain,
-    event_room: &mut EventRoom,
     resource_room: &ResourceRoom,
 ) -> Result<Seq<u64>, NoMemory>
     requires told { IsTold inst.now plain.now.meets plain.now.tasks }
-    requires event_room { event_room.old ≡ room_of_events inst.now }
     requires resource_room { resource_room.now ≡ room_of_resources inst.now }
-    ensures event_room { event_room.new ≡ event_room.old }
     ensures exact { IfOk result (λ ds. ds ≡ evaluated.deviations inst.now plain.now) }
     ensures small { IfOk result (λ ds. All (λ d. d ≤ GREATEST_DEVIATION) ds) }
 {
@@ -36,7 +33,15 @@ pub(crate) fn deviations_of(
     let duties = owned.as_slice();
     let events = EventDeviations::open(alloc, inst, meets, duties)?;
     let resources = ResourceDeviations::open(alloc, inst, duties)?;
-    listed(alloc, inst, &events, &resources, event_room, resource_room)
+    let mut event_room = EventRoom::open(alloc, inst)?;
+    listed(
+        alloc,
+        inst,
+        &events,
+        &resources,
+        &mut event_room,
+        resource_room,
+    )
 }
 
 /// The deviations of all monitors, in the order of their numbers.

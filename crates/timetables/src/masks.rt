@@ -103,7 +103,10 @@ fn first_word(words: &[u64]) -> usize
     ensures before { (t : ℕ) → t < 64 * result → is_set words.now t ≡ false }
     ensures first { result < length words.now → 0 < slice_index words.now result }
 {
-    words.iter().position(|&word| word != 0).unwrap_or(words.len())
+    words
+        .iter()
+        .position(|&word| word != 0)
+        .unwrap_or(words.len())
 }
 
 // The number after that of the last word that has a bit set, or 0 where none has. It takes time in
@@ -113,7 +116,10 @@ fn end_word(words: &[u64]) -> usize
     ensures after { (t : ℕ) → 64 * result ≤ t → is_set words.now t ≡ false }
     ensures last { 0 < result → 0 < slice_index words.now (result - 1) }
 {
-    words.iter().rposition(|&word| word != 0).map_or(0, |last| last + 1)
+    words
+        .iter()
+        .rposition(|&word| word != 0)
+        .map_or(0, |last| last + 1)
 }
 
 // The span with the busy and the unbusy times of one more word. The first busy time of a word is
