@@ -1,5 +1,5 @@
 -- What a request stands for.
-use Rattle.std.specs.Prelude.{◌≤◌}
+use Rattle.std.specs.Prelude.{ℕ, ◌≤◌}
 use Rattle.khe_app.specs.Words.{Asked, evaluating, scripting}
 use Rattle.khe_app.specs.declared.words.Request.{Request}
 use Rattle.khe_app.specs.declared.words.Request.TheVariants.{Evaluate, Script}
@@ -12,3 +12,8 @@ asked_of (Script archive solution script) = scripting archive.now solution scrip
 abbrev pub IsFit : Request → Type 0
 IsFit (Evaluate archive all workers) = (1 ≤ workers) × (workers ≤ 64)
 IsFit (Script archive solution script) = Unit {0}
+
+-- how many workers do what is asked for
+abbrev pub workers_in : Request → ℕ
+workers_in (Evaluate archive all workers) = workers
+workers_in (Script archive solution script) = 1

@@ -1,5 +1,5 @@
 ghost use Rattle.std.specs.Prelude.{◌≡◌, ◌≤◌, None, Some, map, IfSome, MatchOption, string_bytes};
-ghost use Rattle.khe_app.specs.Requests.{IsFit, asked_of};
+ghost use Rattle.khe_app.specs.Requests.{IsFit, asked_of, workers_in};
 ghost use Rattle.khe_app.specs.Words.{asked, asked_by, all_by, both_by, evaluating, options_by, script_by, workers_by, workers_of};
 ghost use Rattle.std.specs.Option.{option_map};
 
@@ -59,6 +59,7 @@ fn request_by<'a>(command: &str, archive: &'a str, more: &'a [String]) -> Option
 /// The report that is asked for by the options after the archive's name.
 fn evaluate_by<'a>(archive: &'a str, options: &'a [String]) -> Option<Request<'a>>
     ensures asked { MatchOption result (option_map (λ o. evaluating archive.now o.0) (options_by (map string_bytes options.now)) ≡ None) (λ r. option_map (λ o. evaluating archive.now o.0) (options_by (map string_bytes options.now)) ≡ Some (asked_of r)) }
+    ensures workers { option_map workers_in result ≡ option_map (λ o. o.1) (options_by (map string_bytes options.now)) }
     ensures fit { IfSome result IsFit }
 {
     let (all, workers) = options_by(options)?;
