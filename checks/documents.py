@@ -1,0 +1,106 @@
+#!/usr/bin/env python3
+"""Runs every example of README.md and docs/manual.md, and compares what they show with what comes.
+
+    checks/documents.py KHE
+
+KHE is the program, say ./khe or a proved build. A block of text whose lines begin with `$ ` shows commands with
+their output. They are run in order in a folder that has examples/ and the program, as `khe` and as `./khe`. A
+command `cat NAME` of a file that isn't there shows that file: it is made so. A block without commands after a
+paragraph that names a file of examples/ shows that file. It prints a line for each difference, then how many
+commands and files it compared, and ends with status 1 where one differed.
+"""
+
+import os
+import re
+import shutil
+import subprocess
+import sys
+import tempfile
+
+TOP = os.path.dirname(os.path.dirname(os.path.abspath(__file__)))
+DOCUMENTS = ["README.md", "docs/manual.md"]
+
+
+def blocks(text):
+    """The blocks of a document, each with the number of its first line and the paragraph before it."""
+    paragraph, block, first = "", None, 0
+    for number, line in enumerate(text.split("\n"), 1):
+        if line.startswith("```"):
+            if block is None:
+                block, first = [], number + 1
+            else:
+                yield first, paragraph, block
+                block, paragraph = None, ""
+        elif block is not None:
+            block.append(line)
+        elif line:
+            paragraph = line
+
+
+def commands(block):
+    """The commands of a block, each with its place in it and the output that is shown."""
+    found = []
+    for place, line in enumerate(block):
+        if line.startswith("$ "):
+            found.append((place, line[2:], []))
+        elif found:
+            found[-1][2].append(line)
+    return found
+
+
+def lines_of(shown):
+    return "".join(line + "\n" for line in shown)
+
+
+class Comparison:
+    def __init__(self, folder):
+        self.folder = folder
+        self.environment = dict(os.environ, PATH=folder + "/bin:" + os.environ["PATH"])
+        self.compared = 0
+        self.differing = 0
+
+    def compare(self, where, what, shown, came):
+        self.compared += 1
+        if shown != came:
+            self.differing += 1
+            print("%s: %s\nshown:\n%scame:\n%s" % (where, what, shown, came))
+
+    def command(self, where, command, shown):
+        made = re.fullmatch(r"cat (\S+)", command)
+        if made and not os.path.exists(os.path.join(self.folder, made.group(1))):
+            with open(os.path.join(self.folder, made.group(1)), "w", encoding="utf-8") as file:
+                file.write(lines_of(shown))
+            return
+        ran = subprocess.run(["bash", "-c", command], cwd=self.folder, env=self.environment, stdout=subprocess.PIPE, check=False)
+        self.compare(where, command, lines_of(shown), ran.stdout.decode("utf-8", "replace"))
+
+    def document(self, name):
+        with open(os.path.join(TOP, name), encoding="utf-8") as file:
+            text = file.read()
+        for first, paragraph, block in blocks(text):
+            found = commands(block)
+            for place, command, shown in found:
+                self.command("%s:%d" % (name, first + place), command, shown)
+            named = re.findall(r"`(examples/[a-z_./]+)`", paragraph)
+            if not found and named and paragraph.rstrip().endswith(":"):
+                with open(os.path.join(TOP, named[0]), encoding="utf-8") as file:
+                    self.compare("%s:%d" % (name, first), named[0], lines_of(block), file.read())
+
+
+def main():
+    program = os.path.abspath(sys.argv[1])
+    with tempfile.TemporaryDirectory() as folder:
+        shutil.copytree(os.path.join(TOP, "examples"), os.path.join(folder, "examples"))
+        os.mkdir(os.path.join(folder, "bin"))
+        for name in ("khe", "bin/khe"):
+            with open(os.path.join(folder, name), "w", encoding="utf-8") as file:
+                file.write('#!/usr/bin/env bash\nexec "%s" "$@"\n' % program)
+            os.chmod(os.path.join(folder, name), 0o755)
+        comparison = Comparison(folder)
+        for name in DOCUMENTS:
+            comparison.document(name)
+    print("%d compared, %d differing" % (comparison.compared, comparison.differing))
+    sys.exit(1 if comparison.differing or not comparison.compared else 0)
+
+
+main()
