@@ -5,7 +5,7 @@
 #
 #     bench/doubling.sh KHE [SOLUTIONS]
 #
-# KHE is a proved program, say crates/khe_cli/out/khe_cli. SOLUTIONS (20 if missing, at most 24) is how many
+# KHE is a proved program, say ~/.cache/khe/khe. SOLUTIONS (20 if missing, at most 24) is how many
 # solutions each archive has. Run it by hand, on a quiet machine: it is no part of the gate.
 . "$(dirname "$0")/setup.sh"
 solutions=${2:-20}

@@ -5,7 +5,7 @@
 #
 #     bench/scripts.sh KHE [ARCHIVE SCRIPT]
 #
-# KHE is a proved program, say crates/khe_cli/out/khe_cli. Without the other words the archive is one of 300
+# KHE is a proved program, say ~/.cache/khe/khe. Without the other words the archive is one of 300
 # events by archives.py, and the script moves its meets, exchanges them and gives their tasks other
 # resources, with a mark around each few edits that is mostly undone. Run it by hand, on a quiet machine: it
 # is no part of the gate.

@@ -5,7 +5,7 @@
 #
 #     bench/whole.sh KHE [ROUNDS]
 #
-# KHE is a proved program, say crates/khe_cli/out/khe_cli. ROUNDS (1 if missing, at most 12) is how often
+# KHE is a proved program, say ~/.cache/khe/khe. ROUNDS (1 if missing, at most 12) is how often
 # each kind of constraint stands. Run it by hand, on a quiet machine: it is no part of the gate.
 . "$(dirname "$0")/setup.sh"
 rounds=${2:-1}

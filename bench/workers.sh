@@ -7,7 +7,7 @@
 #
 #     bench/workers.sh KHE [WORKERS]
 #
-# KHE is a proved program, say crates/khe_cli/out/khe_cli. WORKERS (4 if missing) is the number of the several.
+# KHE is a proved program, say ~/.cache/khe/khe. WORKERS (4 if missing) is the number of the several.
 # Run it by hand, on a quiet machine with as many processors: it is no part of the gate.
 . "$(dirname "$0")/setup.sh"
 workers=${2:-4}
