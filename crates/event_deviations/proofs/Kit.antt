@@ -158,4 +158,3 @@ count_one k n = by 0 n
         step (inr ne) rest =
             let y : cond {A = ℕ} (a == k) 1 0 ≡ 0 = ap (λ b. cond {A = ℕ} b 1 0) (ne_eqb a k ne) in
             omega arith
-
