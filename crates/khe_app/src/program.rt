@@ -57,11 +57,11 @@ pub enum Play {
     Run(Begun, Seq<u8>),
 }
 
-/// Why an archive has no answer.
+/// Why there is no answer: what was to be read could not be, or memory ran out.
 #[derive(Clone, Copy, Debug, PartialEq, Eq, Error)]
 pub enum Stop {
     /// The shelf refused a call.
-    #[error("the archive could not be read")]
+    #[error("a file could not be read")]
     ReadFault,
     /// Memory was refused.
     #[error("out of memory")]

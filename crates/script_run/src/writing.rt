@@ -6,7 +6,7 @@ use khe_base::{NoMemory, Text};
 use khe_io::{Failed, Sink, put_all};
 use std::alloc::Global;
 
-/// Why a report was cut off.
+/// Why a text was cut off.
 #[derive(Clone, Copy, Debug, PartialEq, Eq)]
 pub enum Cut {
     /// The sink refused a call.
