@@ -1,9 +1,12 @@
 -- Deviations at events, places and pairs.
-use Rattle.std.proofs.Common.{◌≡◌, ◌∙◌, sym, ap, refl, ℕ, ◌+◌, ◌<◌, ◌≤◌, max, min, Option, Some, None, List, [], ◌∷◌, ◌++◌, length, get_or, take, arith, All, IfSome, sum_by, filter_map}
+use Rattle.std.proofs.Common.{◌≡◌, ◌∙◌, sym, ap, refl, ℕ, pos, ◌+◌, ◌<◌, ◌≤◌, max, min, Option, Some, None, List, [], ◌∷◌, ◌++◌, length, get_or, take, arith, All, IfSome, sum_by, filter_map}
 use Rattle.std.specs.Option.{option_map_or}
+use Rattle.std.specs.Prelude.{◌-ℤ◌}
+use Rattle.std.proofs.lemmas.Int.{ints}
 use Rattle.std.proofs.lemmas.List.{take_more, append-nil}
 use Rattle.std.proofs.lemmas.List.Elements.{All-head, All-tail, filter_map-append}
 use Rattle.std.proofs.lemmas.List.Sums.{sum_by-cons, fold_push}
+use Rattle.khe_base.specs.Bounds.{outside}
 use Rattle.khe_instance.specs.declared.states.Meet.{Meet}
 use Rattle.event_deviations.specs.Ends.{greatest_of, least_of}
 
@@ -19,6 +22,10 @@ few (m ∷ ms) h =
 pub sum_of_ones : (ms : List Meet) → sum_by (λ m. 1) ms ≡ length ms
 sum_of_ones [] = refl
 sum_of_ones (m ∷ ms) = let rest = sum_of_ones ms in omega (arith, sum_by-cons (λ (x : Meet). 1) m ms)
+
+-- how far a difference of two numbers lies outside bounds
+pub outside_small : (a b least greatest : ℕ) → outside (pos a -ℤ pos b) (pos least) (pos greatest) ≤ a + b + least
+outside_small a b least greatest = grind (arith, ints)
 
 -- the greatest and the least with one more
 greatest_of-push : (xs : List ℕ) (y : ℕ) → greatest_of (xs ++ y ∷ []) ≡ Some (option_map_or (λ n. max n y) (greatest_of xs) y)
