@@ -1,14 +1,18 @@
 -- The totals while a count is turned.
-use Rattle.std.proofs.Common.{ℕ, ◌≡◌, ◌≤◌, ◌<◌, ◌+◌, ◌-◌, ◌*◌, ◌∙◌, zero, suc, List, [], ◌∷◌, replicate, set, take, get_or, length, slice_index, refl, sym, ap, arith, sum_by, ◌⊎◌, inl, inr, get_or-set_same}
+use Rattle.std.proofs.Common.{ℕ, ◌≡◌, ◌≤◌, ◌<◌, ◌+◌, ◌-◌, ◌*◌, ◌∙◌, zero, suc, List, [], ◌∷◌, set, take, get_or, length, slice_index, refl, sym, ap, arith, sum_by, ◌⊎◌, inl, inr, get_or-set_same}
 use Rattle.std.specs.List.{range_with_len}
 use Rattle.std.proofs.lemmas.Bool.{cases_eq}
-use Rattle.std.proofs.lemmas.List.{length-set, length-replicate, take_all, get_or-set_other}
+use Rattle.std.proofs.lemmas.List.{length-set, take_all, get_or-set_other}
 use Rattle.std.proofs.lemmas.List.Sums.{sum_by-cons, sum_by-set, sum_by_more, get_or-le-sum_by}
+use Rattle.std.proofs.lemmas.Option.{slice_get-get_or, get_or_from_slice_get}
 use Rattle.khe_base.specs.declared.limits.TheConstants.{GREATEST_COUNT, TIMES}
 use Rattle.khe_instance.proofs.SumsLemmas.{sum_by_range_more}
-use Rattle.timetables.specs.Counts.{no_counts, row_of, count_at, with_count}
+use Rattle.timetables.specs.Counts.{row_of, count_at, with_count}
 use Rattle.resource_monitors.specs.Clashes.{HasClashes, clashes_of}
-use Rattle.resource_monitors.proofs.OpenLaws.{none_count, none_row}
+
+-- what is read at a place
+pub read_at : (xs : List ℕ) (i v : ℕ) → i < length xs → v ≡ get_or xs i v → v ≡ slice_index xs i
+read_at xs i v l is = is ∙ get_or_from_slice_get xs i (get_or xs i 0) v (slice_get-get_or xs i 0 l)
 
 -- a sum over the times is one over the row
 over_times : (row : List ℕ) (n : ℕ) → n ≤ length row → sum_by (λ k. k - 1) (take n row) ≡ sum_by (λ t. slice_index row t - 1) (range_with_len 0 n)
@@ -38,29 +42,6 @@ total_small rows totals h r =
     let b = h.short r in
     let c = h.each r in
     omega (arith, a, b, c)
-
-no_clashes : (n : ℕ) → clashes_of (replicate n 0) ≡ 0
-no_clashes zero = refl
-no_clashes (suc n) = sum_by-cons (λ (m : ℕ). m - 1) 0 (replicate n 0) ∙ no_clashes n
-
--- where all counts are 0
-pub totals_start : (n m : ℕ) → m ≤ TIMES → HasClashes (no_counts n m) (replicate n 0)
-totals_start n m l = record {
-  amount = length-replicate n 0 ∙ sym (length-replicate n (replicate m 0));
-  short = λ r. short n r;
-  few = λ r t. (let z = none_count n m r t in omega (arith, z));
-  each = λ r. none_row n r ∙ sym (each n r);
-}
-  where
-    short : (n r : ℕ) → length (row_of (no_counts n m) r) ≤ TIMES
-    short zero r = omega arith
-    short (suc n) zero = let z = length-replicate m 0 in omega (arith, z, l)
-    short (suc n) (suc r) = short n r
-
-    each : (n r : ℕ) → clashes_of (row_of (no_counts n m) r) ≡ 0
-    each zero r = refl
-    each (suc n) zero = no_clashes m
-    each (suc n) (suc r) = each n r
 
 module _ (rows : List (List ℕ)) (totals : List ℕ) (h : HasClashes rows totals) (r t : ℕ) (there : r < length rows) (time : t < length (row_of rows r)) where
   -- one count's part

@@ -102,6 +102,7 @@ impl<K: CellKinds> Family for Cells<K> {
     ghost IsOf = { λ f p. IsFamily K.serves_kind p f.told f.table f.sets f.lists.items };
 
     fn open(alloc: Global, inst: &Instance) -> Result<Cells<K>, NoMemory> {
+        inst.facts();
         let lists = lists_of::<K>(alloc, inst)?;
         let told = Told::open(alloc, inst)?;
         let table = CellTable::open(alloc, inst.resources(), inst.times())?;
