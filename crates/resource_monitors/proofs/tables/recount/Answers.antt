@@ -1,8 +1,8 @@
 -- The total changes as the count's part does.
-use Rattle.std.proofs.Common.{◌≡◌, ◌<◌, ◌+◌, ◌-◌, ◌∙◌, length, set, slice_index, ap, subst, sym, arith, List, ℕ}
+use Rattle.std.proofs.Common.{◌≡◌, ◌<◌, ◌+◌, ◌-◌, ◌∙◌, length, set, slice_index, ap, subst, arith}
 use Rattle.timetables.specs.Counts.{with_count, count_at}
 use Rattle.resource_monitors.specs.Clashes.{HasClashes}
-use Rattle.resource_monitors.proofs.ClashLaws.{read_at, total_small, part, total_turned}
+use Rattle.resource_monitors.proofs.ClashLaws.{read_at, total_small, total_turned}
 use Rattle.resource_monitors.proofs.tables.recount.Goals as goal
 
 pub overflow_add-total : goal.overflow_add-total
