@@ -1,3 +1,4 @@
+pub mod ClashLaws
 pub mod CountLaws
 pub mod FamilyLaws
 pub mod FollowLaws

@@ -1,4 +1,5 @@
 pub mod Cells
+pub mod Clashes
 pub mod Families
 pub mod KindsAtCells
 pub mod Posts

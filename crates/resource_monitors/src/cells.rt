@@ -15,6 +15,7 @@ use crate::posts::{Post, lists_of};
 use crate::reports::report_all;
 use crate::rooms::TimeSets;
 use crate::runs::{given_by, limit_for, named_by, run_of};
+use crate::tables::CellTable;
 use crate::turns::turn_all;
 use crate::values::value;
 use khe_base::{MonitorId, NoMemory, Seq};
@@ -23,7 +24,6 @@ use khe_told::{Change, Family, Steps, Tally, Told};
 use std::alloc::Global;
 use std::marker::PhantomData;
 use std::sync::ledger::Ledger;
-use timetables::Timetable;
 
 /// A family of kinds that are measured by how many tasks of a resource run at each time.
 ///
@@ -35,7 +35,7 @@ use timetables::Timetable;
 #[derive(Drop)]
 pub struct Cells<K> {
     told: Told,
-    table: Timetable,
+    table: CellTable,
     sets: TimeSets,
     lists: Vec<Seq<Post>>,
     kinds: PhantomData<K>,
@@ -49,7 +49,7 @@ fn follow<K: CellKinds, Y: Tally, L: Ledger>(
     change: Change,
     sets: &TimeSets,
     lists: &[Seq<Post>],
-    table: &mut Timetable,
+    table: &mut CellTable,
     tally: &mut Y,
     steps: &mut Steps<L>,
 )
@@ -102,9 +102,10 @@ impl<K: CellKinds> Family for Cells<K> {
     ghost IsOf = { λ f p. IsFamily K.serves_kind p f.told f.table f.sets f.lists.items };
 
     fn open(alloc: Global, inst: &Instance) -> Result<Cells<K>, NoMemory> {
+        inst.facts();
         let lists = lists_of::<K>(alloc, inst)?;
         let told = Told::open(alloc, inst)?;
-        let table = Timetable::open(alloc, inst.resources(), inst.times())?;
+        let table = CellTable::open(alloc, inst.resources(), inst.times())?;
         let sets = TimeSets::open(alloc, inst)?;
         Ok(Cells {
             told,

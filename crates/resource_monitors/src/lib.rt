@@ -10,6 +10,7 @@ mod posts;
 mod reports;
 mod rooms;
 mod runs;
+mod tables;
 mod turns;
 mod values;
 

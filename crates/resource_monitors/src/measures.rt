@@ -1,29 +1,16 @@
-ghost use Rattle.std.specs.Prelude.{◌≡◌, ◌+◌, ◌-◌, ◌*◌, ◌^◌, ◌<◌, ◌≤◌, nat_lt, length, All, slice_index};
-ghost use Rattle.std.specs.List.{count_by, sum_by, range_with_len};
+ghost use Rattle.std.specs.Prelude.{◌≡◌, ◌+◌, ◌*◌, ◌^◌, ◌<◌, ◌≤◌, nat_lt, length, All};
+ghost use Rattle.std.specs.List.{count_by, sum_by};
 ghost use Rattle.khe_base.specs.Bounds.{count_outside};
 ghost use Rattle.khe_base.specs.declared.limits.TheConstants.{LISTED, TIMES};
 ghost use Rattle.khe_instance.specs.ResourceDeviation.{used_outside};
 ghost use Rattle.timetables.specs.Counts.{row_of, busy_times, idle_times};
 
-use khe_base::{ResourceId, TimeId, count_out};
-use timetables::{Mask, Timetable};
-
-/// For each time, how many tasks of the resource run then beyond one. It takes time in proportion
-/// to the times.
-pub(crate) fn clashes(table: &Timetable, r: ResourceId, times: u32) -> u64
-    requires resource { r.0 < length table.now }
-    requires times { length (row_of table.now r.0) ≡ times }
-    ensures { result ≡ sum_by (λ t. slice_index (row_of table.now r.0) t - 1) (range_with_len 0 times) }
-{
-    let mut total = 0;
-    for t in 0..times {
-        total += u64::from(table.count(r, TimeId(t)).saturating_sub(1));
-    }
-    total
-}
+use crate::tables::CellTable;
+use khe_base::{ResourceId, count_out};
+use timetables::Mask;
 
 /// The busy times of all sets together.
-pub(crate) fn busy_total(table: &Timetable, r: ResourceId, masks: &[Mask]) -> u64
+pub(crate) fn busy_total(table: &CellTable, r: ResourceId, masks: &[Mask]) -> u64
     requires resource { r.0 < length table.now }
     requires sizes { All (λ m. length m ≡ length (row_of table.now r.0)) masks.now }
     requires few { length masks.now ≤ LISTED }
@@ -38,7 +25,7 @@ pub(crate) fn busy_total(table: &Timetable, r: ResourceId, masks: &[Mask]) -> u6
 
 /// How far the idle times of all sets together lie outside the bounds.
 pub(crate) fn idle_outside(
-    table: &Timetable,
+    table: &CellTable,
     r: ResourceId,
     masks: &[Mask],
     least: u32,
@@ -59,7 +46,7 @@ pub(crate) fn idle_outside(
 
 /// How far the number of sets with a busy time lies outside the bounds.
 pub(crate) fn busy_sets_outside(
-    table: &Timetable,
+    table: &CellTable,
     r: ResourceId,
     masks: &[Mask],
     least: u32,
@@ -81,7 +68,7 @@ pub(crate) fn busy_sets_outside(
 
 /// For each set with a busy time, how far the number of its busy times lies outside the bounds.
 pub(crate) fn busy_outside(
-    table: &Timetable,
+    table: &CellTable,
     r: ResourceId,
     masks: &[Mask],
     least: u32,

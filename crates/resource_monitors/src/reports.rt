@@ -13,12 +13,12 @@ ghost use Rattle.resource_monitors.specs.declared.posts.Post.{Post};
 use crate::kinds::{CellKinds, is_by_busy};
 use crate::posts::Post;
 use crate::rooms::TimeSets;
+use crate::tables::CellTable;
 use crate::values::value;
 use khe_base::{IdSet, ResourceId, Seq, TimeId};
 use khe_instance::{Instance, Kind, Monitor, Rule};
 use khe_told::{Steps, Tally};
 use std::sync::ledger::Ledger;
-use timetables::Timetable;
 
 /// Whether one of the groups has a time.
 fn has_time(groups: &[IdSet], time: u32) -> bool
@@ -87,7 +87,7 @@ fn is_due(inst: &Instance, monitor: Monitor, start: u32, end: u32, low: bool) ->
 fn report_one<Y: Tally, L: Ledger>(
     inst: &Instance,
     sets: &TimeSets,
-    table: &Timetable,
+    table: &CellTable,
     start: u32,
     end: u32,
     low: bool,
@@ -116,7 +116,7 @@ fn report_one<Y: Tally, L: Ledger>(
 fn report<Y: Tally, L: Ledger>(
     inst: &Instance,
     sets: &TimeSets,
-    table: &Timetable,
+    table: &CellTable,
     start: u32,
     end: u32,
     low: bool,
@@ -141,7 +141,7 @@ fn report<Y: Tally, L: Ledger>(
 }
 
 /// Whether one of a resource's counts at the times of a run is no more than a limit.
-fn is_low(table: &Timetable, r: ResourceId, start: u32, end: u32, limit: usize) -> bool
+fn is_low(table: &CellTable, r: ResourceId, start: u32, end: u32, limit: usize) -> bool
     requires resource { r.0 < length table.now }
     requires times { end ≤ length (row_of table.now r.0) }
     ensures { result ≡ is_low table.now start end limit r.0 }
@@ -158,7 +158,7 @@ fn is_low(table: &Timetable, r: ResourceId, start: u32, end: u32, limit: usize) 
 fn report_place<K: CellKinds, Y: Tally, L: Ledger>(
     inst: &Instance,
     sets: &TimeSets,
-    table: &Timetable,
+    table: &CellTable,
     start: u32,
     end: u32,
     limit: usize,
@@ -191,7 +191,7 @@ fn report_place<K: CellKinds, Y: Tally, L: Ledger>(
 pub(crate) fn report_all<K: CellKinds, Y: Tally, L: Ledger>(
     inst: &Instance,
     sets: &TimeSets,
-    table: &Timetable,
+    table: &CellTable,
     start: u32,
     end: u32,
     limit: usize,

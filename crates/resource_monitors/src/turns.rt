@@ -6,11 +6,11 @@ ghost use Rattle.resource_monitors.specs.Cells.{AreRaised, AreAbove, in_run, giv
 ghost use Rattle.resource_monitors.specs.Runs.{AreOf, Turned};
 
 use crate::runs::Run;
+use crate::tables::CellTable;
 use khe_base::{ResourceId, TimeId};
-use timetables::Timetable;
 
 /// One more task of a resource at each time of a run.
-fn fill(table: &mut Timetable, r: ResourceId, start: u32, end: u32)
+fn fill(table: &mut CellTable, r: ResourceId, start: u32, end: u32)
     requires resource { r.0 < length table.old }
     requires order { start ≤ end }
     requires times { end ≤ length (row_of table.old r.0) }
@@ -23,7 +23,7 @@ fn fill(table: &mut Timetable, r: ResourceId, start: u32, end: u32)
 }
 
 /// One task of a resource less at each time of a run.
-fn free(table: &mut Timetable, r: ResourceId, start: u32, end: u32)
+fn free(table: &mut CellTable, r: ResourceId, start: u32, end: u32)
     requires resource { r.0 < length table.old }
     requires order { start ≤ end }
     requires times { end ≤ length (row_of table.old r.0) }
@@ -36,7 +36,7 @@ fn free(table: &mut Timetable, r: ResourceId, start: u32, end: u32)
 }
 
 /// One more task, at each time of a run, of the resource that a place is given.
-fn fill_place(table: &mut Timetable, place: Option<ResourceId>, start: u32, end: u32)
+fn fill_place(table: &mut CellTable, place: Option<ResourceId>, start: u32, end: u32)
     requires resource { (r : ResourceId) → place ≡ Some r → r.0 < length table.old }
     requires order { start ≤ end }
     requires times { (q : ℕ) → q < length table.old → end ≤ length (row_of table.old q) }
@@ -52,7 +52,7 @@ fn fill_place(table: &mut Timetable, place: Option<ResourceId>, start: u32, end:
 }
 
 /// One task less.
-fn free_place(table: &mut Timetable, place: Option<ResourceId>, start: u32, end: u32)
+fn free_place(table: &mut CellTable, place: Option<ResourceId>, start: u32, end: u32)
     requires resource { (r : ResourceId) → place ≡ Some r → r.0 < length table.old }
     requires order { start ≤ end }
     requires times { (q : ℕ) → q < length table.old → end ≤ length (row_of table.old q) }
@@ -68,7 +68,7 @@ fn free_place(table: &mut Timetable, place: Option<ResourceId>, start: u32, end:
 }
 
 /// One more task, at each time of a run, for each place of the resource that it is given.
-fn fill_all(table: &mut Timetable, given: &[Option<ResourceId>], start: u32, end: u32)
+fn fill_all(table: &mut CellTable, given: &[Option<ResourceId>], start: u32, end: u32)
     requires resources { AreOf given.now (length table.old) }
     requires order { start ≤ end }
     requires times { (q : ℕ) → q < length table.old → end ≤ length (row_of table.old q) }
@@ -83,7 +83,7 @@ fn fill_all(table: &mut Timetable, given: &[Option<ResourceId>], start: u32, end
 }
 
 /// One task less for each of them.
-fn free_all(table: &mut Timetable, given: &[Option<ResourceId>], start: u32, end: u32)
+fn free_all(table: &mut CellTable, given: &[Option<ResourceId>], start: u32, end: u32)
     requires resources { AreOf given.now (length table.old) }
     requires order { start ≤ end }
     requires times { (q : ℕ) → q < length table.old → end ≤ length (row_of table.old q) }
@@ -98,7 +98,7 @@ fn free_all(table: &mut Timetable, given: &[Option<ResourceId>], start: u32, end
 }
 
 /// Fills or empties the cells of a run, for each place those of the resource that it is given.
-pub(crate) fn turn_all(table: &mut Timetable, given: &[Option<ResourceId>], run: Run)
+pub(crate) fn turn_all(table: &mut CellTable, given: &[Option<ResourceId>], run: Run)
     requires resources { AreOf given.now (length table.old) }
     requires order { run.start ≤ run.end }
     requires times { (q : ℕ) → q < length table.old → run.end ≤ length (row_of table.old q) }

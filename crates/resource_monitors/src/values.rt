@@ -6,20 +6,21 @@ ghost use Rattle.timetables.specs.Counts.{row_of};
 ghost use Rattle.resource_monitors.specs.Cells.{is_at_cells, HasRows, value_in};
 ghost use Rattle.resource_monitors.specs.Sets.{room_for, sets_of};
 
-use crate::measures::{busy_outside, busy_sets_outside, busy_total, clashes, idle_outside};
+use crate::measures::{busy_outside, busy_sets_outside, busy_total, idle_outside};
 use crate::rooms::TimeSets;
+use crate::tables::CellTable;
 use khe_base::ResourceId;
 use khe_instance::{Instance, Monitor, Point, Rule};
-use timetables::{Mask, Timetable};
+use timetables::Mask;
 
-/// What a rule measures at a resource, by the masks of its sets and the counts. It takes time in
-/// proportion to the times for AvoidClashes, and else to the words, of 64 times each, from the first
+/// What a rule measures at a resource, by the masks of its sets and the counts. It takes constant
+/// time for AvoidClashes, and else time in proportion to the words, of 64 times each, from the first
 /// time to the last of each set.
 pub(crate) fn measure(
     inst: &Instance,
     rule: &Rule,
     masks: &[Mask],
-    table: &Timetable,
+    table: &CellTable,
     r: ResourceId,
 ) -> u64
     requires rule { IsRule inst.now rule.now }
@@ -31,7 +32,7 @@ pub(crate) fn measure(
 {
     inst.facts();
     match rule {
-        Rule::AvoidClashes => clashes(table, r, inst.times()),
+        Rule::AvoidClashes => table.clashes(r),
         Rule::AvoidUnavailableTimes { .. } => busy_total(table, r, masks),
         Rule::LimitIdleTimes { min, max, .. } => idle_outside(table, r, masks, *min, *max),
         Rule::ClusterBusyTimes { min, max, .. } => busy_sets_outside(table, r, masks, *min, *max),
@@ -42,7 +43,7 @@ pub(crate) fn measure(
 }
 
 /// What a monitor measures at its resource.
-pub(crate) fn value(inst: &Instance, sets: &TimeSets, table: &Timetable, monitor: Monitor) -> u64
+pub(crate) fn value(inst: &Instance, sets: &TimeSets, table: &CellTable, monitor: Monitor) -> u64
     requires monitor { IsMonitor inst.now monitor }
     requires kind { is_at_cells monitor.kind ≡ true }
     requires sets { sets.now ≡ room_for inst.now }
