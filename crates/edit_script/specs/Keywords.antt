@@ -45,10 +45,10 @@ row_of keyword.Show = (codes "show", 0)
 -- all keywords
 abbrev pub keywords : List Keyword
 keywords =
-    keyword.Assign ∷ keyword.Unassign ∷ keyword.Move ∷ keyword.Split ∷ keyword.Merge ∷ keyword.Swap ∷ keyword.Give ∷ keyword.Take ∷ keyword.Regive ∷ keyword.Trade
+    keyword.Move ∷ keyword.Swap ∷ keyword.Regive ∷ keyword.Trade ∷ keyword.Begin ∷ keyword.End ∷ keyword.Undo
+    ∷ keyword.Assign ∷ keyword.Unassign ∷ keyword.Give ∷ keyword.Take ∷ keyword.Split ∷ keyword.Merge
     ∷ keyword.Attach ∷ keyword.Detach ∷ keyword.Group ∷ keyword.Drop ∷ keyword.Add ∷ keyword.Remove
-    ∷ keyword.Begin ∷ keyword.End ∷ keyword.Undo ∷ keyword.UndoTo
-    ∷ keyword.Monitor ∷ keyword.Monitors ∷ keyword.GroupCost ∷ keyword.Total ∷ keyword.Show
+    ∷ keyword.UndoTo ∷ keyword.Monitor ∷ keyword.Monitors ∷ keyword.GroupCost ∷ keyword.Total ∷ keyword.Show
     ∷ []
 
 -- the one among these whose name is this word

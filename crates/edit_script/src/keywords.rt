@@ -35,27 +35,28 @@ pub(crate) enum Keyword {
     Show,
 }
 
-/// All of them.
+/// All of them. The words that long scripts are made of stand first, since a word is compared with one
+/// name after the other.
 const KEYWORDS: [Keyword; 25] = [
-    Keyword::Assign,
-    Keyword::Unassign,
     Keyword::Move,
-    Keyword::Split,
-    Keyword::Merge,
     Keyword::Swap,
-    Keyword::Give,
-    Keyword::Take,
     Keyword::Regive,
     Keyword::Trade,
+    Keyword::Begin,
+    Keyword::End,
+    Keyword::Undo,
+    Keyword::Assign,
+    Keyword::Unassign,
+    Keyword::Give,
+    Keyword::Take,
+    Keyword::Split,
+    Keyword::Merge,
     Keyword::Attach,
     Keyword::Detach,
     Keyword::Group,
     Keyword::Drop,
     Keyword::Add,
     Keyword::Remove,
-    Keyword::Begin,
-    Keyword::End,
-    Keyword::Undo,
     Keyword::UndoTo,
     Keyword::Monitor,
     Keyword::Monitors,
