@@ -45,6 +45,26 @@ agrees_on {G} keeps value exact p served posts s s2 gauges0 gauges ds0 ds all sa
         u.follows k refl _ old.0 new.0 at old.1 new.1 (agrees i m there serves ∙ ap Some (exact old.0 p m s (kept k _ old.0 at old.1)))
         ∙ sym (ap Some (exact new.0 p m s2 (u.kept k _ new.0 refl at new.1)))
 
+-- and after a change that no gauge hears
+pub agrees_deaf : {G : Type 0} (keeps : G → Parts → Monitor → List Slot → Type 0) (value : G → Parts → Monitor → ℕ)
+    (exact : (g : G) (p : Parts) (m : Monitor) (s : List Slot) → keeps g p m s → deviation_in p s m ≡ value g p m)
+    (p : Parts) (served : Kind → Bool) (posts : List Post) (s s2 : List Slot) (gauges : List G) (ds : List ℕ)
+    → ArePosts p served posts → length gauges ≡ length posts → AreKept keeps p posts gauges s → AreKept keeps p posts gauges s2
+    → Agrees p served s ds → Agrees p served s2 ds
+agrees_deaf {G} keeps value exact p served posts s s2 gauges ds all same kept still agrees i m there serves =
+    let found = all.all i m there serves in
+    let k = found.0 in
+    let l = slice_get_within posts k _ found.1 in
+    by k found.1 (pick gauges k (omega (arith, same, l)))
+  where
+    pick : (xs : List G) (k : ℕ) → k < length xs → (g : G) × (slice_get xs k ≡ Some g)
+    pick [] k l = absurd (omega arith)
+    pick (x ∷ xs) zero l = (x, refl)
+    pick (x ∷ xs) (suc k) l = pick xs k (omega arith)
+
+    by : (k : ℕ) → slice_get posts k ≡ Some (record { number = record { 0 = i }; monitor = m }) → ((g : G) × (slice_get gauges k ≡ Some g)) → slice_get ds i ≡ Some (deviation_in p s2 m)
+    by k at one = agrees i m there serves ∙ ap Some (exact one.0 p m s (kept k _ one.0 at one.1)) ∙ sym (ap Some (exact one.0 p m s2 (still k _ one.0 at one.1)))
+
 pub list_of : (p : Parts) (posts : List Post) (lists : List (List ℕ)) (e : ℕ) (list : List ℕ) → AreListed p posts lists → e < length p.events → list ≡ get_or lists e list → list ≡ posts_at p posts e
 list_of p posts lists e list h l is = let r = h.rows in is ∙ h.each e (get_or lists e list) (slice_get-get_or lists e list (omega (arith, r, l)))
 

@@ -1,5 +1,5 @@
 -- Assign Resource: the duration of the tasks at a place without a resource.
-use Rattle.std.proofs.Common.{ℕ, ◌≡◌, ◌≤◌, true, Option, List, is_none, sym, subst}
+use Rattle.std.proofs.Common.{ℕ, ◌≡◌, ◌≤◌, true, Option, List, is_none, sym, subst, false}
 use Rattle.khe_base.specs.declared.numbers.ResourceId.{ResourceId}
 use Rattle.khe_instance.specs.Deviation.{deviation_at}
 use Rattle.khe_instance.specs.EventDeviation.{unfilled_duration}
@@ -12,18 +12,24 @@ use Rattle.khe_instance.specs.declared.points.Point.TheVariants.{Event, EventRes
 use Rattle.khe_instance.specs.declared.rules.Kind.TheVariants as kind
 use Rattle.khe_instance.specs.declared.rules.Rule.{Rule}
 use Rattle.khe_instance.specs.declared.rules.Rule.TheVariants.{AssignResource}
+use Rattle.khe_told.specs.Changes.{given_after, span_after}
 use Rattle.khe_told.specs.Lists.{meets_in, duties_in}
+use Rattle.khe_told.specs.declared.changes.Change.{Change}
 use Rattle.khe_told.specs.declared.slots.Slot.{Slot}
 use Rattle.khe_told.specs.declared.slots.Span.{Span}
 use Rattle.event_monitors.specs.DutySums.{sum_over_duties}
-use Rattle.event_monitors.specs.ShareLaws.{part_bounded, rule_of_kind, task_bounded}
-use Rattle.event_monitors.specs.Shares.{most_of, task_share, total_at}
+use Rattle.event_monitors.specs.ShareLaws.{part_bounded, rule_of_kind, task_bounded, tasks_kept}
+use Rattle.event_monitors.specs.Shares.{changes_tasks, given_at, most_of, task_share, total_at}
 
 abbrev pub unfilled : Rule → Option Span → Option (Option ResourceId) → ℕ
 unfilled rule span given = task_share unfilled_duration span given
 
 pub unfilled_bounded : (rule : Rule) (span : Option Span) (given : Option (Option ResourceId)) → unfilled rule span given ≤ most_of span
 unfilled_bounded rule span given = task_bounded unfilled_duration (λ (r : Option ResourceId) n. part_bounded (is_none r) n) span given
+
+pub unfilled_unheard : (rule : Rule) (span : Option Span) (given : List (Option ResourceId)) (point : Point) (c : Change) → changes_tasks c ≡ false
+    → unfilled rule (span_after span c) (given_at point (given_after given c)) ≡ unfilled rule span (given_at point given)
+unfilled_unheard rule span given point c e = tasks_kept unfilled_duration span given point c e
 
 pub unfilled_exact : (p : Parts) (s : List Slot) (r : Rule) (point : Point) → is_kind (kind_of r) kind.AssignResource ≡ true → IsPointOf p r point
     → deviation_at p (meets_in s) (duties_in s) r point ≡ total_at unfilled p r point s

@@ -1,5 +1,5 @@
 -- Distribute Split Events: by how many the event has too few or too many meets of a duration.
-use Rattle.std.proofs.Common.{ℕ, ◌≡◌, ◌≤◌, ◌==◌, true, cond, Option, List, sym, ap, subst, arith}
+use Rattle.std.proofs.Common.{ℕ, ◌≡◌, ◌≤◌, ◌==◌, true, cond, Option, List, sym, ap, subst, arith, false, refl}
 use Rattle.khe_base.specs.Bounds.{count_outside}
 use Rattle.khe_base.specs.declared.numbers.ResourceId.{ResourceId}
 use Rattle.khe_base.specs.declared.numbers.TimeId.{TimeId}
@@ -13,12 +13,14 @@ use Rattle.khe_instance.specs.declared.points.Point.TheVariants.{Event, EventRes
 use Rattle.khe_instance.specs.declared.rules.Kind.TheVariants as kind
 use Rattle.khe_instance.specs.declared.rules.Rule.{Rule}
 use Rattle.khe_instance.specs.declared.rules.Rule.TheVariants.{DistributeSplitEvents}
+use Rattle.khe_told.specs.Changes.{given_after, span_after}
 use Rattle.khe_told.specs.Lists.{meets_in, duties_in}
+use Rattle.khe_told.specs.declared.changes.Change.{Change}
 use Rattle.khe_told.specs.declared.slots.Slot.{Slot}
 use Rattle.khe_told.specs.declared.slots.Span.{Span}
 use Rattle.event_monitors.specs.MeetSums.{sum_over_meets}
-use Rattle.event_monitors.specs.ShareLaws.{one_bounded, rule_of_kind, span_bounded}
-use Rattle.event_monitors.specs.Shares.{most_of, span_share, total_at}
+use Rattle.event_monitors.specs.ShareLaws.{durations_kept, one_bounded, rule_of_kind, span_bounded}
+use Rattle.event_monitors.specs.Shares.{changes_durations, given_at, most_of, span_share, total_at}
 
 -- one for a meet of the duration
 abbrev pub one_of : ℕ → Option TimeId → ℕ → ℕ
@@ -36,6 +38,11 @@ amount_outside _ total = 0
 pub of_duration_bounded : (rule : Rule) (span : Option Span) (given : Option (Option ResourceId)) → of_duration rule span given ≤ most_of span
 of_duration_bounded (DistributeSplitEvents only least greatest) span given = span_bounded (one_of only) (λ (start : Option TimeId) n. one_bounded (n == only) n) span
 of_duration_bounded _ span given = omega arith
+
+pub of_duration_unheard : (rule : Rule) (span : Option Span) (given : List (Option ResourceId)) (point : Point) (c : Change) → changes_durations c ≡ false
+    → of_duration rule (span_after span c) (given_at point (given_after given c)) ≡ of_duration rule span (given_at point given)
+of_duration_unheard (DistributeSplitEvents only least greatest) span given point c e = durations_kept (one_of only) (λ a b n. refl) span c e
+of_duration_unheard _ span given point c e = refl
 
 pub of_duration_exact : (p : Parts) (s : List Slot) (r : Rule) (point : Point) → is_kind (kind_of r) kind.DistributeSplitEvents ≡ true → IsPointOf p r point
     → deviation_at p (meets_in s) (duties_in s) r point ≡ amount_outside r (total_at of_duration p r point s)

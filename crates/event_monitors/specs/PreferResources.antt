@@ -1,5 +1,5 @@
 -- Prefer Resources: the duration of the tasks at a place with a resource outside the preferred ones.
-use Rattle.std.proofs.Common.{ℕ, ◌≡◌, ◌≤◌, Bool, true, Option, List, sym, subst, arith}
+use Rattle.std.proofs.Common.{ℕ, ◌≡◌, ◌≤◌, Bool, true, Option, List, sym, subst, arith, false, refl}
 use Rattle.khe_base.specs.declared.numbers.ResourceId.{ResourceId}
 use Rattle.khe_instance.specs.Deviation.{deviation_at}
 use Rattle.khe_instance.specs.EventDeviation.{given_outside, misfilled_duration}
@@ -12,12 +12,14 @@ use Rattle.khe_instance.specs.declared.points.Point.TheVariants.{Event, EventRes
 use Rattle.khe_instance.specs.declared.rules.Kind.TheVariants as kind
 use Rattle.khe_instance.specs.declared.rules.Rule.{Rule}
 use Rattle.khe_instance.specs.declared.rules.Rule.TheVariants.{PreferResources}
+use Rattle.khe_told.specs.Changes.{given_after, span_after}
 use Rattle.khe_told.specs.Lists.{meets_in, duties_in}
+use Rattle.khe_told.specs.declared.changes.Change.{Change}
 use Rattle.khe_told.specs.declared.slots.Slot.{Slot}
 use Rattle.khe_told.specs.declared.slots.Span.{Span}
 use Rattle.event_monitors.specs.DutySums.{sum_over_duties}
-use Rattle.event_monitors.specs.ShareLaws.{part_bounded, rule_of_kind, task_bounded}
-use Rattle.event_monitors.specs.Shares.{most_of, task_share, total_at}
+use Rattle.event_monitors.specs.ShareLaws.{part_bounded, rule_of_kind, task_bounded, tasks_kept}
+use Rattle.event_monitors.specs.Shares.{changes_tasks, given_at, most_of, task_share, total_at}
 
 abbrev pub misfilled : Rule → Option Span → Option (Option ResourceId) → ℕ
 misfilled (PreferResources resources role) span given = task_share (misfilled_duration resources) span given
@@ -27,6 +29,11 @@ pub misfilled_bounded : (rule : Rule) (span : Option Span) (given : Option (Opti
 misfilled_bounded (PreferResources resources role) span given =
     task_bounded (misfilled_duration resources) (λ (r : Option ResourceId) n. part_bounded (given_outside resources r) n) span given
 misfilled_bounded _ span given = omega arith
+
+pub misfilled_unheard : (rule : Rule) (span : Option Span) (given : List (Option ResourceId)) (point : Point) (c : Change) → changes_tasks c ≡ false
+    → misfilled rule (span_after span c) (given_at point (given_after given c)) ≡ misfilled rule span (given_at point given)
+misfilled_unheard (PreferResources resources role) span given point c e = tasks_kept (misfilled_duration resources) span given point c e
+misfilled_unheard _ span given point c e = refl
 
 pub misfilled_exact : (p : Parts) (s : List Slot) (r : Rule) (point : Point) → is_kind (kind_of r) kind.PreferResources ≡ true → IsPointOf p r point
     → deviation_at p (meets_in s) (duties_in s) r point ≡ total_at misfilled p r point s

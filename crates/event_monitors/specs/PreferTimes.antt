@@ -1,6 +1,6 @@
 -- Prefer Times: the duration of the event's meets with a start outside the preferred times, or of
 -- those alone of one duration.
-use Rattle.std.proofs.Common.{ℕ, ◌≡◌, ◌≤◌, ◌&&◌, Bool, true, Option, List, sym, subst, arith}
+use Rattle.std.proofs.Common.{ℕ, ◌≡◌, ◌≤◌, ◌&&◌, Bool, true, Option, List, sym, subst, arith, false, refl}
 use Rattle.khe_base.specs.declared.numbers.ResourceId.{ResourceId}
 use Rattle.khe_base.specs.declared.numbers.TimeId.{TimeId}
 use Rattle.khe_instance.specs.Deviation.{deviation_at}
@@ -14,12 +14,14 @@ use Rattle.khe_instance.specs.declared.points.Point.TheVariants.{Event, EventRes
 use Rattle.khe_instance.specs.declared.rules.Kind.TheVariants as kind
 use Rattle.khe_instance.specs.declared.rules.Rule.{Rule}
 use Rattle.khe_instance.specs.declared.rules.Rule.TheVariants.{PreferTimes}
+use Rattle.khe_told.specs.Changes.{given_after, span_after}
 use Rattle.khe_told.specs.Lists.{meets_in, duties_in}
+use Rattle.khe_told.specs.declared.changes.Change.{Change}
 use Rattle.khe_told.specs.declared.slots.Slot.{Slot}
 use Rattle.khe_told.specs.declared.slots.Span.{Span}
 use Rattle.event_monitors.specs.MeetSums.{sum_over_meets}
-use Rattle.event_monitors.specs.ShareLaws.{part_bounded, rule_of_kind, span_bounded}
-use Rattle.event_monitors.specs.Shares.{most_of, span_share, total_at}
+use Rattle.event_monitors.specs.ShareLaws.{meets_kept, part_bounded, rule_of_kind, span_bounded}
+use Rattle.event_monitors.specs.Shares.{changes_meets, given_at, most_of, span_share, total_at}
 
 abbrev pub misplaced : Rule → Option Span → Option (Option ResourceId) → ℕ
 misplaced (PreferTimes times only) span given = span_share (misplaced_duration times only) span
@@ -29,6 +31,11 @@ pub misplaced_bounded : (rule : Rule) (span : Option Span) (given : Option (Opti
 misplaced_bounded (PreferTimes times only) span given =
     span_bounded (misplaced_duration times only) (λ (start : Option TimeId) n. part_bounded (starts_outside times start && allows only n) n) span
 misplaced_bounded _ span given = omega arith
+
+pub misplaced_unheard : (rule : Rule) (span : Option Span) (given : List (Option ResourceId)) (point : Point) (c : Change) → changes_meets c ≡ false
+    → misplaced rule (span_after span c) (given_at point (given_after given c)) ≡ misplaced rule span (given_at point given)
+misplaced_unheard (PreferTimes times only) span given point c e = meets_kept (misplaced_duration times only) span c e
+misplaced_unheard _ span given point c e = refl
 
 pub misplaced_exact : (p : Parts) (s : List Slot) (r : Rule) (point : Point) → is_kind (kind_of r) kind.PreferTimes ≡ true → IsPointOf p r point
     → deviation_at p (meets_in s) (duties_in s) r point ≡ total_at misplaced p r point s

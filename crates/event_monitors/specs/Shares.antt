@@ -1,5 +1,5 @@
 -- Sums over the slots of the event that a monitor names, of what each slot counts for.
-use Rattle.std.specs.Prelude.{ℕ, ◌+◌, ◌*◌, if◌then◌else◌, Option, Some, None, List, slice_get}
+use Rattle.std.specs.Prelude.{ℕ, ◌+◌, ◌*◌, Bool, true, false, if◌then◌else◌, Option, Some, None, List, slice_get}
 use Rattle.std.specs.List.{sum_by}
 use Rattle.std.specs.Option.{option_map_or}
 use Rattle.khe_base.specs.declared.limits.TheConstants.{DURATION, NUMBER}
@@ -11,6 +11,8 @@ use Rattle.khe_instance.specs.declared.points.Monitor.{Monitor}
 use Rattle.khe_instance.specs.declared.points.Point.{Point}
 use Rattle.khe_instance.specs.declared.points.Point.TheVariants.{EventResource}
 use Rattle.khe_instance.specs.declared.rules.Rule.{Rule}
+use Rattle.khe_told.specs.declared.changes.Change.{Change}
+use Rattle.khe_told.specs.declared.changes.Change.TheVariants.{Add, Drop, Place as PlaceAt, Lift, Give, Take}
 use Rattle.khe_told.specs.declared.slots.Slot.{Slot}
 use Rattle.khe_told.specs.declared.slots.Span.{Span}
 
@@ -29,6 +31,23 @@ abbrev pub task_share : (Option ResourceId → ℕ → ℕ) → Option Span → 
 task_share f None given = 0
 task_share f (Some y) None = 0
 task_share f (Some y) (Some r) = f r y.duration
+
+-- whether a change may change what a meet counts for by its start and duration, by what its places are
+-- given and its duration, and by its duration alone
+abbrev pub changes_meets : Change → Bool
+changes_meets (Give t r) = false
+changes_meets (Take t r) = false
+changes_meets _ = true
+
+abbrev pub changes_tasks : Change → Bool
+changes_tasks (PlaceAt m t) = false
+changes_tasks (Lift m t) = false
+changes_tasks _ = true
+
+abbrev pub changes_durations : Change → Bool
+changes_durations (Add m d) = true
+changes_durations (Drop m d) = true
+changes_durations _ = false
 
 -- the most that a slot may count for, and all slots together
 abbrev pub most_of : Option Span → ℕ

@@ -1,6 +1,6 @@
 -- Split Events: how many of the event's meets are too short or too long, and by how many it has too
 -- few or too many.
-use Rattle.std.proofs.Common.{ℕ, ◌≡◌, ◌≤◌, ◌+◌, ◌∙◌, true, cond, Option, List, slice_get, sym, ap, subst, arith}
+use Rattle.std.proofs.Common.{ℕ, ◌≡◌, ◌≤◌, ◌+◌, ◌∙◌, true, false, refl, cond, Option, List, slice_get, sym, ap, subst, arith}
 use Rattle.std.specs.Option.{option_map_or}
 use Rattle.khe_base.specs.Bounds.{count_outside}
 use Rattle.khe_base.specs.declared.numbers.ResourceId.{ResourceId}
@@ -19,12 +19,14 @@ use Rattle.khe_instance.specs.declared.rules.Kind.TheVariants as kind
 use Rattle.khe_instance.specs.declared.rules.Rule.{Rule}
 use Rattle.khe_instance.specs.declared.rules.Rule.TheVariants.{SplitEvents}
 use Rattle.khe_told.specs.Agreement.{deviation_in}
+use Rattle.khe_told.specs.Changes.{given_after, span_after}
 use Rattle.khe_told.specs.Lists.{meets_in, duties_in}
+use Rattle.khe_told.specs.declared.changes.Change.{Change}
 use Rattle.khe_told.specs.declared.slots.Slot.{Slot}
 use Rattle.khe_told.specs.declared.slots.Span.{Span}
 use Rattle.event_monitors.specs.MeetSums.{sum_over_meets}
-use Rattle.event_monitors.specs.ShareLaws.{one_bounded, rule_of_kind, span_bounded}
-use Rattle.event_monitors.specs.Shares.{most_of, span_share, total_at, total_of}
+use Rattle.event_monitors.specs.ShareLaws.{durations_kept, one_bounded, rule_of_kind, span_bounded}
+use Rattle.event_monitors.specs.Shares.{changes_durations, given_at, most_of, span_share, total_at, total_of}
 
 -- one for a meet that is too short or too long
 abbrev pub one_unfit : ℕ → ℕ → Option TimeId → ℕ → ℕ
@@ -55,6 +57,15 @@ unfit_bounded _ span given = omega arith
 
 pub meets_bounded : (rule : Rule) (span : Option Span) (given : Option (Option ResourceId)) → meets rule span given ≤ most_of span
 meets_bounded rule span given = span_bounded one_each (λ (start : Option TimeId) n. omega arith) span
+
+pub unfit_unheard : (rule : Rule) (span : Option Span) (given : List (Option ResourceId)) (point : Point) (c : Change) → changes_durations c ≡ false
+    → unfit rule (span_after span c) (given_at point (given_after given c)) ≡ unfit rule span (given_at point given)
+unfit_unheard (SplitEvents a b least greatest) span given point c e = durations_kept (one_unfit a b) (λ x y n. refl) span c e
+unfit_unheard _ span given point c e = refl
+
+pub meets_unheard : (rule : Rule) (span : Option Span) (given : List (Option ResourceId)) (point : Point) (c : Change) → changes_durations c ≡ false
+    → meets rule (span_after span c) (given_at point (given_after given c)) ≡ meets rule span (given_at point given)
+meets_unheard rule span given point c e = durations_kept one_each (λ x y n. refl) span c e
 
 split_at : (p : Parts) (s : List Slot) (r : Rule) (point : Point) → is_kind (kind_of r) kind.SplitEvents ≡ true → IsPointOf p r point
     → deviation_at p (meets_in s) (duties_in s) r point ≡ split_by r (total_at unfit p r point s) (total_at meets p r point s)

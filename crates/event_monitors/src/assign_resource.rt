@@ -1,9 +1,9 @@
 use crate::counted::Counted;
-use crate::shares::Share;
+use crate::shares::{Share, changes_tasks};
 use crate::sums::{Sum, Summed};
 use khe_base::ResourceId;
 use khe_instance::{Instance, Kind, Rule};
-use khe_told::Span;
+use khe_told::{Change, Span};
 
 /// The family of Assign Resource: a monitor's deviation is the duration of the tasks at its place
 /// without a resource.
@@ -14,9 +14,18 @@ pub type AssignResource = Counted<Sum<Unfilled>>;
 pub struct Unfilled;
 
 impl Share for Unfilled {
-    ghost use Rattle.event_monitors.specs.AssignResource.{unfilled, unfilled_bounded};
+    ghost use Rattle.event_monitors.specs.AssignResource.{unfilled, unfilled_bounded, unfilled_unheard};
+    ghost use Rattle.event_monitors.specs.Shares.{changes_tasks};
 
     ghost share = { unfilled };
+
+    ghost hears = { changes_tasks };
+
+    fn hears(change: Change) -> bool {
+        changes_tasks(change)
+    }
+
+    ghost unheard = { unfilled_unheard };
 
     fn share(rule: &Rule, span: Option<Span>, given: Option<Option<ResourceId>>) -> u64 {
         let _ = rule;

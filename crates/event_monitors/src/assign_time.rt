@@ -1,9 +1,9 @@
 use crate::counted::Counted;
-use crate::shares::Share;
+use crate::shares::{Share, changes_meets};
 use crate::sums::{Sum, Summed};
 use khe_base::ResourceId;
 use khe_instance::{Instance, Kind, Rule};
-use khe_told::Span;
+use khe_told::{Change, Span};
 
 /// The family of Assign Time: a monitor's deviation is the duration of its event's meets without a
 /// start.
@@ -14,9 +14,18 @@ pub type AssignTime = Counted<Sum<Unplaced>>;
 pub struct Unplaced;
 
 impl Share for Unplaced {
-    ghost use Rattle.event_monitors.specs.AssignTime.{unplaced, unplaced_bounded};
+    ghost use Rattle.event_monitors.specs.AssignTime.{unplaced, unplaced_bounded, unplaced_unheard};
+    ghost use Rattle.event_monitors.specs.Shares.{changes_meets};
 
     ghost share = { unplaced };
+
+    ghost hears = { changes_meets };
+
+    fn hears(change: Change) -> bool {
+        changes_meets(change)
+    }
+
+    ghost unheard = { unplaced_unheard };
 
     fn share(rule: &Rule, span: Option<Span>, given: Option<Option<ResourceId>>) -> u64 {
         let _ = rule;

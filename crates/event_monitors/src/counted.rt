@@ -11,7 +11,7 @@ use std::sync::ledger::Ledger;
 /// A family that has a gauge for each monitor that it serves.
 ///
 /// A change turns the gauges of the monitors that name its event, and no other; where there are
-/// none, it takes constant time.
+/// none, or where they hear no such change, it takes constant time.
 #[derive(Drop)]
 pub struct Counted<G> {
     told: Told,
@@ -55,6 +55,10 @@ impl<G: Gauge + Drop> Family for Counted<G> {
         tally: &mut Y,
         steps: &mut Steps<L>,
     ) {
+        if !G::hears(change) {
+            self.told.note(inst, change);
+            return;
+        }
         let event = self.told.event(change.meet());
         let list = self.index.lists.as_slice()[event.0 as usize].as_slice();
         let posts = self.index.posts.as_slice();

@@ -1,9 +1,9 @@
 use crate::counted::Counted;
-use crate::shares::Share;
+use crate::shares::{Share, changes_durations};
 use crate::sums::{Sum, Summed};
 use khe_base::{ResourceId, count_out};
 use khe_instance::{Instance, Kind, Rule};
-use khe_told::Span;
+use khe_told::{Change, Span};
 
 /// The family of Distribute Split Events: a monitor's deviation is by how many its event has too few
 /// or too many meets of the rule's duration.
@@ -14,9 +14,18 @@ pub type DistributeSplitEvents = Counted<Sum<OfDuration>>;
 pub struct OfDuration;
 
 impl Share for OfDuration {
-    ghost use Rattle.event_monitors.specs.DistributeSplitEvents.{of_duration, of_duration_bounded};
+    ghost use Rattle.event_monitors.specs.DistributeSplitEvents.{of_duration, of_duration_bounded, of_duration_unheard};
+    ghost use Rattle.event_monitors.specs.Shares.{changes_durations};
 
     ghost share = { of_duration };
+
+    ghost hears = { changes_durations };
+
+    fn hears(change: Change) -> bool {
+        changes_durations(change)
+    }
+
+    ghost unheard = { of_duration_unheard };
 
     fn share(rule: &Rule, span: Option<Span>, given: Option<Option<ResourceId>>) -> u64 {
         let _ = given;

@@ -7,6 +7,7 @@ ghost use Rattle.khe_instance.specs.declared.rules.Kind.{Kind};
 ghost use Rattle.khe_told.specs.Agreement.{deviation_in};
 ghost use Rattle.khe_told.specs.Changes.{after, meet_of};
 ghost use Rattle.khe_told.specs.Fits.{Fits};
+ghost use Rattle.khe_told.specs.declared.changes.Change.{Change};
 ghost use Rattle.khe_told.specs.Slots.{emptied, no_meets, slot_at};
 ghost use Rattle.khe_told.specs.declared.slots.Slot.{Slot};
 ghost use Rattle.event_monitors.specs.Posts.{names};
@@ -32,6 +33,13 @@ pub trait Gauge {
     fn serves(kind: Kind) -> bool
         ensures { result ≡ serves_kind kind };
 
+    /// Whether a change may change what a gauge keeps or reads.
+    ghost hears: { Change → Bool };
+
+    /// It takes constant time.
+    fn hears(change: Change) -> bool
+        ensures { result ≡ hears change };
+
     /// The gauge of a monitor while there are no meets. It takes all the memory that it will need.
     fn open(alloc: Global, inst: &Instance, monitor: Monitor) -> Result<Self, NoMemory>
         requires monitor { IsMonitor inst.now monitor }
@@ -54,6 +62,9 @@ pub trait Gauge {
 
     /// What is read is the definition's deviation.
     ghost exact: { (g : Self) (p : Parts) (m : Monitor) (s : List Slot) → Keeps g p m s → deviation_in p s m ≡ value g p m };
+
+    /// A change that it does not hear leaves it right as it is.
+    ghost deaf: { (g : Self) (p : Parts) (m : Monitor) (s : List Slot) (c : Change) → hears c ≡ false → Fits p s c → Keeps g p m s → Keeps g p m (after s c) };
 
     /// A change of an event that the monitor does not name leaves it right as it is.
     ghost elsewhere: { (g : Self) (p : Parts) (m : Monitor) (s : List Slot) (k : ℕ) (x : Slot) → k < length s → emptied x ≡ emptied (slot_at s k)

@@ -2,11 +2,11 @@ ghost use Rattle.std.specs.Prelude.{◌≡◌};
 ghost use Rattle.khe_instance.specs.EventDeviation.{misfilled_duration};
 
 use crate::counted::Counted;
-use crate::shares::Share;
+use crate::shares::{Share, changes_tasks};
 use crate::sums::{Sum, Summed};
 use khe_base::{IdSet, ResourceId};
 use khe_instance::{Instance, Kind, Rule};
-use khe_told::Span;
+use khe_told::{Change, Span};
 
 /// The family of Prefer Resources: a monitor's deviation is the duration of the tasks at its place
 /// with a resource outside the preferred ones.
@@ -18,9 +18,18 @@ pub type PreferResources = Counted<Sum<Misfilled>>;
 pub struct Misfilled;
 
 impl Share for Misfilled {
-    ghost use Rattle.event_monitors.specs.PreferResources.{misfilled, misfilled_bounded};
+    ghost use Rattle.event_monitors.specs.PreferResources.{misfilled, misfilled_bounded, misfilled_unheard};
+    ghost use Rattle.event_monitors.specs.Shares.{changes_tasks};
 
     ghost share = { misfilled };
+
+    ghost hears = { changes_tasks };
+
+    fn hears(change: Change) -> bool {
+        changes_tasks(change)
+    }
+
+    ghost unheard = { misfilled_unheard };
 
     fn share(rule: &Rule, span: Option<Span>, given: Option<Option<ResourceId>>) -> u64 {
         let Rule::PreferResources { resources, .. } = rule else {

@@ -2,11 +2,11 @@ ghost use Rattle.std.specs.Prelude.{◌≡◌};
 ghost use Rattle.khe_instance.specs.EventDeviation.{misplaced_duration};
 
 use crate::counted::Counted;
-use crate::shares::Share;
+use crate::shares::{Share, changes_meets};
 use crate::sums::{Sum, Summed};
 use khe_base::{IdSet, ResourceId};
 use khe_instance::{Instance, Kind, Rule};
-use khe_told::Span;
+use khe_told::{Change, Span};
 
 /// The family of Prefer Times: a monitor's deviation is the duration of its event's meets with a
 /// start outside the preferred times, or of those alone of one duration, where the rule has one.
@@ -17,9 +17,18 @@ pub type PreferTimes = Counted<Sum<Misplaced>>;
 pub struct Misplaced;
 
 impl Share for Misplaced {
-    ghost use Rattle.event_monitors.specs.PreferTimes.{misplaced, misplaced_bounded};
+    ghost use Rattle.event_monitors.specs.PreferTimes.{misplaced, misplaced_bounded, misplaced_unheard};
+    ghost use Rattle.event_monitors.specs.Shares.{changes_meets};
 
     ghost share = { misplaced };
+
+    ghost hears = { changes_meets };
+
+    fn hears(change: Change) -> bool {
+        changes_meets(change)
+    }
+
+    ghost unheard = { misplaced_unheard };
 
     fn share(rule: &Rule, span: Option<Span>, given: Option<Option<ResourceId>>) -> u64 {
         let _ = given;

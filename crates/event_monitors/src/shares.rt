@@ -1,13 +1,15 @@
-ghost use Rattle.std.specs.Prelude.{◌≡◌, ◌≤◌, true, ℕ, List, Option};
+ghost use Rattle.std.specs.Prelude.{◌≡◌, ◌≤◌, Bool, true, false, ℕ, List, Option};
 ghost use Rattle.khe_base.specs.declared.numbers.ResourceId.{ResourceId as Resource};
 ghost use Rattle.khe_instance.specs.WellMade.{IsMonitor};
 ghost use Rattle.khe_instance.specs.declared.rules.Rule.{Rule};
-ghost use Rattle.khe_told.specs.Changes.{after, given_after, meet_of};
+ghost use Rattle.khe_instance.specs.declared.points.Point.{Point};
+ghost use Rattle.khe_told.specs.Changes.{after, given_after, meet_of, span_after};
 ghost use Rattle.khe_told.specs.Fits.{Fits};
 ghost use Rattle.khe_told.specs.Slots.{slot_at};
+ghost use Rattle.khe_told.specs.declared.changes.Change.{Change};
 ghost use Rattle.khe_told.specs.declared.slots.Span.{Span};
 ghost use Rattle.event_monitors.specs.Posts.{names};
-ghost use Rattle.event_monitors.specs.Shares.{given_at, greatest_total, most_of, total_of};
+ghost use Rattle.event_monitors.specs.Shares.{changes_durations, changes_meets, changes_tasks, given_at, greatest_total, most_of, total_of};
 
 use khe_base::ResourceId;
 use khe_instance::{Instance, Monitor, Point, Rule};
@@ -23,9 +25,54 @@ pub trait Share {
     fn share(rule: &Rule, span: Option<Span>, given: Option<Option<ResourceId>>) -> u64
         ensures { result ≡ share rule.now span given };
 
+    /// Whether a change may change what a slot counts for.
+    ghost hears: { Change → Bool };
+
+    /// It takes constant time.
+    fn hears(change: Change) -> bool
+        ensures { result ≡ hears change };
+
+    /// One that it does not hear leaves what the slot counts for.
+    ghost unheard: { (rule : Rule) (span : Option Span) (given : List (Option Resource)) (point : Point) (c : Change) → hears c ≡ false
+        → share rule (span_after span c) (given_at point (given_after given c)) ≡ share rule span (given_at point given) };
+
     /// A slot without a meet counts for nothing, and one with a meet for at most 1 more than its
     /// duration.
     ghost bounded: { (rule : Rule) (span : Option Span) (given : Option (Option Resource)) → share rule span given ≤ most_of span };
+}
+
+/// Whether a change may change a meet: all but those of tasks.
+pub(crate) fn changes_meets(change: Change) -> bool
+    ensures { result ≡ changes_meets change }
+{
+    match change {
+        Change::Give { .. } => false,
+        Change::Take { .. } => false,
+        _ => true,
+    }
+}
+
+/// Whether a change may change what a meet's places are given, or how long it lasts: all but those of
+/// starts.
+pub(crate) fn changes_tasks(change: Change) -> bool
+    ensures { result ≡ changes_tasks change }
+{
+    match change {
+        Change::Place { .. } => false,
+        Change::Lift { .. } => false,
+        _ => true,
+    }
+}
+
+/// Whether a change may change how long a meet lasts.
+pub(crate) fn changes_durations(change: Change) -> bool
+    ensures { result ≡ changes_durations change }
+{
+    match change {
+        Change::Add { .. } => true,
+        Change::Drop { .. } => true,
+        _ => false,
+    }
 }
 
 /// A monitor's sum after a change of an event that it names, by the sum before and what was told

@@ -6,7 +6,7 @@ ghost use Rattle.event_monitors.specs.SplitEvents.{split_by};
 
 use crate::counted::Counted;
 use crate::gauges::Gauge;
-use crate::shares::{Share, turned};
+use crate::shares::{Share, changes_durations, turned};
 use khe_base::{NoMemory, ResourceId, count_out};
 use khe_instance::{Instance, Kind, Monitor, Rule};
 use khe_told::{Change, Span, Told};
@@ -30,9 +30,9 @@ impl Gauge for Split {
     ghost use Rattle.khe_instance.specs.KindLaws.{is_kind};
     ghost use Rattle.khe_instance.specs.WellMade.{IsMonitor};
     ghost use Rattle.khe_instance.specs.declared.rules.Kind.TheVariants as kind;
-    ghost use Rattle.event_monitors.specs.ShareLaws.{total_elsewhere};
-    ghost use Rattle.event_monitors.specs.Shares.{greatest_total, total_of};
-    ghost use Rattle.event_monitors.specs.SplitEvents.{meets, split_exact, split_value, unfit};
+    ghost use Rattle.event_monitors.specs.ShareLaws.{total_elsewhere, total_unheard};
+    ghost use Rattle.event_monitors.specs.Shares.{changes_durations, greatest_total, total_of};
+    ghost use Rattle.event_monitors.specs.SplitEvents.{meets, meets_unheard, split_exact, split_value, unfit, unfit_unheard};
 
     ghost serves_kind = { λ k. is_kind k kind.SplitEvents };
 
@@ -43,6 +43,12 @@ impl Gauge for Split {
 
     fn serves(kind: Kind) -> bool {
         kind == Kind::SplitEvents
+    }
+
+    ghost hears = { changes_durations };
+
+    fn hears(change: Change) -> bool {
+        changes_durations(change)
     }
 
     fn open(alloc: Global, inst: &Instance, monitor: Monitor) -> Result<Split, NoMemory> {
@@ -64,6 +70,15 @@ impl Gauge for Split {
     }
 
     ghost exact = { λ g p m s k. split_exact p m s g.unfit g.meets k.0 k.1 k.2 k.4 };
+
+    ghost deaf = { λ g p m s c h fits kept. (
+      kept.0,
+      kept.1,
+      total_unheard unfit p m s c g.unfit fits.there (λ r x y q. unfit_unheard r x y q c h) kept.2,
+      kept.3,
+      total_unheard meets p m s c g.meets fits.there (λ r x y q. meets_unheard r x y q c h) kept.4,
+      kept.5,
+    ) };
 
     ghost elsewhere = { λ g p m s k x l same named kept. (
       kept.0,
@@ -99,9 +114,18 @@ fn measure(inst: &Instance, rule: &Rule, unfit: u64, meets: u64) -> u64
 pub struct Unfit;
 
 impl Share for Unfit {
-    ghost use Rattle.event_monitors.specs.SplitEvents.{unfit, unfit_bounded};
+    ghost use Rattle.event_monitors.specs.Shares.{changes_durations};
+    ghost use Rattle.event_monitors.specs.SplitEvents.{unfit, unfit_bounded, unfit_unheard};
 
     ghost share = { unfit };
+
+    ghost hears = { changes_durations };
+
+    fn hears(change: Change) -> bool {
+        changes_durations(change)
+    }
+
+    ghost unheard = { unfit_unheard };
 
     fn share(rule: &Rule, span: Option<Span>, given: Option<Option<ResourceId>>) -> u64 {
         let _ = given;
@@ -126,9 +150,18 @@ impl Share for Unfit {
 pub struct Meets;
 
 impl Share for Meets {
-    ghost use Rattle.event_monitors.specs.SplitEvents.{meets, meets_bounded};
+    ghost use Rattle.event_monitors.specs.Shares.{changes_durations};
+    ghost use Rattle.event_monitors.specs.SplitEvents.{meets, meets_bounded, meets_unheard};
 
     ghost share = { meets };
+
+    ghost hears = { changes_durations };
+
+    fn hears(change: Change) -> bool {
+        changes_durations(change)
+    }
+
+    ghost unheard = { meets_unheard };
 
     fn share(rule: &Rule, span: Option<Span>, given: Option<Option<ResourceId>>) -> u64 {
         let _ = rule;

@@ -52,7 +52,7 @@ pub struct Sum<S> {
 impl<S: Summed> Gauge for Sum<S> {
     ghost use Rattle.std.specs.Prelude.{◌≡◌, ◌≤◌, true};
     ghost use Rattle.khe_instance.specs.WellMade.{IsMonitor};
-    ghost use Rattle.event_monitors.specs.ShareLaws.{measured_total, total_elsewhere};
+    ghost use Rattle.event_monitors.specs.ShareLaws.{measured_total, total_elsewhere, total_unheard};
     ghost use Rattle.event_monitors.specs.Shares.{greatest_total, measured_by, total_of};
 
     ghost serves_kind = { S.serves_kind };
@@ -63,6 +63,12 @@ impl<S: Summed> Gauge for Sum<S> {
 
     fn serves(kind: Kind) -> bool {
         S::serves(kind)
+    }
+
+    ghost hears = { S.hears };
+
+    fn hears(change: Change) -> bool {
+        S::hears(change)
     }
 
     fn open(alloc: Global, inst: &Instance, monitor: Monitor) -> Result<Sum<S>, NoMemory> {
@@ -86,6 +92,8 @@ impl<S: Summed> Gauge for Sum<S> {
     }
 
     ghost exact = { λ g p m s k. measured_total S.share S.serves_kind S.measured S.exact p m s g.total k.0 k.1 k.2 };
+
+    ghost deaf = { λ g p m s c h fits kept. (kept.0, kept.1, total_unheard S.share p m s c g.total fits.there (λ r x y q. S.unheard r x y q c h) kept.2, kept.3) };
 
     ghost elsewhere = { λ g p m s k x l same named kept. (kept.0, kept.1, total_elsewhere S.share p m s k x g.total l same named kept.0 kept.2, kept.3) };
 }

@@ -15,6 +15,7 @@ pub type LinkEvents = Counted<Links>;
 impl Gauge for Links {
     ghost use Rattle.std.specs.Prelude.{◌≡◌, true, length};
     ghost use Rattle.khe_instance.specs.KindLaws.{is_kind};
+    ghost use Rattle.event_monitors.specs.ShareLaws.{hears_all};
     ghost use Rattle.khe_instance.specs.WellMade.{IsMonitor};
     ghost use Rattle.khe_instance.specs.declared.rules.Kind.TheVariants as kind;
     ghost use Rattle.link_monitors.specs.Counts.{AreLinked};
@@ -30,6 +31,13 @@ impl Gauge for Links {
 
     fn serves(kind: Kind) -> bool {
         kind == Kind::LinkEvents
+    }
+
+    ghost hears = { λ c. true };
+
+    fn hears(change: Change) -> bool {
+        let _ = change;
+        true
     }
 
     fn open(alloc: Global, inst: &Instance, monitor: Monitor) -> Result<Links, NoMemory> {
@@ -49,6 +57,8 @@ impl Gauge for Links {
     }
 
     ghost exact = { λ g p m s k. linked_exact p m s g.table g.events g.running.items g.apart k.0 k.1 k.2 k.3 };
+
+    ghost deaf = { λ g p m s c h fits kept. hears_all _ h };
 
     ghost elsewhere = { λ g p m s k x l same named kept. (kept.0, kept.1, group_elsewhere p m s g.table (length g.running.items) k x kept.0 l same named kept.2, kept.3) };
 }

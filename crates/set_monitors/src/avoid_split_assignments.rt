@@ -31,8 +31,9 @@ pub struct Holders {
 }
 
 impl Gauge for Holders {
-    ghost use Rattle.std.specs.Prelude.{◌≡◌, ◌-◌};
+    ghost use Rattle.std.specs.Prelude.{◌≡◌, ◌-◌, true};
     ghost use Rattle.khe_instance.specs.KindLaws.{is_kind};
+    ghost use Rattle.event_monitors.specs.ShareLaws.{hears_all};
     ghost use Rattle.khe_instance.specs.declared.rules.Kind.TheVariants as kind;
     ghost use Rattle.set_monitors.specs.AvoidSplitAssignments.{IsShared, shared_elsewhere, shared_exact};
 
@@ -44,6 +45,13 @@ impl Gauge for Holders {
 
     fn serves(kind: Kind) -> bool {
         kind == Kind::AvoidSplitAssignments
+    }
+
+    ghost hears = { λ c. true };
+
+    fn hears(change: Change) -> bool {
+        let _ = change;
+        true
     }
 
     fn open(alloc: Global, inst: &Instance, monitor: Monitor) -> Result<Holders, NoMemory> {
@@ -72,6 +80,8 @@ impl Gauge for Holders {
     }
 
     ghost exact = { λ g p m s k. shared_exact p m s g.candidates g.counts.items g.above k };
+
+    ghost deaf = { λ g p m s c h fits kept. hears_all _ h };
 
     ghost elsewhere = { λ g p m s k x l same named kept. shared_elsewhere p m s k x g.candidates g.counts.items g.above l same named kept };
 }

@@ -25,8 +25,9 @@ pub struct Starts {
 }
 
 impl Gauge for Starts {
-    ghost use Rattle.std.specs.Prelude.{◌≡◌};
+    ghost use Rattle.std.specs.Prelude.{◌≡◌, true};
     ghost use Rattle.khe_instance.specs.KindLaws.{is_kind};
+    ghost use Rattle.event_monitors.specs.ShareLaws.{hears_all};
     ghost use Rattle.khe_instance.specs.declared.rules.Kind.TheVariants as kind;
     ghost use Rattle.set_monitors.specs.SpreadEvents.{IsSpread, spread_elsewhere, spread_exact};
 
@@ -38,6 +39,13 @@ impl Gauge for Starts {
 
     fn serves(kind: Kind) -> bool {
         kind == Kind::SpreadEvents
+    }
+
+    ghost hears = { λ c. true };
+
+    fn hears(change: Change) -> bool {
+        let _ = change;
+        true
     }
 
     fn open(alloc: Global, inst: &Instance, monitor: Monitor) -> Result<Starts, NoMemory> {
@@ -66,6 +74,8 @@ impl Gauge for Starts {
     }
 
     ghost exact = { λ g p m s k. spread_exact p m s g.counts.items g.outside k };
+
+    ghost deaf = { λ g p m s c h fits kept. hears_all _ h };
 
     ghost elsewhere = { λ g p m s k x l same named kept. spread_elsewhere p m s k x g.counts.items g.outside l same named kept };
 }

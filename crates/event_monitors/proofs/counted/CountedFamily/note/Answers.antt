@@ -5,7 +5,7 @@ use Rattle.khe_told.specs.Slots.{slot_at}
 use Rattle.event_monitors.specs.Posts.{posts_at}
 use Rattle.event_monitors.specs.Reports.{AreUnderWay}
 use Rattle.event_monitors.proofs.SlotFacts.{fits_event}
-use Rattle.event_monitors.proofs.Noting.{agrees_on, steps_on, list_of}
+use Rattle.event_monitors.proofs.Noting.{agrees_deaf, agrees_on, steps_on, list_of}
 use Rattle.event_monitors.proofs.counted.CountedFamily.note.Goals as goal
 
 pub event-event-requires : goal.event-event-requires
@@ -34,7 +34,7 @@ report-requires-clause-list g c =
 pub returns-clause-served : goal.returns-clause-served
 returns-clause-served g c = λ agrees.
     let s = c.args.self.now.told in
-    subst (λ t. Agrees c.args.inst.now g.G.Gauge.serves_kind t (g.Y.Tally.deviations c.report.new.tally)) (sym c.note.ensures)
+    subst (λ t. Agrees c.args.inst.now g.G.Gauge.serves_kind t (g.Y.Tally.deviations c.report.new.tally)) (sym c.note-2.ensures)
     (agrees_on g.G.Gauge.Keeps g.G.Gauge.value g.met.G.Gauge.exact c.args.inst.now g.G.Gauge.serves_kind c.args.self.now.index.posts s (after s c.args.change) c.args.self.now.gauges.items c.report.new.gauges.items
     (g.Y.Tally.deviations c.args.tally.now) (g.Y.Tally.deviations c.report.new.tally) c.requires.of.0 c.requires.of.2 c.requires.of.3
     (subst (λ ps. AreUnderWay g.G.Gauge.Keeps g.G.Gauge.value c.args.inst.now ps (after s c.args.change) c.args.self.now.gauges.items c.report.new.gauges.items (g.Y.Tally.deviations c.args.tally.now) (g.Y.Tally.deviations c.report.new.tally) []) c.as_slice-posts.ensures c.report.ensures.all) agrees)
@@ -51,3 +51,12 @@ returns-clause-steps g c =
     let few = steps_on c.args.inst.now g.G.Gauge.serves_kind c.args.self.now.index.posts s c.args.change c.requires.of.0 in
     let taken = c.report.ensures.steps in
     omega (arith, long, few, taken)
+
+pub returns-then-not-hears-clause-served : goal.returns-then-not-hears-clause-served
+returns-then-not-hears-clause-served g c = λ agrees.
+    let p = c.args.inst.now in
+    let s = c.args.self.now.told in
+    let f = c.requires.of in
+    subst (λ t. Agrees p g.G.Gauge.serves_kind t (g.Y.Tally.deviations c.args.tally.now)) (sym c.note.ensures)
+    (agrees_deaf g.G.Gauge.Keeps g.G.Gauge.value g.met.G.Gauge.exact p g.G.Gauge.serves_kind c.args.self.now.index.posts s (after s c.args.change) c.args.self.now.gauges.items (g.Y.Tally.deviations c.args.tally.now) f.0 f.2 f.3
+    (λ k a h there here. g.met.G.Gauge.deaf h p a.monitor s c.args.change (sym c.hears.ensures ∙ c.if-not-hears.true) c.requires.fits (f.3 k a h there here)) agrees)
