@@ -7,6 +7,7 @@ ghost use Rattle.script_run.specs.Amid.{IsAmid};
 ghost use Rattle.khe_app.specs.Report as spec;
 ghost use Rattle.khe_app.specs.Ready.{IsReady};
 ghost use Rattle.evaluation_report.specs.Lines as lines;
+ghost use Rattle.resource_deviations.specs.Sets.{room_for};
 ghost use Rattle.parallel_solve.specs.Ready.{IsOne, AreOnes};
 ghost use Rattle.parallel_solve.specs.Ready as solutions;
 ghost use Rattle.parallel_solve.specs.Verdicts.{numbered_verdict, parts_at, values_of, verdict_of};
@@ -19,8 +20,9 @@ use evaluation_report::{header_line, invalid_line, monitor_line, solution_line, 
 use khe_base::{MonitorId, NoMemory, Text};
 use khe_instance::{Instance, Plain};
 use khe_io::{Gate, Sink};
-use parallel_solve::{Ahead, Verdict, all_solutions, evaluators_of};
-use plain_eval::{Evaluator, Values};
+use parallel_solve::{Ahead, Verdict, all_solutions, rooms_of};
+use plain_eval::Values;
+use resource_deviations::ResourceRoom;
 use script_run::{Cut, flush, flush_long};
 use std::alloc::Global;
 use std::thread::Threads;
@@ -168,7 +170,7 @@ fn write_group<R: Threads + Sync, K: Sink, G: Gate>(
     out: &mut K,
     text: &mut Text,
     resolved: &Resolved,
-    evaluators: &[Evaluator<'_>],
+    rooms: &[ResourceRoom],
     raws: &[&RawSolution],
     gate: &G,
     ahead: &mut Ahead,
@@ -181,7 +183,7 @@ fn write_group<R: Threads + Sync, K: Sink, G: Gate>(
     requires all_ones { AreOnes resolved.now 0 (map (λ x. x.now) raws.now) }
     requires few { length raws.now < 2 ^ 32 }
     requires standing { (k : ℕ) (raw : RawSolution) → slice_get group.now.solutions k ≡ Some raw → slice_get (map (λ x. x.now) raws.now) (first + k) ≡ Some raw }
-    requires evaluators { evaluators.now ≡ resolved.now.instances }
+    requires rooms { rooms.now ≡ map room_for resolved.now.instances }
     requires ahead { IsAhead resolved.now (map (λ x. x.now) raws.now) ahead.old }
     ensures ahead { IsAhead resolved.now (map (λ x. x.now) raws.now) ahead.new }
     ensures amid { (before : Option (List ℕ)) (rest whole : List ℕ) → IsAmid before (K.taken out.old) text.old (spec.group_text all resolved.now first group.now ++ rest) whole → OnOk result (IsAmid before (K.taken out.new) text.new rest whole) }
@@ -192,7 +194,7 @@ fn write_group<R: Threads + Sync, K: Sink, G: Gate>(
     let id = &group.id.text;
     for (k, solution) in group.solutions.as_slice().iter().enumerate() {
         let number = first + k as u32;
-        ahead.reach(rt, alloc, resolved, evaluators, raws, gate, number)?;
+        ahead.reach(rt, alloc, resolved, rooms, raws, gate, number)?;
         let told = ahead.verdict(number);
         write_solution(alloc, out, text, resolved, number, id, told, solution, all)?;
     }
@@ -214,8 +216,8 @@ fn header(alloc: Global, _archive: &Archive, resolved: &Resolved) -> Result<Text
 /// same for every number of them.
 ///
 /// It takes time about linear in the instances, the solutions and the report; that of evaluating is
-/// divided among the workers that run at the same time. It keeps in memory an evaluator for each
-/// instance, what the solutions of one window cost, for each worker that of evaluating one, what one
+/// divided among the workers that run at the same time. It keeps in memory the masks of the
+/// instances, what the solutions of one window cost, for each worker that of evaluating one, what one
 /// solution adds to the report, and of the rest no more than a piece.
 pub(crate) fn report<R: Threads + Sync, K: Sink, G: Gate>(
     rt: &R,
@@ -235,7 +237,7 @@ pub(crate) fn report<R: Threads + Sync, K: Sink, G: Gate>(
     ensures counted { K.faults out.old ≤ K.faults out.new }
 {
     let raws = all_solutions(alloc, archive)?;
-    let evaluators = evaluators_of(alloc, resolved)?;
+    let rooms = rooms_of(alloc, resolved)?;
     let mut text = header(alloc, archive, resolved)?;
     let mut ahead = Ahead::new(alloc, resolved, workers);
     let mut number = 0;
@@ -246,7 +248,7 @@ pub(crate) fn report<R: Threads + Sync, K: Sink, G: Gate>(
             out,
             &mut text,
             resolved,
-            evaluators.as_slice(),
+            rooms.as_slice(),
             raws.as_slice(),
             gate,
             &mut ahead,

@@ -6,7 +6,7 @@ ghost use Rattle.xhstt_shape.specs.WellFormed.{IsInForm};
 ghost use Rattle.parallel_solve.specs.Verdicts.{numbered_verdict};
 
 use crate::shares::verdicts_by;
-use crate::verdicts::{Verdict, evaluators_of};
+use crate::verdicts::{Verdict, rooms_of};
 use khe_base::{NoMemory, Seq};
 use khe_io::Gate;
 use std::alloc::Global;
@@ -34,9 +34,8 @@ pub fn all_solutions(alloc: Global, archive: &Archive) -> Result<Vec<&RawSolutio
 /// solution's values are the definitions', and an invalid one has its first cause.
 ///
 /// The only error is want of memory. It takes the time of evaluating all solutions, divided among
-/// the workers that run at the same time, and that of an evaluator for each instance; and memory in
-/// proportion to the monitors of all solutions, for each instance that of an evaluator, and for
-/// each worker that of evaluating one.
+/// the workers that run at the same time, and that of `rooms_of`; and memory in proportion to the
+/// monitors of all solutions, that of `rooms_of`, and for each worker that of evaluating one.
 pub fn evaluate_all<R: Threads + Sync, G: Gate>(
     rt: &R,
     alloc: Global,
@@ -51,9 +50,9 @@ pub fn evaluate_all<R: Threads + Sync, G: Gate>(
     ensures { IfOk result (λ v. v ≡ map (numbered_verdict resolved.now) (enumerate_from 0 (solutions archive.now))) }
 {
     let raws = all_solutions(alloc, archive)?;
-    let evaluators = evaluators_of(alloc, resolved)?;
-    let evaluators = evaluators.as_slice();
+    let rooms = rooms_of(alloc, resolved)?;
+    let rooms = rooms.as_slice();
     let raws = raws.as_slice();
-    let all = verdicts_by(rt, alloc, resolved, evaluators, 0, raws, workers, gate)?;
+    let all = verdicts_by(rt, alloc, resolved, rooms, 0, raws, workers, gate)?;
     Ok(Seq { items: all })
 }

@@ -8,5 +8,5 @@ mod verdicts;
 mod windows;
 
 pub use evaluating::{all_solutions, evaluate_all};
-pub use verdicts::{Verdict, evaluators_of};
+pub use verdicts::{Verdict, rooms_of};
 pub use windows::Ahead;

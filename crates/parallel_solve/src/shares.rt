@@ -1,13 +1,14 @@
 ghost use Rattle.std.specs.Prelude.{◌≡◌, ◌+◌, ◌<◌, ◌≤◌, ◌-◌, ◌++◌, ◌^◌, IfOk, map, take, drop, length};
 ghost use Rattle.std.specs.List.{enumerate_from};
 ghost use Rattle.std.specs.Thread.{IsSync};
+ghost use Rattle.resource_deviations.specs.Sets.{room_for};
 ghost use Rattle.parallel_solve.specs.Verdicts.{numbered_verdict};
 ghost use Rattle.parallel_solve.specs.Ready.{AreOnes};
 
 use crate::verdicts::{Verdict, numbered};
 use khe_base::NoMemory;
 use khe_io::Gate;
-use plain_eval::Evaluator;
+use resource_deviations::ResourceRoom;
 use std::alloc::Global;
 use std::thread::{Threads, join};
 use xhstt_resolve::Resolved;
@@ -18,21 +19,21 @@ use xhstt_shape::RawSolution;
 fn verdicts_alone<G: Gate>(
     alloc: Global,
     resolved: &Resolved,
-    evaluators: &[Evaluator<'_>],
+    rooms: &[ResourceRoom],
     first: u32,
     raws: &[&RawSolution],
     gate: &G,
 ) -> Result<Vec<Verdict>, NoMemory>
     requires ones { AreOnes resolved.now first (map (λ x. x.now) raws.now) }
     requires small { first + length raws.now < 2 ^ 32 }
-    requires evaluators { evaluators.now ≡ resolved.now.instances }
+    requires rooms { rooms.now ≡ map room_for resolved.now.instances }
     ensures { IfOk result (λ v. v.items ≡ map (numbered_verdict resolved.now) (enumerate_from first (map (λ x. x.now) raws.now))) }
 {
     let mut done = Vec::new(alloc);
     for (k, raw) in raws.iter().enumerate() {
         let number = first + k as u32;
         gate.pass(number as u64);
-        done.push(numbered(alloc, resolved, evaluators, number, *raw)?)?;
+        done.push(numbered(alloc, resolved, rooms, number, *raw)?)?;
     }
     Ok(done)
 }
@@ -71,7 +72,7 @@ pub(crate) fn verdicts_by<R: Threads + Sync, G: Gate>(
     rt: &R,
     alloc: Global,
     resolved: &Resolved,
-    evaluators: &[Evaluator<'_>],
+    rooms: &[ResourceRoom],
     first: u32,
     raws: &[&RawSolution],
     workers: u32,
@@ -79,11 +80,11 @@ pub(crate) fn verdicts_by<R: Threads + Sync, G: Gate>(
 ) -> Result<Vec<Verdict>, NoMemory>
     requires ones { AreOnes resolved.now first (map (λ x. x.now) raws.now) }
     requires small { first + length raws.now < 2 ^ 32 }
-    requires evaluators { evaluators.now ≡ resolved.now.instances }
+    requires rooms { rooms.now ≡ map room_for resolved.now.instances }
     ensures { IfOk result (λ v. v.items ≡ map (numbered_verdict resolved.now) (enumerate_from first (map (λ x. x.now) raws.now))) }
 {
     if workers <= 1 || raws.len() <= 1 {
-        return verdicts_alone(alloc, resolved, evaluators, first, raws, gate);
+        return verdicts_alone(alloc, resolved, rooms, first, raws, gate);
     }
     let share = share_of(raws.len(), workers);
     let (front, back) = cut(resolved, first, raws, share);
@@ -92,13 +93,13 @@ pub(crate) fn verdicts_by<R: Threads + Sync, G: Gate>(
     let (mine, theirs) = join(
         rt,
         || -> Result<Vec<Verdict>, NoMemory>
-            requires { IsSync G.row × AreOnes resolved.now first (map (λ x. x.now) front.now) × (first + length front.now < 2 ^ 32) × (evaluators.now ≡ resolved.now.instances) }
+            requires { IsSync G.row × AreOnes resolved.now first (map (λ x. x.now) front.now) × (first + length front.now < 2 ^ 32) × (rooms.now ≡ map room_for resolved.now.instances) }
             ensures { IfOk result (λ v. v.items ≡ map (numbered_verdict resolved.entry.now) (enumerate_from first (map (λ x. x.now) front.entry.now))) }
-        { verdicts_alone(alloc, resolved, evaluators, first, front, gate) },
+        { verdicts_alone(alloc, resolved, rooms, first, front, gate) },
         || -> Result<Vec<Verdict>, NoMemory>
-            requires { IsSync R.row × IsSync G.row × AreOnes resolved.now next (map (λ x. x.now) back.now) × (next + length back.now < 2 ^ 32) × (evaluators.now ≡ resolved.now.instances) }
+            requires { IsSync R.row × IsSync G.row × AreOnes resolved.now next (map (λ x. x.now) back.now) × (next + length back.now < 2 ^ 32) × (rooms.now ≡ map room_for resolved.now.instances) }
             ensures { IfOk result (λ v. v.items ≡ map (numbered_verdict resolved.entry.now) (enumerate_from next (map (λ x. x.now) back.entry.now))) }
-        { verdicts_by(rt, alloc, resolved, evaluators, next, back, fewer, gate) },
+        { verdicts_by(rt, alloc, resolved, rooms, next, back, fewer, gate) },
     );
     let mut all = mine?;
     let mut rest = theirs?;

@@ -1,11 +1,14 @@
-ghost use Rattle.std.specs.Prelude.{◌≡◌, IfOk, IsSome, Some};
+ghost use Rattle.std.specs.Prelude.{◌≡◌, IfOk, IsSome, Some, map, slice_get};
+ghost use Rattle.resource_deviations.specs.Sets.{room_for};
 ghost use Rattle.xhstt_completion.specs.Completed as completion;
 ghost use Rattle.xhstt_completion.specs.Entries.{IsSolution};
 ghost use Rattle.parallel_solve.specs.Verdicts.{verdict_of, numbered_verdict, parts_at};
 ghost use Rattle.parallel_solve.specs.Ready.{IsOne};
 
 use khe_base::{NoMemory, lends_to_threads};
-use plain_eval::{Evaluator, Values};
+use khe_instance::Instance;
+use plain_eval::{Values, evaluate_in};
+use resource_deviations::ResourceRoom;
 use std::alloc::Global;
 use xhstt_completion::{SolutionFault, completed};
 use xhstt_resolve::Resolved;
@@ -20,62 +23,62 @@ pub enum Verdict {
     Invalid { cause: u32, entry: u32 },
 }
 
-/// What comes of a solution by the evaluator of its instance. It takes the time and memory of
-/// completing it and evaluating its state.
-fn judge(alloc: Global, evaluator: &Evaluator<'_>, raw: &RawSolution) -> Result<Verdict, NoMemory>
-    requires { IsSolution evaluator.now raw.now }
-    ensures { IfOk result (λ v. v ≡ verdict_of evaluator.now (completion.completed evaluator.now raw.now)) }
+/// What comes of a solution of an instance, with what depends on the instance alone. It takes the time
+/// and memory of completing it and evaluating its state.
+fn judge(
+    alloc: Global,
+    inst: &Instance,
+    room: &ResourceRoom,
+    raw: &RawSolution,
+) -> Result<Verdict, NoMemory>
+    requires solution { IsSolution inst.now raw.now }
+    requires room { room.now ≡ room_for inst.now }
+    ensures { IfOk result (λ v. v ≡ verdict_of inst.now (completion.completed inst.now raw.now)) }
 {
-    match completed(alloc, evaluator.instance(), raw) {
-        Ok(plain) => Ok(Verdict::Valid(evaluator.evaluate(alloc, &plain)?)),
+    match completed(alloc, inst, raw) {
+        Ok(plain) => Ok(Verdict::Valid(evaluate_in(alloc, inst, room, &plain)?)),
         Err(SolutionFault::Invalid { cause, entry }) => Ok(Verdict::Invalid { cause, entry }),
         Err(SolutionFault::NoMemory) => Err(NoMemory),
     }
 }
 
-/// An evaluator for each instance of an archive, in their order, which workers share. It takes the
-/// time and memory of opening each.
-pub fn evaluators_of<'a>(
-    alloc: Global,
-    resolved: &'a Resolved,
-) -> Result<Vec<Evaluator<'a>>, NoMemory>
-    ensures { IfOk result (λ evaluators. evaluators.items ≡ resolved.now.instances) }
+/// What evaluations need of each instance of an archive alone, in the order of the instances: it is
+/// made once, and all workers read it. It takes time and memory for a bit of each time of each time
+/// group that a constraint on resources lists.
+pub fn rooms_of(alloc: Global, resolved: &Resolved) -> Result<Vec<ResourceRoom>, NoMemory>
+    ensures { IfOk result (λ rooms. rooms.items ≡ map room_for resolved.now.instances) }
 {
-    let mut evaluators = Vec::new(alloc);
+    let mut rooms = Vec::new(alloc);
     for inst in resolved.instances.as_slice() {
-        evaluators.push(Evaluator::open(alloc, inst)?)?;
+        rooms.push(ResourceRoom::open(alloc, inst)?)?;
     }
-    Ok(evaluators)
+    Ok(rooms)
 }
 
-/// The evaluator of the instance of the solution with this number.
-fn evaluator_at<'e, 'a>(
-    resolved: &Resolved,
-    evaluators: &'e [Evaluator<'a>],
-    number: u32,
-) -> &'e Evaluator<'a>
-    requires there { IsSome (parts_at resolved.now number) }
-    requires evaluators { evaluators.now ≡ resolved.now.instances }
-    ensures { parts_at resolved.now number ≡ Some result.now }
+/// The number of the instance of the solution with this number.
+fn instance_of(resolved: &Resolved, number: u32) -> usize
+    requires { IsSome (parts_at resolved.now number) }
+    ensures { parts_at resolved.now number ≡ slice_get resolved.now.instances result }
 {
-    let instance = resolved.of.as_slice()[number as usize];
-    &evaluators[instance as usize]
+    resolved.of.as_slice()[number as usize] as usize
 }
 
 /// What comes of the solution with this number.
 pub(crate) fn numbered(
     alloc: Global,
     resolved: &Resolved,
-    evaluators: &[Evaluator<'_>],
+    rooms: &[ResourceRoom],
     number: u32,
     raw: &RawSolution,
 ) -> Result<Verdict, NoMemory>
     requires one { IsOne resolved.now number raw.now }
-    requires evaluators { evaluators.now ≡ resolved.now.instances }
+    requires rooms { rooms.now ≡ map room_for resolved.now.instances }
     ensures { IfOk result (λ v. v ≡ numbered_verdict resolved.now (number, raw.now)) }
 {
-    let evaluator = evaluator_at(resolved, evaluators, number);
-    let told = judge(alloc, evaluator, raw)?;
+    let instance = instance_of(resolved, number);
+    let inst = &resolved.instances.as_slice()[instance];
+    let room = &rooms[instance];
+    let told = judge(alloc, inst, room, raw)?;
     Ok(told)
 }
 

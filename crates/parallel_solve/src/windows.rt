@@ -1,5 +1,6 @@
 ghost use Rattle.std.specs.Prelude.{◌≡◌, ◌+◌, ◌<◌, ◌≤◌, ◌^◌, true, IfOk, OnOk, Some, List, map, take, drop, slice_get, length};
 ghost use Rattle.std.specs.List.{enumerate_from};
+ghost use Rattle.resource_deviations.specs.Sets.{room_for};
 ghost use Rattle.parallel_solve.specs.Verdicts.{numbered_verdict};
 ghost use Rattle.parallel_solve.specs.Ready.{AreOnes};
 ghost use Rattle.parallel_solve.specs.Windows.{IsAhead, Reaches};
@@ -10,7 +11,7 @@ use crate::shares::{cut, verdicts_by};
 use crate::verdicts::Verdict;
 use khe_base::NoMemory;
 use khe_io::Gate;
-use plain_eval::Evaluator;
+use resource_deviations::ResourceRoom;
 use std::alloc::Global;
 use std::thread::Threads;
 use xhstt_resolve::Resolved;
@@ -53,7 +54,7 @@ fn window<R: Threads + Sync, G: Gate>(
     rt: &R,
     alloc: Global,
     resolved: &Resolved,
-    evaluators: &[Evaluator<'_>],
+    rooms: &[ResourceRoom],
     raws: &[&RawSolution],
     number: u32,
     size: usize,
@@ -63,14 +64,12 @@ fn window<R: Threads + Sync, G: Gate>(
     requires ones { AreOnes resolved.now 0 (map (λ x. x.now) raws.now) }
     requires within { number + size ≤ length raws.now }
     requires small { length raws.now < 2 ^ 32 }
-    requires evaluators { evaluators.now ≡ resolved.now.instances }
+    requires rooms { rooms.now ≡ map room_for resolved.now.instances }
     ensures { IfOk result (λ v. v.items ≡ map (numbered_verdict resolved.now) (enumerate_from number (map (λ x. x.now) (take size (drop number raws.now))))) }
 {
     let (_, back) = cut(resolved, 0, raws, number as usize);
     let (middle, _) = cut(resolved, number, back, size);
-    let made = verdicts_by(
-        rt, alloc, resolved, evaluators, number, middle, workers, gate,
-    )?;
+    let made = verdicts_by(rt, alloc, resolved, rooms, number, middle, workers, gate)?;
     Ok(made)
 }
 
@@ -97,7 +96,7 @@ impl Ahead {
     }
 
     /// Moves the window on to the solution with this number, unless it is there already. The
-    /// workers evaluate the solutions of a new window by the evaluators of all instances, and pass
+    /// workers evaluate the solutions of a new window with the rooms of all instances, and pass
     /// the gate before each of them, with its number.
     ///
     /// The only error is want of memory, after which the window is empty. It takes the time and
@@ -107,7 +106,7 @@ impl Ahead {
         rt: &R,
         alloc: Global,
         resolved: &Resolved,
-        evaluators: &[Evaluator<'_>],
+        rooms: &[ResourceRoom],
         raws: &[&RawSolution],
         gate: &G,
         number: u32,
@@ -115,7 +114,7 @@ impl Ahead {
         requires ones { AreOnes resolved.now 0 (map (λ x. x.now) raws.now) }
         requires within { number < length raws.now }
         requires small { length raws.now < 2 ^ 32 }
-        requires evaluators { evaluators.now ≡ resolved.now.instances }
+        requires rooms { rooms.now ≡ map room_for resolved.now.instances }
         requires ahead { IsAhead resolved.now (map (λ x. x.now) raws.now) self.old }
         ensures ahead { IsAhead resolved.now (map (λ x. x.now) raws.now) self.new }
         ensures there { OnOk result (Reaches self.new number) }
@@ -128,7 +127,7 @@ impl Ahead {
         let size = self.size.min(raws.len() - number as usize);
         let workers = self.workers;
         self.verdicts = window(
-            rt, alloc, resolved, evaluators, raws, number, size, workers, gate,
+            rt, alloc, resolved, rooms, raws, number, size, workers, gate,
         )?;
         Ok(())
     }

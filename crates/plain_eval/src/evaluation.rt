@@ -2,6 +2,7 @@ ghost use Rattle.std.specs.Prelude.{◌≡◌, ◌≤◌, All, IfOk};
 ghost use Rattle.khe_base.specs.declared.limits.TheConstants.{GREATEST_COST, GREATEST_DEVIATION, GREATEST_TOTAL};
 ghost use Rattle.khe_instance.specs.Evaluated as evaluated;
 ghost use Rattle.khe_instance.specs.States.{IsValid};
+ghost use Rattle.resource_deviations.specs.Sets.{room_for};
 
 use crate::costing::{costs_of, totals_of};
 use crate::measuring::deviations_of;
@@ -9,7 +10,6 @@ use khe_base::{NoMemory, Seq, Totals, lends_to_threads};
 use khe_instance::{Instance, Plain};
 use resource_deviations::ResourceRoom;
 use std::alloc::Global;
-use std::marker::Model;
 
 /// What a timetable costs.
 #[derive(Drop)]
@@ -25,61 +25,6 @@ pub struct Values {
     pub totals: Totals,
 }
 
-/// Evaluates timetables of one instance, as many as there are and in any number of threads at a
-/// time: what depends on the instance alone is made once, and only read. Contracts see the
-/// instance's parts.
-#[derive(Drop)]
-pub struct Evaluator<'a> {
-    inst: &'a Instance,
-    resources: ResourceRoom,
-}
-
-impl<'a> Model for Evaluator<'a> {
-    ghost use Rattle.std.specs.Prelude.{◌≡◌};
-    ghost use Rattle.khe_instance.specs.declared.parts.Parts.{Parts};
-    ghost use Rattle.resource_deviations.specs.Sets.{room_for as resource_room};
-
-    ghost Value = { Parts };
-
-    ghost view = { λ e. e.inst.now };
-
-    ghost invariant = { λ e. e.resources ≡ resource_room e.inst.now };
-}
-
-impl<'a> Evaluator<'a> {
-    /// An evaluator of timetables of an instance. It takes time and memory in proportion to the
-    /// constraints, and a bit of each time of each time group that a constraint lists for
-    /// resources.
-    pub fn open(alloc: Global, inst: &'a Instance) -> Result<Evaluator<'a>, NoMemory>
-        ensures { IfOk result (λ e. e ≡ inst.now) }
-    {
-        let resources = ResourceRoom::open(alloc, inst)?;
-        Ok(Evaluator { inst, resources })
-    }
-
-    /// The instance. It takes constant time.
-    pub fn instance(&self) -> &Instance
-        ensures { result.now ≡ self.now }
-    {
-        self.inst
-    }
-
-    /// What a valid timetable of the instance costs, as `evaluate` says it. It takes the time and
-    /// memory of that call, but for what was made once.
-    pub fn evaluate(&self, alloc: Global, plain: &Plain) -> Result<Values, NoMemory>
-        requires { IsValid self.now plain.now }
-        ensures deviations { IfOk result (λ v. v.deviations ≡ evaluated.deviations self.now plain.now) }
-        ensures costs { IfOk result (λ v. v.costs ≡ evaluated.costs self.now plain.now) }
-        ensures totals { IfOk result (λ v. v.totals ≡ evaluated.totals self.now plain.now) }
-        ensures small_deviations { IfOk result (λ v. All (λ d. d ≤ GREATEST_DEVIATION) v.deviations) }
-        ensures small_costs { IfOk result (λ v. All (λ c. c ≤ GREATEST_COST) v.costs) }
-        ensures small_totals { IfOk result (λ v. (v.totals.hard ≤ GREATEST_TOTAL) × (v.totals.soft ≤ GREATEST_TOTAL)) }
-    {
-        let deviations = deviations_of(alloc, self.inst, plain, &self.resources)?;
-        valued(alloc, self.inst, plain, deviations)
-    }
-}
-
 /// What a valid timetable of an instance costs. The deviations are those of the definitions of the
 /// sixteen kinds, the costs those of the cost functions of their constraints, and the totals their
 /// sums; all of it is added up anew.
@@ -87,7 +32,7 @@ impl<'a> Evaluator<'a> {
 /// The only error is want of memory. It takes time about in proportion to the meets, the tasks, the
 /// times that they cover, the watches of the monitors, and resources times times; and memory in
 /// proportion to the meets, the tasks, the monitors, and resources times times. Who evaluates many
-/// timetables of an instance opens an `Evaluator`.
+/// timetables of an instance makes what depends on the instance alone once, and calls `evaluate_in`.
 ///
 /// The sources are the pages of the constraints and of the cost functions of the XHSTT format.
 pub fn evaluate(alloc: Global, inst: &Instance, plain: &Plain) -> Result<Values, NoMemory>
@@ -99,8 +44,30 @@ pub fn evaluate(alloc: Global, inst: &Instance, plain: &Plain) -> Result<Values,
     ensures small_costs { IfOk result (λ v. All (λ c. c ≤ GREATEST_COST) v.costs) }
     ensures small_totals { IfOk result (λ v. (v.totals.hard ≤ GREATEST_TOTAL) × (v.totals.soft ≤ GREATEST_TOTAL)) }
 {
-    let evaluator = Evaluator::open(alloc, inst)?;
-    evaluator.evaluate(alloc, plain)
+    let room = ResourceRoom::open(alloc, inst)?;
+    evaluate_in(alloc, inst, &room, plain)
+}
+
+/// What a valid timetable of an instance costs, as `evaluate` says it, with what depends on the
+/// instance alone, which was made before and is only read: so any number of threads may share it. It
+/// takes the time and memory of `evaluate`, but for that.
+pub fn evaluate_in(
+    alloc: Global,
+    inst: &Instance,
+    room: &ResourceRoom,
+    plain: &Plain,
+) -> Result<Values, NoMemory>
+    requires valid { IsValid inst.now plain.now }
+    requires room { room.now ≡ room_for inst.now }
+    ensures deviations { IfOk result (λ v. v.deviations ≡ evaluated.deviations inst.now plain.now) }
+    ensures costs { IfOk result (λ v. v.costs ≡ evaluated.costs inst.now plain.now) }
+    ensures totals { IfOk result (λ v. v.totals ≡ evaluated.totals inst.now plain.now) }
+    ensures small_deviations { IfOk result (λ v. All (λ d. d ≤ GREATEST_DEVIATION) v.deviations) }
+    ensures small_costs { IfOk result (λ v. All (λ c. c ≤ GREATEST_COST) v.costs) }
+    ensures small_totals { IfOk result (λ v. (v.totals.hard ≤ GREATEST_TOTAL) × (v.totals.soft ≤ GREATEST_TOTAL)) }
+{
+    let deviations = deviations_of(alloc, inst, plain, room)?;
+    valued(alloc, inst, plain, deviations)
 }
 
 /// The values of a timetable by its deviations.
@@ -130,10 +97,10 @@ fn valued(
     })
 }
 
-// Workers share an evaluator, and what a timetable costs: the types show it, and no program calls
-// this.
+// Workers share the room of an instance, and what a timetable costs: the types show it, and no
+// program calls this.
 #[allow(dead_code)]
-fn evaluations_are_shared(evaluator: &Evaluator<'_>, values: &Values) {
-    lends_to_threads(evaluator);
+fn evaluations_are_shared(room: &ResourceRoom, values: &Values) {
+    lends_to_threads(room);
     lends_to_threads(values);
 }

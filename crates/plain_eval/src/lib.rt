@@ -6,4 +6,4 @@ mod costing;
 mod evaluation;
 mod measuring;
 
-pub use evaluation::{Evaluator, Values, evaluate};
+pub use evaluation::{Values, evaluate, evaluate_in};
