@@ -4,6 +4,6 @@ pub mod Writable
 pub mod Parts
 pub mod Canonical
 pub mod Archives
+pub mod Examples
 pub mod Lookups
 pub mod Output
-pub mod Streams

@@ -142,11 +142,19 @@ impl Write for RawInstance {
     }
 }
 
+/// Whether there are neither times nor groups of times.
+#[tactic(auto, using(crate::proofs::ListLemmas::none_of_two))]
+fn has_no_times(instance: &RawInstance) -> bool
+    ensures { result ≡ parts.is_none (parts.row (spec.times_parts instance.now)) }
+{
+    instance.time_groups.is_empty() && instance.times.is_empty()
+}
+
 /// Writes the times and their groups, where there are any.
 fn times<O: Output>(out: &mut O, opened: bool, instance: &RawInstance) -> bool
     ensures { Writes (O.said out.old) opened (O.said out.new) result (parts.list_of Tag.Times (parts.row (spec.times_parts instance.now))) }
 {
-    if instance.time_groups.is_empty() && instance.times.is_empty() {
+    if has_no_times(instance) {
         return opened;
     }
     some_times(out, opened, instance);
@@ -164,14 +172,20 @@ fn some_times<O: Output>(out: &mut O, opened: bool, instance: &RawInstance)
     end(out, inside, Tag::Times);
 }
 
+/// Whether there are neither resources nor types nor groups of them.
+#[tactic(auto, using(crate::proofs::ListLemmas::none_of_three))]
+fn has_no_resources(instance: &RawInstance) -> bool
+    ensures { result ≡ parts.is_none (parts.row (spec.resources_parts instance.now)) }
+{
+    instance.resource_types.is_empty()
+        && (instance.resource_groups.is_empty() && instance.resources.is_empty())
+}
+
 /// Writes the resources with their types and groups, where there are any.
 fn resources<O: Output>(out: &mut O, opened: bool, instance: &RawInstance) -> bool
     ensures { Writes (O.said out.old) opened (O.said out.new) result (parts.list_of Tag.Resources (parts.row (spec.resources_parts instance.now))) }
 {
-    if instance.resource_types.is_empty()
-        && instance.resource_groups.is_empty()
-        && instance.resources.is_empty()
-    {
+    if has_no_resources(instance) {
         return opened;
     }
     some_resources(out, opened, instance);
@@ -190,11 +204,19 @@ fn some_resources<O: Output>(out: &mut O, opened: bool, instance: &RawInstance)
     end(out, inside, Tag::Resources);
 }
 
+/// Whether there are neither events nor groups of events.
+#[tactic(auto, using(crate::proofs::ListLemmas::none_of_two))]
+fn has_no_events(instance: &RawInstance) -> bool
+    ensures { result ≡ parts.is_none (parts.row (spec.events_parts instance.now)) }
+{
+    instance.event_groups.is_empty() && instance.events.is_empty()
+}
+
 /// Writes the events and their groups, where there are any.
 fn events<O: Output>(out: &mut O, opened: bool, instance: &RawInstance) -> bool
     ensures { Writes (O.said out.old) opened (O.said out.new) result (parts.list_of Tag.Events (parts.row (spec.events_parts instance.now))) }
 {
-    if instance.event_groups.is_empty() && instance.events.is_empty() {
+    if has_no_events(instance) {
         return opened;
     }
     some_events(out, opened, instance);

@@ -5,16 +5,16 @@
 mod archives;
 mod buffer;
 mod constraints;
+#[allow(dead_code)]
+mod examples;
 mod instances;
 mod lists;
 mod output;
 mod parts;
 mod records;
 mod solutions;
-mod stream;
 mod texts;
 mod writing;
 
 pub use output::Output;
-pub use stream::Stream;
 pub use writing::write;
