@@ -16,7 +16,7 @@ use Rattle.xhstt_shape.specs.WellFormed.{IsWellFormed}
 use Rattle.xhstt_shape.specs.Words.{word}
 use Rattle.xhstt_writer.specs.Trees.{document}
 use Rattle.xhstt_writer.specs.Parts.{element, row}
-use Rattle.xhstt_writer.specs.Archives.{archive_labels, archive_parts, canonical, IsSpellingOf}
+use Rattle.xhstt_writer.specs.Archives.{archive_labels, archive_parts, canonical, IsReadAs}
 use Rattle.xhstt_writer.specs.Lookups.{StandsAs}
 use Rattle.xhstt_writer.proofs.Fields.{bytes_eq-same}
 use Rattle.xhstt_writer.proofs.Fits.{element_fine, row_writable}
@@ -31,7 +31,7 @@ root_shape a e w h =
     ∙ ap (λ b. if b then judged (fault_of row_of.Archive e) e else Err (Bad UNKNOWN_ELEMENT e.info.at)) (bytes_eq-same (word tag.HighSchoolTimetableArchive))
     ∙ ap (λ o. judged o e) (element_fine 9 row_of.Archive (archive_labels a) (archive_parts a) tag.HighSchoolTimetableArchive e (archive_fits a w) h)
 
-pub canonical_spells : (a : Archive) → IsWellFormed a → IsSpellingOf (canonical a) a
+pub canonical_spells : (a : Archive) → IsWellFormed a → IsReadAs (canonical a) a
 unfolding canonical
 canonical_spells a w =
     let fits = archive_fits a w in

@@ -144,5 +144,5 @@ unfoldable pub canonical : Archive → List ℕ
 canonical a = document tag.HighSchoolTimetableArchive (archive_labels a) (row (archive_parts a))
 
 -- bytes spell an archive, but for its places
-abbrev pub IsSpellingOf : List ℕ → Archive → Type 0
-IsSpellingOf bytes a = (f : Forest) × (b : Archive) × Spelled bytes f × (shape_of f ≡ Ok b) × IsSame a b
+abbrev pub IsReadAs : List ℕ → Archive → Type 0
+IsReadAs bytes a = (f : Forest) × (b : Archive) × Spelled bytes f × (shape_of f ≡ Ok b) × IsSame a b

@@ -27,7 +27,7 @@ use xhstt_shape::Archive;
 /// is linear in the bytes: each text is copied in runs of bytes that are written as themselves.
 pub fn write(alloc: Global, archive: &Archive) -> Result<Seq<u8>, NoMemory>
     ensures canonical { IfOk result (λ bytes. bytes ≡ spec.canonical archive.now) }
-    ensures read_back { IfOk result (λ bytes. IsWellFormed archive.now → spec.IsSpellingOf bytes archive.now) }
+    ensures read_back { IfOk result (λ bytes. IsWellFormed archive.now → spec.IsReadAs bytes archive.now) }
 {
     let mut buffer = Buffer {
         bytes: Vec::new(alloc),

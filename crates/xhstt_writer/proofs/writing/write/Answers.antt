@@ -9,4 +9,4 @@ returns-clause-canonical c =
     sym (append-nil c.put_archive.new.out.bytes.items) ∙ c.put_archive.ensures (record { before = None; bytes = whole }) (λ _. ap (λ x. x ++ whole) c.new.ensures.items) c.if-buffer.false
 
 pub returns-clause-read_back : goal.returns-clause-read_back
-returns-clause-read_back c w = subst (λ x. spec.IsSpellingOf x c.args.archive.now) (sym (returns-clause-canonical c)) (canonical_spells c.args.archive.now w)
+returns-clause-read_back c w = subst (λ x. spec.IsReadAs x c.args.archive.now) (sym (returns-clause-canonical c)) (canonical_spells c.args.archive.now w)
