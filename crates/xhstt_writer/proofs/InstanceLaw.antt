@@ -1,5 +1,5 @@
 -- Instances, read back.
-use Rattle.std.proofs.Common.{◌≡◌, ℕ, Option, Some, None, List, [], ◌∷◌, map, All, IfSome, refl, sym, ap, ◌∙◌}
+use Rattle.std.proofs.Common.{◌≡◌, ℕ, true, Option, Some, None, List, [], ◌∷◌, map, All, IfSome, refl, sym, ap, ◌∙◌}
 use Rattle.std.specs.Option.{option_map}
 use Rattle.xhstt_text.specs.Forest.{Forest}
 use Rattle.xhstt_text.specs.Handles.{Standing}
