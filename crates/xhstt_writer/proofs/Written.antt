@@ -37,4 +37,4 @@ canonical_spells a w =
     let fits = archive_fits a w in
     let d = document_spells tag.HighSchoolTimetableArchive (archive_labels a) (row (archive_parts a)) fits.labels (row_writable 9 1 row_of.Archive (archive_parts a) (omega arith) fits.parts) in
     let root = d.2 in
-    (d.0, value.archive root.own, d.1, ap shape_of root.is ∙ root_shape a root.own w root.stands, archive-read tag.HighSchoolTimetableArchive a root.own w root.stands)
+    (d.0, value.archive root.own, d.1, ap shape_of root.is ∙ root_shape a root.own w root.stands, sym (archive-read tag.HighSchoolTimetableArchive a root.own w root.stands))
