@@ -41,7 +41,12 @@ use Rattle.xhstt_writer.proofs.InstanceLaw.{IsGoodEvent, good_events, IsGoodCons
 named_fits : (height : ℕ) (id : Name) (v : List ℕ) → 1 ≤ height → IsSpellableName id → IsSpellable v → FitsBody height row_of.Named (named id v)
 unfolding content attributes children settled word label_word
 named_fits height id v l s n = element_fits 0 height row_of.Named (identified id []) (named_parts v) l (λ i. refl) (record {
-  elements = refl; labels = (refl, s, tt); known = (refl, tt); needed = refl; apart = refl; there = refl;
+  elements = refl;
+  labels = (refl, s, tt);
+  known = (refl, tt);
+  needed = refl;
+  apart = refl;
+  there = refl;
   parts = (name_fits 0 row_of.Named AtMostOnce v refl n, tt);
 })
 
@@ -90,19 +95,37 @@ time_groups_fit gs s = list_fits 1 4 row_of.TimeGroups time_group_tag time_group
 time_fits : (height : ℕ) (x : Time) → 4 ≤ height → IsSpellableTime x → FitsBody height row_of.Time (time x)
 unfolding content attributes children settled word label_word
 time_fits height x l s = element_fits 3 height row_of.Time (identified x.id []) (time_parts x) l (λ i. refl) (record {
-  elements = refl; labels = (refl, s.id, tt); known = (refl, tt); needed = refl; apart = refl; there = refl;
-  parts = (name_fits 3 row_of.Time AtMostOnce x.name refl s.name,
-    (if_part 3 row_of.Time tag.Week AtMostOnce row_of.Reference reference IsSpellableRef x.week refl (λ r p. reference_fits 3 r (omega arith) p) s.week,
-    (if_part 3 row_of.Time tag.Day AtMostOnce row_of.Reference reference IsSpellableRef x.day refl (λ r p. reference_fits 3 r (omega arith) p) s.day,
-    (reference_list 3 row_of.Time tag.TimeGroups tag.TimeGroup row_of.TimeGroupReferences x.time_groups (omega arith) refl time_groups refl s.time_groups, tt))));
+  elements = refl;
+  labels = (refl, s.id, tt);
+  known = (refl, tt);
+  needed = refl;
+  apart = refl;
+  there = refl;
+  parts = (
+    name_fits 3 row_of.Time AtMostOnce x.name refl s.name,
+    (
+      if_part 3 row_of.Time tag.Week AtMostOnce row_of.Reference reference IsSpellableRef x.week refl (λ r p. reference_fits 3 r (omega arith) p) s.week,
+      (
+        if_part 3 row_of.Time tag.Day AtMostOnce row_of.Reference reference IsSpellableRef x.day refl (λ r p. reference_fits 3 r (omega arith) p) s.day,
+        (reference_list 3 row_of.Time tag.TimeGroups tag.TimeGroup row_of.TimeGroupReferences x.time_groups (omega arith) refl time_groups refl s.time_groups, tt),
+      ),
+    ),
+  );
 })
 
 times_fit : (x : RawInstance) → All IsSpellableTimeGroup x.time_groups → All IsSpellableTime x.times → FitsBody 7 row_of.Times (element [] (row (times_parts x)))
 unfolding content attributes children settled word
 times_fit x gs ts = element_fits 4 7 row_of.Times [] (times_parts x) (omega arith) (λ i. refl) (record {
-  elements = refl; labels = tt; known = tt; needed = refl; apart = refl; there = refl;
-  parts = (list_part 4 row_of.Times tag.TimeGroups AtMostOnce row_of.TimeGroups (each time_group_tag time_group x.time_groups) refl (time_groups_fit x.time_groups gs),
-    (many_part 4 row_of.Times tag.Time row_of.Time time IsSpellableTime x.times refl (λ t p. time_fits 4 t (omega arith) p) ts, tt));
+  elements = refl;
+  labels = tt;
+  known = tt;
+  needed = refl;
+  apart = refl;
+  there = refl;
+  parts = (
+    list_part 4 row_of.Times tag.TimeGroups AtMostOnce row_of.TimeGroups (each time_group_tag time_group x.time_groups) refl (time_groups_fit x.time_groups gs),
+    (many_part 4 row_of.Times tag.Time row_of.Time time IsSpellableTime x.times refl (λ t p. time_fits 4 t (omega arith) p) ts, tt),
+  );
 })
 
 -- resources, their types and their groups
@@ -114,7 +137,12 @@ resource_types_fit xs s = list_fits 1 4 row_of.ResourceTypes (λ _. tag.Resource
 resource_group_fits : (height : ℕ) (x : ResourceGroup) → 2 ≤ height → IsSpellableResourceGroup x → FitsBody height row_of.ResourceGroup (resource_group x)
 unfolding content attributes children settled word label_word
 resource_group_fits height x l s = element_fits 1 height row_of.ResourceGroup (identified x.id []) (resource_group_parts x) l (λ i. refl) (record {
-  elements = refl; labels = (refl, s.0, tt); known = (refl, tt); needed = refl; apart = refl; there = refl;
+  elements = refl;
+  labels = (refl, s.0, tt);
+  known = (refl, tt);
+  needed = refl;
+  apart = refl;
+  there = refl;
   parts = (name_fits 1 row_of.ResourceGroup AtMostOnce x.name refl s.1, (one_part 1 row_of.ResourceGroup tag.ResourceType Once row_of.Reference (reference x.resource_type) refl (reference_fits 1 x.resource_type (omega arith) s.2), tt));
 })
 
@@ -126,19 +154,37 @@ resource_groups_fit xs s = list_fits 2 4 row_of.ResourceGroups (λ _. tag.Resour
 resource_fits : (height : ℕ) (x : RawResource) → 4 ≤ height → IsSpellableResource x → FitsBody height row_of.Resource (resource x)
 unfolding content attributes children settled word label_word
 resource_fits height x l s = element_fits 3 height row_of.Resource (identified x.id []) (resource_parts x) l (λ i. refl) (record {
-  elements = refl; labels = (refl, s.id, tt); known = (refl, tt); needed = refl; apart = refl; there = refl;
-  parts = (name_fits 3 row_of.Resource AtMostOnce x.name refl s.name,
-    (one_part 3 row_of.Resource tag.ResourceType Once row_of.Reference (reference x.resource_type) refl (reference_fits 3 x.resource_type (omega arith) s.resource_type),
-    (reference_list 3 row_of.Resource tag.ResourceGroups tag.ResourceGroup row_of.ResourceGroupReferences x.resource_groups (omega arith) refl resource_groups refl s.resource_groups, tt)));
+  elements = refl;
+  labels = (refl, s.id, tt);
+  known = (refl, tt);
+  needed = refl;
+  apart = refl;
+  there = refl;
+  parts = (
+    name_fits 3 row_of.Resource AtMostOnce x.name refl s.name,
+    (
+      one_part 3 row_of.Resource tag.ResourceType Once row_of.Reference (reference x.resource_type) refl (reference_fits 3 x.resource_type (omega arith) s.resource_type),
+      (reference_list 3 row_of.Resource tag.ResourceGroups tag.ResourceGroup row_of.ResourceGroupReferences x.resource_groups (omega arith) refl resource_groups refl s.resource_groups, tt),
+    ),
+  );
 })
 
 resources_fit : (x : RawInstance) → All IsSpellableResourceType x.resource_types → All IsSpellableResourceGroup x.resource_groups → All IsSpellableResource x.resources → FitsBody 7 row_of.Resources (element [] (row (resources_parts x)))
 unfolding content attributes children settled word
 resources_fit x ts gs rs = element_fits 4 7 row_of.Resources [] (resources_parts x) (omega arith) (λ i. refl) (record {
-  elements = refl; labels = tt; known = tt; needed = refl; apart = refl; there = refl;
-  parts = (list_part 4 row_of.Resources tag.ResourceTypes AtMostOnce row_of.ResourceTypes (each (λ _. tag.ResourceType) resource_type x.resource_types) refl (resource_types_fit x.resource_types ts),
-    (list_part 4 row_of.Resources tag.ResourceGroups AtMostOnce row_of.ResourceGroups (each (λ _. tag.ResourceGroup) resource_group x.resource_groups) refl (resource_groups_fit x.resource_groups gs),
-    (many_part 4 row_of.Resources tag.Resource row_of.Resource resource IsSpellableResource x.resources refl (λ r p. resource_fits 4 r (omega arith) p) rs, tt)));
+  elements = refl;
+  labels = tt;
+  known = tt;
+  needed = refl;
+  apart = refl;
+  there = refl;
+  parts = (
+    list_part 4 row_of.Resources tag.ResourceTypes AtMostOnce row_of.ResourceTypes (each (λ _. tag.ResourceType) resource_type x.resource_types) refl (resource_types_fit x.resource_types ts),
+    (
+      list_part 4 row_of.Resources tag.ResourceGroups AtMostOnce row_of.ResourceGroups (each (λ _. tag.ResourceGroup) resource_group x.resource_groups) refl (resource_groups_fit x.resource_groups gs),
+      (many_part 4 row_of.Resources tag.Resource row_of.Resource resource IsSpellableResource x.resources refl (λ r p. resource_fits 4 r (omega arith) p) rs, tt),
+    ),
+  );
 })
 
 -- events and their groups
@@ -149,9 +195,16 @@ event_groups_fit gs s = list_fits 1 4 row_of.EventGroups event_group_tag event_g
 events_fit : (x : RawInstance) → All IsSpellableEventGroup x.event_groups → All IsGoodEvent x.events → FitsBody 7 row_of.Events (element [] (row (events_parts x)))
 unfolding content attributes children settled word
 events_fit x gs es = element_fits 4 7 row_of.Events [] (events_parts x) (omega arith) (λ i. refl) (record {
-  elements = refl; labels = tt; known = tt; needed = refl; apart = refl; there = refl;
-  parts = (list_part 4 row_of.Events tag.EventGroups AtMostOnce row_of.EventGroups (each event_group_tag event_group x.event_groups) refl (event_groups_fit x.event_groups gs),
-    (many_part 4 row_of.Events tag.Event row_of.Event event IsGoodEvent x.events refl (λ e p. event_fits 4 e (omega arith) p.in_form p.spellable p.resources) es, tt));
+  elements = refl;
+  labels = tt;
+  known = tt;
+  needed = refl;
+  apart = refl;
+  there = refl;
+  parts = (
+    list_part 4 row_of.Events tag.EventGroups AtMostOnce row_of.EventGroups (each event_group_tag event_group x.event_groups) refl (event_groups_fit x.event_groups gs),
+    (many_part 4 row_of.Events tag.Event row_of.Event event IsGoodEvent x.events refl (λ e p. event_fits 4 e (omega arith) p.in_form p.spellable p.resources) es, tt),
+  );
 })
 
 -- constraints
@@ -165,10 +218,23 @@ unfolding content attributes children settled word label_word
 instance_fits height x l g =
     let s = g.spellable in
     element_fits 7 height row_of.Instance (identified x.id []) (instance_parts x) l (λ i. refl) (record {
-      elements = refl; labels = (refl, s.id, tt); known = (refl, tt); needed = refl; apart = refl; there = refl;
-      parts = (if_part 7 row_of.Instance tag.MetaData AtMostOnce row_of.MetaData meta_data IsSpellableMetaData x.meta_data refl (λ m p. meta_data_fits 7 m (omega arith) p) s.meta_data,
-        (list_part 7 row_of.Instance tag.Times AtMostOnce row_of.Times (row (times_parts x)) refl (times_fit x s.time_groups s.times),
-        (list_part 7 row_of.Instance tag.Resources AtMostOnce row_of.Resources (row (resources_parts x)) refl (resources_fit x s.resource_types s.resource_groups s.resources),
-        (list_part 7 row_of.Instance tag.Events AtMostOnce row_of.Events (row (events_parts x)) refl (events_fit x s.event_groups (good_events x g.in_form s)),
-        (list_part 7 row_of.Instance tag.Constraints AtMostOnce row_of.Constraints (each constraint_tag constraint x.constraints) refl (constraints_fit x.constraints (good_constraints x g.in_form s)), tt)))));
+      elements = refl;
+      labels = (refl, s.id, tt);
+      known = (refl, tt);
+      needed = refl;
+      apart = refl;
+      there = refl;
+      parts = (
+        if_part 7 row_of.Instance tag.MetaData AtMostOnce row_of.MetaData meta_data IsSpellableMetaData x.meta_data refl (λ m p. meta_data_fits 7 m (omega arith) p) s.meta_data,
+        (
+          list_part 7 row_of.Instance tag.Times AtMostOnce row_of.Times (row (times_parts x)) refl (times_fit x s.time_groups s.times),
+          (
+            list_part 7 row_of.Instance tag.Resources AtMostOnce row_of.Resources (row (resources_parts x)) refl (resources_fit x s.resource_types s.resource_groups s.resources),
+            (
+              list_part 7 row_of.Instance tag.Events AtMostOnce row_of.Events (row (events_parts x)) refl (events_fit x s.event_groups (good_events x g.in_form s)),
+              (list_part 7 row_of.Instance tag.Constraints AtMostOnce row_of.Constraints (each constraint_tag constraint x.constraints) refl (constraints_fit x.constraints (good_constraints x g.in_form s)), tt),
+            ),
+          ),
+        ),
+      );
     })

@@ -53,7 +53,12 @@ solution_group_row = record { settles = λ i. refl; elements = refl; attributes 
 given_fits : (height : ℕ) (x : RawGiven) → 1 ≤ height → IsGoodGiven x → FitsBody height row_of.Given (given x)
 unfolding content attributes children settled word label_word
 given_fits height x l s = element_fits 0 height row_of.Given (labelled label.Reference x.reference.id ∷ []) (given_parts x) l (λ i. refl) (record {
-  elements = refl; labels = (refl, s.spellable.0, tt); known = (refl, tt); needed = refl; apart = refl; there = refl;
+  elements = refl;
+  labels = (refl, s.spellable.0, tt);
+  known = (refl, tt);
+  needed = refl;
+  apart = refl;
+  there = refl;
   parts = (if_part 0 row_of.Given tag.Role AtMostOnce row_of.Role role IsGoodRole x.role refl (λ n g. role_fits 0 n g.role g.spellable) (good_role x.role s.in_form s.spellable.1), tt);
 })
 
@@ -68,10 +73,19 @@ unfolding content attributes children settled word label_word
 entry_fits height x l g =
     let s = g.spellable in
     element_fits 2 height row_of.Entry (labelled label.Reference x.reference.id ∷ []) (entry_parts x) l (λ i. refl) (record {
-      elements = refl; labels = (refl, s.reference, tt); known = (refl, tt); needed = refl; apart = refl; there = refl;
-      parts = (if_part 2 row_of.Entry tag.Duration AtMostOnce row_of.Duration number IsDuration x.duration refl (λ n f. duration_fits 2 n f) g.in_form.duration,
-        (if_part 2 row_of.Entry tag.Time AtMostOnce row_of.Reference reference IsSpellableRef x.time refl (λ r p. reference_fits 2 r (omega arith) p) s.time,
-        (list_part 2 row_of.Entry tag.Resources AtMostOnce row_of.GivenResources (each (λ _. tag.Resource) given x.resources) refl (givens_fit x.resources g.resources), tt)));
+      elements = refl;
+      labels = (refl, s.reference, tt);
+      known = (refl, tt);
+      needed = refl;
+      apart = refl;
+      there = refl;
+      parts = (
+        if_part 2 row_of.Entry tag.Duration AtMostOnce row_of.Duration number IsDuration x.duration refl (λ n f. duration_fits 2 n f) g.in_form.duration,
+        (
+          if_part 2 row_of.Entry tag.Time AtMostOnce row_of.Reference reference IsSpellableRef x.time refl (λ r p. reference_fits 2 r (omega arith) p) s.time,
+          (list_part 2 row_of.Entry tag.Resources AtMostOnce row_of.GivenResources (each (λ _. tag.Resource) given x.resources) refl (givens_fit x.resources g.resources), tt),
+        ),
+      );
     })
 
 entries_fit : (xs : List RawEntry) → All IsGoodEntry xs → FitsBody 4 row_of.Entries (element [] (each (λ _. tag.Event) entry xs))
@@ -85,10 +99,19 @@ unfolding content attributes children settled word label_word
 solution_fits height x l g =
     let s = g.spellable in
     element_fits 4 height row_of.Solution (labelled label.Reference x.reference.id ∷ []) (solution_parts x) l (λ i. refl) (record {
-      elements = refl; labels = (refl, s.reference, tt); known = (refl, tt); needed = refl; apart = refl; there = refl;
-      parts = (if_part 4 row_of.Solution tag.Description AtMostOnce row_of.Text text IsSpellable x.description refl (λ v p. text_fits 4 v p) s.description,
-        (if_part 4 row_of.Solution tag.RunningTime AtMostOnce row_of.Text text IsSpellable x.running_time refl (λ v p. text_fits 4 v p) s.running_time,
-        (list_part 4 row_of.Solution tag.Events AtMostOnce row_of.Entries (each (λ _. tag.Event) entry x.events) refl (entries_fit x.events g.events), tt)));
+      elements = refl;
+      labels = (refl, s.reference, tt);
+      known = (refl, tt);
+      needed = refl;
+      apart = refl;
+      there = refl;
+      parts = (
+        if_part 4 row_of.Solution tag.Description AtMostOnce row_of.Text text IsSpellable x.description refl (λ v p. text_fits 4 v p) s.description,
+        (
+          if_part 4 row_of.Solution tag.RunningTime AtMostOnce row_of.Text text IsSpellable x.running_time refl (λ v p. text_fits 4 v p) s.running_time,
+          (list_part 4 row_of.Solution tag.Events AtMostOnce row_of.Entries (each (λ _. tag.Event) entry x.events) refl (entries_fit x.events g.events), tt),
+        ),
+      );
     })
 
 -- groups of solutions
@@ -97,9 +120,16 @@ unfolding content attributes children settled word label_word
 solution_group_fits height x l g =
     let s = g.spellable in
     element_fits 5 height row_of.SolutionGroup (identified x.id []) (solution_group_parts x) l (λ i. refl) (record {
-      elements = refl; labels = (refl, s.id, tt); known = (refl, tt); needed = refl; apart = refl; there = refl;
-      parts = (if_part 5 row_of.SolutionGroup tag.MetaData AtMostOnce row_of.MetaData meta_data IsSpellableMetaData x.meta_data refl (λ m p. meta_data_fits 5 m (omega arith) p) s.meta_data,
-        (many_part 5 row_of.SolutionGroup tag.Solution row_of.Solution solution IsGoodSolution x.solutions refl (λ n p. solution_fits 5 n (omega arith) p) g.solutions, tt));
+      elements = refl;
+      labels = (refl, s.id, tt);
+      known = (refl, tt);
+      needed = refl;
+      apart = refl;
+      there = refl;
+      parts = (
+        if_part 5 row_of.SolutionGroup tag.MetaData AtMostOnce row_of.MetaData meta_data IsSpellableMetaData x.meta_data refl (λ m p. meta_data_fits 5 m (omega arith) p) s.meta_data,
+        (many_part 5 row_of.SolutionGroup tag.Solution row_of.Solution solution IsGoodSolution x.solutions refl (λ n p. solution_fits 5 n (omega arith) p) g.solutions, tt),
+      );
     })
 
 solution_groups_fit : (xs : List SolutionGroup) → All IsGoodSolutionGroup xs → FitsBody 9 row_of.SolutionGroups (element [] (each (λ _. tag.SolutionGroup) solution_group xs))
@@ -123,8 +153,17 @@ archive_fits x w =
     let s = w.spellable in
     let ids : Option (List ℕ) = option_map (λ (n : Name). n.text) x.id in
     record {
-      elements = refl; labels = label_writable label.Id ids [] refl (spellable_id x.id s.id); known = known_if (attributes row_of.Archive) label.Id ids refl; needed = refl; apart = archive_apart x; there = refl;
-      parts = (if_part 9 row_of.Archive tag.MetaData AtMostOnce row_of.MetaData meta_data IsSpellableMetaData x.meta_data refl (λ m p. meta_data_fits 9 m (omega arith) p) s.meta_data,
-        (list_part 9 row_of.Archive tag.Instances AtMostOnce row_of.Instances (each (λ _. tag.Instance) instance x.instances) refl (instances_fit x.instances (good_instances x w)),
-        (list_part 9 row_of.Archive tag.SolutionGroups AtMostOnce row_of.SolutionGroups (each (λ _. tag.SolutionGroup) solution_group x.solution_groups) refl (solution_groups_fit x.solution_groups (good_solution_groups x w)), tt)));
+      elements = refl;
+      labels = label_writable label.Id ids [] refl (spellable_id x.id s.id);
+      known = known_if (attributes row_of.Archive) label.Id ids refl;
+      needed = refl;
+      apart = archive_apart x;
+      there = refl;
+      parts = (
+        if_part 9 row_of.Archive tag.MetaData AtMostOnce row_of.MetaData meta_data IsSpellableMetaData x.meta_data refl (λ m p. meta_data_fits 9 m (omega arith) p) s.meta_data,
+        (
+          list_part 9 row_of.Archive tag.Instances AtMostOnce row_of.Instances (each (λ _. tag.Instance) instance x.instances) refl (instances_fit x.instances (good_instances x w)),
+          (list_part 9 row_of.Archive tag.SolutionGroups AtMostOnce row_of.SolutionGroups (each (λ _. tag.SolutionGroup) solution_group x.solution_groups) refl (solution_groups_fit x.solution_groups (good_solution_groups x w)), tt),
+        ),
+      );
     }

@@ -32,8 +32,16 @@ time id = record { id = name id; name = []; week = None; day = None; time_groups
 
 abbrev pub event : List ℕ → ℕ → RawEvent
 event id duration = record {
-  id = name id; color = None; name = []; duration = duration; workload = None; course = None; time = None;
-  resources = []; resource_groups = []; event_groups = [];
+  id = name id;
+  color = None;
+  name = [];
+  duration = duration;
+  workload = None;
+  course = None;
+  time = None;
+  resources = [];
+  resource_groups = [];
+  event_groups = [];
 }
 
 -- a required constraint of linear cost and weight 2 on the event E
@@ -46,11 +54,20 @@ one_event rule = record {
   id = None;
   meta_data = None;
   instances = record {
-    id = name (codes "I"); meta_data = None; time_groups = []; times = time (codes "t0") ∷ (time (codes "t1") ∷ (time (codes "t2") ∷ []));
-    resource_types = []; resource_groups = []; resources = []; event_groups = []; events = event (codes "E") 3 ∷ []; constraints = constraint rule ∷ [];
+    id = name (codes "I");
+    meta_data = None;
+    time_groups = [];
+    times = time (codes "t0") ∷ (time (codes "t1") ∷ (time (codes "t2") ∷ []));
+    resource_types = [];
+    resource_groups = [];
+    resources = [];
+    event_groups = [];
+    events = event (codes "E") 3 ∷ [];
+    constraints = constraint rule ∷ [];
   } ∷ [];
   solution_groups = record {
-    id = name (codes "G"); meta_data = None;
+    id = name (codes "G");
+    meta_data = None;
     solutions = record { reference = to (codes "I"); description = None; running_time = None; events = [] } ∷ [];
   } ∷ [];
 }

@@ -26,8 +26,20 @@ fn put_root<O: Output>(out: &mut O, archive: &Archive)
         attribute(out, Label::Id, &id.text);
     }
     let mut inside = write_if(out, true, Tag::MetaData, &archive.meta_data);
-    inside = list(out, inside, Tag::Instances, Tag::Instance, &archive.instances);
-    inside = list(out, inside, Tag::SolutionGroups, Tag::SolutionGroup, &archive.solution_groups);
+    inside = list(
+        out,
+        inside,
+        Tag::Instances,
+        Tag::Instance,
+        &archive.instances,
+    );
+    inside = list(
+        out,
+        inside,
+        Tag::SolutionGroups,
+        Tag::SolutionGroup,
+        &archive.solution_groups,
+    );
     end(out, inside, Tag::HighSchoolTimetableArchive);
 }
 

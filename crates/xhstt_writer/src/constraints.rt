@@ -46,22 +46,58 @@ fn put_applies<O: Output>(out: &mut O, applies: &RawApplies) -> bool
     ensures { (t : AnyTag) (rest : List ℕ) (whole : Aim) → O.said out.old (filled (parts.row (spec.applies_parts applies.now)) true t rest) whole → O.said out.new (filled none result t rest) whole }
 {
     match applies {
-        RawApplies::Events { event_groups, events } => {
-            two_lists(out, true, Tag::EventGroups, Tag::EventGroup, event_groups, Tag::Events, Tag::Event, events)
+        RawApplies::Events {
+            event_groups,
+            events,
+        } => {
+            two_lists(
+                out,
+                true,
+                Tag::EventGroups,
+                Tag::EventGroup,
+                event_groups,
+                Tag::Events,
+                Tag::Event,
+                events,
+            )
         }
-        RawApplies::Groups { event_groups } => list(out, true, Tag::EventGroups, Tag::EventGroup, event_groups),
+        RawApplies::Groups { event_groups } => list(
+            out,
+            true,
+            Tag::EventGroups,
+            Tag::EventGroup,
+            event_groups,
+        ),
         RawApplies::Pairs { pairs } => list(out, true, Tag::EventPairs, Tag::EventPair, pairs),
         RawApplies::Resources {
             resource_groups,
             resources,
         } => {
-            two_lists(out, true, Tag::ResourceGroups, Tag::ResourceGroup, resource_groups, Tag::Resources, Tag::Resource, resources)
+            two_lists(
+                out,
+                true,
+                Tag::ResourceGroups,
+                Tag::ResourceGroup,
+                resource_groups,
+                Tag::Resources,
+                Tag::Resource,
+                resources,
+            )
         }
     }
 }
 
 /// Writes two lists of references.
-fn two_lists<O: Output>(out: &mut O, opened: bool, outer: Tag, inner: Tag, first: &Seq<Ref>, later: Tag, own: Tag, second: &Seq<Ref>) -> bool
+fn two_lists<O: Output>(
+    out: &mut O,
+    opened: bool,
+    outer: Tag,
+    inner: Tag,
+    first: &Seq<Ref>,
+    later: Tag,
+    own: Tag,
+    second: &Seq<Ref>,
+) -> bool
     ensures { (more : Trees) (t : AnyTag) (rest : List ℕ) (whole : Aim) → O.said out.old (filled (put_part (parts.references outer inner first.now) (put_part (parts.references later own second.now) more)) opened t rest) whole → O.said out.new (filled more result t rest) whole }
 {
     let inside = list(out, opened, outer, inner, first);
@@ -73,14 +109,13 @@ fn put_rule<O: Output>(out: &mut O, rule: &RawRule) -> bool
     ensures { (t : AnyTag) (rest : List ℕ) (whole : Aim) → O.said out.old (filled (parts.row (spec.rule_parts rule.now)) false t rest) whole → O.said out.new (filled none result t rest) whole }
 {
     match rule {
-        RawRule::AssignTime
-        | RawRule::LinkEvents
-        | RawRule::OrderEvents
-        | RawRule::AvoidClashes => false,
-        RawRule::AssignResource { role: given } | RawRule::AvoidSplitAssignments { role: given } => {
-            role(out, false, given);
-            false
-        }
+        RawRule::AssignTime | RawRule::LinkEvents | RawRule::OrderEvents | RawRule::AvoidClashes =>
+            false,
+        RawRule::AssignResource { role: given } | RawRule::AvoidSplitAssignments { role: given } =>
+            {
+                role(out, false, given);
+                false
+            }
         RawRule::SplitEvents {
             min_duration,
             max_duration,
@@ -103,14 +138,29 @@ fn put_rule<O: Output>(out: &mut O, rule: &RawRule) -> bool
             times,
             duration,
         } => {
-            let still = two_lists(out, false, Tag::TimeGroups, Tag::TimeGroup, time_groups, Tag::Times, Tag::Time, times);
+            let still = two_lists(
+                out,
+                false,
+                Tag::TimeGroups,
+                Tag::TimeGroup,
+                time_groups,
+                Tag::Times,
+                Tag::Time,
+                times,
+            );
             number_if(out, still, Tag::Duration, *duration)
         }
         RawRule::LimitWorkload { min, max } => {
             put_bounds(out, *min, *max);
             false
         }
-        RawRule::SpreadEvents { time_groups } => list(out, false, Tag::TimeGroups, Tag::TimeGroup, time_groups),
+        RawRule::SpreadEvents { time_groups } => list(
+            out,
+            false,
+            Tag::TimeGroups,
+            Tag::TimeGroup,
+            time_groups,
+        ),
         RawRule::LimitIdleTimes {
             time_groups,
             min,
@@ -136,14 +186,32 @@ fn put_rule<O: Output>(out: &mut O, rule: &RawRule) -> bool
             false
         }
         RawRule::AvoidUnavailableTimes { time_groups, times } => {
-            two_lists(out, false, Tag::TimeGroups, Tag::TimeGroup, time_groups, Tag::Times, Tag::Time, times)
+            two_lists(
+                out,
+                false,
+                Tag::TimeGroups,
+                Tag::TimeGroup,
+                time_groups,
+                Tag::Times,
+                Tag::Time,
+                times,
+            )
         }
         RawRule::PreferResources {
             resource_groups,
             resources,
             role: given,
         } => {
-            let still = two_lists(out, false, Tag::ResourceGroups, Tag::ResourceGroup, resource_groups, Tag::Resources, Tag::Resource, resources);
+            let still = two_lists(
+                out,
+                false,
+                Tag::ResourceGroups,
+                Tag::ResourceGroup,
+                resource_groups,
+                Tag::Resources,
+                Tag::Resource,
+                resources,
+            );
             role(out, still, given);
             false
         }

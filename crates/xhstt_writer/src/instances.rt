@@ -58,7 +58,13 @@ impl Write for Time {
         let mut inside = name(out, true, &self.name);
         inside = reference_if(out, inside, Tag::Week, &self.week);
         inside = reference_if(out, inside, Tag::Day, &self.day);
-        inside = list(out, inside, Tag::TimeGroups, Tag::TimeGroup, &self.time_groups);
+        inside = list(
+            out,
+            inside,
+            Tag::TimeGroups,
+            Tag::TimeGroup,
+            &self.time_groups,
+        );
         end(out, inside, tag);
     }
 }
@@ -97,7 +103,13 @@ impl Write for RawResource {
         attribute(out, Label::Id, &self.id.text);
         let mut inside = name(out, true, &self.name);
         reference(out, inside, Tag::ResourceType, &self.resource_type);
-        inside = list(out, false, Tag::ResourceGroups, Tag::ResourceGroup, &self.resource_groups);
+        inside = list(
+            out,
+            false,
+            Tag::ResourceGroups,
+            Tag::ResourceGroup,
+            &self.resource_groups,
+        );
         end(out, inside, tag);
     }
 }
@@ -198,8 +210,20 @@ fn some_resources<O: Output>(out: &mut O, opened: bool, instance: &RawInstance)
     ensures { Writes (O.said out.old) opened (O.said out.new) false (parts.one Tag.Resources (parts.element [] (parts.row (spec.resources_parts instance.now)))) }
 {
     begin(out, opened, Tag::Resources);
-    let types = list(out, true, Tag::ResourceTypes, Tag::ResourceType, &instance.resource_types);
-    let groups = list(out, types, Tag::ResourceGroups, Tag::ResourceGroup, &instance.resource_groups);
+    let types = list(
+        out,
+        true,
+        Tag::ResourceTypes,
+        Tag::ResourceType,
+        &instance.resource_types,
+    );
+    let groups = list(
+        out,
+        types,
+        Tag::ResourceGroups,
+        Tag::ResourceGroup,
+        &instance.resource_groups,
+    );
     let inside = items(out, groups, Tag::Resource, instance.resources.as_slice());
     end(out, inside, Tag::Resources);
 }

@@ -30,7 +30,12 @@ pub(crate) trait Tagged {
 
 /// Writes what is there.
 #[tactic(auto, unfolding(crate::specs::Parts::put_all))]
-pub(crate) fn write_if<T: Write, O: Output>(out: &mut O, opened: bool, tag: Tag, item: &Option<T>) -> bool
+pub(crate) fn write_if<T: Write, O: Output>(
+    out: &mut O,
+    opened: bool,
+    tag: Tag,
+    item: &Option<T>,
+) -> bool
     ensures { Writes (O.said out.old) opened (O.said out.new) result (parts.if_some tag T.body item.now) }
 {
     match item {
@@ -57,7 +62,13 @@ pub(crate) fn items<T: Write, O: Output>(out: &mut O, opened: bool, tag: Tag, it
 
 /// Writes a list of items, where it is not empty.
 #[tactic(auto, unfolding(crate::specs::Parts::put_all))]
-pub(crate) fn list<T: Write, O: Output>(out: &mut O, opened: bool, outer: Tag, tag: Tag, list: &Seq<T>) -> bool
+pub(crate) fn list<T: Write, O: Output>(
+    out: &mut O,
+    opened: bool,
+    outer: Tag,
+    tag: Tag,
+    list: &Seq<T>,
+) -> bool
     ensures { Writes (O.said out.old) opened (O.said out.new) result (parts.list_of outer (parts.each (λ _. tag) T.body list.now)) }
 {
     if list.is_empty() {
@@ -90,7 +101,12 @@ fn tagged_items<T: Write + Tagged, O: Output>(out: &mut O, opened: bool, items: 
 }
 
 /// Writes a list of items, each under its own name, where it is not empty.
-pub(crate) fn tagged_list<T: Write + Tagged, O: Output>(out: &mut O, opened: bool, outer: Tag, list: &Seq<T>) -> bool
+pub(crate) fn tagged_list<T: Write + Tagged, O: Output>(
+    out: &mut O,
+    opened: bool,
+    outer: Tag,
+    list: &Seq<T>,
+) -> bool
     ensures { Writes (O.said out.old) opened (O.said out.new) result (parts.list_of outer (parts.each T.own_tag T.body list.now)) }
 {
     if list.is_empty() {

@@ -180,7 +180,12 @@ pub(crate) fn reference<O: Output>(out: &mut O, opened: bool, tag: Tag, referenc
 
 /// Writes a reference, where it is there.
 #[tactic(auto, unfolding(crate::specs::Parts::put_all))]
-pub(crate) fn reference_if<O: Output>(out: &mut O, opened: bool, tag: Tag, given: &Option<Ref>) -> bool
+pub(crate) fn reference_if<O: Output>(
+    out: &mut O,
+    opened: bool,
+    tag: Tag,
+    given: &Option<Ref>,
+) -> bool
     ensures { Writes (O.said out.old) opened (O.said out.new) result (parts.if_some tag parts.reference given.now) }
 {
     match given {
