@@ -7,4 +7,3 @@ pub mod Archives
 pub mod Examples
 pub mod Lookups
 pub mod Output
-pub mod Streams

@@ -13,9 +13,7 @@ mod output;
 mod parts;
 mod records;
 mod solutions;
-mod stream;
 mod texts;
 mod writing;
 
-pub use stream::{SendFault, send};
 pub use writing::write;
