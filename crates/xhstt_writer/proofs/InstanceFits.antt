@@ -1,8 +1,5 @@
 -- Written instances fit their rows of the table.
-use Rattle.std.proofs.Common.{◌≡◌, ℕ, ◌≤◌, ◌<◌, Bool, true, false, Option, Some, None, List, [], ◌∷◌, length, map, All, IfSome, refl, inl, inr, sym, ap, ◌∙◌, arith}
-use Rattle.std.specs.List.{list_all}
-use Rattle.std.proofs.lemmas.Bool.{and_parts, and_from}
-use Rattle.xhstt_text.specs.Forest.{Info, Forest}
+use Rattle.std.proofs.Common.{ℕ, ◌≤◌, List, [], All, refl, arith}
 use Rattle.xhstt_shape.specs.declared.constraints.RawConstraint.{RawConstraint}
 use Rattle.xhstt_shape.specs.declared.records.EventGroup.{EventGroup}
 use Rattle.xhstt_shape.specs.declared.records.GroupSort.{GroupSort}
@@ -17,23 +14,20 @@ use Rattle.xhstt_shape.specs.declared.records.TimeGroup.{TimeGroup}
 use Rattle.xhstt_shape.specs.declared.records.TimeSort.{TimeSort}
 use Rattle.xhstt_shape.specs.declared.records.TimeSort.TheVariants as time_sort
 use Rattle.xhstt_shape.specs.declared.schema.Mark.TheVariants.{Once, AtMostOnce, Many}
-use Rattle.xhstt_shape.specs.declared.schema.Row.{Row}
 use Rattle.xhstt_shape.specs.declared.schema.Row.TheVariants as row_of
 use Rattle.xhstt_shape.specs.declared.words.Kind.{Kind}
 use Rattle.xhstt_shape.specs.declared.words.Kind.TheVariants as kind
-use Rattle.xhstt_shape.specs.declared.words.Label.TheVariants as label
-use Rattle.xhstt_shape.specs.declared.words.Tag.{Tag}
 use Rattle.xhstt_shape.specs.declared.words.Tag.TheVariants as tag
 use Rattle.xhstt_shape.specs.Characters.{IsSpellable, IsSpellableName, IsSpellableRef, IsSpellableMetaData, IsSpellableTimeGroup, IsSpellableTime, IsSpellableResourceType, IsSpellableResourceGroup, IsSpellableResource, IsSpellableEventGroup}
 use Rattle.xhstt_shape.specs.Schema.{attributes, children, content}
-use Rattle.xhstt_shape.specs.Walk.{settled, rule_for}
+use Rattle.xhstt_shape.specs.Walk.{settled}
 use Rattle.xhstt_shape.specs.Words.{word, kind_word, label_word}
-use Rattle.xhstt_writer.specs.Parts.{Body, element, Part, row, each, reference, identified}
+use Rattle.xhstt_writer.specs.Parts.{element, row, each, reference, identified}
 use Rattle.xhstt_writer.specs.Canonical.{meta_data, event, kind_of, constraint_tag, constraint}
 use Rattle.xhstt_writer.specs.Archives.{named_parts, named, time_sort_tag, time_group_tag, time_group, time_parts, time, times_parts, resource_type, resource_group_parts, resource_group, resource_parts, resource, resources_parts, group_sort_tag, event_group_tag, event_group, events_parts, instance_parts, instance}
-use Rattle.xhstt_writer.proofs.Fits.{FitsBody, FitsElement, element_fits, IsListRow, list_fits}
+use Rattle.xhstt_writer.proofs.Fits.{FitsBody, element_fits, IsListRow, list_fits}
 use Rattle.xhstt_writer.proofs.LeafFits.{reference_fits}
-use Rattle.xhstt_writer.proofs.RecordFits.{Leads, one_part, if_part, many_part, list_part, name_fits, reference_list, resource_groups, event_groups, meta_data_fits, event_fits}
+use Rattle.xhstt_writer.proofs.RecordFits.{Leads, one_part, if_part, many_part, list_part, name_fits, reference_list, resource_groups, meta_data_fits, event_fits}
 use Rattle.xhstt_writer.proofs.ConstraintFits.{time_groups, well_formed_fits}
 use Rattle.xhstt_writer.proofs.InstanceLaw.{IsGoodEvent, good_events, IsGoodConstraint, good_constraints, IsGoodInstance}
 

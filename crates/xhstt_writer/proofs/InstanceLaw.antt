@@ -1,5 +1,5 @@
 -- Instances, read back.
-use Rattle.std.proofs.Common.{◌≡◌, ℕ, true, Option, Some, None, List, [], ◌∷◌, map, All, IfSome, refl, sym, ap, ◌∙◌}
+use Rattle.std.proofs.Common.{◌≡◌, ℕ, true, Option, Some, None, List, [], map, All, IfSome, refl, ap, ◌∙◌}
 use Rattle.std.specs.Option.{option_map}
 use Rattle.xhstt_text.specs.Forest.{Forest}
 use Rattle.xhstt_text.specs.Handles.{Standing}
@@ -21,7 +21,7 @@ use Rattle.xhstt_shape.specs.declared.records.TimeSort.{TimeSort}
 use Rattle.xhstt_shape.specs.declared.records.TimeSort.TheVariants as time_sort
 use Rattle.xhstt_shape.specs.declared.words.Tag.{Tag}
 use Rattle.xhstt_shape.specs.declared.words.Tag.TheVariants as tag
-use Rattle.xhstt_shape.specs.Characters.{IsSpellable, IsSpellableName, IsSpellableRef, IsSpellableMetaData, IsSpellableTimeGroup, IsSpellableTime, IsSpellableResourceType, IsSpellableResourceGroup, IsSpellableResource, IsSpellableEventGroup, IsSpellableEventResource, IsSpellableEvent, IsSpellableConstraint, IsSpellableInstance}
+use Rattle.xhstt_shape.specs.Characters.{IsSpellable, IsSpellableRef, IsSpellableMetaData, IsSpellableTimeGroup, IsSpellableTime, IsSpellableResourceType, IsSpellableResourceGroup, IsSpellableResource, IsSpellableEventGroup, IsSpellableEventResource, IsSpellableEvent, IsSpellableConstraint, IsSpellableInstance}
 use Rattle.xhstt_shape.specs.WellFormed.{IsEventResource, IsEvent, IsConstraint, IsInstance}
 use Rattle.xhstt_shape.specs.Places as place
 use Rattle.xhstt_shape.specs.Values as value

@@ -1,7 +1,6 @@
 -- Written solutions and archives fit their rows of the table.
-use Rattle.std.proofs.Common.{◌≡◌, ℕ, ◌≤◌, ◌<◌, Bool, true, false, Option, Some, None, List, [], ◌∷◌, length, map, All, IfSome, refl, inl, inr, sym, ap, ◌∙◌, arith}
+use Rattle.std.proofs.Common.{ℕ, ◌≤◌, Option, Some, None, List, [], ◌∷◌, All, IfSome, refl, arith}
 use Rattle.std.specs.Option.{option_map}
-use Rattle.xhstt_text.specs.Forest.{Info, Forest}
 use Rattle.xhstt_shape.specs.declared.records.Archive.{Archive}
 use Rattle.xhstt_shape.specs.declared.records.Name.{Name}
 use Rattle.xhstt_shape.specs.declared.records.RawEntry.{RawEntry}
@@ -9,24 +8,21 @@ use Rattle.xhstt_shape.specs.declared.records.RawGiven.{RawGiven}
 use Rattle.xhstt_shape.specs.declared.records.RawInstance.{RawInstance}
 use Rattle.xhstt_shape.specs.declared.records.RawSolution.{RawSolution}
 use Rattle.xhstt_shape.specs.declared.records.SolutionGroup.{SolutionGroup}
-use Rattle.xhstt_shape.specs.declared.schema.Mark.TheVariants.{Once, AtMostOnce, Many}
-use Rattle.xhstt_shape.specs.declared.schema.Row.{Row}
+use Rattle.xhstt_shape.specs.declared.schema.Mark.TheVariants.{AtMostOnce, Many}
 use Rattle.xhstt_shape.specs.declared.schema.Row.TheVariants as row_of
 use Rattle.xhstt_shape.specs.declared.words.Label.TheVariants as label
-use Rattle.xhstt_shape.specs.declared.words.Tag.{Tag}
 use Rattle.xhstt_shape.specs.declared.words.Tag.TheVariants as tag
 use Rattle.xhstt_shape.specs.Characters.{IsSpellable, IsSpellableName, IsSpellableRef, IsSpellableMetaData}
 use Rattle.xhstt_shape.specs.Schema.{attributes, children, content}
-use Rattle.xhstt_shape.specs.Walk.{settled, rule_for}
+use Rattle.xhstt_shape.specs.Walk.{settled}
 use Rattle.xhstt_shape.specs.WellFormed.{IsDuration, IsWellFormed}
 use Rattle.xhstt_shape.specs.Words.{word, label_word}
-use Rattle.xhstt_writer.specs.Writable.{AreWritable}
-use Rattle.xhstt_writer.specs.Parts.{Body, text, element, Part, row, each, number, role, reference, labelled, label_if, identified}
+use Rattle.xhstt_writer.specs.Parts.{text, element, each, number, role, reference, labelled, identified}
 use Rattle.xhstt_writer.specs.Canonical.{meta_data}
 use Rattle.xhstt_writer.specs.Archives.{instance, given_parts, given, entry_parts, entry, solution_parts, solution, solution_group_parts, solution_group, archive_labels, archive_parts}
 use Rattle.xhstt_writer.proofs.Fits.{FitsBody, FitsElement, known_if, element_fits, IsListRow, list_fits}
 use Rattle.xhstt_writer.proofs.LeafFits.{text_fits, duration_fits, role_fits, reference_fits}
-use Rattle.xhstt_writer.proofs.RecordFits.{Leads, if_part, many_part, list_part, label_writable, meta_data_fits}
+use Rattle.xhstt_writer.proofs.RecordFits.{if_part, many_part, list_part, label_writable, meta_data_fits}
 use Rattle.xhstt_writer.proofs.EventLaw.{IsGoodRole, good_role}
 use Rattle.xhstt_writer.proofs.InstanceLaw.{IsGoodInstance}
 use Rattle.xhstt_writer.proofs.InstanceFits.{instance_fits}

@@ -1,17 +1,11 @@
 -- Solutions and whole archives, read back.
-use Rattle.std.proofs.Common.{◌≡◌, ℕ, true, Option, Some, None, List, [], ◌∷◌, map, All, IfSome, refl, sym, ap, ◌∙◌}
-use Rattle.std.specs.Option.{option_map}
-use Rattle.xhstt_text.specs.Forest.{Forest}
+use Rattle.std.proofs.Common.{◌≡◌, true, [], All, refl}
 use Rattle.xhstt_text.specs.Handles.{Standing}
 use Rattle.xhstt_shape.specs.declared.records.Archive.{Archive}
-use Rattle.xhstt_shape.specs.declared.records.Name.{Name}
 use Rattle.xhstt_shape.specs.declared.records.RawEntry.{RawEntry}
 use Rattle.xhstt_shape.specs.declared.records.RawGiven.{RawGiven}
-use Rattle.xhstt_shape.specs.declared.records.RawInstance.{RawInstance}
 use Rattle.xhstt_shape.specs.declared.records.RawSolution.{RawSolution}
-use Rattle.xhstt_shape.specs.declared.records.Ref.{Ref}
 use Rattle.xhstt_shape.specs.declared.records.SolutionGroup.{SolutionGroup}
-use Rattle.xhstt_shape.specs.declared.words.Label.TheVariants as label
 use Rattle.xhstt_shape.specs.declared.words.Tag.{Tag}
 use Rattle.xhstt_shape.specs.declared.words.Tag.TheVariants as tag
 use Rattle.xhstt_shape.specs.Characters.{IsSpellableRef, IsSpellableGiven, IsSpellableEntry, IsSpellableSolution, IsSpellableSolutionGroup, IsSpellableInstance}
@@ -20,7 +14,7 @@ use Rattle.xhstt_shape.specs.Values as value
 use Rattle.xhstt_shape.specs.Walk.{child}
 use Rattle.xhstt_shape.specs.WellFormed.{IsGiven, IsEntry, IsSolution, IsSolutionGroup, IsInstance, IsWellFormed}
 use Rattle.xhstt_shape.specs.Words.{word}
-use Rattle.xhstt_writer.specs.Parts.{Body, element, role, reference, row}
+use Rattle.xhstt_writer.specs.Parts.{element, role, reference, row}
 use Rattle.xhstt_writer.specs.Archives.{instance, given_parts, given, entry_parts, entry, solution_parts, solution, solution_group_parts, solution_group, archive_labels, archive_parts}
 use Rattle.xhstt_writer.specs.Lookups.{StandsAs, bodies_of, are_apart, IsFirst}
 use Rattle.xhstt_writer.proofs.Found.{child-found, named-found, list-read, many-read, optional-read}

@@ -1,26 +1,23 @@
 -- What is written of a well-formed archive is read back as the same archive.
-use Rattle.std.proofs.Common.{◌≡◌, ℕ, Bool, true, false, if◌then◌else◌, Ok, Err, List, [], ◌∷◌, refl, sym, ap, ◌∙◌, arith}
+use Rattle.std.proofs.Common.{◌≡◌, if◌then◌else◌, Ok, Err, sym, ap, ◌∙◌, arith}
 use Rattle.std.specs.Str.{bytes_eq}
-use Rattle.xhstt_text.specs.Forest.{Forest, empty, node}
 use Rattle.xhstt_text.specs.Handles.{Standing}
 use Rattle.xhstt_shape.specs.declared.faults.TheConstants.{UNKNOWN_ELEMENT}
 use Rattle.xhstt_shape.specs.declared.faults.ShapeFault.TheVariants.{Bad}
 use Rattle.xhstt_shape.specs.declared.records.Archive.{Archive}
 use Rattle.xhstt_shape.specs.declared.schema.Row.TheVariants as row_of
 use Rattle.xhstt_shape.specs.declared.words.Tag.TheVariants as tag
-use Rattle.xhstt_shape.specs.Faults.{fine}
 use Rattle.xhstt_shape.specs.Shape.{judged, shape, shape_of}
 use Rattle.xhstt_shape.specs.Values as value
 use Rattle.xhstt_shape.specs.Walk.{fault_of}
 use Rattle.xhstt_shape.specs.WellFormed.{IsWellFormed}
 use Rattle.xhstt_shape.specs.Words.{word}
-use Rattle.xhstt_writer.specs.Trees.{document}
 use Rattle.xhstt_writer.specs.Parts.{element, row}
 use Rattle.xhstt_writer.specs.Archives.{archive_labels, archive_parts, canonical, IsReadAs}
 use Rattle.xhstt_writer.specs.Lookups.{StandsAs}
 use Rattle.xhstt_writer.proofs.Fields.{bytes_eq-same}
 use Rattle.xhstt_writer.proofs.Fits.{element_fine, row_writable}
-use Rattle.xhstt_writer.proofs.Documents.{document_spells, IsRoot}
+use Rattle.xhstt_writer.proofs.Documents.{document_spells}
 use Rattle.xhstt_writer.proofs.SolutionLaw.{archive-read}
 use Rattle.xhstt_writer.proofs.SolutionFits.{archive_fits}
 

@@ -1,6 +1,6 @@
 -- The canonical spelling of an archive: the elements of its instances and its solutions, and the whole
 -- text.
-use Rattle.std.specs.Prelude.{ℕ, ◌≡◌, List, [], ◌∷◌, Option, Ok}
+use Rattle.std.specs.Prelude.{ℕ, ◌≡◌, List, [], ◌∷◌, Ok}
 use Rattle.std.specs.Option.{option_map}
 use Rattle.xhstt_text.specs.Document.{Spelled}
 use Rattle.xhstt_text.specs.Forest.{Forest}
@@ -26,7 +26,7 @@ use Rattle.xhstt_shape.specs.declared.words.Tag.{Tag}
 use Rattle.xhstt_shape.specs.declared.words.Tag.TheVariants as tag
 use Rattle.xhstt_shape.specs.Places.{IsSame}
 use Rattle.xhstt_shape.specs.Shape.{shape_of}
-use Rattle.xhstt_writer.specs.Trees.{Trees, Labelled, document}
+use Rattle.xhstt_writer.specs.Trees.{Labelled, document}
 use Rattle.xhstt_writer.specs.Parts.{Body, text, element, Part, row, each, one, if_some, many, list_of, name_part, number, role, labelled, label_if, identified, reference, references}
 use Rattle.xhstt_writer.specs.Canonical.{meta_data, event, constraint_tag, constraint}
 

@@ -1,5 +1,5 @@
 -- The elements that an archive is written as.
-use Rattle.std.specs.Prelude.{ℕ, Bool, true, false, if◌then◌else◌, List, [], ◌∷◌, ◌++◌, Option, codes}
+use Rattle.std.specs.Prelude.{ℕ, Bool, if◌then◌else◌, List, [], ◌∷◌, codes}
 use Rattle.std.specs.Option.{option_map}
 use Rattle.khe_base.specs.declared.costs.CostFn.{CostFn}
 use Rattle.khe_base.specs.declared.costs.CostFn.TheVariants.{Linear, Quadratic, Step}
@@ -18,7 +18,7 @@ use Rattle.xhstt_shape.specs.declared.words.Kind.TheVariants as kind
 use Rattle.xhstt_shape.specs.declared.words.Label.TheVariants as label
 use Rattle.xhstt_shape.specs.declared.words.Tag.{Tag}
 use Rattle.xhstt_shape.specs.declared.words.Tag.TheVariants as tag
-use Rattle.xhstt_writer.specs.Parts.{Body, text, element, Part, row, each, one, if_some, many, list_of, name_part, number, role, labelled, label_if, identified, reference, references}
+use Rattle.xhstt_writer.specs.Parts.{Body, text, element, Part, row, each, one, if_some, list_of, name_part, number, role, labelled, label_if, identified, reference, references}
 
 -- what is said of an archive, an instance or a solution group as a whole
 abbrev pub meta_data_parts : MetaData → List Part

@@ -4,14 +4,10 @@ use Rattle.khe_base.specs.declared.costs.CostFn.TheVariants.{Linear}
 use Rattle.xhstt_shape.specs.declared.constraints.RawApplies.TheVariants as applied
 use Rattle.xhstt_shape.specs.declared.constraints.RawConstraint.{RawConstraint}
 use Rattle.xhstt_shape.specs.declared.constraints.RawRule.{RawRule}
-use Rattle.xhstt_shape.specs.declared.constraints.RawRule.TheVariants as ruled
 use Rattle.xhstt_shape.specs.declared.records.Archive.{Archive}
 use Rattle.xhstt_shape.specs.declared.records.Name.{Name}
 use Rattle.xhstt_shape.specs.declared.records.RawEvent.{RawEvent}
-use Rattle.xhstt_shape.specs.declared.records.RawInstance.{RawInstance}
-use Rattle.xhstt_shape.specs.declared.records.RawSolution.{RawSolution}
 use Rattle.xhstt_shape.specs.declared.records.Ref.{Ref}
-use Rattle.xhstt_shape.specs.declared.records.SolutionGroup.{SolutionGroup}
 use Rattle.xhstt_shape.specs.declared.records.Time.{Time}
 
 abbrev pub name : List ℕ → Name

@@ -1,7 +1,6 @@
 -- Both sides compute.
 use Rattle.std.proofs.Common.{refl}
 use lib.Utf8.{encode}
-use Rattle.std.specs.Fmt.{digits}
 use Rattle.xhstt_shape.specs.Words.{word, label_word}
 use Rattle.xhstt_writer.specs.Trees.{head, value_bytes}
 use Rattle.xhstt_writer.specs.Parts.{put_all}

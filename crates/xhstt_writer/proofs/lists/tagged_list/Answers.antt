@@ -1,4 +1,4 @@
-use Rattle.std.proofs.Common.{ℕ, List, [], ◌∷◌, true, false, ap, sym, subst, ◌∙◌}
+use Rattle.std.proofs.Common.{List, [], ◌∷◌, ap, sym, subst, ◌∙◌}
 use Rattle.xhstt_writer.specs.Trees.{filled}
 use Rattle.xhstt_writer.specs.Parts.{Body, element, put_all, each}
 use Rattle.xhstt_writer.proofs.ListLemmas.{around_each, around_empty}

@@ -1,4 +1,4 @@
-use Rattle.std.proofs.Common.{[], None, ◌++◌, ap, sym, subst, ◌∙◌, append-nil}
+use Rattle.std.proofs.Common.{None, ◌++◌, ap, sym, subst, ◌∙◌, append-nil}
 use Rattle.xhstt_writer.specs.Archives as spec
 use Rattle.xhstt_writer.proofs.Written.{canonical_spells}
 use Rattle.xhstt_writer.proofs.writing.write.Goals as goal
