@@ -1,0 +1,9 @@
+pub mod Trees
+pub mod Standing
+pub mod Writable
+pub mod Parts
+pub mod Canonical
+pub mod Archives
+pub mod Examples
+pub mod Lookups
+pub mod Output
