@@ -1,10 +1,10 @@
 -- The meets and tasks that the moves of a monitor are of. Meets go by their slots, and tasks by task
 -- slots, which ascend by meet slot and then by place.
-use Rattle.std.specs.Prelude.{ℕ, ◌*◌, ◌==◌, Bool, true, false, ◌&&◌, is_none, Option, None, List, length, slice_index_or}
+use Rattle.std.specs.Prelude.{ℕ, ◌*◌, ◌==◌, Bool, true, false, ◌&&◌, Option, None, List, length, slice_index_or}
 use Rattle.std.specs.List.{sum_by, list_any}
+use Rattle.khe_base.specs.declared.numbers.ResourceId.{ResourceId}
 use Rattle.khe_base.specs.declared.numbers.TaskId.{TaskId}
 use Rattle.khe_instance.specs.Lookups.{place_at, role_at, is_role}
-use Rattle.khe_instance.specs.Running.{is_resource}
 use Rattle.khe_instance.specs.Slots.{all_tasks}
 use Rattle.khe_instance.specs.Watching.{names_event}
 use Rattle.khe_instance.specs.declared.parts.Parts.{Parts}
@@ -14,7 +14,8 @@ use Rattle.khe_instance.specs.declared.rules.Rule.{Rule}
 use Rattle.khe_instance.specs.declared.rules.Rule.TheVariants.{AvoidSplitAssignments}
 use Rattle.khe_told.specs.Slots.{slot_at, is_live, given_at}
 use Rattle.khe_told.specs.declared.slots.Slot.{Slot}
-use Rattle.khe_solution.specs.Reading.{has_place, has_type}
+use Rattle.khe_solution.specs.NextTask.{has_task}
+use Rattle.khe_solution.specs.Reading.{has_place, has_type, is_resource}
 use Rattle.repair_moves.specs.declared.parts.Part.{Part}
 use Rattle.repair_moves.specs.declared.parts.Part.TheVariants.{TimeMoves, SwapMoves, Cuts, Joins, TaskMoves, TradeMoves, Gives}
 
@@ -49,29 +50,29 @@ is_meet_at p s rule point n = is_live (slot_at s n) && is_meet_of p rule point (
 
 -- a task is a monitor's where it is one of the point's event resource, where it has the rule's role in
 -- an event of the point's group, or where it has the point's resource
-abbrev pub is_task_of : Parts → Rule → Point → Slot → ℕ → Bool
-is_task_of p rule (EventResource e place) x k = (e.0 == x.event.0) && (place == k)
-is_task_of p rule (EventGroup g) x k = names_event p rule (EventGroup g) x.event.0 && wants_role rule (role_at p.events x.event.0 k)
-is_task_of p rule (Resource r) x k = is_resource r.0 (given_at x k)
-is_task_of p rule (Event e) x k = false
-is_task_of p rule (Pair q) x k = false
+abbrev pub is_task_of : Parts → Rule → Point → ℕ → ℕ → Option ResourceId → Bool
+is_task_of p rule (EventResource own place) e k given = (own.0 == e) && (place == k)
+is_task_of p rule (EventGroup g) e k given = names_event p rule (EventGroup g) e && wants_role rule (role_at p.events e k)
+is_task_of p rule (Resource r) e k given = is_resource r.0 given
+is_task_of p rule (Event own) e k given = false
+is_task_of p rule (Pair q) e k given = false
 
 abbrev pub is_task_in : Parts → List Slot → Rule → Point → TaskId → Bool
-is_task_in p s rule point t = has_place (slot_at s t.meet.0) t.place && is_task_of p rule point (slot_at s t.meet.0) t.place
+is_task_in p s rule point t = let x = slot_at s t.meet.0 in has_place x t.place && is_task_of p rule point x.event.0 t.place (given_at x t.place)
 
 unfoldable pub is_task_at : Parts → List Slot → Rule → Point → ℕ → Bool
 is_task_at p s rule point n = is_task_in p s rule point (task_at p n)
 
--- a task without a resource may be given the point's resource where that has its type
+-- a task may be given the point's resource where that has its type
 abbrev pub may_be_given : Parts → Point → Slot → ℕ → Bool
 may_be_given p (Resource r) x k = has_type p r.0 (place_at p.events x.event.0 k)
 may_be_given p _ x k = false
 
-abbrev pub is_open_in : Parts → List Slot → Point → TaskId → Bool
-is_open_in p s point t = (has_place (slot_at s t.meet.0) t.place && is_none (given_at (slot_at s t.meet.0) t.place)) && may_be_given p point (slot_at s t.meet.0) t.place
+unfoldable pub is_free_at : Parts → List Slot → ℕ → Bool
+is_free_at p s n = has_task s None (task_at p n)
 
 unfoldable pub is_open_at : Parts → List Slot → Point → ℕ → Bool
-is_open_at p s point n = is_open_in p s point (task_at p n)
+is_open_at p s point n = is_free_at p s n && may_be_given p point (slot_at s (task_at p n).meet.0) (task_at p n).place
 
 -- whether a part is taken for the meet or the task of a slot, and how many slots there are to look at
 unfoldable pub is_item : Parts → List Slot → Rule → Point → Part → ℕ → Bool

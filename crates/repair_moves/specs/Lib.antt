@@ -2,5 +2,8 @@ pub mod Cursors
 pub mod Items
 pub mod Moved
 pub mod Moves
+pub mod Named
 pub mod Picked
 pub mod Table
+pub mod Tasks
+pub mod Walks

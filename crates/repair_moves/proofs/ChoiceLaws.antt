@@ -1,0 +1,164 @@
+-- What the table of edits asks of each choice of a part.
+use Rattle.std.proofs.Common.{ℕ, zero, suc, ◌≡◌, ◌+◌, ◌-◌, ◌<◌, ◌≤◌, Bool, true, false, not, cond, ◌&&◌, Option, Some, None, List, [], ◌∷◌, length, slice_get, refl, sym, ap, ◌∙◌, subst, arith, inl, inr}
+use Rattle.std.specs.Prelude.{is_none, is_some, nat_le, nat_lt, ◌==◌}
+use Rattle.std.specs.Option.{option_map_or}
+use Rattle.std.proofs.lemmas.Bool.{ltb-false, leb-false, le-ltb, lt-leb}
+use Rattle.std.proofs.lemmas.Bool.Decides.{nat_tests}
+use Rattle.khe_base.specs.declared.numbers.TaskId.{TaskId}
+use Rattle.khe_base.specs.declared.numbers.TimeId.{TimeId}
+use Rattle.khe_instance.specs.Lookups.{place_at}
+use Rattle.khe_instance.specs.Slots.{HasSlot}
+use Rattle.khe_instance.specs.WellMade.{AreWellMade}
+use Rattle.khe_instance.specs.declared.parts.Parts.{Parts}
+use Rattle.khe_instance.specs.declared.parts.Place.{Place}
+use Rattle.khe_instance.specs.declared.points.Point.{Point}
+use Rattle.khe_told.specs.Fits.{AreTold}
+use Rattle.khe_told.specs.Slots.{is_live, length_of, slot_at, start_of, given_at}
+use Rattle.khe_told.specs.declared.edits.Edit.{Edit}
+use Rattle.khe_told.specs.declared.edits.Edit.TheVariants.{Assign, MoveTo, Split, Merge, SwapMeets, Give, Regive, SwapTasks}
+use Rattle.khe_told.specs.declared.refusals.Refusal.{Refusal}
+use Rattle.khe_told.specs.declared.slots.Slot.{Slot}
+use Rattle.khe_solution.specs.Reading.{has_place, has_type, is_fixed_event, is_fixed_place, is_placed, is_time, resource_at}
+use Rattle.khe_solution.specs.Refusing.{assign_row, first_refusal, give_row, merge_row, move_row, refusal, regive_row, split_row, swap_meets_row, swap_tasks_row}
+use Rattle.khe_solution.proofs.Basics.{AllPass, no_value, not-false, passed, true-false}
+use Rattle.repair_moves.specs.Items.{task_at}
+use Rattle.repair_moves.specs.Moves.{choices, edit_of, is_accepted, is_choice, task_move, time_move}
+use Rattle.repair_moves.specs.declared.parts.Part.TheVariants.{TimeMoves, SwapMoves, Cuts, Joins, TaskMoves, TradeMoves, Gives}
+use Rattle.repair_moves.proofs.SlotLaws.{live_event}
+
+none_is : {A : Type 0} (o : Option A) → is_none o ≡ true → o ≡ None
+none_is None h = refl
+none_is (Some a) h = absurd (true-false (sym h))
+
+-- an accepted edit is not refused
+pub accepted_is : (p : Parts) (s : List Slot) (e : Edit) → is_accepted p s e ≡ true → refusal p s e ≡ None
+unfolding is_accepted
+accepted_is p s e h = none_is (refusal p s e) h
+
+-- a row of which no test holds
+passing : (row : List (Bool × Refusal)) → AllPass row → is_none (first_refusal row) ≡ true
+passing [] a = refl
+passing ((test, r) ∷ rest) a = ap (λ b. is_none (cond b (Some r) (first_refusal rest))) a.0 ∙ passing rest a.1
+
+yes : (b : Bool) → b ≡ true → not b ≡ false
+yes b h = ap not h
+
+-- a time move
+pub record IsTimeMove (p : Parts) (s : List Slot) (n k : ℕ) : Type 0 where
+  pub live : is_live (slot_at s n) ≡ true
+  pub free : is_fixed_event p (slot_at s n).event.0 ≡ false
+  pub within : k < length p.times
+  pub other : is_time k (start_of (slot_at s n)) ≡ false
+  pub ends : k + length_of (slot_at s n) ≤ length p.times
+
+pub time_move_is : (p : Parts) (s : List Slot) (point : Point) (n k : ℕ) → is_choice p s point TimeMoves n k ≡ true → IsTimeMove p s n k
+unfolding is_accepted edit_of refusal
+time_move_is p s point n k h = by_placed (is_placed (slot_at s n)) refl h
+  where
+    by_placed : (b : Bool) → is_placed (slot_at s n) ≡ b
+        → is_accepted p s (cond b (MoveTo (record { 0 = n }) (record { 0 = k })) (Assign (record { 0 = n }) (record { 0 = k }))) ≡ true → IsTimeMove p s n k
+    by_placed true e h =
+        let a = passed (move_row p s (record { 0 = n }) (record { 0 = k })) (none_is _ h) in
+        record {
+          live = not-false _ a.0;
+          free = a.1.1.0;
+          within = leb-false _ _ a.1.0;
+          other = a.1.1.1.1.0;
+          ends = ltb-false _ _ a.1.1.1.1.1.0;
+        }
+    by_placed false e h =
+        let a = passed (assign_row p s (record { 0 = n }) (record { 0 = k })) (none_is _ h) in
+        record {
+          live = not-false _ a.0;
+          free = a.1.1.0;
+          within = leb-false _ _ a.1.0;
+          other = ap (option_map_or (λ (x : TimeId). x.0 == k) false) (no_value (start_of (slot_at s n)) e);
+          ends = ltb-false _ _ a.1.1.1.1.0;
+        }
+
+pub time_move_may : (p : Parts) (s : List Slot) (point : Point) (n k : ℕ) → IsTimeMove p s n k → is_choice p s point TimeMoves n k ≡ true
+unfolding is_accepted edit_of refusal
+time_move_may p s point n k h = by_placed (is_placed (slot_at s n)) refl
+  where
+    by_placed : (b : Bool) → is_placed (slot_at s n) ≡ b
+        → is_accepted p s (cond b (MoveTo (record { 0 = n }) (record { 0 = k })) (Assign (record { 0 = n }) (record { 0 = k }))) ≡ true
+    by_placed true e =
+        passing (move_row p s (record { 0 = n }) (record { 0 = k }))
+        (yes _ h.live, (lt-leb _ _ h.within, (h.free, (yes _ e, (h.other, (le-ltb _ _ h.ends, tt))))))
+    by_placed false e =
+        passing (assign_row p s (record { 0 = n }) (record { 0 = k }))
+        (yes _ h.live, (lt-leb _ _ h.within, (h.free, (e, (le-ltb _ _ h.ends, tt)))))
+
+-- a swap
+pub record IsSwapMove (p : Parts) (s : List Slot) (n k : ℕ) : Type 0 where
+  pub live : is_live (slot_at s n) ≡ true
+  pub free : is_fixed_event p (slot_at s n).event.0 ≡ false
+  pub placed : is_placed (slot_at s n) ≡ true
+
+pub swap_move_is : (p : Parts) (s : List Slot) (point : Point) (n k : ℕ) → is_choice p s point SwapMoves n k ≡ true → IsSwapMove p s n k
+unfolding is_accepted edit_of refusal
+swap_move_is p s point n k h =
+    let a = passed (swap_meets_row p s (record { 0 = n }) (record { 0 = k })) (none_is _ h) in
+    record { live = not-false _ a.0; free = a.1.1.0; placed = not-false _ a.1.1.1.1.0 }
+
+-- a cut
+pub record IsCut (p : Parts) (s : List Slot) (n k : ℕ) : Type 0 where
+  pub live : is_live (slot_at s n) ≡ true
+  pub free : is_fixed_event p (slot_at s n).event.0 ≡ false
+  pub shorter : k + 1 < length_of (slot_at s n)
+
+pub cut_is : (p : Parts) (s : List Slot) (point : Point) (n k : ℕ) → is_choice p s point Cuts n k ≡ true → IsCut p s n k
+unfolding is_accepted edit_of refusal
+cut_is p s point n k h =
+    let a = passed (split_row p s (record { 0 = n }) (k + 1)) (none_is _ h) in
+    record { live = not-false _ a.0; free = a.1.0; shorter = leb-false _ _ a.1.1.1.0 }
+
+above_zero : (k : ℕ) → (k + 1 == 0) ≡ false
+above_zero k = ap (λ n. n == 0) (let e : k + 1 ≡ suc k = omega arith in e)
+
+pub cut_may : (p : Parts) (s : List Slot) (point : Point) (n k : ℕ) → IsCut p s n k → is_choice p s point Cuts n k ≡ true
+unfolding is_accepted edit_of refusal
+cut_may p s point n k h =
+    passing (split_row p s (record { 0 = n }) (k + 1)) (yes _ h.live, (h.free, (above_zero k, (lt-leb _ _ h.shorter, tt))))
+
+-- a join: the other meet is of the same event
+pub join_is : (p : Parts) (s : List Slot) (point : Point) (n k : ℕ) → AreWellMade p → AreTold p s → is_choice p s point Joins n k ≡ true
+    → (is_live (slot_at s n) ≡ true) × HasSlot p.events (slot_at s n).event.0 k
+unfolding is_accepted edit_of refusal
+join_is p s point n k made told h =
+    let a = passed (merge_row s (record { 0 = n }) (record { 0 = k })) (none_is _ h) in
+    let e : (slot_at s n).event.0 ≡ (slot_at s k).event.0 = same _ _ (not-false _ a.1.1.1.0) in
+    (not-false _ a.0, subst (λ j. HasSlot p.events j k) (sym e) (live_event p s k made told (not-false _ a.1.0)))
+  where
+    same : (a b : ℕ) → (a == b) ≡ true → a ≡ b
+    same a b h = let e : a ≡ b = grind (arith, nat_tests) in e
+
+-- a task move
+pub record IsTaskMove (p : Parts) (s : List Slot) (t : TaskId) (k : ℕ) : Type 0 where
+  pub there : has_place (slot_at s t.meet.0) t.place ≡ true
+  pub free : is_fixed_place p (slot_at s t.meet.0).event.0 t.place ≡ false
+  pub typed : has_type p k (place_at p.events (slot_at s t.meet.0).event.0 t.place) ≡ true
+
+pub task_move_is : (p : Parts) (s : List Slot) (point : Point) (n k : ℕ) → is_choice p s point TaskMoves n k ≡ true → IsTaskMove p s (task_at p n) k
+unfolding is_accepted edit_of refusal
+task_move_is p s point n k h = by_given (is_some (resource_at s (task_at p n))) h
+  where
+    by_given : (b : Bool) → is_accepted p s (cond b (Regive (task_at p n) (record { 0 = k })) (Give (task_at p n) (record { 0 = k }))) ≡ true → IsTaskMove p s (task_at p n) k
+    by_given true h =
+        let a = passed (regive_row p s (task_at p n) (record { 0 = k })) (none_is _ h) in
+        record { there = not-false _ a.0; free = a.1.1.0; typed = not-false _ a.1.1.1.1.1.0 }
+    by_given false h =
+        let a = passed (give_row p s (task_at p n) (record { 0 = k })) (none_is _ h) in
+        record { there = not-false _ a.0; free = a.1.1.0; typed = not-false _ a.1.1.1.1.0 }
+
+-- a trade
+pub record IsTradeMove (p : Parts) (s : List Slot) (t : TaskId) : Type 0 where
+  pub there : has_place (slot_at s t.meet.0) t.place ≡ true
+  pub free : is_fixed_place p (slot_at s t.meet.0).event.0 t.place ≡ false
+  pub given : is_none (given_at (slot_at s t.meet.0) t.place) ≡ false
+
+pub trade_move_is : (p : Parts) (s : List Slot) (point : Point) (n k : ℕ) → is_choice p s point TradeMoves n k ≡ true → IsTradeMove p s (task_at p n)
+unfolding is_accepted edit_of refusal
+trade_move_is p s point n k h =
+    let a = passed (swap_tasks_row p s (task_at p n) (task_at p k)) (none_is _ h) in
+    record { there = not-false _ a.0; free = a.1.1.0; given = a.1.1.1.1.0 }

@@ -1,0 +1,6 @@
+pub mod ChoiceLaws
+pub mod ItemLaws
+pub mod PickedLaws
+pub mod SlotLaws
+pub mod TaskLaws
+pub mod WalkLaws
