@@ -4,11 +4,13 @@ use Rattle.std.specs.Prelude.{is_none, is_some, nat_le, nat_lt, ◌==◌}
 use Rattle.std.specs.Option.{option_map_or}
 use Rattle.std.proofs.lemmas.Bool.{ltb-false, leb-false, le-ltb, lt-leb}
 use Rattle.std.proofs.lemmas.Bool.Decides.{nat_tests}
+use Rattle.std.proofs.lemmas.Option.{same_Some}
 use Rattle.khe_base.specs.declared.numbers.TaskId.{TaskId}
 use Rattle.khe_base.specs.declared.numbers.TimeId.{TimeId}
 use Rattle.khe_instance.specs.Lookups.{place_at}
 use Rattle.khe_instance.specs.Slots.{HasSlot}
 use Rattle.khe_instance.specs.WellMade.{AreWellMade}
+use Rattle.khe_instance.specs.declared.parts.EventInfo.{EventInfo}
 use Rattle.khe_instance.specs.declared.parts.Parts.{Parts}
 use Rattle.khe_instance.specs.declared.parts.Place.{Place}
 use Rattle.khe_instance.specs.declared.points.Point.{Point}
@@ -24,7 +26,9 @@ use Rattle.khe_solution.proofs.Basics.{AllPass, no_value, not-false, passed, tru
 use Rattle.repair_moves.specs.Items.{task_at}
 use Rattle.repair_moves.specs.Moves.{choices, edit_of, is_accepted, is_choice, task_move, time_move}
 use Rattle.repair_moves.specs.declared.parts.Part.TheVariants.{TimeMoves, SwapMoves, Cuts, Joins, TaskMoves, TradeMoves, Gives}
+use Rattle.repair_moves.proofs.PickedLaws.{false_unless}
 use Rattle.repair_moves.proofs.SlotLaws.{live_event}
+use Rattle.repair_moves.proofs.TaskLaws.{place_there}
 
 none_is : {A : Type 0} (o : Option A) → is_none o ≡ true → o ≡ None
 none_is None h = refl
@@ -162,3 +166,68 @@ unfolding is_accepted edit_of refusal
 trade_move_is p s point n k h =
     let a = passed (swap_tasks_row p s (task_at p n) (task_at p k)) (none_is _ h) in
     record { there = not-false _ a.0; free = a.1.1.0; given = a.1.1.1.1.0 }
+
+-- why a choice is no move
+pub time_dead : (p : Parts) (s : List Slot) (point : Point) (n k : ℕ) → is_live (slot_at s n) ≡ false → is_choice p s point TimeMoves n k ≡ false
+time_dead p s point n k h = false_unless _ (λ t. true-false (sym (time_move_is p s point n k t).live ∙ h))
+
+pub time_fixed : (p : Parts) (s : List Slot) (point : Point) (n k : ℕ) → is_fixed_event p (slot_at s n).event.0 ≡ true → is_choice p s point TimeMoves n k ≡ false
+time_fixed p s point n k h = false_unless _ (λ t. true-false (sym h ∙ (time_move_is p s point n k t).free))
+
+pub time_start : (p : Parts) (s : List Slot) (point : Point) (n k : ℕ) → is_time k (start_of (slot_at s n)) ≡ true → is_choice p s point TimeMoves n k ≡ false
+time_start p s point n k h = false_unless _ (λ t. true-false (sym h ∙ (time_move_is p s point n k t).other))
+
+pub swap_dead : (p : Parts) (s : List Slot) (point : Point) (n k : ℕ) → is_live (slot_at s n) ≡ false → is_choice p s point SwapMoves n k ≡ false
+swap_dead p s point n k h = false_unless _ (λ t. true-false (sym (swap_move_is p s point n k t).live ∙ h))
+
+pub swap_fixed : (p : Parts) (s : List Slot) (point : Point) (n k : ℕ) → is_fixed_event p (slot_at s n).event.0 ≡ true → is_choice p s point SwapMoves n k ≡ false
+swap_fixed p s point n k h = false_unless _ (λ t. true-false (sym h ∙ (swap_move_is p s point n k t).free))
+
+pub swap_unplaced : (p : Parts) (s : List Slot) (point : Point) (n k : ℕ) → is_placed (slot_at s n) ≡ false → is_choice p s point SwapMoves n k ≡ false
+swap_unplaced p s point n k h = false_unless _ (λ t. true-false (sym (swap_move_is p s point n k t).placed ∙ h))
+
+pub cut_dead : (p : Parts) (s : List Slot) (point : Point) (n k : ℕ) → is_live (slot_at s n) ≡ false → is_choice p s point Cuts n k ≡ false
+cut_dead p s point n k h = false_unless _ (λ t. true-false (sym (cut_is p s point n k t).live ∙ h))
+
+pub cut_fixed : (p : Parts) (s : List Slot) (point : Point) (n k : ℕ) → is_fixed_event p (slot_at s n).event.0 ≡ true → is_choice p s point Cuts n k ≡ false
+cut_fixed p s point n k h = false_unless _ (λ t. true-false (sym h ∙ (cut_is p s point n k t).free))
+
+pub resource_fixed : (p : Parts) (s : List Slot) (point : Point) (n k : ℕ) → is_fixed_place p (slot_at s (task_at p n).meet.0).event.0 (task_at p n).place ≡ true → is_choice p s point TaskMoves n k ≡ false
+resource_fixed p s point n k h = false_unless _ (λ t. true-false (sym h ∙ (task_move_is p s point n k t).free))
+
+pub resource_typed : (p : Parts) (s : List Slot) (point : Point) (n k : ℕ) → has_type p k (place_at p.events (slot_at s (task_at p n).meet.0).event.0 (task_at p n).place) ≡ false → is_choice p s point TaskMoves n k ≡ false
+resource_typed p s point n k h = false_unless _ (λ t. true-false (sym (task_move_is p s point n k t).typed ∙ h))
+
+pub trade_fixed : (p : Parts) (s : List Slot) (point : Point) (n k : ℕ) → is_fixed_place p (slot_at s (task_at p n).meet.0).event.0 (task_at p n).place ≡ true → is_choice p s point TradeMoves n k ≡ false
+trade_fixed p s point n k h = false_unless _ (λ t. true-false (sym h ∙ (trade_move_is p s point n k t).free))
+
+pub trade_bare : (p : Parts) (s : List Slot) (point : Point) (n k : ℕ) → is_none (given_at (slot_at s (task_at p n).meet.0) (task_at p n).place) ≡ true → is_choice p s point TradeMoves n k ≡ false
+trade_bare p s point n k h = false_unless _ (λ t. true-false (sym h ∙ (trade_move_is p s point n k t).given))
+
+pub time_late : (p : Parts) (s : List Slot) (point : Point) (n k : ℕ) → length p.times < k + length_of (slot_at s n) → is_choice p s point TimeMoves n k ≡ false
+time_late p s point n k l = false_unless _ (λ t. let e = (time_move_is p s point n k t).ends in omega (arith, e, l))
+
+pub cut_long : (p : Parts) (s : List Slot) (point : Point) (n k : ℕ) → length_of (slot_at s n) ≤ k + 1 → is_choice p s point Cuts n k ≡ false
+cut_long p s point n k l = false_unless _ (λ t. let e = (cut_is p s point n k t).shorter in omega (arith, e, l))
+
+pub join_dead : (p : Parts) (s : List Slot) (point : Point) (n k : ℕ) → AreWellMade p → AreTold p s → is_live (slot_at s n) ≡ false → is_choice p s point Joins n k ≡ false
+join_dead p s point n k made told h = false_unless _ (λ t. true-false (sym (join_is p s point n k made told t).0 ∙ h))
+
+-- a meet of another event is none to be joined
+pub join_outside : (p : Parts) (s : List Slot) (point : Point) (n k : ℕ) (event : EventInfo) → AreWellMade p → AreTold p s → slice_get p.events (slot_at s n).event.0 ≡ Some event
+    → (event.first_meet ≤ k → k < event.first_meet + event.duration → ⊥) → is_choice p s point Joins n k ≡ false
+join_outside p s point n k event made told at out = false_unless _ (λ t.
+    (let has = (join_is p s point n k made told t).1 in
+    let same : has.0 ≡ event = same_Some has.0 event (sym has.1 ∙ at) in
+    let a = ap (λ (x : EventInfo). x.first_meet) same in
+    let b = ap (λ (x : EventInfo). x.duration) same in
+    let from = has.2 in
+    let to = has.3 in
+    out (omega (arith, a, from)) (omega (arith, a, b, to))))
+
+-- a task that is not there is given nothing
+pub place_dead : (p : Parts) (s : List Slot) (point : Point) (n k : ℕ) → is_live (slot_at s (task_at p n).meet.0) ≡ false → is_choice p s point TaskMoves n k ≡ false
+place_dead p s point n k h = false_unless _ (λ t. true-false (sym (place_there _ _ (task_move_is p s point n k t).there).0 ∙ h))
+
+pub trade_dead : (p : Parts) (s : List Slot) (point : Point) (n k : ℕ) → is_live (slot_at s (task_at p n).meet.0) ≡ false → is_choice p s point TradeMoves n k ≡ false
+trade_dead p s point n k h = false_unless _ (λ t. true-false (sym (place_there _ _ (trade_move_is p s point n k t).there).0 ∙ h))

@@ -1,4 +1,5 @@
 pub mod Cursors
+pub mod Examples
 pub mod Items
 pub mod Moved
 pub mod Moves

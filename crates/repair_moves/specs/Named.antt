@@ -18,3 +18,7 @@ pub record AreWithin (p : Parts) (rule : Rule) (point : Point) (start end : ℕ)
   pub slots : end ≤ meet_slots p
   pub each : (e : ℕ) (event : EventInfo) → slice_get p.events e ≡ Some event → names_event p rule point e ≡ true
       → (start ≤ event.first_meet) × (event.first_meet + event.duration ≤ end)
+
+-- an event's slots are those of these numbers
+abbrev pub AreSlotsOf : Parts → ℕ → ℕ → ℕ → Type 0
+AreSlotsOf p e start end = (event : EventInfo) → slice_get p.events e ≡ Some event → (start ≡ event.first_meet) × (end ≡ event.first_meet + event.duration)

@@ -1,6 +1,6 @@
 //! The choices that a part has for one of its meets or tasks.
 
-ghost use Rattle.std.specs.Prelude.{◌≡◌, ◌<◌, ◌+◌, ◌^◌, true, length};
+ghost use Rattle.std.specs.Prelude.{◌≡◌, ◌<◌, ◌+◌, ◌^◌, IfSome, true, length};
 ghost use Rattle.khe_solution.specs.Reading.{is_time};
 ghost use Rattle.khe_solution.specs.Refusing.{is_of_meets};
 ghost use Rattle.repair_moves.specs.Items.{meet_slots, task_slots};
@@ -9,7 +9,7 @@ ghost use Rattle.repair_moves.specs.Picked.{IsFirst};
 ghost use Rattle.repair_moves.specs.declared.parts.Part.TheVariants as kinds;
 
 use crate::parts::Part;
-use crate::reads::{accepts, facts, is_fixed_event, live, place_at, resource_at, task_at};
+use crate::reads::{accepts, facts, is_fixed_event, is_fixed_place, live, place_at, resource_at, task_at};
 use khe_base::{MeetId, ResourceId, TaskId, TimeId};
 use khe_instance::{Instance, Point};
 use khe_solution::Solution;
@@ -105,7 +105,8 @@ fn is_start(start: Option<TimeId>, time: u32) -> bool
 /// The first time from one on to which a meet can go. It takes constant time.
 fn next_time(inst: &Instance, solution: &Solution<'_>, point: Point, item: u32, from: u32) -> Option<u32>
     requires { solution.now.parts ≡ inst.now }
-    ensures { IsFirst (is_choice inst.now solution.now.slots point kinds.TimeMoves item) from (length inst.now.times) result }
+    ensures next { IsFirst (is_choice inst.now solution.now.slots point kinds.TimeMoves item) from (length inst.now.times) result }
+    ensures small { IfSome result (λ k. k + 1 < 2 ^ 32) }
 {
     facts(inst, solution);
     let own = live(solution, item)?;
@@ -125,7 +126,8 @@ fn next_time(inst: &Instance, solution: &Solution<'_>, point: Point, item: u32, 
 /// slots that it goes over.
 fn next_swap(inst: &Instance, solution: &Solution<'_>, point: Point, item: u32, from: u32) -> Option<u32>
     requires { solution.now.parts ≡ inst.now }
-    ensures { IsFirst (is_choice inst.now solution.now.slots point kinds.SwapMoves item) from (meet_slots inst.now) result }
+    ensures next { IsFirst (is_choice inst.now solution.now.slots point kinds.SwapMoves item) from (meet_slots inst.now) result }
+    ensures small { IfSome result (λ k. k + 1 < 2 ^ 32) }
 {
     let own = live(solution, item)?;
     if is_fixed_event(inst, own.event) || own.start.is_none() {
@@ -146,7 +148,8 @@ fn next_swap(inst: &Instance, solution: &Solution<'_>, point: Point, item: u32, 
 /// The first cut of a meet, from one on. It takes constant time.
 fn next_cut(inst: &Instance, solution: &Solution<'_>, point: Point, item: u32, from: u32) -> Option<u32>
     requires { solution.now.parts ≡ inst.now }
-    ensures { IsFirst (is_choice inst.now solution.now.slots point kinds.Cuts item) from (choices inst.now solution.now.slots kinds.Cuts item) result }
+    ensures next { IsFirst (is_choice inst.now solution.now.slots point kinds.Cuts item) from (choices inst.now solution.now.slots kinds.Cuts item) result }
+    ensures small { IfSome result (λ k. k + 1 < 2 ^ 32) }
 {
     let own = live(solution, item)?;
     if is_fixed_event(inst, own.event) || own.duration.saturating_sub(1) <= from {
@@ -159,7 +162,8 @@ fn next_cut(inst: &Instance, solution: &Solution<'_>, point: Point, item: u32, f
 /// the meet's event.
 fn next_join(inst: &Instance, solution: &Solution<'_>, point: Point, item: u32, from: u32) -> Option<u32>
     requires { solution.now.parts ≡ inst.now }
-    ensures { IsFirst (is_choice inst.now solution.now.slots point kinds.Joins item) from (meet_slots inst.now) result }
+    ensures next { IsFirst (is_choice inst.now solution.now.slots point kinds.Joins item) from (meet_slots inst.now) result }
+    ensures small { IfSome result (λ k. k + 1 < 2 ^ 32) }
 {
     facts(inst, solution);
     let own = live(solution, item)?;
@@ -180,7 +184,8 @@ fn next_join(inst: &Instance, solution: &Solution<'_>, point: Point, item: u32, 
 /// it goes over, and asks the table for those of the task's type alone.
 fn next_resource(inst: &Instance, solution: &Solution<'_>, point: Point, item: u32, from: u32) -> Option<u32>
     requires { solution.now.parts ≡ inst.now }
-    ensures { IsFirst (is_choice inst.now solution.now.slots point kinds.TaskMoves item) from (length inst.now.resources) result }
+    ensures next { IsFirst (is_choice inst.now solution.now.slots point kinds.TaskMoves item) from (length inst.now.resources) result }
+    ensures small { IfSome result (λ k. k + 1 < 2 ^ 32) }
 {
     let task = task_at(inst, item);
     let own = live(solution, task.meet.0)?;
@@ -203,12 +208,12 @@ fn next_resource(inst: &Instance, solution: &Solution<'_>, point: Point, item: u
 /// of the task slots that it goes over.
 fn next_trade(inst: &Instance, solution: &Solution<'_>, point: Point, item: u32, from: u32) -> Option<u32>
     requires { solution.now.parts ≡ inst.now }
-    ensures { IsFirst (is_choice inst.now solution.now.slots point kinds.TradeMoves item) from (task_slots inst.now) result }
+    ensures next { IsFirst (is_choice inst.now solution.now.slots point kinds.TradeMoves item) from (task_slots inst.now) result }
+    ensures small { IfSome result (λ k. k + 1 < 2 ^ 32) }
 {
     let task = task_at(inst, item);
     let own = live(solution, task.meet.0)?;
-    let place = place_at(inst, own.event, task.place)?;
-    if place.fixed.is_some() || resource_at(inst, solution, task).is_none() {
+    if is_fixed_place(inst, own.event, task.place) || resource_at(inst, solution, task).is_none() {
         return None;
     }
     for other in from..inst.task_slots() {
@@ -226,7 +231,8 @@ fn next_trade(inst: &Instance, solution: &Solution<'_>, point: Point, item: u32,
 /// The only choice of a task that may be given the point's resource, where it is still to come.
 fn next_give(inst: &Instance, solution: &Solution<'_>, point: Point, item: u32, from: u32) -> Option<u32>
     requires { solution.now.parts ≡ inst.now }
-    ensures { IsFirst (is_choice inst.now solution.now.slots point kinds.Gives item) from 1 result }
+    ensures next { IsFirst (is_choice inst.now solution.now.slots point kinds.Gives item) from 1 result }
+    ensures small { IfSome result (λ k. k + 1 < 2 ^ 32) }
 {
     let edit = Edit::Give {
         task: task_at(inst, item),
@@ -250,7 +256,8 @@ pub(crate) fn next_choice(
     from: u32,
 ) -> Option<u32>
     requires { solution.now.parts ≡ inst.now }
-    ensures { IsFirst (is_choice inst.now solution.now.slots point part item) from (choices inst.now solution.now.slots part item) result }
+    ensures next { IsFirst (is_choice inst.now solution.now.slots point part item) from (choices inst.now solution.now.slots part item) result }
+    ensures small { IfSome result (λ k. k + 1 < 2 ^ 32) }
 {
     match part {
         Part::TimeMoves => next_time(inst, solution, point, item, from),

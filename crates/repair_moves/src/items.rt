@@ -5,12 +5,12 @@ ghost use Rattle.khe_instance.specs.Watching.{names_event, pair_names};
 ghost use Rattle.khe_solution.specs.Reading.{has_type};
 ghost use Rattle.khe_instance.specs.Lookups.{place_at, role_at};
 ghost use Rattle.khe_told.specs.Slots.{slot_at, is_live};
-ghost use Rattle.repair_moves.specs.Items.{is_free_at, is_item, is_meet_at, is_open_at, is_task_at, is_task_in, is_task_of, item_slots, meet_slots, task_slots, wants_role};
+ghost use Rattle.repair_moves.specs.Items.{is_free_at, is_item, is_meet_at, is_open_at, is_task_at, is_task_in, is_task_of, item_slots, may_be_given, meet_slots, task_slots, wants_role};
 ghost use Rattle.khe_instance.specs.Slots.{first_task};
-ghost use Rattle.repair_moves.specs.Named.{AreWithin, is_named};
+ghost use Rattle.repair_moves.specs.Named.{AreSlotsOf, AreWithin, is_named};
 ghost use Rattle.repair_moves.specs.Picked.{IsFirst};
-ghost use Rattle.repair_moves.specs.Tasks.{IsFirstTask};
-ghost use Rattle.khe_instance.specs.declared.points.Point.TheVariants.{Resource as AtResource};
+ghost use Rattle.repair_moves.specs.Tasks.{IsAlways, IsFirstPlace, IsFirstTask};
+ghost use Rattle.khe_instance.specs.declared.points.Point.TheVariants.{EventPair as AtPair, Resource as AtResource};
 
 use crate::parts::Part;
 use crate::reads::{facts, live, place_at, task_at};
@@ -55,6 +55,8 @@ fn names(inst: &Instance, rule: &Rule, point: Point, event: EventId) -> bool
 
 /// The meet slots of an event, and none where no event has the number.
 fn slots_of(inst: &Instance, event: EventId) -> Bounds
+    ensures within { result.end ≤ meet_slots inst.now }
+    ensures are { AreSlotsOf inst.now event.0 result.start result.end }
 {
     inst.facts();
     if event.0 >= inst.events() {
@@ -85,6 +87,7 @@ fn named_within(inst: &Instance, rule: &Rule, point: Point) -> Bounds
 
 /// Meet slots among which are those of both events of a rule's pair.
 fn pair_within(inst: &Instance, rule: &Rule, pair: u32) -> Bounds
+    ensures { AreWithin inst.now rule.now (AtPair pair) result.start result.end }
 {
     let none = Bounds { start: 0, end: 0 };
     let Rule::OrderEvents { pairs } = rule else {
@@ -164,23 +167,35 @@ fn wants_role(rule: &Rule, own: &Option<Text>) -> bool
     }
 }
 
+/// Whether a place of an event has the rule's role.
+fn has_role(inst: &Instance, rule: &Rule, event: EventId, place: u32) -> bool
+    ensures { result ≡ wants_role rule.now (role_at inst.now.events event.0 place) }
+{
+    match place_at(inst, event, place) {
+        Some(own) => wants_role(rule, &own.role),
+        None => false,
+    }
+}
+
 /// Whether a place of an event that the point names is one of the monitor's.
 fn is_place_of(inst: &Instance, rule: &Rule, point: Point, event: EventId, place: u32) -> bool
+    requires { names_event inst.now rule.now point event.0 ≡ true }
+    ensures { IsAlways (is_task_of inst.now rule.now point event.0 place) result }
 {
     match point {
         Point::EventResource { place: own, .. } => own == place,
-        Point::EventGroup(_) => match place_at(inst, event, place) {
-            Some(own) => wants_role(rule, &own.role),
-            None => false,
-        },
+        Point::EventGroup(_) => has_role(inst, rule, event, place),
         _ => false,
     }
 }
 
 /// The first place of a meet from one on whose task is the monitor's.
 fn next_place(inst: &Instance, solution: &Solution<'_>, rule: &Rule, point: Point, slot: u32, from: u32) -> Option<u32>
-    requires { solution.now.parts ≡ inst.now }
+    requires of { solution.now.parts ≡ inst.now }
+    requires named { is_named inst.now solution.now.slots rule.now point slot ≡ true }
+    ensures { IsFirstPlace (is_task_in inst.now solution.now.slots rule.now point) slot from result }
 {
+    facts(inst, solution);
     let own = live(solution, slot)?;
     let places = inst.event(own.event).places.len() as u32;
     for place in from..places {
@@ -265,7 +280,9 @@ fn next_free(inst: &Instance, solution: &Solution<'_>, from: u32) -> Option<u32>
 
 /// Whether a task may be given the resource of a point.
 fn may_be_given(inst: &Instance, solution: &Solution<'_>, point: Point, task: TaskId) -> bool
-    requires { solution.now.parts ≡ inst.now }
+    requires of { solution.now.parts ≡ inst.now }
+    requires live { is_live (slot_at solution.now.slots task.meet.0) ≡ true }
+    ensures { result ≡ may_be_given inst.now point (slot_at solution.now.slots task.meet.0) task.place }
 {
     let Point::Resource(resource) = point else {
         return false;

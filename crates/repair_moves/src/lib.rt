@@ -4,7 +4,9 @@
 
 mod choosing;
 mod cursors;
+mod examples;
 mod items;
+mod laws;
 mod moved;
 mod parts;
 mod reads;

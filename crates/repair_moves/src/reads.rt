@@ -1,13 +1,13 @@
 //! What the walk over moves reads of a timetable and of its instance.
 
-ghost use Rattle.std.specs.Prelude.{◌≡◌, ◌<◌, true, false, length, MatchOption};
+ghost use Rattle.std.specs.Prelude.{◌≡◌, true, false, Some, None, MatchOption};
 ghost use Rattle.khe_instance.specs.Lookups.{place_at};
 ghost use Rattle.khe_instance.specs.WellMade.{AreWellMade};
 ghost use Rattle.khe_told.specs.Slots.{slot_at, is_live};
 ghost use Rattle.khe_told.specs.Valid.{AreValid};
-ghost use Rattle.khe_solution.specs.Reading.{Shows, has_type, is_fixed_event, is_fixed_place, resource_at};
+ghost use Rattle.khe_solution.specs.Reading.{Shows, is_fixed_event, is_fixed_place, resource_at};
 ghost use Rattle.khe_solution.specs.Refusing.{is_of_meets};
-ghost use Rattle.repair_moves.specs.Items.{no_task, task_at};
+ghost use Rattle.repair_moves.specs.Items.{task_at};
 ghost use Rattle.repair_moves.specs.Moves.{is_accepted};
 
 use khe_base::{EventId, MeetId, ResourceId, TaskId};
@@ -92,5 +92,15 @@ pub(crate) fn place_at(inst: &Instance, event: EventId, place: u32) -> Option<&P
         inst.event(event).places.as_slice().get(place as usize)
     } else {
         None
+    }
+}
+
+/// Whether the resource of a place of an event is preassigned.
+pub(crate) fn is_fixed_place(inst: &Instance, event: EventId, place: u32) -> bool
+    ensures { result ≡ is_fixed_place inst.now event.0 place }
+{
+    match place_at(inst, event, place) {
+        Some(own) => own.fixed.is_some(),
+        None => false,
     }
 }

@@ -1,0 +1,22 @@
+use Rattle.std.proofs.Common.{◌≡◌, ◌∷◌, ◌+◌, ◌<◌, ◌≤◌, [], List, ap, sym, ◌∙◌, arith, length, subst, refl, Some, slice_get}
+use Rattle.std.proofs.lemmas.Option.{slice_get-get_or}
+use Rattle.repair_moves.specs.Cursors.{ahead}
+use Rattle.repair_moves.specs.declared.cursors.Cursor.{Cursor}
+use Rattle.repair_moves.specs.declared.parts.Part.TheVariants.{TimeMoves}
+use Rattle.repair_moves.proofs.WalkLaws as walks
+use Rattle.repair_moves.proofs.walking.next_move.Goals as goal
+
+pub loop-part-init : goal.loop-part-init
+loop-part-init c = record {
+  ahead = walks.ahead_at _ _ c.args.cursor.now c.monitor-monitor.result _ c.parts_of-parts.result.now c.monitor-monitor.ensures c.constraint.ensures c.parts_of-parts.ensures.parts;
+  small = c.requires.cursor.item;
+  same = refl;
+}
+
+pub loop-part-preserved : goal.loop-part-preserved
+loop-part-preserved c = record {
+  ahead = c.loop-part.invariant.ahead ∙ walks.parts_next _ _ _ _ c.parts_of-parts.result.now c.loop-part.part _ c.loop-part.spot c.at_start-spot.result
+    (slice_get-get_or c.parts_of-parts.result.now c.loop-part.part TimeMoves c.loop-part-test.true) c.in-None.ensures.next c.at_start-spot.ensures;
+  small = let e = ap (λ s. s.item) c.at_start-spot.ensures in omega arith;
+  same = c.loop-part.invariant.same;
+}
