@@ -1,11 +1,12 @@
 -- The meets and tasks of a monitor, by their numbers.
-use Rattle.std.proofs.Common.{ℕ, zero, suc, ◌≡◌, ◌+◌, ◌<◌, ◌≤◌, Bool, true, false, ◌&&◌, Option, Some, None, List, [], ◌∷◌, length, slice_get, get_or, refl, sym, ap, ◌∙◌, subst, arith, inl, inr}
+use Rattle.std.proofs.Common.{ℕ, zero, suc, ◌≡◌, ◌+◌, ◌<◌, ◌≤◌, Bool, true, false, ◌&&◌, Option, Some, None, List, [], ◌∷◌, length, slice_get, get_or, refl, sym, ap, ◌∙◌, subst, arith, inl, inr, ◌⊎◌}
 use Rattle.std.specs.Prelude.{◌==◌, ◌||◌}
 use Rattle.std.specs.List.{list_any, sum_by}
 use Rattle.std.proofs.lemmas.Bool.{cases_lt, lt-ltb}
 use Rattle.std.proofs.lemmas.List.Folds.{list_any_at}
 use Rattle.std.proofs.lemmas.List.Sums.{sum_by-cons}
 use Rattle.std.proofs.lemmas.Option.{same_Some}
+use Rattle.khe_base.specs.declared.numbers.EventId.{EventId}
 use Rattle.khe_base.specs.declared.numbers.ResourceId.{ResourceId}
 use Rattle.khe_base.specs.declared.numbers.TaskId.{TaskId}
 use Rattle.khe_instance.specs.Slots.{HasSlot}
@@ -14,7 +15,7 @@ use Rattle.khe_instance.specs.WellMade.{AreFirstMeets, AreWellMade}
 use Rattle.khe_instance.specs.declared.parts.EventInfo.{EventInfo}
 use Rattle.khe_instance.specs.declared.parts.Parts.{Parts}
 use Rattle.khe_instance.specs.declared.points.Point.{Point}
-use Rattle.khe_instance.specs.declared.points.Point.TheVariants.{Resource}
+use Rattle.khe_instance.specs.declared.points.Point.TheVariants.{EventGroup, EventResource, Resource}
 use Rattle.khe_instance.specs.declared.rules.Rule.{Rule}
 use Rattle.khe_told.proofs.FillingLaws.{slot_of}
 use Rattle.khe_told.specs.Fits.{AreTold}
@@ -23,8 +24,8 @@ use Rattle.khe_told.specs.declared.slots.Slot.{Slot}
 use Rattle.khe_solution.specs.NextTask.{IsBefore, IsFrom, has_task}
 use Rattle.khe_solution.specs.Reading.{has_place, is_resource}
 use Rattle.khe_solution.proofs.Basics.{true-false}
-use Rattle.repair_moves.specs.Items.{is_meet_at, meet_slots}
-use Rattle.repair_moves.specs.Named.{AreWithin, is_named}
+use Rattle.repair_moves.specs.Items.{is_meet_at, is_task_in, is_task_of, meet_slots}
+use Rattle.repair_moves.specs.Named.{AreSlotsOf, AreWithin, NamesItsTasks, is_named}
 use Rattle.repair_moves.specs.Picked.{IsFirst, NonePass}
 use Rattle.repair_moves.specs.Tasks.{NoTask, NoTaskBefore}
 use Rattle.repair_moves.proofs.PickedLaws.{false_unless}
@@ -74,6 +75,22 @@ named_within p s rule point start end n made told within h =
     let to = has.3 in
     (omega (arith, low, from), omega (arith, high, to))
 
+pub named_below : (p : Parts) (s : List Slot) (rule : Rule) (point : Point) (start end n : ℕ) → AreWellMade p → AreTold p s → AreWithin p rule point start end → n < start → is_named p s rule point n ≡ false
+named_below p s rule point start end n made told within l = false_unless _ (λ h. let b = (named_within p s rule point start end n made told within h).0 in omega (arith, b, l))
+
+pub named_beyond : (p : Parts) (s : List Slot) (rule : Rule) (point : Point) (start end n : ℕ) → AreWellMade p → AreTold p s → AreWithin p rule point start end → end ≤ n → is_named p s rule point n ≡ false
+named_beyond p s rule point start end n made told within l = false_unless _ (λ h. let b = (named_within p s rule point start end n made told within h).1 in omega (arith, b, l))
+
+pub named_dead : (p : Parts) (s : List Slot) (rule : Rule) (point : Point) (n : ℕ) → is_live (slot_at s n) ≡ false → is_named p s rule point n ≡ false
+named_dead p s rule point n h = false_unless _ (λ t. true-false (sym (named_is p s rule point n t).live ∙ h))
+
+-- a slot of an event that the point names, where it has a meet
+pub named_event : (p : Parts) (s : List Slot) (rule : Rule) (point : Point) (e n : ℕ) → AreWellMade p → AreTold p s → HasSlot p.events e n → names_event p rule point e ≡ true
+    → is_live (slot_at s n) ≡ true → is_named p s rule point n ≡ true
+named_event p s rule point e n made told has h live =
+    let is = (slot_of p s e n made.first_meets told.whose has).event in
+    named_may p s rule point n (record { live = live; names = ap (names_event p rule point) is ∙ h })
+
 -- none of an event's slots is, where the point does not name the event
 pub unnamed : (p : Parts) (s : List Slot) (rule : Rule) (point : Point) (e n : ℕ) → AreWellMade p → AreTold p s → HasSlot p.events e n → names_event p rule point e ≡ false
     → is_named p s rule point n ≡ false
@@ -122,3 +139,68 @@ first_meet_with p s rule r from t made told onward has none =
       λ k a l. false_unless _ (λ h.
         (let w = with_task p s rule r k h in
         true-false (sym w.1 ∙ none (record { meet = record { 0 = k }; place = w.0 }) (from_first from k w.0 a) (inl l)))))
+
+-- the bounds of one event's slots
+pub within_one : (p : Parts) (rule : Rule) (point : Point) (own start end : ℕ) → end ≤ meet_slots p → AreSlotsOf p own start end
+    → ((e : ℕ) → names_event p rule point e ≡ true → e ≡ own) → AreWithin p rule point start end
+within_one p rule point own start end most are one = record {
+  slots = most;
+  each = λ e event at named. (let b = are event (ap (slice_get p.events) (sym (one e named)) ∙ at) in let x = b.0 in let y = b.1 in (omega (arith, x), omega (arith, y)));
+}
+
+-- the bounds of two events' slots
+pub within_two : (p : Parts) (rule : Rule) (point : Point) (a b a_start a_end b_start b_end : ℕ) → a_end ≤ meet_slots p → b_end ≤ meet_slots p
+    → AreSlotsOf p a a_start a_end → AreSlotsOf p b b_start b_end → ((e : ℕ) → names_event p rule point e ≡ true → (e ≡ a) ⊎ (e ≡ b))
+    → (start end : ℕ) → start ≤ a_start → start ≤ b_start → a_end ≤ end → b_end ≤ end → end ≤ meet_slots p → AreWithin p rule point start end
+within_two p rule point a b a_start a_end b_start b_end most_a most_b are_a are_b either start end la lb ma mb most = record {
+  slots = most;
+  each = λ e event at named. elim (either e named) [
+    | inl q ↦ (let w = are_a event (ap (slice_get p.events) (sym q) ∙ at) in let x = w.0 in let y = w.1 in (omega (arith, x, la), omega (arith, y, ma)))
+    | inr q ↦ (let w = are_b event (ap (slice_get p.events) (sym q) ∙ at) in let x = w.0 in let y = w.1 in (omega (arith, x, lb), omega (arith, y, mb)))
+  ];
+}
+
+-- bounds of events that are none
+pub within_none : (p : Parts) (rule : Rule) (point : Point) (start end : ℕ) → end ≤ meet_slots p → ((e : ℕ) → names_event p rule point e ≡ false) → AreWithin p rule point start end
+within_none p rule point start end most none = record {
+  slots = most;
+  each = λ e event at named. absurd (true-false (sym named ∙ none e));
+}
+
+-- the bounds of all slots
+pub within_all : (p : Parts) (rule : Rule) (point : Point) (end : ℕ) → AreWellMade p → end ≡ meet_slots p → AreWithin p rule point 0 end
+within_all p rule point end made e = record {
+  slots = omega (arith, e);
+  each = λ k event at named. (omega arith, let w = event_within 0 k p.events event made.first_meets at in omega (arith, w, e));
+}
+
+-- a test at a point is one at the point that it is
+pub at_point : (P : Point → Type 0) (x y : Point) → x ≡ y → P y → P x
+at_point P x y e h = subst P (sym e) h
+
+-- the tasks at the places of events
+
+pub names_place : (p : Parts) (rule : Rule) (e : EventId) (k : ℕ) → NamesItsTasks p rule (EventResource e k)
+names_place p rule e k ev place given h = (both_true _ _ h).0
+
+pub names_group : (p : Parts) (rule : Rule) (g : ℕ) → NamesItsTasks p rule (EventGroup g)
+names_group p rule g ev place given h = (both_true _ _ h).0
+
+-- a place of a live meet has a task, and one beyond the meet's places has none
+pub place_is : (p : Parts) (s : List Slot) (rule : Rule) (point : Point) (m k : ℕ) (b : Bool) → is_live (slot_at s m) ≡ true → k < length (slot_at s m).given
+    → b ≡ is_task_of p rule point (slot_at s m).event.0 k (given_at (slot_at s m) k) → is_task_in p s rule point (record { meet = record { 0 = m }; place = k }) ≡ b
+place_is p s rule point m k b live l e =
+    ap (λ a. a && is_task_of p rule point (slot_at s m).event.0 k (given_at (slot_at s m) k)) (both_are _ _ live (lt-ltb _ _ l)) ∙ sym e
+
+pub place_past : (p : Parts) (s : List Slot) (rule : Rule) (point : Point) (m k : ℕ) → length (slot_at s m).given ≤ k → is_task_in p s rule point (record { meet = record { 0 = m }; place = k }) ≡ false
+place_past p s rule point m k l = false_unless _ (λ h. let w = (place_there _ _ (both_true _ _ h).0).1 in omega (arith, w, l))
+
+-- a task of a meet that the point does not name is not the monitor's
+pub task_unnamed : (p : Parts) (s : List Slot) (rule : Rule) (point : Point) (u : TaskId) → NamesItsTasks p rule point → is_named p s rule point u.meet.0 ≡ false → is_task_in p s rule point u ≡ false
+task_unnamed p s rule point u names h = false_unless _ (λ t.
+    (let b = both_true _ _ t in
+    let own = named_may p s rule point u.meet.0 (record { live = (place_there _ _ b.0).0; names = names (slot_at s u.meet.0).event.0 u.place (given_at (slot_at s u.meet.0) u.place) b.1 }) in
+    true-false (sym own ∙ h)))
+
+pub task_below : (p : Parts) (s : List Slot) (rule : Rule) (point : Point) (u : TaskId) → AreWellMade p → AreTold p s → is_task_in p s rule point u ≡ true → u.meet.0 < meet_slots p
+task_below p s rule point u made told t = slot_below p s u.meet.0 made told (place_there _ _ (both_true _ _ t).0).0

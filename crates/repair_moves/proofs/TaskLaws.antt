@@ -40,9 +40,6 @@ task_numbered p s n made told l =
     let r = task_of p s n (task_at p n) made.first_meets told (task_listed p n l) in
     record { there = r.there; number = r.number }
 
-pub listed_is : (p : Parts) (n : ℕ) (t : TaskId) → n < task_slots p → slice_get (all_tasks p.events) n ≡ Some t → t ≡ task_at p n
-listed_is p n t l h = same_Some t (task_at p n) (sym h ∙ task_listed p n l)
-
 -- numbers and tasks are in the same order
 pub from_number : (s : List Slot) (t u : TaskId) → t.place < places (slot_at s t.meet.0) → IsFrom t u → first_in s t.meet.0 + t.place ≤ first_in s u.meet.0 + u.place
 from_number s t u l h = elim h [
@@ -87,31 +84,31 @@ task_number p s t made told l =
     (within, same_number s (task_at p n) t r.there l (omega (arith, e, f)))
 
 -- no task slot from one on passes, where no task does
-pub no_slot_passes : (p : Parts) (s : List Slot) (test : TaskId → Bool) (n : ℕ) → AreWellMade p → AreTold p s → n < task_slots p → NoTask test (task_at p n)
+pub no_slot_passes : (p : Parts) (s : List Slot) (test : TaskId → Bool) (n : ℕ) (from : TaskId) → AreWellMade p → AreTold p s → n < task_slots p → from ≡ task_at p n → NoTask test from
     → NonePass (λ k. test (task_at p k)) n (task_slots p)
-no_slot_passes p s test n made told l h k a b =
+no_slot_passes p s test n from made told l e h k a b =
     let r = task_numbered p s n made told l in
     let q = task_numbered p s k made told b in
     let x = r.number in
     let y = q.number in
-    h (task_at p k) (from_below s (task_at p n) (task_at p k) q.there (omega (arith, x, y, a)))
+    subst (NoTask test) e h (task_at p k) (from_below s (task_at p n) (task_at p k) q.there (omega (arith, x, y, a)))
 
 -- the first task slot that passes is that of the first task
-pub first_slot : (p : Parts) (s : List Slot) (test : TaskId → Bool) (n : ℕ) (t : TaskId) → AreWellMade p → AreTold p s → n < task_slots p → t.place < places (slot_at s t.meet.0)
-    → IsFrom (task_at p n) t → test t ≡ true → NoTaskBefore test (task_at p n) t
+pub first_slot : (p : Parts) (s : List Slot) (test : TaskId → Bool) (n : ℕ) (from t : TaskId) → AreWellMade p → AreTold p s → n < task_slots p → from ≡ task_at p n
+    → t.place < places (slot_at s t.meet.0) → IsFrom from t → test t ≡ true → NoTaskBefore test from t
     → IsFirst (λ k. test (task_at p k)) n (task_slots p) (Some (first_task p.events t.meet.0 + t.place))
-first_slot p s test n t made told l there from passes before =
+first_slot p s test n from t made told l e there onward passes before =
     let num = first_task p.events t.meet.0 + t.place in
     let r = task_numbered p s n made told l in
     let x = r.number in
     let f = first_told p s t.meet.0 made.first_meets told in
     let own = task_number p s t made told there in
-    let low = from_number s (task_at p n) t r.there from in
+    let low = from_number s (task_at p n) t r.there (subst (λ u. IsFrom u t) e onward) in
     let earlier : NonePass (λ k. test (task_at p k)) n num = λ k a b.
-      (let own_k = own.0 in
-      let q = task_numbered p s k made told (omega (arith, b, own_k)) in
+      (let within = own.0 in
+      let q = task_numbered p s k made told (omega (arith, b, within)) in
       let y = q.number in
-      before (task_at p k)
+      subst (λ u. NoTaskBefore test u t) e before (task_at p k)
       (from_below s (task_at p n) (task_at p k) q.there (omega (arith, x, y, a)))
       (before_below s (task_at p k) t there (omega (arith, y, f, b)))) in
     (omega (arith, x, low, f), own.0, ap test own.1 ∙ passes, earlier)
@@ -128,3 +125,30 @@ any_place test (x ∷ xs) d h = by_head (test x) refl (λ g. any_place test xs d
         let r = rest (sym (ap (λ b. b || list_any test xs) e) ∙ h) in
         let l = r.1 in
         (suc r.0, (omega (arith, l)), r.2)
+
+-- no task is a monitor's at a point of another sort
+pub never : (a b : Bool) → b ≡ false → (a && b) ≡ false
+never true b h = h
+never false b h = refl
+
+-- a task of a meet comes from another on, where none before that one passes and no meet from there up to
+-- this one does
+pub reached : (from at : TaskId) (m k : ℕ) → IsFrom from at → at.meet.0 ≤ m → (at.meet.0 ≡ m → at.place ≤ k) → IsFrom from (record { meet = record { 0 = m }; place = k })
+reached from at m k h far low = elim h [
+  | inl a ↦ inl (omega (arith, a, far))
+  | inr a ↦ (let e = a.0 in let q = a.1 in elim (cases_lt at.meet.0 m) [
+    | inl b ↦ inl (omega (arith, b, e))
+    | inr b ↦ (let same : at.meet.0 ≡ m = omega (arith, b, far) in let p = low same in inr (omega (arith, e, same), omega (arith, q, p)))
+  ])
+]
+
+pub none_between : (test : TaskId → Bool) (from at : TaskId) (m k : ℕ) → NoTaskBefore test from at
+    → ((u : TaskId) → at.meet.0 ≤ u.meet.0 → u.meet.0 < m → test u ≡ false) → ((u : TaskId) → u.meet.0 ≡ m → (at.meet.0 ≡ m → at.place ≤ u.place) → u.place < k → test u ≡ false)
+    → NoTaskBefore test from (record { meet = record { 0 = m }; place = k })
+none_between test from at m k none between own u f b = elim (order_of u at) [
+  | inl early ↦ none u f early
+  | inr late ↦ (let past : at.meet.0 ≤ u.meet.0 = elim late [ inl a ↦ omega (arith, a) | inr a ↦ (let e = a.0 in omega (arith, e)) ] in elim b [
+    | inl c ↦ between u past c
+    | inr c ↦ own u c.0 (λ same. (let e = c.0 in elim late [ inl a ↦ absurd (omega (arith, a, same, e)) | inr a ↦ a.1 ])) c.1
+  ])
+]

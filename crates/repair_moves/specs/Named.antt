@@ -1,5 +1,6 @@
 -- The meets of the events that a point names, and the meet slots among which they are.
-use Rattle.std.specs.Prelude.{ℕ, ◌≡◌, ◌+◌, ◌≤◌, Bool, true, ◌&&◌, Some, List, slice_get}
+use Rattle.std.specs.Prelude.{ℕ, ◌≡◌, ◌+◌, ◌≤◌, Bool, true, ◌&&◌, Option, Some, List, slice_get}
+use Rattle.khe_base.specs.declared.numbers.ResourceId.{ResourceId}
 use Rattle.khe_instance.specs.Watching.{names_event}
 use Rattle.khe_instance.specs.declared.parts.EventInfo.{EventInfo}
 use Rattle.khe_instance.specs.declared.parts.Parts.{Parts}
@@ -7,7 +8,7 @@ use Rattle.khe_instance.specs.declared.points.Point.{Point}
 use Rattle.khe_instance.specs.declared.rules.Rule.{Rule}
 use Rattle.khe_told.specs.Slots.{slot_at, is_live}
 use Rattle.khe_told.specs.declared.slots.Slot.{Slot}
-use Rattle.repair_moves.specs.Items.{meet_slots}
+use Rattle.repair_moves.specs.Items.{is_task_of, meet_slots}
 
 -- a slot has a meet of an event that the point names
 unfoldable pub is_named : Parts → List Slot → Rule → Point → ℕ → Bool
@@ -22,3 +23,7 @@ pub record AreWithin (p : Parts) (rule : Rule) (point : Point) (start end : ℕ)
 -- an event's slots are those of these numbers
 abbrev pub AreSlotsOf : Parts → ℕ → ℕ → ℕ → Type 0
 AreSlotsOf p e start end = (event : EventInfo) → slice_get p.events e ≡ Some event → (start ≡ event.first_meet) × (end ≡ event.first_meet + event.duration)
+
+-- a task is a monitor's only in an event that the point names
+abbrev pub NamesItsTasks : Parts → Rule → Point → Type 0
+NamesItsTasks p rule point = (e k : ℕ) (given : Option ResourceId) → is_task_of p rule point e k given ≡ true → names_event p rule point e ≡ true

@@ -7,7 +7,7 @@ ghost use Rattle.khe_instance.specs.Lookups.{place_at, role_at};
 ghost use Rattle.khe_told.specs.Slots.{slot_at, is_live};
 ghost use Rattle.repair_moves.specs.Items.{is_free_at, is_item, is_meet_at, is_open_at, is_task_at, is_task_in, is_task_of, item_slots, may_be_given, meet_slots, task_slots, wants_role};
 ghost use Rattle.khe_instance.specs.Slots.{first_task};
-ghost use Rattle.repair_moves.specs.Named.{AreSlotsOf, AreWithin, is_named};
+ghost use Rattle.repair_moves.specs.Named.{AreSlotsOf, AreWithin, NamesItsTasks, is_named};
 ghost use Rattle.repair_moves.specs.Picked.{IsFirst};
 ghost use Rattle.repair_moves.specs.Tasks.{IsAlways, IsFirstPlace, IsFirstTask};
 ghost use Rattle.khe_instance.specs.declared.points.Point.TheVariants.{EventPair as AtPair, Resource as AtResource};
@@ -185,7 +185,9 @@ fn is_place_of(inst: &Instance, rule: &Rule, point: Point, event: EventId, place
     match point {
         Point::EventResource { place: own, .. } => own == place,
         Point::EventGroup(_) => has_role(inst, rule, event, place),
-        _ => false,
+        Point::Event(_) => false,
+        Point::EventPair(_) => false,
+        Point::Resource(_) => false,
     }
 }
 
@@ -206,25 +208,33 @@ fn next_place(inst: &Instance, solution: &Solution<'_>, rule: &Rule, point: Poin
     None
 }
 
+/// The first place of a meet whose task does not come before one.
+fn place_from(at: TaskId, meet: u32) -> u32
+    ensures here { at.meet.0 ≡ meet → result ≡ at.place }
+    ensures later { at.meet.0 < meet → result ≡ 0 }
+{
+    if at.meet.0 < meet { 0 } else { at.place }
+}
+
 /// The first task from one on of an event that the point names.
 fn next_task_named(inst: &Instance, solution: &Solution<'_>, rule: &Rule, point: Point, from: TaskId) -> Option<TaskId>
-    requires { solution.now.parts ≡ inst.now }
+    requires of { solution.now.parts ≡ inst.now }
+    requires named { NamesItsTasks inst.now rule.now point }
     ensures { IsFirstTask (is_task_in inst.now solution.now.slots rule.now point) from result }
 {
-    let mut slot = from.meet.0;
-    let mut place = from.place;
-    while let Some(meet) = next_named(inst, solution, rule, point, slot) {
-        if meet > slot {
-            place = 0;
-        }
-        if let Some(found) = next_place(inst, solution, rule, point, meet, place) {
+    let mut at = from;
+    while let Some(meet) = next_named(inst, solution, rule, point, at.meet.0) {
+        let start = place_from(at, meet);
+        if let Some(place) = next_place(inst, solution, rule, point, meet, start) {
             return Some(TaskId {
                 meet: MeetId(meet),
-                place: found,
+                place,
             });
         }
-        slot = meet + 1;
-        place = 0;
+        at = TaskId {
+            meet: MeetId(meet + 1),
+            place: 0,
+        };
     }
     None
 }
@@ -261,7 +271,7 @@ fn next_slot(inst: &Instance, solution: &Solution<'_>, rule: &Rule, point: Point
     if from >= inst.task_slots() {
         return None;
     }
-    let task = next_task(inst, solution, rule, point, inst.task(from))?;
+    let task = next_task(inst, solution, rule, point, task_at(inst, from))?;
     Some(number_of(inst, task))
 }
 
@@ -274,7 +284,7 @@ fn next_free(inst: &Instance, solution: &Solution<'_>, from: u32) -> Option<u32>
     if from >= inst.task_slots() {
         return None;
     }
-    let task = solution.next_task_without(inst.task(from))?;
+    let task = solution.next_task_without(task_at(inst, from))?;
     Some(number_of(inst, task))
 }
 

@@ -4,12 +4,12 @@ use Rattle.repair_moves.specs.Items.{is_task_in, meet_slots}
 use Rattle.repair_moves.specs.Tasks.{NoTaskBefore}
 use Rattle.repair_moves.proofs.items.next_task_named.Given as goal
 
-abbrev pub invariant-loop-slot : goal.invariant-loop-slot
-invariant-loop-slot l =
+abbrev pub invariant-loop-meet : goal.invariant-loop-meet
+invariant-loop-meet l =
   record {
-    onward : IsFrom l.from (record { meet = record { 0 = l.slot }; place = l.place });
-    none : NoTaskBefore (is_task_in l.inst l.solution.slots l.rule l.point) l.from (record { meet = record { 0 = l.slot }; place = l.place });
+    onward : IsFrom l.from l.at;
+    none : NoTaskBefore (is_task_in l.inst l.solution.slots l.rule l.point) l.from l.at;
   }
 
-abbrev pub decreases-loop-slot : goal.decreases-loop-slot
-decreases-loop-slot l = meet_slots l.inst - l.slot
+abbrev pub decreases-loop-meet : goal.decreases-loop-meet
+decreases-loop-meet l = meet_slots l.inst - l.at.meet.0
