@@ -4,7 +4,8 @@ use Rattle.std.specs.Prelude.{is_none, is_some, nat_le, nat_lt, ◌==◌}
 use Rattle.std.specs.Option.{option_map_or}
 use Rattle.std.proofs.lemmas.Bool.{ltb-false, leb-false, le-ltb, lt-leb}
 use Rattle.std.proofs.lemmas.Bool.Decides.{nat_tests}
-use Rattle.std.proofs.lemmas.Option.{same_Some}
+use Rattle.std.proofs.lemmas.Option.{same_Some, slice_get_within}
+use Rattle.khe_base.specs.declared.numbers.EventId.{EventId}
 use Rattle.khe_base.specs.declared.numbers.TaskId.{TaskId}
 use Rattle.khe_base.specs.declared.numbers.TimeId.{TimeId}
 use Rattle.khe_instance.specs.Lookups.{place_at}
@@ -24,7 +25,7 @@ use Rattle.khe_solution.specs.Reading.{has_place, has_type, is_fixed_event, is_f
 use Rattle.khe_solution.specs.Refusing.{assign_row, first_refusal, give_row, merge_row, move_row, refusal, regive_row, split_row, swap_meets_row, swap_tasks_row}
 use Rattle.khe_solution.proofs.Basics.{AllPass, no_value, not-false, passed, true-false}
 use Rattle.repair_moves.specs.Items.{task_at}
-use Rattle.repair_moves.specs.Moves.{choices, edit_of, is_accepted, is_choice, task_move, time_move}
+use Rattle.repair_moves.specs.Moves.{choices, edit_of, is_accepted, is_choice, resource_of, task_move, time_move}
 use Rattle.repair_moves.specs.declared.parts.Part.TheVariants.{TimeMoves, SwapMoves, Cuts, Joins, TaskMoves, TradeMoves, Gives}
 use Rattle.repair_moves.proofs.PickedLaws.{false_unless}
 use Rattle.repair_moves.proofs.SlotLaws.{live_event}
@@ -62,7 +63,7 @@ time_move_is p s point n k h = by_placed (is_placed (slot_at s n)) refl h
     by_placed : (b : Bool) → is_placed (slot_at s n) ≡ b
         → is_accepted p s (cond b (MoveTo (record { 0 = n }) (record { 0 = k })) (Assign (record { 0 = n }) (record { 0 = k }))) ≡ true → IsTimeMove p s n k
     by_placed true e h =
-        let a = passed (move_row p s (record { 0 = n }) (record { 0 = k })) (none_is _ h) in
+        let a = passed (move_row p s (record { 0 = n }) (record { 0 = k })) (none_is (refusal p s (MoveTo (record { 0 = n }) (record { 0 = k }))) h) in
         record {
           live = not-false _ a.0;
           free = a.1.1.0;
@@ -71,12 +72,12 @@ time_move_is p s point n k h = by_placed (is_placed (slot_at s n)) refl h
           ends = ltb-false _ _ a.1.1.1.1.1.0;
         }
     by_placed false e h =
-        let a = passed (assign_row p s (record { 0 = n }) (record { 0 = k })) (none_is _ h) in
+        let a = passed (assign_row p s (record { 0 = n }) (record { 0 = k })) (none_is (refusal p s (Assign (record { 0 = n }) (record { 0 = k }))) h) in
         record {
           live = not-false _ a.0;
           free = a.1.1.0;
           within = leb-false _ _ a.1.0;
-          other = ap (option_map_or (λ (x : TimeId). x.0 == k) false) (no_value (start_of (slot_at s n)) e);
+          other = ap (λ (o : Option TimeId). option_map_or (λ (x : TimeId). x.0 == k) o false) (no_value (start_of (slot_at s n)) e);
           ends = ltb-false _ _ a.1.1.1.1.0;
         }
 
@@ -102,7 +103,7 @@ pub record IsSwapMove (p : Parts) (s : List Slot) (n k : ℕ) : Type 0 where
 pub swap_move_is : (p : Parts) (s : List Slot) (point : Point) (n k : ℕ) → is_choice p s point SwapMoves n k ≡ true → IsSwapMove p s n k
 unfolding is_accepted edit_of refusal
 swap_move_is p s point n k h =
-    let a = passed (swap_meets_row p s (record { 0 = n }) (record { 0 = k })) (none_is _ h) in
+    let a = passed (swap_meets_row p s (record { 0 = n }) (record { 0 = k })) (none_is (refusal p s (SwapMeets (record { 0 = n }) (record { 0 = k }))) h) in
     record { live = not-false _ a.0; free = a.1.1.0; placed = not-false _ a.1.1.1.1.0 }
 
 -- a cut
@@ -114,11 +115,11 @@ pub record IsCut (p : Parts) (s : List Slot) (n k : ℕ) : Type 0 where
 pub cut_is : (p : Parts) (s : List Slot) (point : Point) (n k : ℕ) → is_choice p s point Cuts n k ≡ true → IsCut p s n k
 unfolding is_accepted edit_of refusal
 cut_is p s point n k h =
-    let a = passed (split_row p s (record { 0 = n }) (k + 1)) (none_is _ h) in
+    let a = passed (split_row p s (record { 0 = n }) (k + 1)) (none_is (refusal p s (Split (record { 0 = n }) (k + 1))) h) in
     record { live = not-false _ a.0; free = a.1.0; shorter = leb-false _ _ a.1.1.1.0 }
 
 above_zero : (k : ℕ) → (k + 1 == 0) ≡ false
-above_zero k = ap (λ n. n == 0) (let e : k + 1 ≡ suc k = omega arith in e)
+above_zero k = grind (arith, nat_tests)
 
 pub cut_may : (p : Parts) (s : List Slot) (point : Point) (n k : ℕ) → IsCut p s n k → is_choice p s point Cuts n k ≡ true
 unfolding is_accepted edit_of refusal
@@ -130,7 +131,7 @@ pub join_is : (p : Parts) (s : List Slot) (point : Point) (n k : ℕ) → AreWel
     → (is_live (slot_at s n) ≡ true) × HasSlot p.events (slot_at s n).event.0 k
 unfolding is_accepted edit_of refusal
 join_is p s point n k made told h =
-    let a = passed (merge_row s (record { 0 = n }) (record { 0 = k })) (none_is _ h) in
+    let a = passed (merge_row s (record { 0 = n }) (record { 0 = k })) (none_is (refusal p s (Merge (record { 0 = n }) (record { 0 = k }))) h) in
     let e : (slot_at s n).event.0 ≡ (slot_at s k).event.0 = same _ _ (not-false _ a.1.1.1.0) in
     (not-false _ a.0, subst (λ j. HasSlot p.events j k) (sym e) (live_event p s k made told (not-false _ a.1.0)))
   where
@@ -149,10 +150,10 @@ task_move_is p s point n k h = by_given (is_some (resource_at s (task_at p n))) 
   where
     by_given : (b : Bool) → is_accepted p s (cond b (Regive (task_at p n) (record { 0 = k })) (Give (task_at p n) (record { 0 = k }))) ≡ true → IsTaskMove p s (task_at p n) k
     by_given true h =
-        let a = passed (regive_row p s (task_at p n) (record { 0 = k })) (none_is _ h) in
+        let a = passed (regive_row p s (task_at p n) (record { 0 = k })) (none_is (refusal p s (Regive (task_at p n) (record { 0 = k }))) h) in
         record { there = not-false _ a.0; free = a.1.1.0; typed = not-false _ a.1.1.1.1.1.0 }
     by_given false h =
-        let a = passed (give_row p s (task_at p n) (record { 0 = k })) (none_is _ h) in
+        let a = passed (give_row p s (task_at p n) (record { 0 = k })) (none_is (refusal p s (Give (task_at p n) (record { 0 = k }))) h) in
         record { there = not-false _ a.0; free = a.1.1.0; typed = not-false _ a.1.1.1.1.0 }
 
 -- a trade
@@ -164,7 +165,7 @@ pub record IsTradeMove (p : Parts) (s : List Slot) (t : TaskId) : Type 0 where
 pub trade_move_is : (p : Parts) (s : List Slot) (point : Point) (n k : ℕ) → is_choice p s point TradeMoves n k ≡ true → IsTradeMove p s (task_at p n)
 unfolding is_accepted edit_of refusal
 trade_move_is p s point n k h =
-    let a = passed (swap_tasks_row p s (task_at p n) (task_at p k)) (none_is _ h) in
+    let a = passed (swap_tasks_row p s (task_at p n) (task_at p k)) (none_is (refusal p s (SwapTasks (task_at p n) (task_at p k))) h) in
     record { there = not-false _ a.0; free = a.1.1.0; given = a.1.1.1.1.0 }
 
 -- why a choice is no move
@@ -227,7 +228,41 @@ join_outside p s point n k event made told at out = false_unless _ (λ t.
 
 -- a task that is not there is given nothing
 pub place_dead : (p : Parts) (s : List Slot) (point : Point) (n k : ℕ) → is_live (slot_at s (task_at p n).meet.0) ≡ false → is_choice p s point TaskMoves n k ≡ false
-place_dead p s point n k h = false_unless _ (λ t. true-false (sym (place_there _ _ (task_move_is p s point n k t).there).0 ∙ h))
+place_dead p s point n k h = false_unless _ (λ t. true-false (sym (place_there (slot_at s (task_at p n).meet.0) (task_at p n).place (task_move_is p s point n k t).there).0 ∙ h))
 
 pub trade_dead : (p : Parts) (s : List Slot) (point : Point) (n k : ℕ) → is_live (slot_at s (task_at p n).meet.0) ≡ false → is_choice p s point TradeMoves n k ≡ false
-trade_dead p s point n k h = false_unless _ (λ t. true-false (sym (place_there _ _ (trade_move_is p s point n k t).there).0 ∙ h))
+trade_dead p s point n k h = false_unless _ (λ t. true-false (sym (place_there (slot_at s (task_at p n).meet.0) (task_at p n).place (trade_move_is p s point n k t).there).0 ∙ h))
+
+pub some_unless : {A : Type 0} (o : Option A) → is_none o ≡ true → is_some o ≡ false
+some_unless None h = refl
+some_unless (Some a) h = absurd (true-false (sym h))
+
+-- a choice by the edit that it is
+pub SwapMoves_is : (p : Parts) (s : List Slot) (point : Point) (n k : ℕ) → is_choice p s point SwapMoves n k ≡ is_accepted p s (SwapMeets (record { 0 = n }) (record { 0 = k }))
+unfolding edit_of
+SwapMoves_is p s point n k = refl
+
+pub Joins_is : (p : Parts) (s : List Slot) (point : Point) (n k : ℕ) → is_choice p s point Joins n k ≡ is_accepted p s (Merge (record { 0 = n }) (record { 0 = k }))
+unfolding edit_of
+Joins_is p s point n k = refl
+
+pub TaskMoves_is : (p : Parts) (s : List Slot) (point : Point) (n k : ℕ) → is_choice p s point TaskMoves n k ≡ is_accepted p s (task_move s (task_at p n) k)
+unfolding edit_of
+TaskMoves_is p s point n k = refl
+
+pub TradeMoves_is : (p : Parts) (s : List Slot) (point : Point) (n k : ℕ) → is_choice p s point TradeMoves n k ≡ is_accepted p s (SwapTasks (task_at p n) (task_at p k))
+unfolding edit_of
+TradeMoves_is p s point n k = refl
+
+pub Gives_is : (p : Parts) (s : List Slot) (point : Point) (n k : ℕ) → is_choice p s point Gives n k ≡ is_accepted p s (Give (task_at p n) (resource_of point))
+unfolding edit_of
+Gives_is p s point n k = refl
+
+pub cut_within : (p : Parts) (s : List Slot) (point : Point) (n k : ℕ) → k + 1 < length_of (slot_at s n) → k < choices p s Cuts n
+unfolding choices
+cut_within p s point n k l = omega (arith, l)
+
+pub event_there : (p : Parts) (s : List Slot) (n : ℕ) (e : EventId) → AreWellMade p → AreTold p s → is_live (slot_at s n) ≡ true → (slot_at s n).event ≡ e → e.0 < length p.events
+event_there p s n e made told live same =
+    let has = live_event p s n made told live in
+    subst (λ (e : EventId). e.0 < length p.events) same (slice_get_within p.events (slot_at s n).event.0 has.0 has.1)

@@ -131,7 +131,7 @@ pub first_meet_with : (p : Parts) (s : List Slot) (rule : Rule) (r : ResourceId)
 unfolding is_meet_at
 first_meet_with p s rule r from t made told onward has none =
     let b = both_true _ _ has in
-    let there = place_there _ _ b.0 in
+    let there = place_there (slot_at s t.meet.0) t.place b.0 in
     let low : from ≤ t.meet.0 = elim onward [ inl l ↦ omega (arith, l) | inr q ↦ (let e = q.0 in omega (arith, e)) ] in
     (low,
       slot_below p s t.meet.0 made told there.0,
@@ -193,14 +193,14 @@ place_is p s rule point m k b live l e =
     ap (λ a. a && is_task_of p rule point (slot_at s m).event.0 k (given_at (slot_at s m) k)) (both_are _ _ live (lt-ltb _ _ l)) ∙ sym e
 
 pub place_past : (p : Parts) (s : List Slot) (rule : Rule) (point : Point) (m k : ℕ) → length (slot_at s m).given ≤ k → is_task_in p s rule point (record { meet = record { 0 = m }; place = k }) ≡ false
-place_past p s rule point m k l = false_unless _ (λ h. let w = (place_there _ _ (both_true _ _ h).0).1 in omega (arith, w, l))
+place_past p s rule point m k l = false_unless _ (λ h. let w = (place_there (slot_at s m) k (both_true _ _ h).0).1 in omega (arith, w, l))
 
 -- a task of a meet that the point does not name is not the monitor's
 pub task_unnamed : (p : Parts) (s : List Slot) (rule : Rule) (point : Point) (u : TaskId) → NamesItsTasks p rule point → is_named p s rule point u.meet.0 ≡ false → is_task_in p s rule point u ≡ false
 task_unnamed p s rule point u names h = false_unless _ (λ t.
     (let b = both_true _ _ t in
-    let own = named_may p s rule point u.meet.0 (record { live = (place_there _ _ b.0).0; names = names (slot_at s u.meet.0).event.0 u.place (given_at (slot_at s u.meet.0) u.place) b.1 }) in
+    let own = named_may p s rule point u.meet.0 (record { live = (place_there (slot_at s u.meet.0) u.place b.0).0; names = names (slot_at s u.meet.0).event.0 u.place (given_at (slot_at s u.meet.0) u.place) b.1 }) in
     true-false (sym own ∙ h)))
 
 pub task_below : (p : Parts) (s : List Slot) (rule : Rule) (point : Point) (u : TaskId) → AreWellMade p → AreTold p s → is_task_in p s rule point u ≡ true → u.meet.0 < meet_slots p
-task_below p s rule point u made told t = slot_below p s u.meet.0 made told (place_there _ _ (both_true _ _ t).0).0
+task_below p s rule point u made told t = slot_below p s u.meet.0 made told (place_there (slot_at s u.meet.0) u.place (both_true _ _ t).0).0

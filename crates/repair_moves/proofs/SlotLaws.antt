@@ -1,6 +1,7 @@
 -- What is known of the slots of a valid timetable by their numbers.
 use Rattle.std.proofs.Common.{ℕ, ◌≡◌, ◌+◌, ◌<◌, ◌≤◌, Bool, true, false, Option, Some, None, List, length, slice_get, get_or, refl, sym, ap, ◌∙◌, subst, arith, inl, inr}
-use Rattle.std.specs.Prelude.{All, is_some, replicate}
+use Rattle.std.specs.Prelude.{All, IfSome, is_some, replicate}
+use Rattle.std.specs.Option.{option_map_or}
 use Rattle.std.specs.List.{sum_by}
 use Rattle.std.proofs.lemmas.Bool.{cases_lt}
 use Rattle.std.proofs.lemmas.List.{get_or_past, get_or-replicate, length-replicate}
@@ -14,9 +15,10 @@ use Rattle.khe_instance.specs.declared.parts.Parts.{Parts}
 use Rattle.khe_instance.proofs.SlotsLemmas.{length-slots_from, slot-event}
 use Rattle.khe_told.proofs.FillingLaws.{slot_of}
 use Rattle.khe_told.specs.Fits.{AreTold, IsSlot}
-use Rattle.khe_told.specs.Slots.{is_live, given_at, no_slot, slot_at}
+use Rattle.khe_told.specs.Slots.{is_live, length_of, given_at, no_slot, slot_at}
 use Rattle.khe_told.specs.declared.slots.Slot.{Slot}
-use Rattle.khe_solution.proofs.Basics.{live_there, no_value}
+use Rattle.khe_told.specs.declared.slots.Span.{Span}
+use Rattle.khe_solution.proofs.Basics.{live_there, no_value, true-false}
 use Rattle.khe_solution.proofs.NumberLaws.{slots_told}
 use Rattle.khe_solution.proofs.Owners.{Owner, owner}
 use Rattle.repair_moves.specs.Items.{meet_slots}
@@ -57,3 +59,11 @@ none_given p s m k told h = elim (cases_lt m (length s)) [
   | inl l ↦ ap (λ xs. get_or xs k None) ((told_slot p s m told l).empty (no_value (slot_at s m).span h)) ∙ nothing (length (slot_at s m).given) k
   | inr g ↦ ap (λ (x : Slot). given_at x k) (get_or_past s m no_slot g)
 ]
+
+-- a live meet lasts at least one time
+pub live_long : (p : Parts) (s : List Slot) (m : ℕ) → AreTold p s → is_live (slot_at s m) ≡ true → 1 ≤ length_of (slot_at s m)
+live_long p s m told h = by_span (slot_at s m).span h (told_slot p s m told (live_there s m h)).duration
+  where
+    by_span : (o : Option Span) → is_some o ≡ true → IfSome o (λ (y : Span). 1 ≤ y.duration) → 1 ≤ option_map_or (λ (y : Span). y.duration) o 0
+    by_span None g l = absurd (true-false (sym g))
+    by_span (Some y) g l = l

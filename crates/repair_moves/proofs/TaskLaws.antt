@@ -2,6 +2,7 @@
 use Rattle.std.proofs.Common.{ℕ, zero, suc, ◌≡◌, ◌+◌, ◌<◌, ◌≤◌, Bool, true, false, ◌&&◌, ◌||◌, Option, Some, None, List, [], ◌∷◌, length, slice_get, get_or, refl, sym, ap, ◌∙◌, subst, arith, inl, inr, ◌⊎◌}
 use Rattle.std.specs.List.{list_any}
 use Rattle.std.proofs.lemmas.Bool.{cases_lt, ltb-true}
+use Rattle.std.proofs.lemmas.List.{get_or_past}
 use Rattle.std.proofs.lemmas.Option.{slice_get-get_or, same_Some}
 use Rattle.khe_base.specs.declared.numbers.TaskId.{TaskId}
 use Rattle.khe_instance.specs.Slots.{all_tasks, first_task}
@@ -34,6 +35,10 @@ pub record IsNumbered (p : Parts) (s : List Slot) (n : ℕ) (t : TaskId) : Type 
 task_listed : (p : Parts) (n : ℕ) → n < task_slots p → slice_get (all_tasks p.events) n ≡ Some (task_at p n)
 unfolding task_at
 task_listed p n l = let many = length-all_tasks p.events in slice_get-get_or (all_tasks p.events) n no_task (omega (arith, l, many))
+
+pub task_past : (p : Parts) (n : ℕ) → task_slots p ≤ n → task_at p n ≡ no_task
+unfolding task_at
+task_past p n l = let many = length-all_tasks p.events in get_or_past (all_tasks p.events) n no_task (omega (arith, l, many))
 
 pub task_numbered : (p : Parts) (s : List Slot) (n : ℕ) → AreWellMade p → AreTold p s → n < task_slots p → IsNumbered p s n (task_at p n)
 task_numbered p s n made told l =

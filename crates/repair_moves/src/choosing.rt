@@ -1,6 +1,6 @@
 //! The choices that a part has for one of its meets or tasks.
 
-ghost use Rattle.std.specs.Prelude.{◌≡◌, ◌<◌, ◌+◌, ◌^◌, IfSome, true, length};
+ghost use Rattle.std.specs.Prelude.{◌≡◌, ◌<◌, ◌+◌, ◌^◌, IfSome, true, not, length};
 ghost use Rattle.khe_solution.specs.Reading.{is_time};
 ghost use Rattle.khe_solution.specs.Refusing.{is_of_meets};
 ghost use Rattle.repair_moves.specs.Items.{meet_slots, task_slots};
@@ -9,7 +9,7 @@ ghost use Rattle.repair_moves.specs.Picked.{IsFirst};
 ghost use Rattle.repair_moves.specs.declared.parts.Part.TheVariants as kinds;
 
 use crate::parts::Part;
-use crate::reads::{accepts, facts, is_fixed_event, is_fixed_place, live, place_at, resource_at, task_at};
+use crate::reads::{accepts, facts, is_fixed_event, is_fixed_place, live, resource_at, task_at};
 use khe_base::{MeetId, ResourceId, TaskId, TimeId};
 use khe_instance::{Instance, Point};
 use khe_solution::Solution;
@@ -92,13 +92,13 @@ pub(crate) fn edit_of(
     }
 }
 
-/// Whether a time is the start, where there is one.
-fn is_start(start: Option<TimeId>, time: u32) -> bool
-    ensures { result ≡ is_time time start }
+/// Whether a time is another one than the start, or there is no start.
+fn is_elsewhere(start: Option<TimeId>, time: u32) -> bool
+    ensures { is_time time start ≡ not result }
 {
     match start {
-        Some(own) => own.0 == time,
-        None => false,
+        Some(own) => own.0 != time,
+        None => true,
     }
 }
 
@@ -115,7 +115,7 @@ fn next_time(inst: &Instance, solution: &Solution<'_>, point: Point, item: u32, 
     }
     let end = (inst.times() + 1).saturating_sub(own.duration);
     for time in from..end {
-        if !is_start(own.start, time) {
+        if is_elsewhere(own.start, time) {
             return Some(time);
         }
     }
@@ -130,7 +130,10 @@ fn next_swap(inst: &Instance, solution: &Solution<'_>, point: Point, item: u32, 
     ensures small { IfSome result (λ k. k + 1 < 2 ^ 32) }
 {
     let own = live(solution, item)?;
-    if is_fixed_event(inst, own.event) || own.start.is_none() {
+    if is_fixed_event(inst, own.event) {
+        return None;
+    }
+    if own.start.is_none() {
         return None;
     }
     for other in from..inst.meet_slots() {
@@ -152,10 +155,11 @@ fn next_cut(inst: &Instance, solution: &Solution<'_>, point: Point, item: u32, f
     ensures small { IfSome result (λ k. k + 1 < 2 ^ 32) }
 {
     let own = live(solution, item)?;
-    if is_fixed_event(inst, own.event) || own.duration.saturating_sub(1) <= from {
+    if is_fixed_event(inst, own.event) {
         return None;
     }
-    Some(from)
+    let end = own.duration.saturating_sub(1);
+    if from < end { Some(from) } else { None }
 }
 
 /// The first meet from a slot on with which a meet can be joined. It takes the time of the slots of
@@ -181,7 +185,7 @@ fn next_join(inst: &Instance, solution: &Solution<'_>, point: Point, item: u32, 
 }
 
 /// The first resource from one on that a task can be given. It takes the time of the resources that
-/// it goes over, and asks the table for those of the task's type alone.
+/// it goes over.
 fn next_resource(inst: &Instance, solution: &Solution<'_>, point: Point, item: u32, from: u32) -> Option<u32>
     requires { solution.now.parts ≡ inst.now }
     ensures next { IsFirst (is_choice inst.now solution.now.slots point kinds.TaskMoves item) from (length inst.now.resources) result }
@@ -189,15 +193,12 @@ fn next_resource(inst: &Instance, solution: &Solution<'_>, point: Point, item: u
 {
     let task = task_at(inst, item);
     let own = live(solution, task.meet.0)?;
-    let place = place_at(inst, own.event, task.place)?;
-    if place.fixed.is_some() {
+    if is_fixed_place(inst, own.event, task.place) {
         return None;
     }
     for number in from..inst.resources() {
-        let resource = ResourceId(number);
-        if inst.type_of(resource) == place.rtype
-            && accepts(inst, solution, task_move(inst, solution, task, resource))
-        {
+        let edit = task_move(inst, solution, task, ResourceId(number));
+        if accepts(inst, solution, edit) {
             return Some(number);
         }
     }
@@ -213,7 +214,10 @@ fn next_trade(inst: &Instance, solution: &Solution<'_>, point: Point, item: u32,
 {
     let task = task_at(inst, item);
     let own = live(solution, task.meet.0)?;
-    if is_fixed_place(inst, own.event, task.place) || resource_at(inst, solution, task).is_none() {
+    if is_fixed_place(inst, own.event, task.place) {
+        return None;
+    }
+    if resource_at(inst, solution, task).is_none() {
         return None;
     }
     for other in from..inst.task_slots() {
@@ -238,7 +242,10 @@ fn next_give(inst: &Instance, solution: &Solution<'_>, point: Point, item: u32, 
         task: task_at(inst, item),
         resource: resource_of(point),
     };
-    if from == 0 && accepts(inst, solution, edit) {
+    if from > 0 {
+        return None;
+    }
+    if accepts(inst, solution, edit) {
         Some(0)
     } else {
         None

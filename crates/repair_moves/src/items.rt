@@ -146,7 +146,8 @@ fn next_with(inst: &Instance, solution: &Solution<'_>, rule: &Rule, resource: Re
 #[tactic(auto, unfolding(crate::specs::Items::is_meet_at, crate::specs::Named::is_named))]
 fn next_meet(inst: &Instance, solution: &Solution<'_>, rule: &Rule, point: Point, from: u32) -> Option<u32>
     requires { solution.now.parts ≡ inst.now }
-    ensures { IsFirst (is_meet_at inst.now solution.now.slots rule.now point) from (meet_slots inst.now) result }
+    ensures next { IsFirst (is_meet_at inst.now solution.now.slots rule.now point) from (meet_slots inst.now) result }
+    ensures small { IfSome result (λ n. n + 1 < 2 ^ 32) }
 {
     match point {
         Point::Event(_) => next_named(inst, solution, rule, point, from),
@@ -265,7 +266,8 @@ fn number_of(inst: &Instance, task: TaskId) -> u32
 /// The first task slot from one on whose task is the monitor's.
 fn next_slot(inst: &Instance, solution: &Solution<'_>, rule: &Rule, point: Point, from: u32) -> Option<u32>
     requires { solution.now.parts ≡ inst.now }
-    ensures { IsFirst (is_task_at inst.now solution.now.slots rule.now point) from (task_slots inst.now) result }
+    ensures next { IsFirst (is_task_at inst.now solution.now.slots rule.now point) from (task_slots inst.now) result }
+    ensures small { IfSome result (λ n. n + 1 < 2 ^ 32) }
 {
     facts(inst, solution);
     if from >= inst.task_slots() {
@@ -312,7 +314,8 @@ fn may_be_given(inst: &Instance, solution: &Solution<'_>, point: Point, task: Ta
 /// over the tasks without a resource alone.
 fn next_open(inst: &Instance, solution: &Solution<'_>, point: Point, from: u32) -> Option<u32>
     requires { solution.now.parts ≡ inst.now }
-    ensures { IsFirst (is_open_at inst.now solution.now.slots point) from (task_slots inst.now) result }
+    ensures next { IsFirst (is_open_at inst.now solution.now.slots point) from (task_slots inst.now) result }
+    ensures small { IfSome result (λ n. n + 1 < 2 ^ 32) }
 {
     let mut next = from;
     while let Some(slot) = next_free(inst, solution, next) {

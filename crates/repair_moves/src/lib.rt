@@ -4,7 +4,6 @@
 
 mod choosing;
 mod cursors;
-mod examples;
 mod items;
 mod laws;
 mod moved;

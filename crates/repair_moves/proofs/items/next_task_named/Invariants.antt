@@ -7,8 +7,8 @@ use Rattle.repair_moves.proofs.items.next_task_named.Given as goal
 abbrev pub invariant-loop-meet : goal.invariant-loop-meet
 invariant-loop-meet l =
   record {
-    onward : IsFrom l.from l.at;
-    none : NoTaskBefore (is_task_in l.inst l.solution.slots l.rule l.point) l.from l.at;
+    onward : IsFrom l.fn.from l.at;
+    none : NoTaskBefore (is_task_in l.inst l.solution.slots l.rule l.point) l.fn.from l.at;
   }
 
 abbrev pub decreases-loop-meet : goal.decreases-loop-meet
