@@ -6,6 +6,7 @@ use Rattle.std.proofs.lemmas.Bool.{ltb-false, leb-false, le-ltb, lt-leb}
 use Rattle.std.proofs.lemmas.Bool.Decides.{nat_tests}
 use Rattle.std.proofs.lemmas.Option.{same_Some, slice_get_within}
 use Rattle.khe_base.specs.declared.numbers.EventId.{EventId}
+use Rattle.khe_base.specs.declared.numbers.ResourceId.{ResourceId}
 use Rattle.khe_base.specs.declared.numbers.TaskId.{TaskId}
 use Rattle.khe_base.specs.declared.numbers.TimeId.{TimeId}
 use Rattle.khe_instance.specs.Lookups.{place_at}
@@ -266,3 +267,16 @@ pub event_there : (p : Parts) (s : List Slot) (n : ℕ) (e : EventId) → AreWel
 event_there p s n e made told live same =
     let has = live_event p s n made told live in
     subst (λ (e : EventId). e.0 < length p.events) same (slice_get_within p.events (slot_at s n).event.0 has.0 has.1)
+
+-- what is read of the task of a task slot
+pub dead_at : (p : Parts) (s : List Slot) (n : ℕ) (t : TaskId) → t ≡ task_at p n → is_live (slot_at s t.meet.0) ≡ false → is_live (slot_at s (task_at p n).meet.0) ≡ false
+dead_at p s n t e h = subst (λ (u : TaskId). is_live (slot_at s u.meet.0) ≡ false) e h
+
+pub fixed_at : (p : Parts) (s : List Slot) (n : ℕ) (t : TaskId) (e : EventId) (b : Bool) → t ≡ task_at p n → (slot_at s t.meet.0).event ≡ e → is_fixed_place p e.0 t.place ≡ b
+    → is_fixed_place p (slot_at s (task_at p n).meet.0).event.0 (task_at p n).place ≡ b
+fixed_at p s n t e b is own h =
+    subst (λ (u : TaskId). is_fixed_place p (slot_at s u.meet.0).event.0 u.place ≡ b) is (ap (λ (x : EventId). is_fixed_place p x.0 t.place) own ∙ h)
+
+pub bare_at : (p : Parts) (s : List Slot) (n : ℕ) (t : TaskId) (r : Option ResourceId) → t ≡ task_at p n → r ≡ resource_at s t → is_none r ≡ true
+    → is_none (given_at (slot_at s (task_at p n).meet.0) (task_at p n).place) ≡ true
+bare_at p s n t r is own h = subst (λ (u : TaskId). is_none (given_at (slot_at s u.meet.0) u.place) ≡ true) is (ap is_none (sym own) ∙ h)

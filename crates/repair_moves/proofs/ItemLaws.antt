@@ -1,36 +1,42 @@
 -- The meets and tasks of a monitor, by their numbers.
 use Rattle.std.proofs.Common.{ℕ, zero, suc, ◌≡◌, ◌+◌, ◌<◌, ◌≤◌, Bool, true, false, ◌&&◌, Option, Some, None, List, [], ◌∷◌, length, slice_get, get_or, refl, sym, ap, ◌∙◌, subst, arith, inl, inr, ◌⊎◌}
-use Rattle.std.specs.Prelude.{◌==◌, ◌||◌}
+use Rattle.std.specs.Prelude.{◌==◌, ◌||◌, ◌^◌, IfSome, MatchOption, is_some, not}
 use Rattle.std.specs.List.{list_any, sum_by}
 use Rattle.std.proofs.lemmas.Bool.{cases_lt, lt-ltb}
+use Rattle.std.proofs.lemmas.Bool.Decides.{nat_tests}
 use Rattle.std.proofs.lemmas.List.Folds.{list_any_at}
 use Rattle.std.proofs.lemmas.List.Sums.{sum_by-cons}
 use Rattle.std.proofs.lemmas.Option.{same_Some}
 use Rattle.khe_base.specs.declared.numbers.EventId.{EventId}
 use Rattle.khe_base.specs.declared.numbers.ResourceId.{ResourceId}
 use Rattle.khe_base.specs.declared.numbers.TaskId.{TaskId}
-use Rattle.khe_instance.specs.Slots.{HasSlot}
-use Rattle.khe_instance.specs.Watching.{names_event}
+use Rattle.khe_instance.specs.Slots.{HasSlot, first_task}
+use Rattle.khe_instance.specs.Watching.{names_event, pair_names}
 use Rattle.khe_instance.specs.WellMade.{AreFirstMeets, AreWellMade}
 use Rattle.khe_instance.specs.declared.parts.EventInfo.{EventInfo}
 use Rattle.khe_instance.specs.declared.parts.Parts.{Parts}
 use Rattle.khe_instance.specs.declared.points.Point.{Point}
 use Rattle.khe_instance.specs.declared.points.Point.TheVariants.{EventGroup, EventResource, Resource}
+use Rattle.khe_instance.specs.declared.rules.EventPair.{EventPair}
 use Rattle.khe_instance.specs.declared.rules.Rule.{Rule}
+use Rattle.khe_instance.specs.declared.rules.Rule.TheVariants.{OrderEvents}
+use Rattle.std.specs.Option.{option_map_or}
 use Rattle.khe_told.proofs.FillingLaws.{slot_of}
+use Rattle.khe_told.proofs.OpeningLaws.{few_places}
 use Rattle.khe_told.specs.Fits.{AreTold}
 use Rattle.khe_told.specs.Slots.{is_live, given_at, slot_at}
 use Rattle.khe_told.specs.declared.slots.Slot.{Slot}
 use Rattle.khe_solution.specs.NextTask.{IsBefore, IsFrom, has_task}
-use Rattle.khe_solution.specs.Reading.{has_place, is_resource}
+use Rattle.khe_instance.specs.declared.states.Meet.{Meet}
+use Rattle.khe_solution.specs.Reading.{Shows, has_place, is_resource}
 use Rattle.khe_solution.proofs.Basics.{true-false}
-use Rattle.repair_moves.specs.Items.{is_meet_at, is_task_in, is_task_of, meet_slots}
-use Rattle.repair_moves.specs.Named.{AreSlotsOf, AreWithin, NamesItsTasks, is_named}
+use Rattle.repair_moves.specs.Items.{is_meet_at, is_task_in, is_task_of, is_free_at, is_open_at, may_be_given, meet_slots, task_at, task_slots}
+use Rattle.repair_moves.specs.Named.{AreSlotsOf, AreWithin, NamesItsTasks, is_named, pair_at}
 use Rattle.repair_moves.specs.Picked.{IsFirst, NonePass}
 use Rattle.repair_moves.specs.Tasks.{NoTask, NoTaskBefore}
 use Rattle.repair_moves.proofs.PickedLaws.{false_unless}
-use Rattle.repair_moves.proofs.SlotLaws.{live_event, slot_below}
-use Rattle.repair_moves.proofs.TaskLaws.{any_place, both_true, place_there}
+use Rattle.repair_moves.proofs.SlotLaws.{live_event, live_owner, slot_below}
+use Rattle.repair_moves.proofs.TaskLaws.{any_place, both_true, place_there, task_number, there_in}
 
 -- the slots of an event end with all slots or before
 pub event_within : (next k : ℕ) (events : List EventInfo) (e : EventInfo) → AreFirstMeets next events → slice_get events k ≡ Some e
@@ -204,3 +210,94 @@ task_unnamed p s rule point u names h = false_unless _ (λ t.
 
 pub task_below : (p : Parts) (s : List Slot) (rule : Rule) (point : Point) (u : TaskId) → AreWellMade p → AreTold p s → is_task_in p s rule point u ≡ true → u.meet.0 < meet_slots p
 task_below p s rule point u made told t = slot_below p s u.meet.0 made told (place_there (slot_at s u.meet.0) u.place (both_true _ _ t).0).0
+
+pub live_some : (x : Slot) (r : Option Meet) (b : Bool) → MatchOption r (is_live x ≡ false) (Shows x) → b ≡ is_some r → b ≡ true → is_live x ≡ true
+live_some x None b h e t = absurd (true-false (sym t ∙ e))
+live_some x (Some m) b h e t = h.live
+
+pub live_none : (x : Slot) (r : Option Meet) (b : Bool) → MatchOption r (is_live x ≡ false) (Shows x) → b ≡ is_some r → b ≡ false → is_live x ≡ false
+live_none x None b h e t = h
+live_none x (Some m) b h e t = absurd (true-false (sym e ∙ t))
+
+pub not_yes : (b : Bool) → not b ≡ true → b ≡ false
+not_yes true h = absurd (true-false (sym h))
+not_yes false h = refl
+
+-- the numbers of slots are small
+pub meet_small : (p : Parts) (test : ℕ → Bool) (from : ℕ) (r : Option ℕ) → AreWellMade p → IsFirst test from (meet_slots p) r → IfSome r (λ n. n + 1 < 2 ^ 32)
+meet_small p test from None made h = tt
+meet_small p test from (Some n) made h = let l = h.1 in let d = made.limits.duration in omega (arith, l, d)
+
+pub task_small : (p : Parts) (test : ℕ → Bool) (from : ℕ) (r : Option ℕ) → AreWellMade p → IsFirst test from (task_slots p) r → IfSome r (λ n. n + 1 < 2 ^ 32)
+task_small p test from None made h = tt
+task_small p test from (Some n) made h = let l = h.1 in let d = made.limits.tasks in omega (arith, l, d)
+
+pub same_true : (a b : ℕ) → (a == b) ≡ true → b ≡ a
+same_true a b h = grind (arith, nat_tests)
+
+pub or_true : (a b : Bool) → (a || b) ≡ true → (a ≡ true) ⊎ (b ≡ true)
+or_true true b h = inl refl
+or_true false b h = inr h
+
+pub meet_below : (p : Parts) (s : List Slot) (t : TaskId) → AreWellMade p → AreTold p s → (is_live (slot_at s t.meet.0) ≡ true) × (t.place < length (slot_at s t.meet.0).given) → t.meet.0 < meet_slots p
+meet_below p s t made told h = slot_below p s t.meet.0 made told h.0
+
+pub number_small : (p : Parts) (s : List Slot) (t : TaskId) → AreWellMade p → AreTold p s → (is_live (slot_at s t.meet.0) ≡ true) × (t.place < length (slot_at s t.meet.0).given) → first_task p.events t.meet.0 + t.place < 2 ^ 32
+number_small p s t made told h = let l = (task_number p s t made told h.1).0 in let d = made.limits.tasks in omega (arith, l, d)
+
+-- tasks without a resource
+
+pub open_live : (p : Parts) (s : List Slot) (n : ℕ) (t : TaskId) → is_free_at p s n ≡ true → t ≡ task_at p n → is_live (slot_at s t.meet.0) ≡ true
+unfolding is_free_at
+open_live p s n t h e = subst (λ (u : TaskId). is_live (slot_at s u.meet.0) ≡ true) (sym e) (there_in s (task_at p n) _ h).0
+
+pub open_may : (p : Parts) (s : List Slot) (point : Point) (n : ℕ) (t : TaskId) (b : Bool) → is_free_at p s n ≡ true → t ≡ task_at p n → b ≡ may_be_given p point (slot_at s t.meet.0) t.place → is_open_at p s point n ≡ b
+unfolding is_open_at
+open_may p s point n t b h e g =
+    ap (λ a. a && may_be_given p point (slot_at s (task_at p n).meet.0) (task_at p n).place) h
+    ∙ sym (ap (λ (u : TaskId). may_be_given p point (slot_at s u.meet.0) u.place) e) ∙ sym g
+
+pub open_free : (p : Parts) (s : List Slot) (point : Point) (n : ℕ) → is_free_at p s n ≡ false → is_open_at p s point n ≡ false
+unfolding is_open_at
+open_free p s point n h = ap (λ a. a && may_be_given p point (slot_at s (task_at p n).meet.0) (task_at p n).place) h
+
+-- the places of a live meet's event
+owned : (p : Parts) (s : List Slot) (m : ℕ) (event : EventInfo) → AreTold p s → is_live (slot_at s m) ≡ true → slice_get p.events (slot_at s m).event.0 ≡ Some event → length event.places ≡ length (slot_at s m).given
+owned p s m event told live at =
+    let o = live_owner p s m told live in
+    ap (λ (x : EventInfo). length x.places) (same_Some event o.event (sym at ∙ o.there)) ∙ o.places
+
+pub places_are : (p : Parts) (s : List Slot) (m : ℕ) (e : EventId) (event : EventInfo) → AreTold p s → is_live (slot_at s m) ≡ true → (slot_at s m).event ≡ e → slice_get p.events e.0 ≡ Some event
+    → length event.places ≡ length (slot_at s m).given
+places_are p s m e event told live same at = owned p s m event told live (ap (λ (x : EventId). slice_get p.events x.0) same ∙ at)
+
+pub place_has : (x : Slot) (k : ℕ) → is_live x ≡ true → k < length x.given → has_place x k ≡ true
+place_has x k live l = both_are _ _ live (lt-ltb _ _ l)
+
+pub places_few : (p : Parts) (s : List Slot) (m : ℕ) (e : EventId) (event : EventInfo) → AreWellMade p → AreTold p s → is_live (slot_at s m) ≡ true → (slot_at s m).event ≡ e → slice_get p.events e.0 ≡ Some event
+    → length event.places < 2 ^ 32
+places_few p s m e event made told live same at =
+    let has = live_event p s m made told live in
+    let l = few_places p m (slot_at s m).event.0 event made.first_meets has (ap (λ (x : EventId). slice_get p.events x.0) same ∙ at) in
+    let d = made.limits.tasks in
+    omega (arith, l, d)
+
+pub place_told : (p : Parts) (s : List Slot) (rule : Rule) (point : Point) (u : TaskId) (m : ℕ) → u.meet.0 ≡ m → is_task_in p s rule point (record { meet = record { 0 = m }; place = u.place }) ≡ false
+    → is_task_in p s rule point u ≡ false
+place_told p s rule point u m e h = ap (λ j. is_task_in p s rule point (record { meet = record { 0 = j }; place = u.place })) e ∙ h
+
+-- the pair that a point names
+
+pair_named : (r : Rule) (k e : ℕ) → pair_names r k e ≡ option_map_or (λ (q : EventPair). (q.first.0 == e) || (q.second.0 == e)) (pair_at r k) false
+pair_named (OrderEvents pairs) k e = refl
+pair_named _ k e = refl
+
+pub pair_none : (r : Rule) (k e : ℕ) → pair_at r k ≡ None → pair_names r k e ≡ false
+pair_none r k e h = pair_named r k e ∙ ap (λ (o : Option EventPair). option_map_or (λ (q : EventPair). (q.first.0 == e) || (q.second.0 == e)) o false) h
+
+pub pair_some : (r : Rule) (k e : ℕ) (q : EventPair) → pair_at r k ≡ Some q → pair_names r k e ≡ true → (e ≡ q.first.0) ⊎ (e ≡ q.second.0)
+pair_some r k e q h t =
+    elim (or_true (q.first.0 == e) (q.second.0 == e) (sym (pair_named r k e ∙ ap (λ (o : Option EventPair). option_map_or (λ (q : EventPair). (q.first.0 == e) || (q.second.0 == e)) o false) h) ∙ t)) [
+      | inl a ↦ inl (same_true q.first.0 e a)
+      | inr a ↦ inr (same_true q.second.0 e a)
+    ]

@@ -148,12 +148,25 @@ reached from at m k h far low = elim h [
 ]
 
 pub none_between : (test : TaskId → Bool) (from at : TaskId) (m k : ℕ) → NoTaskBefore test from at
-    → ((u : TaskId) → at.meet.0 ≤ u.meet.0 → u.meet.0 < m → test u ≡ false) → ((u : TaskId) → u.meet.0 ≡ m → (at.meet.0 ≡ m → at.place ≤ u.place) → u.place < k → test u ≡ false)
+    → ((u : TaskId) → IsFrom at u → u.meet.0 < m → test u ≡ false) → ((u : TaskId) → IsFrom at u → u.meet.0 ≡ m → u.place < k → test u ≡ false)
     → NoTaskBefore test from (record { meet = record { 0 = m }; place = k })
 none_between test from at m k none between own u f b = elim (order_of u at) [
   | inl early ↦ none u f early
-  | inr late ↦ (let past : at.meet.0 ≤ u.meet.0 = elim late [ inl a ↦ omega (arith, a) | inr a ↦ (let e = a.0 in omega (arith, e)) ] in elim b [
-    | inl c ↦ between u past c
-    | inr c ↦ own u c.0 (λ same. (let e = c.0 in elim late [ inl a ↦ absurd (omega (arith, a, same, e)) | inr a ↦ a.1 ])) c.1
+  | inr late ↦ elim b [ inl c ↦ between u late c | inr c ↦ own u late c.0 c.1 ]
+]
+
+pub from_meet : (at u : TaskId) → IsFrom at u → at.meet.0 ≤ u.meet.0
+from_meet at u h = elim h [ inl a ↦ omega (arith, a) | inr a ↦ (let e = a.0 in omega (arith, e)) ]
+
+-- the first place of a meet that is looked at, where a task does not come before another
+pub start_low : (at u : TaskId) (m start : ℕ) → at.meet.0 ≤ m → (at.meet.0 ≡ m → start ≡ at.place) → (at.meet.0 < m → start ≡ 0) → u.meet.0 ≡ m → IsFrom at u → start ≤ u.place
+start_low at u m start far here later e h = elim (cases_lt at.meet.0 m) [
+  | inl l ↦ (let z = later l in omega (arith, z))
+  | inr g ↦ (let same : at.meet.0 ≡ m = omega (arith, far, g) in let z = here same in elim h [
+    | inl a ↦ absurd (omega (arith, a, e, g))
+    | inr a ↦ (let q = a.1 in omega (arith, z, q))
   ])
 ]
+
+pub there_in : (s : List Slot) (t : TaskId) (b : Bool) → (has_place (slot_at s t.meet.0) t.place && b) ≡ true → (is_live (slot_at s t.meet.0) ≡ true) × (t.place < places (slot_at s t.meet.0))
+there_in s t b h = place_there (slot_at s t.meet.0) t.place (both_true _ _ h).0

@@ -7,7 +7,7 @@ ghost use Rattle.khe_instance.specs.Lookups.{place_at, role_at};
 ghost use Rattle.khe_told.specs.Slots.{slot_at, is_live};
 ghost use Rattle.repair_moves.specs.Items.{is_free_at, is_item, is_meet_at, is_open_at, is_task_at, is_task_in, is_task_of, item_slots, may_be_given, meet_slots, task_slots, wants_role};
 ghost use Rattle.khe_instance.specs.Slots.{first_task};
-ghost use Rattle.repair_moves.specs.Named.{AreSlotsOf, AreWithin, NamesItsTasks, is_named};
+ghost use Rattle.repair_moves.specs.Named.{AreSlotsOf, AreWithin, NamesItsTasks, is_named, pair_at};
 ghost use Rattle.repair_moves.specs.Picked.{IsFirst};
 ghost use Rattle.repair_moves.specs.Tasks.{IsAlways, IsFirstPlace, IsFirstTask};
 ghost use Rattle.khe_instance.specs.declared.points.Point.TheVariants.{EventPair as AtPair, Resource as AtResource};
@@ -15,7 +15,7 @@ ghost use Rattle.khe_instance.specs.declared.points.Point.TheVariants.{EventPair
 use crate::parts::Part;
 use crate::reads::{facts, live, place_at, task_at};
 use khe_base::{EventId, MeetId, ResourceId, TaskId, Text};
-use khe_instance::{Instance, Point, Rule};
+use khe_instance::{EventPair, Instance, Point, Rule};
 use khe_solution::Solution;
 
 /// The numbers from `start` to the one before `end`.
@@ -73,6 +73,7 @@ fn slots_of(inst: &Instance, event: EventId) -> Bounds
 fn named_within(inst: &Instance, rule: &Rule, point: Point) -> Bounds
     ensures { AreWithin inst.now rule.now point result.start result.end }
 {
+    inst.facts();
     match point {
         Point::Event(event) => slots_of(inst, event),
         Point::EventResource { event, .. } => slots_of(inst, event),
@@ -85,15 +86,21 @@ fn named_within(inst: &Instance, rule: &Rule, point: Point) -> Bounds
     }
 }
 
+/// The pair with a number of a rule's list.
+fn pair_of(rule: &Rule, pair: u32) -> Option<EventPair>
+    ensures { result ≡ pair_at rule.now pair }
+{
+    let Rule::OrderEvents { pairs } = rule else {
+        return None;
+    };
+    pairs.as_slice().get(pair as usize).copied()
+}
+
 /// Meet slots among which are those of both events of a rule's pair.
 fn pair_within(inst: &Instance, rule: &Rule, pair: u32) -> Bounds
     ensures { AreWithin inst.now rule.now (AtPair pair) result.start result.end }
 {
-    let none = Bounds { start: 0, end: 0 };
-    let Rule::OrderEvents { pairs } = rule else {
-        return none;
-    };
-    match pairs.as_slice().get(pair as usize) {
+    match pair_of(rule, pair) {
         Some(own) => {
             let first = slots_of(inst, own.first);
             let second = slots_of(inst, own.second);
@@ -102,7 +109,7 @@ fn pair_within(inst: &Instance, rule: &Rule, pair: u32) -> Bounds
                 end: first.end.max(second.end),
             }
         }
-        None => none,
+        None => Bounds { start: 0, end: 0 },
     }
 }
 
@@ -146,8 +153,7 @@ fn next_with(inst: &Instance, solution: &Solution<'_>, rule: &Rule, resource: Re
 #[tactic(auto, unfolding(crate::specs::Items::is_meet_at, crate::specs::Named::is_named))]
 fn next_meet(inst: &Instance, solution: &Solution<'_>, rule: &Rule, point: Point, from: u32) -> Option<u32>
     requires { solution.now.parts ≡ inst.now }
-    ensures next { IsFirst (is_meet_at inst.now solution.now.slots rule.now point) from (meet_slots inst.now) result }
-    ensures small { IfSome result (λ n. n + 1 < 2 ^ 32) }
+    ensures { IsFirst (is_meet_at inst.now solution.now.slots rule.now point) from (meet_slots inst.now) result }
 {
     match point {
         Point::Event(_) => next_named(inst, solution, rule, point, from),
@@ -223,6 +229,7 @@ fn next_task_named(inst: &Instance, solution: &Solution<'_>, rule: &Rule, point:
     requires named { NamesItsTasks inst.now rule.now point }
     ensures { IsFirstTask (is_task_in inst.now solution.now.slots rule.now point) from result }
 {
+    facts(inst, solution);
     let mut at = from;
     while let Some(meet) = next_named(inst, solution, rule, point, at.meet.0) {
         let start = place_from(at, meet);
@@ -266,8 +273,7 @@ fn number_of(inst: &Instance, task: TaskId) -> u32
 /// The first task slot from one on whose task is the monitor's.
 fn next_slot(inst: &Instance, solution: &Solution<'_>, rule: &Rule, point: Point, from: u32) -> Option<u32>
     requires { solution.now.parts ≡ inst.now }
-    ensures next { IsFirst (is_task_at inst.now solution.now.slots rule.now point) from (task_slots inst.now) result }
-    ensures small { IfSome result (λ n. n + 1 < 2 ^ 32) }
+    ensures { IsFirst (is_task_at inst.now solution.now.slots rule.now point) from (task_slots inst.now) result }
 {
     facts(inst, solution);
     if from >= inst.task_slots() {
@@ -314,9 +320,9 @@ fn may_be_given(inst: &Instance, solution: &Solution<'_>, point: Point, task: Ta
 /// over the tasks without a resource alone.
 fn next_open(inst: &Instance, solution: &Solution<'_>, point: Point, from: u32) -> Option<u32>
     requires { solution.now.parts ≡ inst.now }
-    ensures next { IsFirst (is_open_at inst.now solution.now.slots point) from (task_slots inst.now) result }
-    ensures small { IfSome result (λ n. n + 1 < 2 ^ 32) }
+    ensures { IsFirst (is_open_at inst.now solution.now.slots point) from (task_slots inst.now) result }
 {
+    facts(inst, solution);
     let mut next = from;
     while let Some(slot) = next_free(inst, solution, next) {
         if may_be_given(inst, solution, point, task_at(inst, slot)) {
@@ -341,6 +347,7 @@ pub(crate) fn next_item(
     ensures next { IsFirst (is_item inst.now solution.now.slots rule.now point part) from (item_slots inst.now part) result }
     ensures small { IfSome result (λ n. n + 1 < 2 ^ 32) }
 {
+    facts(inst, solution);
     match part {
         Part::TimeMoves => next_meet(inst, solution, rule, point, from),
         Part::SwapMoves => next_meet(inst, solution, rule, point, from),

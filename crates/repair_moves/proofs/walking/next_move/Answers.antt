@@ -1,10 +1,18 @@
 use Rattle.std.proofs.Common.{◌≡◌, ◌∷◌, ◌+◌, ◌<◌, ◌≤◌, [], List, ap, sym, ◌∙◌, arith, length, subst, refl, Some, slice_get}
-use Rattle.std.proofs.lemmas.Option.{slice_get-get_or}
+use Rattle.std.proofs.lemmas.Option.{slice_get-get_or, slice_get_within}
+use Rattle.khe_base.proofs.ListLemmas.{all-there}
+use Rattle.khe_instance.specs.WellMade.{IsMonitor}
 use Rattle.repair_moves.specs.Cursors.{ahead}
 use Rattle.repair_moves.specs.declared.cursors.Cursor.{Cursor}
 use Rattle.repair_moves.specs.declared.parts.Part.TheVariants.{TimeMoves}
 use Rattle.repair_moves.proofs.WalkLaws as walks
 use Rattle.repair_moves.proofs.walking.next_move.Goals as goal
+
+pub constraint-requires : goal.constraint-requires
+constraint-requires c =
+    let p = c.args.inst.now in
+    let m = all-there (IsMonitor p) p.monitors c.args.cursor.now.monitor.0 c.monitor-monitor.result c.facts.ensures.monitors.each c.monitor-monitor.ensures in
+    slice_get_within p.constraints c.monitor-monitor.result.constraint m.0 m.1
 
 pub loop-part-init : goal.loop-part-init
 loop-part-init c = record {
