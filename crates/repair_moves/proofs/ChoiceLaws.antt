@@ -234,6 +234,10 @@ place_dead p s point n k h = false_unless _ (λ t. true-false (sym (place_there 
 pub trade_dead : (p : Parts) (s : List Slot) (point : Point) (n k : ℕ) → is_live (slot_at s (task_at p n).meet.0) ≡ false → is_choice p s point TradeMoves n k ≡ false
 trade_dead p s point n k h = false_unless _ (λ t. true-false (sym (place_there (slot_at s (task_at p n).meet.0) (task_at p n).place (trade_move_is p s point n k t).there).0 ∙ h))
 
+pub none_unless : {A : Type 0} (o : Option A) → is_some o ≡ false → is_none o ≡ true
+none_unless None h = refl
+none_unless (Some a) h = absurd (true-false h)
+
 pub some_unless : {A : Type 0} (o : Option A) → is_none o ≡ true → is_some o ≡ false
 some_unless None h = refl
 some_unless (Some a) h = absurd (true-false (sym h))

@@ -6,7 +6,11 @@ use Rattle.std.proofs.lemmas.Bool.{cases_lt, lt-ltb}
 use Rattle.std.proofs.lemmas.Bool.Decides.{nat_tests}
 use Rattle.std.proofs.lemmas.List.Folds.{list_any_at}
 use Rattle.std.proofs.lemmas.List.Sums.{sum_by-cons}
-use Rattle.std.proofs.lemmas.Option.{same_Some}
+use Rattle.std.proofs.lemmas.Option.{same_Some, slice_get_within}
+use Rattle.std.proofs.lemmas.List.{get_or_past}
+use Rattle.khe_base.proofs.ListLemmas.{there}
+use Rattle.khe_instance.specs.Lookups.{place_at}
+use Rattle.khe_instance.specs.declared.parts.Place.{Place}
 use Rattle.khe_base.specs.declared.numbers.EventId.{EventId}
 use Rattle.khe_base.specs.declared.numbers.ResourceId.{ResourceId}
 use Rattle.khe_base.specs.declared.numbers.TaskId.{TaskId}
@@ -20,7 +24,7 @@ use Rattle.khe_instance.specs.declared.points.Point.TheVariants.{EventGroup, Eve
 use Rattle.khe_instance.specs.declared.rules.EventPair.{EventPair}
 use Rattle.khe_instance.specs.declared.rules.Rule.{Rule}
 use Rattle.khe_instance.specs.declared.rules.Rule.TheVariants.{OrderEvents}
-use Rattle.std.specs.Option.{option_map_or}
+use Rattle.std.specs.Option.{option_and_then, option_map_or}
 use Rattle.khe_told.proofs.FillingLaws.{slot_of}
 use Rattle.khe_told.proofs.OpeningLaws.{few_places}
 use Rattle.khe_told.specs.Fits.{AreTold}
@@ -29,7 +33,7 @@ use Rattle.khe_told.specs.declared.slots.Slot.{Slot}
 use Rattle.khe_solution.specs.NextTask.{IsBefore, IsFrom, has_task}
 use Rattle.khe_instance.specs.declared.states.Meet.{Meet}
 use Rattle.khe_solution.specs.Reading.{Shows, has_place, is_resource}
-use Rattle.khe_solution.proofs.Basics.{true-false}
+use Rattle.khe_solution.proofs.Basics.{there-none, true-false}
 use Rattle.repair_moves.specs.Items.{is_meet_at, is_task_in, is_task_of, is_free_at, is_open_at, may_be_given, meet_slots, task_at, task_slots}
 use Rattle.repair_moves.specs.Named.{AreSlotsOf, AreWithin, NamesItsTasks, is_named, pair_at}
 use Rattle.repair_moves.specs.Picked.{IsFirst, NonePass}
@@ -300,4 +304,27 @@ pair_some r k e q h t =
     elim (or_true (q.first.0 == e) (q.second.0 == e) (sym (pair_named r k e ∙ ap (λ (o : Option EventPair). option_map_or (λ (q : EventPair). (q.first.0 == e) || (q.second.0 == e)) o false) h) ∙ t)) [
       | inl a ↦ inl (same_true q.first.0 e a)
       | inr a ↦ inr (same_true q.second.0 e a)
+    ]
+
+-- a place of a live meet's event, and a place that the event doesn't have
+at_owner : (p : Parts) (s : List Slot) (m k : ℕ) (e : EventId) → (told : AreTold p s) → (live : is_live (slot_at s m) ≡ true) → (slot_at s m).event ≡ e
+    → place_at p.events e.0 k ≡ slice_get (live_owner p s m told live).event.places k
+at_owner p s m k e told live same =
+    ap (λ (x : EventId). place_at p.events x.0 k) (sym same)
+    ∙ ap (λ (o : Option EventInfo). option_and_then (λ (event : EventInfo). slice_get event.places k) o) (live_owner p s m told live).there
+
+pub place_some : (p : Parts) (s : List Slot) (m k : ℕ) (e : EventId) (q : Place) → AreTold p s → is_live (slot_at s m) ≡ true → (slot_at s m).event ≡ e → place_at p.events e.0 k ≡ Some q → has_place (slot_at s m) k ≡ true
+place_some p s m k e q told live same h =
+    let o = live_owner p s m told live in
+    let l = slice_get_within o.event.places k q (sym (at_owner p s m k e told live same) ∙ h) in
+    let n = o.places in
+    place_has (slot_at s m) k live (omega (arith, l, n))
+
+pub place_nothing : (p : Parts) (s : List Slot) (m k : ℕ) (e : EventId) → AreTold p s → is_live (slot_at s m) ≡ true → (slot_at s m).event ≡ e → place_at p.events e.0 k ≡ None → given_at (slot_at s m) k ≡ None
+place_nothing p s m k e told live same h =
+    let o = live_owner p s m told live in
+    let n = o.places in
+    elim (cases_lt k (length (slot_at s m).given)) [
+      | inl l ↦ (let a = there o.event.places k (omega (arith, l, n)) in absurd (there-none a.value (sym a.found ∙ sym (at_owner p s m k e told live same) ∙ h)))
+      | inr g ↦ get_or_past (slot_at s m).given k None g
     ]

@@ -69,11 +69,9 @@ pub(crate) fn resource_at(
 {
     facts(inst, solution);
     let own = live(solution, task.meet.0)?;
-    let places = inst.event(own.event).places.as_slice();
-    if (task.place as usize) < places.len() {
-        solution.resource(task)
-    } else {
-        None
+    match place_at(inst, own.event, task.place) {
+        Some(_) => solution.resource(task),
+        None => None,
     }
 }
 

@@ -18,7 +18,7 @@ pub returns-then-is_fixed_event-clause-next : goal.returns-then-is_fixed_event-c
 returns-then-is_fixed_event-clause-next c = λ k a b. laws.swap_fixed c.args.inst.now c.args.solution.now.slots c.args.point c.args.item k (ap (λ (e : EventId). is_fixed_event c.args.inst.now e.0) c.in_ok-own.ensures.event ∙ sym c.is_fixed_event.ensures ∙ c.if-is_fixed_event.true)
 
 pub returns-then-is_none-clause-next : goal.returns-then-is_none-clause-next
-returns-then-is_none-clause-next c = λ k a b. laws.swap_unplaced c.args.inst.now c.args.solution.now.slots c.args.point c.args.item k (ap is_some c.in_ok-own.ensures.start ∙ laws.some_unless c.in_ok-own.own.start (sym c.is_none.ensures ∙ c.if-is_none.true))
+returns-then-is_none-clause-next c = λ k a b. laws.swap_unplaced c.args.inst.now c.args.solution.now.slots c.args.point c.args.item k (ap is_some c.in_ok-own.ensures.start ∙ c.is_none.ensures ∙ ap not c.if-is_none.true)
 
 pub returns-then-accepts-clause-next : goal.returns-then-accepts-clause-next
 returns-then-accepts-clause-next c = 

@@ -20,7 +20,7 @@ pub returns-then-is_fixed_place-clause-next : goal.returns-then-is_fixed_place-c
 returns-then-is_fixed_place-clause-next c = λ k a b. laws.trade_fixed c.args.inst.now c.args.solution.now.slots c.args.point c.args.item k (laws.fixed_at c.args.inst.now c.args.solution.now.slots c.args.item c.task_at-task.result c.in_ok-own.own.event true c.task_at-task.ensures c.in_ok-own.ensures.event (sym c.is_fixed_place.ensures ∙ c.if-is_fixed_place.true))
 
 pub returns-then-is_none-clause-next : goal.returns-then-is_none-clause-next
-returns-then-is_none-clause-next c = λ k a b. laws.trade_bare c.args.inst.now c.args.solution.now.slots c.args.point c.args.item k (laws.bare_at c.args.inst.now c.args.solution.now.slots c.args.item c.task_at-task.result c.resource_at.result c.task_at-task.ensures c.resource_at.ensures (sym c.is_none.ensures ∙ c.if-is_none.true))
+returns-then-is_none-clause-next c = λ k a b. laws.trade_bare c.args.inst.now c.args.solution.now.slots c.args.point c.args.item k (laws.bare_at c.args.inst.now c.args.solution.now.slots c.args.item c.task_at-task.result c.resource_at.result c.task_at-task.ensures c.resource_at.ensures (laws.none_unless c.resource_at.result (c.is_none.ensures ∙ ap not c.if-is_none.true)))
 
 pub returns-then-accepts-clause-next : goal.returns-then-accepts-clause-next
 returns-then-accepts-clause-next c = 

@@ -43,7 +43,7 @@ loop-meet-preserved c =
       none = tasks.none_between (is_task_in c.args.inst.now c.args.solution.now.slots c.args.rule.now c.args.point) c.args.from at (m + 1) 0 c.loop-meet.invariant.none
           (λ u f l. elim (cases_lt u.meet.0 m) [
             | inl b ↦ laws.task_unnamed c.args.inst.now c.args.solution.now.slots c.args.rule.now c.args.point u c.requires.named (c.in-Some.ensures.3 u.meet.0 (tasks.from_meet at u f) b)
-            | inr b ↦ (let e : u.meet.0 ≡ m = omega (arith, b, l) in laws.place_told c.args.inst.now c.args.solution.now.slots c.args.rule.now c.args.point u m e (c.in_default.ensures u.place (tasks.start_low c.loop-meet.at u m c.place_from-start.result far c.place_from-start.ensures.here c.place_from-start.ensures.later e f)))
+            | inr b ↦ (let e : u.meet.0 ≡ m = omega (arith, b, l) in laws.place_told c.args.inst.now c.args.solution.now.slots c.args.rule.now c.args.point u m e (c.in_default-next_place.ensures u.place (tasks.start_low c.loop-meet.at u m c.place_from-start.result far c.place_from-start.ensures.here c.place_from-start.ensures.later e f)))
           ])
           (λ u f e l. absurd (omega (arith, l)));
     }

@@ -12,19 +12,9 @@ use Rattle.repair_moves.proofs.PickedLaws.{none_more, none_on}
 use Rattle.repair_moves.proofs.TaskLaws as tasks
 use Rattle.repair_moves.proofs.reads.resource_at.Goals as goal
 
-use Rattle.std.proofs.lemmas.List.{get_or_past}
-
-pub event-requires : goal.event-requires
-event-requires c = choices.event_there c.args.inst.now c.args.solution.now.slots c.args.task.meet.0 c.in_ok-own.own.event c.facts.ensures.made c.facts.ensures.valid.told c.in_ok-own.ensures.live c.in_ok-own.ensures.event
 
 pub resource-requires : goal.resource-requires
-resource-requires c = 
-    let n = (laws.places_are c.args.inst.now c.args.solution.now.slots c.args.task.meet.0 c.in_ok-own.own.event c.event.result.now c.facts.ensures.valid.told c.in_ok-own.ensures.live c.in_ok-own.ensures.event c.event.ensures) in
-    let l = c.if-task-places.true in
-    laws.place_has (slot_at c.args.solution.now.slots c.args.task.meet.0) c.args.task.place c.in_ok-own.ensures.live (omega arith)
+resource-requires c = laws.place_some c.args.inst.now c.args.solution.now.slots c.args.task.meet.0 c.args.task.place c.in_ok-own.own.event _ c.facts.ensures.valid.told c.in_ok-own.ensures.live c.in_ok-own.ensures.event c.in-Some.ensures
 
-pub returns-else-task-places : goal.returns-else-task-places
-returns-else-task-places c = 
-    let n = (laws.places_are c.args.inst.now c.args.solution.now.slots c.args.task.meet.0 c.in_ok-own.own.event c.event.result.now c.facts.ensures.valid.told c.in_ok-own.ensures.live c.in_ok-own.ensures.event c.event.ensures) in
-    let l = c.if-task-places.false in
-    sym (get_or_past (slot_at c.args.solution.now.slots c.args.task.meet.0).given c.args.task.place None (omega arith))
+pub returns-in-None : goal.returns-in-None
+returns-in-None c = sym (laws.place_nothing c.args.inst.now c.args.solution.now.slots c.args.task.meet.0 c.args.task.place c.in_ok-own.own.event c.facts.ensures.valid.told c.in_ok-own.ensures.live c.in_ok-own.ensures.event c.in-None.ensures)
