@@ -142,13 +142,14 @@ unfolding is_meet_at
 first_meet_with p s rule r from t made told onward has none =
     let b = both_true _ _ has in
     let there = place_there (slot_at s t.meet.0) t.place b.0 in
-    let low : from ≤ t.meet.0 = elim onward [ inl l ↦ omega (arith, l) | inr q ↦ (let e = q.0 in omega (arith, e)) ] in
-    (low,
+    let low : from ≤ t.meet.0 = elim onward [ inl l ↦ omega (arith, l) | inr q ↦ (let e = q.0 in omega (arith, e)) ] in (
+      low,
       slot_below p s t.meet.0 made told there.0,
       both_are _ _ there.0 (list_any_at (is_resource r.0) (slot_at s t.meet.0).given t.place None there.1 b.1),
       λ k a l. false_unless _ (λ h.
-        (let w = with_task p s rule r k h in
-        true-false (sym w.1 ∙ none (record { meet = record { 0 = k }; place = w.0 }) (from_first from k w.0 a) (inl l)))))
+          (let w = with_task p s rule r k h in
+          true-false (sym w.1 ∙ none (record { meet = record { 0 = k }; place = w.0 }) (from_first from k w.0 a) (inl l)))),
+    )
 
 -- the bounds of one event's slots
 pub within_one : (p : Parts) (rule : Rule) (point : Point) (own start end : ℕ) → end ≤ meet_slots p → AreSlotsOf p own start end

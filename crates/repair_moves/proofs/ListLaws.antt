@@ -53,6 +53,7 @@ each_taken p s n = by_monitor (slice_get p.monitors n)
     by_constraint m None = All-nil (IsTaken p s)
     by_constraint m (Some k) = All-flat_map (IsTaken p s) (λ part. part_from p s k.rule m.point part 0) (parts_of m.kind)
         (every _ (parts_of m.kind) (λ part. of_part p s k.rule m.point part 0))
+
     by_monitor : (o : Option Monitor) → All (IsTaken p s) (option_map_or (moves_of p s) o [])
     by_monitor None = All-nil (IsTaken p s)
     by_monitor (Some m) = by_constraint m (slice_get p.constraints m.constraint)

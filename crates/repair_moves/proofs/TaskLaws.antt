@@ -110,12 +110,12 @@ first_slot p s test n from t made told l e there onward passes before =
     let own = task_number p s t made told there in
     let low = from_number s (task_at p n) t r.there (subst (λ u. IsFrom u t) e onward) in
     let earlier : NonePass (λ k. test (task_at p k)) n num = λ k a b.
-      (let within = own.0 in
-      let q = task_numbered p s k made told (omega (arith, b, within)) in
-      let y = q.number in
-      subst (λ u. NoTaskBefore test u t) e before (task_at p k)
-      (from_below s (task_at p n) (task_at p k) q.there (omega (arith, x, y, a)))
-      (before_below s (task_at p k) t there (omega (arith, y, f, b)))) in
+    (let within = own.0 in
+    let q = task_numbered p s k made told (omega (arith, b, within)) in
+    let y = q.number in
+    subst (λ u. NoTaskBefore test u t) e before (task_at p k)
+    (from_below s (task_at p n) (task_at p k) q.there (omega (arith, x, y, a)))
+    (before_below s (task_at p k) t there (omega (arith, y, f, b)))) in
     (omega (arith, x, low, f), own.0, ap test own.1 ∙ passes, earlier)
 
 -- an element that passes has a place

@@ -147,9 +147,11 @@ ahead_start p s c first at = by_monitor (slice_get p.monitors c.monitor.0)
     under : (m : Monitor) (k : Constraint) → left_of_parts p s k.rule m.point (drop c.part (parts_of m.kind)) c.spot ≡ flat_map (λ part. part_from p s k.rule m.point part 0) (parts_of m.kind)
     under m k = ap (λ n. left_of_parts p s k.rule m.point (drop n (parts_of m.kind)) c.spot) first
         ∙ ap (left_of_parts p s k.rule m.point (parts_of m.kind)) at ∙ parts_start p s k.rule m.point (parts_of m.kind)
+
     by_constraint : (m : Monitor) (o : Option Constraint) → option_map_or (ahead_under p s c m) o [] ≡ option_map_or (moves_under p s m) o []
     by_constraint m None = refl
     by_constraint m (Some k) = under m k
+
     by_monitor : (o : Option Monitor) → option_map_or (ahead_of p s c) o [] ≡ option_map_or (moves_of p s) o []
     by_monitor None = refl
     by_monitor (Some m) = by_constraint m (slice_get p.constraints m.constraint)

@@ -25,12 +25,7 @@ fn time_move(solution: &Solution<'_>, meet: MeetId, time: TimeId) -> Edit
     }
 }
 
-fn task_move(
-    inst: &Instance,
-    solution: &Solution<'_>,
-    task: TaskId,
-    resource: ResourceId,
-) -> Edit
+fn task_move(inst: &Instance, solution: &Solution<'_>, task: TaskId, resource: ResourceId) -> Edit
     requires { solution.now.parts ≡ inst.now }
     ensures edit { result ≡ task_move solution.now.slots task resource.0 }
     ensures ours { is_of_meets result ≡ true }
@@ -103,7 +98,13 @@ fn is_elsewhere(start: Option<TimeId>, time: u32) -> bool
 }
 
 /// The first time from one on to which a meet can go. It takes constant time.
-fn next_time(inst: &Instance, solution: &Solution<'_>, point: Point, item: u32, from: u32) -> Option<u32>
+fn next_time(
+    inst: &Instance,
+    solution: &Solution<'_>,
+    point: Point,
+    item: u32,
+    from: u32,
+) -> Option<u32>
     requires { solution.now.parts ≡ inst.now }
     ensures next { IsFirst (is_choice inst.now solution.now.slots point kinds.TimeMoves item) from (length inst.now.times) result }
     ensures small { IfSome result (λ k. k + 1 < 2 ^ 32) }
@@ -124,7 +125,13 @@ fn next_time(inst: &Instance, solution: &Solution<'_>, point: Point, item: u32, 
 
 /// The first meet from a slot on with which a meet can exchange its start. It takes the time of the
 /// slots that it goes over.
-fn next_swap(inst: &Instance, solution: &Solution<'_>, point: Point, item: u32, from: u32) -> Option<u32>
+fn next_swap(
+    inst: &Instance,
+    solution: &Solution<'_>,
+    point: Point,
+    item: u32,
+    from: u32,
+) -> Option<u32>
     requires { solution.now.parts ≡ inst.now }
     ensures next { IsFirst (is_choice inst.now solution.now.slots point kinds.SwapMoves item) from (meet_slots inst.now) result }
     ensures small { IfSome result (λ k. k + 1 < 2 ^ 32) }
@@ -149,7 +156,13 @@ fn next_swap(inst: &Instance, solution: &Solution<'_>, point: Point, item: u32, 
 }
 
 /// The first cut of a meet, from one on. It takes constant time.
-fn next_cut(inst: &Instance, solution: &Solution<'_>, point: Point, item: u32, from: u32) -> Option<u32>
+fn next_cut(
+    inst: &Instance,
+    solution: &Solution<'_>,
+    point: Point,
+    item: u32,
+    from: u32,
+) -> Option<u32>
     requires { solution.now.parts ≡ inst.now }
     ensures next { IsFirst (is_choice inst.now solution.now.slots point kinds.Cuts item) from (choices inst.now solution.now.slots kinds.Cuts item) result }
     ensures small { IfSome result (λ k. k + 1 < 2 ^ 32) }
@@ -164,7 +177,13 @@ fn next_cut(inst: &Instance, solution: &Solution<'_>, point: Point, item: u32, f
 
 /// The first meet from a slot on with which a meet can be joined. It takes the time of the slots of
 /// the meet's event.
-fn next_join(inst: &Instance, solution: &Solution<'_>, point: Point, item: u32, from: u32) -> Option<u32>
+fn next_join(
+    inst: &Instance,
+    solution: &Solution<'_>,
+    point: Point,
+    item: u32,
+    from: u32,
+) -> Option<u32>
     requires { solution.now.parts ≡ inst.now }
     ensures next { IsFirst (is_choice inst.now solution.now.slots point kinds.Joins item) from (meet_slots inst.now) result }
     ensures small { IfSome result (λ k. k + 1 < 2 ^ 32) }
@@ -186,7 +205,13 @@ fn next_join(inst: &Instance, solution: &Solution<'_>, point: Point, item: u32, 
 
 /// The first resource from one on that a task can be given. It takes the time of the resources that
 /// it goes over.
-fn next_resource(inst: &Instance, solution: &Solution<'_>, point: Point, item: u32, from: u32) -> Option<u32>
+fn next_resource(
+    inst: &Instance,
+    solution: &Solution<'_>,
+    point: Point,
+    item: u32,
+    from: u32,
+) -> Option<u32>
     requires { solution.now.parts ≡ inst.now }
     ensures next { IsFirst (is_choice inst.now solution.now.slots point kinds.TaskMoves item) from (length inst.now.resources) result }
     ensures small { IfSome result (λ k. k + 1 < 2 ^ 32) }
@@ -207,7 +232,13 @@ fn next_resource(inst: &Instance, solution: &Solution<'_>, point: Point, item: u
 
 /// The first task from a task slot on with which a task can exchange its resource. It takes the time
 /// of the task slots that it goes over.
-fn next_trade(inst: &Instance, solution: &Solution<'_>, point: Point, item: u32, from: u32) -> Option<u32>
+fn next_trade(
+    inst: &Instance,
+    solution: &Solution<'_>,
+    point: Point,
+    item: u32,
+    from: u32,
+) -> Option<u32>
     requires { solution.now.parts ≡ inst.now }
     ensures next { IsFirst (is_choice inst.now solution.now.slots point kinds.TradeMoves item) from (task_slots inst.now) result }
     ensures small { IfSome result (λ k. k + 1 < 2 ^ 32) }
@@ -233,7 +264,13 @@ fn next_trade(inst: &Instance, solution: &Solution<'_>, point: Point, item: u32,
 }
 
 /// The only choice of a task that may be given the point's resource, where it is still to come.
-fn next_give(inst: &Instance, solution: &Solution<'_>, point: Point, item: u32, from: u32) -> Option<u32>
+fn next_give(
+    inst: &Instance,
+    solution: &Solution<'_>,
+    point: Point,
+    item: u32,
+    from: u32,
+) -> Option<u32>
     requires { solution.now.parts ≡ inst.now }
     ensures next { IsFirst (is_choice inst.now solution.now.slots point kinds.Gives item) from 1 result }
     ensures small { IfSome result (λ k. k + 1 < 2 ^ 32) }

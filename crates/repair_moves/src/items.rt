@@ -115,7 +115,13 @@ fn pair_within(inst: &Instance, rule: &Rule, pair: u32) -> Bounds
 
 /// The first meet from a slot on whose event a point names. It goes past an event that the point does
 /// not name in one step.
-fn next_named(inst: &Instance, solution: &Solution<'_>, rule: &Rule, point: Point, from: u32) -> Option<u32>
+fn next_named(
+    inst: &Instance,
+    solution: &Solution<'_>,
+    rule: &Rule,
+    point: Point,
+    from: u32,
+) -> Option<u32>
     requires { solution.now.parts ≡ inst.now }
     ensures { IsFirst (is_named inst.now solution.now.slots rule.now point) from (meet_slots inst.now) result }
 {
@@ -136,7 +142,13 @@ fn next_named(inst: &Instance, solution: &Solution<'_>, rule: &Rule, point: Poin
 }
 
 /// The first meet from a slot on that has a task with a resource.
-fn next_with(inst: &Instance, solution: &Solution<'_>, rule: &Rule, resource: ResourceId, from: u32) -> Option<u32>
+fn next_with(
+    inst: &Instance,
+    solution: &Solution<'_>,
+    rule: &Rule,
+    resource: ResourceId,
+    from: u32,
+) -> Option<u32>
     requires { solution.now.parts ≡ inst.now }
     ensures { IsFirst (is_meet_at inst.now solution.now.slots rule.now (AtResource resource)) from (meet_slots inst.now) result }
 {
@@ -151,7 +163,13 @@ fn next_with(inst: &Instance, solution: &Solution<'_>, rule: &Rule, resource: Re
 
 /// The first meet of a monitor from a slot on.
 #[tactic(auto, unfolding(crate::specs::Items::is_meet_at, crate::specs::Named::is_named))]
-fn next_meet(inst: &Instance, solution: &Solution<'_>, rule: &Rule, point: Point, from: u32) -> Option<u32>
+fn next_meet(
+    inst: &Instance,
+    solution: &Solution<'_>,
+    rule: &Rule,
+    point: Point,
+    from: u32,
+) -> Option<u32>
     requires { solution.now.parts ≡ inst.now }
     ensures { IsFirst (is_meet_at inst.now solution.now.slots rule.now point) from (meet_slots inst.now) result }
 {
@@ -199,7 +217,14 @@ fn is_place_of(inst: &Instance, rule: &Rule, point: Point, event: EventId, place
 }
 
 /// The first place of a meet from one on whose task is the monitor's.
-fn next_place(inst: &Instance, solution: &Solution<'_>, rule: &Rule, point: Point, slot: u32, from: u32) -> Option<u32>
+fn next_place(
+    inst: &Instance,
+    solution: &Solution<'_>,
+    rule: &Rule,
+    point: Point,
+    slot: u32,
+    from: u32,
+) -> Option<u32>
     requires of { solution.now.parts ≡ inst.now }
     requires named { is_named inst.now solution.now.slots rule.now point slot ≡ true }
     ensures { IsFirstPlace (is_task_in inst.now solution.now.slots rule.now point) slot from result }
@@ -224,7 +249,13 @@ fn place_from(at: TaskId, meet: u32) -> u32
 }
 
 /// The first task from one on of an event that the point names.
-fn next_task_named(inst: &Instance, solution: &Solution<'_>, rule: &Rule, point: Point, from: TaskId) -> Option<TaskId>
+fn next_task_named(
+    inst: &Instance,
+    solution: &Solution<'_>,
+    rule: &Rule,
+    point: Point,
+    from: TaskId,
+) -> Option<TaskId>
     requires of { solution.now.parts ≡ inst.now }
     requires named { NamesItsTasks inst.now rule.now point }
     ensures { IsFirstTask (is_task_in inst.now solution.now.slots rule.now point) from result }
@@ -248,7 +279,13 @@ fn next_task_named(inst: &Instance, solution: &Solution<'_>, rule: &Rule, point:
 }
 
 /// The first task of a monitor from one on.
-fn next_task(inst: &Instance, solution: &Solution<'_>, rule: &Rule, point: Point, from: TaskId) -> Option<TaskId>
+fn next_task(
+    inst: &Instance,
+    solution: &Solution<'_>,
+    rule: &Rule,
+    point: Point,
+    from: TaskId,
+) -> Option<TaskId>
     requires { solution.now.parts ≡ inst.now }
     ensures { IsFirstTask (is_task_in inst.now solution.now.slots rule.now point) from result }
 {
@@ -271,7 +308,13 @@ fn number_of(inst: &Instance, task: TaskId) -> u32
 }
 
 /// The first task slot from one on whose task is the monitor's.
-fn next_slot(inst: &Instance, solution: &Solution<'_>, rule: &Rule, point: Point, from: u32) -> Option<u32>
+fn next_slot(
+    inst: &Instance,
+    solution: &Solution<'_>,
+    rule: &Rule,
+    point: Point,
+    from: u32,
+) -> Option<u32>
     requires { solution.now.parts ≡ inst.now }
     ensures { IsFirst (is_task_at inst.now solution.now.slots rule.now point) from (task_slots inst.now) result }
 {
@@ -309,9 +352,7 @@ fn may_be_given(inst: &Instance, solution: &Solution<'_>, point: Point, task: Ta
         return false;
     };
     match place_at(inst, own.event, task.place) {
-        Some(place) => {
-            resource.0 < inst.resources() && inst.type_of(resource) == place.rtype
-        }
+        Some(place) => { resource.0 < inst.resources() && inst.type_of(resource) == place.rtype }
         None => false,
     }
 }

@@ -144,7 +144,14 @@ pub fn next_move(inst: &Instance, solution: &Solution<'_>, cursor: &mut Cursor) 
     let mut part = cursor.part;
     let mut spot = cursor.spot;
     while (part as usize) < parts.len() {
-        match next_in_part(inst, solution, rule, monitor.point, parts[part as usize], spot) {
+        match next_in_part(
+            inst,
+            solution,
+            rule,
+            monitor.point,
+            parts[part as usize],
+            spot,
+        ) {
             Some(found) => {
                 cursor.part = part;
                 cursor.spot = found.spot;

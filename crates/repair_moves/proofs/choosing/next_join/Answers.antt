@@ -29,7 +29,7 @@ loop-other-init c = record {
 }
 
 pub returns-then-accepts-clause-next : goal.returns-then-accepts-clause-next
-returns-then-accepts-clause-next c = 
+returns-then-accepts-clause-next c =
     let w = event_within 0 c.in_ok-own.own.event.0 c.args.inst.now.events c.event-event.result.now c.facts.ensures.made.first_meets c.event-event.ensures in
     let l = c.loop-other-test.true in
     (c.loop-other.invariant.onward, omega arith, laws.Joins_is c.args.inst.now c.args.solution.now.slots c.args.point c.args.item c.loop-other.other ∙ sym c.accepts.ensures ∙ c.if-accepts.true, c.loop-other.invariant.none)
@@ -41,6 +41,6 @@ loop-other-preserved c = record {
 }
 
 pub returns-clause-next : goal.returns-clause-next
-returns-clause-next c = 
+returns-clause-next c =
     none_on (is_choice c.args.inst.now c.args.solution.now.slots c.args.point Joins c.args.item) c.args.from c.loop-other.other (meet_slots c.args.inst.now) c.loop-other.invariant.none
     (λ k a b. laws.join_outside c.args.inst.now c.args.solution.now.slots c.args.point c.args.item k c.event-event.result.now c.facts.ensures.made c.facts.ensures.valid.told (ap (λ (e : EventId). slice_get c.args.inst.now.events e.0) c.in_ok-own.ensures.event ∙ c.event-event.ensures) (λ x y. let l = c.loop-other-test.false in omega (arith, a, y, l)))

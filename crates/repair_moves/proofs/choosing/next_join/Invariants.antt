@@ -6,7 +6,7 @@ use Rattle.repair_moves.proofs.choosing.next_join.Given as goal
 
 abbrev pub invariant-loop-other : goal.invariant-loop-other
 invariant-loop-other l =
-  record {
-    onward : l.fn.from ≤ l.other;
-    none : NonePass (is_choice l.inst l.solution.slots l.fn.point Joins l.item) l.fn.from l.other;
-  }
+    record {
+      onward : l.fn.from ≤ l.other;
+      none : NonePass (is_choice l.inst l.solution.slots l.fn.point Joins l.item) l.fn.from l.other;
+    }

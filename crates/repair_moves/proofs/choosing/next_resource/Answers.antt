@@ -20,7 +20,7 @@ pub returns-then-is_fixed_place-clause-next : goal.returns-then-is_fixed_place-c
 returns-then-is_fixed_place-clause-next c = λ k a b. laws.resource_fixed c.args.inst.now c.args.solution.now.slots c.args.point c.args.item k (laws.fixed_at c.args.inst.now c.args.solution.now.slots c.args.item c.task_at-task.result c.in_ok-own.own.event true c.task_at-task.ensures c.in_ok-own.ensures.event (sym c.is_fixed_place.ensures ∙ c.if-is_fixed_place.true))
 
 pub returns-then-accepts-clause-next : goal.returns-then-accepts-clause-next
-returns-then-accepts-clause-next c = 
+returns-then-accepts-clause-next c =
     let l = c.loop-number-test.true in
     let many = c.resources-number-end.ensures in
     (c.loop-number.invariant.onward, omega arith, laws.TaskMoves_is c.args.inst.now c.args.solution.now.slots c.args.point c.args.item c.loop-number.number ∙ ap (λ t. is_accepted c.args.inst.now c.args.solution.now.slots (task_move c.args.solution.now.slots t c.loop-number.number)) (sym c.task_at-task.ensures) ∙ ap (is_accepted c.args.inst.now c.args.solution.now.slots) (sym c.task_move-edit.ensures.edit) ∙ sym c.accepts.ensures ∙ c.if-accepts.true, c.loop-number.invariant.none)
@@ -32,6 +32,6 @@ loop-number-preserved c = record {
 }
 
 pub returns-clause-next : goal.returns-clause-next
-returns-clause-next c = 
+returns-clause-next c =
     none_on (is_choice c.args.inst.now c.args.solution.now.slots c.args.point TaskMoves c.args.item) c.args.from c.loop-number.number (length c.args.inst.now.resources) c.loop-number.invariant.none
     (λ k a b. absurd (let l = c.loop-number-test.false in let many = c.resources-number-end.ensures in omega arith))

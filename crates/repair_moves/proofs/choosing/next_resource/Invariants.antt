@@ -6,7 +6,7 @@ use Rattle.repair_moves.proofs.choosing.next_resource.Given as goal
 
 abbrev pub invariant-loop-number : goal.invariant-loop-number
 invariant-loop-number l =
-  record {
-    onward : l.fn.from ≤ l.number;
-    none : NonePass (is_choice l.inst l.solution.slots l.fn.point TaskMoves l.item) l.fn.from l.number;
-  }
+    record {
+      onward : l.fn.from ≤ l.number;
+      none : NonePass (is_choice l.inst l.solution.slots l.fn.point TaskMoves l.item) l.fn.from l.number;
+    }

@@ -21,7 +21,7 @@ pub returns-then-is_none-clause-next : goal.returns-then-is_none-clause-next
 returns-then-is_none-clause-next c = λ k a b. laws.swap_unplaced c.args.inst.now c.args.solution.now.slots c.args.point c.args.item k (ap is_some c.in_ok-own.ensures.start ∙ c.is_none.ensures ∙ ap not c.if-is_none.true)
 
 pub returns-then-accepts-clause-next : goal.returns-then-accepts-clause-next
-returns-then-accepts-clause-next c = 
+returns-then-accepts-clause-next c =
     let l = c.loop-other-test.true in
     let many = c.meet_slots-other-end.ensures in
     (c.loop-other.invariant.onward, omega arith, laws.SwapMoves_is c.args.inst.now c.args.solution.now.slots c.args.point c.args.item c.loop-other.other ∙ sym c.accepts.ensures ∙ c.if-accepts.true, c.loop-other.invariant.none)
@@ -33,6 +33,6 @@ loop-other-preserved c = record {
 }
 
 pub returns-clause-next : goal.returns-clause-next
-returns-clause-next c = 
+returns-clause-next c =
     none_on (is_choice c.args.inst.now c.args.solution.now.slots c.args.point SwapMoves c.args.item) c.args.from c.loop-other.other (meet_slots c.args.inst.now) c.loop-other.invariant.none
     (λ k a b. absurd (let l = c.loop-other-test.false in let many = c.meet_slots-other-end.ensures in omega arith))

@@ -6,7 +6,7 @@ use Rattle.repair_moves.proofs.choosing.next_time.Given as goal
 
 abbrev pub invariant-loop-time : goal.invariant-loop-time
 invariant-loop-time l =
-  record {
-    onward : l.fn.from ≤ l.time;
-    none : NonePass (is_choice l.inst l.solution.slots l.fn.point TimeMoves l.item) l.fn.from l.time;
-  }
+    record {
+      onward : l.fn.from ≤ l.time;
+      none : NonePass (is_choice l.inst l.solution.slots l.fn.point TimeMoves l.item) l.fn.from l.time;
+    }

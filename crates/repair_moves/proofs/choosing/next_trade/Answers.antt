@@ -23,7 +23,7 @@ pub returns-then-is_none-clause-next : goal.returns-then-is_none-clause-next
 returns-then-is_none-clause-next c = λ k a b. laws.trade_bare c.args.inst.now c.args.solution.now.slots c.args.point c.args.item k (laws.bare_at c.args.inst.now c.args.solution.now.slots c.args.item c.task_at-task.result c.resource_at.result c.task_at-task.ensures c.resource_at.ensures (laws.none_unless c.resource_at.result (c.is_none.ensures ∙ ap not c.if-is_none.true)))
 
 pub returns-then-accepts-clause-next : goal.returns-then-accepts-clause-next
-returns-then-accepts-clause-next c = 
+returns-then-accepts-clause-next c =
     let l = c.loop-other-test.true in
     let many = c.task_slots-other-end.ensures in
     (c.loop-other.invariant.onward, omega arith, laws.TradeMoves_is c.args.inst.now c.args.solution.now.slots c.args.point c.args.item c.loop-other.other ∙ (λ i. is_accepted c.args.inst.now c.args.solution.now.slots (SwapTasks (sym c.task_at-task.ensures i) (sym c.task_at.ensures i))) ∙ sym c.accepts.ensures ∙ c.if-accepts.true, c.loop-other.invariant.none)
@@ -35,6 +35,6 @@ loop-other-preserved c = record {
 }
 
 pub returns-clause-next : goal.returns-clause-next
-returns-clause-next c = 
+returns-clause-next c =
     none_on (is_choice c.args.inst.now c.args.solution.now.slots c.args.point TradeMoves c.args.item) c.args.from c.loop-other.other (task_slots c.args.inst.now) c.loop-other.invariant.none
     (λ k a b. absurd (let l = c.loop-other-test.false in let many = c.task_slots-other-end.ensures in omega arith))

@@ -19,7 +19,7 @@ loop-slot-init c = record {
 }
 
 pub loop-slot-preserved-then-not-names : goal.loop-slot-preserved-then-not-names
-loop-slot-preserved-then-not-names c = 
+loop-slot-preserved-then-not-names c =
     let has = c.event_of-event.ensures in
     let are = c.slots_of-slot.ensures.are has.0 has.1 in
     let e : c.names.result ≡ false = search (laws.not_yes, c.if-not-names.true) in
@@ -34,24 +34,26 @@ loop-slot-preserved-then-not-names c =
     }
 
 pub returns-then-is_some : goal.returns-then-is_some
-returns-then-is_some c = 
+returns-then-is_some c =
     let e : c.names.result ≡ true = search (not-false, c.if-not-names.false) in
     let l = c.loop-slot-test.true in
-    let m = c.named_within-within.ensures.slots in
-    (c.loop-slot.invariant.onward, omega (arith, l, m),
+    let m = c.named_within-within.ensures.slots in (
+      c.loop-slot.invariant.onward,
+      omega (arith, l, m),
       laws.named_event c.args.inst.now c.args.solution.now.slots c.args.rule.now c.args.point c.event_of-event.result.0 c.loop-slot.slot c.facts.ensures.made c.facts.ensures.valid.told c.event_of-event.ensures (sym c.names.ensures ∙ e)
-        (laws.live_some _ c.live.result c.is_some.result c.live.ensures c.is_some.ensures c.if-is_some.true),
-      c.loop-slot.invariant.none)
+          (laws.live_some _ c.live.result c.is_some.result c.live.ensures c.is_some.ensures c.if-is_some.true),
+      c.loop-slot.invariant.none,
+    )
 
 pub loop-slot-preserved : goal.loop-slot-preserved
 loop-slot-preserved c = record {
   onward = let o = c.loop-slot.invariant.onward in omega (arith, o);
   none = none_more (is_named c.args.inst.now c.args.solution.now.slots c.args.rule.now c.args.point) c.args.from c.loop-slot.slot c.loop-slot.invariant.none
-    (laws.named_dead c.args.inst.now c.args.solution.now.slots c.args.rule.now c.args.point c.loop-slot.slot (laws.live_none _ c.live.result c.is_some.result c.live.ensures c.is_some.ensures c.if-is_some.false));
+      (laws.named_dead c.args.inst.now c.args.solution.now.slots c.args.rule.now c.args.point c.loop-slot.slot (laws.live_none _ c.live.result c.is_some.result c.live.ensures c.is_some.ensures c.if-is_some.false));
 }
 
 pub returns : goal.returns
-returns c = 
+returns c =
     let l = c.loop-slot-test.false in
     none_on (is_named c.args.inst.now c.args.solution.now.slots c.args.rule.now c.args.point) c.args.from c.loop-slot.slot (meet_slots c.args.inst.now) c.loop-slot.invariant.none
     (λ k a b. laws.named_beyond c.args.inst.now c.args.solution.now.slots c.args.rule.now c.args.point c.named_within-within.result.start c.named_within-within.result.end k c.facts.ensures.made c.facts.ensures.valid.told c.named_within-within.ensures (omega (arith, a, l)))

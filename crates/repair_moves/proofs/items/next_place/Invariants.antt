@@ -5,7 +5,7 @@ use Rattle.repair_moves.proofs.items.next_place.Given as goal
 
 abbrev pub invariant-loop-place : goal.invariant-loop-place
 invariant-loop-place l =
-  record {
-    onward : l.fn.from ≤ l.place;
-    none : NoPlaceBefore (is_task_in l.inst l.solution.slots l.rule l.point) l.slot l.fn.from l.place;
-  }
+    record {
+      onward : l.fn.from ≤ l.place;
+      none : NoPlaceBefore (is_task_in l.inst l.solution.slots l.rule l.point) l.slot l.fn.from l.place;
+    }

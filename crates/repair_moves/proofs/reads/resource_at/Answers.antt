@@ -12,7 +12,6 @@ use Rattle.repair_moves.proofs.PickedLaws.{none_more, none_on}
 use Rattle.repair_moves.proofs.TaskLaws as tasks
 use Rattle.repair_moves.proofs.reads.resource_at.Goals as goal
 
-
 pub resource-requires : goal.resource-requires
 resource-requires c = laws.place_some c.args.inst.now c.args.solution.now.slots c.args.task.meet.0 c.args.task.place c.in_ok-own.own.event _ c.facts.ensures.valid.told c.in_ok-own.ensures.live c.in_ok-own.ensures.event c.in-Some.ensures
 

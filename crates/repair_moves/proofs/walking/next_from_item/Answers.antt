@@ -12,7 +12,7 @@ returns-in-Some-next_of_item-clause-next c =
     let f = c.in-Some-next_of_item.ensures.next in
     c.loop-item.invariant
     ∙ walks.part_first c.args.inst.now c.args.solution.now.slots c.args.rule.now c.args.point c.args.part c.loop-item.from c.in-Some.item f.choice c.in-Some-next_of_item.found.edit c.in-Some-next_of_item.found.spot
-      c.in-Some.ensures.next f.spot f.next
+    c.in-Some.ensures.next f.spot f.next
 
 pub loop-item-smaller : goal.loop-item-smaller
 loop-item-smaller c = walks.items_fewer c.args.inst.now c.args.solution.now.slots c.args.rule.now c.args.point c.args.part c.loop-item.from c.in-Some.item c.in-Some.ensures.next

@@ -15,10 +15,10 @@ returns-in-None-next_of_item-clause-next c =
     let p = c.args.inst.now in let s = c.args.solution.now.slots in
     let P : List Edit → Type 0 = λ xs. IsNextIn p s c.args.rule.now c.args.point c.args.part xs c.next_from_item-in-None-next_of_item.result in
     subst P (sym (walks.left_past p s c.args.rule.now c.args.point c.args.part c.in-Some.choice c.args.spot c.in-Some.is c.in-None-next_of_item.ensures.next))
-      c.next_from_item-in-None-next_of_item.ensures.next
+    c.next_from_item-in-None-next_of_item.ensures.next
 
 pub returns-in-Some-next_of_item-clause-next : goal.returns-in-Some-next_of_item-clause-next
 returns-in-Some-next_of_item-clause-next c =
     let f = c.in-Some-next_of_item.ensures.next in
     walks.left_first c.args.inst.now c.args.solution.now.slots c.args.rule.now c.args.point c.args.part c.in-Some.choice f.choice c.in-Some-next_of_item.found.edit c.args.spot c.in-Some-next_of_item.found.spot
-      c.in-Some.is f.spot f.next
+    c.in-Some.is f.spot f.next

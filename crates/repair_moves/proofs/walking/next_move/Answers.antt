@@ -24,7 +24,7 @@ loop-part-init c = record {
 pub loop-part-preserved : goal.loop-part-preserved
 loop-part-preserved c = record {
   ahead = c.loop-part.invariant.ahead ∙ walks.parts_next _ _ _ _ c.parts_of-parts.result.now c.loop-part.part _ c.loop-part.spot c.at_start-spot.result
-    (slice_get-get_or c.parts_of-parts.result.now c.loop-part.part TimeMoves c.loop-part-test.true) c.in-None.ensures.next c.at_start-spot.ensures;
+      (slice_get-get_or c.parts_of-parts.result.now c.loop-part.part TimeMoves c.loop-part-test.true) c.in-None.ensures.next c.at_start-spot.ensures;
   small = let e = ap (λ s. s.item) c.at_start-spot.ensures in omega arith;
   same = c.loop-part.invariant.same;
 }
@@ -34,9 +34,9 @@ returns-in-Some-clause-next c =
     let same = c.loop-part.invariant.same in
     let moved : Cursor = record { monitor = c.loop-part.cursor.monitor; part = c.loop-part.part; spot = c.in-Some.found.spot } in
     c.loop-part.invariant.ahead ∙ walks.parts_found _ _ _ _ c.parts_of-parts.result.now c.loop-part.part _ c.loop-part.spot c.in-Some.found.spot c.in-Some.found.edit
-      (slice_get-get_or c.parts_of-parts.result.now c.loop-part.part TimeMoves c.loop-part-test.true) c.in-Some.ensures.next
+    (slice_get-get_or c.parts_of-parts.result.now c.loop-part.part TimeMoves c.loop-part-test.true) c.in-Some.ensures.next
     ∙ ap (λ xs. c.in-Some.found.edit ∷ xs) (sym (walks.ahead_at _ _ moved c.monitor-monitor.result _ c.parts_of-parts.result.now
-      (ap (λ x. slice_get c.args.inst.now.monitors x.monitor.0) same ∙ c.monitor-monitor.ensures) c.constraint.ensures c.parts_of-parts.ensures.parts))
+    (ap (λ x. slice_get c.args.inst.now.monitors x.monitor.0) same ∙ c.monitor-monitor.ensures) c.constraint.ensures c.parts_of-parts.ensures.parts))
 
 pub returns-clause-next : goal.returns-clause-next
 returns-clause-next c =

@@ -20,6 +20,8 @@ returns-clause-next c =
 
 pub returns-clause-moves : goal.returns-clause-moves
 returns-clause-moves c =
-    let passes = c.in_ok-choice.ensures.next.2 in
-    (accepted_is c.args.inst.now c.args.solution.now.slots c.edit_of.result
-      (ap (is_accepted c.args.inst.now c.args.solution.now.slots) c.edit_of.ensures.edit ∙ passes), c.edit_of.ensures.ours)
+    let passes = c.in_ok-choice.ensures.next.2 in (
+      accepted_is c.args.inst.now c.args.solution.now.slots c.edit_of.result
+          (ap (is_accepted c.args.inst.now c.args.solution.now.slots) c.edit_of.ensures.edit ∙ passes),
+      c.edit_of.ensures.ours,
+    )
