@@ -1,0 +1,7 @@
+pub mod ChoiceLaws
+pub mod ItemLaws
+pub mod ListLaws
+pub mod PickedLaws
+pub mod SlotLaws
+pub mod TaskLaws
+pub mod WalkLaws

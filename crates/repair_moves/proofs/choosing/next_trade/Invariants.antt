@@ -1,0 +1,12 @@
+use Rattle.std.proofs.Common.{◌≤◌}
+use Rattle.repair_moves.specs.Moves.{is_choice}
+use Rattle.repair_moves.specs.Picked.{NonePass}
+use Rattle.repair_moves.specs.declared.parts.Part.TheVariants.{TradeMoves}
+use Rattle.repair_moves.proofs.choosing.next_trade.Given as goal
+
+abbrev pub invariant-loop-other : goal.invariant-loop-other
+invariant-loop-other l =
+    record {
+      onward : l.fn.from ≤ l.other;
+      none : NonePass (is_choice l.inst l.solution.slots l.fn.point TradeMoves l.item) l.fn.from l.other;
+    }

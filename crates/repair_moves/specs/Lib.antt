@@ -1,0 +1,11 @@
+pub mod Bounds
+pub mod Cursors
+pub mod Examples
+pub mod Items
+pub mod Moved
+pub mod Moves
+pub mod Named
+pub mod Picked
+pub mod Table
+pub mod Tasks
+pub mod Walks

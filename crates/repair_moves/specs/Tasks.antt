@@ -1,0 +1,30 @@
+-- The first task from one on that passes a test, by meet and then by place.
+use Rattle.std.specs.Prelude.{ℕ, ◌≡◌, ◌≤◌, ◌<◌, Bool, true, false, Option, MatchOption}
+use Rattle.khe_base.specs.declared.numbers.ResourceId.{ResourceId}
+use Rattle.khe_base.specs.declared.numbers.TaskId.{TaskId}
+use Rattle.khe_solution.specs.NextTask.{IsBefore, IsFrom}
+
+-- no task from one on passes; and none of those before another does
+abbrev pub NoTask : (TaskId → Bool) → TaskId → Type 0
+NoTask test from = (u : TaskId) → IsFrom from u → test u ≡ false
+
+abbrev pub NoTaskBefore : (TaskId → Bool) → TaskId → TaskId → Type 0
+NoTaskBefore test from t = (u : TaskId) → IsFrom from u → IsBefore u t → test u ≡ false
+
+abbrev pub IsFirstTask : (TaskId → Bool) → TaskId → Option TaskId → Type 0
+IsFirstTask test from result = MatchOption result (NoTask test from) (λ t. IsFrom from t × (test t ≡ true) × NoTaskBefore test from t)
+
+-- the first place of a meet from one on whose task passes
+abbrev pub NoPlace : (TaskId → Bool) → ℕ → ℕ → Type 0
+NoPlace test m from = (k : ℕ) → from ≤ k → test (record { meet = record { 0 = m }; place = k }) ≡ false
+
+abbrev pub NoPlaceBefore : (TaskId → Bool) → ℕ → ℕ → ℕ → Type 0
+NoPlaceBefore test m from to = (k : ℕ) → from ≤ k → k < to → test (record { meet = record { 0 = m }; place = k }) ≡ false
+
+abbrev pub IsFirstPlace : (TaskId → Bool) → ℕ → ℕ → Option ℕ → Type 0
+IsFirstPlace test m from result = MatchOption result (NoPlace test m from)
+    (λ k. (from ≤ k) × (test (record { meet = record { 0 = m }; place = k }) ≡ true) × NoPlaceBefore test m from k)
+
+-- a test has one answer, whatever is given
+abbrev pub IsAlways : (Option ResourceId → Bool) → Bool → Type 0
+IsAlways test b = (given : Option ResourceId) → b ≡ test given

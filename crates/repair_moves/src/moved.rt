@@ -1,0 +1,8 @@
+use khe_base::{MeetId, TaskId};
+
+/// What a move moves.
+#[derive(Clone, Copy, Debug, PartialEq, Eq)]
+pub enum Moved {
+    Meet(MeetId),
+    Task(TaskId),
+}

@@ -1,0 +1,167 @@
+ghost use Rattle.std.specs.Prelude.{◌≡◌, ◌<◌, ◌+◌, ◌^◌, None, IfSome, true, length};
+ghost use Rattle.khe_solution.specs.Refusing.{is_of_meets, refusal};
+ghost use Rattle.repair_moves.specs.Cursors.{left_of_part, ahead, IsCursor, IsNext};
+ghost use Rattle.repair_moves.specs.Moves.{moves as moves_at, part_from};
+ghost use Rattle.repair_moves.specs.Walks.{IsMove, IsNextIn, IsNextOf};
+
+use crate::choosing::{edit_of, next_choice};
+use crate::cursors::{Cursor, Spot};
+use crate::items::next_item;
+use crate::parts::{Part, parts_of};
+use khe_base::MonitorId;
+use khe_instance::{Instance, Point, Rule};
+use khe_solution::Solution;
+use khe_told::Edit;
+
+/// A move, and the place after it.
+#[derive(Clone, Copy)]
+struct Found {
+    edit: Edit,
+    spot: Spot,
+}
+
+/// The start of a part.
+fn at_start() -> Spot
+    ensures { result ≡ record { item = 0; choice = None } }
+{
+    Spot {
+        item: 0,
+        choice: None,
+    }
+}
+
+/// The first move of a meet or task from a choice on.
+fn next_of_item(
+    inst: &Instance,
+    solution: &Solution<'_>,
+    point: Point,
+    part: Part,
+    item: u32,
+    from: u32,
+) -> Option<Found>
+    requires { solution.now.parts ≡ inst.now }
+    ensures next { IsNextOf inst.now solution.now.slots point part item from result }
+    ensures moves { IfSome result (λ f. IsMove inst.now solution.now.slots f.edit) }
+{
+    let choice = next_choice(inst, solution, point, part, item, from)?;
+    Some(Found {
+        edit: edit_of(inst, solution, point, part, item, choice),
+        spot: Spot {
+            item,
+            choice: Some(choice + 1),
+        },
+    })
+}
+
+/// The first move of a part from a slot on.
+fn next_from_item(
+    inst: &Instance,
+    solution: &Solution<'_>,
+    rule: &Rule,
+    point: Point,
+    part: Part,
+    from: u32,
+) -> Option<Found>
+    requires { solution.now.parts ≡ inst.now }
+    ensures next { IsNextIn inst.now solution.now.slots rule.now point part (part_from inst.now solution.now.slots rule.now point part from) result }
+    ensures moves { IfSome result (λ f. IsMove inst.now solution.now.slots f.edit) }
+    ensures small { IfSome result (λ f. f.spot.item + 1 < 2 ^ 32) }
+{
+    let mut from = from;
+    while let Some(item) = next_item(inst, solution, rule, point, part, from) {
+        match next_of_item(inst, solution, point, part, item, 0) {
+            Some(found) => return Some(found),
+            None => from = item + 1,
+        }
+    }
+    None
+}
+
+/// The first move of a part from a place on.
+fn next_in_part(
+    inst: &Instance,
+    solution: &Solution<'_>,
+    rule: &Rule,
+    point: Point,
+    part: Part,
+    spot: Spot,
+) -> Option<Found>
+    requires of { solution.now.parts ≡ inst.now }
+    requires small { spot.item + 1 < 2 ^ 32 }
+    ensures next { IsNextIn inst.now solution.now.slots rule.now point part (left_of_part inst.now solution.now.slots rule.now point part spot) result }
+    ensures moves { IfSome result (λ f. IsMove inst.now solution.now.slots f.edit) }
+    ensures small { IfSome result (λ f. f.spot.item + 1 < 2 ^ 32) }
+{
+    match spot.choice {
+        None => next_from_item(inst, solution, rule, point, part, spot.item),
+        Some(choice) => match next_of_item(inst, solution, point, part, spot.item, choice) {
+            None => next_from_item(inst, solution, rule, point, part, spot.item + 1),
+            Some(found) => Some(found),
+        },
+    }
+}
+
+/// The start of the list of a monitor's moves. It takes constant time and no memory.
+pub fn moves(inst: &Instance, solution: &Solution<'_>, monitor: MonitorId) -> Cursor
+    requires of { solution.now.parts ≡ inst.now }
+    requires known { monitor.0 < length inst.now.monitors }
+    ensures first { ahead inst.now solution.now.slots result ≡ moves_at inst.now solution.now.slots monitor.0 }
+    ensures monitor { result.monitor ≡ monitor }
+    ensures cursor { IsCursor inst.now result }
+{
+    let _ = inst;
+    let _ = solution;
+    Cursor {
+        monitor,
+        part: 0,
+        spot: at_start(),
+    }
+}
+
+/// The move at a cursor's place in the list, and the cursor then stands at the next place; `None`
+/// where the list is at its end, and the cursor stays. It takes no memory.
+///
+/// What stands from the cursor on is read in the timetable as it is now, so a list can be walked on
+/// after edits that were undone. A call takes the time of the choices that it goes over. A time at
+/// which a meet would end too late, a cut, a meet of another event than the one to be joined, and all
+/// choices of a meet or task that is preassigned are gone past at once; the tasks of a resource and
+/// those without one are found by words of 64. Meets to swap with, resources and tasks to trade with
+/// are looked at one by one, and of an event group's meets as many events as lie between.
+pub fn next_move(inst: &Instance, solution: &Solution<'_>, cursor: &mut Cursor) -> Option<Edit>
+    requires of { solution.now.parts ≡ inst.now }
+    requires cursor { IsCursor inst.now cursor.old }
+    ensures next { IsNext result (ahead inst.now solution.now.slots cursor.old) (ahead inst.now solution.now.slots cursor.new) }
+    ensures accepted { IfSome result (λ e. refusal inst.now solution.now.slots e ≡ None) }
+    ensures ours { IfSome result (λ e. is_of_meets e ≡ true) }
+    ensures monitor { cursor.new.monitor ≡ cursor.old.monitor }
+    ensures cursor { IsCursor inst.now cursor.new }
+    ensures stays { result ≡ None → cursor.new ≡ cursor.old }
+{
+    inst.facts();
+    let monitor = inst.monitor(cursor.monitor);
+    let rule = &inst.constraint(monitor.constraint).rule;
+    let parts = parts_of(monitor.kind);
+    let mut part = cursor.part;
+    let mut spot = cursor.spot;
+    while (part as usize) < parts.len() {
+        match next_in_part(
+            inst,
+            solution,
+            rule,
+            monitor.point,
+            parts[part as usize],
+            spot,
+        ) {
+            Some(found) => {
+                cursor.part = part;
+                cursor.spot = found.spot;
+                return Some(found.edit);
+            }
+            None => {
+                part += 1;
+                spot = at_start();
+            }
+        }
+    }
+    None
+}
