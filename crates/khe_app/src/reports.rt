@@ -238,6 +238,7 @@ pub(crate) fn report<R: Threads + Sync, K: Sink, G: Gate>(
 {
     let raws = all_solutions(alloc, archive)?;
     let rooms = rooms_of(alloc, resolved)?;
+    let rooms = rooms.as_slice();
     let mut text = header(alloc, archive, resolved)?;
     let mut ahead = Ahead::new(alloc, resolved, workers);
     let mut number = 0;
@@ -248,7 +249,7 @@ pub(crate) fn report<R: Threads + Sync, K: Sink, G: Gate>(
             out,
             &mut text,
             resolved,
-            rooms.as_slice(),
+            rooms,
             raws.as_slice(),
             gate,
             &mut ahead,
