@@ -72,8 +72,11 @@ R</Name>\n<ResourceType Reference=\"y\"/>\n<ResourceGroups>\n<ResourceGroup Refe
 </HighSchoolTimetableArchive>\n",
 );
 
-/// Whether a text is read as an archive that is written so.
+/// Whether a text, which is short, is read as an archive that is written so.
 fn is_written_so(alloc: Global, text: &[u8], canonical: &[u8]) -> Result<bool, Fail> {
+    if text.len() > 10_000 {
+        return Ok(false);
+    }
     let tree = elements(alloc, text)?;
     let archive = archive(alloc, &tree)?;
     let written = write(alloc, &archive)?;
