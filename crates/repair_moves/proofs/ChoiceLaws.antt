@@ -281,6 +281,11 @@ pub fixed_at : (p : Parts) (s : List Slot) (n : ℕ) (t : TaskId) (e : EventId) 
 fixed_at p s n t e b is own h =
     subst (λ (u : TaskId). is_fixed_place p (slot_at s u.meet.0).event.0 u.place ≡ b) is (ap (λ (x : EventId). is_fixed_place p x.0 t.place) own ∙ h)
 
+pub typed_at : (p : Parts) (s : List Slot) (n k : ℕ) (t : TaskId) (e : EventId) (b : Bool) → t ≡ task_at p n → (slot_at s t.meet.0).event ≡ e → has_type p k (place_at p.events e.0 t.place) ≡ b
+    → has_type p k (place_at p.events (slot_at s (task_at p n).meet.0).event.0 (task_at p n).place) ≡ b
+typed_at p s n k t e b is own h =
+    subst (λ (u : TaskId). has_type p k (place_at p.events (slot_at s u.meet.0).event.0 u.place) ≡ b) is (ap (λ (x : EventId). has_type p k (place_at p.events x.0 t.place)) own ∙ h)
+
 pub bare_at : (p : Parts) (s : List Slot) (n : ℕ) (t : TaskId) (r : Option ResourceId) → t ≡ task_at p n → r ≡ resource_at s t → is_none r ≡ true
     → is_none (given_at (slot_at s (task_at p n).meet.0) (task_at p n).place) ≡ true
 bare_at p s n t r is own h = subst (λ (u : TaskId). is_none (given_at (slot_at s u.meet.0) u.place) ≡ true) is (ap is_none (sym own) ∙ h)

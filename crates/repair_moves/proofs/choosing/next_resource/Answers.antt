@@ -10,6 +10,7 @@ use Rattle.repair_moves.proofs.ChoiceLaws as laws
 use Rattle.repair_moves.proofs.PickedLaws.{none_more, none_on}
 use Rattle.repair_moves.proofs.SlotLaws.{live_long}
 use Rattle.repair_moves.proofs.choosing.next_resource.Goals as goal
+use Rattle.repair_moves.proofs.choosing.next_resource.Goals.{then-has_type+else-accepts, else-has_type}
 use Rattle.repair_moves.specs.Items.{task_slots}
 use Rattle.repair_moves.specs.Moves.{task_move}
 
@@ -28,7 +29,13 @@ returns-then-accepts-clause-next c =
 pub loop-number-preserved : goal.loop-number-preserved
 loop-number-preserved c = record {
   onward = let o = c.loop-number.invariant.onward in omega (arith, o);
-  none = none_more (is_choice c.args.inst.now c.args.solution.now.slots c.args.point TaskMoves c.args.item) c.args.from c.loop-number.number c.loop-number.invariant.none (laws.TaskMoves_is c.args.inst.now c.args.solution.now.slots c.args.point c.args.item c.loop-number.number ∙ ap (λ t. is_accepted c.args.inst.now c.args.solution.now.slots (task_move c.args.solution.now.slots t c.loop-number.number)) (sym c.task_at-task.ensures) ∙ ap (is_accepted c.args.inst.now c.args.solution.now.slots) (sym c.task_move-edit.ensures.edit) ∙ sym c.accepts.ensures ∙ c.if-accepts.false);
+  none = none_more (is_choice c.args.inst.now c.args.solution.now.slots c.args.point TaskMoves c.args.item) c.args.from c.loop-number.number c.loop-number.invariant.none (elim c.if-has_type.branch [
+    | then-has_type+else-accepts w ↦
+        laws.TaskMoves_is c.args.inst.now c.args.solution.now.slots c.args.point c.args.item c.loop-number.number ∙ ap (λ t. is_accepted c.args.inst.now c.args.solution.now.slots (task_move c.args.solution.now.slots t c.loop-number.number)) (sym c.task_at-task.ensures) ∙ ap (is_accepted c.args.inst.now c.args.solution.now.slots) (sym w.task_move-edit.ensures.edit) ∙ sym w.accepts.ensures ∙ w.if-accepts.false
+    | else-has_type w ↦
+        laws.resource_typed c.args.inst.now c.args.solution.now.slots c.args.point c.args.item c.loop-number.number
+        (laws.typed_at c.args.inst.now c.args.solution.now.slots c.args.item c.loop-number.number c.task_at-task.result c.in_ok-own.own.event false c.task_at-task.ensures c.in_ok-own.ensures.event (sym c.has_type.ensures ∙ w.if-has_type.false))
+  ]);
 }
 
 pub returns-clause-next : goal.returns-clause-next
