@@ -1,6 +1,6 @@
 -- What the table of edits asks of each choice of a part.
-use Rattle.std.proofs.Common.{ℕ, zero, suc, ◌≡◌, ◌+◌, ◌-◌, ◌<◌, ◌≤◌, Bool, true, false, not, cond, ◌&&◌, Option, Some, None, List, [], ◌∷◌, length, slice_get, refl, sym, ap, ◌∙◌, subst, arith, inl, inr}
-use Rattle.std.specs.Prelude.{is_none, is_some, nat_le, nat_lt, ◌==◌}
+use Rattle.std.proofs.Common.{ℕ, ◌≡◌, ◌+◌, ◌<◌, ◌≤◌, Bool, true, false, not, cond, Option, Some, None, List, [], ◌∷◌, length, slice_get, refl, sym, ap, ◌∙◌, subst, arith}
+use Rattle.std.specs.Prelude.{is_none, is_some, ◌==◌}
 use Rattle.std.specs.Option.{option_map_or}
 use Rattle.std.proofs.lemmas.Bool.{ltb-false, leb-false, le-ltb, lt-leb}
 use Rattle.std.proofs.lemmas.Bool.Decides.{nat_tests}
@@ -14,7 +14,6 @@ use Rattle.khe_instance.specs.Slots.{HasSlot}
 use Rattle.khe_instance.specs.WellMade.{AreWellMade}
 use Rattle.khe_instance.specs.declared.parts.EventInfo.{EventInfo}
 use Rattle.khe_instance.specs.declared.parts.Parts.{Parts}
-use Rattle.khe_instance.specs.declared.parts.Place.{Place}
 use Rattle.khe_instance.specs.declared.points.Point.{Point}
 use Rattle.khe_told.specs.Fits.{AreTold}
 use Rattle.khe_told.specs.Slots.{is_live, length_of, slot_at, start_of, given_at}
@@ -26,7 +25,7 @@ use Rattle.khe_solution.specs.Reading.{has_place, has_type, is_fixed_event, is_f
 use Rattle.khe_solution.specs.Refusing.{assign_row, first_refusal, give_row, merge_row, move_row, refusal, regive_row, split_row, swap_meets_row, swap_tasks_row}
 use Rattle.khe_solution.proofs.Basics.{AllPass, no_value, not-false, passed, true-false}
 use Rattle.repair_moves.specs.Items.{task_at}
-use Rattle.repair_moves.specs.Moves.{choices, edit_of, is_accepted, is_choice, resource_of, task_move, time_move}
+use Rattle.repair_moves.specs.Moves.{choices, edit_of, is_accepted, is_choice, resource_of, task_move}
 use Rattle.repair_moves.specs.declared.parts.Part.TheVariants.{TimeMoves, SwapMoves, Cuts, Joins, TaskMoves, TradeMoves, Gives}
 use Rattle.repair_moves.proofs.PickedLaws.{false_unless}
 use Rattle.repair_moves.proofs.SlotLaws.{live_event}
@@ -280,6 +279,11 @@ pub fixed_at : (p : Parts) (s : List Slot) (n : ℕ) (t : TaskId) (e : EventId) 
     → is_fixed_place p (slot_at s (task_at p n).meet.0).event.0 (task_at p n).place ≡ b
 fixed_at p s n t e b is own h =
     subst (λ (u : TaskId). is_fixed_place p (slot_at s u.meet.0).event.0 u.place ≡ b) is (ap (λ (x : EventId). is_fixed_place p x.0 t.place) own ∙ h)
+
+pub typed_at : (p : Parts) (s : List Slot) (n k : ℕ) (t : TaskId) (e : EventId) (b : Bool) → t ≡ task_at p n → (slot_at s t.meet.0).event ≡ e → has_type p k (place_at p.events e.0 t.place) ≡ b
+    → has_type p k (place_at p.events (slot_at s (task_at p n).meet.0).event.0 (task_at p n).place) ≡ b
+typed_at p s n k t e b is own h =
+    subst (λ (u : TaskId). has_type p k (place_at p.events (slot_at s u.meet.0).event.0 u.place) ≡ b) is (ap (λ (x : EventId). has_type p k (place_at p.events x.0 t.place)) own ∙ h)
 
 pub bare_at : (p : Parts) (s : List Slot) (n : ℕ) (t : TaskId) (r : Option ResourceId) → t ≡ task_at p n → r ≡ resource_at s t → is_none r ≡ true
     → is_none (given_at (slot_at s (task_at p n).meet.0) (task_at p n).place) ≡ true

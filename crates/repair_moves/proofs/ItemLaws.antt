@@ -1,7 +1,7 @@
 -- The meets and tasks of a monitor, by their numbers.
-use Rattle.std.proofs.Common.{ℕ, zero, suc, ◌≡◌, ◌+◌, ◌<◌, ◌≤◌, Bool, true, false, ◌&&◌, Option, Some, None, List, [], ◌∷◌, length, slice_get, get_or, refl, sym, ap, ◌∙◌, subst, arith, inl, inr, ◌⊎◌}
-use Rattle.std.specs.Prelude.{◌==◌, ◌||◌, ◌^◌, IfSome, MatchOption, is_some, not}
-use Rattle.std.specs.List.{list_any, sum_by}
+use Rattle.std.proofs.Common.{ℕ, zero, suc, ◌≡◌, ◌+◌, ◌<◌, ◌≤◌, Bool, true, false, ◌&&◌, Option, Some, None, List, [], ◌∷◌, length, slice_get, refl, sym, ap, ◌∙◌, subst, arith, inl, inr, ◌⊎◌}
+use Rattle.std.specs.Prelude.{◌==◌, ◌||◌, ◌^◌, IfSome, MatchOption, is_some}
+use Rattle.std.specs.List.{sum_by}
 use Rattle.std.proofs.lemmas.Bool.{cases_lt, lt-ltb}
 use Rattle.std.proofs.lemmas.Bool.Decides.{nat_tests}
 use Rattle.std.proofs.lemmas.List.Folds.{list_any_at}
@@ -30,7 +30,7 @@ use Rattle.khe_told.proofs.OpeningLaws.{few_places}
 use Rattle.khe_told.specs.Fits.{AreTold}
 use Rattle.khe_told.specs.Slots.{is_live, given_at, slot_at}
 use Rattle.khe_told.specs.declared.slots.Slot.{Slot}
-use Rattle.khe_solution.specs.NextTask.{IsBefore, IsFrom, has_task}
+use Rattle.khe_solution.specs.NextTask.{IsFrom, has_task}
 use Rattle.khe_instance.specs.declared.states.Meet.{Meet}
 use Rattle.khe_solution.specs.Reading.{Shows, has_place, is_resource}
 use Rattle.khe_solution.proofs.Basics.{there-none, true-false}
@@ -223,10 +223,6 @@ live_some x (Some m) b h e t = h.live
 pub live_none : (x : Slot) (r : Option Meet) (b : Bool) → MatchOption r (is_live x ≡ false) (Shows x) → b ≡ is_some r → b ≡ false → is_live x ≡ false
 live_none x None b h e t = h
 live_none x (Some m) b h e t = absurd (true-false (sym e ∙ t))
-
-pub not_yes : (b : Bool) → not b ≡ true → b ≡ false
-not_yes true h = absurd (true-false (sym h))
-not_yes false h = refl
 
 -- the numbers of slots are small
 pub meet_small : (p : Parts) (test : ℕ → Bool) (from : ℕ) (r : Option ℕ) → AreWellMade p → IsFirst test from (meet_slots p) r → IfSome r (λ n. n + 1 < 2 ^ 32)

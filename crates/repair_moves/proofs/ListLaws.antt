@@ -1,7 +1,7 @@
 -- What is true of each move of a list.
-use Rattle.std.proofs.Common.{ℕ, ◌≡◌, Bool, true, false, cond, Option, Some, None, List, [], ◌∷◌, map, length, slice_get, refl, sym, ap, ◌∙◌, subst}
+use Rattle.std.proofs.Common.{ℕ, ◌≡◌, Bool, true, false, cond, Option, Some, None, List, [], ◌∷◌, map, slice_get, refl}
 use Rattle.std.specs.Prelude.{All}
-use Rattle.std.specs.List.{filter, flat_map, range_with_len}
+use Rattle.std.specs.List.{filter}
 use Rattle.std.specs.Option.{option_map_or}
 use Rattle.std.proofs.lemmas.List.Elements.{All-nil, All-cons}
 use Rattle.khe_base.proofs.ListLemmas.{All-flat_map}
@@ -13,7 +13,7 @@ use Rattle.khe_instance.specs.declared.rules.Rule.{Rule}
 use Rattle.khe_told.specs.declared.edits.Edit.{Edit}
 use Rattle.khe_told.specs.declared.slots.Slot.{Slot}
 use Rattle.khe_solution.specs.Refusing.{refusal}
-use Rattle.repair_moves.specs.Moves.{choices, choices_from, edit_of, is_choice, items_from, moves, moves_of, moves_under, part_from}
+use Rattle.repair_moves.specs.Moves.{choices_from, edit_of, is_choice, items_from, moves, moves_of, moves_under, part_from}
 use Rattle.repair_moves.specs.Picked.{picked}
 use Rattle.repair_moves.specs.Table.{parts_of}
 use Rattle.repair_moves.specs.declared.parts.Part.{Part}

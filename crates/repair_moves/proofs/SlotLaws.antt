@@ -1,16 +1,13 @@
 -- What is known of the slots of a valid timetable by their numbers.
-use Rattle.std.proofs.Common.{ℕ, ◌≡◌, ◌+◌, ◌<◌, ◌≤◌, Bool, true, false, Option, Some, None, List, length, slice_get, get_or, refl, sym, ap, ◌∙◌, subst, arith, inl, inr}
-use Rattle.std.specs.Prelude.{All, IfSome, is_some, replicate}
+use Rattle.std.proofs.Common.{ℕ, ◌≡◌, ◌<◌, ◌≤◌, true, false, Option, Some, None, List, length, get_or, sym, ap, ◌∙◌, subst, arith, inl, inr}
+use Rattle.std.specs.Prelude.{IfSome, is_some, replicate}
 use Rattle.std.specs.Option.{option_map_or}
-use Rattle.std.specs.List.{sum_by}
 use Rattle.std.proofs.lemmas.Bool.{cases_lt}
 use Rattle.std.proofs.lemmas.List.{get_or_past, get_or-replicate, length-replicate}
 use Rattle.khe_base.specs.declared.numbers.ResourceId.{ResourceId}
 use Rattle.std.proofs.lemmas.List.Elements.{All-get_or}
-use Rattle.khe_instance.specs.Lookups.{places_at}
 use Rattle.khe_instance.specs.Slots.{HasSlot, slots_from}
-use Rattle.khe_instance.specs.WellMade.{AreFirstMeets, AreWellMade}
-use Rattle.khe_instance.specs.declared.parts.EventInfo.{EventInfo}
+use Rattle.khe_instance.specs.WellMade.{AreWellMade}
 use Rattle.khe_instance.specs.declared.parts.Parts.{Parts}
 use Rattle.khe_instance.proofs.SlotsLemmas.{length-slots_from, slot-event}
 use Rattle.khe_told.proofs.FillingLaws.{slot_of}

@@ -1,9 +1,9 @@
 -- Tasks by their numbers, and the first of them that passes a test.
-use Rattle.std.proofs.Common.{ℕ, zero, suc, ◌≡◌, ◌+◌, ◌<◌, ◌≤◌, Bool, true, false, ◌&&◌, ◌||◌, Option, Some, None, List, [], ◌∷◌, length, slice_get, get_or, refl, sym, ap, ◌∙◌, subst, arith, inl, inr, ◌⊎◌}
+use Rattle.std.proofs.Common.{ℕ, zero, suc, ◌≡◌, ◌+◌, ◌<◌, ◌≤◌, Bool, true, false, ◌&&◌, ◌||◌, Some, List, [], ◌∷◌, length, slice_get, get_or, refl, sym, ap, ◌∙◌, subst, arith, inl, inr}
 use Rattle.std.specs.List.{list_any}
 use Rattle.std.proofs.lemmas.Bool.{cases_lt, ltb-true}
 use Rattle.std.proofs.lemmas.List.{get_or_past}
-use Rattle.std.proofs.lemmas.Option.{slice_get-get_or, same_Some}
+use Rattle.std.proofs.lemmas.Option.{slice_get-get_or}
 use Rattle.khe_base.specs.declared.numbers.TaskId.{TaskId}
 use Rattle.khe_instance.specs.Slots.{all_tasks, first_task}
 use Rattle.khe_instance.specs.WellMade.{AreWellMade}
@@ -14,7 +14,7 @@ use Rattle.khe_told.specs.Slots.{is_live, slot_at}
 use Rattle.khe_told.specs.declared.slots.Slot.{Slot}
 use Rattle.khe_solution.specs.NextTask.{IsBefore, IsFrom}
 use Rattle.khe_solution.specs.Reading.{has_place}
-use Rattle.khe_solution.specs.TaskRows.{first_in, places, tasks_of_all}
+use Rattle.khe_solution.specs.TaskRows.{first_in, places}
 use Rattle.khe_solution.proofs.NumberLaws.{first_told, number_before, number_below, order_of, task_of, tasks_told}
 use Rattle.repair_moves.specs.Items.{no_task, task_at, task_slots}
 use Rattle.repair_moves.specs.Picked.{IsFirst, NonePass}

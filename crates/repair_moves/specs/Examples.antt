@@ -1,5 +1,5 @@
 -- A small instance and states of it, for examples.
-use Rattle.std.specs.Prelude.{ℕ, true, false, Option, Some, None, List, [], ◌∷◌, codes}
+use Rattle.std.specs.Prelude.{ℕ, true, false, Option, Some, None, [], ◌∷◌, codes}
 use Rattle.khe_base.specs.declared.costs.CostFn.TheVariants.{Linear}
 use Rattle.khe_base.specs.declared.numbers.ResourceId.{ResourceId}
 use Rattle.khe_base.specs.declared.numbers.TaskId.{TaskId}

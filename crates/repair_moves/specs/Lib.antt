@@ -1,4 +1,3 @@
-pub mod Bounds
 pub mod Cursors
 pub mod Examples
 pub mod Items

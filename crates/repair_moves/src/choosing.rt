@@ -9,7 +9,9 @@ ghost use Rattle.repair_moves.specs.Picked.{IsFirst};
 ghost use Rattle.repair_moves.specs.declared.parts.Part.TheVariants as kinds;
 
 use crate::parts::Part;
-use crate::reads::{accepts, facts, is_fixed_event, is_fixed_place, live, resource_at, task_at};
+use crate::reads::{
+    accepts, facts, has_type, is_fixed_event, is_fixed_place, live, resource_at, task_at,
+};
 use khe_base::{MeetId, ResourceId, TaskId, TimeId};
 use khe_instance::{Instance, Point};
 use khe_solution::Solution;
@@ -204,7 +206,7 @@ fn next_join(
 }
 
 /// The first resource from one on that a task can be given. It takes the time of the resources that
-/// it goes over.
+/// it goes over, and each of another type takes constant time.
 fn next_resource(
     inst: &Instance,
     solution: &Solution<'_>,
@@ -222,9 +224,13 @@ fn next_resource(
         return None;
     }
     for number in from..inst.resources() {
-        let edit = task_move(inst, solution, task, ResourceId(number));
-        if accepts(inst, solution, edit) {
-            return Some(number);
+        let resource = ResourceId(number);
+        // The table is not asked about a resource of another type.
+        if has_type(inst, own.event, task.place, resource) {
+            let edit = task_move(inst, solution, task, resource);
+            if accepts(inst, solution, edit) {
+                return Some(number);
+            }
         }
     }
     None

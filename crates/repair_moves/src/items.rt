@@ -13,7 +13,7 @@ ghost use Rattle.repair_moves.specs.Tasks.{IsAlways, IsFirstPlace, IsFirstTask};
 ghost use Rattle.khe_instance.specs.declared.points.Point.TheVariants.{EventPair as AtPair, Resource as AtResource};
 
 use crate::parts::Part;
-use crate::reads::{facts, live, place_at, task_at};
+use crate::reads::{facts, has_type, live, place_at, task_at};
 use khe_base::{EventId, MeetId, ResourceId, TaskId, Text};
 use khe_instance::{EventPair, Instance, Point, Rule};
 use khe_solution::Solution;
@@ -351,10 +351,7 @@ fn may_be_given(inst: &Instance, solution: &Solution<'_>, point: Point, task: Ta
     let Some(own) = live(solution, task.meet.0) else {
         return false;
     };
-    match place_at(inst, own.event, task.place) {
-        Some(place) => { resource.0 < inst.resources() && inst.type_of(resource) == place.rtype }
-        None => false,
-    }
+    has_type(inst, own.event, task.place, resource)
 }
 
 /// The first task slot from one on whose task has no resource and may be given the point's. It goes

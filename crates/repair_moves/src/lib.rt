@@ -4,6 +4,7 @@
 
 mod choosing;
 mod cursors;
+mod examples;
 mod items;
 mod laws;
 mod moved;

@@ -5,7 +5,7 @@ ghost use Rattle.khe_instance.specs.Lookups.{place_at};
 ghost use Rattle.khe_instance.specs.WellMade.{AreWellMade};
 ghost use Rattle.khe_told.specs.Slots.{slot_at, is_live};
 ghost use Rattle.khe_told.specs.Valid.{AreValid};
-ghost use Rattle.khe_solution.specs.Reading.{Shows, is_fixed_event, is_fixed_place, resource_at};
+ghost use Rattle.khe_solution.specs.Reading.{Shows, has_type, is_fixed_event, is_fixed_place, resource_at};
 ghost use Rattle.khe_solution.specs.Refusing.{is_of_meets};
 ghost use Rattle.repair_moves.specs.Items.{task_at};
 ghost use Rattle.repair_moves.specs.Moves.{is_accepted};
@@ -99,6 +99,16 @@ pub(crate) fn is_fixed_place(inst: &Instance, event: EventId, place: u32) -> boo
 {
     match place_at(inst, event, place) {
         Some(own) => own.fixed.is_some(),
+        None => false,
+    }
+}
+
+/// Whether a resource has the type of a place of an event.
+pub(crate) fn has_type(inst: &Instance, event: EventId, place: u32, resource: ResourceId) -> bool
+    ensures { result ≡ has_type inst.now resource.0 (place_at inst.now.events event.0 place) }
+{
+    match place_at(inst, event, place) {
+        Some(own) => resource.0 < inst.resources() && inst.type_of(resource) == own.rtype,
         None => false,
     }
 }

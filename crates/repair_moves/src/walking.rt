@@ -126,7 +126,8 @@ pub fn moves(inst: &Instance, solution: &Solution<'_>, monitor: MonitorId) -> Cu
 /// which a meet would end too late, a cut, a meet of another event than the one to be joined, and all
 /// choices of a meet or task that is preassigned are gone past at once; the tasks of a resource and
 /// those without one are found by words of 64. Meets to swap with, resources and tasks to trade with
-/// are looked at one by one, and of an event group's meets as many events as lie between.
+/// are looked at one by one, each resource of another type in constant time, and of an event group's
+/// meets as many events as lie between.
 pub fn next_move(inst: &Instance, solution: &Solution<'_>, cursor: &mut Cursor) -> Option<Edit>
     requires of { solution.now.parts ≡ inst.now }
     requires cursor { IsCursor inst.now cursor.old }

@@ -1,14 +1,7 @@
-use Rattle.std.proofs.Common.{ℕ, ◌≡◌, ◌+◌, ◌-◌, ◌<◌, ◌≤◌, true, false, sym, ap, ◌∙◌, subst, arith, length}
-use Rattle.std.specs.Prelude.{is_none, is_some, not}
-use Rattle.khe_base.specs.declared.numbers.EventId.{EventId}
-use Rattle.khe_told.specs.Slots.{length_of, slot_at}
-use Rattle.khe_solution.specs.Reading.{is_fixed_event, is_fixed_place, is_time}
-use Rattle.repair_moves.specs.Items.{meet_slots}
+use Rattle.std.proofs.Common.{◌≡◌, sym, ap, ◌∙◌, arith}
 use Rattle.repair_moves.specs.Moves.{is_accepted, is_choice}
 use Rattle.repair_moves.specs.declared.parts.Part.TheVariants.{Gives}
 use Rattle.repair_moves.proofs.ChoiceLaws as laws
-use Rattle.repair_moves.proofs.PickedLaws.{none_more, none_on}
-use Rattle.repair_moves.proofs.SlotLaws.{live_long}
 use Rattle.repair_moves.proofs.choosing.next_give.Goals as goal
 use Rattle.khe_told.specs.declared.edits.Edit.TheVariants.{Give}
 

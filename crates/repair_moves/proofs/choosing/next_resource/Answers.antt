@@ -1,16 +1,10 @@
-use Rattle.std.proofs.Common.{ℕ, ◌≡◌, ◌+◌, ◌-◌, ◌<◌, ◌≤◌, true, false, sym, ap, ◌∙◌, subst, arith, length}
-use Rattle.std.specs.Prelude.{is_none, is_some, not}
-use Rattle.khe_base.specs.declared.numbers.EventId.{EventId}
-use Rattle.khe_told.specs.Slots.{length_of, slot_at}
-use Rattle.khe_solution.specs.Reading.{is_fixed_event, is_fixed_place, is_time}
-use Rattle.repair_moves.specs.Items.{meet_slots}
+use Rattle.std.proofs.Common.{true, false, sym, ap, ◌∙◌, arith, length}
 use Rattle.repair_moves.specs.Moves.{is_accepted, is_choice}
 use Rattle.repair_moves.specs.declared.parts.Part.TheVariants.{TaskMoves}
 use Rattle.repair_moves.proofs.ChoiceLaws as laws
 use Rattle.repair_moves.proofs.PickedLaws.{none_more, none_on}
-use Rattle.repair_moves.proofs.SlotLaws.{live_long}
 use Rattle.repair_moves.proofs.choosing.next_resource.Goals as goal
-use Rattle.repair_moves.specs.Items.{task_slots}
+use Rattle.repair_moves.proofs.choosing.next_resource.Goals.{then-has_type+else-accepts, else-has_type}
 use Rattle.repair_moves.specs.Moves.{task_move}
 
 pub returns-in_err-own-clause-next : goal.returns-in_err-own-clause-next
@@ -28,7 +22,13 @@ returns-then-accepts-clause-next c =
 pub loop-number-preserved : goal.loop-number-preserved
 loop-number-preserved c = record {
   onward = let o = c.loop-number.invariant.onward in omega (arith, o);
-  none = none_more (is_choice c.args.inst.now c.args.solution.now.slots c.args.point TaskMoves c.args.item) c.args.from c.loop-number.number c.loop-number.invariant.none (laws.TaskMoves_is c.args.inst.now c.args.solution.now.slots c.args.point c.args.item c.loop-number.number ∙ ap (λ t. is_accepted c.args.inst.now c.args.solution.now.slots (task_move c.args.solution.now.slots t c.loop-number.number)) (sym c.task_at-task.ensures) ∙ ap (is_accepted c.args.inst.now c.args.solution.now.slots) (sym c.task_move-edit.ensures.edit) ∙ sym c.accepts.ensures ∙ c.if-accepts.false);
+  none = none_more (is_choice c.args.inst.now c.args.solution.now.slots c.args.point TaskMoves c.args.item) c.args.from c.loop-number.number c.loop-number.invariant.none (elim c.if-has_type.branch [
+    | then-has_type+else-accepts w ↦
+        laws.TaskMoves_is c.args.inst.now c.args.solution.now.slots c.args.point c.args.item c.loop-number.number ∙ ap (λ t. is_accepted c.args.inst.now c.args.solution.now.slots (task_move c.args.solution.now.slots t c.loop-number.number)) (sym c.task_at-task.ensures) ∙ ap (is_accepted c.args.inst.now c.args.solution.now.slots) (sym w.task_move-edit.ensures.edit) ∙ sym w.accepts.ensures ∙ w.if-accepts.false
+    | else-has_type w ↦
+        laws.resource_typed c.args.inst.now c.args.solution.now.slots c.args.point c.args.item c.loop-number.number
+        (laws.typed_at c.args.inst.now c.args.solution.now.slots c.args.item c.loop-number.number c.task_at-task.result c.in_ok-own.own.event false c.task_at-task.ensures c.in_ok-own.ensures.event (sym c.has_type.ensures ∙ w.if-has_type.false))
+  ]);
 }
 
 pub returns-clause-next : goal.returns-clause-next

@@ -1,15 +1,8 @@
-use Rattle.std.proofs.Common.{ℕ, ◌≡◌, ◌+◌, ◌<◌, ◌≤◌, true, false, Option, Some, None, length, slice_get, sym, ap, ◌∙◌, subst, arith, inl, inr}
-use Rattle.std.specs.Prelude.{◌==◌, is_some, not}
-use Rattle.khe_base.specs.declared.numbers.EventId.{EventId}
-use Rattle.khe_instance.specs.Watching.{names_event}
-use Rattle.khe_told.specs.Slots.{slot_at, given_at}
-use Rattle.khe_solution.proofs.Basics.{not-false}
-use Rattle.repair_moves.specs.Items.{is_free_at, is_open_at, is_task_at, is_task_in, is_task_of, meet_slots, task_at, task_slots}
-use Rattle.repair_moves.specs.Named.{AreWithin, is_named}
-use Rattle.repair_moves.proofs.ChoiceLaws as choices
+use Rattle.std.proofs.Common.{◌≡◌, true, false, sym, ◌∙◌, arith}
+use Rattle.repair_moves.specs.Items.{meet_slots}
+use Rattle.repair_moves.specs.Named.{is_named}
 use Rattle.repair_moves.proofs.ItemLaws as laws
 use Rattle.repair_moves.proofs.PickedLaws.{none_more, none_on}
-use Rattle.repair_moves.proofs.TaskLaws as tasks
 use Rattle.repair_moves.proofs.items.next_named.Goals as goal
 
 pub loop-slot-init : goal.loop-slot-init
@@ -22,7 +15,7 @@ pub loop-slot-preserved-then-not-names : goal.loop-slot-preserved-then-not-names
 loop-slot-preserved-then-not-names c =
     let has = c.event_of-event.ensures in
     let are = c.slots_of-slot.ensures.are has.0 has.1 in
-    let e : c.names.result ≡ false = search (laws.not_yes, c.if-not-names.true) in
+    let e : c.names.result ≡ false = c.if-not-names.true in
     let o = c.loop-slot.invariant.onward in
     let x = has.2 in
     let y = has.3 in
@@ -35,7 +28,7 @@ loop-slot-preserved-then-not-names c =
 
 pub returns-then-is_some : goal.returns-then-is_some
 returns-then-is_some c =
-    let e : c.names.result ≡ true = search (not-false, c.if-not-names.false) in
+    let e : c.names.result ≡ true = c.if-not-names.false in
     let l = c.loop-slot-test.true in
     let m = c.named_within-within.ensures.slots in (
       c.loop-slot.invariant.onward,

@@ -1,4 +1,4 @@
-use Rattle.std.proofs.Common.{ℕ, ◌-◌, ◌≤◌}
+use Rattle.std.proofs.Common.{◌-◌, ◌≤◌}
 use Rattle.repair_moves.specs.Named.{is_named}
 use Rattle.repair_moves.specs.Picked.{NonePass}
 use Rattle.repair_moves.proofs.items.next_named.Given as goal

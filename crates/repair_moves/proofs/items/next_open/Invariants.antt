@@ -1,4 +1,4 @@
-use Rattle.std.proofs.Common.{ℕ, ◌-◌, ◌≤◌}
+use Rattle.std.proofs.Common.{◌-◌, ◌≤◌}
 use Rattle.repair_moves.specs.Items.{is_open_at, task_slots}
 use Rattle.repair_moves.specs.Picked.{NonePass}
 use Rattle.repair_moves.proofs.items.next_open.Given as goal

@@ -1,4 +1,4 @@
-use Rattle.std.proofs.Common.{ℕ, ◌-◌}
+use Rattle.std.proofs.Common.{◌-◌}
 use Rattle.khe_solution.specs.NextTask.{IsFrom}
 use Rattle.repair_moves.specs.Items.{is_task_in, meet_slots}
 use Rattle.repair_moves.specs.Tasks.{NoTaskBefore}

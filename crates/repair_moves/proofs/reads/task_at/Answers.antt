@@ -1,4 +1,4 @@
-use Rattle.std.proofs.Common.{◌≡◌, ◌≤◌, ℕ, sym, subst}
+use Rattle.std.proofs.Common.{◌≤◌, ℕ, sym, subst}
 use Rattle.repair_moves.proofs.TaskLaws.{task_past}
 use Rattle.repair_moves.proofs.reads.task_at.Goals as goal
 

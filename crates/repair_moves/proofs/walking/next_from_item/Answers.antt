@@ -1,4 +1,4 @@
-use Rattle.std.proofs.Common.{◌≡◌, ap, sym, ◌∙◌, arith, length, ◌∷◌}
+use Rattle.std.proofs.Common.{◌∙◌}
 use Rattle.repair_moves.proofs.WalkLaws as walks
 use Rattle.repair_moves.proofs.walking.next_from_item.Goals as goal
 

@@ -1,4 +1,4 @@
-use Rattle.std.proofs.Common.{◌≡◌, ◌∷◌, [], List, ap, sym, ◌∙◌, arith, length, subst, Option, Some, None}
+use Rattle.std.proofs.Common.{List, sym, subst}
 use Rattle.khe_told.specs.declared.edits.Edit.{Edit}
 use Rattle.repair_moves.specs.Walks.{IsNextIn}
 use Rattle.repair_moves.proofs.WalkLaws as walks

@@ -1,4 +1,4 @@
-use Rattle.std.proofs.Common.{◌≡◌, ◌∷◌, ◌+◌, ◌<◌, ◌≤◌, [], List, ap, sym, ◌∙◌, arith, length, subst, refl, Some, slice_get}
+use Rattle.std.proofs.Common.{◌∷◌, ap, sym, ◌∙◌, arith, refl, slice_get}
 use Rattle.std.proofs.lemmas.Option.{slice_get-get_or, slice_get_within}
 use Rattle.khe_base.proofs.ListLemmas.{all-there}
 use Rattle.khe_instance.specs.WellMade.{IsMonitor}

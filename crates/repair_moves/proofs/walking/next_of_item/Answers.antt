@@ -1,4 +1,4 @@
-use Rattle.std.proofs.Common.{◌≡◌, ◌+◌, ◌∷◌, [], List, ap, sym, ◌∙◌, refl, subst}
+use Rattle.std.proofs.Common.{◌+◌, ◌∷◌, ap, sym, ◌∙◌, refl}
 use Rattle.repair_moves.specs.Moves.{choices_from, is_accepted}
 use Rattle.repair_moves.proofs.ChoiceLaws.{accepted_is}
 use Rattle.repair_moves.proofs.WalkLaws as walks
