@@ -1,0 +1,123 @@
+use crate::Demand;
+use crate::cells::free_cells;
+use crate::listing::{list_cells, list_tasks};
+use crate::marks::marked;
+use crate::renewing::{Picks, renew};
+use crate::resource_sets::resource_sets;
+use crate::start_sets::start_sets;
+use crate::units::Units;
+use demand_matching::{Domain, Matching, Pick};
+use khe_base::{NoMemory, Seq, both};
+use khe_instance::Instance;
+use khe_told::{Change, Steps, Told, Watcher};
+use std::alloc::Global;
+use std::sync::ledger::Ledger;
+
+/// The demands of a timetable that is told change by change, each with the supplies that it may have,
+/// and a maximum matching of them.
+///
+/// It takes memory in proportion to the task slots of the instance, its cells, and its sets.
+#[derive(Drop)]
+pub struct Demands {
+    told: Told,
+    units: Units,
+    picks: Picks,
+    matching: Matching,
+    /// The cells that are to be free: their demands have the numbers after the task slots.
+    cells: Seq<u32>,
+    tasks: u32,
+    times: u32,
+    alloc: Global,
+}
+
+impl Demands {
+    /// The demands of an instance without meets: those for unavailable times.
+    pub fn open(alloc: Global, inst: &Instance) -> Result<Demands, NoMemory> {
+        inst.facts();
+        let tasks = inst.task_slots();
+        let times = inst.times();
+        let starts = start_sets(alloc, inst);
+        let resources = resource_sets(alloc, inst);
+        let parts = both(both(starts, resources), free_cells(alloc, inst));
+        let rest = both(Told::open(alloc, inst), Units::open(alloc, inst));
+        let (((starts, resources), cells), (told, units)) = both(parts, rest)?;
+        let count = tasks + cells.len() as u32;
+        let mut matching = Matching::new(alloc, count, starts.sets, resources.sets, times, inst.resources())?;
+        want_cells(&mut matching, cells.as_slice(), tasks, times);
+        let picks = Picks { starts: starts.entries, resources: resources.entries };
+        Ok(Demands { tasks, times, alloc, told, units, picks, matching, cells })
+    }
+
+    /// How many demands no assignment can serve: the greatest excess of a set of demands over the
+    /// supplies that they may have. It takes constant time and no memory.
+    pub fn deficit(&self) -> u32 {
+        self.matching.deficit()
+    }
+
+    /// The least set of demands whose excess is the deficit, in their order.
+    ///
+    /// It takes memory for a mark for each demand, and time in proportion to the demands.
+    pub fn hall(&self) -> Result<Seq<Demand>, NoMemory> {
+        let numbers = self.matching.hall_set()?;
+        let count = self.tasks + self.cells.len() as u32;
+        let marks = marked(self.alloc, count, numbers.as_slice())?;
+        let mut hall = Seq::new(self.alloc);
+        list_tasks(&mut hall, &self.told, &self.units, &marks)?;
+        list_cells(&mut hall, self.cells.as_slice(), self.times, self.tasks, &marks)?;
+        Ok(hall)
+    }
+}
+
+// Gives each cell's demand that cell alone.
+fn want_cells(matching: &mut Matching, cells: &[u32], first: u32, times: u32) {
+    for (more, cell) in cells.iter().enumerate() {
+        let domain = Domain {
+            times: Pick::One(*cell % times),
+            shift: 0,
+            resources: Pick::One(*cell / times),
+        };
+        matching.set_domain(first + more as u32, Some(domain));
+    }
+}
+
+impl Watcher for Demands {
+    ghost use Rattle.std.specs.Prelude.{true, None};
+    ghost use Rattle.std.proofs.Common.{refl};
+
+    ghost told = { λ d. d.told };
+
+    ghost IsOf = { λ d p. Unit {0} };
+
+    ghost noted = { λ d. None };
+
+    ghost is_silent = { true };
+
+    ghost HasSameRest = { λ x y. Unit {0} };
+
+    fn note<L: Ledger>(&mut self, inst: &Instance, change: Change, steps: &mut Steps<L>) {
+        let _ = steps;
+        let meet = change.meet();
+        let event = self.told.event(meet);
+        if let Change::Add { duration, .. } = change {
+            self.units.hold(event, meet, duration);
+        }
+        let duration = match (change, self.told.span(meet)) {
+            (Change::Add { duration, .. }, _) => duration,
+            (_, Some(span)) => span.duration,
+            (_, None) => 0,
+        };
+        let (from, end) = match change {
+            Change::Give { task, .. } | Change::Take { task, .. } => (task.place, task.place + 1),
+            _ => (0, self.told.given(meet).len() as u32),
+        };
+        self.told.note(inst, change);
+        renew(inst, &self.told, &self.picks, &self.units, &mut self.matching, meet, duration, from, end);
+        if let Change::Drop { duration, .. } = change {
+            self.units.release(event, meet, duration);
+        }
+    }
+
+    ghost same_rest_refl = { λ x. tt };
+
+    ghost same_rest_trans = { λ x y z a b. tt };
+}
