@@ -1,3 +1,6 @@
 pub mod Demands
-pub mod Examples
+pub mod Kept
+pub mod Picks
+pub mod Sets
 pub mod Strict
+pub mod Units

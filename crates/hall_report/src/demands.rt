@@ -1,3 +1,9 @@
+ghost use Rattle.std.specs.Prelude.{◌≡◌, IfOk, List};
+ghost use Rattle.khe_instance.specs.declared.parts.Parts.{Parts};
+ghost use Rattle.khe_told.specs.Slots.{no_meets};
+ghost use Rattle.hall_report.specs.Kept.{AreOf, AreOfSome};
+ghost use Rattle.hall_report.specs.Demands.{IsDeficitOf, IsHallOf};
+
 use crate::Demand;
 use crate::cells::free_cells;
 use crate::listing::{list_cells, list_tasks};
@@ -25,14 +31,19 @@ pub struct Demands {
     matching: Matching,
     /// The cells that are to be free: their demands have the numbers after the task slots.
     cells: Seq<u32>,
+    /// How many task slots and times there are.
     tasks: u32,
     times: u32,
     alloc: Global,
+    ghost opened: { AreOfSome told units picks matching cells tasks times },
 }
 
 impl Demands {
     /// The demands of an instance without meets: those for unavailable times.
-    pub fn open(alloc: Global, inst: &Instance) -> Result<Demands, NoMemory> {
+    pub fn open(alloc: Global, inst: &Instance) -> Result<Demands, NoMemory>
+        ensures of { IfOk result (λ d. AreOf inst.now d.told d.units d.picks d.matching d.cells d.tasks d.times) }
+        ensures told { IfOk result (λ d. d.told ≡ no_meets inst.now) }
+    {
         inst.facts();
         let tasks = inst.task_slots();
         let times = inst.times();
@@ -50,14 +61,18 @@ impl Demands {
 
     /// How many demands no assignment can serve: the greatest excess of a set of demands over the
     /// supplies that they may have. It takes constant time and no memory.
-    pub fn deficit(&self) -> u32 {
+    pub fn deficit(&self) -> u32
+        ensures { (p : Parts) → AreOf p self.now.told self.now.units self.now.picks self.now.matching self.now.cells self.now.tasks self.now.times → IsDeficitOf p self.now.told result }
+    {
         self.matching.deficit()
     }
 
     /// The least set of demands whose excess is the deficit, in their order.
     ///
     /// It takes memory for a mark for each demand, and time in proportion to the demands.
-    pub fn hall(&self) -> Result<Seq<Demand>, NoMemory> {
+    pub fn hall(&self) -> Result<Seq<Demand>, NoMemory>
+        ensures { (p : Parts) → AreOf p self.now.told self.now.units self.now.picks self.now.matching self.now.cells self.now.tasks self.now.times → IfOk result (λ hall. IsHallOf p self.now.told hall) }
+    {
         let numbers = self.matching.hall_set()?;
         let count = self.tasks + self.cells.len() as u32;
         let marks = marked(self.alloc, count, numbers.as_slice())?;
@@ -82,11 +97,11 @@ fn want_cells(matching: &mut Matching, cells: &[u32], first: u32, times: u32) {
 
 impl Watcher for Demands {
     ghost use Rattle.std.specs.Prelude.{true, None};
-    ghost use Rattle.std.proofs.Common.{refl};
+    ghost use Rattle.hall_report.specs.Kept.{AreOf};
 
     ghost told = { λ d. d.told };
 
-    ghost IsOf = { λ d p. Unit {0} };
+    ghost IsOf = { λ d p. AreOf p d.told d.units d.picks d.matching d.cells d.tasks d.times };
 
     ghost noted = { λ d. None };
 
