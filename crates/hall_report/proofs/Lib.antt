@@ -1,3 +1,6 @@
+pub mod FreeSlots
+pub mod Numbers
 pub mod Places
 pub mod Renaming
 pub mod UnitLaws
+pub mod UnitsOpened

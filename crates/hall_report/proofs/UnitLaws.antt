@@ -21,6 +21,9 @@ pub walk_suc : (next : List ℕ) (u n : ℕ) → walk next u (suc n) ≡ get_or 
 unfolding walk
 walk_suc next u n = refl
 
+pub walk_next : (next : List ℕ) (u n : ℕ) → walk next u (n + 1) ≡ get_or next (walk next u n) 0
+walk_next next u n = let e : n + 1 ≡ suc n = omega arith in ap (walk next u) e ∙ walk_suc next u n
+
 pub walk_more : (next : List ℕ) (u a b : ℕ) → walk next u (a + b) ≡ walk next (walk next u a) b
 walk_more next u a zero = let e : a + 0 ≡ a = omega arith in ap (walk next u) e ∙ sym (walk_zero next (walk next u a))
 walk_more next u a (suc b) =

@@ -1,6 +1,6 @@
 -- The demands of a told state, in order, and the supplies that each may have. A supply is a resource
 -- at a time.
-use Rattle.std.specs.Prelude.{ℕ, ◌-◌, ◌+◌, ◌==◌, ◌≡◌, Bool, false, ◌&&◌, nat_le, Option, Some, None, List, [], ◌++◌, map, length, slice_get}
+use Rattle.std.specs.Prelude.{ℕ, ◌-◌, ◌+◌, ◌==◌, ◌≡◌, Bool, false, ◌&&◌, nat_le, if◌then◌else◌, Option, Some, None, List, [], ◌∷◌, ◌++◌, map, length, slice_get}
 use Rattle.std.specs.List.{filter, flat_map, range_with_len}
 use Rattle.std.specs.Option.{option_map, option_map_or}
 use Rattle.khe_base.specs.declared.numbers.ResourceId.{ResourceId}
@@ -90,10 +90,11 @@ domains p s = record {
 abbrev pub IsDeficitOf : Parts → List Slot → ℕ → Type 0
 IsDeficitOf p s deficit = IsDeficit (domains p s) deficit
 
--- whether the demand with this number passes a test
-abbrev pub is_named : Parts → List Slot → (Demand → Bool) → ℕ → Bool
-is_named p s test n = option_map_or test (slice_get (demands p s) n) false
+-- the demands of a list, numbered on from a number, whose numbers pass a test
+abbrev pub chosen : (ℕ → Bool) → ℕ → List Demand → List Demand
+chosen test n [] = []
+chosen test n (d ∷ ds) = if test n then d ∷ chosen test (n + 1) ds else chosen test (n + 1) ds
 
 -- the list has the demands of the Hall set of a told state, in their order
 abbrev pub IsHallOf : Parts → List Slot → List Demand → Type 0
-IsHallOf p s hall = (test : Demand → Bool) × IsHallSet (domains p s) (is_named p s test) × (hall ≡ filter test (demands p s))
+IsHallOf p s hall = (test : ℕ → Bool) × IsHallSet (domains p s) test × (hall ≡ chosen test 0 (demands p s))

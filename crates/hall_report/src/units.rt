@@ -104,6 +104,7 @@ impl Units {
 }
 
 // The unit that is so many units after this one.
+#[tactic(auto, using(crate::proofs::UnitLaws::walk_next, crate::proofs::UnitLaws::walk_zero))]
 fn after(next: &[u32], unit: u32, count: u32) -> u32
     requires { (i : ℕ) → i < count → walk next.now unit i < length next.now }
     ensures { result ≡ walk next.now unit count }
@@ -116,6 +117,7 @@ fn after(next: &[u32], unit: u32, count: u32) -> u32
 }
 
 // The unit after each unit, so many.
+#[tactic(auto, using(crate::proofs::UnitsOpened::range_next))]
 fn followers(alloc: Global, count: u32) -> Result<Vec<u32>, NoMemory>
     requires { count < 2 ^ 32 - 1 }
     ensures { IfOk result (λ next. next.items ≡ range_with_len 1 count) }
@@ -128,6 +130,7 @@ fn followers(alloc: Global, count: u32) -> Result<Vec<u32>, NoMemory>
 }
 
 // The first unit of each event.
+#[tactic(auto, using(crate::proofs::UnitsOpened::mapped_next))]
 fn first_units(alloc: Global, inst: &Instance) -> Result<Vec<u32>, NoMemory>
     ensures { IfOk result (λ free. free.items ≡ map (λ e. e.first_meet) inst.now.events) }
 {
