@@ -81,7 +81,7 @@ number_within events a u k first h near =
     omega (arith, r, q, near)
 
 -- a slot that has a meet is there
-live_below : (s : List Slot) (m o : ℕ) → o < length_of (slot_at s m) → m < length s
+pub live_below : (s : List Slot) (m o : ℕ) → o < length_of (slot_at s m) → m < length s
 live_below [] m o l = absurd (omega (arith, l))
 live_below (x ∷ s) zero o l = omega arith
 live_below (x ∷ s) (suc m) o l = let r = live_below s m o l in omega (arith, r)

@@ -31,7 +31,7 @@ turned v w f g is = record {
       sym (is.may (g j) r t (is.there_back j here) (omega (arith, is.width)) (omega (arith, is.last)) ∙ ap (λ n. may_have w n r t) (is.forth j here));
 }
 
-present_below : (w : Domains) (k : ℕ) → is_present w k ≡ true → k < length w.demands
+pub present_below : (w : Domains) (k : ℕ) → is_present w k ≡ true → k < length w.demands
 present_below w k h = some_below w.demands k h
   where
     some_below : {A : Type 0} (xs : List (Option A)) (k : ℕ) → is_some (slice_index_or xs k None) ≡ true → k < length xs
