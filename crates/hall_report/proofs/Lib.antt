@@ -1,7 +1,9 @@
 pub mod FreeSlots
+pub mod ListingLaws
 pub mod Numbers
 pub mod Places
 pub mod Renaming
+pub mod SetLaws
 pub mod Stated
 pub mod UnitLaws
 pub mod UnitsOpened

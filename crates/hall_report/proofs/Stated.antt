@@ -30,6 +30,7 @@ use Rattle.hall_report.proofs.Places.{IsSpot, get_left, get_right, mapped_there,
 use Rattle.hall_report.proofs.Renaming.{IsRenamed, present_below}
 use Rattle.hall_report.specs.Demands.{demands, domains, has_type, own_domain, runs_at, set_where, slot_starts, slot_takes, span_starts, takes, task_demands, unavailable_demands}
 use Rattle.hall_report.specs.Kept.{AreOpen, AreTasks, IsNumbered, IsTask, cell_demand, number_of}
+use Rattle.hall_report.specs.Listing.{number_at}
 use Rattle.hall_report.specs.Picks.{AreResourceSets, AreStartSets, cell_domain, domain_in, pick_resources, pick_starts, resource_entry, start_entry}
 use Rattle.hall_report.specs.Sets.{set_at}
 use Rattle.hall_report.specs.Strict.{may_be_given, may_start}
@@ -108,11 +109,6 @@ span_short p s m y made told l span =
 span_some : (o : Option Span) → 0 < option_map_or (λ (z : Span). z.duration) o 0 → (y : Span) × (o ≡ Some y)
 span_some None l = absurd (omega (arith, l))
 span_some (Some y) l = (y, refl)
-
--- the number of a demand of a task
-abbrev pub number_at : Units → Demand → ℕ
-number_at u (Task m k o) = number_of u m.0 k o
-number_at u (Unavailable r t) = 0
 
 module _ (p : Parts) (s : List Slot) (u : Units) (picks : Picks) (w : Domains) (cells : List ℕ)
   (told : AreTold p s) (units : AreUnits p.events s u.next.items u.held.items u.free.items) (opened : AreOpen p u picks w cells) (numbered : AreTasks p s u picks w)

@@ -1,5 +1,6 @@
 pub mod Demands
 pub mod Kept
+pub mod Listing
 pub mod Picks
 pub mod Sets
 pub mod Strict

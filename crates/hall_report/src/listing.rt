@@ -1,23 +1,52 @@
 //! The demands whose numbers are marked, in order.
 
+ghost use Rattle.std.specs.Prelude.{◌≡◌, ◌<◌, ◌≤◌, ◌+◌, ◌++◌, ◌^◌, ℕ, length, map, OnOk};
+ghost use Rattle.std.specs.List.{filter, flat_map, range_with_len};
+ghost use Rattle.khe_base.specs.IdSet.{has_member};
+ghost use Rattle.hall_report.specs.Demands.{chosen, task_demands};
+ghost use Rattle.hall_report.specs.Kept.{cell_demand};
+ghost use Rattle.hall_report.specs.Listing.{IsReadable, AreReadable, is_marked};
+ghost use Rattle.hall_report.specs.declared.demand.Demand.TheVariants.{Task};
+
 use crate::Demand;
 use crate::units::Units;
 use khe_base::{IdSet, MeetId, NoMemory, ResourceId, Seq, TimeId};
 use khe_told::Told;
 
-/// Adds the marked demands of tasks, by meet, place and offset.
-pub(crate) fn list_tasks(list: &mut Seq<Demand>, told: &Told, units: &Units, marks: &IdSet) -> Result<(), NoMemory> {
+/// Adds the marked demands of tasks, by meet, place and offset. It takes time in proportion to the
+/// demands of all tasks.
+pub(crate) fn list_tasks(
+    list: &mut Seq<Demand>,
+    told: &Told,
+    units: &Units,
+    marks: &IdSet,
+) -> Result<(), NoMemory>
+    requires few { length told.now < 2 ^ 32 }
+    requires readable { AreReadable units.now told.now }
+    ensures { OnOk result (list.new ≡ list.old ++ filter (is_marked units.now marks.now) (task_demands told.now)) }
+{
     for number in 0..told.len() as u32 {
         let meet = MeetId(number);
         if let Some(span) = told.span(meet) {
-            list_meet(list, units, marks, meet, told.given(meet).len() as u32, span.duration)?;
+            let places = told.given(meet).len() as u32;
+            list_meet(list, units, marks, meet, places, span.duration)?;
         }
     }
     Ok(())
 }
 
 // Those of a meet.
-fn list_meet(list: &mut Seq<Demand>, units: &Units, marks: &IdSet, meet: MeetId, places: u32, duration: u32) -> Result<(), NoMemory> {
+fn list_meet(
+    list: &mut Seq<Demand>,
+    units: &Units,
+    marks: &IdSet,
+    meet: MeetId,
+    places: u32,
+    duration: u32,
+) -> Result<(), NoMemory>
+    requires { IsReadable units.now meet.0 places duration }
+    ensures { OnOk result (list.new ≡ list.old ++ filter (is_marked units.now marks.now) (flat_map (λ k. map (λ o. Task meet k o) (range_with_len 0 duration)) (range_with_len 0 places))) }
+{
     for place in 0..places {
         list_place(list, units, marks, meet, place, duration)?;
     }
@@ -25,11 +54,25 @@ fn list_meet(list: &mut Seq<Demand>, units: &Units, marks: &IdSet, meet: MeetId,
 }
 
 // Those of a place of a meet.
-fn list_place(list: &mut Seq<Demand>, units: &Units, marks: &IdSet, meet: MeetId, place: u32, duration: u32) -> Result<(), NoMemory> {
+fn list_place(
+    list: &mut Seq<Demand>,
+    units: &Units,
+    marks: &IdSet,
+    meet: MeetId,
+    place: u32,
+    duration: u32,
+) -> Result<(), NoMemory>
+    requires { IsReadable units.now meet.0 (place + 1) duration }
+    ensures { OnOk result (list.new ≡ list.old ++ filter (is_marked units.now marks.now) (map (λ o. Task meet place o) (range_with_len 0 duration))) }
+{
     let mut unit = units.first(meet);
     for offset in 0..duration {
         if marks.has(units.first_demand(unit) + place) {
-            list.push(Demand::Task { meet, place, offset })?;
+            list.push(Demand::Task {
+                meet,
+                place,
+                offset,
+            })?;
         }
         unit = units.next(unit);
     }
@@ -37,8 +80,19 @@ fn list_place(list: &mut Seq<Demand>, units: &Units, marks: &IdSet, meet: MeetId
 }
 
 /// Adds the marked demands for cells, of which the first has this number. A cell's number is that of
-/// its resource times the number of all times, and that of its time.
-pub(crate) fn list_cells(list: &mut Seq<Demand>, cells: &[u32], times: u32, first: u32, marks: &IdSet) -> Result<(), NoMemory> {
+/// its resource times the number of all times, and that of its time. It takes time in proportion to
+/// the cells.
+pub(crate) fn list_cells(
+    list: &mut Seq<Demand>,
+    cells: &[u32],
+    times: u32,
+    first: u32,
+    marks: &IdSet,
+) -> Result<(), NoMemory>
+    requires few { first + length cells.now < 2 ^ 32 }
+    requires times { 0 < length cells.now → 0 < times }
+    ensures { OnOk result (list.new ≡ list.old ++ chosen (λ i. has_member marks.now (first + i)) 0 (map (cell_demand times) cells.now)) }
+{
     for (more, cell) in cells.iter().enumerate() {
         if marks.has(first + more as u32) {
             list.push(Demand::Unavailable {

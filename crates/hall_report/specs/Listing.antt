@@ -1,0 +1,30 @@
+-- What it takes to list the demands whose numbers are marked.
+use Rattle.std.specs.Prelude.{ℕ, ◌+◌, ◌^◌, ◌<◌, Bool, List, length}
+use Rattle.khe_base.specs.IdSet.{has_member}
+use Rattle.khe_told.specs.Slots.{slot_at, length_of}
+use Rattle.khe_told.specs.declared.slots.Slot.{Slot}
+use Rattle.hall_report.specs.Kept.{number_of}
+use Rattle.hall_report.specs.Units.{unit_at}
+use Rattle.hall_report.specs.declared.demand.Demand.{Demand}
+use Rattle.hall_report.specs.declared.demand.Demand.TheVariants.{Task, Unavailable}
+use Rattle.hall_report.specs.declared.units.Units.{Units}
+
+-- the number of a demand of a task
+abbrev pub number_at : Units → Demand → ℕ
+number_at u (Task m k o) = number_of u m.0 k o
+number_at u (Unavailable r t) = 0
+
+-- whether it is marked
+abbrev pub is_marked : Units → List Bool → Demand → Bool
+is_marked u marks d = has_member marks (number_at u d)
+
+-- the units of a meet are there, and its demands have numbers of 32 bits
+pub record IsReadable (u : Units) (meet places duration : ℕ) : Type 0 where
+  pub first : meet < length u.held.items
+  pub unit : (o : ℕ) → o < duration → unit_at u.next.items u.held.items meet o < length u.next.items
+  pub task : (o : ℕ) → o < duration → unit_at u.next.items u.held.items meet o < length u.tasks.items
+  pub number : (k o : ℕ) → k < places → o < duration → number_of u meet k o < 2 ^ 32
+
+-- those of each slot
+abbrev pub AreReadable : Units → List Slot → Type 0
+AreReadable u s = (m : ℕ) → m < length s → IsReadable u m (length (slot_at s m).given) (length_of (slot_at s m))
