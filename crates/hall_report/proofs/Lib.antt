@@ -3,6 +3,7 @@ pub mod ListingLaws
 pub mod Numbers
 pub mod Places
 pub mod Renaming
+pub mod Renewals
 pub mod SetLaws
 pub mod Stated
 pub mod UnitLaws

@@ -32,23 +32,16 @@ offsets_more meet place n =
     let e : 0 + n ≡ n = omega arith in
     ap (map (λ o. Task meet place o)) (range_next 0 n ∙ ap (λ k. range_with_len 0 n ++ k ∷ []) e) ∙ map-append (λ o. Task meet place o) (range_with_len 0 n) (n ∷ [])
 
-pub place_with : (test : Demand → Bool) (list old : List Demand) (meet : MeetId) (place n : ℕ) → list ≡ old ++ filter test (map (λ o. Task meet place o) (range_with_len 0 n)) → test (Task meet place n) ≡ true
-    → list ++ Task meet place n ∷ [] ≡ old ++ filter test (map (λ o. Task meet place o) (range_with_len 0 (n + 1)))
-place_with test list old meet place n h t =
-    ap (λ xs. xs ++ Task meet place n ∷ []) h
-    ∙ append_assoc old (filter test (map (λ o. Task meet place o) (range_with_len 0 n))) (Task meet place n ∷ [])
-    ∙ ap (λ xs. old ++ xs) (sym (filter_one test (map (λ o. Task meet place o) (range_with_len 0 n)) (Task meet place n) true t))
-    ∙ ap (λ xs. old ++ filter test xs) (sym (offsets_more meet place n))
-
-nil_end : {B : Type 0} (ys : List B) → ys ++ [] ≡ ys
+pub nil_end : {B : Type 0} (ys : List B) → ys ++ [] ≡ ys
 nil_end [] = refl
 nil_end (y ∷ ys) = ap (λ zs. y ∷ zs) (nil_end ys)
 
-pub place_without : (test : Demand → Bool) (list old : List Demand) (meet : MeetId) (place n : ℕ) → list ≡ old ++ filter test (map (λ o. Task meet place o) (range_with_len 0 n)) → test (Task meet place n) ≡ false
-    → list ≡ old ++ filter test (map (λ o. Task meet place o) (range_with_len 0 (n + 1)))
-place_without test list old meet place n h t =
-    h
-    ∙ ap (λ xs. old ++ xs) (sym (nil_end (filter test (map (λ o. Task meet place o) (range_with_len 0 n)))) ∙ sym (filter_one test (map (λ o. Task meet place o) (range_with_len 0 n)) (Task meet place n) false t))
+pub place_more : (test : Demand → Bool) (new list old : List Demand) (meet : MeetId) (place n : ℕ) (b : Bool) → list ≡ old ++ filter test (map (λ o. Task meet place o) (range_with_len 0 n)) → b ≡ test (Task meet place n) → new ≡ list ++ cond b (Task meet place n ∷ []) []
+    → new ≡ old ++ filter test (map (λ o. Task meet place o) (range_with_len 0 (n + 1)))
+place_more test new list old meet place n b h t g =
+    g ∙ ap (λ xs. xs ++ cond b (Task meet place n ∷ []) []) h
+    ∙ append_assoc old (filter test (map (λ o. Task meet place o) (range_with_len 0 n))) (cond b (Task meet place n ∷ []) [])
+    ∙ ap (λ xs. old ++ xs) (sym (filter_one test (map (λ o. Task meet place o) (range_with_len 0 n)) (Task meet place n) b (sym t)))
     ∙ ap (λ xs. old ++ filter test xs) (sym (offsets_more meet place n))
 
 -- the next place of a meet
@@ -62,7 +55,7 @@ places_more test new list old f n h g =
     ∙ ap (λ xs. old ++ filter test xs) (sym (ap (flat_map f) (range_next 0 n ∙ ap (λ k. range_with_len 0 n ++ k ∷ []) e) ∙ flat_more f (range_with_len 0 n) n))
 
 -- the next slot of a state
-slots_more : (test : Demand → Bool) (new list old : List Demand) (s : List Slot) (n : ℕ) → n < length s → list ≡ old ++ filter test (task_demands (take n s)) → new ≡ list ++ filter test (slot_demands (slot_at s n))
+pub slots_more : (test : Demand → Bool) (new list old : List Demand) (s : List Slot) (n : ℕ) → n < length s → list ≡ old ++ filter test (task_demands (take n s)) → new ≡ list ++ filter test (slot_demands (slot_at s n))
     → new ≡ old ++ filter test (task_demands (take (n + 1) s))
 slots_more test new list old s n l h g =
     g ∙ ap (λ xs. xs ++ filter test (slot_demands (slot_at s n))) h
@@ -70,24 +63,20 @@ slots_more test new list old s n l h g =
     ∙ ap (λ xs. old ++ xs) (sym (filter-append test (task_demands (take n s)) (slot_demands (slot_at s n))))
     ∙ ap (λ xs. old ++ filter test xs) (sym (ap (flat_map slot_demands) (take_more s n no_slot l) ∙ flat_more slot_demands (take n s) (slot_at s n)))
 
-pub live_more : (test : Demand → Bool) (new list old : List Demand) (s : List Slot) (n : ℕ) (meet : MeetId) (y : Span) → n < length s → (slot_at s n).span ≡ Some y → (slot_at s n).meet ≡ meet
-    → list ≡ old ++ filter test (task_demands (take n s))
-    → new ≡ list ++ filter test (flat_map (λ k. map (λ o. Task meet k o) (range_with_len 0 y.duration)) (range_with_len 0 (length (slot_at s n).given)))
-    → new ≡ old ++ filter test (task_demands (take (n + 1) s))
-live_more test new list old s n meet y l span own h g =
-    let x : Slot = slot_at s n in
+-- a slot with a meet, and one without
+pub live_slot : (test : Demand → Bool) (x : Slot) (m : ℕ) (y : Span) (places : ℕ) → x.span ≡ Some y → x.meet.0 ≡ m → length x.given ≡ places
+    → filter test (flat_map (λ k. map (λ o. Task (record { 0 = m }) k o) (range_with_len 0 y.duration)) (range_with_len 0 places)) ≡ filter test (slot_demands x)
+live_slot test x m y places span own many =
     let shown : slot_demands x ≡ flat_map (place_demands x y) (range_with_len 0 (length x.given)) =
     ap (λ v. option_map_or (λ (z : Span). flat_map (place_demands x z) (range_with_len 0 (length x.given))) v []) span in
-    let same : flat_map (place_demands x y) (range_with_len 0 (length x.given)) ≡ flat_map (λ k. map (λ o. Task meet k o) (range_with_len 0 y.duration)) (range_with_len 0 (length x.given)) =
-    ap (λ v. flat_map (λ k. map (λ o. Task v k o) (range_with_len 0 y.duration)) (range_with_len 0 (length x.given))) own in
-    slots_more test new list old s n l h (g ∙ ap (λ xs. list ++ filter test xs) (sym (shown ∙ same)))
+    ap (λ n. filter test (flat_map (λ k. map (λ o. Task (record { 0 = m }) k o) (range_with_len 0 y.duration)) (range_with_len 0 n))) (sym many)
+    ∙ ap (λ n. filter test (flat_map (λ k. map (λ o. Task (record { 0 = n }) k o) (range_with_len 0 y.duration)) (range_with_len 0 (length x.given)))) (sym own)
+    ∙ ap (filter test) (sym shown)
 
-pub free_more : (test : Demand → Bool) (list old : List Demand) (s : List Slot) (n : ℕ) → n < length s → (slot_at s n).span ≡ None
-    → list ≡ old ++ filter test (task_demands (take n s)) → list ≡ old ++ filter test (task_demands (take (n + 1) s))
-free_more test list old s n l span h =
-    let x : Slot = slot_at s n in
+pub free_slot : (test : Demand → Bool) (x : Slot) (list : List Demand) → x.span ≡ None → list ≡ list ++ filter test (slot_demands x)
+free_slot test x list span =
     let shown : slot_demands x ≡ [] = ap (λ v. option_map_or (λ (z : Span). flat_map (place_demands x z) (range_with_len 0 (length x.given))) v []) span in
-    slots_more test list list old s n l h (sym (nil_end list) ∙ ap (λ xs. list ++ filter test xs) (sym shown))
+    sym (nil_end list) ∙ ap (λ xs. list ++ filter test xs) (sym shown)
 
 -- lists by numbers
 step_both : (b : Bool) (x : Demand) (ds bs cs : List Demand) → ds ≡ bs ++ cs → cond b (x ∷ ds) ds ≡ cond b (x ∷ bs) bs ++ cs

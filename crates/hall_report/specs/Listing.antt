@@ -1,5 +1,5 @@
 -- What it takes to list the demands whose numbers are marked.
-use Rattle.std.specs.Prelude.{ℕ, ◌+◌, ◌^◌, ◌<◌, Bool, List, length}
+use Rattle.std.specs.Prelude.{ℕ, ◌+◌, ◌^◌, ◌<◌, ◌≡◌, Bool, List, length}
 use Rattle.khe_base.specs.IdSet.{has_member}
 use Rattle.khe_told.specs.Slots.{slot_at, length_of}
 use Rattle.khe_told.specs.declared.slots.Slot.{Slot}
@@ -20,11 +20,12 @@ is_marked u marks d = has_member marks (number_at u d)
 
 -- the units of a meet are there, and its demands have numbers of 32 bits
 pub record IsReadable (u : Units) (meet places duration : ℕ) : Type 0 where
+  pub few : places < 2 ^ 32
   pub first : meet < length u.held.items
   pub unit : (o : ℕ) → o < duration → unit_at u.next.items u.held.items meet o < length u.next.items
   pub task : (o : ℕ) → o < duration → unit_at u.next.items u.held.items meet o < length u.tasks.items
   pub number : (k o : ℕ) → k < places → o < duration → number_of u meet k o < 2 ^ 32
 
--- those of each slot
+-- those of each slot, whose number is that of its meet
 abbrev pub AreReadable : Units → List Slot → Type 0
-AreReadable u s = (m : ℕ) → m < length s → IsReadable u m (length (slot_at s m).given) (length_of (slot_at s m))
+AreReadable u s = (m : ℕ) → m < length s → IsReadable u m (length (slot_at s m).given) (length_of (slot_at s m)) × ((slot_at s m).meet.0 ≡ m)

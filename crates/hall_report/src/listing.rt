@@ -1,9 +1,10 @@
 //! The demands whose numbers are marked, in order.
 
-ghost use Rattle.std.specs.Prelude.{◌≡◌, ◌<◌, ◌≤◌, ◌+◌, ◌++◌, ◌^◌, ℕ, length, map, OnOk};
+ghost use Rattle.std.specs.Prelude.{◌≡◌, ◌<◌, ◌≤◌, ◌+◌, ◌++◌, ◌^◌, ◌∷◌, [], if◌then◌else◌, ℕ, length, map, OnOk};
 ghost use Rattle.std.specs.List.{filter, flat_map, range_with_len};
 ghost use Rattle.khe_base.specs.IdSet.{has_member};
-ghost use Rattle.hall_report.specs.Demands.{chosen, task_demands};
+ghost use Rattle.khe_told.specs.Slots.{slot_at, length_of};
+ghost use Rattle.hall_report.specs.Demands.{chosen, task_demands, slot_demands};
 ghost use Rattle.hall_report.specs.Kept.{cell_demand};
 ghost use Rattle.hall_report.specs.Listing.{IsReadable, AreReadable, is_marked};
 ghost use Rattle.hall_report.specs.declared.demand.Demand.TheVariants.{Task};
@@ -26,13 +27,28 @@ pub(crate) fn list_tasks(
     ensures { OnOk result (list.new ≡ list.old ++ filter (is_marked units.now marks.now) (task_demands told.now)) }
 {
     for number in 0..told.len() as u32 {
-        let meet = MeetId(number);
-        if let Some(span) = told.span(meet) {
-            let places = told.given(meet).len() as u32;
-            list_meet(list, units, marks, meet, places, span.duration)?;
-        }
+        list_slot(list, told, units, marks, MeetId(number))?;
     }
     Ok(())
+}
+
+// Those of a slot.
+fn list_slot(
+    list: &mut Seq<Demand>,
+    told: &Told,
+    units: &Units,
+    marks: &IdSet,
+    meet: MeetId,
+) -> Result<(), NoMemory>
+    requires meet { (slot_at told.now meet.0).meet.0 ≡ meet.0 }
+    requires readable { IsReadable units.now meet.0 (length (slot_at told.now meet.0).given) (length_of (slot_at told.now meet.0)) }
+    ensures { OnOk result (list.new ≡ list.old ++ filter (is_marked units.now marks.now) (slot_demands (slot_at told.now meet.0))) }
+{
+    let Some(span) = told.span(meet) else {
+        return Ok(());
+    };
+    let places = told.given(meet).len() as u32;
+    list_meet(list, units, marks, meet, places, span.duration)
 }
 
 // Those of a meet.
@@ -67,13 +83,13 @@ fn list_place(
 {
     let mut unit = units.first(meet);
     for offset in 0..duration {
-        if marks.has(units.first_demand(unit) + place) {
-            list.push(Demand::Task {
-                meet,
-                place,
-                offset,
-            })?;
-        }
+        let is_marked = marks.has(units.first_demand(unit) + place);
+        let demand = Demand::Task {
+            meet,
+            place,
+            offset,
+        };
+        push_if(list, is_marked, demand)?;
         unit = units.next(unit);
     }
     Ok(())
@@ -94,12 +110,22 @@ pub(crate) fn list_cells(
     ensures { OnOk result (list.new ≡ list.old ++ chosen (λ i. has_member marks.now (first + i)) 0 (map (cell_demand times) cells.now)) }
 {
     for (more, cell) in cells.iter().enumerate() {
-        if marks.has(first + more as u32) {
-            list.push(Demand::Unavailable {
-                resource: ResourceId(*cell / times),
-                time: TimeId(*cell % times),
-            })?;
-        }
+        let is_marked = marks.has(first + more as u32);
+        let demand = Demand::Unavailable {
+            resource: ResourceId(*cell / times),
+            time: TimeId(*cell % times),
+        };
+        push_if(list, is_marked, demand)?;
+    }
+    Ok(())
+}
+
+// Adds a demand, if it is wanted.
+fn push_if(list: &mut Seq<Demand>, is_wanted: bool, demand: Demand) -> Result<(), NoMemory>
+    ensures { OnOk result (list.new ≡ list.old ++ (if is_wanted then demand ∷ [] else [])) }
+{
+    if is_wanted {
+        list.push(demand)?;
     }
     Ok(())
 }

@@ -1,7 +1,7 @@
 //! The resources that a task to which none is given may have.
 
 ghost use Rattle.std.specs.Prelude.{◌≡◌, ◌<◌, ◌≤◌, ℕ, length, IfOk, OnOk};
-ghost use Rattle.hall_report.specs.ResourceSets.{AreResourceSets};
+ghost use Rattle.hall_report.specs.Picks.{AreResourceSets};
 
 use crate::sets::narrow;
 use crate::start_sets::is_strict;

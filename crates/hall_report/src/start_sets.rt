@@ -2,7 +2,7 @@
 
 ghost use Rattle.std.specs.Prelude.{◌≡◌, ◌<◌, ◌≤◌, ◌+◌, ◌&&◌, nat_le, ℕ, length, IfOk, OnOk};
 ghost use Rattle.khe_instance.specs.WellMade.{IsMonitor};
-ghost use Rattle.hall_report.specs.StartSets.{AreStartSets};
+ghost use Rattle.hall_report.specs.Picks.{AreStartSets};
 
 use crate::sets::narrow;
 use khe_base::{EventId, IdSet, MonitorId, NoMemory, Seq};
