@@ -1,5 +1,7 @@
+pub mod Changed
 pub mod FreeSlots
 pub mod ListingLaws
+pub mod Noting
 pub mod Numbers
 pub mod Places
 pub mod Renaming

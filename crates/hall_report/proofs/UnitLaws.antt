@@ -88,7 +88,7 @@ module _ (events : List EventInfo) (s t : List Slot) (m e d : ℕ) (event : Even
     own_unit : (o : ℕ) → unit_at next firsts' m o ≡ unit_at next free e o
     own_unit o = ap (λ v. walk next v o) (get_or-set_same firsts m (get_or free e 0) 0 there)
 
-    other_unit : (n o : ℕ) → n ≢ m → unit_at next firsts' n o ≡ unit_at next firsts n o
+    pub other_unit : (n o : ℕ) → n ≢ m → unit_at next firsts' n o ≡ unit_at next firsts n o
     other_unit n o ne = ap (λ v. walk next v o) (get_or-set_other firsts m n (get_or free e 0) 0 ne)
 
     own_spare : (i : ℕ) → unit_at next free' e i ≡ unit_at next free e (d + i)
@@ -189,7 +189,7 @@ module _ (events : List EventInfo) (s t : List Slot) (m e d : ℕ) (event : Even
     was_own : (k : ℕ) → k < d → IsOffset s m k
     was_own k l = omega (arith, long, l)
 
-    kept_unit : (n o : ℕ) → n ≢ m → IsOffset t n o → unit_at next' firsts n o ≡ unit_at next firsts n o
+    pub kept_unit : (n o : ℕ) → n ≢ m → IsOffset t n o → unit_at next' firsts n o ≡ unit_at next firsts n o
     kept_unit n o ne l =
         walk_set next last (get_or free e 0) (get_or firsts n 0) o
         (λ k less same. ne (are.apart n m k (d - 1) (let a = other_offset n o ne l in omega (arith, a, less)) (was_own (d - 1) (omega (arith, some))) same).0)

@@ -5,6 +5,10 @@ use Rattle.khe_instance.specs.Lookups.{place_at}
 use Rattle.khe_instance.specs.declared.parts.EventInfo.{EventInfo}
 use Rattle.khe_instance.specs.declared.parts.Parts.{Parts}
 use Rattle.khe_instance.specs.declared.parts.Place.{Place}
+use Rattle.khe_told.specs.Changes.{after, meet_of}
+use Rattle.khe_told.specs.Slots.{given_at, length_of, slot_at}
+use Rattle.khe_told.specs.declared.changes.Change.{Change}
+use Rattle.khe_told.specs.declared.slots.Slot.{Slot}
 use Rattle.demand_matching.specs.Domains.{Domains, IsInRange, domain_of}
 use Rattle.demand_matching.specs.declared.domains.Domain.{Domain}
 use Rattle.hall_report.specs.Picks.{start_entry, resource_entry}
@@ -52,3 +56,11 @@ HasResourceEntries p entries = (e k : ℕ) (place : Place) → place_at p.events
 -- a duration is one of a meet of the event
 abbrev pub IsSpanOf : Parts → ℕ → ℕ → Type 0
 IsSpanOf p e d = (event : EventInfo) → slice_get p.events e ≡ Some event → (1 ≤ d) × (d ≤ event.duration)
+
+-- a change of a meet that stays: it leaves the span, and what is given at other places than these
+pub record IsTurn (p : Parts) (s : List Slot) (c : Change) (from end : ℕ) : Type 0 where
+  pub order : from ≤ end
+  pub within : end ≤ length (slot_at s (meet_of c)).given
+  pub live : length_of (slot_at (after s c) (meet_of c)) ≡ length_of (slot_at s (meet_of c))
+  pub outside : (k : ℕ) → k < length (slot_at s (meet_of c)).given → (k < from) ⊎ (end ≤ k)
+      → ((slot_at (after s c) (meet_of c)).span ≡ (slot_at s (meet_of c)).span) × (given_at (slot_at (after s c) (meet_of c)) k ≡ given_at (slot_at s (meet_of c)) k)

@@ -1,7 +1,11 @@
 ghost use Rattle.std.specs.Prelude.{◌≡◌, IfOk, List};
 ghost use Rattle.khe_instance.specs.declared.parts.Parts.{Parts};
 ghost use Rattle.khe_told.specs.Slots.{no_meets};
+ghost use Rattle.khe_told.specs.Changes.{after};
+ghost use Rattle.khe_told.specs.Fits.{Fits};
+ghost use Rattle.khe_told.specs.declared.changes.Change.TheVariants.{Add, Drop};
 ghost use Rattle.hall_report.specs.Kept.{AreOf, AreOfSome};
+ghost use Rattle.hall_report.specs.Renewing.{IsTurn};
 ghost use Rattle.hall_report.specs.Demands.{IsDeficitOf, IsHallOf};
 
 use crate::Demand;
@@ -13,7 +17,7 @@ use crate::resource_sets::resource_sets;
 use crate::start_sets::start_sets;
 use crate::units::Units;
 use demand_matching::{Domain, Matching, Pick};
-use khe_base::{NoMemory, Seq, both};
+use khe_base::{MeetId, NoMemory, Seq, both};
 use khe_instance::Instance;
 use khe_told::{Change, Steps, Told, Watcher};
 use std::alloc::Global;
@@ -83,6 +87,80 @@ impl Demands {
     }
 }
 
+impl Demands {
+    // Follows a meet that comes into a free slot.
+    fn come(&mut self, inst: &Instance, meet: MeetId, duration: u32)
+        requires of { AreOf inst.now self.old.told self.old.units self.old.picks self.old.matching self.old.cells self.old.tasks self.old.times }
+        requires fits { Fits inst.now self.old.told (Add meet duration) }
+        ensures of { AreOf inst.now self.new.told self.new.units self.new.picks self.new.matching self.new.cells self.new.tasks self.new.times }
+        ensures told { self.new.told ≡ after self.old.told (Add meet duration) }
+    {
+        let event = self.told.event(meet);
+        let places = self.told.given(meet).len() as u32;
+        self.units.hold(event, meet, duration);
+        self.told.note(inst, Change::Add { meet, duration });
+        renew(
+            inst,
+            &self.told,
+            &self.picks,
+            &self.units,
+            &mut self.matching,
+            meet,
+            duration,
+            0,
+            places,
+        );
+    }
+
+    // Follows a meet that leaves its slot free.
+    fn go(&mut self, inst: &Instance, meet: MeetId, duration: u32)
+        requires of { AreOf inst.now self.old.told self.old.units self.old.picks self.old.matching self.old.cells self.old.tasks self.old.times }
+        requires fits { Fits inst.now self.old.told (Drop meet duration) }
+        ensures of { AreOf inst.now self.new.told self.new.units self.new.picks self.new.matching self.new.cells self.new.tasks self.new.times }
+        ensures told { self.new.told ≡ after self.old.told (Drop meet duration) }
+    {
+        let event = self.told.event(meet);
+        let places = self.told.given(meet).len() as u32;
+        self.told.note(inst, Change::Drop { meet, duration });
+        renew(
+            inst,
+            &self.told,
+            &self.picks,
+            &self.units,
+            &mut self.matching,
+            meet,
+            duration,
+            0,
+            places,
+        );
+        self.units.release(event, meet, duration);
+    }
+
+    // Follows a change of a meet that stays, which alters the demands at these places alone.
+    fn turn(&mut self, inst: &Instance, change: Change, from: u32, end: u32)
+        requires of { AreOf inst.now self.old.told self.old.units self.old.picks self.old.matching self.old.cells self.old.tasks self.old.times }
+        requires fits { Fits inst.now self.old.told change }
+        requires turns { IsTurn inst.now self.old.told change from end }
+        ensures of { AreOf inst.now self.new.told self.new.units self.new.picks self.new.matching self.new.cells self.new.tasks self.new.times }
+        ensures told { self.new.told ≡ after self.old.told change }
+    {
+        let meet = change.meet();
+        let duration = self.told.span(meet).map_or(0, |span| span.duration);
+        self.told.note(inst, change);
+        renew(
+            inst,
+            &self.told,
+            &self.picks,
+            &self.units,
+            &mut self.matching,
+            meet,
+            duration,
+            from,
+            end,
+        );
+    }
+}
+
 // Gives each cell's demand that cell alone.
 fn want_cells(matching: &mut Matching, cells: &[u32], first: u32, times: u32) {
     for (more, cell) in cells.iter().enumerate() {
@@ -111,24 +189,13 @@ impl Watcher for Demands {
 
     fn note<L: Ledger>(&mut self, inst: &Instance, change: Change, steps: &mut Steps<L>) {
         let _ = steps;
-        let meet = change.meet();
-        let event = self.told.event(meet);
-        if let Change::Add { duration, .. } = change {
-            self.units.hold(event, meet, duration);
-        }
-        let duration = match (change, self.told.span(meet)) {
-            (Change::Add { duration, .. }, _) => duration,
-            (_, Some(span)) => span.duration,
-            (_, None) => 0,
-        };
-        let (from, end) = match change {
-            Change::Give { task, .. } | Change::Take { task, .. } => (task.place, task.place + 1),
-            _ => (0, self.told.given(meet).len() as u32),
-        };
-        self.told.note(inst, change);
-        renew(inst, &self.told, &self.picks, &self.units, &mut self.matching, meet, duration, from, end);
-        if let Change::Drop { duration, .. } = change {
-            self.units.release(event, meet, duration);
+        match change {
+            Change::Add { meet, duration } => self.come(inst, meet, duration),
+            Change::Drop { meet, duration } => self.go(inst, meet, duration),
+            Change::Place { meet, .. } => self.turn(inst, change, 0, self.told.given(meet).len() as u32),
+            Change::Lift { meet, .. } => self.turn(inst, change, 0, self.told.given(meet).len() as u32),
+            Change::Give { task, .. } => self.turn(inst, change, task.place, task.place + 1),
+            Change::Take { task, .. } => self.turn(inst, change, task.place, task.place + 1),
         }
     }
 
