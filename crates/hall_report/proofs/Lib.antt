@@ -4,6 +4,7 @@ pub mod ListingLaws
 pub mod Noting
 pub mod Numbers
 pub mod Places
+pub mod Ranges
 pub mod Renaming
 pub mod Renewals
 pub mod SetLaws

@@ -52,7 +52,7 @@ picks_started sets n q None b h = h
 picks_started sets n q (Some g) b h = refl
 
 -- a place that is there
-place_there : (events : List EventInfo) (e k : ℕ) → k < places_at events e → (place : Place) × (place_at events e k ≡ Some place)
+pub place_there : (events : List EventInfo) (e k : ℕ) → k < places_at events e → (place : Place) × (place_at events e k ≡ Some place)
 place_there events e k l = of (slice_get events e) l
   where
     of : (o : Option EventInfo) → k < option_map_or (λ (event : EventInfo). length event.places) o 0 → (place : Place) × (option_and_then (λ (event : EventInfo). slice_get event.places k) o ≡ Some place)
@@ -106,7 +106,7 @@ span_short p s m y made told l span =
       meet = x.slot.meet;
     }
 
-span_some : (o : Option Span) → 0 < option_map_or (λ (z : Span). z.duration) o 0 → (y : Span) × (o ≡ Some y)
+pub span_some : (o : Option Span) → 0 < option_map_or (λ (z : Span). z.duration) o 0 → (y : Span) × (o ≡ Some y)
 span_some None l = absurd (omega (arith, l))
 span_some (Some y) l = (y, refl)
 
