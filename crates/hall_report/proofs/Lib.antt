@@ -1,4 +1,5 @@
 pub mod Changed
+pub mod Following
 pub mod FreeSlots
 pub mod ListingLaws
 pub mod Noting

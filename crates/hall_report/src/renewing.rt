@@ -12,7 +12,7 @@ ghost use Rattle.hall_report.specs.Renewing.{IsSpanOf, IsRenewed, AreApart, AreW
 use crate::resource_sets::first_entry;
 use crate::units::Units;
 use demand_matching::{Domain, Matching, Pick};
-use khe_base::{EventId, MeetId};
+use khe_base::{EventId, MeetId, TaskId};
 use khe_instance::Instance;
 use khe_told::{Span, Told};
 
@@ -36,8 +36,8 @@ impl Picks {
         match span.start {
             Some(time) => Pick::One(time.0),
             None => {
-                let entry = inst.event(event).first_meet + span.duration - 1;
-                Pick::Set(self.starts[entry as usize])
+                let entry = inst.event(event).first_meet as usize + span.duration as usize - 1;
+                Pick::Set(self.starts[entry])
             }
         }
     }
@@ -51,11 +51,12 @@ impl Picks {
         ensures { result ≡ pick_resources inst.now.events self.now.resources.items (slot_at told.now meet.0) place }
     {
         inst.facts();
-        match told.given(meet)[place as usize] {
+        let event = told.event(meet);
+        match told.resource(TaskId { meet, place }) {
             Some(resource) => Pick::One(resource.0),
             None => {
-                let entry = first_entry(inst, told.event(meet)) + place;
-                Pick::Set(self.resources[entry as usize])
+                let entry = first_entry(inst, event) as usize + place as usize;
+                Pick::Set(self.resources[entry])
             }
         }
     }
@@ -76,9 +77,13 @@ impl Picks {
         requires place { place < length (slot_at told.now meet.0).given }
         ensures { result ≡ domain_in inst.now.events self.now.starts.items self.now.resources.items (slot_at told.now meet.0) place offset }
     {
-        let span = told.span(meet)?;
+        inst.facts();
+        let event = told.event(meet);
+        let Some(span) = told.span(meet) else {
+            return None;
+        };
         Some(Domain {
-            times: self.starts(inst, told.event(meet), span),
+            times: self.starts(inst, event, span),
             shift: offset,
             resources: self.resources(inst, told, meet, place),
         })

@@ -1,7 +1,8 @@
 //! The resources that a task to which none is given may have.
 
 ghost use Rattle.std.specs.Prelude.{◌≡◌, ◌<◌, ◌≤◌, ℕ, length, IfOk, OnOk};
-ghost use Rattle.hall_report.specs.Picks.{AreResourceSets};
+ghost use Rattle.khe_instance.specs.Slots.{first_task};
+ghost use Rattle.hall_report.specs.Picks.{AreResourceSets, first_meet_at};
 
 use crate::sets::narrow;
 use crate::start_sets::is_strict;
@@ -51,7 +52,11 @@ fn of_type(alloc: Global, inst: &Instance, rtype: u32) -> Result<IdSet, NoMemory
 }
 
 /// Where the entries of an event begin.
-pub(crate) fn first_entry(inst: &Instance, event: EventId) -> u32 {
+pub(crate) fn first_entry(inst: &Instance, event: EventId) -> u32
+    requires { event.0 < length inst.now.events }
+    ensures { result ≡ first_task inst.now.events (first_meet_at inst.now.events event.0) }
+{
+    inst.facts();
     inst.first_task(MeetId(inst.event(event).first_meet))
 }
 

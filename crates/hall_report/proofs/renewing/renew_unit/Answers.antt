@@ -10,7 +10,7 @@ use Rattle.hall_report.proofs.Renewals.{none_places, place_renewed, still_ranged
 use Rattle.hall_report.proofs.renewing.renew_unit.Goals as goal
 
 pub loop-place-init : goal.loop-place-init
-loop-place-init c = (omega arith, none_places c.args.matching.now (λ k o. c.args.first + k) (λ k o. (λ k. domain_in c.args.inst.now.events c.args.picks.now.starts.items c.args.picks.now.resources.items (slot_at c.args.told.now c.args.meet.0) k c.args.offset) k) c.args.from 1)
+loop-place-init c = (omega arith, none_places c.args.matching.now (λ (k : ℕ) (o : ℕ). c.args.first + k) (λ (k : ℕ) (o : ℕ). (λ (k : ℕ). domain_in c.args.inst.now.events c.args.picks.now.starts.items c.args.picks.now.resources.items (slot_at c.args.told.now c.args.meet.0) k c.args.offset) k) c.args.from 1)
 
 pub set_domain-requires-clause-demand : goal.set_domain-requires-clause-demand
 set_domain-requires-clause-demand c =
@@ -29,5 +29,5 @@ loop-place-preserved c =
     let b = c.loop-place.invariant.1.same.amount in
     let low = c.loop-place.invariant.0 in
     (omega (arith, low),
-    place_renewed c.args.matching.now c.loop-place.matching _ c.args.first (λ k. domain_in c.args.inst.now.events c.args.picks.now.starts.items c.args.picks.now.resources.items (slot_at c.args.told.now c.args.meet.0) k c.args.offset) c.args.from c.loop-place.place c.loop-place.invariant.1 c.loop-place.invariant.0 (omega (arith, a, b))
-    (subst (λ o. _ ≡ with_domain c.loop-place.matching (c.args.first + c.loop-place.place) o) c.domain-domain.ensures c.set_domain.ensures))
+    place_renewed c.args.matching.now c.loop-place.matching c.set_domain.new.self c.args.first (λ (k : ℕ). domain_in c.args.inst.now.events c.args.picks.now.starts.items c.args.picks.now.resources.items (slot_at c.args.told.now c.args.meet.0) k c.args.offset) c.args.from c.loop-place.place c.loop-place.invariant.1 c.loop-place.invariant.0 (omega (arith, a, b))
+    (subst (λ o. c.set_domain.new.self ≡ with_domain c.loop-place.matching (c.args.first + c.loop-place.place) o) c.domain-domain.ensures c.set_domain.ensures))
