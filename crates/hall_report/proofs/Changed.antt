@@ -195,6 +195,8 @@ still_open p u v picks w w' cells number domain from end count is tasks low re =
   last = re.same.last ∙ is.last;
   width = re.same.width ∙ is.width;
   amount = re.same.amount ∙ is.amount;
+  few = is.few;
+  timed = is.timed;
   listed = is.listed;
   cell_domains = λ i l. elim (re.touched (tasks_of p.events + i)) [
     | inl same ↦ same ∙ is.cell_domains i l

@@ -1,6 +1,7 @@
 pub mod Changed
 pub mod Following
 pub mod FreeSlots
+pub mod Halls
 pub mod ListingLaws
 pub mod Noting
 pub mod Numbers

@@ -145,6 +145,10 @@ module _ (p : Parts) (s : List Slot) (u : Units) (picks : Picks) (w : Domains) (
   listed_number k m q o own h =
       ap (λ d. option_map_or (number_at u) d (tasks_of p.events + (k - length (task_demands s)))) h ∙ ap (λ n. number_of u n q o) own
 
+  pub number_of_task : (k : ℕ) (d : Demand) → slice_get (task_demands s) k ≡ Some d → kept_number k ≡ number_at u d
+  unfolding kept_number
+  number_of_task k d h = ap (λ o. option_map_or (number_at u) o (tasks_of p.events + (k - length (task_demands s)))) h
+
   task_at : (k : ℕ) → k < length (task_demands s) → IsTaskAt k
   task_at k l =
       let d = there (task_demands s) k l in
@@ -168,11 +172,11 @@ module _ (p : Parts) (s : List Slot) (u : Units) (picks : Picks) (w : Domains) (
         spot = ap (λ (z : Slot). spot_of s z x.meet x.place x.offset) slot ∙ x.spot;
       }
 
-  later_number : (k : ℕ) → length (task_demands s) ≤ k → kept_number k ≡ tasks_of p.events + (k - length (task_demands s))
+  pub later_number : (k : ℕ) → length (task_demands s) ≤ k → kept_number k ≡ tasks_of p.events + (k - length (task_demands s))
   unfolding kept_number
   later_number k l = ap (λ d. option_map_or (number_at u) d (tasks_of p.events + (k - length (task_demands s)))) (slice_get_past (task_demands s) k l)
 
-  many : length (demands p s) ≡ length (task_demands s) + length cells
+  pub many : length (demands p s) ≡ length (task_demands s) + length cells
   many =
       let a = length-append (task_demands s) (unavailable_demands p) in
       let b : length (unavailable_demands p) ≡ length cells = sym (ap length opened.listed) ∙ length-map cells (cell_demand (length p.times)) in
@@ -181,7 +185,7 @@ module _ (p : Parts) (s : List Slot) (u : Units) (picks : Picks) (w : Domains) (
   own_present : (k : ℕ) → k < length (demands p s) → domain_of (domains p s) k ≡ own_domain k
   own_present k l = let e : 0 + k ≡ k = omega arith in get_or-map-range_with_len own_domain 0 (length (demands p s)) k k None l e
 
-  is_own : (k : ℕ) → k < length (demands p s) → is_present (domains p s) k ≡ true
+  pub is_own : (k : ℕ) → k < length (demands p s) → is_present (domains p s) k ≡ true
   is_own k l = ap is_some (own_present k l)
 
   own_below : (k : ℕ) → is_present (domains p s) k ≡ true → k < length (demands p s)

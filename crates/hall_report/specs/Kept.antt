@@ -1,5 +1,6 @@
 -- What demands keep beside the told state: the domain of each demand under its number.
-use Rattle.std.specs.Prelude.{ℕ, ◌+◌, ◌*◌, ◌/◌, ◌%◌, ◌≡◌, ◌<◌, true, Some, List, map, length, slice_index_or}
+use Rattle.std.specs.Prelude.{ℕ, ◌+◌, ◌*◌, ◌/◌, ◌%◌, ◌≡◌, ◌<◌, ◌≤◌, true, Some, List, map, length, slice_index_or}
+use Rattle.khe_base.specs.declared.limits.TheConstants.{CELLS}
 use Rattle.khe_instance.specs.WellMade.{AreWellMade}
 use Rattle.khe_instance.specs.declared.parts.Parts.{Parts}
 use Rattle.khe_told.specs.Fits.{AreTold}
@@ -43,6 +44,8 @@ pub record AreOpen (p : Parts) (u : Units) (picks : Picks) (w : Domains) (cells 
   pub last : w.last ≡ length p.times
   pub width : w.width ≡ length p.resources
   pub amount : length w.demands ≡ tasks_of p.events + length cells
+  pub few : length cells ≤ CELLS
+  pub timed : 0 < length cells → 0 < length p.times
   pub listed : map (cell_demand (length p.times)) cells ≡ unavailable_demands p
   pub cell_domains : (i : ℕ) → i < length cells → domain_of w (tasks_of p.events + i) ≡ Some (cell_domain (length p.times) (slice_index_or cells i 0))
 
