@@ -1,6 +1,7 @@
 -- What the functions that follow a change need at their calls.
 use Rattle.std.proofs.Common.{ℕ, zero, suc, ◌+◌, ◌-◌, ◌^◌, ◌<◌, ◌≤◌, ◌≡◌, ◌⊎◌, inl, inr, Option, Some, None, List, length, set, get_or, slice_get, refl, sym, ap, ◌∙◌, subst, arith, IfSome, get_or-set_other}
 use Rattle.std.specs.Option.{option_map_or}
+use Rattle.std.proofs.lemmas.Grind.{get_or_default_zero}
 use Rattle.std.proofs.lemmas.Option.{same_Some, slice_get-get_or, slice_get_within, get_or_from_slice_get}
 use Rattle.khe_base.proofs.ListLemmas.{all-there}
 use Rattle.khe_base.specs.declared.numbers.EventId.{EventId}
@@ -74,6 +75,11 @@ pick_given entries x k n r h = sym (ap (λ o. option_map_or (λ (q : ResourceId)
 
 pub pick_none : (x : Slot) (k n : ℕ) → slice_get x.given k ≡ Some None → «Set» n ≡ option_map_or (λ (q : ResourceId). One q.0) (given_at x k) («Set» n)
 pick_none x k n h = sym (ap (λ o. option_map_or (λ (q : ResourceId). One q.0) o («Set» n)) (get_or_from_slice_get x.given k None None h))
+
+pub set_is : (p : Parts) (x : Slot) (k : ℕ) (entries : List ℕ) (e : EventId) (n q : ℕ) → e ≡ x.event → n ≡ resource_entry p.events e.0 k → n < length entries → q ≡ get_or entries n q → slice_get x.given k ≡ Some None → «Set» q ≡ pick_resources p.events entries x k
+set_is p x k entries e n q at is l found none =
+    let same : q ≡ get_or entries (resource_entry p.events x.event.0 k) 0 = found ∙ get_or_default_zero entries n q l ∙ ap (λ i. get_or entries i 0) is ∙ ap (λ (z : EventId). get_or entries (resource_entry p.events z.0 k) 0) at in
+    ap (λ v. «Set» v) same ∙ pick_none x k (get_or entries (resource_entry p.events x.event.0 k) 0) none
 
 -- what holding and releasing do
 pub record WasHeld (u v : Units) (e m d : ℕ) : Type 0 where

@@ -9,6 +9,7 @@ pub mod Places
 pub mod Ranges
 pub mod Renaming
 pub mod Renewals
+pub mod Safe
 pub mod SetLaws
 pub mod Stated
 pub mod UnitLaws

@@ -1,12 +1,15 @@
-ghost use Rattle.std.specs.Prelude.{◌≡◌, IfOk, List};
+ghost use Rattle.std.specs.Prelude.{◌≡◌, ◌+◌, ◌++◌, IfOk, OnOk, List, map};
+ghost use Rattle.std.specs.List.{filter};
+ghost use Rattle.khe_base.specs.IdSet.{has_member};
+ghost use Rattle.hall_report.specs.Listing.{AreMarks, is_marked};
 ghost use Rattle.khe_instance.specs.declared.parts.Parts.{Parts};
 ghost use Rattle.khe_told.specs.Slots.{no_meets};
 ghost use Rattle.khe_told.specs.Changes.{after};
 ghost use Rattle.khe_told.specs.Fits.{Fits};
 ghost use Rattle.khe_told.specs.declared.changes.Change.TheVariants.{Add, Drop};
-ghost use Rattle.hall_report.specs.Kept.{AreOf, AreOfSome};
+ghost use Rattle.hall_report.specs.Kept.{AreOf, AreOfSome, cell_demand};
 ghost use Rattle.hall_report.specs.Renewing.{IsTurn};
-ghost use Rattle.hall_report.specs.Demands.{IsDeficitOf, IsHallOf};
+ghost use Rattle.hall_report.specs.Demands.{IsDeficitOf, IsHallOf, chosen, task_demands};
 
 use crate::Demand;
 use crate::cells::free_cells;
@@ -17,7 +20,7 @@ use crate::resource_sets::resource_sets;
 use crate::start_sets::start_sets;
 use crate::units::Units;
 use demand_matching::{Domain, Matching, Pick};
-use khe_base::{MeetId, NoMemory, Seq, both};
+use khe_base::{IdSet, MeetId, NoMemory, Seq, both};
 use khe_instance::Instance;
 use khe_told::{Change, Steps, Told, Watcher};
 use std::alloc::Global;
@@ -77,13 +80,30 @@ impl Demands {
     pub fn hall(&self) -> Result<Seq<Demand>, NoMemory>
         ensures { (p : Parts) → AreOf p self.now.told self.now.units self.now.picks self.now.matching self.now.cells self.now.tasks self.now.times → IfOk result (λ hall. IsHallOf p self.now.told hall) }
     {
-        let numbers = self.matching.hall_set()?;
-        let count = self.tasks + self.cells.len() as u32;
-        let marks = marked(self.alloc, count, numbers.as_slice())?;
+        let marks = self.marks()?;
         let mut hall = Seq::new(self.alloc);
-        list_tasks(&mut hall, &self.told, &self.units, &marks)?;
-        list_cells(&mut hall, self.cells.as_slice(), self.times, self.tasks, &marks)?;
+        self.list(&mut hall, &marks)?;
         Ok(hall)
+    }
+
+    // Marks the numbers of the Hall set.
+    fn marks(&self) -> Result<IdSet, NoMemory>
+        ensures { IfOk result (λ marks. AreMarks self.now.matching marks) }
+    {
+        let numbers = self.matching.hall_set()?;
+        let cells = self.cells.as_slice().len() as u32;
+        let count = self.tasks + cells;
+        let marks = marked(self.alloc, count, numbers.as_slice())?;
+        Ok(marks)
+    }
+
+    // Adds the marked demands.
+    fn list(&self, hall: &mut Seq<Demand>, marks: &IdSet) -> Result<(), NoMemory>
+        ensures { OnOk result (hall.new ≡ (hall.old ++ filter (is_marked self.now.units marks.now) (task_demands self.now.told)) ++ chosen (λ i. has_member marks.now (self.now.tasks + i)) 0 (map (cell_demand self.now.times) self.now.cells)) }
+    {
+        list_tasks(hall, &self.told, &self.units, marks)?;
+        list_cells(hall, self.cells.as_slice(), self.times, self.tasks, marks)?;
+        Ok(())
     }
 }
 

@@ -31,3 +31,10 @@ loop-place-preserved c =
     (omega (arith, low),
     place_renewed c.args.matching.now c.loop-place.matching c.set_domain.new.self c.args.first (λ (k : ℕ). domain_in c.args.inst.now.events c.args.picks.now.starts.items c.args.picks.now.resources.items (slot_at c.args.told.now c.args.meet.0) k c.args.offset) c.args.from c.loop-place.place c.loop-place.invariant.1 c.loop-place.invariant.0 (omega (arith, a, b))
     (subst (λ o. c.set_domain.new.self ≡ with_domain c.loop-place.matching (c.args.first + c.loop-place.place) o) c.domain-domain.ensures c.set_domain.ensures))
+
+pub returns : goal.returns
+returns c =
+    let a = c.loop-place-test.false in
+    let b = c.loop-place.auto.place-end c.requires.places in
+    let e : c.loop-place.place ≡ c.args.end = omega (arith, a, b) in
+    subst (λ n. IsRenewed c.args.matching.now c.loop-place.matching (λ (k : ℕ) (o : ℕ). c.args.first + k) (λ (k : ℕ) (o : ℕ). domain_in c.args.inst.now.events c.args.picks.now.starts.items c.args.picks.now.resources.items (slot_at c.args.told.now c.args.meet.0) k c.args.offset) c.args.from n 1) e c.loop-place.invariant.1
