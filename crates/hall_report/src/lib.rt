@@ -1,16 +1,19 @@
-//! Scratch.
+//! The demands of a timetable: each task wants a resource at each time of its meet, and a resource
+//! that is to be free at a time wants that time for itself. How many demands no assignment can
+//! serve, and which ones compete, is kept up as the timetable changes.
 #![tactic(auto)]
 
+mod cells;
 mod demand;
+mod demands;
+mod examples;
+mod listing;
+mod marks;
 mod renewing;
+mod resource_sets;
+mod sets;
+mod start_sets;
 mod units;
 
 pub use demand::Demand;
-
-use demand_matching::Domain;
-use khe_told::Told;
-
-/// The shift.
-pub fn shift(domain: Domain) -> u32 {
-    domain.shift
-}
+pub use demands::Demands;
