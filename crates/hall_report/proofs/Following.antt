@@ -1,6 +1,6 @@
 -- What the functions that follow a change need at their calls.
-use Rattle.std.proofs.Common.{ℕ, zero, suc, ◌+◌, ◌-◌, ◌^◌, ◌<◌, ◌≤◌, ◌≡◌, ◌⊎◌, inl, inr, Option, Some, None, List, length, set, get_or, slice_get, refl, sym, ap, ◌∙◌, subst, arith, IfSome, get_or-set_other}
-use Rattle.std.specs.Option.{option_map_or}
+use Rattle.std.proofs.Common.{ℕ, zero, suc, ◌+◌, ◌-◌, ◌^◌, ◌<◌, ◌≤◌, ◌≡◌, ◌≢◌, ◌⊎◌, inl, inr, Option, Some, None, List, length, set, get_or, slice_get, refl, sym, ap, ◌∙◌, subst, arith, IfSome, get_or-set_other}
+use Rattle.std.specs.Option.{option_map, option_map_or}
 use Rattle.std.proofs.lemmas.Grind.{get_or_default_zero}
 use Rattle.std.proofs.lemmas.Option.{same_Some, slice_get-get_or, slice_get_within, get_or_from_slice_get}
 use Rattle.khe_base.proofs.ListLemmas.{all-there}
@@ -24,7 +24,7 @@ use Rattle.demand_matching.specs.Domains.{Domains}
 use Rattle.demand_matching.specs.declared.domains.Pick.{Pick}
 use Rattle.demand_matching.specs.declared.domains.Pick.TheVariants.{One, «Set»}
 use Rattle.hall_report.proofs.Changed.{IsChanged, still_open}
-use Rattle.hall_report.proofs.Noting.{added_long, added_of, added_units, added_within, apart_is, changed_is, dropped_long, dropped_of, dropped_span, held_after, own_after, readable_is, turned_is, turned_of}
+use Rattle.hall_report.proofs.Noting.{added_long, added_of, added_units, added_within, apart_is, changed_is, dropped_long, dropped_of, dropped_span, held_after, own_after, readable_is, stayed_units, turned_is, turned_of}
 use Rattle.hall_report.proofs.Numbers.{IsSlotAt, slot_is}
 use Rattle.hall_report.proofs.Ranges.{writable, writable_none}
 use Rattle.hall_report.proofs.Stated.{IsShort, place_there, span_short}
@@ -232,3 +232,75 @@ module _ (p : Parts) (s : List Slot) (c : Change) (u : Units) (picks : Picks) (w
 
   pub turn_apart : AreApart (number_of u m) from end count
   turn_apart = apart_is p s u m from end count are.opened.made are.told are.units are.opened.firsts turn_within (omega (arith, long))
+
+  pub turn_writable : AreWritable w (number_of u m) (domain_in p.events picks.starts.items picks.resources.items (slot_at t m)) from end count
+  turn_writable =
+      subst (λ q. AreWritable w (number_of u m) (domain_in p.events picks.starts.items picks.resources.items (slot_at q m)) from end count) (sym told)
+      (writable p (after s c) u picks w cells fits.told are.opened u m from end count (stayed_units p s c u.next.items u.held.items u.free.items are.units fits turn.live) are.opened.firsts
+      (let a = (changed_is p s c fits).same_length in omega (arith, a, turn_there))
+      (let a = (changed_is p s c fits).places in let b = ap (λ n. length (slot_at (after s c) n).given) own in let d = turn.within in omega (arith, a, b, d))
+      (let a = turn.live in let b = ap (λ n. length_of (slot_at (after s c) n)) own in let d = ap (λ n. length_of (slot_at s n)) own in omega (arith, a, b, d, long)))
+
+  pub turn_end : end ≤ length (slot_at t m).given
+  turn_end =
+      let a = (changed_is p s c fits).places in
+      let b = ap (λ n. length (slot_at (after s c) n).given) own in
+      let d = turn.within in
+      let e = ap (λ q. length (slot_at q m).given) told in
+      omega (arith, a, b, d, e)
+
+  pub turn_of : (w' : Domains) → IsRenewed w w' (number_of u m) (domain_in p.events picks.starts.items picks.resources.items (slot_at t m)) from end count → AreOf p t u picks w' cells tasks times
+  turn_of w' re =
+      subst (λ q. AreOf p q u picks w' cells tasks times) (sym told)
+      (turned_of p s c u picks w w' cells tasks times from end count are fits turn (let a = ap (λ n. length_of (slot_at s n)) own in omega (arith, a, long))
+      (subst (λ n. IsRenewed w w' (number_of u n) (domain_in p.events picks.starts.items picks.resources.items (slot_at (after s c) n)) from end count) own
+      (subst (λ q. IsRenewed w w' (number_of u m) (domain_in p.events picks.starts.items picks.resources.items (slot_at q m)) from end count) told re)))
+
+-- which changes alter which places
+turns_span : (p : Parts) (s : List Slot) (c : Change) (end : ℕ) → (slot_at (after s c) (meet_of c)).given ≡ (slot_at s (meet_of c)).given → length_of (slot_at (after s c) (meet_of c)) ≡ length_of (slot_at s (meet_of c)) → end ≡ length (slot_at s (meet_of c)).given → IsTurn p s c 0 end
+turns_span p s c end same live all = record {
+  order = omega arith;
+  within = omega (arith, all);
+  live = live;
+  outside = λ k near out. absurd (elim out [ | inl a ↦ omega (arith, a) | inr a ↦ omega (arith, a, near, all) ]);
+}
+
+pub turns_place : (p : Parts) (s : List Slot) (meet : MeetId) (start : TimeId) (end : ℕ) → Fits p s (PlaceAt meet start) → end ≡ length (slot_at s meet.0).given → IsTurn p s (PlaceAt meet start) 0 end
+turns_place p s meet start end fits all =
+    turns_span p s (PlaceAt meet start) end (ap (λ (x : Slot). x.given) (own_after p s (PlaceAt meet start) fits))
+    (ap length_of (own_after p s (PlaceAt meet start) fits) ∙ placed_long (slot_at s meet.0).span)
+    all
+  where
+    placed_long : (o : Option Span) → option_map_or (λ (y : Span). y.duration) (option_map (λ (z : Span). record z { start = Some start }) o) 0 ≡ option_map_or (λ (y : Span). y.duration) o 0
+    placed_long None = refl
+    placed_long (Some y) = refl
+
+pub turns_lift : (p : Parts) (s : List Slot) (meet : MeetId) (start : TimeId) (end : ℕ) → Fits p s (Lift meet start) → end ≡ length (slot_at s meet.0).given → IsTurn p s (Lift meet start) 0 end
+turns_lift p s meet start end fits all =
+    turns_span p s (Lift meet start) end (ap (λ (x : Slot). x.given) (own_after p s (Lift meet start) fits))
+    (ap length_of (own_after p s (Lift meet start) fits) ∙ lifted_long (slot_at s meet.0).span)
+    all
+  where
+    lifted_long : (o : Option Span) → option_map_or (λ (y : Span). y.duration) (option_map (λ (z : Span). record z { start = None }) o) 0 ≡ option_map_or (λ (y : Span). y.duration) o 0
+    lifted_long None = refl
+    lifted_long (Some y) = refl
+
+turns_hand : (p : Parts) (s : List Slot) (c : Change) (place : ℕ) (value : Option ResourceId) → place < length (slot_at s (meet_of c)).given → (slot_at (after s c) (meet_of c)).span ≡ (slot_at s (meet_of c)).span → (slot_at (after s c) (meet_of c)).given ≡ set (slot_at s (meet_of c)).given place value → IsTurn p s c place (place + 1)
+turns_hand p s c place value near span given = record {
+  order = omega arith;
+  within = omega (arith, near);
+  live = ap (λ o. option_map_or (λ (y : Span). y.duration) o 0) span;
+  outside = λ k l out.
+      let ne : k ≢ place = λ e. absurd (elim out [ | inl a ↦ omega (arith, a, e) | inr a ↦ omega (arith, a, e) ]) in
+      (span, ap (λ g. get_or g k None) given ∙ get_or-set_other (slot_at s (meet_of c)).given place k value None ne);
+}
+
+pub turns_give : (p : Parts) (s : List Slot) (task : TaskId) (r : ResourceId) → Fits p s (Give task r) → IsTurn p s (Give task r) task.place (task.place + 1)
+turns_give p s task r fits =
+    turns_hand p s (Give task r) task.place (Some r) (slice_get_within (slot_at s task.meet.0).given task.place None fits.suits.2)
+    (ap (λ (x : Slot). x.span) (own_after p s (Give task r) fits)) (ap (λ (x : Slot). x.given) (own_after p s (Give task r) fits))
+
+pub turns_take : (p : Parts) (s : List Slot) (task : TaskId) (r : ResourceId) → Fits p s (Take task r) → IsTurn p s (Take task r) task.place (task.place + 1)
+turns_take p s task r fits =
+    turns_hand p s (Take task r) task.place None (slice_get_within (slot_at s task.meet.0).given task.place (Some r) fits.suits.2)
+    (ap (λ (x : Slot). x.span) (own_after p s (Take task r) fits)) (ap (λ (x : Slot). x.given) (own_after p s (Take task r) fits))

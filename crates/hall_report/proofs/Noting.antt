@@ -238,35 +238,22 @@ module _ (p : Parts) (s : List Slot) (meet : MeetId) (d : ℕ) (u v : Units) (ma
         time_count = are.time_count;
       }
 
--- a meet stays
-pub turned_of : (p : Parts) (s : List Slot) (c : Change) (u : Units) (picks : Picks) (w w' : Domains) (cells : List ℕ) (tasks times from end count : ℕ) → AreOf p s u picks w cells tasks times → (fits : Fits p s c) → IsTurn p s c from end
-    → count ≡ length_of (slot_at s (meet_of c))
-    → IsRenewed w w' (number_of u (meet_of c)) (domain_in p.events picks.starts.items picks.resources.items (slot_at (after s c) (meet_of c))) from end count → AreOf p (after s c) u picks w' cells tasks times
-turned_of p s c u picks w w' cells tasks times from end count are fits turn long re =
-    let m : ℕ = meet_of c in
-    let x : Slot = slot_at s m in
-    let y : Slot = slot_at (after s c) m in
-    let ch = changed_is p s c fits in
-    record {
-      told = fits.told;
-      units = turned_units;
-      opened = still_open p u u picks w w' cells (number_of u m) (domain_in p.events picks.starts.items picks.resources.items y) from end count are.opened refl
-          (below_is p s u m end count are.opened.made are.told are.units are.opened.firsts turn.within (omega (arith, long))) re;
-      numbered = stayed p s (after s c) m picks u w w' from end count are.opened.made.first_meets ch are.numbered are.told.whose are.units are.opened.firsts turn.live turn.within long
-          (λ k o near out.
-          let same = turn.outside k near out in
-          let e : x.event.0 ≡ y.event.0 = ap (λ (z : EventId). z.0) (sym ch.event) in
-          ap (λ v. option_map (λ (z : Span). record { times = pick_starts p.events picks.starts.items x.event.0 z; shift = o; resources = pick_resources p.events picks.resources.items x k }) v) (sym same.0)
-          ∙ ap (λ g. option_map (λ (z : Span). record { times = pick_starts p.events picks.starts.items x.event.0 z; shift = o; resources = option_map_or (λ (r : ResourceId). One r.0) g («Set» (get_or picks.resources.items (resource_entry p.events x.event.0 k) 0)) }) y.span) (sym same.1)
-          ∙ ap (λ n. option_map (λ (z : Span). record { times = pick_starts p.events picks.starts.items n z; shift = o; resources = option_map_or (λ (r : ResourceId). One r.0) (given_at y k) («Set» (get_or picks.resources.items (resource_entry p.events n k) 0)) }) y.span) e)
-          re;
-      task_count = are.task_count;
-      time_count = are.time_count;
-    }
+-- a meet stays, and so do the units
+pub stayed_units : (p : Parts) (s : List Slot) (c : Change) (next firsts free : List ℕ) → AreUnits p.events s next firsts free → Fits p s c → length_of (slot_at (after s c) (meet_of c)) ≡ length_of (slot_at s (meet_of c)) → AreUnits p.events (after s c) next firsts free
+stayed_units p s c next firsts free units fits live = record {
+  next_length = units.next_length;
+  firsts_length = units.firsts_length;
+  free_length = units.free_length;
+  holds = λ n o l. subst (λ (z : EventId). HasSlot p.events z.0 (unit_at next firsts n o)) (sym (event_same n)) (units.holds n o (offset_same n o l));
+  apart = λ n k i j l g e. units.apart n k i j (offset_same n i l) (offset_same k j g) e;
+  spare = λ e i event at l. units.spare e i event at (free_same e i event l);
+  spare_apart = λ e i j event at l g same. units.spare_apart e i j event at (free_same e i event l) (free_same e j event g) same;
+  others = λ n o e i event l at g same. units.others n o e i event (offset_same n o l) at (free_same e i event g) same;
+}
   where
     long_same : (n : ℕ) → length_of (slot_at (after s c) n) ≡ length_of (slot_at s n)
     long_same n = elim (cases_eqb n (meet_of c)) [
-      | inl eq ↦ ap (λ i. length_of (slot_at (after s c) i)) eq ∙ turn.live ∙ ap (λ i. length_of (slot_at s i)) (sym eq)
+      | inl eq ↦ ap (λ i. length_of (slot_at (after s c) i)) eq ∙ live ∙ ap (λ i. length_of (slot_at s i)) (sym eq)
       | inr ne ↦ ap length_of ((changed_is p s c fits).others n ne)
     ]
     offset_same : (n o : ℕ) → IsOffset (after s c) n o → IsOffset s n o
@@ -280,19 +267,34 @@ turned_of p s c u picks w w' cells tasks times from end count are fits turn long
     held_same e =
         let x : Slot = slot_at s (meet_of c) in
         let a = sum_by-set (held_by e) s (meet_of c) (changed x c) no_slot fits.there in
-        let l : length_of (changed x c) ≡ length_of x = sym (ap length_of (own_after p s c fits)) ∙ turn.live in
+        let l : length_of (changed x c) ≡ length_of x = sym (ap length_of (own_after p s c fits)) ∙ live in
         let b : held_by e (changed x c) ≡ held_by e x = ap (λ n. cond {A = ℕ} (x.event.0 == e) n 0) l in
         omega (arith, a, b)
     free_same : (e i : ℕ) (event : EventInfo) → IsFree (after s c) e event i → IsFree s e event i
     free_same e i event l = let a = held_same e in omega (arith, a, l)
-    turned_units : AreUnits p.events (after s c) u.next.items u.held.items u.free.items
-    turned_units = record {
-      next_length = are.units.next_length;
-      firsts_length = are.units.firsts_length;
-      free_length = are.units.free_length;
-      holds = λ n o l. subst (λ (z : EventId). HasSlot p.events z.0 (unit_at u.next.items u.held.items n o)) (sym (event_same n)) (are.units.holds n o (offset_same n o l));
-      apart = λ n k i j l g e. are.units.apart n k i j (offset_same n i l) (offset_same k j g) e;
-      spare = λ e i event at l. are.units.spare e i event at (free_same e i event l);
-      spare_apart = λ e i j event at l g same. are.units.spare_apart e i j event at (free_same e i event l) (free_same e j event g) same;
-      others = λ n o e i event l at g same. are.units.others n o e i event (offset_same n o l) at (free_same e i event g) same;
+
+-- a meet stays
+pub turned_of : (p : Parts) (s : List Slot) (c : Change) (u : Units) (picks : Picks) (w w' : Domains) (cells : List ℕ) (tasks times from end count : ℕ) → AreOf p s u picks w cells tasks times → (fits : Fits p s c) → IsTurn p s c from end
+    → count ≡ length_of (slot_at s (meet_of c))
+    → IsRenewed w w' (number_of u (meet_of c)) (domain_in p.events picks.starts.items picks.resources.items (slot_at (after s c) (meet_of c))) from end count → AreOf p (after s c) u picks w' cells tasks times
+turned_of p s c u picks w w' cells tasks times from end count are fits turn long re =
+    let m : ℕ = meet_of c in
+    let x : Slot = slot_at s m in
+    let y : Slot = slot_at (after s c) m in
+    let ch = changed_is p s c fits in
+    record {
+      told = fits.told;
+      units = stayed_units p s c u.next.items u.held.items u.free.items are.units fits turn.live;
+      opened = still_open p u u picks w w' cells (number_of u m) (domain_in p.events picks.starts.items picks.resources.items y) from end count are.opened refl
+          (below_is p s u m end count are.opened.made are.told are.units are.opened.firsts turn.within (omega (arith, long))) re;
+      numbered = stayed p s (after s c) m picks u w w' from end count are.opened.made.first_meets ch are.numbered are.told.whose are.units are.opened.firsts turn.live turn.within long
+          (λ k o near out.
+          let same = turn.outside k near out in
+          let e : x.event.0 ≡ y.event.0 = ap (λ (z : EventId). z.0) (sym ch.event) in
+          ap (λ v. option_map (λ (z : Span). record { times = pick_starts p.events picks.starts.items x.event.0 z; shift = o; resources = pick_resources p.events picks.resources.items x k }) v) (sym same.0)
+          ∙ ap (λ g. option_map (λ (z : Span). record { times = pick_starts p.events picks.starts.items x.event.0 z; shift = o; resources = option_map_or (λ (r : ResourceId). One r.0) g («Set» (get_or picks.resources.items (resource_entry p.events x.event.0 k) 0)) }) y.span) (sym same.1)
+          ∙ ap (λ n. option_map (λ (z : Span). record { times = pick_starts p.events picks.starts.items n z; shift = o; resources = option_map_or (λ (r : ResourceId). One r.0) (given_at y k) («Set» (get_or picks.resources.items (resource_entry p.events n k) 0)) }) y.span) e)
+          re;
+      task_count = are.task_count;
+      time_count = are.time_count;
     }

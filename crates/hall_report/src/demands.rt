@@ -3,7 +3,7 @@ ghost use Rattle.std.specs.List.{filter};
 ghost use Rattle.khe_base.specs.IdSet.{has_member};
 ghost use Rattle.hall_report.specs.Listing.{AreMarks, is_marked};
 ghost use Rattle.khe_instance.specs.declared.parts.Parts.{Parts};
-ghost use Rattle.khe_told.specs.Slots.{no_meets};
+ghost use Rattle.khe_told.specs.Slots.{no_meets, slot_at, length_of};
 ghost use Rattle.khe_told.specs.Changes.{after};
 ghost use Rattle.khe_told.specs.Fits.{Fits};
 ghost use Rattle.khe_told.specs.declared.changes.Change.TheVariants.{Add, Drop};
@@ -165,7 +165,7 @@ impl Demands {
         ensures told { self.new.told ≡ after self.old.told change }
     {
         let meet = change.meet();
-        let duration = self.told.span(meet).map_or(0, |span| span.duration);
+        let duration = length(&self.told, meet);
         self.told.note(inst, change);
         renew(
             inst,
@@ -178,6 +178,16 @@ impl Demands {
             from,
             end,
         );
+    }
+}
+
+// How long a slot's meet lasts, and 0 where it has none.
+fn length(told: &Told, meet: MeetId) -> u32
+    ensures { result ≡ length_of (slot_at told.now meet.0) }
+{
+    match told.span(meet) {
+        Some(span) => span.duration,
+        None => 0,
     }
 }
 

@@ -13,4 +13,4 @@ pub marked-requires : goal.marked-requires
 marked-requires c =
     let a = (safe c.args.self.now.told c.args.self.now.units c.args.self.now.picks c.args.self.now.matching c.args.self.now.cells c.args.self.now.tasks c.args.self.now.times c.args.self.now.opened).size in
     let b = ap length c.as_slice.ensures in
-    subst (All (λ m. m < c.args.self.now.tasks + length c.as_slice.result.now)) (sym c.as_slice-2.ensures) (hall_below c.args.self.now.matching c.in_ok-numbers.field-0 (c.args.self.now.tasks + length c.as_slice.result.now) c.in_ok-numbers.ensures.least (omega (arith, a, b)))
+    subst (All (λ m. m < c.args.self.now.tasks + length c.as_slice.result.now)) (sym c.as_slice-2.ensures) (hall_below c.args.self.now.matching c.in_ok-numbers.numbers (c.args.self.now.tasks + length c.as_slice.result.now) c.in_ok-numbers.ensures.least (omega (arith, a, b)))
