@@ -1,4 +1,4 @@
-ghost use Rattle.std.specs.Prelude.{◌≡◌, ◌+◌, ◌++◌, IfOk, OnOk, List, map};
+ghost use Rattle.std.specs.Prelude.{◌≡◌, ◌+◌, ◌++◌, ◌<◌, IfOk, OnOk, List, length, map};
 ghost use Rattle.std.specs.List.{filter};
 ghost use Rattle.khe_base.specs.IdSet.{has_member};
 ghost use Rattle.hall_report.specs.Listing.{AreMarks, is_marked};
@@ -108,6 +108,14 @@ impl Demands {
 }
 
 impl Demands {
+    // How many places the event of a meet slot has.
+    fn places(&self, meet: MeetId) -> u32
+        requires { meet.0 < length self.now.told }
+        ensures { result ≡ length (slot_at self.now.told meet.0).given }
+    {
+        self.told.given(meet).len() as u32
+    }
+
     // Follows a meet that comes into a free slot.
     fn come(&mut self, inst: &Instance, meet: MeetId, duration: u32)
         requires of { AreOf inst.now self.old.told self.old.units self.old.picks self.old.matching self.old.cells self.old.tasks self.old.times }
@@ -165,7 +173,7 @@ impl Demands {
         ensures told { self.new.told ≡ after self.old.told change }
     {
         let meet = change.meet();
-        let duration = length(&self.told, meet);
+        let duration = span_length(&self.told, meet);
         self.told.note(inst, change);
         renew(
             inst,
@@ -182,7 +190,7 @@ impl Demands {
 }
 
 // How long a slot's meet lasts, and 0 where it has none.
-fn length(told: &Told, meet: MeetId) -> u32
+fn span_length(told: &Told, meet: MeetId) -> u32
     ensures { result ≡ length_of (slot_at told.now meet.0) }
 {
     match told.span(meet) {
@@ -222,8 +230,14 @@ impl Watcher for Demands {
         match change {
             Change::Add { meet, duration } => self.come(inst, meet, duration),
             Change::Drop { meet, duration } => self.go(inst, meet, duration),
-            Change::Place { meet, .. } => self.turn(inst, change, 0, self.told.given(meet).len() as u32),
-            Change::Lift { meet, .. } => self.turn(inst, change, 0, self.told.given(meet).len() as u32),
+            Change::Place { meet, .. } => {
+                let places = self.places(meet);
+                self.turn(inst, change, 0, places);
+            }
+            Change::Lift { meet, .. } => {
+                let places = self.places(meet);
+                self.turn(inst, change, 0, places);
+            }
             Change::Give { task, .. } => self.turn(inst, change, task.place, task.place + 1),
             Change::Take { task, .. } => self.turn(inst, change, task.place, task.place + 1),
         }
