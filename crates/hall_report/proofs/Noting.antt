@@ -76,19 +76,21 @@ pub turned_is : (p : Parts) (s : List Slot) (c : Change) → AreWellMade p → A
 turned_is p s c made told fits =
     let x : Slot = slot_at s (meet_of c) in
     let it = slot_is p s (meet_of c) made.first_meets told.whose fits.there in
-    let ch = changed_is p s c fits in
-    (it.has.0, record {
-      at = ap (slice_get p.events) it.slot.event ∙ it.has.1;
-      old_event = refl;
-      new_event = ap (λ (y : Slot). y.event.0) (own_after p s c fits);
-      others = ch.others;
-      elsewhere = λ f ne.
-          let a = sum_by-set (held_by f) s (meet_of c) (changed x c) no_slot fits.there in
-          let b = none_held f x (λ q. ne (sym q)) in
-          let d = none_held f (changed x c) (λ q. ne (sym q)) in
-          omega (arith, a, b, d);
-      first = made.first_meets;
-    })
+    let ch = changed_is p s c fits in (
+      it.has.0,
+      record {
+        at = ap (slice_get p.events) it.slot.event ∙ it.has.1;
+        old_event = refl;
+        new_event = ap (λ (y : Slot). y.event.0) (own_after p s c fits);
+        others = ch.others;
+        elsewhere = λ f ne.
+            let a = sum_by-set (held_by f) s (meet_of c) (changed x c) no_slot fits.there in
+            let b = none_held f x (λ q. ne (sym q)) in
+            let d = none_held f (changed x c) (λ q. ne (sym q)) in
+            omega (arith, a, b, d);
+        first = made.first_meets;
+      },
+    )
 
 -- the units of a slot's meet are there, and its demands have numbers below those of the cells
 pub readable_is : (p : Parts) (s : List Slot) (u : Units) (m : ℕ) → AreWellMade p → AreTold p s → AreUnits p.events s u.next.items u.held.items u.free.items → AreFirsts p.events u.tasks.items → m < length s
@@ -120,123 +122,121 @@ below_is p s u m end count made told units firsts wide long = λ k o a b. number
 
 -- a meet comes: the units that it gets
 module _ (p : Parts) (s : List Slot) (meet : MeetId) (d : ℕ) (u v : Units) (made : AreWellMade p) (told : AreTold p s) (fits : Fits p s (Add meet d))
-  (units : AreUnits p.events s u.next.items u.held.items u.free.items)
-  (next : v.next.items ≡ u.next.items) (firsts : v.held.items ≡ set u.held.items meet.0 (get_or u.free.items (slot_at s meet.0).event.0 0))
-  (free : v.free.items ≡ set u.free.items (slot_at s meet.0).event.0 (unit_at u.next.items u.free.items (slot_at s meet.0).event.0 d))
+    (units : AreUnits p.events s u.next.items u.held.items u.free.items)
+    (next : v.next.items ≡ u.next.items) (firsts : v.held.items ≡ set u.held.items meet.0 (get_or u.free.items (slot_at s meet.0).event.0 0))
+    (free : v.free.items ≡ set u.free.items (slot_at s meet.0).event.0 (unit_at u.next.items u.free.items (slot_at s meet.0).event.0 d))
   where
+    added_none : length_of (slot_at s meet.0) ≡ 0
+    added_none = ap (λ o. option_map_or (λ (y : Span). y.duration) o 0) fits.suits
 
-  added_none : length_of (slot_at s meet.0) ≡ 0
-  added_none = ap (λ o. option_map_or (λ (y : Span). y.duration) o 0) fits.suits
+    pub added_long : length_of (slot_at (after s (Add meet d)) meet.0) ≡ d
+    added_long = ap length_of (own_after p s (Add meet d) fits)
 
-  pub added_long : length_of (slot_at (after s (Add meet d)) meet.0) ≡ d
-  added_long = ap length_of (own_after p s (Add meet d) fits)
+    added_more : held (slot_at s meet.0).event.0 (after s (Add meet d)) ≡ held (slot_at s meet.0).event.0 s + d
+    added_more = let a = held_after p s (Add meet d) fits in let b = added_none in omega (arith, a, b)
 
-  added_more : held (slot_at s meet.0).event.0 (after s (Add meet d)) ≡ held (slot_at s meet.0).event.0 s + d
-  added_more = let a = held_after p s (Add meet d) fits in let b = added_none in omega (arith, a, b)
+    added_room : held (slot_at s meet.0).event.0 (after s (Add meet d)) ≤ (turned_is p s (Add meet d) made told fits).0.duration
+    added_room = let t = turned_is p s (Add meet d) made told fits in fits.told.durations (slot_at s meet.0).event.0 t.0 t.1.at
 
-  added_room : held (slot_at s meet.0).event.0 (after s (Add meet d)) ≤ (turned_is p s (Add meet d) made told fits).0.duration
-  added_room = let t = turned_is p s (Add meet d) made told fits in fits.told.durations (slot_at s meet.0).event.0 t.0 t.1.at
+    added_there : meet.0 < length u.held.items
+    added_there =
+        let it = slot_is p s meet.0 made.first_meets told.whose fits.there in
+        let a = units.firsts_length in let b = units_below p.events it.event meet.0 made.first_meets it.has in omega (arith, a, b)
 
-  added_there : meet.0 < length u.held.items
-  added_there =
-      let it = slot_is p s meet.0 made.first_meets told.whose fits.there in
-      let a = units.firsts_length in let b = units_below p.events it.event meet.0 made.first_meets it.has in omega (arith, a, b)
+    pub added_units : AreUnits p.events (after s (Add meet d)) v.next.items v.held.items v.free.items
+    added_units =
+        let t = turned_is p s (Add meet d) made told fits in
+        subst (λ xs. AreUnits p.events (after s (Add meet d)) xs v.held.items v.free.items) (sym next)
+        (subst (λ xs. AreUnits p.events (after s (Add meet d)) u.next.items xs v.free.items) (sym firsts)
+        (subst (λ xs. AreUnits p.events (after s (Add meet d)) u.next.items (set u.held.items meet.0 (get_or u.free.items (slot_at s meet.0).event.0 0)) xs) (sym free)
+        (held_units p.events s (after s (Add meet d)) meet.0 (slot_at s meet.0).event.0 d t.0 u.next.items u.held.items u.free.items t.1 units added_there added_none added_long added_more added_room)))
 
-  pub added_units : AreUnits p.events (after s (Add meet d)) v.next.items v.held.items v.free.items
-  added_units =
-      let t = turned_is p s (Add meet d) made told fits in
-      subst (λ xs. AreUnits p.events (after s (Add meet d)) xs v.held.items v.free.items) (sym next)
-      (subst (λ xs. AreUnits p.events (after s (Add meet d)) u.next.items xs v.free.items) (sym firsts)
-      (subst (λ xs. AreUnits p.events (after s (Add meet d)) u.next.items (set u.held.items meet.0 (get_or u.free.items (slot_at s meet.0).event.0 0)) xs) (sym free)
-      (held_units p.events s (after s (Add meet d)) meet.0 (slot_at s meet.0).event.0 d t.0 u.next.items u.held.items u.free.items t.1 units added_there added_none added_long added_more added_room)))
+    pub added_within : (i : ℕ) → i < d → unit_at u.next.items u.free.items (slot_at s meet.0).event.0 i < length u.next.items
+    added_within i l =
+        let t = turned_is p s (Add meet d) made told fits in
+        let a = added_more in
+        let b = added_room in
+        let free_one : IsFree s (slot_at s meet.0).event.0 t.0 i = omega (arith, a, b, l) in
+        let q = units_below p.events (slot_at s meet.0).event.0 (unit_at u.next.items u.free.items (slot_at s meet.0).event.0 i) made.first_meets (units.spare (slot_at s meet.0).event.0 i t.0 t.1.at free_one) in
+        let n = units.next_length in
+        omega (arith, q, n)
 
-  pub added_within : (i : ℕ) → i < d → unit_at u.next.items u.free.items (slot_at s meet.0).event.0 i < length u.next.items
-  added_within i l =
-      let t = turned_is p s (Add meet d) made told fits in
-      let a = added_more in
-      let b = added_room in
-      let free_one : IsFree s (slot_at s meet.0).event.0 t.0 i = omega (arith, a, b, l) in
-      let q = units_below p.events (slot_at s meet.0).event.0 (unit_at u.next.items u.free.items (slot_at s meet.0).event.0 i) made.first_meets (units.spare (slot_at s meet.0).event.0 i t.0 t.1.at free_one) in
-      let n = units.next_length in
-      omega (arith, q, n)
+    pub added_numbers : v.tasks.items ≡ u.tasks.items → KeepsNumbers s u v meet.0
+    added_numbers tasks = λ n k o ne l.
+        ap (λ ts. get_or ts (unit_at v.next.items v.held.items n o) 0 + k) tasks
+        ∙ ap (λ ns. get_or u.tasks.items (unit_at ns v.held.items n o) 0 + k) next
+        ∙ ap (λ hs. get_or u.tasks.items (unit_at u.next.items hs n o) 0 + k) firsts
+        ∙ ap (λ i. get_or u.tasks.items (walk u.next.items i o) 0 + k) (get_or-set_other u.held.items meet.0 n (get_or u.free.items (slot_at s meet.0).event.0 0) 0 ne)
 
-  pub added_numbers : v.tasks.items ≡ u.tasks.items → KeepsNumbers s u v meet.0
-  added_numbers tasks = λ n k o ne l.
-      ap (λ ts. get_or ts (unit_at v.next.items v.held.items n o) 0 + k) tasks
-      ∙ ap (λ ns. get_or u.tasks.items (unit_at ns v.held.items n o) 0 + k) next
-      ∙ ap (λ hs. get_or u.tasks.items (unit_at u.next.items hs n o) 0 + k) firsts
-      ∙ ap (λ i. get_or u.tasks.items (walk u.next.items i o) 0 + k) (get_or-set_other u.held.items meet.0 n (get_or u.free.items (slot_at s meet.0).event.0 0) 0 ne)
-
-  pub added_of : (picks : Picks) (w w' : Domains) (cells : List ℕ) (tasks times end : ℕ) → AreOf p s u picks w cells tasks times → v.tasks.items ≡ u.tasks.items → end ≡ length (slot_at (after s (Add meet d)) meet.0).given
-      → IsRenewed w w' (number_of v meet.0) (domain_in p.events picks.starts.items picks.resources.items (slot_at (after s (Add meet d)) meet.0)) 0 end d → AreOf p (after s (Add meet d)) v picks w' cells tasks times
-  added_of picks w w' cells tasks times end are same all re =
-      let firsts_now : AreFirsts p.events v.tasks.items = subst (AreFirsts p.events) (sym same) are.opened.firsts in
-      let long = added_long in
-      record {
-        told = fits.told;
-        units = added_units;
-        opened = still_open p u v picks w w' cells (number_of v meet.0) (domain_in p.events picks.starts.items picks.resources.items (slot_at (after s (Add meet d)) meet.0)) 0 end d are.opened same
-            (below_is p (after s (Add meet d)) v meet.0 end d made fits.told added_units firsts_now (omega (arith, all)) (omega (arith, long))) re;
-        numbered = came p s (after s (Add meet d)) meet.0 picks u w w' 0 end d made.first_meets (changed_is p s (Add meet d) fits) are.numbered v fits.told.whose added_units firsts_now
-            (added_numbers same) added_none refl all (sym long) re;
-        task_count = are.task_count;
-        time_count = are.time_count;
-      }
+    pub added_of : (picks : Picks) (w w' : Domains) (cells : List ℕ) (tasks times end : ℕ) → AreOf p s u picks w cells tasks times → v.tasks.items ≡ u.tasks.items → end ≡ length (slot_at (after s (Add meet d)) meet.0).given
+        → IsRenewed w w' (number_of v meet.0) (domain_in p.events picks.starts.items picks.resources.items (slot_at (after s (Add meet d)) meet.0)) 0 end d → AreOf p (after s (Add meet d)) v picks w' cells tasks times
+    added_of picks w w' cells tasks times end are same all re =
+        let firsts_now : AreFirsts p.events v.tasks.items = subst (AreFirsts p.events) (sym same) are.opened.firsts in
+        let long = added_long in
+        record {
+          told = fits.told;
+          units = added_units;
+          opened = still_open p u v picks w w' cells (number_of v meet.0) (domain_in p.events picks.starts.items picks.resources.items (slot_at (after s (Add meet d)) meet.0)) 0 end d are.opened same
+              (below_is p (after s (Add meet d)) v meet.0 end d made fits.told added_units firsts_now (omega (arith, all)) (omega (arith, long))) re;
+          numbered = came p s (after s (Add meet d)) meet.0 picks u w w' 0 end d made.first_meets (changed_is p s (Add meet d) fits) are.numbered v fits.told.whose added_units firsts_now
+              (added_numbers same) added_none refl all (sym long) re;
+          task_count = are.task_count;
+          time_count = are.time_count;
+        }
 
 -- a meet goes: the units that are free again
 module _ (p : Parts) (s : List Slot) (meet : MeetId) (d : ℕ) (u v : Units) (made : AreWellMade p) (told : AreTold p s) (fits : Fits p s (Drop meet d))
-  (units : AreUnits p.events s u.next.items u.held.items u.free.items) (some : 1 ≤ d)
-  (next : v.next.items ≡ set u.next.items (unit_at u.next.items u.held.items meet.0 (d - 1)) (get_or u.free.items (slot_at s meet.0).event.0 0)) (firsts : v.held.items ≡ u.held.items)
-  (free : v.free.items ≡ set u.free.items (slot_at s meet.0).event.0 (get_or u.held.items meet.0 0))
+    (units : AreUnits p.events s u.next.items u.held.items u.free.items) (some : 1 ≤ d)
+    (next : v.next.items ≡ set u.next.items (unit_at u.next.items u.held.items meet.0 (d - 1)) (get_or u.free.items (slot_at s meet.0).event.0 0)) (firsts : v.held.items ≡ u.held.items)
+    (free : v.free.items ≡ set u.free.items (slot_at s meet.0).event.0 (get_or u.held.items meet.0 0))
   where
+    pub dropped_long : length_of (slot_at s meet.0) ≡ d
+    dropped_long = ap (λ o. option_map_or (λ (y : Span). y.duration) o 0) fits.suits.0
 
-  pub dropped_long : length_of (slot_at s meet.0) ≡ d
-  dropped_long = ap (λ o. option_map_or (λ (y : Span). y.duration) o 0) fits.suits.0
+    pub dropped_span : (slot_at (after s (Drop meet d)) meet.0).span ≡ None
+    dropped_span = ap (λ (x : Slot). x.span) (own_after p s (Drop meet d) fits)
 
-  pub dropped_span : (slot_at (after s (Drop meet d)) meet.0).span ≡ None
-  dropped_span = ap (λ (x : Slot). x.span) (own_after p s (Drop meet d) fits)
+    dropped_none : length_of (slot_at (after s (Drop meet d)) meet.0) ≡ 0
+    dropped_none = ap (λ o. option_map_or (λ (y : Span). y.duration) o 0) dropped_span
 
-  dropped_none : length_of (slot_at (after s (Drop meet d)) meet.0) ≡ 0
-  dropped_none = ap (λ o. option_map_or (λ (y : Span). y.duration) o 0) dropped_span
+    dropped_less : held (slot_at s meet.0).event.0 s ≡ held (slot_at s meet.0).event.0 (after s (Drop meet d)) + d
+    dropped_less = let a = held_after p s (Drop meet d) fits in let b = dropped_long in omega (arith, a, b)
 
-  dropped_less : held (slot_at s meet.0).event.0 s ≡ held (slot_at s meet.0).event.0 (after s (Drop meet d)) + d
-  dropped_less = let a = held_after p s (Drop meet d) fits in let b = dropped_long in omega (arith, a, b)
+    dropped_there : meet.0 < length u.held.items
+    dropped_there =
+        let it = slot_is p s meet.0 made.first_meets told.whose fits.there in
+        let a = units.firsts_length in let b = units_below p.events it.event meet.0 made.first_meets it.has in omega (arith, a, b)
 
-  dropped_there : meet.0 < length u.held.items
-  dropped_there =
-      let it = slot_is p s meet.0 made.first_meets told.whose fits.there in
-      let a = units.firsts_length in let b = units_below p.events it.event meet.0 made.first_meets it.has in omega (arith, a, b)
+    pub dropped_units : AreUnits p.events (after s (Drop meet d)) v.next.items v.held.items v.free.items
+    dropped_units =
+        let t = turned_is p s (Drop meet d) made told fits in
+        subst (λ xs. AreUnits p.events (after s (Drop meet d)) xs v.held.items v.free.items) (sym next)
+        (subst (λ xs. AreUnits p.events (after s (Drop meet d)) (set u.next.items (unit_at u.next.items u.held.items meet.0 (d - 1)) (get_or u.free.items (slot_at s meet.0).event.0 0)) xs v.free.items) (sym firsts)
+        (subst (λ xs. AreUnits p.events (after s (Drop meet d)) (set u.next.items (unit_at u.next.items u.held.items meet.0 (d - 1)) (get_or u.free.items (slot_at s meet.0).event.0 0)) u.held.items xs) (sym free)
+        (released_units p.events s (after s (Drop meet d)) meet.0 (slot_at s meet.0).event.0 d t.0 u.next.items u.held.items u.free.items t.1 units dropped_there dropped_long some dropped_none dropped_less)))
 
-  pub dropped_units : AreUnits p.events (after s (Drop meet d)) v.next.items v.held.items v.free.items
-  dropped_units =
-      let t = turned_is p s (Drop meet d) made told fits in
-      subst (λ xs. AreUnits p.events (after s (Drop meet d)) xs v.held.items v.free.items) (sym next)
-      (subst (λ xs. AreUnits p.events (after s (Drop meet d)) (set u.next.items (unit_at u.next.items u.held.items meet.0 (d - 1)) (get_or u.free.items (slot_at s meet.0).event.0 0)) xs v.free.items) (sym firsts)
-      (subst (λ xs. AreUnits p.events (after s (Drop meet d)) (set u.next.items (unit_at u.next.items u.held.items meet.0 (d - 1)) (get_or u.free.items (slot_at s meet.0).event.0 0)) u.held.items xs) (sym free)
-      (released_units p.events s (after s (Drop meet d)) meet.0 (slot_at s meet.0).event.0 d t.0 u.next.items u.held.items u.free.items t.1 units dropped_there dropped_long some dropped_none dropped_less)))
+    pub dropped_numbers : v.tasks.items ≡ u.tasks.items → KeepsNumbers (after s (Drop meet d)) u v meet.0
+    dropped_numbers tasks = λ n k o ne l.
+        let t = turned_is p s (Drop meet d) made told fits in
+        ap (λ ts. get_or ts (unit_at v.next.items v.held.items n o) 0 + k) tasks
+        ∙ ap (λ ns. get_or u.tasks.items (unit_at ns v.held.items n o) 0 + k) next
+        ∙ ap (λ hs. get_or u.tasks.items (unit_at (set u.next.items (unit_at u.next.items u.held.items meet.0 (d - 1)) (get_or u.free.items (slot_at s meet.0).event.0 0)) hs n o) 0 + k) firsts
+        ∙ ap (λ i. get_or u.tasks.items i 0 + k) (kept_unit p.events s (after s (Drop meet d)) meet.0 (slot_at s meet.0).event.0 d t.0 u.next.items u.held.items u.free.items t.1 units dropped_there dropped_long some dropped_none dropped_less n o ne l)
 
-  pub dropped_numbers : v.tasks.items ≡ u.tasks.items → KeepsNumbers (after s (Drop meet d)) u v meet.0
-  dropped_numbers tasks = λ n k o ne l.
-      let t = turned_is p s (Drop meet d) made told fits in
-      ap (λ ts. get_or ts (unit_at v.next.items v.held.items n o) 0 + k) tasks
-      ∙ ap (λ ns. get_or u.tasks.items (unit_at ns v.held.items n o) 0 + k) next
-      ∙ ap (λ hs. get_or u.tasks.items (unit_at (set u.next.items (unit_at u.next.items u.held.items meet.0 (d - 1)) (get_or u.free.items (slot_at s meet.0).event.0 0)) hs n o) 0 + k) firsts
-      ∙ ap (λ i. get_or u.tasks.items i 0 + k) (kept_unit p.events s (after s (Drop meet d)) meet.0 (slot_at s meet.0).event.0 d t.0 u.next.items u.held.items u.free.items t.1 units dropped_there dropped_long some dropped_none dropped_less n o ne l)
-
-  pub dropped_of : (picks : Picks) (w w' : Domains) (cells : List ℕ) (tasks times end : ℕ) → AreOf p s u picks w cells tasks times → v.tasks.items ≡ u.tasks.items → end ≡ length (slot_at s meet.0).given
-      → IsRenewed w w' (number_of u meet.0) (domain_in p.events picks.starts.items picks.resources.items (slot_at (after s (Drop meet d)) meet.0)) 0 end d → AreOf p (after s (Drop meet d)) v picks w' cells tasks times
-  dropped_of picks w w' cells tasks times end are same all re =
-      let long = dropped_long in
-      record {
-        told = fits.told;
-        units = dropped_units;
-        opened = still_open p u v picks w w' cells (number_of u meet.0) (domain_in p.events picks.starts.items picks.resources.items (slot_at (after s (Drop meet d)) meet.0)) 0 end d are.opened same
-            (below_is p s u meet.0 end d made told units are.opened.firsts (omega (arith, all)) (omega (arith, long))) re;
-        numbered = went p s (after s (Drop meet d)) meet.0 picks u w w' 0 end d made.first_meets (changed_is p s (Drop meet d) fits) are.numbered v told.whose units are.opened.firsts
-            (dropped_numbers same) dropped_span refl all (sym long) re;
-        task_count = are.task_count;
-        time_count = are.time_count;
-      }
+    pub dropped_of : (picks : Picks) (w w' : Domains) (cells : List ℕ) (tasks times end : ℕ) → AreOf p s u picks w cells tasks times → v.tasks.items ≡ u.tasks.items → end ≡ length (slot_at s meet.0).given
+        → IsRenewed w w' (number_of u meet.0) (domain_in p.events picks.starts.items picks.resources.items (slot_at (after s (Drop meet d)) meet.0)) 0 end d → AreOf p (after s (Drop meet d)) v picks w' cells tasks times
+    dropped_of picks w w' cells tasks times end are same all re =
+        let long = dropped_long in
+        record {
+          told = fits.told;
+          units = dropped_units;
+          opened = still_open p u v picks w w' cells (number_of u meet.0) (domain_in p.events picks.starts.items picks.resources.items (slot_at (after s (Drop meet d)) meet.0)) 0 end d are.opened same
+              (below_is p s u meet.0 end d made told units are.opened.firsts (omega (arith, all)) (omega (arith, long))) re;
+          numbered = went p s (after s (Drop meet d)) meet.0 picks u w w' 0 end d made.first_meets (changed_is p s (Drop meet d) fits) are.numbered v told.whose units are.opened.firsts
+              (dropped_numbers same) dropped_span refl all (sym long) re;
+          task_count = are.task_count;
+          time_count = are.time_count;
+        }
 
 -- a meet stays, and so do the units
 pub stayed_units : (p : Parts) (s : List Slot) (c : Change) (next firsts free : List ℕ) → AreUnits p.events s next firsts free → Fits p s c → length_of (slot_at (after s c) (meet_of c)) ≡ length_of (slot_at s (meet_of c)) → AreUnits p.events (after s c) next firsts free
@@ -256,13 +256,16 @@ stayed_units p s c next firsts free units fits live = record {
       | inl eq ↦ ap (λ i. length_of (slot_at (after s c) i)) eq ∙ live ∙ ap (λ i. length_of (slot_at s i)) (sym eq)
       | inr ne ↦ ap length_of ((changed_is p s c fits).others n ne)
     ]
+
     offset_same : (n o : ℕ) → IsOffset (after s c) n o → IsOffset s n o
     offset_same n o l = let a = long_same n in omega (arith, a, l)
+
     event_same : (n : ℕ) → (slot_at (after s c) n).event ≡ (slot_at s n).event
     event_same n = elim (cases_eqb n (meet_of c)) [
       | inl eq ↦ ap (λ i. (slot_at (after s c) i).event) eq ∙ (changed_is p s c fits).event ∙ ap (λ i. (slot_at s i).event) (sym eq)
       | inr ne ↦ ap (λ (z : Slot). z.event) ((changed_is p s c fits).others n ne)
     ]
+
     held_same : (e : ℕ) → held e (after s c) ≡ held e s
     held_same e =
         let x : Slot = slot_at s (meet_of c) in
@@ -270,6 +273,7 @@ stayed_units p s c next firsts free units fits live = record {
         let l : length_of (changed x c) ≡ length_of x = sym (ap length_of (own_after p s c fits)) ∙ live in
         let b : held_by e (changed x c) ≡ held_by e x = ap (λ n. cond {A = ℕ} (x.event.0 == e) n 0) l in
         omega (arith, a, b)
+
     free_same : (e i : ℕ) (event : EventInfo) → IsFree (after s c) e event i → IsFree s e event i
     free_same e i event l = let a = held_same e in omega (arith, a, l)
 

@@ -111,26 +111,25 @@ task_place p s m k o first whose is =
     omega (arith, a, b, c)
 
 module _ (p : Parts) (s : List Slot) (u : Units) (first : AreFirstMeets 0 p.events) (whose : map emptied s ≡ no_meets p)
-  (are : AreUnits p.events s u.next.items u.held.items u.free.items) (firsts : AreFirsts p.events u.tasks.items)
+    (are : AreUnits p.events s u.next.items u.held.items u.free.items) (firsts : AreFirsts p.events u.tasks.items)
   where
+    unit_of : ℕ → ℕ → ℕ
+    unit_of m o = unit_at u.next.items u.held.items m o
 
-  unit_of : ℕ → ℕ → ℕ
-  unit_of m o = unit_at u.next.items u.held.items m o
+    pub number_is : (m k o : ℕ) → IsOffset s m o → number_of u m k o ≡ first_task p.events (unit_at u.next.items u.held.items m o) + k
+    number_is m k o l =
+        let below = units_below p.events (slot_at s m).event.0 (unit_at u.next.items u.held.items m o) first (are.holds m o l) in
+        ap (λ n. n + k) (firsts.each (unit_at u.next.items u.held.items m o) below)
 
-  pub number_is : (m k o : ℕ) → IsOffset s m o → number_of u m k o ≡ first_task p.events (unit_at u.next.items u.held.items m o) + k
-  number_is m k o l =
-      let below = units_below p.events (slot_at s m).event.0 (unit_at u.next.items u.held.items m o) first (are.holds m o l) in
-      ap (λ n. n + k) (firsts.each (unit_at u.next.items u.held.items m o) below)
+    pub number_below : (m k o : ℕ) → IsTask s m k o → number_of u m k o < tasks_of p.events
+    number_below m k o is =
+        let a = number_is m k o is.1 in
+        let b = number_within p.events (slot_at s m).event.0 (unit_at u.next.items u.held.items m o) k first (are.holds m o is.1) (task_place p s m k o first whose is) in
+        omega (arith, a, b)
 
-  pub number_below : (m k o : ℕ) → IsTask s m k o → number_of u m k o < tasks_of p.events
-  number_below m k o is =
-      let a = number_is m k o is.1 in
-      let b = number_within p.events (slot_at s m).event.0 (unit_at u.next.items u.held.items m o) k first (are.holds m o is.1) (task_place p s m k o first whose is) in
-      omega (arith, a, b)
-
-  pub number_apart : (m k o n j i : ℕ) → IsTask s m k o → IsTask s n j i → number_of u m k o ≡ number_of u n j i → (m ≡ n) × (k ≡ j) × (o ≡ i)
-  number_apart m k o n j i is at same =
-      let r = numbers_apart p.events (slot_at s m).event.0 (slot_at s n).event.0 (unit_at u.next.items u.held.items m o) (unit_at u.next.items u.held.items n i) k j first
-      (are.holds m o is.1) (are.holds n i at.1) (task_place p s m k o first whose is) (task_place p s n j i first whose at) (sym (number_is m k o is.1) ∙ same ∙ number_is n j i at.1) in
-      let q = are.apart m n o i is.1 at.1 r.0 in
-      (q.0, r.1, q.1)
+    pub number_apart : (m k o n j i : ℕ) → IsTask s m k o → IsTask s n j i → number_of u m k o ≡ number_of u n j i → (m ≡ n) × (k ≡ j) × (o ≡ i)
+    number_apart m k o n j i is at same =
+        let r = numbers_apart p.events (slot_at s m).event.0 (slot_at s n).event.0 (unit_at u.next.items u.held.items m o) (unit_at u.next.items u.held.items n i) k j first
+        (are.holds m o is.1) (are.holds n i at.1) (task_place p s m k o first whose is) (task_place p s n j i first whose at) (sym (number_is m k o is.1) ∙ same ∙ number_is n j i at.1) in
+        let q = are.apart m n o i is.1 at.1 r.0 in
+        (q.0, r.1, q.1)

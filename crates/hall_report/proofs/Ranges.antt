@@ -72,7 +72,6 @@ given_there (x ∷ xs) zero g h = ap Some h
 given_there (x ∷ xs) (suc k) g h = given_there xs k g h
 
 module _ (p : Parts) (t : List Slot) (u : Units) (picks : Picks) (w : Domains) (cells : List ℕ) (told : AreTold p t) (opened : AreOpen p u picks w cells) where
-
   in_range : (m k o : ℕ) (y : Span) → m < length t → IsTask t m k o → (slot_at t m).span ≡ Some y
       → IsInRange w (record { times = pick_starts p.events picks.starts.items (slot_at t m).event.0 y; shift = o; resources = pick_resources p.events picks.resources.items (slot_at t m) k })
   in_range m k o y l task live =

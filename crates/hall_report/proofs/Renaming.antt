@@ -155,6 +155,7 @@ hall_renamed v w f g set chosen is h same there = record {
         let one : size_of v chosen ≤ size_of v (λ k. set (f k)) = count_subset (length v.demands) (λ k. is_present v k && chosen k) (λ k. is_present v k && set (f k)) (λ k l e. let a = and_parts (is_present v k) (chosen k) e in and_from (is_present v k) (set (f k)) a.0 (sym (same k a.0) ∙ a.1)) in
         let two : size_of v (λ k. set (f k)) ≤ size_of v chosen = count_subset (length v.demands) (λ k. is_present v k && set (f k)) (λ k. is_present v k && chosen k) (λ k l e. let a = and_parts (is_present v k) (set (f k)) e in and_from (is_present v k) (chosen k) a.0 (same k a.0 ∙ a.1)) in
         omega arith
+
     near : neighbours_of v chosen ≤ neighbours_of v (λ k. set (f k))
     near =
         sum_le v.width (λ r. count_below v.last (λ t. is_neighbour v chosen r t)) (λ r. count_below v.last (λ t. is_neighbour v (λ k. set (f k)) r t))
@@ -164,5 +165,6 @@ hall_renamed v w f g set chosen is h same there = record {
         let k : ℕ = it.0 in
         let a = and_parts (chosen k) (may_have v k r t) it.2 in
         any_from (length v.demands) (λ i. set (f i) && may_have v i r t) k it.1 (and_from (set (f k)) (may_have v k r t) (sym (same k (there k a.0)) ∙ a.0) a.1)))
+
     along : HasGreatestExcess v (λ k. set (f k)) → HasGreatestExcess v chosen
     along great = λ other. let most = great other in omega (arith, most, size, near)

@@ -56,6 +56,7 @@ units_open p firsts made many =
   where
     none : (m o : ℕ) → IsOffset (no_meets p) m o → ⊥
     none m o l = let a = none_long p m in omega (arith, a, l)
+
     free_is : (e i : ℕ) (event : EventInfo) → slice_get p.events e ≡ Some event → IsFree (no_meets p) e event i → unit_at (range_with_len 1 (units_of p.events)) (map (λ (z : EventInfo). z.first_meet) p.events) e i ≡ event.first_meet + i
     free_is e i event at l =
         let below = units_below p.events e (event.first_meet + i) made.first_meets (slot_at_event p.events e i event at (let a = none_held e p in omega (arith, a, l))) in

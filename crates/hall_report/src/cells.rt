@@ -15,9 +15,11 @@ pub(crate) fn free_cells(alloc: Global, inst: &Instance) -> Result<Seq<u32>, NoM
     for number in 0..inst.monitors() {
         let monitor = inst.monitor(MonitorId(number));
         let constraint = inst.constraint(monitor.constraint);
-        if let (true, Rule::AvoidUnavailableTimes { times }, Point::Resource(resource)) =
-            (is_strict(constraint), &constraint.rule, monitor.point)
-        {
+        if let (true, Rule::AvoidUnavailableTimes { times }, Point::Resource(resource)) = (
+            is_strict(constraint),
+            &constraint.rule,
+            monitor.point,
+        ) {
             mark_cells(&mut cells, inst.times(), resource, times);
         }
     }

@@ -11,5 +11,8 @@ pub enum Demand {
         offset: u32,
     },
     /// A resource that is to be free at a time: what keeps it free then.
-    Unavailable { resource: ResourceId, time: TimeId },
+    Unavailable {
+        resource: ResourceId,
+        time: TimeId,
+    },
 }

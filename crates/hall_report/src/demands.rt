@@ -60,10 +60,29 @@ impl Demands {
         let rest = both(Told::open(alloc, inst), Units::open(alloc, inst));
         let (((starts, resources), cells), (told, units)) = both(parts, rest)?;
         let count = tasks + cells.len() as u32;
-        let mut matching = Matching::new(alloc, count, starts.sets, resources.sets, times, inst.resources())?;
+        let mut matching = Matching::new(
+            alloc,
+            count,
+            starts.sets,
+            resources.sets,
+            times,
+            inst.resources(),
+        )?;
         want_cells(&mut matching, cells.as_slice(), tasks, times);
-        let picks = Picks { starts: starts.entries, resources: resources.entries };
-        Ok(Demands { tasks, times, alloc, told, units, picks, matching, cells })
+        let picks = Picks {
+            starts: starts.entries,
+            resources: resources.entries,
+        };
+        Ok(Demands {
+            tasks,
+            times,
+            alloc,
+            told,
+            units,
+            picks,
+            matching,
+            cells,
+        })
     }
 
     /// How many demands no assignment can serve: the greatest excess of a set of demands over the

@@ -77,11 +77,21 @@ fn narrow_all(alloc: Global, inst: &Instance, found: &mut ResourceSets) -> Resul
     for number in 0..inst.monitors() {
         let monitor = inst.monitor(MonitorId(number));
         let constraint = inst.constraint(monitor.constraint);
-        if let (true, Rule::PreferResources { resources, .. }, Point::EventResource { event, place }) =
-            (is_strict(constraint), &constraint.rule, monitor.point)
+        if let (
+            true,
+            Rule::PreferResources { resources, .. },
+            Point::EventResource { event, place },
+        ) = (is_strict(constraint), &constraint.rule, monitor.point)
         {
             let entry = (first_entry(inst, event) + place) as usize;
-            narrow(alloc, &mut found.sets, &mut found.entries, inst.types(), entry, resources)?;
+            narrow(
+                alloc,
+                &mut found.sets,
+                &mut found.entries,
+                inst.types(),
+                entry,
+                resources,
+            )?;
         }
     }
     Ok(())

@@ -41,7 +41,11 @@ pub(crate) fn start_sets(alloc: Global, inst: &Instance) -> Result<StartSets, No
 fn whole_sets(alloc: Global, times: u32) -> Result<Seq<IdSet>, NoMemory> {
     let mut sets = Seq::new(alloc);
     for duration in 0..times + 2 {
-        sets.push(first_times(alloc, times, times.saturating_sub(duration) + u32::from(duration <= times))?)?;
+        sets.push(first_times(
+            alloc,
+            times,
+            times.saturating_sub(duration) + u32::from(duration <= times),
+        )?)?;
     }
     Ok(sets)
 }
@@ -71,10 +75,19 @@ fn narrow_all(alloc: Global, inst: &Instance, starts: &mut StartSets) -> Result<
     for number in 0..inst.monitors() {
         let monitor = inst.monitor(MonitorId(number));
         let constraint = inst.constraint(monitor.constraint);
-        if let (true, Rule::PreferTimes { times, duration }, Point::Event(event)) =
-            (is_strict(constraint), &constraint.rule, monitor.point)
-        {
-            narrow_event(alloc, inst.times() + 2, inst.event(event), starts, times, *duration)?;
+        if let (true, Rule::PreferTimes { times, duration }, Point::Event(event)) = (
+            is_strict(constraint),
+            &constraint.rule,
+            monitor.point,
+        ) {
+            narrow_event(
+                alloc,
+                inst.times() + 2,
+                inst.event(event),
+                starts,
+                times,
+                *duration,
+            )?;
         }
     }
     Ok(())
@@ -92,7 +105,14 @@ fn narrow_event(
     for more in 0..event.duration {
         if only.is_none_or(|duration| duration == more + 1) {
             let entry = (event.first_meet + more) as usize;
-            narrow(alloc, &mut starts.sets, &mut starts.entries, shared, entry, times)?;
+            narrow(
+                alloc,
+                &mut starts.sets,
+                &mut starts.entries,
+                shared,
+                entry,
+                times,
+            )?;
         }
     }
     Ok(())

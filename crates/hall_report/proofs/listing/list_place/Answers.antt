@@ -20,6 +20,7 @@ overflow_add-first_demand c =
 
 pub loop-offset-preserved : goal.loop-offset-preserved
 loop-offset-preserved c =
-    let b = c.first_demand.ensures ∙ ap (λ v. get_or c.args.units.now.tasks.items v 0) c.loop-offset.invariant.1 in
-    (place_more (is_marked c.args.units.now c.args.marks.now) _ c.loop-offset.list c.args.list.now c.args.meet c.args.place c.loop-offset.offset _ c.loop-offset.invariant.0 (c.has-is_marked.ensures.below ∙ ap (λ n. has_member c.args.marks.now (n + c.args.place)) b) c.in_ok-push_if.ensures,
-    c.next-unit.ensures ∙ ap (λ v. get_or c.args.units.now.next.items v 0) c.loop-offset.invariant.1 ∙ sym (walk_next c.args.units.now.next.items (get_or c.args.units.now.held.items c.args.meet.0 0) c.loop-offset.offset))
+    let b = c.first_demand.ensures ∙ ap (λ v. get_or c.args.units.now.tasks.items v 0) c.loop-offset.invariant.1 in (
+      place_more (is_marked c.args.units.now c.args.marks.now) _ c.loop-offset.list c.args.list.now c.args.meet c.args.place c.loop-offset.offset _ c.loop-offset.invariant.0 (c.has-is_marked.ensures.below ∙ ap (λ n. has_member c.args.marks.now (n + c.args.place)) b) c.in_ok-push_if.ensures,
+      c.next-unit.ensures ∙ ap (λ v. get_or c.args.units.now.next.items v 0) c.loop-offset.invariant.1 ∙ sym (walk_next c.args.units.now.next.items (get_or c.args.units.now.held.items c.args.meet.0 0) c.loop-offset.offset),
+    )

@@ -27,10 +27,11 @@ pub loop-place-preserved : goal.loop-place-preserved
 loop-place-preserved c =
     let a = c.requires.writable.below c.loop-place.place 0 c.loop-place.invariant.0 c.loop-place-test.true (omega arith) in
     let b = c.loop-place.invariant.1.same.amount in
-    let low = c.loop-place.invariant.0 in
-    (omega (arith, low),
-    place_renewed c.args.matching.now c.loop-place.matching c.set_domain.new.self c.args.first (λ (k : ℕ). domain_in c.args.inst.now.events c.args.picks.now.starts.items c.args.picks.now.resources.items (slot_at c.args.told.now c.args.meet.0) k c.args.offset) c.args.from c.loop-place.place c.loop-place.invariant.1 c.loop-place.invariant.0 (omega (arith, a, b))
-    (subst (λ o. c.set_domain.new.self ≡ with_domain c.loop-place.matching (c.args.first + c.loop-place.place) o) c.domain-domain.ensures c.set_domain.ensures))
+    let low = c.loop-place.invariant.0 in (
+      omega (arith, low),
+      place_renewed c.args.matching.now c.loop-place.matching c.set_domain.new.self c.args.first (λ (k : ℕ). domain_in c.args.inst.now.events c.args.picks.now.starts.items c.args.picks.now.resources.items (slot_at c.args.told.now c.args.meet.0) k c.args.offset) c.args.from c.loop-place.place c.loop-place.invariant.1 c.loop-place.invariant.0 (omega (arith, a, b))
+          (subst (λ o. c.set_domain.new.self ≡ with_domain c.loop-place.matching (c.args.first + c.loop-place.place) o) c.domain-domain.ensures c.set_domain.ensures),
+    )
 
 pub returns : goal.returns
 returns c =

@@ -34,10 +34,14 @@ renew-requires-clause-writable c =
     c.hold.new.self (record { held = c.hold.ensures.held; free = c.hold.ensures.free; next = c.hold.ensures.next; tasks = c.hold.ensures.tasks }) c.note.new.self c.note.ensures (length c.given.result.now) (ap length c.given.ensures)
 
 pub invariant_of-self : goal.invariant_of-self
-invariant_of-self c = record { opened =
-    ∣ (c.args.inst.now,
-    come_of c.args.inst.now c.args.self.now.told c.args.meet c.args.duration c.args.self.now.units c.args.self.now.picks c.args.self.now.matching c.args.self.now.cells c.args.self.now.tasks c.args.self.now.times c.event-event.result c.requires.of c.event-event.ensures c.requires.fits
-    c.hold.new.self (record { held = c.hold.ensures.held; free = c.hold.ensures.free; next = c.hold.ensures.next; tasks = c.hold.ensures.tasks }) c.note.new.self c.note.ensures (length c.given.result.now) (ap length c.given.ensures) c.renew.new.matching c.renew.ensures) ∣₁ }
+invariant_of-self c = record {
+  opened =
+      ∣ (
+        c.args.inst.now,
+        come_of c.args.inst.now c.args.self.now.told c.args.meet c.args.duration c.args.self.now.units c.args.self.now.picks c.args.self.now.matching c.args.self.now.cells c.args.self.now.tasks c.args.self.now.times c.event-event.result c.requires.of c.event-event.ensures c.requires.fits
+            c.hold.new.self (record { held = c.hold.ensures.held; free = c.hold.ensures.free; next = c.hold.ensures.next; tasks = c.hold.ensures.tasks }) c.note.new.self c.note.ensures (length c.given.result.now) (ap length c.given.ensures) c.renew.new.matching c.renew.ensures,
+      ) ∣₁;
+}
 
 pub returns-clause-of : goal.returns-clause-of
 returns-clause-of c =
