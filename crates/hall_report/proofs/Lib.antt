@@ -9,8 +9,10 @@ pub mod Places
 pub mod Ranges
 pub mod Renaming
 pub mod Renewals
+pub mod ResourcesOpened
 pub mod Safe
 pub mod SetLaws
+pub mod SetsOpened
 pub mod Stated
 pub mod UnitLaws
 pub mod UnitsOpened

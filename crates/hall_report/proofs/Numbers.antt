@@ -22,7 +22,7 @@ use Rattle.hall_report.specs.Units.{AreFirsts, AreUnits, IsOffset, tasks_of, uni
 use Rattle.hall_report.specs.declared.units.Units.{Units}
 
 -- the sums before two places of a list
-row_apart : {A : Type 0} (f : A → ℕ) (xs : List A) (u v : ℕ) (x : A) → slice_get xs u ≡ Some x → u < v → sum_by f (take u xs) + f x ≤ sum_by f (take v xs)
+pub row_apart : {A : Type 0} (f : A → ℕ) (xs : List A) (u v : ℕ) (x : A) → slice_get xs u ≡ Some x → u < v → sum_by f (take u xs) + f x ≤ sum_by f (take v xs)
 row_apart f [] u v x h l = absurd (let g : ⊥ = cc in g)
 row_apart f (z ∷ xs) zero (suc v) x h l =
     let a = sum_by-cons f z (take v xs) in
@@ -50,7 +50,7 @@ row_within f (z ∷ xs) (suc u) x h =
     omega (arith, a, b, c)
 
 -- the event of a unit
-owner : (events : List EventInfo) (e u : ℕ) → AreFirstMeets 0 events → HasSlot events e u → slice_get (slots_from 0 events) u ≡ Some e
+pub owner : (events : List EventInfo) (e u : ℕ) → AreFirstMeets 0 events → HasSlot events e u → slice_get (slots_from 0 events) u ≡ Some e
 owner events e u first h =
     let l : u < length (slots_from 0 events) = let a = units_below events e u first h in let b = length-slots_from 0 events in omega (arith, a, b) in
     slice_get-get_or (slots_from 0 events) u 0 l ∙ ap Some (unit_once events (get_or (slots_from 0 events) u 0) e u first (slot-event u events first l) h)

@@ -1,6 +1,7 @@
 pub mod Demands
 pub mod Kept
 pub mod Listing
+pub mod Opening
 pub mod Picks
 pub mod Renewing
 pub mod Sets

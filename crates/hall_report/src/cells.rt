@@ -1,5 +1,12 @@
 //! The times at which resources are to be free.
 
+ghost use Rattle.std.specs.Prelude.{◌≡◌, ◌<◌, ◌≤◌, ◌+◌, ◌*◌, ◌/◌, ◌%◌, ◌&&◌, ◌||◌, ◌==◌, ℕ, false, length, map, IfOk};
+ghost use Rattle.khe_base.specs.IdSet.{has_member};
+ghost use Rattle.khe_base.specs.declared.limits.TheConstants.{CELLS};
+ghost use Rattle.hall_report.specs.Demands.{unavailable_demands};
+ghost use Rattle.hall_report.specs.Kept.{cell_demand};
+ghost use Rattle.hall_report.specs.Opening.{AreCells, AreCellsTo, AreMarkedTo, resource_of};
+
 use crate::start_sets::is_strict;
 use khe_base::{IdSet, MonitorId, NoMemory, ResourceId, Seq};
 use khe_instance::{Instance, Point, Rule};
@@ -9,28 +16,57 @@ use std::alloc::Global;
 /// ascending: the number of a cell is that of the resource times the number of all times, and that
 /// of the time. It takes time and memory in proportion to all cells, time also to the times once for
 /// each strict constraint at a resource.
-pub(crate) fn free_cells(alloc: Global, inst: &Instance) -> Result<Seq<u32>, NoMemory> {
+pub(crate) fn free_cells(alloc: Global, inst: &Instance) -> Result<Seq<u32>, NoMemory>
+    ensures { IfOk result (λ cells. AreCells inst.now cells) }
+{
     inst.facts();
     let mut cells = IdSet::new(alloc, inst.resources() * inst.times())?;
     for number in 0..inst.monitors() {
-        let monitor = inst.monitor(MonitorId(number));
-        let constraint = inst.constraint(monitor.constraint);
-        if let (true, Rule::AvoidUnavailableTimes { times }, Point::Resource(resource)) = (
-            is_strict(constraint),
-            &constraint.rule,
-            monitor.point,
-        ) {
-            mark_cells(&mut cells, inst.times(), resource, times);
-        }
+        mark_by(inst, &mut cells, MonitorId(number));
     }
     cells.members(alloc)
 }
 
-// Marks the cells of a resource at these times.
-fn mark_cells(cells: &mut IdSet, last: u32, resource: ResourceId, times: &IdSet) {
+// Marks the cells that a monitor wants free.
+fn mark_by(inst: &Instance, cells: &mut IdSet, number: MonitorId)
+    requires there { number.0 < length inst.now.monitors }
+    requires cells { AreCellsTo inst.now number.0 cells.old }
+    ensures { AreCellsTo inst.now (number.0 + 1) cells.new }
+{
+    inst.facts();
+    let monitor = inst.monitor(number);
+    let constraint = inst.constraint(monitor.constraint);
+    if !is_strict(constraint) {
+        return;
+    }
+    let Rule::AvoidUnavailableTimes { times } = &constraint.rule else {
+        return;
+    };
+    let Some(resource) = resource_of(monitor.point) else {
+        return;
+    };
+    mark_cells(cells, inst.times(), resource.0 * inst.times(), times);
+}
+
+// The resource of a point, where it is one.
+fn resource_of(point: Point) -> Option<ResourceId>
+    ensures { result ≡ resource_of point }
+{
+    match point {
+        Point::Resource(resource) => Some(resource),
+        _ => None,
+    }
+}
+
+// Marks the cells of a resource, which begin at a number, at these times.
+fn mark_cells(cells: &mut IdSet, last: u32, first: u32, times: &IdSet)
+    requires within { first + last ≤ length cells.old }
+    requires small { length cells.old ≤ CELLS }
+    ensures { AreMarkedTo first last times.now cells.old cells.new }
+{
     for time in 0..last {
         if times.has(time) {
-            cells.insert(resource.0 * last + time);
+            cells.insert(first + time);
         }
     }
 }

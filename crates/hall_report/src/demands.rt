@@ -1,4 +1,4 @@
-ghost use Rattle.std.specs.Prelude.{◌≡◌, ◌+◌, ◌++◌, ◌<◌, IfOk, OnOk, List, length, map};
+ghost use Rattle.std.specs.Prelude.{◌≡◌, ◌+◌, ◌*◌, ◌++◌, ◌<◌, ◌≤◌, ◌^◌, All, IfOk, OnOk, List, length, map};
 ghost use Rattle.std.specs.List.{filter};
 ghost use Rattle.khe_base.specs.IdSet.{has_member};
 ghost use Rattle.hall_report.specs.Listing.{AreMarks, is_marked};
@@ -8,6 +8,7 @@ ghost use Rattle.khe_told.specs.Changes.{after};
 ghost use Rattle.khe_told.specs.Fits.{Fits};
 ghost use Rattle.khe_told.specs.declared.changes.Change.TheVariants.{Add, Drop};
 ghost use Rattle.hall_report.specs.Kept.{AreOf, AreOfSome, cell_demand};
+ghost use Rattle.hall_report.specs.Opening.{AreWanted};
 ghost use Rattle.hall_report.specs.Renewing.{IsTurn};
 ghost use Rattle.hall_report.specs.Demands.{IsDeficitOf, IsHallOf, chosen, task_demands};
 
@@ -219,7 +220,13 @@ fn span_length(told: &Told, meet: MeetId) -> u32
 }
 
 // Gives each cell's demand that cell alone.
-fn want_cells(matching: &mut Matching, cells: &[u32], first: u32, times: u32) {
+fn want_cells(matching: &mut Matching, cells: &[u32], first: u32, times: u32)
+    requires room { first + length cells.now ≤ length matching.old.demands }
+    requires few { length matching.old.demands < 2 ^ 32 }
+    requires last { matching.old.last ≡ times }
+    requires below { All (λ c. c < matching.old.width * times) cells.now }
+    ensures { AreWanted times first cells.now matching.old matching.new }
+{
     for (more, cell) in cells.iter().enumerate() {
         let domain = Domain {
             times: Pick::One(*cell % times),
