@@ -1,8 +1,11 @@
+pub mod CellsOpened
 pub mod Changed
+pub mod DemandsOpened
 pub mod Following
 pub mod FreeSlots
 pub mod Halls
 pub mod ListingLaws
+pub mod NarrowLaws
 pub mod Noting
 pub mod Numbers
 pub mod Places

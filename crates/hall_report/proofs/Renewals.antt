@@ -10,7 +10,7 @@ use Rattle.hall_report.specs.Renewing.{AreApart, AreWritable, HasSameSets, IsAmo
 pub same_sets : (w : Domains) → HasSameSets w w
 same_sets w = record { times = refl; resources = refl; last = refl; width = refl; amount = refl }
 
-both_sets : (a b c : Domains) → HasSameSets a b → HasSameSets b c → HasSameSets a c
+pub both_sets : (a b c : Domains) → HasSameSets a b → HasSameSets b c → HasSameSets a c
 both_sets a b c x y = record { times = y.times ∙ x.times; resources = y.resources ∙ x.resources; last = y.last ∙ x.last; width = y.width ∙ x.width; amount = y.amount ∙ x.amount }
 
 -- nothing is renewed yet

@@ -96,7 +96,7 @@ entry_is : (events : List EventInfo) (e d : ℕ) (event : EventInfo) → slice_g
 entry_is events e d event at = ap (λ o. option_map_or (λ (z : EventInfo). z.first_meet) o 0 + d - 1) at
 
 -- before any monitor
-pub starts_whole : (p : Parts) (sets : List (List Bool)) (entries : List ℕ) → AreWholeStarts (length p.times) (length p.times + 2) sets → AreStartEntries p.events (length p.times) (units_of p.events) entries → ((e i : ℕ) → HasSlot p.events e i → i < units_of p.events) → AreStartsTo p 0 sets entries
+starts_whole : (p : Parts) (sets : List (List Bool)) (entries : List ℕ) → AreWholeStarts (length p.times) (length p.times + 2) sets → AreStartEntries p.events (length p.times) (units_of p.events) entries → ((e i : ℕ) → HasSlot p.events e i → i < units_of p.events) → AreStartsTo p 0 sets entries
 starts_whole p sets entries whole are below = record {
   are = record {
     sized = whole.sized;
@@ -240,3 +240,6 @@ narrowed_more rule first n olds mids sets old mid entries is room same own rest 
 pub narrowed_same : (rule : Rule) (first n : ℕ) (olds mids : List (List Bool)) (old mid : List ℕ) → AreNarrowedBy rule first n olds old mids mid → first + n < length old → ((t : ℕ) → lets_start rule (n + 1) t ≡ true) → AreNarrowedBy rule first (n + 1) olds old mids mid
 narrowed_same rule first n olds mids old mid is room loose =
     narrowed_more rule first n olds mids mids old mid mid is room refl (λ t. and_true (has_member (set_at mids mid (first + n)) t) (lets_start rule (n + 1) t) (loose t)) (λ i l ne. refl)
+
+pub starts_first : (p : Parts) (times : ℕ) (sets : List (List Bool)) (entries : List ℕ) → AreWellMade p → times ≡ length p.times → AreWholeStarts times (times + 2) sets → AreStartEntries p.events (length p.times) (units_of p.events) entries → AreStartsTo p 0 sets entries
+starts_first p times sets entries made e whole are = starts_whole p sets entries (subst (λ n. AreWholeStarts n (n + 2) sets) e whole) are (λ a i h. units_below p.events a i made.first_meets h)
