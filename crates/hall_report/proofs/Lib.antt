@@ -13,6 +13,7 @@ pub mod Ranges
 pub mod Renaming
 pub mod Renewals
 pub mod ResourcesOpened
+pub mod RulesOpened
 pub mod Safe
 pub mod SetLaws
 pub mod SetsOpened
