@@ -256,3 +256,9 @@ resources_done p sets entries made are = record {
   given = are.are.given;
   members = λ e k r place there. are.members e k r place there ∙ ap (λ ms. has_type p (Some place) r && list_all (monitor_lets_have p e k r) ms) (take_all (length p.monitors) p.monitors (omega arith));
 }
+
+pub entry_below : (p : Parts) (e k : ℕ) (place : Place) → AreWellMade p → place_at p.events e k ≡ Some place → resource_entry p.events e k < tasks_of p.events
+entry_below p e k place made there = let own = place_known p.events e k place there in number_within p.events e (first_meet_at p.events e) k made.first_meets (first_slot p e own.0 made own.1) (within_places p.events e k place there)
+
+pub event_within : (p : Parts) (e k : ℕ) (place : Place) → place_at p.events e k ≡ Some place → e < length p.events
+event_within p e k place there = let own = place_known p.events e k place there in slice_get_within p.events e own.0 own.1

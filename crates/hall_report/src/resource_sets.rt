@@ -131,7 +131,8 @@ fn narrow_by(
         inst.types(),
         entry,
         resources,
-    )
+    )?;
+    Ok(())
 }
 
 // The event and the place of a point, where it is an event resource.

@@ -138,7 +138,8 @@ fn narrow_by(
         starts,
         times,
         *duration,
-    )
+    )?;
+    Ok(())
 }
 
 // The event of a point, where it is one.

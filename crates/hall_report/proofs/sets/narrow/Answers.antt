@@ -1,6 +1,6 @@
-use Rattle.std.proofs.Common.{◌∙◌, length, ap}
+use Rattle.std.proofs.Common.{◌∙◌, length, set, ap, sym, subst}
 use Rattle.khe_base.specs.IdSet.{has_member}
-use Rattle.hall_report.specs.Sets.{has_both, set_at}
+use Rattle.hall_report.specs.Sets.{AreSets, has_both, set_at}
 use Rattle.hall_report.proofs.NarrowLaws.{owned, pushed, pushed_at, read_at}
 use Rattle.hall_report.proofs.sets.narrow.Goals as goal
 
@@ -19,4 +19,5 @@ returns-in_ok-push-clause-narrowed c = λ n.
 pub returns-else-number-shared-clause-sets : goal.returns-else-number-shared-clause-sets
 returns-else-number-shared-clause-sets c =
     let read = read_at c.args.shared (length c.args.allowed.now) c.args.entry c.index-number.result.now c.args.sets.now c.as_slice.result.now c.args.entries.now.items c.index-as_slice-number.result c.requires.sets c.requires.entry c.index-number.ensures c.as_slice.ensures c.index-as_slice-number.is in
-    owned c.args.shared (length c.args.allowed.now) c.index-number.result.now c.args.sets.now c.args.entries.now.items c.in_ok-set.set c.requires.sets (c.in_ok-set.ensures.size ∙ read.1)
+    subst (λ k. AreSets c.args.shared (length c.args.allowed.now) (set k c.index-number.result.now c.in_ok-set.set) c.args.entries.now.items) (sym c.sets.view_is)
+      (owned c.args.shared (length c.args.allowed.now) c.index-number.result.now c.args.sets.now c.args.entries.now.items c.in_ok-set.set c.requires.sets (c.in_ok-set.ensures.size ∙ read.1))
