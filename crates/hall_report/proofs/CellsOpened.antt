@@ -230,3 +230,11 @@ cells_done p cells made are = record {
   below = All-filter (has_member cells) (λ c. c < length p.resources * length p.times) (range_with_len 0 (length cells)) (All-from_get_or (λ c. c < length p.resources * length p.times) (range_with_len 0 (length cells)) 0 (λ i l. let r = length-range_with_len 0 (length cells) in let g = get_or-range_with_len 0 (length cells) i 0 (omega (arith, l, r)) in let s = are.size in omega (arith, l, r, g, s)));
   listed = ap (λ n. map (cell_demand (length p.times)) (filter (has_member cells) (range_with_len 0 n))) are.size ∙ all_rows p cells (length p.resources) 0 0 are (omega arith) (omega arith);
 }
+
+-- the cells of a resource are within all
+pub row_room : (p : Parts) (r t u : ℕ) → r < length p.resources → t ≡ length p.times → u ≡ length p.times → r * t + u ≤ length p.resources * length p.times
+row_room p r t u l a b =
+    let q = row_le (length p.times) (r + 1) (length p.resources) (omega (arith, l)) in
+    let e = one_row (length p.times) r in
+    let f = ap (λ n. r * n) a in
+    omega (arith, q, e, f, b)

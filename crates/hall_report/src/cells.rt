@@ -16,6 +16,7 @@ use std::alloc::Global;
 /// ascending: the number of a cell is that of the resource times the number of all times, and that
 /// of the time. It takes time and memory in proportion to all cells, time also to the times once for
 /// each strict constraint at a resource.
+#[tactic(auto, using(crate::proofs::CellsOpened::cells_none, crate::proofs::CellsOpened::cells_done))]
 pub(crate) fn free_cells(alloc: Global, inst: &Instance) -> Result<Seq<u32>, NoMemory>
     ensures { IfOk result (λ cells. AreCells inst.now cells) }
 {
@@ -59,6 +60,7 @@ fn resource_of(point: Point) -> Option<ResourceId>
 }
 
 // Marks the cells of a resource, which begin at a number, at these times.
+#[tactic(auto, using(crate::proofs::CellsOpened::marked_none, crate::proofs::CellsOpened::marked_on))]
 fn mark_cells(cells: &mut IdSet, last: u32, first: u32, times: &IdSet)
     requires within { first + last ≤ length cells.old }
     requires small { length cells.old ≤ CELLS }

@@ -220,6 +220,7 @@ fn span_length(told: &Told, meet: MeetId) -> u32
 }
 
 // Gives each cell's demand that cell alone.
+#[tactic(auto, using(crate::proofs::DemandsOpened::wanted_none, crate::proofs::DemandsOpened::wanted_more))]
 fn want_cells(matching: &mut Matching, cells: &[u32], first: u32, times: u32)
     requires room { first + length cells.now ≤ length matching.old.demands }
     requires few { length matching.old.demands < 2 ^ 32 }
