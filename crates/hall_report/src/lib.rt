@@ -6,7 +6,6 @@
 mod cells;
 mod demand;
 mod demands;
-mod examples;
 mod listing;
 mod marks;
 mod renewing;
