@@ -57,7 +57,7 @@ marked_on first n times old mid cells b is room h made = record {
     either_way false e = inr e
 
     sizes : length cells ≡ length old
-    sizes = elim (either_way b made) [ | inl e ↦ ap length e ∙ length-set mid (first + n) true ∙ is.size | inr e ↦ ap length e ∙ is.size ]
+    sizes = elim (either_way b made) [ inl e ↦ ap length e ∙ length-set mid (first + n) true ∙ is.size | inr e ↦ ap length e ∙ is.size ]
 
     or_true : (a b : Bool) → b ≡ true → a || b ≡ true
     or_true true b h = refl
@@ -72,10 +72,10 @@ marked_on first n times old mid cells b is room h made = record {
     away c ne false e = ap (λ z. has_member z c) e
 
     apart : (c : ℕ) → (c < first) ⊎ (first + (n + 1) ≤ c) → c ≢ first + n
-    apart c far eq = elim far [ | inl a ↦ omega (arith, a, eq) | inr b ↦ omega (arith, b, eq) ]
+    apart c far eq = elim far [ inl a ↦ omega (arith, a, eq) | inr b ↦ omega (arith, b, eq) ]
 
     near : (c : ℕ) → (c < first) ⊎ (first + (n + 1) ≤ c) → (c < first) ⊎ (first + n ≤ c)
-    near c far = elim far [ | inl a ↦ inl a | inr b ↦ inr (omega (arith, b)) ]
+    near c far = elim far [ inl a ↦ inl a | inr b ↦ inr (omega (arith, b)) ]
 
 -- one monitor more
 pub cells_same : (p : Parts) (n : ℕ) (cells : List Bool) (m : Monitor) → AreCellsTo p n cells → slice_get p.monitors n ≡ Some m → ((r t : ℕ) → monitor_wants_free p r t m ≡ false) → AreCellsTo p (n + 1) cells
@@ -180,9 +180,9 @@ rows f g here there (suc n) a b same like =
     let a0 : a + 0 ≡ a = omega arith in
     ap (λ k. map f (cond k (b ∷ filter here (range_with_len (b + 1) n)) (filter here (range_with_len (b + 1) n)))) (sym (ap here b0) ∙ same 0 (omega arith) ∙ ap there a0)
     ∙ next_both f g (there a) b a (filter here (range_with_len (b + 1) n)) (filter there (range_with_len (a + 1) n)) (sym (ap f b0) ∙ like 0 (omega arith) ∙ ap g a0)
-      (rows f g here there n (a + 1) (b + 1)
-        (λ i l. let x : b + 1 + i ≡ b + (i + 1) = omega arith in let y : a + (i + 1) ≡ a + 1 + i = omega arith in ap here x ∙ same (i + 1) (omega (arith, l)) ∙ ap there y)
-        (λ i l. let x : b + 1 + i ≡ b + (i + 1) = omega arith in let y : a + (i + 1) ≡ a + 1 + i = omega arith in ap f x ∙ like (i + 1) (omega (arith, l)) ∙ ap g y))
+    (rows f g here there n (a + 1) (b + 1)
+    (λ i l. let x : b + 1 + i ≡ b + (i + 1) = omega arith in let y : a + (i + 1) ≡ a + 1 + i = omega arith in ap here x ∙ same (i + 1) (omega (arith, l)) ∙ ap there y)
+    (λ i l. let x : b + 1 + i ≡ b + (i + 1) = omega arith in let y : a + (i + 1) ≡ a + 1 + i = omega arith in ap f x ∙ like (i + 1) (omega (arith, l)) ∙ ap g y))
 
 split : (b m n : ℕ) → range_with_len b (m + n) ≡ range_with_len b m ++ range_with_len (b + m) n
 split b zero n = let e : b ≡ b + 0 = omega arith in let z : 0 + n ≡ n = omega arith in ap (range_with_len b) z ∙ ap (λ k. range_with_len k n) e
@@ -196,8 +196,8 @@ row : (p : Parts) (cells : List Bool) (a b : ℕ) → AreCellsTo p (length p.mon
     → map (cell_demand (length p.times)) (filter (has_member cells) (range_with_len b (length p.times))) ≡ times_demands p a
 row p cells a b are e l =
     rows (cell_demand (length p.times)) (λ t. Unavailable (record { 0 = a }) (record { 0 = t })) (has_member cells) (is_unavailable p a) (length p.times) 0 b
-      (λ i near. ap (λ q. has_member cells (q + i)) e ∙ are.members a i l near ∙ ap (list_any (monitor_wants_free p a i)) (take_all (length p.monitors) p.monitors (omega arith)) ∙ (let z : i ≡ 0 + i = omega arith in ap (is_unavailable p a) z))
-      (λ i near. cell_is (length p.times) a i (b + i) near (ap (λ q. q + i) e) ∙ (let z : i ≡ 0 + i = omega arith in ap (λ (q : ℕ). Unavailable (record { 0 = a }) (record { 0 = q })) z))
+    (λ i near. ap (λ q. has_member cells (q + i)) e ∙ are.members a i l near ∙ ap (list_any (monitor_wants_free p a i)) (take_all (length p.monitors) p.monitors (omega arith)) ∙ (let z : i ≡ 0 + i = omega arith in ap (is_unavailable p a) z))
+    (λ i near. cell_is (length p.times) a i (b + i) near (ap (λ q. q + i) e) ∙ (let z : i ≡ 0 + i = omega arith in ap (λ (q : ℕ). Unavailable (record { 0 = a }) (record { 0 = q })) z))
 
 all_rows : (p : Parts) (cells : List Bool) (k a b : ℕ) → AreCellsTo p (length p.monitors) cells → b ≡ a * length p.times → a + k ≤ length p.resources
     → map (cell_demand (length p.times)) (filter (has_member cells) (range_with_len b (k * length p.times))) ≡ flat_map (times_demands p) (range_with_len a k)

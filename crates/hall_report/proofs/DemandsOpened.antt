@@ -100,7 +100,7 @@ wanted_more last first n c cells old mid new are at room made =
     one_more = length-take-le (n + 1) cells (let w = within in omega (arith, w))
 
     far : (j : ℕ) → (j < first) ⊎ (first + length (take (n + 1) cells) ≤ j) → j ≢ first + n
-    far j away eq = elim away [ | inl a ↦ omega (arith, a, eq) | inr b ↦ (let o = one_more in omega (arith, b, eq, o)) ]
+    far j away eq = elim away [ inl a ↦ omega (arith, a, eq) | inr b ↦ (let o = one_more in omega (arith, b, eq, o)) ]
 
     near : (j : ℕ) → (j < first) ⊎ (first + length (take (n + 1) cells) ≤ j) → (j < first) ⊎ (first + length (take n cells) ≤ j)
-    near j away = elim away [ | inl a ↦ inl a | inr b ↦ inr (let o = one_more in let s = so_many in omega (arith, b, o, s)) ]
+    near j away = elim away [ inl a ↦ inl a | inr b ↦ inr (let o = one_more in let s = so_many in omega (arith, b, o, s)) ]

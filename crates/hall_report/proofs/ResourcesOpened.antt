@@ -107,13 +107,13 @@ pub places_more : (p : Parts) (n a : ℕ) (entries more : List ℕ) (own : Event
     → AreTypeEntries p (n + 1) (entries ++ more)
 places_more p n a entries more own made are has at is = record {
   amount =
-    (let x = are.amount in
-    let b = length-append entries more in
-    let c = ap length is in
-    let d = length-map own.places (λ (z : Place). z.rtype) in
-    let e = many_is p.events a own at in
-    let f = next_task p.events a n made.first_meets has in
-    omega (arith, x, b, c, d, e, f));
+      (let x = are.amount in
+      let b = length-append entries more in
+      let c = ap length is in
+      let d = length-map own.places (λ (z : Place). z.rtype) in
+      let e = many_is p.events a own at in
+      let f = next_task p.events a n made.first_meets has in
+      omega (arith, x, b, c, d, e, f));
   below = All-append (λ y. y < p.types) entries more are.below (subst (All (λ y. y < p.types)) (sym is) typed);
   types = λ u e k place l slot there. elim (cases_eqb u n) [
     | inl eq ↦
@@ -152,12 +152,12 @@ resources_whole p sets entries made whole are = record {
   };
   amount = are.amount ∙ all_tasks_of p made;
   members = λ e k r place there.
-    let own = place_known p.events e k place there in
-    let slot = first_slot p e own.0 made own.1 in
-    let y = are.types (first_meet_at p.events e) e k place (units_below p.events e (first_meet_at p.events e) made.first_meets slot) slot there in
-    let mine : IsEvent p own.0 = all-there (IsEvent p) p.events e own.0 made.events own.1 in
-    let typed : IsPlace p place = all-there (IsPlace p) own.0.places k place mine.places own.2 in
-    ap (λ j. has_member (get_or sets j []) r) y ∙ whole.members place.rtype r typed.typed ∙ and_true (is_of_type p place.rtype r) true refl;
+      let own = place_known p.events e k place there in
+      let slot = first_slot p e own.0 made own.1 in
+      let y = are.types (first_meet_at p.events e) e k place (units_below p.events e (first_meet_at p.events e) made.first_meets slot) slot there in
+      let mine : IsEvent p own.0 = all-there (IsEvent p) p.events e own.0 made.events own.1 in
+      let typed : IsPlace p place = all-there (IsPlace p) own.0.places k place mine.places own.2 in
+      ap (λ j. has_member (get_or sets j []) r) y ∙ whole.members place.rtype r typed.typed ∙ and_true (is_of_type p place.rtype r) true refl;
 }
 
 -- one monitor more
@@ -166,8 +166,8 @@ resources_same p n sets entries m are at all = record {
   are = are.are;
   amount = are.amount;
   members = λ e k r place there.
-    are.members e k r place there
-    ∙ ap (λ b. has_type p (Some place) r && b) (and_true (list_all (monitor_lets_have p e k r) (take n p.monitors)) (monitor_lets_have p e k r m) (all e k r) ∙ sym (all_more (monitor_lets_have p e k r) p.monitors n m at));
+      are.members e k r place there
+      ∙ ap (λ b. has_type p (Some place) r && b) (and_true (list_all (monitor_lets_have p e k r) (take n p.monitors)) (monitor_lets_have p e k r m) (all e k r) ∙ sym (all_more (monitor_lets_have p e k r) p.monitors n m at));
 }
 
 place_none : (m : Point) (e k : ℕ) → place_of m ≡ None → is_place m e k ≡ false

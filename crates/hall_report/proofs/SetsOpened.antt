@@ -106,16 +106,16 @@ starts_whole p sets entries whole are below = record {
   };
   amount = are.amount;
   members = λ e d t event at some few.
-    let i = event.first_meet + d - 1 in
-    let low : event.first_meet ≤ i = omega (arith, some) in
-    let high : i < event.first_meet + event.duration = omega (arith, some, few) in
-    let s = are.serves e i event at low high (below e i (event, at, low, high)) in
-    let q : i - event.first_meet + 1 ≡ d = omega (arith, some) in
-    ap (λ k. has_member (set_at sets entries k) t) (entry_is p.events e d event at)
-    ∙ whole.members (get_or entries i 0) t s.there s.some
-    ∙ s.same t
-    ∙ ap (λ k. nat_le (t + k) (length p.times)) q
-    ∙ and_true (nat_le (t + d) (length p.times)) true refl;
+      let i = event.first_meet + d - 1 in
+      let low : event.first_meet ≤ i = omega (arith, some) in
+      let high : i < event.first_meet + event.duration = omega (arith, some, few) in
+      let s = are.serves e i event at low high (below e i (event, at, low, high)) in
+      let q : i - event.first_meet + 1 ≡ d = omega (arith, some) in
+      ap (λ k. has_member (set_at sets entries k) t) (entry_is p.events e d event at)
+      ∙ whole.members (get_or entries i 0) t s.there s.some
+      ∙ s.same t
+      ∙ ap (λ k. nat_le (t + k) (length p.times)) q
+      ∙ and_true (nat_le (t + d) (length p.times)) true refl;
 }
 
 -- one monitor more: those that are not strict or of another rule or point change nothing
@@ -130,8 +130,8 @@ starts_same p n sets entries m are at all = record {
   are = are.are;
   amount = are.amount;
   members = λ e d t event there some few.
-    are.members e d t event there some few
-    ∙ ap (λ b. nat_le (t + d) (length p.times) && b) (and_true (list_all (monitor_lets_start p e d t) (take n p.monitors)) (monitor_lets_start p e d t m) (all e d t) ∙ sym (all_more (monitor_lets_start p e d t) p.monitors n m at));
+      are.members e d t event there some few
+      ∙ ap (λ b. nat_le (t + d) (length p.times) && b) (and_true (list_all (monitor_lets_start p e d t) (take n p.monitors)) (monitor_lets_start p e d t m) (all e d t) ∙ sym (all_more (monitor_lets_start p e d t) p.monitors n m at));
 }
 
 pub lets_loose : (p : Parts) (m : Monitor) (c : Constraint) → slice_get p.constraints m.constraint ≡ Some c → is_strict c ≡ false → (e d t : ℕ) → monitor_lets_start p e d t m ≡ true
@@ -154,26 +154,26 @@ starts_narrowed p n olds sets old entries m c x own made are at has strict point
   are = new;
   amount = by.amount ∙ are.amount;
   members = λ e d t event found some few.
-    elim (cases_eqb x.0 e) [
-      | inl eq ↦
-          let it : own ≡ event = same_Some own event (sym there ∙ ap (slice_get p.events) eq ∙ found) in
-          let q : d ≤ own.duration = (let z = ap (λ (z : EventInfo). z.duration) it in omega (arith, z, few)) in
-          ap (λ k. has_member (set_at sets entries k) t) (entry_is p.events e d event found ∙ ap (λ (z : EventInfo). z.first_meet + d - 1) (sym it))
-          ∙ by.members d t some q
-          ∙ ap (λ b. b && lets_start c.rule d t) (ap (λ k. has_member (set_at olds old k) t) (ap (λ (z : EventInfo). z.first_meet + d - 1) it ∙ sym (entry_is p.events e d event found)) ∙ are.members e d t event found some few)
-          ∙ and_assoc (nat_le (t + d) (length p.times)) (list_all (monitor_lets_start p e d t) (take n p.monitors)) (lets_start c.rule d t)
-          ∙ ap (λ b. nat_le (t + d) (length p.times) && b) (ap (λ b. list_all (monitor_lets_start p e d t) (take n p.monitors) && b) (sym (own_lets e d t (eq-eqb x.0 e eq))) ∙ sym (all_more (monitor_lets_start p e d t) p.monitors n m at))
-      | inr ne ↦
-          let i : ℕ = event.first_meet + d - 1 in
-          let has_i : HasSlot p.events e i = (event, found, omega (arith, some), omega (arith, some, few)) in
-          let room : i < length old = (let a = are.amount in let b = units_below p.events e i made.first_meets has_i in omega (arith, a, b)) in
-          let away : (i < own.first_meet) ⊎ (own.first_meet + own.duration ≤ i) = apart e i has_i ne in
-          ap (λ k. has_member (set_at sets entries k) t) (entry_is p.events e d event found)
-          ∙ ap (λ z. has_member z t) (by.others i room away)
-          ∙ ap (λ k. has_member (set_at olds old k) t) (sym (entry_is p.events e d event found))
-          ∙ are.members e d t event found some few
-          ∙ ap (λ b. nat_le (t + d) (length p.times) && b) (and_true (list_all (monitor_lets_start p e d t) (take n p.monitors)) (monitor_lets_start p e d t m) (other_lets e d t (ne_eqb x.0 e ne)) ∙ sym (all_more (monitor_lets_start p e d t) p.monitors n m at))
-    ];
+      elim (cases_eqb x.0 e) [
+        | inl eq ↦
+            let it : own ≡ event = same_Some own event (sym there ∙ ap (slice_get p.events) eq ∙ found) in
+            let q : d ≤ own.duration = (let z = ap (λ (z : EventInfo). z.duration) it in omega (arith, z, few)) in
+            ap (λ k. has_member (set_at sets entries k) t) (entry_is p.events e d event found ∙ ap (λ (z : EventInfo). z.first_meet + d - 1) (sym it))
+            ∙ by.members d t some q
+            ∙ ap (λ b. b && lets_start c.rule d t) (ap (λ k. has_member (set_at olds old k) t) (ap (λ (z : EventInfo). z.first_meet + d - 1) it ∙ sym (entry_is p.events e d event found)) ∙ are.members e d t event found some few)
+            ∙ and_assoc (nat_le (t + d) (length p.times)) (list_all (monitor_lets_start p e d t) (take n p.monitors)) (lets_start c.rule d t)
+            ∙ ap (λ b. nat_le (t + d) (length p.times) && b) (ap (λ b. list_all (monitor_lets_start p e d t) (take n p.monitors) && b) (sym (own_lets e d t (eq-eqb x.0 e eq))) ∙ sym (all_more (monitor_lets_start p e d t) p.monitors n m at))
+        | inr ne ↦
+            let i : ℕ = event.first_meet + d - 1 in
+            let has_i : HasSlot p.events e i = (event, found, omega (arith, some), omega (arith, some, few)) in
+            let room : i < length old = (let a = are.amount in let b = units_below p.events e i made.first_meets has_i in omega (arith, a, b)) in
+            let away : (i < own.first_meet) ⊎ (own.first_meet + own.duration ≤ i) = apart e i has_i ne in
+            ap (λ k. has_member (set_at sets entries k) t) (entry_is p.events e d event found)
+            ∙ ap (λ z. has_member z t) (by.others i room away)
+            ∙ ap (λ k. has_member (set_at olds old k) t) (sym (entry_is p.events e d event found))
+            ∙ are.members e d t event found some few
+            ∙ ap (λ b. nat_le (t + d) (length p.times) && b) (and_true (list_all (monitor_lets_start p e d t) (take n p.monitors)) (monitor_lets_start p e d t m) (other_lets e d t (ne_eqb x.0 e ne)) ∙ sym (all_more (monitor_lets_start p e d t) p.monitors n m at))
+      ];
 }
   where
     own_lets : (e d t : ℕ) → (x.0 == e) ≡ true → monitor_lets_start p e d t m ≡ lets_start c.rule d t
@@ -198,10 +198,10 @@ starts_narrowed p n olds sets old entries m c x own made are at has strict point
 pub starts_done : (p : Parts) (sets : List (List Bool)) (entries : List ℕ) → AreWellMade p → AreStartsTo p (length p.monitors) sets entries → AreStartSets p sets entries
 starts_done p sets entries made are = record {
   amount = λ e d event at some few.
-    let q = entry_is p.events e d event at in
-    let b = units_below p.events e (event.first_meet + d - 1) made.first_meets (event, at, omega (arith, some), omega (arith, some, few)) in
-    let a = are.amount in
-    omega (arith, a, b, q);
+      let q = entry_is p.events e d event at in
+      let b = units_below p.events e (event.first_meet + d - 1) made.first_meets (event, at, omega (arith, some), omega (arith, some, few)) in
+      let a = are.amount in
+      omega (arith, a, b, q);
   given = are.are.given;
   members = λ e d t event at some few. are.members e d t event at some few ∙ ap (λ ms. nat_le (t + d) (length p.times) && list_all (monitor_lets_start p e d t) ms) (take_all (length p.monitors) p.monitors (omega arith));
 }
@@ -232,10 +232,10 @@ narrowed_more rule first n olds mids sets old mid entries is room same own rest 
 }
   where
     far : (i : ℕ) → (i < first) ⊎ (first + (n + 1) ≤ i) → i ≢ first + n
-    far i away eq = elim away [ | inl a ↦ omega (arith, a, eq) | inr b ↦ omega (arith, b, eq) ]
+    far i away eq = elim away [ inl a ↦ omega (arith, a, eq) | inr b ↦ omega (arith, b, eq) ]
 
     near : (i : ℕ) → (i < first) ⊎ (first + (n + 1) ≤ i) → (i < first) ⊎ (first + n ≤ i)
-    near i away = elim away [ | inl a ↦ inl a | inr b ↦ inr (omega (arith, b)) ]
+    near i away = elim away [ inl a ↦ inl a | inr b ↦ inr (omega (arith, b)) ]
 
 pub narrowed_same : (rule : Rule) (first n : ℕ) (olds mids : List (List Bool)) (old mid : List ℕ) → AreNarrowedBy rule first n olds old mids mid → first + n < length old → ((t : ℕ) → lets_start rule (n + 1) t ≡ true) → AreNarrowedBy rule first (n + 1) olds old mids mid
 narrowed_same rule first n olds mids old mid is room loose =

@@ -20,4 +20,4 @@ pub returns-else-number-shared-clause-sets : goal.returns-else-number-shared-cla
 returns-else-number-shared-clause-sets c =
     let read = read_at c.args.shared (length c.args.allowed.now) c.args.entry c.index-number.result.now c.args.sets.now c.as_slice.result.now c.args.entries.now.items c.index-as_slice-number.result c.requires.sets c.requires.entry c.index-number.ensures c.as_slice.ensures c.index-as_slice-number.is in
     subst (λ k. AreSets c.args.shared (length c.args.allowed.now) (set k c.index-number.result.now c.in_ok-set.set) c.args.entries.now.items) (sym c.sets.view_is)
-      (owned c.args.shared (length c.args.allowed.now) c.index-number.result.now c.args.sets.now c.args.entries.now.items c.in_ok-set.set c.requires.sets (c.in_ok-set.ensures.size ∙ read.1))
+    (owned c.args.shared (length c.args.allowed.now) c.index-number.result.now c.args.sets.now c.args.entries.now.items c.in_ok-set.set c.requires.sets (c.in_ok-set.ensures.size ∙ read.1))
