@@ -1,8 +1,8 @@
 -- The cells that are to be free, marked monitor by monitor, and their demands.
-use Rattle.std.proofs.Common.{ℕ, zero, suc, ◌+◌, ◌-◌, ◌*◌, ◌/◌, ◌%◌, ◌<◌, ◌≤◌, ◌≡◌, ◌≢◌, ◌⊎◌, inl, inr, cond, Bool, true, false, ◌&&◌, ◌||◌, Option, Some, None, List, [], ◌∷◌, ◌++◌, All, map, take, length, get_or, set, slice_get, refl, sym, ap, ◌∙◌, subst, arith, get_or-set_same, get_or-set_other, length-set}
+use Rattle.std.proofs.Common.{ℕ, zero, suc, ◌+◌, ◌-◌, ◌*◌, ◌/◌, ◌%◌, ◌<◌, ◌≤◌, ◌≡◌, ◌≢◌, ◌⊎◌, inl, inr, cond, Bool, true, false, ◌&&◌, ◌||◌, Some, None, List, [], ◌∷◌, ◌++◌, map, take, length, slice_get, refl, sym, ap, ◌∙◌, arith, get_or-set_same, get_or-set_other, length-set}
 use Rattle.std.specs.Prelude.{◌==◌}
 use Rattle.std.specs.List.{filter, flat_map, list_any, range_with_len}
-use Rattle.std.specs.Option.{option_map_or, option_and_then}
+use Rattle.std.specs.Option.{option_map_or}
 use Rattle.std.proofs.lemmas.Bool.{cases_lt, eq-eqb, ne_eqb}
 use Rattle.std.proofs.lemmas.List.Folds.{list_any_more}
 use Rattle.std.proofs.lemmas.Nat.{div-mul-add}
@@ -13,17 +13,14 @@ use Rattle.std.proofs.lemmas.List.FromFn.{get_or-range_with_len, length-range_wi
 use Rattle.std.proofs.lemmas.Option.{slice_get_within, get_or_from_slice_get}
 use Rattle.khe_base.specs.IdSet.{has_member, with_member, no_members, members_of}
 use Rattle.khe_base.specs.declared.numbers.ResourceId.{ResourceId}
-use Rattle.khe_base.specs.declared.numbers.TimeId.{TimeId}
-use Rattle.khe_base.specs.declared.limits.TheConstants.{CELLS}
 use Rattle.khe_instance.specs.WellMade.{AreWellMade}
 use Rattle.khe_instance.specs.declared.parts.Parts.{Parts}
 use Rattle.khe_instance.specs.declared.points.Monitor.{Monitor}
 use Rattle.khe_instance.specs.declared.points.Point.{Point}
 use Rattle.khe_instance.specs.declared.rules.Constraint.{Constraint}
-use Rattle.khe_instance.specs.declared.rules.Rule.{Rule}
 use Rattle.demand_matching.proofs.Counting.{cases_eqb}
 use Rattle.hall_report.proofs.SetsOpened.{strict_is}
-use Rattle.hall_report.specs.Demands.{times_demands, unavailable_demands}
+use Rattle.hall_report.specs.Demands.{times_demands}
 use Rattle.hall_report.specs.Kept.{cell_demand}
 use Rattle.hall_report.specs.Opening.{AreCells, AreCellsTo, AreMarkedTo, resource_of}
 use Rattle.hall_report.specs.Strict.{is_resource, is_strict, is_unavailable, monitor_wants_free, strict_rule, wants_free}

@@ -1,25 +1,21 @@
 -- What demands keep after a change.
-use Rattle.std.proofs.Common.{ℕ, zero, suc, cond, ◌+◌, ◌-◌, ◌<◌, ◌≤◌, ◌≡◌, ◌≢◌, ◌⊎◌, inl, inr, Bool, true, false, Option, Some, None, List, [], ◌∷◌, length, map, set, get_or, replicate, slice_get, refl, sym, ap, ◌∙◌, subst, arith, length-set, get_or-set_same, get_or-set_other, IfSome}
-use Rattle.std.specs.Prelude.{is_some, ◌==◌}
-use Rattle.std.specs.Option.{option_map, option_map_or, ForSome}
-use Rattle.std.proofs.lemmas.Bool.{false≢true, eqb-true, eq-eqb, ne_eqb, cases_Bool, cases_lt}
-use Rattle.std.proofs.lemmas.List.Sums.{sum_by-set}
+use Rattle.std.proofs.Common.{ℕ, ◌+◌, ◌<◌, ◌≤◌, ◌≡◌, ◌≢◌, ◌⊎◌, inl, inr, true, Option, None, List, length, map, sym, ap, ◌∙◌, subst, arith}
+use Rattle.std.specs.Prelude.{is_some}
+use Rattle.std.specs.Option.{option_map, option_map_or}
+use Rattle.std.proofs.lemmas.Bool.{false≢true, cases_lt}
 use Rattle.demand_matching.proofs.Counting.{cases_eqb}
-use Rattle.demand_matching.specs.Domains.{Domains, IsInRange, domain_of, is_present}
+use Rattle.demand_matching.specs.Domains.{Domains, domain_of}
 use Rattle.demand_matching.specs.declared.domains.Domain.{Domain}
-use Rattle.khe_instance.specs.Lookups.{places_at}
-use Rattle.khe_instance.specs.WellMade.{AreFirstMeets, AreWellMade}
-use Rattle.khe_instance.specs.declared.parts.EventInfo.{EventInfo}
+use Rattle.khe_instance.specs.WellMade.{AreFirstMeets}
 use Rattle.khe_instance.specs.declared.parts.Parts.{Parts}
-use Rattle.khe_told.specs.Fits.{AreTold}
-use Rattle.khe_told.specs.Slots.{emptied, held, held_by, length_of, no_meets, no_slot, slot_at}
+use Rattle.khe_told.specs.Slots.{emptied, length_of, no_meets, slot_at}
 use Rattle.khe_told.specs.declared.slots.Slot.{Slot}
 use Rattle.khe_told.specs.declared.slots.Span.{Span}
-use Rattle.hall_report.proofs.Numbers.{number_apart, number_below}
-use Rattle.hall_report.specs.Kept.{AreOpen, AreTasks, IsNumbered, IsTask, number_of}
-use Rattle.hall_report.specs.Picks.{AreResourceSets, AreStartSets, cell_domain, domain_in, pick_resources, pick_starts}
-use Rattle.hall_report.specs.Renewing.{AreApart, AreWritable, HasSameSets, IsAmong, IsRenewed}
-use Rattle.hall_report.specs.Units.{AreFirsts, AreUnits, IsOffset, tasks_of, unit_at}
+use Rattle.hall_report.proofs.Numbers.{number_apart}
+use Rattle.hall_report.specs.Kept.{AreOpen, AreTasks, IsTask, number_of}
+use Rattle.hall_report.specs.Picks.{AreResourceSets, AreStartSets, domain_in, pick_resources, pick_starts}
+use Rattle.hall_report.specs.Renewing.{IsRenewed}
+use Rattle.hall_report.specs.Units.{AreFirsts, AreUnits, IsOffset, tasks_of}
 use Rattle.hall_report.specs.declared.renewing.Picks.{Picks}
 use Rattle.hall_report.specs.declared.units.Units.{Units}
 

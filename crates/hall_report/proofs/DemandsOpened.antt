@@ -1,22 +1,20 @@
 -- The demands of a state without meets: those of the cells alone are present.
-use Rattle.std.proofs.Common.{ℕ, zero, suc, ◌+◌, ◌*◌, ◌<◌, ◌≤◌, ◌≡◌, ◌≢◌, ◌⊎◌, inl, inr, Bool, true, false, Option, Some, None, List, [], ◌∷◌, All, map, take, length, get_or, replicate, set, slice_get, refl, sym, ap, ◌∙◌, subst, arith, length-set, get_or-set_same, get_or-set_other}
-use Rattle.std.specs.Prelude.{IsTrue, is_some}
-use Rattle.std.specs.Option.{ForSome}
+use Rattle.std.proofs.Common.{ℕ, zero, suc, ◌+◌, ◌*◌, ◌<◌, ◌≤◌, ◌≡◌, ◌≢◌, ◌⊎◌, inl, inr, Bool, true, false, Option, Some, None, List, [], All, take, length, get_or, replicate, set, slice_get, refl, sym, ap, ◌∙◌, subst, arith, length-set, get_or-set_same, get_or-set_other}
+use Rattle.std.specs.Prelude.{is_some}
 use Rattle.std.proofs.lemmas.List.{length-replicate, length-take-le, get_or-take}
 use Rattle.std.proofs.lemmas.List.Elements.{All-get_or}
 use Rattle.std.proofs.lemmas.Option.{get_or_from_slice_get, slice_get_within}
 use Rattle.demand_matching.proofs.Counting.{cases_eqb}
-use Rattle.demand_matching.specs.Domains.{Domains, IsInRange, admits, domain_of, is_present, no_domains, with_domain}
+use Rattle.demand_matching.specs.Domains.{Domains, domain_of, no_domains, with_domain}
 use Rattle.demand_matching.specs.declared.domains.Domain.{Domain}
 use Rattle.khe_instance.specs.WellMade.{AreWellMade}
 use Rattle.khe_instance.specs.declared.parts.Parts.{Parts}
-use Rattle.khe_told.specs.Slots.{length_of, no_meets, slot_at}
+use Rattle.khe_told.specs.Slots.{no_meets}
 use Rattle.hall_report.proofs.FreeSlots.{none_long, told_opened}
 use Rattle.hall_report.proofs.Renewals.{both_sets, same_sets}
-use Rattle.hall_report.specs.Kept.{AreOf, AreOpen, AreTasks, IsNumbered, IsTask, number_of}
+use Rattle.hall_report.specs.Kept.{AreOf}
 use Rattle.hall_report.specs.Opening.{AreCells, AreWanted}
-use Rattle.hall_report.specs.Picks.{AreResourceSets, AreStartSets, cell_domain, domain_in}
-use Rattle.hall_report.specs.Renewing.{HasSameSets}
+use Rattle.hall_report.specs.Picks.{AreResourceSets, AreStartSets, cell_domain}
 use Rattle.hall_report.specs.Units.{AreFirsts, AreUnits, tasks_of}
 use Rattle.hall_report.specs.declared.renewing.Picks.{Picks}
 use Rattle.hall_report.specs.declared.units.Units.{Units}

@@ -1,8 +1,8 @@
 -- What the functions that follow a change need at their calls.
-use Rattle.std.proofs.Common.{ℕ, zero, suc, ◌+◌, ◌-◌, ◌^◌, ◌<◌, ◌≤◌, ◌≡◌, ◌≢◌, ◌⊎◌, inl, inr, Option, Some, None, List, length, set, get_or, slice_get, refl, sym, ap, ◌∙◌, subst, arith, IfSome, get_or-set_other}
+use Rattle.std.proofs.Common.{ℕ, ◌+◌, ◌-◌, ◌^◌, ◌<◌, ◌≤◌, ◌≡◌, ◌≢◌, inl, inr, Option, Some, None, List, length, set, get_or, slice_get, refl, sym, ap, ◌∙◌, subst, arith, get_or-set_other}
 use Rattle.std.specs.Option.{option_map, option_map_or}
 use Rattle.std.proofs.lemmas.Grind.{get_or_default_zero}
-use Rattle.std.proofs.lemmas.Option.{same_Some, slice_get-get_or, slice_get_within, get_or_from_slice_get}
+use Rattle.std.proofs.lemmas.Option.{same_Some, slice_get_within, get_or_from_slice_get}
 use Rattle.khe_base.proofs.ListLemmas.{all-there}
 use Rattle.khe_base.specs.declared.numbers.EventId.{EventId}
 use Rattle.khe_base.specs.declared.numbers.MeetId.{MeetId}
@@ -13,23 +13,21 @@ use Rattle.khe_instance.specs.Lookups.{places_at}
 use Rattle.khe_instance.specs.WellMade.{AreWellMade, IsEvent}
 use Rattle.khe_instance.specs.declared.parts.EventInfo.{EventInfo}
 use Rattle.khe_instance.specs.declared.parts.Parts.{Parts}
-use Rattle.khe_told.specs.Changes.{after, changed, meet_of}
-use Rattle.khe_told.specs.Fits.{AreTold, Fits, IsSlot}
-use Rattle.khe_told.specs.Slots.{given_at, length_of, no_slot, slot_at}
+use Rattle.khe_told.specs.Changes.{after, meet_of}
+use Rattle.khe_told.specs.Fits.{AreTold, Fits}
+use Rattle.khe_told.specs.Slots.{given_at, length_of, slot_at}
 use Rattle.khe_told.specs.declared.changes.Change.{Change}
 use Rattle.khe_told.specs.declared.changes.Change.TheVariants.{Add, Drop, Place as PlaceAt, Lift, Give, Take}
 use Rattle.khe_told.specs.declared.slots.Slot.{Slot}
 use Rattle.khe_told.specs.declared.slots.Span.{Span}
 use Rattle.demand_matching.specs.Domains.{Domains}
-use Rattle.demand_matching.specs.declared.domains.Pick.{Pick}
 use Rattle.demand_matching.specs.declared.domains.Pick.TheVariants.{One, «Set»}
-use Rattle.hall_report.proofs.Changed.{IsChanged, still_open}
-use Rattle.hall_report.proofs.Noting.{added_long, added_of, added_units, added_within, apart_is, changed_is, dropped_long, dropped_of, dropped_span, held_after, own_after, readable_is, stayed_units, turned_is, turned_of}
-use Rattle.hall_report.proofs.Numbers.{IsSlotAt, slot_is}
+use Rattle.hall_report.proofs.Noting.{added_of, added_units, apart_is, changed_is, dropped_of, held_after, own_after, readable_is, stayed_units, turned_is, turned_of}
+use Rattle.hall_report.proofs.Numbers.{slot_is}
 use Rattle.hall_report.proofs.Ranges.{writable, writable_none}
-use Rattle.hall_report.proofs.Stated.{IsShort, place_there, span_short}
+use Rattle.hall_report.proofs.Stated.{place_there, span_short}
 use Rattle.hall_report.proofs.UnitLaws.{units_below}
-use Rattle.hall_report.specs.Kept.{AreOf, AreOpen, number_of}
+use Rattle.hall_report.specs.Kept.{AreOf, number_of}
 use Rattle.hall_report.specs.Listing.{IsReadable}
 use Rattle.hall_report.specs.Picks.{domain_in, pick_resources, resource_entry}
 use Rattle.hall_report.specs.Renewing.{AreApart, AreWritable, HasResourceEntries, IsRenewed, IsSpanOf, IsTurn}

@@ -1,26 +1,21 @@
 -- The Hall set of a told state from the numbers that are marked.
-use Rattle.std.proofs.Common.{ℕ, zero, suc, cond, ◌+◌, ◌-◌, ◌^◌, ◌<◌, ◌≤◌, ◌≡◌, ◌⊎◌, inl, inr, Bool, true, false, ◌&&◌, Option, Some, None, List, [], ◌∷◌, ◌++◌, map, length, slice_get, refl, sym, ap, ◌∙◌, subst, arith}
-use Rattle.std.specs.Prelude.{All, ◌==◌}
-use Rattle.std.specs.List.{filter, flat_map, list_any, range_with_len}
-use Rattle.std.specs.Option.{option_map_or}
-use Rattle.std.proofs.lemmas.Bool.{and_parts, eq-eqb}
+use Rattle.std.proofs.Common.{ℕ, ◌+◌, ◌<◌, ◌≤◌, ◌≡◌, Bool, true, ◌&&◌, List, ◌++◌, map, length, sym, ap, ◌∙◌, arith}
+use Rattle.std.specs.Prelude.{◌==◌}
+use Rattle.std.specs.List.{filter, list_any}
+use Rattle.std.proofs.lemmas.Bool.{and_parts}
 use Rattle.std.proofs.lemmas.List.{length-map}
 use Rattle.std.proofs.lemmas.Option.{slice_get_within}
 use Rattle.khe_base.specs.IdSet.{has_member}
-use Rattle.khe_base.specs.declared.limits.TheConstants.{TASKS, CELLS}
 use Rattle.khe_instance.specs.declared.parts.Parts.{Parts}
-use Rattle.khe_told.specs.Slots.{slot_at}
 use Rattle.khe_told.specs.declared.slots.Slot.{Slot}
 use Rattle.demand_matching.specs.Domains.{Domains, is_present}
 use Rattle.demand_matching.specs.Excess.{IsHallSet}
 use Rattle.hall_report.proofs.ListingLaws.{chosen_both, chosen_filter, chosen_moved}
-use Rattle.hall_report.proofs.Places.{get_left}
-use Rattle.hall_report.proofs.Renaming.{hall_renamed, present_below}
+use Rattle.hall_report.proofs.Renaming.{hall_renamed}
 use Rattle.hall_report.proofs.Stated.{is_own, kept_number, kept_place, later_number, many, number_of_task, renamed}
 use Rattle.hall_report.specs.Demands.{IsHallOf, chosen, demands, domains, task_demands, unavailable_demands}
 use Rattle.hall_report.specs.Kept.{AreOf, cell_demand}
 use Rattle.hall_report.specs.Listing.{is_marked, number_at}
-use Rattle.hall_report.specs.Units.{tasks_of}
 use Rattle.hall_report.specs.declared.demand.Demand.{Demand}
 use Rattle.hall_report.specs.declared.renewing.Picks.{Picks}
 use Rattle.hall_report.specs.declared.units.Units.{Units}

@@ -1,31 +1,28 @@
 -- What a change that fits makes of units and demands.
-use Rattle.std.proofs.Common.{ℕ, zero, suc, cond, ◌+◌, ◌-◌, ◌*◌, ◌^◌, ◌<◌, ◌≤◌, ◌≡◌, ◌≢◌, ◌⊎◌, inl, inr, Bool, true, false, ◌&&◌, Option, Some, None, List, [], ◌∷◌, length, map, set, get_or, slice_get, leb, refl, sym, ap, ◌∙◌, subst, arith, length-set, get_or-set_same, get_or-set_other, IfSome}
-use Rattle.std.specs.Prelude.{◌==◌, IsTrue}
-use Rattle.std.specs.Option.{option_map, option_map_or, ForSome}
-use Rattle.std.proofs.lemmas.Bool.{eq-eqb, eqb-true, ne_eqb, and_parts, leb-true, false≢true}
+use Rattle.std.proofs.Common.{ℕ, cond, ◌+◌, ◌-◌, ◌<◌, ◌≤◌, ◌≡◌, ◌≢◌, inl, inr, Some, None, List, length, set, get_or, slice_get, refl, sym, ap, ◌∙◌, subst, arith, length-set, get_or-set_same, get_or-set_other}
+use Rattle.std.specs.Prelude.{◌==◌}
+use Rattle.std.specs.Option.{option_map, option_map_or}
+use Rattle.std.proofs.lemmas.Bool.{eq-eqb, ne_eqb}
 use Rattle.std.proofs.lemmas.List.Sums.{sum_by-set}
-use Rattle.std.proofs.lemmas.Option.{same_Some, slice_get-get_or, slice_get_within}
-use Rattle.khe_base.proofs.ListLemmas.{all-there}
-use Rattle.khe_base.specs.declared.limits.TheConstants.{TASKS}
 use Rattle.khe_base.specs.declared.numbers.MeetId.{MeetId}
 use Rattle.khe_instance.specs.Lookups.{places_at}
 use Rattle.khe_instance.specs.Slots.{HasSlot}
 use Rattle.khe_instance.specs.WellMade.{AreWellMade}
 use Rattle.khe_instance.specs.declared.parts.EventInfo.{EventInfo}
 use Rattle.khe_instance.specs.declared.parts.Parts.{Parts}
-use Rattle.khe_told.proofs.OpeningLaws.{few_places, slots_amount}
-use Rattle.khe_told.specs.Changes.{after, changed, given_after, meet_of}
+use Rattle.khe_told.proofs.OpeningLaws.{few_places}
+use Rattle.khe_told.specs.Changes.{after, changed, meet_of}
 use Rattle.khe_told.specs.Fits.{AreTold, Fits}
-use Rattle.khe_told.specs.Slots.{given_at, held, held_by, length_of, no_meets, no_slot, slot_at}
+use Rattle.khe_told.specs.Slots.{given_at, held, held_by, length_of, no_slot, slot_at}
 use Rattle.khe_told.specs.declared.changes.Change.{Change}
 use Rattle.khe_told.specs.declared.changes.Change.TheVariants.{Add, Drop, Place as PlaceAt, Lift, Give, Take}
 use Rattle.khe_told.specs.declared.slots.Slot.{Slot}
 use Rattle.khe_told.specs.declared.slots.Span.{Span}
 use Rattle.demand_matching.specs.Domains.{Domains}
 use Rattle.hall_report.proofs.Changed.{IsChanged, KeepsNumbers, came, stayed, still_open, went}
-use Rattle.hall_report.proofs.Numbers.{IsSlotAt, number_apart, number_below, slot_is}
-use Rattle.hall_report.proofs.UnitLaws.{IsTurned, held_units, kept_unit, other_unit, released_units, units_below}
-use Rattle.hall_report.specs.Kept.{AreOf, AreOpen, AreTasks, IsTask, number_of}
+use Rattle.hall_report.proofs.Numbers.{number_apart, number_below, slot_is}
+use Rattle.hall_report.proofs.UnitLaws.{IsTurned, held_units, kept_unit, released_units, units_below}
+use Rattle.hall_report.specs.Kept.{AreOf, number_of}
 use Rattle.hall_report.specs.Listing.{IsReadable}
 use Rattle.khe_base.specs.declared.numbers.EventId.{EventId}
 use Rattle.khe_base.specs.declared.numbers.ResourceId.{ResourceId}

@@ -1,10 +1,10 @@
 -- The numbers of demands: no two demands of tasks have the same.
-use Rattle.std.proofs.Common.{ℕ, zero, suc, ◌+◌, ◌*◌, ◌<◌, ◌≤◌, ◌≡◌, ◌⊎◌, inl, inr, Some, None, List, [], ◌∷◌, map, take, length, get_or, slice_get, refl, sym, ap, ◌∙◌, subst, arith}
+use Rattle.std.proofs.Common.{ℕ, zero, suc, ◌+◌, ◌<◌, ◌≤◌, ◌≡◌, inl, inr, Some, List, [], ◌∷◌, map, take, length, get_or, slice_get, refl, sym, ap, ◌∙◌, arith}
 use Rattle.std.specs.List.{sum_by}
 use Rattle.std.proofs.lemmas.Bool.{cases_lt}
 use Rattle.std.proofs.lemmas.List.{length-map}
 use Rattle.std.proofs.lemmas.List.Sums.{sum_by-cons}
-use Rattle.std.proofs.lemmas.Option.{same_Some, slice_get-get_or, get_or_from_slice_get}
+use Rattle.std.proofs.lemmas.Option.{same_Some, slice_get-get_or}
 use Rattle.khe_instance.proofs.SlotsLemmas.{length-slots_from, slot-event}
 use Rattle.khe_instance.proofs.TasksLemmas.{length-all_tasks, length-tasks_from}
 use Rattle.khe_instance.specs.Lookups.{places_at}
@@ -14,11 +14,11 @@ use Rattle.khe_instance.specs.declared.parts.EventInfo.{EventInfo}
 use Rattle.khe_instance.specs.declared.parts.Parts.{Parts}
 use Rattle.khe_told.proofs.FillingLaws.{IsSlotOf, slot_of}
 use Rattle.khe_told.proofs.OpeningLaws.{slots_amount}
-use Rattle.khe_told.specs.Slots.{emptied, no_meets, no_slot, slot_at, length_of}
+use Rattle.khe_told.specs.Slots.{emptied, no_meets, slot_at, length_of}
 use Rattle.khe_told.specs.declared.slots.Slot.{Slot}
 use Rattle.hall_report.proofs.UnitLaws.{unit_once, units_below}
 use Rattle.hall_report.specs.Kept.{IsTask, number_of}
-use Rattle.hall_report.specs.Units.{AreFirsts, AreUnits, IsOffset, tasks_of, unit_at, units_of}
+use Rattle.hall_report.specs.Units.{AreFirsts, AreUnits, IsOffset, tasks_of, unit_at}
 use Rattle.hall_report.specs.declared.units.Units.{Units}
 
 -- the sums before two places of a list

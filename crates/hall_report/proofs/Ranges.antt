@@ -1,14 +1,14 @@
 -- The domains of demands are in range.
-use Rattle.std.proofs.Common.{ℕ, zero, suc, ◌+◌, ◌-◌, ◌<◌, ◌≤◌, ◌≡◌, ◌⊎◌, inl, inr, Bool, true, false, ◌&&◌, Option, Some, None, List, [], ◌∷◌, length, get_or, slice_get, leb, refl, sym, ap, ◌∙◌, subst, arith, IfSome}
-use Rattle.std.specs.Prelude.{◌==◌, IsTrue}
+use Rattle.std.proofs.Common.{ℕ, zero, suc, ◌+◌, ◌-◌, ◌<◌, ◌≤◌, ◌≡◌, Bool, true, false, ◌&&◌, Option, Some, None, List, [], ◌∷◌, length, get_or, slice_get, leb, refl, sym, ap, ◌∙◌, subst, arith, IfSome}
+use Rattle.std.specs.Prelude.{◌==◌}
 use Rattle.std.specs.Option.{option_and_then, option_map, option_map_or, ForSome}
 use Rattle.std.proofs.lemmas.Bool.{and_parts, leb-true, eqb-true, false≢true}
 use Rattle.std.proofs.lemmas.Option.{same_Some, none-some, slice_get-get_or, slice_get_within}
 use Rattle.khe_base.proofs.ListLemmas.{all-there}
 use Rattle.khe_base.specs.declared.numbers.ResourceId.{ResourceId}
 use Rattle.khe_base.specs.declared.numbers.TimeId.{TimeId}
-use Rattle.khe_instance.specs.Lookups.{place_at, places_at}
-use Rattle.khe_instance.specs.WellMade.{AreWellMade, HasType}
+use Rattle.khe_instance.specs.Lookups.{place_at}
+use Rattle.khe_instance.specs.WellMade.{HasType}
 use Rattle.khe_instance.specs.declared.parts.EventInfo.{EventInfo}
 use Rattle.khe_instance.specs.declared.parts.Parts.{Parts}
 use Rattle.khe_instance.specs.declared.parts.Place.{Place}
@@ -17,18 +17,18 @@ use Rattle.khe_told.specs.Fits.{AreTold, IsSlot}
 use Rattle.khe_told.specs.Slots.{given_at, length_of, no_slot, slot_at}
 use Rattle.khe_told.specs.declared.slots.Slot.{Slot}
 use Rattle.khe_told.specs.declared.slots.Span.{Span}
-use Rattle.demand_matching.specs.Domains.{Domains, IsGiven, IsInRange, admits, is_picked}
+use Rattle.demand_matching.specs.Domains.{Domains, IsGiven, IsInRange, is_picked}
 use Rattle.demand_matching.specs.declared.domains.Domain.{Domain}
 use Rattle.demand_matching.specs.declared.domains.Pick.TheVariants.{One, «Set»}
 use Rattle.hall_report.proofs.Noting.{below_is}
 use Rattle.hall_report.proofs.Numbers.{task_place}
-use Rattle.hall_report.proofs.Stated.{IsShort, place_there, resources_picked, span_short, span_some, starts_picked}
+use Rattle.hall_report.proofs.Stated.{place_there, resources_picked, span_short, span_some, starts_picked}
 use Rattle.hall_report.specs.Demands.{has_type, slot_takes, span_starts}
 use Rattle.hall_report.specs.Kept.{AreOpen, IsTask, number_of}
 use Rattle.hall_report.specs.Picks.{domain_in, pick_resources, pick_starts, resource_entry, start_entry}
 use Rattle.hall_report.specs.Renewing.{AreWritable}
 use Rattle.hall_report.specs.Strict.{may_be_given, may_start}
-use Rattle.hall_report.specs.Units.{AreFirsts, AreUnits, tasks_of}
+use Rattle.hall_report.specs.Units.{AreFirsts, AreUnits}
 use Rattle.hall_report.specs.declared.renewing.Picks.{Picks}
 use Rattle.hall_report.specs.declared.units.Units.{Units}
 

@@ -1,10 +1,10 @@
 -- The same demands under other numbers have the same deficit and the same Hall set.
-use Rattle.std.proofs.Common.{List, [], ◌∷◌, slice_index_or, ℕ, zero, suc, ◌+◌, ◌<◌, ◌≤◌, ◌≡◌, Bool, true, ◌&&◌, Option, None, Some, length, refl, sym, ap, ◌∙◌, subst, arith}
+use Rattle.std.proofs.Common.{List, [], ◌∷◌, slice_index_or, ℕ, zero, suc, ◌+◌, ◌<◌, ◌≤◌, ◌≡◌, Bool, true, ◌&&◌, Option, None, Some, length, refl, sym, ap, ◌∙◌, arith}
 use Rattle.std.proofs.Math.Logic.{∥∥₁_map}
 use Rattle.std.specs.Prelude.{is_some}
 use Rattle.std.proofs.lemmas.Bool.{and_parts, and_from, false≢true}
 use Rattle.demand_matching.specs.declared.domains.Domain.{Domain}
-use Rattle.demand_matching.specs.Counts.{count_below, any_below, sum_below}
+use Rattle.demand_matching.specs.Counts.{count_below, sum_below}
 use Rattle.demand_matching.specs.Domains.{Domains, is_present, may_have, domain_of, admits_where_present}
 use Rattle.demand_matching.specs.Excess.{size_of, neighbours_of, is_neighbour, HasGreatestExcess, IsDeficit, IsHallSet}
 use Rattle.demand_matching.proofs.Counting.{count_subset, count_partners, any_at, any_from}

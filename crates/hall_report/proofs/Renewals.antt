@@ -1,11 +1,11 @@
 -- Demands that are renewed one by one.
-use Rattle.std.proofs.Common.{ℕ, zero, suc, ◌+◌, ◌<◌, ◌≤◌, ◌≡◌, ◌≢◌, ◌⊎◌, inl, inr, Option, Some, None, List, length, set, get_or, refl, sym, ap, ◌∙◌, subst, arith, length-set, get_or-set_same, get_or-set_other}
+use Rattle.std.proofs.Common.{ℕ, ◌+◌, ◌<◌, ◌≤◌, ◌≡◌, inl, inr, Option, None, length, set, get_or, refl, sym, ap, ◌∙◌, subst, arith, length-set, get_or-set_same, get_or-set_other}
 use Rattle.std.specs.Option.{ForSome}
 use Rattle.std.specs.Prelude.{IsTrue}
 use Rattle.demand_matching.proofs.Counting.{cases_eqb}
 use Rattle.demand_matching.specs.Domains.{Domains, IsGiven, IsInRange, admits, domain_of, with_domain}
 use Rattle.demand_matching.specs.declared.domains.Domain.{Domain}
-use Rattle.hall_report.specs.Renewing.{AreApart, AreWritable, HasSameSets, IsAmong, IsRenewed}
+use Rattle.hall_report.specs.Renewing.{AreApart, AreWritable, HasSameSets, IsRenewed}
 
 pub same_sets : (w : Domains) → HasSameSets w w
 same_sets w = record { times = refl; resources = refl; last = refl; width = refl; amount = refl }

@@ -1,14 +1,14 @@
 -- The table of the resources of tasks, made place by place, and narrowed monitor by monitor.
-use Rattle.std.proofs.Common.{ℕ, zero, suc, ◌+◌, ◌-◌, ◌*◌, ◌<◌, ◌≤◌, ◌≡◌, ◌≢◌, ◌⊎◌, inl, inr, cond, Bool, true, false, ◌&&◌, Option, Some, None, List, [], ◌∷◌, ◌++◌, All, map, take, length, get_or, slice_get, refl, sym, ap, ◌∙◌, subst, arith}
+use Rattle.std.proofs.Common.{ℕ, ◌+◌, ◌<◌, ◌≤◌, ◌≡◌, ◌≢◌, inl, inr, cond, Bool, true, false, ◌&&◌, Option, Some, None, List, [], ◌∷◌, ◌++◌, All, map, take, length, get_or, slice_get, refl, sym, ap, ◌∙◌, subst, arith}
 use Rattle.std.specs.Prelude.{◌==◌}
 use Rattle.std.specs.List.{list_all, sum_by}
 use Rattle.std.specs.Option.{option_map, option_map_or, option_and_then}
-use Rattle.std.proofs.lemmas.Bool.{cases_lt, eq-eqb, ne_eqb}
+use Rattle.std.proofs.lemmas.Bool.{eq-eqb, ne_eqb}
 use Rattle.std.proofs.lemmas.List.{take_all, get_or_append_left, get_or-append-add, length-append, length-map}
 use Rattle.std.proofs.Math.Seq.{get_or-append_seam}
 use Rattle.std.proofs.lemmas.List.Elements.{All-push, All-nil, All-append, All-cons, All-head, All-tail, All-get_or}
 use Rattle.std.proofs.lemmas.List.Sums.{sum_by_more}
-use Rattle.std.proofs.lemmas.Option.{same_Some, slice_get-get_or, slice_get_within, get_or_from_slice_get, slice_get_past}
+use Rattle.std.proofs.lemmas.Option.{same_Some, slice_get_within, get_or_from_slice_get, slice_get_past}
 use Rattle.khe_base.proofs.ListLemmas.{all-there, get-map}
 use Rattle.khe_base.specs.IdSet.{has_member}
 use Rattle.khe_base.specs.declared.numbers.EventId.{EventId}
@@ -23,7 +23,6 @@ use Rattle.khe_instance.specs.declared.parts.ResourceInfo.{ResourceInfo}
 use Rattle.khe_instance.specs.declared.points.Monitor.{Monitor}
 use Rattle.khe_instance.specs.declared.points.Point.{Point}
 use Rattle.khe_instance.specs.declared.rules.Constraint.{Constraint}
-use Rattle.khe_instance.specs.declared.rules.Rule.{Rule}
 use Rattle.demand_matching.proofs.Counting.{cases_eqb}
 use Rattle.hall_report.proofs.Numbers.{numbers_apart, number_within, owner, row_apart, task_total}
 use Rattle.hall_report.proofs.SetsOpened.{all_more, and_assoc, and_true, either, strict_is}
@@ -32,7 +31,7 @@ use Rattle.hall_report.specs.Demands.{has_type}
 use Rattle.hall_report.specs.Opening.{AreResourcesTo, AreTypeEntries, AreTypeSets, is_of_type, place_of}
 use Rattle.hall_report.specs.Picks.{AreResourceSets, first_meet_at, resource_entry}
 use Rattle.hall_report.specs.Sets.{AreSets, set_at}
-use Rattle.hall_report.specs.Strict.{is_place, is_strict, lets_have, may_be_given, monitor_lets_have, strict_rule}
+use Rattle.hall_report.specs.Strict.{is_place, is_strict, lets_have, monitor_lets_have, strict_rule}
 use Rattle.hall_report.specs.Units.{tasks_of, units_of}
 
 -- one type more

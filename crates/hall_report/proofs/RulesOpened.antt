@@ -1,11 +1,11 @@
 -- Rules that are not of one kind.
-use Rattle.std.proofs.Common.{ℕ, ◌+◌, ◌-◌, ◌≡◌, ◌<◌, ◌≤◌, Bool, true, false, Option, Some, None, List, length, slice_get, refl, sym, ap, ◌∙◌, subst, arith}
+use Rattle.std.proofs.Common.{ℕ, ◌+◌, ◌-◌, ◌≡◌, ◌<◌, ◌≤◌, Bool, true, false, Option, Some, List, length, slice_get, refl, sym, ap, ◌∙◌, subst, arith}
 use Rattle.std.proofs.lemmas.Option.{same_Some, slice_get_within}
 use Rattle.khe_base.specs.declared.numbers.EventId.{EventId}
 use Rattle.khe_base.specs.declared.numbers.ResourceId.{ResourceId}
 use Rattle.khe_instance.proofs.MadeLemmas.{constraint_made, event_made, monitor_made}
 use Rattle.khe_instance.specs.Lookups.{role_at}
-use Rattle.khe_instance.specs.WellMade.{AreWellMade, IsConstraint, IsMonitor, IsPlacePoint, IsPointOf, IsResourcePoint, IsRule, IsSinglePoint}
+use Rattle.khe_instance.specs.WellMade.{AreWellMade, IsPlacePoint, IsPointOf, IsResourcePoint, IsRule, IsSinglePoint}
 use Rattle.khe_instance.specs.declared.parts.EventInfo.{EventInfo}
 use Rattle.khe_instance.specs.declared.parts.Parts.{Parts}
 use Rattle.khe_instance.specs.declared.points.Monitor.{Monitor}

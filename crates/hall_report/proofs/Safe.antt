@@ -1,5 +1,5 @@
 -- Demands that were opened can be listed.
-use Rattle.std.proofs.Common.{ℕ, zero, suc, ◌+◌, ◌*◌, ◌^◌, ◌<◌, ◌≤◌, ◌≡◌, Bool, true, List, [], ◌∷◌, ◌++◌, length, get_or, refl, sym, ap, ◌∙◌, arith, subst}
+use Rattle.std.proofs.Common.{ℕ, ◌<◌, ◌≡◌, List, length, get_or, refl, sym, ap, ◌∙◌, arith}
 use Rattle.std.specs.Prelude.{All, ◌==◌}
 use Rattle.std.specs.List.{list_any}
 use Rattle.std.proofs.Props.{props}
@@ -7,10 +7,9 @@ use Rattle.std.proofs.Math.Logic.{∥∥₁_elim}
 use Rattle.std.proofs.lemmas.Bool.{eq-eqb}
 use Rattle.std.proofs.lemmas.List.{length-map}
 use Rattle.std.proofs.lemmas.List.Folds.{list_any_at}
-use Rattle.khe_base.specs.declared.limits.TheConstants.{CELLS, DURATION, TASKS}
 use Rattle.khe_instance.specs.declared.parts.Parts.{Parts}
 use Rattle.khe_told.proofs.OpeningLaws.{slots_amount}
-use Rattle.khe_told.specs.Slots.{emptied, slot_at}
+use Rattle.khe_told.specs.Slots.{emptied}
 use Rattle.khe_told.specs.declared.slots.Slot.{Slot}
 use Rattle.demand_matching.specs.Domains.{Domains}
 use Rattle.demand_matching.specs.Excess.{IsHallSet}

@@ -1,23 +1,20 @@
 -- Tables of sets that are made entry by entry, and narrowed monitor by monitor.
-use Rattle.std.proofs.Common.{ℕ, zero, suc, ◌+◌, ◌-◌, ◌*◌, ◌<◌, ◌≤◌, ◌≡◌, ◌≢◌, ◌⊎◌, inl, inr, cond, Bool, true, false, ◌&&◌, Option, Some, None, List, [], ◌∷◌, ◌++◌, All, map, take, length, get_or, slice_get, refl, sym, ap, ◌∙◌, subst, arith}
+use Rattle.std.proofs.Common.{ℕ, ◌+◌, ◌-◌, ◌<◌, ◌≤◌, ◌≡◌, ◌≢◌, ◌⊎◌, inl, inr, cond, Bool, true, false, ◌&&◌, Some, None, List, [], ◌∷◌, ◌++◌, take, length, get_or, slice_get, refl, sym, ap, ◌∙◌, subst, arith}
 use Rattle.std.specs.Prelude.{nat_le, ◌==◌}
-use Rattle.std.specs.List.{list_all, sum_by}
+use Rattle.std.specs.List.{list_all}
 use Rattle.std.specs.Option.{option_map_or, option_and_then}
 use Rattle.std.proofs.lemmas.Bool.{cases_lt, eq-eqb, ne_eqb}
 use Rattle.std.proofs.lemmas.List.{take_all, get_or_append_left, length-append}
 use Rattle.std.proofs.Math.Seq.{get_or-append_seam}
 use Rattle.std.proofs.lemmas.List.Elements.{All-push, All-nil}
 use Rattle.std.proofs.lemmas.List.Folds.{list_all_more}
-use Rattle.std.proofs.lemmas.Option.{same_Some, slice_get-get_or, slice_get_within, get_or_from_slice_get}
-use Rattle.khe_base.proofs.ListLemmas.{all-there}
+use Rattle.std.proofs.lemmas.Option.{same_Some, slice_get_within, get_or_from_slice_get}
 use Rattle.khe_base.specs.IdSet.{has_member}
 use Rattle.khe_base.specs.declared.numbers.EventId.{EventId}
-use Rattle.khe_instance.specs.Slots.{HasSlot, first_task}
-use Rattle.khe_instance.specs.Lookups.{place_at}
-use Rattle.khe_instance.specs.WellMade.{AreWellMade, IsEvent}
+use Rattle.khe_instance.specs.Slots.{HasSlot}
+use Rattle.khe_instance.specs.WellMade.{AreWellMade}
 use Rattle.khe_instance.specs.declared.parts.EventInfo.{EventInfo}
 use Rattle.khe_instance.specs.declared.parts.Parts.{Parts}
-use Rattle.khe_instance.specs.declared.parts.Place.{Place}
 use Rattle.khe_instance.specs.declared.points.Monitor.{Monitor}
 use Rattle.khe_instance.specs.declared.points.Point.{Point}
 use Rattle.khe_instance.specs.declared.rules.Constraint.{Constraint}
@@ -25,9 +22,9 @@ use Rattle.khe_instance.specs.declared.rules.Rule.{Rule}
 use Rattle.demand_matching.proofs.Counting.{cases_eqb}
 use Rattle.hall_report.proofs.UnitLaws.{unit_once, units_below}
 use Rattle.hall_report.specs.Opening.{AreNarrowedBy, AreStartEntries, AreStartsTo, AreWholeStarts, ServesFor, event_of}
-use Rattle.hall_report.specs.Picks.{AreStartSets, first_meet_at, start_entry}
+use Rattle.hall_report.specs.Picks.{AreStartSets, start_entry}
 use Rattle.hall_report.specs.Sets.{AreSets, set_at}
-use Rattle.hall_report.specs.Strict.{is_event, is_strict, lets_start, may_start, monitor_lets_start, strict_rule}
+use Rattle.hall_report.specs.Strict.{is_event, is_strict, lets_start, monitor_lets_start, strict_rule}
 use Rattle.hall_report.specs.Units.{units_of}
 
 pub and_true : (a b : Bool) → b ≡ true → a ≡ a && b

@@ -1,13 +1,12 @@
 -- The domains that are kept are those of the told state's demands, under their numbers.
-use Rattle.std.proofs.Common.{ℕ, zero, suc, cond, ◌+◌, ◌-◌, ◌*◌, ◌/◌, ◌%◌, ◌<◌, ◌≤◌, ◌≡◌, ◌≢◌, ◌⊎◌, inl, inr, Bool, true, false, ◌&&◌, Option, Some, None, List, [], ◌∷◌, ◌++◌, map, length, get_or, slice_get, leb, refl, sym, ap, ◌∙◌, subst, arith, IfSome}
+use Rattle.std.proofs.Common.{ℕ, zero, suc, cond, ◌+◌, ◌-◌, ◌/◌, ◌%◌, ◌<◌, ◌≤◌, ◌≡◌, ◌⊎◌, inl, inr, Bool, true, false, ◌&&◌, Option, Some, None, List, [], ◌∷◌, map, length, get_or, slice_get, leb, refl, sym, ap, ◌∙◌, subst, arith, IfSome}
 use Rattle.std.specs.Prelude.{is_some, ◌==◌}
-use Rattle.std.specs.List.{range_with_len}
 use Rattle.std.specs.Option.{option_and_then, option_map, option_map_or}
 use Rattle.std.proofs.lemmas.Bool.{cases_lt, cases_Bool, le-leb, eq-eqb, false≢true}
 use Rattle.std.proofs.lemmas.List.{length-append, length-map}
 use Rattle.std.proofs.lemmas.List.FromFn.{get_or-map-range_with_len, length-map-range_with_len}
 use Rattle.std.proofs.lemmas.List.Sums.{sum_by-cons}
-use Rattle.std.proofs.lemmas.Option.{same_Some, slice_get-get_or, slice_get_past, slice_get_within, get_or_from_slice_get}
+use Rattle.std.proofs.lemmas.Option.{slice_get-get_or, slice_get_past, slice_get_within, get_or_from_slice_get}
 use Rattle.khe_base.proofs.ListLemmas.{there, mapped-there, all-there}
 use Rattle.khe_base.specs.IdSet.{has_member}
 use Rattle.khe_base.specs.declared.numbers.ResourceId.{ResourceId}
@@ -21,22 +20,19 @@ use Rattle.khe_told.specs.Fits.{AreTold, IsSlot}
 use Rattle.khe_told.specs.Slots.{slot_at, no_slot, given_at, held, held_by, length_of}
 use Rattle.khe_told.specs.declared.slots.Slot.{Slot}
 use Rattle.khe_told.specs.declared.slots.Span.{Span}
-use Rattle.demand_matching.specs.Domains.{Domains, admits, admits_where_present, domain_of, is_picked, is_present, may_have}
-use Rattle.demand_matching.specs.declared.domains.Domain.{Domain}
-use Rattle.demand_matching.specs.declared.domains.Pick.{Pick}
+use Rattle.demand_matching.specs.Domains.{Domains, admits_where_present, domain_of, is_picked, is_present, may_have}
 use Rattle.demand_matching.specs.declared.domains.Pick.TheVariants.{One, «Set»}
-use Rattle.hall_report.proofs.Numbers.{IsSlotAt, live_below, live_slot, number_apart, number_below, slot_is, task_place}
-use Rattle.hall_report.proofs.Places.{IsSpot, get_left, get_right, mapped_there, spot_at, spot_of, spot_there}
+use Rattle.hall_report.proofs.Numbers.{live_below, live_slot, number_apart, number_below, slot_is, task_place}
+use Rattle.hall_report.proofs.Places.{get_left, get_right, mapped_there, spot_at, spot_of, spot_there}
 use Rattle.hall_report.proofs.Renaming.{IsRenamed, present_below}
 use Rattle.hall_report.specs.Demands.{demands, domains, has_type, own_domain, runs_at, set_where, slot_starts, slot_takes, span_starts, takes, task_demands, unavailable_demands}
-use Rattle.hall_report.specs.Kept.{AreOpen, AreTasks, IsNumbered, IsTask, cell_demand, number_of}
+use Rattle.hall_report.specs.Kept.{AreOpen, AreTasks, IsTask, cell_demand, number_of}
 use Rattle.hall_report.specs.Listing.{number_at}
-use Rattle.hall_report.specs.Picks.{AreResourceSets, AreStartSets, cell_domain, domain_in, pick_resources, pick_starts, resource_entry, start_entry}
-use Rattle.hall_report.specs.Sets.{set_at}
+use Rattle.hall_report.specs.Picks.{AreResourceSets, AreStartSets, cell_domain, pick_resources, pick_starts, resource_entry, start_entry}
 use Rattle.hall_report.specs.Strict.{may_be_given, may_start}
 use Rattle.hall_report.specs.Units.{AreUnits, IsOffset, tasks_of}
 use Rattle.hall_report.specs.declared.demand.Demand.{Demand}
-use Rattle.hall_report.specs.declared.demand.Demand.TheVariants.{Task, Unavailable}
+use Rattle.hall_report.specs.declared.demand.Demand.TheVariants.{Task}
 use Rattle.hall_report.specs.declared.renewing.Picks.{Picks}
 use Rattle.hall_report.specs.declared.units.Units.{Units}
 

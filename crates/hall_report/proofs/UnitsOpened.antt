@@ -1,18 +1,16 @@
 -- Units of a state without meets: all are free.
-use Rattle.std.proofs.Common.{ℕ, zero, suc, ◌+◌, ◌<◌, ◌≤◌, ◌≡◌, Some, List, [], ◌∷◌, ◌++◌, map, take, length, get_or, replicate, slice_get, refl, sym, ap, ◌∙◌, subst, arith}
-use Rattle.std.specs.List.{range_with_len, sum_by}
-use Rattle.std.proofs.lemmas.List.{length-map, length-replicate}
+use Rattle.std.proofs.Common.{ℕ, zero, suc, ◌+◌, ◌<◌, ◌≤◌, ◌≡◌, Some, List, [], ◌∷◌, ◌++◌, map, take, length, get_or, slice_get, sym, ap, ◌∙◌, subst, arith}
+use Rattle.std.specs.List.{range_with_len}
+use Rattle.std.proofs.lemmas.List.{length-map}
 use Rattle.std.proofs.lemmas.List.FromFn.{length-range_with_len, get_or-range_with_len}
-use Rattle.std.proofs.lemmas.List.Sums.{sum_by-cons}
 use Rattle.std.proofs.lemmas.Option.{same_Some, get_or_from_slice_get}
 use Rattle.khe_instance.specs.Slots.{HasSlot}
-use Rattle.khe_instance.specs.WellMade.{AreFirstMeets, AreWellMade}
+use Rattle.khe_instance.specs.WellMade.{AreWellMade}
 use Rattle.khe_instance.specs.declared.parts.EventInfo.{EventInfo}
 use Rattle.khe_instance.specs.declared.parts.Parts.{Parts}
-use Rattle.khe_told.specs.Slots.{empty_slot, held, held_by, length_of, no_meets, slot_at, slots_from, slots_of_event}
-use Rattle.khe_told.specs.declared.slots.Slot.{Slot}
+use Rattle.khe_told.specs.Slots.{no_meets}
 use Rattle.hall_report.proofs.FreeSlots.{none_held, none_long}
-use Rattle.hall_report.proofs.UnitLaws.{unit_once, units_below, walk_suc, walk_zero}
+use Rattle.hall_report.proofs.UnitLaws.{units_below, walk_suc, walk_zero}
 use Rattle.hall_report.specs.Units.{AreUnits, IsFree, IsOffset, unit_at, units_of, walk}
 use Rattle.hall_report.proofs.Places.{mapped_there}
 

@@ -1,5 +1,5 @@
 -- What changes where the demands of a meet get new domains.
-use Rattle.std.specs.Prelude.{ℕ, ◌+◌, ◌≡◌, ◌<◌, ◌≤◌, ◌⊎◌, Option, Some, List, length, slice_get}
+use Rattle.std.specs.Prelude.{ℕ, ◌≡◌, ◌<◌, ◌≤◌, ◌⊎◌, Option, Some, List, length, slice_get}
 use Rattle.std.specs.Option.{ForSome}
 use Rattle.khe_instance.specs.Lookups.{place_at}
 use Rattle.khe_instance.specs.declared.parts.EventInfo.{EventInfo}

@@ -1,5 +1,5 @@
 -- Entries of a table that stand for sets, each by the number of its set.
-use Rattle.std.specs.Prelude.{ℕ, ◌≡◌, ◌<◌, ◌≤◌, ◌^◌, Bool, ◌&&◌, List, [], length, All, slice_index_or}
+use Rattle.std.specs.Prelude.{ℕ, ◌≡◌, ◌<◌, ◌≤◌, Bool, ◌&&◌, List, [], length, All, slice_index_or}
 use Rattle.khe_base.specs.IdSet.{has_member}
 
 -- the set of an entry

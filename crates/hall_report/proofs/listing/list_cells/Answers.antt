@@ -1,4 +1,4 @@
-use Rattle.std.proofs.Common.{◌≡◌, ◌∙◌, ◌+◌, ℕ, sym, ap, arith, get_or}
+use Rattle.std.proofs.Common.{◌∙◌, ◌+◌, ℕ, sym, get_or}
 use Rattle.std.proofs.lemmas.Option.{slice_get-get_or}
 use Rattle.khe_base.specs.IdSet.{has_member}
 use Rattle.hall_report.specs.Kept.{cell_demand}

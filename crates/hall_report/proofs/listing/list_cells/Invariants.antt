@@ -1,4 +1,4 @@
-use Rattle.std.proofs.Common.{◌≡◌, ◌++◌, ◌+◌, length, map, take}
+use Rattle.std.proofs.Common.{◌≡◌, ◌++◌, ◌+◌, map, take}
 use Rattle.khe_base.specs.IdSet.{has_member}
 use Rattle.hall_report.specs.Demands.{chosen}
 use Rattle.hall_report.specs.Kept.{cell_demand}

@@ -1,9 +1,5 @@
-use Rattle.std.proofs.Common.{rules, ◌≡◌, ◌<◌, ◌≤◌, ◌+◌, ◌++◌, ◌∙◌, ℕ, length, map, refl, sym, ap, subst, arith, get_or, List, [], ◌∷◌}
-use Rattle.std.specs.List.{filter, flat_map, range_with_len}
-use Rattle.khe_told.specs.Slots.{slot_at, length_of}
-use Rattle.hall_report.specs.Listing.{IsReadable, AreReadable, is_marked}
-use Rattle.hall_report.specs.Units.{unit_at}
-use Rattle.hall_report.specs.declared.demand.Demand.TheVariants.{Task}
+use Rattle.std.proofs.Common.{arith}
+use Rattle.hall_report.specs.Listing.{is_marked}
 use Rattle.hall_report.proofs.ListingLaws.{slots_more}
 use Rattle.hall_report.proofs.listing.list_tasks.Goals as goal
 

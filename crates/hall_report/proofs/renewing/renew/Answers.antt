@@ -1,9 +1,7 @@
-use Rattle.std.proofs.Common.{rules, ◌≡◌, ◌<◌, ◌≤◌, ◌+◌, ◌∙◌, ℕ, length, refl, sym, ap, subst, arith, get_or}
+use Rattle.std.proofs.Common.{◌+◌, ◌∙◌, sym, ap, arith, get_or}
 use Rattle.khe_told.specs.Slots.{slot_at}
 use Rattle.hall_report.specs.Kept.{number_of}
 use Rattle.hall_report.specs.Picks.{domain_in}
-use Rattle.hall_report.specs.Units.{unit_at}
-use Rattle.hall_report.specs.Renewing.{IsRenewed}
 use Rattle.hall_report.proofs.Renewals.{none_offsets, offset_renewed, still_writable}
 use Rattle.hall_report.proofs.UnitLaws.{walk_next, walk_zero}
 use Rattle.hall_report.proofs.renewing.renew.Goals as goal

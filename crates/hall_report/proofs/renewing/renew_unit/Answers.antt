@@ -1,8 +1,6 @@
-use Rattle.std.proofs.Common.{rules, ◌≡◌, ◌<◌, ◌≤◌, ◌+◌, ◌∙◌, ℕ, length, refl, sym, ap, subst, arith, get_or}
+use Rattle.std.proofs.Common.{◌≡◌, ◌+◌, ℕ, sym, subst, arith}
 use Rattle.khe_told.specs.Slots.{slot_at}
-use Rattle.hall_report.specs.Kept.{number_of}
 use Rattle.hall_report.specs.Picks.{domain_in}
-use Rattle.hall_report.specs.Units.{unit_at}
 use Rattle.hall_report.specs.Renewing.{IsRenewed}
 use Rattle.std.specs.Option.{ForSome}
 use Rattle.demand_matching.specs.Domains.{IsInRange, with_domain}

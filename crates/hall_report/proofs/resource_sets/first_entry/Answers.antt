@@ -1,4 +1,4 @@
-use Rattle.std.proofs.Common.{◌≡◌, ◌∙◌, sym, ap}
+use Rattle.std.proofs.Common.{◌∙◌, sym, ap}
 use Rattle.std.specs.Option.{option_map_or}
 use Rattle.khe_instance.specs.Slots.{first_task}
 use Rattle.khe_instance.specs.declared.parts.EventInfo.{EventInfo}

@@ -1,4 +1,3 @@
-use Rattle.std.proofs.Common.{sym, subst}
 use Rattle.hall_report.proofs.ResourcesOpened.{resources_done, resources_whole}
 use Rattle.hall_report.proofs.resource_sets.resource_sets.Goals as goal
 

@@ -1,6 +1,6 @@
 use Rattle.std.proofs.Common.{◌∙◌, length, set, ap, sym, subst}
 use Rattle.khe_base.specs.IdSet.{has_member}
-use Rattle.hall_report.specs.Sets.{AreSets, has_both, set_at}
+use Rattle.hall_report.specs.Sets.{AreSets, has_both}
 use Rattle.hall_report.proofs.NarrowLaws.{owned, pushed, pushed_at, read_at}
 use Rattle.hall_report.proofs.sets.narrow.Goals as goal
 

@@ -1,4 +1,4 @@
-use Rattle.std.proofs.Common.{◌++◌, ◌∷◌, ◌+◌, ◌-◌, [], ℕ, length, sym, subst}
+use Rattle.std.proofs.Common.{◌+◌, ◌-◌, ℕ, length, sym, subst}
 use Rattle.khe_instance.specs.Slots.{HasSlot}
 use Rattle.hall_report.specs.Opening.{AreStartEntries, ServesFor}
 use Rattle.hall_report.proofs.SetsOpened.{entries_more}

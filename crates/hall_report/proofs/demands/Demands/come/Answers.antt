@@ -1,6 +1,5 @@
-use Rattle.std.proofs.Common.{◌≡◌, ◌∙◌, length, sym, ap, arith}
-use Rattle.hall_report.proofs.Following.{WasHeld, slot_held, event_free, few_given, come_within, come_readable, come_apart, come_writable, come_of}
-use Rattle.hall_report.specs.Kept.{AreOf}
+use Rattle.std.proofs.Common.{length, ap, arith}
+use Rattle.hall_report.proofs.Following.{slot_held, event_free, few_given, come_within, come_readable, come_apart, come_writable, come_of}
 use Rattle.hall_report.proofs.demands.Demands.come.Goals as goal
 
 pub overflow_cast-places : goal.overflow_cast-places

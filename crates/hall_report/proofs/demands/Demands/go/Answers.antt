@@ -1,6 +1,5 @@
-use Rattle.std.proofs.Common.{◌≡◌, ◌∙◌, length, sym, ap, arith}
-use Rattle.hall_report.proofs.Following.{WasReleased, slot_held, event_free, few_given, go_some, go_within, go_readable, go_apart, go_writable, go_of}
-use Rattle.hall_report.specs.Kept.{AreOf}
+use Rattle.std.proofs.Common.{length, ap, arith}
+use Rattle.hall_report.proofs.Following.{slot_held, event_free, few_given, go_some, go_within, go_readable, go_apart, go_writable, go_of}
 use Rattle.hall_report.proofs.demands.Demands.go.Goals as goal
 
 pub overflow_cast-places : goal.overflow_cast-places

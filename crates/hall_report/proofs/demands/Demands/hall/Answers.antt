@@ -1,4 +1,4 @@
-use Rattle.std.proofs.Common.{◌≡◌, ◌∙◌, ◌+◌, ◌++◌, length, map, sym, ap, arith}
+use Rattle.std.proofs.Common.{◌∙◌, ◌+◌, ◌++◌, map, ap}
 use Rattle.std.specs.List.{filter}
 use Rattle.khe_base.specs.IdSet.{has_member}
 use Rattle.hall_report.specs.Demands.{chosen, task_demands}

@@ -1,4 +1,4 @@
-use Rattle.std.proofs.Common.{◌≡◌, ◌∙◌, ◌+◌, length, sym, ap, arith, subst}
+use Rattle.std.proofs.Common.{◌+◌, length, sym, ap, arith, subst}
 use Rattle.std.specs.Prelude.{All, ◌<◌}
 use Rattle.hall_report.proofs.Safe.{safe, hall_below}
 use Rattle.hall_report.proofs.demands.Demands.marks.Goals as goal

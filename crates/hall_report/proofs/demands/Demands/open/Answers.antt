@@ -1,12 +1,11 @@
 -- What was made is there for the state without meets.
 use Rattle.std.proofs.Common.{◌≡◌, ◌+◌, ◌∙◌, sym, ap, subst, length, arith, Ok, List, ℕ}
 use Rattle.khe_base.proofs.ResultLemmas.{if_ok}
-use Rattle.khe_instance.specs.declared.parts.Parts.{Parts}
 use Rattle.khe_told.specs.Slots.{no_meets}
 use Rattle.khe_told.specs.declared.slots.Slot.{Slot}
 use Rattle.demand_matching.specs.Domains.{Domains, no_domains}
 use Rattle.hall_report.proofs.DemandsOpened.{opened}
-use Rattle.hall_report.specs.Kept.{AreOf, AreOfSome}
+use Rattle.hall_report.specs.Kept.{AreOf}
 use Rattle.hall_report.specs.Opening.{AreCells, AreWanted}
 use Rattle.hall_report.specs.Picks.{AreResourceSets, AreStartSets}
 use Rattle.hall_report.specs.Units.{AreFirsts, AreUnits}

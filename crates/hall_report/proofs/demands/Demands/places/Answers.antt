@@ -1,4 +1,4 @@
-use Rattle.std.proofs.Common.{◌≡◌, length, ap, arith}
+use Rattle.std.proofs.Common.{length, ap, arith}
 use Rattle.hall_report.proofs.Safe.{safe}
 use Rattle.hall_report.proofs.demands.Demands.places.Goals as goal
 

@@ -1,4 +1,4 @@
-use Rattle.std.proofs.Common.{◌≡◌, ◌∙◌, length, sym, ap, arith}
+use Rattle.std.proofs.Common.{length, ap, arith}
 use Rattle.hall_report.proofs.Noting.{changed_is}
 use Rattle.hall_report.proofs.Following.{turn_readable, turn_apart, turn_writable, turn_end, turn_of}
 use Rattle.hall_report.proofs.demands.Demands.turn.Goals as goal

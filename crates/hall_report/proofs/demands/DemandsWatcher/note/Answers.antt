@@ -1,4 +1,4 @@
-use Rattle.std.proofs.Common.{◌≡◌, Some, None, length, subst, arith}
+use Rattle.std.proofs.Common.{Some, None, subst, arith}
 use Rattle.std.proofs.lemmas.Option.{slice_get_within}
 use Rattle.khe_told.specs.Fits.{Fits}
 use Rattle.khe_told.specs.Slots.{slot_at}

@@ -1,4 +1,4 @@
-use Rattle.std.proofs.Common.{◌≡◌, ◌∙◌, Some, sym, ap, arith}
+use Rattle.std.proofs.Common.{◌≡◌, Some}
 use Rattle.khe_told.specs.Slots.{slot_at}
 use Rattle.hall_report.proofs.Following.{event_there, span_of}
 use Rattle.hall_report.proofs.renewing.Picks.domain.Goals as goal

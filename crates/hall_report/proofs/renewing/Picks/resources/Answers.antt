@@ -1,4 +1,4 @@
-use Rattle.std.proofs.Common.{◌≡◌, ◌∙◌, ◌+◌, Some, None, slice_get, sym, ap, arith, get_or}
+use Rattle.std.proofs.Common.{◌≡◌, ◌∙◌, ◌+◌, Some, None, slice_get, ap, arith}
 use Rattle.khe_told.specs.Slots.{slot_at}
 use Rattle.hall_report.proofs.Following.{event_there, entry_there, set_is}
 use Rattle.hall_report.proofs.renewing.Picks.resources.Goals as goal
