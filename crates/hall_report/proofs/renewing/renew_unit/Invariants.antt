@@ -1,0 +1,10 @@
+use Rattle.std.proofs.Common.{◌≤◌, ◌+◌}
+use Rattle.khe_told.specs.Slots.{slot_at}
+use Rattle.hall_report.specs.Picks.{domain_in}
+use Rattle.hall_report.specs.Renewing.{IsRenewed}
+use Rattle.hall_report.proofs.renewing.renew_unit.Given as goal
+
+abbrev pub invariant-loop-place : goal.invariant-loop-place
+invariant-loop-place l =
+    (l.from ≤ l.place)
+    × IsRenewed l.fn.matching l.matching (λ k o. l.first + k) (λ k o. domain_in l.inst.events l.picks.starts.items l.picks.resources.items (slot_at l.told l.meet.0) k l.offset) l.from l.place 1
