@@ -7,6 +7,7 @@ use Rattle.std.proofs.lemmas.Option.{same_Some, none-some, slice_get-get_or, sli
 use Rattle.khe_base.proofs.ListLemmas.{all-there}
 use Rattle.khe_base.specs.declared.numbers.ResourceId.{ResourceId}
 use Rattle.khe_base.specs.declared.numbers.TimeId.{TimeId}
+use Rattle.khe_instance.proofs.DutiesLemmas.{typed}
 use Rattle.khe_instance.specs.Lookups.{place_at}
 use Rattle.khe_instance.specs.WellMade.{HasType}
 use Rattle.khe_instance.specs.declared.parts.EventInfo.{EventInfo}
@@ -48,13 +49,6 @@ typed_there p place r h = found (slice_get p.resources r) refl h
     found None e h = absurd (false≢true h)
     found (Some x) e h = slice_get_within p.resources r x e
 
-type_there : (p : Parts) (rtype : ℕ) (r : ResourceId) → HasType p rtype r → r.0 < length p.resources
-type_there p rtype r h = found (slice_get p.resources r.0) refl h
-  where
-    found : (o : Option ResourceInfo) → slice_get p.resources r.0 ≡ o → option_map (λ (x : ResourceInfo). x.rtype) o ≡ Some rtype → r.0 < length p.resources
-    found None e h = absurd (none-some rtype h)
-    found (Some x) e h = slice_get_within p.resources r.0 x e
-
 taken_by : (r bound : ℕ) (o : Option ResourceId) (a b : Bool) → ((g : ResourceId) → o ≡ Some g → g.0 < bound) → (a ≡ true → r < bound) → option_map_or (λ (g : ResourceId). g.0 == r) o (a && b) ≡ true → r < bound
 taken_by r bound None a b own other h = other (and_parts a b h).0
 taken_by r bound (Some g) a b own other h = let e : g.0 ≡ r = eqb-true g.0 r h in let l = own g refl in omega (arith, e, l)
@@ -91,7 +85,7 @@ module _ (p : Parts) (t : List Slot) (u : Units) (picks : Picks) (w : Domains) (
             let a = and_parts (is_picked w.resources (pick_resources p.events picks.resources.items x k) r) (leb o q && is_picked w.times (pick_starts p.events picks.starts.items x.event.0 y) (q - o)) adm in
             let h : slot_takes p x k r ≡ true = sym (resources_picked p w.resources picks.resources.items x k r opened.resources near) ∙ a.0 in
             let b : r < length p.resources = taken_by r (length p.resources) (given_at x k) (has_type p (place_at p.events x.event.0 k) r) (may_be_given p x.event.0 k r)
-            (λ g e. type_there p place.0.rtype g (given_type slot short.event place.0 g short.at place.1 (given_there x.given k g e)))
+            (λ g e. typed p place.0.rtype g (given_type slot short.event place.0 g short.at place.1 (given_there x.given k g e)))
             (λ e. typed_there p (place_at p.events x.event.0 k) r e) h in
             let e = opened.width in omega (arith, b, e);
         time = λ r q adm.

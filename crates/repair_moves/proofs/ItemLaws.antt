@@ -2,7 +2,7 @@
 use Rattle.std.proofs.Common.{ℕ, zero, suc, ◌≡◌, ◌+◌, ◌<◌, ◌≤◌, Bool, true, false, ◌&&◌, Option, Some, None, List, [], ◌∷◌, length, slice_get, refl, sym, ap, ◌∙◌, subst, arith, inl, inr, ◌⊎◌}
 use Rattle.std.specs.Prelude.{◌==◌, ◌||◌, ◌^◌, IfSome, MatchOption, is_some}
 use Rattle.std.specs.List.{sum_by}
-use Rattle.std.proofs.lemmas.Bool.{cases_lt, lt-ltb}
+use Rattle.std.proofs.lemmas.Bool.{and_from, cases_lt, lt-ltb}
 use Rattle.std.proofs.lemmas.Bool.Decides.{nat_tests}
 use Rattle.std.proofs.lemmas.List.Folds.{list_any_at}
 use Rattle.std.proofs.lemmas.List.Sums.{sum_by-cons}
@@ -112,9 +112,6 @@ unnamed p s rule point e n made told has h = false_unless _ (λ t.
 
 -- the meets that have a task with a resource
 
-both_are : (a b : Bool) → a ≡ true → b ≡ true → (a && b) ≡ true
-both_are a b h g = ap (λ x. x && b) h ∙ g
-
 from_first : (from k j : ℕ) → from ≤ k → IsFrom (record { meet = record { 0 = from }; place = 0 }) (record { meet = record { 0 = k }; place = j })
 from_first from k j l = elim (cases_lt from k) [
   | inl m ↦ inl m
@@ -127,7 +124,7 @@ unfolding is_meet_at
 with_task p s rule r n h =
     let b = both_true _ _ h in
     let q = any_place (is_resource r.0) (slot_at s n).given None b.1 in
-    (q.0, both_are _ _ (both_are _ _ b.0 (lt-ltb _ _ q.1)) q.2)
+    (q.0, and_from _ _ (and_from _ _ b.0 (lt-ltb _ _ q.1)) q.2)
 
 pub no_meet_with : (p : Parts) (s : List Slot) (rule : Rule) (r : ResourceId) (from to : ℕ) → NoTask (has_task s (Some r)) (record { meet = record { 0 = from }; place = 0 })
     → NonePass (is_meet_at p s rule (Resource r)) from to
@@ -145,7 +142,7 @@ first_meet_with p s rule r from t made told onward has none =
     let low : from ≤ t.meet.0 = elim onward [ inl l ↦ omega (arith, l) | inr q ↦ (let e = q.0 in omega (arith, e)) ] in (
       low,
       slot_below p s t.meet.0 made told there.0,
-      both_are _ _ there.0 (list_any_at (is_resource r.0) (slot_at s t.meet.0).given t.place None there.1 b.1),
+      and_from _ _ there.0 (list_any_at (is_resource r.0) (slot_at s t.meet.0).given t.place None there.1 b.1),
       λ k a l. false_unless _ (λ h.
           (let w = with_task p s rule r k h in
           true-false (sym w.1 ∙ none (record { meet = record { 0 = k }; place = w.0 }) (from_first from k w.0 a) (inl l)))),
@@ -201,7 +198,7 @@ names_group p rule g ev place given h = (both_true _ _ h).0
 pub place_is : (p : Parts) (s : List Slot) (rule : Rule) (point : Point) (m k : ℕ) (b : Bool) → is_live (slot_at s m) ≡ true → k < length (slot_at s m).given
     → b ≡ is_task_of p rule point (slot_at s m).event.0 k (given_at (slot_at s m) k) → is_task_in p s rule point (record { meet = record { 0 = m }; place = k }) ≡ b
 place_is p s rule point m k b live l e =
-    ap (λ a. a && is_task_of p rule point (slot_at s m).event.0 k (given_at (slot_at s m) k)) (both_are _ _ live (lt-ltb _ _ l)) ∙ sym e
+    ap (λ a. a && is_task_of p rule point (slot_at s m).event.0 k (given_at (slot_at s m) k)) (and_from _ _ live (lt-ltb _ _ l)) ∙ sym e
 
 pub place_past : (p : Parts) (s : List Slot) (rule : Rule) (point : Point) (m k : ℕ) → length (slot_at s m).given ≤ k → is_task_in p s rule point (record { meet = record { 0 = m }; place = k }) ≡ false
 place_past p s rule point m k l = false_unless _ (λ h. let w = (place_there (slot_at s m) k (both_true _ _ h).0).1 in omega (arith, w, l))
@@ -273,7 +270,7 @@ pub places_are : (p : Parts) (s : List Slot) (m : ℕ) (e : EventId) (event : Ev
 places_are p s m e event told live same at = owned p s m event told live (ap (λ (x : EventId). slice_get p.events x.0) same ∙ at)
 
 pub place_has : (x : Slot) (k : ℕ) → is_live x ≡ true → k < length x.given → has_place x k ≡ true
-place_has x k live l = both_are _ _ live (lt-ltb _ _ l)
+place_has x k live l = and_from _ _ live (lt-ltb _ _ l)
 
 pub places_few : (p : Parts) (s : List Slot) (m : ℕ) (e : EventId) (event : EventInfo) → AreWellMade p → AreTold p s → is_live (slot_at s m) ≡ true → (slot_at s m).event ≡ e → slice_get p.events e.0 ≡ Some event
     → length event.places < 2 ^ 32
