@@ -1,7 +1,7 @@
 use Rattle.std.proofs.Common.{◌*◌, ◌<◌, arith}
 use Rattle.std.proofs.lemmas.Nat.{div_below}
-use Rattle.matching_tests.proofs.TestLemmas.{same_sizes_trans}
-use Rattle.matching_tests.proofs.tests.put_all.Goals as goal
+use Rattle.structure_tests.proofs.MatchingLemmas.{same_sizes_trans}
+use Rattle.structure_tests.proofs.matchings.put_all.Goals as goal
 
 pub put-requires-clause-time : goal.put-requires-clause-time
 put-requires-clause-time c =

@@ -4,7 +4,7 @@ use Rattle.std.proofs.lemmas.Bool.{and_parts, eqb-true}
 use Rattle.demand_matching.specs.declared.domains.Domain.{Domain}
 use Rattle.demand_matching.specs.declared.domains.Pick.TheVariants.{One}
 use Rattle.demand_matching.specs.Domains.{Domains, IsInRange, with_domain}
-use Rattle.matching_tests.specs.TestFacts.{SameSizes}
+use Rattle.structure_tests.specs.Matchings.{SameSizes}
 
 pub single_in_range : (w : Domains) (time resource : ℕ) → time < w.last → resource < w.width → IsInRange w (record { times = One time; shift = 0; resources = One resource })
 single_in_range w time resource l m = record {

@@ -1,4 +1,4 @@
-ghost use Rattle.timetable_tests.specs.Sheets.{IsSheet};
+ghost use Rattle.structure_tests.specs.Sheets.{IsSheet};
 
 use khe_base::limits::GREATEST_COUNT;
 use khe_base::{IdSet, NoMemory, ResourceId, TimeId, lends_to_threads};

@@ -1,5 +1,5 @@
-use Rattle.matching_tests.specs.TestFacts.{SameSizes}
-use Rattle.matching_tests.proofs.tests.drop_all.Given as goal
+use Rattle.structure_tests.specs.Matchings.{SameSizes}
+use Rattle.structure_tests.proofs.matchings.put_all.Given as goal
 
 abbrev pub invariant-loop-demand : goal.invariant-loop-demand
 invariant-loop-demand l = SameSizes l.fn.matching l.matching

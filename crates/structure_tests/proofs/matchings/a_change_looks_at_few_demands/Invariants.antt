@@ -1,5 +1,5 @@
 use Rattle.std.proofs.Common.{◌≡◌, length}
-use Rattle.matching_tests.proofs.tests.a_change_looks_at_few_demands.Given as goal
+use Rattle.structure_tests.proofs.matchings.a_change_looks_at_few_demands.Given as goal
 
 abbrev pub invariant-rounds : goal.invariant-rounds
 invariant-rounds g l = record {

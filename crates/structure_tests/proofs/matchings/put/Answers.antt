@@ -1,5 +1,5 @@
-use Rattle.matching_tests.proofs.TestLemmas.{single_in_range, same_sizes_with, of_some}
-use Rattle.matching_tests.proofs.tests.put.Goals as goal
+use Rattle.structure_tests.proofs.MatchingLemmas.{single_in_range, same_sizes_with, of_some}
+use Rattle.structure_tests.proofs.matchings.put.Goals as goal
 
 pub set_domain-requires-clause-domain : goal.set_domain-requires-clause-domain
 set_domain-requires-clause-domain c = of_some _ _ (single_in_range c.args.matching.now c.args.time c.args.resource c.requires.time c.requires.resource)
