@@ -11,7 +11,9 @@ for crate in khe_base timetables; do
   mkdir "$work/crates/$crate"
   cp -r "$top/crates/$crate/src" "$top/crates/$crate/specs" "$top/crates/$crate/proofs" "$work/crates/$crate/"
 done
-cp -r "$top/crates/timetable_tests/specs" "$work/crates/bench/specs"
+mkdir "$work/crates/bench/specs"
+cp "$top/crates/structure_tests/specs/Sheets.antt" "$work/crates/bench/specs/"
+echo "pub mod Sheets" > "$work/crates/bench/specs/Lib.antt"
 cp "$top/HANDLES" "$work/"
 printf 'khe_base: indexmap itoa thiserror\ntimetables: khe_base\nbench: khe_base timetables\n' > "$work/crates.txt"
 cat > "$work/crates/bench/src/main.rt" <<'END'
