@@ -1,5 +1,5 @@
 -- What the tests keep of a matching.
-use Rattle.std.specs.Prelude.{◌≡◌, length}
+use Rattle.std.specs.Prelude.{ℕ, ◌≡◌, length}
 use Rattle.demand_matching.specs.Domains.{Domains}
 
 -- as many demands, times and resources
@@ -7,3 +7,9 @@ pub record SameSizes (old new : Domains) : Type 0 where
   pub demands : length new.demands ≡ length old.demands
   pub last : new.last ≡ old.last
   pub width : new.width ≡ old.width
+
+-- so many demands, times and resources
+pub record IsSized (w : Domains) (demands last width : ℕ) : Type 0 where
+  pub demands_are : length w.demands ≡ demands
+  pub last_is : w.last ≡ last
+  pub width_is : w.width ≡ width

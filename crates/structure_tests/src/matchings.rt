@@ -1,5 +1,5 @@
 ghost use Rattle.std.specs.Prelude.{◌≡◌, ◌*◌, ◌<◌, ◌≤◌, length, IfOk};
-ghost use Rattle.structure_tests.specs.Matchings.{SameSizes};
+ghost use Rattle.structure_tests.specs.Matchings.{IsSized, SameSizes};
 
 use demand_matching::{Domain, Matching, Pick};
 use khe_base::{NoMemory, Seq};
@@ -7,9 +7,7 @@ use std::alloc::Global;
 use std::test::Fail;
 
 fn empty(alloc: Global, demands: u32, last: u32, width: u32) -> Result<Matching, NoMemory>
-    ensures demands { IfOk result (λ m. length m.demands ≡ demands) }
-    ensures last { IfOk result (λ m. m.last ≡ last) }
-    ensures width { IfOk result (λ m. m.width ≡ width) }
+    ensures { IfOk result (λ m. IsSized m demands last width) }
 {
     Matching::new(
         alloc,
@@ -58,36 +56,63 @@ fn drop_all(matching: &mut Matching, demands: u32)
     }
 }
 
+// Whether this is the deficit, and this the Hall set.
+fn shows(matching: &Matching, deficit: u32, hall: &[u32]) -> bool {
+    match matching.hall_set() {
+        Ok(set) => matching.deficit() == deficit && set.as_slice() == hall,
+        Err(_) => false,
+    }
+}
+
+// Three demands of one supply, which is lost and offered again.
+fn loses_and_offers(matching: &mut Matching) -> bool
+    requires { IsSized matching.old 3 1 1 }
+{
+    put(matching, 0, 0, 0);
+    put(matching, 1, 0, 0);
+    put(matching, 2, 0, 0);
+    let all = shows(matching, 2, &[0, 1, 2]);
+    matching.set_domain(1, None);
+    let two = shows(matching, 1, &[0, 2]);
+    matching.set_domain(0, None);
+    all && two && shows(matching, 0, &[])
+}
+
 #[test]
 fn a_lost_supply_is_offered_again(rt: HostRuntime) -> Result<(), Fail> {
     let mut matching = empty(rt.alloc(), 3, 1, 1)?;
-    put(&mut matching, 0, 0, 0);
-    put(&mut matching, 1, 0, 0);
-    put(&mut matching, 2, 0, 0);
-    assert_eq!(rt; matching.deficit(), 2);
-    assert_eq!(rt; matching.hall_set()?.as_slice(), [0, 1, 2].as_slice());
-    matching.set_domain(1, None);
-    assert_eq!(rt; matching.deficit(), 1);
-    assert_eq!(rt; matching.hall_set()?.as_slice(), [0, 2].as_slice());
-    matching.set_domain(0, None);
-    assert_eq!(rt; matching.deficit(), 0);
-    assert!(rt; matching.hall_set()?.is_empty());
+    assert!(rt; loses_and_offers(&mut matching));
     Ok(())
+}
+
+// Each of 200,000 demands gets a supply of its own, one loses it to another, and all go.
+fn round(matching: &mut Matching) -> bool
+    requires { IsSized matching.old 200_000 2_000 100 }
+    ensures { SameSizes matching.old matching.new }
+{
+    put_all(matching, 200_000, 100);
+    let none = shows(matching, 0, &[]);
+    put(matching, 1, 0, 0);
+    let one = shows(matching, 1, &[0, 1]);
+    drop_all(matching, 200_000);
+    none && one && shows(matching, 0, &[])
+}
+
+// Five such rounds.
+fn rounds(matching: &mut Matching) -> bool
+    requires { IsSized matching.old 200_000 2_000 100 }
+{
+    let mut right = true;
+    'again: for _ in 0..5u8 {
+        right = round(matching) && right;
+    }
+    right
 }
 
 // A change that looked at all present demands would take hours here.
 #[test]
 fn a_change_looks_at_few_demands(rt: HostRuntime) -> Result<(), Fail> {
     let mut matching = empty(rt.alloc(), 200_000, 2_000, 100)?;
-    'rounds: for _ in 0..5u8 {
-        put_all(&mut matching, 200_000, 100);
-        assert_eq!(rt; matching.deficit(), 0);
-        put(&mut matching, 1, 0, 0);
-        assert_eq!(rt; matching.deficit(), 1);
-        assert_eq!(rt; matching.hall_set()?.as_slice(), [0, 1].as_slice());
-        drop_all(&mut matching, 200_000);
-        assert_eq!(rt; matching.deficit(), 0);
-        assert!(rt; matching.hall_set()?.is_empty());
-    }
+    assert!(rt; rounds(&mut matching));
     Ok(())
 }

