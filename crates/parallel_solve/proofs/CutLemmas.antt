@@ -2,9 +2,7 @@
 use Rattle.std.proofs.Common.{◌≡◌, ℕ, zero, suc, ◌+◌, ◌<◌, ◌≤◌, List, [], ◌∷◌, ◌++◌, Some, Result, Ok, IfOk, map, take, drop, length, get_or, slice_get, option_map, length-drop, length-take-le, refl, sym, ap, ◌∙◌, subst, arith, append_assoc}
 use Rattle.std.specs.List.{enumerate_from}
 use Rattle.khe_base.proofs.ListLemmas.{drop-there}
-use Rattle.parallel_solve.specs.Verdicts.{numbered_verdict}
 use Rattle.parallel_solve.specs.Ready.{AreOnes, IsOne}
-use Rattle.parallel_solve.specs.declared.verdicts.Verdict.{Verdict}
 use Rattle.xhstt_resolve.specs.declared.resolving.Resolved.{Resolved}
 use Rattle.xhstt_shape.specs.declared.records.RawSolution.{RawSolution}
 
@@ -26,12 +24,15 @@ module _ {A : Type 0} (f : A → RawSolution) where
   mapped_length [] = refl
   mapped_length (x ∷ xs) = ap suc (mapped_length xs)
 
-module _ (f : ℕ × RawSolution → Verdict) where
-  -- the rows of both parts
-  rows_both : (n : ℕ) (xs ys : List RawSolution) → map f (enumerate_from n (xs ++ ys)) ≡ map f (enumerate_from n xs) ++ map f (enumerate_from (n + length xs) ys)
-  rows_both n [] ys = ap (λ k. map f (enumerate_from k ys)) (let z : n ≡ n + zero = omega arith in z)
-  rows_both n (x ∷ xs) ys = ap (λ l. f (n, x) ∷ l) (rows_both (n + 1) xs ys ∙ ap (λ k. map f (enumerate_from (n + 1) xs) ++ map f (enumerate_from k ys)) (let z : (n + 1) + length xs ≡ n + suc (length xs) = omega arith in z))
+-- the rows of both parts, with their numbers
+rows_both : (n : ℕ) (xs ys : List RawSolution) → enumerate_from n (xs ++ ys) ≡ enumerate_from n xs ++ enumerate_from (n + length xs) ys
+rows_both n [] ys = ap (λ k. enumerate_from k ys) (let z : n ≡ n + zero = omega arith in z)
+rows_both n (x ∷ xs) ys =
+    ap (λ l. (n, x) ∷ l)
+    (rows_both (n + 1) xs ys
+    ∙ ap (λ k. enumerate_from (n + 1) xs ++ enumerate_from k ys) (let z : (n + 1) + length xs ≡ n + suc (length xs) = omega arith in z))
 
+module _ {M : Type 0} (f : ℕ × RawSolution → M) where
   -- what is left begins with the row at hand
   pub rows_there : (n k : ℕ) (xs : List RawSolution) (x : RawSolution) → slice_get xs k ≡ Some x
       → map f (enumerate_from (n + k) (drop k xs)) ≡ f (n + k, x) ∷ map f (enumerate_from (n + (k + 1)) (drop (k + 1) xs))
@@ -40,7 +41,7 @@ module _ (f : ℕ × RawSolution → Verdict) where
       ∙ ap (λ m. f (n + k, x) ∷ map f (enumerate_from m (drop (k + 1) xs))) (let z : (n + k) + 1 ≡ n + (k + 1) = omega arith in z)
 
   -- one more row is made
-  pub rows_made : (done whole : List Verdict) (n k : ℕ) (xs : List RawSolution) (x : RawSolution) (v : Verdict) (now : List Verdict) → slice_get xs k ≡ Some x → v ≡ f (n + k, x) → now ≡ done ++ v ∷ []
+  pub rows_made : (done whole : List M) (n k : ℕ) (xs : List RawSolution) (x : RawSolution) (v : M) (now : List M) → slice_get xs k ≡ Some x → v ≡ f (n + k, x) → now ≡ done ++ v ∷ []
       → done ++ map f (enumerate_from (n + k) (drop k xs)) ≡ whole → now ++ map f (enumerate_from (n + (k + 1)) (drop (k + 1) xs)) ≡ whole
   rows_made done whole n k xs x v now at is pushed h =
       ap (λ l. l ++ map f (enumerate_from (n + (k + 1)) (drop (k + 1) xs))) (pushed ∙ ap (λ u. done ++ u ∷ []) is)
@@ -57,7 +58,7 @@ ones_right r n xs ys all k raw at = subst (λ m. IsOne r m raw) (let e : n + (le
 pub record IsCut {A : Type 0} (f : A → RawSolution) (r : Resolved) (n share : ℕ) (all front back : List A) : Type 0 where
   pub ones_front : AreOnes r n (map f front)
   pub ones_back : AreOnes r (n + share) (map f back)
-  pub whole : map (numbered_verdict r) (enumerate_from n (map f all)) ≡ map (numbered_verdict r) (enumerate_from n (map f front)) ++ map (numbered_verdict r) (enumerate_from (n + share) (map f back))
+  pub whole : enumerate_from n (map f all) ≡ enumerate_from n (map f front) ++ enumerate_from (n + share) (map f back)
 
 pub is_cut : {A : Type 0} (f : A → RawSolution) (r : Resolved) (n share : ℕ) (all front back : List A) → AreOnes r n (map f all) → front ++ back ≡ all → length front ≡ share → IsCut f r n share all front back
 is_cut f r n share all front back ones is long =
@@ -67,8 +68,8 @@ is_cut f r n share all front back ones is long =
     record {
       ones_front = ones_left r n (map f front) (map f back) ones';
       ones_back = subst (λ k. AreOnes r (n + k) (map f back)) size (ones_right r n (map f front) (map f back) ones');
-      whole = ap (λ xs. map (numbered_verdict r) (enumerate_from n xs)) both ∙ rows_both (numbered_verdict r) n (map f front) (map f back)
-          ∙ ap (λ k. map (numbered_verdict r) (enumerate_from n (map f front)) ++ map (numbered_verdict r) (enumerate_from (n + k) (map f back))) size;
+      whole = ap (enumerate_from n) both ∙ rows_both n (map f front) (map f back)
+          ∙ ap (λ k. enumerate_from n (map f front) ++ enumerate_from (n + k) (map f back)) size;
     }
 
 pub ok_is : {A E : Type 0} (r : Result A E) (a : A) (P : A → Type 0) → IfOk r P → r ≡ Ok a → P a
@@ -91,7 +92,7 @@ get_dropped xs zero k x e = ap (slice_get xs) (let z : k ≡ zero + k = omega ar
 get_dropped [] (suc n) k x e = absurd (cc)
 get_dropped (y ∷ xs) (suc n) k x e = get_dropped xs n k x (ap (slice_get (y ∷ xs)) (let z : suc (n + k) ≡ suc n + k = omega arith in z) ∙ e)
 
-get_row : (f : ℕ × RawSolution → Verdict) (n k : ℕ) (xs : List RawSolution) (x : RawSolution) → slice_get xs k ≡ Some x → slice_get (map f (enumerate_from n xs)) k ≡ Some (f (n + k, x))
+get_row : {M : Type 0} (f : ℕ × RawSolution → M) (n k : ℕ) (xs : List RawSolution) (x : RawSolution) → slice_get xs k ≡ Some x → slice_get (map f (enumerate_from n xs)) k ≡ Some (f (n + k, x))
 get_row f n k [] x e = absurd (cc)
 get_row f n zero (y ∷ xs) x e = ap (λ o. option_map (λ z. f (n, z)) o) e ∙ ap (λ m. Some (f (m, x))) (let z : n ≡ n + zero = omega arith in z)
 get_row f n (suc k) (y ∷ xs) x e = get_row f (n + 1) k xs x e ∙ ap (λ m. Some (f (m, x))) (let z : (n + 1) + k ≡ n + suc k = omega arith in z)
@@ -107,13 +108,13 @@ map_dropped f (suc n) [] = refl
 map_dropped f (suc n) (x ∷ xs) = map_dropped f n xs
 
 -- a row of a window
-pub window_at : {A : Type 0} (f : ℕ × RawSolution → Verdict) (now : A → RawSolution) (xs : List A) (n size k : ℕ) (x : RawSolution) → k < size → slice_get (map now xs) (n + k) ≡ Some x
+pub window_at : {A M : Type 0} (f : ℕ × RawSolution → M) (now : A → RawSolution) (xs : List A) (n size k : ℕ) (x : RawSolution) → k < size → slice_get (map now xs) (n + k) ≡ Some x
     → slice_get (map f (enumerate_from n (map now (take size (drop n xs))))) k ≡ Some (f (n + k, x))
 window_at f now xs n size k x lt e =
     let is : map now (take size (drop n xs)) ≡ take size (drop n (map now xs)) = map_taken now size (drop n xs) ∙ ap (take size) (map_dropped now n xs) in
     subst (λ ys. slice_get (map f (enumerate_from n ys)) k ≡ Some (f (n + k, x))) (sym is) (get_row f n k (take size (drop n (map now xs))) x (get_taken (drop n (map now xs)) size k x lt (get_dropped (map now xs) n k x e)))
 
-pub rows_length : {A : Type 0} (f : ℕ × RawSolution → Verdict) (now : A → RawSolution) (xs : List A) (n size : ℕ) → n + size ≤ length xs → length (map f (enumerate_from n (map now (take size (drop n xs))))) ≡ size
+pub rows_length : {A M : Type 0} (f : ℕ × RawSolution → M) (now : A → RawSolution) (xs : List A) (n size : ℕ) → n + size ≤ length xs → length (map f (enumerate_from n (map now (take size (drop n xs))))) ≡ size
 rows_length f now xs n size le = count n (map now (take size (drop n xs))) ∙ mapped_length now (take size (drop n xs)) ∙ length-take-le size (drop n xs) (omega (arith, length-drop n xs, le))
   where
     count : (m : ℕ) (ys : List RawSolution) → length (map f (enumerate_from m ys)) ≡ length ys
