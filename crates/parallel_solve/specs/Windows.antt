@@ -8,7 +8,8 @@ use Rattle.xhstt_shape.specs.declared.records.RawSolution.{RawSolution}
 pub record IsAhead {M : Type 0} (f : ℕ × RawSolution → M) (raws : List RawSolution) (h : Ahead M) : Type 0 where
   pub some : 1 ≤ h.size
   pub small : h.first + length h.made.items < 2 ^ 32
-  pub told : (k : ℕ) (raw : RawSolution) → k < length h.made.items → slice_get raws (h.first + k) ≡ Some raw → slice_get h.made.items k ≡ Some (f (h.first + k, raw))
+  pub told : (k : ℕ) (raw : RawSolution) → k < length h.made.items → slice_get raws (h.first + k) ≡ Some raw
+      → slice_get h.made.items k ≡ Some (f (h.first + k, raw))
 
 -- the solution with this number is in the window
 abbrev pub Reaches : {M : Type 0} → Ahead M → ℕ → Type 0

@@ -20,7 +20,7 @@ use xhstt_shape::RawSolution;
 const MOST_MONITORS: usize = 1 << 16;
 
 /// How many solutions one worker evaluates at a time, at most.
-const MOST_SOLUTIONS: usize = 64;
+const MOST_SOLUTIONS: usize = 1_024;
 
 /// What a job makes of solutions that follow one another: a window over the solutions of an archive
 /// that goes ahead of who reads it, so that workers share the work and the memory is that of a
@@ -38,7 +38,7 @@ pub struct Ahead<M> {
 /// How many solutions each of the workers takes from a window, so that a window has not much more
 /// than `MOST_MONITORS` monitors for each worker.
 fn share_of_window(resolved: &Resolved) -> usize
-    ensures { (1 ≤ result) × (result ≤ 64) }
+    ensures { (1 ≤ result) × (result ≤ 1_024) }
 {
     let mut most = 1;
     for instance in resolved.instances.as_slice() {

@@ -13,7 +13,9 @@ returns g t c =
     let first = c.args.first in
     let front = enumerate_from first (map now c.cut.result.0.now) in
     let back = enumerate_from (first + c.share_of-share.result) (map now c.cut.result.1.now) in
-    let mine = ok_is c.join-mine.result.0 c.in_ok-all.all (λ v. v.items ≡ map f front) c.join-mine.ensures.first c.in_ok-all.was in
-    let theirs = ok_is c.join-mine.result.1 c.in_ok-rest.rest (λ v. v.items ≡ map f back) c.join-mine.ensures.second c.in_ok-rest.was in
+    let mine = ok_is c.join-mine.result.0 c.in_ok-all.all (λ v. v.items ≡ map f front) c.join-mine.ensures.first
+    c.in_ok-all.was in
+    let theirs = ok_is c.join-mine.result.1 c.in_ok-rest.rest (λ v. v.items ≡ map f back) c.join-mine.ensures.second
+    c.in_ok-rest.was in
     c.in_ok-append.ensures.items ∙ ap (λ xs. xs ++ c.in_ok-rest.rest.items) mine ∙ ap (λ ys. map f front ++ ys) theirs
     ∙ sym (ap (map f) c.cut.ensures.whole ∙ map-append f front back)

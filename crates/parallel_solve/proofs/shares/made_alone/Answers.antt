@@ -13,5 +13,7 @@ loop-k-preserved g c =
     let n = c.args.first in
     let k = c.loop-k.k in
     let x = c.index-raws-k.result in
-    rows_made f c.loop-k.done.items (map f (enumerate_from n xs)) n k xs x.now c.in_ok-make.field-0 c.push.new.self.items
-    (there_of now c.args.raws.now k x c.loop-k-test.true c.index-raws-k.is) c.in_ok-make.ensures c.in_ok-push.ensures.items c.loop-k.invariant
+    rows_made f c.loop-k.done.items (map f (enumerate_from n xs)) n k xs x.now c.in_ok-make.field-0
+    c.push.new.self.items
+    (there_of now c.args.raws.now k x c.loop-k-test.true c.index-raws-k.is) c.in_ok-make.ensures
+    c.in_ok-push.ensures.items c.loop-k.invariant

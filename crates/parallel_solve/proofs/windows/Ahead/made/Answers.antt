@@ -10,4 +10,5 @@ returns g c = λ f raws raw is at.
     let k = n - h.first in
     let there : h.first + k ≡ n = omega (arith, c.requires.0) in
     let told = is.told k raw (omega (arith, c.requires.0, c.requires.1)) (ap (slice_get raws) there ∙ at) in
-    c.index.ensures ∙ get_or_from_slice_get h.made.items k (f (h.first + k, raw)) c.index.result.now told ∙ ap (λ m. f (m, raw)) there
+    c.index.ensures ∙ get_or_from_slice_get h.made.items k (f (h.first + k, raw)) c.index.result.now told
+    ∙ ap (λ m. f (m, raw)) there
