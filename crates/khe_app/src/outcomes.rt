@@ -107,6 +107,7 @@ pub(crate) fn instance_at(resolved: &Resolved, number: u32) -> &Instance
 
 /// The job of writing what comes of each solution: its evaluation, with the lines of all monitors or of
 /// those that have a deviation, or why it is invalid.
+#[derive(Clone, Copy)]
 pub(crate) struct Outcomes {
     pub all: bool,
 }
