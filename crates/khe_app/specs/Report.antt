@@ -31,6 +31,10 @@ abbrev pub outcome_text : Bool → Parts → Result Plain Cause → List ℕ
 outcome_text all p (Ok s) = evaluation all p s
 outcome_text all p (Err cause) = invalid_line cause.cause cause.entry
 
+-- what comes of the solution with this number
+abbrev pub outcome_at : Bool → Resolved → ℕ × RawSolution → List ℕ
+outcome_at all r (number, raw) = option_map_or (λ p. outcome_text all p (completed p raw)) (parts_at r number) []
+
 -- a solution with its number and the Id of its group, of an instance with these parts
 abbrev pub solution_text : Bool → ℕ → List ℕ → RawSolution → Parts → List ℕ
 solution_text all number group raw p = solution_line number group p.id ++ outcome_text all p (completed p raw)

@@ -3,6 +3,7 @@
 #![tactic(auto)]
 
 mod families;
+mod outcomes;
 mod program;
 mod reading;
 mod refusals;

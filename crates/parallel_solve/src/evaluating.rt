@@ -5,8 +5,8 @@ ghost use Rattle.xhstt_resolve.specs.Resolved as resolving;
 ghost use Rattle.xhstt_shape.specs.WellFormed.{IsInForm};
 ghost use Rattle.parallel_solve.specs.Verdicts.{numbered_verdict};
 
-use crate::shares::verdicts_by;
-use crate::verdicts::{Verdict, rooms_of};
+use crate::shares::made_by;
+use crate::verdicts::{Judging, Verdict, rooms_of};
 use khe_base::{NoMemory, Seq};
 use khe_io::Gate;
 use std::alloc::Global;
@@ -53,6 +53,6 @@ pub fn evaluate_all<R: Threads + Sync, G: Gate>(
     let rooms = rooms_of(alloc, resolved)?;
     let rooms = rooms.as_slice();
     let raws = raws.as_slice();
-    let all = verdicts_by(rt, alloc, resolved, rooms, 0, raws, workers, gate)?;
+    let all = made_by(rt, alloc, &Judging, resolved, rooms, 0, raws, workers, gate)?;
     Ok(Seq { items: all })
 }

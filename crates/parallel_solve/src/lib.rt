@@ -3,10 +3,12 @@
 #![tactic(auto)]
 
 mod evaluating;
+mod jobs;
 mod shares;
 mod verdicts;
 mod windows;
 
 pub use evaluating::{all_solutions, evaluate_all};
-pub use verdicts::{Verdict, rooms_of};
+pub use jobs::SolutionJob;
+pub use verdicts::{Judging, Verdict, numbered, rooms_of};
 pub use windows::Ahead;

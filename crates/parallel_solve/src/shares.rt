@@ -2,10 +2,9 @@ ghost use Rattle.std.specs.Prelude.{◌≡◌, ◌+◌, ◌<◌, ◌≤◌, ◌-
 ghost use Rattle.std.specs.List.{enumerate_from};
 ghost use Rattle.std.specs.Thread.{IsSync};
 ghost use Rattle.resource_deviations.specs.Sets.{room_for};
-ghost use Rattle.parallel_solve.specs.Verdicts.{numbered_verdict};
 ghost use Rattle.parallel_solve.specs.Ready.{AreOnes};
 
-use crate::verdicts::{Verdict, numbered};
+use crate::jobs::SolutionJob;
 use khe_base::NoMemory;
 use khe_io::Gate;
 use resource_deviations::ResourceRoom;
@@ -14,26 +13,27 @@ use std::thread::{Threads, join};
 use xhstt_resolve::Resolved;
 use xhstt_shape::RawSolution;
 
-/// What comes of solutions that are numbered on from this number, by this thread alone. The gate is
-/// passed before each of them.
-fn verdicts_alone<G: Gate>(
+/// What a job makes of solutions that are numbered on from this number, by this thread alone. The
+/// gate is passed before each of them.
+fn made_alone<J: SolutionJob, G: Gate>(
     alloc: Global,
+    job: &J,
     resolved: &Resolved,
     rooms: &[ResourceRoom],
     first: u32,
     raws: &[&RawSolution],
     gate: &G,
-) -> Result<Vec<Verdict>, NoMemory>
+) -> Result<Vec<J::Made>, NoMemory>
     requires ones { AreOnes resolved.now first (map (λ x. x.now) raws.now) }
     requires small { first + length raws.now < 2 ^ 32 }
     requires rooms { rooms.now ≡ map room_for resolved.now.instances }
-    ensures { IfOk result (λ v. v.items ≡ map (numbered_verdict resolved.now) (enumerate_from first (map (λ x. x.now) raws.now))) }
+    ensures { IfOk result (λ v. v.items ≡ map (J.made job.now resolved.now) (enumerate_from first (map (λ x. x.now) raws.now))) }
 {
     let mut done = Vec::new(alloc);
     for (k, raw) in raws.iter().enumerate() {
         let number = first + k as u32;
         gate.pass(number as u64);
-        done.push(numbered(alloc, resolved, rooms, number, *raw)?)?;
+        done.push(job.make(alloc, resolved, rooms, number, *raw)?)?;
     }
     Ok(done)
 }
@@ -59,32 +59,32 @@ pub(crate) fn cut<'a, 'b>(
     ensures lengths { (length result.0.now ≡ share) × (length result.1.now ≡ length raws.now - share) }
     ensures front { AreOnes resolved.now first (map (λ x. x.now) result.0.now) }
     ensures back { AreOnes resolved.now (first + share) (map (λ x. x.now) result.1.now) }
-    ensures whole { map (numbered_verdict resolved.now) (enumerate_from first (map (λ x. x.now) raws.now))
-        ≡ map (numbered_verdict resolved.now) (enumerate_from first (map (λ x. x.now) result.0.now)) ++ map (numbered_verdict resolved.now) (enumerate_from (first + share) (map (λ x. x.now) result.1.now)) }
+    ensures whole { enumerate_from first (map (λ x. x.now) raws.now) ≡ enumerate_from first (map (λ x. x.now) result.0.now) ++ enumerate_from (first + share) (map (λ x. x.now) result.1.now) }
 {
     raws.split_at(share)
 }
 
-/// What comes of solutions that are numbered on from this number, by so many workers: this thread
+/// What a job makes of solutions that are numbered on from this number, by so many workers: this thread
 /// takes an even share, and the others share what is left. Where no thread can be had, this one does
 /// all of it.
-pub(crate) fn verdicts_by<R: Threads + Sync, G: Gate>(
+pub(crate) fn made_by<J: SolutionJob, R: Threads + Sync, G: Gate>(
     rt: &R,
     alloc: Global,
+    job: &J,
     resolved: &Resolved,
     rooms: &[ResourceRoom],
     first: u32,
     raws: &[&RawSolution],
     workers: u32,
     gate: &G,
-) -> Result<Vec<Verdict>, NoMemory>
+) -> Result<Vec<J::Made>, NoMemory>
     requires ones { AreOnes resolved.now first (map (λ x. x.now) raws.now) }
     requires small { first + length raws.now < 2 ^ 32 }
     requires rooms { rooms.now ≡ map room_for resolved.now.instances }
-    ensures { IfOk result (λ v. v.items ≡ map (numbered_verdict resolved.now) (enumerate_from first (map (λ x. x.now) raws.now))) }
+    ensures { IfOk result (λ v. v.items ≡ map (J.made job.now resolved.now) (enumerate_from first (map (λ x. x.now) raws.now))) }
 {
     if workers <= 1 || raws.len() <= 1 {
-        return verdicts_alone(alloc, resolved, rooms, first, raws, gate);
+        return made_alone(alloc, job, resolved, rooms, first, raws, gate);
     }
     let share = share_of(raws.len(), workers);
     let (front, back) = cut(resolved, first, raws, share);
@@ -92,14 +92,14 @@ pub(crate) fn verdicts_by<R: Threads + Sync, G: Gate>(
     let fewer = workers - 1;
     let (mine, theirs) = join(
         rt,
-        || -> Result<Vec<Verdict>, NoMemory>
-            requires { IsSync G.row × AreOnes resolved.now first (map (λ x. x.now) front.now) × (first + length front.now < 2 ^ 32) × (rooms.now ≡ map room_for resolved.now.instances) }
-            ensures { IfOk result (λ v. v.items ≡ map (numbered_verdict resolved.entry.now) (enumerate_from first (map (λ x. x.now) front.entry.now))) }
-        { verdicts_alone(alloc, resolved, rooms, first, front, gate) },
-        || -> Result<Vec<Verdict>, NoMemory>
-            requires { IsSync R.row × IsSync G.row × AreOnes resolved.now next (map (λ x. x.now) back.now) × (next + length back.now < 2 ^ 32) × (rooms.now ≡ map room_for resolved.now.instances) }
-            ensures { IfOk result (λ v. v.items ≡ map (numbered_verdict resolved.entry.now) (enumerate_from next (map (λ x. x.now) back.entry.now))) }
-        { verdicts_by(rt, alloc, resolved, rooms, next, back, fewer, gate) },
+        || -> Result<Vec<J::Made>, NoMemory>
+            requires { IsSync J.row × IsSync G.row × AreOnes resolved.now first (map (λ x. x.now) front.now) × (first + length front.now < 2 ^ 32) × (rooms.now ≡ map room_for resolved.now.instances) }
+            ensures { IfOk result (λ v. v.items ≡ map (J.made job.entry.now resolved.entry.now) (enumerate_from first (map (λ x. x.now) front.entry.now))) }
+        { made_alone(alloc, job, resolved, rooms, first, front, gate) },
+        || -> Result<Vec<J::Made>, NoMemory>
+            requires { IsSync R.row × IsSync J.row × IsSync G.row × AreOnes resolved.now next (map (λ x. x.now) back.now) × (next + length back.now < 2 ^ 32) × (rooms.now ≡ map room_for resolved.now.instances) }
+            ensures { IfOk result (λ v. v.items ≡ map (J.made job.entry.now resolved.entry.now) (enumerate_from next (map (λ x. x.now) back.entry.now))) }
+        { made_by(rt, alloc, job, resolved, rooms, next, back, fewer, gate) },
     );
     let mut all = mine?;
     let mut rest = theirs?;

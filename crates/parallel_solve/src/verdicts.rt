@@ -5,6 +5,7 @@ ghost use Rattle.xhstt_completion.specs.Entries.{IsSolution};
 ghost use Rattle.parallel_solve.specs.Verdicts.{verdict_of, numbered_verdict, parts_at};
 ghost use Rattle.parallel_solve.specs.Ready.{IsOne};
 
+use crate::jobs::SolutionJob;
 use khe_base::{NoMemory, lends_to_threads};
 use khe_instance::Instance;
 use plain_eval::{Values, evaluate_in};
@@ -63,8 +64,25 @@ fn instance_of(resolved: &Resolved, number: u32) -> usize
     resolved.of.as_slice()[number as usize] as usize
 }
 
-/// What comes of the solution with this number.
-pub(crate) fn numbered(
+/// The room of the instance of the solution with this number, and the instance.
+fn place_of<'a>(
+    resolved: &'a Resolved,
+    rooms: &'a [ResourceRoom],
+    number: u32,
+) -> (&'a Instance, &'a ResourceRoom)
+    requires one { IsSome (parts_at resolved.now number) }
+    requires rooms { rooms.now ≡ map room_for resolved.now.instances }
+    ensures instance { parts_at resolved.now number ≡ Some result.0.now }
+    ensures room { result.1.now ≡ room_for result.0.now }
+{
+    let instance = instance_of(resolved, number);
+    (&resolved.instances.as_slice()[instance], &rooms[instance])
+}
+
+/// What comes of the solution with this number, with what evaluations need of each instance alone.
+/// The only error is want of memory. It takes the time and memory of completing the solution and
+/// evaluating its state.
+pub fn numbered(
     alloc: Global,
     resolved: &Resolved,
     rooms: &[ResourceRoom],
@@ -75,11 +93,29 @@ pub(crate) fn numbered(
     requires rooms { rooms.now ≡ map room_for resolved.now.instances }
     ensures { IfOk result (λ v. v ≡ numbered_verdict resolved.now (number, raw.now)) }
 {
-    let instance = instance_of(resolved, number);
-    let inst = &resolved.instances.as_slice()[instance];
-    let room = &rooms[instance];
+    let (inst, room) = place_of(resolved, rooms, number);
     let told = judge(alloc, inst, room, raw)?;
     Ok(told)
+}
+
+/// The job of evaluating each solution.
+pub struct Judging;
+
+impl SolutionJob for Judging {
+    type Made = Verdict;
+
+    ghost made = { λ _ r one. numbered_verdict r one };
+
+    fn make(
+        &self,
+        alloc: Global,
+        resolved: &Resolved,
+        rooms: &[ResourceRoom],
+        number: u32,
+        raw: &RawSolution,
+    ) -> Result<Verdict, NoMemory> {
+        numbered(alloc, resolved, rooms, number, raw)
+    }
 }
 
 // Workers share what comes of solutions: the types show it, and no program calls this.

@@ -5,7 +5,7 @@ use crate::archives::{ReadArchive, read_archive, text_of};
 use crate::gates::Meeting;
 use khe_base::NoMemory;
 use khe_io::{Gate, OpenGate};
-use parallel_solve::{Ahead, Verdict, all_solutions, evaluate_all, rooms_of};
+use parallel_solve::{Ahead, Judging, Verdict, all_solutions, evaluate_all, rooms_of};
 use std::alloc::Global;
 use std::test::Fail;
 use std::thread::Threads;
@@ -64,8 +64,17 @@ fn in_turn<R: Threads + Sync, G: Gate>(
     let mut ahead = Ahead::new(alloc, resolved, workers);
     let mut all = Vec::new(alloc);
     for number in 0..raws.len() as u32 {
-        ahead.reach(rt, alloc, resolved, rooms, raws.as_slice(), gate, number)?;
-        all.push(told_of(ahead.verdict(number)))?;
+        ahead.reach(
+            rt,
+            alloc,
+            &Judging,
+            resolved,
+            rooms,
+            raws.as_slice(),
+            gate,
+            number,
+        )?;
+        all.push(told_of(ahead.made(number)))?;
     }
     Ok(all)
 }

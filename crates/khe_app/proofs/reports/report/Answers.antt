@@ -11,7 +11,7 @@ use Rattle.script_run.specs.Amid.{IsAmid}
 use Rattle.parallel_solve.proofs.CutLemmas.{ones_left as ones-left, ones_right as ones-right}
 use Rattle.parallel_solve.specs.Ready.{AreOnes}
 use Rattle.parallel_solve.specs.Windows.{IsAhead}
-use Rattle.khe_app.specs.Report.{groups_text, report}
+use Rattle.khe_app.specs.Report.{groups_text, outcome_at, report}
 use Rattle.script_run.proofs.AmidLemmas.{always-err, amid-cut, amid-end, amid-flush, err-of, one-err, one-ok}
 use Rattle.khe_app.proofs.GroupLemmas.{later_come, standing_at}
 use Rattle.xhstt_completion.specs.Entries.{solutions}
@@ -44,7 +44,7 @@ loop-group-init g c =
       ones = ready.ones;
       to_come = refl;
       size = omega arith;
-      ahead = c.new-ahead.ensures r (map (λ (y : Bor RawSolution). y.now) c.in_ok-raws.raws.items);
+      ahead = c.new-ahead.ensures (outcome_at all r) (map (λ (y : Bor RawSolution). y.now) c.in_ok-raws.raws.items);
       small = omega (arith, ready.few);
       counted = omega arith;
     }
@@ -93,7 +93,7 @@ loop-group-preserved g c =
           (c.in_ok-write_group.ensures.amid (g.K.Sink.taken c.args.out.now) rest (report all c.args.archive.now r) amid);
       to_come = ap (λ m. drop (n + m) (solutions c.args.archive.now)) count ∙ later_come n (solutions c.args.archive.now) x.solutions later (c.loop-group.invariant.to_come ∙ sols);
       size = omega (arith, c.loop-group.invariant.size, ap length sols, length-append x.solutions later, count);
-      ahead = subst (λ (vs : List (Bor RawSolution)). IsAhead r (map (λ (y : Bor RawSolution). y.now) vs) c.write_group.new.ahead) c.as_slice.ensures.value c.write_group.ensures.ahead;
+      ahead = subst (λ (vs : List (Bor RawSolution)). IsAhead (outcome_at all r) (map (λ (y : Bor RawSolution). y.now) vs) c.write_group.new.ahead) c.as_slice.ensures.value c.write_group.ensures.ahead;
       ones = subst (λ m. AreOnes r (n + m) later) (sym count) (ones-right r n x.solutions later (subst (AreOnes r n) sols c.loop-group.invariant.ones));
       small = omega (arith, c.loop-group.invariant.small, ap length sols, length-append x.solutions later, count);
       counted = omega (arith, c.loop-group.invariant.counted, c.write_group.ensures.counted);

@@ -5,7 +5,7 @@ use Rattle.parallel_solve.specs.Ready.{AreOnes}
 use Rattle.parallel_solve.specs.Windows.{IsAhead}
 use Rattle.script_run.specs.Amid.{IsAmid}
 use Rattle.xhstt_completion.specs.Entries.{solutions}
-use Rattle.khe_app.specs.Report.{groups_text, report}
+use Rattle.khe_app.specs.Report.{groups_text, outcome_at, report}
 use Rattle.khe_app.proofs.reports.report.Given as goal
 
 abbrev pub invariant-loop-group : goal.invariant-loop-group
@@ -16,7 +16,7 @@ invariant-loop-group g l =
       ones : AreOnes l.fn.resolved l.number (flat_map (λ x. x.solutions) left);
       to_come : drop l.number (solutions l.fn.archive) ≡ flat_map (λ x. x.solutions) left;
       size : l.number + length (flat_map (λ x. x.solutions) left) ≡ length (solutions l.fn.archive);
-      ahead : IsAhead l.fn.resolved (map (λ x. x.now) l.raws.items) l.ahead;
+      ahead : IsAhead (outcome_at l.fn.all l.fn.resolved) (map (λ x. x.now) l.raws.items) l.ahead;
       small : l.number + length (flat_map (λ x. x.solutions) left) < 2 ^ 32;
       counted : g.K.Sink.faults l.fn.out ≤ g.K.Sink.faults l.out;
     }

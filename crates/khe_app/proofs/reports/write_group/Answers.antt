@@ -4,7 +4,7 @@ use Rattle.std.specs.List.{enumerate_from, flat_map}
 use Rattle.std.proofs.lemmas.Option.{slice_get-get_or}
 use Rattle.xhstt_shape.specs.declared.records.RawSolution.{RawSolution}
 use Rattle.script_run.specs.Amid.{IsAmid}
-use Rattle.khe_app.specs.Report.{numbered_text}
+use Rattle.khe_app.specs.Report.{numbered_text, outcome_at}
 use Rattle.script_run.proofs.AmidLemmas.{always-err, amid-stop, err-of}
 use Rattle.khe_app.proofs.reports.write_group.Goals as goal
 use Rattle.khe_base.proofs.ListLemmas.{lines-there}
@@ -16,13 +16,13 @@ found xs items k x same within is =
 
 pub returns-in_err-reach-clause-front : goal.returns-in_err-reach-clause-front
 returns-in_err-reach-clause-front g c = λ before rest whole h.
-    let f = numbered_text c.args.all c.args.resolved.now c.args.group.now.id.text in
+    let f = numbered_text c.args.job.now.all c.args.resolved.now c.args.group.now.id.text in
     always-err c.from_residual.result
     (amid-stop before (g.K.Sink.taken c.loop-k.out) c.loop-k.text (flat_map f (enumerate_from (c.args.first + c.loop-k.k) (drop c.loop-k.k c.args.group.now.solutions)) ++ rest) whole (c.loop-k.invariant.amid before rest whole h))
 
 pub returns-in_err-write_solution-clause-front : goal.returns-in_err-write_solution-clause-front
 returns-in_err-write_solution-clause-front g c = λ before rest whole h.
-    let f = numbered_text c.args.all c.args.resolved.now c.args.group.now.id.text in
+    let f = numbered_text c.args.job.now.all c.args.resolved.now c.args.group.now.id.text in
     let sols = c.args.group.now.solutions in
     let k = c.loop-k.k in
     let j = c.args.first + k in
@@ -37,7 +37,7 @@ returns-in_err-write_solution-clause-front g c = λ before rest whole h.
 
 pub loop-k-preserved : goal.loop-k-preserved
 loop-k-preserved g c =
-    let f = numbered_text c.args.all c.args.resolved.now c.args.group.now.id.text in
+    let f = numbered_text c.args.job.now.all c.args.resolved.now c.args.group.now.id.text in
     let sols = c.args.group.now.solutions in
     let k = c.loop-k.k in
     let j = c.args.first + k in
@@ -65,9 +65,9 @@ write_solution-requires-clause-one g c =
     let at = found c.args.group.now.solutions c.as_slice-solution-items.result.now k x c.as_slice-solution-items.ensures c.loop-k-test.true c.solution-item.is in
     c.requires.ones k x at
 
-pub write_solution-requires-clause-verdict : goal.write_solution-requires-clause-verdict
-write_solution-requires-clause-verdict g c =
+pub write_solution-requires-clause-outcome : goal.write_solution-requires-clause-outcome
+write_solution-requires-clause-outcome g c =
     let k = c.loop-k.k in
     let x = c.solution-item.result in
     let at = found c.args.group.now.solutions c.as_slice-solution-items.result.now k x c.as_slice-solution-items.ensures c.loop-k-test.true c.solution-item.is in
-    c.verdict-told.ensures c.args.resolved.now (map (λ (y : Bor RawSolution). y.now) c.args.raws.now) x c.reach.ensures.ahead (c.requires.standing k x at)
+    c.made-outcome.ensures (outcome_at c.args.job.now.all c.args.resolved.now) (map (λ (y : Bor RawSolution). y.now) c.args.raws.now) x c.reach.ensures.ahead (c.requires.standing k x at)

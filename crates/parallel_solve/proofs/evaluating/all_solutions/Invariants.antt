@@ -6,8 +6,10 @@ use Rattle.parallel_solve.proofs.evaluating.all_solutions.Given as goal
 
 abbrev pub invariant-loop-group : goal.invariant-loop-group
 invariant-loop-group l =
-    map (λ x. x.now) l.all.items ++ flat_map (λ g. g.solutions) (drop l.group-index l.group-items) ≡ solutions l.fn.archive
+    map (λ x. x.now) l.all.items ++ flat_map (λ g. g.solutions) (drop l.group-index l.group-items)
+    ≡ solutions l.fn.archive
 
 abbrev pub invariant-loop-solution : goal.invariant-loop-solution
 invariant-loop-solution l =
-    map (λ x. x.now) l.all.items ++ (drop l.solution-index l.solution-items ++ flat_map (λ g. g.solutions) (drop (l.group-index + 1) l.group-items)) ≡ solutions l.fn.archive
+    map (λ x. x.now) l.all.items ++ (drop l.solution-index l.solution-items
+    ++ flat_map (λ g. g.solutions) (drop (l.group-index + 1) l.group-items)) ≡ solutions l.fn.archive

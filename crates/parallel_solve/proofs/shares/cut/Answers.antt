@@ -8,7 +8,8 @@ pub returns : goal.returns
 returns c =
     let raws = c.args.raws.now in
     let halves = c.split_at.ensures in
-    let is = is_cut (λ (x : Bor RawSolution). x.now) c.args.resolved.now c.args.first c.args.share raws c.split_at.result.0.now c.split_at.result.1.now c.requires.ones (sym halves.by_index.0) halves.front_len in
+    let is = is_cut (λ (x : Bor RawSolution). x.now) c.args.resolved.now c.args.first c.args.share raws
+    c.split_at.result.0.now c.split_at.result.1.now c.requires.ones (sym halves.by_index.0) halves.front_len in
     record {
       parts = (halves.front, halves.back);
       lengths = (halves.front_len, omega (arith, halves.back_len));

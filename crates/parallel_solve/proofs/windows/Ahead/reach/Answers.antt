@@ -1,13 +1,12 @@
--- The new verdicts are those from the number on.
+-- What is new are the solutions from the number on.
 use Rattle.std.proofs.Common.{◌∙◌, ◌+◌, ◌≤◌, Bor, ap, arith, slice_get, length}
-use Rattle.parallel_solve.specs.Verdicts.{numbered_verdict}
 use Rattle.xhstt_shape.specs.declared.records.RawSolution.{RawSolution}
 use Rattle.parallel_solve.proofs.CutLemmas.{window_at, rows_length}
 use Rattle.parallel_solve.proofs.windows.Ahead.reach.Goals as goal
 
 pub returns-clause-ahead : goal.returns-clause-ahead
 returns-clause-ahead g c =
-    let f = numbered_verdict c.args.resolved.now in
+    let f = g.J.SolutionJob.made c.args.job.now c.args.resolved.now in
     let now = λ (x : Bor RawSolution). x.now in
     let xs = c.args.raws.now in
     let n = c.args.number in
@@ -23,7 +22,7 @@ returns-clause-ahead g c =
 
 pub returns-clause-there : goal.returns-clause-there
 returns-clause-there g c =
-    let f = numbered_verdict c.args.resolved.now in
+    let f = g.J.SolutionJob.made c.args.job.now c.args.resolved.now in
     let now = λ (x : Bor RawSolution). x.now in
     let n = c.args.number in
     let size = c.min-size.result in

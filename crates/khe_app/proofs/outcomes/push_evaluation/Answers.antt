@@ -9,7 +9,7 @@ use Rattle.khe_app.specs.Report.{monitor_text}
 use Rattle.khe_instance.proofs.CostsLaws.{cost-there}
 use Rattle.khe_instance.specs.Evaluated as evaluated
 use Rattle.plain_eval.specs.declared.evaluation.Values.{Values}
-use Rattle.khe_app.proofs.reports.push_evaluation.Goals as goal
+use Rattle.khe_app.proofs.outcomes.push_evaluation.Goals as goal
 
 pub loop-number-preserved : goal.loop-number-preserved
 loop-number-preserved c = λ s is alone.

@@ -3,7 +3,7 @@ use Rattle.std.proofs.Common.{◌∙◌, sym}
 use Rattle.khe_app.proofs.CauseLemmas.{invalid-known}
 use Rattle.khe_app.proofs.OutcomeLemmas.{valid-is, invalid-is, valued-long}
 use Rattle.xhstt_completion.specs.Completed.{completed}
-use Rattle.khe_app.proofs.reports.push_outcome.Goals as goal
+use Rattle.khe_app.proofs.outcomes.push_outcome.Goals as goal
 
 pub push_evaluation-requires : goal.push_evaluation-requires
 push_evaluation-requires c =

@@ -4,7 +4,7 @@ use Rattle.std.specs.List.{enumerate_from, flat_map}
 use Rattle.khe_instance.specs.declared.states.Plain.{Plain}
 use Rattle.parallel_solve.specs.Verdicts.{values_of}
 use Rattle.khe_app.specs.Report.{monitor_text}
-use Rattle.khe_app.proofs.reports.push_evaluation.Given as goal
+use Rattle.khe_app.proofs.outcomes.push_evaluation.Given as goal
 
 abbrev pub invariant-loop-number : goal.invariant-loop-number
 invariant-loop-number l = (s : Plain) → l.fn.values ≡ values_of l.fn.inst s → s.detached ≡ []

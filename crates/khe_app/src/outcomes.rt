@@ -1,0 +1,132 @@
+//! What comes of the solutions of an archive, as the text that a report has of each of them.
+
+ghost use Rattle.std.specs.Prelude.{◌≡◌, ◌<◌, ◌++◌, [], IfOk, OnOk, IsSome, Some, false, length};
+ghost use Rattle.khe_instance.specs.Evaluated.{deviation_in, cost_in, is_detached};
+ghost use Rattle.khe_instance.specs.declared.points.Monitor.{Monitor};
+ghost use Rattle.khe_instance.specs.declared.states.Plain.{Plain};
+ghost use Rattle.khe_app.specs.Report as spec;
+ghost use Rattle.parallel_solve.specs.Verdicts.{parts_at, values_of, verdict_of};
+ghost use Rattle.xhstt_completion.specs.Completed as completion;
+
+use evaluation_report::{invalid_line, monitor_line, total_line};
+use khe_base::{MonitorId, NoMemory, Text};
+use khe_instance::{Instance, Plain};
+use parallel_solve::{SolutionJob, Verdict, numbered};
+use plain_eval::Values;
+use resource_deviations::ResourceRoom;
+use std::alloc::Global;
+use xhstt_resolve::Resolved;
+use xhstt_shape::RawSolution;
+
+/// Adds the line of a monitor by its deviation and its cost, or nothing where it has no deviation and
+/// not all are wanted.
+fn push_monitor(
+    alloc: Global,
+    text: &mut Text,
+    inst: &Instance,
+    number: u32,
+    deviation: u64,
+    cost: u128,
+    all: bool,
+) -> Result<(), NoMemory>
+    requires { number < length inst.now.monitors }
+    ensures { (s : Plain) (m : Monitor) → deviation ≡ deviation_in inst.now s m → cost ≡ cost_in inst.now s (number, m) → is_detached s number ≡ false
+        → OnOk result (text.new ≡ text.old ++ spec.monitor_text all inst.now s (number, m)) }
+{
+    if !all && deviation == 0 {
+        return Ok(());
+    }
+    let line = monitor_line(alloc, inst, MonitorId(number), deviation, cost, true)?;
+    text.push_text(&line)
+}
+
+/// Adds the lines of the monitors by what a timetable costs, of all or of those with a deviation, and
+/// its totals.
+fn push_evaluation(
+    alloc: Global,
+    text: &mut Text,
+    inst: &Instance,
+    values: &Values,
+    all: bool,
+) -> Result<(), NoMemory>
+    requires { (length values.now.deviations ≡ length inst.now.monitors) × (length values.now.costs ≡ length inst.now.monitors) }
+    ensures { (s : Plain) → values.now ≡ values_of inst.now s → s.detached ≡ [] → OnOk result (text.new ≡ text.old ++ spec.evaluation all inst.now s) }
+{
+    let deviations = values.deviations.as_slice();
+    let costs = values.costs.as_slice();
+    for number in 0..inst.monitors() {
+        let deviation = deviations[number as usize];
+        let cost = costs[number as usize];
+        push_monitor(alloc, text, inst, number, deviation, cost, all)?;
+    }
+    text.push_text(&total_line(alloc, values.totals)?)
+}
+
+/// Adds what comes of a solution by its verdict: its evaluation, or why it is invalid.
+fn push_outcome(
+    alloc: Global,
+    text: &mut Text,
+    inst: &Instance,
+    verdict: &Verdict,
+    _solution: &RawSolution,
+    all: bool,
+) -> Result<(), NoMemory>
+    requires { verdict.now ≡ verdict_of inst.now (completion.completed inst.now _solution.now) }
+    ensures { OnOk result (text.new ≡ text.old ++ spec.outcome_text all inst.now (completion.completed inst.now _solution.now)) }
+{
+    match verdict {
+        Verdict::Valid(values) => push_evaluation(alloc, text, inst, values, all),
+        Verdict::Invalid { cause, entry } => text.push_text(&invalid_line(alloc, *cause, *entry)?),
+    }
+}
+
+/// What comes of a solution by its verdict, as a text of its own.
+fn outcome_of(
+    alloc: Global,
+    inst: &Instance,
+    verdict: &Verdict,
+    solution: &RawSolution,
+    all: bool,
+) -> Result<Text, NoMemory>
+    requires { verdict.now ≡ verdict_of inst.now (completion.completed inst.now solution.now) }
+    ensures { IfOk result (λ text. text ≡ spec.outcome_text all inst.now (completion.completed inst.now solution.now)) }
+{
+    let mut text = Text::new(alloc);
+    let pushed = push_outcome(alloc, &mut text, inst, verdict, solution, all);
+    pushed.and(Ok(text))
+}
+
+/// The instance of the solution with this number.
+pub(crate) fn instance_at(resolved: &Resolved, number: u32) -> &Instance
+    requires { IsSome (parts_at resolved.now number) }
+    ensures { parts_at resolved.now number ≡ Some result.now }
+{
+    let instance = resolved.of.as_slice()[number as usize];
+    &resolved.instances.as_slice()[instance as usize]
+}
+
+/// The job of writing what comes of each solution: its evaluation, with the lines of all monitors or of
+/// those that have a deviation, or why it is invalid.
+#[derive(Clone, Copy)]
+pub(crate) struct Outcomes {
+    pub all: bool,
+}
+
+impl SolutionJob for Outcomes {
+    type Made = Text;
+
+    ghost made = { λ job r one. spec.outcome_at job.all r one };
+
+    fn make(
+        &self,
+        alloc: Global,
+        resolved: &Resolved,
+        rooms: &[ResourceRoom],
+        number: u32,
+        raw: &RawSolution,
+    ) -> Result<Text, NoMemory> {
+        let verdict = numbered(alloc, resolved, rooms, number, raw)?;
+        let inst = instance_at(resolved, number);
+        outcome_of(alloc, inst, &verdict, raw, self.all)
+    }
+}
