@@ -1,4 +1,4 @@
-ghost use Rattle.std.specs.Prelude.{◌≡◌, ◌≤◌};
+ghost use Rattle.std.specs.Prelude.{◌≡◌, ◌≤◌, bytes_eq};
 ghost use Rattle.edit_script.specs.Keywords as spec;
 
 use crate::Command;
@@ -78,11 +78,27 @@ fn keyword_among(keywords: &[Keyword], word: &[u8]) -> Option<Keyword>
     ensures { result ≡ spec.keyword_among keywords.now word.now }
 {
     for keyword in keywords {
-        if keyword.name() == word {
+        if is_name(keyword.name(), word) {
             return Some(*keyword);
         }
     }
     None
+}
+
+/// Whether a word is this name. Both are short, so their bytes are compared one after the other, and that
+/// only where they are equally long.
+fn is_name(name: &[u8], word: &[u8]) -> bool
+    ensures { result ≡ bytes_eq name.now word.now }
+{
+    if name.len() != word.len() {
+        return false;
+    }
+    for place in 0..name.len() {
+        if name[place] != word[place] {
+            return false;
+        }
+    }
+    true
 }
 
 impl Keyword {

@@ -1,8 +1,8 @@
 ghost use Rattle.std.specs.Prelude.{◌≡◌, ◌<◌, ◌≤◌, ◌+◌, [], true, length, slice_index, slice_set, replicate, All, IfOk, IsOk, OnOk, OnErr};
-ghost use Rattle.khe_base.specs.declared.limits.TheConstants.{MONITORS};
+ghost use Rattle.khe_base.specs.declared.limits.TheConstants.{GREATEST_DEVIATION, MONITORS};
 ghost use Rattle.khe_instance.specs.Costs.{totals_of};
 ghost use Rattle.khe_instance.specs.declared.parts.Parts.{Parts};
-ghost use Rattle.monitor_graph.specs.Boards.{grouping_of, deviations_of};
+ghost use Rattle.monitor_graph.specs.Boards.{grouping_of, deviations_of, HaveSameRest};
 ghost use Rattle.monitor_graph.specs.Edits.{is_attached};
 ghost use Rattle.monitor_graph.specs.Groups.{AreGroups, has_group, child_at, seated};
 ghost use Rattle.monitor_graph.specs.Lines.{IsLine};
@@ -209,7 +209,25 @@ impl Graph {
         self.groups.reserve(n as usize)
     }
 
-    /// Puts a line in the place of a monitor's, in constant time.
+    /// Changes the deviation of a monitor, and what it costs, in constant time. It stands by itself, so
+    /// that the families, which ask it seldom, hold no copy of it.
+    #[inline(never)]
+    pub(crate) fn deviate(&mut self, monitor: MonitorId, deviation: u64)
+        requires known { monitor.0 < length self.old.lines }
+        requires small { deviation ≤ GREATEST_DEVIATION }
+        ensures set { deviations_of self.new ≡ slice_set (deviations_of self.old) monitor.0 deviation }
+        ensures rest { HaveSameRest self.old self.new }
+    {
+        let line = Line {
+            deviation,
+            ..self.lines[monitor.0 as usize]
+        };
+        self.turn(monitor, line);
+    }
+
+    /// Puts a line in the place of a monitor's, in constant time. Its callers change one field of the
+    /// line that stands there, and so need no line of their own where it is part of them.
+    #[inline(always)]
     pub(crate) fn turn(&mut self, monitor: MonitorId, line: Line)
         requires known { monitor.0 < length self.old.lines }
         requires line { IsLine line }

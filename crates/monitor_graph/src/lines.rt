@@ -1,4 +1,4 @@
-ghost use Rattle.std.specs.Prelude.{◌≡◌, ◌<◌, ◌≤◌, ℕ, length, slice_get, slice_index_or, slice_set, All};
+ghost use Rattle.std.specs.Prelude.{◌≡◌, ◌<◌, ◌≤◌, ◌+◌, ◌-◌, ◌^◌, ℕ, length, slice_get, slice_index_or, slice_set, All};
 ghost use Rattle.std.specs.List.{sum_by};
 ghost use Rattle.std.specs.Option.{option_map_or};
 ghost use Rattle.khe_base.specs.declared.limits.TheConstants.{GREATEST_COST, MONITORS};
@@ -66,6 +66,36 @@ fn soft_part(line: &Line, cost: u128) -> u128
     if line.required { 0 } else { cost }
 }
 
+/// Takes what a monitor costs from the total that it belongs to.
+fn take_cost(hard: &mut u128, soft: &mut u128, line: &Line, cost: u128)
+    requires cost { cost ≡ line_cost line.now }
+    requires hard { hard_cost line.now ≤ hard.old }
+    requires soft { soft_cost line.now ≤ soft.old }
+    ensures hard { hard.new ≡ hard.old - hard_cost line.now }
+    ensures soft { soft.new ≡ soft.old - soft_cost line.now }
+{
+    if line.required {
+        *hard -= cost;
+    } else {
+        *soft -= cost;
+    }
+}
+
+/// Adds what a monitor costs to the total that it belongs to.
+fn add_cost(hard: &mut u128, soft: &mut u128, line: &Line, cost: u128)
+    requires cost { cost ≡ line_cost line.now }
+    requires hard { hard.old + hard_cost line.now < 2 ^ 128 }
+    requires soft { soft.old + soft_cost line.now < 2 ^ 128 }
+    ensures hard { hard.new ≡ hard.old + hard_cost line.now }
+    ensures soft { soft.new ≡ soft.old + soft_cost line.now }
+{
+    if line.required {
+        *hard += cost;
+    } else {
+        *soft += cost;
+    }
+}
+
 /// Puts a line in the place of another, of which both costs are known, and keeps the totals by the
 /// difference.
 #[tactic(auto, using(crate::proofs::LineLaws::totalled_set))]
@@ -87,12 +117,8 @@ pub(crate) fn replace(
     ensures totalled { AreTotalled lines.new.items hard.new soft.new }
 {
     let old = lines[place];
-    let hard_before = hard_part(&old, before);
-    let soft_before = soft_part(&old, before);
-    let hard_after = hard_part(&line, after);
-    let soft_after = soft_part(&line, after);
-    *hard = *hard - hard_before + hard_after;
-    *soft = *soft - soft_before + soft_after;
+    take_cost(hard, soft, &old, before);
+    add_cost(hard, soft, &line, after);
     lines[place] = line;
 }
 

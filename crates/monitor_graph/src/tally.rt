@@ -1,5 +1,4 @@
 use crate::graph::Graph;
-use crate::lines::Line;
 use khe_base::MonitorId;
 use khe_told::{Steps, Tally};
 use std::sync::ledger::Ledger;
@@ -20,7 +19,7 @@ impl Tally for Graph {
             steps.tick();
             return;
         }
-        self.turn(monitor, Line { deviation, ..old });
+        self.deviate(monitor, deviation);
         steps.tick();
     }
 

@@ -10,6 +10,7 @@ use khe_base::{ResourceId, count_out};
 use timetables::Mask;
 
 /// The busy times of all sets together.
+#[inline(never)]
 pub(crate) fn busy_total(table: &CellTable, r: ResourceId, masks: &[Mask]) -> u64
     requires resource { r.0 < length table.now }
     requires sizes { All (λ m. length m ≡ length (row_of table.now r.0)) masks.now }
@@ -24,6 +25,7 @@ pub(crate) fn busy_total(table: &CellTable, r: ResourceId, masks: &[Mask]) -> u6
 }
 
 /// How far the idle times of all sets together lie outside the bounds.
+#[inline(never)]
 pub(crate) fn idle_outside(
     table: &CellTable,
     r: ResourceId,
@@ -45,6 +47,7 @@ pub(crate) fn idle_outside(
 }
 
 /// How far the number of sets with a busy time lies outside the bounds.
+#[inline(never)]
 pub(crate) fn busy_sets_outside(
     table: &CellTable,
     r: ResourceId,
@@ -67,6 +70,7 @@ pub(crate) fn busy_sets_outside(
 }
 
 /// For each set with a busy time, how far the number of its busy times lies outside the bounds.
+#[inline(never)]
 pub(crate) fn busy_outside(
     table: &CellTable,
     r: ResourceId,

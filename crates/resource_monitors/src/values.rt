@@ -15,7 +15,9 @@ use timetables::Mask;
 
 /// What a rule measures at a resource, by the masks of its sets and the counts. It takes constant
 /// time for AvoidClashes, and else time in proportion to the words, of 64 times each, from the first
-/// time to the last of each set.
+/// time to the last of each set. It stands in its callers, so that clashes, which most changes ask for,
+/// are read there.
+#[inline(always)]
 pub(crate) fn measure(
     inst: &Instance,
     rule: &Rule,
@@ -43,6 +45,7 @@ pub(crate) fn measure(
 }
 
 /// What a monitor measures at its resource.
+#[inline(always)]
 pub(crate) fn value(inst: &Instance, sets: &TimeSets, table: &CellTable, monitor: Monitor) -> u64
     requires monitor { IsMonitor inst.now monitor }
     requires kind { is_at_cells monitor.kind ≡ true }
