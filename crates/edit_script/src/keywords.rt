@@ -32,12 +32,13 @@ pub(crate) enum Keyword {
     Monitors,
     GroupCost,
     Total,
+    Deficit,
     Show,
 }
 
 /// All of them. The words that long scripts are made of stand first, since a word is compared with one
 /// name after the other.
-const KEYWORDS: [Keyword; 25] = [
+const KEYWORDS: [Keyword; 26] = [
     Keyword::Move,
     Keyword::Swap,
     Keyword::Regive,
@@ -62,6 +63,7 @@ const KEYWORDS: [Keyword; 25] = [
     Keyword::Monitors,
     Keyword::GroupCost,
     Keyword::Total,
+    Keyword::Deficit,
     Keyword::Show,
 ];
 
@@ -133,6 +135,7 @@ impl Keyword {
             Keyword::Monitors => (b"monitors", 0),
             Keyword::GroupCost => (b"groupcost", 1),
             Keyword::Total => (b"total", 0),
+            Keyword::Deficit => (b"deficit", 0),
             Keyword::Show => (b"show", 0),
         }
     }
@@ -178,6 +181,7 @@ impl Keyword {
             Keyword::Monitors => Command::Monitors,
             Keyword::GroupCost => Command::GroupCost(m),
             Keyword::Total => Command::Total,
+            Keyword::Deficit => Command::Deficit,
             Keyword::Show => Command::Show,
         }
     }
