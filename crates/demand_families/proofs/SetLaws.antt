@@ -9,7 +9,7 @@ use Rattle.khe_base.specs.IdSet.{has_member}
 use Rattle.demand_families.specs.Shortages.{all_sets, greatest}
 
 -- the numbers below a size that pass a test
-pub passing : ℕ → (ℕ → Bool) → List Bool
+abbrev pub passing : ℕ → (ℕ → Bool) → List Bool
 passing zero test = []
 passing (suc n) test = test 0 ∷ passing n (λ k. test (suc k))
 

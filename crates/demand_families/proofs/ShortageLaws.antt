@@ -48,7 +48,7 @@ module _ (w : Domains) (a b : ℕ → Bool) (same : (k : ℕ) → k < length w.d
       (λ t l. any_same (length w.demands) (λ k. a k && may_have w k r t) (λ k. b k && may_have w k r t) (λ k m. ap (λ x. x && may_have w k r t) (same k m))))
 
 -- the set of a test
-listed : Domains → (ℕ → Bool) → List Bool
+abbrev listed : Domains → (ℕ → Bool) → List Bool
 listed w set = passing (length w.demands) set
 
 size_listed : (w : Domains) (set : ℕ → Bool) → size_of w (has_member (listed w set)) ≡ size_of w set

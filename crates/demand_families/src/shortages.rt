@@ -22,6 +22,9 @@ pub fn shortage_of(demands: &Demands) -> Result<Shortage, NoMemory>
     ensures { (p : Parts) → AreOf p demands.now.told demands.now.units demands.now.picks demands.now.matching demands.now.cells demands.now.tasks demands.now.times → IfOk result (IsShortageOf p demands.now.told) }
 {
     let deficit = demands.deficit();
-    let demands = demands.hall()?;
-    Ok(Shortage { deficit, demands })
+    let hall = demands.hall()?;
+    Ok(Shortage {
+        deficit,
+        demands: hall,
+    })
 }

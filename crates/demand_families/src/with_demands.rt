@@ -1,4 +1,5 @@
 use crate::keepers::DemandKeeper;
+use crate::shortages::shortage_of;
 use hall_report::{Demand, Demands};
 use khe_base::{MonitorId, NoMemory, Seq, both};
 use khe_instance::{Instance, Kind};
@@ -58,6 +59,7 @@ impl<F: Family + Drop> DemandKeeper for WithDemands<F> {
     }
 
     fn hall(&self) -> Result<Seq<Demand>, NoMemory> {
-        self.demands.hall()
+        let shortage = shortage_of(&self.demands)?;
+        Ok(shortage.demands)
     }
 }

@@ -57,11 +57,7 @@ fn task_demand(alloc: Global, meet: MeetId, place: u32, offset: u32) -> Result<T
 
 /// The line of a resource that is to be free at a time.
 #[tactic(auto, unfolding(crate::specs::Demands::demand_line))]
-fn unavailable_time(
-    alloc: Global,
-    resource: ResourceId,
-    time: TimeId,
-) -> Result<Text, NoMemory>
+fn unavailable_time(alloc: Global, resource: ResourceId, time: TimeId) -> Result<Text, NoMemory>
     ensures { IfOk result (λ t. t ≡ spec.demand_line (demand.Unavailable resource time)) }
 {
     let mut line = Text::new(alloc);

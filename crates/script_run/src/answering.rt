@@ -4,6 +4,7 @@ ghost use Rattle.std.specs.Prelude.{◌≡◌, ◌++◌, ◌<◌, ◌^◌, None,
 ghost use Rattle.std.specs.List.{flat_map};
 ghost use Rattle.evaluation_report.specs.Answers as lines;
 ghost use Rattle.evaluation_report.specs.Demands.{demand_line};
+ghost use Rattle.demand_families.specs.Shortages.{deficit_of, hall_of};
 ghost use Rattle.khe_told.specs.Lists.{meet_in, tasks_of};
 ghost use Rattle.khe_told.specs.Slots.{slot_at};
 ghost use Rattle.script_run.specs.Answers as spec;
@@ -14,7 +15,8 @@ use crate::shortages::Shortages;
 use demand_families::Shortage;
 use edit_script::Command;
 use evaluation_report::{
-    deficit_line, demand_line, group_line, meet_line, monitor_line, ok_line, refused_line, task_line, total_line,
+    deficit_line, demand_line, group_line, meet_line, monitor_line, ok_line, refused_line,
+    task_line, total_line,
 };
 use hall_report::Demand;
 use khe_base::{GroupId, MeetId, MonitorId, NoMemory, TaskId, Text};
@@ -65,7 +67,7 @@ fn push_answer<F: Shortages>(
         Command::Monitors => push_monitors(alloc, engine, text),
         Command::GroupCost(group) => push_group(alloc, engine, group, text),
         Command::Total => text.push_text(&total_line(alloc, engine.totals())?),
-        Command::Deficit => push_shortage(alloc, &F::shortage(alloc, engine)?, text),
+        Command::Deficit => push_deficit(alloc, engine, text),
         Command::Show => push_show(alloc, engine.instance(), engine.solution(), text),
         _ => Ok(()),
     }
@@ -244,7 +246,19 @@ fn push_group<F: Shortages>(
     push_refused(alloc, Refusal::NoSuchGroup, text)
 }
 
-/// Adds what is short: the deficit, and the demands that compete.
+/// Adds what is short.
+fn push_deficit<F: Shortages>(
+    alloc: Global,
+    engine: &Engine<'_, F>,
+    text: &mut Text,
+) -> Result<(), NoMemory>
+    ensures { OnOk result (text.new ≡ text.old ++ spec.shortage_text (deficit_of engine.now.parts engine.now.state.slots) (hall_of engine.now.parts engine.now.state.slots)) }
+{
+    let shortage = F::shortage(alloc, engine)?;
+    push_shortage(alloc, &shortage, text)
+}
+
+/// Adds a deficit and the demands that compete.
 fn push_shortage(alloc: Global, shortage: &Shortage, text: &mut Text) -> Result<(), NoMemory>
     requires { length shortage.now.demands < 2 ^ 32 }
     ensures { OnOk result (text.new ≡ text.old ++ spec.shortage_text shortage.now.deficit shortage.now.demands) }
