@@ -12,6 +12,9 @@ abbrev pub is_deficit : Result Command LineFault → Bool
 is_deficit (Ok command.Deficit) = true
 is_deficit _ = false
 
--- whether a script asks more than once
+-- how many of some lines ask, and whether a script asks more than once
+abbrev pub questions : List (List ℕ) → ℕ
+questions ls = count_by (λ line. is_deficit (reading line)) ls
+
 abbrev pub asks_often : List ℕ → Bool
-asks_often script = nat_lt 1 (count_by (λ line. is_deficit (reading line)) (lines script))
+asks_often script = nat_lt 1 (questions (lines script))

@@ -1,4 +1,5 @@
-ghost use Rattle.std.specs.Prelude.{◌≡◌};
+ghost use Rattle.std.specs.Prelude.{◌≡◌, ◌+◌, MatchOption};
+ghost use Rattle.edit_script.specs.Lines.{lines};
 ghost use Rattle.edit_script.specs.Reading.{reading};
 ghost use Rattle.script_run.specs.Asking as spec;
 
@@ -9,17 +10,24 @@ use edit_script::{Command, first_line, read_line};
 pub fn asks_often(script: &[u8]) -> bool
     ensures { result ≡ spec.asks_often script.now }
 {
-    let mut rest = script;
-    let mut asked = false;
-    while let Some((line, after)) = first_line(rest) {
-        rest = after;
-        let asks = asks(line);
-        if asks && asked {
-            return true;
-        }
-        asked = asked || asks;
+    match after_question(script) {
+        Some(rest) => after_question(rest).is_some(),
+        None => false,
     }
-    false
+}
+
+/// What stands after the first line that asks what is short, or `None` where no line does.
+fn after_question(script: &[u8]) -> Option<&[u8]>
+    ensures { MatchOption result (spec.questions (lines script.now) ≡ 0) (λ rest. spec.questions (lines script.now) ≡ 1 + spec.questions (lines rest.now)) }
+{
+    let mut rest = script;
+    while let Some((line, after)) = first_line(rest) {
+        if asks(line) {
+            return Some(after);
+        }
+        rest = after;
+    }
+    None
 }
 
 /// Whether a line asks what is short.
