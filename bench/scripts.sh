@@ -1,7 +1,8 @@
 #!/usr/bin/env bash
 # Times a script of some 200,000 edits on the first solution of an archive, and prints how many lines a
 # second it runs beside the time that reading the same archive takes. That time, of an empty script, is
-# taken off first. Each is run five times in turns, and the fastest run counts.
+# taken off first. Then the same with two lines `deficit` at its end, so that each edit is noted to demands
+# too. Each is run five times in turns, and the fastest run counts.
 #
 #     bench/scripts.sh KHE [ARCHIVE SCRIPT]
 #
@@ -19,11 +20,15 @@ else
   python3 "$top/bench/scripts.py" "$archive" "${LINES_OF:-200000}" > "$script"
 fi
 : > "$work/empty"
-python3 "$top/bench/measure.py" "${RUNS:-5}" "$khe" script "$archive" 0 "$work/empty" -- "$khe" script "$archive" 0 "$script" > "$work/took"
+{ cat "$script"; printf '\ndeficit\ndeficit\n'; } > "$work/asking"
+python3 "$top/bench/measure.py" "${RUNS:-5}" "$khe" script "$archive" 0 "$work/empty" -- "$khe" script "$archive" 0 "$script" \
+  -- "$khe" script "$archive" 0 "$work/asking" > "$work/took"
 awk -v lines="$(wc -l < "$script")" -v bytes="$(stat -c %s "$archive")" '
   NR == 1 { reading = $1 }
   NR == 2 { whole = $1; peak = $2; answers = $3 }
+  NR == 3 { asking = $1; more = $2 }
   END {
     printf "%d lines in %.3f s, %.0f lines a second (aim: above 1,000,000); the archive of %d bytes is read in %.3f s; answers of %d bytes, memory %.1f MiB\n",
       lines, whole - reading, lines / (whole - reading), bytes, reading, answers, peak / 1048576
+    printf "with demands: %.3f s, %.0f lines a second, memory %.1f MiB\n", asking - reading, lines / (asking - reading), more / 1048576
   }' "$work/took"

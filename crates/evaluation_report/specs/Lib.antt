@@ -1,4 +1,5 @@
 pub mod Answers
+pub mod Demands
 pub mod Examples
 pub mod Lines
 pub mod Points

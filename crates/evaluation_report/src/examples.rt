@@ -3,9 +3,11 @@
 
 ghost use Rattle.std.specs.Prelude.{◌≡◌, true, false, Some, None, codes};
 ghost use Rattle.evaluation_report.specs.Answers.{group_line, meet_line, task_line, ok_line, refused_line};
+ghost use Rattle.evaluation_report.specs.Demands.{deficit_line, demand_line};
 ghost use Rattle.evaluation_report.specs.Examples.{two_events};
 ghost use Rattle.evaluation_report.specs.Lines.{header_line, solution_line, monitor_line, total_line, invalid_line};
 
+use hall_report::Demand;
 use khe_told::Refusal;
 
 // The lines of a report that speak of an archive and of its solutions.
@@ -42,4 +44,11 @@ fn lines_of_answers()
     ensures done { ok_line None ≡ codes "ok\n" }
     ensures made { ok_line (Some 1) ≡ codes "ok 1\n" }
     ensures refused { refused_line Refusal.BadCut ≡ codes "refused 10 BadCut\n" }
+{}
+
+// The lines that say what is short: a task that competes with a time at which a resource is to be free.
+fn lines_of_demands()
+    ensures deficit { deficit_line 1 2 ≡ codes "deficit 1 demands 2\n" }
+    ensures task { demand_line (Demand.Task (record { 0 = 3 }) 0 2) ≡ codes "demand 3 0 2\n" }
+    ensures unavailable { demand_line (Demand.Unavailable (record { 0 = 1 }) (record { 0 = 4 })) ≡ codes "unavailable 1 4\n" }
 {}

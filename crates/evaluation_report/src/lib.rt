@@ -4,6 +4,7 @@
 #![tactic(auto)]
 
 mod answers;
+mod demands;
 #[allow(dead_code)]
 mod examples;
 mod lines;
@@ -11,4 +12,5 @@ mod points;
 mod words;
 
 pub use answers::{group_line, meet_line, ok_line, refused_line, task_line};
+pub use demands::{deficit_line, demand_line};
 pub use lines::{header_line, invalid_line, monitor_line, push_cause, solution_line, total_line};

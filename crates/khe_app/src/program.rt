@@ -8,7 +8,6 @@ ghost use Rattle.khe_app.specs.Outcome.{IsReadingOf, status_of, text_of};
 ghost use Rattle.khe_app.specs.Refusals as refusals;
 ghost use Rattle.khe_app.specs.Words.{asked, evaluating, scripting};
 
-use crate::families::Families;
 use crate::reading::{ReadArchive, Unread, read};
 use crate::refusals::{Refusal, refusal_line};
 use crate::reports::report;
@@ -324,7 +323,7 @@ fn write_play<K: Sink>(alloc: Global, out: &mut K, play: &Play) -> Status
         Play::TooLarge => put(out, 7, script_too_large()),
         Play::Run(begun, script) => {
             let inst = instance_of(begun);
-            play_script::<K, Families>(alloc, out, inst, &begun.plain, script.as_slice())
+            play_script(alloc, out, inst, &begun.plain, script.as_slice())
         }
     }
 }

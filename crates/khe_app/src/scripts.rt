@@ -6,20 +6,43 @@ ghost use Rattle.khe_instance.specs.States.{IsValid};
 ghost use Rattle.khe_app.specs.Ends.{Written};
 ghost use Rattle.khe_app.specs.Outcome.{IsRunOf};
 
+use crate::families::Families;
 use crate::program::Status;
+use demand_families::WithDemands;
 use khe_engine::Engine;
 use khe_instance::{Instance, Plain};
 use khe_io::Sink;
-use khe_told::Family;
-use script_run::{Cut, run};
+use script_run::{Cut, Shortages, asks_often, run};
 use std::alloc::Global;
 
 /// The greatest number of bytes of a script: 16 MiB.
 pub const SCRIPT_BYTES: u64 = 16_777_216;
 
 /// Runs a script on a timetable, and writes its answers. It takes what opening an engine takes, and then
-/// what the script takes.
-pub(crate) fn play_script<K: Sink, F: Family + Drop>(
+/// what the script takes. Demands are kept only where the script asks for them more than once: then each
+/// change is noted to them too, and else the one line finds them anew.
+pub(crate) fn play_script<K: Sink>(
+    alloc: Global,
+    out: &mut K,
+    inst: &Instance,
+    plain: &Plain,
+    script: &[u8],
+) -> Status
+    requires valid { IsValid inst.now plain.now }
+    requires small { length script.now ≤ SCRIPT_BYTES }
+    ensures written { ((result.0 ≡ 6) × (K.taken out.new ≡ K.taken out.old)) ⊎ ((status : ℕ) × (text : List ℕ) × IsRunOf inst.now plain.now script.now status text
+        × Written (K.taken out.old) (K.taken out.new) (K.faults out.old) (K.faults out.new) (encode_utf8_all text) status result.0) }
+    ensures sink_faults { K.faults out.old ≤ K.faults out.new }
+{
+    if asks_often(script) {
+        play_on::<K, WithDemands<Families>>(alloc, out, inst, plain, script)
+    } else {
+        play_on::<K, Families>(alloc, out, inst, plain, script)
+    }
+}
+
+/// Runs a script on an engine with these families.
+fn play_on<K: Sink, F: Shortages + Drop>(
     alloc: Global,
     out: &mut K,
     inst: &Instance,

@@ -8,6 +8,7 @@ mod faults;
 mod listeners;
 mod listing;
 mod opening;
+mod shortages;
 mod telling;
 mod undoing;
 mod values;

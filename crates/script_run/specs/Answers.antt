@@ -5,6 +5,7 @@ use Rattle.std.specs.List.{enumerate_from, flat_map}
 use Rattle.std.specs.Option.{option_map_or}
 use Rattle.evaluation_report.specs.Lines.{monitor_line, total_line}
 use Rattle.evaluation_report.specs.Answers.{group_line, meet_line, ok_line, refused_line, task_line}
+use Rattle.evaluation_report.specs.Demands.{deficit_line, demand_line}
 use Rattle.khe_instance.specs.declared.parts.Parts.{Parts}
 use Rattle.khe_instance.specs.declared.points.Monitor.{Monitor}
 use Rattle.khe_told.specs.Agreement.{deviation_in}
@@ -16,6 +17,8 @@ use Rattle.khe_engine.specs.States.{State, made, refusal}
 use Rattle.khe_engine.specs.Values.{costs, group_totals, totals}
 use Rattle.monitor_graph.specs.Edits.{is_attached}
 use Rattle.monitor_graph.specs.Groups.{has_group}
+use Rattle.demand_families.specs.Shortages.{deficit_of, hall_of}
+use Rattle.hall_report.specs.declared.demand.Demand.{Demand}
 use Rattle.edit_script.specs.declared.commands.Command.{Command}
 use Rattle.edit_script.specs.declared.commands.Command.TheVariants as command
 use Rattle.script_run.specs.Plays.{Play, begin_refusal, last_refusal, mark_refusal}
@@ -48,6 +51,10 @@ slot_text p x = option_map_or (λ m. meet_line p m ++ flat_map task_line (tasks_
 abbrev pub show_text : Parts → List Slot → List ℕ
 show_text p slots = flat_map (slot_text p) slots
 
+-- how many demands no assignment can serve, and the demands that compete
+abbrev pub shortage_text : ℕ → List Demand → List ℕ
+shortage_text deficit hall = deficit_line deficit (length hall) ++ flat_map demand_line hall
+
 -- why a mark was refused, if it was
 abbrev pub refusal_of : Result (Unit {0}) Refusal → Option Refusal
 refusal_of (Ok u) = None
@@ -65,4 +72,5 @@ answer p w (command.Monitor n) = monitor_answer p w.state n (slice_get p.monitor
 answer p w command.Monitors = monitors_text p w.state
 answer p w (command.GroupCost g) = group_answer p w.state g
 answer p w command.Total = total_line (totals p w.state)
+answer p w command.Deficit = shortage_text (deficit_of p w.state.slots) (hall_of p w.state.slots)
 answer p w command.Show = show_text p w.state.slots

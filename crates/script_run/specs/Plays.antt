@@ -62,6 +62,7 @@ played p w (command.Monitor n) = w
 played p w command.Monitors = w
 played p w (command.GroupCost g) = w
 played p w command.Total = w
+played p w command.Deficit = w
 played p w command.Show = w
 
 -- whether a command asks and changes nothing

@@ -1,29 +1,35 @@
 //! What one command makes of an engine, and what it answers.
 
-ghost use Rattle.std.specs.Prelude.{◌≡◌, ◌++◌, ◌<◌, None, Some, true, OnOk, length, slice_get};
+ghost use Rattle.std.specs.Prelude.{◌≡◌, ◌++◌, ◌<◌, ◌^◌, None, Some, true, OnOk, length, slice_get};
 ghost use Rattle.std.specs.List.{flat_map};
 ghost use Rattle.evaluation_report.specs.Answers as lines;
+ghost use Rattle.evaluation_report.specs.Demands.{demand_line};
+ghost use Rattle.demand_families.specs.Shortages.{deficit_of, hall_of};
 ghost use Rattle.khe_told.specs.Lists.{meet_in, tasks_of};
 ghost use Rattle.khe_told.specs.Slots.{slot_at};
 ghost use Rattle.script_run.specs.Answers as spec;
 ghost use Rattle.script_run.specs.Plays.{is_question, play_of, played};
 ghost use Rattle.edit_script.specs.declared.commands.Command.TheVariants as command;
 
+use crate::shortages::Shortages;
+use demand_families::Shortage;
 use edit_script::Command;
 use evaluation_report::{
-    group_line, meet_line, monitor_line, ok_line, refused_line, task_line, total_line,
+    deficit_line, demand_line, group_line, meet_line, monitor_line, ok_line, refused_line,
+    task_line, total_line,
 };
+use hall_report::Demand;
 use khe_base::{GroupId, MeetId, MonitorId, NoMemory, TaskId, Text};
 use khe_engine::{EditFault, Engine};
 use khe_instance::{Instance, Meet, Task};
 use khe_solution::Solution;
-use khe_told::{Edit, Family, Refusal, Steps};
+use khe_told::{Edit, Refusal, Steps};
 use std::alloc::Global;
 use std::sync::ledger::Ledger;
 
 /// Carries a command out, and adds its answer. It takes the time of the edit or of the answer.
 #[tactic(auto, using(crate::proofs::PlayLaws::played_begin, crate::proofs::PlayLaws::played_end, crate::proofs::PlayLaws::played_undo, crate::proofs::PlayLaws::played_mark, crate::proofs::PlayLaws::begin_answer, crate::proofs::PlayLaws::last_answer, crate::proofs::PlayLaws::mark_answer))]
-pub(crate) fn carry_out<F: Family, L: Ledger>(
+pub(crate) fn carry_out<F: Shortages, L: Ledger>(
     alloc: Global,
     engine: &mut Engine<'_, F>,
     command: Command,
@@ -46,7 +52,7 @@ pub(crate) fn carry_out<F: Family, L: Ledger>(
 
 /// Adds the answer to a command that changes nothing.
 #[tactic(auto, unfolding(crate::specs::Answers::answer, crate::specs::Plays::played))]
-fn push_answer<F: Family>(
+fn push_answer<F: Shortages>(
     alloc: Global,
     engine: &Engine<'_, F>,
     command: Command,
@@ -61,6 +67,7 @@ fn push_answer<F: Family>(
         Command::Monitors => push_monitors(alloc, engine, text),
         Command::GroupCost(group) => push_group(alloc, engine, group, text),
         Command::Total => text.push_text(&total_line(alloc, engine.totals())?),
+        Command::Deficit => push_deficit(alloc, engine, text),
         Command::Show => push_show(alloc, engine.instance(), engine.solution(), text),
         _ => Ok(()),
     }
@@ -68,7 +75,7 @@ fn push_answer<F: Family>(
 
 /// Makes an edit, and adds what it made or why it is refused.
 #[tactic(auto, using(crate::proofs::PlayLaws::played_edit, crate::proofs::PlayLaws::played_refused, crate::proofs::PlayLaws::answer_edit, crate::proofs::PlayLaws::answer_refused))]
-fn carry_out_edit<F: Family, L: Ledger>(
+fn carry_out_edit<F: Shortages, L: Ledger>(
     alloc: Global,
     engine: &mut Engine<'_, F>,
     edit: Edit,
@@ -87,7 +94,7 @@ fn carry_out_edit<F: Family, L: Ledger>(
 }
 
 /// Opens a mark.
-fn begin<F: Family>(
+fn begin<F: Shortages>(
     alloc: Global,
     engine: &mut Engine<'_, F>,
     text: &mut Text,
@@ -101,7 +108,7 @@ fn begin<F: Family>(
 }
 
 /// Closes the innermost mark.
-fn end<F: Family>(
+fn end<F: Shortages>(
     alloc: Global,
     engine: &mut Engine<'_, F>,
     text: &mut Text,
@@ -115,7 +122,7 @@ fn end<F: Family>(
 }
 
 /// Undoes what was done since the innermost mark.
-fn undo<F: Family, L: Ledger>(
+fn undo<F: Shortages, L: Ledger>(
     alloc: Global,
     engine: &mut Engine<'_, F>,
     text: &mut Text,
@@ -130,7 +137,7 @@ fn undo<F: Family, L: Ledger>(
 }
 
 /// Undoes what was done since a mark.
-fn undo_to<F: Family, L: Ledger>(
+fn undo_to<F: Shortages, L: Ledger>(
     alloc: Global,
     engine: &mut Engine<'_, F>,
     k: u32,
@@ -174,7 +181,7 @@ fn push_mark(alloc: Global, done: Result<(), Refusal>, text: &mut Text) -> Resul
 }
 
 /// Adds the line of a monitor.
-fn push_monitor<F: Family>(
+fn push_monitor<F: Shortages>(
     alloc: Global,
     engine: &Engine<'_, F>,
     monitor: MonitorId,
@@ -191,7 +198,7 @@ fn push_monitor<F: Family>(
 }
 
 /// Adds the line of the monitor with a number, or that there is none.
-fn push_monitor_answer<F: Family>(
+fn push_monitor_answer<F: Shortages>(
     alloc: Global,
     engine: &Engine<'_, F>,
     number: u32,
@@ -208,7 +215,7 @@ fn push_monitor_answer<F: Family>(
 }
 
 /// Adds the lines of all monitors, and both totals.
-fn push_monitors<F: Family>(
+fn push_monitors<F: Shortages>(
     alloc: Global,
     engine: &Engine<'_, F>,
     text: &mut Text,
@@ -224,7 +231,7 @@ fn push_monitors<F: Family>(
 }
 
 /// Adds the line of a group, or that there is none.
-fn push_group<F: Family>(
+fn push_group<F: Shortages>(
     alloc: Global,
     engine: &Engine<'_, F>,
     number: u32,
@@ -237,6 +244,38 @@ fn push_group<F: Family>(
         return text.push_text(&group_line(alloc, group, engine.group_cost(group))?);
     }
     push_refused(alloc, Refusal::NoSuchGroup, text)
+}
+
+/// Adds what is short.
+fn push_deficit<F: Shortages>(
+    alloc: Global,
+    engine: &Engine<'_, F>,
+    text: &mut Text,
+) -> Result<(), NoMemory>
+    ensures { OnOk result (text.new ≡ text.old ++ spec.shortage_text (deficit_of engine.now.parts engine.now.state.slots) (hall_of engine.now.parts engine.now.state.slots)) }
+{
+    let shortage = F::shortage(alloc, engine)?;
+    push_shortage(alloc, &shortage, text)
+}
+
+/// Adds a deficit and the demands that compete.
+fn push_shortage(alloc: Global, shortage: &Shortage, text: &mut Text) -> Result<(), NoMemory>
+    requires { length shortage.now.demands < 2 ^ 32 }
+    ensures { OnOk result (text.new ≡ text.old ++ spec.shortage_text shortage.now.deficit shortage.now.demands) }
+{
+    let demands = shortage.demands.as_slice();
+    text.push_text(&deficit_line(alloc, shortage.deficit, demands.len() as u32)?)?;
+    push_demands(alloc, demands, text)
+}
+
+/// Adds the lines of demands.
+fn push_demands(alloc: Global, demands: &[Demand], text: &mut Text) -> Result<(), NoMemory>
+    ensures { OnOk result (text.new ≡ text.old ++ flat_map demand_line demands.now) }
+{
+    for demand in demands {
+        text.push_text(&demand_line(alloc, *demand)?)?;
+    }
+    Ok(())
 }
 
 /// Adds the live meets, each with its tasks.

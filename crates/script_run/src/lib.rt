@@ -3,9 +3,13 @@
 #![tactic(auto)]
 
 mod answering;
+mod asking;
 mod faults;
 mod running;
+mod shortages;
 mod writing;
 
+pub use asking::asks_often;
 pub use running::run;
+pub use shortages::Shortages;
 pub use writing::{Cut, flush, flush_long};

@@ -9,12 +9,13 @@ ghost use Rattle.script_run.specs.Scripts as spec;
 
 use crate::answering::carry_out;
 use crate::faults::fault_line;
+use crate::shortages::Shortages;
 use crate::writing::{Cut, flush, flush_long};
 use edit_script::{first_line, read_line};
 use khe_base::Text;
 use khe_engine::Engine;
 use khe_io::Sink;
-use khe_told::{Blank, Family, Steps};
+use khe_told::{Blank, Steps};
 use std::alloc::Global;
 use std::marker::Brand;
 use std::sync::ledger::Ledger;
@@ -26,7 +27,7 @@ use std::sync::ledger::Ledger;
 /// A refused edit is answered and nothing else; the script goes on. After an error the sink took some
 /// first bytes of the text. It takes time in proportion to the script, to what its edits touch and to
 /// what it prints; and it keeps in memory no more of the text than a piece and what one command adds.
-pub fn run<F: Family, K: Sink>(
+pub fn run<F: Shortages, K: Sink>(
     alloc: Global,
     engine: &mut Engine<'_, F>,
     script: &[u8],
@@ -43,7 +44,7 @@ pub fn run<F: Family, K: Sink>(
 }
 
 /// The same, with the steps of the edits in a ledger.
-fn run_counting<F: Family, K: Sink, L: Ledger>(
+fn run_counting<F: Shortages, K: Sink, L: Ledger>(
     alloc: Global,
     engine: &mut Engine<'_, F>,
     script: &[u8],
@@ -79,7 +80,7 @@ fn run_counting<F: Family, K: Sink, L: Ledger>(
 /// Carries out the line with a number, adds its answer to what waits, and gives that to the sink where
 /// it is long. The answer is whether the line has a reading; where it has none, the line that says so
 /// is added.
-fn run_line<F: Family, K: Sink, L: Ledger>(
+fn run_line<F: Shortages, K: Sink, L: Ledger>(
     alloc: Global,
     engine: &mut Engine<'_, F>,
     line: &[u8],

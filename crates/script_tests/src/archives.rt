@@ -65,3 +65,74 @@ pub(crate) const OFF_END: &str = r#"<HighSchoolTimetableArchive>
 
 /// The same cut off within its last end tag.
 pub(crate) const CUT_SHORT: &str = r#"<HighSchoolTimetableArchive></HighSch"#;
+
+/// The small archive, in which `r0` must be free at `t0`.
+pub(crate) const RESERVED: &str = r#"<HighSchoolTimetableArchive>
+<Instances><Instance Id="J">
+<Times><Time Id="t0"/><Time Id="t1"/><Time Id="t2"/></Times>
+<Resources><ResourceTypes><ResourceType Id="X"/></ResourceTypes>
+<Resource Id="r0"><ResourceType Reference="X"/></Resource>
+<Resource Id="r1"><ResourceType Reference="X"/></Resource></Resources>
+<Events>
+<Event Id="E"><Duration>3</Duration><Resources><Resource><Role>R</Role><ResourceType Reference="X"/></Resource></Resources></Event>
+<Event Id="F"><Duration>1</Duration><Resources><Resource><Role>R</Role><ResourceType Reference="X"/></Resource></Resources></Event>
+</Events>
+<Constraints>
+<AvoidUnavailableTimesConstraint Id="c4"><Required>true</Required><Weight>1</Weight><CostFunction>Linear</CostFunction>
+<AppliesTo><Resources><Resource Reference="r0"/></Resources></AppliesTo><Times><Time Reference="t0"/></Times></AvoidUnavailableTimesConstraint>
+</Constraints>
+</Instance></Instances>
+<SolutionGroups><SolutionGroup Id="H"><Solution Reference="J"/></SolutionGroup></SolutionGroups>
+</HighSchoolTimetableArchive>
+"#;
+
+/// The same, but that this costs nothing.
+pub(crate) const UNRESERVED: &str = r#"<HighSchoolTimetableArchive>
+<Instances><Instance Id="J">
+<Times><Time Id="t0"/><Time Id="t1"/><Time Id="t2"/></Times>
+<Resources><ResourceTypes><ResourceType Id="X"/></ResourceTypes>
+<Resource Id="r0"><ResourceType Reference="X"/></Resource>
+<Resource Id="r1"><ResourceType Reference="X"/></Resource></Resources>
+<Events>
+<Event Id="E"><Duration>3</Duration><Resources><Resource><Role>R</Role><ResourceType Reference="X"/></Resource></Resources></Event>
+<Event Id="F"><Duration>1</Duration><Resources><Resource><Role>R</Role><ResourceType Reference="X"/></Resource></Resources></Event>
+</Events>
+<Constraints>
+<AvoidUnavailableTimesConstraint Id="c4"><Required>true</Required><Weight>0</Weight><CostFunction>Linear</CostFunction>
+<AppliesTo><Resources><Resource Reference="r0"/></Resources></AppliesTo><Times><Time Reference="t0"/></Times></AvoidUnavailableTimesConstraint>
+</Constraints>
+</Instance></Instances>
+<SolutionGroups><SolutionGroup Id="H"><Solution Reference="J"/></SolutionGroup></SolutionGroups>
+</HighSchoolTimetableArchive>
+"#;
+
+/// The small archive, in which `F` must start at `t0`: that is the monitor 0.
+pub(crate) const STRICT: &str = r#"<HighSchoolTimetableArchive>
+<Instances><Instance Id="J">
+<Times><Time Id="t0"/><Time Id="t1"/><Time Id="t2"/></Times>
+<Resources><ResourceTypes><ResourceType Id="X"/></ResourceTypes>
+<Resource Id="r0"><ResourceType Reference="X"/></Resource>
+<Resource Id="r1"><ResourceType Reference="X"/></Resource></Resources>
+<Events>
+<Event Id="E"><Duration>3</Duration><Resources><Resource><Role>R</Role><ResourceType Reference="X"/></Resource></Resources></Event>
+<Event Id="F"><Duration>1</Duration><Resources><Resource><Role>R</Role><ResourceType Reference="X"/></Resource></Resources></Event>
+</Events>
+<Constraints>
+<PreferTimesConstraint Id="c3"><Required>true</Required><Weight>3</Weight><CostFunction>Linear</CostFunction>
+<AppliesTo><Events><Event Reference="F"/></Events></AppliesTo><Times><Time Reference="t0"/></Times></PreferTimesConstraint>
+</Constraints>
+</Instance></Instances>
+<SolutionGroups><SolutionGroup Id="H"><Solution Reference="J"/></SolutionGroup></SolutionGroups>
+</HighSchoolTimetableArchive>
+"#;
+
+/// An event with a place of a type that no resource has.
+pub(crate) const NO_RESOURCE: &str = r#"<HighSchoolTimetableArchive>
+<Instances><Instance Id="J">
+<Times><Time Id="t0"/></Times>
+<Resources><ResourceTypes><ResourceType Id="X"/></ResourceTypes></Resources>
+<Events><Event Id="E"><Duration>1</Duration><Resources><Resource><Role>R</Role><ResourceType Reference="X"/></Resource></Resources></Event></Events>
+</Instance></Instances>
+<SolutionGroups><SolutionGroup Id="H"><Solution Reference="J"/></SolutionGroup></SolutionGroups>
+</HighSchoolTimetableArchive>
+"#;

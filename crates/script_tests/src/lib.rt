@@ -18,6 +18,8 @@ mod plays;
 #[cfg(test)]
 mod runs;
 #[cfg(test)]
+mod shortages;
+#[cfg(test)]
 mod starts;
 #[cfg(test)]
 mod sweeps;

@@ -8,4 +8,4 @@ use Rattle.edit_script.proofs.examples.lines_of_questions.Goals as goal
 
 pub returns : goal.returns
 unfolding row_of keyword_among command_by number_of reading words
-returns c = record { end = refl; undo_to = refl; monitor = refl; monitors = refl; group_cost = refl; total = refl }
+returns c = record { end = refl; undo_to = refl; monitor = refl; monitors = refl; group_cost = refl; total = refl; deficit = refl }
