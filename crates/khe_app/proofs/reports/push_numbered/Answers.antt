@@ -2,6 +2,7 @@
 use Rattle.std.proofs.Common.{◌≡◌, ◌++◌, [], ◌∙◌, ap, sym, subst, append_assoc, OnOk}
 use Rattle.std.specs.Option.{option_map_or}
 use Rattle.evaluation_report.specs.Lines.{solution_line}
+use Rattle.khe_instance.specs.declared.parts.Parts.{Parts}
 use Rattle.khe_app.specs.Report.{outcome_text, solution_text}
 use Rattle.xhstt_completion.specs.Completed.{completed}
 use Rattle.khe_app.proofs.reports.push_numbered.Goals as goal
@@ -12,7 +13,7 @@ returns c =
     let raw = a._solution.now in
     let p = c.instance_at-inst.result.now in
     let f = solution_text a._all a.number a.group.now raw in
-    let h = λ q. outcome_text a._all q (completed q raw) in
+    let h = λ (q : Parts). outcome_text a._all q (completed q raw) in
     let line = solution_line a.number a.group.now p.id in
     let part = ap (λ o. option_map_or f o []) c.instance_at-inst.ensures in
     let outcome : a.outcome.now ≡ h p = c.requires.outcome ∙ ap (λ o. option_map_or h o []) c.instance_at-inst.ensures in
