@@ -19,7 +19,7 @@ loop-demand-preserved c =
     let i = c.loop-demand.demand-index in
     let d = get_or xs i none in
     let at : slice_get xs i ≡ Some d = slice_get-get_or xs i none c.loop-demand-test.true in
-    one_more c.loop-demand.text c.push_text.new.self (demand_line d) (flat_map demand_line (drop (i + 1) xs)) _
+    one_more c.loop-demand.text c.push_text-in-loop-demand.new.self (demand_line d) (flat_map demand_line (drop (i + 1) xs)) _
     (c.in_ok-push_text.ensures.ok ∙ ap (λ t. c.loop-demand.text ++ t) c.in_ok-demand_line.ensures)
     (ap (λ t. c.loop-demand.text ++ t) (sym (texts-there demand_line xs i d at)) ∙ c.loop-demand.invariant)
 
