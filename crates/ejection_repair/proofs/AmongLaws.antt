@@ -55,14 +55,14 @@ pub record Source {A B : Type 0} (f : A → List B) (y : B) (xs : List A) : Type
 pub among_split : {A : Type 0} (x : A) (xs ys : List A) → Among x (xs ++ ys) → Among x xs ⊎ Among x ys
 among_split x [] ys h = inr h
 among_split x (y ∷ xs) ys (inl e) = inl (inl e)
-among_split x (y ∷ xs) ys (inr h) = elim (among_split x xs ys h) [ | inl g ↦ inl (inr g) | inr g ↦ inr g ]
+among_split x (y ∷ xs) ys (inr h) = elim (among_split x xs ys h) [ inl g ↦ inl (inr g) | inr g ↦ inr g ]
 
 pub source : {A B : Type 0} (f : A → List B) (y : B) (xs : List A) → Among y (flat_map f xs) → Source f y xs
 source f y [] h = absurd h
 source f y (x ∷ xs) h = elim (among_split y (f x) (flat_map f xs) h) [
   | inl g ↦ record { at = x; there = inl refl; gives = g }
   | inr g ↦ let r = source f y xs g in record { at = r.at; there = inr r.there; gives = r.gives }
-  ]
+]
 
 pub filter_among : {A : Type 0} (p : A → Bool) (x : A) (xs : List A) → Among x (filter p xs) → Among x xs
 filter_among p x [] h = h
@@ -84,9 +84,11 @@ rotated_among {A = A} x v xs h =
     left [] zs g = absurd g
     left (y ∷ ys) zs (inl e) = inl e
     left (y ∷ ys) zs (inr g) = inr (left ys zs g)
+
     right : (ys zs : List A) → Among x zs → Among x (ys ++ zs)
     right [] zs g = g
     right (y ∷ ys) zs g = inr (right ys zs g)
+
     swap : (ys zs : List A) → Among x ys ⊎ Among x zs → Among x (zs ++ ys)
     swap ys zs (inl g) = right zs ys g
     swap ys zs (inr g) = left zs ys g

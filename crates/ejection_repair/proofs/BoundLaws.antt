@@ -77,8 +77,8 @@ ext_count p Good d r b marked v (suc k) c m good =
     let es = filter (is_fresh c.state.slots c.moved) (rotated v (moves p c.state.slots m)) in
     let on = λ (e : Edit). longer c e ∷ option_map_or (extensions p marked v k (longer c e)) (only (dearer marked (costs_at p (longer c e).state))) [] in
     let each : (e : Edit) → Among e es → length (on e) ≤ 1 + powers r k =
-        λ e h. by e (only (dearer marked (costs_at p (longer c e).state)))
-          (λ n. ext_count p Good d r b marked v k (longer c e) n (b.onward c.state m e good (rotated_among e v (moves p c.state.slots m) (filter_among (is_fresh c.state.slots c.moved) e (rotated v (moves p c.state.slots m)) h)))) in
+    λ e h. by e (only (dearer marked (costs_at p (longer c e).state)))
+    (λ n. ext_count p Good d r b marked v k (longer c e) n (b.onward c.state m e good (rotated_among e v (moves p c.state.slots m) (filter_among (is_fresh c.state.slots c.moved) e (rotated v (moves p c.state.slots m)) h)))) in
     let few = flat_count on (1 + powers r k) es each in
     let less = filter_count (is_fresh c.state.slots c.moved) (rotated v (moves p c.state.slots m)) in
     let all = rotated_count v (moves p c.state.slots m) in
@@ -135,13 +135,13 @@ tries_place p Good d r b s v gone (suc n) good pre x post e =
           record {
             from = omega arith;
             count = let w = ap (λ k. (k + 1 - gone) * (d * powers r (k + 1))) same in
-              let u = ap (λ k. k * (d * powers r (gone + 1))) (let z : gone + 1 - gone ≡ 1 = omega arith in z) in omega (arith, length-map cs (try_at gone));
+                let u = ap (λ k. k * (d * powers r (gone + 1))) (let z : gone + 1 - gone ≡ 1 = omega arith in z) in omega (arith, length-map cs (try_at gone));
           }
       | behind more f g ↦
           let rest = tries_place p Good d r b s v (gone + 1) n good more x post g in
           let up = rest.from in
           let low : powers r (gone + 1) ≤ powers r (x.gone + 1) =
-            let h = powers_mono r (gone + 1) (x.gone - gone) in let z = ap (powers r) (let q : gone + 1 + (x.gone - gone) ≡ x.gone + 1 = omega arith in q) in omega arith in
+          let h = powers_mono r (gone + 1) (x.gone - gone) in let z = ap (powers r) (let q : gone + 1 + (x.gone - gone) ≡ x.gone + 1 = omega arith in q) in omega arith in
           let grown = mul-le-mul_left d low in
           let k = ap length f in
           let step = ap (λ k. k * (d * powers r (x.gone + 1))) (let q : x.gone + 1 - gone ≡ x.gone + 1 - (gone + 1) + 1 = omega arith in q) in
@@ -160,8 +160,8 @@ run_within p Good d r b depth v zero a t s pre (x ∷ xs) good e l = at (tries_p
 run_within p Good d r b depth v (suc n) a t s pre [] good e l = tt
 run_within p Good d r b depth v (suc n) a t s pre (x ∷ xs) good e l =
     by (are_lower (totals_at p x.state) (totals_at p s))
-      (run_within p Good d r b depth v n (a + 1) (t + 1) x.state [] (tries_from p x.state v 0 depth) next refl (taken (tries_count p Good d r b s v 0 depth good)))
-      (run_within p Good d r b depth v n a (t + 1) s (pre ++ (x ∷ [])) xs good (e ∙ sym (append_assoc pre (x ∷ []) xs)) (omega (arith, length-append pre (x ∷ []))))
+    (run_within p Good d r b depth v n (a + 1) (t + 1) x.state [] (tries_from p x.state v 0 depth) next refl (taken (tries_count p Good d r b s v 0 depth good)))
+    (run_within p Good d r b depth v n a (t + 1) s (pre ++ (x ∷ [])) xs good (e ∙ sym (append_assoc pre (x ∷ []) xs)) (omega (arith, length-append pre (x ∷ []))))
   where
     next : Good x.state
     next = tries_good p Good b.onward s v 0 depth good x (let P : List Try → Type 0 = λ ys. Among x ys in subst P (sym e) (there pre))
@@ -169,11 +169,13 @@ run_within p Good d r b depth v (suc n) a t s pre (x ∷ xs) good e l =
         there : (ys : List Try) → Among x (ys ++ (x ∷ xs))
         there [] = inl refl
         there (y ∷ ys) = inr (there ys)
+
     taken : length (tries_from p s v 0 depth) ≤ depth * (d * powers r (0 + depth)) → t + 1 ≤ (a + 1) * most d r depth + length {A = Try} []
     taken h =
         let q = ap length e in let z = ap (λ k. depth * (d * powers r k)) (let w : 0 + depth ≡ depth = omega arith in w) in
         let g : t + 1 ≤ a * (depth * (d * powers r depth)) + length (tries_from p s v 0 depth) = omega (arith, length-append pre (x ∷ xs)) in
         omega arith
+
     by : (c : Bool) → IsWithin d r depth (run p depth v n (a + 1) (t + 1) x.state (tries_from p x.state v 0 depth)).outcome → IsWithin d r depth (run p depth v n a (t + 1) s xs).outcome
         → IsWithin d r depth (cond c (run p depth v n (a + 1) (t + 1) x.state (tries_from p x.state v 0 depth)) (run p depth v n a (t + 1) s xs)).outcome
     by true f g = f

@@ -110,7 +110,7 @@ ext_good p Good b marked v (suc k) c m good x h =
     let on = λ (e : Edit). longer c e ∷ option_map_or (extensions p marked v k (longer c e)) (only (dearer marked (costs_at p (longer c e).state))) [] in
     let s = source on x (filter (is_fresh c.state.slots c.moved) (rotated v (moves p c.state.slots m))) h in
     let next : Good (longer c s.at).state =
-        b c.state m s.at good (rotated_among s.at v (moves p c.state.slots m) (filter_among (is_fresh c.state.slots c.moved) s.at (rotated v (moves p c.state.slots m)) s.there)) in
+    b c.state m s.at good (rotated_among s.at v (moves p c.state.slots m) (filter_among (is_fresh c.state.slots c.moved) s.at (rotated v (moves p c.state.slots m)) s.there)) in
     by s.at next (only (dearer marked (costs_at p (longer c s.at).state))) (λ n. ext_good p Good b marked v k (longer c s.at) n next x) s.gives
   where
     by : (e : Edit) → Good (longer c e).state → (o : Option ℕ) → ((n : ℕ) → Among x (extensions p marked v k (longer c e) n) → Good x.state)
@@ -144,8 +144,8 @@ run_good p Good b depth v zero a t s (x ∷ xs) good h = good
 run_good p Good b depth v (suc n) a t s [] good h = good
 run_good p Good b depth v (suc n) a t s (x ∷ xs) good h =
     by (are_lower (totals_at p x.state) (totals_at p s))
-      (run_good p Good b depth v n (a + 1) (t + 1) x.state (tries_from p x.state v 0 depth) (h x (inl refl)) (tries_good p Good b x.state v 0 depth (h x (inl refl))))
-      (run_good p Good b depth v n a (t + 1) s xs good (λ y m. h y (inr m)))
+    (run_good p Good b depth v n (a + 1) (t + 1) x.state (tries_from p x.state v 0 depth) (h x (inl refl)) (tries_good p Good b x.state v 0 depth (h x (inl refl))))
+    (run_good p Good b depth v n a (t + 1) s xs good (λ y m. h y (inr m)))
   where
     by : (c : Bool) → Good (run p depth v n (a + 1) (t + 1) x.state (tries_from p x.state v 0 depth)).state → Good (run p depth v n a (t + 1) s xs).state
         → Good (cond c (run p depth v n (a + 1) (t + 1) x.state (tries_from p x.state v 0 depth)) (run p depth v n a (t + 1) s xs)).state

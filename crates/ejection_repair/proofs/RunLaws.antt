@@ -40,11 +40,12 @@ run_found p d v (suc n) m a t s u gone (c ∷ cs) ys e = by (are_lower (totals_a
         → cond b (found c.state n) (look p (totals_at p s) n cs) ≡ found u m
         → (m < suc n) × (cond b (run p d v n (a + 1) (t + 1) c.state (tries_from p c.state v 0 d)) (run p d v n a (t + 1) s (map (try_at gone) cs ++ ys)) ≡ run p d v m (a + 1) (t + (suc n - m)) u (tries_from p u v 0 d))
     by true r h =
-        let same : c.state ≡ u = cc in let few : n ≡ m = cc in
-        (omega arith,
+        let same : c.state ≡ u = cc in let few : n ≡ m = cc in (
+          omega arith,
           ap (λ x. run p d v n (a + 1) (t + 1) x (tries_from p x v 0 d)) same
-          ∙ ap (λ k. run p d v k (a + 1) (t + 1) u (tries_from p u v 0 d)) few
-          ∙ ap (λ k. run p d v m (a + 1) k u (tries_from p u v 0 d)) (let f : t + 1 ≡ t + (suc n - m) = omega arith in f))
+              ∙ ap (λ k. run p d v k (a + 1) (t + 1) u (tries_from p u v 0 d)) few
+              ∙ ap (λ k. run p d v m (a + 1) k u (tries_from p u v 0 d)) (let f : t + 1 ≡ t + (suc n - m) = omega arith in f),
+        )
     by false r h =
         let q = r h in let l = q.0 in
         (omega arith, q.1 ∙ ap (λ k. run p d v m (a + 1) k u (tries_from p u v 0 d)) (let f : t + 1 + (n - m) ≡ t + (suc n - m) = omega arith in f))
@@ -96,11 +97,13 @@ round_through w u lowest d v n0 n m gone X back low h few l runs =
     let g = looks_at w u lowest n v (gone + 1) (through m) back low h in
     let ys = tries_from w.parts w.state v (gone + 1) (d - (gone + 1)) in
     let cs = chains w.parts w.state v (gone + 1) in
-    let less : m ≤ n = (run_through w.parts d v n m 0 0 w.state gone cs ys g).0 in
-    (omega arith, λ a t.
-      runs a t ∙ ap (run w.parts d v n a (t + (n0 - n)) w.state) (tries_more w.parts w.state v gone d l)
-      ∙ (run_through w.parts d v n m a (t + (n0 - n)) w.state gone cs ys g).1
-      ∙ ap (λ k. run w.parts d v m a k w.state ys) (let e : t + (n0 - n) + (n - m) ≡ t + (n0 - m) = omega arith in e))
+    let less : m ≤ n = (run_through w.parts d v n m 0 0 w.state gone cs ys g).0 in (
+      omega arith,
+      λ a t.
+          runs a t ∙ ap (run w.parts d v n a (t + (n0 - n)) w.state) (tries_more w.parts w.state v gone d l)
+          ∙ (run_through w.parts d v n m a (t + (n0 - n)) w.state gone cs ys g).1
+          ∙ ap (λ k. run w.parts d v m a k w.state ys) (let e : t + (n0 - n) + (n - m) ≡ t + (n0 - m) = omega arith in e),
+    )
 
 pub round_found : (w u : World) (lowest : Totals) (d v n0 n m gone : ℕ) (s : State) (X : ℕ → ℕ → Repaired) → IsBack w u → lowest ≡ totals_at w.parts w.state
     → look u.parts lowest n (chains u.parts u.state v (gone + 1)) ≡ found s m → n ≤ n0 → gone < d
@@ -110,11 +113,13 @@ round_found w u lowest d v n0 n m gone s X back low h few l runs =
     let g = looks_at w u lowest n v (gone + 1) (found s m) back low h in
     let ys = tries_from w.parts w.state v (gone + 1) (d - (gone + 1)) in
     let cs = chains w.parts w.state v (gone + 1) in
-    let less : m < n = (run_found w.parts d v n m 0 0 w.state s gone cs ys g).0 in
-    (omega arith, λ a t.
-      runs a t ∙ ap (run w.parts d v n a (t + (n0 - n)) w.state) (tries_more w.parts w.state v gone d l)
-      ∙ (run_found w.parts d v n m a (t + (n0 - n)) w.state s gone cs ys g).1
-      ∙ ap (λ k. runs_from w.parts d v m (a + 1) k s) (let e : t + (n0 - n) + (n - m) ≡ t + (n0 - m) = omega arith in e))
+    let less : m < n = (run_found w.parts d v n m 0 0 w.state s gone cs ys g).0 in (
+      omega arith,
+      λ a t.
+          runs a t ∙ ap (run w.parts d v n a (t + (n0 - n)) w.state) (tries_more w.parts w.state v gone d l)
+          ∙ (run_found w.parts d v n m a (t + (n0 - n)) w.state s gone cs ys g).1
+          ∙ ap (λ k. runs_from w.parts d v m (a + 1) k s) (let e : t + (n0 - n) + (n - m) ≡ t + (n0 - m) = omega arith in e),
+    )
 
 pub round_spent : (w u : World) (lowest : Totals) (d v n0 n gone : ℕ) (X : ℕ → ℕ → Repaired) → IsBack w u → lowest ≡ totals_at w.parts w.state
     → look u.parts lowest n (chains u.parts u.state v (gone + 1)) ≡ spent → n ≤ n0 → gone < d

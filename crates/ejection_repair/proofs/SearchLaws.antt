@@ -79,7 +79,7 @@ onward_lower w v t t' e d k n lowest inside chain l low =
     let c = longer (chain_at t w) e in
     let same : c.state ≡ v.state = ap (λ x. x.state) (sym chain) in
     let low2 : are_lower (totals_at w.parts c.state) lowest ≡ true =
-        ap (λ s. are_lower (totals_at w.parts s) lowest) same ∙ ap (λ q. are_lower (totals_at q v.state) lowest) (sym inside.parts) ∙ low in
+    ap (λ s. are_lower (totals_at w.parts s) lowest) same ∙ ap (λ q. are_lower (totals_at q v.state) lowest) (sym inside.parts) ∙ low in
     onward_cases w.parts w.marked d k c lowest n l
     ∙ ap (λ b. cond b (found c.state (n - 1)) (look w.parts lowest (n - 1) (further_at w.parts w.marked d k c))) low2
     ∙ ap (λ s. found s (n - 1)) same
@@ -92,7 +92,7 @@ onward_further w v t t' e d k n lowest inside chain l low =
     let c = longer (chain_at t w) e in
     let same : c.state ≡ v.state = ap (λ x. x.state) (sym chain) in
     let low2 : are_lower (totals_at w.parts c.state) lowest ≡ false =
-        ap (λ s. are_lower (totals_at w.parts s) lowest) same ∙ ap (λ q. are_lower (totals_at q v.state) lowest) (sym inside.parts) ∙ low in
+    ap (λ s. are_lower (totals_at w.parts s) lowest) same ∙ ap (λ q. are_lower (totals_at q v.state) lowest) (sym inside.parts) ∙ low in
     onward_cases w.parts w.marked d k c lowest n l
     ∙ ap (λ b. cond b (found c.state (n - 1)) (look w.parts lowest (n - 1) (further_at w.parts w.marked d k c))) low2
     ∙ ap (λ x. look w.parts lowest (n - 1) (further_at w.parts w.marked d k x)) (sym chain)
@@ -135,12 +135,12 @@ onward_back w v t e d k back =
 -- what a list of moves begins with, and what comes after
 pub tried_onward : (w v : World) (t : Trail) (e : Edit) (es all : List Edit) (d k : ℕ) → IsBack w v → all ≡ e ∷ es → is_fresh v.state.slots (moved_of t) e ≡ true
     → tried (further_at w.parts w.marked d k) (chain_at t w) all
-      ≡ onward v.parts v.marked d k (longer (chain_at t v) e) ++ tried (further_at w.parts w.marked d k) (chain_at t w) es
+    ≡ onward v.parts v.marked d k (longer (chain_at t v) e) ++ tried (further_at w.parts w.marked d k) (chain_at t w) es
 unfolding onward
 tried_onward w v t e es all d k back eq fresh =
     let on = further_at w.parts w.marked d k in
     let fresh2 : is_fresh w.state.slots (moved_of t) e ≡ true =
-        ap (λ s. is_fresh s.slots (moved_of t) e) (sym back.state) ∙ fresh in
+    ap (λ s. is_fresh s.slots (moved_of t) e) (sym back.state) ∙ fresh in
     ap (tried on (chain_at t w)) eq
     ∙ tried_fresh on (chain_at t w) e es fresh2
     ∙ ap (λ xs. xs ++ tried on (chain_at t w) es) (sym (onward_back w v t e d k back))
@@ -150,7 +150,7 @@ pub tried_passed : (w v : World) (t : Trail) (e : Edit) (es all : List Edit) (d 
 tried_passed w v t e es all d k back eq stale =
     let on = further_at w.parts w.marked d k in
     let stale2 : is_fresh w.state.slots (moved_of t) e ≡ false =
-        ap (λ s. is_fresh s.slots (moved_of t) e) (sym back.state) ∙ stale in
+    ap (λ s. is_fresh s.slots (moved_of t) e) (sym back.state) ∙ stale in
     ap (tried on (chain_at t w)) eq ∙ tried_stale on (chain_at t w) e es stale2
 
 pub back_again : (w v u : World) → IsBack w v → IsKept v u → room v ≤ room u → u.state ≡ v.state → u.saved ≡ v.saved → IsBack w u
@@ -181,7 +181,6 @@ further_no_more p marked v d = by (only (dearer marked (costs_at p d.state)))
     by : (o : Option ℕ) → option_map_or (extensions p marked v 0 d) o [] ≡ []
     by None = refl
     by (Some m) = refl
-
 
 -- the next move of a walk, in the world where the walk began
 pub next_back : (w v : World) (r r' : MoveRound) (e : Edit) (p : Parts) (s : List Slot) → p ≡ w.parts → s ≡ v.state.slots → IsBack w v

@@ -62,15 +62,17 @@ unfolding extensions tried
 in_extensions p marked v zero c m e es d l h = absurd (omega arith)
 in_extensions p marked v (suc k) c m e es d l h =
     among_flat (λ x. longer c x ∷ option_map_or (extensions p marked v k (longer c x)) (only (dearer marked (costs_at p (longer c x).state))) []) e d _
-      (among_filter (is_fresh c.state.slots c.moved) e _ (among_rotated e v (moves p c.state.slots m) h.0) h.1)
-      (last (in_extensions p marked v k) es l h.2)
+    (among_filter (is_fresh c.state.slots c.moved) e _ (among_rotated e v (moves p c.state.slots m) h.0) h.1)
+    (last (in_extensions p marked v k) es l h.2)
   where
     Rest : Type 0
     Rest = (c : Chain) (m : ℕ) (e : Edit) (es : List Edit) (d : Chain) → length es < k → LeadsOn p marked c (Some m) (e ∷ es) d → Among d (extensions p marked v k c m)
+
     next : Rest → (o : Option ℕ) (f : Edit) (fs : List Edit) → length (f ∷ fs) < suc k → LeadsOn p marked (longer c e) o (f ∷ fs) d
         → Among d (option_map_or (extensions p marked v k (longer c e)) o [])
     next r None f fs l g = absurd g
     next r (Some n) f fs l g = r (longer c e) n f fs d (omega arith) g
+
     last : Rest → (es : List Edit) → length es < suc k → LeadsOn p marked (longer c e) (only (dearer marked (costs_at p (longer c e).state))) es d
         → Among d (longer c e ∷ option_map_or (extensions p marked v k (longer c e)) (only (dearer marked (costs_at p (longer c e).state))) [])
     last r [] l g = inl (sym g)
@@ -163,13 +165,15 @@ run_true p depth v zero a t budget s pre (x ∷ xs) e h q =
 run_true p depth v (suc n) a t budget s pre [] e h q = (all_settled p s v depth pre e h, omega (arith, q))
 run_true p depth v (suc n) a t budget s pre (x ∷ xs) e h q =
     by (are_lower (totals_at p x.state) (totals_at p s)) refl
-      (run_true p depth v n (a + 1) (t + 1) budget x.state [] (tries_from p x.state v 0 depth) refl nothing (omega (arith, q)))
-      (λ f. run_true p depth v n a (t + 1) budget s (pre ++ (x ∷ [])) xs (e ∙ sym (append_assoc pre (x ∷ []) xs)) (none_more p s pre x h f) (omega (arith, q)))
+    (run_true p depth v n (a + 1) (t + 1) budget x.state [] (tries_from p x.state v 0 depth) refl nothing (omega (arith, q)))
+    (λ f. run_true p depth v n a (t + 1) budget s (pre ++ (x ∷ [])) xs (e ∙ sym (append_assoc pre (x ∷ []) xs)) (none_more p s pre x h f) (omega (arith, q)))
   where
     nothing : NoneLower p x.state []
     nothing = tt
+
     IsTrue : Repaired → Type 0
     IsTrue r = IsTrueOf p depth budget r.state r.outcome
+
     by : (b : Bool) → are_lower (totals_at p x.state) (totals_at p s) ≡ b → IsTrue (run p depth v n (a + 1) (t + 1) x.state (tries_from p x.state v 0 depth))
         → (are_lower (totals_at p x.state) (totals_at p s) ≡ false → IsTrue (run p depth v n a (t + 1) s xs))
         → IsTrue (cond b (run p depth v n (a + 1) (t + 1) x.state (tries_from p x.state v 0 depth)) (run p depth v n a (t + 1) s xs))

@@ -1,7 +1,7 @@
 use khe_base::Totals;
 
 /// What a search for lower totals came to.
-#[derive(Clone, Copy, Debug, PartialEq, Eq)]
+#[derive(Clone, Copy)]
 pub(crate) enum Looked {
     /// All was looked at, and nothing is lower.
     Through,

@@ -40,9 +40,7 @@ pub(crate) fn take_back<F: Family, L: Ledger>(engine: &mut Engine<'_, F>, steps:
     let Ok(()) = engine.undo(steps) else {
         unreachable!()
     };
-    let Ok(()) = engine.end() else {
-        unreachable!()
-    };
+    let Ok(()) = engine.end() else { unreachable!() };
 }
 
 /// Closes the innermost mark and keeps what was done.
@@ -54,7 +52,5 @@ pub(crate) fn keep<F: Family>(engine: &mut Engine<'_, F>)
     ensures state { engine.new.state ≡ engine.old.state }
     ensures saved { engine.new.saved ≡ closed engine.old.saved }
 {
-    let Ok(()) = engine.end() else {
-        unreachable!()
-    };
+    let Ok(()) = engine.end() else { unreachable!() };
 }

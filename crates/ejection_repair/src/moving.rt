@@ -79,7 +79,10 @@ pub(crate) fn moved_by(solution: &Solution<'_>, edit: Edit) -> Movings
         Edit::Unassign { meet } => one(Moved::Meet(meet)),
         Edit::MoveTo { meet, time: _ } => one(Moved::Meet(meet)),
         Edit::Split { meet, cut } => {
-            two(Moved::Meet(meet), Moved::Meet(new_meet(solution, meet, cut)))
+            two(
+                Moved::Meet(meet),
+                Moved::Meet(new_meet(solution, meet, cut)),
+            )
         }
         Edit::Merge { first, second } => two(Moved::Meet(first), Moved::Meet(second)),
         Edit::SwapMeets { a, b } => two(Moved::Meet(a), Moved::Meet(b)),

@@ -20,7 +20,7 @@ pub enum Outcome {
 }
 
 /// How the lengths were gone through in one state.
-#[derive(Clone, Copy, Debug, PartialEq, Eq)]
+#[derive(Clone, Copy)]
 pub(crate) enum Round {
     /// All were gone through, and nothing is lower.
     Settled,

@@ -32,7 +32,10 @@ fn pass_by(inst: &Instance, solution: &Solution<'_>, first: Cursor, count: u64) 
     let mut cursor = first;
     for done in 0..count {
         match next_move(inst, solution, &mut cursor) {
-            None => return Passed { cursor, count: done },
+            None => return Passed {
+                cursor,
+                count: done,
+            },
             Some(_) => {}
         }
     }

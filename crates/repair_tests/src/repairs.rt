@@ -56,12 +56,7 @@ fn ended<L: Ledger>(
     })
 }
 
-fn repaired(
-    alloc: Global,
-    inst: &Instance,
-    plain: &Plain,
-    case: &Case,
-) -> Result<Ended, NoMemory>
+fn repaired(alloc: Global, inst: &Instance, plain: &Plain, case: &Case) -> Result<Ended, NoMemory>
     requires { IsValid inst.now plain.now }
 {
     let mut engine = Engine::<Families>::open(alloc, inst, plain)?;
@@ -70,7 +65,8 @@ fn repaired(
 
 /// Whether the case of an archive comes out as it says.
 fn is_right(alloc: Global, worked: &Worked, case: &Case) -> bool {
-    let (Some(inst), Some(raw)) = (worked.instance(), worked.solution(case.solution as usize)) else {
+    let (Some(inst), Some(raw)) = (worked.instance(), worked.solution(case.solution as usize))
+    else {
         return false;
     };
     let Some(plain) = state_of(alloc, inst, raw) else {

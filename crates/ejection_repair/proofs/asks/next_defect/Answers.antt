@@ -13,4 +13,4 @@ pub returns-clause-small : goal.returns-clause-small
 returns-clause-small g c =
     let w = c.args.engine.now in
     asks.small_number w.parts _ (asks.few_monitors c.instance.result.now w.parts c.instance.ensures c.facts.ensures.limits.monitors)
-      (asks.next_defect_known w.parts w.state _ c.args.from _ (asks.costs_are w.parts w.state) c.next_defect.ensures)
+    (asks.next_defect_known w.parts w.state _ c.args.from _ (asks.costs_are w.parts w.state) c.next_defect.ensures)

@@ -16,4 +16,4 @@ returns-clause-ahead c =
     let below = mod_below c.args.diversifier c.args.count (omega arith) in
     let small : p.result.count ≡ n = omega arith in
     begun_round c.args.inst.now c.args.solution.now.slots _ c.args.first n c.args.diversifier xs refl (p.ensures.ahead ∙ ap (λ k. drop k xs) small)
-      (ap (λ k. c.args.diversifier % k) (sym c.requires.count)) _ c.begun_at-2.ensures
+    (ap (λ k. c.args.diversifier % k) (sym c.requires.count)) _ c.begun_at-2.ensures

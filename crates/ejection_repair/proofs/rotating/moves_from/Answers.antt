@@ -18,5 +18,5 @@ returns-in-Some-clause-ahead c =
     let same : p.result.count ≡ v = omega arith in
     let small : v < length xs = omega arith in
     begun_round c.args.inst.now c.args.solution.now.slots _ c.moves-first.result v v _ c.moves-first.ensures.first
-      (p.ensures.ahead ∙ ap (λ k. drop k xs) same ∙ ap (λ ys. drop v ys) c.moves-first.ensures.first)
-      (sym (mod-eq_of_lt small) ∙ ap (λ ys. v % length ys) c.moves-first.ensures.first) _ c.begun_at.ensures
+    (p.ensures.ahead ∙ ap (λ k. drop k xs) same ∙ ap (λ ys. drop v ys) c.moves-first.ensures.first)
+    (sym (mod-eq_of_lt small) ∙ ap (λ ys. v % length ys) c.moves-first.ensures.first) _ c.begun_at.ensures

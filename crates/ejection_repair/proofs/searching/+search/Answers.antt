@@ -57,10 +57,13 @@ attempt-returns-in-Spent-clause-looks g t c =
 
 pub extend-returns-then-more-eq0-clause-looks : goal.extend-returns-then-more-eq0-clause-looks
 extend-returns-then-more-eq0-clause-looks g t c =
-    let E = c.args.engine.now in
-    (looks.look_nothing _ _ _ _
-      (ap (λ k. extensions E.parts E.marked c.args.aim.now.diversifier k (chain_at c.args.trail.now E) c.args.monitor.0) c.if-more-eq0.true
-        ∙ search.extensions_none E.parts E.marked c.args.aim.now.diversifier (chain_at c.args.trail.now E) c.args.monitor.0), refl, refl)
+    let E = c.args.engine.now in (
+      looks.look_nothing _ _ _ _
+          (ap (λ k. extensions E.parts E.marked c.args.aim.now.diversifier k (chain_at c.args.trail.now E) c.args.monitor.0) c.if-more-eq0.true
+          ∙ search.extensions_none E.parts E.marked c.args.aim.now.diversifier (chain_at c.args.trail.now E) c.args.monitor.0),
+      refl,
+      refl,
+    )
 
 pub extend-loop-edit-init : goal.extend-loop-edit-init
 extend-loop-edit-init g t c =
@@ -76,7 +79,7 @@ extend-loop-edit-init g t c =
       more = omega arith;
       round = search.round_of _ E.parts _ c.instance-inst.ensures r.round;
       looks = ap (look E.parts c.args.aim.now.lowest c.args.left.now)
-        (ap (tried (further_at E.parts E.marked v (k - 1)) chain) begun ∙ sym (search.extensions_more E.parts E.marked v k chain c.args.monitor.0 (omega arith)));
+          (ap (tried (further_at E.parts E.marked v (k - 1)) chain) begun ∙ sym (search.extensions_more E.parts E.marked v k chain c.args.monitor.0 (omega arith)));
     }
 
 pub extend-loop-edit-preserved-in-Through : goal.extend-loop-edit-preserved-in-Through
@@ -120,9 +123,12 @@ extend-returns-in-Spent-clause-looks g t c =
     let E = c.args.engine.now in let v = c.loop-edit.engine in let i = c.loop-edit.invariant in let e = c.in-Spent.ensures.looks in
     let trail = c.args.trail.now in
     let next = search.next_back E v _ _ c.in-Some.edit _ _ i.inst c.solution-in-loop-edit.ensures.slots i.back c.in-Some.ensures.next in
-    let fresh = search.fresh_back v trail c.in-Some.edit true _ _ c.solution-in-Some.ensures.slots c.is_fresh.ensures c.if-is_fresh.true in
-    (sym i.looks ∙ search.loop_spent E v trail c.in-Some.edit _ _ c.args.aim.now.diversifier (c.args.more - 1) c.loop-edit.left c.args.aim.now.lowest i.back next fresh e.0,
-      e.1 ∙ i.back.state, e.2 ∙ i.back.saved, e.3)
+    let fresh = search.fresh_back v trail c.in-Some.edit true _ _ c.solution-in-Some.ensures.slots c.is_fresh.ensures c.if-is_fresh.true in (
+      sym i.looks ∙ search.loop_spent E v trail c.in-Some.edit _ _ c.args.aim.now.diversifier (c.args.more - 1) c.loop-edit.left c.args.aim.now.lowest i.back next fresh e.0,
+      e.1 ∙ i.back.state,
+      e.2 ∙ i.back.saved,
+      e.3,
+    )
 
 pub extend-returns-clause-looks : goal.extend-returns-clause-looks
 extend-returns-clause-looks g t c =

@@ -17,15 +17,15 @@ decreases-extend g l = 3 * l.more
 -- what is still to be looked at comes to what all comes to
 abbrev pub invariant-extend-loop-edit : goal.invariant-extend-loop-edit
 invariant-extend-loop-edit g l =
-  let w = l.fn.engine in
-  record {
-    back : IsBack w l.engine;
-    inst : l.inst ≡ w.parts;
-    more : 0 < l.more;
-    round : IsRound w.parts l.round;
-    looks : look w.parts l.aim.lowest l.left (tried (further_at w.parts w.marked l.aim.diversifier (l.more - 1)) (chain_at l.trail w) (moves_ahead w.parts w.state.slots l.round))
-        ≡ look w.parts l.aim.lowest l.fn.left (extensions w.parts w.marked l.aim.diversifier l.more (chain_at l.trail w) l.fn.monitor.0);
-  }
+    let w = l.fn.engine in
+    record {
+      back : IsBack w l.engine;
+      inst : l.inst ≡ w.parts;
+      more : 0 < l.more;
+      round : IsRound w.parts l.round;
+      looks : look w.parts l.aim.lowest l.left (tried (further_at w.parts w.marked l.aim.diversifier (l.more - 1)) (chain_at l.trail w) (moves_ahead w.parts w.state.slots l.round))
+          ≡ look w.parts l.aim.lowest l.fn.left (extensions w.parts w.marked l.aim.diversifier l.more (chain_at l.trail w) l.fn.monitor.0);
+    }
 
 abbrev pub decreases-extend-loop-edit : goal.decreases-extend-loop-edit
 decreases-extend-loop-edit g l = length (moves_ahead l.inst l.engine.state.slots l.round)

@@ -18,4 +18,4 @@ returns g c =
     let below = mod_below c.args.diversifier c.args.count (omega arith) in
     let small : p.result.count ≡ n = omega arith in
     defects_begun costs _ n c.args.diversifier _ c.begun_at-2.ensures (p.ensures.from ∙ ap (λ k. drop k xs) small)
-      (rotated_at c.args.diversifier n xs (ap (λ k. c.args.diversifier % k) (sym c.requires)))
+    (rotated_at c.args.diversifier n xs (ap (λ k. c.args.diversifier % k) (sym c.requires)))
