@@ -1,6 +1,6 @@
 -- The defects and the dearer monitors as lists.
-use Rattle.std.proofs.Common.{ℕ, zero, suc, ◌≡◌, ◌+◌, ◌^◌, ◌<◌, ◌≤◌, ◌⊎◌, inl, inr, Bool, true, false, cond, Option, Some, None, List, [], ◌∷◌, map, length, not, refl, ap, ◌∙◌, sym, subst, arith}
-use Rattle.std.specs.Prelude.{IfSome, nat_lt, slice_index}
+use Rattle.std.proofs.Common.{ℕ, ◌≡◌, ◌+◌, ◌^◌, ◌<◌, ◌≤◌, inl, inr, Bool, true, false, cond, Option, Some, None, List, [], ◌∷◌, length, not, refl, ap, ◌∙◌, sym, subst, arith}
+use Rattle.std.specs.Prelude.{IfSome, nat_lt}
 use Rattle.std.specs.List.{range_with_len}
 use Rattle.std.specs.Option.{option_map}
 use Rattle.std.proofs.lemmas.Bool.{both_ways, cases_lt}
@@ -15,7 +15,6 @@ use Rattle.khe_engine.specs.Values.{costs, deviations_in, only_dearer}
 use Rattle.monitor_graph.specs.Dearer.{dearer, dearer_from, only}
 use Rattle.monitor_graph.specs.Edits.{is_attached}
 use Rattle.monitor_graph.specs.Values.{IsNextDefect}
-use Rattle.repair_moves.specs.Picked.{IsFirst, IsNextPicked}
 use Rattle.repair_moves.proofs.PickedLaws.{first_picked}
 use Rattle.ejection_repair.specs.Rounds.{IsFirstDefect}
 use Rattle.ejection_repair.specs.Settled.{Among}

@@ -1,10 +1,11 @@
 -- How many chains are looked at, at most.
-use Rattle.std.proofs.Common.{ℕ, zero, suc, ◌≡◌, ◌+◌, ◌-◌, ◌*◌, ◌%◌, ◌<◌, ◌≤◌, inl, inr, Bool, true, false, cond, Option, Some, None, List, [], ◌∷◌, ◌++◌, map, length, take, drop, refl, ap, ◌∙◌, sym, subst, arith, append_assoc, length-append}
+use Rattle.std.proofs.Common.{ℕ, zero, suc, ◌≡◌, ◌+◌, ◌-◌, ◌*◌, ◌%◌, ◌≤◌, inl, inr, Bool, true, false, cond, Option, Some, None, List, [], ◌∷◌, ◌++◌, map, length, take, drop, refl, ap, ◌∙◌, sym, subst, arith, append_assoc, length-append}
 use Rattle.std.specs.List.{filter, flat_map, range_with_len}
 use Rattle.std.specs.Option.{option_map_or}
 use Rattle.std.proofs.Math.Nat.{mul-le-mul_left, mul-le-mul_right}
 use Rattle.std.proofs.lemmas.List.{length-map, take-append-drop}
 use Rattle.std.proofs.lemmas.List.FromFn.{length-range_with_len}
+use Rattle.std.proofs.lemmas.List.Sums.{count_by-le-length, length-filter}
 use Rattle.khe_instance.specs.Costs.{is_defect}
 use Rattle.khe_instance.specs.declared.parts.Parts.{Parts}
 use Rattle.khe_told.specs.declared.edits.Edit.{Edit}
@@ -14,35 +15,28 @@ use Rattle.repair_moves.specs.Moves.{moves}
 use Rattle.repair_moves.specs.Picked.{picked}
 use Rattle.ejection_repair.specs.Bounds.{powers, most, IsWithin}
 use Rattle.ejection_repair.specs.Chains.{Chain, chains, longer, unmoved, rotated, extensions, tried}
-use Rattle.ejection_repair.specs.Repaired.{Try, try_at, tries_from, Repaired, run, repaired}
-use Rattle.ejection_repair.specs.Settled.{Among, IsReached}
+use Rattle.ejection_repair.specs.Repaired.{Try, try_at, tries_from, run, repaired}
+use Rattle.ejection_repair.specs.Settled.{Among}
 use Rattle.ejection_repair.specs.Trails.{is_fresh}
 use Rattle.ejection_repair.specs.Values.{costs_at, totals_at, are_lower, defects_from}
-use Rattle.ejection_repair.specs.declared.outcome.Outcome.{Outcome}
-use Rattle.ejection_repair.specs.declared.outcome.Outcome.TheVariants.{Done, Spent}
 use Rattle.ejection_repair.proofs.AmongLaws.{among_map, filter_among, place_of, rotated_among, before, behind}
 use Rattle.ejection_repair.proofs.AskLaws.{costs_long}
-use Rattle.ejection_repair.proofs.KeptLaws.{Leads, chains_good, tries_good, leads_reached}
+use Rattle.ejection_repair.proofs.KeptLaws.{Leads, tries_good}
 
 -- of which moves lead to such states, with lists of at most so many moves, and so many monitors
-record AreBounded (p : Parts) (Good : State → Type 0) (d r : ℕ) : Type 0 where
-  monitors : length p.monitors ≤ d
-  lists : (s : State) (m : ℕ) → Good s → length (moves p s.slots m) ≤ r
-  onward : Leads p Good
+pub record AreBounded (p : Parts) (Good : State → Type 0) (d r : ℕ) : Type 0 where
+  pub monitors : length p.monitors ≤ d
+  pub lists : (s : State) (m : ℕ) → Good s → length (moves p s.slots m) ≤ r
+  pub onward : Leads p Good
 
-flat_count : {A B : Type 0} (f : A → List B) (b : ℕ) (xs : List A) → ((x : A) → Among x xs → length (f x) ≤ b) → length (flat_map f xs) ≤ length xs * b
+pub flat_count : {A B : Type 0} (f : A → List B) (b : ℕ) (xs : List A) → ((x : A) → Among x xs → length (f x) ≤ b) → length (flat_map f xs) ≤ length xs * b
 flat_count f b [] h = omega arith
 flat_count f b (x ∷ xs) h =
     let first = h x (inl refl) in let rest = flat_count f b xs (λ y m. h y (inr m)) in
     omega (arith, length-append (f x) (flat_map f xs))
 
-filter_count : {A : Type 0} (p : A → Bool) (xs : List A) → length (filter p xs) ≤ length xs
-filter_count p [] = omega arith
-filter_count p (y ∷ xs) = by (p y) (filter_count p xs)
-  where
-    by : (b : Bool) → length (filter p xs) ≤ length xs → length (cond b (y ∷ filter p xs) (filter p xs)) ≤ length (y ∷ xs)
-    by true h = omega arith
-    by false h = omega arith
+pub filter_count : {A : Type 0} (p : A → Bool) (xs : List A) → length (filter p xs) ≤ length xs
+filter_count p xs = let a = length-filter p xs in let b = count_by-le-length p xs in omega (arith, a, b)
 
 rotated_count : {A : Type 0} (v : ℕ) (xs : List A) → length (rotated v xs) ≤ length xs
 unfolding rotated
@@ -181,12 +175,6 @@ run_within p Good d r b depth v (suc n) a t s pre (x ∷ xs) good e l =
     by true f g = f
     by false f g = g
 
-repaired_within : (p : Parts) (Good : State → Type 0) (d r : ℕ) → AreBounded p Good d r → (s : State) (depth b v : ℕ) → Good s → IsWithin d r depth (repaired p s depth b v).outcome
+pub repaired_within : (p : Parts) (Good : State → Type 0) (d r : ℕ) → AreBounded p Good d r → (s : State) (depth b v : ℕ) → Good s → IsWithin d r depth (repaired p s depth b v).outcome
 unfolding repaired
 repaired_within p Good d r bound s depth b v good = run_within p Good d r bound depth v b 0 0 s [] (tries_from p s v 0 depth) good refl (omega arith)
-
--- by the lists of the states that are reached
-pub reached_within : (p : Parts) (s : State) (depth b v r : ℕ) → ((u : State) (m : ℕ) → IsReached p s u → length (moves p u.slots m) ≤ r)
-    → IsWithin (length p.monitors) r depth (repaired p s depth b v).outcome
-reached_within p s depth b v r lists =
-    repaired_within p (IsReached p s) (length p.monitors) r (record { monitors = omega arith; lists = lists; onward = leads_reached p s }) s depth b v ([], refl)

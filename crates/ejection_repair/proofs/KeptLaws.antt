@@ -1,6 +1,6 @@
 -- What each move keeps is true of all states that repair looks at, and of the one that it comes to.
-use Rattle.std.proofs.Common.{ℕ, zero, suc, ◌≡◌, ◌+◌, ◌⊎◌, inl, inr, Bool, true, false, cond, Option, Some, None, List, [], ◌∷◌, ◌++◌, map, slice_get, refl, ap, ◌∙◌, sym, subst}
-use Rattle.std.specs.List.{filter, flat_map}
+use Rattle.std.proofs.Common.{ℕ, zero, suc, ◌≡◌, ◌+◌, inl, inr, Bool, true, false, cond, Option, Some, None, List, [], ◌∷◌, ◌++◌, map, slice_get, refl, ap, ◌∙◌, sym, subst}
+use Rattle.std.specs.List.{filter}
 use Rattle.std.specs.Option.{option_map_or}
 use Rattle.std.specs.Prelude.{is_none, is_some}
 use Rattle.std.proofs.lemmas.Bool.{both_ways}
@@ -26,11 +26,11 @@ use Rattle.repair_moves.specs.Table.{parts_of}
 use Rattle.repair_moves.specs.declared.parts.Part.{Part}
 use Rattle.repair_moves.specs.declared.parts.Part.TheVariants.{TimeMoves, SwapMoves, Cuts, Joins, TaskMoves, TradeMoves, Gives}
 use Rattle.ejection_repair.specs.Chains.{Chain, chains, longer, unmoved, rotated, extensions, tried}
-use Rattle.ejection_repair.specs.Repaired.{Try, try_at, tries_from, Repaired, run, repaired}
+use Rattle.ejection_repair.specs.Repaired.{Try, try_at, tries_from, run, repaired}
 use Rattle.ejection_repair.specs.Settled.{Among, AreSteps, IsReached}
 use Rattle.ejection_repair.specs.Trails.{is_fresh}
 use Rattle.ejection_repair.specs.Values.{totals_at, are_lower, costs_at, defects_from}
-use Rattle.ejection_repair.proofs.AmongLaws.{Source, among_split, source, filter_among, rotated_among, among_map}
+use Rattle.ejection_repair.proofs.AmongLaws.{among_split, source, filter_among, rotated_among, among_map}
 use Rattle.ejection_repair.proofs.EditLaws.{not_of_groups}
 
 -- an edit of meets and tasks that a state accepts

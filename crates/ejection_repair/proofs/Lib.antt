@@ -1,6 +1,7 @@
 pub mod AmongLaws
 pub mod AskLaws
 pub mod BoundLaws
+pub mod CountLaws
 pub mod EditLaws
 pub mod KeptLaws
 pub mod LookLaws

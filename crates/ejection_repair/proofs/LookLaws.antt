@@ -4,7 +4,7 @@ use Rattle.khe_base.specs.declared.sums.Totals.{Totals}
 use Rattle.khe_instance.specs.declared.parts.Parts.{Parts}
 use Rattle.khe_engine.specs.States.{State}
 use Rattle.ejection_repair.specs.Chains.{Chain}
-use Rattle.ejection_repair.specs.Looks.{Looking, through, found, spent, look}
+use Rattle.ejection_repair.specs.Looks.{through, found, spent, look}
 use Rattle.ejection_repair.specs.Values.{totals_at, are_lower}
 
 -- where none of the first is lower, what comes after is looked at

@@ -16,7 +16,6 @@ use Rattle.ejection_repair.specs.Settled.{Among, LeadsOn, IsChain, IsSettled, Is
 use Rattle.ejection_repair.specs.Trails.{is_fresh}
 use Rattle.ejection_repair.specs.Values.{totals_at, are_lower, costs_at, defects}
 use Rattle.ejection_repair.specs.declared.outcome.Outcome.{Outcome}
-use Rattle.ejection_repair.specs.declared.outcome.Outcome.TheVariants.{Done, Spent}
 use Rattle.ejection_repair.proofs.AmongLaws.{among_flat, among_filter, among_rotated, among_map, place_of, before, behind}
 
 pub lower_trans : (a b c : Totals) → are_lower a b ≡ true → are_lower b c ≡ true → are_lower a c ≡ true
@@ -158,11 +157,11 @@ none_more p s (y ∷ pre) x h e = (h.0, none_more p s pre x h.1 e)
 run_true : (p : Parts) (depth v n a t budget : ℕ) (s : State) (pre xs : List Try) → tries_from p s v 0 depth ≡ pre ++ xs → NoneLower p s pre → t + n ≡ budget
     → IsTrueOf p depth budget (run p depth v n a t s xs).state (run p depth v n a t s xs).outcome
 unfolding run NoneLower
-run_true p depth v zero a t budget s pre [] e h q = (all_settled p s v depth pre e h, omega (arith, q))
+run_true p depth v zero a t budget s pre [] e h q = (all_settled p s v depth pre e h, omega (arith, q), tt)
 run_true p depth v zero a t budget s pre (x ∷ xs) e h q =
     let at = stands p s v 0 depth pre x xs e h in
     (settles p s v x.gone (λ pos. at.settled x.gone pos (omega arith)), omega (arith, q), let l = at.below in omega (arith, l))
-run_true p depth v (suc n) a t budget s pre [] e h q = (all_settled p s v depth pre e h, omega (arith, q))
+run_true p depth v (suc n) a t budget s pre [] e h q = (all_settled p s v depth pre e h, omega (arith, q), tt)
 run_true p depth v (suc n) a t budget s pre (x ∷ xs) e h q =
     by (are_lower (totals_at p x.state) (totals_at p s)) refl
     (run_true p depth v n (a + 1) (t + 1) budget x.state [] (tries_from p x.state v 0 depth) refl nothing (omega (arith, q)))

@@ -1,5 +1,5 @@
 -- Looking at the chains of one defect after another.
-use Rattle.std.proofs.Common.{ℕ, ◌≡◌, List, [], ◌∷◌, ◌++◌, refl, ap, ◌∙◌, sym, subst}
+use Rattle.std.proofs.Common.{ℕ, ◌≡◌, List, [], ◌∷◌, ap, ◌∙◌, sym, subst}
 use Rattle.std.specs.List.{flat_map}
 use Rattle.khe_base.specs.declared.sums.Totals.{Totals}
 use Rattle.khe_engine.specs.States.{State}

@@ -1,5 +1,6 @@
 pub mod Bounds
 pub mod Chains
+pub mod Examples
 pub mod Kept
 pub mod Looks
 pub mod Repaired

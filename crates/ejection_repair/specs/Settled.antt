@@ -1,5 +1,5 @@
 -- What is true of a repaired state.
-use Rattle.std.specs.Prelude.{ℕ, zero, suc, ◌≡◌, ◌<◌, ◌≤◌, ◌⊎◌, true, false, List, [], ◌∷◌, length, Option, Some, None}
+use Rattle.std.specs.Prelude.{ℕ, ◌≡◌, ◌<◌, ◌≤◌, ◌⊎◌, true, false, List, [], ◌∷◌, length, Option, Some, None}
 use Rattle.khe_instance.specs.declared.parts.Parts.{Parts}
 use Rattle.khe_told.specs.declared.edits.Edit.{Edit}
 use Rattle.khe_engine.specs.States.{State, edited, refusal}
@@ -49,9 +49,22 @@ AreSteps p s (e ∷ es) u = (refusal p s e ≡ None) × AreSteps p (edited s e) 
 abbrev pub IsReached : Parts → State → State → Type 0
 IsReached p s u = (es : List Edit) × AreSteps p s es u
 
--- an outcome says what is true of its state: one that is done is settled to the depth, and its tries
--- are within the budget; where the budget is spent, the tries are the budget, and the state is settled
--- to the lengths that were gone through, fewer than the depth
+-- the length to which the state is settled: the depth where it is done, and otherwise the number of
+-- lengths that were gone through
+abbrev pub settled_to : ℕ → Outcome → ℕ
+settled_to depth (Done a t) = depth
+settled_to depth (Spent a t k) = k
+
+-- as many chains were tried as the budget allows, or fewer where it is done
+abbrev pub HasTried : ℕ → Outcome → Type 0
+HasTried budget (Done a t) = t ≤ budget
+HasTried budget (Spent a t k) = t ≡ budget
+
+-- where the budget is spent, not all lengths were gone through
+abbrev pub StopsBelow : ℕ → Outcome → Type 0
+StopsBelow depth (Done a t) = Unit {0}
+StopsBelow depth (Spent a t k) = k < depth
+
+-- what an outcome says is true of its state
 abbrev pub IsTrueOf : Parts → ℕ → ℕ → State → Outcome → Type 0
-IsTrueOf p depth budget s (Done a t) = IsSettled p s depth × (t ≤ budget)
-IsTrueOf p depth budget s (Spent a t k) = IsSettled p s k × (t ≡ budget) × (k < depth)
+IsTrueOf p depth budget s o = IsSettled p s (settled_to depth o) × HasTried budget o × StopsBelow depth o

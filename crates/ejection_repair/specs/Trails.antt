@@ -1,5 +1,5 @@
 -- The meets and tasks that the moves of a chain moved.
-use Rattle.std.specs.Prelude.{ℕ, ◌==◌, ◌&&◌, Bool, false, not, List, take}
+use Rattle.std.specs.Prelude.{◌==◌, ◌&&◌, Bool, false, not, List, take}
 use Rattle.std.specs.List.{list_any}
 use Rattle.khe_told.specs.declared.edits.Edit.{Edit}
 use Rattle.khe_told.specs.declared.slots.Slot.{Slot}

@@ -3,7 +3,7 @@
 #![tactic(auto)]
 
 mod asks;
-mod laws;
+mod examples;
 mod looked;
 mod marking;
 mod moving;

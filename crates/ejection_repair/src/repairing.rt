@@ -1,8 +1,9 @@
 ghost use Rattle.std.specs.Prelude.{◌≡◌, ◌<◌, ◌≤◌, ◌+◌, ◌*◌, [], length, IfOk, OnErr};
 ghost use Rattle.khe_base.specs.declared.limits.TheConstants.{MARKS};
+ghost use Rattle.ejection_repair.specs.Bounds.{most_moves, IsWithin};
 ghost use Rattle.ejection_repair.specs.Kept.{IsKept, room};
 ghost use Rattle.ejection_repair.specs.Repaired.{repaired, Goes};
-ghost use Rattle.ejection_repair.specs.Settled.{IsNoWorse, IsReached, IsTrueOf, accepted_of};
+ghost use Rattle.ejection_repair.specs.Settled.{HasTried, IsNoWorse, IsReached, IsSettled, StopsBelow, accepted_of, settled_to};
 ghost use Rattle.ejection_repair.specs.Values.{costs_at, totals_at};
 
 use crate::asks::{compare_from_here, totals_of};
@@ -41,13 +42,18 @@ pub fn repair<F: Family, L: Ledger>(
     ensures outcome { IfOk result (λ o. o ≡ (repaired engine.old.parts engine.old.state depth budget diversifier).outcome) }
     ensures state { IfOk result (λ _. engine.new.state ≡ (repaired engine.old.parts engine.old.state depth budget diversifier).state) }
     ensures no_worse { IfOk result (λ o. IsNoWorse engine.old.parts engine.old.state engine.new.state (accepted_of o)) }
-    ensures true_ { IfOk result (λ o. IsTrueOf engine.old.parts depth budget engine.new.state o) }
+    ensures settled { IfOk result (λ o. IsSettled engine.old.parts engine.new.state (settled_to depth o)) }
+    ensures tried { IfOk result (HasTried budget) }
+    ensures complete { IfOk result (StopsBelow depth) }
+    ensures bound { IfOk result (λ o. IsWithin (length engine.old.parts.monitors) (most_moves engine.old.parts) depth o) }
     ensures reached { IfOk result (λ _. IsReached engine.old.parts engine.old.state engine.new.state) }
     ensures grouping { engine.new.state.grouping ≡ engine.old.state.grouping }
     ensures parts { engine.new.parts ≡ engine.old.parts }
     ensures marks { engine.new.saved ≡ [] }
     ensures refused { OnErr result ((engine.new.state ≡ engine.old.state) × (engine.new.marked ≡ engine.old.marked)) }
 {
+    engine.instance().facts();
+    engine.solution().facts();
     repair_exactly(engine, depth, budget, diversifier, steps)
 }
 

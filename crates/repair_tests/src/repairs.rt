@@ -32,7 +32,7 @@ fn is_as(ended: Ended, case: &Case) -> bool {
 }
 
 /// Repairs a timetable.
-fn ended<L: Ledger>(
+fn run_case<L: Ledger>(
     engine: &mut Engine<'_, Families>,
     case: &Case,
     blank: Blank,
@@ -60,7 +60,7 @@ fn repaired(alloc: Global, inst: &Instance, plain: &Plain, case: &Case) -> Resul
     requires { IsValid inst.now plain.now }
 {
     let mut engine = Engine::<Families>::open(alloc, inst, plain)?;
-    ended::<Brand>(&mut engine, case, Blank::new(1))
+    run_case::<Brand>(&mut engine, case, Blank::new(1))
 }
 
 /// Whether the case of an archive comes out as it says.

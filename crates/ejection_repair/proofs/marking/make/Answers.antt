@@ -1,4 +1,4 @@
-use Rattle.std.proofs.Common.{◌≡◌, false, refl, arith}
+use Rattle.std.proofs.Common.{false, refl, arith}
 use Rattle.std.proofs.lemmas.Bool.{both_ways}
 use Rattle.ejection_repair.proofs.EditLaws.{accepted_at, no_child}
 use Rattle.ejection_repair.proofs.MarkLaws.{made}

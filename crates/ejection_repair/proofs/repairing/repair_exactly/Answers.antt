@@ -1,4 +1,4 @@
-use Rattle.std.proofs.Common.{◌≡◌, sym, ap, ◌∙◌, refl, arith, ℕ}
+use Rattle.std.proofs.Common.{◌∙◌, arith}
 use Rattle.ejection_repair.proofs.RunLaws as runs
 use Rattle.ejection_repair.proofs.repairing.repair_exactly.Goals as goal
 

@@ -1,5 +1,5 @@
-use Rattle.std.proofs.Common.{◌≡◌, ◌<◌, ◌≤◌, ◌+◌, ◌-◌, ℕ, [], length}
-use Rattle.ejection_repair.specs.Repaired.{run, tries_from, runs_from, repaired}
+use Rattle.std.proofs.Common.{◌≡◌, ◌≤◌, ◌+◌, ◌-◌, []}
+use Rattle.ejection_repair.specs.Repaired.{runs_from, repaired}
 use Rattle.ejection_repair.proofs.repairing.repair_exactly.Given as goal
 
 abbrev pub invariant-loop-accepted : goal.invariant-loop-accepted

@@ -1,5 +1,5 @@
-use Rattle.std.proofs.Common.{◌≡◌, sym, ap, ◌∙◌, refl, arith, ℕ}
-use Rattle.ejection_repair.specs.Repaired.{runs_from, Repaired}
+use Rattle.std.proofs.Common.{◌∙◌}
+use Rattle.ejection_repair.specs.Repaired.{runs_from}
 use Rattle.ejection_repair.proofs.SearchLaws as search
 use Rattle.ejection_repair.proofs.RunLaws as runs
 use Rattle.ejection_repair.proofs.repairing.round.Goals as goal

@@ -1,4 +1,4 @@
-use Rattle.std.proofs.Common.{◌≡◌, ◌<◌, ◌≤◌, ◌+◌, ◌-◌, ℕ}
+use Rattle.std.proofs.Common.{◌≡◌, ◌≤◌, ◌+◌, ◌-◌, ℕ}
 use Rattle.ejection_repair.specs.Kept.{IsBack}
 use Rattle.ejection_repair.specs.Repaired.{run, tries_from, runs_from}
 use Rattle.ejection_repair.proofs.repairing.round.Given as goal

@@ -1,4 +1,4 @@
-use Rattle.std.proofs.Common.{◌≡◌, sym, ap, ◌∙◌, ◌%◌, length, drop, refl, arith, min}
+use Rattle.std.proofs.Common.{◌≡◌, sym, ap, ◌∙◌, ◌%◌, drop, refl, arith}
 use Rattle.std.proofs.lemmas.Nat.{mod_below}
 use Rattle.repair_moves.specs.Cursors.{ahead}
 use Rattle.ejection_repair.proofs.RoundLaws.{begun_round, begun_none}

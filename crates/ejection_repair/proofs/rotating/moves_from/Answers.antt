@@ -1,4 +1,4 @@
-use Rattle.std.proofs.Common.{◌≡◌, ◌<◌, sym, ap, ◌∙◌, ◌%◌, length, drop, refl, arith, min}
+use Rattle.std.proofs.Common.{◌≡◌, ◌<◌, sym, ap, ◌∙◌, ◌%◌, length, drop, arith}
 use Rattle.std.proofs.Math.Nat.{mod-eq_of_lt}
 use Rattle.repair_moves.specs.Cursors.{ahead}
 use Rattle.ejection_repair.proofs.RoundLaws.{begun_round, passed_all, drop_onto}

@@ -1,4 +1,4 @@
-use Rattle.std.proofs.Common.{◌≡◌, ◌≤◌, ◌∙◌, sym, length, drop, min, arith, [], List}
+use Rattle.std.proofs.Common.{arith}
 use Rattle.repair_moves.specs.Cursors.{ahead}
 use Rattle.ejection_repair.proofs.RoundLaws.{drop_onto, drop_done}
 use Rattle.ejection_repair.proofs.rotating.pass_by.Goals as goal

@@ -1,9 +1,6 @@
-use Rattle.std.proofs.Common.{◌≡◌, ◌<◌, ◌≤◌, ◌+◌, ◌-◌, ℕ, true, false, Some, None, sym, ap, ◌∙◌, refl, arith, length, List, subst}
-use Rattle.std.specs.Option.{option_map}
-use Rattle.khe_base.specs.declared.numbers.MonitorId.{MonitorId}
+use Rattle.std.proofs.Common.{◌-◌, true, false, sym, ap, ◌∙◌, refl, arith, List, subst}
 use Rattle.ejection_repair.specs.Chains.{Chain, tried, further_at, extensions}
 use Rattle.ejection_repair.specs.Looks.{found, chain_at, look, Looks}
-use Rattle.ejection_repair.specs.Rounds.{moves_ahead}
 use Rattle.ejection_repair.proofs.LookLaws as looks
 use Rattle.ejection_repair.proofs.SearchLaws as search
 use Rattle.ejection_repair.proofs.searching.+search.Goals as goal

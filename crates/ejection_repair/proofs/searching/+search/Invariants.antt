@@ -1,4 +1,4 @@
-use Rattle.std.proofs.Common.{◌≡◌, ◌<◌, ◌≤◌, ◌+◌, ◌-◌, ◌*◌, length}
+use Rattle.std.proofs.Common.{◌≡◌, ◌<◌, ◌+◌, ◌-◌, ◌*◌, length}
 use Rattle.ejection_repair.specs.Chains.{extensions, further_at, tried}
 use Rattle.ejection_repair.specs.Kept.{IsBack}
 use Rattle.ejection_repair.specs.Looks.{look, chain_at}

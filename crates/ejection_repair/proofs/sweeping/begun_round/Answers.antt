@@ -1,7 +1,7 @@
-use Rattle.std.proofs.Common.{◌≡◌, sym, ap, ◌∙◌, ◌%◌, length, drop, refl, arith, min}
+use Rattle.std.proofs.Common.{◌≡◌, sym, ap, ◌∙◌, ◌%◌, drop, refl, arith}
 use Rattle.std.proofs.lemmas.Nat.{mod_below}
 use Rattle.ejection_repair.specs.Values.{costs_at, defects_from}
-use Rattle.ejection_repair.proofs.RoundLaws.{defects_begun, rotated_at, rotated_small, rotated_nothing, rotated_none}
+use Rattle.ejection_repair.proofs.RoundLaws.{defects_begun, rotated_at, rotated_none}
 use Rattle.ejection_repair.proofs.sweeping.begun_round.Goals as goal
 
 pub returns-then-count-eq0 : goal.returns-then-count-eq0

@@ -1,4 +1,4 @@
-use Rattle.std.proofs.Common.{◌≡◌, ◌≤◌, ◌∙◌, sym, length, drop, min, arith}
+use Rattle.std.proofs.Common.{arith}
 use Rattle.ejection_repair.specs.Values.{costs_at, defects_from}
 use Rattle.ejection_repair.proofs.RoundLaws.{drop_onto, drop_done}
 use Rattle.ejection_repair.proofs.sweeping.pass_defects.Goals as goal

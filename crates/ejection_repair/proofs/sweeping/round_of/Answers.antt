@@ -1,4 +1,4 @@
-use Rattle.std.proofs.Common.{◌≡◌, ◌<◌, sym, ap, ◌∙◌, ◌%◌, length, drop, refl, arith, min}
+use Rattle.std.proofs.Common.{◌≡◌, ◌<◌, ap, ◌∙◌, length, drop, arith}
 use Rattle.ejection_repair.specs.Values.{costs_at, defects_from}
 use Rattle.ejection_repair.proofs.RoundLaws.{defects_begun, rotated_small, passed_all, drop_onto}
 use Rattle.ejection_repair.proofs.sweeping.round_of.Goals as goal

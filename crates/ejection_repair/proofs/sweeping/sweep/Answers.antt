@@ -1,4 +1,4 @@
-use Rattle.std.proofs.Common.{◌≡◌, sym, ap, ◌∙◌, refl, arith}
+use Rattle.std.proofs.Common.{sym, ap, ◌∙◌}
 use Rattle.ejection_repair.specs.Looks.{look}
 use Rattle.ejection_repair.proofs.SearchLaws as search
 use Rattle.ejection_repair.proofs.SweepLaws as sweeps

@@ -1,4 +1,4 @@
-use Rattle.std.proofs.Common.{◌≡◌, ◌<◌, ◌≤◌, length}
+use Rattle.std.proofs.Common.{◌≡◌, length}
 use Rattle.std.specs.List.{flat_map}
 use Rattle.ejection_repair.specs.Values.{costs_at}
 use Rattle.ejection_repair.specs.Chains.{extensions, chains}
