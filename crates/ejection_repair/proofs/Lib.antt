@@ -11,4 +11,3 @@ pub mod RunLaws
 pub mod SearchLaws
 pub mod SettledLaws
 pub mod SweepLaws
-pub mod TrailLaws

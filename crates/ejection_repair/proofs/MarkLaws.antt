@@ -52,18 +52,3 @@ back w v u x inside up um ur undone xp xm xr xs ended =
       state = xs ∙ h.0;
       saved = ended ∙ ap closed h.1 ∙ closed_fresh w.state w.saved;
     }
-
--- what an edit inside a mark leaves of the room
-pub room_inside : (w v : World) (n : ℕ) → IsInside w v → n + 1 ≤ w.spare → n ≤ v.spare
-room_inside w v n inside l =
-    let h = ap kept inside.saved ∙ kept_more (record { state = w.state; trail = inside.trail; records = 1 }) w.saved in
-    let k = inside.room in
-    omega (arith, h, k, l)
-
--- and a world that is back has as much
-pub room_back : (w v : World) → IsBack w v → w.spare ≤ v.spare
-room_back w v back = let h = ap kept back.saved in let k = back.room in omega (arith, h, k)
-
-pub nothing_saved : (us : List Saved) → length us ≡ 0 → us ≡ []
-nothing_saved [] e = refl
-nothing_saved (x ∷ us) e = absurd (omega arith)

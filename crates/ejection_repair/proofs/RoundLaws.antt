@@ -25,10 +25,7 @@ drop_onto xs ys zs x n e f = let r = drop_at xs ys zs x n e f in (r.0 ∙ ap (λ
 pub drop_done : {A : Type 0} (xs ys : List A) (n : ℕ) → ys ≡ drop n xs → ys ≡ [] → length xs ≤ n
 drop_done xs ys n e f = let h : length (drop n xs) ≡ 0 = ap length (sym e ∙ f) in omega (arith, length-drop n xs, h)
 
--- a walk that passed as many as a number has length left
-pub passed_few : (count n v : ℕ) → count ≡ min v n → count < v → n ≡ count
-passed_few count n v e l = omega arith
-
+-- a walk that passed as many as a number or all, and has no more
 pub passed_all : {A : Type 0} (xs ys : List A) (count v : ℕ) → count ≡ min v (length xs) → v ≤ count → ys ≡ drop count xs → ys ≡ [] → length xs ≡ count
 passed_all xs ys count v e l d n = let h = drop_done xs ys count d n in omega arith
 

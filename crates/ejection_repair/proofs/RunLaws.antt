@@ -140,11 +140,6 @@ pub round_done : (w : World) (d v n0 n gone : ℕ) (X : ℕ → ℕ → Repaired
 round_done w d v n0 n gone X l runs a t =
     runs a t ∙ ap (run w.parts d v n a (t + (n0 - n)) w.state) (tries_none w.parts w.state v gone (d - gone) (omega arith)) ∙ run_done w.parts d v n a (t + (n0 - n)) w.state
 
-pub round_begun : (w : World) (d v n : ℕ) (a t : ℕ) → runs_from w.parts d v n a t w.state ≡ run w.parts d v n a (t + (n - n)) w.state (tries_from w.parts w.state v 0 (d - 0))
-round_begun w d v n a t =
-    ap (λ k. run w.parts d v n a k w.state (tries_from w.parts w.state v 0 d)) (let e : t ≡ t + (n - n) = omega arith in e)
-    ∙ ap (λ k. run w.parts d v n a (t + (n - n)) w.state (tries_from w.parts w.state v 0 k)) (let e : d ≡ d - 0 = omega arith in e)
-
 pub begun_repaired : (p : Parts) (s u : State) (d v n : ℕ) → u ≡ s → runs_from p d v n 0 (n - n) u ≡ repaired p s d n v
 unfolding repaired
 begun_repaired p s u d v n e =

@@ -11,46 +11,46 @@ attempt-returns-then-left-eq0-clause-looks g t c = (search.onward_none _ _ _ _ _
 pub attempt-returns-then-are_lower-clause-looks : goal.attempt-returns-then-are_lower-clause-looks
 attempt-returns-then-are_lower-clause-looks g t c =
     let w = c.args.engine.now in let v = c.make.new.engine in
-    let chain = search.chain_of w v c.args.trail.now c.longer-further.result c.args.edit _ c.solution.ensures.slots c.longer-further.ensures.moved c.make.ensures.state in
-    let low = search.lower_of v.parts v.state c.args.aim.now.lowest _ _ true c.totals_of.ensures c.are_lower.ensures c.if-are_lower.true in
-    search.onward_lower w v c.args.trail.now c.longer-further.result c.args.edit _ _ _ _ c.make.ensures.inside chain (omega arith) low
+    let chain = search.chain_of w v c.args.trail.now c.longer-further.result c.args.edit c.solution.result.now.slots c.solution.ensures.slots c.longer-further.ensures.moved c.make.ensures.state in
+    let low = search.lower_of v.parts v.state c.args.aim.now.lowest c.totals_of.result c.are_lower.result true c.totals_of.ensures c.are_lower.ensures c.if-are_lower.true in
+    search.onward_lower w v c.args.trail.now c.longer-further.result c.args.edit c.args.aim.now.diversifier c.args.more c.args.left.now c.args.aim.now.lowest c.make.ensures.inside chain (omega arith) low
     ∙ ap (λ s. found s (c.args.left.now - 1)) (sym c.keep.ensures.state)
 
 pub attempt-returns-then-are_lower-clause-kept : goal.attempt-returns-then-are_lower-clause-kept
 attempt-returns-then-are_lower-clause-kept g t c =
     let k = c.keep.ensures in
-    search.kept_inside _ _ _ _ c.make.ensures.inside (search.kept_itself c.make.new.engine) k.parts k.marked k.saved
+    search.kept_inside c.args.engine.now c.make.new.engine c.make.new.engine c.keep.new.engine c.make.ensures.inside (search.kept_itself c.make.new.engine) k.parts k.marked k.saved
 
 pub attempt-returns-in-Through-clause-looks : goal.attempt-returns-in-Through-clause-looks
 attempt-returns-in-Through-clause-looks g t c =
     let w = c.args.engine.now in let v = c.make.new.engine in let u = c.go_on.new.engine in
-    let chain = search.chain_of w v c.args.trail.now c.longer-further.result c.args.edit _ c.solution.ensures.slots c.longer-further.ensures.moved c.make.ensures.state in
-    let low = search.lower_of v.parts v.state c.args.aim.now.lowest _ _ false c.totals_of.ensures c.are_lower.ensures c.if-are_lower.false in
+    let chain = search.chain_of w v c.args.trail.now c.longer-further.result c.args.edit c.solution.result.now.slots c.solution.ensures.slots c.longer-further.ensures.moved c.make.ensures.state in
+    let low = search.lower_of v.parts v.state c.args.aim.now.lowest c.totals_of.result c.are_lower.result false c.totals_of.ensures c.are_lower.ensures c.if-are_lower.false in
     let e = c.in-Through.ensures in
     let back = c.take_back.ensures w (search.inside_kept w v u c.make.ensures.inside e.kept e.room e.looks.2) in
-    (search.onward_further w v c.args.trail.now c.longer-further.result c.args.edit _ _ _ _ c.make.ensures.inside chain (omega arith) low ∙ e.looks.0, back.state, back.saved)
+    (search.onward_further w v c.args.trail.now c.longer-further.result c.args.edit c.args.aim.now.diversifier c.args.more c.args.left.now c.args.aim.now.lowest c.make.ensures.inside chain (omega arith) low ∙ e.looks.0, back.state, back.saved)
 
 pub attempt-returns-in-Found-clause-looks : goal.attempt-returns-in-Found-clause-looks
 attempt-returns-in-Found-clause-looks g t c =
     let w = c.args.engine.now in let v = c.make.new.engine in
-    let chain = search.chain_of w v c.args.trail.now c.longer-further.result c.args.edit _ c.solution.ensures.slots c.longer-further.ensures.moved c.make.ensures.state in
-    let low = search.lower_of v.parts v.state c.args.aim.now.lowest _ _ false c.totals_of.ensures c.are_lower.ensures c.if-are_lower.false in
-    search.onward_further w v c.args.trail.now c.longer-further.result c.args.edit _ _ _ _ c.make.ensures.inside chain (omega arith) low
+    let chain = search.chain_of w v c.args.trail.now c.longer-further.result c.args.edit c.solution.result.now.slots c.solution.ensures.slots c.longer-further.ensures.moved c.make.ensures.state in
+    let low = search.lower_of v.parts v.state c.args.aim.now.lowest c.totals_of.result c.are_lower.result false c.totals_of.ensures c.are_lower.ensures c.if-are_lower.false in
+    search.onward_further w v c.args.trail.now c.longer-further.result c.args.edit c.args.aim.now.diversifier c.args.more c.args.left.now c.args.aim.now.lowest c.make.ensures.inside chain (omega arith) low
     ∙ c.in-Found.ensures.looks ∙ ap (λ s. found s c.go_on.new.left) (sym c.keep-in-Found.ensures.state)
 
 pub attempt-returns-in-Found-clause-kept : goal.attempt-returns-in-Found-clause-kept
 attempt-returns-in-Found-clause-kept g t c =
     let k = c.keep-in-Found.ensures in
-    search.kept_inside _ _ _ _ c.make.ensures.inside c.in-Found.ensures.kept k.parts k.marked k.saved
+    search.kept_inside c.args.engine.now c.make.new.engine c.go_on.new.engine c.keep-in-Found.new.engine c.make.ensures.inside c.in-Found.ensures.kept k.parts k.marked k.saved
 
 pub attempt-returns-in-Spent-clause-looks : goal.attempt-returns-in-Spent-clause-looks
 attempt-returns-in-Spent-clause-looks g t c =
     let w = c.args.engine.now in let v = c.make.new.engine in let u = c.go_on.new.engine in
-    let chain = search.chain_of w v c.args.trail.now c.longer-further.result c.args.edit _ c.solution.ensures.slots c.longer-further.ensures.moved c.make.ensures.state in
-    let low = search.lower_of v.parts v.state c.args.aim.now.lowest _ _ false c.totals_of.ensures c.are_lower.ensures c.if-are_lower.false in
+    let chain = search.chain_of w v c.args.trail.now c.longer-further.result c.args.edit c.solution.result.now.slots c.solution.ensures.slots c.longer-further.ensures.moved c.make.ensures.state in
+    let low = search.lower_of v.parts v.state c.args.aim.now.lowest c.totals_of.result c.are_lower.result false c.totals_of.ensures c.are_lower.ensures c.if-are_lower.false in
     let e = c.in-Spent.ensures in
     let back = c.take_back-in-Spent.ensures w (search.inside_kept w v u c.make.ensures.inside e.kept e.room e.looks.2) in
-    (search.onward_further w v c.args.trail.now c.longer-further.result c.args.edit _ _ _ _ c.make.ensures.inside chain (omega arith) low ∙ e.looks.0, back.state, back.saved, e.looks.3)
+    (search.onward_further w v c.args.trail.now c.longer-further.result c.args.edit c.args.aim.now.diversifier c.args.more c.args.left.now c.args.aim.now.lowest c.make.ensures.inside chain (omega arith) low ∙ e.looks.0, back.state, back.saved, e.looks.3)
 
 pub extend-returns-then-more-eq0-clause-looks : goal.extend-returns-then-more-eq0-clause-looks
 extend-returns-then-more-eq0-clause-looks g t c =
