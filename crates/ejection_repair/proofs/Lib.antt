@@ -1,0 +1,13 @@
+pub mod AmongLaws
+pub mod AskLaws
+pub mod BoundLaws
+pub mod CountLaws
+pub mod EditLaws
+pub mod KeptLaws
+pub mod LookLaws
+pub mod MarkLaws
+pub mod RoundLaws
+pub mod RunLaws
+pub mod SearchLaws
+pub mod SettledLaws
+pub mod SweepLaws

@@ -1,0 +1,10 @@
+pub mod Bounds
+pub mod Chains
+pub mod Examples
+pub mod Kept
+pub mod Looks
+pub mod Repaired
+pub mod Rounds
+pub mod Settled
+pub mod Trails
+pub mod Values
