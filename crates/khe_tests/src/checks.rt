@@ -46,18 +46,19 @@ const FIRST_SPELLED: &str = r#"<?xml version="1.0" encoding="UTF-8"?>
 </HighSchoolTimetableArchive>
 "#;
 
-/// The smallest archive, and its spelling of 69 bytes.
-const SMALLEST: (&str, &str) = (
-    "<HighSchoolTimetableArchive/>",
-    "<?xml version=\"1.0\" encoding=\"UTF-8\"?>\n<HighSchoolTimetableArchive/>\n",
-);
+/// The smallest archive.
+const SMALLEST: &str = "<HighSchoolTimetableArchive/>";
+
+/// Its spelling of 69 bytes.
+const SMALLEST_SPELLED: &str =
+    "<?xml version=\"1.0\" encoding=\"UTF-8\"?>\n<HighSchoolTimetableArchive/>\n";
 
 /// Words, what stands under the name, and how the run ends.
 type Case = (&'static [&'static str], &'static str, u8, &'static str);
 
 const CASES: &[Case] = &[
-    (&CHECK, SMALLEST.0, 0, SMALLEST.1),
-    (&CHECK, SMALLEST.1, 0, SMALLEST.1),
+    (&CHECK, SMALLEST, 0, SMALLEST_SPELLED),
+    (&CHECK, SMALLEST_SPELLED, 0, SMALLEST_SPELLED),
     (
         &CHECK,
         "<HighSchoolTimetableArchive Id=\"a&amp;&#9;b\"/>",
@@ -84,17 +85,17 @@ const CASES: &[Case] = &[
         3,
         "khe: archive refused: 13 UnknownReference at 87\n",
     ),
-    (&["check", "nothing"], SMALLEST.0, 4, ""),
-    (&["check"], SMALLEST.0, 2, "khe: words not understood\n"),
+    (&["check", "nothing"], SMALLEST, 4, ""),
+    (&["check"], SMALLEST, 2, "khe: words not understood\n"),
     (
         &["check", "archive", "archive"],
-        SMALLEST.0,
+        SMALLEST,
         2,
         "khe: words not understood\n",
     ),
     (
         &["Check", "archive"],
-        SMALLEST.0,
+        SMALLEST,
         2,
         "khe: words not understood\n",
     ),
