@@ -169,9 +169,9 @@ pub status-decided : (r : Reading) → IsDecided (status_of r)
 status-decided (evaluable a r) = inl refl
 status-decided (refused refusal) = inr (inr (inl refl))
 
-not-four : (r : Reading) → 4 ≡ status_of r → ⊥
-not-four (evaluable a r) e = omega (arith, e)
-not-four (refused refusal) e = omega (arith, e)
+pub not_four : (r : Reading) → 4 ≡ status_of r → ⊥
+not_four (evaluable a r) e = omega (arith, e)
+not_four (refused refusal) e = omega (arith, e)
 
 pub reported-there : (h : Holdings) (name : List ℕ) (all : Bool) (answer : Answer) → IfSome h (λ under. IsAnswerOf (under name) answer) → LacksOf (Some (evaluating name all)) h → ⊥
 reported-there None name all answer is l = l
@@ -179,7 +179,7 @@ reported-there (Some under) name all answer is l = by (under name) is l
   where
     by : (o : Option (List ℕ)) → IsAnswerOf o answer → IsAnswerTo all o 4 [] → ⊥
     by None none to = none
-    by (Some bytes) reading to = not-four to.reading to.status_is
+    by (Some bytes) reading to = not_four to.reading to.status_is
 
 pub report_lacks : (h : Holdings) (name : List ℕ) (all : Bool) → IsMissing h name → LacksOf (Some (evaluating name all)) h
 report_lacks None name all m = m

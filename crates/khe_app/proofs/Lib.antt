@@ -1,4 +1,5 @@
 pub mod CauseLemmas
+pub mod CheckEnds
 pub mod EndsLemmas
 pub mod FewLemmas
 pub mod GroupLemmas

@@ -1,5 +1,5 @@
 -- What `khe` is to answer: a status and a text, by the words and by what stands under the names.
-use Rattle.std.specs.Prelude.{ℕ, ◌≡◌, ◌<◌, ◌≤◌, ◌⊎◌, Bool, if◌then◌else◌, Option, Some, None, Result, Ok, Err, List, [], length, slice_get}
+use Rattle.std.specs.Prelude.{ℕ, ◌≡◌, ◌<◌, ◌≤◌, ◌⊎◌, Bool, if◌then◌else◌, Option, Some, None, Result, Ok, Err, List, [], length, slice_get, encode_utf8_all}
 use Rattle.std.specs.Option.{option_map_or}
 use Rattle.khe_base.specs.declared.limits.TheConstants.{ARCHIVE_BYTES}
 use Rattle.khe_engine.specs.Openings.{IsStateOf}
@@ -23,9 +23,10 @@ use Rattle.xhstt_resolve.specs.Resolved.{resolved}
 use Rattle.xhstt_resolve.specs.declared.faults.ResolveFault.{ResolveFault}
 use Rattle.xhstt_resolve.specs.declared.faults.ResolveFault.TheVariants as resolve
 use Rattle.xhstt_resolve.specs.declared.resolving.Resolved.{Resolved}
+use Rattle.xhstt_writer.specs.Archives.{canonical}
 use Rattle.khe_app.specs.Refusals.{refusal_line, not_understood_line, script_too_large_line}
 use Rattle.khe_app.specs.Report.{report}
-use Rattle.khe_app.specs.Words.{Asked, asked, evaluating, scripting}
+use Rattle.khe_app.specs.Words.{Asked, asked, evaluating, scripting, checking}
 use Rattle.khe_app.specs.declared.scripts.TheConstants.{SCRIPT_BYTES}
 use Rattle.khe_app.specs.declared.refusals.Refusal.{Refusal}
 use Rattle.khe_app.specs.declared.refusals.Refusal.TheVariants.{Fault, Limit, TooLarge, NoSuchSolution, Invalid}
@@ -139,11 +140,30 @@ abbrev pub IsPlayTo : ℕ → Option (List ℕ) → Option (List ℕ) → ℕ �
 IsPlayTo number None script status text = (status ≡ 4) × (text ≡ [])
 IsPlayTo number (Some bytes) script status text = IsPlayed number bytes script status text
 
+-- the bytes of a reading: the canonical spelling of an archive that is read, and the line that refuses one
+abbrev pub spelling_of : Reading → List ℕ
+spelling_of (evaluable a r) = canonical a
+spelling_of (refused refusal) = encode_utf8_all (refusal_line refusal)
+
+-- a reading of the bytes with this status, and a text that its bytes spell
+pub record IsRespelled (bytes : List ℕ) (status : ℕ) (text : List ℕ) : Type 0 where
+  pub reading : Reading
+  pub is : IsReadingOf bytes reading
+  pub status_is : status ≡ status_of reading
+  pub bytes_are : encode_utf8_all text ≡ spelling_of reading
+
+-- what the bytes under the archive's name are respelled as; where nothing stands there, status 4 and no
+-- text
+abbrev pub IsSpellingTo : Option (List ℕ) → ℕ → List ℕ → Type 0
+IsSpellingTo None status text = (status ≡ 4) × (text ≡ [])
+IsSpellingTo (Some bytes) status text = IsRespelled bytes status text
+
 -- the outcome of what is asked for, and of words without a reading, by what stands under each name
 abbrev pub IsOutcomeOf : Option Asked → (List ℕ → Option (List ℕ)) → ℕ → List ℕ → Type 0
 IsOutcomeOf None under status text = (status ≡ 2) × (text ≡ not_understood_line)
 IsOutcomeOf (Some (evaluating archive all)) under status text = IsAnswerTo all (under archive) status text
 IsOutcomeOf (Some (scripting archive number script)) under status text = IsPlayTo number (under archive) (under script) status text
+IsOutcomeOf (Some (checking archive)) under status text = IsSpellingTo (under archive) status text
 
 -- `khe` on these words, where these bytes stand under the names, ends with this status after this text
 abbrev pub IsOutcome : List (List ℕ) → (List ℕ → Option (List ℕ)) → ℕ → List ℕ → Type 0

@@ -1,9 +1,12 @@
--- An archive whose solutions have their instances, which are not too many for their numbers.
+-- An archive that is well formed, and whose solutions have their instances, which are not too many for
+-- their numbers.
 use Rattle.std.specs.Prelude.{◌<◌, ◌^◌, length}
 use Rattle.parallel_solve.specs.Ready as solutions
 use Rattle.xhstt_resolve.specs.declared.resolving.Resolved.{Resolved}
+use Rattle.xhstt_shape.specs.WellFormed.{IsWellFormed}
 use Rattle.xhstt_shape.specs.declared.records.Archive.{Archive}
 
 pub record IsReady (a : Archive) (r : Resolved) : Type 0 where
   pub ready : solutions.IsReady a r
   pub instances : length r.instances < 2 ^ 32
+  pub well_formed : IsWellFormed a

@@ -1,19 +1,22 @@
 -- What a request stands for.
 use Rattle.std.specs.Prelude.{ℕ, ◌≤◌}
-use Rattle.khe_app.specs.Words.{Asked, evaluating, scripting}
+use Rattle.khe_app.specs.Words.{Asked, evaluating, scripting, checking}
 use Rattle.khe_app.specs.declared.words.Request.{Request}
-use Rattle.khe_app.specs.declared.words.Request.TheVariants.{Evaluate, Script}
+use Rattle.khe_app.specs.declared.words.Request.TheVariants.{Evaluate, Script, Check}
 
 abbrev pub asked_of : Request → Asked
 asked_of (Evaluate archive all workers) = evaluating archive.now all
 asked_of (Script archive solution script) = scripting archive.now solution script.now
+asked_of (Check archive) = checking archive.now
 
 -- the workers of a report are 1 to 64
 abbrev pub IsFit : Request → Type 0
 IsFit (Evaluate archive all workers) = (1 ≤ workers) × (workers ≤ 64)
 IsFit (Script archive solution script) = Unit {0}
+IsFit (Check archive) = Unit {0}
 
 -- how many workers do what is asked for
 abbrev pub workers_in : Request → ℕ
 workers_in (Evaluate archive all workers) = workers
 workers_in (Script archive solution script) = 1
+workers_in (Check archive) = 1

@@ -12,11 +12,14 @@ pub data Asked : Type 0 where
   -- the answers to a script on one solution of an archive: the archive's name, the solution's number,
   -- and the script's name
   scripting : List ℕ → ℕ → List ℕ → Asked
+  -- the canonical spelling of the archive with this name
+  checking : List ℕ → Asked
 
 -- the name of the archive
 abbrev pub archive_of : Asked → List ℕ
 archive_of (evaluating archive all) = archive
 archive_of (scripting archive solution script) = archive
+archive_of (checking archive) = archive
 
 -- a number of workers: 1 to 18 digits that write 1 to 64
 unfoldable pub workers_of : List ℕ → Option ℕ
@@ -51,15 +54,21 @@ abbrev pub script_by : List ℕ → List (List ℕ) → Option Asked
 script_by archive (solution ∷ script ∷ []) = option_map (λ number. scripting archive number script) (number_of 18 solution)
 script_by archive _ = None
 
+-- the canonical spelling of an archive is asked for by its name alone
+abbrev pub check_by : List ℕ → List (List ℕ) → Option Asked
+check_by archive [] = Some (checking archive)
+check_by archive (word ∷ more) = None
+
 -- what is asked for by a command, the archive's name and the words after it
 unfoldable pub asked_by : List ℕ → List ℕ → List (List ℕ) → Option Asked
 asked_by command name more =
     if bytes_eq (codes "evaluate") command then option_map (λ o. evaluating name o.0) (options_by more)
     else if bytes_eq (codes "script") command then script_by name more
+    else if bytes_eq (codes "check") command then check_by name more
     else None
 
--- `evaluate ARCHIVE [--all] [--workers N]` or `script ARCHIVE SOLUTION SCRIPT`; the second word is the
--- archive's name, whatever it begins with
+-- `evaluate ARCHIVE [--all] [--workers N]`, `script ARCHIVE SOLUTION SCRIPT` or `check ARCHIVE`; the second
+-- word is the archive's name, whatever it begins with
 abbrev pub asked : List (List ℕ) → Option Asked
 asked (command ∷ name ∷ more) = asked_by command name more
 asked _ = None

@@ -2,6 +2,7 @@
 //! archive, and of a script, to the bytes of the answer and the status.
 #![tactic(auto)]
 
+mod checking;
 mod families;
 mod outcomes;
 mod program;

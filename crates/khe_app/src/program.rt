@@ -8,6 +8,7 @@ ghost use Rattle.khe_app.specs.Outcome.{IsReadingOf, status_of, text_of};
 ghost use Rattle.khe_app.specs.Refusals as refusals;
 ghost use Rattle.khe_app.specs.Words.{asked, evaluating, scripting};
 
+use crate::checking::check;
 use crate::reading::{ReadArchive, Unread, read};
 use crate::refusals::{Refusal, refusal_line};
 use crate::reports::report;
@@ -26,7 +27,7 @@ use thiserror::Error;
 ///
 /// | Status | Meaning |
 /// |---|---|
-/// | 0 | the archive was evaluated, or the script was read to its end |
+/// | 0 | the archive was evaluated or written, or the script was read to its end |
 /// | 2 | the words were not understood |
 /// | 3 | the archive was refused, or the solution that the script begins with |
 /// | 4 | the archive or the script could not be read |
@@ -79,11 +80,12 @@ impl From<NoMemory> for Stop {
 }
 
 /// Runs the program on these words: reads the archive that they name from the shelf, and writes its
-/// report, the answers to a script, or the line that refuses it, to the sink.
+/// report, the answers to a script, its canonical spelling, or the line that refuses it, to the sink.
 ///
 /// The words are `evaluate`, the archive's name, and in any order `--all` where the report is to have all
 /// monitors and `--workers` with the number of workers, 1 to 64; or `script`, the archive's name, the
-/// number of a solution, and the name of the script. The answer is a status, as in `Status`. What was
+/// number of a solution, and the name of the script; or `check` and the archive's name. The answer is a
+/// status, as in `Status`. What was
 /// written before a status of 4 is nothing, and before a status of 5 or 6 a first part of the text. The
 /// text does not depend on the number of workers, who pass the gate before each solution that they
 /// evaluate, with its number.
@@ -93,7 +95,8 @@ impl From<NoMemory> for Stop {
 /// same time divide the solutions. It keeps in memory the archive's bytes with their tree or, after that,
 /// the archive with its instances, and what the solutions of one window cost; and of the report what one
 /// solution adds. A script takes besides what opening an engine takes, and for each edit what
-/// watches its changes.
+/// watches its changes. A canonical spelling takes time linear in its bytes, and beside the archive and its
+/// instances no more memory than a piece of it.
 pub fn khe<R: Threads + Sync, S: Shelf, K: Sink, G: Gate>(
     rt: &R,
     alloc: Global,
@@ -172,6 +175,7 @@ fn respond<R: Threads + Sync, S: Shelf, K: Sink, G: Gate>(
                 script,
             },
         ) => run_script(alloc, shelf, out, archive, solution, script),
+        Some(Request::Check { archive }) => check(alloc, shelf, out, archive),
         None => refuse_words(out),
     }
 }
@@ -264,7 +268,7 @@ fn put<K: Sink>(out: &mut K, status: u8, bytes: &[u8]) -> Status
 }
 
 /// Writes the line that refuses an archive or a solution.
-fn put_refusal<K: Sink>(alloc: Global, out: &mut K, refusal: Refusal) -> Status
+pub(crate) fn put_refusal<K: Sink>(alloc: Global, out: &mut K, refusal: Refusal) -> Status
     requires { refusals.IsNamed refusal }
     ensures written { Written (K.taken out.old) (K.taken out.new) (K.faults out.old) (K.faults out.new) (encode_utf8_all (refusals.refusal_line refusal)) 3 result.0 }
     ensures sink_faults { K.faults out.old ≤ K.faults out.new }
@@ -337,7 +341,7 @@ fn instance_of(begun: &Begun) -> &Instance
 }
 
 /// What the archive under a name leads to.
-fn answer_to<S: Shelf>(alloc: Global, shelf: &mut S, name: &str) -> Result<Answer, Stop>
+pub(crate) fn answer_to<S: Shelf>(alloc: Global, shelf: &mut S, name: &str) -> Result<Answer, Stop>
     ensures answer { IfOk result (λ a. IfSome (S.holdings shelf.old) (λ under. IsAnswerOf (under name.now) a)) }
     ensures only { IfOk result (λ a. IfSome (S.holdings shelf.old) (λ under. IsOnlyAnswerOf (under name.now) a)) }
     ensures ready { IfOk result IsReadyAnswer }

@@ -4,7 +4,7 @@ ghost use Rattle.khe_app.specs.Outcome.{Reading, evaluable, IsReadingOf};
 ghost use Rattle.khe_app.specs.Readings.{IsTree, IsStoppedTree, IsStopped, IsUnread, IsUnshaped, of_resolve};
 ghost use Rattle.khe_app.specs.Ready.{IsReady};
 ghost use Rattle.xhstt_shape.specs.Shape.{shape_of};
-ghost use Rattle.xhstt_shape.specs.WellFormed.{IsInForm};
+ghost use Rattle.xhstt_shape.specs.WellFormed.{IsWellFormed};
 ghost use Rattle.xhstt_text.specs.Document.{Spelled};
 ghost use Rattle.xhstt_text.specs.FirstFault.{IsFirstFault};
 ghost use Rattle.xhstt_text.specs.Forest.{Forest};
@@ -69,7 +69,7 @@ fn archive_of(alloc: Global, bytes: &[u8]) -> Result<Archive, Unread>
     ensures only { IfOk result (λ a. (t : Forest) → Spelled bytes.now t → shape_of t ≡ Ok a) }
     ensures none { IfErr result (IsUnshaped bytes.now) }
     ensures sound { IfOk result (λ a. (kind at : ℕ) → IsFirstFault bytes.now kind at → ⊥) }
-    ensures formed { IfOk result IsInForm }
+    ensures formed { IfOk result IsWellFormed }
 {
     let tree = elements(alloc, bytes)?;
     Ok(archive(alloc, &tree)?)

@@ -1,6 +1,6 @@
 ghost use Rattle.std.specs.Prelude.{◌≡◌, ◌≤◌, None, Some, map, IfSome, MatchOption, string_bytes};
 ghost use Rattle.khe_app.specs.Requests.{IsFit, asked_of, workers_in};
-ghost use Rattle.khe_app.specs.Words.{asked, asked_by, all_by, both_by, evaluating, options_by, script_by, workers_by, workers_of};
+ghost use Rattle.khe_app.specs.Words.{asked, asked_by, all_by, both_by, check_by, evaluating, options_by, script_by, workers_by, workers_of};
 ghost use Rattle.std.specs.Option.{option_map};
 
 use edit_script::number_of;
@@ -26,11 +26,16 @@ pub(crate) enum Request<'a> {
         /// The name of the script.
         script: &'a str,
     },
+    /// The canonical spelling of an archive.
+    Check {
+        /// The name of the archive.
+        archive: &'a str,
+    },
 }
 
 /// What these words ask for, or `None` where they have no reading: the words are `evaluate`, a name,
 /// and in any order `--all` and `--workers` with a number, or nothing more; or `script`, a name, a number
-/// and a name.
+/// and a name; or `check` and a name.
 pub(crate) fn request_of(words: &[String]) -> Option<Request<'_>>
     ensures asked { MatchOption result (asked (map string_bytes words.now) ≡ None) (λ r. asked (map string_bytes words.now) ≡ Some (asked_of r)) }
     ensures fit { IfSome result IsFit }
@@ -52,6 +57,9 @@ fn request_by<'a>(command: &str, archive: &'a str, more: &'a [String]) -> Option
     }
     if command == "script" {
         return script_by(archive, more);
+    }
+    if command == "check" {
+        return check_by(archive, more);
     }
     None
 }
@@ -154,4 +162,15 @@ fn script_by<'a>(archive: &'a str, words: &'a [String]) -> Option<Request<'a>>
         solution: number_of(18, solution.as_bytes())?,
         script: script.as_str(),
     })
+}
+
+/// The canonical spelling of an archive, where no word stands after its name.
+fn check_by<'a>(archive: &'a str, words: &'a [String]) -> Option<Request<'a>>
+    ensures asked { MatchOption result (check_by archive.now (map string_bytes words.now) ≡ None) (λ r. check_by archive.now (map string_bytes words.now) ≡ Some (asked_of r)) }
+    ensures fit { IfSome result IsFit }
+{
+    let [] = words else {
+        return None;
+    };
+    Some(Request::Check { archive })
 }

@@ -6,6 +6,8 @@ mod archives;
 #[cfg(test)]
 mod causes;
 #[cfg(test)]
+mod checks;
+#[cfg(test)]
 mod kinds;
 #[cfg(test)]
 mod resolving;

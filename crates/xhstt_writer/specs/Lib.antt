@@ -7,3 +7,4 @@ pub mod Archives
 pub mod Examples
 pub mod Lookups
 pub mod Output
+pub mod Streams

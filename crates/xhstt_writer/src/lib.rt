@@ -13,7 +13,9 @@ mod output;
 mod parts;
 mod records;
 mod solutions;
+mod stream;
 mod texts;
 mod writing;
 
+pub use stream::{SendFault, send};
 pub use writing::write;

@@ -8,6 +8,7 @@ use Rattle.xhstt_shape.specs.Shape.{shape_of}
 use Rattle.xhstt_shape.specs.declared.faults.ShapeFault.{ShapeFault}
 use Rattle.xhstt_shape.specs.declared.faults.ShapeFault.TheVariants.{Bad}
 use Rattle.xhstt_shape.specs.declared.records.Archive.{Archive}
+use Rattle.xhstt_text.specs.Document.{Spelled}
 use Rattle.xhstt_text.specs.FlatTable.{root_forest}
 
 pub returns-in_err-tree-clause-none : goal.returns-in_err-tree-clause-none
@@ -32,3 +33,9 @@ pub returns-clause-sound : goal.returns-clause-sound
 returns-clause-sound c = λ kind at first.
     let s = c.in_ok-tree.ensures.spelled in
     c.elements.ensures.not_spelled kind at first s.0 s.1
+
+-- the bytes spell the tree, so its archive is well formed
+pub returns-clause-formed : goal.returns-clause-formed
+returns-clause-formed c =
+    c.in_ok-archive.ensures.well_formed
+    (subst (λ bytes. Spelled bytes (root_forest c.in_ok-tree.tree)) (sym c.in_ok-tree.ensures.bytes) c.in_ok-tree.ensures.spelled)
