@@ -1,1 +1,3 @@
+pub mod EntryLaws
+pub mod NamedLaws
 pub mod Own

@@ -3,6 +3,7 @@
 ghost use Rattle.std.specs.Prelude.{◌≡◌, map, IfOk};
 ghost use Rattle.khe_instance.specs.States.{IsTold};
 ghost use Rattle.std.specs.Option.{option_map};
+ghost use Rattle.xhstt_completion.specs.Entries.{IsSolution};
 ghost use Rattle.xhstt_entries.specs.Spelled as spec;
 
 use crate::entries::entry;
@@ -54,6 +55,9 @@ fn copy_of(alloc: Global, reference: &Ref) -> Result<Ref, NoMemory>
 /// its duration, its start if it has one, and the resources of its tasks with their roles, but for those
 /// that are preassigned. The reference, the description and the running time are the old solution's.
 ///
+/// Every entry is one of the instance: it names an event, a time and resources of it, and its duration is
+/// in range.
+///
 /// It takes time and memory in proportion to the timetable and its Ids.
 pub fn spell(
     alloc: Global,
@@ -62,8 +66,10 @@ pub fn spell(
     old: &RawSolution,
 ) -> Result<RawSolution, NoMemory>
     requires { IsTold inst.now plain.now.meets plain.now.tasks }
-    ensures { IfOk result (λ raw. raw ≡ spec.spelled inst.now plain.now old.now) }
+    ensures spelled { IfOk result (λ raw. raw ≡ spec.spelled inst.now plain.now old.now) }
+    ensures solution { IfOk result (IsSolution inst.now) }
 {
+    inst.facts();
     Ok(RawSolution {
         reference: copy_of(alloc, &old.reference)?,
         description: copy_if(alloc, &old.description)?,
