@@ -12,7 +12,7 @@ use ejection_repair::{Outcome, repair};
 use khe_base::{NoMemory, Totals};
 use khe_engine::Engine;
 use khe_instance::{Instance, Plain};
-use khe_told::{Blank, Steps};
+use khe_told::{Blank, Family, Steps};
 use std::alloc::Global;
 use std::marker::Brand;
 use std::sync::ledger::Ledger;
@@ -32,8 +32,8 @@ fn is_as(ended: Ended, case: &Case) -> bool {
 }
 
 /// Repairs a timetable.
-fn run_case<L: Ledger>(
-    engine: &mut Engine<'_, Families>,
+fn run_case<F: Family, L: Ledger>(
+    engine: &mut Engine<'_, F>,
     case: &Case,
     blank: Blank,
 ) -> Result<Ended, NoMemory>
@@ -56,11 +56,19 @@ fn run_case<L: Ledger>(
     })
 }
 
-fn repaired(alloc: Global, inst: &Instance, plain: &Plain, case: &Case) -> Result<Ended, NoMemory>
-    requires { IsValid inst.now plain.now }
+/// The repair of a case. It knows of no family what it owns, so its exits cost little to prove.
+fn repaired<F: Family + Drop>(
+    alloc: Global,
+    inst: &Instance,
+    plain: &Plain,
+    case: &Case,
+) -> Result<Ended, NoMemory>
+    requires joined { F.IsWellJoined }
+    requires serves { ServesAll F.serves_kind }
+    requires valid { IsValid inst.now plain.now }
 {
-    let mut engine = Engine::<Families>::open(alloc, inst, plain)?;
-    run_case::<Brand>(&mut engine, case, Blank::new(1))
+    let mut engine = Engine::<F>::open(alloc, inst, plain)?;
+    run_case::<F, Brand>(&mut engine, case, Blank::new(1))
 }
 
 /// Whether the case of an archive comes out as it says.
@@ -72,7 +80,7 @@ fn is_right(alloc: Global, worked: &Worked, case: &Case) -> bool {
     let Some(plain) = state_of(alloc, inst, raw) else {
         return false;
     };
-    match repaired(alloc, inst, &plain, case) {
+    match repaired::<Families>(alloc, inst, &plain, case) {
         Ok(ended) => is_as(ended, case),
         Err(NoMemory) => false,
     }
