@@ -91,10 +91,10 @@ fn right(alloc: Global, archive: &str, cases: &[Case]) -> usize {
     let Some(worked) = read(alloc, archive) else {
         return 0;
     };
-    let mut count = 0;
+    let mut count = 0usize;
     for case in cases {
         if is_right(alloc, &worked, case) {
-            count += 1;
+            count = count.saturating_add(1);
         }
     }
     count
