@@ -1,6 +1,7 @@
 -- A number and a set with the properties of the deficit and of the Hall set are those of the definition
 -- by all sets.
-use Rattle.std.proofs.Common.{ℕ, zero, suc, ◌+◌, ◌-◌, ◌<◌, ◌≤◌, ◌≡◌, Bool, true, false, not, ◌&&◌, cond, List, [], ◌∷◌, map, length, refl, sym, ap, subst, ◌∙◌, arith}
+use Rattle.std.proofs.Common.{ℕ, zero, suc, ◌+◌, ◌-◌, ◌<◌, ◌≤◌, ◌≡◌, Bool, true, false, not, ◌&&◌, cond, List, [], ◌∷◌}
+use Rattle.std.proofs.Common.{map, length, refl, sym, ap, subst, ◌∙◌, arith}
 use Rattle.std.specs.Prelude.{◌==◌, ◌||◌, ◌^◌}
 use Rattle.std.specs.List.{list_all, range_with_len}
 use Rattle.std.proofs.Props.{props}
@@ -23,14 +24,16 @@ use Rattle.hall_report.proofs.Stated.{is_own, kept_number, kept_place, renamed}
 use Rattle.hall_report.specs.Kept.{AreOf}
 use Rattle.hall_report.specs.declared.renewing.Picks.{Picks}
 use Rattle.hall_report.specs.declared.units.Units.{Units}
-use Rattle.demand_families.specs.Shortages.{AreCompeting, all_sets, competes, deficit_of, excess_of, greatest_excess, hall_of, has_greatest}
+use Rattle.demand_families.specs.Shortages.{AreCompeting, all_sets, competes, deficit_of, excess_of, greatest_excess}
+use Rattle.demand_families.specs.Shortages.{hall_of, has_greatest}
 use Rattle.demand_families.proofs.SetLaws.{all_at, all_from, greatest_ge, greatest_le, has_passing, is_listed, passing}
 
 -- sets that agree on the demands
 any_same : (n : ℕ) (a b : ℕ → Bool) → ((k : ℕ) → k < n → a k ≡ b k) → any_below n a ≡ any_below n b
 unfolding any_below
 any_same zero a b h = refl
-any_same (suc n) a b h = ap (λ x. x || any_below n a) (h n (omega arith)) ∙ ap (λ x. b n || x) (any_same n a b (λ k l. h k (omega (arith, l))))
+any_same (suc n) a b h = ap (λ x. x || any_below n a) (h n (omega arith))
+    ∙ ap (λ x. b n || x) (any_same n a b (λ k l. h k (omega (arith, l))))
 
 sum_same : (n : ℕ) (a b : ℕ → ℕ) → ((k : ℕ) → a k ≡ b k) → sum_below n a ≡ sum_below n b
 unfolding sum_below
@@ -39,13 +42,16 @@ sum_same (suc n) a b h = ap (λ x. x + sum_below n a) (h n) ∙ ap (λ x. b n + 
 
 module _ (w : Domains) (a b : ℕ → Bool) (same : (k : ℕ) → k < length w.demands → a k ≡ b k) where
   size_same : size_of w a ≡ size_of w b
-  size_same = count_same (length w.demands) (λ k. is_present w k && a k) (λ k. is_present w k && b k) (λ k l. ap (λ x. is_present w k && x) (same k l))
+  size_same = count_same (length w.demands) (λ k. is_present w k && a k) (λ k. is_present w k && b k)
+      (λ k l. ap (λ x. is_present w k && x) (same k l))
 
   near_same : neighbours_of w a ≡ neighbours_of w b
   near_same =
-      sum_same w.width (λ r. count_below w.last (λ t. is_neighbour w a r t)) (λ r. count_below w.last (λ t. is_neighbour w b r t))
+      sum_same w.width (λ r. count_below w.last (λ t. is_neighbour w a r t))
+      (λ r. count_below w.last (λ t. is_neighbour w b r t))
       (λ r. count_same w.last (λ t. is_neighbour w a r t) (λ t. is_neighbour w b r t)
-      (λ t l. any_same (length w.demands) (λ k. a k && may_have w k r t) (λ k. b k && may_have w k r t) (λ k m. ap (λ x. x && may_have w k r t) (same k m))))
+      (λ t l. any_same (length w.demands) (λ k. a k && may_have w k r t) (λ k. b k && may_have w k r t)
+      (λ k m. ap (λ x. x && may_have w k r t) (same k m))))
 
 -- the set of a test
 abbrev listed : Domains → (ℕ → Bool) → List Bool
@@ -58,17 +64,20 @@ near_listed : (w : Domains) (set : ℕ → Bool) → neighbours_of w (has_member
 near_listed w set = near_same w (has_member (listed w set)) set (has_passing (length w.demands) set)
 
 -- the deficit
-at_least : (w : Domains) (deficit : ℕ) (set : ℕ → Bool) → size_of w set ≡ neighbours_of w set + deficit → deficit ≤ greatest_excess w
+at_least : (w : Domains) (deficit : ℕ) (set : ℕ → Bool) → size_of w set ≡ neighbours_of w set + deficit
+    → deficit ≤ greatest_excess w
 unfolding greatest_excess
 at_least w deficit set e =
     let size = size_listed w set in
     let near = near_listed w set in
-    let most : excess_of w (listed w set) ≤ greatest_excess w = greatest_ge (excess_of w) (all_sets (length w.demands)) (listed w set) (is_listed (length w.demands) set) in
+    let most : excess_of w (listed w set) ≤ greatest_excess w =
+    greatest_ge (excess_of w) (all_sets (length w.demands)) (listed w set) (is_listed (length w.demands) set) in
     omega (arith, e, size, near, most)
 
 at_most : (w : Domains) (deficit : ℕ) → IsDeficit w deficit → greatest_excess w ≤ deficit
 unfolding greatest_excess
-at_most w deficit is = greatest_le (excess_of w) (all_sets (length w.demands)) deficit (λ set. let b = is.bound (has_member set) in omega (arith, b))
+at_most w deficit is = greatest_le (excess_of w) (all_sets (length w.demands)) deficit
+    (λ set. let b = is.bound (has_member set) in omega (arith, b))
 
 pub deficit_is : (w : Domains) (deficit : ℕ) → IsDeficit w deficit → deficit ≡ greatest_excess w
 deficit_is w deficit is =
@@ -80,20 +89,25 @@ deficit_is w deficit is =
 module _ (w : Domains) (is : IsDeficit w (greatest_excess w)) where
   great_from : (set : List Bool) → has_greatest w set ≡ true → HasGreatestExcess w (has_member set)
   great_from set h = λ other.
-      let e : size_of w (has_member set) ≡ neighbours_of w (has_member set) + greatest_excess w = eqb-true (size_of w (has_member set)) (neighbours_of w (has_member set) + greatest_excess w) h in
+      let e : size_of w (has_member set) ≡ neighbours_of w (has_member set) + greatest_excess w =
+      eqb-true (size_of w (has_member set)) (neighbours_of w (has_member set) + greatest_excess w) h in
       let b = is.bound other in
       omega (arith, e, b)
 
-  reached : (set : ℕ → Bool) → HasGreatestExcess w set → (other : ℕ → Bool) → size_of w other ≡ neighbours_of w other + greatest_excess w → neighbours_of w set + greatest_excess w ≤ size_of w set
+  reached : (set : ℕ → Bool) → HasGreatestExcess w set → (other : ℕ → Bool)
+      → size_of w other ≡ neighbours_of w other + greatest_excess w
+      → neighbours_of w set + greatest_excess w ≤ size_of w set
   reached set great other e = let g = great other in omega (arith, e, g)
 
   great_is : (set : ℕ → Bool) → HasGreatestExcess w set → has_greatest w (listed w set) ≡ true
   great_is set great =
-      let low : neighbours_of w set + greatest_excess w ≤ size_of w set = ∥∥₁_elim is.attained (hlevel props) (λ x. reached set great x.0 x.1) in
+      let low : neighbours_of w set + greatest_excess w ≤ size_of w set =
+      ∥∥₁_elim is.attained (hlevel props) (λ x. reached set great x.0 x.1) in
       let high = is.bound set in
       let size = size_listed w set in
       let near = near_listed w set in
-      let e : size_of w (has_member (listed w set)) ≡ neighbours_of w (has_member (listed w set)) + greatest_excess w = omega (arith, low, high, size, near) in
+      let e : size_of w (has_member (listed w set)) ≡ neighbours_of w (has_member (listed w set)) + greatest_excess w =
+      omega (arith, low, high, size, near) in
       eq-eqb (size_of w (has_member (listed w set))) (neighbours_of w (has_member (listed w set)) + greatest_excess w) e
 
   -- the Hall set
@@ -112,9 +126,11 @@ module _ (w : Domains) (is : IsDeficit w (greatest_excess w)) where
     in_hall : competes w d ≡ true → set d ≡ true
     unfolding competes
     in_hall h =
-        let own = all_at (λ x. not (has_greatest w x) || has_member x d) (all_sets (length w.demands)) (listed w set) h (is_listed (length w.demands) set) in
+        let own = all_at (λ x. not (has_greatest w x) || has_member x d) (all_sets (length w.demands)) (listed w set) h
+        (is_listed (length w.demands) set) in
         let great : has_greatest w (listed w set) ≡ true = great_is set hall.greatest in
-        sym (has_passing (length w.demands) set d there) ∙ sym (ap (λ b. not b || has_member (listed w set) d) great) ∙ own
+        sym (has_passing (length w.demands) set d there) ∙ sym (ap (λ b. not b || has_member (listed w set) d) great)
+        ∙ own
 
     pub hall_same : set d ≡ competes w d
     hall_same = both_ways (set d) (competes w d) competes_from in_hall
@@ -146,15 +162,19 @@ module _ (p : Parts) (s : List Slot) where
       (λ i l. hall_same w own test least (0 + i) (omega (arith, l, many)))
 
 -- 32 bits count all demands of a told state, and so those that compete
-module _ (p : Parts) (s : List Slot) (u : Units) (picks : Picks) (w : Domains) (cells : List ℕ) (tasks times : ℕ) (are : AreOf p s u picks w cells tasks times) where
+module _ (p : Parts) (s : List Slot) (u : Units) (picks : Picks) (w : Domains) (cells : List ℕ) (tasks times : ℕ)
+    (are : AreOf p s u picks w cells tasks times) where
   as_many : size_of (domains p s) (λ k. true) ≡ size_of w (λ k. true)
-  as_many = size_renamed (domains p s) w (kept_number p s u picks w cells are.told are.units are.opened are.numbered) (kept_place p s u picks w cells are.told are.units are.opened are.numbered) (renamed p s u picks w cells are.told are.units are.opened are.numbered) (λ k. true)
+  as_many = size_renamed (domains p s) w (kept_number p s u picks w cells are.told are.units are.opened are.numbered)
+      (kept_place p s u picks w cells are.told are.units are.opened are.numbered)
+      (renamed p s u picks w cells are.told are.units are.opened are.numbered) (λ k. true)
 
   all_present : length (demands p s) ≡ size_of (domains p s) (λ k. true)
   all_present =
       sym (many p s) ∙ sym (count_all (length (domains p s).demands))
       ∙ count_same (length (domains p s).demands) (λ k. true) (λ k. is_present (domains p s) k && true)
-      (λ k l. sym (and_from (is_present (domains p s) k) true (is_own p s u picks w cells are.told are.units are.opened are.numbered k (omega (arith, l, many p s))) refl))
+      (λ k l. sym (and_from (is_present (domains p s) k) true
+      (is_own p s u picks w cells are.told are.units are.opened are.numbered k (omega (arith, l, many p s))) refl))
 
   few_demands : length (demands p s) < 2 ^ 32
   few_demands =
@@ -164,19 +184,27 @@ module _ (p : Parts) (s : List Slot) (u : Units) (picks : Picks) (w : Domains) (
       let all = all_present in
       let same = as_many in
       let most : size_of w (λ k. true) ≤ length w.demands =
-      omega (arith, count_subset (length w.demands) (λ k. is_present w k && true) (λ k. true) (λ k l e. refl), count_all (length w.demands)) in
+      omega (
+        arith,
+        count_subset (length w.demands) (λ k. is_present w k && true) (λ k. true) (λ k l e. refl),
+        count_all
+            (length w.demands),
+      ) in
       omega (arith, size, total, all, same, most)
 
   chosen_few : (test : ℕ → Bool) (n : ℕ) (ds : List Demand) → length (chosen test n ds) ≤ length ds
   chosen_few test n [] = omega arith
   chosen_few test n (d ∷ ds) = one_more (test n) (chosen test (n + 1) ds) (chosen_few test (n + 1) ds)
     where
-      one_more : (b : Bool) (rest : List Demand) → length rest ≤ length ds → length (cond b (d ∷ rest) rest) ≤ suc (length ds)
+      one_more : (b : Bool) (rest : List Demand) → length rest ≤ length ds
+          → length (cond b (d ∷ rest) rest) ≤ suc (length ds)
       one_more true rest l = omega (arith, l)
       one_more false rest l = omega (arith, l)
 
-  pub hall_kept : (deficit : ℕ) (hall : List Demand) → IsDeficitOf p s deficit → IsHallOf p s hall → AreCompeting p s hall
+  pub hall_kept : (deficit : ℕ) (hall : List Demand) → IsDeficitOf p s deficit → IsHallOf p s hall
+      → AreCompeting p s hall
   hall_kept deficit hall is own = record {
     are = hall_told p s deficit hall is own;
-    few = (let l = chosen_few own.0 0 (demands p s) in let e = ap length own.2 in let f = few_demands in omega (arith, l, e, f));
+    few = (let l = chosen_few own.0 0 (demands p s) in let e = ap length own.2 in let f = few_demands in
+        omega (arith, l, e, f));
   }

@@ -1,5 +1,6 @@
 -- A demand is given a free supply, or loses the one that it has.
-use Rattle.std.proofs.Common.{ℕ, ◌<◌, ◌≡◌, ◌≢◌, Bool, true, Option, Some, None, List, length, get_or, set, sym, ap, ◌∙◌, inl, inr, ◌⊎◌, get_or-set_same, get_or-set_other}
+use Rattle.std.proofs.Common.{ℕ, ◌<◌, ◌≡◌, ◌≢◌, Bool, true, Option, Some, None, List, length, get_or, set, sym, ap, ◌∙◌}
+use Rattle.std.proofs.Common.{inl, inr, ◌⊎◌, get_or-set_same, get_or-set_other}
 use Rattle.demand_matching.specs.Assigned.{IsMatching}
 use Rattle.demand_matching.proofs.Counting.{cases_eqb}
 
@@ -7,8 +8,10 @@ pub is_or_not : (o : Option ℕ) (u : ℕ) → (o ≡ Some u) ⊎ (o ≡ Some u 
 is_or_not None u = inr (λ e. cc)
 is_or_not (Some v) u = elim (cases_eqb v u) [ inl x ↦ inl (ap Some x) | inr x ↦ inr (λ e. x cc) ]
 
-pub given : (n m : ℕ) (may : ℕ → ℕ → Bool) (gets owner gets' owner' : ℕ → Option ℕ) (d s : ℕ) → IsMatching n m may gets owner → d < n → s < m → may d s ≡ true → owner s ≡ None → gets d ≡ None
-    → gets' d ≡ Some s → ((e : ℕ) → e ≢ d → gets' e ≡ gets e) → owner' s ≡ Some d → ((u : ℕ) → u ≢ s → owner' u ≡ owner u) → IsMatching n m may gets' owner'
+pub given : (n m : ℕ) (may : ℕ → ℕ → Bool) (gets owner gets' owner' : ℕ → Option ℕ) (d s : ℕ)
+    → IsMatching n m may gets owner → d < n → s < m → may d s ≡ true → owner s ≡ None → gets d ≡ None
+    → gets' d ≡ Some s → ((e : ℕ) → e ≢ d → gets' e ≡ gets e) → owner' s ≡ Some d
+    → ((u : ℕ) → u ≢ s → owner' u ≡ owner u) → IsMatching n m may gets' owner'
 given n m may gets owner gets' owner' d s is l k ok free none its others now rest = record {
   demand = λ e u h. elim (cases_eqb e d) [ inl x ↦ rw x l | inr x ↦ is.demand e u (sym (others e x) ∙ h) ];
   supply = λ e u h. elim (cases_eqb e d) [
@@ -35,8 +38,10 @@ given n m may gets owner gets' owner' d s is l k ok free none its others now res
   ];
 }
 
-pub released : (n m : ℕ) (may may' : ℕ → ℕ → Bool) (gets owner gets' owner' : ℕ → Option ℕ) (d : ℕ) → IsMatching n m may gets owner → ((e u : ℕ) → e ≢ d → may' e u ≡ may e u)
-    → gets' d ≡ None → ((e : ℕ) → e ≢ d → gets' e ≡ gets e) → ((u : ℕ) → gets d ≡ Some u → owner' u ≡ None) → ((u : ℕ) → (gets d ≡ Some u → ⊥) → owner' u ≡ owner u) → IsMatching n m may' gets' owner'
+pub released : (n m : ℕ) (may may' : ℕ → ℕ → Bool) (gets owner gets' owner' : ℕ → Option ℕ) (d : ℕ)
+    → IsMatching n m may gets owner → ((e u : ℕ) → e ≢ d → may' e u ≡ may e u)
+    → gets' d ≡ None → ((e : ℕ) → e ≢ d → gets' e ≡ gets e) → ((u : ℕ) → gets d ≡ Some u → owner' u ≡ None)
+    → ((u : ℕ) → (gets d ≡ Some u → ⊥) → owner' u ≡ owner u) → IsMatching n m may' gets' owner'
 released n m may may' gets owner gets' owner' d is same none others freed rest = record {
   demand = λ e u h. is.demand e u (sym (others e (not_it e u h)) ∙ h);
   supply = λ e u h. is.supply e u (sym (others e (not_it e u h)) ∙ h);

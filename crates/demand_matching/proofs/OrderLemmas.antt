@@ -1,15 +1,24 @@
 -- A demand that changes places with another.
-use Rattle.std.proofs.Common.{ℕ, ◌<◌, ◌≡◌, List, length, get_or, set, sym, ap, ◌∙◌, arith, inl, inr, get_or-set_same, get_or-set_other, length-set}
+use Rattle.std.proofs.Common.{ℕ, ◌<◌, ◌≡◌, List, length, get_or, set, sym, ap, ◌∙◌, arith, inl, inr, get_or-set_same}
+use Rattle.std.proofs.Common.{get_or-set_other, length-set}
 use Rattle.demand_matching.specs.Order.{IsOrder, ChangesPlaces}
 use Rattle.demand_matching.proofs.Counting.{cases_eqb}
 
 -- the value after two writes
-two_writes : (xs : List ℕ) (i a j b k : ℕ) → i < length xs → j < length xs → ((k ≡ j → ⊥) → (k ≡ i → ⊥) → get_or (set (set xs i a) j b) k 0 ≡ get_or xs k 0) × (get_or (set (set xs i a) j b) j 0 ≡ b) × ((i ≡ j → ⊥) → get_or (set (set xs i a) j b) i 0 ≡ a)
+two_writes : (xs : List ℕ) (i a j b k : ℕ) → i < length xs → j < length xs
+    → ((k ≡ j → ⊥) → (k ≡ i → ⊥) → get_or (set (set xs i a) j b) k 0 ≡ get_or xs k 0)
+    × (get_or (set (set xs i a) j b) j 0 ≡ b) × ((i ≡ j → ⊥) → get_or (set (set xs i a) j b) i 0 ≡ a)
 two_writes xs i a j b k l m =
-    let n : j < length (set xs i a) = omega (arith, length-set xs i a) in
-    ((λ p q. get_or-set_other (set xs i a) j k b 0 p ∙ get_or-set_other xs i k a 0 q), get_or-set_same (set xs i a) j b 0 n, (λ p. get_or-set_other (set xs i a) j i b 0 p ∙ get_or-set_same xs i a 0 l))
+    let n : j < length (set xs i a) = omega (arith, length-set xs i a) in (
+      (λ p q. get_or-set_other (set xs i a) j k b 0 p ∙ get_or-set_other xs i k a 0 q),
+      get_or-set_same (set xs i a) j b
+          0 n,
+      (λ p. get_or-set_other (set xs i a) j i b 0 p ∙ get_or-set_same xs i a 0 l),
+    )
 
-pub changed_places : (n : ℕ) (order spots : List ℕ) (d place : ℕ) → IsOrder n order spots → d < n → place < n → ChangesPlaces order spots (set (set order place d) (get_or spots d 0) (get_or order place 0)) (set (set spots (get_or order place 0) (get_or spots d 0)) d place) d place
+pub changed_places : (n : ℕ) (order spots : List ℕ) (d place : ℕ) → IsOrder n order spots → d < n → place < n
+    → ChangesPlaces order spots (set (set order place d) (get_or spots d 0) (get_or order place 0))
+    (set (set spots (get_or order place 0) (get_or spots d 0)) d place) d place
 changed_places n order spots d place is l m =
     let e : ℕ = get_or order place 0 in
     let i : ℕ = get_or spots d 0 in
@@ -24,7 +33,9 @@ changed_places n order spots d place is l m =
       other_places = λ k p q. (two_writes order place d i e k p_in i_in).0 q p;
     }
 
-pub changed_order : (n : ℕ) (order spots : List ℕ) (d place : ℕ) → IsOrder n order spots → d < n → place < n → IsOrder n (set (set order place d) (get_or spots d 0) (get_or order place 0)) (set (set spots (get_or order place 0) (get_or spots d 0)) d place)
+pub changed_order : (n : ℕ) (order spots : List ℕ) (d place : ℕ) → IsOrder n order spots → d < n → place < n
+    → IsOrder n (set (set order place d) (get_or spots d 0) (get_or order place 0))
+    (set (set spots (get_or order place 0) (get_or spots d 0)) d place)
 changed_order n order spots d place is l m =
     let e : ℕ = get_or order place 0 in
     let i : ℕ = get_or spots d 0 in
@@ -41,9 +52,17 @@ changed_order n order spots d place is l m =
     let at_i : get_or order' i 0 ≡ e = (two_writes order place d i e 0 p_in i_in).1 in
     let at_d : get_or spots' d 0 ≡ place = (two_writes spots e i d place 0 e_in d_in).1 in
     let at_place : get_or order' place 0 ≡ d =
-    elim (cases_eqb place i) [ inl x ↦ let y : e ≡ d = ap (λ v. get_or order v 0) x ∙ order_i in ap (λ v. get_or order' v 0) x ∙ at_i ∙ y | inr x ↦ (two_writes order place d i e 0 p_in i_in).2 x ] in
+    elim (cases_eqb place i) [
+      | inl x ↦ let y : e ≡ d = ap (λ v. get_or order v 0) x ∙ order_i in
+          ap (λ v. get_or order' v 0) x ∙ at_i ∙ y
+      | inr x ↦ (two_writes order place d i e 0 p_in i_in).2 x
+    ] in
     let at_e : get_or spots' e 0 ≡ i =
-    elim (cases_eqb e d) [ inl x ↦ let y : place ≡ i = sym spot_e ∙ ap (λ v. get_or spots v 0) x in ap (λ v. get_or spots' v 0) x ∙ at_d ∙ y | inr x ↦ (two_writes spots e i d place 0 e_in d_in).2 x ] in
+    elim (cases_eqb e d) [
+      | inl x ↦ let y : place ≡ i = sym spot_e ∙ ap (λ v. get_or spots v 0) x in
+          ap (λ v. get_or spots' v 0) x ∙ at_d ∙ y
+      | inr x ↦ (two_writes spots e i d place 0 e_in d_in).2 x
+    ] in
     record {
       order_length = length-set (set order place d) i e ∙ length-set order place d ∙ is.order_length;
       spots_length = length-set (set spots e i) d place ∙ length-set spots e i ∙ is.spots_length;
@@ -67,9 +86,12 @@ changed_order n order spots d place is l m =
           | inl y ↦ ap (λ v. get_or order' (get_or spots' v 0) 0) y ∙ ap (λ v. get_or order' v 0) at_e ∙ at_i ∙ sym y
           | inr y ↦
               let same : get_or spots' k 0 ≡ get_or spots k 0 = (two_writes spots e i d place k e_in d_in).0 x y in
-              let not_i : get_or spots k 0 ≡ i → ⊥ = λ z. x (sym (is.order_spot k h) ∙ ap (λ v. get_or order v 0) z ∙ order_i) in
-              let not_place : get_or spots k 0 ≡ place → ⊥ = λ z. y (sym (is.order_spot k h) ∙ ap (λ v. get_or order v 0) z) in
-              ap (λ v. get_or order' v 0) same ∙ (two_writes order place d i e (get_or spots k 0) p_in i_in).0 not_i not_place ∙ is.order_spot k h
+              let not_i : get_or spots k 0 ≡ i → ⊥ = λ z. x
+              (sym (is.order_spot k h) ∙ ap (λ v. get_or order v 0) z ∙ order_i) in
+              let not_place : get_or spots k 0 ≡ place → ⊥ =
+              λ z. y (sym (is.order_spot k h) ∙ ap (λ v. get_or order v 0) z) in
+              ap (λ v. get_or order' v 0) same ∙ (two_writes order place d i e (get_or spots k 0) p_in i_in).0 not_i
+              not_place ∙ is.order_spot k h
         ]
       ];
       spot_order = λ k h. elim (cases_eqb k place) [
@@ -79,8 +101,10 @@ changed_order n order spots d place is l m =
           | inr y ↦
               let same : get_or order' k 0 ≡ get_or order k 0 = (two_writes order place d i e k p_in i_in).0 y x in
               let not_d : get_or order k 0 ≡ d → ⊥ = λ z. y (sym (is.spot_order k h) ∙ ap (λ v. get_or spots v 0) z) in
-              let not_e : get_or order k 0 ≡ e → ⊥ = λ z. x (sym (is.spot_order k h) ∙ ap (λ v. get_or spots v 0) z ∙ spot_e) in
-              ap (λ v. get_or spots' v 0) same ∙ (two_writes spots e i d place (get_or order k 0) e_in d_in).0 not_d not_e ∙ is.spot_order k h
+              let not_e : get_or order k 0 ≡ e → ⊥ = λ z. x
+              (sym (is.spot_order k h) ∙ ap (λ v. get_or spots v 0) z ∙ spot_e) in
+              ap (λ v. get_or spots' v 0) same ∙ (two_writes spots e i d place (get_or order k 0) e_in d_in).0 not_d
+              not_e ∙ is.spot_order k h
         ]
       ];
     }

@@ -12,4 +12,5 @@ pub record IsMatching (n m : ℕ) (may : ℕ → ℕ → Bool) (gets owner : ℕ
 
 -- each supply that a demand of the set may have is that of a demand of the set
 abbrev pub IsSaturated : ℕ → ℕ → (ℕ → ℕ → Bool) → (ℕ → Option ℕ) → (ℕ → Bool) → Type 0
-IsSaturated n m may owner set = (d s : ℕ) → d < n → set d ≡ true → s < m → may d s ≡ true → (e : ℕ) × (owner s ≡ Some e) × (set e ≡ true)
+IsSaturated n m may owner set = (d s : ℕ) → d < n → set d ≡ true → s < m → may d s ≡ true
+    → (e : ℕ) × (owner s ≡ Some e) × (set e ≡ true)

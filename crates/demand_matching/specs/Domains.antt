@@ -1,5 +1,6 @@
 -- The supplies that a demand may have: a supply is a resource at a time.
-use Rattle.std.specs.Prelude.{ℕ, ◌-◌, ◌<◌, ◌==◌, nat_le, length, Bool, false, ◌&&◌, List, [], Option, Some, None, is_some, slice_index_or, slice_set, IsTrue, replicate}
+use Rattle.std.specs.Prelude.{ℕ, ◌-◌, ◌<◌, ◌==◌, nat_le, length, Bool, false, ◌&&◌, List, [], Option, Some, None}
+use Rattle.std.specs.Prelude.{is_some, slice_index_or, slice_set, IsTrue, replicate}
 use Rattle.demand_matching.specs.declared.domains.Pick.{Pick}
 use Rattle.demand_matching.specs.declared.domains.Pick.TheVariants.{One, «Set»}
 use Rattle.demand_matching.specs.declared.domains.Domain.{Domain}
@@ -58,4 +59,5 @@ with_domain w demand domain = record w { demands = slice_set w.demands demand do
 
 -- so many demands without a domain
 abbrev pub no_domains : List (List Bool) → List (List Bool) → ℕ → ℕ → ℕ → Domains
-no_domains times resources last width demands = record { times = times; resources = resources; last = last; width = width; demands = replicate demands None }
+no_domains times resources last width demands =
+    record { times = times; resources = resources; last = last; width = width; demands = replicate demands None }

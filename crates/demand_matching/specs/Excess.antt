@@ -9,7 +9,8 @@ size_of w set = count_below (length w.demands) (λ demand. is_present w demand &
 
 -- whether a demand of the set may have the resource at the time
 abbrev pub is_neighbour : Domains → (ℕ → Bool) → ℕ → ℕ → Bool
-is_neighbour w set resource time = any_below (length w.demands) (λ demand. set demand && may_have w demand resource time)
+is_neighbour w set resource time = any_below (length w.demands)
+    (λ demand. set demand && may_have w demand resource time)
 
 -- how many supplies at least one demand of the set may have
 abbrev pub neighbours_of : Domains → (ℕ → Bool) → ℕ
@@ -17,7 +18,8 @@ neighbours_of w set = sum_below w.width (λ resource. count_below w.last (λ tim
 
 -- the excess of the set is the greatest
 abbrev pub HasGreatestExcess : Domains → (ℕ → Bool) → Type 0
-HasGreatestExcess w set = (other : ℕ → Bool) → size_of w other + neighbours_of w set ≤ neighbours_of w other + size_of w set
+HasGreatestExcess w set = (other : ℕ → Bool) → size_of w other + neighbours_of w set ≤ neighbours_of w other + size_of w
+    set
 
 -- the number is the greatest excess of a set of present demands
 pub record IsDeficit (w : Domains) (deficit : ℕ) : Type 0 where
@@ -28,10 +30,13 @@ pub record IsDeficit (w : Domains) (deficit : ℕ) : Type 0 where
 pub record IsHallSet (w : Domains) (set : ℕ → Bool) : Type 0 where
   pub present : (demand : ℕ) → IsTrue (set demand) → IsTrue (is_present w demand)
   pub greatest : HasGreatestExcess w set
-  pub least : (other : ℕ → Bool) → HasGreatestExcess w other → (demand : ℕ) → IsTrue (set demand) → IsTrue (other demand)
+  pub least : (other : ℕ → Bool) → HasGreatestExcess w other → (demand : ℕ) → IsTrue (set demand)
+      → IsTrue (other demand)
 
 -- each present demand has a supply of its own, which it may have, but for so many that have none
 pub record IsAssignment (w : Domains) (supply : ℕ → Option (ℕ × ℕ)) (left_out : ℕ) : Type 0 where
-  pub admissible : (demand resource time : ℕ) → supply demand ≡ Some (resource, time) → IsTrue (may_have w demand resource time)
-  pub distinct : (one other resource time : ℕ) → supply one ≡ Some (resource, time) → supply other ≡ Some (resource, time) → one ≡ other
+  pub admissible : (demand resource time : ℕ) → supply demand ≡ Some (resource, time)
+      → IsTrue (may_have w demand resource time)
+  pub distinct : (one other resource time : ℕ) → supply one ≡ Some (resource, time)
+      → supply other ≡ Some (resource, time) → one ≡ other
   pub left : count_below (length w.demands) (λ demand. is_present w demand && is_none (supply demand)) ≡ left_out

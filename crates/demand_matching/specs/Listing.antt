@@ -11,9 +11,12 @@ pub record IsListing (t : Table) (o : Order) (left : ℕ) : Type 0 where
   pub order : IsOrder (demands_in t) o.demands.items o.spots.items
   pub met_length : length o.met_from.items ≡ demands_in t
   pub fits : left ≤ demands_in t
-  pub present : (demand : ℕ) → demand < demands_in t → slice_index o.spots.items demand < left → is_present (domains_of t) demand ≡ true
-  pub left_out : (demand : ℕ) → demand < demands_in t → slice_index o.spots.items demand < left → supply_of t demand ≡ None
-  pub listed : (demand : ℕ) → demand < demands_in t → is_present (domains_of t) demand ≡ true → supply_of t demand ≡ None → slice_index o.spots.items demand < left
+  pub present : (demand : ℕ) → demand < demands_in t → slice_index o.spots.items demand < left
+      → is_present (domains_of t) demand ≡ true
+  pub left_out : (demand : ℕ) → demand < demands_in t → slice_index o.spots.items demand < left
+      → supply_of t demand ≡ None
+  pub listed : (demand : ℕ) → demand < demands_in t → is_present (domains_of t) demand ≡ true
+      → supply_of t demand ≡ None → slice_index o.spots.items demand < left
 
 -- a demand that had no supply has one now, and each other has one where it had one
 pub record ServesOne (t t' : Table) (demand : ℕ) : Type 0 where

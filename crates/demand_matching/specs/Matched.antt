@@ -11,8 +11,10 @@ use Rattle.demand_matching.specs.Table.{IsTable, domains_of, may_take, demands_i
 -- is that of one of them
 pub record IsShut (t : Table) (spots : List ℕ) (met : ℕ) : Type 0 where
   pub fits : met ≤ demands_in t
-  pub present : (demand : ℕ) → demand < demands_in t → slice_index spots demand < met → is_present (domains_of t) demand ≡ true
-  pub saturated : (demand supply : ℕ) → demand < demands_in t → slice_index spots demand < met → supply < supplies_in t → may_take (domains_of t) demand supply ≡ true → IsReached t spots met supply
+  pub present : (demand : ℕ) → demand < demands_in t → slice_index spots demand < met
+      → is_present (domains_of t) demand ≡ true
+  pub saturated : (demand supply : ℕ) → demand < demands_in t → slice_index spots demand < met → supply < supplies_in t
+      → may_take (domains_of t) demand supply ≡ true → IsReached t spots met supply
 
 -- so many are left out, and they are among demands that have all supplies that these may have: no
 -- matching leaves out fewer

@@ -9,13 +9,15 @@ use Rattle.demand_matching.specs.Table.{domains_of, may_take, supply_of, owner_o
 
 -- the demand is in each set that has all that are left out and all supplies that it may have
 abbrev pub IsInAll : Table → ℕ → Type 0
-IsInAll t demand = (set : ℕ → Bool) → ((other : ℕ) → other < demands_in t → is_present (domains_of t) other ≡ true → supply_of t other ≡ None → set other ≡ true)
+IsInAll t demand = (set : ℕ → Bool) → ((other : ℕ) → other < demands_in t → is_present (domains_of t) other ≡ true
+    → supply_of t other ≡ None → set other ≡ true)
     → IsSaturated (demands_in t) (supplies_in t) (may_take (domains_of t)) (owner_of t) set → set demand ≡ true
 
 -- the demands of the list are those with a mark, each once, and each is in all such sets
 pub record IsReach (t : Table) (demands : List ℕ) (marks : List Bool) : Type 0 where
   pub size : length marks ≡ demands_in t
-  pub listed : (demand : ℕ) → has_member marks demand ≡ true → (k : ℕ) × (k < length demands) × (slice_index demands k ≡ demand)
+  pub listed : (demand : ℕ) → has_member marks demand ≡ true
+      → (k : ℕ) × (k < length demands) × (slice_index demands k ≡ demand)
   pub marked : (k : ℕ) → k < length demands → has_member marks (slice_index demands k) ≡ true
   pub apart : (j k : ℕ) → j < k → k < length demands → slice_index demands j ≢ slice_index demands k
   pub there : (demand : ℕ) → has_member marks demand ≡ true → is_present (domains_of t) demand ≡ true
@@ -33,5 +35,7 @@ pub record IsReached (t : Table) (marks : List Bool) : Type 0 where
   pub size : length marks ≡ demands_in t
   pub there : (demand : ℕ) → has_member marks demand ≡ true → is_present (domains_of t) demand ≡ true
   pub all : (demand : ℕ) → has_member marks demand ≡ true → IsInAll t demand
-  pub left_out : (demand : ℕ) → demand < demands_in t → is_present (domains_of t) demand ≡ true → supply_of t demand ≡ None → has_member marks demand ≡ true
-  pub owners : (demand supply by : ℕ) → has_member marks demand ≡ true → may_take (domains_of t) demand supply ≡ true → owner_of t supply ≡ Some by → has_member marks by ≡ true
+  pub left_out : (demand : ℕ) → demand < demands_in t → is_present (domains_of t) demand ≡ true
+      → supply_of t demand ≡ None → has_member marks demand ≡ true
+  pub owners : (demand supply by : ℕ) → has_member marks demand ≡ true → may_take (domains_of t) demand supply ≡ true
+      → owner_of t supply ≡ Some by → has_member marks by ≡ true

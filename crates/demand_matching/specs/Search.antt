@@ -8,14 +8,16 @@ use Rattle.demand_matching.specs.declared.table.Found.TheVariants.{Open, Closed}
 use Rattle.demand_matching.specs.declared.order.Order.{Order}
 use Rattle.demand_matching.specs.Domains.{is_present}
 use Rattle.demand_matching.specs.Order.{IsOrder, HasSameFirst}
-use Rattle.demand_matching.specs.Table.{domains_of, may_take, admits_supply, supply_of, owner_of, demands_in, supplies_in}
+use Rattle.demand_matching.specs.Table.{domains_of, may_take, admits_supply, supply_of, owner_of, demands_in}
+use Rattle.demand_matching.specs.Table.{supplies_in}
 
 -- the demand at a place of the order was met from an earlier one, not before the head, which may
 -- have its supply
 pub record IsMet (t : Table) (head : ℕ) (demands met_from : List ℕ) (place supply : ℕ) : Type 0 where
   pub after : head ≤ slice_index met_from (slice_index demands place)
   pub before : slice_index met_from (slice_index demands place) < place
-  pub allowed : may_take (domains_of t) (slice_index demands (slice_index met_from (slice_index demands place))) supply ≡ true
+  pub allowed : may_take (domains_of t) (slice_index demands (slice_index met_from (slice_index demands place))) supply
+      ≡ true
 
 -- the first demands of the order are present, and each from the head on that has a supply was met
 pub record IsSearch (t : Table) (head : ℕ) (demands spots met_from : List ℕ) (len : ℕ) : Type 0 where
@@ -23,7 +25,8 @@ pub record IsSearch (t : Table) (head : ℕ) (demands spots met_from : List ℕ)
   pub met_length : length met_from ≡ demands_in t
   pub len_fits : len ≤ demands_in t
   pub there : (place : ℕ) → place < len → is_present (domains_of t) (slice_index demands place) ≡ true
-  pub met : (place supply : ℕ) → head ≤ place → place < len → supply_of t (slice_index demands place) ≡ Some supply → IsMet t head demands met_from place supply
+  pub met : (place supply : ℕ) → head ≤ place → place < len → supply_of t (slice_index demands place) ≡ Some supply
+      → IsMet t head demands met_from place supply
 
 -- the first demands of the order stay
 pub record KeepsFirst (demands spots demands' spots' : List ℕ) (len : ℕ) : Type 0 where
@@ -38,11 +41,13 @@ pub record IsReached (t : Table) (spots : List ℕ) (len supply : ℕ) : Type 0 
 
 -- whoever has a supply that one of the first demands of an order may have is one of these
 abbrev pub IsFenced : Table → List ℕ → ℕ → Type 0
-IsFenced t spots count = (demand supply by : ℕ) → demand < demands_in t → slice_index spots demand < count → may_take (domains_of t) demand supply ≡ true → owner_of t supply ≡ Some by → slice_index spots by < count
+IsFenced t spots count = (demand supply by : ℕ) → demand < demands_in t → slice_index spots demand < count
+    → may_take (domains_of t) demand supply ≡ true → owner_of t supply ≡ Some by → slice_index spots by < count
 
 -- where whoever is met is one of the first demands, so many, these stay the first
 abbrev pub IsWithin : Table → Order → Order → ℕ → ℕ → Type 0
-IsWithin t o o' len more = (count : ℕ) → len ≤ count → IsFenced t o.spots.items count → (more ≤ count) × HasSameFirst (demands_in t) o.spots.items o'.spots.items count
+IsWithin t o o' len more = (count : ℕ) → len ≤ count → IsFenced t o.spots.items count
+    → (more ≤ count) × HasSameFirst (demands_in t) o.spots.items o'.spots.items count
 
 -- the supplies whose bits are not set are those of the first demands of an order
 pub record IsMarked (t : Table) (spots bits : List ℕ) (len : ℕ) : Type 0 where
@@ -85,7 +90,9 @@ pub record IsClosed (t : Table) (o o' : Order) (bits' : List ℕ) (head left met
   pub keeps : KeepsFirst o.demands.items o.spots.items o'.demands.items o'.spots.items left
   pub within : IsWithin t o o' left met
   pub marked : IsMarked t o'.spots.items bits' met
-  pub closed : (place supply : ℕ) → head ≤ place → place < met → may_take (domains_of t) (slice_index o'.demands.items place) supply ≡ true → IsReached t o'.spots.items met supply
+  pub closed : (place supply : ℕ) → head ≤ place → place < met
+      → may_take (domains_of t) (slice_index o'.demands.items place) supply ≡ true
+      → IsReached t o'.spots.items met supply
 
 abbrev pub Ends : Table → Order → Order → List ℕ → ℕ → ℕ → Found → Type 0
 Ends t o o' bits' head left (Closed met) = IsClosed t o o' bits' head left met

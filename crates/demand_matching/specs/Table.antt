@@ -1,5 +1,6 @@
 -- The domains of a table, and who has which supply in it.
-use Rattle.std.specs.Prelude.{ℕ, ◌*◌, ◌/◌, ◌%◌, ◌^◌, ◌<◌, ◌≤◌, ◌≡◌, Bool, true, length, is_none, Option, Some, None, slice_index_or}
+use Rattle.std.specs.Prelude.{ℕ, ◌*◌, ◌/◌, ◌%◌, ◌^◌, ◌<◌, ◌≤◌, ◌≡◌, Bool, true, length, is_none, Option, Some, None}
+use Rattle.std.specs.Prelude.{slice_index_or}
 use Rattle.khe_base.specs.Bits.{is_set}
 use Rattle.demand_matching.specs.declared.domains.Domain.{Domain}
 use Rattle.demand_matching.specs.declared.table.Table.{Table}
@@ -8,7 +9,14 @@ use Rattle.demand_matching.specs.Assigned.{IsMatching}
 
 -- the domains that the table keeps
 abbrev pub domains_of : Table → Domains
-domains_of t = record { times = t.times; resources = t.resources; last = t.last; width = t.width; demands = t.demands.items }
+domains_of t = record {
+  times = t.times;
+  resources = t.resources;
+  last = t.last;
+  width = t.width;
+  demands =
+      t.demands.items;
+}
 
 -- a supply as one number: the times of the first resource, then those of the second, and so on
 abbrev pub may_take : Domains → ℕ → ℕ → Bool
@@ -41,7 +49,8 @@ pub record IsTable (t : Table) : Type 0 where
   pub supplies_length : length t.supplies.items ≡ length t.demands.items
   pub owners_length : length t.owners.items ≡ t.width * t.last
   pub in_range : (demand : ℕ) (d : Domain) → domain_of (domains_of t) demand ≡ Some d → IsInRange (domains_of t) d
-  pub matching : IsMatching (length t.demands.items) (t.width * t.last) (may_take (domains_of t)) (supply_of t) (owner_of t)
+  pub matching : IsMatching (length t.demands.items) (t.width * t.last) (may_take (domains_of t)) (supply_of t)
+      (owner_of t)
   pub room : t.width * t.last ≤ 64 * length t.free.items
   pub free : (supply : ℕ) → supply < t.width * t.last → is_set t.free.items supply ≡ is_none (owner_of t supply)
 

@@ -24,7 +24,8 @@ with_words keyword rest =
 
 -- what a first word says with the words after it
 abbrev pub by_word : List ℕ → List (List ℕ) → Result Command LineFault
-by_word word rest = option_map_or (λ keyword. with_words keyword rest) (keyword_among keywords word) (Err UnknownCommand)
+by_word word rest = option_map_or (λ keyword. with_words keyword rest) (keyword_among keywords word)
+    (Err UnknownCommand)
 
 -- what the words of a line say
 abbrev pub by_words : List (List ℕ) → Result Command LineFault

@@ -1,5 +1,6 @@
 -- What stands among the elements of a list.
-use Rattle.std.proofs.Common.{ℕ, zero, suc, ◌≡◌, ◌≤◌, ◌%◌, ◌⊎◌, inl, inr, Bool, true, false, cond, List, [], ◌∷◌, ◌++◌, map, length, take, drop, refl, ap, ◌∙◌, sym, subst, arith}
+use Rattle.std.proofs.Common.{ℕ, zero, suc, ◌≡◌, ◌≤◌, ◌%◌, ◌⊎◌, inl, inr, Bool, true, false, cond, List, [], ◌∷◌, ◌++◌}
+use Rattle.std.proofs.Common.{map, length, take, drop, refl, ap, ◌∙◌, sym, subst, arith}
 use Rattle.std.specs.List.{filter, flat_map}
 use Rattle.std.proofs.lemmas.List.{take-append-drop}
 use Rattle.ejection_repair.specs.Chains.{Chain, rotated}
@@ -15,9 +16,11 @@ pub among_right : {A : Type 0} (x : A) (xs ys : List A) → Among x ys → Among
 among_right x [] ys h = h
 among_right x (y ∷ xs) ys h = inr (among_right x xs ys h)
 
-pub among_flat : {A B : Type 0} (f : A → List B) (x : A) (y : B) (xs : List A) → Among x xs → Among y (f x) → Among y (flat_map f xs)
+pub among_flat : {A B : Type 0} (f : A → List B) (x : A) (y : B) (xs : List A) → Among x xs → Among y (f x)
+    → Among y (flat_map f xs)
 among_flat f x y [] h k = absurd h
-among_flat {A = A} f x y (z ∷ xs) (inl e) k = let P : A → Type 0 = λ w. Among y (f w) in among_left y (f z) (flat_map f xs) (subst P e k)
+among_flat {A = A} f x y (z ∷ xs) (inl e) k = let P : A
+    → Type 0 = λ w. Among y (f w) in among_left y (f z) (flat_map f xs) (subst P e k)
 among_flat f x y (z ∷ xs) (inr h) k = among_right y (f z) (flat_map f xs) (among_flat f x y xs h k)
 
 pub among_filter : {A : Type 0} (p : A → Bool) (x : A) (xs : List A) → Among x xs → p x ≡ true → Among x (filter p xs)
@@ -68,7 +71,8 @@ pub filter_among : {A : Type 0} (p : A → Bool) (x : A) (xs : List A) → Among
 filter_among p x [] h = h
 filter_among p x (y ∷ xs) h = by (p y) (filter_among p x xs) h
   where
-    by : (b : Bool) → (Among x (filter p xs) → Among x xs) → Among x (cond b (y ∷ filter p xs) (filter p xs)) → Among x (y ∷ xs)
+    by : (b : Bool) → (Among x (filter p xs) → Among x xs) → Among x (cond b (y ∷ filter p xs) (filter p xs))
+        → Among x (y ∷ xs)
     by true r (inl e) = inl e
     by true r (inr g) = inr (r g)
     by false r g = inr (r g)
@@ -98,7 +102,8 @@ pub data Place {A : Type 0} (xs ys pre : List A) (x : A) (post : List A) : Type 
   before : Among x xs → length pre ≤ length xs → Place xs ys pre x post
   behind : (more : List A) → pre ≡ xs ++ more → ys ≡ more ++ (x ∷ post) → Place xs ys pre x post
 
-pub place_of : {A : Type 0} (xs ys pre : List A) (x : A) (post : List A) → xs ++ ys ≡ pre ++ (x ∷ post) → Place xs ys pre x post
+pub place_of : {A : Type 0} (xs ys pre : List A) (x : A) (post : List A) → xs ++ ys ≡ pre ++ (x ∷ post)
+    → Place xs ys pre x post
 place_of [] ys pre x post e = behind pre refl e
 place_of (z ∷ xs) ys [] x post e = before (inl (let q : x ≡ z = cc in q)) (omega arith)
 place_of (z ∷ xs) ys (w ∷ pre) x post e =
@@ -107,7 +112,8 @@ place_of (z ∷ xs) ys (w ∷ pre) x post e =
       | behind more f g ↦ behind more (let q : w ≡ z = cc in ap (λ y. y ∷ pre) q ∙ ap (λ l. z ∷ l) f) g
     ]
 
-pub among_map : (gone : ℕ) (x : Try) (cs : List Chain) → Among x (map (try_at gone) cs) → (c : Chain) × Among c cs × (x ≡ try_at gone c)
+pub among_map : (gone : ℕ) (x : Try) (cs : List Chain) → Among x (map (try_at gone) cs)
+    → (c : Chain) × Among c cs × (x ≡ try_at gone c)
 among_map gone x [] h = absurd h
 among_map gone x (c ∷ cs) (inl e) = (c, inl refl, e)
 among_map gone x (c ∷ cs) (inr h) = let r = among_map gone x cs h in (r.0, inr r.1, r.2)

@@ -2,7 +2,9 @@
 use Rattle.std.proofs.Common.{◌≡◌, true, false, None, refl, ap, ◌∙◌}
 use Rattle.std.proofs.lemmas.Bool.{both_ways}
 use Rattle.khe_told.specs.declared.edits.Edit.{Edit}
-use Rattle.khe_told.specs.declared.edits.Edit.TheVariants.{Assign, Unassign, MoveTo, Split, Merge, SwapMeets, Give, Take, Regive, SwapTasks, Attach, Detach, MakeGroup, DropGroup, AddChild, RemoveChild}
+use Rattle.khe_told.specs.declared.edits.Edit.TheVariants.{Assign, Unassign, MoveTo, Split, Merge, SwapMeets, Give}
+use Rattle.khe_told.specs.declared.edits.Edit.TheVariants.{Take, Regive, SwapTasks, Attach, Detach, MakeGroup}
+use Rattle.khe_told.specs.declared.edits.Edit.TheVariants.{DropGroup, AddChild, RemoveChild}
 use Rattle.khe_solution.specs.Refusing as refusing
 use Rattle.khe_engine.specs.States.{refusal}
 use Rattle.khe_engine.specs.Worlds.{World}
@@ -46,6 +48,8 @@ no_child (Regive a b) h = refl
 no_child (SwapTasks a b) h = refl
 
 -- what the table of meets and tasks accepts, the engine accepts
-pub accepted_at : (w b : World) (e : Edit) → b.parts ≡ w.parts → b.state ≡ w.state → refusing.is_of_meets e ≡ true → refusing.refusal w.parts w.state.slots e ≡ None → refusal b.parts b.state e ≡ None
+pub accepted_at : (w b : World) (e : Edit) → b.parts ≡ w.parts → b.state ≡ w.state → refusing.is_of_meets e ≡ true
+    → refusing.refusal w.parts w.state.slots e ≡ None → refusal b.parts b.state e ≡ None
 accepted_at w b e p s ours h =
-    ap (λ q. refusal q b.state e) p ∙ ap (λ x. refusal w.parts x e) s ∙ refusal_meets w.parts w.state e (not_of_groups e ours) ∙ h
+    ap (λ q. refusal q b.state e) p ∙ ap (λ x. refusal w.parts x e) s
+    ∙ refusal_meets w.parts w.state e (not_of_groups e ours) ∙ h

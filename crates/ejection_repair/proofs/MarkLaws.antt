@@ -11,8 +11,10 @@ kept_more : (x : Saved) (xs : List Saved) → kept (x ∷ xs) ≡ x.records + ke
 kept_more x xs = sum_by-cons (λ (x : Saved). x.records) x xs
 
 -- a mark that was opened, and an edit that was made
-pub made : (w b v : World) (cs : List Change) → b.parts ≡ w.parts → b.marked ≡ w.marked → b.spare ≡ w.spare → b.saved ≡ fresh w.state ∷ w.saved
-    → v.parts ≡ b.parts → v.marked ≡ b.marked → b.spare + kept b.saved ≤ v.spare + kept v.saved → v.saved ≡ grown cs b.saved → IsInside w v
+pub made : (w b v : World) (cs : List Change) → b.parts ≡ w.parts → b.marked ≡ w.marked → b.spare ≡ w.spare
+    → b.saved ≡ fresh w.state ∷ w.saved
+    → v.parts ≡ b.parts → v.marked ≡ b.marked → b.spare + kept b.saved ≤ v.spare + kept v.saved
+    → v.saved ≡ grown cs b.saved → IsInside w v
 made w b v cs bp bm br bs vp vm vr vs =
     let h = ap kept bs ∙ kept_more (fresh w.state) w.saved in
     record {
@@ -27,7 +29,8 @@ closed_fresh : (s : State) (xs : List Saved) → closed (fresh s ∷ xs) ≡ xs
 closed_fresh s [] = refl
 closed_fresh s (y ∷ ys) =
     let f : List Change → ℕ → Saved = λ t n. record { state = y.state; trail = t; records = n } in
-    ap (λ t. f t (y.records + 0) ∷ ys) (append-nil y.trail) ∙ ap (λ n. f y.trail n ∷ ys) (let e : y.records + 0 ≡ y.records = omega arith in e)
+    ap (λ t. f t (y.records + 0) ∷ ys) (append-nil y.trail)
+    ∙ ap (λ n. f y.trail n ∷ ys) (let e : y.records + 0 ≡ y.records = omega arith in e)
 
 pub closed_states : (us : List Saved) (s : State) (ss : List State) → states us ≡ s ∷ ss → states (closed us) ≡ ss
 closed_states [] s ss e = absurd (let g : ⊥ = cc in g)
@@ -42,7 +45,8 @@ closed_count (x ∷ y ∷ rest) n e = omega arith
 -- back at the mark, which is closed
 pub back : (w v u x : World) → IsInside w v → u.parts ≡ v.parts → u.marked ≡ v.marked → room v ≤ room u
     → ((y : Saved) (ys : List Saved) → v.saved ≡ y ∷ ys → (u.state ≡ y.state) × (u.saved ≡ fresh y.state ∷ ys))
-    → x.parts ≡ u.parts → x.marked ≡ u.marked → room u ≤ room x → x.state ≡ u.state → x.saved ≡ closed u.saved → IsBack w x
+    → x.parts ≡ u.parts → x.marked ≡ u.marked → room u ≤ room x → x.state ≡ u.state → x.saved ≡ closed u.saved
+    → IsBack w x
 back w v u x inside up um ur undone xp xm xr xs ended =
     let h = undone _ _ inside.saved in
     record {

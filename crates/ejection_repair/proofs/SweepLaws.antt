@@ -16,51 +16,65 @@ use Rattle.ejection_repair.specs.declared.trails.Trail.{Trail}
 use Rattle.ejection_repair.proofs.LookLaws.{look_through, look_found, look_spent, look_nothing}
 
 -- all chains, from a world whose costs are compared with
-pub chains_begun : (w : World) (t : Trail) (r : DefectRound) (v k : ℕ) → w.marked ≡ costs_at w.parts w.state → moved_of t ≡ []
+pub chains_begun : (w : World) (t : Trail) (r : DefectRound) (v k : ℕ) → w.marked ≡ costs_at w.parts w.state
+    → moved_of t ≡ []
     → defects_ahead (costs_at w.parts w.state) r ≡ rotated v (defects_from (costs_at w.parts w.state) 0)
-    → flat_map (extensions w.parts w.marked v k (chain_at t w)) (defects_ahead (costs_at w.parts w.state) r) ≡ chains w.parts w.state v k
+    → flat_map (extensions w.parts w.marked v k (chain_at t w)) (defects_ahead (costs_at w.parts w.state) r)
+    ≡ chains w.parts w.state v k
 unfolding chains
 chains_begun w t r v k marked moved round =
     let f : List Moved → Chain = λ m. record { moved = m; state = w.state } in
     ap (λ ds. flat_map (extensions w.parts w.marked v k (chain_at t w)) ds) round
-    ∙ ap (λ c. flat_map (extensions w.parts w.marked v k c) (rotated v (defects_from (costs_at w.parts w.state) 0))) (ap f moved)
-    ∙ ap (λ m. flat_map (extensions w.parts m v k (f [])) (rotated v (defects_from (costs_at w.parts w.state) 0))) marked
+    ∙ ap (λ c. flat_map (extensions w.parts w.marked v k c) (rotated v (defects_from (costs_at w.parts w.state) 0)))
+    (ap f moved)
+    ∙ ap (λ m. flat_map (extensions w.parts m v k (f [])) (rotated v (defects_from (costs_at w.parts w.state) 0)))
+    marked
 
 -- the next defect, in the world where the walk began
-pub next_defect_back : (w u : World) (r r' : DefectRound) (m : ℕ) → IsBack w u → defects_ahead (costs_at u.parts u.state) r ≡ m ∷ defects_ahead (costs_at u.parts u.state) r'
+pub next_defect_back : (w u : World) (r r' : DefectRound) (m : ℕ) → IsBack w u
+    → defects_ahead (costs_at u.parts u.state) r ≡ m ∷ defects_ahead (costs_at u.parts u.state) r'
     → defects_ahead (costs_at w.parts w.state) r ≡ m ∷ defects_ahead (costs_at w.parts w.state) r'
 next_defect_back w u r r' m back h =
-    let e : costs_at u.parts u.state ≡ costs_at w.parts w.state = ap (λ q. costs_at q u.state) back.parts ∙ ap (λ s. costs_at w.parts s) back.state in
+    let e : costs_at u.parts u.state ≡ costs_at w.parts w.state =
+    ap (λ q. costs_at q u.state) back.parts ∙ ap (λ s. costs_at w.parts s) back.state in
     let P : List ℕ → Type 0 = λ cs. defects_ahead cs r ≡ m ∷ defects_ahead cs r' in subst P e h
 
-pub no_defect_back : (w u : World) (r : DefectRound) → IsBack w u → defects_ahead (costs_at u.parts u.state) r ≡ [] → defects_ahead (costs_at w.parts w.state) r ≡ []
+pub no_defect_back : (w u : World) (r : DefectRound) → IsBack w u → defects_ahead (costs_at u.parts u.state) r ≡ []
+    → defects_ahead (costs_at w.parts w.state) r ≡ []
 no_defect_back w u r back h =
-    let e : costs_at u.parts u.state ≡ costs_at w.parts w.state = ap (λ q. costs_at q u.state) back.parts ∙ ap (λ s. costs_at w.parts s) back.state in
+    let e : costs_at u.parts u.state ≡ costs_at w.parts w.state =
+    ap (λ q. costs_at q u.state) back.parts ∙ ap (λ s. costs_at w.parts s) back.state in
     let P : List ℕ → Type 0 = λ cs. defects_ahead cs r ≡ [] in subst P e h
 
 -- what was looked at from a world that is back
 look_back : (w u : World) (t : Trail) (v k m n : ℕ) (lowest : Totals) (l : Looking) → IsBack w u
-    → look u.parts lowest n (extensions u.parts u.marked v k (chain_at t u) m) ≡ l → look w.parts lowest n (extensions w.parts w.marked v k (chain_at t w) m) ≡ l
+    → look u.parts lowest n (extensions u.parts u.marked v k (chain_at t u) m) ≡ l
+    → look w.parts lowest n (extensions w.parts w.marked v k (chain_at t w) m) ≡ l
 look_back w u t v k m n lowest l back h =
-    ap (λ s. look w.parts lowest n (extensions w.parts w.marked v k (let c : Chain = record { moved = moved_of t; state = s } in c) m)) (sym back.state)
+    ap (λ s. look w.parts lowest n (extensions w.parts w.marked v k
+    (let c : Chain = record { moved = moved_of t; state = s } in c) m)) (sym back.state)
     ∙ ap (λ x. look w.parts lowest n (extensions w.parts x v k (chain_at t u) m)) (sym back.marked)
     ∙ ap (λ q. look q lowest n (extensions q u.marked v k (chain_at t u) m)) (sym back.parts) ∙ h
 
-pub sweep_through : (w u : World) (t : Trail) (v k m n n' : ℕ) (ms all : List ℕ) (lowest : Totals) → IsBack w u → all ≡ m ∷ ms
+pub sweep_through : (w u : World) (t : Trail) (v k m n n' : ℕ) (ms all : List ℕ) (lowest : Totals) → IsBack w u
+    → all ≡ m ∷ ms
     → look u.parts lowest n (extensions u.parts u.marked v k (chain_at t u) m) ≡ through n'
-    → look w.parts lowest n (flat_map (extensions w.parts w.marked v k (chain_at t w)) all) ≡ look w.parts lowest n' (flat_map (extensions w.parts w.marked v k (chain_at t w)) ms)
+    → look w.parts lowest n (flat_map (extensions w.parts w.marked v k (chain_at t w)) all)
+    ≡ look w.parts lowest n' (flat_map (extensions w.parts w.marked v k (chain_at t w)) ms)
 sweep_through w u t v k m n n' ms all lowest back eq h =
     ap (λ ds. look w.parts lowest n (flat_map (extensions w.parts w.marked v k (chain_at t w)) ds)) eq
     ∙ look_through w.parts lowest n n' _ _ (look_back w u t v k m n lowest _ back h)
 
-pub sweep_found : (w u : World) (t : Trail) (v k m n n' : ℕ) (s : State) (ms all : List ℕ) (lowest : Totals) → IsBack w u → all ≡ m ∷ ms
+pub sweep_found : (w u : World) (t : Trail) (v k m n n' : ℕ) (s : State) (ms all : List ℕ) (lowest : Totals)
+    → IsBack w u → all ≡ m ∷ ms
     → look u.parts lowest n (extensions u.parts u.marked v k (chain_at t u) m) ≡ found s n'
     → look w.parts lowest n (flat_map (extensions w.parts w.marked v k (chain_at t w)) all) ≡ found s n'
 sweep_found w u t v k m n n' s ms all lowest back eq h =
     ap (λ ds. look w.parts lowest n (flat_map (extensions w.parts w.marked v k (chain_at t w)) ds)) eq
     ∙ look_found w.parts lowest n n' s _ _ (look_back w u t v k m n lowest _ back h)
 
-pub sweep_spent : (w u : World) (t : Trail) (v k m n : ℕ) (ms all : List ℕ) (lowest : Totals) → IsBack w u → all ≡ m ∷ ms
+pub sweep_spent : (w u : World) (t : Trail) (v k m n : ℕ) (ms all : List ℕ) (lowest : Totals) → IsBack w u
+    → all ≡ m ∷ ms
     → look u.parts lowest n (extensions u.parts u.marked v k (chain_at t u) m) ≡ spent
     → look w.parts lowest n (flat_map (extensions w.parts w.marked v k (chain_at t w)) all) ≡ spent
 sweep_spent w u t v k m n ms all lowest back eq h =
@@ -69,4 +83,5 @@ sweep_spent w u t v k m n ms all lowest back eq h =
 
 pub sweep_done : (w : World) (t : Trail) (v k n : ℕ) (all : List ℕ) (lowest : Totals) → all ≡ []
     → look w.parts lowest n (flat_map (extensions w.parts w.marked v k (chain_at t w)) all) ≡ through n
-sweep_done w t v k n all lowest e = look_nothing w.parts lowest n _ (ap (flat_map (extensions w.parts w.marked v k (chain_at t w))) e)
+sweep_done w t v k n all lowest e = look_nothing w.parts lowest n _
+    (ap (flat_map (extensions w.parts w.marked v k (chain_at t w))) e)

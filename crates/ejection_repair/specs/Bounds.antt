@@ -8,7 +8,8 @@ use Rattle.ejection_repair.specs.declared.outcome.Outcome.TheVariants.{Done, Spe
 -- the greatest number of moves of a list: by the durations of all events, the times, the tasks and the
 -- resources
 unfoldable pub most_moves : Parts → ℕ
-most_moves p = meet_slots p * (length p.times + meet_slots p + 1) + task_slots p * (length p.resources + task_slots p + 1)
+most_moves p = meet_slots p * (length p.times + meet_slots p + 1) + task_slots
+    p * (length p.resources + task_slots p + 1)
 
 -- r + r^2 + .. + r^k
 abbrev pub powers : ℕ → ℕ → ℕ

@@ -39,7 +39,8 @@ tried on c es = flat_map (λ e. longer c e ∷ on (longer c e)) (filter (is_fres
 unfoldable pub extensions : Parts → List ℕ → ℕ → ℕ → Chain → ℕ → List Chain
 extensions p marked v zero c m = []
 extensions p marked v (suc k) c m =
-    tried (λ d. option_map_or (extensions p marked v k d) (only (dearer marked (costs_at p d.state))) []) c (rotated v (moves p c.state.slots m))
+    tried (λ d. option_map_or (extensions p marked v k d) (only (dearer marked (costs_at p d.state))) []) c
+    (rotated v (moves p c.state.slots m))
 
 -- all chains of at most so many moves
 unfoldable pub chains : Parts → State → ℕ → ℕ → List Chain

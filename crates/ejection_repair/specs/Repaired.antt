@@ -54,8 +54,11 @@ runs_from p depth v left accepted tried s = run p depth v left accepted tried s 
 -- what one round comes to, with the worlds and the tries that are left before and after it
 abbrev pub Goes : Round → ℕ → ℕ → World → World → ℕ → ℕ → Type 0
 Goes Settled depth v w u n m =
-    (u.state ≡ w.state) × (m ≤ n) × ((a t : ℕ) → runs_from w.parts depth v n a t w.state ≡ record { state = w.state; outcome = Done a (t + (n - m)) })
+    (u.state ≡ w.state) × (m ≤ n) × ((a t : ℕ) → runs_from w.parts depth v n a t w.state
+    ≡ record { state = w.state; outcome = Done a (t + (n - m)) })
 Goes Taken depth v w u n m =
-    (m < n) × ((a t : ℕ) → runs_from w.parts depth v n a t w.state ≡ runs_from w.parts depth v m (a + 1) (t + (n - m)) u.state)
+    (m < n) × ((a t : ℕ) → runs_from w.parts depth v n a t w.state
+    ≡ runs_from w.parts depth v m (a + 1) (t + (n - m)) u.state)
 Goes (RoundSpent k) depth v w u n m =
-    (u.state ≡ w.state) × (m ≡ 0) × ((a t : ℕ) → runs_from w.parts depth v n a t w.state ≡ record { state = w.state; outcome = Spent a (t + n) k })
+    (u.state ≡ w.state) × (m ≡ 0) × ((a t : ℕ) → runs_from w.parts depth v n a t w.state
+    ≡ record { state = w.state; outcome = Spent a (t + n) k })

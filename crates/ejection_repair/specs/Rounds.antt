@@ -11,7 +11,8 @@ use Rattle.ejection_repair.specs.declared.rounds.MoveRound.{MoveRound}
 
 -- of the moves of a monitor
 unfoldable pub moves_ahead : Parts → List Slot → MoveRound → List Edit
-moves_ahead p s r = if r.wrapped then take r.before (ahead p s r.cursor) else ahead p s r.cursor ++ take r.before (ahead p s r.first)
+moves_ahead p s r = if r.wrapped then take r.before (ahead p s r.cursor) else ahead p s r.cursor
+    ++ take r.before (ahead p s r.first)
 
 -- both places are in lists of the instance
 pub record IsRound (p : Parts) (r : MoveRound) : Type 0 where
@@ -20,7 +21,8 @@ pub record IsRound (p : Parts) (r : MoveRound) : Type 0 where
 
 -- of the defects
 unfoldable pub defects_ahead : List ℕ → DefectRound → List ℕ
-defects_ahead costs r = if r.wrapped then take r.before (defects_from costs r.from) else defects_from costs r.from ++ take r.before (defects_from costs 0)
+defects_ahead costs r = if r.wrapped then take r.before (defects_from costs r.from) else defects_from costs r.from
+    ++ take r.before (defects_from costs 0)
 
 -- the head of a list of numbers is taken off, or there is none
 abbrev pub IsNextNumber : Option MonitorId → List ℕ → List ℕ → Type 0

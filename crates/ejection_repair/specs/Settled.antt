@@ -26,11 +26,13 @@ LeadsOn p marked c (Some m) (e ∷ es) d =
 -- a chain of moves from a state: the first is a move of a defect, each further one a move of the only
 -- monitor that is dearer than it was at the start, and nothing is moved twice
 abbrev pub IsChain : Parts → State → Edit → List Edit → Chain → Type 0
-IsChain p s e es d = (m : ℕ) × Among m (defects (costs_at p s)) × LeadsOn p (costs_at p s) (unmoved s) (Some m) (e ∷ es) d
+IsChain p s e es d = (m : ℕ) × Among m (defects (costs_at p s))
+    × LeadsOn p (costs_at p s) (unmoved s) (Some m) (e ∷ es) d
 
 -- no chain of at most so many moves leaves lower totals
 abbrev pub IsSettled : Parts → State → ℕ → Type 0
-IsSettled p s k = (e : Edit) (es : List Edit) (d : Chain) → length es < k → IsChain p s e es d → are_lower (totals_at p d.state) (totals_at p s) ≡ false
+IsSettled p s k = (e : Edit) (es : List Edit) (d : Chain) → length es < k → IsChain p s e es d
+    → are_lower (totals_at p d.state) (totals_at p s) ≡ false
 
 -- how many chains were taken
 abbrev pub accepted_of : Outcome → ℕ

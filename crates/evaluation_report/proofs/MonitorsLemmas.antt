@@ -1,15 +1,22 @@
 -- What the text of a monitor looks up is there.
 use Rattle.std.proofs.Common.{◌≡◌, ℕ, ◌<◌, Some, List, length, subst, slice_get}
 use Rattle.std.proofs.lemmas.Option.{slice_get_within, get_or_from_slice_get}
-use Rattle.khe_instance.specs.WellMade.{AreWellMade, IsConstraint, IsRule, IsPointOf, IsSinglePoint, IsPlacePoint, IsGroupPoint, IsPairPoint, IsResourcePoint}
+use Rattle.khe_instance.specs.WellMade.{AreWellMade, IsConstraint, IsRule, IsPointOf, IsSinglePoint, IsPlacePoint}
+use Rattle.khe_instance.specs.WellMade.{IsGroupPoint, IsPairPoint, IsResourcePoint}
 use Rattle.khe_instance.specs.declared.parts.Parts.{Parts}
 use Rattle.khe_instance.specs.declared.points.Monitor.{Monitor}
 use Rattle.khe_instance.specs.declared.points.Point.{Point}
-use Rattle.khe_instance.specs.declared.points.Point.TheVariants.{Event, EventResource, EventGroup, EventPair as Pair, Resource}
+use Rattle.khe_instance.specs.declared.points.Point.TheVariants.{Event, EventResource, EventGroup, EventPair as Pair}
+use Rattle.khe_instance.specs.declared.points.Point.TheVariants.{Resource}
 use Rattle.khe_instance.specs.declared.rules.Constraint.{Constraint}
 use Rattle.khe_instance.specs.declared.rules.EventPair.{EventPair}
 use Rattle.khe_instance.specs.declared.rules.Rule.{Rule}
-use Rattle.khe_instance.specs.declared.rules.Rule.TheVariants.{AssignTime, AssignResource, SplitEvents, DistributeSplitEvents, PreferTimes, PreferResources, AvoidSplitAssignments, SpreadEvents, LinkEvents, OrderEvents, AvoidClashes, AvoidUnavailableTimes, LimitIdleTimes, ClusterBusyTimes, LimitBusyTimes, LimitWorkload}
+use Rattle.khe_instance.specs.declared.rules.Rule.TheVariants.{AssignTime, AssignResource, SplitEvents}
+use Rattle.khe_instance.specs.declared.rules.Rule.TheVariants.{DistributeSplitEvents, PreferTimes, PreferResources}
+use Rattle.khe_instance.specs.declared.rules.Rule.TheVariants.{AvoidSplitAssignments, SpreadEvents, LinkEvents}
+use Rattle.khe_instance.specs.declared.rules.Rule.TheVariants.{OrderEvents, AvoidClashes, AvoidUnavailableTimes}
+use Rattle.khe_instance.specs.declared.rules.Rule.TheVariants.{LimitIdleTimes, ClusterBusyTimes, LimitBusyTimes}
+use Rattle.khe_instance.specs.declared.rules.Rule.TheVariants.{LimitWorkload}
 use Rattle.evaluation_report.specs.Points.{IsNamed}
 use Rattle.khe_instance.proofs.MadeLemmas.{monitor_made}
 use Rattle.khe_instance.proofs.WatchedLaws.{with-role}
@@ -54,16 +61,20 @@ point-named p (LimitBusyTimes groups least greatest) point h = resource-named p 
 point-named p (LimitWorkload least greatest) point h = resource-named p point h
 
 -- its constraint is there
-pub constraint-within : (p : Parts) → AreWellMade p → (number : ℕ) (m : Monitor) → slice_get p.monitors number ≡ Some m → m.constraint < length p.constraints
+pub constraint-within : (p : Parts) → AreWellMade p → (number : ℕ) (m : Monitor) → slice_get p.monitors number ≡ Some m
+    → m.constraint < length p.constraints
 constraint-within p made number m e =
     let is = monitor_made p made number m e in slice_get_within p.constraints m.constraint is.0 is.1
 
 -- and so is what its point names
-pub monitor-named : (p : Parts) → AreWellMade p → (number : ℕ) (m : Monitor) → slice_get p.monitors number ≡ Some m → IsNamed p m.point
+pub monitor-named : (p : Parts) → AreWellMade p → (number : ℕ) (m : Monitor) → slice_get p.monitors number ≡ Some m
+    → IsNamed p m.point
 monitor-named p made number m e =
     let is = monitor_made p made number m e in point-named p is.0.rule m.point is.3
 
 -- what a constraint of an instance says is in range
-pub constraint-rule : (p : Parts) → AreWellMade p → (number : ℕ) (c : Constraint) → slice_get p.constraints number ≡ Some c → IsRule p c.rule
+pub constraint-rule : (p : Parts) → AreWellMade p → (number : ℕ) (c : Constraint)
+    → slice_get p.constraints number ≡ Some c → IsRule p c.rule
 constraint-rule p made number c e =
-    let is : IsConstraint p c = subst (IsConstraint p) (get_or_from_slice_get p.constraints number c c e) (made.constraints number c (slice_get_within p.constraints number c e)) in is.rule
+    let is : IsConstraint p c = subst (IsConstraint p) (get_or_from_slice_get p.constraints number c c e)
+    (made.constraints number c (slice_get_within p.constraints number c e)) in is.rule

@@ -12,7 +12,8 @@ use Rattle.evaluation_report.specs.Points.{event_text}
 
 -- the line of a group of monitors, by its number and what its children cost together
 abbrev pub group_line : ℕ → Totals → List ℕ
-group_line number t = codes "group " ++ decimal number ++ codes " hard " ++ decimal t.hard ++ codes " soft " ++ decimal t.soft ++ codes "\n"
+group_line number t = codes "group " ++ decimal number ++ codes " hard " ++ decimal t.hard ++ codes " soft "
+    ++ decimal t.soft ++ codes "\n"
 
 -- a number, or a dash where there is none
 abbrev pub number_or_dash : Option ℕ → List ℕ
@@ -21,11 +22,13 @@ number_or_dash (Some number) = decimal number
 
 -- what a meet's line ends with: its duration and its start
 abbrev pub span_text : ℕ → Option ℕ → List ℕ
-span_text duration start = codes " duration " ++ decimal duration ++ codes " time " ++ number_or_dash start ++ codes "\n"
+span_text duration start = codes " duration " ++ decimal duration ++ codes " time " ++ number_or_dash start
+    ++ codes "\n"
 
 -- the line of a meet
 abbrev pub meet_line : Parts → Meet → List ℕ
-meet_line parts m = codes "meet " ++ decimal m.meet.0 ++ codes " " ++ event_text parts m.event.0 ++ span_text m.duration (option_map (λ time. time.0) m.start)
+meet_line parts m = codes "meet " ++ decimal m.meet.0 ++ codes " " ++ event_text parts m.event.0
+    ++ span_text m.duration (option_map (λ time. time.0) m.start)
 
 -- the line of a task
 abbrev pub task_line : Task → List ℕ

@@ -10,5 +10,6 @@ deficit_line deficit demands = codes "deficit " ++ decimal deficit ++ codes " de
 
 -- a demand: a task at one of the times of its meet, or a time at which a resource is to be free
 unfoldable pub demand_line : Demand → List ℕ
-demand_line (Task m k o) = codes "demand " ++ decimal m.0 ++ codes " " ++ decimal k ++ codes " " ++ decimal o ++ codes "\n"
+demand_line (Task m k o) = codes "demand " ++ decimal m.0 ++ codes " " ++ decimal k ++ codes " " ++ decimal o
+    ++ codes "\n"
 demand_line (Unavailable r t) = codes "unavailable " ++ decimal r.0 ++ codes " " ++ decimal t.0 ++ codes "\n"

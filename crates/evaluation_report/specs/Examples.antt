@@ -5,11 +5,13 @@ use Rattle.khe_instance.specs.declared.parts.EventInfo.{EventInfo}
 use Rattle.khe_instance.specs.declared.parts.Parts.{Parts}
 use Rattle.khe_instance.specs.declared.points.Monitor.{Monitor}
 use Rattle.khe_instance.specs.declared.points.Point.{Point}
-use Rattle.khe_instance.specs.declared.points.Point.TheVariants.{Event, EventResource, EventGroup, EventPair as Pair, Resource}
+use Rattle.khe_instance.specs.declared.points.Point.TheVariants.{Event, EventResource, EventGroup, EventPair as Pair}
+use Rattle.khe_instance.specs.declared.points.Point.TheVariants.{Resource}
 use Rattle.khe_instance.specs.declared.rules.Constraint.{Constraint}
 use Rattle.khe_instance.specs.declared.rules.EventPair.{EventPair}
 use Rattle.khe_instance.specs.declared.rules.Rule.{Rule}
-use Rattle.khe_instance.specs.declared.rules.Rule.TheVariants.{AssignTime, AssignResource, PreferTimes, LinkEvents, OrderEvents, AvoidClashes}
+use Rattle.khe_instance.specs.declared.rules.Rule.TheVariants.{AssignTime, AssignResource, PreferTimes, LinkEvents}
+use Rattle.khe_instance.specs.declared.rules.Rule.TheVariants.{OrderEvents, AvoidClashes}
 use Rattle.khe_instance.specs.Kinds.{kind_of}
 
 -- an event by its Id, its duration and its first meet slot, with a place in the role R
@@ -24,7 +26,14 @@ event id duration first_meet = record {
 
 -- a constraint of linear cost
 abbrev pub constraint : List ℕ → Bool → ℕ → Rule → Constraint
-constraint id required weight rule = record { id = id; required = required; weight = weight; cost = Linear; rule = rule }
+constraint id required weight rule = record {
+  id = id;
+  required = required;
+  weight = weight;
+  cost = Linear;
+  rule =
+      rule;
+}
 
 -- a monitor of the constraint with a number, which has this rule
 abbrev pub monitor : ℕ → Rule → Point → Monitor

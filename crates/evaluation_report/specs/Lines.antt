@@ -17,7 +17,8 @@ header_line instances solutions =
 -- the first line of a solution: its number, the Id of its group and the Id of its instance
 abbrev pub solution_line : ℕ → List ℕ → List ℕ → List ℕ
 solution_line number group instance =
-    codes "solution " ++ decimal number ++ codes " group " ++ quoted group ++ codes " instance " ++ quoted instance ++ codes "\n"
+    codes "solution " ++ decimal number ++ codes " group " ++ quoted group ++ codes " instance " ++ quoted instance
+    ++ codes "\n"
 
 -- the name of a cost: hard for a required constraint
 abbrev pub hardness : Bool → List ℕ
@@ -31,7 +32,8 @@ detachment false = codes " detached"
 
 -- what a monitor's line begins with: its number, its kind, and the Id of its constraint
 abbrev pub monitor_head : ℕ → Monitor → Constraint → List ℕ
-monitor_head number m c = codes "monitor " ++ decimal number ++ codes " " ++ kind_name m.kind ++ codes " " ++ quoted c.id
+monitor_head number m c = codes "monitor " ++ decimal number ++ codes " " ++ kind_name m.kind ++ codes " "
+    ++ quoted c.id
 
 -- what it ends with: the deviation, and the cost by whether the constraint is required
 abbrev pub monitor_tail : Bool → ℕ → ℕ → Bool → List ℕ
@@ -41,12 +43,14 @@ monitor_tail required deviation cost attached =
 -- the line of a monitor with its constraint
 abbrev pub measured_line : Parts → ℕ → Monitor → Constraint → ℕ → ℕ → Bool → List ℕ
 measured_line parts number m c deviation cost attached =
-    monitor_head number m c ++ codes " " ++ point_text parts c.rule m.point ++ monitor_tail c.required deviation cost attached
+    monitor_head number m c ++ codes " " ++ point_text parts c.rule m.point
+    ++ monitor_tail c.required deviation cost attached
 
 -- the line of the monitor with a number, by its deviation, its cost and whether it is attached
 abbrev pub monitor_line : Parts → ℕ → ℕ → ℕ → Bool → List ℕ
 monitor_line parts number deviation cost attached =
-    option_map_or (λ m. option_map_or (λ c. measured_line parts number m c deviation cost attached) (slice_get parts.constraints m.constraint) [])
+    option_map_or (λ m. option_map_or (λ c. measured_line parts number m c deviation cost attached)
+    (slice_get parts.constraints m.constraint) [])
     (slice_get parts.monitors number) []
 
 -- the last line of a valid solution

@@ -4,7 +4,8 @@ use Rattle.std.specs.Option.{option_map, option_map_or}
 use Rattle.khe_instance.specs.Lookups.{role_at}
 use Rattle.khe_instance.specs.declared.parts.Parts.{Parts}
 use Rattle.khe_instance.specs.declared.points.Point.{Point}
-use Rattle.khe_instance.specs.declared.points.Point.TheVariants.{Event, EventResource, EventGroup, EventPair as Pair, Resource}
+use Rattle.khe_instance.specs.declared.points.Point.TheVariants.{Event, EventResource, EventGroup, EventPair as Pair}
+use Rattle.khe_instance.specs.declared.points.Point.TheVariants.{Resource}
 use Rattle.khe_instance.specs.declared.rules.EventPair.{EventPair}
 use Rattle.khe_instance.specs.declared.rules.Rule.{Rule}
 use Rattle.khe_instance.specs.declared.rules.Rule.TheVariants.{OrderEvents}
@@ -35,7 +36,8 @@ place_text parts e place = event_text parts e ++ role_text (role_at parts.events
 
 -- two events as a point
 abbrev pub pair_text : Parts → EventPair → List ℕ
-pair_text parts pair = codes "events " ++ quoted (event_id parts pair.first.0) ++ codes " " ++ quoted (event_id parts pair.second.0)
+pair_text parts pair = codes "events " ++ quoted (event_id parts pair.first.0) ++ codes " "
+    ++ quoted (event_id parts pair.second.0)
 
 -- the pairs that a rule lists
 abbrev pub pairs_of : Rule → List EventPair

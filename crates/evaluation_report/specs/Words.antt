@@ -1,7 +1,12 @@
 -- Ids, the names of kinds and the names of causes, as the lines of a report write them.
 use Rattle.std.specs.Prelude.{ℕ, ◌≤◌, ◌==◌, List, [], ◌++◌, codes, if◌then◌else◌}
 use Rattle.khe_instance.specs.declared.rules.Kind.{Kind}
-use Rattle.khe_instance.specs.declared.rules.Kind.TheVariants.{AssignTime, AssignResource, SplitEvents, DistributeSplitEvents, PreferTimes, PreferResources, AvoidSplitAssignments, SpreadEvents, LinkEvents, OrderEvents, AvoidClashes, AvoidUnavailableTimes, LimitIdleTimes, ClusterBusyTimes, LimitBusyTimes, LimitWorkload}
+use Rattle.khe_instance.specs.declared.rules.Kind.TheVariants.{AssignTime, AssignResource, SplitEvents}
+use Rattle.khe_instance.specs.declared.rules.Kind.TheVariants.{DistributeSplitEvents, PreferTimes, PreferResources}
+use Rattle.khe_instance.specs.declared.rules.Kind.TheVariants.{AvoidSplitAssignments, SpreadEvents, LinkEvents}
+use Rattle.khe_instance.specs.declared.rules.Kind.TheVariants.{OrderEvents, AvoidClashes, AvoidUnavailableTimes}
+use Rattle.khe_instance.specs.declared.rules.Kind.TheVariants.{LimitIdleTimes, ClusterBusyTimes, LimitBusyTimes}
+use Rattle.khe_instance.specs.declared.rules.Kind.TheVariants.{LimitWorkload}
 use Rattle.xhstt_text.specs.Escape.{escaped}
 
 -- an Id in quotes, escaped as in an attribute

@@ -1,5 +1,6 @@
 -- Deviations at events, places and pairs.
-use Rattle.std.proofs.Common.{◌≡◌, ◌∙◌, sym, ap, refl, ℕ, pos, ◌+◌, ◌<◌, ◌≤◌, max, min, Option, Some, None, List, [], ◌∷◌, ◌++◌, length, get_or, take, arith, All, IfSome, sum_by, filter_map}
+use Rattle.std.proofs.Common.{◌≡◌, ◌∙◌, sym, ap, refl, ℕ, pos, ◌+◌, ◌<◌, ◌≤◌, max, min, Option, Some, None, List, []}
+use Rattle.std.proofs.Common.{◌∷◌, ◌++◌, length, get_or, take, arith, All, IfSome, sum_by, filter_map}
 use Rattle.std.specs.Option.{option_map_or}
 use Rattle.std.specs.Prelude.{◌-ℤ◌}
 use Rattle.std.proofs.lemmas.Int.{ints}
@@ -28,7 +29,8 @@ pub outside_small : (a b least greatest : ℕ) → outside (pos a -ℤ pos b) (p
 outside_small a b least greatest = grind (arith, ints)
 
 -- the greatest and the least with one more
-greatest_of-push : (xs : List ℕ) (y : ℕ) → greatest_of (xs ++ y ∷ []) ≡ Some (option_map_or (λ n. max n y) (greatest_of xs) y)
+greatest_of-push : (xs : List ℕ) (y : ℕ) → greatest_of (xs ++ y ∷ [])
+    ≡ Some (option_map_or (λ n. max n y) (greatest_of xs) y)
 greatest_of-push [] y = refl
 greatest_of-push (x ∷ xs) y = ap Some (fold_push max x xs y)
 
@@ -36,11 +38,13 @@ least_of-push : (xs : List ℕ) (y : ℕ) → least_of (xs ++ y ∷ []) ≡ Some
 least_of-push [] y = refl
 least_of-push (x ∷ xs) y = ap Some (fold_push min x xs y)
 
-pub IfSome-greater : (o : Option ℕ) (y most : ℕ) → IfSome o (λ n. n ≤ most) → y ≤ most → option_map_or (λ n. max n y) o y ≤ most
+pub IfSome-greater : (o : Option ℕ) (y most : ℕ) → IfSome o (λ n. n ≤ most) → y ≤ most
+    → option_map_or (λ n. max n y) o y ≤ most
 IfSome-greater None y most h l = l
 IfSome-greater (Some n) y most h l = omega arith
 
-pub IfSome-less : (o : Option ℕ) (y most : ℕ) → IfSome o (λ n. n ≤ most) → y ≤ most → option_map_or (λ n. min n y) o y ≤ most
+pub IfSome-less : (o : Option ℕ) (y most : ℕ) → IfSome o (λ n. n ≤ most) → y ≤ most
+    → option_map_or (λ n. min n y) o y ≤ most
 IfSome-less None y most h l = l
 IfSome-less (Some n) y most h l = omega arith
 
@@ -52,20 +56,27 @@ module _ (f : Meet → Option ℕ) (ms : List Meet) (i : ℕ) (m : Meet) (l : i 
   with_one y e = front ∙ ap (λ o. filter_map f (take i ms) ++ filter_map (λ (x : Unit {0}). o) (tt ∷ [])) e
 
   pub without : f (get_or ms i m) ≡ None → filter_map f (take (i + 1) ms) ≡ filter_map f (take i ms)
-  without e = front ∙ ap (λ o. filter_map f (take i ms) ++ filter_map (λ (x : Unit {0}). o) (tt ∷ [])) e ∙ append-nil (filter_map f (take i ms))
+  without e = front ∙ ap (λ o. filter_map f (take i ms) ++ filter_map (λ (x : Unit {0}). o) (tt ∷ [])) e
+      ∙ append-nil (filter_map f (take i ms))
 
-  pub greatest-more : (y : ℕ) (last new : Option ℕ) → f (get_or ms i m) ≡ Some y → last ≡ greatest_of (filter_map f (take i ms)) → new ≡ Some (option_map_or (λ n. max n y) last y)
+  pub greatest-more : (y : ℕ) (last new : Option ℕ) → f (get_or ms i m) ≡ Some y
+      → last ≡ greatest_of (filter_map f (take i ms)) → new ≡ Some (option_map_or (λ n. max n y) last y)
       → new ≡ greatest_of (filter_map f (take (i + 1) ms))
   greatest-more y last new e was is =
-      is ∙ ap (λ o. Some (option_map_or (λ n. max n y) o y)) was ∙ sym (ap greatest_of (with_one y e) ∙ greatest_of-push (filter_map f (take i ms)) y)
+      is ∙ ap (λ o. Some (option_map_or (λ n. max n y) o y)) was
+      ∙ sym (ap greatest_of (with_one y e) ∙ greatest_of-push (filter_map f (take i ms)) y)
 
-  pub greatest-same : (last : Option ℕ) → f (get_or ms i m) ≡ None → last ≡ greatest_of (filter_map f (take i ms)) → last ≡ greatest_of (filter_map f (take (i + 1) ms))
+  pub greatest-same : (last : Option ℕ) → f (get_or ms i m) ≡ None → last ≡ greatest_of (filter_map f (take i ms))
+      → last ≡ greatest_of (filter_map f (take (i + 1) ms))
   greatest-same last e was = was ∙ sym (ap greatest_of (without e))
 
-  pub least-more : (y : ℕ) (first new : Option ℕ) → f (get_or ms i m) ≡ Some y → first ≡ least_of (filter_map f (take i ms)) → new ≡ Some (option_map_or (λ n. min n y) first y)
+  pub least-more : (y : ℕ) (first new : Option ℕ) → f (get_or ms i m) ≡ Some y
+      → first ≡ least_of (filter_map f (take i ms)) → new ≡ Some (option_map_or (λ n. min n y) first y)
       → new ≡ least_of (filter_map f (take (i + 1) ms))
   least-more y first new e was is =
-      is ∙ ap (λ o. Some (option_map_or (λ n. min n y) o y)) was ∙ sym (ap least_of (with_one y e) ∙ least_of-push (filter_map f (take i ms)) y)
+      is ∙ ap (λ o. Some (option_map_or (λ n. min n y) o y)) was
+      ∙ sym (ap least_of (with_one y e) ∙ least_of-push (filter_map f (take i ms)) y)
 
-  pub least-same : (first : Option ℕ) → f (get_or ms i m) ≡ None → first ≡ least_of (filter_map f (take i ms)) → first ≡ least_of (filter_map f (take (i + 1) ms))
+  pub least-same : (first : Option ℕ) → f (get_or ms i m) ≡ None → first ≡ least_of (filter_map f (take i ms))
+      → first ≡ least_of (filter_map f (take (i + 1) ms))
   least-same first e was = was ∙ sym (ap least_of (without e))

@@ -1,11 +1,14 @@
 -- Tests over lists, filters and ranges.
-use Rattle.std.proofs.Common.{◌≡◌, ◌∙◌, sym, ap, ap₂, subst, refl, ℕ, zero, suc, ◌+◌, ◌<◌, ◌≤◌, ◌==◌, Bool, true, false, cond, ◌&&◌, ◌||◌, not, List, [], ◌∷◌, map, length, get_or, set, replicate, arith, zero-add, ◌⊎◌, inl, inr, All, filter, sum_by, count_by}
+use Rattle.std.proofs.Common.{◌≡◌, ◌∙◌, sym, ap, ap₂, subst, refl, ℕ, zero, suc, ◌+◌, ◌<◌, ◌≤◌, ◌==◌, Bool, true, false}
+use Rattle.std.proofs.Common.{cond, ◌&&◌, ◌||◌, not, List, [], ◌∷◌, map, length, get_or, set, replicate, arith}
+use Rattle.std.proofs.Common.{zero-add, ◌⊎◌, inl, inr, All, filter, sum_by, count_by}
 use Rattle.std.specs.List.{list_any, list_all, range_with_len}
 use Rattle.std.proofs.lemmas.Bool.{false≢true, eq-eqb, ne_eqb, cases_eq}
 use Rattle.std.proofs.lemmas.List.{length-map, get_or-map, get_or-set_same, get_or-set_other, length-set}
 use Rattle.std.proofs.lemmas.List.Filters.{sum_by-filter_both}
 use Rattle.std.proofs.lemmas.List.Folds.{Any-from_list_any, list_any_at, fold-map}
-use Rattle.std.proofs.lemmas.List.FromFn.{length-range_with_len, get_or-range_with_len, length-map-range_with_len, get_or-map-range_with_len, fill_by_all}
+use Rattle.std.proofs.lemmas.List.FromFn.{length-range_with_len, get_or-range_with_len, length-map-range_with_len}
+use Rattle.std.proofs.lemmas.List.FromFn.{get_or-map-range_with_len, fill_by_all}
 use Rattle.std.proofs.lemmas.List.Sums.{sum_by-cons}
 
 pub from_both : (a b : Bool) → a ≡ true → b ≡ true → (a && b) ≡ true
@@ -36,7 +39,8 @@ module _ {X : Type 0} where
   filter_none p [] e = refl
   filter_none p (x ∷ xs) e = by (p x) e (filter_none p xs)
     where
-      by : (b : Bool) → (b || list_any p xs) ≡ false → (list_any p xs ≡ false → filter p xs ≡ []) → cond b (x ∷ filter p xs) (filter p xs) ≡ []
+      by : (b : Bool) → (b || list_any p xs) ≡ false → (list_any p xs ≡ false → filter p xs ≡ [])
+          → cond b (x ∷ filter p xs) (filter p xs) ≡ []
       by true f rest = absurd (false≢true (sym f))
       by false f rest = rest f
 
@@ -44,7 +48,8 @@ module _ {X : Type 0} where
   filter_every p [] e = refl
   filter_every p (x ∷ xs) e = by (p x) e (filter_every p xs)
     where
-      by : (b : Bool) → (b && list_all p xs) ≡ true → (list_all p xs ≡ true → filter p xs ≡ xs) → cond b (x ∷ filter p xs) (filter p xs) ≡ x ∷ xs
+      by : (b : Bool) → (b && list_all p xs) ≡ true → (list_all p xs ≡ true → filter p xs ≡ xs)
+          → cond b (x ∷ filter p xs) (filter p xs) ≡ x ∷ xs
       by true f rest = ap (λ r. x ∷ r) (rest f)
       by false f rest = absurd (false≢true f)
 
@@ -60,7 +65,8 @@ module _ {X : Type 0} where
   pub sum_by-filter_le : (f : X → ℕ) (p : X → Bool) (xs : List X) → sum_by f (filter p xs) ≤ sum_by f xs
   sum_by-filter_le f p xs = omega (arith, sum_by-filter_both p (λ x. not (p x)) (λ _. refl) f xs)
 
-  pub sum_by-filter : (f : X → ℕ) (p : X → Bool) (xs : List X) → sum_by f (filter p xs) ≡ sum_by (λ x. cond (p x) (f x) 0) xs
+  pub sum_by-filter : (f : X → ℕ) (p : X → Bool) (xs : List X)
+      → sum_by f (filter p xs) ≡ sum_by (λ x. cond (p x) (f x) 0) xs
   sum_by-filter f p [] = refl
   sum_by-filter f p (x ∷ xs) = by (p x) (sum_by-filter f p xs) ∙ sym (sum_by-cons (λ y. cond (p y) (f y) 0) x xs)
     where
@@ -70,16 +76,20 @@ module _ {X : Type 0} where
       by false rest = rest ∙ sym (zero-add (sum_by (λ y. cond (p y) (f y) 0) xs))
 
   -- the same by the element's places
-  pub count_by-places : (p : X → Bool) (xs : List X) (d : X) → count_by p xs ≡ count_by (λ i. p (get_or xs i d)) (range_with_len 0 (length xs))
+  pub count_by-places : (p : X → Bool) (xs : List X) (d : X)
+      → count_by p xs ≡ count_by (λ i. p (get_or xs i d)) (range_with_len 0 (length xs))
   count_by-places p xs d =
       let places = fill_by_all (λ i. get_or xs i d) xs (length xs) d refl (λ k l. refl) in
-      ap (count_by p) places ∙ fold-map (λ (n : ℕ) (x : X). n + cond (p x) 1 0) (λ i. get_or xs i d) 0 (range_with_len 0 (length xs))
+      ap (count_by p) places ∙ fold-map (λ (n : ℕ) (x : X). n + cond (p x) 1 0) (λ i. get_or xs i d) 0
+      (range_with_len 0 (length xs))
 
   pub All-from_map : {Y : Type 0} (P : Y → Type 0) (f : X → Y) (xs : List X) → All P (map f xs) → All (λ x. P (f x)) xs
-  All-from_map P f xs all k d l = subst P (get_or-map f xs k d (f d) l) (all k (f d) (subst (λ n. k < n) (sym (length-map xs f)) l))
+  All-from_map P f xs all k d l = subst P (get_or-map f xs k d (f d) l)
+      (all k (f d) (subst (λ n. k < n) (sym (length-map xs f)) l))
 
   -- an element of the list that is made from numbers
-  pub read_by : (F : ℕ → X) (n e : ℕ) (xs : List X) (x : X) → xs ≡ map F (range_with_len 0 n) → e < n → x ≡ get_or xs e x → x ≡ F e
+  pub read_by : (F : ℕ → X) (n e : ℕ) (xs : List X) (x : X) → xs ≡ map F (range_with_len 0 n) → e < n
+      → x ≡ get_or xs e x → x ≡ F e
   read_by F n e xs x is l r = r ∙ ap (λ ys. get_or ys e x) is ∙ get_or-map-range_with_len F 0 n e e x l (omega arith)
 
   pub length_by : (F : ℕ → X) (n : ℕ) (xs : List X) → xs ≡ map F (range_with_len 0 n) → length xs ≡ n
@@ -102,10 +112,13 @@ module _ {X : Type 0} where
     where
       by : (k : ℕ) → k < n → (k ≡ e) ⊎ (k ≡ e → ⊥) → get_or (set (map F (range_with_len 0 n)) e x) k x ≡ G k
       by k h (inl same) =
-          let in_range : e < length (map F (range_with_len 0 n)) = subst (λ m. e < m) (sym (length-map-range_with_len F 0 n)) l in
-          ap (λ j. get_or (set (map F (range_with_len 0 n)) e x) j x) same ∙ get_or-set_same (map F (range_with_len 0 n)) e x x in_range ∙ sym here ∙ ap G (sym same)
+          let in_range : e < length (map F (range_with_len 0 n)) =
+          subst (λ m. e < m) (sym (length-map-range_with_len F 0 n)) l in
+          ap (λ j. get_or (set (map F (range_with_len 0 n)) e x) j x) same
+          ∙ get_or-set_same (map F (range_with_len 0 n)) e x x in_range ∙ sym here ∙ ap G (sym same)
       by k h (inr other) =
-          get_or-set_other (map F (range_with_len 0 n)) e k x x other ∙ get_or-map-range_with_len F 0 n k k x h (omega arith) ∙ sym (others k other)
+          get_or-set_other (map F (range_with_len 0 n)) e k x x other
+          ∙ get_or-map-range_with_len F 0 n k k x h (omega arith) ∙ sym (others k other)
 
 -- a number of a range passes
 pub any_in_range : (p : ℕ → Bool) (n k : ℕ) → k < n → p k ≡ true → list_any p (range_with_len 0 n) ≡ true
@@ -123,17 +136,26 @@ pub from_any_range : (p : ℕ → Bool) (n : ℕ) → list_any p (range_with_len
 from_any_range p n e =
     let found = Any-from_list_any p (range_with_len 0 n) e in
     let below : found.0 < n = subst (λ m. found.0 < m) (length-range_with_len 0 n) found.2 in
-    record { number = found.1; below = subst (λ m. m < n) (sym (get_or-range_with_len 0 n found.0 found.1 below ∙ (let z : 0 + found.0 ≡ found.0 = omega arith in z)) ∙ found.3) below; passes = found.4 }
+    record {
+      number = found.1;
+      below = subst (λ m. m < n)
+          (sym (get_or-range_with_len 0 n found.0 found.1 below ∙ (let z : 0 + found.0 ≡ found.0 = omega arith in z))
+          ∙ found.3) below;
+      passes = found.4;
+    }
 
 -- counts of a range by tests that agree there
-pub count_by-agree : (p q : ℕ → Bool) (n : ℕ) → ((k : ℕ) → k < n → p k ≡ q k) → count_by p (range_with_len 0 n) ≡ count_by q (range_with_len 0 n)
+pub count_by-agree : (p q : ℕ → Bool) (n : ℕ) → ((k : ℕ) → k < n → p k ≡ q k)
+    → count_by p (range_with_len 0 n) ≡ count_by q (range_with_len 0 n)
 count_by-agree p q n h = by 0 n (λ k low high. h k (omega arith))
   where
-    by : (a m : ℕ) → ((k : ℕ) → a ≤ k → k < a + m → p k ≡ q k) → count_by p (range_with_len a m) ≡ count_by q (range_with_len a m)
+    by : (a m : ℕ) → ((k : ℕ) → a ≤ k → k < a + m → p k ≡ q k)
+        → count_by p (range_with_len a m) ≡ count_by q (range_with_len a m)
     by a zero g = refl
     by a (suc m) g =
         sum_by-cons (λ x. cond (p x) 1 0) a (range_with_len (a + 1) m)
-        ∙ ap₂ (λ x y. cond x 1 0 + y) (g a (omega arith) (omega arith)) (by (a + 1) m (λ k low high. g k (omega arith) (omega arith)))
+        ∙ ap₂ (λ x y. cond x 1 0 + y) (g a (omega arith) (omega arith))
+        (by (a + 1) m (λ k low high. g k (omega arith) (omega arith)))
         ∙ sym (sum_by-cons (λ x. cond (q x) 1 0) a (range_with_len (a + 1) m))
 
 -- at most one number of a range is this one
@@ -148,9 +170,11 @@ count_one k n = by 0 n
 
     by : (a m : ℕ) → count_by (λ j. j == k) (range_with_len a m) ≤ 1
     by a zero = omega arith
-    by a (suc m) = subst (λ x. x ≤ 1) (sym (sum_by-cons (λ j. cond (j == k) 1 0) a (range_with_len (a + 1) m))) (step (cases_eq a k) (by (a + 1) m))
+    by a (suc m) = subst (λ x. x ≤ 1) (sym (sum_by-cons (λ j. cond (j == k) 1 0) a (range_with_len (a + 1) m)))
+        (step (cases_eq a k) (by (a + 1) m))
       where
-        step : (a ≡ k) ⊎ (a ≡ k → ⊥) → count_by (λ j. j == k) (range_with_len (a + 1) m) ≤ 1 → cond (a == k) 1 0 + count_by (λ j. j == k) (range_with_len (a + 1) m) ≤ 1
+        step : (a ≡ k) ⊎ (a ≡ k → ⊥) → count_by (λ j. j == k) (range_with_len (a + 1) m) ≤ 1
+            → cond (a == k) 1 0 + count_by (λ j. j == k) (range_with_len (a + 1) m) ≤ 1
         step (inl e) rest =
             let z : count_by (λ j. j == k) (range_with_len (a + 1) m) ≡ 0 = none (a + 1) m (omega (arith, e)) in
             let y : cond {A = ℕ} (a == k) 1 0 ≡ 1 = ap (λ b. cond {A = ℕ} b 1 0) (eq-eqb a k e) in

@@ -46,4 +46,5 @@ all_run meets events t = list_all (event_runs meets t) events
 
 -- at how many times some of the events run and some do not
 abbrev pub apart_at : List Meet → List ℕ → ℕ → ℕ
-apart_at meets events times = count_by (λ t. some_run meets events t && not (all_run meets events t)) (range_with_len 0 times)
+apart_at meets events times = count_by (λ t. some_run meets events t && not (all_run meets events t))
+    (range_with_len 0 times)

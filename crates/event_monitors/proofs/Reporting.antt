@@ -1,5 +1,6 @@
 -- Gauges and a tally while the gauges of a list are turned.
-use Rattle.std.proofs.Common.{ℕ, ◌≡◌, ◌≤◌, ◌<◌, ◌+◌, ◌∙◌, ◌||◌, zero, suc, Bool, true, false, cond, Some, List, [], ◌∷◌, drop, set, get_or, length, slice_get, refl, sym, ap, subst, arith, filter, ◌⊎◌, inl, inr}
+use Rattle.std.proofs.Common.{ℕ, ◌≡◌, ◌≤◌, ◌<◌, ◌+◌, ◌∙◌, ◌||◌, zero, suc, Bool, true, false, cond, Some, List, [], ◌∷◌}
+use Rattle.std.proofs.Common.{drop, set, get_or, length, slice_get, refl, sym, ap, subst, arith, filter, ◌⊎◌, inl, inr}
 use Rattle.std.specs.Option.{option_map_or}
 use Rattle.std.specs.List.{range_with_len}
 use Rattle.std.proofs.lemmas.Bool.{cases_eq, cases_lt, eq-eqb, ne_eqb, true≢false}
@@ -18,7 +19,11 @@ use Rattle.event_monitors.specs.declared.posts.Post.{Post}
 
 -- what stands for a post beyond the last
 abbrev pub no_post : Post
-no_post = record { number = record { 0 = 0 }; monitor = record { kind = kind.AssignTime; constraint = 0; point = point.Event (record { 0 = 0 }) } }
+no_post = record {
+  number = record { 0 = 0 };
+  monitor =
+      record { kind = kind.AssignTime; constraint = 0; point = point.Event (record { 0 = 0 }) };
+}
 
 -- the numbers of a range that pass a test
 module _ (f : ℕ → Bool) where
@@ -26,14 +31,17 @@ module _ (f : ℕ → Bool) where
   below from zero k l = refl
   below from (suc n) k l = by (f from) (below (from + 1) n k (omega arith))
     where
-      by : (b : Bool) → has (filter f (range_with_len (from + 1) n)) k ≡ false → has (cond b (from ∷ filter f (range_with_len (from + 1) n)) (filter f (range_with_len (from + 1) n))) k ≡ false
+      by : (b : Bool) → has (filter f (range_with_len (from + 1) n)) k ≡ false
+          → has (cond b (from ∷ filter f (range_with_len (from + 1) n)) (filter f (range_with_len (from + 1) n))) k
+          ≡ false
       by true r = (λ i. ne_eqb from k (omega arith) i || has (filter f (range_with_len (from + 1) n)) k) ∙ r
       by false r = r
 
   abbrev IsFound : (from n k : ℕ) → List ℕ → Type 0
   IsFound from n k rest = (f k ≡ true) × (k < from + n) × (from ≤ k) × (has rest k ≡ false)
 
-  pub found : (from n j k : ℕ) → slice_get (filter f (range_with_len from n)) j ≡ Some k → IsFound from n k (drop (suc j) (filter f (range_with_len from n)))
+  pub found : (from n j k : ℕ) → slice_get (filter f (range_with_len from n)) j ≡ Some k
+      → IsFound from n k (drop (suc j) (filter f (range_with_len from n)))
   found from zero j k h = absurd (none-some k h)
   found from (suc n) j k h = by (λ i g. found (from + 1) n i k g) (f from) j refl h
     where
@@ -43,7 +51,8 @@ module _ (f : ℕ → Bool) where
       more : (i : ℕ) → IsFound (from + 1) n k (drop (suc i) rest) → IsFound from (suc n) k (drop (suc i) rest)
       more i g = (g.0, omega (arith, g.1), omega (arith, g.2), g.3)
 
-      by : ((i : ℕ) → slice_get rest i ≡ Some k → IsFound (from + 1) n k (drop (suc i) rest)) → (b : Bool) (i : ℕ) → f from ≡ b → slice_get (cond b (from ∷ rest) rest) i ≡ Some k
+      by : ((i : ℕ) → slice_get rest i ≡ Some k → IsFound (from + 1) n k (drop (suc i) rest)) → (b : Bool) (i : ℕ)
+          → f from ≡ b → slice_get (cond b (from ∷ rest) rest) i ≡ Some k
           → IsFound from (suc n) k (drop (suc i) (cond b (from ∷ rest) rest))
       by r true zero e g =
           let s : from ≡ k = same_Some from k g in
@@ -59,14 +68,16 @@ module _ (f : ℕ → Bool) where
       rest : List ℕ
       rest = filter f (range_with_len (from + 1) n)
 
-      by : (from + 1 ≤ k → has rest k ≡ f k) → (from ≡ k) ⊎ (from ≡ k → ⊥) → (b : Bool) → f from ≡ b → has (cond b (from ∷ rest) rest) k ≡ f k
+      by : (from + 1 ≤ k → has rest k ≡ f k) → (from ≡ k) ⊎ (from ≡ k → ⊥) → (b : Bool) → f from ≡ b
+          → has (cond b (from ∷ rest) rest) k ≡ f k
       by r (inl e) true g = ap (λ c. c || has rest k) (eq-eqb from k e) ∙ sym (sym (ap f e) ∙ g)
       by r (inl e) false g = below (from + 1) n k (omega (arith, e)) ∙ sym (sym (ap f e) ∙ g)
       by r (inr e) true g = ap (λ c. c || has rest k) (ne_eqb from k e) ∙ r (omega (arith, a, e))
       by r (inr e) false g = r (omega (arith, a, e))
 
 -- no two posts have one number
-pub posts_once : (p : Parts) (served : Kind → Bool) (posts : List Post) → ArePosts p served posts → (j k : ℕ) (a b : Post) → slice_get posts j ≡ Some a → slice_get posts k ≡ Some b → a.number.0 ≡ b.number.0 → j ≡ k
+pub posts_once : (p : Parts) (served : Kind → Bool) (posts : List Post) → ArePosts p served posts
+    → (j k : ℕ) (a b : Post) → slice_get posts j ≡ Some a → slice_get posts k ≡ Some b → a.number.0 ≡ b.number.0 → j ≡ k
 posts_once p served posts all j k a b at there same = by (cases_lt j k) (cases_lt k j)
   where
     by : (j < k) ⊎ (k ≤ j) → (k < j) ⊎ (j ≤ k) → j ≡ k
@@ -74,7 +85,9 @@ posts_once p served posts all j k a b at there same = by (cases_lt j k) (cases_l
     by (inr m) (inl l) = absurd (let x = all.ascending k j b a l there at in omega (arith, x, same))
     by (inr m) (inr l) = omega (arith, m, l)
 
-module _ {G : Type 0} (keeps : G → Parts → Monitor → List Slot → Type 0) (value : G → Parts → Monitor → ℕ) (p : Parts) (served : Kind → Bool) (posts : List Post) (s : List Slot) (gauges0 : List G) (ds0 : List ℕ) (e : ℕ) (all : ArePosts p served posts) where
+module _ {G : Type 0} (keeps : G → Parts → Monitor → List Slot → Type 0) (value : G → Parts → Monitor → ℕ) (p : Parts)
+    (served : Kind → Bool) (posts : List Post) (s : List Slot) (gauges0 : List G) (ds0 : List ℕ) (e : ℕ)
+    (all : ArePosts p served posts) where
   -- before the first
   pub under_start : (after : List Slot) → length gauges0 ≡ length posts → AreKept keeps p posts gauges0 s
       → ((g : G) (m : Monitor) → names p e m ≡ false → keeps g p m s → keeps g p m after)
@@ -84,14 +97,17 @@ module _ {G : Type 0} (keeps : G → Parts → Monitor → List Slot → Type 0)
     tally = refl;
     later = λ k h. refl;
     kept = λ k a g h there here. law g a.monitor (not_named k a h there) (kept k a g there here);
-    follows = λ k h a g0 g there old new agrees. agrees ∙ ap (λ x. Some (value x p a.monitor)) (same_Some g0 g (sym old ∙ new));
+    follows = λ k h a g0 g there old new agrees. agrees
+        ∙ ap (λ x. Some (value x p a.monitor)) (same_Some g0 g (sym old ∙ new));
     others = λ i h. refl;
   }
     where
-      not_named : (k : ℕ) (a : Post) → has (posts_at p posts e) k ≡ false → slice_get posts k ≡ Some a → names p e a.monitor ≡ false
+      not_named : (k : ℕ) (a : Post) → has (posts_at p posts e) k ≡ false → slice_get posts k ≡ Some a
+          → names p e a.monitor ≡ false
       not_named k a h there =
           sym (ap (λ o. option_map_or (λ (b : Post). names p e b.monitor) o false) there)
-          ∙ sym (has_range (names_at p posts e) 0 (length posts) k (omega arith) (omega (arith, slice_get_within posts k a there))) ∙ h
+          ∙ sym (has_range (names_at p posts e) 0 (length posts) k (omega arith)
+          (omega (arith, slice_get_within posts k a there))) ∙ h
 
   get-same : {X : Type 0} (xs : List X) (i : ℕ) (x y : X) → i < length xs → slice_get (set xs i x) i ≡ Some y → x ≡ y
   get-same [] i x y l h = absurd (omega arith)
@@ -111,7 +127,8 @@ module _ {G : Type 0} (keeps : G → Parts → Monitor → List Slot → Type 0)
   get-other (z ∷ xs) (suc i) (suc j) x n = get-other xs i j x (λ h. n (ap suc h))
 
   -- one more
-  pub under_step : (k : ℕ) (a : Post) (g : G) (gauges : List G) (ds rest : List ℕ) → slice_get posts k ≡ Some a → k < length gauges → a.number.0 < length ds → has rest k ≡ false
+  pub under_step : (k : ℕ) (a : Post) (g : G) (gauges : List G) (ds rest : List ℕ) → slice_get posts k ≡ Some a
+      → k < length gauges → a.number.0 < length ds → has rest k ≡ false
       → keeps g p a.monitor s → AreUnderWay keeps value p posts s gauges0 gauges ds0 ds (k ∷ rest)
       → AreUnderWay keeps value p posts s gauges0 (set gauges k g) ds0 (set ds a.number.0 (value g p a.monitor)) rest
   under_step k a g gauges ds rest there l d fresh keep u = record {
@@ -132,30 +149,36 @@ module _ {G : Type 0} (keeps : G → Parts → Monitor → List Slot → Type 0)
       or_less : (j : ℕ) → has rest j ≡ false → (k ≡ j → ⊥) → has (k ∷ rest) j ≡ false
       or_less j h n = (λ i. ne_eqb k j n i || h i)
 
-      kept_by : (j : ℕ) (b : Post) (x : G) → has rest j ≡ false → slice_get posts j ≡ Some b → slice_get (set gauges k g) j ≡ Some x → (k ≡ j) ⊎ (k ≡ j → ⊥) → keeps x p b.monitor s
+      kept_by : (j : ℕ) (b : Post) (x : G) → has rest j ≡ false → slice_get posts j ≡ Some b
+          → slice_get (set gauges k g) j ≡ Some x → (k ≡ j) ⊎ (k ≡ j → ⊥) → keeps x p b.monitor s
       kept_by j b x h t n (inl o) =
           let same : a ≡ b = same_Some a b (sym there ∙ ap (slice_get posts) o ∙ t) in
           let new : g ≡ x = get-same gauges k g x l (ap (slice_get (set gauges k g)) o ∙ n) in
           subst (λ y. keeps y p b.monitor s) new (subst (λ (c : Post). keeps g p c.monitor s) same keep)
       kept_by j b x h t n (inr o) = u.kept j b x (or_less j h o) t (sym (get-other gauges k j g o) ∙ n)
 
-      follows_by : (j : ℕ) → has rest j ≡ false → (k ≡ j) ⊎ (k ≡ j → ⊥) → Follows value p posts gauges0 (set gauges k g) ds0 (set ds a.number.0 (value g p a.monitor)) j
+      follows_by : (j : ℕ) → has rest j ≡ false → (k ≡ j) ⊎ (k ≡ j → ⊥)
+          → Follows value p posts gauges0 (set gauges k g) ds0 (set ds a.number.0 (value g p a.monitor)) j
       follows_by j h (inl o) b g0 x t old new agrees =
           let same : a ≡ b = same_Some a b (sym there ∙ ap (slice_get posts) o ∙ t) in
           let is : g ≡ x = get-same gauges k g x l (ap (slice_get (set gauges k g)) o ∙ new) in
-          subst (λ (c : Post). slice_get (set ds a.number.0 (value g p a.monitor)) c.number.0 ≡ Some (value x p c.monitor)) same
+          subst (λ (c : Post). slice_get (set ds a.number.0 (value g p a.monitor)) c.number.0
+          ≡ Some (value x p c.monitor)) same
           (get-set ds a.number.0 (value g p a.monitor) d ∙ ap (λ y. Some (value y p a.monitor)) is)
       follows_by j h (inr o) b g0 x t old new agrees =
-          get-other ds a.number.0 b.number.0 (value g p a.monitor) (λ n. o (posts_once p served posts all k j a b there t n))
+          get-other ds a.number.0 b.number.0 (value g p a.monitor)
+          (λ n. o (posts_once p served posts all k j a b there t n))
           ∙ u.follows j (or_less j h o) b g0 x t old (sym (get-other gauges k j g o) ∙ new) agrees
 
 -- the next of a list
-module _ (p : Parts) (posts : List Post) (e : ℕ) (list : List ℕ) (i : ℕ) (d : Post) (is : list ≡ posts_at p posts e) (l : i < length list) where
+module _ (p : Parts) (posts : List Post) (e : ℕ) (list : List ℕ) (i : ℕ) (d : Post) (is : list ≡ posts_at p posts e)
+    (l : i < length list) where
   abbrev k : ℕ
   k = get_or list i 0
 
   spot : IsFound (names_at p posts e) 0 (length posts) k (drop (suc i) list)
-  spot = subst (λ xs. slice_get xs i ≡ Some k → IsFound (names_at p posts e) 0 (length posts) k (drop (suc i) xs)) (sym is) (found (names_at p posts e) 0 (length posts) i k) (slice_get-get_or list i 0 l)
+  spot = subst (λ xs. slice_get xs i ≡ Some k → IsFound (names_at p posts e) 0 (length posts) k (drop (suc i) xs))
+      (sym is) (found (names_at p posts e) 0 (length posts) i k) (slice_get-get_or list i 0 l)
 
   pub spot_within : get_or list i 0 < length posts
   spot_within = omega (arith, spot.1)

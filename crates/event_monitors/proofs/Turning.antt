@@ -1,5 +1,6 @@
 -- A monitor's sum and one more change.
-use Rattle.std.proofs.Common.{ℕ, ◌≡◌, ◌≤◌, ◌<◌, ◌+◌, ◌-◌, ◌∙◌, Bool, true, false, cond, Option, Some, None, List, [], ◌∷◌, length, slice_get, refl, sym, ap, arith, sum_by}
+use Rattle.std.proofs.Common.{ℕ, ◌≡◌, ◌≤◌, ◌<◌, ◌+◌, ◌-◌, ◌∙◌, Bool, true, false, cond, Option, Some, None, List, []}
+use Rattle.std.proofs.Common.{◌∷◌, length, slice_get, refl, sym, ap, arith, sum_by}
 use Rattle.std.specs.Option.{option_map_or}
 use Rattle.std.proofs.lemmas.List.Sums.{sum_by-cons, sum_by-set}
 use Rattle.khe_base.specs.declared.numbers.ResourceId.{ResourceId}
@@ -21,7 +22,8 @@ use Rattle.event_monitors.specs.Shares.{given_at, greatest_total, most_of, share
 use Rattle.event_monitors.proofs.SlotFacts.{none_of_no_meets, part_of_sum, totals_small}
 
 -- the sum with one slot changed
-turned_sum : (f : Slot → ℕ) (s : List Slot) (c : Change) (amount before later : ℕ) → meet_of c < length s → amount ≡ sum_by f s → before ≡ f (slot_at s (meet_of c)) → later ≡ f (changed (slot_at s (meet_of c)) c)
+turned_sum : (f : Slot → ℕ) (s : List Slot) (c : Change) (amount before later : ℕ) → meet_of c < length s
+    → amount ≡ sum_by f s → before ≡ f (slot_at s (meet_of c)) → later ≡ f (changed (slot_at s (meet_of c)) c)
     → (before ≤ amount) × (amount - before + later ≡ sum_by f (after s c))
 turned_sum f s c amount before later l h b a =
     let e = sum_by-set f s (meet_of c) (changed (slot_at s (meet_of c)) c) no_slot l in
@@ -31,11 +33,15 @@ turned_sum f s c amount before later l h b a =
 -- sums grow with their parts
 pub sum_le : (f g : Slot → ℕ) (s : List Slot) → ((x : Slot) → f x ≤ g x) → sum_by f s ≤ sum_by g s
 sum_le f g [] h = omega arith
-sum_le f g (x ∷ s) h = let a = sum_by-cons f x s in let b = sum_by-cons g x s in let k = h x in let r = sum_le f g s h in omega (arith, a, b, k, r)
+sum_le f g (x ∷ s) h = let a = sum_by-cons f x s in let b = sum_by-cons g x s in let k = h x in let r =
+    sum_le f g s h in omega (arith, a, b, k, r)
 
-module _ (share : Rule → Option Span → Option (Option ResourceId) → ℕ) (bounded : (rule : Rule) (span : Option Span) (given : Option (Option ResourceId)) → share rule span given ≤ most_of span) where
+module _ (share : Rule → Option Span → Option (Option ResourceId) → ℕ)
+    (bounded : (rule : Rule) (span : Option Span) (given : Option (Option ResourceId))
+    → share rule span given ≤ most_of span) where
   part : (p : Parts) (rule : Rule) (point : Point) (x : Slot) → share_of share p rule point x ≤ most_of x.span
-  part p rule point x = by (names_event p rule point x.event.0) (share rule x.span (given_at point x.given)) (bounded rule x.span (given_at point x.given))
+  part p rule point x = by (names_event p rule point x.event.0) (share rule x.span (given_at point x.given))
+      (bounded rule x.span (given_at point x.given))
     where
       by : (b : Bool) (n : ℕ) → n ≤ most_of x.span → cond b n 0 ≤ most_of x.span
       by true n h = h
@@ -47,19 +53,25 @@ module _ (share : Rule → Option Span → Option (Option ResourceId) → ℕ) (
     pub is : total - before + later ≡ total_of share p m (after s c)
     pub small : total - before + later ≤ greatest_total
 
-  pub turned_total : (p : Parts) (m : Monitor) (k : Constraint) (s : List Slot) (c : Change) (total before later : ℕ) → AreWellMade p → Fits p s c → IsMonitor p m
+  pub turned_total : (p : Parts) (m : Monitor) (k : Constraint) (s : List Slot) (c : Change) (total before later : ℕ)
+      → AreWellMade p → Fits p s c → IsMonitor p m
       → slice_get p.constraints m.constraint ≡ Some k
       → names p (slot_at s (meet_of c)).event.0 m ≡ true → total ≡ total_of share p m s
       → before ≡ share k.rule (slot_at s (meet_of c)).span (given_at m.point (slot_at s (meet_of c)).given)
-      → later ≡ share k.rule (span_after (slot_at s (meet_of c)).span c) (given_at m.point (given_after (slot_at s (meet_of c)).given c))
+      → later ≡ share k.rule (span_after (slot_at s (meet_of c)).span c)
+      (given_at m.point (given_after (slot_at s (meet_of c)).given c))
       → IsTurned p m s c total before later
   turned_total p m k s c total before later made fits monitor there named h b a =
       let x = slot_at s (meet_of c) in
       let y = changed x c in
       let f = share_of share p k.rule m.point in
-      let n : names_event p k.rule m.point x.event.0 ≡ true = sym (ap (λ o. option_map_or (λ (c : Constraint). names_event p c.rule m.point x.event.0) o false) there) ∙ named in
-      let e : total_of share p m s ≡ sum_by f s = ap (λ o. option_map_or (λ (c : Constraint). total_at share p c.rule m.point s) o 0) there in
-      let e2 : total_of share p m (after s c) ≡ sum_by f (after s c) = ap (λ o. option_map_or (λ (q : Constraint). total_at share p q.rule m.point (after s c)) o 0) there in
+      let n : names_event p k.rule m.point x.event.0 ≡ true =
+      sym (ap (λ o. option_map_or (λ (c : Constraint). names_event p c.rule m.point x.event.0) o false) there)
+      ∙ named in
+      let e : total_of share p m s ≡ sum_by f s = ap (λ o. option_map_or
+      (λ (c : Constraint). total_at share p c.rule m.point s) o 0) there in
+      let e2 : total_of share p m (after s c) ≡ sum_by f (after s c) =
+      ap (λ o. option_map_or (λ (q : Constraint). total_at share p q.rule m.point (after s c)) o 0) there in
       let one : before ≡ f x = b ∙ sym (ap (λ b. cond b (share k.rule x.span (given_at m.point x.given)) 0) n) in
       let two : later ≡ f y = a ∙ sym (ap (λ b. cond b (share k.rule y.span (given_at m.point y.given)) 0) n) in
       let t = turned_sum f s c total before later fits.there (h ∙ e) one two in
@@ -72,9 +84,11 @@ module _ (share : Rule → Option Span → Option (Option ResourceId) → ℕ) (
   pub nothing_yet : (p : Parts) (m : Monitor) → total_of share p m (no_meets p) ≡ 0
   nothing_yet p m = by (slice_get p.constraints m.constraint)
     where
-      by : (o : Option Constraint) → option_map_or (λ (c : Constraint). total_at share p c.rule m.point (no_meets p)) o 0 ≡ 0
+      by : (o : Option Constraint) → option_map_or (λ (c : Constraint). total_at share p c.rule m.point (no_meets p)) o
+          0 ≡ 0
       by None = refl
       by (Some k) =
-          let a = sum_le (share_of share p k.rule m.point) (λ (z : Slot). most_of z.span) (no_meets p) (part p k.rule m.point) in
+          let a = sum_le (share_of share p k.rule m.point) (λ (z : Slot). most_of z.span) (no_meets p)
+          (part p k.rule m.point) in
           let b = none_of_no_meets p in
           omega (arith, a, b)

@@ -8,7 +8,8 @@ use Rattle.khe_instance.specs.Kinds.{kind_of}
 use Rattle.khe_instance.specs.WellMade.{IsPointOf}
 use Rattle.khe_instance.specs.declared.parts.Parts.{Parts}
 use Rattle.khe_instance.specs.declared.points.Point.{Point}
-use Rattle.khe_instance.specs.declared.points.Point.TheVariants.{Event, EventResource, EventGroup, EventPair as Pair, Resource}
+use Rattle.khe_instance.specs.declared.points.Point.TheVariants.{Event, EventResource, EventGroup, EventPair as Pair}
+use Rattle.khe_instance.specs.declared.points.Point.TheVariants.{Resource}
 use Rattle.khe_instance.specs.declared.rules.Kind.TheVariants as kind
 use Rattle.khe_instance.specs.declared.rules.Rule.{Rule}
 use Rattle.khe_instance.specs.declared.rules.Rule.TheVariants.{AssignResource}
@@ -24,20 +25,28 @@ use Rattle.event_monitors.specs.Shares.{changes_tasks, given_at, most_of, task_s
 abbrev pub unfilled : Rule → Option Span → Option (Option ResourceId) → ℕ
 unfilled rule span given = task_share unfilled_duration span given
 
-pub unfilled_bounded : (rule : Rule) (span : Option Span) (given : Option (Option ResourceId)) → unfilled rule span given ≤ most_of span
-unfilled_bounded rule span given = task_bounded unfilled_duration (λ (r : Option ResourceId) n. part_bounded (is_none r) n) span given
+pub unfilled_bounded : (rule : Rule) (span : Option Span) (given : Option (Option ResourceId))
+    → unfilled rule span given ≤ most_of span
+unfilled_bounded rule span given = task_bounded unfilled_duration
+    (λ (r : Option ResourceId) n. part_bounded (is_none r) n) span given
 
-pub unfilled_unheard : (rule : Rule) (span : Option Span) (given : List (Option ResourceId)) (point : Point) (c : Change) → changes_tasks c ≡ false
-    → unfilled rule (span_after span c) (given_at point (given_after given c)) ≡ unfilled rule span (given_at point given)
+pub unfilled_unheard : (rule : Rule) (span : Option Span) (given : List (Option ResourceId)) (point : Point)
+    (c : Change) → changes_tasks c ≡ false
+    → unfilled rule (span_after span c) (given_at point (given_after given c))
+    ≡ unfilled rule span (given_at point given)
 unfilled_unheard rule span given point c e = tasks_kept unfilled_duration span given point c e
 
-pub unfilled_exact : (p : Parts) (s : List Slot) (r : Rule) (point : Point) → is_kind (kind_of r) kind.AssignResource ≡ true → IsPointOf p r point
+pub unfilled_exact : (p : Parts) (s : List Slot) (r : Rule) (point : Point)
+    → is_kind (kind_of r) kind.AssignResource ≡ true → IsPointOf p r point
     → deviation_at p (meets_in s) (duties_in s) r point ≡ total_at unfilled p r point s
 unfilled_exact p s r point k i =
     let of = rule_of_kind kind.AssignResource r k in
-    subst (λ q. IsPointOf p q point → deviation_at p (meets_in s) (duties_in s) q point ≡ total_at unfilled p q point s) (sym of.1) (at of.0 point) i
+    subst (λ q. IsPointOf p q point → deviation_at p (meets_in s) (duties_in s) q point ≡ total_at unfilled p q point s)
+    (sym of.1) (at of.0 point) i
   where
-    at : (role : List ℕ) (point : Point) → IsPointOf p (AssignResource role) point → deviation_at p (meets_in s) (duties_in s) (AssignResource role) point ≡ total_at unfilled p (AssignResource role) point s
+    at : (role : List ℕ) (point : Point) → IsPointOf p (AssignResource role) point
+        → deviation_at p (meets_in s) (duties_in s) (AssignResource role) point
+        ≡ total_at unfilled p (AssignResource role) point s
     at role (Event e) i = absurd i
     at role (EventResource e place) i = sum_over_duties unfilled_duration e.0 place s
     at role (EventGroup g) i = absurd i

@@ -9,7 +9,8 @@ use Rattle.khe_instance.specs.Kinds.{kind_of}
 use Rattle.khe_instance.specs.WellMade.{IsPointOf}
 use Rattle.khe_instance.specs.declared.parts.Parts.{Parts}
 use Rattle.khe_instance.specs.declared.points.Point.{Point}
-use Rattle.khe_instance.specs.declared.points.Point.TheVariants.{Event, EventResource, EventGroup, EventPair as Pair, Resource}
+use Rattle.khe_instance.specs.declared.points.Point.TheVariants.{Event, EventResource, EventGroup, EventPair as Pair}
+use Rattle.khe_instance.specs.declared.points.Point.TheVariants.{Resource}
 use Rattle.khe_instance.specs.declared.rules.Kind.TheVariants as kind
 use Rattle.khe_instance.specs.declared.rules.Rule.{Rule}
 use Rattle.khe_instance.specs.declared.rules.Rule.TheVariants.{AssignTime}
@@ -25,19 +26,26 @@ use Rattle.event_monitors.specs.Shares.{changes_meets, given_at, most_of, span_s
 abbrev pub unplaced : Rule → Option Span → Option (Option ResourceId) → ℕ
 unplaced rule span given = span_share unplaced_duration span
 
-pub unplaced_bounded : (rule : Rule) (span : Option Span) (given : Option (Option ResourceId)) → unplaced rule span given ≤ most_of span
-unplaced_bounded rule span given = span_bounded unplaced_duration (λ (start : Option TimeId) n. part_bounded (is_none start) n) span
+pub unplaced_bounded : (rule : Rule) (span : Option Span) (given : Option (Option ResourceId))
+    → unplaced rule span given ≤ most_of span
+unplaced_bounded rule span given = span_bounded unplaced_duration
+    (λ (start : Option TimeId) n. part_bounded (is_none start) n) span
 
-pub unplaced_unheard : (rule : Rule) (span : Option Span) (given : List (Option ResourceId)) (point : Point) (c : Change) → changes_meets c ≡ false
-    → unplaced rule (span_after span c) (given_at point (given_after given c)) ≡ unplaced rule span (given_at point given)
+pub unplaced_unheard : (rule : Rule) (span : Option Span) (given : List (Option ResourceId)) (point : Point)
+    (c : Change) → changes_meets c ≡ false
+    → unplaced rule (span_after span c) (given_at point (given_after given c))
+    ≡ unplaced rule span (given_at point given)
 unplaced_unheard rule span given point c e = meets_kept unplaced_duration span c e
 
-pub unplaced_exact : (p : Parts) (s : List Slot) (r : Rule) (point : Point) → is_kind (kind_of r) kind.AssignTime ≡ true → IsPointOf p r point
+pub unplaced_exact : (p : Parts) (s : List Slot) (r : Rule) (point : Point) → is_kind (kind_of r) kind.AssignTime ≡ true
+    → IsPointOf p r point
     → deviation_at p (meets_in s) (duties_in s) r point ≡ total_at unplaced p r point s
 unplaced_exact p s r point k i =
-    subst (λ q. IsPointOf p q point → deviation_at p (meets_in s) (duties_in s) q point ≡ total_at unplaced p q point s) (sym (rule_of_kind kind.AssignTime r k)) (at point) i
+    subst (λ q. IsPointOf p q point → deviation_at p (meets_in s) (duties_in s) q point ≡ total_at unplaced p q point s)
+    (sym (rule_of_kind kind.AssignTime r k)) (at point) i
   where
-    at : (point : Point) → IsPointOf p AssignTime point → deviation_at p (meets_in s) (duties_in s) AssignTime point ≡ total_at unplaced p AssignTime point s
+    at : (point : Point) → IsPointOf p AssignTime point
+        → deviation_at p (meets_in s) (duties_in s) AssignTime point ≡ total_at unplaced p AssignTime point s
     at (Event e) i = sum_over_meets unplaced_duration e.0 s
     at (EventResource e k) i = absurd i
     at (EventGroup g) i = absurd i

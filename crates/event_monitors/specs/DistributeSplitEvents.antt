@@ -9,7 +9,8 @@ use Rattle.khe_instance.specs.Kinds.{kind_of}
 use Rattle.khe_instance.specs.WellMade.{IsPointOf}
 use Rattle.khe_instance.specs.declared.parts.Parts.{Parts}
 use Rattle.khe_instance.specs.declared.points.Point.{Point}
-use Rattle.khe_instance.specs.declared.points.Point.TheVariants.{Event, EventResource, EventGroup, EventPair as Pair, Resource}
+use Rattle.khe_instance.specs.declared.points.Point.TheVariants.{Event, EventResource, EventGroup, EventPair as Pair}
+use Rattle.khe_instance.specs.declared.points.Point.TheVariants.{Resource}
 use Rattle.khe_instance.specs.declared.rules.Kind.TheVariants as kind
 use Rattle.khe_instance.specs.declared.rules.Rule.{Rule}
 use Rattle.khe_instance.specs.declared.rules.Rule.TheVariants.{DistributeSplitEvents}
@@ -35,24 +36,32 @@ abbrev pub amount_outside : Rule → ℕ → ℕ
 amount_outside (DistributeSplitEvents only least greatest) total = count_outside total least greatest
 amount_outside _ total = 0
 
-pub of_duration_bounded : (rule : Rule) (span : Option Span) (given : Option (Option ResourceId)) → of_duration rule span given ≤ most_of span
-of_duration_bounded (DistributeSplitEvents only least greatest) span given = span_bounded (one_of only) (λ (start : Option TimeId) n. one_bounded (n == only) n) span
+pub of_duration_bounded : (rule : Rule) (span : Option Span) (given : Option (Option ResourceId))
+    → of_duration rule span given ≤ most_of span
+of_duration_bounded (DistributeSplitEvents only least greatest) span given =
+    span_bounded (one_of only) (λ (start : Option TimeId) n. one_bounded (n == only) n) span
 of_duration_bounded _ span given = omega arith
 
-pub of_duration_unheard : (rule : Rule) (span : Option Span) (given : List (Option ResourceId)) (point : Point) (c : Change) → changes_durations c ≡ false
-    → of_duration rule (span_after span c) (given_at point (given_after given c)) ≡ of_duration rule span (given_at point given)
-of_duration_unheard (DistributeSplitEvents only least greatest) span given point c e = durations_kept (one_of only) (λ a b n. refl) span c e
+pub of_duration_unheard : (rule : Rule) (span : Option Span) (given : List (Option ResourceId)) (point : Point)
+    (c : Change) → changes_durations c ≡ false
+    → of_duration rule (span_after span c) (given_at point (given_after given c))
+    ≡ of_duration rule span (given_at point given)
+of_duration_unheard (DistributeSplitEvents only least greatest) span given point c e =
+    durations_kept (one_of only) (λ a b n. refl) span c e
 of_duration_unheard _ span given point c e = refl
 
-pub of_duration_exact : (p : Parts) (s : List Slot) (r : Rule) (point : Point) → is_kind (kind_of r) kind.DistributeSplitEvents ≡ true → IsPointOf p r point
+pub of_duration_exact : (p : Parts) (s : List Slot) (r : Rule) (point : Point)
+    → is_kind (kind_of r) kind.DistributeSplitEvents ≡ true → IsPointOf p r point
     → deviation_at p (meets_in s) (duties_in s) r point ≡ amount_outside r (total_at of_duration p r point s)
 of_duration_exact p s r point k i =
     let of = rule_of_kind kind.DistributeSplitEvents r k in
-    subst (λ q. IsPointOf p q point → deviation_at p (meets_in s) (duties_in s) q point ≡ amount_outside q (total_at of_duration p q point s)) (sym of.3) (at of.0 of.1 of.2 point) i
+    subst (λ q. IsPointOf p q point → deviation_at p (meets_in s) (duties_in s) q point
+    ≡ amount_outside q (total_at of_duration p q point s)) (sym of.3) (at of.0 of.1 of.2 point) i
   where
     at : (only least greatest : ℕ) (point : Point) → IsPointOf p (DistributeSplitEvents only least greatest) point
         → deviation_at p (meets_in s) (duties_in s) (DistributeSplitEvents only least greatest) point
-        ≡ amount_outside (DistributeSplitEvents only least greatest) (total_at of_duration p (DistributeSplitEvents only least greatest) point s)
+        ≡ amount_outside (DistributeSplitEvents only least greatest)
+        (total_at of_duration p (DistributeSplitEvents only least greatest) point s)
     at only least greatest (Event e) i = ap (λ n. count_outside n least greatest) (sum_over_meets (one_of only) e.0 s)
     at only least greatest (EventResource e k) i = absurd i
     at only least greatest (EventGroup g) i = absurd i

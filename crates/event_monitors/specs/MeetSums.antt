@@ -1,5 +1,6 @@
 -- Sums over an event's meets, by slots.
-use Rattle.std.proofs.Common.{ℕ, ◌≡◌, ◌+◌, ◌==◌, ◌∙◌, Bool, true, false, cond, Option, Some, None, List, [], ◌∷◌, refl, sym, ap, zero-add, ◌⊎◌, inl, inr, sum_by}
+use Rattle.std.proofs.Common.{ℕ, ◌≡◌, ◌+◌, ◌==◌, ◌∙◌, Bool, true, false, cond, Option, Some, None, List, [], ◌∷◌, refl}
+use Rattle.std.proofs.Common.{sym, ap, zero-add, ◌⊎◌, inl, inr, sum_by}
 use Rattle.std.proofs.lemmas.List.Sums.{sum_by-cons}
 use Rattle.std.proofs.lemmas.Bool.{ne_eqb, eq-eqb, cases_eq}
 use Rattle.khe_base.specs.declared.numbers.TimeId.{TimeId}
@@ -29,7 +30,8 @@ module _ (f : Option TimeId → ℕ → ℕ) (e : ℕ) where
   sum_over_meets [] = refl
   sum_over_meets (x ∷ s) = by x.span ∙ ap (λ n. of_slot x + n) (sum_over_meets s) ∙ sym (sum_by-cons of_slot x s)
     where
-      here : (b : Bool) (m : Meet) (ms : List Meet) → sum_by of_meet (cond b (m ∷ ms) ms) ≡ cond b (of_meet m) 0 + sum_by of_meet ms
+      here : (b : Bool) (m : Meet) (ms : List Meet)
+          → sum_by of_meet (cond b (m ∷ ms) ms) ≡ cond b (of_meet m) 0 + sum_by of_meet ms
       here true m ms = sum_by-cons of_meet m ms
       here false m ms = sym (zero-add (sum_by of_meet ms))
 
@@ -37,8 +39,16 @@ module _ (f : Option TimeId → ℕ → ℕ) (e : ℕ) where
       none true n = sym (zero-add n)
       none false n = sym (zero-add n)
 
-      by : (o : Option Span) → sum_by of_meet (meets_of e (meets_in (record x { span = o } ∷ s))) ≡ of_slot (record x { span = o }) + sum_by of_meet (meets_of e (meets_in s))
+      by : (o : Option Span) → sum_by of_meet (meets_of e (meets_in (record x { span = o } ∷ s)))
+          ≡ of_slot (record x { span = o }) + sum_by of_meet (meets_of e (meets_in s))
       by None = none (e == x.event.0) (sum_by of_meet (meets_of e (meets_in s)))
       by (Some y) =
-          ap (λ b. sum_by of_meet (cond b (record { meet = x.meet; event = x.event; duration = y.duration; start = y.start } ∷ meets_of e (meets_in s)) (meets_of e (meets_in s)))) (swap x.event.0 e)
-          ∙ here (e == x.event.0) (record { meet = x.meet; event = x.event; duration = y.duration; start = y.start }) (meets_of e (meets_in s))
+          ap (λ b. sum_by of_meet (cond b (record {
+            meet = x.meet;
+            event = x.event;
+            duration = y.duration;
+            start =
+                y.start;
+          } ∷ meets_of e (meets_in s)) (meets_of e (meets_in s)))) (swap x.event.0 e)
+          ∙ here (e == x.event.0) (record { meet = x.meet; event = x.event; duration = y.duration; start = y.start })
+          (meets_of e (meets_in s))

@@ -27,12 +27,14 @@ pub record IsPost (p : Parts) (served : Kind → Bool) (a : Post) : Type 0 where
 
 -- posts by their numbers
 abbrev pub AreAscending : List Post → Type 0
-AreAscending posts = (j k : ℕ) (a b : Post) → j < k → slice_get posts j ≡ Some a → slice_get posts k ≡ Some b → a.number.0 < b.number.0
+AreAscending posts = (j k : ℕ) (a b : Post) → j < k → slice_get posts j ≡ Some a → slice_get posts k ≡ Some b
+    → a.number.0 < b.number.0
 
 -- all served monitors, by their numbers
 pub record ArePosts (p : Parts) (served : Kind → Bool) (posts : List Post) : Type 0 where
   pub each : (k : ℕ) (a : Post) → slice_get posts k ≡ Some a → IsPost p served a
-  pub all : (i : ℕ) (m : Monitor) → slice_get p.monitors i ≡ Some m → served m.kind ≡ true → (k : ℕ) × (slice_get posts k ≡ Some (record { number = record { 0 = i }; monitor = m }))
+  pub all : (i : ℕ) (m : Monitor) → slice_get p.monitors i ≡ Some m → served m.kind ≡ true
+      → (k : ℕ) × (slice_get posts k ≡ Some (record { number = record { 0 = i }; monitor = m }))
   pub ascending : AreAscending posts
   pub few : length posts ≤ length p.monitors
 
@@ -42,5 +44,7 @@ pub record AreListed (p : Parts) (posts : List Post) (lists : List (List ℕ)) :
   pub each : (e : ℕ) (list : List ℕ) → slice_get lists e ≡ Some list → list ≡ posts_at p posts e
 
 -- each gauge keeps what it should of the state
-abbrev pub AreKept : {G : Type 0} → (G → Parts → Monitor → List Slot → Type 0) → Parts → List Post → List G → List Slot → Type 0
-AreKept {G} keeps p posts gauges s = (k : ℕ) (a : Post) (g : G) → slice_get posts k ≡ Some a → slice_get gauges k ≡ Some g → keeps g p a.monitor s
+abbrev pub AreKept : {G : Type 0} → (G → Parts → Monitor → List Slot → Type 0) → Parts → List Post → List G → List Slot
+    → Type 0
+AreKept {G} keeps p posts gauges s = (k : ℕ) (a : Post) (g : G) → slice_get posts k ≡ Some a
+    → slice_get gauges k ≡ Some g → keeps g p a.monitor s

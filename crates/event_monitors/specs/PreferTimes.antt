@@ -10,7 +10,8 @@ use Rattle.khe_instance.specs.Kinds.{kind_of}
 use Rattle.khe_instance.specs.WellMade.{IsPointOf}
 use Rattle.khe_instance.specs.declared.parts.Parts.{Parts}
 use Rattle.khe_instance.specs.declared.points.Point.{Point}
-use Rattle.khe_instance.specs.declared.points.Point.TheVariants.{Event, EventResource, EventGroup, EventPair as Pair, Resource}
+use Rattle.khe_instance.specs.declared.points.Point.TheVariants.{Event, EventResource, EventGroup, EventPair as Pair}
+use Rattle.khe_instance.specs.declared.points.Point.TheVariants.{Resource}
 use Rattle.khe_instance.specs.declared.rules.Kind.TheVariants as kind
 use Rattle.khe_instance.specs.declared.rules.Rule.{Rule}
 use Rattle.khe_instance.specs.declared.rules.Rule.TheVariants.{PreferTimes}
@@ -27,24 +28,31 @@ abbrev pub misplaced : Rule → Option Span → Option (Option ResourceId) → �
 misplaced (PreferTimes times only) span given = span_share (misplaced_duration times only) span
 misplaced _ span given = 0
 
-pub misplaced_bounded : (rule : Rule) (span : Option Span) (given : Option (Option ResourceId)) → misplaced rule span given ≤ most_of span
+pub misplaced_bounded : (rule : Rule) (span : Option Span) (given : Option (Option ResourceId))
+    → misplaced rule span given ≤ most_of span
 misplaced_bounded (PreferTimes times only) span given =
-    span_bounded (misplaced_duration times only) (λ (start : Option TimeId) n. part_bounded (starts_outside times start && allows only n) n) span
+    span_bounded (misplaced_duration times only) (λ (start : Option TimeId) n. part_bounded
+    (starts_outside times start && allows only n) n) span
 misplaced_bounded _ span given = omega arith
 
-pub misplaced_unheard : (rule : Rule) (span : Option Span) (given : List (Option ResourceId)) (point : Point) (c : Change) → changes_meets c ≡ false
-    → misplaced rule (span_after span c) (given_at point (given_after given c)) ≡ misplaced rule span (given_at point given)
+pub misplaced_unheard : (rule : Rule) (span : Option Span) (given : List (Option ResourceId)) (point : Point)
+    (c : Change) → changes_meets c ≡ false
+    → misplaced rule (span_after span c) (given_at point (given_after given c))
+    ≡ misplaced rule span (given_at point given)
 misplaced_unheard (PreferTimes times only) span given point c e = meets_kept (misplaced_duration times only) span c e
 misplaced_unheard _ span given point c e = refl
 
-pub misplaced_exact : (p : Parts) (s : List Slot) (r : Rule) (point : Point) → is_kind (kind_of r) kind.PreferTimes ≡ true → IsPointOf p r point
+pub misplaced_exact : (p : Parts) (s : List Slot) (r : Rule) (point : Point)
+    → is_kind (kind_of r) kind.PreferTimes ≡ true → IsPointOf p r point
     → deviation_at p (meets_in s) (duties_in s) r point ≡ total_at misplaced p r point s
 misplaced_exact p s r point k i =
     let of = rule_of_kind kind.PreferTimes r k in
-    subst (λ q. IsPointOf p q point → deviation_at p (meets_in s) (duties_in s) q point ≡ total_at misplaced p q point s) (sym of.2) (at of.0 of.1 point) i
+    subst (λ q. IsPointOf p q point → deviation_at p (meets_in s) (duties_in s) q point
+    ≡ total_at misplaced p q point s) (sym of.2) (at of.0 of.1 point) i
   where
     at : (times : List Bool) (only : Option ℕ) (point : Point) → IsPointOf p (PreferTimes times only) point
-        → deviation_at p (meets_in s) (duties_in s) (PreferTimes times only) point ≡ total_at misplaced p (PreferTimes times only) point s
+        → deviation_at p (meets_in s) (duties_in s) (PreferTimes times only) point
+        ≡ total_at misplaced p (PreferTimes times only) point s
     at times only (Event e) i = sum_over_meets (misplaced_duration times only) e.0 s
     at times only (EventResource e k) i = absurd i
     at times only (EventGroup g) i = absurd i

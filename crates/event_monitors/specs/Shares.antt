@@ -59,7 +59,8 @@ greatest_total = DURATION * (NUMBER + 1)
 -- the share of a slot in a monitor's sum, by the monitor's rule and point: none where it is another
 -- event's
 abbrev pub share_of : (Rule → Option Span → Option (Option ResourceId) → ℕ) → Parts → Rule → Point → Slot → ℕ
-share_of share p rule point x = if names_event p rule point x.event.0 then share rule x.span (given_at point x.given) else 0
+share_of share p rule point x = if names_event p rule point x.event.0 then share rule x.span (given_at point x.given)
+    else 0
 
 abbrev pub total_at : (Rule → Option Span → Option (Option ResourceId) → ℕ) → Parts → Rule → Point → List Slot → ℕ
 total_at share p rule point s = sum_by (share_of share p rule point) s

@@ -28,7 +28,8 @@ pub record IsBench (p : Parts) (served : Kind → Bool) (s : List Slot) (amounts
 
 -- a resource has the type of a place of a slot
 abbrev pub MayHave : Parts → Slot → ℕ → ResourceId → Type 0
-MayHave p x k r = (e : EventInfo) (place : Place) → slice_get p.events x.event.0 ≡ Some e → slice_get e.places k ≡ Some place → HasType p place.rtype r
+MayHave p x k r = (e : EventInfo) (place : Place) → slice_get p.events x.event.0 ≡ Some e
+    → slice_get e.places k ≡ Some place → HasType p place.rtype r
 
 -- the duration of a meet without a start
 abbrev pub lasts_unless : ℕ → Option TimeId → Option ℕ
@@ -48,5 +49,6 @@ is_open (Some (Some r)) = false
 -- one number is the deviation of its monitor, if that is served, and all others are as they were
 pub record IsSetFor (p : Parts) (served : Kind → Bool) (s : List Slot) (k : ℕ) (old new : List ℕ) : Type 0 where
   pub amount : length new ≡ length old
-  pub own : (m : Monitor) → slice_get p.monitors k ≡ Some m → served m.kind ≡ true → slice_get new k ≡ Some (deviation_in p s m)
+  pub own : (m : Monitor) → slice_get p.monitors k ≡ Some m → served m.kind ≡ true
+      → slice_get new k ≡ Some (deviation_in p s m)
   pub others : (i : ℕ) → (i ≡ k → ⊥) → slice_get new i ≡ slice_get old i

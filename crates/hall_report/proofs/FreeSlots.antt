@@ -1,5 +1,7 @@
 -- The told state without meets.
-use Rattle.std.proofs.Common.{ℕ, ◌≡◌, ◌≤◌, ◌<◌, ◌+◌, ◌∙◌, zero, suc, cond, Bool, true, false, Option, Some, None, List, [], ◌∷◌, ◌++◌, map, replicate, length, get_or, slice_get, refl, sym, ap, subst, arith, IfSome}
+use Rattle.std.proofs.Common.{ℕ, ◌≡◌, ◌≤◌, ◌<◌, ◌+◌, ◌∙◌, zero, suc, cond, Bool, true, false, Option, Some, None, List}
+use Rattle.std.proofs.Common.{[], ◌∷◌, ◌++◌, map, replicate, length, get_or, slice_get, refl, sym, ap, subst, arith}
+use Rattle.std.proofs.Common.{IfSome}
 use Rattle.std.specs.Prelude.{◌==◌}
 use Rattle.std.specs.Option.{option_map_or}
 use Rattle.std.specs.List.{range_with_len}
@@ -10,7 +12,8 @@ use Rattle.khe_base.specs.declared.numbers.ResourceId.{ResourceId}
 use Rattle.khe_instance.specs.declared.parts.EventInfo.{EventInfo}
 use Rattle.khe_instance.specs.declared.parts.Parts.{Parts}
 use Rattle.khe_told.specs.Fits.{AreTold, IsSlot}
-use Rattle.khe_told.specs.Slots.{no_meets, slots_from, slots_of_event, empty_slot, emptied, slot_at, held, held_by, length_of}
+use Rattle.khe_told.specs.Slots.{no_meets, slots_from, slots_of_event, empty_slot, emptied, slot_at, held, held_by}
+use Rattle.khe_told.specs.Slots.{length_of}
 use Rattle.khe_told.specs.declared.slots.Slot.{Slot}
 use Rattle.khe_told.specs.declared.slots.Span.{Span}
 
@@ -29,11 +32,19 @@ free_both (x ∷ s) t a b = (a.0, free_both s t a.1 b)
 
 free_event : (e : ℕ) (event : EventInfo) (ms : List ℕ) → AreFree (map (λ m. empty_slot m e event) ms)
 free_event e event [] = tt
-free_event e event (m ∷ ms) = (record { span = refl; given = ap (λ n. replicate n None) (sym (length-replicate (length event.places) None)) }, free_event e event ms)
+free_event e event (m ∷ ms) = (
+  record {
+    span = refl;
+    given =
+        ap (λ n. replicate n None) (sym (length-replicate (length event.places) None));
+  },
+  free_event e event ms,
+)
 
 free_from : (e : ℕ) (events : List EventInfo) → AreFree (slots_from e events)
 free_from e [] = tt
-free_from e (event ∷ events) = free_both (slots_of_event e event) (slots_from (e + 1) events) (free_event e event (range_with_len event.first_meet event.duration)) (free_from (e + 1) events)
+free_from e (event ∷ events) = free_both (slots_of_event e event) (slots_from (e + 1) events)
+    (free_event e event (range_with_len event.first_meet event.duration)) (free_from (e + 1) events)
 
 free_emptied : (s : List Slot) → AreFree s → map emptied s ≡ s
 free_emptied [] h = refl
@@ -43,8 +54,10 @@ free_slots : (p : Parts) (s : List Slot) → AreFree s → (k : ℕ) (d : Slot) 
 free_slots p [] h k d l = absurd (omega (arith, l))
 free_slots p (x ∷ s) h zero d l = record {
   duration = subst (λ o. IfSome o (λ (y : Span). 1 ≤ y.duration)) (sym h.0.span) tt;
-  ends = subst (λ o. IfSome o (λ (y : Span). IfSome y.start (λ t. t.0 + y.duration ≤ length p.times))) (sym h.0.span) tt;
-  given = λ e k place r a b c. absurd (nothing (length x.given) k r (ap (λ (g : List (Option ResourceId)). slice_get g k) (sym h.0.given) ∙ c));
+  ends = subst (λ o. IfSome o (λ (y : Span). IfSome y.start (λ t. t.0 + y.duration ≤ length p.times))) (sym h.0.span)
+      tt;
+  given = λ e k place r a b c. absurd (nothing (length x.given) k r
+      (ap (λ (g : List (Option ResourceId)). slice_get g k) (sym h.0.given) ∙ c));
   empty = λ e. h.0.given;
 }
   where

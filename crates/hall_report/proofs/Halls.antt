@@ -23,9 +23,13 @@ use Rattle.hall_report.specs.declared.units.Units.{Units}
 and_same : (a b : Bool) → a ≡ true → a && b ≡ b
 and_same a b h = ap (λ v. v && b) h
 
-module _ (p : Parts) (s : List Slot) (u : Units) (picks : Picks) (w : Domains) (cells : List ℕ) (tasks times : ℕ) (are : AreOf p s u picks w cells tasks times) where
-  pub hall_is : (numbers : List ℕ) (marks : List Bool) (hall : List Demand) → IsHallSet w (λ j. list_any (λ m. m == j) numbers) → ((n : ℕ) → has_member marks n ≡ list_any (λ m. m == n) numbers)
-      → hall ≡ filter (is_marked u marks) (task_demands s) ++ chosen (λ i. has_member marks (tasks + i)) 0 (map (cell_demand times) cells) → IsHallOf p s hall
+module _ (p : Parts) (s : List Slot) (u : Units) (picks : Picks) (w : Domains) (cells : List ℕ) (tasks times : ℕ)
+    (are : AreOf p s u picks w cells tasks times) where
+  pub hall_is : (numbers : List ℕ) (marks : List Bool) (hall : List Demand)
+      → IsHallSet w (λ j. list_any (λ m. m == j) numbers)
+      → ((n : ℕ) → has_member marks n ≡ list_any (λ m. m == n) numbers)
+      → hall ≡ filter (is_marked u marks) (task_demands s)
+      ++ chosen (λ i. has_member marks (tasks + i)) 0 (map (cell_demand times) cells) → IsHallOf p s hall
   hall_is numbers marks hall least marked listed =
       let f : ℕ → ℕ = kept_number p s u picks w cells are.told are.units are.opened are.numbered in
       let g : ℕ → ℕ = kept_place p s u picks w cells are.told are.units are.opened are.numbered in
@@ -33,24 +37,35 @@ module _ (p : Parts) (s : List Slot) (u : Units) (picks : Picks) (w : Domains) (
       let test : ℕ → Bool = λ k. is_present (domains p s) k && set (f k) in
       let ts : List Demand = task_demands s in
       let total = many p s u picks w cells are.told are.units are.opened are.numbered in
-      let present : (k : ℕ) → k < length (demands p s) → is_present (domains p s) k ≡ true = λ k l. is_own p s u picks w cells are.told are.units are.opened are.numbered k l in
+      let present : (k : ℕ) → k < length (demands p s)
+      → is_present (domains p s) k ≡ true = λ k l. is_own p s u picks w cells are.told are.units are.opened
+      are.numbered k l in
       let one : filter (is_marked u marks) ts ≡ chosen test 0 ts =
       chosen_filter test (is_marked u marks) 0 ts
       (λ i d h.
       let l = slice_get_within ts i d h in
       let z : i ≡ 0 + i = omega arith in
-      marked (number_at u d) ∙ ap set (sym (number_of_task p s u picks w cells are.told are.units are.opened are.numbered i d h)) ∙ sym (and_same (is_present (domains p s) i) (set (f i)) (present i (omega (arith, l, total)))) ∙ ap test z) in
-      let two : chosen (λ i. has_member marks (tasks + i)) 0 (map (cell_demand times) cells) ≡ chosen test (0 + length ts) (map (cell_demand times) cells) =
+      marked (number_at u d) ∙ ap set (sym (number_of_task p s u picks w cells are.told are.units are.opened
+      are.numbered i d h)) ∙ sym (and_same (is_present (domains p s) i) (set (f i))
+      (present i (omega (arith, l, total)))) ∙ ap test z) in
+      let two : chosen (λ i. has_member marks (tasks + i)) 0 (map (cell_demand times) cells)
+      ≡ chosen test (0 + length ts) (map (cell_demand times) cells) =
       chosen_moved (λ i. has_member marks (tasks + i)) test 0 (0 + length ts) (map (cell_demand times) cells)
       (λ i l.
       let n = length-map cells (cell_demand times) in
       let k : ℕ = 0 + length ts + i in
       let low : length ts ≤ k = omega arith in
-      let e : tasks + (0 + i) ≡ f k = let a = later_number p s u picks w cells are.told are.units are.opened are.numbered k low in let b = are.task_count in omega (arith, a, b) in
-      marked (tasks + (0 + i)) ∙ ap set e ∙ sym (and_same (is_present (domains p s) k) (set (f k)) (present k (omega (arith, l, n, total))))) in
-      let three : map (cell_demand times) cells ≡ unavailable_demands p = ap (λ t. map (cell_demand t) cells) are.time_count ∙ are.opened.listed in (
+      let e : tasks + (0 + i) ≡ f k = let a = later_number p s u picks w cells are.told are.units are.opened
+      are.numbered k low in let b = are.task_count in omega (arith, a, b) in
+      marked (tasks + (0 + i)) ∙ ap set e ∙ sym (and_same (is_present (domains p s) k) (set (f k))
+      (present k (omega (arith, l, n, total))))) in
+      let three : map (cell_demand times) cells ≡ unavailable_demands p =
+      ap (λ t. map (cell_demand t) cells) are.time_count ∙ are.opened.listed in (
         test,
-        hall_renamed (domains p s) w f g set test (renamed p s u picks w cells are.told are.units are.opened are.numbered) least (λ k h. and_same (is_present (domains p s) k) (set (f k)) h) (λ k h. (and_parts (is_present (domains p s) k) (set (f k)) h).0),
-        listed ∙ ap (λ xs. xs ++ chosen (λ i. has_member marks (tasks + i)) 0 (map (cell_demand times) cells)) one ∙ ap (λ xs. chosen test 0 ts ++ xs) two
+        hall_renamed (domains p s) w f g set test (renamed p s u picks w cells are.told are.units are.opened
+            are.numbered) least (λ k h. and_same (is_present (domains p s) k) (set (f k)) h)
+            (λ k h. (and_parts (is_present (domains p s) k) (set (f k)) h).0),
+        listed ∙ ap (λ xs. xs ++ chosen (λ i. has_member marks (tasks + i)) 0 (map (cell_demand times) cells)) one
+            ∙ ap (λ xs. chosen test 0 ts ++ xs) two
             ∙ sym (chosen_both test 0 ts (map (cell_demand times) cells)) ∙ ap (λ xs. chosen test 0 (ts ++ xs)) three,
       )

@@ -1,5 +1,6 @@
 -- The numbers of demands: no two demands of tasks have the same.
-use Rattle.std.proofs.Common.{ℕ, zero, suc, ◌+◌, ◌<◌, ◌≤◌, ◌≡◌, inl, inr, Some, List, [], ◌∷◌, map, take, length, get_or, slice_get, refl, sym, ap, ◌∙◌, arith}
+use Rattle.std.proofs.Common.{ℕ, zero, suc, ◌+◌, ◌<◌, ◌≤◌, ◌≡◌, inl, inr, Some, List, [], ◌∷◌, map, take, length}
+use Rattle.std.proofs.Common.{get_or, slice_get, refl, sym, ap, ◌∙◌, arith}
 use Rattle.std.specs.List.{sum_by}
 use Rattle.std.proofs.lemmas.Bool.{cases_lt}
 use Rattle.std.proofs.lemmas.List.{length-map}
@@ -22,7 +23,8 @@ use Rattle.hall_report.specs.Units.{AreFirsts, AreUnits, IsOffset, tasks_of, uni
 use Rattle.hall_report.specs.declared.units.Units.{Units}
 
 -- the sums before two places of a list
-pub row_apart : {A : Type 0} (f : A → ℕ) (xs : List A) (u v : ℕ) (x : A) → slice_get xs u ≡ Some x → u < v → sum_by f (take u xs) + f x ≤ sum_by f (take v xs)
+pub row_apart : {A : Type 0} (f : A → ℕ) (xs : List A) (u v : ℕ) (x : A) → slice_get xs u ≡ Some x → u < v
+    → sum_by f (take u xs) + f x ≤ sum_by f (take v xs)
 row_apart f [] u v x h l = absurd (let g : ⊥ = cc in g)
 row_apart f (z ∷ xs) zero (suc v) x h l =
     let a = sum_by-cons f z (take v xs) in
@@ -36,7 +38,8 @@ row_apart f (z ∷ xs) (suc u) (suc v) x h l =
     omega (arith, a, b, c)
 row_apart f (z ∷ xs) u zero x h l = absurd (omega (arith, l))
 
-row_within : {A : Type 0} (f : A → ℕ) (xs : List A) (u : ℕ) (x : A) → slice_get xs u ≡ Some x → sum_by f (take u xs) + f x ≤ sum_by f xs
+row_within : {A : Type 0} (f : A → ℕ) (xs : List A) (u : ℕ) (x : A) → slice_get xs u ≡ Some x
+    → sum_by f (take u xs) + f x ≤ sum_by f xs
 row_within f [] u x h = absurd (let g : ⊥ = cc in g)
 row_within f (z ∷ xs) zero x h =
     let a = sum_by-cons f z xs in
@@ -50,31 +53,39 @@ row_within f (z ∷ xs) (suc u) x h =
     omega (arith, a, b, c)
 
 -- the event of a unit
-pub owner : (events : List EventInfo) (e u : ℕ) → AreFirstMeets 0 events → HasSlot events e u → slice_get (slots_from 0 events) u ≡ Some e
+pub owner : (events : List EventInfo) (e u : ℕ) → AreFirstMeets 0 events → HasSlot events e u
+    → slice_get (slots_from 0 events) u ≡ Some e
 owner events e u first h =
-    let l : u < length (slots_from 0 events) = let a = units_below events e u first h in let b = length-slots_from 0 events in omega (arith, a, b) in
-    slice_get-get_or (slots_from 0 events) u 0 l ∙ ap Some (unit_once events (get_or (slots_from 0 events) u 0) e u first (slot-event u events first l) h)
+    let l : u < length (slots_from 0 events) = let a = units_below events e u first h in let b =
+    length-slots_from 0 events in omega (arith, a, b) in
+    slice_get-get_or (slots_from 0 events) u 0 l ∙ ap Some
+    (unit_once events (get_or (slots_from 0 events) u 0) e u first (slot-event u events first l) h)
 
 -- what a unit and a place say together
-pub numbers_apart : (events : List EventInfo) (a b u v k j : ℕ) → AreFirstMeets 0 events → HasSlot events a u → HasSlot events b v → k < places_at events a → j < places_at events b
+pub numbers_apart : (events : List EventInfo) (a b u v k j : ℕ) → AreFirstMeets 0 events → HasSlot events a u
+    → HasSlot events b v → k < places_at events a → j < places_at events b
     → first_task events u + k ≡ first_task events v + j → (u ≡ v) × (k ≡ j)
 numbers_apart events a b u v k j first h g near far same =
     let x = owner events a u first h in
     let y = owner events b v first g in
     elim (cases_lt u v) [
-      | inl less ↦ absurd (let r = row_apart (places_at events) (slots_from 0 events) u v a x less in omega (arith, r, near, same))
+      | inl less ↦ absurd (let r = row_apart (places_at events) (slots_from 0 events) u v a x less in
+          omega (arith, r, near, same))
       | inr more ↦ elim (cases_lt v u) [
-        | inl less ↦ absurd (let r = row_apart (places_at events) (slots_from 0 events) v u b y less in omega (arith, r, far, same))
+        | inl less ↦ absurd (let r = row_apart (places_at events) (slots_from 0 events) v u b y less in
+            omega (arith, r, far, same))
         | inr less ↦
             let e : u ≡ v = omega (arith, more, less) in
             (e, (let f = ap (first_task events) e in omega (arith, f, same)))
       ]
     ]
 
-pub task_total : (events : List EventInfo) → AreFirstMeets 0 events → sum_by (places_at events) (slots_from 0 events) ≡ tasks_of events
+pub task_total : (events : List EventInfo) → AreFirstMeets 0 events
+    → sum_by (places_at events) (slots_from 0 events) ≡ tasks_of events
 task_total events first = sym (length-tasks_from events 0 (slots_from 0 events)) ∙ length-all_tasks events
 
-pub number_within : (events : List EventInfo) (a u k : ℕ) → AreFirstMeets 0 events → HasSlot events a u → k < places_at events a → first_task events u + k < tasks_of events
+pub number_within : (events : List EventInfo) (a u k : ℕ) → AreFirstMeets 0 events → HasSlot events a u
+    → k < places_at events a → first_task events u + k < tasks_of events
 number_within events a u k first h near =
     let r = row_within (places_at events) (slots_from 0 events) u a (owner events a u first h) in
     let q = task_total events first in
@@ -92,17 +103,26 @@ pub record IsSlotAt (p : Parts) (s : List Slot) (m : ℕ) : Type 0 where
   pub has : HasSlot p.events event m
   pub slot : IsSlotOf s event m (places_at p.events event)
 
-pub slot_is : (p : Parts) (s : List Slot) (m : ℕ) → AreFirstMeets 0 p.events → map emptied s ≡ no_meets p → m < length s → IsSlotAt p s m
+pub slot_is : (p : Parts) (s : List Slot) (m : ℕ) → AreFirstMeets 0 p.events → map emptied s ≡ no_meets p → m < length s
+    → IsSlotAt p s m
 slot_is p s m first whose l =
-    let many : length s ≡ length (slots_from 0 p.events) = sym (length-map s emptied) ∙ ap length whose ∙ slots_amount 0 p.events ∙ sym (length-slots_from 0 p.events) in
+    let many : length s ≡ length (slots_from 0 p.events) =
+    sym (length-map s emptied) ∙ ap length whose ∙ slots_amount 0 p.events ∙ sym (length-slots_from 0 p.events) in
     let has = slot-event m p.events first (omega (arith, l, many)) in
-    record { event = get_or (slots_from 0 p.events) m 0; has = has; slot = slot_of p s (get_or (slots_from 0 p.events) m 0) m first whose has }
+    record {
+      event = get_or (slots_from 0 p.events) m 0;
+      has = has;
+      slot =
+          slot_of p s (get_or (slots_from 0 p.events) m 0) m first whose has;
+    }
 
-pub live_slot : (p : Parts) (s : List Slot) (m o : ℕ) → AreFirstMeets 0 p.events → map emptied s ≡ no_meets p → IsOffset s m o → IsSlotAt p s m
+pub live_slot : (p : Parts) (s : List Slot) (m o : ℕ) → AreFirstMeets 0 p.events → map emptied s ≡ no_meets p
+    → IsOffset s m o → IsSlotAt p s m
 live_slot p s m o first whose l = slot_is p s m first whose (live_below s m o l)
 
 -- a place of a task's slot is one of its event
-pub task_place : (p : Parts) (s : List Slot) (m k o : ℕ) → AreFirstMeets 0 p.events → map emptied s ≡ no_meets p → IsTask s m k o → k < places_at p.events (slot_at s m).event.0
+pub task_place : (p : Parts) (s : List Slot) (m k o : ℕ) → AreFirstMeets 0 p.events → map emptied s ≡ no_meets p
+    → IsTask s m k o → k < places_at p.events (slot_at s m).event.0
 task_place p s m k o first whose is =
     let x = live_slot p s m o first whose is.1 in
     let a = x.slot.many in
@@ -116,20 +136,26 @@ module _ (p : Parts) (s : List Slot) (u : Units) (first : AreFirstMeets 0 p.even
     unit_of : ℕ → ℕ → ℕ
     unit_of m o = unit_at u.next.items u.held.items m o
 
-    pub number_is : (m k o : ℕ) → IsOffset s m o → number_of u m k o ≡ first_task p.events (unit_at u.next.items u.held.items m o) + k
+    pub number_is : (m k o : ℕ) → IsOffset s m o → number_of u m k o
+        ≡ first_task p.events (unit_at u.next.items u.held.items m o) + k
     number_is m k o l =
-        let below = units_below p.events (slot_at s m).event.0 (unit_at u.next.items u.held.items m o) first (are.holds m o l) in
+        let below = units_below p.events (slot_at s m).event.0 (unit_at u.next.items u.held.items m o) first
+        (are.holds m o l) in
         ap (λ n. n + k) (firsts.each (unit_at u.next.items u.held.items m o) below)
 
     pub number_below : (m k o : ℕ) → IsTask s m k o → number_of u m k o < tasks_of p.events
     number_below m k o is =
         let a = number_is m k o is.1 in
-        let b = number_within p.events (slot_at s m).event.0 (unit_at u.next.items u.held.items m o) k first (are.holds m o is.1) (task_place p s m k o first whose is) in
+        let b = number_within p.events (slot_at s m).event.0 (unit_at u.next.items u.held.items m o) k first
+        (are.holds m o is.1) (task_place p s m k o first whose is) in
         omega (arith, a, b)
 
-    pub number_apart : (m k o n j i : ℕ) → IsTask s m k o → IsTask s n j i → number_of u m k o ≡ number_of u n j i → (m ≡ n) × (k ≡ j) × (o ≡ i)
+    pub number_apart : (m k o n j i : ℕ) → IsTask s m k o → IsTask s n j i → number_of u m k o ≡ number_of u n j i
+        → (m ≡ n) × (k ≡ j) × (o ≡ i)
     number_apart m k o n j i is at same =
-        let r = numbers_apart p.events (slot_at s m).event.0 (slot_at s n).event.0 (unit_at u.next.items u.held.items m o) (unit_at u.next.items u.held.items n i) k j first
-        (are.holds m o is.1) (are.holds n i at.1) (task_place p s m k o first whose is) (task_place p s n j i first whose at) (sym (number_is m k o is.1) ∙ same ∙ number_is n j i at.1) in
+        let r = numbers_apart p.events (slot_at s m).event.0 (slot_at s n).event.0
+        (unit_at u.next.items u.held.items m o) (unit_at u.next.items u.held.items n i) k j first
+        (are.holds m o is.1) (are.holds n i at.1) (task_place p s m k o first whose is)
+        (task_place p s n j i first whose at) (sym (number_is m k o is.1) ∙ same ∙ number_is n j i at.1) in
         let q = are.apart m n o i is.1 at.1 r.0 in
         (q.0, r.1, q.1)

@@ -21,7 +21,8 @@ use Rattle.hall_report.specs.Listing.{IsSafe}
 use Rattle.hall_report.specs.declared.renewing.Picks.{Picks}
 use Rattle.hall_report.specs.declared.units.Units.{Units}
 
-safe_of : (p : Parts) (s : List Slot) (u : Units) (picks : Picks) (w : Domains) (cells : List ℕ) (tasks times : ℕ) → AreOf p s u picks w cells tasks times → IsSafe s u w cells tasks times
+safe_of : (p : Parts) (s : List Slot) (u : Units) (picks : Picks) (w : Domains) (cells : List ℕ) (tasks times : ℕ)
+    → AreOf p s u picks w cells tasks times → IsSafe s u w cells tasks times
 safe_of p s u picks w cells tasks times are =
     let a = are.task_count in
     let b = are.opened.made.limits.tasks in
@@ -31,15 +32,21 @@ safe_of p s u picks w cells tasks times are =
       total = omega (arith, a, b, d);
       size = omega (arith, a, e);
       timed = λ l. let f = are.opened.timed l in let g = are.time_count in omega (arith, f, g);
-      few = (let f = sym (length-map s emptied) ∙ ap length are.told.whose ∙ slots_amount 0 p.events in let g = are.opened.made.limits.duration in omega (arith, f, g));
-      readable = λ m l. (readable_is p s u m are.opened.made are.told are.units are.opened.firsts l, (let x = slot_is p s m are.opened.made.first_meets are.told.whose l in x.slot.meet));
+      few = (let f = sym (length-map s emptied) ∙ ap length are.told.whose ∙ slots_amount 0 p.events in let g =
+          are.opened.made.limits.duration in omega (arith, f, g));
+      readable = λ m l. (
+        readable_is p s u m are.opened.made are.told are.units are.opened.firsts l,
+        (let x = slot_is p s m are.opened.made.first_meets are.told.whose l in x.slot.meet),
+      );
     }
 
-pub safe : (s : List Slot) (u : Units) (picks : Picks) (w : Domains) (cells : List ℕ) (tasks times : ℕ) → AreOfSome s u picks w cells tasks times → IsSafe s u w cells tasks times
+pub safe : (s : List Slot) (u : Units) (picks : Picks) (w : Domains) (cells : List ℕ) (tasks times : ℕ)
+    → AreOfSome s u picks w cells tasks times → IsSafe s u w cells tasks times
 safe s u picks w cells tasks times h = ∥∥₁_elim h (hlevel props) (λ x. safe_of x.0 s u picks w cells tasks times x.1)
 
 -- the numbers of a Hall set are those of demands
-pub hall_below : (w : Domains) (numbers : List ℕ) (n : ℕ) → IsHallSet w (λ j. list_any (λ m. m == j) numbers) → length w.demands ≡ n → All (λ m. m < n) numbers
+pub hall_below : (w : Domains) (numbers : List ℕ) (n : ℕ) → IsHallSet w (λ j. list_any (λ m. m == j) numbers)
+    → length w.demands ≡ n → All (λ m. m < n) numbers
 hall_below w numbers n is many = λ k d l.
     let x : ℕ = get_or numbers k d in
     let there = is.present x (list_any_at (λ m. m == x) numbers k d l (eq-eqb x x refl)) in

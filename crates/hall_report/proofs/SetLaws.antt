@@ -1,5 +1,6 @@
 -- Sets that are made number by number.
-use Rattle.std.proofs.Common.{ℕ, zero, suc, ◌+◌, ◌<◌, ◌≤◌, ◌≡◌, inl, inr, Bool, true, false, List, length, get_or, replicate, set, ◌||◌, refl, sym, ap, ◌∙◌, arith}
+use Rattle.std.proofs.Common.{ℕ, zero, suc, ◌+◌, ◌<◌, ◌≤◌, ◌≡◌, inl, inr, Bool, true, false, List, length, get_or}
+use Rattle.std.proofs.Common.{replicate, set, ◌||◌, refl, sym, ap, ◌∙◌, arith}
 use Rattle.std.specs.Prelude.{◌==◌}
 use Rattle.std.proofs.lemmas.Bool.{cases_lt, eq-eqb, ne_eqb, or_right}
 use Rattle.std.proofs.lemmas.List.{get_or-set_same, get_or-set_other}
@@ -20,16 +21,20 @@ upto_none test size = record { below = λ m l. absurd (omega (arith, l)); above 
     nothing (suc n) zero = refl
     nothing (suc n) (suc k) = nothing n k
 
-pub upto_with : (test : ℕ → Bool) (n : ℕ) (xs : List Bool) → IsUpTo test n xs → n < length xs → test n ≡ true → IsUpTo test (n + 1) (with_member xs n)
+pub upto_with : (test : ℕ → Bool) (n : ℕ) (xs : List Bool) → IsUpTo test n xs → n < length xs → test n ≡ true
+    → IsUpTo test (n + 1) (with_member xs n)
 upto_with test n xs is room t = record {
   below = λ m l. elim (cases_eqb m n) [
-    | inl eq ↦ ap (λ k. get_or (set xs n true) k false) eq ∙ get_or-set_same xs n true false room ∙ sym t ∙ ap test (sym eq)
+    | inl eq ↦ ap (λ k. get_or (set xs n true) k false) eq ∙ get_or-set_same xs n true false room ∙ sym t
+        ∙ ap test (sym eq)
     | inr ne ↦ get_or-set_other xs n m true false ne ∙ is.below m (omega (arith, l, ne))
   ];
-  above = λ m l. get_or-set_other xs n m true false (λ eq. absurd (omega (arith, l, eq))) ∙ is.above m (omega (arith, l));
+  above = λ m l. get_or-set_other xs n m true false (λ eq. absurd (omega (arith, l, eq)))
+      ∙ is.above m (omega (arith, l));
 }
 
-pub upto_without : (test : ℕ → Bool) (n : ℕ) (xs : List Bool) → IsUpTo test n xs → test n ≡ false → IsUpTo test (n + 1) xs
+pub upto_without : (test : ℕ → Bool) (n : ℕ) (xs : List Bool) → IsUpTo test n xs → test n ≡ false
+    → IsUpTo test (n + 1) xs
 upto_without test n xs is t = record {
   below = λ m l. elim (cases_eqb m n) [
     | inl eq ↦ ap (has_member xs) eq ∙ is.above n (omega arith) ∙ sym t ∙ ap test (sym eq)
@@ -39,7 +44,8 @@ upto_without test n xs is t = record {
 }
 
 -- where no number from the bound on passes, the members are those that pass
-pub upto_all : (test : ℕ → Bool) (n : ℕ) (xs : List Bool) → IsUpTo test n xs → ((m : ℕ) → n ≤ m → test m ≡ false) → (m : ℕ) → has_member xs m ≡ test m
+pub upto_all : (test : ℕ → Bool) (n : ℕ) (xs : List Bool) → IsUpTo test n xs → ((m : ℕ) → n ≤ m → test m ≡ false)
+    → (m : ℕ) → has_member xs m ≡ test m
 upto_all test n xs is none m =
     elim (cases_lt m n) [
       | inl l ↦ is.below m l
@@ -51,11 +57,14 @@ pub beyond : (xs : List Bool) (m : ℕ) → length xs ≤ m → has_member xs m 
 beyond xs m l = get_or-eq_default xs false l
 
 -- one more number is marked
-pub marked_more : (xs : List Bool) (n m : ℕ) → n < length xs → has_member (with_member xs n) m ≡ has_member xs m || (n == m)
+pub marked_more : (xs : List Bool) (n m : ℕ) → n < length xs
+    → has_member (with_member xs n) m ≡ has_member xs m || (n == m)
 marked_more xs n m l =
     elim (cases_eqb m n) [
-      | inl eq ↦ ap (λ k. get_or (set xs n true) k false) eq ∙ get_or-set_same xs n true false l ∙ sym (or_right (has_member xs m) (n == m) (eq-eqb n m (sym eq)))
-      | inr ne ↦ get_or-set_other xs n m true false ne ∙ sym (or_none (has_member xs m) (n == m) (ne_eqb n m (λ e. absurd (omega (arith, e, ne)))))
+      | inl eq ↦ ap (λ k. get_or (set xs n true) k false) eq ∙ get_or-set_same xs n true false l
+          ∙ sym (or_right (has_member xs m) (n == m) (eq-eqb n m (sym eq)))
+      | inr ne ↦ get_or-set_other xs n m true false ne
+          ∙ sym (or_none (has_member xs m) (n == m) (ne_eqb n m (λ e. absurd (omega (arith, e, ne)))))
     ]
   where
     or_none : (a b : Bool) → b ≡ false → a || b ≡ a

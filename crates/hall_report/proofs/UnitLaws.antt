@@ -1,5 +1,6 @@
 -- Units that are held and released.
-use Rattle.std.proofs.Common.{ℕ, zero, suc, ◌+◌, ◌-◌, ◌<◌, ◌≤◌, ◌≡◌, ◌≢◌, ◌⊎◌, inl, inr, Some, List, length, set, get_or, slice_get, refl, sym, ap, ◌∙◌, subst, arith, length-set}
+use Rattle.std.proofs.Common.{ℕ, zero, suc, ◌+◌, ◌-◌, ◌<◌, ◌≤◌, ◌≡◌, ◌≢◌, ◌⊎◌, inl, inr, Some, List, length, set}
+use Rattle.std.proofs.Common.{get_or, slice_get, refl, sym, ap, ◌∙◌, subst, arith, length-set}
 use Rattle.std.proofs.lemmas.Bool.{cases_lt}
 use Rattle.std.proofs.lemmas.Option.{same_Some, slice_get_within}
 use Rattle.std.proofs.lemmas.List.{get_or-set_same, get_or-set_other}
@@ -28,10 +29,12 @@ pub walk_more : (next : List ℕ) (u a b : ℕ) → walk next u (a + b) ≡ walk
 walk_more next u a zero = let e : a + 0 ≡ a = omega arith in ap (walk next u) e ∙ sym (walk_zero next (walk next u a))
 walk_more next u a (suc b) =
     let e : a + suc b ≡ suc (a + b) = omega arith in
-    ap (walk next u) e ∙ walk_suc next u (a + b) ∙ ap (λ v. get_or next v 0) (walk_more next u a b) ∙ sym (walk_suc next (walk next u a) b)
+    ap (walk next u) e ∙ walk_suc next u (a + b) ∙ ap (λ v. get_or next v 0) (walk_more next u a b)
+    ∙ sym (walk_suc next (walk next u a) b)
 
 -- a change of what follows a unit is not seen from where that unit is not passed
-pub walk_set : (next : List ℕ) (i x u n : ℕ) → ((k : ℕ) → k < n → walk next u k ≢ i) → walk (set next i x) u n ≡ walk next u n
+pub walk_set : (next : List ℕ) (i x u n : ℕ) → ((k : ℕ) → k < n → walk next u k ≢ i)
+    → walk (set next i x) u n ≡ walk next u n
 walk_set next i x u zero h = walk_zero (set next i x) u ∙ sym (walk_zero next u)
 walk_set next i x u (suc n) h =
     walk_suc (set next i x) u n
@@ -40,14 +43,16 @@ walk_set next i x u (suc n) h =
     ∙ sym (walk_suc next u n)
 
 -- an event's unit is one of all, and no other event has it
-pub units_below : (events : List EventInfo) (e u : ℕ) → AreFirstMeets 0 events → HasSlot events e u → u < units_of events
+pub units_below : (events : List EventInfo) (e u : ℕ) → AreFirstMeets 0 events → HasSlot events e u
+    → u < units_of events
 units_below events e u first h =
     let r = standing 0 0 u e h.0 events first h.1 h.2 h.3 in
     let a = r.within in
     let b = slots_amount 0 events in
     omega (arith, a, b)
 
-pub unit_once : (events : List EventInfo) (a b u : ℕ) → AreFirstMeets 0 events → HasSlot events a u → HasSlot events b u → a ≡ b
+pub unit_once : (events : List EventInfo) (a b u : ℕ) → AreFirstMeets 0 events → HasSlot events a u → HasSlot events b u
+    → a ≡ b
 unit_once events a b u first h g =
     let r = standing 0 0 u a h.0 events first h.1 h.2 h.3 in
     let q = standing 0 0 u b g.0 events first g.1 g.2 g.3 in
@@ -76,7 +81,8 @@ module _ (events : List EventInfo) (s t : List Slot) (m e d : ℕ) (event : Even
     own_free = let a = are.free_length in let b = slice_get_within events e event is.at in omega (arith, a, b)
 
     -- a meet comes into the slot
-    module _ (none : length_of (slot_at s m) ≡ 0) (long : length_of (slot_at t m) ≡ d) (more : held e t ≡ held e s + d) (room : held e t ≤ event.duration) where
+    module _ (none : length_of (slot_at s m) ≡ 0) (long : length_of (slot_at t m) ≡ d) (more : held e t ≡ held e s + d)
+        (room : held e t ≤ event.duration) where
       abbrev firsts' : List ℕ
       firsts' = set firsts m (get_or free e 0)
 
@@ -90,7 +96,8 @@ module _ (events : List EventInfo) (s t : List Slot) (m e d : ℕ) (event : Even
       other_unit n o ne = ap (λ v. walk next v o) (get_or-set_other firsts m n (get_or free e 0) 0 ne)
 
       own_spare : (i : ℕ) → unit_at next free' e i ≡ unit_at next free e (d + i)
-      own_spare i = ap (λ v. walk next v i) (get_or-set_same free e (walk next (get_or free e 0) d) 0 own_free) ∙ sym (walk_more next (get_or free e 0) d i)
+      own_spare i = ap (λ v. walk next v i) (get_or-set_same free e (walk next (get_or free e 0) d) 0 own_free)
+          ∙ sym (walk_more next (get_or free e 0) d i)
 
       other_spare : (f i : ℕ) → f ≢ e → unit_at next free' f i ≡ unit_at next free f i
       other_spare f i ne = ap (λ v. walk next v i) (get_or-set_other free e f (walk next (get_or free e 0) d) 0 ne)
@@ -120,23 +127,32 @@ module _ (events : List EventInfo) (s t : List Slot) (m e d : ℕ) (event : Even
               subst (λ k. HasSlot events (slot_at t k).event.0 (unit_at next firsts' n o)) (sym eq)
               (subst (λ k. HasSlot events k (unit_at next firsts' n o)) (sym is.new_event)
               (subst (HasSlot events e) (sym (own_at n o eq)) (are.spare e o event is.at (was_free n o eq l))))
-          | inr ne ↦ subst (HasSlot events (slot_at t n).event.0) (sym (other_unit n o ne)) (other_slot n (unit_at next firsts n o) ne (are.holds n o (other_offset n o ne l)))
+          | inr ne ↦ subst (HasSlot events (slot_at t n).event.0) (sym (other_unit n o ne))
+              (other_slot n (unit_at next firsts n o) ne (are.holds n o (other_offset n o ne l)))
         ];
         apart = λ n k i j l g same. elim (cases_eqb n m) [
           | inl eq ↦ elim (cases_eqb k m) [
-            | inl ek ↦ (eq ∙ sym ek, are.spare_apart e i j event is.at (was_free n i eq l) (was_free k j ek g) (sym (own_at n i eq) ∙ same ∙ own_at k j ek))
-            | inr nk ↦ absurd (are.others k j e i event (other_offset k j nk g) is.at (was_free n i eq l) (sym (other_unit k j nk) ∙ sym same ∙ own_at n i eq))
+            | inl ek ↦ (
+              eq ∙ sym ek,
+              are.spare_apart e i j event is.at (was_free n i eq l) (was_free k j ek g)
+                  (sym (own_at n i eq) ∙ same ∙ own_at k j ek),
+            )
+            | inr nk ↦ absurd (are.others k j e i event (other_offset k j nk g) is.at (was_free n i eq l)
+                (sym (other_unit k j nk) ∙ sym same ∙ own_at n i eq))
           ]
           | inr ne ↦ elim (cases_eqb k m) [
-            | inl ek ↦ absurd (are.others n i e j event (other_offset n i ne l) is.at (was_free k j ek g) (sym (other_unit n i ne) ∙ same ∙ own_at k j ek))
-            | inr nk ↦ are.apart n k i j (other_offset n i ne l) (other_offset k j nk g) (sym (other_unit n i ne) ∙ same ∙ other_unit k j nk)
+            | inl ek ↦ absurd (are.others n i e j event (other_offset n i ne l) is.at (was_free k j ek g)
+                (sym (other_unit n i ne) ∙ same ∙ own_at k j ek))
+            | inr nk ↦ are.apart n k i j (other_offset n i ne l) (other_offset k j nk g)
+                (sym (other_unit n i ne) ∙ same ∙ other_unit k j nk)
           ]
         ];
         spare = λ f i ev at l. elim (cases_eqb f e) [
           | inl eq ↦
               let l2 : IsFree t e ev i = subst (λ k. IsFree t k ev i) eq l in
               let at2 : slice_get events e ≡ Some ev = ap (slice_get events) (sym eq) ∙ at in
-              subst (λ k. HasSlot events k (unit_at next free' k i)) (sym eq) (subst (HasSlot events e) (sym (own_spare i)) (are.spare e (d + i) ev at2 (still_free i ev l2)))
+              subst (λ k. HasSlot events k (unit_at next free' k i)) (sym eq)
+              (subst (HasSlot events e) (sym (own_spare i)) (are.spare e (d + i) ev at2 (still_free i ev l2)))
           | inr ne ↦ subst (HasSlot events f) (sym (other_spare f i ne)) (are.spare f i ev at (other_free f i ev ne l))
         ];
         spare_apart = λ f i j ev at l g same. elim (cases_eqb f e) [
@@ -144,36 +160,47 @@ module _ (events : List EventInfo) (s t : List Slot) (m e d : ℕ) (event : Even
               let l2 : IsFree t e ev i = subst (λ k. IsFree t k ev i) eq l in
               let g2 : IsFree t e ev j = subst (λ k. IsFree t k ev j) eq g in
               let at2 : slice_get events e ≡ Some ev = ap (slice_get events) (sym eq) ∙ at in
-              let same2 : unit_at next free' e i ≡ unit_at next free' e j = subst (λ k. unit_at next free' k i ≡ unit_at next free' k j) eq same in
-              let r : d + i ≡ d + j = are.spare_apart e (d + i) (d + j) ev at2 (still_free i ev l2) (still_free j ev g2) (sym (own_spare i) ∙ same2 ∙ own_spare j) in
+              let same2 : unit_at next free' e i ≡ unit_at next free' e j =
+              subst (λ k. unit_at next free' k i ≡ unit_at next free' k j) eq same in
+              let r : d + i ≡ d + j = are.spare_apart e (d + i) (d + j) ev at2 (still_free i ev l2) (still_free j ev g2)
+              (sym (own_spare i) ∙ same2 ∙ own_spare j) in
               omega (arith, r)
-          | inr ne ↦ are.spare_apart f i j ev at (other_free f i ev ne l) (other_free f j ev ne g) (sym (other_spare f i ne) ∙ same ∙ other_spare f j ne)
+          | inr ne ↦ are.spare_apart f i j ev at (other_free f i ev ne l) (other_free f j ev ne g)
+              (sym (other_spare f i ne) ∙ same ∙ other_spare f j ne)
         ];
         others = λ n o f i ev l at g same. elim (cases_eqb f e) [
           | inl eq ↦
               let g2 : IsFree t e ev i = subst (λ k. IsFree t k ev i) eq g in
               let at2 : slice_get events e ≡ Some ev = ap (slice_get events) (sym eq) ∙ at in
-              let same2 : unit_at next firsts' n o ≡ unit_at next free e (d + i) = same ∙ ap (λ k. unit_at next free' k i) eq ∙ own_spare i in
+              let same2 : unit_at next firsts' n o ≡ unit_at next free e (d + i) =
+              same ∙ ap (λ k. unit_at next free' k i) eq ∙ own_spare i in
               elim (cases_eqb n m) [
                 | inl em ↦
-                    let w : IsFree s e ev o = let a = was_free n o em l in let b = ap (λ (x : EventInfo). x.duration) (same_Some event ev (sym is.at ∙ at2)) in omega (arith, a, b) in
-                    let r : o ≡ d + i = are.spare_apart e o (d + i) ev at2 w (still_free i ev g2) (sym (own_at n o em) ∙ same2) in
+                    let w : IsFree s e ev o = let a = was_free n o em l in let b =
+                    ap (λ (x : EventInfo). x.duration) (same_Some event ev (sym is.at ∙ at2)) in
+                    omega (arith, a, b) in
+                    let r : o ≡ d + i = are.spare_apart e o (d + i) ev at2 w (still_free i ev g2)
+                    (sym (own_at n o em) ∙ same2) in
                     let q = short n o em l in omega (arith, r, q)
-                | inr ne ↦ are.others n o e (d + i) ev (other_offset n o ne l) at2 (still_free i ev g2) (sym (other_unit n o ne) ∙ same2)
+                | inr ne ↦ are.others n o e (d + i) ev (other_offset n o ne l) at2 (still_free i ev g2)
+                    (sym (other_unit n o ne) ∙ same2)
               ]
           | inr nf ↦
               let g2 : IsFree s f ev i = other_free f i ev nf g in
               let same2 : unit_at next firsts' n o ≡ unit_at next free f i = same ∙ other_spare f i nf in
               elim (cases_eqb n m) [
                 | inl em ↦
-                    nf (sym (unit_once events e f (unit_at next free f i) is.first (subst (HasSlot events e) (sym (own_at n o em) ∙ same2) (are.spare e o event is.at (was_free n o em l))) (are.spare f i ev at g2)))
+                    nf (sym (unit_once events e f (unit_at next free f i) is.first
+                    (subst (HasSlot events e) (sym (own_at n o em) ∙ same2)
+                    (are.spare e o event is.at (was_free n o em l))) (are.spare f i ev at g2)))
                 | inr ne ↦ are.others n o f i ev (other_offset n o ne l) at g2 (sym (other_unit n o ne) ∙ same2)
               ]
         ];
       }
 
     -- the meet leaves it
-    module _ (long : length_of (slot_at s m) ≡ d) (some : 1 ≤ d) (none : length_of (slot_at t m) ≡ 0) (less : held e s ≡ held e t + d) where
+    module _ (long : length_of (slot_at s m) ≡ d) (some : 1 ≤ d) (none : length_of (slot_at t m) ≡ 0)
+        (less : held e s ≡ held e t + d) where
       abbrev last : ℕ
       last = unit_at next firsts m (d - 1)
 
@@ -189,20 +216,26 @@ module _ (events : List EventInfo) (s t : List Slot) (m e d : ℕ) (event : Even
       pub kept_unit : (n o : ℕ) → n ≢ m → IsOffset t n o → unit_at next' firsts n o ≡ unit_at next firsts n o
       kept_unit n o ne l =
           walk_set next last (get_or free e 0) (get_or firsts n 0) o
-          (λ k less same. ne (are.apart n m k (d - 1) (let a = other_offset n o ne l in omega (arith, a, less)) (was_own (d - 1) (omega (arith, some))) same).0)
+          (λ k less same. ne (are.apart n m k (d - 1) (let a = other_offset n o ne l in omega (arith, a, less))
+          (was_own (d - 1) (omega (arith, some))) same).0)
 
       old_units : (i : ℕ) → i < d → walk next' (get_or firsts m 0) i ≡ unit_at next firsts m i
       old_units i l =
           walk_set next last (get_or free e 0) (get_or firsts m 0) i
-          (λ k less same. let r : k ≡ d - 1 = (are.apart m m k (d - 1) (was_own k (omega (arith, l, less))) (was_own (d - 1) (omega (arith, some))) same).1 in omega (arith, r, l, less))
+          (λ k less same. let r : k ≡ d - 1 = (are.apart m m k (d - 1) (was_own k (omega (arith, l, less)))
+          (was_own (d - 1) (omega (arith, some))) same).1 in omega (arith, r, l, less))
 
-      kept_spare : (f i : ℕ) (ev : EventInfo) → slice_get events f ≡ Some ev → IsFree s f ev i → walk next' (get_or free f 0) i ≡ unit_at next free f i
+      kept_spare : (f i : ℕ) (ev : EventInfo) → slice_get events f ≡ Some ev → IsFree s f ev i
+          → walk next' (get_or free f 0) i ≡ unit_at next free f i
       kept_spare f i ev at l =
           walk_set next last (get_or free e 0) (get_or free f 0) i
-          (λ k less same. are.others m (d - 1) f k ev (was_own (d - 1) (omega (arith, some))) at (omega (arith, l, less)) (sym same))
+          (λ k less same. are.others m (d - 1) f k ev (was_own (d - 1) (omega (arith, some))) at
+          (omega (arith, l, less)) (sym same))
 
       last_below : last < length next
-      last_below = let a = units_below events (slot_at s m).event.0 last is.first (are.holds m (d - 1) (was_own (d - 1) (omega (arith, some)))) in let b = are.next_length in omega (arith, a, b)
+      last_below = let a = units_below events (slot_at s m).event.0 last is.first
+          (are.holds m (d - 1) (was_own (d - 1) (omega (arith, some)))) in let b = are.next_length in
+          omega (arith, a, b)
 
       turned_on : walk next' (get_or firsts m 0) d ≡ get_or free e 0
       turned_on =
@@ -218,13 +251,16 @@ module _ (events : List EventInfo) (s t : List Slot) (m e d : ℕ) (event : Even
       own_gone : (i : ℕ) → i < d → unit_at next' gone e i ≡ unit_at next firsts m i
       own_gone i l = ap (λ v. walk next' v i) first_gone ∙ old_units i l
 
-      later_gone : (j : ℕ) (ev : EventInfo) → slice_get events e ≡ Some ev → IsFree s e ev j → unit_at next' gone e (d + j) ≡ unit_at next free e j
+      later_gone : (j : ℕ) (ev : EventInfo) → slice_get events e ≡ Some ev → IsFree s e ev j
+          → unit_at next' gone e (d + j) ≡ unit_at next free e j
       later_gone j ev at l =
-          ap (λ v. walk next' v (d + j)) first_gone ∙ walk_more next' (get_or firsts m 0) d j ∙ ap (λ v. walk next' v j) turned_on ∙ kept_spare e j ev at l
+          ap (λ v. walk next' v (d + j)) first_gone ∙ walk_more next' (get_or firsts m 0) d j
+          ∙ ap (λ v. walk next' v j) turned_on ∙ kept_spare e j ev at l
 
       -- a free unit of the event is one that the meet held, or was free before
       free_cases : (i : ℕ) (ev : EventInfo) → slice_get events e ≡ Some ev → IsFree t e ev i
-          → ((i < d) × (unit_at next' gone e i ≡ unit_at next firsts m i)) ⊎ ((j : ℕ) × (d + j ≡ i) × IsFree s e ev j × (unit_at next' gone e i ≡ unit_at next free e j))
+          → ((i < d) × (unit_at next' gone e i ≡ unit_at next firsts m i))
+          ⊎ ((j : ℕ) × (d + j ≡ i) × IsFree s e ev j × (unit_at next' gone e i ≡ unit_at next free e j))
       free_cases i ev at l =
           elim (cases_lt i d) [
             | inl low ↦ inl (low, own_gone i low)
@@ -234,10 +270,14 @@ module _ (events : List EventInfo) (s t : List Slot) (m e d : ℕ) (event : Even
                 inr (i - d, is_at, was, ap (unit_at next' gone e) (sym is_at) ∙ later_gone (i - d) ev at was)
           ]
 
-      other_gone : (f i : ℕ) (ev : EventInfo) → f ≢ e → slice_get events f ≡ Some ev → IsFree t f ev i → IsFree s f ev i × (unit_at next' gone f i ≡ unit_at next free f i)
+      other_gone : (f i : ℕ) (ev : EventInfo) → f ≢ e → slice_get events f ≡ Some ev → IsFree t f ev i
+          → IsFree s f ev i × (unit_at next' gone f i ≡ unit_at next free f i)
       other_gone f i ev ne at l =
-          let was : IsFree s f ev i = let a = is.elsewhere f ne in omega (arith, a, l) in
-          (was, ap (λ v. walk next' v i) (get_or-set_other free e f (get_or firsts m 0) 0 ne) ∙ kept_spare f i ev at was)
+          let was : IsFree s f ev i = let a = is.elsewhere f ne in omega (arith, a, l) in (
+            was,
+            ap (λ v. walk next' v i) (get_or-set_other free e f (get_or firsts m 0) 0 ne)
+                ∙ kept_spare f i ev at was,
+          )
 
       none_own : (n o : ℕ) → IsOffset t n o → n ≢ m
       none_own n o l = λ eq. let a = ap (λ k. length_of (slot_at t k)) eq in absurd (omega (arith, a, l, none))
@@ -249,17 +289,21 @@ module _ (events : List EventInfo) (s t : List Slot) (m e d : ℕ) (event : Even
         free_length = length-set free e (get_or firsts m 0) ∙ are.free_length;
         holds = λ n o l.
             let ne = none_own n o l in
-            subst (HasSlot events (slot_at t n).event.0) (sym (kept_unit n o ne l)) (other_slot n (unit_at next firsts n o) ne (are.holds n o (other_offset n o ne l)));
+            subst (HasSlot events (slot_at t n).event.0) (sym (kept_unit n o ne l))
+            (other_slot n (unit_at next firsts n o) ne (are.holds n o (other_offset n o ne l)));
         apart = λ n k i j l g same.
             let ne = none_own n i l in
             let nk = none_own k j g in
-            are.apart n k i j (other_offset n i ne l) (other_offset k j nk g) (sym (kept_unit n i ne l) ∙ same ∙ kept_unit k j nk g);
+            are.apart n k i j (other_offset n i ne l) (other_offset k j nk g)
+            (sym (kept_unit n i ne l) ∙ same ∙ kept_unit k j nk g);
         spare = λ f i ev at l. elim (cases_eqb f e) [
           | inl eq ↦
               let at2 : slice_get events e ≡ Some ev = ap (slice_get events) (sym eq) ∙ at in
               subst (λ k. HasSlot events k (unit_at next' gone k i)) (sym eq)
               (elim (free_cases i ev at2 (subst (λ k. IsFree t k ev i) eq l)) [
-                | inl low ↦ subst (HasSlot events e) (sym low.1) (subst (λ k. HasSlot events k (unit_at next firsts m i)) is.old_event (are.holds m i (was_own i low.0)))
+                | inl low ↦ subst (HasSlot events e) (sym low.1)
+                    (subst (λ k. HasSlot events k (unit_at next firsts m i)) is.old_event
+                    (are.holds m i (was_own i low.0)))
                 | inr high ↦ subst (HasSlot events e) (sym high.3) (are.spare e high.0 ev at2 high.2)
               ])
           | inr ne ↦ let o = other_gone f i ev ne at l in subst (HasSlot events f) (sym o.1) (are.spare f i ev at o.0)
@@ -267,16 +311,20 @@ module _ (events : List EventInfo) (s t : List Slot) (m e d : ℕ) (event : Even
         spare_apart = λ f i j ev at l g same. elim (cases_eqb f e) [
           | inl eq ↦
               let at2 : slice_get events e ≡ Some ev = ap (slice_get events) (sym eq) ∙ at in
-              let same2 : unit_at next' gone e i ≡ unit_at next' gone e j = subst (λ k. unit_at next' gone k i ≡ unit_at next' gone k j) eq same in
+              let same2 : unit_at next' gone e i ≡ unit_at next' gone e j =
+              subst (λ k. unit_at next' gone k i ≡ unit_at next' gone k j) eq same in
               elim (free_cases i ev at2 (subst (λ k. IsFree t k ev i) eq l)) [
                 | inl low ↦ elim (free_cases j ev at2 (subst (λ k. IsFree t k ev j) eq g)) [
                   | inl low2 ↦ (are.apart m m i j (was_own i low.0) (was_own j low2.0) (sym low.1 ∙ same2 ∙ low2.1)).1
-                  | inr high2 ↦ absurd (are.others m i e high2.0 ev (was_own i low.0) at2 high2.2 (sym low.1 ∙ same2 ∙ high2.3))
+                  | inr high2 ↦ absurd (are.others m i e high2.0 ev (was_own i low.0) at2 high2.2
+                      (sym low.1 ∙ same2 ∙ high2.3))
                 ]
                 | inr high ↦ elim (free_cases j ev at2 (subst (λ k. IsFree t k ev j) eq g)) [
-                  | inl low2 ↦ absurd (are.others m j e high.0 ev (was_own j low2.0) at2 high.2 (sym low2.1 ∙ sym same2 ∙ high.3))
+                  | inl low2 ↦ absurd (are.others m j e high.0 ev (was_own j low2.0) at2 high.2
+                      (sym low2.1 ∙ sym same2 ∙ high.3))
                   | inr high2 ↦
-                      let r : high.0 ≡ high2.0 = are.spare_apart e high.0 high2.0 ev at2 high.2 high2.2 (sym high.3 ∙ same2 ∙ high2.3) in
+                      let r : high.0 ≡ high2.0 = are.spare_apart e high.0 high2.0 ev at2 high.2 high2.2
+                      (sym high.3 ∙ same2 ∙ high2.3) in
                       let a = high.1 in let b = high2.1 in omega (arith, r, a, b)
                 ]
               ]
@@ -291,11 +339,13 @@ module _ (events : List EventInfo) (s t : List Slot) (m e d : ℕ) (event : Even
             elim (cases_eqb f e) [
               | inl eq ↦
                   let at2 : slice_get events e ≡ Some ev = ap (slice_get events) (sym eq) ∙ at in
-                  let same2 : unit_at next firsts n o ≡ unit_at next' gone e i = sym was ∙ same ∙ ap (λ k. unit_at next' gone k i) eq in
+                  let same2 : unit_at next firsts n o ≡ unit_at next' gone e i =
+                  sym was ∙ same ∙ ap (λ k. unit_at next' gone k i) eq in
                   elim (free_cases i ev at2 (subst (λ k. IsFree t k ev i) eq g)) [
                     | inl low ↦ ne (are.apart n m o i (other_offset n o ne l) (was_own i low.0) (same2 ∙ low.1)).0
                     | inr high ↦ are.others n o e high.0 ev (other_offset n o ne l) at2 high.2 (same2 ∙ high.3)
                   ]
-              | inr nf ↦ let a = other_gone f i ev nf at g in are.others n o f i ev (other_offset n o ne l) at a.0 (sym was ∙ same ∙ a.1)
+              | inr nf ↦ let a = other_gone f i ev nf at g in
+                  are.others n o f i ev (other_offset n o ne l) at a.0 (sym was ∙ same ∙ a.1)
             ];
       }

@@ -1,6 +1,7 @@
 -- The demands of a told state, in order, and the supplies that each may have. A supply is a resource
 -- at a time.
-use Rattle.std.specs.Prelude.{ℕ, ◌-◌, ◌+◌, ◌==◌, ◌≡◌, Bool, false, ◌&&◌, nat_le, if◌then◌else◌, Option, Some, List, [], ◌∷◌, ◌++◌, map, length, slice_get}
+use Rattle.std.specs.Prelude.{ℕ, ◌-◌, ◌+◌, ◌==◌, ◌≡◌, Bool, false, ◌&&◌, nat_le, if◌then◌else◌, Option, Some, List, []}
+use Rattle.std.specs.Prelude.{◌∷◌, ◌++◌, map, length, slice_get}
 use Rattle.std.specs.List.{filter, flat_map, range_with_len}
 use Rattle.std.specs.Option.{option_map_or}
 use Rattle.khe_base.specs.declared.numbers.ResourceId.{ResourceId}
@@ -32,7 +33,8 @@ task_demands s = flat_map slot_demands s
 
 -- the demands for the times at which resources are wanted free, each once
 abbrev pub times_demands : Parts → ℕ → List Demand
-times_demands p r = map (λ t. Unavailable (record { 0 = r }) (record { 0 = t })) (filter (is_unavailable p r) (range_with_len 0 (length p.times)))
+times_demands p r = map (λ t. Unavailable (record { 0 = r }) (record { 0 = t }))
+    (filter (is_unavailable p r) (range_with_len 0 (length p.times)))
 
 abbrev pub unavailable_demands : Parts → List Demand
 unavailable_demands p = flat_map (times_demands p) (range_with_len 0 (length p.resources))
@@ -45,19 +47,22 @@ demands p s = task_demands s ++ unavailable_demands p
 -- whether a slot's meet may start at a time: at its start where it has one, else where it ends with
 -- the last time or before and all strict constraints let it
 abbrev pub span_starts : Parts → ℕ → Span → ℕ → Bool
-span_starts p e y t = option_map_or (λ (u : TimeId). u.0 == t) y.start (nat_le (t + y.duration) (length p.times) && may_start p e y.duration t)
+span_starts p e y t = option_map_or (λ (u : TimeId). u.0 == t) y.start
+    (nat_le (t + y.duration) (length p.times) && may_start p e y.duration t)
 
 abbrev pub slot_starts : Parts → Slot → ℕ → Bool
 slot_starts p x t = option_map_or (λ y. span_starts p x.event.0 y t) x.span false
 
 -- whether a resource has a type
 abbrev pub has_type : Parts → Option Place → ℕ → Bool
-has_type p place r = option_map_or (λ x. option_map_or (λ (w : Place). w.rtype == x.rtype) place false) (slice_get p.resources r) false
+has_type p place r = option_map_or (λ x. option_map_or (λ (w : Place). w.rtype == x.rtype) place false)
+    (slice_get p.resources r) false
 
 -- whether a place of a slot's meet may have a resource: the one that it is given, else each of its
 -- type that all strict constraints let it have
 abbrev pub slot_takes : Parts → Slot → ℕ → ℕ → Bool
-slot_takes p x k r = option_map_or (λ (g : ResourceId). g.0 == r) (given_at x k) (has_type p (place_at p.events x.event.0 k) r && may_be_given p x.event.0 k r)
+slot_takes p x k r = option_map_or (λ (g : ResourceId). g.0 == r) (given_at x k)
+    (has_type p (place_at p.events x.event.0 k) r && may_be_given p x.event.0 k r)
 
 -- the times at which a demand may have its supply, and the resources that may be in it
 abbrev pub runs_at : Parts → List Slot → Demand → ℕ → Bool

@@ -47,15 +47,18 @@ pub record AreOpen (p : Parts) (u : Units) (picks : Picks) (w : Domains) (cells 
   pub few : length cells ≤ CELLS
   pub timed : 0 < length cells → 0 < length p.times
   pub listed : map (cell_demand (length p.times)) cells ≡ unavailable_demands p
-  pub cell_domains : (i : ℕ) → i < length cells → domain_of w (tasks_of p.events + i) ≡ Some (cell_domain (length p.times) (slice_index_or cells i 0))
+  pub cell_domains : (i : ℕ) → i < length cells
+      → domain_of w (tasks_of p.events + i) ≡ Some (cell_domain (length p.times) (slice_index_or cells i 0))
 
 -- the demands of tasks have their domains, and no other number of a task slot has one
 pub record AreTasks (p : Parts) (s : List Slot) (u : Units) (picks : Picks) (w : Domains) : Type 0 where
-  pub domains : (m k o : ℕ) → IsTask s m k o → domain_of w (number_of u m k o) ≡ domain_in p.events picks.starts.items picks.resources.items (slot_at s m) k o
+  pub domains : (m k o : ℕ) → IsTask s m k o → domain_of w (number_of u m k o)
+      ≡ domain_in p.events picks.starts.items picks.resources.items (slot_at s m) k o
   pub present : (j : ℕ) → j < tasks_of p.events → is_present w j ≡ true → IsNumbered s u j
 
 -- the same of the told state, and how many task slots and times there are
-pub record AreOf (p : Parts) (s : List Slot) (u : Units) (picks : Picks) (w : Domains) (cells : List ℕ) (tasks times : ℕ) : Type 0 where
+pub record AreOf (p : Parts) (s : List Slot) (u : Units) (picks : Picks) (w : Domains) (cells : List ℕ)
+    (tasks times : ℕ) : Type 0 where
   pub told : AreTold p s
   pub units : AreUnits p.events s u.next.items u.held.items u.free.items
   pub opened : AreOpen p u picks w cells

@@ -31,7 +31,8 @@ pub record IsReadable (u : Units) (meet places duration : ℕ) : Type 0 where
 
 -- those of each slot, whose number is that of its meet
 abbrev pub AreReadable : Units → List Slot → Type 0
-AreReadable u s = (m : ℕ) → m < length s → IsReadable u m (length (slot_at s m).given) (length_of (slot_at s m)) × ((slot_at s m).meet.0 ≡ m)
+AreReadable u s = (m : ℕ) → m < length s → IsReadable u m (length (slot_at s m).given) (length_of (slot_at s m))
+    × ((slot_at s m).meet.0 ≡ m)
 
 -- what a listing of the whole asks for
 pub record IsSafe (s : List Slot) (u : Units) (w : Domains) (cells : List ℕ) (tasks times : ℕ) : Type 0 where
@@ -44,4 +45,5 @@ pub record IsSafe (s : List Slot) (u : Units) (w : Domains) (cells : List ℕ) (
 -- the marks are those of the numbers of the Hall set
 abbrev pub AreMarks : Domains → List Bool → Type 0
 AreMarks w marks =
-    (numbers : List ℕ) × IsHallSet w (λ j. list_any (λ m. m == j) numbers) × ((n : ℕ) → has_member marks n ≡ list_any (λ m. m == n) numbers)
+    (numbers : List ℕ) × IsHallSet w (λ j. list_any (λ m. m == j) numbers)
+    × ((n : ℕ) → has_member marks n ≡ list_any (λ m. m == n) numbers)

@@ -1,5 +1,6 @@
 -- What the tables of a state without meets have while they are made.
-use Rattle.std.specs.Prelude.{ℕ, ◌+◌, ◌-◌, ◌*◌, ◌≡◌, ◌==◌, ◌<◌, ◌≤◌, ◌⊎◌, Bool, false, ◌&&◌, ◌||◌, nat_le, Option, None, Some, List, [], length, map, take, All, slice_get, slice_index_or}
+use Rattle.std.specs.Prelude.{ℕ, ◌+◌, ◌-◌, ◌*◌, ◌≡◌, ◌==◌, ◌<◌, ◌≤◌, ◌⊎◌, Bool, false, ◌&&◌, ◌||◌, nat_le, Option, None}
+use Rattle.std.specs.Prelude.{Some, List, [], length, map, take, All, slice_get, slice_index_or}
 use Rattle.std.specs.List.{list_all, list_any}
 use Rattle.std.specs.Option.{option_map_or}
 use Rattle.khe_base.specs.IdSet.{has_member}
@@ -39,7 +40,8 @@ pub record ServesFor (last d number : ℕ) : Type 0 where
 pub record AreStartEntries (events : List EventInfo) (last n : ℕ) (entries : List ℕ) : Type 0 where
   pub amount : length entries ≡ n
   pub below : (i : ℕ) → i < n → slice_index_or entries i 0 < last + 2
-  pub serves : (e i : ℕ) (event : EventInfo) → slice_get events e ≡ Some event → event.first_meet ≤ i → i < event.first_meet + event.duration → i < n
+  pub serves : (e i : ℕ) (event : EventInfo) → slice_get events e ≡ Some event → event.first_meet ≤ i
+      → i < event.first_meet + event.duration → i < n
       → ServesFor last (i - event.first_meet + 1) (slice_index_or entries i 0)
 
 -- the sets of starts, as the first monitors narrow them, so many
@@ -47,12 +49,15 @@ pub record AreStartsTo (p : Parts) (n : ℕ) (sets : List (List Bool)) (entries 
   pub are : AreSets (length p.times + 2) (length p.times) sets entries
   pub amount : length entries ≡ units_of p.events
   pub members : (e d t : ℕ) (event : EventInfo) → slice_get p.events e ≡ Some event → 1 ≤ d → d ≤ event.duration
-      → has_member (set_at sets entries (start_entry p.events e d)) t ≡ nat_le (t + d) (length p.times) && list_all (monitor_lets_start p e d t) (take n p.monitors)
+      → has_member (set_at sets entries (start_entry p.events e d)) t
+      ≡ nat_le (t + d) (length p.times) && list_all (monitor_lets_start p e d t) (take n p.monitors)
 
 -- the sets of an event's first durations, so many, narrowed to what a rule lets start
-pub record AreNarrowedBy (rule : Rule) (first count : ℕ) (olds : List (List Bool)) (old : List ℕ) (sets : List (List Bool)) (entries : List ℕ) : Type 0 where
+pub record AreNarrowedBy (rule : Rule) (first count : ℕ) (olds : List (List Bool)) (old : List ℕ)
+    (sets : List (List Bool)) (entries : List ℕ) : Type 0 where
   pub amount : length entries ≡ length old
-  pub members : (d t : ℕ) → 1 ≤ d → d ≤ count → has_member (set_at sets entries (first + d - 1)) t ≡ has_member (set_at olds old (first + d - 1)) t && lets_start rule d t
+  pub members : (d t : ℕ) → 1 ≤ d → d ≤ count → has_member (set_at sets entries (first + d - 1)) t
+      ≡ has_member (set_at olds old (first + d - 1)) t && lets_start rule d t
   pub others : (i : ℕ) → i < length old → (i < first) ⊎ (first + count ≤ i) → set_at sets entries i ≡ set_at olds old i
 
 -- whether a resource has this type
@@ -69,19 +74,22 @@ pub record AreTypeSets (p : Parts) (count : ℕ) (sets : List (List Bool)) : Typ
 pub record AreTypeEntries (p : Parts) (n : ℕ) (entries : List ℕ) : Type 0 where
   pub amount : length entries ≡ first_task p.events n
   pub below : All (λ y. y < p.types) entries
-  pub types : (u e k : ℕ) (place : Place) → u < n → HasSlot p.events e u → place_at p.events e k ≡ Some place → slice_index_or entries (first_task p.events u + k) 0 ≡ place.rtype
+  pub types : (u e k : ℕ) (place : Place) → u < n → HasSlot p.events e u → place_at p.events e k ≡ Some place
+      → slice_index_or entries (first_task p.events u + k) 0 ≡ place.rtype
 
 -- the sets of resources, as the first monitors narrow them, so many
 pub record AreResourcesTo (p : Parts) (n : ℕ) (sets : List (List Bool)) (entries : List ℕ) : Type 0 where
   pub are : AreSets p.types (length p.resources) sets entries
   pub amount : length entries ≡ tasks_of p.events
   pub members : (e k r : ℕ) (place : Place) → place_at p.events e k ≡ Some place
-      → has_member (set_at sets entries (resource_entry p.events e k)) r ≡ has_type p (Some place) r && list_all (monitor_lets_have p e k r) (take n p.monitors)
+      → has_member (set_at sets entries (resource_entry p.events e k)) r
+      ≡ has_type p (Some place) r && list_all (monitor_lets_have p e k r) (take n p.monitors)
 
 -- the cells that the first monitors, so many, want free
 pub record AreCellsTo (p : Parts) (n : ℕ) (cells : List Bool) : Type 0 where
   pub size : length cells ≡ length p.resources * length p.times
-  pub members : (r t : ℕ) → r < length p.resources → t < length p.times → has_member cells (r * length p.times + t) ≡ list_any (monitor_wants_free p r t) (take n p.monitors)
+  pub members : (r t : ℕ) → r < length p.resources → t < length p.times
+      → has_member cells (r * length p.times + t) ≡ list_any (monitor_wants_free p r t) (take n p.monitors)
 
 -- the event, the event resource, or the resource that is a point
 abbrev pub event_of : Point → Option EventId
@@ -111,5 +119,6 @@ pub record AreCells (p : Parts) (cells : List ℕ) : Type 0 where
 -- the demands from a first one on have the domains of cells, and all else is as before
 pub record AreWanted (last first : ℕ) (cells : List ℕ) (old new : Domains) : Type 0 where
   pub sets : HasSameSets old new
-  pub cell_domains : (i : ℕ) → i < length cells → domain_of new (first + i) ≡ Some (cell_domain last (slice_index_or cells i 0))
+  pub cell_domains : (i : ℕ) → i < length cells
+      → domain_of new (first + i) ≡ Some (cell_domain last (slice_index_or cells i 0))
   pub others : (j : ℕ) → (j < first) ⊎ (first + length cells ≤ j) → domain_of new j ≡ domain_of old j

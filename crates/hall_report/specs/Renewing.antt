@@ -31,7 +31,8 @@ pub record IsAmong (number : ℕ → ℕ → ℕ) (from end count j : ℕ) : Typ
   pub «is» : number place offset ≡ j
 
 -- the demands at these places and offsets have these domains, and all others have theirs
-pub record IsRenewed (old new : Domains) (number : ℕ → ℕ → ℕ) (domain : ℕ → ℕ → Option Domain) (from end count : ℕ) : Type 0 where
+pub record IsRenewed (old new : Domains) (number : ℕ → ℕ → ℕ) (domain : ℕ → ℕ → Option Domain)
+    (from end count : ℕ) : Type 0 where
   pub same : HasSameSets old new
   pub renewed : (k o : ℕ) → from ≤ k → k < end → o < count → domain_of new (number k o) ≡ domain k o
   pub touched : (j : ℕ) → (domain_of new j ≡ domain_of old j) ⊎ IsAmong number from end count j
@@ -42,16 +43,19 @@ AreApart number from end count =
     (k o j i : ℕ) → k < end → o < count → j < end → i < count → number k o ≡ number j i → (k ≡ j) × (o ≡ i)
 
 -- each number is one of so many, and each domain is in range
-pub record AreWritable (w : Domains) (number : ℕ → ℕ → ℕ) (domain : ℕ → ℕ → Option Domain) (from end count : ℕ) : Type 0 where
+pub record AreWritable (w : Domains) (number : ℕ → ℕ → ℕ) (domain : ℕ → ℕ → Option Domain) (from end count : ℕ) : Type
+    0 where
   pub below : (k o : ℕ) → from ≤ k → k < end → o < count → number k o < length w.demands
   pub ranged : (k o : ℕ) → from ≤ k → k < end → o < count → ForSome (domain k o) (IsInRange w)
 
 -- the sets of starts and of resources are found
 abbrev pub HasStartEntries : Parts → List ℕ → Type 0
-HasStartEntries p entries = (e d : ℕ) (event : EventInfo) → slice_get p.events e ≡ Some event → 1 ≤ d → d ≤ event.duration → start_entry p.events e d < length entries
+HasStartEntries p entries = (e d : ℕ) (event : EventInfo) → slice_get p.events e ≡ Some event → 1 ≤ d
+    → d ≤ event.duration → start_entry p.events e d < length entries
 
 abbrev pub HasResourceEntries : Parts → List ℕ → Type 0
-HasResourceEntries p entries = (e k : ℕ) (place : Place) → place_at p.events e k ≡ Some place → resource_entry p.events e k < length entries
+HasResourceEntries p entries = (e k : ℕ) (place : Place) → place_at p.events e k ≡ Some place
+    → resource_entry p.events e k < length entries
 
 -- a duration is one of a meet of the event
 abbrev pub IsSpanOf : Parts → ℕ → ℕ → Type 0
@@ -63,4 +67,5 @@ pub record IsTurn (p : Parts) (s : List Slot) (c : Change) (from end : ℕ) : Ty
   pub within : end ≤ length (slot_at s (meet_of c)).given
   pub live : length_of (slot_at (after s c) (meet_of c)) ≡ length_of (slot_at s (meet_of c))
   pub outside : (k : ℕ) → k < length (slot_at s (meet_of c)).given → (k < from) ⊎ (end ≤ k)
-      → ((slot_at (after s c) (meet_of c)).span ≡ (slot_at s (meet_of c)).span) × (given_at (slot_at (after s c) (meet_of c)) k ≡ given_at (slot_at s (meet_of c)) k)
+      → ((slot_at (after s c) (meet_of c)).span ≡ (slot_at s (meet_of c)).span)
+      × (given_at (slot_at (after s c) (meet_of c)) k ≡ given_at (slot_at s (meet_of c)) k)

@@ -16,4 +16,5 @@ pub record AreSets (shared size : ℕ) (sets : List (List Bool)) (entries : List
   pub sized : All (λ set. length set ≡ size) sets
   pub given : (i : ℕ) → i < length entries → slice_index_or entries i 0 < length sets
   pub first : shared ≤ length sets
-  pub apart : (i j : ℕ) → i < length entries → j < length entries → shared ≤ slice_index_or entries i 0 → slice_index_or entries i 0 ≡ slice_index_or entries j 0 → i ≡ j
+  pub apart : (i j : ℕ) → i < length entries → j < length entries → shared ≤ slice_index_or entries i 0
+      → slice_index_or entries i 0 ≡ slice_index_or entries j 0 → i ≡ j

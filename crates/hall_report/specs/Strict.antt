@@ -17,7 +17,8 @@ is_strict c = c.required && nat_lt 0 c.weight
 
 -- the rule of a monitor's constraint, where the constraint is strict
 abbrev pub strict_rule : Parts → Monitor → Option Rule
-strict_rule p m = option_and_then (λ c. if is_strict c then Some c.rule else None) (slice_get p.constraints m.constraint)
+strict_rule p m = option_and_then (λ c. if is_strict c then Some c.rule else None)
+    (slice_get p.constraints m.constraint)
 
 -- whether a point is an event, an event resource, or a resource
 abbrev pub is_event : Point → ℕ → Bool
@@ -35,7 +36,8 @@ is_resource _ r = false
 -- whether a rule lets a meet of a duration start at a time, as Prefer Times speaks of all
 -- durations or of one
 abbrev pub lets_start : Rule → ℕ → ℕ → Bool
-lets_start (PreferTimes times duration) d t = if option_map_or (λ x. x == d) duration true then has_member times t else true
+lets_start (PreferTimes times duration) d t =
+    if option_map_or (λ x. x == d) duration true then has_member times t else true
 lets_start _ d t = true
 
 -- whether it lets a task have a resource
@@ -50,10 +52,12 @@ wants_free _ t = false
 
 -- the same of a monitor, for the event, the event resource or the resource that is its point
 abbrev pub monitor_lets_start : Parts → ℕ → ℕ → ℕ → Monitor → Bool
-monitor_lets_start p e d t m = if is_event m.point e then option_map_or (λ rule. lets_start rule d t) (strict_rule p m) true else true
+monitor_lets_start p e d t m = if is_event m.point e then option_map_or (λ rule. lets_start rule d t) (strict_rule p m)
+    true else true
 
 abbrev pub monitor_lets_have : Parts → ℕ → ℕ → ℕ → Monitor → Bool
-monitor_lets_have p e k r m = if is_place m.point e k then option_map_or (λ rule. lets_have rule r) (strict_rule p m) true else true
+monitor_lets_have p e k r m = if is_place m.point e k then option_map_or (λ rule. lets_have rule r) (strict_rule p m)
+    true else true
 
 abbrev pub monitor_wants_free : Parts → ℕ → ℕ → Monitor → Bool
 monitor_wants_free p r t m = is_resource m.point r && option_map_or (λ rule. wants_free rule t) (strict_rule p m) false

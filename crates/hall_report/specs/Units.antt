@@ -34,10 +34,14 @@ pub record AreUnits (events : List EventInfo) (s : List Slot) (next firsts free 
   pub firsts_length : length firsts ≡ units_of events
   pub free_length : length free ≡ length events
   pub holds : (m o : ℕ) → IsOffset s m o → HasSlot events (slot_at s m).event.0 (unit_at next firsts m o)
-  pub apart : (m n i j : ℕ) → IsOffset s m i → IsOffset s n j → unit_at next firsts m i ≡ unit_at next firsts n j → (m ≡ n) × (i ≡ j)
-  pub spare : (e i : ℕ) (event : EventInfo) → slice_get events e ≡ Some event → IsFree s e event i → HasSlot events e (unit_at next free e i)
-  pub spare_apart : (e i j : ℕ) (event : EventInfo) → slice_get events e ≡ Some event → IsFree s e event i → IsFree s e event j → unit_at next free e i ≡ unit_at next free e j → i ≡ j
-  pub others : (m o e i : ℕ) (event : EventInfo) → IsOffset s m o → slice_get events e ≡ Some event → IsFree s e event i → unit_at next firsts m o ≢ unit_at next free e i
+  pub apart : (m n i j : ℕ) → IsOffset s m i → IsOffset s n j → unit_at next firsts m i ≡ unit_at next firsts n j
+      → (m ≡ n) × (i ≡ j)
+  pub spare : (e i : ℕ) (event : EventInfo) → slice_get events e ≡ Some event → IsFree s e event i
+      → HasSlot events e (unit_at next free e i)
+  pub spare_apart : (e i j : ℕ) (event : EventInfo) → slice_get events e ≡ Some event → IsFree s e event i
+      → IsFree s e event j → unit_at next free e i ≡ unit_at next free e j → i ≡ j
+  pub others : (m o e i : ℕ) (event : EventInfo) → IsOffset s m o → slice_get events e ≡ Some event → IsFree s e event i
+      → unit_at next firsts m o ≢ unit_at next free e i
 
 -- how many task slots there are
 abbrev pub tasks_of : List EventInfo → ℕ

@@ -1,5 +1,6 @@
 -- How a run ends, from what was written of an outcome's text.
-use Rattle.std.proofs.Common.{ℕ, ◌≡◌, ◌⊎◌, inl, inr, Bool, List, [], Option, Some, None, IfSome, IsTrue, sym, ap, subst, ◌∙◌, refl, encode_utf8_all, arith}
+use Rattle.std.proofs.Common.{ℕ, ◌≡◌, ◌⊎◌, inl, inr, Bool, List, [], Option, Some, None, IfSome, IsTrue, sym, ap, subst}
+use Rattle.std.proofs.Common.{◌∙◌, refl, encode_utf8_all, arith}
 use Rattle.std.proofs.lemmas.List.{append-nil}
 use Rattle.khe_io.specs.Faults.{Rose, Took, TookFront}
 use Rattle.khe_io.specs.Shelf.{IsMissing, StandsUnder}
@@ -45,18 +46,22 @@ not_decided n (inr (inr e)) d = six n e d
     six n e (inr (inr (inr z))) = omega arith
 
 ended : (a : Option Asked) (h : Holdings) (before after : Option (List ℕ)) (text : List ℕ) (status : ℕ)
-    → IfSome h (λ under. IsOutcomeOf a under status text) → Took before after (encode_utf8_all text) → EndedOf a h before after status
+    → IfSome h (λ under. IsOutcomeOf a under status text) → Took before after (encode_utf8_all text)
+    → EndedOf a h before after status
 ended a None before after text status is took = tt
 ended a (Some under) before after text status is took = (text, is, took)
 
 cut_off : (a : Option Asked) (h : Holdings) (before after : Option (List ℕ)) (text : List ℕ) (status : ℕ)
-    → IfSome h (λ under. IsOutcomeOf a under status text) → TookFront before after (encode_utf8_all text) → CutOffOf a h before after
+    → IfSome h (λ under. IsOutcomeOf a under status text) → TookFront before after (encode_utf8_all text)
+    → CutOffOf a h before after
 cut_off a None before after text status is took = tt
 cut_off a (Some under) before after text status is took = (status, text, is, took)
 
 -- a run that wrote an outcome's text, or a first part of it
-pub end_written : (a : Option Asked) (h : Holdings) (sound : Bool) (shelf shelf2 : ℕ) (before after : Option (List ℕ)) (sink sink2 : ℕ) (text : List ℕ) (status result : ℕ)
-    → IfSome h (λ under. IsOutcomeOf a under status text) → IsDecided status → Written before after sink sink2 (encode_utf8_all text) status result
+pub end_written : (a : Option Asked) (h : Holdings) (sound : Bool) (shelf shelf2 : ℕ) (before after : Option (List ℕ))
+    (sink sink2 : ℕ) (text : List ℕ) (status result : ℕ)
+    → IfSome h (λ under. IsOutcomeOf a under status text) → IsDecided status
+    → Written before after sink sink2 (encode_utf8_all text) status result
     → (IsTrue sound → LacksOf a h → ⊥) → IsEnd a h sound shelf shelf2 before after sink sink2 result
 end_written a h sound shelf shelf2 before after sink sink2 text status result is known (inl w) there =
     let d : IsDecided result = subst IsDecided (sym w.0) known in
@@ -70,7 +75,8 @@ end_written a h sound shelf shelf2 before after sink sink2 text status result is
       write_fault = λ e. absurd (not_decided result (inr (inl e)) d);
       cut_off = λ e. absurd (not_decided result (inr (inl e)) d);
       no_memory = λ e. absurd (not_decided result (inr (inr e)) d);
-      complete = λ q quiet. inr (subst (EndedOf a h before after) (sym w.0) (ended a h before after text status is w.1));
+      complete = λ q quiet. inr (subst (EndedOf a h before after) (sym w.0)
+          (ended a h before after text status is w.1));
     }
 end_written a h sound shelf shelf2 before after sink sink2 text status result is known (inr (inl w)) there =
     let five = w.0 in
@@ -106,12 +112,20 @@ took_nothing : (o : Option (List ℕ)) → Took o o (encode_utf8_all [])
 took_nothing None = refl
 took_nothing (Some xs) = ap Some (sym (append-nil xs))
 
-lacked : (a : Option Asked) (h : Holdings) (before after : Option (List ℕ)) → after ≡ before → LacksOf a h → EndedOf a h before after 4
+lacked : (a : Option Asked) (h : Holdings) (before after : Option (List ℕ)) → after ≡ before → LacksOf a h
+    → EndedOf a h before after 4
 lacked a None before after e l = tt
-lacked a (Some under) before after e l = ([], l, subst (λ o. Took before o (encode_utf8_all [])) (sym e) (took_nothing before))
+lacked a (Some under) before after e l = (
+  [],
+  l,
+  subst (λ o. Took before o (encode_utf8_all [])) (sym e)
+      (took_nothing before),
+)
 
-pub end_stopped : (a : Option Asked) (h : Holdings) (sound : Bool) (shelf shelf2 : ℕ) (before after : Option (List ℕ)) (sink sink2 result : ℕ) → result ≡ 4
-    → Rose shelf shelf2 → after ≡ before → (IsTrue sound → LacksOf a h) → IsEnd a h sound shelf shelf2 before after sink sink2 result
+pub end_stopped : (a : Option Asked) (h : Holdings) (sound : Bool) (shelf shelf2 : ℕ) (before after : Option (List ℕ))
+    (sink sink2 result : ℕ) → result ≡ 4
+    → Rose shelf shelf2 → after ≡ before → (IsTrue sound → LacksOf a h)
+    → IsEnd a h sound shelf shelf2 before after sink sink2 result
 end_stopped a h sound shelf shelf2 before after sink sink2 result four rose same lacks = record {
   known = inr (inl four);
   decided = λ d. absurd (not_decided result (inl four) d);
@@ -130,7 +144,8 @@ end_stopped a h sound shelf shelf2 before after sink sink2 result four rose same
     by (inr calm) = absurd (calm rose)
 
 -- a run without memory that wrote nothing
-pub end_starved : (a : Option Asked) (h : Holdings) (sound : Bool) (shelf shelf2 : ℕ) (before after : Option (List ℕ)) (sink sink2 result : ℕ) → result ≡ 6
+pub end_starved : (a : Option Asked) (h : Holdings) (sound : Bool) (shelf shelf2 : ℕ) (before after : Option (List ℕ))
+    (sink sink2 result : ℕ) → result ≡ 6
     → after ≡ before → IsEnd a h sound shelf shelf2 before after sink sink2 result
 end_starved a h sound shelf shelf2 before after sink sink2 result six same = record {
   known = inr (inr (inr six));
@@ -146,7 +161,9 @@ end_starved a h sound shelf shelf2 before after sink sink2 result six same = rec
 }
 
 -- words without a reading
-pub unread : (h : Holdings) (status : ℕ) (text : List ℕ) → ((under : List ℕ → Option (List ℕ)) → IsOutcomeOf None under status text) → IfSome h (λ under. IsOutcomeOf None under status text)
+pub unread : (h : Holdings) (status : ℕ) (text : List ℕ)
+    → ((under : List ℕ → Option (List ℕ)) → IsOutcomeOf None under status text)
+    → IfSome h (λ under. IsOutcomeOf None under status text)
 unread None status text is = tt
 unread (Some under) status text is = is under
 
@@ -155,12 +172,15 @@ unread-there None l = l
 unread-there (Some under) l = omega (arith, l.0)
 
 -- a report
-pub reported : (h : Holdings) (name : List ℕ) (all : Bool) (answer : Answer) → IfSome h (λ under. IsAnswerOf (under name) answer)
-    → IfSome h (λ under. IsOutcomeOf (Some (evaluating name all)) under (status_of (reading_of answer)) (text_of all (reading_of answer)))
+pub reported : (h : Holdings) (name : List ℕ) (all : Bool) (answer : Answer)
+    → IfSome h (λ under. IsAnswerOf (under name) answer)
+    → IfSome h (λ under. IsOutcomeOf (Some (evaluating name all)) under (status_of (reading_of answer))
+    (text_of all (reading_of answer)))
 reported None name all answer is = tt
 reported (Some under) name all answer is = by (under name) is
   where
-    by : (o : Option (List ℕ)) → IsAnswerOf o answer → IsAnswerTo all o (status_of (reading_of answer)) (text_of all (reading_of answer))
+    by : (o : Option (List ℕ)) → IsAnswerOf o answer
+        → IsAnswerTo all o (status_of (reading_of answer)) (text_of all (reading_of answer))
     by None none = absurd none
     by (Some bytes) reading = record { reading = reading_of answer; is = reading; status_is = refl; text_is = refl }
 
@@ -173,7 +193,8 @@ pub not_four : (r : Reading) → 4 ≡ status_of r → ⊥
 not_four (evaluable a r) e = omega (arith, e)
 not_four (refused refusal) e = omega (arith, e)
 
-pub reported-there : (h : Holdings) (name : List ℕ) (all : Bool) (answer : Answer) → IfSome h (λ under. IsAnswerOf (under name) answer) → LacksOf (Some (evaluating name all)) h → ⊥
+pub reported-there : (h : Holdings) (name : List ℕ) (all : Bool) (answer : Answer)
+    → IfSome h (λ under. IsAnswerOf (under name) answer) → LacksOf (Some (evaluating name all)) h → ⊥
 reported-there None name all answer is l = l
 reported-there (Some under) name all answer is l = by (under name) is l
   where
@@ -181,12 +202,14 @@ reported-there (Some under) name all answer is l = by (under name) is l
     by None none to = none
     by (Some bytes) reading to = not_four to.reading to.status_is
 
-pub report_lacks : (h : Holdings) (name : List ℕ) (all : Bool) → IsMissing h name → LacksOf (Some (evaluating name all)) h
+pub report_lacks : (h : Holdings) (name : List ℕ) (all : Bool) → IsMissing h name
+    → LacksOf (Some (evaluating name all)) h
 report_lacks None name all m = m
 report_lacks (Some under) name all m = subst (λ o. IsAnswerTo all o 4 []) (sym m) (refl, refl)
 
 -- a status that is none of what was written
-pub not_two : (before after : Option (List ℕ)) (sink sink2 : ℕ) (bytes : List ℕ) (status result : ℕ) → Written before after sink sink2 bytes status result → (status ≡ 2 → ⊥) → result ≡ 2 → ⊥
+pub not_two : (before after : Option (List ℕ)) (sink sink2 : ℕ) (bytes : List ℕ) (status result : ℕ)
+    → Written before after sink sink2 bytes status result → (status ≡ 2 → ⊥) → result ≡ 2 → ⊥
 not_two before after sink sink2 bytes status result (inl w) other e = other (sym w.0 ∙ e)
 not_two before after sink sink2 bytes status result (inr (inl w)) other e = let f = w.0 in omega (arith, e, f)
 not_two before after sink sink2 bytes status result (inr (inr w)) other e = let f = w.0 in omega (arith, e, f)
@@ -196,6 +219,9 @@ reading_not_two (evaluable a r) e = omega (arith, e)
 reading_not_two (refused refusal) e = omega (arith, e)
 
 -- the same by the words
-pub by_words : (words : List (List ℕ)) (a : Option Asked) (h : Holdings) (sound : Bool) (shelf shelf2 : ℕ) (before after : Option (List ℕ)) (sink sink2 result : ℕ) → asked words ≡ a
-    → IsEnd a h sound shelf shelf2 before after sink sink2 result → IsEnd (asked words) h sound shelf shelf2 before after sink sink2 result
-by_words words a h sound shelf shelf2 before after sink sink2 result e end = subst (λ o. IsEnd o h sound shelf shelf2 before after sink sink2 result) (sym e) end
+pub by_words : (words : List (List ℕ)) (a : Option Asked) (h : Holdings) (sound : Bool) (shelf shelf2 : ℕ)
+    (before after : Option (List ℕ)) (sink sink2 result : ℕ) → asked words ≡ a
+    → IsEnd a h sound shelf shelf2 before after sink sink2 result
+    → IsEnd (asked words) h sound shelf shelf2 before after sink sink2 result
+by_words words a h sound shelf shelf2 before after sink sink2 result e end =
+    subst (λ o. IsEnd o h sound shelf shelf2 before after sink sink2 result) (sym e) end

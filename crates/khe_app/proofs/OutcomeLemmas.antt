@@ -34,20 +34,31 @@ pub record IsValued (p : Parts) (raw : RawSolution) (v : Values) : Type 0 where
   pub values : v ≡ values_of p state
   pub attached : state.detached ≡ []
 
-pub valid-is : (p : Parts) (raw : RawSolution) (v : Values) → Valid v ≡ verdict_of p (completed p raw) → IsValued p raw v
+pub valid-is : (p : Parts) (raw : RawSolution) (v : Values) → Valid v ≡ verdict_of p (completed p raw)
+    → IsValued p raw v
 valid-is p raw v is = by (first_cause p [] raw.events) refl is
   where
-    by : (o : Option Cause) → first_cause p [] raw.events ≡ o → Valid v ≡ verdict_of p (unless o (state_of p raw.events)) → IsValued p raw v
-    by None none e = record { state = state_of p raw.events; completed_is = ap (λ (o : Option Cause). unless o (state_of p raw.events)) none; values = ap (values_in v) e; attached = refl }
+    by : (o : Option Cause) → first_cause p [] raw.events ≡ o
+        → Valid v ≡ verdict_of p (unless o (state_of p raw.events)) → IsValued p raw v
+    by None none e = record {
+      state = state_of p raw.events;
+      completed_is =
+          ap (λ (o : Option Cause). unless o (state_of p raw.events)) none;
+      values = ap (values_in v) e;
+      attached = refl;
+    }
     by (Some cause) some e = absurd (cc)
 
-pub invalid-is : (p : Parts) (o : Result Plain Cause) (cause entry : ℕ) → Invalid cause entry ≡ verdict_of p o → o ≡ Err (record { cause = cause; entry = entry })
+pub invalid-is : (p : Parts) (o : Result Plain Cause) (cause entry : ℕ) → Invalid cause entry ≡ verdict_of p o
+    → o ≡ Err (record { cause = cause; entry = entry })
 invalid-is p (Ok s) cause entry e = absurd (cc)
 invalid-is p (Err x) cause entry e = λ i. Err (record { cause = ap cause_in (sym e) i; entry = ap entry_in (sym e) i })
 
 -- as many rows as monitors
-pub valued-long : (p : Parts) (s : Plain) (v : Values) → v ≡ values_of p s → (length v.deviations ≡ length p.monitors) × (length v.costs ≡ length p.monitors)
+pub valued-long : (p : Parts) (s : Plain) (v : Values) → v ≡ values_of p s
+    → (length v.deviations ≡ length p.monitors) × (length v.costs ≡ length p.monitors)
 valued-long p s v is = (
   ap (λ (u : Values). length u.deviations) is ∙ length-map p.monitors (evaluated.deviation_in p s),
-  ap (λ (u : Values). length u.costs) is ∙ length-map-range_with_len (cost_at p (evaluated.is_detached s) (evaluated.deviations p s)) 0 (length p.monitors),
+  ap (λ (u : Values). length u.costs) is ∙ length-map-range_with_len
+      (cost_at p (evaluated.is_detached s) (evaluated.deviations p s)) 0 (length p.monitors),
 )

@@ -12,7 +12,8 @@ use Rattle.xhstt_resolve.specs.declared.resolving.Resolved.{Resolved}
 use Rattle.xhstt_shape.specs.declared.records.Archive.{Archive}
 
 -- the reading of an archive that a tree gives
-pub spelled : (bytes : List ℕ) (a : Archive) (answer : Result Resolved ResolveFault) (reading : Reading) → IsTree bytes a
+pub spelled : (bytes : List ℕ) (a : Archive) (answer : Result Resolved ResolveFault) (reading : Reading)
+    → IsTree bytes a
     → resolved a ≡ answer → IsRead a answer reading → IsSpelled bytes reading
 spelled bytes a answer reading tree is read = record {
   tree = tree.tree;
@@ -20,8 +21,11 @@ spelled bytes a answer reading tree is read = record {
   shaped = subst (λ shaped. IsShaped shaped reading) (sym tree.shape) (subst (λ r. IsRead a r reading) (sym is) read);
 }
 
-pub resolve-stopped : (bytes : List ℕ) (a : Archive) (fault : ResolveFault) → length bytes ≤ ARCHIVE_BYTES → IsTree bytes a
+pub resolve-stopped : (bytes : List ℕ) (a : Archive) (fault : ResolveFault) → length bytes ≤ ARCHIVE_BYTES
+    → IsTree bytes a
     → IsFaultOf (resolved a) fault → IsStopped bytes (of_resolve fault)
-resolve-stopped bytes a (resolve.Bad kind at) few tree is = inr (few, inr (spelled bytes a (Err (resolve.Bad kind at)) (refused (Fault kind at)) tree is refl))
-resolve-stopped bytes a (resolve.Limit which value) few tree is = inr (few, inr (spelled bytes a (Err (resolve.Limit which value)) (refused (Limit which value)) tree is refl))
+resolve-stopped bytes a (resolve.Bad kind at) few tree is =
+    inr (few, inr (spelled bytes a (Err (resolve.Bad kind at)) (refused (Fault kind at)) tree is refl))
+resolve-stopped bytes a (resolve.Limit which value) few tree is =
+    inr (few, inr (spelled bytes a (Err (resolve.Limit which value)) (refused (Limit which value)) tree is refl))
 resolve-stopped bytes a resolve.NoMemory few tree is = tt

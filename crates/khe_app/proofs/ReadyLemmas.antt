@@ -12,9 +12,11 @@ use Rattle.xhstt_shape.specs.declared.records.Archive.{Archive}
 instances-few : (n m : ℕ) → n ≡ m → m < 2 ^ 32 → n < 2 ^ 32
 instances-few n m e h = omega (arith, e, h)
 
-pub ready : (a : Archive) (r : Resolved) → resolved a ≡ Ok r → formed.IsWellFormed a → length a.instances < 2 ^ 32 → IsReady a r
+pub ready : (a : Archive) (r : Resolved) → resolved a ≡ Ok r → formed.IsWellFormed a → length a.instances < 2 ^ 32
+    → IsReady a r
 ready a r e form few = record {
   ready = solutions.ready a r e form.in_form;
-  instances = instances-few (length r.instances) (length a.instances) (ap length (solutions.resolved-as a r e).instances ∙ length-map a.instances parts_of) few;
+  instances = instances-few (length r.instances) (length a.instances)
+      (ap length (solutions.resolved-as a r e).instances ∙ length-map a.instances parts_of) few;
   well_formed = form;
 }

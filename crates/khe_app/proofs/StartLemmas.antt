@@ -1,5 +1,6 @@
 -- The solution that a script begins with.
-use Rattle.std.proofs.Common.{ℕ, ◌≡◌, ◌<◌, Some, Ok, Err, length, get_or, slice_get, sym, ap, subst, ◌∙◌, arith, zero-add}
+use Rattle.std.proofs.Common.{ℕ, ◌≡◌, ◌<◌, Some, Ok, Err, length, get_or, slice_get, sym, ap, subst, ◌∙◌, arith}
+use Rattle.std.proofs.Common.{zero-add}
 use Rattle.std.specs.Option.{option_and_then, option_map_or}
 use Rattle.std.proofs.lemmas.Option.{same_Some, slice_get-get_or}
 use Rattle.khe_base.proofs.ListLemmas.{there}
@@ -42,26 +43,37 @@ chosen a r number ready l =
       solution = one.solution;
     }
 
-started : (a : Archive) (r : Resolved) (number : ℕ) (c : IsChosen a r number) → start_of a r number ≡ start_by c.parts (completed c.parts c.raw)
+started : (a : Archive) (r : Resolved) (number : ℕ) (c : IsChosen a r number)
+    → start_of a r number ≡ start_by c.parts (completed c.parts c.raw)
 started a r number c =
-    ap (λ o. option_map_or (λ raw. option_map_or (λ p. start_by p (completed p raw)) (parts_at r number) (barred NoSuchSolution)) o (barred NoSuchSolution)) c.found
+    ap (λ o. option_map_or (λ raw. option_map_or (λ p. start_by p (completed p raw)) (parts_at r number)
+    (barred NoSuchSolution)) o (barred NoSuchSolution)) c.found
     ∙ ap (λ o. option_map_or (λ p. start_by p (completed p c.raw)) o (barred NoSuchSolution)) c.at
 
 -- by the instance that was found
-pub same_parts : (a : Archive) (r : Resolved) (number : ℕ) (c : IsChosen a r number) (p : Parts) → slice_get r.instances (get_or r.of number 0) ≡ Some p → c.parts ≡ p
+pub same_parts : (a : Archive) (r : Resolved) (number : ℕ) (c : IsChosen a r number) (p : Parts)
+    → slice_get r.instances (get_or r.of number 0) ≡ Some p → c.parts ≡ p
 same_parts a r number c p at = same_Some c.parts p (sym c.there ∙ at)
 
-pub names : (a : Archive) (r : Resolved) (number : ℕ) (c : IsChosen a r number) (p : Parts) → slice_get r.instances (get_or r.of number 0) ≡ Some p
+pub names : (a : Archive) (r : Resolved) (number : ℕ) (c : IsChosen a r number) (p : Parts)
+    → slice_get r.instances (get_or r.of number 0) ≡ Some p
     → (raw : RawSolution) → slice_get (solutions_of a) number ≡ Some raw → IsSolution p raw
 names a r number c p at raw found =
-    subst (λ q. IsSolution q raw) (same_parts a r number c p at) (subst (IsSolution c.parts) (same_Some c.raw raw (sym c.found ∙ found)) c.solution)
+    subst (λ q. IsSolution q raw) (same_parts a r number c p at)
+    (subst (IsSolution c.parts) (same_Some c.raw raw (sym c.found ∙ found)) c.solution)
 
-pub begun_at : (a : Archive) (r : Resolved) (number : ℕ) (c : IsChosen a r number) (p : Parts) (plain : Plain) → slice_get r.instances (get_or r.of number 0) ≡ Some p
-    → ((raw : RawSolution) → slice_get (solutions_of a) number ≡ Some raw → completed p raw ≡ Ok plain) → start_of a r number ≡ begins p plain
+pub begun_at : (a : Archive) (r : Resolved) (number : ℕ) (c : IsChosen a r number) (p : Parts) (plain : Plain)
+    → slice_get r.instances (get_or r.of number 0) ≡ Some p
+    → ((raw : RawSolution) → slice_get (solutions_of a) number ≡ Some raw → completed p raw ≡ Ok plain)
+    → start_of a r number ≡ begins p plain
 begun_at a r number c p plain at is =
-    started a r number c ∙ ap (λ q. start_by q (completed q c.raw)) (same_parts a r number c p at) ∙ ap (start_by p) (is c.raw c.found)
+    started a r number c ∙ ap (λ q. start_by q (completed q c.raw)) (same_parts a r number c p at)
+    ∙ ap (start_by p) (is c.raw c.found)
 
-pub barred_at : (a : Archive) (r : Resolved) (number : ℕ) (c : IsChosen a r number) (p : Parts) (cause : Cause) → slice_get r.instances (get_or r.of number 0) ≡ Some p
-    → ((raw : RawSolution) → slice_get (solutions_of a) number ≡ Some raw → completed p raw ≡ Err cause) → start_of a r number ≡ barred (Invalid cause.cause cause.entry)
+pub barred_at : (a : Archive) (r : Resolved) (number : ℕ) (c : IsChosen a r number) (p : Parts) (cause : Cause)
+    → slice_get r.instances (get_or r.of number 0) ≡ Some p
+    → ((raw : RawSolution) → slice_get (solutions_of a) number ≡ Some raw → completed p raw ≡ Err cause)
+    → start_of a r number ≡ barred (Invalid cause.cause cause.entry)
 barred_at a r number c p cause at is =
-    started a r number c ∙ ap (λ q. start_by q (completed q c.raw)) (same_parts a r number c p at) ∙ ap (start_by p) (is c.raw c.found)
+    started a r number c ∙ ap (λ q. start_by q (completed q c.raw)) (same_parts a r number c p at)
+    ∙ ap (start_by p) (is c.raw c.found)

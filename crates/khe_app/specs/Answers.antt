@@ -2,7 +2,8 @@
 use Rattle.std.specs.Prelude.{ℕ, ◌≡◌, ◌<◌, ◌≤◌, Option, Some, None, List, [], length, slice_get}
 use Rattle.khe_instance.specs.States.{IsValid}
 use Rattle.khe_instance.specs.declared.parts.Parts.{Parts}
-use Rattle.khe_app.specs.Outcome.{Reading, evaluable, refused, IsReadingOf, IsRunOf, IsScripted, Start, begins, barred, start_in}
+use Rattle.khe_app.specs.Outcome.{Reading, evaluable, refused, IsReadingOf, IsRunOf, IsScripted, Start, begins, barred}
+use Rattle.khe_app.specs.Outcome.{start_in}
 use Rattle.khe_app.specs.Ready.{IsReady}
 use Rattle.khe_app.specs.Refusals.{IsNamed, refusal_line, script_too_large_line}
 use Rattle.khe_app.specs.declared.program.Answer.{Answer}
@@ -96,4 +97,5 @@ IsReadyPlay (play.Run b script) = IsHeld b script
 abbrev pub IsTextOf : Play → ℕ → List ℕ → Type 0
 IsTextOf (play.Refused refusal) status text = (status ≡ 3) × (text ≡ refusal_line refusal)
 IsTextOf play.TooLarge status text = (status ≡ 7) × (text ≡ script_too_large_line)
-IsTextOf (play.Run b script) status text = (p : Parts) → slice_get b.resolved.instances b.instance ≡ Some p → IsRunOf p b.plain script status text
+IsTextOf (play.Run b script) status text = (p : Parts) → slice_get b.resolved.instances b.instance ≡ Some p
+    → IsRunOf p b.plain script status text

@@ -12,12 +12,14 @@ Holdings = Option (List ℕ → Option (List ℕ))
 -- the run ended by the outcome with this status, and the sink took the outcome's whole text
 abbrev pub EndedOf : Option Asked → Holdings → Option (List ℕ) → Option (List ℕ) → ℕ → Type 0
 EndedOf asked holdings before after status =
-    IfSome holdings (λ under. (text : List ℕ) × IsOutcomeOf asked under status text × Took before after (encode_utf8_all text))
+    IfSome holdings (λ under. (text : List ℕ) × IsOutcomeOf asked under status text
+    × Took before after (encode_utf8_all text))
 
 -- the run was cut off: the sink took some first bytes of an outcome's text
 abbrev pub CutOffOf : Option Asked → Holdings → Option (List ℕ) → Option (List ℕ) → Type 0
 CutOffOf asked holdings before after =
-    IfSome holdings (λ under. (status : ℕ) × (text : List ℕ) × IsOutcomeOf asked under status text × TookFront before after (encode_utf8_all text))
+    IfSome holdings (λ under. (status : ℕ) × (text : List ℕ) × IsOutcomeOf asked under status text
+    × TookFront before after (encode_utf8_all text))
 
 -- the shelf tells that nothing stands under a name whose reading is reached
 abbrev pub LacksOf : Option Asked → Holdings → Type 0
@@ -51,7 +53,8 @@ Written before after faults_before faults_after bytes status result =
 
 -- a run of what is asked for ended with this status: a shelf that is sound or not with its faults before
 -- and after, what a sink had taken before and after, and its faults
-pub record IsEnd (a : Option Asked) (h : Holdings) (sound : Bool) (shelf shelf2 : ℕ) (before after : Option (List ℕ)) (sink sink2 status : ℕ) : Type 0 where
+pub record IsEnd (a : Option Asked) (h : Holdings) (sound : Bool) (shelf shelf2 : ℕ) (before after : Option (List ℕ))
+    (sink sink2 status : ℕ) : Type 0 where
   pub known : IsStatus status
   pub decided : IsDecided status → EndedOf a h before after status
   pub read_fault : status ≡ 4 → Rose shelf shelf2
@@ -61,4 +64,5 @@ pub record IsEnd (a : Option Asked) (h : Holdings) (sound : Bool) (shelf shelf2 
   pub write_fault : status ≡ 5 → Rose sink sink2
   pub cut_off : status ≡ 5 → CutOffOf a h before after
   pub no_memory : status ≡ 6 → (after ≡ before) ⊎ CutOffOf a h before after
-  pub complete : IsTrue sound ⊎ (Rose shelf shelf2 → ⊥) → (Rose sink sink2 → ⊥) → (status ≡ 6) ⊎ EndedOf a h before after status
+  pub complete : IsTrue sound ⊎ (Rose shelf shelf2 → ⊥) → (Rose sink sink2 → ⊥)
+      → (status ≡ 6) ⊎ EndedOf a h before after status

@@ -1,5 +1,6 @@
 -- What `khe` is to answer: a status and a text, by the words and by what stands under the names.
-use Rattle.std.specs.Prelude.{ℕ, ◌≡◌, ◌<◌, ◌≤◌, ◌⊎◌, Bool, if◌then◌else◌, Option, Some, None, Result, Ok, Err, List, [], length, slice_get, encode_utf8_all}
+use Rattle.std.specs.Prelude.{ℕ, ◌≡◌, ◌<◌, ◌≤◌, ◌⊎◌, Bool, if◌then◌else◌, Option, Some, None, Result, Ok, Err, List, []}
+use Rattle.std.specs.Prelude.{length, slice_get, encode_utf8_all}
 use Rattle.std.specs.Option.{option_map_or}
 use Rattle.khe_base.specs.declared.limits.TheConstants.{ARCHIVE_BYTES}
 use Rattle.khe_engine.specs.Openings.{IsStateOf}
@@ -162,7 +163,8 @@ IsSpellingTo (Some bytes) status text = IsRespelled bytes status text
 abbrev pub IsOutcomeOf : Option Asked → (List ℕ → Option (List ℕ)) → ℕ → List ℕ → Type 0
 IsOutcomeOf None under status text = (status ≡ 2) × (text ≡ not_understood_line)
 IsOutcomeOf (Some (evaluating archive all)) under status text = IsAnswerTo all (under archive) status text
-IsOutcomeOf (Some (scripting archive number script)) under status text = IsPlayTo number (under archive) (under script) status text
+IsOutcomeOf (Some (scripting archive number script)) under status text =
+    IsPlayTo number (under archive) (under script) status text
 IsOutcomeOf (Some (checking archive)) under status text = IsSpellingTo (under archive) status text
 
 -- `khe` on these words, where these bytes stand under the names, ends with this status after this text

@@ -1,5 +1,6 @@
 -- The words of the command line.
-use Rattle.std.specs.Prelude.{ℕ, ◌&&◌, Bool, true, false, if◌then◌else◌, nat_le, Option, Some, None, List, [], ◌∷◌, codes}
+use Rattle.std.specs.Prelude.{ℕ, ◌&&◌, Bool, true, false, if◌then◌else◌, nat_le, Option, Some, None, List, [], ◌∷◌}
+use Rattle.std.specs.Prelude.{codes}
 use Rattle.std.specs.Option.{option_and_then, option_map}
 use Rattle.std.specs.Str.{bytes_eq}
 use Rattle.edit_script.specs.Numbers.{number_of}
@@ -27,7 +28,8 @@ workers_of word = option_and_then (λ n. if nat_le 1 n && nat_le n 64 then Some 
 
 -- a number of workers that is asked for by an option and its value
 unfoldable pub workers_by : Bool → List ℕ → List ℕ → Option (Bool × ℕ)
-workers_by all option value = if bytes_eq (codes "--workers") option then option_map (λ n. (all, n)) (workers_of value) else None
+workers_by all option value = if bytes_eq (codes "--workers") option then option_map (λ n. (all, n)) (workers_of value)
+    else None
 
 -- one option alone, which asks for all monitors
 unfoldable pub all_by : List ℕ → Option (Bool × ℕ)
@@ -51,7 +53,8 @@ options_by (first ∷ second ∷ third ∷ fourth ∷ more) = None
 
 -- a script is asked for by the number of the solution, of 1 to 18 digits and below 2^32, and its own name
 abbrev pub script_by : List ℕ → List (List ℕ) → Option Asked
-script_by archive (solution ∷ script ∷ []) = option_map (λ number. scripting archive number script) (number_of 18 solution)
+script_by archive (solution ∷ script ∷ []) = option_map (λ number. scripting archive number script)
+    (number_of 18 solution)
 script_by archive _ = None
 
 -- the canonical spelling of an archive is asked for by its name alone

@@ -1,5 +1,7 @@
 -- Bits of words, and rows of bits.
-use Rattle.std.proofs.Common.{◌≡◌, ◌≢◌, ◌∙◌, sym, ap, ap₂, refl, ℕ, ◌+◌, ◌-◌, ◌*◌, ◌/◌, ◌%◌, ◌^◌, ◌<◌, min, Bool, true, false, not, ◌&&◌, cond, if◌then◌else◌, nat_eq, List, length, get_or, set, replicate, arith, bit_and, zero, suc, ◌⊎◌, inl, inr}
+use Rattle.std.proofs.Common.{◌≡◌, ◌≢◌, ◌∙◌, sym, ap, ap₂, refl, ℕ, ◌+◌, ◌-◌, ◌*◌, ◌/◌, ◌%◌, ◌^◌, ◌<◌, min, Bool, true}
+use Rattle.std.proofs.Common.{false, not, ◌&&◌, cond, if◌then◌else◌, nat_eq, List, length, get_or, set, replicate}
+use Rattle.std.proofs.Common.{arith, bit_and, zero, suc, ◌⊎◌, inl, inr}
 use Rattle.std.specs.Int.{bit_at, bit_not, w64}
 use Rattle.std.proofs.lemmas.Nat.Bits.{bit_at-lt, bit_at_and, bit_at_not, bit_at-zero}
 use Rattle.std.proofs.lemmas.List.{get_or-set_same, get_or-set_other}
@@ -14,10 +16,12 @@ other_bit : (x : ℕ) → x < 2 → nat_eq (1 - x) 1 ≡ not (nat_eq x 1)
 other_bit x hx = grind (arith, nat_tests)
 
 pub has_bit-and : (a b i : ℕ) → has_bit (bit_and a b) i ≡ (has_bit a i && has_bit b i)
-has_bit-and a b i = ap (λ x. nat_eq x 1) (bit_at_and a b i) ∙ both_bits (bit_at a i) (bit_at b i) (bit_at-lt a i) (bit_at-lt b i)
+has_bit-and a b i = ap (λ x. nat_eq x 1) (bit_at_and a b i)
+    ∙ both_bits (bit_at a i) (bit_at b i) (bit_at-lt a i) (bit_at-lt b i)
 
 pub has_bit-not : (a i : ℕ) → a < 2 ^ 64 → i < 64 → has_bit (bit_not w64 a) i ≡ not (has_bit a i)
-has_bit-not a i small below = ap (λ x. nat_eq x 1) (bit_at_not w64 a i small below) ∙ other_bit (bit_at a i) (bit_at-lt a i)
+has_bit-not a i small below = ap (λ x. nat_eq x 1) (bit_at_not w64 a i small below)
+    ∙ other_bit (bit_at a i) (bit_at-lt a i)
 
 -- a bit is the number 1 or 0
 bit_number : (x : ℕ) → x < 2 → x ≡ cond (nat_eq x 1) 1 0
@@ -38,12 +42,14 @@ is_set-place words k i h = ap₂ (λ x y. has_bit (get_or words x 0) y) (word_pl
 
 module _ (words : List ℕ) (t d w : ℕ) (within : t / 64 < length words) where
   -- a word of the row is replaced by one in which only the bit of t may differ
-  pub is_set-replaced : (b : Bool) → has_bit w (t % 64) ≡ b → ((i : ℕ) → i < 64 → i ≢ t % 64 → has_bit w i ≡ has_bit (get_or words (t / 64) 0) i)
+  pub is_set-replaced : (b : Bool) → has_bit w (t % 64) ≡ b
+      → ((i : ℕ) → i < 64 → i ≢ t % 64 → has_bit w i ≡ has_bit (get_or words (t / 64) 0) i)
       → (s : ℕ) → is_set (set words (t / 64) w) s ≡ (if nat_eq s t then b else is_set words s)
   is_set-replaced b here others s = by (nat_eq s t) refl
     where
       same_word : s / 64 ≡ t / 64 → is_set (set words (t / 64) w) s ≡ has_bit w (s % 64)
-      same_word e = ap (λ x. has_bit x (s % 64)) (ap (λ k. get_or (set words (t / 64) w) k 0) e ∙ get_or-set_same words (t / 64) w 0 within)
+      same_word e = ap (λ x. has_bit x (s % 64)) (ap (λ k. get_or (set words (t / 64) w) k 0) e
+          ∙ get_or-set_same words (t / 64) w 0 within)
 
       below : s % 64 < 64
       below = omega arith
@@ -55,7 +61,8 @@ module _ (words : List ℕ) (t d w : ℕ) (within : t / 64 < length words) where
       other ne (inr e) = ap (λ x. has_bit x (s % 64)) (get_or-set_other words (t / 64) (s / 64) w 0 e)
 
       by : (c : Bool) → nat_eq s t ≡ c → is_set (set words (t / 64) w) s ≡ (if c then b else is_set words s)
-      by true e = let st : s ≡ t = grind (arith, nat_tests) in same_word (ap (λ x. x / 64) st) ∙ ap (λ x. has_bit w (x % 64)) st ∙ here
+      by true e = let st : s ≡ t = grind (arith, nat_tests) in
+          same_word (ap (λ x. x / 64) st) ∙ ap (λ x. has_bit w (x % 64)) st ∙ here
       by false e = let ne : s ≢ t = grind (arith, nat_tests) in other ne (grind arith)
 
 -- words of 0 have no bit set

@@ -9,4 +9,5 @@ use Rattle.khe_base.specs.Text.{characters}
 -- one character's bytes spell it
 pub characters-encode : (c : ℕ) → IsScalar c → characters (encode_utf8 c) ≡ c ∷ []
 characters-encode c h =
-    chars_past_char (encode_utf8 c) [] c (IsUtf8-encode c h) (sym (append-nil (encode_utf8 c))) ∙ ap (λ r. c ∷ r) chars-nil
+    chars_past_char (encode_utf8 c) [] c (IsUtf8-encode c h) (sym (append-nil (encode_utf8 c)))
+    ∙ ap (λ r. c ∷ r) chars-nil

@@ -1,5 +1,7 @@
 -- What stands at a place of a list, and lists that are joined, for the proofs of all layers.
-use Rattle.std.proofs.Common.{ℕ, ◌≡◌, ◌+◌, ◌<◌, Bool, true, false, not, cond, ◌||◌, Some, List, [], ◌∷◌, ◌++◌, length, get_or, if◌then◌else◌, drop, map, map-id, refl, sym, ap, subst, ◌∙◌, add-one, zero-add, arith, drop-cons, zero, suc, slice_get, option_map, ltb, set, All, flat_map}
+use Rattle.std.proofs.Common.{ℕ, ◌≡◌, ◌+◌, ◌<◌, Bool, true, false, not, cond, ◌||◌, Some, List, [], ◌∷◌, ◌++◌, length}
+use Rattle.std.proofs.Common.{get_or, if◌then◌else◌, drop, map, map-id, refl, sym, ap, subst, ◌∙◌, add-one, zero-add}
+use Rattle.std.proofs.Common.{arith, drop-cons, zero, suc, slice_get, option_map, ltb, set, All, flat_map}
 use Rattle.std.specs.Option.{option_map_or}
 use Rattle.std.specs.List.{enumerate_from, filter, list_any, position_or_len, range_with_len, sum_by}
 use Rattle.std.proofs.lemmas.Bool.Decides.{nat_tests}
@@ -17,11 +19,13 @@ pub record IsThere {A : Type 0} (xs : List A) (i : ℕ) : Type 0 where
 pub there : {A : Type 0} (xs : List A) (i : ℕ) → i < length xs → IsThere xs i
 there [] i l = absurd (omega arith)
 there (x ∷ xs) zero l = record { value = x; found = refl }
-there (x ∷ xs) (suc i) l = let below : i < length xs = omega arith in let r = there xs i below in record { value = r.value; found = r.found }
+there (x ∷ xs) (suc i) l = let below : i < length xs = omega arith in let r = there xs i below in
+    record { value = r.value; found = r.found }
 
 -- what is true of all is true of it
 pub all-there : {A : Type 0} (P : A → Type 0) (xs : List A) (i : ℕ) (x : A) → All P xs → slice_get xs i ≡ Some x → P x
-all-there P xs i x all at = subst P (get_or_from_slice_get xs i x x at) (All-get_or P xs i x (slice_get_within xs i x at) all)
+all-there P xs i x all at = subst P (get_or_from_slice_get xs i x x at)
+    (All-get_or P xs i x (slice_get_within xs i x at) all)
 
 -- what is left from its place on begins with it
 pub drop-there : {A : Type 0} (xs : List A) (i : ℕ) (x : A) → slice_get xs i ≡ Some x → drop i xs ≡ x ∷ drop (i + 1) xs
@@ -30,7 +34,8 @@ drop-there xs i x at =
     ∙ ap (λ k. x ∷ drop k xs) (sym (add-one i))
 
 -- what stands at a place of a mapped list
-pub mapped-there : {A B : Type 0} (f : A → B) (xs : List A) (i : ℕ) (x : A) (d : B) → slice_get xs i ≡ Some x → get_or (map f xs) i d ≡ f x
+pub mapped-there : {A B : Type 0} (f : A → B) (xs : List A) (i : ℕ) (x : A) (d : B) → slice_get xs i ≡ Some x
+    → get_or (map f xs) i d ≡ f x
 mapped-there f xs i x d at = get_or_from_slice_get (map f xs) i (f x) d (slice_get-map f xs i ∙ ap (option_map f) at)
 
 -- two lists that together are none are none
@@ -46,24 +51,28 @@ none-each f (x ∷ xs) e =
     All-cons (λ y. f y ≡ []) x xs parts.0 (none-each f xs parts.1)
 
 -- what is true of all that each element gives is true of all that is given
-pub All-flat_map : {A B : Type 0} (P : B → Type 0) (f : A → List B) (xs : List A) → All (λ x. All P (f x)) xs → All P (flat_map f xs)
+pub All-flat_map : {A B : Type 0} (P : B → Type 0) (f : A → List B) (xs : List A) → All (λ x. All P (f x)) xs
+    → All P (flat_map f xs)
 All-flat_map P f [] each = All-nil P
 All-flat_map P f (x ∷ xs) each =
     subst (All P) (sym (flat_map-cons f x xs))
-    (All-append P (f x) (flat_map f xs) (All-head (λ y. All P (f y)) x xs each) (All-flat_map P f xs (All-tail (λ y. All P (f y)) x xs each)))
+    (All-append P (f x) (flat_map f xs) (All-head (λ y. All P (f y)) x xs each)
+    (All-flat_map P f xs (All-tail (λ y. All P (f y)) x xs each)))
 
 -- a test that an element passes has a first place, which is one of the list
 pub below_length : {A : Type 0} (p : A → Bool) (xs : List A) → ltb (position_or_len p xs) (length xs) ≡ list_any p xs
 below_length p [] = refl
 below_length p (x ∷ xs) = by (p x) (below_length p xs)
   where
-    by : (b : Bool) → ltb (position_or_len p xs) (length xs) ≡ list_any p xs → ltb (cond (not b) (1 + position_or_len p xs) 0) (length (x ∷ xs)) ≡ (b || list_any p xs)
+    by : (b : Bool) → ltb (position_or_len p xs) (length xs) ≡ list_any p xs
+        → ltb (cond (not b) (1 + position_or_len p xs) 0) (length (x ∷ xs)) ≡ (b || list_any p xs)
     by true e = grind (arith, nat_tests)
     by false e = grind (arith, nat_tests)
 
 -- the numbers below one more number
 pub range_more : (n : ℕ) → range_with_len 0 (n + 1) ≡ range_with_len 0 n ++ n ∷ []
-range_more n = sym (map-id (range_with_len 0 (n + 1))) ∙ map-range_with_len_more (λ k. k) 0 n n (zero-add n) ∙ ap (λ r. r ++ n ∷ []) (map-id (range_with_len 0 n))
+range_more n = sym (map-id (range_with_len 0 (n + 1))) ∙ map-range_with_len_more (λ k. k) 0 n n (zero-add n)
+    ∙ ap (λ r. r ++ n ∷ []) (map-id (range_with_len 0 n))
 
 -- what stands at a place that is set, and at any other
 pub get-set : {X : Type 0} (xs : List X) (i : ℕ) (x : X) → i < length xs → slice_get (set xs i x) i ≡ Some x
@@ -79,8 +88,10 @@ get-other (z ∷ xs) (suc i) zero x n = refl
 get-other (z ∷ xs) (suc i) (suc j) x n = get-other xs i j x (λ h. n (ap suc h))
 
 -- the element at hand is the first that is left
-pub drop-next : {A : Type 0} (xs : List A) (i : ℕ) (x : A) → i < length xs → x ≡ get_or xs i x → drop i xs ≡ x ∷ drop (i + 1) xs
-drop-next xs i x l at = drop-cons xs i x l ∙ ap (λ y. y ∷ drop (suc i) xs) (sym at) ∙ ap (λ k. x ∷ drop k xs) (sym (add-one i))
+pub drop-next : {A : Type 0} (xs : List A) (i : ℕ) (x : A) → i < length xs → x ≡ get_or xs i x
+    → drop i xs ≡ x ∷ drop (i + 1) xs
+drop-next xs i x l at = drop-cons xs i x l ∙ ap (λ y. y ∷ drop (suc i) xs) (sym at)
+    ∙ ap (λ k. x ∷ drop k xs) (sym (add-one i))
 
 -- what is left of numbered lines begins with those of the element at hand
 pub lines-there : {A : Type 0} (f : ℕ × A → List ℕ) (xs : List A) (i j : ℕ) (x : A) → slice_get xs i ≡ Some x
@@ -90,7 +101,8 @@ lines-there f xs i j x at =
     ∙ flat_map-cons f (j, x) (enumerate_from (j + 1) (drop (i + 1) xs))
 
 -- a number of what stands at a place, and the sum of such numbers
-pub get-map : {A : Type 0} (f : A → ℕ) (xs : List A) (n : ℕ) → get_or (map f xs) n 0 ≡ option_map_or f (slice_get xs n) 0
+pub get-map : {A : Type 0} (f : A → ℕ) (xs : List A) (n : ℕ)
+    → get_or (map f xs) n 0 ≡ option_map_or f (slice_get xs n) 0
 get-map f [] n = refl
 get-map f (x ∷ xs) zero = refl
 get-map f (x ∷ xs) (suc n) = get-map f xs n

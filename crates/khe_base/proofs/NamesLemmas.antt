@@ -1,9 +1,12 @@
 -- Names among names, and the texts that stand for them.
-use Rattle.std.proofs.Common.{◌≡◌, ◌∙◌, sym, ap, ℕ, ◌+◌, ◌<◌, Bool, true, false, not, cond, ◌||◌, List, [], ◌∷◌, ◌++◌, map, length, take, drop, get_or, Some, None, refl, drop-cons, suc, inl, inr, ◌⊎◌, if◌then◌else◌, position, string_bytes, String, ltb}
+use Rattle.std.proofs.Common.{◌≡◌, ◌∙◌, sym, ap, ℕ, ◌+◌, ◌<◌, Bool, true, false, not, cond, ◌||◌, List, [], ◌∷◌, ◌++◌}
+use Rattle.std.proofs.Common.{map, length, take, drop, get_or, Some, None, refl, drop-cons, suc, inl, inr, ◌⊎◌}
+use Rattle.std.proofs.Common.{if◌then◌else◌, position, string_bytes, String, ltb}
 use Rattle.std.specs.List.{list_any, position_or_len}
 use Rattle.std.specs.Str.{bytes_eq, IsUtf8}
 use Rattle.std.specs.String.{string_eq}
-use Rattle.std.proofs.lemmas.Bool.{true≢false, or_cases, or_parts, or_right, and_parts, and_from, and_left, and_right, not_from_true}
+use Rattle.std.proofs.lemmas.Bool.{true≢false, or_cases, or_parts, or_right, and_parts, and_from, and_left, and_right}
+use Rattle.std.proofs.lemmas.Bool.{not_from_true}
 use Rattle.std.proofs.lemmas.List.{map-append, length-map, take-append-drop}
 use Rattle.std.proofs.lemmas.List.Folds.{list_any-append}
 use Rattle.std.proofs.lemmas.Slice.Eq.{bytes_eq-Decides}
@@ -18,25 +21,35 @@ names_of keys = map (λ k. characters (string_bytes k)) keys
 
 module _ {Y : Type 0} (bs : List ℕ) (u : IsUtf8 bs) where
   -- a name is among the names exactly where its bytes are among the texts
-  pub is_among_names-characters : (keys : List (String Y)) → is_among_names (characters bs) (names_of keys) ≡ list_any (λ k. bytes_eq bs (string_bytes k)) keys
+  pub is_among_names-characters : (keys : List (String Y))
+      → is_among_names (characters bs) (names_of keys) ≡ list_any (λ k. bytes_eq bs (string_bytes k)) keys
   is_among_names-characters [] = refl
-  is_among_names-characters (k ∷ keys) = λ i. bytes_eq-characters bs (string_bytes k) u (IsUtf8-string_bytes k) i || is_among_names-characters keys i
+  is_among_names-characters (k ∷ keys) = λ i. bytes_eq-characters bs (string_bytes k) u (IsUtf8-string_bytes k) i ||
+      is_among_names-characters keys i
 
   -- and it is first found at the same place
-  place-characters : (keys : List (String Y)) → position_or_len (λ n. bytes_eq (characters bs) n) (names_of keys) ≡ position_or_len (λ k. bytes_eq bs (string_bytes k)) keys
+  place-characters : (keys : List (String Y)) → position_or_len (λ n. bytes_eq (characters bs) n) (names_of keys)
+      ≡ position_or_len (λ k. bytes_eq bs (string_bytes k)) keys
   place-characters [] = refl
-  place-characters (k ∷ keys) = λ i. cond (not (bytes_eq-characters bs (string_bytes k) u (IsUtf8-string_bytes k) i)) (1 + place-characters keys i) 0
+  place-characters (k ∷ keys) = λ i. cond (not (bytes_eq-characters bs (string_bytes k) u (IsUtf8-string_bytes k) i))
+      (1 + place-characters keys i) 0
 
-  pub number_of-characters : (keys : List (String Y)) → number_of (characters bs) (names_of keys) ≡ position (λ k. bytes_eq bs (string_bytes k)) keys
-  number_of-characters keys = λ i. cond (ltb (place-characters keys i) (length-map keys (λ k. characters (string_bytes k)) i)) (Some (place-characters keys i)) None
+  pub number_of-characters : (keys : List (String Y))
+      → number_of (characters bs) (names_of keys) ≡ position (λ k. bytes_eq bs (string_bytes k)) keys
+  number_of-characters keys = λ i. cond (ltb (place-characters keys i)
+      (length-map keys (λ k. characters (string_bytes k)) i)) (Some (place-characters keys i)) None
 
 -- a text that is inserted where no text has its bytes is a name that is added where it is new
 pub names_of-insert : {Y : Type 0} (k : String Y) (keys : List (String Y))
-    → names_of (if list_any (string_eq k) keys then keys else keys ++ k ∷ []) ≡ with_name (characters (string_bytes k)) (names_of keys)
+    → names_of (if list_any (string_eq k) keys then keys else keys ++ k ∷ [])
+    ≡ with_name (characters (string_bytes k)) (names_of keys)
 names_of-insert k keys =
-    by (list_any (string_eq k) keys) ∙ ap (λ b. if b then names_of keys else names_of keys ++ characters (string_bytes k) ∷ []) (sym (is_among_names-characters (string_bytes k) (IsUtf8-string_bytes k) keys))
+    by (list_any (string_eq k) keys) ∙ ap (λ b. if b then names_of keys else names_of keys
+    ++ characters (string_bytes k) ∷ []) (sym (is_among_names-characters (string_bytes k) (IsUtf8-string_bytes k)
+    keys))
   where
-    by : (b : Bool) → names_of (if b then keys else keys ++ k ∷ []) ≡ (if b then names_of keys else names_of keys ++ characters (string_bytes k) ∷ [])
+    by : (b : Bool) → names_of (if b then keys else keys ++ k ∷ [])
+        ≡ (if b then names_of keys else names_of keys ++ characters (string_bytes k) ∷ [])
     by true = refl
     by false = map-append _ keys (k ∷ [])
 
@@ -49,13 +62,15 @@ differs x n h = by (bytes_eq x n) refl
     by true e = absurd (true≢false (sym ((bytes_eq-Decides n x).1 (sym ((bytes_eq-Decides x n).0 e))) ∙ h))
 
 -- names of which no two are equal, with a new one, are still distinct
-pub are_distinct-push : (names : List (List ℕ)) (n : List ℕ) → are_distinct names ≡ true → is_among_names n names ≡ false → are_distinct (names ++ n ∷ []) ≡ true
+pub are_distinct-push : (names : List (List ℕ)) (n : List ℕ) → are_distinct names ≡ true
+    → is_among_names n names ≡ false → are_distinct (names ++ n ∷ []) ≡ true
 are_distinct-push [] n d h = refl
 are_distinct-push (x ∷ xs) n d h =
     let parts = and_parts (not (is_among_names x xs)) (are_distinct xs) d in
     let apart = or_parts (bytes_eq n x) (is_among_names n xs) h in
     and_from _ _
-    (ap not (list_any-append (λ y. bytes_eq x y) xs (n ∷ []) ∙ (λ i. is_among_names x xs || (differs x n apart.0 i || false))) ∙ last (is_among_names x xs) parts.0)
+    (ap not (list_any-append (λ y. bytes_eq x y) xs (n ∷ [])
+    ∙ (λ i. is_among_names x xs || (differs x n apart.0 i || false))) ∙ last (is_among_names x xs) parts.0)
     (are_distinct-push xs n parts.1 apart.1)
   where
     last : (b : Bool) → not b ≡ true → not (b || (false || false)) ≡ true
@@ -63,7 +78,8 @@ are_distinct-push (x ∷ xs) n d h =
     last false e = e
 
 -- where one is added only if it is new, they stay distinct
-pub are_distinct-with_name : (names : List (List ℕ)) (n : List ℕ) → are_distinct names ≡ true → are_distinct (with_name n names) ≡ true
+pub are_distinct-with_name : (names : List (List ℕ)) (n : List ℕ) → are_distinct names ≡ true
+    → are_distinct (with_name n names) ≡ true
 are_distinct-with_name names n d = by (is_among_names n names) refl
   where
     by : (b : Bool) → is_among_names n names ≡ b → are_distinct (if b then names else names ++ n ∷ []) ≡ true
@@ -71,20 +87,26 @@ are_distinct-with_name names n d = by (is_among_names n names) refl
     by false e = are_distinct-push names n d e
 
 -- a name that comes again after it stood among earlier ones
-repeats : (xs : List (List ℕ)) (n : List ℕ) (rest : List (List ℕ)) → is_among_names n xs ≡ true → are_distinct (xs ++ n ∷ rest) ≡ false
+repeats : (xs : List (List ℕ)) (n : List ℕ) (rest : List (List ℕ)) → is_among_names n xs ≡ true
+    → are_distinct (xs ++ n ∷ rest) ≡ false
 repeats [] n rest h = absurd (true≢false (sym h))
 repeats (x ∷ xs) n rest h = by (or_cases (bytes_eq n x) (is_among_names n xs) h) (repeats xs n rest)
   where
     seen : x ≡ n → is_among_names x (xs ++ n ∷ rest) ≡ true
-    seen e = list_any-append (λ y. bytes_eq x y) xs (n ∷ rest) ∙ or_right (is_among_names x xs) _ (ap (λ b. b || is_among_names x rest) ((bytes_eq-Decides x n).1 e))
+    seen e = list_any-append (λ y. bytes_eq x y) xs (n ∷ rest)
+        ∙ or_right (is_among_names x xs) _ (ap (λ b. b || is_among_names x rest) ((bytes_eq-Decides x n).1 e))
 
-    by : (bytes_eq n x ≡ true) ⊎ (is_among_names n xs ≡ true) → (is_among_names n xs ≡ true → are_distinct (xs ++ n ∷ rest) ≡ false) → are_distinct ((x ∷ xs) ++ n ∷ rest) ≡ false
+    by : (bytes_eq n x ≡ true) ⊎ (is_among_names n xs ≡ true)
+        → (is_among_names n xs ≡ true → are_distinct (xs ++ n ∷ rest) ≡ false)
+        → are_distinct ((x ∷ xs) ++ n ∷ rest) ≡ false
     by (inl e) later = and_left _ _ (not_from_true _ (seen (sym ((bytes_eq-Decides n x).0 e))))
     by (inr e) later = and_right _ _ (later e)
 
-pub are_distinct-repeated : (names : List (List ℕ)) (i : ℕ) (n : List ℕ) → i < length names → n ≡ get_or names i n → is_among_names n (take i names) ≡ true → are_distinct names ≡ false
+pub are_distinct-repeated : (names : List (List ℕ)) (i : ℕ) (n : List ℕ) → i < length names → n ≡ get_or names i n
+    → is_among_names n (take i names) ≡ true → are_distinct names ≡ false
 are_distinct-repeated names i n l at h =
     let parts : names ≡ take i names ++ n ∷ drop (suc i) names =
-    sym (take-append-drop i names) ∙ ap (λ r. take i names ++ r) (drop-cons names i n l) ∙ ap (λ x. take i names ++ x ∷ drop (suc i) names) (sym at)
+    sym (take-append-drop i names) ∙ ap (λ r. take i names ++ r) (drop-cons names i n l)
+    ∙ ap (λ x. take i names ++ x ∷ drop (suc i) names) (sym at)
     in
     ap are_distinct parts ∙ repeats (take i names) n (drop (suc i) names) h

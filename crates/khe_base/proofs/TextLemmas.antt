@@ -1,5 +1,6 @@
 -- Texts as characters and as bytes.
-use Rattle.std.proofs.Common.{◌≡◌, ◌∙◌, sym, ap, ℕ, true, List, [], ◌∷◌, encode_utf8_all, Some, None, if◌then◌else◌, suc, zero, lit<}
+use Rattle.std.proofs.Common.{◌≡◌, ◌∙◌, sym, ap, ℕ, true, List, [], ◌∷◌, encode_utf8_all, Some, None, if◌then◌else◌}
+use Rattle.std.proofs.Common.{suc, zero, lit<}
 use Rattle.std.specs.Str.{bytes_eq, IsUtf8, IsAscii}
 use Rattle.std.proofs.lemmas.Bool.{and_parts, ltb-true, false_from_ne_true}
 use Rattle.std.proofs.lemmas.Bool.Decides.{same_from_decides, Decides-like}
@@ -8,7 +9,8 @@ use Rattle.std.proofs.lemmas.Str.{encodes-chars, chars-IsAscii, is_utf8-from_IsU
 use Rattle.khe_base.specs.Text.{characters, text_of, is_ascii}
 
 -- two texts have the same characters exactly where they have the same bytes
-pub bytes_eq-characters : (xs ys : List ℕ) → IsUtf8 xs → IsUtf8 ys → bytes_eq (characters xs) (characters ys) ≡ bytes_eq xs ys
+pub bytes_eq-characters : (xs ys : List ℕ) → IsUtf8 xs → IsUtf8 ys
+    → bytes_eq (characters xs) (characters ys) ≡ bytes_eq xs ys
 bytes_eq-characters xs ys u v =
     same_from_decides _ _
     (Decides-like _ (λ e. sym (encodes-chars xs u) ∙ ap encode_utf8_all e ∙ encodes-chars ys v) (λ e. ap characters e)

@@ -3,7 +3,9 @@ use Rattle.std.proofs.Common.{◌≡◌, ◌∙◌, sym, ap, subst, ℕ, ◌*◌
 use Prim.Native.Nat.{◌∣◌}
 use Rattle.std.specs.Int.{IsGcd}
 use Rattle.std.proofs.lemmas.Nat.Gcd.{IsGcd-from_zero, IsGcd-from_mod, dvd_trans, dvd-zero}
-use Rattle.std.proofs.Math.Nat.{mul_comm, mul_assoc, mul_right_comm, dvd-mul_left, dvd-mul_right, mul-dvd-mul_left, mul-dvd-mul_right, dvd_of_mul-dvd-mul_left, dvd_of_mul-dvd-mul_right, div-mul_cancel, mul-div_cancel'}
+use Rattle.std.proofs.Math.Nat.{mul_comm, mul_assoc, mul_right_comm, dvd-mul_left, dvd-mul_right, mul-dvd-mul_left}
+use Rattle.std.proofs.Math.Nat.{mul-dvd-mul_right, dvd_of_mul-dvd-mul_left, dvd_of_mul-dvd-mul_right, div-mul_cancel}
+use Rattle.std.proofs.Math.Nat.{mul-div_cancel'}
 use Rattle.khe_base.specs.Units.{IsLeastMultiple}
 
 -- two numbers have a greatest common divisor
@@ -35,7 +37,8 @@ pub divides_multiple : (u d g n : ℕ) → IsGcd u d g → 0 < g → u ∣ n →
 divides_multiple u d g zero is positive un dn = dvd-zero _
 divides_multiple u d g (suc m) is positive un dn =
     let whole : u / g * d * g ≡ u * d = mul_right_comm (u / g) d g ∙ ap (λ x. x * d) (div-mul_cancel g is.0) in
-    dvd_of_mul-dvd-mul_right (u / g * d) positive (subst (λ x. x ∣ suc m * g) (sym whole) (divides_scaled u d g (suc m) is (omega arith) un dn))
+    dvd_of_mul-dvd-mul_right (u / g * d) positive
+    (subst (λ x. x ∣ suc m * g) (sym whole) (divides_scaled u d g (suc m) is (omega arith) un dn))
 
 -- a product of positive numbers
 positive_product : (a b : ℕ) → 0 < a → 0 < b → 0 < a * b
@@ -60,7 +63,8 @@ pub IsLeastMultiple-from_gcd : (u d g : ℕ) → IsGcd u d g → 0 < u → 0 < d
 IsLeastMultiple-from_gcd u d g is pu pd =
     let positive = IsGcd-positive u d g is pu in
     let swapped : u / g * d ≡ u * (d / g) =
-    ap (λ x. u / g * x) (sym (div-mul_cancel g is.1)) ∙ sym (mul_assoc (u / g) (d / g) g) ∙ mul_right_comm (u / g) (d / g) g
+    ap (λ x. u / g * x) (sym (div-mul_cancel g is.1)) ∙ sym (mul_assoc (u / g) (d / g) g)
+    ∙ mul_right_comm (u / g) (d / g) g
     ∙ ap (λ x. x * (d / g)) (div-mul_cancel g is.0)
     in
     record {

@@ -1,5 +1,6 @@
 -- A set of numbers below a size: a list with one entry for each number, true where it is a member.
-use Rattle.std.specs.Prelude.{ℕ, ◌≡◌, ◌^◌, ◌<◌, List, Bool, true, false, count_by, length, replicate, slice_index_or, slice_set}
+use Rattle.std.specs.Prelude.{ℕ, ◌≡◌, ◌^◌, ◌<◌, List, Bool, true, false, count_by, length, replicate, slice_index_or}
+use Rattle.std.specs.Prelude.{slice_set}
 use Rattle.std.specs.List.{filter, range_with_len}
 
 -- the set of no numbers

@@ -14,6 +14,7 @@ use Rattle.khe_engine.proofs.ValueLaws.{costs_same}
 numbered : ℕ → MonitorId
 numbered m = record { 0 = m }
 
-pub dearer_same : (p : Parts) (s : List Slot) (b : Board) → HasValues p s b → graphs.only_dearer p b ≡ only_dearer p (state_of s b) b.marked
+pub dearer_same : (p : Parts) (s : List Slot) (b : Board) → HasValues p s b
+    → graphs.only_dearer p b ≡ only_dearer p (state_of s b) b.marked
 unfolding numbered
 dearer_same p s b h = ap (λ xs. option_map numbered (only (dearer b.marked xs))) (costs_same p s b h)

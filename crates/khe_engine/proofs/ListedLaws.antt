@@ -1,5 +1,6 @@
 -- A state is the one that its plain lists give.
-use Rattle.std.proofs.Common.{ℕ, ◌≡◌, ◌+◌, ◌<◌, ◌≤◌, nat_lt, true, Option, Some, None, List, [], ◌∷◌, ◌++◌, length, get_or, drop, refl, sym, ap, ◌∙◌}
+use Rattle.std.proofs.Common.{ℕ, ◌≡◌, ◌+◌, ◌<◌, ◌≤◌, nat_lt, true, Option, Some, None, List, [], ◌∷◌, ◌++◌, length}
+use Rattle.std.proofs.Common.{get_or, drop, refl, sym, ap, ◌∙◌}
 use Rattle.std.specs.Prelude.{is_some}
 use Rattle.std.specs.List.{cons_option}
 use Rattle.std.proofs.lemmas.Bool.{and_from, lt-ltb}
@@ -29,37 +30,45 @@ use Rattle.khe_engine.specs.Openings.{IsStateOf}
 use Rattle.khe_engine.specs.States.{state_of}
 
 -- where nothing is left, what is listed is the whole
-pub listed_end : {A B : Type 0} (f : List A → List B) (made whole : List B) (k : ℕ) (s : List A) → f [] ≡ [] → length s ≤ k → made ++ f (drop k s) ≡ whole → made ≡ whole
-listed_end f made whole k s none l w = sym (append-nil made) ∙ ap (λ xs. made ++ xs) (sym (at_drop_all f s k l ∙ none)) ∙ w
+pub listed_end : {A B : Type 0} (f : List A → List B) (made whole : List B) (k : ℕ) (s : List A) → f [] ≡ []
+    → length s ≤ k → made ++ f (drop k s) ≡ whole → made ≡ whole
+listed_end f made whole k s none l w = sym (append-nil made) ∙ ap (λ xs. made ++ xs) (sym (at_drop_all f s k l ∙ none))
+    ∙ w
 
 -- one more slot's meet
 one_meet : (o : Option Meet) (rest : List Meet) → cons_option o [] ++ rest ≡ cons_option o rest
 one_meet None rest = refl
 one_meet (Some m) rest = refl
 
-pub meets_next : (made more whole : List Meet) (k : ℕ) (s : List Slot) (o : Option Meet) → k < length s → o ≡ meet_in (slot_at s k) → more ≡ made ++ cons_option o []
+pub meets_next : (made more whole : List Meet) (k : ℕ) (s : List Slot) (o : Option Meet) → k < length s
+    → o ≡ meet_in (slot_at s k) → more ≡ made ++ cons_option o []
     → made ++ meets_in (drop k s) ≡ whole → more ++ meets_in (drop (k + 1) s) ≡ whole
 meets_next made more whole k s o l is m w =
     let rest = meets_in (drop (k + 1) s) in
     ap (λ ms. ms ++ rest) m ∙ append_assoc made (cons_option o []) rest
-    ∙ ap (λ ms. made ++ ms) (one_meet o rest ∙ ap (λ x. cons_option x rest) is ∙ sym (at_drop_more meets_in s k no_slot l))
+    ∙ ap (λ ms. made ++ ms) (one_meet o rest ∙ ap (λ x. cons_option x rest) is
+    ∙ sym (at_drop_more meets_in s k no_slot l))
     ∙ w
 
 -- one more slot's tasks
-pub tasks_next : (made more whole : List Task) (k : ℕ) (s : List Slot) → k < length s → more ≡ made ++ tasks_of (slot_at s k)
+pub tasks_next : (made more whole : List Task) (k : ℕ) (s : List Slot) → k < length s
+    → more ≡ made ++ tasks_of (slot_at s k)
     → made ++ tasks_in (drop k s) ≡ whole → more ++ tasks_in (drop (k + 1) s) ≡ whole
 tasks_next made more whole k s l m w =
     let rest = tasks_in (drop (k + 1) s) in
     ap (λ ts. ts ++ rest) m ∙ append_assoc made (tasks_of (slot_at s k)) rest
-    ∙ ap (λ ts. made ++ ts) (sym (flat_map-cons tasks_of (slot_at s k) (drop (k + 1) s)) ∙ sym (at_drop_more tasks_in s k no_slot l))
+    ∙ ap (λ ts. made ++ ts) (sym (flat_map-cons tasks_of (slot_at s k) (drop (k + 1) s))
+    ∙ sym (at_drop_more tasks_in s k no_slot l))
     ∙ w
 
 -- a place of a meet
 pub place_is : (x : Slot) (m : Meet) (k : ℕ) → meet_in x ≡ Some m → k < length x.given → has_place x k ≡ true
-place_is x m k h l = and_from (is_live x) (nat_lt k (length x.given)) (ap is_some (span_is x m h)) (lt-ltb k (length x.given) l)
+place_is x m k h l = and_from (is_live x) (nat_lt k (length x.given)) (ap is_some (span_is x m h))
+    (lt-ltb k (length x.given) l)
 
 -- one more place's task
-pub task_next : (made more whole : List Task) (m : Meet) (k : ℕ) (given : List (Option ResourceId)) (r : Option ResourceId) → k < length given → r ≡ get_or given k None
+pub task_next : (made more whole : List Task) (m : Meet) (k : ℕ) (given : List (Option ResourceId))
+    (r : Option ResourceId) → k < length given → r ≡ get_or given k None
     → more ≡ made ++ record { task = record { meet = m.meet; place = k }; resource = r } ∷ []
     → made ++ tasks_with m k (drop k given) ≡ whole → more ++ tasks_with m (k + 1) (drop (k + 1) given) ≡ whole
 task_next made more whole m k given r l is e w =
@@ -76,7 +85,8 @@ pub record AreListed (s : List Slot) (b : Board) (plain : Plain) : Type 0 where
   pub detached : plain.detached ≡ detached_from 0 (grouping_of b).attached
   pub groups : plain.groups ≡ groups_from 0 b.groups
 
-pub listed_state : (p : Parts) (s : List Slot) (b : Board) (plain : Plain) → AreValid p s → IsOf b p → AreGroups (length b.lines) b.groups → AreListed s b plain → IsStateOf p plain (state_of s b)
+pub listed_state : (p : Parts) (s : List Slot) (b : Board) (plain : Plain) → AreValid p s → IsOf b p
+    → AreGroups (length b.lines) b.groups → AreListed s b plain → IsStateOf p plain (state_of s b)
 listed_state p s b plain v of g l =
     let attached = listed_attached p b plain (as_many b p of) l.detached in
     let groups = listed_groups b plain g.numbers l.groups in
@@ -87,5 +97,7 @@ listed_state p s b plain v of g l =
       grouping = λ i. record { attached = attached i; groups = groups i };
     }
 
-pub listed_whole : (p : Parts) (s : List Slot) (b : Board) (plain : Plain) → AreWellMade p → AreValid p s → IsOf b p → AreGroups (length b.lines) b.groups → AreListed s b plain → IsValid p plain
-listed_whole p s b plain made v of g l = listed_valid p s plain made v l.meets l.tasks (listed_kept p b plain (as_many b p of) g l.detached l.groups)
+pub listed_whole : (p : Parts) (s : List Slot) (b : Board) (plain : Plain) → AreWellMade p → AreValid p s → IsOf b p
+    → AreGroups (length b.lines) b.groups → AreListed s b plain → IsValid p plain
+listed_whole p s b plain made v of g l = listed_valid p s plain made v l.meets l.tasks
+    (listed_kept p b plain (as_many b p of) g l.detached l.groups)

@@ -1,5 +1,6 @@
 -- A graph whose families serve every kind has the values of the slots that these were told.
-use Rattle.std.proofs.Common.{ℕ, ◌≡◌, ◌<◌, ◌≤◌, Bool, true, false, cond, Some, List, [], ◌∷◌, length, map, get_or, slice_get, sym, ap, ◌∙◌, arith}
+use Rattle.std.proofs.Common.{ℕ, ◌≡◌, ◌<◌, ◌≤◌, Bool, true, false, cond, Some, List, [], ◌∷◌, length, map, get_or}
+use Rattle.std.proofs.Common.{slice_get, sym, ap, ◌∙◌, arith}
 use Rattle.std.specs.List.{sum_by}
 use Rattle.std.specs.Prelude.{not}
 use Rattle.std.specs.Option.{option_map}
@@ -27,16 +28,20 @@ use Rattle.khe_engine.specs.States.{HaveSameGroups, state_of}
 use Rattle.khe_engine.specs.Values.{HasValues, ServesAll, costs, deviations_in}
 
 -- how many values there are
-pub many_values : (p : Parts) (s : List Slot) (b : Board) → HasValues p s b → length (deviations_of b) ≡ length p.monitors
+pub many_values : (p : Parts) (s : List Slot) (b : Board) → HasValues p s b
+    → length (deviations_of b) ≡ length p.monitors
 unfolding deviations_in
 many_values p s b h = ap length h.deviations ∙ length-map p.monitors (deviation_in p s)
 
 -- they agree on every kind, and where all agree they are the values
-pub values_agree : (p : Parts) (served : Kind → Bool) (s : List Slot) (b : Board) → HasValues p s b → Agrees p served s (deviations_of b)
+pub values_agree : (p : Parts) (served : Kind → Bool) (s : List Slot) (b : Board) → HasValues p s b
+    → Agrees p served s (deviations_of b)
 unfolding deviations_in
-values_agree p served s b h i m at kind = ap (λ ds. slice_get ds i) h.deviations ∙ slice_get-map (deviation_in p s) p.monitors i ∙ ap (option_map (deviation_in p s)) at
+values_agree p served s b h i m at kind = ap (λ ds. slice_get ds i) h.deviations
+    ∙ slice_get-map (deviation_in p s) p.monitors i ∙ ap (option_map (deviation_in p s)) at
 
-pub values_all : (p : Parts) (served : Kind → Bool) (s : List Slot) (ds : List ℕ) → ServesAll served → length ds ≡ length p.monitors → Agrees p served s ds → ds ≡ deviations_in p s
+pub values_all : (p : Parts) (served : Kind → Bool) (s : List Slot) (ds : List ℕ) → ServesAll served
+    → length ds ≡ length p.monitors → Agrees p served s ds → ds ≡ deviations_in p s
 unfolding deviations_in
 values_all p served s ds all many agree =
     let long = length-map p.monitors (deviation_in p s) in
@@ -44,14 +49,19 @@ values_all p served s ds all many agree =
     let t = there p.monitors k (omega (arith, l, many)) in
     let d = deviation_in p s t.value in
     get_or_from_slice_get ds k d 0 (agree k t.value t.found (all t.value.kind))
-    ∙ sym (get_or_from_slice_get (map (deviation_in p s) p.monitors) k d 0 (slice_get-map (deviation_in p s) p.monitors k ∙ ap (option_map (deviation_in p s)) t.found)))
+    ∙ sym (get_or_from_slice_get (map (deviation_in p s) p.monitors) k d 0
+    (slice_get-map (deviation_in p s) p.monitors k ∙ ap (option_map (deviation_in p s)) t.found)))
 
 -- after a change that the families were noted of
-pub values_noted : (p : Parts) (served : Kind → Bool) (s s2 : List Slot) (b b2 : Board) → ServesAll served → HasValues p s b → HaveSameRest b b2
-    → length (deviations_of b2) ≡ length (deviations_of b) → (Agrees p served s (deviations_of b) → Agrees p served s2 (deviations_of b2)) → HasValues p s2 b2
+pub values_noted : (p : Parts) (served : Kind → Bool) (s s2 : List Slot) (b b2 : Board) → ServesAll served
+    → HasValues p s b → HaveSameRest b b2
+    → length (deviations_of b2) ≡ length (deviations_of b)
+    → (Agrees p served s (deviations_of b) → Agrees p served s2 (deviations_of b2)) → HasValues p s2 b2
 values_noted p served s s2 b b2 all h same many agree = record {
-  deviations = values_all p served s2 (deviations_of b2) all (many ∙ many_values p s b h) (agree (values_agree p served s b h));
-  rates = sym (sym (map-map rate_of fixed_of b.lines) ∙ ap (map rate_of) same.lines ∙ map-map rate_of fixed_of b2.lines) ∙ h.rates;
+  deviations = values_all p served s2 (deviations_of b2) all (many ∙ many_values p s b h)
+      (agree (values_agree p served s b h));
+  rates = sym (sym (map-map rate_of fixed_of b.lines) ∙ ap (map rate_of) same.lines ∙ map-map rate_of fixed_of b2.lines)
+      ∙ h.rates;
 }
 
 -- after an edit of monitors and groups, and after more room
@@ -59,13 +69,18 @@ pub values_kept : (p : Parts) (s : List Slot) (b b2 : Board) → HasValues p s b
 values_kept p s b b2 h k = record { deviations = k.deviations ∙ h.deviations; rates = k.rates ∙ h.rates }
 
 pub values_same : (p : Parts) (s : List Slot) (b b2 : Board) → HasValues p s b → b2.lines ≡ b.lines → HasValues p s b2
-values_same p s b b2 h e = record { deviations = ap (map (λ (x : Line). x.deviation)) e ∙ h.deviations; rates = ap (map rate_of) e ∙ h.rates }
+values_same p s b b2 h e = record {
+  deviations = ap (map (λ (x : Line). x.deviation)) e ∙ h.deviations;
+  rates =
+      ap (map rate_of) e ∙ h.rates;
+}
 
 -- all but the deviations stays
 pub same_groups : (a b : Board) → HaveSameRest a b → HaveSameGroups a b
 same_groups a b h = record {
   grouping = λ i. record {
-    attached = (sym (map-map (λ (x : Line). x.attached) fixed_of a.lines) ∙ ap (map (λ (x : Line). x.attached)) h.lines ∙ map-map (λ (x : Line). x.attached) fixed_of b.lines) i;
+    attached = (sym (map-map (λ (x : Line). x.attached) fixed_of a.lines) ∙ ap (map (λ (x : Line). x.attached)) h.lines
+        ∙ map-map (λ (x : Line). x.attached) fixed_of b.lines) i;
     groups = h.groups i;
   };
   marked = h.marked;
@@ -73,7 +88,8 @@ same_groups a b h = record {
 }
 
 -- no more watchers are served than there are
-sum_part : (served : Monitor → Bool) (f : Monitor → ℕ) (ms : List Monitor) → sum_by (λ m. cond (served m) (f m) 0) ms ≤ sum_by f ms
+sum_part : (served : Monitor → Bool) (f : Monitor → ℕ) (ms : List Monitor)
+    → sum_by (λ m. cond (served m) (f m) 0) ms ≤ sum_by f ms
 sum_part served f [] = omega arith
 sum_part served f (m ∷ ms) =
     let a = sum_by-cons (λ x. cond (served x) (f x) 0) m ms in
@@ -86,12 +102,14 @@ sum_part served f (m ∷ ms) =
     part true n = omega arith
     part false n = omega arith
 
-pub served_few : (p : Parts) (served : Kind → Bool) (s : List Slot) (c : Change) → served_watchers p served s c ≤ watcher_count p s c
+pub served_few : (p : Parts) (served : Kind → Bool) (s : List Slot) (c : Change)
+    → served_watchers p served s c ≤ watcher_count p s c
 unfolding served_watchers watcher_count
 served_few p served s c = sum_part (λ m. served m.kind) (watch_count p (slot_at s (meet_of c)) c) p.monitors
 
 -- what the graph answers, of the state
-pub value_is : (p : Parts) (s : List Slot) (b : Board) (m r : ℕ) → HasValues p s b → m < length p.monitors → r ≡ get_or (deviations_of b) m 0
+pub value_is : (p : Parts) (s : List Slot) (b : Board) (m r : ℕ) → HasValues p s b → m < length p.monitors
+    → r ≡ get_or (deviations_of b) m 0
     → option_map (deviation_in p s) (slice_get p.monitors m) ≡ Some r
 unfolding deviations_in
 value_is p s b m r h l e =
@@ -99,7 +117,8 @@ value_is p s b m r h l e =
     let d = deviation_in p s t.value in
     let at = slice_get-map (deviation_in p s) p.monitors m ∙ ap (option_map (deviation_in p s)) t.found in
     ap (option_map (deviation_in p s)) t.found
-    ∙ ap Some (sym (get_or_from_slice_get (map (deviation_in p s) p.monitors) m d 0 at) ∙ sym (ap (λ ds. get_or ds m 0) h.deviations) ∙ sym e)
+    ∙ ap Some (sym (get_or_from_slice_get (map (deviation_in p s) p.monitors) m d 0 at)
+    ∙ sym (ap (λ ds. get_or ds m 0) h.deviations) ∙ sym e)
 
 pub costs_same : (p : Parts) (s : List Slot) (b : Board) → HasValues p s b → costs_in p b ≡ costs p (state_of s b)
 costs_same p s b h = ap (costs_of p (λ n. not (is_attached (grouping_of b) n))) h.deviations

@@ -24,11 +24,13 @@ trail_of s (b ∷ bs) = trail_of (undone s b) bs ++ undone_changes s b
 -- the saved states that the records of all marks stand for
 abbrev pub saved_of : State → List (List Back) → List Saved
 saved_of s [] = []
-saved_of s (bs ∷ rest) = record { state = undone_all s bs; trail = trail_of s bs; records = length bs } ∷ saved_of (undone_all s bs) rest
+saved_of s (bs ∷ rest) = record { state = undone_all s bs; trail = trail_of s bs; records = length bs } ∷ saved_of
+    (undone_all s bs) rest
 
 -- a record leads back from a state, with so many seats for children
 abbrev pub LeadsBy : Bool → Parts → ℕ → State → Back → Type 0
-LeadsBy true p seats s b = groups.CanUndo s.grouping b × (groups.inserts_child b ≡ true → seated s.grouping.groups < seats)
+LeadsBy true p seats s b = groups.CanUndo s.grouping b
+    × (groups.inserts_child b ≡ true → seated s.grouping.groups < seats)
 LeadsBy false p seats s b = backs.LeadsBack p s.slots b
 
 abbrev pub Leads : Parts → ℕ → State → Back → Type 0
@@ -44,7 +46,8 @@ MarksLead p seats s [] = Unit {0}
 MarksLead p seats s (bs ∷ rest) = AllLead p seats s bs × MarksLead p seats (undone_all s bs) rest
 
 -- an edit with these changes led from one state to another, and its record is kept if a mark is open
-pub record IsRecorded (p : Parts) (seats : ℕ) (cs : List Change) (s s2 : State) (since since2 : List (List Back)) : Type 0 where
+pub record IsRecorded (p : Parts) (seats : ℕ) (cs : List Change) (s s2 : State) (since since2 : List (List Back)) : Type
+    0 where
   pub back : Back
   pub kept : since2 ≡ with_record back since
   pub leads : Leads p seats s2 back

@@ -34,7 +34,8 @@ refusal p s e = if groups.is_of_groups e then groups.refusal s.grouping e else r
 
 -- the state that an accepted edit leaves
 unfoldable pub edited : State → Edit → State
-edited s e = if groups.is_of_groups e then record s { grouping = groups.edited s.grouping e } else record s { slots = editing.edited s.slots e }
+edited s e = if groups.is_of_groups e then record s { grouping = groups.edited s.grouping e } else record s
+    { slots = editing.edited s.slots e }
 
 -- the number of the meet or the group that it makes, if any
 unfoldable pub made : State → Edit → Option ℕ
@@ -53,7 +54,8 @@ is_back_of_groups (Insert g m k) = true
 
 -- the state that a record leads back to
 unfoldable pub undone : State → Back → State
-undone s b = if is_back_of_groups b then record s { grouping = groups.undone s.grouping b } else record s { slots = backs.undone s.slots b }
+undone s b = if is_back_of_groups b then record s { grouping = groups.undone s.grouping b } else record s
+    { slots = backs.undone s.slots b }
 
 -- the changes of the edit that a record undoes, seen from the state after that edit
 unfoldable pub undone_changes : State → Back → List Change

@@ -1,5 +1,6 @@
 -- What an engine stands for: a state, and the whole states that were saved at its open marks.
-use Rattle.std.specs.Prelude.{ℕ, ◌≡◌, ◌+◌, ◌-◌, Option, Some, None, Result, Ok, Err, List, [], ◌∷◌, ◌++◌, drop, take, length}
+use Rattle.std.specs.Prelude.{ℕ, ◌≡◌, ◌+◌, ◌-◌, Option, Some, None, Result, Ok, Err, List, [], ◌∷◌, ◌++◌, drop, take}
+use Rattle.std.specs.Prelude.{length}
 use Rattle.std.specs.List.{sum_by}
 use Rattle.khe_instance.specs.declared.parts.Parts.{Parts}
 use Rattle.khe_told.specs.Watchers.{watcher_counts}

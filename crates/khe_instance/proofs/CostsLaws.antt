@@ -10,7 +10,8 @@ use Rattle.khe_instance.specs.declared.parts.Parts.{Parts}
 use Rattle.khe_instance.specs.declared.points.Monitor.{Monitor}
 use Rattle.khe_instance.specs.declared.states.Plain.{Plain}
 
-pub cost-there : (p : Parts) (s : Plain) (i : ℕ) (m : Monitor) → slice_get p.monitors i ≡ Some m → get_or (costs p s) i 0 ≡ cost_in p s (i, m)
+pub cost-there : (p : Parts) (s : Plain) (i : ℕ) (m : Monitor) → slice_get p.monitors i ≡ Some m
+    → get_or (costs p s) i 0 ≡ cost_in p s (i, m)
 cost-there p s i m there =
     let ds = deviations p s in
     let within : i < length p.monitors = slice_get_within p.monitors i m there in

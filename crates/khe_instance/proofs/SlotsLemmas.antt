@@ -1,5 +1,6 @@
 -- Where a meet slot stands.
-use Rattle.std.proofs.Common.{ℕ, ◌≡◌, ◌+◌, ◌-◌, ◌<◌, ◌≤◌, inl, inr, Some, List, [], ◌∷◌, length, get_or, refl, sym, ap, subst, ◌∙◌, arith, suc, slice_get, length-append, zero-add}
+use Rattle.std.proofs.Common.{ℕ, ◌≡◌, ◌+◌, ◌-◌, ◌<◌, ◌≤◌, inl, inr, Some, List, [], ◌∷◌, length, get_or, refl, sym, ap}
+use Rattle.std.proofs.Common.{subst, ◌∙◌, arith, suc, slice_get, length-append, zero-add}
 use Rattle.std.specs.Prelude.{replicate}
 use Rattle.std.specs.List.{sum_by, All}
 use Rattle.std.proofs.Math.Seq.{get_or-append_right}
@@ -12,7 +13,8 @@ use Rattle.khe_instance.specs.WellMade.{AreFirstMeets}
 use Rattle.khe_instance.specs.declared.parts.EventInfo.{EventInfo}
 
 -- there are as many slots as the durations add to
-pub length-slots_from : (e : ℕ) (events : List EventInfo) → length (slots_from e events) ≡ sum_by (λ x. x.duration) events
+pub length-slots_from : (e : ℕ) (events : List EventInfo)
+    → length (slots_from e events) ≡ sum_by (λ x. x.duration) events
 length-slots_from e [] = refl
 length-slots_from e (x ∷ xs) =
     length-append (replicate x.duration e) (slots_from (e + 1) xs)
@@ -28,7 +30,8 @@ pub record StandsAt (e first slot : ℕ) (events : List EventInfo) : Type 0 wher
   pub from : event.first_meet ≤ first + slot
   pub to : first + slot < event.first_meet + event.duration
 
-pub slot-stands : (e first slot : ℕ) (events : List EventInfo) → AreFirstMeets first events → slot < length (slots_from e events) → StandsAt e first slot events
+pub slot-stands : (e first slot : ℕ) (events : List EventInfo) → AreFirstMeets first events
+    → slot < length (slots_from e events) → StandsAt e first slot events
 slot-stands e first slot [] h l = absurd (omega arith)
 slot-stands e first slot (x ∷ xs) h l =
     let own = replicate x.duration e in
@@ -38,17 +41,21 @@ slot-stands e first slot (x ∷ xs) h l =
       | inl less ↦ record {
         number = 0;
         event = x;
-        value = get_or_append_left own later 0 slot (omega (arith, many)) ∙ get_or-replicate x.duration slot e 0 less ∙ sym (let z : e + 0 ≡ e = omega arith in z);
+        value = get_or_append_left own later 0 slot (omega (arith, many)) ∙ get_or-replicate x.duration slot e 0 less
+            ∙ sym (let z : e + 0 ≡ e = omega arith in z);
         there = refl;
         from = omega (arith, h.0);
         to = omega (arith, h.0);
       }
       | inr more ↦
-          let rest = slot-stands (e + 1) (first + x.duration) (slot - x.duration) xs h.1 (omega (arith, length-append own later, many)) in
+          let rest = slot-stands (e + 1) (first + x.duration) (slot - x.duration) xs h.1
+          (omega (arith, length-append own later, many)) in
           record {
             number = suc rest.number;
             event = rest.event;
-            value = get_or-append_right own later slot 0 (omega (arith, many)) ∙ ap (λ n. get_or later (slot - n) 0) many ∙ rest.value ∙ (let z : e + 1 + rest.number ≡ e + suc rest.number = omega arith in z);
+            value = get_or-append_right own later slot 0 (omega (arith, many))
+                ∙ ap (λ n. get_or later (slot - n) 0) many ∙ rest.value
+                ∙ (let z : e + 1 + rest.number ≡ e + suc rest.number = omega arith in z);
             there = rest.there;
             from = omega (arith, rest.from);
             to = omega (arith, rest.to);
@@ -56,7 +63,8 @@ slot-stands e first slot (x ∷ xs) h l =
     ]
 
 -- the event of a slot has it
-pub slot-event : (slot : ℕ) (events : List EventInfo) → AreFirstMeets 0 events → slot < length (slots_from 0 events) → HasSlot events (get_or (slots_from 0 events) slot 0) slot
+pub slot-event : (slot : ℕ) (events : List EventInfo) → AreFirstMeets 0 events → slot < length (slots_from 0 events)
+    → HasSlot events (get_or (slots_from 0 events) slot 0) slot
 slot-event slot events h l =
     let s = slot-stands 0 0 slot events h l in
     let e : get_or (slots_from 0 events) slot 0 ≡ s.number = s.value ∙ zero-add s.number in
@@ -66,4 +74,5 @@ slot-event slot events h l =
 pub slots-below : (e n : ℕ) (events : List EventInfo) → e + length events ≤ n → All (λ k. k < n) (slots_from e events)
 slots-below e n [] h = All-nil (λ k. k < n)
 slots-below e n (x ∷ xs) h =
-    All-append (λ k. k < n) (replicate x.duration e) (slots_from (e + 1) xs) (All-replicate (λ k. k < n) x.duration e (omega (arith, h))) (slots-below (e + 1) n xs (omega (arith, h)))
+    All-append (λ k. k < n) (replicate x.duration e) (slots_from (e + 1) xs)
+    (All-replicate (λ k. k < n) x.duration e (omega (arith, h))) (slots-below (e + 1) n xs (omega (arith, h)))

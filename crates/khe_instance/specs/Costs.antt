@@ -11,7 +11,8 @@ use Rattle.khe_instance.specs.declared.points.Monitor.{Monitor}
 -- what a monitor costs by its deviation: nothing where it is detached
 abbrev pub monitor_cost : Parts → Bool → Monitor → ℕ → ℕ
 monitor_cost parts detached m deviation =
-    if detached then 0 else option_map_or (λ c. cost_of c.cost c.weight deviation) (slice_get parts.constraints m.constraint) 0
+    if detached then 0 else option_map_or (λ c. cost_of c.cost c.weight deviation)
+    (slice_get parts.constraints m.constraint) 0
 
 -- whether the cost of a monitor is hard: its constraint is required
 abbrev pub is_hard : Parts → Monitor → Bool

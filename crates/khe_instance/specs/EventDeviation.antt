@@ -2,7 +2,8 @@
 -- events. Each is the page of its kind in the XHSTT format, over lists of meets and of tasks with
 -- their meets. A kind at an event is a sum over the event's own meets, and one at a place a sum over
 -- that place's tasks.
-use Rattle.std.specs.Prelude.{ℕ, ◌+◌, ◌-◌, ◌==◌, pos, ◌-ℤ◌, Bool, true, false, not, ◌&&◌, ◌||◌, nat_lt, min, max, if◌then◌else◌, Option, Some, None, is_none, List, [], ◌∷◌, count_by}
+use Rattle.std.specs.Prelude.{ℕ, ◌+◌, ◌-◌, ◌==◌, pos, ◌-ℤ◌, Bool, true, false, not, ◌&&◌, ◌||◌, nat_lt, min, max}
+use Rattle.std.specs.Prelude.{if◌then◌else◌, Option, Some, None, is_none, List, [], ◌∷◌, count_by}
 use Rattle.std.specs.List.{filter, filter_map, fold, list_any, list_all, sum_by, range_with_len}
 use Rattle.std.specs.Option.{option_map}
 use Rattle.khe_base.specs.Bounds.{outside, count_outside}
@@ -68,7 +69,8 @@ distribute_split_events meets e duration least greatest =
 
 -- a duration with a start outside the preferred times, of one duration alone where that is given
 abbrev pub misplaced_duration : List Bool → Option ℕ → Option TimeId → ℕ → ℕ
-misplaced_duration times only start duration = if starts_outside times start && allows only duration then duration else 0
+misplaced_duration times only start duration =
+    if starts_outside times start && allows only duration then duration else 0
 
 -- Prefer Times at an event: the duration of its meets with a start outside the preferred times
 abbrev pub prefer_times : List Meet → ℕ → List Bool → Option ℕ → ℕ
@@ -86,19 +88,22 @@ misfilled_duration resources resource duration = if given_outside resources reso
 -- Prefer Resources at a place of an event: the duration of its tasks with a resource outside the
 -- preferred ones
 abbrev pub prefer_resources : List Duty → ℕ → ℕ → List Bool → ℕ
-prefer_resources ds e place resources = sum_by (λ d. misfilled_duration resources d.resource d.meet.duration) (duties_at e place ds)
+prefer_resources ds e place resources = sum_by (λ d. misfilled_duration resources d.resource d.meet.duration)
+    (duties_at e place ds)
 
 -- Avoid Split Assignments at an event group: how many resources its events have in the role, less one
 abbrev pub avoid_split_assignments : List EventInfo → ℕ → List Duty → List Bool → List ℕ → ℕ
 avoid_split_assignments events resources ds group role =
-    let there = filter (λ d. has_member group d.meet.event.0 && is_role role (role_at events d.meet.event.0 d.place)) ds in
+    let there = filter (λ d. has_member group d.meet.event.0 && is_role role (role_at events d.meet.event.0 d.place))
+    ds in
     count_by (λ r. list_any (λ d. is_resource r d.resource) there) (range_with_len 0 resources) - 1
 
 -- Spread Events at an event group: for each listed time group, by how many too few or too many of
 -- its events' meets start in it
 abbrev pub spread_events : List Meet → List Bool → List Spread → ℕ
 spread_events meets group spreads =
-    sum_by (λ s. count_outside (count_by (λ m. has_member group m.event.0 && starts_in s.group m.start) meets) s.min s.max) spreads
+    sum_by (λ s. count_outside (count_by (λ m. has_member group m.event.0 && starts_in s.group m.start) meets) s.min
+    s.max) spreads
 
 -- whether some of the events of a group run and some do not, by which events run
 abbrev pub runs_apart : (ℕ → Bool) → List Bool → Bool
@@ -124,7 +129,8 @@ ends_of meets e = filter_map (λ m. option_map (λ s. s.0 + m.duration) m.start)
 abbrev pub order_of : List ℕ → List ℕ → ℕ → ℕ → ℕ
 order_of [] starts least greatest = 0
 order_of (f ∷ ends) [] least greatest = 0
-order_of (f ∷ ends) (s ∷ starts) least greatest = outside (pos (fold min s starts) -ℤ pos (fold max f ends)) (pos least) (pos greatest)
+order_of (f ∷ ends) (s ∷ starts) least greatest =
+    outside (pos (fold min s starts) -ℤ pos (fold max f ends)) (pos least) (pos greatest)
 
 -- Order Events at a pair: how far the times between the end of the first event and the start of the
 -- second lie outside the bounds; nothing while either has no start

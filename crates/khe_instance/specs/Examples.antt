@@ -7,11 +7,21 @@ use Rattle.khe_instance.specs.declared.states.Meet.{Meet}
 
 -- a meet by its number, its event, its duration and its start
 abbrev pub meet : ℕ → ℕ → ℕ → ℕ → Meet
-meet number e duration start = record { meet = record { 0 = number }; event = record { 0 = e }; duration = duration; start = Some (record { 0 = start }) }
+meet number e duration start = record {
+  meet = record { 0 = number };
+  event = record { 0 = e };
+  duration = duration;
+  start = Some (record { 0 = start });
+}
 
 -- a meet without a start
 abbrev pub unplaced : ℕ → ℕ → ℕ → Meet
-unplaced number e duration = record { meet = record { 0 = number }; event = record { 0 = e }; duration = duration; start = None }
+unplaced number e duration = record {
+  meet = record { 0 = number };
+  event = record { 0 = e };
+  duration = duration;
+  start = None;
+}
 
 -- the task of a meet at the first place of its event, with a resource
 abbrev pub given : ℕ → Meet → Duty

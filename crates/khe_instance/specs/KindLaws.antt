@@ -64,8 +64,10 @@ same_kind a b h = sym (kind_back a) ∙ ap kind_from (eqb-true (number_of_kind a
 abbrev pub IsOfKind : Kind → Rule → Type 0
 IsOfKind kind.AssignTime r = r ≡ rule.AssignTime
 IsOfKind kind.AssignResource r = (role : List ℕ) × (r ≡ rule.AssignResource role)
-IsOfKind kind.SplitEvents r = (min_duration : ℕ) × (max_duration : ℕ) × (min_amount : ℕ) × (max_amount : ℕ) × (r ≡ rule.SplitEvents min_duration max_duration min_amount max_amount)
-IsOfKind kind.DistributeSplitEvents r = (duration : ℕ) × (least : ℕ) × (greatest : ℕ) × (r ≡ rule.DistributeSplitEvents duration least greatest)
+IsOfKind kind.SplitEvents r = (min_duration : ℕ) × (max_duration : ℕ) × (min_amount : ℕ) × (max_amount : ℕ)
+    × (r ≡ rule.SplitEvents min_duration max_duration min_amount max_amount)
+IsOfKind kind.DistributeSplitEvents r = (duration : ℕ) × (least : ℕ) × (greatest : ℕ)
+    × (r ≡ rule.DistributeSplitEvents duration least greatest)
 IsOfKind kind.PreferTimes r = (times : List Bool) × (duration : Option ℕ) × (r ≡ rule.PreferTimes times duration)
 IsOfKind kind.PreferResources r = (resources : List Bool) × (role : List ℕ) × (r ≡ rule.PreferResources resources role)
 IsOfKind kind.AvoidSplitAssignments r = (role : List ℕ) × (r ≡ rule.AvoidSplitAssignments role)
@@ -74,9 +76,12 @@ IsOfKind kind.LinkEvents r = r ≡ rule.LinkEvents
 IsOfKind kind.OrderEvents r = (pairs : List EventPair) × (r ≡ rule.OrderEvents pairs)
 IsOfKind kind.AvoidClashes r = r ≡ rule.AvoidClashes
 IsOfKind kind.AvoidUnavailableTimes r = (times : List Bool) × (r ≡ rule.AvoidUnavailableTimes times)
-IsOfKind kind.LimitIdleTimes r = (groups : List (List Bool)) × (least : ℕ) × (greatest : ℕ) × (r ≡ rule.LimitIdleTimes groups least greatest)
-IsOfKind kind.ClusterBusyTimes r = (groups : List (List Bool)) × (least : ℕ) × (greatest : ℕ) × (r ≡ rule.ClusterBusyTimes groups least greatest)
-IsOfKind kind.LimitBusyTimes r = (groups : List (List Bool)) × (least : ℕ) × (greatest : ℕ) × (r ≡ rule.LimitBusyTimes groups least greatest)
+IsOfKind kind.LimitIdleTimes r = (groups : List (List Bool)) × (least : ℕ) × (greatest : ℕ)
+    × (r ≡ rule.LimitIdleTimes groups least greatest)
+IsOfKind kind.ClusterBusyTimes r = (groups : List (List Bool)) × (least : ℕ) × (greatest : ℕ)
+    × (r ≡ rule.ClusterBusyTimes groups least greatest)
+IsOfKind kind.LimitBusyTimes r = (groups : List (List Bool)) × (least : ℕ) × (greatest : ℕ)
+    × (r ≡ rule.LimitBusyTimes groups least greatest)
 IsOfKind kind.LimitWorkload r = (least : ℕ) × (greatest : ℕ) × (r ≡ rule.LimitWorkload least greatest)
 
 -- a rule is of its kind

@@ -17,7 +17,8 @@ use Rattle.khe_instance.specs.declared.states.Meet.{Meet}
 -- whatever the state, no monitor's deviation is above the greatest one that the limits allow
 abbrev pub DeviationsAreSmall : Type 0
 DeviationsAreSmall =
-    (p : Parts) (meets : List Meet) (ds : List Duty) (m : Monitor) → AreWellMade p → AreOfState p meets ds → IsMonitor p m
+    (p : Parts) (meets : List Meet) (ds : List Duty) (m : Monitor) → AreWellMade p → AreOfState p meets ds
+    → IsMonitor p m
     → deviation p meets ds m ≤ GREATEST_DEVIATION
 
 -- the duration of each event divides the number, which is above 0
@@ -29,14 +30,18 @@ pub record IsCommonMultiple (events : List EventInfo) (n : ℕ) : Type 0 where
 -- one in which each is whole gives the same deviation as any multiple of that number
 abbrev pub FinerPartsGiveTheSame : Type 0
 FinerPartsGiveTheSame =
-    (events : List EventInfo) (k unit : ℕ) (ds : List Duty) (r least greatest : ℕ) → 0 < k → IsCommonMultiple events unit
-    → limit_workload (k * unit) (workload_in events (k * unit) ds r) least greatest ≡ limit_workload unit (workload_in events unit ds r) least greatest
+    (events : List EventInfo) (k unit : ℕ) (ds : List Duty) (r least greatest : ℕ) → 0 < k
+    → IsCommonMultiple events unit
+    → limit_workload (k * unit) (workload_in events (k * unit) ds r) least greatest
+    ≡ limit_workload unit (workload_in events unit ds r) least greatest
 
 -- and so do any two such numbers
 abbrev pub AllUnitsGiveTheSame : Type 0
 AllUnitsGiveTheSame =
-    (events : List EventInfo) (one other : ℕ) (ds : List Duty) (r least greatest : ℕ) → IsCommonMultiple events one → IsCommonMultiple events other
-    → limit_workload one (workload_in events one ds r) least greatest ≡ limit_workload other (workload_in events other ds r) least greatest
+    (events : List EventInfo) (one other : ℕ) (ds : List Duty) (r least greatest : ℕ) → IsCommonMultiple events one
+    → IsCommonMultiple events other
+    → limit_workload one (workload_in events one ds r) least greatest
+    ≡ limit_workload other (workload_in events other ds r) least greatest
 
 -- a monitor watches what the sizes of its rule's and its point's sets say
 abbrev pub WatchesAreSizes : Type 0

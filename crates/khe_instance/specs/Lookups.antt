@@ -19,7 +19,8 @@ place_at events e k = option_and_then (λ event. slice_get event.places k) (slic
 
 -- the role of a place of an event
 abbrev pub role_at : List EventInfo → ℕ → ℕ → Option (List ℕ)
-role_at events e place = option_and_then (λ event. option_and_then (λ p. p.role) (slice_get event.places place)) (slice_get events e)
+role_at events e place = option_and_then (λ event. option_and_then (λ p. p.role) (slice_get event.places place))
+    (slice_get events e)
 
 -- whether an optional role is this one
 abbrev pub is_role : List ℕ → Option (List ℕ) → Bool

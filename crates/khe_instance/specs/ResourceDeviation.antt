@@ -24,11 +24,13 @@ avoid_unavailable_times counts times = busy_times (busy_by counts) times
 
 -- Limit Idle Times: how far the idle times of the listed groups together lie outside the bounds
 abbrev pub limit_idle_times : (ℕ → ℕ) → List (List Bool) → ℕ → ℕ → ℕ
-limit_idle_times counts groups least greatest = count_outside (sum_by (idle_times (busy_by counts)) groups) least greatest
+limit_idle_times counts groups least greatest =
+    count_outside (sum_by (idle_times (busy_by counts)) groups) least greatest
 
 -- Cluster Busy Times: how far the number of listed groups with a busy time lies outside the bounds
 abbrev pub cluster_busy_times : (ℕ → ℕ) → List (List Bool) → ℕ → ℕ → ℕ
-cluster_busy_times counts groups least greatest = count_outside (count_by (λ g. nat_lt 0 (busy_times (busy_by counts) g)) groups) least greatest
+cluster_busy_times counts groups least greatest =
+    count_outside (count_by (λ g. nat_lt 0 (busy_times (busy_by counts) g)) groups) least greatest
 
 -- how far a number above 0 lies outside the bounds, and 0 of 0
 abbrev pub used_outside : ℕ → ℕ → ℕ → ℕ
@@ -37,13 +39,15 @@ used_outside n least greatest = if nat_lt 0 n then count_outside n least greates
 -- Limit Busy Times: for each listed group with a busy time, how far the number of its busy times
 -- lies outside the bounds
 abbrev pub limit_busy_times : (ℕ → ℕ) → List (List Bool) → ℕ → ℕ → ℕ
-limit_busy_times counts groups least greatest = sum_by (λ g. used_outside (busy_times (busy_by counts) g) least greatest) groups
+limit_busy_times counts groups least greatest =
+    sum_by (λ g. used_outside (busy_times (busy_by counts) g) least greatest) groups
 
 -- what a task is worth to its resource, in parts of one over the unit: the workload of its place
 -- times its meet's share of the event's duration
 abbrev pub workload_of : List EventInfo → ℕ → Duty → ℕ
 workload_of events unit d =
-    option_map_or (λ event. option_map_or (λ p. p.workload * d.meet.duration * (unit / event.duration)) (slice_get event.places d.place) 0)
+    option_map_or (λ event. option_map_or (λ p. p.workload * d.meet.duration * (unit / event.duration))
+    (slice_get event.places d.place) 0)
     (slice_get events d.meet.event.0) 0
 
 -- what the tasks of a resource are worth together

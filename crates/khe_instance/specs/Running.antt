@@ -11,7 +11,8 @@ use Rattle.khe_instance.specs.declared.states.Task.{Task}
 -- the tasks of meets, each with its meet
 abbrev pub duties : List Meet → List Task → List Duty
 duties meets tasks =
-    flat_map (λ m. map (λ t. record { meet = m; place = t.task.place; resource = t.resource }) (filter (λ t. t.task.meet.0 == m.meet.0) tasks)) meets
+    flat_map (λ m. map (λ t. record { meet = m; place = t.task.place; resource = t.resource })
+    (filter (λ t. t.task.meet.0 == m.meet.0) tasks)) meets
 
 -- whether an optional number is this one
 abbrev pub is_resource : ℕ → Option ResourceId → Bool

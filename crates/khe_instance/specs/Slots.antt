@@ -14,7 +14,8 @@ slots_from e (event ∷ events) = replicate event.duration e ++ slots_from (e + 
 -- the slot with this number is one of the event with this number
 abbrev pub HasSlot : List EventInfo → ℕ → ℕ → Type 0
 HasSlot events e slot =
-    (event : EventInfo) × (slice_get events e ≡ Some event) × (event.first_meet ≤ slot) × (slot < event.first_meet + event.duration)
+    (event : EventInfo) × (slice_get events e ≡ Some event) × (event.first_meet ≤ slot)
+    × (slot < event.first_meet + event.duration)
 
 -- the tasks of a meet slot with so many places
 abbrev pub slot_tasks : ℕ → ℕ → List TaskId

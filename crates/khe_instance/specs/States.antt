@@ -1,6 +1,7 @@
 -- Which timetables are states of an instance: what a solver may hold while it works, and what a
 -- timetable is that stands whole.
-use Rattle.std.specs.Prelude.{ℕ, ◌≡◌, ◌+◌, ◌<◌, ◌≤◌, Option, Some, List, [], ◌∷◌, map, length, All, AllPairs, ◌≢◌, IfSome, slice_get}
+use Rattle.std.specs.Prelude.{ℕ, ◌≡◌, ◌+◌, ◌<◌, ◌≤◌, Option, Some, List, [], ◌∷◌, map, length, All, AllPairs, ◌≢◌}
+use Rattle.std.specs.Prelude.{IfSome, slice_get}
 use Rattle.std.specs.List.{sum_by, flat_map}
 use Rattle.std.specs.List.Sorted.{IsStrictlyIncreasing}
 use Rattle.khe_base.specs.declared.limits.TheConstants.{GROUPS, TASKS}
@@ -41,7 +42,8 @@ IsGiven p d = IfSome (place_of p d) (λ place. IfSome d.resource (HasType p plac
 pub record IsTold (p : Parts) (ms : List Meet) (ts : List Task) : Type 0 where
   pub meets : All (IsMeet p) ms
   pub ascending : IsStrictlyIncreasing (map (λ m. m.meet.0) ms)
-  pub durations : (e : ℕ) (event : EventInfo) → slice_get p.events e ≡ Some event → sum_by (λ m. m.duration) (meets_of e ms) ≤ event.duration
+  pub durations : (e : ℕ) (event : EventInfo) → slice_get p.events e ≡ Some event
+      → sum_by (λ m. m.duration) (meets_of e ms) ≤ event.duration
   pub tasks : map (λ t. t.task) ts ≡ flat_map (tasks_of p) ms
   pub given : All (IsGiven p) (duties ms ts)
 

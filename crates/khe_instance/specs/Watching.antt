@@ -7,13 +7,17 @@ use Rattle.khe_base.specs.IdSet.{has_member}
 use Rattle.khe_instance.specs.declared.parts.Parts.{Parts}
 use Rattle.khe_instance.specs.declared.points.Monitor.{Monitor}
 use Rattle.khe_instance.specs.declared.points.Point.{Point}
-use Rattle.khe_instance.specs.declared.points.Point.TheVariants.{Event, EventResource, EventGroup, EventPair as Pair, Resource}
+use Rattle.khe_instance.specs.declared.points.Point.TheVariants.{Event, EventResource, EventGroup, EventPair as Pair}
+use Rattle.khe_instance.specs.declared.points.Point.TheVariants.{Resource}
 use Rattle.khe_instance.specs.declared.rules.Rule.{Rule}
-use Rattle.khe_instance.specs.declared.rules.Rule.TheVariants.{OrderEvents, AvoidClashes, AvoidUnavailableTimes, LimitIdleTimes, ClusterBusyTimes, LimitBusyTimes, LimitWorkload}
+use Rattle.khe_instance.specs.declared.rules.Rule.TheVariants.{OrderEvents, AvoidClashes, AvoidUnavailableTimes}
+use Rattle.khe_instance.specs.declared.rules.Rule.TheVariants.{LimitIdleTimes, ClusterBusyTimes, LimitBusyTimes}
+use Rattle.khe_instance.specs.declared.rules.Rule.TheVariants.{LimitWorkload}
 
 -- whether a rule's pair with this number names the event
 abbrev pub pair_names : Rule → ℕ → ℕ → Bool
-pair_names (OrderEvents pairs) k e = option_map_or (λ q. (q.first.0 == e) || (q.second.0 == e)) (slice_get pairs k) false
+pair_names (OrderEvents pairs) k e = option_map_or (λ q. (q.first.0 == e) || (q.second.0 == e)) (slice_get pairs k)
+    false
 pair_names _ k e = false
 
 -- whether the point is the event or one of its event resources, a group that has it or a pair that
@@ -55,7 +59,8 @@ events_watched p rule point = count_by (names_event p rule point) (range_with_le
 
 -- how many times a rule lists for a resource, with repeats, and one for its workload
 abbrev pub times_watched : Parts → Rule → ℕ
-times_watched p rule = sum_by (times_listed rule) (range_with_len 0 (length p.times)) + (if is_workload rule then 1 else 0)
+times_watched p rule = sum_by (times_listed rule)
+    (range_with_len 0 (length p.times)) + (if is_workload rule then 1 else 0)
 
 -- how many events, or listed times with repeats, a rule's monitor at a point watches
 abbrev pub watches_at : Parts → Rule → Point → ℕ

@@ -1,12 +1,15 @@
 -- Which parts make an instance: every number names something, every set has the size of what it is
 -- a set of, and so on. Each fact has a name.
-use Rattle.std.specs.Prelude.{ℕ, ◌+◌, ◌*◌, ◌≡◌, ◌≢◌, ◌<◌, ◌≤◌, ◌==◌, ◌⊎◌, Bool, true, Some, List, [], ◌∷◌, map, length, All, AllPairs, slice_get, IfSome, IsSome}
+use Rattle.std.specs.Prelude.{ℕ, ◌+◌, ◌*◌, ◌≡◌, ◌≢◌, ◌<◌, ◌≤◌, ◌==◌, ◌⊎◌, Bool, true, Some, List, [], ◌∷◌, map, length}
+use Rattle.std.specs.Prelude.{All, AllPairs, slice_get, IfSome, IsSome}
 use Rattle.std.specs.List.{filter, filter_map, sum_by, range_with_len}
 use Rattle.std.specs.List.Sorted.{IsNonDecreasing}
 use Rattle.std.specs.Option.{option_map}
 use Rattle.khe_base.specs.Names.{are_distinct}
 use Rattle.khe_base.specs.Units.{IsUnit}
-use Rattle.khe_base.specs.declared.limits.TheConstants.{NUMBER, GREATEST_BOUND, TIMES, RESOURCE_TYPES, RESOURCES, EVENTS, EVENT_GROUPS, CONSTRAINTS, DURATION, TASKS, CELLS, LISTED, MONITORS, WATCHES, UNIT, WEIGHT}
+use Rattle.khe_base.specs.declared.limits.TheConstants.{NUMBER, GREATEST_BOUND, TIMES, RESOURCE_TYPES, RESOURCES}
+use Rattle.khe_base.specs.declared.limits.TheConstants.{EVENTS, EVENT_GROUPS, CONSTRAINTS, DURATION, TASKS, CELLS}
+use Rattle.khe_base.specs.declared.limits.TheConstants.{LISTED, MONITORS, WATCHES, UNIT, WEIGHT}
 use Rattle.khe_base.specs.declared.numbers.EventId.{EventId}
 use Rattle.khe_base.specs.declared.numbers.ResourceId.{ResourceId}
 use Rattle.khe_instance.specs.Kinds.{kind_of}
@@ -17,11 +20,17 @@ use Rattle.khe_instance.specs.declared.parts.Parts.{Parts}
 use Rattle.khe_instance.specs.declared.parts.Place.{Place}
 use Rattle.khe_instance.specs.declared.points.Monitor.{Monitor}
 use Rattle.khe_instance.specs.declared.points.Point.{Point}
-use Rattle.khe_instance.specs.declared.points.Point.TheVariants.{Event, EventResource, EventGroup, EventPair as Pair, Resource}
+use Rattle.khe_instance.specs.declared.points.Point.TheVariants.{Event, EventResource, EventGroup, EventPair as Pair}
+use Rattle.khe_instance.specs.declared.points.Point.TheVariants.{Resource}
 use Rattle.khe_instance.specs.declared.rules.Constraint.{Constraint}
 use Rattle.khe_instance.specs.declared.rules.EventPair.{EventPair}
 use Rattle.khe_instance.specs.declared.rules.Rule.{Rule}
-use Rattle.khe_instance.specs.declared.rules.Rule.TheVariants.{AssignTime, AssignResource, SplitEvents, DistributeSplitEvents, PreferTimes, PreferResources, AvoidSplitAssignments, SpreadEvents, LinkEvents, OrderEvents, AvoidClashes, AvoidUnavailableTimes, LimitIdleTimes, ClusterBusyTimes, LimitBusyTimes, LimitWorkload}
+use Rattle.khe_instance.specs.declared.rules.Rule.TheVariants.{AssignTime, AssignResource, SplitEvents}
+use Rattle.khe_instance.specs.declared.rules.Rule.TheVariants.{DistributeSplitEvents, PreferTimes, PreferResources}
+use Rattle.khe_instance.specs.declared.rules.Rule.TheVariants.{AvoidSplitAssignments, SpreadEvents, LinkEvents}
+use Rattle.khe_instance.specs.declared.rules.Rule.TheVariants.{OrderEvents, AvoidClashes, AvoidUnavailableTimes}
+use Rattle.khe_instance.specs.declared.rules.Rule.TheVariants.{LimitIdleTimes, ClusterBusyTimes, LimitBusyTimes}
+use Rattle.khe_instance.specs.declared.rules.Rule.TheVariants.{LimitWorkload}
 
 -- a duration is at least 1
 abbrev pub IsDuration : ℕ → Type 0
@@ -66,8 +75,10 @@ IsRule p (SplitEvents a b c d) = AreBounds a b × AreBounds c d
 IsRule p (DistributeSplitEvents d least greatest) = IsDuration d × AreBounds least greatest
 IsRule p (PreferTimes times duration) = IsTimes p times × IfSome duration IsDuration
 IsRule p (PreferResources resources role) = length resources ≡ length p.resources
-IsRule p (SpreadEvents spreads) = All (λ s. IsTimes p s.group × AreBounds s.min s.max) spreads × (length spreads ≤ LISTED)
-IsRule p (OrderEvents pairs) = All (λ q. (q.first.0 < length p.events) × (q.second.0 < length p.events) × AreBounds q.min q.max) pairs
+IsRule p (SpreadEvents spreads) = All (λ s. IsTimes p s.group × AreBounds s.min s.max) spreads
+    × (length spreads ≤ LISTED)
+IsRule p (OrderEvents pairs) = All (λ q. (q.first.0 < length p.events) × (q.second.0 < length p.events)
+    × AreBounds q.min q.max) pairs
 IsRule p (AvoidUnavailableTimes times) = IsTimes p times
 IsRule p (LimitIdleTimes groups least greatest) = AreListed p groups × AreBounds least greatest
 IsRule p (ClusterBusyTimes groups least greatest) = AreListed p groups × AreBounds least greatest
@@ -123,7 +134,8 @@ IsPointOf p (LimitWorkload least greatest) point = IsResourcePoint p point
 
 -- a monitor has its constraint's kind and a point of that kind
 abbrev pub IsMonitor : Parts → Monitor → Type 0
-IsMonitor p m = (c : Constraint) × (slice_get p.constraints m.constraint ≡ Some c) × (m.kind ≡ kind_of c.rule) × IsPointOf p c.rule m.point
+IsMonitor p m = (c : Constraint) × (slice_get p.constraints m.constraint ≡ Some c) × (m.kind ≡ kind_of c.rule)
+    × IsPointOf p c.rule m.point
 
 -- the points of a constraint's monitors, in order
 abbrev pub points_of : Parts → ℕ → List Point

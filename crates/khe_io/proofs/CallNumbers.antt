@@ -25,7 +25,8 @@ none_to_come-next (number ∷ failing) made sound =
     (none_to_come-next failing made parts.1)
 
 -- so a next call that is listed can't be
-pub listed : (failing : List ℕ) (made next : ℕ) (others : List ℕ) → none_to_come failing made ≡ true → next ≡ made + 1 → others ≡ failing
+pub listed : (failing : List ℕ) (made next : ℕ) (others : List ℕ) → none_to_come failing made ≡ true → next ≡ made + 1
+    → others ≡ failing
     → list_any (λ number. nat_eq number next) others ≡ true → false ≡ true
 listed failing made next others sound after same found =
     let none : list_any (λ number. nat_eq number (made + 1)) failing ≡ false = none_to_come-next failing made sound in

@@ -1,14 +1,17 @@
 -- The files of a shelf by their numbers, and the first of a name.
-use Rattle.std.proofs.Common.{◌≡◌, ◌∙◌, sym, ap, refl, ℕ, zero, suc, ◌+◌, ◌-◌, ◌<◌, ◌≤◌, List, [], ◌∷◌, ◌++◌, length, get_or, drop, take, Some, true, encode_utf8_all, arith, take-append-drop, min, ◌↔◌}
+use Rattle.std.proofs.Common.{◌≡◌, ◌∙◌, sym, ap, refl, ℕ, zero, suc, ◌+◌, ◌-◌, ◌<◌, ◌≤◌, List, [], ◌∷◌, ◌++◌, length}
+use Rattle.std.proofs.Common.{get_or, drop, take, Some, true, encode_utf8_all, arith, take-append-drop, min, ◌↔◌}
 use Rattle.std.specs.Option.{option_map}
 use Rattle.std.specs.Str.{bytes_eq}
-use Rattle.std.proofs.lemmas.List.{drop_more, take_at, take_rest, drop-drop, length-drop, length-take-le, nil_from_length}
+use Rattle.std.proofs.lemmas.List.{drop_more, take_at, take_rest, drop-drop, length-drop, length-take-le}
+use Rattle.std.proofs.lemmas.List.{nil_from_length}
 use Rattle.std.proofs.lemmas.Bool.{cond-true}
 use Rattle.khe_io.specs.declared.named.Named.{Named}
 use Rattle.khe_io.specs.Named.{bytes_at, bytes_under}
 
 -- the file with a number has these bytes
-pub bytes_at-get_or : (files : List Named) (number : ℕ) (d : Named) → number < length files → bytes_at files number ≡ (get_or files number d).bytes
+pub bytes_at-get_or : (files : List Named) (number : ℕ) (d : Named) → number < length files
+    → bytes_at files number ≡ (get_or files number d).bytes
 bytes_at-get_or [] number d within = absurd (omega arith)
 bytes_at-get_or (file ∷ files) zero d within = refl
 bytes_at-get_or (file ∷ files) (suc number) d within = bytes_at-get_or files number d (omega arith)
@@ -32,14 +35,16 @@ bytes_at-read files number file bytes within read same =
     bytes_at-get_or files number file within ∙ ap (λ (one : Named). one.bytes) (sym read) ∙ sym same
 
 -- the next bytes were copied to the front of a buffer
-pub drop-copied : (bytes front buf : List ℕ) (from count : ℕ) → front ≡ take count (drop from bytes) → count ≤ length (drop from bytes)
+pub drop-copied : (bytes front buf : List ℕ) (from count : ℕ) → front ≡ take count (drop from bytes)
+    → count ≤ length (drop from bytes)
     → drop from bytes ≡ take (from + count - from) (front ++ drop count buf) ++ drop (from + count) bytes
 drop-copied bytes front buf from count copied fits =
     let same : from + count - from ≡ count = omega arith in
     let long : length front ≡ count = ap length copied ∙ length-take-le count (drop from bytes) fits in
     let first : take count (front ++ drop count buf) ≡ front = take_at front (drop count buf) count long in
     let rest : drop count (drop from bytes) ≡ drop (from + count) bytes = drop-drop count from bytes in
-    let parts : take count (drop from bytes) ++ drop count (drop from bytes) ≡ drop from bytes = take-append-drop count (drop from bytes) in
+    let parts : take count (drop from bytes) ++ drop count (drop from bytes) ≡ drop from bytes =
+    take-append-drop count (drop from bytes) in
     rw same (rw first (rw copied (rw (← rest) (sym parts))))
 
 -- how many bytes a copy takes: what is left, what fits, and what may be given at once
@@ -48,11 +53,13 @@ pub record IsCount (bytes : List ℕ) (from room most count : ℕ) : Type 0 wher
   pub left : fitting ≡ min (length (take (length bytes - from) (drop from bytes))) room
   pub least : count ≡ min fitting most
 
-pub IsCount-left : (bytes : List ℕ) (from room most count : ℕ) → IsCount bytes from room most count → count ≤ length (drop from bytes)
+pub IsCount-left : (bytes : List ℕ) (from room most count : ℕ) → IsCount bytes from room most count
+    → count ≤ length (drop from bytes)
 IsCount-left bytes from room most count counted =
     omega (arith, counted.left, counted.least, ap length (take_rest bytes from))
 
-pub IsCount-from : (bytes : List ℕ) (from room most count : ℕ) → IsCount bytes from room most count → from ≤ length bytes → from + count ≤ length bytes
+pub IsCount-from : (bytes : List ℕ) (from room most count : ℕ) → IsCount bytes from room most count
+    → from ≤ length bytes → from + count ≤ length bytes
 IsCount-from bytes from room most count counted placed =
     omega (arith, IsCount-left bytes from room most count counted, length-drop from bytes)
 
@@ -60,7 +67,8 @@ IsCount-from bytes from room most count counted placed =
 pub IsCount-end : (bytes : List ℕ) (from room most count : ℕ) → IsCount bytes from room most count → 0 < room → 1 ≤ most
     → (from + count - from ≡ 0) ↔ (drop from bytes ≡ [])
 IsCount-end bytes from room most count counted fits some = (
-  λ none. nil_from_length (drop from bytes) (omega (arith, counted.left, counted.least, ap length (take_rest bytes from))),
+  λ none. nil_from_length (drop from bytes) (omega
+      (arith, counted.left, counted.least, ap length (take_rest bytes from))),
   λ none. omega (arith, counted.left, counted.least, ap length (take_rest bytes from), ap length none),
 )
 

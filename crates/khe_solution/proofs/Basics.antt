@@ -1,5 +1,6 @@
 -- Tests, options and lists of refusals.
-use Rattle.std.proofs.Common.{ℕ, ◌≡◌, ◌<◌, zero, suc, Bool, true, false, cond, Option, Some, None, List, [], ◌∷◌, length, set, refl, sym, ap, subst, ◌∙◌, arith, inl, inr, ◌⊎◌}
+use Rattle.std.proofs.Common.{ℕ, ◌≡◌, ◌<◌, zero, suc, Bool, true, false, cond, Option, Some, None, List, [], ◌∷◌}
+use Rattle.std.proofs.Common.{length, set, refl, sym, ap, subst, ◌∙◌, arith, inl, inr, ◌⊎◌}
 use Rattle.std.specs.Prelude.{not, is_some, is_none, slice_get}
 use Rattle.std.proofs.lemmas.Bool.{cases_lt}
 use Rattle.std.proofs.lemmas.List.{get_or_past}
@@ -45,14 +46,16 @@ cases_eq a b = elim (cases_lt a b) [
 ]
 
 -- two writes at two places of a list may change sides
-pub set_comm : {A : Type 0} (xs : List A) (i j : ℕ) (a b : A) → (j ≡ i → ⊥) → set (set xs i a) j b ≡ set (set xs j b) i a
+pub set_comm : {A : Type 0} (xs : List A) (i j : ℕ) (a b : A) → (j ≡ i → ⊥)
+    → set (set xs i a) j b ≡ set (set xs j b) i a
 set_comm [] i j a b n = refl
 set_comm (x ∷ xs) zero zero a b n = absurd (n refl)
 set_comm (x ∷ xs) zero (suc j) a b n = refl
 set_comm (x ∷ xs) (suc i) zero a b n = refl
 set_comm (x ∷ xs) (suc i) (suc j) a b n = ap (λ ys. x ∷ ys) (set_comm xs i j a b (λ e. n (ap suc e)))
 
-pub slice_get-set_other : {A : Type 0} (xs : List A) (i k : ℕ) (a : A) → (k ≡ i → ⊥) → slice_get (set xs i a) k ≡ slice_get xs k
+pub slice_get-set_other : {A : Type 0} (xs : List A) (i k : ℕ) (a : A) → (k ≡ i → ⊥)
+    → slice_get (set xs i a) k ≡ slice_get xs k
 slice_get-set_other [] i k a n = refl
 slice_get-set_other (x ∷ xs) zero zero a n = absurd (n refl)
 slice_get-set_other (x ∷ xs) zero (suc k) a n = refl
@@ -64,7 +67,8 @@ abbrev pub AllPass : List (Bool × Refusal) → Type 0
 AllPass [] = Unit {0}
 AllPass (q ∷ rest) = (q.0 ≡ false) × AllPass rest
 
-passes : (t : Bool) (r : Refusal) (rest : List (Bool × Refusal)) → cond t (Some r) (first_refusal rest) ≡ None → (t ≡ false) × (first_refusal rest ≡ None)
+passes : (t : Bool) (r : Refusal) (rest : List (Bool × Refusal)) → cond t (Some r) (first_refusal rest) ≡ None
+    → (t ≡ false) × (first_refusal rest ≡ None)
 passes true r rest h = absurd (there-none r h)
 passes false r rest h = (refl, h)
 
@@ -76,5 +80,6 @@ passed ((test, r) ∷ rest) h = let a = passes test r rest h in (a.0, passed res
 pub live_there : (s : List Slot) (m : ℕ) → is_live (slot_at s m) ≡ true → m < length s
 live_there s m h = elim (cases_lt m (length s)) [
   | inl l ↦ l
-  | inr g ↦ let v = some_value (slot_at s m).span h in absurd (there-none v.0 (sym v.1 ∙ ap (λ (x : Slot). x.span) (get_or_past s m no_slot g)))
+  | inr g ↦ let v = some_value (slot_at s m).span h in
+      absurd (there-none v.0 (sym v.1 ∙ ap (λ (x : Slot). x.span) (get_or_past s m no_slot g)))
 ]

@@ -1,5 +1,6 @@
 -- What follows for every edit, and for every record that leads back.
-use Rattle.std.proofs.Common.{ℕ, ◌≡◌, ◌+◌, ◌-◌, ◌^◌, ◌<◌, ◌≤◌, arith, inl, inr, set, length, get_or-set_same, true, Option, Some, None, List, sym, ap, subst, ◌∙◌}
+use Rattle.std.proofs.Common.{ℕ, ◌≡◌, ◌+◌, ◌-◌, ◌^◌, ◌<◌, ◌≤◌, arith, inl, inr, set, length, get_or-set_same, true}
+use Rattle.std.proofs.Common.{Option, Some, None, List, sym, ap, subst, ◌∙◌}
 use Rattle.khe_instance.specs.declared.parts.Parts.{Parts}
 use Rattle.khe_told.proofs.SlotLaws.{after_inverses, all_fit_inverses}
 use Rattle.khe_told.proofs.WatcherLaws.{watchers_inverses}
@@ -8,7 +9,9 @@ use Rattle.khe_told.specs.Changes.{after_all, inverses}
 use Rattle.khe_told.specs.Fits.{AllFit, IsSlot}
 use Rattle.khe_told.specs.declared.slots.Slot.{Slot}
 use Rattle.khe_told.specs.declared.edits.Edit.{Edit}
-use Rattle.khe_told.specs.declared.edits.Edit.TheVariants.{Assign, Unassign, MoveTo, Split, Merge, SwapMeets, Give, Take, Regive, SwapTasks, Attach, Detach, MakeGroup, DropGroup, AddChild, RemoveChild}
+use Rattle.khe_told.specs.declared.edits.Edit.TheVariants.{Assign, Unassign, MoveTo, Split, Merge, SwapMeets, Give}
+use Rattle.khe_told.specs.declared.edits.Edit.TheVariants.{Take, Regive, SwapTasks, Attach, Detach, MakeGroup}
+use Rattle.khe_told.specs.declared.edits.Edit.TheVariants.{DropGroup, AddChild, RemoveChild}
 use Rattle.khe_told.specs.declared.edits.Back.{Back}
 use Rattle.khe_told.specs.declared.edits.Back.TheVariants.{By, Cut, Make, Insert}
 use Rattle.khe_told.specs.Slots.{no_slot, slot_at, length_of, start_of}
@@ -34,7 +37,8 @@ use Rattle.khe_solution.proofs.ResourceEdits.{give_works, take_works, regive_wor
 use Rattle.khe_solution.proofs.MeetEdits.{split_works, merge_works, may_cut}
 use Rattle.khe_solution.proofs.Owners.{room_for}
 
-pub edit_works : (p : Parts) (s : List Slot) (e : Edit) → AreValid p s → is_of_meets e ≡ true → refusal p s e ≡ None → Works p s e
+pub edit_works : (p : Parts) (s : List Slot) (e : Edit) → AreValid p s → is_of_meets e ≡ true → refusal p s e ≡ None
+    → Works p s e
 unfolding refusal
 edit_works p s (Assign m t) v o h = assign_works p s m t v h
 edit_works p s (Unassign m) v o h = unassign_works p s m v h
@@ -53,23 +57,28 @@ edit_works p s (DropGroup g) v o h = absurd (true-false (sym o))
 edit_works p s (AddChild g m) v o h = absurd (true-false (sym o))
 edit_works p s (RemoveChild g m) v o h = absurd (true-false (sym o))
 
-pub edit_fits : (p : Parts) (s : List Slot) (e : Edit) → AreValid p s → is_of_meets e ≡ true → refusal p s e ≡ None → AllFit p s (changes s e)
+pub edit_fits : (p : Parts) (s : List Slot) (e : Edit) → AreValid p s → is_of_meets e ≡ true → refusal p s e ≡ None
+    → AllFit p s (changes s e)
 edit_fits p s e v o h = (edit_works p s e v o h).goes.fits
 
-pub edit_slots : (p : Parts) (s : List Slot) (e : Edit) → AreValid p s → is_of_meets e ≡ true → refusal p s e ≡ None → after_all s (changes s e) ≡ edited s e
+pub edit_slots : (p : Parts) (s : List Slot) (e : Edit) → AreValid p s → is_of_meets e ≡ true → refusal p s e ≡ None
+    → after_all s (changes s e) ≡ edited s e
 edit_slots p s e v o h = (edit_works p s e v o h).goes.slots
 
 -- an edit that is not refused leads from a valid state to a valid one
-pub edit_valid : (p : Parts) (s : List Slot) (e : Edit) → AreValid p s → is_of_meets e ≡ true → refusal p s e ≡ None → AreValid p (after_all s (changes s e))
+pub edit_valid : (p : Parts) (s : List Slot) (e : Edit) → AreValid p s → is_of_meets e ≡ true → refusal p s e ≡ None
+    → AreValid p (after_all s (changes s e))
 edit_valid p s e v o h = let g = (edit_works p s e v o h).goes in subst (AreValid p) (sym g.slots) g.valid
 
 -- a record that leads back: the changes that it undoes lead to these slots, and their inverses back
-undo_list : (p : Parts) (s : List Slot) (b : Back) (l : LeadsBack p s b) → undone_changes s b ≡ changes (undone s b) l.edit
+undo_list : (p : Parts) (s : List Slot) (b : Back) (l : LeadsBack p s b)
+    → undone_changes s b ≡ changes (undone s b) l.edit
 undo_list p s b l =
     let w = edit_works p (undone s b) l.edit l.valid l.ours l.accepted in
     (λ i. undone_changes (l.slots i) (l.record_ i)) ∙ w.list
 
-pub undo_after : (p : Parts) (s : List Slot) (b : Back) → LeadsBack p s b → s ≡ after_all (undone s b) (undone_changes s b)
+pub undo_after : (p : Parts) (s : List Slot) (b : Back) → LeadsBack p s b
+    → s ≡ after_all (undone s b) (undone_changes s b)
 undo_after p s b l =
     let w = edit_works p (undone s b) l.edit l.valid l.ours l.accepted in
     l.slots ∙ sym w.goes.slots ∙ ap (after_all (undone s b)) (sym (undo_list p s b l))
@@ -84,21 +93,25 @@ undo_fits p s b l =
     subst (λ x. AllFit p x (inverses (undone_changes s b))) (sym (undo_after p s b l))
     (all_fit_inverses p (undone s b) (undone_changes s b) l.valid.told (undo_forth p s b l))
 
-pub undo_slots : (p : Parts) (s : List Slot) (b : Back) → LeadsBack p s b → after_all s (inverses (undone_changes s b)) ≡ undone s b
+pub undo_slots : (p : Parts) (s : List Slot) (b : Back) → LeadsBack p s b
+    → after_all s (inverses (undone_changes s b)) ≡ undone s b
 undo_slots p s b l =
     ap (λ x. after_all x (inverses (undone_changes s b))) (undo_after p s b l)
     ∙ after_inverses p (undone s b) (undone_changes s b) l.valid.told (undo_forth p s b l)
 
-pub undo_valid : (p : Parts) (s : List Slot) (b : Back) → LeadsBack p s b → AreValid p (after_all s (inverses (undone_changes s b)))
+pub undo_valid : (p : Parts) (s : List Slot) (b : Back) → LeadsBack p s b
+    → AreValid p (after_all s (inverses (undone_changes s b)))
 undo_valid p s b l = subst (AreValid p) (sym (undo_slots p s b l)) l.valid
 
-pub undo_steps : (p : Parts) (s : List Slot) (b : Back) → LeadsBack p s b → watcher_counts p s (inverses (undone_changes s b)) ≡ watcher_counts p (undone s b) (undone_changes s b)
+pub undo_steps : (p : Parts) (s : List Slot) (b : Back) → LeadsBack p s b
+    → watcher_counts p s (inverses (undone_changes s b)) ≡ watcher_counts p (undone s b) (undone_changes s b)
 undo_steps p s b l =
     ap (λ x. watcher_counts p x (inverses (undone_changes s b))) (undo_after p s b l)
     ∙ watchers_inverses p (undone s b) (undone_changes s b) l.valid.told (undo_forth p s b l)
 
 -- the record of an edit leads back
-pub back_leads : (p : Parts) (s : List Slot) (e : Edit) → AreValid p s → is_of_meets e ≡ true → refusal p s e ≡ None → LeadsBack p (edited s e) (back_of s e)
+pub back_leads : (p : Parts) (s : List Slot) (e : Edit) → AreValid p s → is_of_meets e ≡ true → refusal p s e ≡ None
+    → LeadsBack p (edited s e) (back_of s e)
 back_leads p s e v o h =
     let w = edit_works p s e v o h in
     record {
@@ -110,17 +123,20 @@ back_leads p s e v o h =
       slots = λ i. edited (sym w.back i) e;
     }
 
-pub back_slots : (p : Parts) (s : List Slot) (e : Edit) → AreValid p s → is_of_meets e ≡ true → refusal p s e ≡ None → undone (edited s e) (back_of s e) ≡ s
+pub back_slots : (p : Parts) (s : List Slot) (e : Edit) → AreValid p s → is_of_meets e ≡ true → refusal p s e ≡ None
+    → undone (edited s e) (back_of s e) ≡ s
 back_slots p s e v o h = (edit_works p s e v o h).back
 
-pub back_list : (p : Parts) (s : List Slot) (e : Edit) → AreValid p s → is_of_meets e ≡ true → refusal p s e ≡ None → undone_changes (edited s e) (back_of s e) ≡ changes s e
+pub back_list : (p : Parts) (s : List Slot) (e : Edit) → AreValid p s → is_of_meets e ≡ true → refusal p s e ≡ None
+    → undone_changes (edited s e) (back_of s e) ≡ changes s e
 back_list p s e v o h = (edit_works p s e v o h).list
 
 -- the room that a solution keeps is room for the changes of its edits, and what they cut is in range
 pub edit_room : (p : Parts) (s : List Slot) (c : ℕ) → AreValid p s → AreWellMade p → HasRoom p c → AreRoomy s c
 edit_room p s c v w r = room_for p s c v.told w r
 
-starts_within : (o : Option Span) (cut n : ℕ) → IfSome o (λ y. IfSome y.start (λ t. t.0 + y.duration ≤ n)) → cut ≤ option_map_or (λ (y : Span). y.duration) o 0 → n < 2 ^ 32
+starts_within : (o : Option Span) (cut n : ℕ) → IfSome o (λ y. IfSome y.start (λ t. t.0 + y.duration ≤ n))
+    → cut ≤ option_map_or (λ (y : Span). y.duration) o 0 → n < 2 ^ 32
     → IfSome (option_and_then (λ (y : Span). y.start) o) (λ t. t.0 + cut < 2 ^ 32)
 starts_within None cut n i l k = tt
 starts_within (Some y) cut n i l k = at_start y.start i
@@ -129,7 +145,8 @@ starts_within (Some y) cut n i l k = at_start y.start i
     at_start None h = tt
     at_start (Some t) h = omega (arith, h, l, k)
 
-pub edit_cuts : (p : Parts) (s : List Slot) (e : Edit) → AreValid p s → AreWellMade p → refusal p s e ≡ None → CutsWithin s e
+pub edit_cuts : (p : Parts) (s : List Slot) (e : Edit) → AreValid p s → AreWellMade p → refusal p s e ≡ None
+    → CutsWithin s e
 unfolding refusal
 edit_cuts p s (Split m cut) v w h =
     let x = slot_at s m.0 in
@@ -158,7 +175,8 @@ edit_cuts p s (DropGroup g) v w h = tt
 edit_cuts p s (AddChild g m) v w h = tt
 edit_cuts p s (RemoveChild g m) v w h = tt
 
-cut_within : (p : Parts) (s : List Slot) (a : MeetId) (cut : ℕ) (b : MeetId) → AreWellMade p → AreValid p (cut_at s a.0 cut b.0) → StartsLater s a cut
+cut_within : (p : Parts) (s : List Slot) (a : MeetId) (cut : ℕ) (b : MeetId) → AreWellMade p
+    → AreValid p (cut_at s a.0 cut b.0) → StartsLater s a cut
 cut_within p s a cut b w v = elim (cases_lt a.0 (length s)) [
   | inl l ↦
       let x = slot_at s a.0 in

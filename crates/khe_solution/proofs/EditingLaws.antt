@@ -1,5 +1,6 @@
 -- Slots in which a meet has another start, or a task another resource.
-use Rattle.std.proofs.Common.{ℕ, ◌≡◌, ◌<◌, true, Option, Some, None, List, length, set, refl, sym, ap, subst, ◌∙◌, inl, inr, get_or-set_same, get_or-set_other, set-set}
+use Rattle.std.proofs.Common.{ℕ, ◌≡◌, ◌<◌, true, Option, Some, None, List, length, set, refl, sym, ap, subst, ◌∙◌, inl}
+use Rattle.std.proofs.Common.{inr, get_or-set_same, get_or-set_other, set-set}
 use Rattle.std.specs.Prelude.{is_some}
 use Rattle.std.specs.Option.{option_map, option_map_or, option_and_then}
 use Rattle.std.proofs.lemmas.List.{length-set, set-get_or}
@@ -44,7 +45,8 @@ span_lasts : (o : Option Span) (t : Option TimeId) → span_length (timed_span o
 span_lasts None t = refl
 span_lasts (Some y) t = refl
 
-pub span_of : (o : Option Span) (t : Option TimeId) → is_some o ≡ true → span_start o ≡ t → o ≡ Some (record { duration = span_length o; start = t })
+pub span_of : (o : Option Span) (t : Option TimeId) → is_some o ≡ true → span_start o ≡ t
+    → o ≡ Some (record { duration = span_length o; start = t })
 span_of None t h e = absurd (true-false (sym h))
 span_of (Some y) t h e = ap (λ u. Some (record { duration = y.duration; start = u })) e
 
@@ -64,13 +66,16 @@ pub start_lasts : (x : Slot) (t : Option TimeId) → length_of (with_start x t) 
 start_lasts x t = span_lasts x.span t
 
 -- a meet with another start
-pub timed_same : (s : List Slot) (m : MeetId) (t : Option TimeId) → m.0 < length s → slot_at (timed s m t) m.0 ≡ with_start (slot_at s m.0) t
+pub timed_same : (s : List Slot) (m : MeetId) (t : Option TimeId) → m.0 < length s
+    → slot_at (timed s m t) m.0 ≡ with_start (slot_at s m.0) t
 timed_same s m t l = get_or-set_same s m.0 (with_start (slot_at s m.0) t) no_slot l
 
-pub timed_other : (s : List Slot) (m : MeetId) (t : Option TimeId) (n : ℕ) → (n ≡ m.0 → ⊥) → slot_at (timed s m t) n ≡ slot_at s n
+pub timed_other : (s : List Slot) (m : MeetId) (t : Option TimeId) (n : ℕ) → (n ≡ m.0 → ⊥)
+    → slot_at (timed s m t) n ≡ slot_at s n
 timed_other s m t n d = get_or-set_other s m.0 n (with_start (slot_at s m.0) t) no_slot d
 
-pub timed_twice : (s : List Slot) (m : MeetId) (t u : Option TimeId) → m.0 < length s → timed (timed s m t) m u ≡ timed s m u
+pub timed_twice : (s : List Slot) (m : MeetId) (t u : Option TimeId) → m.0 < length s
+    → timed (timed s m t) m u ≡ timed s m u
 timed_twice s m t u l =
     let x = slot_at s m.0 in
     ap (λ z. set (timed s m t) m.0 (with_start z u)) (timed_same s m t l)
@@ -80,10 +85,12 @@ timed_twice s m t u l =
 pub timed_none : (s : List Slot) (m : MeetId) (t : Option TimeId) → start_of (slot_at s m.0) ≡ t → timed s m t ≡ s
 timed_none s m t e = ap (timed s m) (sym e) ∙ ap (set s m.0) (start_same (slot_at s m.0)) ∙ set-get_or s m.0 no_slot
 
-pub timed_back : (s : List Slot) (m : MeetId) (t u : Option TimeId) → m.0 < length s → start_of (slot_at s m.0) ≡ u → timed (timed s m t) m u ≡ s
+pub timed_back : (s : List Slot) (m : MeetId) (t u : Option TimeId) → m.0 < length s → start_of (slot_at s m.0) ≡ u
+    → timed (timed s m t) m u ≡ s
 timed_back s m t u l e = timed_twice s m t u l ∙ timed_none s m u e
 
-pub timed_comm : (s : List Slot) (a b : MeetId) (t u : Option TimeId) → (b.0 ≡ a.0 → ⊥) → timed (timed s a t) b u ≡ timed (timed s b u) a t
+pub timed_comm : (s : List Slot) (a b : MeetId) (t u : Option TimeId) → (b.0 ≡ a.0 → ⊥)
+    → timed (timed s a t) b u ≡ timed (timed s b u) a t
 timed_comm s a b t u d =
     ap (λ z. set (timed s a t) b.0 (with_start z u)) (timed_other s a t b.0 d)
     ∙ set_comm s a.0 b.0 (with_start (slot_at s a.0) t) (with_start (slot_at s b.0) u) d
@@ -95,22 +102,27 @@ pub record IsRetimed (x y : Slot) : Type 0 where
   pub live : is_live x ≡ is_live y
   pub lasts : length_of x ≡ length_of y
 
-pub timed_reads : (s : List Slot) (m : MeetId) (t : Option TimeId) (n : ℕ) → m.0 < length s → IsRetimed (slot_at (timed s m t) n) (slot_at s n)
+pub timed_reads : (s : List Slot) (m : MeetId) (t : Option TimeId) (n : ℕ) → m.0 < length s
+    → IsRetimed (slot_at (timed s m t) n) (slot_at s n)
 timed_reads s m t n l = elim (cases_eq n m.0) [
   | inl e ↦ subst (λ k. IsRetimed (slot_at (timed s m t) k) (slot_at s k)) (sym e)
       (subst (λ z. IsRetimed z (slot_at s m.0)) (sym (timed_same s m t l))
       (record { event = refl; live = start_live (slot_at s m.0) t; lasts = start_lasts (slot_at s m.0) t }))
-  | inr d ↦ subst (λ z. IsRetimed z (slot_at s n)) (sym (timed_other s m t n d)) (record { event = refl; live = refl; lasts = refl })
+  | inr d ↦ subst (λ z. IsRetimed z (slot_at s n)) (sym (timed_other s m t n d))
+      (record { event = refl; live = refl; lasts = refl })
 ]
 
 -- a task with another resource
-pub staffed_slot : (s : List Slot) (t : TaskId) (r : Option ResourceId) → t.meet.0 < length s → slot_at (staffed s t r) t.meet.0 ≡ with_resource (slot_at s t.meet.0) t.place r
+pub staffed_slot : (s : List Slot) (t : TaskId) (r : Option ResourceId) → t.meet.0 < length s
+    → slot_at (staffed s t r) t.meet.0 ≡ with_resource (slot_at s t.meet.0) t.place r
 staffed_slot s t r l = get_or-set_same s t.meet.0 (with_resource (slot_at s t.meet.0) t.place r) no_slot l
 
-pub staffed_away : (s : List Slot) (t : TaskId) (r : Option ResourceId) (n : ℕ) → (n ≡ t.meet.0 → ⊥) → slot_at (staffed s t r) n ≡ slot_at s n
+pub staffed_away : (s : List Slot) (t : TaskId) (r : Option ResourceId) (n : ℕ) → (n ≡ t.meet.0 → ⊥)
+    → slot_at (staffed s t r) n ≡ slot_at s n
 staffed_away s t r n d = get_or-set_other s t.meet.0 n (with_resource (slot_at s t.meet.0) t.place r) no_slot d
 
-pub staffed_twice : (s : List Slot) (t : TaskId) (q r : Option ResourceId) → t.meet.0 < length s → staffed (staffed s t q) t r ≡ staffed s t r
+pub staffed_twice : (s : List Slot) (t : TaskId) (q r : Option ResourceId) → t.meet.0 < length s
+    → staffed (staffed s t q) t r ≡ staffed s t r
 staffed_twice s t q r l =
     let x = slot_at s t.meet.0 in
     let k = t.place in
@@ -121,9 +133,11 @@ staffed_twice s t q r l =
 pub staffed_none : (s : List Slot) (t : TaskId) (r : Option ResourceId) → resource_at s t ≡ r → staffed s t r ≡ s
 staffed_none s t r e =
     let x = slot_at s t.meet.0 in
-    ap (staffed s t) (sym e) ∙ ap (set s t.meet.0) (λ j. record x { given = set-get_or x.given t.place None j }) ∙ set-get_or s t.meet.0 no_slot
+    ap (staffed s t) (sym e) ∙ ap (set s t.meet.0) (λ j. record x { given = set-get_or x.given t.place None j })
+    ∙ set-get_or s t.meet.0 no_slot
 
-pub staffed_back : (s : List Slot) (t : TaskId) (q r : Option ResourceId) → t.meet.0 < length s → resource_at s t ≡ r → staffed (staffed s t q) t r ≡ s
+pub staffed_back : (s : List Slot) (t : TaskId) (q r : Option ResourceId) → t.meet.0 < length s → resource_at s t ≡ r
+    → staffed (staffed s t q) t r ≡ s
 staffed_back s t q r l e = staffed_twice s t q r l ∙ staffed_none s t r e
 
 -- two tasks are not the same
@@ -144,27 +158,36 @@ comm_within s m j k q r d l =
     ∙ sym (set-set s m.0 (with_resource x k r) (with_resource (with_resource x k r) j q))
     ∙ sym (ap (λ z. set (staffed s (at_place m k) r) m.0 (with_resource z j q)) (staffed_slot s (at_place m k) r l))
 
-comm_across : (s : List Slot) (a b : TaskId) (q r : Option ResourceId) → (b.meet.0 ≡ a.meet.0 → ⊥) → staffed (staffed s a q) b r ≡ staffed (staffed s b r) a q
+comm_across : (s : List Slot) (a b : TaskId) (q r : Option ResourceId) → (b.meet.0 ≡ a.meet.0 → ⊥)
+    → staffed (staffed s a q) b r ≡ staffed (staffed s b r) a q
 comm_across s a b q r d =
     ap (λ z. set (staffed s a q) b.meet.0 (with_resource z b.place r)) (staffed_away s a q b.meet.0 d)
-    ∙ set_comm s a.meet.0 b.meet.0 (with_resource (slot_at s a.meet.0) a.place q) (with_resource (slot_at s b.meet.0) b.place r) d
-    ∙ sym (ap (λ z. set (staffed s b r) a.meet.0 (with_resource z a.place q)) (staffed_away s b r a.meet.0 (λ e. d (sym e))))
+    ∙ set_comm s a.meet.0 b.meet.0 (with_resource (slot_at s a.meet.0) a.place q)
+    (with_resource (slot_at s b.meet.0) b.place r) d
+    ∙ sym (ap (λ z. set (staffed s b r) a.meet.0 (with_resource z a.place q))
+    (staffed_away s b r a.meet.0 (λ e. d (sym e))))
 
-pub staffed_comm : (s : List Slot) (a b : TaskId) (q r : Option ResourceId) → AreApart a b → a.meet.0 < length s → staffed (staffed s a q) b r ≡ staffed (staffed s b r) a q
+pub staffed_comm : (s : List Slot) (a b : TaskId) (q r : Option ResourceId) → AreApart a b → a.meet.0 < length s
+    → staffed (staffed s a q) b r ≡ staffed (staffed s b r) a q
 staffed_comm s a b q r d l = elim (cases_eq b.meet.0 a.meet.0) [
-  | inl e ↦ subst (λ n. staffed (staffed s a q) (at_place (record { 0 = n }) b.place) r ≡ staffed (staffed s (at_place (record { 0 = n }) b.place) r) a q) (sym e)
+  | inl e ↦ subst (λ n. staffed (staffed s a q) (at_place (record { 0 = n }) b.place) r
+      ≡ staffed (staffed s (at_place (record { 0 = n }) b.place) r) a q) (sym e)
       (comm_within s a.meet a.place b.place q r (d e) l)
   | inr n ↦ comm_across s a b q r n
 ]
 
 -- what it is given then, and what another task is given
-pub staffed_given : (s : List Slot) (t : TaskId) (r : Option ResourceId) → t.meet.0 < length s → t.place < length (slot_at s t.meet.0).given → resource_at (staffed s t r) t ≡ r
-staffed_given s t r l k = ap (λ z. given_at z t.place) (staffed_slot s t r l) ∙ get_or-set_same (slot_at s t.meet.0).given t.place r None k
+pub staffed_given : (s : List Slot) (t : TaskId) (r : Option ResourceId) → t.meet.0 < length s
+    → t.place < length (slot_at s t.meet.0).given → resource_at (staffed s t r) t ≡ r
+staffed_given s t r l k = ap (λ z. given_at z t.place) (staffed_slot s t r l)
+    ∙ get_or-set_same (slot_at s t.meet.0).given t.place r None k
 
-pub staffed_other : (s : List Slot) (a b : TaskId) (q : Option ResourceId) → AreApart a b → a.meet.0 < length s → resource_at (staffed s a q) b ≡ resource_at s b
+pub staffed_other : (s : List Slot) (a b : TaskId) (q : Option ResourceId) → AreApart a b → a.meet.0 < length s
+    → resource_at (staffed s a q) b ≡ resource_at s b
 staffed_other s a b q d l = elim (cases_eq b.meet.0 a.meet.0) [
   | inl e ↦ subst (λ n. given_at (slot_at (staffed s a q) n) b.place ≡ given_at (slot_at s n) b.place) (sym e)
-      (ap (λ z. given_at z b.place) (staffed_slot s a q l) ∙ get_or-set_other (slot_at s a.meet.0).given a.place b.place q None (d e))
+      (ap (λ z. given_at z b.place) (staffed_slot s a q l)
+      ∙ get_or-set_other (slot_at s a.meet.0).given a.place b.place q None (d e))
   | inr n ↦ ap (λ z. given_at z b.place) (staffed_away s a q b.meet.0 n)
 ]
 
@@ -174,10 +197,12 @@ pub record IsRestaffed (x y : Slot) : Type 0 where
   pub span : x.span ≡ y.span
   pub places : length x.given ≡ length y.given
 
-pub staffed_reads : (s : List Slot) (t : TaskId) (r : Option ResourceId) (n : ℕ) → t.meet.0 < length s → IsRestaffed (slot_at (staffed s t r) n) (slot_at s n)
+pub staffed_reads : (s : List Slot) (t : TaskId) (r : Option ResourceId) (n : ℕ) → t.meet.0 < length s
+    → IsRestaffed (slot_at (staffed s t r) n) (slot_at s n)
 staffed_reads s t r n l = elim (cases_eq n t.meet.0) [
   | inl e ↦ subst (λ k. IsRestaffed (slot_at (staffed s t r) k) (slot_at s k)) (sym e)
       (subst (λ z. IsRestaffed z (slot_at s t.meet.0)) (sym (staffed_slot s t r l))
       (record { event = refl; span = refl; places = length-set (slot_at s t.meet.0).given t.place r }))
-  | inr d ↦ subst (λ z. IsRestaffed z (slot_at s n)) (sym (staffed_away s t r n d)) (record { event = refl; span = refl; places = refl })
+  | inr d ↦ subst (λ z. IsRestaffed z (slot_at s n)) (sym (staffed_away s t r n d))
+      (record { event = refl; span = refl; places = refl })
 ]

@@ -1,5 +1,6 @@
 -- The bits of free slots.
-use Rattle.std.proofs.Common.{ℕ, ◌≡◌, ◌<◌, ◌≤◌, ◌*◌, ◌^◌, true, false, cond, nat_eq, nat_lt, Option, Some, None, List, length, refl, sym, ap, ◌∙◌, arith, inl, inr, get_or-set_same, get_or-set_other}
+use Rattle.std.proofs.Common.{ℕ, ◌≡◌, ◌<◌, ◌≤◌, ◌*◌, ◌^◌, true, false, cond, nat_eq, nat_lt, Option, Some, None, List}
+use Rattle.std.proofs.Common.{length, refl, sym, ap, ◌∙◌, arith, inl, inr, get_or-set_same, get_or-set_other}
 use Rattle.std.specs.Prelude.{◌&&◌, is_none, is_some, MatchOption}
 use Rattle.std.proofs.lemmas.Bool.{and_parts, eq-eqb, lt-ltb, ltb-true, ne_eqb}
 use Rattle.std.proofs.lemmas.List.{length-set}
@@ -22,21 +23,26 @@ live_one None h = absurd (true-false h)
 live_one (Some y) h = refl
 
 -- a slot of a list whose bit is not set is live
-live_at : (s : List Slot) (words : List ℕ) (k : ℕ) → AreFree s words → k < length s → is_set words k ≡ false → is_live (slot_at s k) ≡ true
+live_at : (s : List Slot) (words : List ℕ) (k : ℕ) → AreFree s words → k < length s → is_set words k ≡ false
+    → is_live (slot_at s k) ≡ true
 live_at s words k a l h =
-    let b : is_none (slot_at s k).span ≡ false = ap (λ t. t && is_none (slot_at s k).span) (sym (lt-ltb k (length s) l)) ∙ sym (a.bits k) ∙ h in
+    let b : is_none (slot_at s k).span ≡ false = ap (λ t. t && is_none (slot_at s k).span) (sym (lt-ltb k (length s) l))
+    ∙ sym (a.bits k) ∙ h in
     live_one (slot_at s k).span b
 
-first_free_is : (s : List Slot) (words : List ℕ) (from n : ℕ) → AreFree s words → IsFirst words from n → IsFirstFree s from n
+first_free_is : (s : List Slot) (words : List ℕ) (from n : ℕ) → AreFree s words → IsFirst words from n
+    → IsFirstFree s from n
 first_free_is s words from n a i =
     let b = and_parts (nat_lt n (length s)) (is_none (slot_at s n).span) (sym (a.bits n) ∙ i.1) in
     let l = ltb-true n (length s) b.0 in
     (i.0, l, not_live (slot_at s n).span b.1, λ k f h. live_at s words k a (omega (arith, h, l)) (i.2 k f h))
 
-none_free : (s : List Slot) (words : List ℕ) (from : ℕ) → AreFree s words → ((m : ℕ) → from ≤ m → is_set words m ≡ false) → AreLive s from (length s)
+none_free : (s : List Slot) (words : List ℕ) (from : ℕ) → AreFree s words
+    → ((m : ℕ) → from ≤ m → is_set words m ≡ false) → AreLive s from (length s)
 none_free s words from a h k f l = live_at s words k a l (h k f)
 
-pub first_free_or_none : (s : List Slot) (words : List ℕ) (from : ℕ) (r : Option ℕ) → AreFree s words → MatchOption r ((m : ℕ) → from ≤ m → is_set words m ≡ false) (λ n. IsFirst words from n)
+pub first_free_or_none : (s : List Slot) (words : List ℕ) (from : ℕ) (r : Option ℕ) → AreFree s words
+    → MatchOption r ((m : ℕ) → from ≤ m → is_set words m ≡ false) (λ n. IsFirst words from n)
     → MatchOption r (AreLive s from (length s)) (λ n. IsFirstFree s from n)
 first_free_or_none s words from None a h = none_free s words from a h
 first_free_or_none s words from (Some n) a h = first_free_is s words from n a h
@@ -52,8 +58,10 @@ freed (Some y) (change.Lift m t) = refl
 freed o (change.Give t r) = refl
 freed o (change.Take t r) = refl
 
-pub free_kept : (s : List Slot) (c : Change) (words words2 : List ℕ) → meet_of c < length s → AreFree s words → length words2 ≡ length words
-    → ((m : ℕ) → is_set words2 m ≡ cond (nat_eq m (meet_of c)) (frees c (is_set words m)) (is_set words m)) → AreFree (after s c) words2
+pub free_kept : (s : List Slot) (c : Change) (words words2 : List ℕ) → meet_of c < length s → AreFree s words
+    → length words2 ≡ length words
+    → ((m : ℕ) → is_set words2 m ≡ cond (nat_eq m (meet_of c)) (frees c (is_set words m)) (is_set words m))
+    → AreFree (after s c) words2
 free_kept s c words words2 l a n h =
     let x = slot_at s (meet_of c) in
     let k = length-set s (meet_of c) (changed x c) in
@@ -67,8 +75,10 @@ free_kept s c words words2 l a n h =
           let x = slot_at s (meet_of c) in
           let in_range : nat_lt m (length s) ≡ true = lt-ltb m (length s) (omega (arith, e, l)) in
           let mine : is_set words m ≡ is_none x.span = a.bits m ∙ (λ i. in_range i && is_none (slot_at s (e i)).span) in
-          let there : slot_at (after s c) m ≡ changed x c = ap (slot_at (after s c)) e ∙ get_or-set_same s (meet_of c) (changed x c) no_slot l in
-          let new_range : nat_lt m (length (after s c)) ≡ true = ap (nat_lt m) (length-set s (meet_of c) (changed x c)) ∙ in_range in
+          let there : slot_at (after s c) m ≡ changed x c =
+          ap (slot_at (after s c)) e ∙ get_or-set_same s (meet_of c) (changed x c) no_slot l in
+          let new_range : nat_lt m (length (after s c)) ≡ true =
+          ap (nat_lt m) (length-set s (meet_of c) (changed x c)) ∙ in_range in
           h m ∙ ap (λ b. cond b (frees c (is_set words m)) (is_set words m)) (eq-eqb m (meet_of c) e)
           ∙ ap (frees c) mine ∙ sym (freed x.span c) ∙ sym (λ i. new_range i && is_none (there i).span)
       | inr d ↦
@@ -79,7 +89,8 @@ free_kept s c words words2 l a n h =
     ]
 
 -- the bits of all slots
-pub all_set : (s : List Slot) (n : ℕ) (words : List ℕ) → AreSetBelow s n words → length s ≤ n → n ≤ length s → length s ≤ 64 * length words → length words < 2 ^ 32 → AreFree s words
+pub all_set : (s : List Slot) (n : ℕ) (words : List ℕ) → AreSetBelow s n words → length s ≤ n → n ≤ length s
+    → length s ≤ 64 * length words → length words < 2 ^ 32 → AreFree s words
 all_set s n words a l g r f =
     let e : n ≡ length s = omega (arith, l, g) in
     record { room = r; few = f; bits = λ m. a m ∙ ap (λ k. nat_lt m k && is_none (slot_at s m).span) e }

@@ -1,5 +1,7 @@
 -- The edits of meets: Split and Merge.
-use Rattle.std.proofs.Common.{ℕ, ◌≡◌, ◌+◌, ◌-◌, ◌<◌, ◌≤◌, zero, suc, Bool, true, false, cond, Option, Some, None, List, [], ◌∷◌, length, set, slice_get, refl, sym, ap, subst, ◌∙◌, arith, get_or-set_same, get_or-set_other, set-set}
+use Rattle.std.proofs.Common.{ℕ, ◌≡◌, ◌+◌, ◌-◌, ◌<◌, ◌≤◌, zero, suc, Bool, true, false, cond, Option, Some, None, List}
+use Rattle.std.proofs.Common.{[], ◌∷◌, length, set, slice_get, refl, sym, ap, subst, ◌∙◌, arith, get_or-set_same}
+use Rattle.std.proofs.Common.{get_or-set_other, set-set}
 use Rattle.std.specs.Prelude.{IfSome, ◌==◌, is_none, is_some, replicate}
 use Rattle.std.specs.Option.{option_map_or}
 use Rattle.std.proofs.lemmas.Bool.{and_parts, eq-eqb, eqb-true, leb-false}
@@ -22,7 +24,8 @@ use Rattle.khe_instance.specs.Lookups.{place_at}
 use Rattle.khe_solution.specs.Reading.{is_fixed_event, is_free_of, free_slot, same_resource, same_given, follows}
 use Rattle.khe_solution.specs.Refusing.{first_refusal, split_row, merge_row}
 use Rattle.khe_solution.specs.Editing.{edited, with_meet, later, cut_at, joined_at}
-use Rattle.khe_solution.specs.Changing.{changes, cutting, joining, whole, first_part, second_part, joined, cut_changes, join_changes}
+use Rattle.khe_solution.specs.Changing.{changes, cutting, joining, whole, first_part, second_part, joined, cut_changes}
+use Rattle.khe_solution.specs.Changing.{join_changes}
 use Rattle.khe_solution.specs.Backs.{back_of, undone, undone_changes}
 use Rattle.khe_told.specs.Valid.{AreValid, IsKeptBy, IsFixedAs}
 use Rattle.khe_solution.proofs.Basics.{true-false, not-false, passed, live_there, set_comm}
@@ -44,7 +47,8 @@ set_first s m n u v l = let k = length-set s n v in get_or-set_same (set s n v) 
 set_second : (s : List Slot) (m n : ℕ) (u v : Slot) → (n ≡ m → ⊥) → n < length s → slot_at (both_set s m n u v) n ≡ v
 set_second s m n u v d l = get_or-set_other (set s n v) m n u no_slot d ∙ get_or-set_same s n v no_slot l
 
-set_again : (s : List Slot) (m n : ℕ) (u v u2 v2 : Slot) → (n ≡ m → ⊥) → both_set (both_set s m n u v) m n u2 v2 ≡ both_set s m n u2 v2
+set_again : (s : List Slot) (m n : ℕ) (u v u2 v2 : Slot) → (n ≡ m → ⊥)
+    → both_set (both_set s m n u v) m n u2 v2 ≡ both_set s m n u2 v2
 set_again s m n u v u2 v2 d =
     ap (λ q. set q m u2) (set_comm (set s n v) m n u v2 d ∙ ap (λ q. set q m u) (set-set s n v v2))
     ∙ set-set (set s n v2) m u u2
@@ -53,9 +57,11 @@ set_none : (s : List Slot) (m n : ℕ) → both_set s m n (slot_at s m) (slot_at
 set_none s m n = ap (λ q. set q m (slot_at s m)) (set-get_or s n no_slot) ∙ set-get_or s m no_slot
 
 -- a valid state in which two slots of an event hold as much together
-valid_pair : (p : Parts) (s : List Slot) (m n : ℕ) (u v : Slot) → AreValid p s → ArePair p s m n → AreTold p (both_set s m n u v)
+valid_pair : (p : Parts) (s : List Slot) (m n : ℕ) (u v : Slot) → AreValid p s → ArePair p s m n
+    → AreTold p (both_set s m n u v)
     → ((e : ℕ) → held_by e u + held_by e v ≡ held_by e (slot_at s m) + held_by e (slot_at s n))
-    → ((e : ℕ) (event : EventInfo) (t : TimeId) → slice_get p.events e ≡ Some event → event.fixed ≡ Some t → IsFixedAs e t event.duration u × IsFixedAs e t event.duration v)
+    → ((e : ℕ) (event : EventInfo) (t : TimeId) → slice_get p.events e ≡ Some event → event.fixed ≡ Some t
+    → IsFixedAs e t event.duration u × IsFixedAs e t event.duration v)
     → IsKeptBy p u → IsKeptBy p v → AreValid p (both_set s m n u v)
 valid_pair p s m n u v ok w told h fix i j = record {
   told = told;
@@ -64,13 +70,15 @@ valid_pair p s m n u v ok w told h fix i j = record {
       let a = sum_by-set (held_by e) s n v no_slot w.second in
       let first : m < length (set s n v) = let k = w.first in omega (arith, l, k) in
       let b = sum_by-set (held_by e) (set s n v) m u no_slot first in
-      let same : held_by e (slot_at (set s n v) m) ≡ held_by e (slot_at s m) = ap (held_by e) (get_or-set_other s n m v no_slot (λ q. w.apart (sym q))) in
+      let same : held_by e (slot_at (set s n v) m) ≡ held_by e (slot_at s m) =
+      ap (held_by e) (get_or-set_other s n m v no_slot (λ q. w.apart (sym q))) in
       let c = ok.whole e event g in
       let d = h e in
       omega (arith, a, b, same, c, d);
   fixed = λ e event t g f.
       let q = fix e event t g f in
-      All-set (IsFixedAs e t event.duration) (set s n v) m u q.0 (All-set (IsFixedAs e t event.duration) s n v q.1 (ok.fixed e event t g f));
+      All-set (IsFixedAs e t event.duration) (set s n v) m u q.0
+      (All-set (IsFixedAs e t event.duration) s n v q.1 (ok.fixed e event t g f));
   kept = All-set (IsKeptBy p) (set s n v) m u i (All-set (IsKeptBy p) s n v j ok.kept);
 }
 
@@ -82,7 +90,8 @@ held_pair true false q r q2 r2 e h = absurd (true-false (sym e))
 held_pair false true q r q2 r2 e h = absurd (true-false e)
 
 -- a slot with the meet of another of its event, as far as its places are kept
-kept_with : (p : Parts) (x z : Slot) (d : ℕ) (t : Option TimeId) → z.event.0 ≡ x.event.0 → is_live x ≡ true → IsKeptBy p x → IsKeptBy p (with_meet z d t x.given)
+kept_with : (p : Parts) (x z : Slot) (d : ℕ) (t : Option TimeId) → z.event.0 ≡ x.event.0 → is_live x ≡ true
+    → IsKeptBy p x → IsKeptBy p (with_meet z d t x.given)
 kept_with p x z d t e live h k place r a b c = h k place r (ap (λ q. place_at p.events q k) (sym e) ∙ a) b live
 
 kept_empty : (p : Parts) (z : Slot) → IsKeptBy p (emptied z)
@@ -95,7 +104,8 @@ pub record MayCut (p : Parts) (s : List Slot) (m : MeetId) (cut : ℕ) : Type 0 
   pub some : 1 ≤ cut
   pub less : cut < length_of (slot_at s m.0)
 
-pub may_cut : (p : Parts) (s : List Slot) (m : MeetId) (cut : ℕ) → first_refusal (split_row p s m cut) ≡ None → MayCut p s m cut
+pub may_cut : (p : Parts) (s : List Slot) (m : MeetId) (cut : ℕ) → first_refusal (split_row p s m cut) ≡ None
+    → MayCut p s m cut
 may_cut p s m cut h =
     let x = slot_at s m.0 in
     let a = passed (split_row p s m cut) h in
@@ -107,8 +117,10 @@ may_cut p s m cut h =
     positive zero d = absurd (d refl)
     positive (suc n) d = omega arith
 
-pub new_slot : (p : Parts) (s : List Slot) (m : MeetId) → AreTold p s → is_live (slot_at s m.0) ≡ true → 2 ≤ length_of (slot_at s m.0)
-    → ArePair p s m.0 (free_slot s (slot_at s m.0).event.0) × ((slot_at s (free_slot s (slot_at s m.0).event.0)).span ≡ None)
+pub new_slot : (p : Parts) (s : List Slot) (m : MeetId) → AreTold p s → is_live (slot_at s m.0) ≡ true
+    → 2 ≤ length_of (slot_at s m.0)
+    → ArePair p s m.0 (free_slot s (slot_at s m.0).event.0)
+    × ((slot_at s (free_slot s (slot_at s m.0).event.0)).span ≡ None)
 new_slot p s m t live d =
     let x = slot_at s m.0 in
     let e = x.event.0 in
@@ -134,7 +146,8 @@ new_slot p s m t live d =
     no_span None h = refl
     no_span (Some y) h = absurd (true-false (sym h))
 
-split_goes : (p : Parts) (s : List Slot) (m : MeetId) (cut n : ℕ) → AreValid p s → MayCut p s m cut → ArePair p s m.0 n → (slot_at s n).span ≡ None
+split_goes : (p : Parts) (s : List Slot) (m : MeetId) (cut n : ℕ) → AreValid p s → MayCut p s m cut → ArePair p s m.0 n
+    → (slot_at s n).span ≡ None
     → Goes p s (cut_changes s m cut (record { 0 = n })) (cut_at s m.0 cut n)
 split_goes p s m cut n v c w none =
     let x = slot_at s m.0 in
@@ -150,14 +163,20 @@ split_goes p s m cut n v c w none =
     record {
       fits = leads.fits;
       slots = leads.slots;
-      valid = valid_pair p s m.0 n u y v w (subst (AreTold p) leads.slots (told_after p s (cut_changes s m cut (record { 0 = n })) v.told leads.fits))
-          (λ e. held_pair (x.event.0 == e) (z.event.0 == e) cut (length_of x - cut) (length_of x) (length_of z) (ap (λ q. q == e) w.event) sum)
-          (λ e event t a f. ((λ q r. absurd (not_fixed p x e event t c.free a f q)), (λ q r. absurd (not_fixed p x e event t c.free a f (sym w.event ∙ q)))))
+      valid = valid_pair p s m.0 n u y v w (subst (AreTold p) leads.slots
+          (told_after p s (cut_changes s m cut (record { 0 = n })) v.told leads.fits))
+          (λ e. held_pair (x.event.0 == e) (z.event.0 == e) cut (length_of x - cut) (length_of x) (length_of z)
+          (ap (λ q. q == e) w.event) sum)
+          (λ e event t a f. (
+            (λ q r. absurd (not_fixed p x e event t c.free a f q)),
+            (λ q r. absurd (not_fixed p x e event t c.free a f (sym w.event ∙ q))),
+          ))
           (kept_with p x x cut (start_of x) refl c.live kx)
           (kept_with p x z (length_of x - cut) (later cut (start_of x)) w.event c.live kx);
     }
 
-pub split_works : (p : Parts) (s : List Slot) (m : MeetId) (cut : ℕ) → AreValid p s → first_refusal (split_row p s m cut) ≡ None → Works p s (Split m cut)
+pub split_works : (p : Parts) (s : List Slot) (m : MeetId) (cut : ℕ) → AreValid p s
+    → first_refusal (split_row p s m cut) ≡ None → Works p s (Split m cut)
 unfolding changes edited back_of undone undone_changes
 split_works p s m cut v h =
     let x = slot_at s m.0 in
@@ -178,16 +197,23 @@ split_works p s m cut v h =
     let sum : cut + rest ≡ length_of x = let k = c.less in omega (arith, k) in
     let hx = span_of x.span t c.live refl in
     let empty = (All-get_or (IsSlot p) s n no_slot w.second v.told.slots).empty f.1 in
-    let backx : with_meet x (cut + rest) t g ≡ x = ap (λ d. with_meet x d t g) sum ∙ (λ i. record x { span = sym hx i }) in
-    let backz : emptied y ≡ z = λ i. record z { span = sym f.1 i; given = (ap (λ k. replicate k None) (sym w.places) ∙ sym empty) i } in
+    let backx : with_meet x (cut + rest) t g ≡ x =
+    ap (λ d. with_meet x d t g) sum ∙ (λ i. record x { span = sym hx i }) in
+    let backz : emptied y ≡ z = λ i. record z {
+      span = sym f.1 i;
+      given =
+          (ap (λ k. replicate k None) (sym w.places) ∙ sym empty) i;
+    } in
     record {
       goes = split_goes p s m cut n v c w f.1;
-      back = (λ i. both_set s2 m.0 n (with_meet (ix i) (length_of (ix i) + length_of (iz i)) (start_of (ix i)) (ix i).given) (emptied (iz i)))
+      back = (λ i. both_set s2 m.0 n (with_meet (ix i) (length_of (ix i) + length_of (iz i)) (start_of (ix i))
+          (ix i).given) (emptied (iz i)))
           ∙ set_again s m.0 n u y (with_meet x (cut + rest) t g) (emptied y) w.apart
           ∙ (λ i. both_set s m.0 n (backx i) (backz i))
           ∙ set_none s m.0 n;
       list = (λ i. cutting (ix i).given (joined m (ix i) (iz i)) (whole m (ix i)) (whole (record { 0 = n }) (iz i)))
-          ∙ (λ i. cutting g (record { meet = m; duration = sum i; start = t }) (first_part m x cut) (second_part (record { 0 = n }) x cut));
+          ∙ (λ i. cutting g (record { meet = m; duration = sum i; start = t }) (first_part m x cut)
+          (second_part (record { 0 = n }) x cut));
     }
 
 -- where one meet follows another
@@ -197,7 +223,8 @@ later_start None d (Some b) h = absurd (true-false (sym h))
 later_start (Some a) d None h = absurd (true-false (sym h))
 later_start (Some a) d (Some b) h = ap (λ n. Some (record { 0 = n })) (eqb-true (a.0 + d) b.0 h)
 
-later_end : (t : Option TimeId) (d k n : ℕ) (u : Option TimeId) → follows t d u ≡ true → IfSome u (λ q. q.0 + k ≤ n) → IfSome t (λ q. q.0 + (d + k) ≤ n)
+later_end : (t : Option TimeId) (d k n : ℕ) (u : Option TimeId) → follows t d u ≡ true → IfSome u (λ q. q.0 + k ≤ n)
+    → IfSome t (λ q. q.0 + (d + k) ≤ n)
 later_end None d k n u h e = tt
 later_end (Some a) d k n None h e = absurd (true-false (sym h))
 later_end (Some a) d k n (Some b) h e = let f = eqb-true (a.0 + d) b.0 h in omega (arith, f, e)
@@ -225,7 +252,8 @@ record MayJoin (p : Parts) (s : List Slot) (a b : MeetId) : Type 0 where
   pub start : follows (start_of (slot_at s a.0)) (length_of (slot_at s a.0)) (start_of (slot_at s b.0)) ≡ true
   pub given : (slot_at s b.0).given ≡ (slot_at s a.0).given
 
-may_join : (p : Parts) (s : List Slot) (a b : MeetId) → AreTold p s → first_refusal (merge_row s a b) ≡ None → MayJoin p s a b
+may_join : (p : Parts) (s : List Slot) (a b : MeetId) → AreTold p s → first_refusal (merge_row s a b) ≡ None
+    → MayJoin p s a b
 may_join p s a b t h =
     let x = slot_at s a.0 in
     let z = slot_at s b.0 in
@@ -252,14 +280,17 @@ may_join p s a b t h =
     }
 
 -- a meet of an event with a preassigned time is the only one of it
-alone : (p : Parts) (s s2 : List Slot) (a b : MeetId) (e : ℕ) (event : EventInfo) (t : TimeId) → AreValid p s → MayJoin p s a b → slice_get p.events e ≡ Some event → event.fixed ≡ Some t
-    → (slot_at s a.0).event.0 ≡ e → held e s2 ≡ held e s → length_of (slot_at s a.0) + length_of (slot_at s b.0) ≤ held e s2 → ⊥
+alone : (p : Parts) (s s2 : List Slot) (a b : MeetId) (e : ℕ) (event : EventInfo) (t : TimeId) → AreValid p s
+    → MayJoin p s a b → slice_get p.events e ≡ Some event → event.fixed ≡ Some t
+    → (slot_at s a.0).event.0 ≡ e → held e s2 ≡ held e s
+    → length_of (slot_at s a.0) + length_of (slot_at s b.0) ≤ held e s2 → ⊥
 alone p s s2 a b e event t v j g f own h l =
     let x = slot_at s a.0 in
     let z = slot_at s b.0 in
     let w = j.pair in
     let fx = All-get_or (IsFixedAs e t event.duration) s a.0 no_slot w.first (v.fixed e event t g f) own j.first in
-    let fz = All-get_or (IsFixedAs e t event.duration) s b.0 no_slot w.second (v.fixed e event t g f) (w.event ∙ own) j.second in
+    let fz = All-get_or (IsFixedAs e t event.duration) s b.0 no_slot w.second (v.fixed e event t g f) (w.event ∙ own)
+    j.second in
     let ix = All-get_or (IsSlot p) s a.0 no_slot w.first v.told.slots in
     let d : 1 ≤ length_of x = lasts x.span j.first ix.duration in
     let c = v.whole e event g in
@@ -267,11 +298,13 @@ alone p s s2 a b e event t v j g f own h l =
     let r = fz.1 in
     omega (arith, q, r, d, c, h, l)
   where
-    lasts : (o : Option Span) → is_some o ≡ true → IfSome o (λ y. 1 ≤ y.duration) → 1 ≤ option_map_or (λ (y : Span). y.duration) o 0
+    lasts : (o : Option Span) → is_some o ≡ true → IfSome o (λ y. 1 ≤ y.duration)
+        → 1 ≤ option_map_or (λ (y : Span). y.duration) o 0
     lasts None k i = absurd (true-false (sym k))
     lasts (Some y) k i = i
 
-merge_goes : (p : Parts) (s : List Slot) (a b : MeetId) → AreValid p s → MayJoin p s a b → Goes p s (join_changes s a b) (joined_at s a.0 b.0)
+merge_goes : (p : Parts) (s : List Slot) (a b : MeetId) → AreValid p s → MayJoin p s a b
+    → Goes p s (join_changes s a b) (joined_at s a.0 b.0)
 merge_goes p s a b v j =
     let x = slot_at s a.0 in
     let z = slot_at s b.0 in
@@ -284,11 +317,13 @@ merge_goes p s a b v j =
     let iz = All-get_or (IsSlot p) s b.0 no_slot w.second v.told.slots in
     let endz : IfSome (start_of z) (λ q. q.0 + length_of z ≤ length p.times) =
     subst (λ o. IfSome o (λ (y : Span). IfSome y.start (λ q. q.0 + y.duration ≤ length p.times))) hz iz.ends in
-    let leads = joining_leads p s a b (length_of x) (length_of z) t (start_of z) w hx hz j.given (later_end t (length_of x) (length_of z) (length p.times) (start_of z) j.start endz) in
+    let leads = joining_leads p s a b (length_of x) (length_of z) t (start_of z) w hx hz j.given
+    (later_end t (length_of x) (length_of z) (length p.times) (start_of z) j.start endz) in
     let u = with_meet x d t g in
     let y = emptied z in
     let s2 = both_set s a.0 b.0 u y in
-    let same : both_set s a.0 b.0 u (with_none z (row (length g))) ≡ s2 = λ i. both_set s a.0 b.0 u (with_none z (row (sym w.places i))) in
+    let same : both_set s a.0 b.0 u (with_none z (row (length g))) ≡ s2 =
+    λ i. both_set s a.0 b.0 u (with_none z (row (sym w.places i))) in
     let to = leads.slots ∙ same in
     let told : AreTold p s2 = subst (AreTold p) to (told_after p s (join_changes s a b) v.told leads.fits) in
     let sum : d + 0 ≡ length_of x + length_of z = omega arith in
@@ -299,13 +334,19 @@ merge_goes p s a b v j =
       fits = leads.fits;
       slots = to;
       valid = valid_pair p s a.0 b.0 u y v w told sums
-          (λ e event q k f. ((λ own live. absurd (both_fixed e event q k f own told sums)), (λ own live. absurd (true-false (sym live)))))
+          (λ e event q k f. (
+            (λ own live. absurd (both_fixed e event q k f own told sums)),
+            (λ own live. absurd (true-false (sym live))),
+          ))
           (kept_with p x x d t refl j.first kx) (kept_empty p z);
     }
   where
-    both_fixed : (e : ℕ) (event : EventInfo) (q : TimeId) → slice_get p.events e ≡ Some event → event.fixed ≡ Some q → (slot_at s a.0).event.0 ≡ e
+    both_fixed : (e : ℕ) (event : EventInfo) (q : TimeId) → slice_get p.events e ≡ Some event → event.fixed ≡ Some q
+        → (slot_at s a.0).event.0 ≡ e
         → AreTold p (joined_at s a.0 b.0)
-        → ((k : ℕ) → held_by k (with_meet (slot_at s a.0) (length_of (slot_at s a.0) + length_of (slot_at s b.0)) (start_of (slot_at s a.0)) (slot_at s a.0).given) + held_by k (emptied (slot_at s b.0)) ≡ held_by k (slot_at s a.0) + held_by k (slot_at s b.0)) → ⊥
+        → ((k : ℕ) → held_by k (with_meet (slot_at s a.0) (length_of (slot_at s a.0) + length_of (slot_at s b.0))
+        (start_of (slot_at s a.0)) (slot_at s a.0).given) + held_by k (emptied (slot_at s b.0))
+        ≡ held_by k (slot_at s a.0) + held_by k (slot_at s b.0)) → ⊥
     both_fixed e event q k f own told sums =
         let x = slot_at s a.0 in
         let z = slot_at s b.0 in
@@ -320,16 +361,19 @@ merge_goes p s a b v j =
         let there : a.0 < length s2 = let i = w.first in omega (arith, n, m, i) in
         let h1 = sum_by-set (held_by e) s b.0 y no_slot w.second in
         let h2 = sum_by-set (held_by e) s1 a.0 u no_slot first in
-        let same : held_by e (slot_at s1 a.0) ≡ held_by e x = ap (held_by e) (get_or-set_other s b.0 a.0 y no_slot (λ i. w.apart (sym i))) in
+        let same : held_by e (slot_at s1 a.0) ≡ held_by e x =
+        ap (held_by e) (get_or-set_other s b.0 a.0 y no_slot (λ i. w.apart (sym i))) in
         let all = sums e in
         let total : held e s2 ≡ held e s = omega (arith, h1, h2, same, all) in
         let one = one_held e s2 a.0 there in
         let mine : held_by e (slot_at s2 a.0) ≡ length_of x + length_of z =
-        ap (held_by e) (set_first s a.0 b.0 u y w.first) ∙ ap (λ c. cond c (length_of x + length_of z) 0) (eq-eqb x.event.0 e own) in
+        ap (held_by e) (set_first s a.0 b.0 u y w.first)
+        ∙ ap (λ c. cond c (length_of x + length_of z) 0) (eq-eqb x.event.0 e own) in
         let big : length_of x + length_of z ≤ held e s2 = omega (arith, one, mine) in
         alone p s s2 a b e event q v j k f own total big
 
-pub merge_works : (p : Parts) (s : List Slot) (a b : MeetId) → AreValid p s → first_refusal (merge_row s a b) ≡ None → Works p s (Merge a b)
+pub merge_works : (p : Parts) (s : List Slot) (a b : MeetId) → AreValid p s → first_refusal (merge_row s a b) ≡ None
+    → Works p s (Merge a b)
 unfolding changes edited back_of undone undone_changes
 merge_works p s a b v h =
     let x = slot_at s a.0 in
@@ -350,10 +394,12 @@ merge_works p s a b v h =
     let rest : d - dx ≡ length_of z = omega arith in
     let next = later_start t dx (start_of z) j.start in
     let backx : with_meet x dx t g ≡ x = λ i. record x { span = sym hx i } in
-    let backz : with_meet z (d - dx) (later dx t) g ≡ z = (λ i. with_meet z (rest i) (next i) (sym j.given i)) ∙ (λ i. record z { span = sym hz i }) in
+    let backz : with_meet z (d - dx) (later dx t) g ≡ z =
+    (λ i. with_meet z (rest i) (next i) (sym j.given i)) ∙ (λ i. record z { span = sym hz i }) in
     record {
       goes = merge_goes p s a b v j;
-      back = (λ i. both_set s2 a.0 b.0 (with_meet (ix i) dx (start_of (ix i)) (ix i).given) (with_meet (iz i) (length_of (ix i) - dx) (later dx (start_of (ix i))) (ix i).given))
+      back = (λ i. both_set s2 a.0 b.0 (with_meet (ix i) dx (start_of (ix i)) (ix i).given)
+          (with_meet (iz i) (length_of (ix i) - dx) (later dx (start_of (ix i))) (ix i).given))
           ∙ set_again s a.0 b.0 u y (with_meet x dx t g) (with_meet z (d - dx) (later dx t) g) w.apart
           ∙ (λ i. both_set s a.0 b.0 (backx i) (backz i))
           ∙ set_none s a.0 b.0;

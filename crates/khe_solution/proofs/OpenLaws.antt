@@ -12,6 +12,8 @@ use Rattle.khe_told.specs.Slots.{IsBareIfFree}
 use Rattle.khe_told.specs.Valid.{AreValid}
 use Rattle.khe_told.specs.declared.slots.Slot.{Slot}
 
-pub open_valid : (p : Parts) (s : List Slot) (plain : Plain) → AreWellMade p → AreTold p s → meets_in s ≡ plain.meets → tasks_in s ≡ plain.tasks → IsValid p plain → AreValid p s
+pub open_valid : (p : Parts) (s : List Slot) (plain : Plain) → AreWellMade p → AreTold p s → meets_in s ≡ plain.meets
+    → tasks_in s ≡ plain.tasks → IsValid p plain → AreValid p s
 open_valid p s plain w t m k v =
-    valid_listed p s plain w.first_meets t.whose (All-weaker (IsSlot p) IsBareIfFree (λ x i. i.empty) s t.slots) (sym m) (sym k) v
+    valid_listed p s plain w.first_meets t.whose (All-weaker (IsSlot p) IsBareIfFree (λ x i. i.empty) s t.slots) (sym m)
+    (sym k) v

@@ -12,6 +12,7 @@ use Rattle.khe_solution.specs.Reading.{Shows}
 pub meet_shown : (x : Slot) (r : Option Meet) → r ≡ meet_in x → MatchOption r (is_live x ≡ false) (Shows x)
 meet_shown x r e = subst (λ o. MatchOption o (is_live x ≡ false) (Shows x)) (sym e) (at_span x.span)
   where
-    at_span : (o : Option Span) → MatchOption (meet_in (record x { span = o })) (is_live (record x { span = o }) ≡ false) (Shows (record x { span = o }))
+    at_span : (o : Option Span) → MatchOption (meet_in (record x { span = o }))
+        (is_live (record x { span = o }) ≡ false) (Shows (record x { span = o }))
     at_span None = refl
     at_span (Some y) = record { live = refl; event = refl; start = refl; duration = refl }

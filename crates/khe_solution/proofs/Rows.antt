@@ -1,5 +1,7 @@
 -- Taking and giving all that the places of one meet have.
-use Rattle.std.proofs.Common.{ℕ, ◌≡◌, ◌+◌, zero, suc, ◌<◌, Option, Some, None, List, [], ◌∷◌, ◌++◌, length, set, slice_get, refl, sym, ap, subst, ◌∙◌, arith, get_or-set_same, set-set, append_assoc, length-append}
+use Rattle.std.proofs.Common.{ℕ, ◌≡◌, ◌+◌, zero, suc, ◌<◌, Option, Some, None, List, [], ◌∷◌, ◌++◌, length, set}
+use Rattle.std.proofs.Common.{slice_get, refl, sym, ap, subst, ◌∙◌, arith, get_or-set_same, set-set, append_assoc}
+use Rattle.std.proofs.Common.{length-append}
 use Rattle.std.specs.Prelude.{replicate}
 use Rattle.std.proofs.lemmas.List.{length-set}
 use Rattle.khe_base.specs.declared.numbers.MeetId.{MeetId}
@@ -23,7 +25,8 @@ Below as_ bs = (j : ℕ) (r : ResourceId) → slice_get as_ j ≡ Some (Some r) 
 abbrev pub having : Slot → List (Option ResourceId) → Slot
 having x given = record x { given = given }
 
-pub below_slot : (p : Parts) (x : Slot) (y : Span) (g h : List (Option ResourceId)) → x.span ≡ Some y → IsSlot p (having x h) → Below g h → IsSlot p (having x g)
+pub below_slot : (p : Parts) (x : Slot) (y : Span) (g h : List (Option ResourceId)) → x.span ≡ Some y
+    → IsSlot p (having x h) → Below g h → IsSlot p (having x g)
 below_slot p x y g h s i b = record {
   duration = i.duration;
   ends = i.ends;
@@ -31,11 +34,14 @@ below_slot p x y g h s i b = record {
   empty = λ n. absurd (subst IsThere (sym s ∙ n) tt);
 }
 
-set-seam : {A : Type 0} (front rest : List A) (a b : A) (k : ℕ) → k ≡ length front → set (front ++ a ∷ rest) k b ≡ front ++ b ∷ rest
+set-seam : {A : Type 0} (front rest : List A) (a b : A) (k : ℕ) → k ≡ length front
+    → set (front ++ a ∷ rest) k b ≡ front ++ b ∷ rest
 set-seam [] rest a b k e = ap (λ n. set (a ∷ rest) n b) e
-set-seam (f ∷ front) rest a b k e = ap (λ n. set (f ∷ (front ++ a ∷ rest)) n b) e ∙ ap (λ xs. f ∷ xs) (set-seam front rest a b (length front) refl)
+set-seam (f ∷ front) rest a b k e = ap (λ n. set (f ∷ (front ++ a ∷ rest)) n b) e
+    ∙ ap (λ xs. f ∷ xs) (set-seam front rest a b (length front) refl)
 
-at-seam : {A : Type 0} (front rest : List A) (a : A) (k : ℕ) → k ≡ length front → slice_get (front ++ a ∷ rest) k ≡ Some a
+at-seam : {A : Type 0} (front rest : List A) (a : A) (k : ℕ) → k ≡ length front
+    → slice_get (front ++ a ∷ rest) k ≡ Some a
 at-seam [] rest a k e = ap (slice_get (a ∷ rest)) e
 at-seam (f ∷ front) rest a k e = ap (slice_get (f ∷ (front ++ a ∷ rest))) e ∙ at-seam front rest a (length front) refl
 
@@ -45,7 +51,8 @@ one_more front rest a = append_assoc front (a ∷ []) rest
 length-more : {A : Type 0} (front : List A) (a : A) (k : ℕ) → k ≡ length front → k + 1 ≡ length (front ++ a ∷ [])
 length-more front a k e = let h = length-append front (a ∷ []) in omega (arith, h, e)
 
-none_below : (front rest : List (Option ResourceId)) (r : ResourceId) → Below (front ++ None ∷ rest) (front ++ Some r ∷ rest)
+none_below : (front rest : List (Option ResourceId)) (r : ResourceId)
+    → Below (front ++ None ∷ rest) (front ++ Some r ∷ rest)
 none_below [] rest r zero u h = absurd (subst (λ o. IsThere (flat o)) (sym h) tt)
   where
     flat : Option (Option ResourceId) → Option ResourceId
@@ -56,25 +63,31 @@ none_below (f ∷ front) rest r zero u h = h
 none_below (f ∷ front) rest r (suc j) u h = none_below front rest r j u h
 
 -- one change of the resources of a slot
-turn_fits : (p : Parts) (s : List Slot) (m : ℕ) (x : Slot) (y : Span) (g h : List (Option ResourceId)) → m < length s → AreTold p (set s m (having x g)) → x.span ≡ Some y
+turn_fits : (p : Parts) (s : List Slot) (m : ℕ) (x : Slot) (y : Span) (g h : List (Option ResourceId)) → m < length s
+    → AreTold p (set s m (having x g)) → x.span ≡ Some y
     → length g ≡ length h → IsSlot p (having x h) → AreTold p (set s m (having x h))
 turn_fits p s m x y g h l t e n i =
     let there : slot_at (set s m (having x g)) m ≡ having x g = get_or-set_same s m (having x g) no_slot l in
     let l2 : m < length (set s m (having x g)) = let k = length-set s m (having x g) in omega (arith, k, l) in
     subst (AreTold p) (set-set s m (having x g) (having x h))
-    (told_kept p (set s m (having x g)) m (having x h) t l2 ((λ j. record x { span = None; given = replicate (sym n j) None }) ∙ sym (ap emptied there)) i (λ e2. sym (ap (held_by e2) there)))
+    (told_kept p (set s m (having x g)) m (having x h) t l2
+    ((λ j. record x { span = None; given = replicate (sym n j) None }) ∙ sym (ap emptied there)) i
+    (λ e2. sym (ap (held_by e2) there)))
 
-pub takes_fit : (p : Parts) (s : List Slot) (m : MeetId) (x : Slot) (y : Span) (front rest : List (Option ResourceId)) (k : ℕ) → k ≡ length front → m.0 < length s → x.span ≡ Some y
+pub takes_fit : (p : Parts) (s : List Slot) (m : MeetId) (x : Slot) (y : Span) (front rest : List (Option ResourceId))
+    (k : ℕ) → k ≡ length front → m.0 < length s → x.span ≡ Some y
     → AreTold p (set s m.0 (having x (front ++ rest))) → IsSlot p (having x (front ++ rest))
     → AllFit p (set s m.0 (having x (front ++ rest))) (takes_from m k rest)
-    × (after_all (set s m.0 (having x (front ++ rest))) (takes_from m k rest) ≡ set s m.0 (having x (front ++ replicate (length rest) None)))
+    × (after_all (set s m.0 (having x (front ++ rest))) (takes_from m k rest)
+    ≡ set s m.0 (having x (front ++ replicate (length rest) None)))
 takes_fit p s m x y front [] k e l h t i = (tt, refl)
 takes_fit p s m x y front (None ∷ rest) k e l h t i =
     let same = one_more front rest None in
     let f = takes_fit p s m x y (front ++ None ∷ []) rest (k + 1) (length-more front None k e) l h
     (subst (λ g. AreTold p (set s m.0 (having x g))) (sym same) t) (subst (λ g. IsSlot p (having x g)) (sym same) i) in (
       subst (λ g. AllFit p (set s m.0 (having x g)) (takes_from m (k + 1) rest)) same f.0,
-      ap (λ g. after_all (set s m.0 (having x g)) (takes_from m (k + 1) rest)) (sym same) ∙ f.1 ∙ ap (λ g. set s m.0 (having x g)) (one_more front (replicate (length rest) None) None),
+      ap (λ g. after_all (set s m.0 (having x g)) (takes_from m (k + 1) rest)) (sym same) ∙ f.1
+          ∙ ap (λ g. set s m.0 (having x g)) (one_more front (replicate (length rest) None) None),
     )
 takes_fit p s m x y front (Some r ∷ rest) k e l h t i =
     let big = having x (front ++ Some r ∷ rest) in
@@ -82,14 +95,17 @@ takes_fit p s m x y front (Some r ∷ rest) k e l h t i =
     let c = change.Take (record { meet = m; place = k }) r in
     let there : slot_at now m.0 ≡ big = get_or-set_same s m.0 big no_slot l in
     let one : after now c ≡ set s m.0 (having x (front ++ None ∷ rest)) =
-    ap (λ z. set now m.0 (having z (set z.given k None))) there ∙ set-set s m.0 big (having x (set (front ++ Some r ∷ rest) k None))
+    ap (λ z. set now m.0 (having z (set z.given k None))) there
+    ∙ set-set s m.0 big (having x (set (front ++ Some r ∷ rest) k None))
     ∙ ap (λ g. set s m.0 (having x g)) (set-seam front rest (Some r) None k e) in
     let less = below_slot p x y (front ++ None ∷ rest) (front ++ Some r ∷ rest) h i (none_below front rest r) in
-    let n : length (front ++ Some r ∷ rest) ≡ length (front ++ None ∷ rest) = length-append front (Some r ∷ rest) ∙ sym (length-append front (None ∷ rest)) in
+    let n : length (front ++ Some r ∷ rest) ≡ length (front ++ None ∷ rest) =
+    length-append front (Some r ∷ rest) ∙ sym (length-append front (None ∷ rest)) in
     let told = turn_fits p s m.0 x y (front ++ Some r ∷ rest) (front ++ None ∷ rest) l t h n less in
     let same = one_more front rest None in
     let f = takes_fit p s m x y (front ++ None ∷ []) rest (k + 1) (length-more front None k e) l h
-    (subst (λ g. AreTold p (set s m.0 (having x g))) (sym same) told) (subst (λ g. IsSlot p (having x g)) (sym same) less) in (
+    (subst (λ g. AreTold p (set s m.0 (having x g))) (sym same) told)
+    (subst (λ g. IsSlot p (having x g)) (sym same) less) in (
       (
         record {
           there = let j = length-set s m.0 big in omega (arith, j, l);
@@ -98,7 +114,8 @@ takes_fit p s m x y front (Some r ∷ rest) k e l h t i =
         },
         subst (λ z. AllFit p z (takes_from m (k + 1) rest)) (ap (λ g. set s m.0 (having x g)) same ∙ sym one) f.0,
       ),
-      ap (λ z. after_all z (takes_from m (k + 1) rest)) (one ∙ ap (λ g. set s m.0 (having x g)) (sym same)) ∙ f.1 ∙ ap (λ g. set s m.0 (having x g)) (one_more front (replicate (length rest) None) None),
+      ap (λ z. after_all z (takes_from m (k + 1) rest)) (one ∙ ap (λ g. set s m.0 (having x g)) (sym same)) ∙ f.1
+          ∙ ap (λ g. set s m.0 (having x g)) (one_more front (replicate (length rest) None) None),
     )
 
 -- nothing is given in a row of nothing
@@ -106,21 +123,25 @@ abbrev flat : Option (Option ResourceId) → Option ResourceId
 flat None = None
 flat (Some o) = o
 
-pub nothing_given : (n i : ℕ) (u : ResourceId) → slice_get {X = Option ResourceId} (replicate n None) i ≡ Some (Some u) → ⊥
+pub nothing_given : (n i : ℕ) (u : ResourceId) → slice_get {X = Option ResourceId} (replicate n None) i ≡ Some (Some u)
+    → ⊥
 nothing_given zero i u k = subst IsThere (sym k) tt
 nothing_given (suc n) zero u k = subst (λ o. IsThere (flat o)) (sym k) tt
 nothing_given (suc n) (suc i) u k = nothing_given n i u k
 
-seam_below : (front rest : List (Option ResourceId)) (r : ResourceId) → Below (front ++ Some r ∷ replicate (length rest) None) (front ++ Some r ∷ rest)
+seam_below : (front rest : List (Option ResourceId)) (r : ResourceId)
+    → Below (front ++ Some r ∷ replicate (length rest) None) (front ++ Some r ∷ rest)
 seam_below [] rest r zero u h = h
 seam_below [] rest r (suc j) u h = absurd (nothing_given (length rest) j u h)
 seam_below (f ∷ front) rest r zero u h = h
 seam_below (f ∷ front) rest r (suc j) u h = seam_below front rest r j u h
 
-pub gives_fit : (p : Parts) (s : List Slot) (m : MeetId) (x : Slot) (y : Span) (front rest : List (Option ResourceId)) (k : ℕ) → k ≡ length front → m.0 < length s → x.span ≡ Some y
+pub gives_fit : (p : Parts) (s : List Slot) (m : MeetId) (x : Slot) (y : Span) (front rest : List (Option ResourceId))
+    (k : ℕ) → k ≡ length front → m.0 < length s → x.span ≡ Some y
     → AreTold p (set s m.0 (having x (front ++ replicate (length rest) None))) → IsSlot p (having x (front ++ rest))
     → AllFit p (set s m.0 (having x (front ++ replicate (length rest) None))) (gives_from m k rest)
-    × (after_all (set s m.0 (having x (front ++ replicate (length rest) None))) (gives_from m k rest) ≡ set s m.0 (having x (front ++ rest)))
+    × (after_all (set s m.0 (having x (front ++ replicate (length rest) None))) (gives_from m k rest)
+    ≡ set s m.0 (having x (front ++ rest)))
 gives_fit p s m x y front [] k e l h t i = (tt, refl)
 gives_fit p s m x y front (None ∷ rest) k e l h t i =
     let same = one_more front (replicate (length rest) None) None in
@@ -128,7 +149,8 @@ gives_fit p s m x y front (None ∷ rest) k e l h t i =
     let f = gives_fit p s m x y (front ++ None ∷ []) rest (k + 1) (length-more front None k e) l h
     (subst (λ g. AreTold p (set s m.0 (having x g))) (sym same) t) (subst (λ g. IsSlot p (having x g)) (sym last) i) in (
       subst (λ g. AllFit p (set s m.0 (having x g)) (gives_from m (k + 1) rest)) same f.0,
-      ap (λ g. after_all (set s m.0 (having x g)) (gives_from m (k + 1) rest)) (sym same) ∙ f.1 ∙ ap (λ g. set s m.0 (having x g)) last,
+      ap (λ g. after_all (set s m.0 (having x g)) (gives_from m (k + 1) rest)) (sym same) ∙ f.1
+          ∙ ap (λ g. set s m.0 (having x g)) last,
     )
 gives_fit p s m x y front (Some r ∷ rest) k e l h t i =
     let none = replicate (length rest) None in
@@ -137,15 +159,18 @@ gives_fit p s m x y front (Some r ∷ rest) k e l h t i =
     let c = change.Give (record { meet = m; place = k }) r in
     let there : slot_at now m.0 ≡ big = get_or-set_same s m.0 big no_slot l in
     let one : after now c ≡ set s m.0 (having x (front ++ Some r ∷ none)) =
-    ap (λ z. set now m.0 (having z (set z.given k (Some r)))) there ∙ set-set s m.0 big (having x (set (front ++ None ∷ none) k (Some r)))
+    ap (λ z. set now m.0 (having z (set z.given k (Some r)))) there
+    ∙ set-set s m.0 big (having x (set (front ++ None ∷ none) k (Some r)))
     ∙ ap (λ g. set s m.0 (having x g)) (set-seam front none None (Some r) k e) in
     let more = below_slot p x y (front ++ Some r ∷ none) (front ++ Some r ∷ rest) h i (seam_below front rest r) in
-    let n : length (front ++ None ∷ none) ≡ length (front ++ Some r ∷ none) = length-append front (None ∷ none) ∙ sym (length-append front (Some r ∷ none)) in
+    let n : length (front ++ None ∷ none) ≡ length (front ++ Some r ∷ none) =
+    length-append front (None ∷ none) ∙ sym (length-append front (Some r ∷ none)) in
     let told = turn_fits p s m.0 x y (front ++ None ∷ none) (front ++ Some r ∷ none) l t h n more in
     let same = one_more front none (Some r) in
     let last = one_more front rest (Some r) in
     let f = gives_fit p s m x y (front ++ Some r ∷ []) rest (k + 1) (length-more front (Some r) k e) l h
-    (subst (λ g. AreTold p (set s m.0 (having x g))) (sym same) told) (subst (λ g. IsSlot p (having x g)) (sym last) i) in (
+    (subst (λ g. AreTold p (set s m.0 (having x g))) (sym same) told)
+    (subst (λ g. IsSlot p (having x g)) (sym last) i) in (
       (
         record {
           there = let j = length-set s m.0 big in omega (arith, j, l);
@@ -154,5 +179,6 @@ gives_fit p s m x y front (Some r ∷ rest) k e l h t i =
         },
         subst (λ z. AllFit p z (gives_from m (k + 1) rest)) (ap (λ g. set s m.0 (having x g)) same ∙ sym one) f.0,
       ),
-      ap (λ z. after_all z (gives_from m (k + 1) rest)) (one ∙ ap (λ g. set s m.0 (having x g)) (sym same)) ∙ f.1 ∙ ap (λ g. set s m.0 (having x g)) last,
+      ap (λ z. after_all z (gives_from m (k + 1) rest)) (one ∙ ap (λ g. set s m.0 (having x g)) (sym same)) ∙ f.1
+          ∙ ap (λ g. set s m.0 (having x g)) last,
     )

@@ -9,13 +9,15 @@ use Rattle.khe_told.specs.Slots.{slot_at, length_of, start_of}
 use Rattle.khe_told.specs.declared.slots.Slot.{Slot}
 use Rattle.khe_told.specs.declared.changes.Change.{Change}
 use Rattle.khe_told.specs.declared.edits.Edit.{Edit}
-use Rattle.khe_told.specs.declared.edits.Edit.TheVariants.{Assign, Unassign, MoveTo, Split, Merge, SwapMeets, Give, Take, Regive, SwapTasks}
+use Rattle.khe_told.specs.declared.edits.Edit.TheVariants.{Assign, Unassign, MoveTo, Split, Merge, SwapMeets, Give}
+use Rattle.khe_told.specs.declared.edits.Edit.TheVariants.{Take, Regive, SwapTasks}
 use Rattle.khe_told.specs.declared.edits.Back.{Back}
 use Rattle.khe_told.specs.declared.edits.Back.TheVariants.{By, Cut}
 use Rattle.khe_solution.specs.Reading.{resource_at, free_slot}
 use Rattle.khe_solution.specs.Refusing.{is_of_meets, refusal}
 use Rattle.khe_solution.specs.Editing.{edited, cut_at}
-use Rattle.khe_solution.specs.Changing.{lifts, places, takes, gives, cutting, joining, whole, first_part, second_part, joined}
+use Rattle.khe_solution.specs.Changing.{lifts, places, takes, gives, cutting, joining, whole, first_part, second_part}
+use Rattle.khe_solution.specs.Changing.{joined}
 use Rattle.khe_told.specs.Valid.{AreValid}
 
 -- the record that leads back from an edit, by the slots before it
@@ -38,10 +40,12 @@ undone s _ = s
 
 -- the changes of a Split and of a Merge, seen from the slots after it
 abbrev pub split_changes : List Slot → MeetId → MeetId → List Change
-split_changes s a b = let x = slot_at s a.0 in let y = slot_at s b.0 in cutting x.given (joined a x y) (whole a x) (whole b y)
+split_changes s a b = let x = slot_at s a.0 in let y = slot_at s b.0 in
+    cutting x.given (joined a x y) (whole a x) (whole b y)
 
 abbrev pub merge_changes : List Slot → MeetId → ℕ → MeetId → List Change
-merge_changes s a cut b = let x = slot_at s a.0 in joining x.given (first_part a x cut) (second_part b x cut) (whole a x)
+merge_changes s a cut b = let x = slot_at s a.0 in
+    joining x.given (first_part a x cut) (second_part b x cut) (whole a x)
 
 -- the changes of the edit that a record undoes, seen from the slots after that edit
 unfoldable pub undone_changes : List Slot → Back → List Change

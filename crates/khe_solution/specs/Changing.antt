@@ -10,7 +10,8 @@ use Rattle.khe_told.specs.declared.slots.Slot.{Slot}
 use Rattle.khe_told.specs.declared.changes.Change.{Change}
 use Rattle.khe_told.specs.declared.changes.Change.TheVariants as change
 use Rattle.khe_told.specs.declared.edits.Edit.{Edit}
-use Rattle.khe_told.specs.declared.edits.Edit.TheVariants.{Assign, Unassign, MoveTo, Split, Merge, SwapMeets, Give, Take, Regive, SwapTasks}
+use Rattle.khe_told.specs.declared.edits.Edit.TheVariants.{Assign, Unassign, MoveTo, Split, Merge, SwapMeets, Give}
+use Rattle.khe_told.specs.declared.edits.Edit.TheVariants.{Take, Regive, SwapTasks}
 use Rattle.khe_solution.specs.Reading.{resource_at, free_slot}
 use Rattle.khe_solution.specs.Editing.{later}
 use Rattle.khe_solution.specs.declared.lists.Part.{Part}
@@ -48,12 +49,15 @@ entering given a b =
 
 -- one meet becomes two
 abbrev pub cutting : List (Option ResourceId) → Part → Part → Part → List Change
-cutting given x a b = lifts x.meet x.start ++ (takes_from x.meet 0 given ++ (change.Drop x.meet x.duration ∷ entering given a b))
+cutting given x a b = lifts x.meet x.start ++ (takes_from x.meet 0 given
+    ++ (change.Drop x.meet x.duration ∷ entering given a b))
 
 -- two meets become one
 abbrev pub joining : List (Option ResourceId) → Part → Part → Part → List Change
 joining given a b x =
-    lifts a.meet a.start ++ (lifts b.meet b.start ++ (takes_from a.meet 0 given ++ (takes_from b.meet 0 given ++ (change.Drop a.meet a.duration ∷ (change.Drop b.meet b.duration
+    lifts a.meet a.start ++ (lifts b.meet b.start
+    ++ (takes_from a.meet 0 given ++ (takes_from b.meet 0 given
+    ++ (change.Drop a.meet a.duration ∷ (change.Drop b.meet b.duration
     ∷ (change.Add x.meet x.duration ∷ (gives_from x.meet 0 given ++ places x.meet x.start)))))))
 
 -- a slot's meet, the two parts of one that is cut, and the one of two that are joined
@@ -73,7 +77,8 @@ abbrev pub cut_changes : List Slot → MeetId → ℕ → MeetId → List Change
 cut_changes s m cut n = let x = slot_at s m.0 in cutting x.given (whole m x) (first_part m x cut) (second_part n x cut)
 
 abbrev pub join_changes : List Slot → MeetId → MeetId → List Change
-join_changes s a b = let x = slot_at s a.0 in let y = slot_at s b.0 in joining x.given (whole a x) (whole b y) (joined a x y)
+join_changes s a b = let x = slot_at s a.0 in let y = slot_at s b.0 in
+    joining x.given (whole a x) (whole b y) (joined a x y)
 
 unfoldable pub changes : List Slot → Edit → List Change
 changes s (Assign m t) = places m (Some t)

@@ -9,7 +9,8 @@ use Rattle.khe_told.specs.Slots.{slot_at, length_of, emptied, start_of}
 use Rattle.khe_told.specs.declared.slots.Slot.{Slot}
 use Rattle.khe_told.specs.declared.slots.Span.{Span}
 use Rattle.khe_told.specs.declared.edits.Edit.{Edit}
-use Rattle.khe_told.specs.declared.edits.Edit.TheVariants.{Assign, Unassign, MoveTo, Split, Merge, SwapMeets, Give, Take, Regive, SwapTasks}
+use Rattle.khe_told.specs.declared.edits.Edit.TheVariants.{Assign, Unassign, MoveTo, Split, Merge, SwapMeets, Give}
+use Rattle.khe_told.specs.declared.edits.Edit.TheVariants.{Take, Regive, SwapTasks}
 use Rattle.khe_told.specs.declared.refusals.Refusal.{Refusal}
 use Rattle.khe_solution.specs.Reading.{resource_at, free_slot}
 
@@ -39,13 +40,15 @@ later n t = option_map (λ (s : TimeId). record { 0 = s.0 + n }) t
 abbrev pub cut_at : List Slot → ℕ → ℕ → ℕ → List Slot
 cut_at s m cut n =
     let x = slot_at s m in
-    slice_set (slice_set s n (with_meet (slot_at s n) (length_of x - cut) (later cut (start_of x)) x.given)) m (with_meet x cut (start_of x) x.given)
+    slice_set (slice_set s n (with_meet (slot_at s n) (length_of x - cut) (later cut (start_of x)) x.given)) m
+    (with_meet x cut (start_of x) x.given)
 
 -- two meets that are joined in the slot of the first
 abbrev pub joined_at : List Slot → ℕ → ℕ → List Slot
 joined_at s m n =
     let x = slot_at s m in
-    slice_set (slice_set s n (emptied (slot_at s n))) m (with_meet x (length_of x + length_of (slot_at s n)) (start_of x) x.given)
+    slice_set (slice_set s n (emptied (slot_at s n))) m
+    (with_meet x (length_of x + length_of (slot_at s n)) (start_of x) x.given)
 
 unfoldable pub edited : List Slot → Edit → List Slot
 edited s (Assign m t) = timed s m (Some t)

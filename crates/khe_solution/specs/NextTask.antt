@@ -22,4 +22,5 @@ has_task s wanted t = has_place (slot_at s t.meet.0) t.place && same_resource wa
 abbrev pub IsNextTask : List Slot → Option ResourceId → TaskId → Option TaskId → Type 0
 IsNextTask s wanted from result = MatchOption result
     ((u : TaskId) → IsFrom from u → has_task s wanted u ≡ false)
-    (λ t. IsFrom from t × (has_task s wanted t ≡ true) × ((u : TaskId) → IsFrom from u → IsBefore u t → has_task s wanted u ≡ false))
+    (λ t. IsFrom from t × (has_task s wanted t ≡ true)
+    × ((u : TaskId) → IsFrom from u → IsBefore u t → has_task s wanted u ≡ false))

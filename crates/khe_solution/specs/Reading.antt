@@ -1,6 +1,7 @@
 -- What an edit reads of a slot, and of the event that the slot belongs to. All of it is total: a
 -- slot beyond the last one reads as one without a meet and without a place.
-use Rattle.std.specs.Prelude.{ℕ, ◌≡◌, ◌+◌, ◌==◌, Bool, true, false, ◌&&◌, nat_lt, Option, Some, None, is_none, is_some, List, [], ◌∷◌, length, slice_get}
+use Rattle.std.specs.Prelude.{ℕ, ◌≡◌, ◌+◌, ◌==◌, Bool, true, false, ◌&&◌, nat_lt, Option, Some, None, is_none, is_some}
+use Rattle.std.specs.Prelude.{List, [], ◌∷◌, length, slice_get}
 use Rattle.std.specs.List.{position_or_len}
 use Rattle.std.specs.Option.{option_map_or}
 use Rattle.khe_base.specs.declared.numbers.ResourceId.{ResourceId}
@@ -36,7 +37,8 @@ is_fixed_place p e k = option_map_or (λ (place : Place). is_some place.fixed) (
 
 -- whether a resource has the type of a place
 abbrev pub has_type : Parts → ℕ → Option Place → Bool
-has_type p r place = option_map_or (λ (e : Place). option_map_or (λ x. x.rtype == e.rtype) (slice_get p.resources r) false) place false
+has_type p r place = option_map_or (λ (e : Place). option_map_or (λ x. x.rtype == e.rtype) (slice_get p.resources r)
+    false) place false
 
 abbrev pub may_have : Parts → Option ResourceId → Option Place → Bool
 may_have p r place = option_map_or (λ (x : ResourceId). has_type p x.0 place) r true

@@ -1,6 +1,7 @@
 -- The tasks of live meets as rows of bits, one bit for each task slot: a row of those without a
 -- resource, and rows that the resources share.
-use Rattle.std.specs.Prelude.{ℕ, ◌≡◌, ◌<◌, ◌≤◌, ◌+◌, ◌*◌, ◌%◌, ◌^◌, ◌-◌, Bool, true, false, ◌&&◌, nat_eq, nat_le, nat_lt, if◌then◌else◌, Option, Some, None, List, length, take, slice_index_or}
+use Rattle.std.specs.Prelude.{ℕ, ◌≡◌, ◌<◌, ◌≤◌, ◌+◌, ◌*◌, ◌%◌, ◌^◌, ◌-◌, Bool, true, false, ◌&&◌, nat_eq, nat_le}
+use Rattle.std.specs.Prelude.{nat_lt, if◌then◌else◌, Option, Some, None, List, length, take, slice_index_or}
 use Rattle.std.specs.List.{sum_by}
 use Rattle.khe_base.specs.Bits.{is_set}
 use Rattle.khe_base.specs.declared.numbers.ResourceId.{ResourceId}
@@ -51,19 +52,23 @@ IsFirstIn t row from n = (from ≤ n) × (n < 64 * t.stride) × (is_in t row n �
 
 -- whether the row is the one of the task that has this number, of tasks from a first one on
 abbrev pub is_row_of : ℕ → ℕ → List (Option ResourceId) → ℕ → ℕ → Bool
-is_row_of first count given row n = nat_le first n && (nat_lt n (first + count) && nat_eq row (row_of (slice_index_or given (n - first) None)))
+is_row_of first count given row n = nat_le first
+    n && (nat_lt n (first + count) && nat_eq row (row_of (slice_index_or given (n - first) None)))
 
 -- the bits after one of them is put, after those of a meet's tasks are, and after a task's resource is
 -- exchanged
 abbrev pub ArePut : TaskRows → TaskRows → ℕ → ℕ → Bool → Type 0
-ArePut t u row n b = (r j : ℕ) → r < 257 → j < 64 * t.stride → is_in u r j ≡ (if nat_eq r row && nat_eq j n then b else is_in t r j)
+ArePut t u row n b = (r j : ℕ) → r < 257 → j < 64 * t.stride
+    → is_in u r j ≡ (if nat_eq r row && nat_eq j n then b else is_in t r j)
 
 abbrev pub AreAllPut : TaskRows → TaskRows → ℕ → ℕ → List (Option ResourceId) → Bool → Type 0
-AreAllPut t u first count given b = (r j : ℕ) → r < 257 → j < 64 * t.stride → is_in u r j ≡ (if is_row_of first count given r j then b else is_in t r j)
+AreAllPut t u first count given b = (r j : ℕ) → r < 257 → j < 64 * t.stride
+    → is_in u r j ≡ (if is_row_of first count given r j then b else is_in t r j)
 
 abbrev pub AreTurned : TaskRows → TaskRows → ℕ → Option ResourceId → Option ResourceId → Type 0
 AreTurned t u n old new = (r j : ℕ) → r < 257 → j < 64 * t.stride
-    → is_in u r j ≡ (if nat_eq r (row_of new) && nat_eq j n then true else if nat_eq r (row_of old) && nat_eq j n then false else is_in t r j)
+    → is_in u r j ≡ (if nat_eq r (row_of new) && nat_eq j n then true else if nat_eq r (row_of old) && nat_eq j n then
+    false else is_in t r j)
 
 -- the rows have the tasks of these slots: of those below a number, and of all
 abbrev pub is_entered : Slot → ℕ → ℕ → Bool
@@ -72,16 +77,19 @@ is_entered x k row = is_live x && nat_eq row (row_of (given_at x k))
 pub record AreEntered (s : List Slot) (n : ℕ) (t : TaskRows) : Type 0 where
   pub rows : AreRows t
   pub long : tasks_of_all s ≤ 64 * t.stride
-  pub bits : (row m k : ℕ) → row < 257 → k < places (slot_at s m) → is_in t row (first_in s m + k) ≡ (nat_lt m n && is_entered (slot_at s m) k row)
+  pub bits : (row m k : ℕ) → row < 257 → k < places (slot_at s m)
+      → is_in t row (first_in s m + k) ≡ (nat_lt m n && is_entered (slot_at s m) k row)
 
 pub record AreKept (s : List Slot) (t : TaskRows) : Type 0 where
   pub rows : AreRows t
   pub long : tasks_of_all s ≤ 64 * t.stride
-  pub bits : (row m k : ℕ) → row < 257 → k < places (slot_at s m) → is_in t row (first_in s m + k) ≡ is_entered (slot_at s m) k row
+  pub bits : (row m k : ℕ) → row < 257 → k < places (slot_at s m)
+      → is_in t row (first_in s m + k) ≡ is_entered (slot_at s m) k row
 
 -- the first wanted task, by numbers, from a number on
 abbrev pub AreUnwanted : List Slot → Option ResourceId → ℕ → ℕ → Type 0
-AreUnwanted s wanted from end = (u : TaskId) → u.place < places (slot_at s u.meet.0) → from ≤ first_in s u.meet.0 + u.place → first_in s u.meet.0 + u.place < end
+AreUnwanted s wanted from end = (u : TaskId) → u.place < places (slot_at s u.meet.0)
+    → from ≤ first_in s u.meet.0 + u.place → first_in s u.meet.0 + u.place < end
     → has_task s wanted u ≡ false
 
 pub record IsFirstWanted (s : List Slot) (wanted : Option ResourceId) (from : ℕ) (t : TaskId) : Type 0 where
@@ -92,4 +100,5 @@ pub record IsFirstWanted (s : List Slot) (wanted : Option ResourceId) (from : �
 
 -- the number that tasks from this one on have
 abbrev pub number_from : List Slot → TaskId → ℕ
-number_from s t = first_in s t.meet.0 + (if nat_lt t.place (places (slot_at s t.meet.0)) then t.place else places (slot_at s t.meet.0))
+number_from s t = first_in s t.meet.0 + (if nat_lt t.place (places (slot_at s t.meet.0)) then t.place else places
+    (slot_at s t.meet.0))

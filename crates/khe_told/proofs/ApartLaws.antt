@@ -13,7 +13,8 @@ use Rattle.khe_told.specs.declared.slots.Slot.{Slot}
 use Rattle.khe_told.specs.Agreement.{AreApart}
 
 sums_apart : (f g : Kind → Bool) → AreApart f g → (w : Monitor → ℕ) (ms : List Monitor)
-    → sum_by (λ (m : Monitor). cond (f m.kind || g m.kind) (w m) 0) ms ≡ sum_by (λ (m : Monitor). cond (f m.kind) (w m) 0) ms + sum_by (λ (m : Monitor). cond (g m.kind) (w m) 0) ms
+    → sum_by (λ (m : Monitor). cond (f m.kind || g m.kind) (w m) 0) ms
+    ≡ sum_by (λ (m : Monitor). cond (f m.kind) (w m) 0) ms + sum_by (λ (m : Monitor). cond (g m.kind) (w m) 0) ms
 sums_apart f g apart w [] = refl
 sums_apart f g apart w (m ∷ ms) =
     let a = sum_by-cons (λ (m : Monitor). cond (f m.kind || g m.kind) (w m) 0) m ms in
@@ -29,6 +30,7 @@ sums_apart f g apart w (m ∷ ms) =
     one false true h n = omega arith
     one false false h n = omega arith
 
-pub watchers_apart : (f g : Kind → Bool) → AreApart f g → (p : Parts) (s : List Slot) (c : Change) → served_watchers p (λ k. f k || g k) s c ≡ served_watchers p f s c + served_watchers p g s c
+pub watchers_apart : (f g : Kind → Bool) → AreApart f g → (p : Parts) (s : List Slot) (c : Change)
+    → served_watchers p (λ k. f k || g k) s c ≡ served_watchers p f s c + served_watchers p g s c
 unfolding served_watchers
 watchers_apart f g apart p s c = sums_apart f g apart (watch_count p (slot_at s (meet_of c)) c) p.monitors

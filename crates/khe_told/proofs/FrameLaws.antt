@@ -1,5 +1,6 @@
 -- What the slots of an instance's told states have in common, since all are those of the instance.
-use Rattle.std.proofs.Common.{ℕ, ◌≡◌, ◌+◌, ◌-◌, ◌<◌, ◌≤◌, zero, suc, Some, None, List, [], ◌∷◌, ◌++◌, length, get_or, map, slice_get, refl, sym, ap, subst, ◌∙◌, arith}
+use Rattle.std.proofs.Common.{ℕ, ◌≡◌, ◌+◌, ◌-◌, ◌<◌, ◌≤◌, zero, suc, Some, None, List, [], ◌∷◌, ◌++◌, length, get_or}
+use Rattle.std.proofs.Common.{map, slice_get, refl, sym, ap, subst, ◌∙◌, arith}
 use Rattle.std.specs.Prelude.{All}
 use Rattle.std.specs.List.{range_with_len}
 use Rattle.std.specs.Option.{option_map_or}
@@ -22,13 +23,16 @@ pub record IsFrame (events : List EventInfo) (x : Slot) : Type 0 where
   pub slot : HasSlot events x.event.0 x.meet.0
   pub places : length x.given ≡ places_at events x.event.0
 
-frame_of : (events : List EventInfo) (e : ℕ) (event : EventInfo) (m : ℕ) → slice_get events e ≡ Some event → event.first_meet ≤ m → m < event.first_meet + event.duration → IsFrame events (empty_slot m e event)
+frame_of : (events : List EventInfo) (e : ℕ) (event : EventInfo) (m : ℕ) → slice_get events e ≡ Some event
+    → event.first_meet ≤ m → m < event.first_meet + event.duration → IsFrame events (empty_slot m e event)
 frame_of events e event m at from to = record {
   slot = (event, at, from, to);
-  places = length-replicate (length event.places) None ∙ sym (ap (λ o. option_map_or (λ (x : EventInfo). length x.places) o 0) at);
+  places = length-replicate (length event.places) None
+      ∙ sym (ap (λ o. option_map_or (λ (x : EventInfo). length x.places) o 0) at);
 }
 
-frames_of_event : (events : List EventInfo) (e : ℕ) (event : EventInfo) (m n : ℕ) → slice_get events e ≡ Some event → event.first_meet ≤ m → m + n ≤ event.first_meet + event.duration
+frames_of_event : (events : List EventInfo) (e : ℕ) (event : EventInfo) (m n : ℕ) → slice_get events e ≡ Some event
+    → event.first_meet ≤ m → m + n ≤ event.first_meet + event.duration
     → All (IsFrame events) (map (λ k. empty_slot k e event) (range_with_len m n))
 frames_of_event events e event m zero at from to = All-nil (IsFrame events)
 frames_of_event events e event m (suc n) at from to =
@@ -38,14 +42,17 @@ frames_of_event events e event m (suc n) at from to =
 
 -- the events from a number on
 abbrev AreTheRest : List EventInfo → ℕ → List EventInfo → Type 0
-AreTheRest events e rest = (j : ℕ) (event : EventInfo) → slice_get rest j ≡ Some event → slice_get events (e + j) ≡ Some event
+AreTheRest events e rest = (j : ℕ) (event : EventInfo) → slice_get rest j ≡ Some event
+    → slice_get events (e + j) ≡ Some event
 
-frames_from : (events rest : List EventInfo) (e first : ℕ) → AreTheRest events e rest → AreFirstMeets first rest → All (IsFrame events) (slots_from e rest)
+frames_from : (events rest : List EventInfo) (e first : ℕ) → AreTheRest events e rest → AreFirstMeets first rest
+    → All (IsFrame events) (slots_from e rest)
 frames_from events [] e first h f = All-nil (IsFrame events)
 frames_from events (x ∷ rest) e first h f =
     let z : e + 0 ≡ e = omega arith in
     let at : slice_get events e ≡ Some x = ap (slice_get events) (sym z) ∙ h 0 x refl in
-    let later : AreTheRest events (e + 1) rest = λ j event there. (let n : e + 1 + j ≡ e + suc j = omega arith in ap (slice_get events) n ∙ h (suc j) event there) in
+    let later : AreTheRest events (e + 1) rest = λ j event there.
+    (let n : e + 1 + j ≡ e + suc j = omega arith in ap (slice_get events) n ∙ h (suc j) event there) in
     All-append (IsFrame events) (slots_of_event e x) (slots_from (e + 1) rest)
     (frames_of_event events e x x.first_meet x.duration at (omega arith) (omega arith))
     (frames_from events rest (e + 1) (first + x.duration) later f.1)
@@ -59,13 +66,16 @@ frames_told events (x ∷ s) h =
     (record { slot = f.slot; places = sym (length-replicate (length x.given) None) ∙ f.places })
     (frames_told events s (All-tail (IsFrame events) (emptied x) (map emptied s) h))
 
-pub frames : (p : Parts) (s : List Slot) → AreFirstMeets 0 p.events → map emptied s ≡ no_meets p → All (IsFrame p.events) s
+pub frames : (p : Parts) (s : List Slot) → AreFirstMeets 0 p.events → map emptied s ≡ no_meets p
+    → All (IsFrame p.events) s
 frames p s first whose =
     frames_told p.events s (subst (All (IsFrame p.events)) (sym whose)
-    (frames_from p.events p.events 0 0 (λ j event at. (let z : 0 + j ≡ j = omega arith in ap (slice_get p.events) z ∙ at)) first))
+    (frames_from p.events p.events 0 0 (λ j event at.
+    (let z : 0 + j ≡ j = omega arith in ap (slice_get p.events) z ∙ at)) first))
 
 -- the numbers of the slots ascend
-from_more : (low m n e : ℕ) (event : EventInfo) (rest : List Slot) → low ≤ m → AreFrom (m + n) rest → AreFrom low (map (λ k. empty_slot k e event) (range_with_len m n) ++ rest)
+from_more : (low m n e : ℕ) (event : EventInfo) (rest : List Slot) → low ≤ m → AreFrom (m + n) rest
+    → AreFrom low (map (λ k. empty_slot k e event) (range_with_len m n) ++ rest)
 from_more low m zero e event rest l h = from_less low (m + 0) rest (omega (arith, l)) h
   where
     from_less : (low high : ℕ) (rest : List Slot) → low ≤ high → AreFrom high rest → AreFrom low rest
@@ -80,7 +90,8 @@ from_events e first [] f = tt
 from_events e first (x ∷ events) f =
     let a = f.0 in
     from_more first x.first_meet x.duration e x (slots_from (e + 1) events) (omega (arith, a))
-    (subst (λ n. AreFrom (n + x.duration) (slots_from (e + 1) events)) (sym a) (from_events (e + 1) (first + x.duration) events f.1))
+    (subst (λ n. AreFrom (n + x.duration) (slots_from (e + 1) events)) (sym a)
+    (from_events (e + 1) (first + x.duration) events f.1))
 
 from_told : (low : ℕ) (s : List Slot) → AreFrom low (map emptied s) → AreFrom low s
 from_told low [] h = tt
@@ -95,9 +106,11 @@ pub record IsStanding (e first k number : ℕ) (event : EventInfo) (events : Lis
   pub within : k - first < length (slots_from e events)
   pub value : slot_at (slots_from e events) (k - first) ≡ empty_slot k (e + number) event
 
-pub standing : (e first k number : ℕ) (event : EventInfo) (events : List EventInfo) → AreFirstMeets first events → slice_get events number ≡ Some event
+pub standing : (e first k number : ℕ) (event : EventInfo) (events : List EventInfo) → AreFirstMeets first events
+    → slice_get events number ≡ Some event
     → event.first_meet ≤ k → k < event.first_meet + event.duration → IsStanding e first k number event events
-standing e first k number event [] f at from to = absurd (let l = slice_get_within [] number event at in omega (arith, l))
+standing e first k number event [] f at from to =
+    absurd (let l = slice_get_within [] number event at in omega (arith, l))
 standing e first k zero event (x ∷ events) f at from to =
     let is = same_Some x event at in
     let a = f.0 in

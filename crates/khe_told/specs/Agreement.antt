@@ -14,11 +14,13 @@ deviation_in p s m = deviation p (meets_in s) (duties_in s) m
 
 -- the tally has the deviations of the monitors of the served kinds
 abbrev pub Agrees : Parts → (Kind → Bool) → List Slot → List ℕ → Type 0
-Agrees p served s ds = (i : ℕ) (m : Monitor) → slice_get p.monitors i ≡ Some m → served m.kind ≡ true → slice_get ds i ≡ Some (deviation_in p s m)
+Agrees p served s ds = (i : ℕ) (m : Monitor) → slice_get p.monitors i ≡ Some m → served m.kind ≡ true
+    → slice_get ds i ≡ Some (deviation_in p s m)
 
 -- the tally's deviations of the monitors of all other kinds are as they were
 abbrev pub KeepsOthers : Parts → (Kind → Bool) → List ℕ → List ℕ → Type 0
-KeepsOthers p served old new = (i : ℕ) (m : Monitor) → slice_get p.monitors i ≡ Some m → served m.kind ≡ false → slice_get new i ≡ slice_get old i
+KeepsOthers p served old new = (i : ℕ) (m : Monitor) → slice_get p.monitors i ≡ Some m → served m.kind ≡ false
+    → slice_get new i ≡ slice_get old i
 
 -- no kind is served by both
 abbrev pub AreApart : (Kind → Bool) → (Kind → Bool) → Type 0

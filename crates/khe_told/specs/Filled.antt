@@ -9,7 +9,11 @@ use Rattle.khe_told.specs.declared.slots.Slot.{Slot}
 
 -- a slot with a meet and its tasks
 abbrev pub filled : Slot → Meet → List Task → Slot
-filled x m ts = record x { span = Some (record { duration = m.duration; start = m.start }); given = map (λ t. t.resource) ts }
+filled x m ts = record x {
+  span = Some (record { duration = m.duration; start = m.start });
+  given =
+      map (λ t. t.resource) ts;
+}
 
 -- the slots are the instance's, and list these meets and tasks
 pub record AreFilled (p : Parts) (ms : List Meet) (ts : List Task) (s : List Slot) : Type 0 where

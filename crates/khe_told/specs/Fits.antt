@@ -1,5 +1,6 @@
 -- Which lists of slots are told states of an instance, and which changes can be told of them.
-use Rattle.std.specs.Prelude.{ℕ, ◌≡◌, ◌<◌, ◌≤◌, ◌+◌, Some, None, List, [], ◌∷◌, map, length, All, IfSome, replicate, slice_get}
+use Rattle.std.specs.Prelude.{ℕ, ◌≡◌, ◌<◌, ◌≤◌, ◌+◌, Some, None, List, [], ◌∷◌, map, length, All, IfSome, replicate}
+use Rattle.std.specs.Prelude.{slice_get}
 use Rattle.khe_base.specs.declared.numbers.ResourceId.{ResourceId}
 use Rattle.khe_instance.specs.WellMade.{HasType}
 use Rattle.khe_instance.specs.declared.parts.EventInfo.{EventInfo}
@@ -17,7 +18,8 @@ use Rattle.khe_told.specs.declared.changes.Change.TheVariants.{Add, Drop, Place 
 pub record IsSlot (p : Parts) (x : Slot) : Type 0 where
   pub duration : IfSome x.span (λ y. 1 ≤ y.duration)
   pub ends : IfSome x.span (λ y. IfSome y.start (λ t. t.0 + y.duration ≤ length p.times))
-  pub given : (e : EventInfo) (k : ℕ) (place : Place) (r : ResourceId) → slice_get p.events x.event.0 ≡ Some e → slice_get e.places k ≡ Some place
+  pub given : (e : EventInfo) (k : ℕ) (place : Place) (r : ResourceId) → slice_get p.events x.event.0 ≡ Some e
+      → slice_get e.places k ≡ Some place
       → slice_get x.given k ≡ Some (Some r) → HasType p place.rtype r
   pub empty : IsBareIfFree x
 
@@ -31,7 +33,8 @@ pub record AreTold (p : Parts) (s : List Slot) : Type 0 where
 -- a slot is as a change of it finds it
 abbrev pub Suits : Slot → Change → Type 0
 Suits x (Add m d) = x.span ≡ None
-Suits x (Drop m d) = (x.span ≡ Some (record { duration = d; start = None })) × (x.given ≡ replicate (length x.given) None)
+Suits x (Drop m d) = (x.span ≡ Some (record { duration = d; start = None }))
+    × (x.given ≡ replicate (length x.given) None)
 Suits x (PlaceAt m t) = (d : ℕ) × (x.span ≡ Some (record { duration = d; start = None }))
 Suits x (Lift m t) = (d : ℕ) × (x.span ≡ Some (record { duration = d; start = Some t }))
 Suits x (Give t r) = (y : Span) × (x.span ≡ Some y) × (slice_get x.given t.place ≡ Some None)

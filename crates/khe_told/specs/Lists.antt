@@ -19,7 +19,8 @@ meets_in s = filter_map meet_in s
 -- the tasks of a meet, from this place on, by what they are given
 abbrev pub tasks_with : Meet → ℕ → List (Option ResourceId) → List Task
 tasks_with m place [] = []
-tasks_with m place (r ∷ rs) = record { task = record { meet = m.meet; place = place }; resource = r } ∷ tasks_with m (place + 1) rs
+tasks_with m place (r ∷ rs) = record { task = record { meet = m.meet; place = place }; resource = r } ∷ tasks_with m
+    (place + 1) rs
 
 abbrev pub tasks_of : Slot → List Task
 tasks_of x = option_map_or (λ m. tasks_with m 0 x.given) (meet_in x) []

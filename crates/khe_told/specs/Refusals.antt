@@ -1,7 +1,12 @@
 -- The table of refusals: the number and the name of each.
 use Rattle.std.specs.Prelude.{ℕ, List, codes}
 use Rattle.khe_told.specs.declared.refusals.Refusal.{Refusal}
-use Rattle.khe_told.specs.declared.refusals.Refusal.TheVariants.{NoSuchMeet, NoSuchTask, NoSuchTime, NoSuchResource, Fixed, AlreadyAssigned, NotAssigned, OffEnd, WrongType, BadCut, OtherEvent, NotAdjacent, TasksDiffer, Same, NoSuchMonitor, NoSuchGroup, Attached, Detached, IsChild, NotChild, GroupsFull, NotEmpty, NoMark, MarksFull}
+use Rattle.khe_told.specs.declared.refusals.Refusal.TheVariants.{NoSuchMeet, NoSuchTask, NoSuchTime, NoSuchResource}
+use Rattle.khe_told.specs.declared.refusals.Refusal.TheVariants.{Fixed, AlreadyAssigned, NotAssigned, OffEnd, WrongType}
+use Rattle.khe_told.specs.declared.refusals.Refusal.TheVariants.{BadCut, OtherEvent, NotAdjacent, TasksDiffer, Same}
+use Rattle.khe_told.specs.declared.refusals.Refusal.TheVariants.{NoSuchMonitor, NoSuchGroup, Attached, Detached}
+use Rattle.khe_told.specs.declared.refusals.Refusal.TheVariants.{IsChild, NotChild, GroupsFull, NotEmpty, NoMark}
+use Rattle.khe_told.specs.declared.refusals.Refusal.TheVariants.{MarksFull}
 
 abbrev pub row_of : Refusal → ℕ × List ℕ
 row_of NoSuchMeet = (1, codes "NoSuchMeet")

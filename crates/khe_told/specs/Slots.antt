@@ -1,5 +1,6 @@
 -- The told state: a list of slots, one for each meet slot of the instance, in order.
-use Rattle.std.specs.Prelude.{ℕ, ◌≡◌, ◌+◌, ◌==◌, Bool, if◌then◌else◌, Option, None, is_some, List, [], ◌∷◌, ◌++◌, map, length, replicate, slice_index_or}
+use Rattle.std.specs.Prelude.{ℕ, ◌≡◌, ◌+◌, ◌==◌, Bool, if◌then◌else◌, Option, None, is_some, List, [], ◌∷◌, ◌++◌, map}
+use Rattle.std.specs.Prelude.{length, replicate, slice_index_or}
 use Rattle.std.specs.List.{sum_by, range_with_len}
 use Rattle.std.specs.Option.{option_and_then, option_map_or}
 use Rattle.khe_base.specs.declared.numbers.ResourceId.{ResourceId}
@@ -11,7 +12,13 @@ use Rattle.khe_told.specs.declared.slots.Span.{Span}
 
 -- a free slot of an event, by its number, the event's number and the event
 abbrev pub empty_slot : ℕ → ℕ → EventInfo → Slot
-empty_slot meet e event = record { meet = record { 0 = meet }; event = record { 0 = e }; span = None; given = replicate (length event.places) None }
+empty_slot meet e event = record {
+  meet = record { 0 = meet };
+  event = record { 0 = e };
+  span = None;
+  given =
+      replicate (length event.places) None;
+}
 
 -- the slots of an event, which stand together, all free
 abbrev pub slots_of_event : ℕ → EventInfo → List Slot

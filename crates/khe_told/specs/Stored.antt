@@ -10,7 +10,13 @@ use Rattle.khe_told.specs.declared.slots.Slot.{Slot}
 
 -- the slot of a row with this number
 abbrev pub slot_in : ℕ → List (Option ResourceId) → Row → Slot
-slot_in m given r = record { meet = record { 0 = m }; event = r.event; span = r.span; given = take r.places (drop r.first_task given) }
+slot_in m given r = record {
+  meet = record { 0 = m };
+  event = r.event;
+  span = r.span;
+  given =
+      take r.places (drop r.first_task given);
+}
 
 -- a row is that of the slot with this number
 abbrev pub IsRowOf : Row → ℕ → Slot → Type 0

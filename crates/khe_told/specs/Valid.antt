@@ -20,7 +20,8 @@ IsFixedAs e t duration x = x.event.0 ≡ e → is_live x ≡ true → (start_of 
 
 -- a place with a preassigned resource has it
 abbrev pub IsKeptBy : Parts → Slot → Type 0
-IsKeptBy p x = (k : ℕ) (place : Place) (r : ResourceId) → place_at p.events x.event.0 k ≡ Some place → place.fixed ≡ Some r → is_live x ≡ true → given_at x k ≡ Some r
+IsKeptBy p x = (k : ℕ) (place : Place) (r : ResourceId) → place_at p.events x.event.0 k ≡ Some place
+    → place.fixed ≡ Some r → is_live x ≡ true → given_at x k ≡ Some r
 
 -- the meets of each event last as long as it does; an event with a preassigned time has one meet,
 -- which starts then; and a place with a preassigned resource has it

@@ -69,7 +69,8 @@ watcher_count p s c = sum_by (watch_count p (slot_at s (meet_of c)) c) p.monitor
 
 -- of these, those of the served kinds
 unfoldable pub served_watchers : Parts → (Kind → Bool) → List Slot → Change → ℕ
-served_watchers p served s c = sum_by (λ m. if served m.kind then watch_count p (slot_at s (meet_of c)) c m else 0) p.monitors
+served_watchers p served s c = sum_by (λ m. if served m.kind then watch_count p (slot_at s (meet_of c)) c m else 0)
+    p.monitors
 
 -- how many watchers a list of changes has, each in the state that those before it leave
 abbrev pub watcher_counts : Parts → List Slot → List Change → ℕ

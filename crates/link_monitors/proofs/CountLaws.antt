@@ -1,5 +1,7 @@
 -- How many events run at each time, and at how many times some but not all do, with one count changed.
-use Rattle.std.proofs.Common.{ℕ, ◌≡◌, ◌≤◌, ◌<◌, ◌+◌, ◌-◌, ◌∙◌, zero, suc, Bool, true, false, List, [], ◌∷◌, get_or, set, length, zero-add, refl, sym, ap, ap₂, subst, arith, count_by, ◌⊎◌, inl, inr, slice_index, get_or-set_same, replicate}
+use Rattle.std.proofs.Common.{ℕ, ◌≡◌, ◌≤◌, ◌<◌, ◌+◌, ◌-◌, ◌∙◌, zero, suc, Bool, true, false, List, [], ◌∷◌, get_or, set}
+use Rattle.std.proofs.Common.{length, zero-add, refl, sym, ap, ap₂, subst, arith, count_by, ◌⊎◌, inl, inr, slice_index}
+use Rattle.std.proofs.Common.{get_or-set_same, replicate}
 use Rattle.std.specs.Prelude.{nat_lt}
 use Rattle.std.specs.List.{range_with_len}
 use Rattle.std.proofs.lemmas.Bool.{cases_eq, lt-ltb}
@@ -22,7 +24,8 @@ module _ (p q : ℕ → Bool) (t : ℕ) (same : (u : ℕ) → (u ≡ t → ⊥) 
       let rest = past (a + 1) n (omega (arith, l)) in
       omega (arith, x, y, here, rest)
 
-  pub count_turned : (a n : ℕ) → a ≤ t → t < a + n → count_by q (range_with_len a n) + one_if (p t) ≡ count_by p (range_with_len a n) + one_if (q t)
+  pub count_turned : (a n : ℕ) → a ≤ t → t < a + n
+      → count_by q (range_with_len a n) + one_if (p t) ≡ count_by p (range_with_len a n) + one_if (q t)
   count_turned a zero l m = absurd (omega (arith, l, m))
   count_turned a (suc n) l m = by (cases_eq a t) (λ k. count_turned (a + 1) n k (omega (arith, m)))
     where
@@ -32,7 +35,8 @@ module _ (p q : ℕ → Bool) (t : ℕ) (same : (u : ℕ) → (u ≡ t → ⊥) 
       y : count_by p (range_with_len a (suc n)) ≡ one_if (p a) + count_by p (range_with_len (a + 1) n)
       y = sum_by-cons (λ u. one_if (p u)) a (range_with_len (a + 1) n)
 
-      by : (a ≡ t) ⊎ (a ≡ t → ⊥) → (a + 1 ≤ t → count_by q (range_with_len (a + 1) n) + one_if (p t) ≡ count_by p (range_with_len (a + 1) n) + one_if (q t))
+      by : (a ≡ t) ⊎ (a ≡ t → ⊥) → (a + 1 ≤ t → count_by q (range_with_len (a + 1) n) + one_if (p t)
+          ≡ count_by p (range_with_len (a + 1) n) + one_if (q t))
           → count_by q (range_with_len a (suc n)) + one_if (p t) ≡ count_by p (range_with_len a (suc n)) + one_if (q t)
       by (inl e) r =
           let rest = past (a + 1) n (omega (arith, e)) in
@@ -49,17 +53,22 @@ pub count_part : (p : ℕ → Bool) (t n : ℕ) → t < n → one_if (p t) ≤ c
 count_part p t n l =
     let at : get_or (range_with_len 0 n) t 0 ≡ t = get_or-range_with_len 0 n t 0 l ∙ zero-add t in
     let long : t < length (range_with_len 0 n) = let k = length-range_with_len 0 n in omega (arith, k, l) in
-    subst (λ u. one_if (p u) ≤ count_by p (range_with_len 0 n)) at (get_or-le-sum_by (λ u. one_if (p u)) (range_with_len 0 n) t 0 long)
+    subst (λ u. one_if (p u) ≤ count_by p (range_with_len 0 n)) at
+    (get_or-le-sum_by (λ u. one_if (p u)) (range_with_len 0 n) t 0 long)
 
 -- at a time of which it counts for one it counts for one in all, and no time counts twice
-pub apart_part : (rows : List (List ℕ)) (events : ℕ) (running : List ℕ) (apart t : ℕ) → AreLinked rows events running apart → t < length running → one_if (is_apart (slice_index running t) events) ≤ apart
+pub apart_part : (rows : List (List ℕ)) (events : ℕ) (running : List ℕ) (apart t : ℕ)
+    → AreLinked rows events running apart → t < length running
+    → one_if (is_apart (slice_index running t) events) ≤ apart
 apart_part rows events running apart t k l =
-    let is : one_if (is_apart (slice_index running t) events) ≡ one_if (is_apart (running_at rows t) (length rows)) = λ i. one_if (is_apart (k.each t l i) (k.all i)) in
+    let is : one_if (is_apart (slice_index running t) events) ≡ one_if (is_apart (running_at rows t) (length rows)) =
+    λ i. one_if (is_apart (k.each t l i) (k.all i)) in
     let part = count_part (λ u. is_apart (running_at rows u) (length rows)) t (length running) l in
     let total = k.total in
     omega (arith, is, part, total)
 
-pub apart_few : (rows : List (List ℕ)) (events : ℕ) (running : List ℕ) (apart : ℕ) → AreLinked rows events running apart → apart ≤ TIMES
+pub apart_few : (rows : List (List ℕ)) (events : ℕ) (running : List ℕ) (apart : ℕ) → AreLinked rows events running apart
+    → apart ≤ TIMES
 apart_few rows events running apart k =
     let a = count_by-le-length (λ u. is_apart (running_at rows u) (length rows)) (range_with_len 0 (length running)) in
     let b = length-range_with_len 0 (length running) in
@@ -75,7 +84,8 @@ module _ (rows : List (List ℕ)) (r t c : ℕ) (l : r < length rows) where
   abbrev then : List (List ℕ)
   then = with_count rows r t c
 
-  pub running_then : (u : ℕ) → running_at then u + one_if (is_busy row u) ≡ running_at rows u + one_if (is_busy (set row t c) u)
+  pub running_then : (u : ℕ) → running_at then u + one_if (is_busy row u)
+      ≡ running_at rows u + one_if (is_busy (set row t c) u)
   running_then u = sum_by-set (λ x. one_if (is_busy x u)) rows r (set row t c) [] l
 
   busy_other : (u : ℕ) → (u ≡ t → ⊥) → is_busy (set row t c) u ≡ is_busy row u
@@ -87,23 +97,27 @@ module _ (rows : List (List ℕ)) (r t c : ℕ) (l : r < length rows) where
   running_other : (u : ℕ) → (u ≡ t → ⊥) → running_at rows u ≡ running_at then u
   running_other u n = let a = running_then u in let b = ap one_if (busy_other u n) in omega (arith, a, b)
 
-  long_then : (n : ℕ) → ((i : ℕ) → i < length rows → length (row_of rows i) ≡ n) → (i : ℕ) → i < length then → length (row_of then i) ≡ n
+  long_then : (n : ℕ) → ((i : ℕ) → i < length rows → length (row_of rows i) ≡ n) → (i : ℕ) → i < length then
+      → length (row_of then i) ≡ n
   long_then n long i m = by (cases_eq i r)
     where
       within : i < length rows
       within = let a = length-set rows r (set row t c) in omega (arith, a, m)
 
       by : (i ≡ r) ⊎ (i ≡ r → ⊥) → length (row_of then i) ≡ n
-      by (inl e) = ap (λ k. length (row_of then k)) e ∙ ap length (get_or-set_same rows r (set row t c) [] l) ∙ length-set row t c ∙ long r l
+      by (inl e) = ap (λ k. length (row_of then k)) e ∙ ap length (get_or-set_same rows r (set row t c) [] l)
+          ∙ length-set row t c ∙ long r l
       by (inr a) = ap length (get_or-set_other rows r i (set row t c) [] a) ∙ long i within
 
   -- where it is above 0 as before, nothing else changes
-  pub linked_still : (events : ℕ) (running : List ℕ) (apart : ℕ) → AreLinked rows events running apart → t < length running → nat_lt 0 c ≡ is_busy row t → AreLinked then events running apart
+  pub linked_still : (events : ℕ) (running : List ℕ) (apart : ℕ) → AreLinked rows events running apart
+      → t < length running → nat_lt 0 c ≡ is_busy row t → AreLinked then events running apart
   linked_still events running apart k m same = record {
     all = k.all ∙ sym (length-set rows r (set row t c));
     long = long_then (length running) k.long;
     each = λ u n. k.each u n ∙ alike u;
-    total = k.total ∙ (λ j. count_by (λ u. is_apart (alike u j) (sym (length-set rows r (set row t c)) j)) (range_with_len 0 (length running)));
+    total = k.total ∙ (λ j. count_by (λ u. is_apart (alike u j) (sym (length-set rows r (set row t c)) j))
+        (range_with_len 0 (length running)));
     few = k.few;
   }
     where
@@ -122,8 +136,10 @@ module _ (rows : List (List ℕ)) (r t c : ℕ) (l : r < length rows) where
           by (inr n) = running_other u n
 
   -- else the event's time is counted anew
-  pub linked_anew : (events : ℕ) (running : List ℕ) (apart now apart' : ℕ) → AreLinked rows events running apart → t < length running → now ≡ running_at then t
-      → apart' ≡ apart - one_if (is_apart (slice_index running t) events) + one_if (is_apart now events) → AreLinked then events (set running t now) apart'
+  pub linked_anew : (events : ℕ) (running : List ℕ) (apart now apart' : ℕ) → AreLinked rows events running apart
+      → t < length running → now ≡ running_at then t
+      → apart' ≡ apart - one_if (is_apart (slice_index running t) events) + one_if (is_apart now events)
+      → AreLinked then events (set running t now) apart'
   linked_anew events running apart now apart' k m is are = record {
     all = all;
     long = λ i n. long_then (length running) k.long i n ∙ sym (length-set running t now);
@@ -135,15 +151,19 @@ module _ (rows : List (List ℕ)) (r t c : ℕ) (l : r < length rows) where
       all : events ≡ length then
       all = k.all ∙ sym (length-set rows r (set row t c))
 
-      by : (u : ℕ) → u < length (set running t now) → (u ≡ t) ⊎ (u ≡ t → ⊥) → slice_index (set running t now) u ≡ running_at then u
-      by u n (inl e) = ap (slice_index (set running t now)) e ∙ get_or-set_same running t now 0 m ∙ is ∙ sym (ap (running_at then) e)
-      by u n (inr a) = get_or-set_other running t u now 0 a ∙ k.each u (let b = length-set running t now in omega (arith, b, n)) ∙ running_other u a
+      by : (u : ℕ) → u < length (set running t now) → (u ≡ t) ⊎ (u ≡ t → ⊥)
+          → slice_index (set running t now) u ≡ running_at then u
+      by u n (inl e) = ap (slice_index (set running t now)) e ∙ get_or-set_same running t now 0 m ∙ is
+          ∙ sym (ap (running_at then) e)
+      by u n (inr a) = get_or-set_other running t u now 0 a
+          ∙ k.each u (let b = length-set running t now in omega (arith, b, n)) ∙ running_other u a
 
       total : apart' ≡ apart_times then (length running)
       total =
           let before : ℕ → Bool = λ u. is_apart (running_at rows u) (length rows) in
           let later : ℕ → Bool = λ u. is_apart (running_at then u) (length then) in
-          let turned = count_turned before later t (λ u n. ap₂ is_apart (running_other u n) (sym (length-set rows r (set row t c)))) 0 (length running) (omega arith) (omega (arith, m)) in
+          let turned = count_turned before later t (λ u n. ap₂ is_apart (running_other u n)
+          (sym (length-set rows r (set row t c)))) 0 (length running) (omega arith) (omega (arith, m)) in
           let old = ap₂ (λ x y. one_if (is_apart x y)) (k.each t m) k.all in
           let new = ap₂ (λ x y. one_if (is_apart x y)) is all in
           let part = apart_part rows events running apart t k m in
@@ -154,9 +174,14 @@ module _ (rows : List (List ℕ)) (r t c : ℕ) (l : r < length rows) where
 pub none_linked : (events times : ℕ) → times ≤ TIMES → AreLinked (no_counts events times) events (replicate times 0) 0
 none_linked events times few = record {
   all = sym (length-replicate events (replicate times 0));
-  long = λ i l. ap length (get_or-replicate events i (replicate times 0) [] (let a = length-replicate events (replicate {A = ℕ} times 0) in omega (arith, a, l))) ∙ (length-replicate times 0 ∙ sym (length-replicate times 0));
-  each = λ t l. get_or-replicate times t 0 0 (let a = length-replicate {A = ℕ} times 0 in omega (arith, a, l)) ∙ sym (none events t);
-  total = sym ((λ j. count_by (λ u. is_apart (none events u j) (length (no_counts events times))) (range_with_len 0 (length (replicate {A = ℕ} times 0)))) ∙ zeros (range_with_len 0 (length (replicate {A = ℕ} times 0))));
+  long = λ i l. ap length (get_or-replicate events i (replicate times 0) []
+      (let a = length-replicate events (replicate {A = ℕ} times 0) in omega (arith, a, l)))
+      ∙ (length-replicate times 0 ∙ sym (length-replicate times 0));
+  each = λ t l. get_or-replicate times t 0 0 (let a = length-replicate {A = ℕ} times 0 in omega (arith, a, l))
+      ∙ sym (none events t);
+  total = sym ((λ j. count_by (λ u. is_apart (none events u j) (length (no_counts events times)))
+      (range_with_len 0 (length (replicate {A = ℕ} times 0))))
+      ∙ zeros (range_with_len 0 (length (replicate {A = ℕ} times 0))));
   few = subst (λ n. n ≤ TIMES) (sym (length-replicate {A = ℕ} times 0)) few;
 }
   where
@@ -181,7 +206,8 @@ none_linked events times few = record {
 pub is_above : (n : ℕ) → 0 < n → nat_lt 0 n ≡ true
 is_above n l = lt-ltb 0 n l
 
-module _ (rows : List (List ℕ)) (r t : ℕ) (l : r < length rows) (events : ℕ) (running : List ℕ) (apart : ℕ) (k : AreLinked rows events running apart) (m : t < length running) where
+module _ (rows : List (List ℕ)) (r t : ℕ) (l : r < length rows) (events : ℕ) (running : List ℕ) (apart : ℕ)
+    (k : AreLinked rows events running apart) (m : t < length running) where
   abbrev count : ℕ
   count = count_at rows r t
 
@@ -200,7 +226,8 @@ module _ (rows : List (List ℕ)) (r t : ℕ) (l : r < length rows) (events : �
       let all = k.all in
       omega (arith, a, b, d, e, f, each, all)
 
-  pub starts : is_busy (row_of rows r) t ≡ false → slice_index running t + 1 ≡ running_at (with_count rows r t (count + 1)) t
+  pub starts : is_busy (row_of rows r) t ≡ false
+      → slice_index running t + 1 ≡ running_at (with_count rows r t (count + 1)) t
   starts quiet =
       let a = running_then rows r t (count + 1) l t in
       let b = ap one_if quiet in
@@ -208,7 +235,8 @@ module _ (rows : List (List ℕ)) (r t : ℕ) (l : r < length rows) (events : �
       let each = k.each t m in
       omega (arith, a, b, d, each)
 
-  pub ends : is_busy (row_of rows r) t ≡ true → is_busy (set (row_of rows r) t (count - 1)) t ≡ false → (1 ≤ slice_index running t) × (slice_index running t - 1 ≡ running_at (with_count rows r t (count - 1)) t)
+  pub ends : is_busy (row_of rows r) t ≡ true → is_busy (set (row_of rows r) t (count - 1)) t ≡ false
+      → (1 ≤ slice_index running t) × (slice_index running t - 1 ≡ running_at (with_count rows r t (count - 1)) t)
   ends busy quiet =
       let a = running_then rows r t (count - 1) l t in
       let b = ap one_if busy in
@@ -218,12 +246,16 @@ module _ (rows : List (List ℕ)) (r t : ℕ) (l : r < length rows) (events : �
 
   -- one that runs after as before changes nothing
   pub raised_still : is_busy (row_of rows r) t ≡ true → AreLinked (with_count rows r t (count + 1)) events running apart
-  raised_still busy = linked_still rows r t (count + 1) l events running apart k m (is_above (count + 1) (omega arith) ∙ sym busy)
+  raised_still busy = linked_still rows r t (count + 1) l events running apart k m
+      (is_above (count + 1) (omega arith) ∙ sym busy)
 
-  pub lowered_still : 0 < count → is_busy (row_of (with_count rows r t (count - 1)) r) t ≡ true → AreLinked (with_count rows r t (count - 1)) events running apart
+  pub lowered_still : 0 < count → is_busy (row_of (with_count rows r t (count - 1)) r) t ≡ true
+      → AreLinked (with_count rows r t (count - 1)) events running apart
   lowered_still some busy =
       linked_still rows r t (count - 1) l events running apart k m
-      (sym (busy_here rows r t (count - 1) l within) ∙ ap (λ x. is_busy x t) (sym (get_or-set_same rows r (set (row_of rows r) t (count - 1)) [] l)) ∙ busy ∙ sym (is_above count some))
+      (sym (busy_here rows r t (count - 1) l within)
+      ∙ ap (λ x. is_busy x t) (sym (get_or-set_same rows r (set (row_of rows r) t (count - 1)) [] l)) ∙ busy
+      ∙ sym (is_above count some))
 
   -- the rows after it
   pub row_then : (c : ℕ) → row_of (with_count rows r t c) r ≡ set (row_of rows r) t c

@@ -1,5 +1,6 @@
 -- A change of a slot of an event that a monitor does not name leaves its counts.
-use Rattle.std.proofs.Common.{ℕ, ◌≡◌, ◌<◌, ◌+◌, ◌==◌, ◌&&◌, ◌∙◌, Bool, false, Some, List, set, length, slice_get, sym, ap, arith}
+use Rattle.std.proofs.Common.{ℕ, ◌≡◌, ◌<◌, ◌+◌, ◌==◌, ◌&&◌, ◌∙◌, Bool, false, Some, List, set, length, slice_get, sym}
+use Rattle.std.proofs.Common.{ap, arith}
 use Rattle.std.specs.Option.{option_map_or}
 use Rattle.std.proofs.lemmas.Bool.{ne_eqb, true≢false}
 use Rattle.std.proofs.lemmas.List.Sums.{sum_by-set}
@@ -19,16 +20,20 @@ use Rattle.link_monitors.specs.MemberLaws.{member_named}
 abbrev pub test : ℕ → ℕ → Slot → Bool
 test e t x = (x.event.0 == e) && slot_runs x t
 
-pub meets_set : (s : List Slot) (k : ℕ) (x : Slot) (e t : ℕ) → k < length s → meets_at (set s k x) e t + one_if (test e t (slot_at s k)) ≡ meets_at s e t + one_if (test e t x)
+pub meets_set : (s : List Slot) (k : ℕ) (x : Slot) (e t : ℕ) → k < length s
+    → meets_at (set s k x) e t + one_if (test e t (slot_at s k)) ≡ meets_at s e t + one_if (test e t x)
 meets_set s k x e t l = sum_by-set (λ y. one_if (test e t y)) s k x no_slot l
 
 -- a monitor's names are those of its rule and point
-pub named_by : (p : Parts) (m : Monitor) (monitor : IsMonitor p m) (e : ℕ) → names p e m ≡ names_event p monitor.0.rule m.point e
+pub named_by : (p : Parts) (m : Monitor) (monitor : IsMonitor p m) (e : ℕ)
+    → names p e m ≡ names_event p monitor.0.rule m.point e
 named_by p m monitor e = ap (λ o. option_map_or (λ (c : Constraint). names_event p c.rule m.point e) o false) monitor.1
 
 -- a change of a slot of another event leaves the counts
-pub group_elsewhere : (p : Parts) (m : Monitor) (s : List Slot) (rows : List (List ℕ)) (times k : ℕ) (x : Slot) → IsMonitor p m → k < length s → emptied x ≡ emptied (slot_at s k)
-    → names p (slot_at s k).event.0 m ≡ false → AreOfGroup p m.point s rows times → AreOfGroup p m.point (set s k x) rows times
+pub group_elsewhere : (p : Parts) (m : Monitor) (s : List Slot) (rows : List (List ℕ)) (times k : ℕ) (x : Slot)
+    → IsMonitor p m → k < length s → emptied x ≡ emptied (slot_at s k)
+    → names p (slot_at s k).event.0 m ≡ false → AreOfGroup p m.point s rows times
+    → AreOfGroup p m.point (set s k x) rows times
 group_elsewhere p m s rows times k x monitor l same named of = record {
   amount = of.amount;
   all = of.all;
@@ -36,7 +41,8 @@ group_elsewhere p m s rows times k x monitor l same named of = record {
 }
   where
     other : (i e : ℕ) → slice_get (members_at p m.point) i ≡ Some e → (slot_at s k).event.0 ≡ e → ⊥
-    other i e h is = true≢false (sym (member_named p monitor.0.rule m.point i e h) ∙ sym (named_by p m monitor e) ∙ ap (λ n. names p n m) (sym is) ∙ named)
+    other i e h is = true≢false (sym (member_named p monitor.0.rule m.point i e h) ∙ sym (named_by p m monitor e)
+        ∙ ap (λ n. names p n m) (sym is) ∙ named)
 
     off : (y : Slot) (e t : ℕ) → (y.event.0 ≡ e → ⊥) → one_if (test e t y) ≡ 0
     off y e t n = ap (λ b. one_if (b && slot_runs y t)) (ne_eqb y.event.0 e n)

@@ -1,7 +1,8 @@
 -- What stands at a place after one element changes.
 use Rattle.std.proofs.Common.{ℕ, ◌≡◌, ◌<◌, zero, suc, List, [], ◌∷◌, length, get_or, set, slice_get, refl, ap, arith}
 
-pub get-set_other : {A : Type 0} (xs : List A) (i k : ℕ) (a : A) → (k ≡ i → ⊥) → slice_get (set xs i a) k ≡ slice_get xs k
+pub get-set_other : {A : Type 0} (xs : List A) (i k : ℕ) (a : A) → (k ≡ i → ⊥)
+    → slice_get (set xs i a) k ≡ slice_get xs k
 get-set_other [] i k a n = refl
 get-set_other (x ∷ xs) zero zero a n = absurd (n refl)
 get-set_other (x ∷ xs) zero (suc k) a n = refl

@@ -1,5 +1,6 @@
 -- Rows of bits with a summary.
-use Rattle.std.proofs.Common.{ℕ, ◌≡◌, ◌≤◌, ◌/◌, ◌*◌, ◌%◌, Bool, true, false, cond, nat_eq, List, length, get_or, refl, sym, ap, ◌∙◌, arith, inl, inr}
+use Rattle.std.proofs.Common.{ℕ, ◌≡◌, ◌≤◌, ◌/◌, ◌*◌, ◌%◌, Bool, true, false, cond, nat_eq, List, length, get_or, refl}
+use Rattle.std.proofs.Common.{sym, ap, ◌∙◌, arith, inl, inr}
 use Rattle.std.proofs.lemmas.Bool.{eqb-true, eq-eqb, cond_both, both_ways, cases_lt}
 use Rattle.std.proofs.lemmas.List.{get_or_past}
 use Rattle.khe_base.specs.Bits.{is_set, has_bit}
@@ -11,28 +12,35 @@ pub past_clear : (words : List ℕ) (m : ℕ) → length words ≤ m / 64 → is
 past_clear words m l = ap (λ w. has_bit w (m % 64)) (get_or_past words (m / 64) 0 l) ∙ has_bit-zero (m % 64)
 
 pub zero_clear : (words : List ℕ) (k m : ℕ) → get_or words k 0 ≡ 0 → m / 64 ≡ k → is_set words m ≡ false
-zero_clear words k m z e = ap (λ n. has_bit (get_or words n 0) (m % 64)) e ∙ ap (λ w. has_bit w (m % 64)) z ∙ has_bit-zero (m % 64)
+zero_clear words k m z e = ap (λ n. has_bit (get_or words n 0) (m % 64)) e ∙ ap (λ w. has_bit w (m % 64)) z
+    ∙ has_bit-zero (m % 64)
 
 yes : (t : Bool) → t ≡ true → t ≡ false → ⊥
 yes t h k = both_ways t k h
 
-pub summed_set : (words summary words2 summary2 : List ℕ) (n : ℕ) → AreSummed words summary → ((m : ℕ) → is_set words2 m ≡ cond (nat_eq m n) true (is_set words m)) → ((m : ℕ) → is_set summary2 m ≡ cond (nat_eq m (n / 64)) true (is_set summary m)) → AreSummed words2 summary2
+pub summed_set : (words summary words2 summary2 : List ℕ) (n : ℕ) → AreSummed words summary
+    → ((m : ℕ) → is_set words2 m ≡ cond (nat_eq m n) true (is_set words m))
+    → ((m : ℕ) → is_set summary2 m ≡ cond (nat_eq m (n / 64)) true (is_set summary m)) → AreSummed words2 summary2
 summed_set words summary words2 summary2 n a w k m h = at_test (nat_eq m n) refl
   where
     at_test : (t : Bool) → nat_eq m n ≡ t → is_set summary2 (m / 64) ≡ true
-    at_test true e = k (m / 64) ∙ ap (λ b. cond b true (is_set summary (m / 64))) (eq-eqb (m / 64) (n / 64) (ap (λ x. x / 64) (eqb-true m n e)))
+    at_test true e = k (m / 64) ∙ ap (λ b. cond b true (is_set summary (m / 64)))
+        (eq-eqb (m / 64) (n / 64) (ap (λ x. x / 64) (eqb-true m n e)))
     at_test false e =
         let old : is_set summary (m / 64) ≡ true = a m (sym (w m ∙ ap (λ b. cond b true (is_set words m)) e) ∙ h) in
-        k (m / 64) ∙ ap (λ b. cond (nat_eq (m / 64) (n / 64)) true b) old ∙ cond_both (nat_eq (m / 64) (n / 64)) true true (λ x. x ≡ true) (λ z. refl) (λ z. refl)
+        k (m / 64) ∙ ap (λ b. cond (nat_eq (m / 64) (n / 64)) true b) old
+        ∙ cond_both (nat_eq (m / 64) (n / 64)) true true (λ x. x ≡ true) (λ z. refl) (λ z. refl)
 
-pub summed_clear : (words summary words2 : List ℕ) (n : ℕ) → AreSummed words summary → ((m : ℕ) → is_set words2 m ≡ cond (nat_eq m n) false (is_set words m)) → AreSummed words2 summary
+pub summed_clear : (words summary words2 : List ℕ) (n : ℕ) → AreSummed words summary
+    → ((m : ℕ) → is_set words2 m ≡ cond (nat_eq m n) false (is_set words m)) → AreSummed words2 summary
 summed_clear words summary words2 n a w m h = at_test (nat_eq m n) refl
   where
     at_test : (t : Bool) → nat_eq m n ≡ t → is_set summary (m / 64) ≡ true
     at_test true e = absurd (yes (is_set words2 m) h (w m ∙ ap (λ b. cond b false (is_set words m)) e))
     at_test false e = a m (sym (w m ∙ ap (λ b. cond b false (is_set words m)) e) ∙ h)
 
-pub summed_zero : (words summary summary2 : List ℕ) (k : ℕ) → AreSummed words summary → get_or words k 0 ≡ 0 → ((m : ℕ) → is_set summary2 m ≡ cond (nat_eq m k) false (is_set summary m)) → AreSummed words summary2
+pub summed_zero : (words summary summary2 : List ℕ) (k : ℕ) → AreSummed words summary → get_or words k 0 ≡ 0
+    → ((m : ℕ) → is_set summary2 m ≡ cond (nat_eq m k) false (is_set summary m)) → AreSummed words summary2
 summed_zero words summary summary2 k a z w m h = at_test (nat_eq (m / 64) k) refl
   where
     at_test : (t : Bool) → nat_eq (m / 64) k ≡ t → is_set summary2 (m / 64) ≡ true
@@ -40,7 +48,8 @@ summed_zero words summary summary2 k a z w m h = at_test (nat_eq (m / 64) k) ref
     at_test false e = w (m / 64) ∙ ap (λ b. cond b false (is_set summary (m / 64))) e ∙ a m h
 
 -- a word without its bit in the summary has no set bit
-pub unsummed : (words summary : List ℕ) (m : ℕ) → AreSummed words summary → is_set summary (m / 64) ≡ false → is_set words m ≡ false
+pub unsummed : (words summary : List ℕ) (m : ℕ) → AreSummed words summary → is_set summary (m / 64) ≡ false
+    → is_set words m ≡ false
 unsummed words summary m a h = at_value (is_set words m) refl
   where
     at_value : (t : Bool) → is_set words m ≡ t → t ≡ false
@@ -48,14 +57,18 @@ unsummed words summary m a h = at_value (is_set words m) refl
     at_value true e = absurd (yes (is_set summary (m / 64)) (a m e) h)
 
 -- up to the next word that has its bit in the summary
-pub gap_clear : (words summary : List ℕ) (from next word : ℕ) → AreSummed words summary → AreClear words from (64 * next) → AreClear summary next word → AreClear words from (64 * word)
+pub gap_clear : (words summary : List ℕ) (from next word : ℕ) → AreSummed words summary
+    → AreClear words from (64 * next) → AreClear summary next word → AreClear words from (64 * word)
 gap_clear words summary from next word a c g m f l = elim (cases_lt m (64 * next)) [
   | inl b ↦ c m f b
   | inr b ↦ unsummed words summary m a (g (m / 64) (omega (arith, b)) (omega (arith, l)))
 ]
 
-pub join_clear : (words : List ℕ) (from mid to : ℕ) → AreClear words from mid → AreClear words mid to → AreClear words from to
+pub join_clear : (words : List ℕ) (from mid to : ℕ) → AreClear words from mid → AreClear words mid to
+    → AreClear words from to
 join_clear words from mid to a b m f l = elim (cases_lt m mid) [ inl h ↦ a m f h | inr h ↦ b m h l ]
 
-pub end_clear : (words : List ℕ) (from word m : ℕ) → AreClear words from (64 * word) → length words ≤ word → from ≤ m → is_set words m ≡ false
-end_clear words from word m a l f = elim (cases_lt m (64 * word)) [ inl h ↦ a m f h | inr h ↦ past_clear words m (omega (arith, h, l)) ]
+pub end_clear : (words : List ℕ) (from word m : ℕ) → AreClear words from (64 * word) → length words ≤ word → from ≤ m
+    → is_set words m ≡ false
+end_clear words from word m a l f = elim (cases_lt m (64 * word))
+    [ inl h ↦ a m f h | inr h ↦ past_clear words m (omega (arith, h, l)) ]

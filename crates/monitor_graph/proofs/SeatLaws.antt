@@ -1,5 +1,7 @@
 -- What is kept of groups when one of them changes.
-use Rattle.std.proofs.Common.{ℕ, ◌≡◌, ◌+◌, ◌-◌, ◌<◌, ◌≤◌, nat_eq, nat_lt, nat_le, Bool, true, false, cond, Option, Some, None, List, [], ◌∷◌, length, map, get_or, set, slice_get, refl, sym, ap, ◌∙◌, arith, subst, take, drop, inl, inr}
+use Rattle.std.proofs.Common.{ℕ, ◌≡◌, ◌+◌, ◌-◌, ◌<◌, ◌≤◌, nat_eq, nat_lt, nat_le, Bool, true, false, cond, Option, Some}
+use Rattle.std.proofs.Common.{None, List, [], ◌∷◌, length, map, get_or, set, slice_get, refl, sym, ap, ◌∙◌, arith}
+use Rattle.std.proofs.Common.{subst, take, drop, inl, inr}
 use Rattle.std.specs.Prelude.{◌==◌, ◌||◌, is_none, is_some, MatchOption}
 use Rattle.std.specs.List.{AllByRecursion, IsDistinct, insert, list_any, remove, position_or_len, sum_by}
 use Rattle.std.specs.Option.{option_and_then, option_map, option_map_or}
@@ -16,9 +18,11 @@ use Rattle.khe_base.specs.Bits.{is_set}
 use Rattle.khe_base.specs.declared.limits.TheConstants.{GROUPS}
 use Rattle.khe_base.specs.declared.numbers.GroupId.{GroupId}
 use Rattle.khe_base.specs.declared.numbers.MonitorId.{MonitorId}
-use Rattle.monitor_graph.proofs.JoinedLaws.{groups_of-joined, joined-insert, joined-remove, joined-make, joined-drop, joined-part, length-joined, sum_sizes, free_sizes, not_none}
+use Rattle.monitor_graph.proofs.JoinedLaws.{groups_of-joined, joined-insert, joined-remove, joined-make, joined-drop}
+use Rattle.monitor_graph.proofs.JoinedLaws.{joined-part, length-joined, sum_sizes, free_sizes, not_none}
 use Rattle.monitor_graph.proofs.ListLaws.{get-set_other}
-use Rattle.monitor_graph.specs.Groups.{Groups, AreGroups, children_at, has_group, has_child, group_at, is_among, occurs, place_of, free_number, seated}
+use Rattle.monitor_graph.specs.Groups.{Groups, AreGroups, children_at, has_group, has_child, group_at, is_among, occurs}
+use Rattle.monitor_graph.specs.Groups.{place_of, free_number, seated}
 use Rattle.monitor_graph.specs.Seating.{Seating, groups_of, sizes_of, joined, start_of, bit_of, AreSeated, IsSeating}
 
 -- how often a monitor is among children
@@ -27,7 +31,8 @@ among-occurs m [] = refl
 among-occurs m (x ∷ xs) =
     go (x.0 == m) (among-occurs m xs) ∙ ap (nat_lt 0) (sym (sum_by-cons (λ (c : MonitorId). cond (c.0 == m) 1 0) x xs))
   where
-    go : (t : Bool) → is_among m xs ≡ nat_lt 0 (occurs m xs) → (t || is_among m xs) ≡ nat_lt 0 (cond t 1 0 + occurs m xs)
+    go : (t : Bool) → is_among m xs ≡ nat_lt 0 (occurs m xs)
+        → (t || is_among m xs) ≡ nat_lt 0 (cond t 1 0 + occurs m xs)
     go true h = sym (lt-ltb 0 (1 + occurs m xs) (omega arith))
     go false h = h ∙ ap (nat_lt 0) (let e : occurs m xs ≡ 0 + occurs m xs = omega arith in e)
 
@@ -38,7 +43,8 @@ pub yes_among : (m : ℕ) (xs : List MonitorId) → 0 < occurs m xs → is_among
 yes_among m xs h = among-occurs m xs ∙ lt-ltb 0 (occurs m xs) h
 
 pub among_no : (m : ℕ) (xs : List MonitorId) → is_among m xs ≡ false → occurs m xs ≡ 0
-among_no m xs h = elim (cases_lt 0 (occurs m xs)) [ inl l ↦ absurd (both_ways (is_among m xs) h (yes_among m xs l)) | inr g ↦ omega (arith, g) ]
+among_no m xs h = elim (cases_lt 0 (occurs m xs))
+    [ inl l ↦ absurd (both_ways (is_among m xs) h (yes_among m xs l)) | inr g ↦ omega (arith, g) ]
 
 pub no_among : (m : ℕ) (xs : List MonitorId) → occurs m xs ≡ 0 → is_among m xs ≡ false
 no_among m xs h = among-occurs m xs ∙ ap (nat_lt 0) h
@@ -47,7 +53,8 @@ no_among m xs h = among-occurs m xs ∙ ap (nat_lt 0) h
 abbrev pub listed : Option (Option (List MonitorId)) → List MonitorId
 listed o = option_map_or (λ x. x) (option_and_then (λ x. x) o) []
 
-there_is : (o : Option (Option (List MonitorId))) → is_some (option_and_then (λ x. x) o) ≡ true → o ≡ Some (Some (listed o))
+there_is : (o : Option (Option (List MonitorId))) → is_some (option_and_then (λ x. x) o) ≡ true
+    → o ≡ Some (Some (listed o))
 there_is None h = absurd (both_ways false refl h)
 there_is (Some None) h = absurd (both_ways false refl h)
 there_is (Some (Some xs)) h = refl
@@ -58,7 +65,8 @@ group_is gs g h = there_is (slice_get gs g) h
 pub child_in_group : (gs : Groups) (g m : ℕ) → has_child gs g m ≡ true → has_group gs g ≡ true
 child_in_group gs g m h = go (slice_get gs g) h
   where
-    go : (o : Option (Option (List MonitorId))) → is_among m (listed o) ≡ true → is_some (option_and_then (λ x. x) o) ≡ true
+    go : (o : Option (Option (List MonitorId))) → is_among m (listed o) ≡ true
+        → is_some (option_and_then (λ x. x) o) ≡ true
     go None h = absurd (both_ways false refl h)
     go (Some None) h = absurd (both_ways false refl h)
     go (Some (Some xs)) h = refl
@@ -68,7 +76,8 @@ same_bit : (m g n k : ℕ) → g < 256 → k < 256 → bit_of m g ≡ bit_of n k
 same_bit m g n k l h e = (omega (arith, e), omega (arith, e))
 
 -- one group has other children, where how often each is among them differs for one monitor alone
-bits_set : (gs : Groups) (held held2 : List ℕ) (g v : ℕ) (o : Option (List MonitorId)) (b : Bool) → g < length gs → g < 256
+bits_set : (gs : Groups) (held held2 : List ℕ) (g v : ℕ) (o : Option (List MonitorId)) (b : Bool) → g < length gs
+    → g < 256
     → ((k m : ℕ) → k < 256 → occurs m (children_at gs k) ≡ cond (is_set held (bit_of m k)) 1 0)
     → occurs v (listed (Some o)) ≡ cond b 1 0
     → ((m : ℕ) → (m ≡ v → ⊥) → occurs m (listed (Some o)) ≡ occurs m (children_at gs g))
@@ -76,28 +85,36 @@ bits_set : (gs : Groups) (held held2 : List ℕ) (g v : ℕ) (o : Option (List M
     → (k m : ℕ) → k < 256 → occurs m (children_at (set gs g o) k) ≡ cond (is_set held2 (bit_of m k)) 1 0
 bits_set gs held held2 g v o b there small old mine others new k m l = at_bit (nat_eq (bit_of m k) (bit_of v g)) refl
   where
-    at_bit : (t : Bool) → nat_eq (bit_of m k) (bit_of v g) ≡ t → occurs m (children_at (set gs g o) k) ≡ cond (is_set held2 (bit_of m k)) 1 0
+    at_bit : (t : Bool) → nat_eq (bit_of m k) (bit_of v g) ≡ t
+        → occurs m (children_at (set gs g o) k) ≡ cond (is_set held2 (bit_of m k)) 1 0
     at_bit true e =
         let s = same_bit m k v g l small (eqb-true (bit_of m k) (bit_of v g) e) in
-        (λ i. occurs (s.0 i) (children_at (set gs g o) (s.1 i))) ∙ ap (λ x. occurs v (listed x)) (get-set gs g o there) ∙ mine
+        (λ i. occurs (s.0 i) (children_at (set gs g o) (s.1 i))) ∙ ap (λ x. occurs v (listed x)) (get-set gs g o there)
+        ∙ mine
         ∙ ap (λ t. cond t 1 0) (sym (new (bit_of m k) ∙ ap (λ t. cond t b (is_set held (bit_of m k))) e))
-    at_bit false e = at_group (nat_eq k g) refl ∙ ap (λ t. cond t 1 0) (sym (new (bit_of m k) ∙ ap (λ t. cond t b (is_set held (bit_of m k))) e))
+    at_bit false e = at_group (nat_eq k g) refl ∙ ap (λ t. cond t 1 0)
+        (sym (new (bit_of m k) ∙ ap (λ t. cond t b (is_set held (bit_of m k))) e))
       where
-        at_group : (t : Bool) → nat_eq k g ≡ t → occurs m (children_at (set gs g o) k) ≡ cond (is_set held (bit_of m k)) 1 0
+        at_group : (t : Bool) → nat_eq k g ≡ t → occurs m (children_at (set gs g o) k)
+            ≡ cond (is_set held (bit_of m k)) 1 0
         at_group true f =
             let same = eqb-true k g f in
-            let other : (m ≡ v → ⊥) = λ q. both_ways (nat_eq (bit_of m k) (bit_of v g)) e (eq-eqb (bit_of m k) (bit_of v g) (λ i. bit_of (q i) (same i))) in
-            ap (λ j. occurs m (children_at (set gs g o) j)) same ∙ ap (λ x. occurs m (listed x)) (get-set gs g o there) ∙ others m other
+            let other : (m ≡ v → ⊥) = λ q. both_ways (nat_eq (bit_of m k) (bit_of v g)) e
+            (eq-eqb (bit_of m k) (bit_of v g) (λ i. bit_of (q i) (same i))) in
+            ap (λ j. occurs m (children_at (set gs g o) j)) same ∙ ap (λ x. occurs m (listed x)) (get-set gs g o there)
+            ∙ others m other
             ∙ ap (λ j. occurs m (children_at gs j)) (sym same) ∙ old k m l
         at_group false f = ap (λ x. occurs m (listed x)) (get-set_other gs g k o (eqb-false k g f)) ∙ old k m l
 
 known_set : (gs : Groups) (g monitors : ℕ) (o : Option (List MonitorId)) → g < length gs
-    → ((k m : ℕ) → has_child gs k m ≡ true → m < monitors) → ((m : ℕ) → is_among m (listed (Some o)) ≡ true → m < monitors)
+    → ((k m : ℕ) → has_child gs k m ≡ true → m < monitors)
+    → ((m : ℕ) → is_among m (listed (Some o)) ≡ true → m < monitors)
     → (k m : ℕ) → has_child (set gs g o) k m ≡ true → m < monitors
 known_set gs g monitors o there old new k m h = at_group (nat_eq k g) refl
   where
     at_group : (t : Bool) → nat_eq k g ≡ t → m < monitors
-    at_group true f = new m (sym (ap (λ j. is_among m (children_at (set gs g o) j)) (eqb-true k g f) ∙ ap (λ x. is_among m (listed x)) (get-set gs g o there)) ∙ h)
+    at_group true f = new m (sym (ap (λ j. is_among m (children_at (set gs g o) j)) (eqb-true k g f)
+        ∙ ap (λ x. is_among m (listed x)) (get-set gs g o there)) ∙ h)
     at_group false f = old k m (sym (ap (λ x. is_among m (listed x)) (get-set_other gs g k o (eqb-false k g f))) ∙ h)
 
 -- what is kept of groups is what the fields stand for
@@ -110,59 +127,80 @@ seating gs monitors sizes children held s =
     record { view = v; kept = subst (λ x. AreSeated x monitors sizes children held) (sym v) s }
 
 -- a child more
-pub inserted : (gs : Groups) (monitors : ℕ) (sizes : List (Option ℕ)) (children : List MonitorId) (held held2 : List ℕ) (g k : ℕ) (v : MonitorId) (xs : List MonitorId)
-    → AreSeated gs monitors sizes children held → slice_get gs g ≡ Some (Some xs) → k ≤ length xs → v.0 < monitors → is_among v.0 xs ≡ false → length held2 ≡ length held
+pub inserted : (gs : Groups) (monitors : ℕ) (sizes : List (Option ℕ)) (children : List MonitorId) (held held2 : List ℕ)
+    (g k : ℕ) (v : MonitorId) (xs : List MonitorId)
+    → AreSeated gs monitors sizes children held → slice_get gs g ≡ Some (Some xs) → k ≤ length xs → v.0 < monitors
+    → is_among v.0 xs ≡ false → length held2 ≡ length held
     → ((n : ℕ) → is_set held2 n ≡ cond (nat_eq n (bit_of v.0 g)) true (is_set held n))
-    → IsSeating (set gs g (Some (insert xs k v))) monitors (set sizes g (Some (length xs + 1))) (insert children (start_of g sizes + k) v) held2
+    → IsSeating (set gs g (Some (insert xs k v))) monitors (set sizes g (Some (length xs + 1)))
+    (insert children (start_of g sizes + k) v) held2
 inserted gs monitors sizes children held held2 g k v xs s h l low fresh long new =
     let there : g < length gs = slice_get_within gs g (Some xs) h in
     let small : g < 256 = (let e = s.numbers in omega (arith, there, e)) in
     let none = among_no v.0 xs fresh in
-    let count : (m : ℕ) → occurs m (insert xs k v) ≡ occurs m xs + cond (v.0 == m) 1 0 = λ m. sum_by-insert (λ (c : MonitorId). cond (c.0 == m) 1 0) xs k v in
+    let count : (m : ℕ) → occurs m (insert xs k v) ≡ occurs m xs + cond (v.0 == m) 1 0 =
+    λ m. sum_by-insert (λ (c : MonitorId). cond (c.0 == m) 1 0) xs k v in
     let at_group = ap listed h in
-    seating (set gs g (Some (insert xs k v))) monitors (set sizes g (Some (length xs + 1))) (insert children (start_of g sizes + k) v) held2 record {
+    seating (set gs g (Some (insert xs k v))) monitors (set sizes g (Some (length xs + 1)))
+    (insert children (start_of g sizes + k) v) held2 record {
       few = s.few;
       numbers = length-set gs g (Some (insert xs k v)) ∙ s.numbers;
-      known = known_set gs g monitors (Some (insert xs k v)) there s.known (λ m a. low_or m (v.0 == m) refl (among_yes m (insert xs k v) a) (count m));
+      known = known_set gs g monitors (Some (insert xs k v)) there s.known
+          (λ m a. low_or m (v.0 == m) refl (among_yes m (insert xs k v) a) (count m));
       bits = bits_set gs held held2 g v.0 (Some (insert xs k v)) true there small s.bits
           (count v.0 ∙ ap (λ t. occurs v.0 xs + cond t 1 0) (eq-eqb v.0 v.0 refl) ∙ ap (λ n. n + 1) none)
-          (λ m n. count m ∙ ap (λ t. occurs m xs + cond t 1 0) (ne_eqb v.0 m (λ q. n (sym q))) ∙ (let z : occurs m xs + 0 ≡ occurs m xs = omega arith in z) ∙ ap (occurs m) (sym at_group))
+          (λ m n. count m ∙ ap (λ t. occurs m xs + cond t 1 0) (ne_eqb v.0 m (λ q. n (sym q)))
+          ∙ (let z : occurs m xs + 0 ≡ occurs m xs = omega arith in z) ∙ ap (occurs m) (sym at_group))
           new;
       room = (let r = s.room in omega (arith, r, long));
-      sizes_ = ap (λ x. set x g (Some (length xs + 1))) s.sizes_ ∙ ap (λ n. set (sizes_of gs) g (Some n)) (sym (length-insert xs k v l)) ∙ sym (map-set (option_map length) gs g (Some (insert xs k v)));
+      sizes_ = ap (λ x. set x g (Some (length xs + 1))) s.sizes_
+          ∙ ap (λ n. set (sizes_of gs) g (Some n)) (sym (length-insert xs k v l))
+          ∙ sym (map-set (option_map length) gs g (Some (insert xs k v)));
       children_ = (λ i. insert (s.children_ i) (start_of g (s.sizes_ i) + k) v) ∙ sym (joined-insert gs g k xs v h l);
     }
   where
-    low_or : (m : ℕ) (t : Bool) → (v.0 == m) ≡ t → 0 < occurs m (insert xs k v) → occurs m (insert xs k v) ≡ occurs m xs + cond (v.0 == m) 1 0 → m < monitors
+    low_or : (m : ℕ) (t : Bool) → (v.0 == m) ≡ t → 0 < occurs m (insert xs k v)
+        → occurs m (insert xs k v) ≡ occurs m xs + cond (v.0 == m) 1 0 → m < monitors
     low_or m true e a c = subst (λ x. x < monitors) (eqb-true v.0 m e) low
     low_or m false e a c =
         let d : occurs m (insert xs k v) ≡ occurs m xs + 0 = c ∙ ap (λ t. occurs m xs + cond t 1 0) e in
         s.known g m (ap (λ x. is_among m (listed x)) h ∙ yes_among m xs (omega (arith, a, d)))
 
 -- a child fewer
-pub removed : (gs : Groups) (monitors : ℕ) (sizes : List (Option ℕ)) (children : List MonitorId) (held held2 : List ℕ) (g k v : ℕ) (d : MonitorId) (xs : List MonitorId)
-    → AreSeated gs monitors sizes children held → slice_get gs g ≡ Some (Some xs) → k < length xs → (get_or xs k d).0 ≡ v → length held2 ≡ length held
+pub removed : (gs : Groups) (monitors : ℕ) (sizes : List (Option ℕ)) (children : List MonitorId) (held held2 : List ℕ)
+    (g k v : ℕ) (d : MonitorId) (xs : List MonitorId)
+    → AreSeated gs monitors sizes children held → slice_get gs g ≡ Some (Some xs) → k < length xs
+    → (get_or xs k d).0 ≡ v → length held2 ≡ length held
     → ((n : ℕ) → is_set held2 n ≡ cond (nat_eq n (bit_of v g)) false (is_set held n))
-    → IsSeating (set gs g (Some (remove xs k))) monitors (set sizes g (Some (length xs - 1))) (remove children (start_of g sizes + k)) held2
+    → IsSeating (set gs g (Some (remove xs k))) monitors (set sizes g (Some (length xs - 1)))
+    (remove children (start_of g sizes + k)) held2
 removed gs monitors sizes children held held2 g k v d xs s h l at_place long new =
     let there : g < length gs = slice_get_within gs g (Some xs) h in
     let small : g < 256 = (let e = s.numbers in omega (arith, there, e)) in
     let count : (m : ℕ) → occurs m (remove xs k) + cond (v == m) 1 0 ≡ occurs m xs =
-    λ m. ap (λ x. occurs m (remove xs k) + cond (x == m) 1 0) (sym at_place) ∙ sum_by-remove (λ (c : MonitorId). cond (c.0 == m) 1 0) xs k d l in
+    λ m. ap (λ x. occurs m (remove xs k) + cond (x == m) 1 0) (sym at_place)
+    ∙ sum_by-remove (λ (c : MonitorId). cond (c.0 == m) 1 0) xs k d l in
     let at_group = ap listed h in
     let shorter : length (remove xs k) ≡ length xs - 1 = (let e = length-remove xs k l in omega (arith, e)) in
-    let once : occurs v xs ≤ 1 = subst (λ x. occurs v x ≤ 1) at_group (subst (λ n. n ≤ 1) (sym (s.bits g v small)) (bit_small (is_set held (bit_of v g)))) in
-    let mine : occurs v (remove xs k) ≡ 0 = (let c : occurs v (remove xs k) + 1 ≡ occurs v xs = ap (λ t. occurs v (remove xs k) + cond t 1 0) (sym (eq-eqb v v refl)) ∙ count v in omega (arith, c, once)) in
-    seating (set gs g (Some (remove xs k))) monitors (set sizes g (Some (length xs - 1))) (remove children (start_of g sizes + k)) held2 record {
+    let once : occurs v xs ≤ 1 = subst (λ x. occurs v x ≤ 1) at_group
+    (subst (λ n. n ≤ 1) (sym (s.bits g v small)) (bit_small (is_set held (bit_of v g)))) in
+    let mine : occurs v (remove xs k) ≡ 0 = (let c : occurs v (remove xs k) + 1 ≡ occurs v xs =
+    ap (λ t. occurs v (remove xs k) + cond t 1 0) (sym (eq-eqb v v refl)) ∙ count v in omega (arith, c, once)) in
+    seating (set gs g (Some (remove xs k))) monitors (set sizes g (Some (length xs - 1)))
+    (remove children (start_of g sizes + k)) held2 record {
       few = s.few;
       numbers = length-set gs g (Some (remove xs k)) ∙ s.numbers;
       known = known_set gs g monitors (Some (remove xs k)) there s.known
-          (λ m a. s.known g m (ap (λ x. is_among m (listed x)) h ∙ yes_among m xs (let p = among_yes m (remove xs k) a in let c = count m in omega (arith, p, c))));
+          (λ m a. s.known g m (ap (λ x. is_among m (listed x)) h
+          ∙ yes_among m xs (let p = among_yes m (remove xs k) a in let c = count m in omega (arith, p, c))));
       bits = bits_set gs held held2 g v (Some (remove xs k)) false there small s.bits mine
-          (λ m n. (let z : occurs m (remove xs k) ≡ occurs m (remove xs k) + 0 = omega arith in z) ∙ ap (λ t. occurs m (remove xs k) + cond t 1 0) (sym (ne_eqb v m (λ q. n (sym q)))) ∙ count m ∙ ap (occurs m) (sym at_group))
+          (λ m n. (let z : occurs m (remove xs k) ≡ occurs m (remove xs k) + 0 = omega arith in z)
+          ∙ ap (λ t. occurs m (remove xs k) + cond t 1 0) (sym (ne_eqb v m (λ q. n (sym q)))) ∙ count m
+          ∙ ap (occurs m) (sym at_group))
           new;
       room = (let r = s.room in omega (arith, r, long));
-      sizes_ = ap (λ x. set x g (Some (length xs - 1))) s.sizes_ ∙ ap (λ n. set (sizes_of gs) g (Some n)) (sym shorter) ∙ sym (map-set (option_map length) gs g (Some (remove xs k)));
+      sizes_ = ap (λ x. set x g (Some (length xs - 1))) s.sizes_ ∙ ap (λ n. set (sizes_of gs) g (Some n)) (sym shorter)
+          ∙ sym (map-set (option_map length) gs g (Some (remove xs k)));
       children_ = (λ i. remove (s.children_ i) (start_of g (s.sizes_ i) + k)) ∙ sym (joined-remove gs g k xs h l);
     }
   where
@@ -171,16 +209,20 @@ removed gs monitors sizes children held held2 g k v d xs s h l at_place long new
     bit_small false = omega arith
 
 -- a group without children that comes, and one that goes
-same_children : (gs : Groups) (g : ℕ) (o : Option (List MonitorId)) → listed (Some o) ≡ [] → children_at gs g ≡ [] → g < length gs → (k : ℕ) → children_at (set gs g o) k ≡ children_at gs k
+same_children : (gs : Groups) (g : ℕ) (o : Option (List MonitorId)) → listed (Some o) ≡ [] → children_at gs g ≡ []
+    → g < length gs → (k : ℕ) → children_at (set gs g o) k ≡ children_at gs k
 same_children gs g o a b there k = go (nat_eq k g) refl
   where
     go : (t : Bool) → nat_eq k g ≡ t → children_at (set gs g o) k ≡ children_at gs k
     go true f = let same = eqb-true k g f in
-        ap (children_at (set gs g o)) same ∙ ap listed (get-set gs g o there) ∙ a ∙ sym b ∙ ap (children_at gs) (sym same)
+        ap (children_at (set gs g o)) same ∙ ap listed (get-set gs g o there) ∙ a ∙ sym b
+        ∙ ap (children_at gs) (sym same)
     go false f = ap listed (get-set_other gs g k o (eqb-false k g f))
 
-turned : (gs : Groups) (monitors : ℕ) (sizes : List (Option ℕ)) (children : List MonitorId) (held : List ℕ) (g : ℕ) (o : Option (List MonitorId))
-    → AreSeated gs monitors sizes children held → g < length gs → listed (Some o) ≡ [] → children_at gs g ≡ [] → joined (set gs g o) ≡ joined gs
+turned : (gs : Groups) (monitors : ℕ) (sizes : List (Option ℕ)) (children : List MonitorId) (held : List ℕ) (g : ℕ)
+    (o : Option (List MonitorId))
+    → AreSeated gs monitors sizes children held → g < length gs → listed (Some o) ≡ [] → children_at gs g ≡ []
+    → joined (set gs g o) ≡ joined gs
     → IsSeating (set gs g o) monitors (set sizes g (option_map length o)) children held
 turned gs monitors sizes children held g o s there a b j =
     let same = same_children gs g o a b there in
@@ -195,20 +237,27 @@ turned gs monitors sizes children held g o s there a b j =
     }
 
 pub made : (gs : Groups) (monitors : ℕ) (sizes : List (Option ℕ)) (children : List MonitorId) (held : List ℕ) (g : ℕ)
-    → AreSeated gs monitors sizes children held → slice_get gs g ≡ Some None → IsSeating (set gs g (Some [])) monitors (set sizes g (Some 0)) children held
+    → AreSeated gs monitors sizes children held → slice_get gs g ≡ Some None
+    → IsSeating (set gs g (Some [])) monitors (set sizes g (Some 0)) children held
 made gs monitors sizes children held g s h =
-    turned gs monitors sizes children held g (Some []) s (slice_get_within gs g None h) refl (ap listed h) (joined-make gs g h)
+    turned gs monitors sizes children held g (Some []) s (slice_get_within gs g None h) refl (ap listed h)
+    (joined-make gs g h)
 
 pub dropped : (gs : Groups) (monitors : ℕ) (sizes : List (Option ℕ)) (children : List MonitorId) (held : List ℕ) (g : ℕ)
-    → AreSeated gs monitors sizes children held → slice_get gs g ≡ Some (Some []) → IsSeating (set gs g None) monitors (set sizes g None) children held
+    → AreSeated gs monitors sizes children held → slice_get gs g ≡ Some (Some [])
+    → IsSeating (set gs g None) monitors (set sizes g None) children held
 dropped gs monitors sizes children held g s h =
-    turned gs monitors sizes children held g None s (slice_get_within gs g (Some []) h) refl (ap listed h) (joined-drop gs g h)
+    turned gs monitors sizes children held g None s (slice_get_within gs g (Some []) h) refl (ap listed h)
+    (joined-drop gs g h)
 
 -- a size
-pub size_is : (gs : Groups) (sizes : List (Option ℕ)) (g : ℕ) → sizes ≡ sizes_of gs → option_and_then (λ x. x) (slice_get sizes g) ≡ option_map length (group_at gs g)
-size_is gs sizes g e = ap (λ s. option_and_then (λ x. x) (slice_get s g)) e ∙ ap (option_and_then (λ x. x)) (slice_get-map (option_map length) gs g) ∙ go (slice_get gs g)
+pub size_is : (gs : Groups) (sizes : List (Option ℕ)) (g : ℕ) → sizes ≡ sizes_of gs
+    → option_and_then (λ x. x) (slice_get sizes g) ≡ option_map length (group_at gs g)
+size_is gs sizes g e = ap (λ s. option_and_then (λ x. x) (slice_get s g)) e
+    ∙ ap (option_and_then (λ x. x)) (slice_get-map (option_map length) gs g) ∙ go (slice_get gs g)
   where
-    go : (o : Option (Option (List MonitorId))) → option_and_then (λ x. x) (option_map (option_map length) o) ≡ option_map length (option_and_then (λ x. x) o)
+    go : (o : Option (Option (List MonitorId))) → option_and_then (λ x. x) (option_map (option_map length) o)
+        ≡ option_map length (option_and_then (λ x. x) o)
     go None = refl
     go (Some None) = refl
     go (Some (Some xs)) = refl
@@ -217,17 +266,22 @@ pub sizes_long : (gs : Groups) (sizes : List (Option ℕ)) → sizes ≡ sizes_o
 sizes_long gs sizes e = ap length e ∙ length-map gs (option_map length)
 
 -- whether it has a child, by its bit; beyond the numbers of groups there are no children
-pub bit_tells : (gs : Groups) (monitors : ℕ) (sizes : List (Option ℕ)) (children : List MonitorId) (held : List ℕ) (g m : ℕ)
+pub bit_tells : (gs : Groups) (monitors : ℕ) (sizes : List (Option ℕ)) (children : List MonitorId) (held : List ℕ)
+    (g m : ℕ)
     → AreSeated gs monitors sizes children held → g < length sizes → is_set held (bit_of m g) ≡ has_child gs g m
 bit_tells gs monitors sizes children held g m s l =
-    go (is_set held (bit_of m g)) ∙ ap (nat_lt 0) (sym (s.bits g m (let e = sizes_long gs sizes s.sizes_ in let f = s.numbers in omega (arith, l, e, f)))) ∙ sym (among-occurs m (children_at gs g))
+    go (is_set held (bit_of m g)) ∙ ap (nat_lt 0)
+    (sym (s.bits g m (let e = sizes_long gs sizes s.sizes_ in let f = s.numbers in omega (arith, l, e, f))))
+    ∙ sym (among-occurs m (children_at gs g))
   where
     go : (t : Bool) → t ≡ nat_lt 0 (cond t 1 0)
     go true = refl
     go false = refl
 
-pub no_child : (gs : Groups) (sizes : List (Option ℕ)) (g m : ℕ) → sizes ≡ sizes_of gs → length sizes ≤ g → has_child gs g m ≡ false
-no_child gs sizes g m e l = ap (λ x. is_among m (listed x)) (slice_get_past gs g (let f = sizes_long gs sizes e in omega (arith, l, f)))
+pub no_child : (gs : Groups) (sizes : List (Option ℕ)) (g m : ℕ) → sizes ≡ sizes_of gs → length sizes ≤ g
+    → has_child gs g m ≡ false
+no_child gs sizes g m e l = ap (λ x. is_among m (listed x))
+    (slice_get_past gs g (let f = sizes_long gs sizes e in omega (arith, l, f)))
 
 -- a group with its size
 pub record HasPart (gs : Groups) (sizes : List (Option ℕ)) (children : List MonitorId) (g n : ℕ) : Type 0 where
@@ -238,38 +292,59 @@ pub record HasPart (gs : Groups) (sizes : List (Option ℕ)) (children : List Mo
   pub known : g < length sizes
   pub number : g < GROUPS
 
-pub part_is : (gs : Groups) (monitors : ℕ) (sizes : List (Option ℕ)) (children : List MonitorId) (held : List ℕ) (g n : ℕ)
-    → AreSeated gs monitors sizes children held → Some n ≡ option_map length (group_at gs g) → HasPart gs sizes children g n
+pub part_is : (gs : Groups) (monitors : ℕ) (sizes : List (Option ℕ)) (children : List MonitorId) (held : List ℕ)
+    (g n : ℕ)
+    → AreSeated gs monitors sizes children held → Some n ≡ option_map length (group_at gs g)
+    → HasPart gs sizes children g n
 part_is gs monitors sizes children held g n s h =
     let there : slice_get gs g ≡ Some (Some (children_at gs g)) = found (slice_get gs g) h in
     let size : n ≡ length (children_at gs g) = long (slice_get gs g) h in
     let p = joined-part gs g (children_at gs g) there in
-    let P : ℕ → Type 0 = λ k. (take k (drop (start_of g sizes) children) ≡ children_at gs g) × (start_of g sizes + k ≤ length children) in
-    let Q : List (Option ℕ) → Type 0 = λ z. (take (length (children_at gs g)) (drop (start_of g z) children) ≡ children_at gs g) × (start_of g z + length (children_at gs g) ≤ length children) in
-    let R : List MonitorId → Type 0 = λ c. (take (length (children_at gs g)) (drop (start_of g (sizes_of gs)) c) ≡ children_at gs g) × (start_of g (sizes_of gs) + length (children_at gs g) ≤ length c) in
+    let P : ℕ → Type 0 = λ k. (take k (drop (start_of g sizes) children) ≡ children_at gs g)
+    × (start_of g sizes + k ≤ length children) in
+    let Q : List (Option ℕ) → Type 0 = λ z. (take (length (children_at gs g)) (drop (start_of g z) children)
+    ≡ children_at gs g) × (start_of g z + length (children_at gs g) ≤ length children) in
+    let R : List MonitorId → Type 0 = λ c. (take (length (children_at gs g)) (drop (start_of g (sizes_of gs)) c)
+    ≡ children_at gs g) × (start_of g (sizes_of gs) + length (children_at gs g) ≤ length c) in
     let q : P n = subst P (sym size) (subst Q (sym s.sizes_) (subst R (sym s.children_) p)) in
-    record { there = there; size = size; part = q.0; ends = q.1; known = (let l = slice_get_within gs g (Some (children_at gs g)) there in let e = sizes_long gs sizes s.sizes_ in omega (arith, l, e)); number = (let l = slice_get_within gs g (Some (children_at gs g)) there in let e = s.numbers in omega (arith, l, e)) }
+    record {
+      there = there;
+      size = size;
+      part = q.0;
+      ends = q.1;
+      known =
+          (let l = slice_get_within gs g (Some (children_at gs g)) there in let e = sizes_long gs sizes s.sizes_ in
+          omega (arith, l, e));
+      number = (let l = slice_get_within gs g (Some (children_at gs g)) there in let e =
+          s.numbers in omega (arith, l, e));
+    }
   where
-    found : (o : Option (Option (List MonitorId))) → Some n ≡ option_map length (option_and_then (λ x. x) o) → o ≡ Some (Some (listed o))
+    found : (o : Option (Option (List MonitorId))) → Some n ≡ option_map length (option_and_then (λ x. x) o)
+        → o ≡ Some (Some (listed o))
     found None h = absurd (not_none n (sym h))
     found (Some None) h = absurd (not_none n (sym h))
     found (Some (Some xs)) h = refl
 
-    long : (o : Option (Option (List MonitorId))) → Some n ≡ option_map length (option_and_then (λ x. x) o) → n ≡ length (listed o)
+    long : (o : Option (Option (List MonitorId))) → Some n ≡ option_map length (option_and_then (λ x. x) o)
+        → n ≡ length (listed o)
     long None h = absurd (not_none n (sym h))
     long (Some None) h = absurd (not_none n (sym h))
     long (Some (Some xs)) h = same_Some n (length xs) h
 
 -- how many children there are
-pub seated_is : (gs : Groups) (monitors : ℕ) (sizes : List (Option ℕ)) (children : List MonitorId) (held : List ℕ) → AreSeated gs monitors sizes children held → seated gs ≡ length children
+pub seated_is : (gs : Groups) (monitors : ℕ) (sizes : List (Option ℕ)) (children : List MonitorId) (held : List ℕ)
+    → AreSeated gs monitors sizes children held → seated gs ≡ length children
 seated_is gs monitors sizes children held s = sym (length-joined gs) ∙ ap length (sym s.children_)
 
-pub sizes_sum : (gs : Groups) (monitors : ℕ) (sizes : List (Option ℕ)) (children : List MonitorId) (held : List ℕ) → AreSeated gs monitors sizes children held
+pub sizes_sum : (gs : Groups) (monitors : ℕ) (sizes : List (Option ℕ)) (children : List MonitorId) (held : List ℕ)
+    → AreSeated gs monitors sizes children held
     → sum_by (λ (o : Option ℕ). option_map_or (λ n. n) o 0) sizes ≡ length children
-sizes_sum gs monitors sizes children held s = ap (sum_by (λ (o : Option ℕ). option_map_or (λ n. n) o 0)) s.sizes_ ∙ sum_sizes gs ∙ ap length (sym s.children_)
+sizes_sum gs monitors sizes children held s =
+    ap (sum_by (λ (o : Option ℕ). option_map_or (λ n. n) o 0)) s.sizes_ ∙ sum_sizes gs ∙ ap length (sym s.children_)
 
 -- the first number of no group
-pub free_is : (gs : Groups) (sizes : List (Option ℕ)) (g : ℕ) → sizes ≡ sizes_of gs → g ≡ position_or_len is_none sizes → g < length sizes → (g ≡ free_number gs) × (slice_get gs g ≡ Some None)
+pub free_is : (gs : Groups) (sizes : List (Option ℕ)) (g : ℕ) → sizes ≡ sizes_of gs → g ≡ position_or_len is_none sizes
+    → g < length sizes → (g ≡ free_number gs) × (slice_get gs g ≡ Some None)
 free_is gs sizes g e p l =
     let same : g ≡ free_number gs = p ∙ ap (position_or_len is_none) e ∙ free_sizes gs in
     let low : g < length gs = (let f = sizes_long gs sizes e in omega (arith, l, f)) in
@@ -282,37 +357,49 @@ free_is gs sizes g e p l =
     at_free : (gs : Groups) (g : ℕ) → g ≡ free_number gs → g < length gs → slice_get gs g ≡ Some None
     at_free gs g same low =
         let there : position_or_len is_none gs < length gs = subst (λ n. n < length gs) same low in
-        slice_get-get_or gs g None low ∙ ap Some (at_none (get_or gs g None) (ap (λ n. is_none (get_or gs n None)) same ∙ passes_at_first is_none gs None there))
+        slice_get-get_or gs g None low ∙ ap Some (at_none (get_or gs g None)
+        (ap (λ n. is_none (get_or gs n None)) same ∙ passes_at_first is_none gs None there))
 
-pub none_free : (gs : Groups) (sizes : List (Option ℕ)) → sizes ≡ sizes_of gs → length sizes ≤ position_or_len is_none sizes → nat_le (length gs) (free_number gs) ≡ true
-none_free gs sizes e l = le-leb (length gs) (free_number gs) (let a = sizes_long gs sizes e in let b : position_or_len is_none sizes ≡ free_number gs = ap (position_or_len is_none) e ∙ free_sizes gs in omega (arith, l, a, b))
+pub none_free : (gs : Groups) (sizes : List (Option ℕ)) → sizes ≡ sizes_of gs
+    → length sizes ≤ position_or_len is_none sizes → nat_le (length gs) (free_number gs) ≡ true
+none_free gs sizes e l = le-leb (length gs) (free_number gs)
+    (let a = sizes_long gs sizes e in let b : position_or_len is_none sizes ≡ free_number gs =
+    ap (position_or_len is_none) e ∙ free_sizes gs in omega (arith, l, a, b))
 
 -- the same, of the groups that are seen
-pub kept_as : (v w : Seating) (monitors : ℕ) (sizes : List (Option ℕ)) (children : List MonitorId) (held : List ℕ) → v ≡ w
+pub kept_as : (v w : Seating) (monitors : ℕ) (sizes : List (Option ℕ)) (children : List MonitorId) (held : List ℕ)
+    → v ≡ w
     → AreSeated v.groups monitors sizes children held → AreSeated w.groups monitors sizes children held
-kept_as v w monitors sizes children held e s = subst (λ (x : Seating). AreSeated x.groups monitors sizes children held) e s
+kept_as v w monitors sizes children held e s =
+    subst (λ (x : Seating). AreSeated x.groups monitors sizes children held) e s
 
 pub free_answer : (gs : Groups) (sizes : List (Option ℕ)) (r : Option GroupId) → sizes ≡ sizes_of gs
-    → MatchOption r (length sizes ≤ position_or_len is_none sizes) (λ g. (g.0 ≡ position_or_len is_none sizes) × (g.0 < length sizes))
-    → MatchOption r (nat_le (length gs) (free_number gs) ≡ true) (λ g. (g.0 ≡ free_number gs) × (slice_get gs g.0 ≡ Some None))
+    → MatchOption r (length sizes ≤ position_or_len is_none sizes)
+    (λ g. (g.0 ≡ position_or_len is_none sizes) × (g.0 < length sizes))
+    → MatchOption r (nat_le (length gs) (free_number gs) ≡ true)
+    (λ g. (g.0 ≡ free_number gs) × (slice_get gs g.0 ≡ Some None))
 free_answer gs sizes None e h = none_free gs sizes e h
 free_answer gs sizes (Some g) e h = free_is gs sizes g.0 e h.0 h.1
 
 -- the place of a child
-pub child_place : (xs : List MonitorId) (m : ℕ) (d : MonitorId) → is_among m xs ≡ true → (place_of m xs < length xs) × ((get_or xs (place_of m xs) d).0 ≡ m)
+pub child_place : (xs : List MonitorId) (m : ℕ) (d : MonitorId) → is_among m xs ≡ true
+    → (place_of m xs < length xs) × ((get_or xs (place_of m xs) d).0 ≡ m)
 child_place xs m d h =
     let p : MonitorId → Bool = λ c. c.0 == m in
     let low : place_of m xs < length xs = ltb-true (place_of m xs) (length xs) (below_length p xs ∙ h) in
     (low, eqb-true (get_or xs (place_of m xs) d).0 m (passes_at_first p xs d low))
 
 -- the same fields, said otherwise
-pub seating_as : (gs : Groups) (monitors : ℕ) (sizes sizes2 : List (Option ℕ)) (children children2 : List MonitorId) (held : List ℕ)
-    → IsSeating gs monitors sizes children held → sizes ≡ sizes2 → children ≡ children2 → IsSeating gs monitors sizes2 children2 held
+pub seating_as : (gs : Groups) (monitors : ℕ) (sizes sizes2 : List (Option ℕ)) (children children2 : List MonitorId)
+    (held : List ℕ)
+    → IsSeating gs monitors sizes children held → sizes ≡ sizes2 → children ≡ children2
+    → IsSeating gs monitors sizes2 children2 held
 seating_as gs monitors sizes sizes2 children children2 held h a b =
     subst (λ x. IsSeating gs monitors sizes2 x held) b (subst (λ x. IsSeating gs monitors x children held) a h)
 
 -- what callers may know
-pub valid_is : (gs : Groups) (monitors : ℕ) (sizes : List (Option ℕ)) (children : List MonitorId) (held : List ℕ) → AreSeated gs monitors sizes children held → AreGroups monitors gs
+pub valid_is : (gs : Groups) (monitors : ℕ) (sizes : List (Option ℕ)) (children : List MonitorId) (held : List ℕ)
+    → AreSeated gs monitors sizes children held → AreGroups monitors gs
 valid_is gs monitors sizes children held s = record { numbers = s.numbers; known = s.known; once = once }
   where
     small : (t : Bool) → cond t 1 0 ≤ 1
@@ -322,11 +409,13 @@ valid_is gs monitors sizes children held s = record { numbers = s.numbers; known
     once : (g m : ℕ) → occurs m (children_at gs g) ≤ 1
     once g m = elim (cases_lt g 256) [
       | inl l ↦ subst (λ n. n ≤ 1) (sym (s.bits g m l)) (small (is_set held (bit_of m g)))
-      | inr h ↦ subst (λ (x : List MonitorId). occurs m x ≤ 1) (sym (ap listed (slice_get_past gs g (let e = s.numbers in omega (arith, h, e))))) (omega arith)
+      | inr h ↦ subst (λ (x : List MonitorId). occurs m x ≤ 1)
+          (sym (ap listed (slice_get_past gs g (let e = s.numbers in omega (arith, h, e))))) (omega arith)
     ]
 
 -- children that stand once each are no more than there are monitors
-apart_each : (m : ℕ) (xs : List MonitorId) → occurs m xs ≡ 0 → AllByRecursion (λ y. eqb m y ≡ false) (map (λ (c : MonitorId). c.0) xs)
+apart_each : (m : ℕ) (xs : List MonitorId) → occurs m xs ≡ 0
+    → AllByRecursion (λ y. eqb m y ≡ false) (map (λ (c : MonitorId). c.0) xs)
 apart_each m [] h = tt
 apart_each m (x ∷ xs) h =
     let none = sym (sum_by-cons (λ (c : MonitorId). cond (c.0 == m) 1 0) x xs) ∙ h in
@@ -340,16 +429,21 @@ distinct_each : (xs : List MonitorId) → ((m : ℕ) → occurs m xs ≤ 1) → 
 unfolding IsDistinct
 distinct_each [] h = tt
 distinct_each (x ∷ xs) h =
-    let count : (m : ℕ) → occurs m (x ∷ xs) ≡ cond (x.0 == m) 1 0 + occurs m xs = λ m. sum_by-cons (λ (c : MonitorId). cond (c.0 == m) 1 0) x xs in
-    let mine : occurs x.0 xs ≡ 0 = (let a = count x.0 ∙ ap (λ t. cond t 1 0 + occurs x.0 xs) (eq-eqb x.0 x.0 refl) in let b = h x.0 in omega (arith, a, b)) in
+    let count : (m : ℕ) → occurs m (x ∷ xs) ≡ cond (x.0 == m) 1 0 + occurs m xs =
+    λ m. sum_by-cons (λ (c : MonitorId). cond (c.0 == m) 1 0) x xs in
+    let mine : occurs x.0 xs ≡ 0 = (let a = count x.0 ∙ ap (λ t. cond t 1 0 + occurs x.0 xs) (eq-eqb x.0 x.0 refl) in
+    let b = h x.0 in omega (arith, a, b)) in
     (apart_each x.0 xs mine, distinct_each xs (λ m. let a = count m in let b = h m in omega (arith, a, b)))
 
-among_mapped : (m : ℕ) (xs : List MonitorId) → list_any (eqb m) (map (λ (c : MonitorId). c.0) xs) ≡ true → is_among m xs ≡ true
+among_mapped : (m : ℕ) (xs : List MonitorId) → list_any (eqb m) (map (λ (c : MonitorId). c.0) xs) ≡ true
+    → is_among m xs ≡ true
 among_mapped m [] h = h
 among_mapped m (x ∷ xs) h = go (x.0 == m) refl (eqb m x.0) refl h (among_mapped m xs)
   where
-    go : (t : Bool) → (x.0 == m) ≡ t → (u : Bool) → eqb m x.0 ≡ u → (u || list_any (eqb m) (map (λ (c : MonitorId). c.0) xs)) ≡ true
-        → (list_any (eqb m) (map (λ (c : MonitorId). c.0) xs) ≡ true → is_among m xs ≡ true) → (t || is_among m xs) ≡ true
+    go : (t : Bool) → (x.0 == m) ≡ t → (u : Bool) → eqb m x.0 ≡ u
+        → (u || list_any (eqb m) (map (λ (c : MonitorId). c.0) xs)) ≡ true
+        → (list_any (eqb m) (map (λ (c : MonitorId). c.0) xs) ≡ true → is_among m xs ≡ true)
+        → (t || is_among m xs) ≡ true
     go true e u f h r = refl
     go false e true f h r = absurd (eqb-false x.0 m e (sym (eqb-true m x.0 f)))
     go false e false f h r = r h
@@ -358,11 +452,13 @@ pub few_is : (gs : Groups) (monitors g : ℕ) → AreGroups monitors gs → leng
 few_is gs monitors g v =
     let xs = children_at gs g in
     let e = length-map xs (λ (c : MonitorId). c.0) in
-    let l = length-le_from_distinct_below (map (λ (c : MonitorId). c.0) xs) monitors (distinct_each xs (λ m. v.once g m)) (λ m h. v.known g m (among_mapped m xs h)) in
+    let l = length-le_from_distinct_below (map (λ (c : MonitorId). c.0) xs) monitors
+    (distinct_each xs (λ m. v.once g m)) (λ m h. v.known g m (among_mapped m xs h)) in
     omega (arith, e, l)
 
 -- each child is a monitor
-pub child_known : (gs : Groups) (monitors g k : ℕ) (d : MonitorId) → AreGroups monitors gs → k < length (children_at gs g) → (get_or (children_at gs g) k d).0 < monitors
+pub child_known : (gs : Groups) (monitors g k : ℕ) (d : MonitorId) → AreGroups monitors gs
+    → k < length (children_at gs g) → (get_or (children_at gs g) k d).0 < monitors
 child_known gs monitors g k d v l =
     let xs = children_at gs g in
     let x = get_or xs k d in

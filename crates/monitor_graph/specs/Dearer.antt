@@ -1,5 +1,6 @@
 -- Which monitors cost more than they did when the costs were marked.
-use Rattle.std.specs.Prelude.{ℕ, ◌+◌, ◌*◌, ◌≡◌, ◌≤◌, nat_lt, if◌then◌else◌, Option, Some, None, List, [], ◌∷◌, length, sum}
+use Rattle.std.specs.Prelude.{ℕ, ◌+◌, ◌*◌, ◌≡◌, ◌≤◌, nat_lt, if◌then◌else◌, Option, Some, None, List, [], ◌∷◌, length}
+use Rattle.std.specs.Prelude.{sum}
 use Rattle.khe_base.specs.declared.limits.TheConstants.{MONITORS}
 
 -- the places at which a cost exceeds the marked one, counted on from a number

@@ -1,12 +1,14 @@
 -- The six edits of monitors and groups: when each is refused, what it leaves, and what leads back.
-use Rattle.std.specs.Prelude.{ℕ, ◌≡◌, ◌<◌, ◌≤◌, Bool, true, false, not, nat_lt, nat_le, if◌then◌else◌, Option, Some, None, Result, Ok, Err, List, [], ◌∷◌, ◌++◌, length, slice_get, slice_set, slice_index_or}
+use Rattle.std.specs.Prelude.{ℕ, ◌≡◌, ◌<◌, ◌≤◌, Bool, true, false, not, nat_lt, nat_le, if◌then◌else◌, Option, Some}
+use Rattle.std.specs.Prelude.{None, Result, Ok, Err, List, [], ◌∷◌, ◌++◌, length, slice_get, slice_set, slice_index_or}
 use Rattle.std.specs.List.{insert}
 use Rattle.khe_told.specs.declared.edits.Back.{Back}
 use Rattle.khe_told.specs.declared.edits.Back.TheVariants.{By, Make, Insert}
 use Rattle.khe_told.specs.declared.edits.Edit.{Edit}
 use Rattle.khe_told.specs.declared.edits.Edit.TheVariants.{Attach, Detach, MakeGroup, DropGroup, AddChild, RemoveChild}
 use Rattle.khe_told.specs.declared.refusals.Refusal.{Refusal}
-use Rattle.khe_told.specs.declared.refusals.Refusal.TheVariants.{NoSuchMonitor, NoSuchGroup, Attached, Detached, IsChild, NotChild, GroupsFull, NotEmpty}
+use Rattle.khe_told.specs.declared.refusals.Refusal.TheVariants.{NoSuchMonitor, NoSuchGroup, Attached, Detached}
+use Rattle.khe_told.specs.declared.refusals.Refusal.TheVariants.{IsChild, NotChild, GroupsFull, NotEmpty}
 use Rattle.monitor_graph.specs.Boards.{Grouping}
 use Rattle.monitor_graph.specs.Groups.{has_group, children_at, has_child, place_of, without, free_number}
 
@@ -49,8 +51,10 @@ refusal s (Attach m) = first_refusal (no_monitor s m.0 ∷ (is_attached s m.0, A
 refusal s (Detach m) = first_refusal (no_monitor s m.0 ∷ (not (is_attached s m.0), Detached) ∷ [])
 refusal s MakeGroup = first_refusal ((nat_le (length s.groups) (free_number s.groups), GroupsFull) ∷ [])
 refusal s (DropGroup g) = first_refusal (no_group s g.0 ∷ (nat_lt 0 (length (children_at s.groups g.0)), NotEmpty) ∷ [])
-refusal s (AddChild g m) = first_refusal (no_group s g.0 ∷ no_monitor s m.0 ∷ (has_child s.groups g.0 m.0, IsChild) ∷ [])
-refusal s (RemoveChild g m) = first_refusal (no_group s g.0 ∷ no_monitor s m.0 ∷ (not (has_child s.groups g.0 m.0), NotChild) ∷ [])
+refusal s (AddChild g m) = first_refusal (no_group s g.0 ∷ no_monitor s
+    m.0 ∷ (has_child s.groups g.0 m.0, IsChild) ∷ [])
+refusal s (RemoveChild g m) = first_refusal (no_group s g.0 ∷ no_monitor s
+    m.0 ∷ (not (has_child s.groups g.0 m.0), NotChild) ∷ [])
 refusal s _ = None
 
 -- what it leaves
@@ -60,7 +64,10 @@ edited s (Detach m) = record s { attached = slice_set s.attached m.0 false }
 edited s MakeGroup = record s { groups = slice_set s.groups (free_number s.groups) (Some []) }
 edited s (DropGroup g) = record s { groups = slice_set s.groups g.0 None }
 edited s (AddChild g m) = record s { groups = slice_set s.groups g.0 (Some (children_at s.groups g.0 ++ m ∷ [])) }
-edited s (RemoveChild g m) = record s { groups = slice_set s.groups g.0 (Some (without m.0 (children_at s.groups g.0))) }
+edited s (RemoveChild g m) = record s {
+  groups =
+      slice_set s.groups g.0 (Some (without m.0 (children_at s.groups g.0)));
+}
 edited s _ = s
 
 -- the number that it makes

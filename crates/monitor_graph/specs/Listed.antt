@@ -15,4 +15,5 @@ detached_from n (false ∷ attached) = record { 0 = n } ∷ detached_from (n + 1
 abbrev pub groups_from : ℕ → Groups → List Group
 groups_from g [] = []
 groups_from g (None ∷ groups) = groups_from (g + 1) groups
-groups_from g (Some children ∷ groups) = record { group = record { 0 = g }; children = children } ∷ groups_from (g + 1) groups
+groups_from g (Some children ∷ groups) = record { group = record { 0 = g }; children = children } ∷ groups_from (g + 1)
+    groups

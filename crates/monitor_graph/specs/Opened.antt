@@ -1,5 +1,6 @@
 -- The lines and groups of a timetable before any deviation is known.
-use Rattle.std.specs.Prelude.{ℕ, ◌≡◌, ◌≢◌, ◌==◌, ◌<◌, ◌≤◌, Bool, true, false, not, List, length, map, slice_get, All, AllPairs}
+use Rattle.std.specs.Prelude.{ℕ, ◌≡◌, ◌≢◌, ◌==◌, ◌<◌, ◌≤◌, Bool, true, false, not, List, length, map, slice_get, All}
+use Rattle.std.specs.Prelude.{AllPairs}
 use Rattle.std.specs.List.{find, range_with_len}
 use Rattle.std.specs.Option.{option_map, option_map_or}
 use Rattle.khe_base.specs.declared.costs.CostFn.TheVariants.{Linear}
@@ -15,7 +16,13 @@ use Rattle.monitor_graph.specs.declared.lines.Line.{Line}
 
 -- the line of a constraint's monitor, attached or not
 abbrev pub line_for : Bool → Constraint → Line
-line_for attached c = record { function = c.cost; weight = c.weight; required = c.required; attached = attached; deviation = 0 }
+line_for attached c = record {
+  function = c.cost;
+  weight = c.weight;
+  required = c.required;
+  attached = attached;
+  deviation = 0;
+}
 
 abbrev pub no_line : Bool → Line
 no_line attached = record { function = Linear; weight = 0; required = false; attached = attached; deviation = 0 }
@@ -41,7 +48,8 @@ attached_in p s = map (λ n. not (is_detached s n)) (range_with_len 0 (length p.
 
 -- its groups, by their numbers below a bound
 unfoldable pub numbered_groups : ℕ → List Group → Groups
-numbered_groups n groups = map (λ g. option_map (λ (x : Group). x.children) (find (λ x. x.group.0 == g) groups)) (range_with_len 0 n)
+numbered_groups n groups = map (λ g. option_map (λ (x : Group). x.children) (find (λ x. x.group.0 == g) groups))
+    (range_with_len 0 n)
 
 abbrev pub groups_in : List Group → Groups
 groups_in groups = numbered_groups GROUPS groups

@@ -1,6 +1,7 @@
 -- How groups are kept: the children of all groups in one list, group by group, and a row of bits
 -- with one for each monitor and group number.
-use Rattle.std.specs.Prelude.{ℕ, ◌≡◌, true, ◌+◌, ◌*◌, ◌<◌, ◌≤◌, if◌then◌else◌, Option, Some, None, List, [], ◌∷◌, ◌++◌, length, map, take, drop}
+use Rattle.std.specs.Prelude.{ℕ, ◌≡◌, true, ◌+◌, ◌*◌, ◌<◌, ◌≤◌, if◌then◌else◌, Option, Some, None, List, [], ◌∷◌, ◌++◌}
+use Rattle.std.specs.Prelude.{length, map, take, drop}
 use Rattle.std.specs.List.{sum_by}
 use Rattle.std.specs.Option.{option_map, option_map_or}
 use Rattle.khe_base.specs.Bits.{is_set}
@@ -39,7 +40,8 @@ abbrev pub bit_of : ℕ → ℕ → ℕ
 bit_of m g = 256 * m + g
 
 -- the bits tell of each monitor which groups it is in, and that it is in none twice
-pub record AreSeated (groups : Groups) (monitors : ℕ) (sizes : List (Option ℕ)) (children : List MonitorId) (held : List ℕ) : Type 0 where
+pub record AreSeated (groups : Groups) (monitors : ℕ) (sizes : List (Option ℕ)) (children : List MonitorId)
+    (held : List ℕ) : Type 0 where
   pub few : monitors ≤ MONITORS
   pub numbers : length groups ≡ GROUPS
   pub known : (g m : ℕ) → has_child groups g m ≡ true → m < monitors
@@ -49,6 +51,7 @@ pub record AreSeated (groups : Groups) (monitors : ℕ) (sizes : List (Option �
   pub children_ : children ≡ joined groups
 
 -- what fields stand for, with what is kept of them
-pub record IsSeating (groups : Groups) (monitors : ℕ) (sizes : List (Option ℕ)) (children : List MonitorId) (held : List ℕ) : Type 0 where
+pub record IsSeating (groups : Groups) (monitors : ℕ) (sizes : List (Option ℕ)) (children : List MonitorId)
+    (held : List ℕ) : Type 0 where
   pub view : groups_of sizes children ≡ groups
   pub kept : AreSeated (groups_of sizes children) monitors sizes children held

@@ -1,5 +1,6 @@
 -- The first start and the last end of an event's meets, by the least of what its slots keep.
-use Rattle.std.proofs.Common.{ℕ, ◌≡◌, ◌≤◌, ◌<◌, ◌+◌, ◌-◌, ◌==◌, ◌||◌, ◌∙◌, pos, Bool, true, false, cond, min, max, Option, Some, None, List, [], ◌∷◌, filter_map, fold, map, refl, sym, ap, arith}
+use Rattle.std.proofs.Common.{ℕ, ◌≡◌, ◌≤◌, ◌<◌, ◌+◌, ◌-◌, ◌==◌, ◌||◌, ◌∙◌, pos, Bool, true, false, cond, min, max}
+use Rattle.std.proofs.Common.{Option, Some, None, List, [], ◌∷◌, filter_map, fold, map, refl, sym, ap, arith}
 use Rattle.std.specs.Prelude.{◌-ℤ◌}
 use Rattle.std.specs.List.{cons_option}
 use Rattle.std.specs.Option.{option_map, option_map_or}
@@ -48,32 +49,49 @@ module _ (g : TimeId → ℕ → ℕ) (e : ℕ) where
   own_nums [] = refl
   own_nums (x ∷ s) = by x.span (own_nums s)
     where
-      none : (b : Bool) → filter_map of_slot (own_slots e s) ≡ filter_map of_slot (cond b (record x { span = None } ∷ own_slots e s) (own_slots e s))
+      none : (b : Bool) → filter_map of_slot (own_slots e s)
+          ≡ filter_map of_slot (cond b (record x { span = None } ∷ own_slots e s) (own_slots e s))
       none true = refl
       none false = refl
 
-      some : (y : Span) (b : Bool) (start : Option TimeId) → filter_map of_meet (meets_of e (meets_in s)) ≡ filter_map of_slot (own_slots e s)
-          → filter_map of_meet (cond b (record { meet = x.meet; event = x.event; duration = y.duration; start = start } ∷ meets_of e (meets_in s)) (meets_of e (meets_in s)))
-          ≡ filter_map of_slot (cond b (record x { span = Some (record { duration = y.duration; start = start }) } ∷ own_slots e s) (own_slots e s))
+      some : (y : Span) (b : Bool) (start : Option TimeId)
+          → filter_map of_meet (meets_of e (meets_in s)) ≡ filter_map of_slot (own_slots e s)
+          → filter_map of_meet (cond b (record {
+            meet = x.meet;
+            event = x.event;
+            duration = y.duration;
+            start =
+                start;
+          } ∷ meets_of e (meets_in s)) (meets_of e (meets_in s)))
+          ≡ filter_map of_slot (cond b (record x {
+            span =
+                Some (record { duration = y.duration; start = start });
+          } ∷ own_slots e s) (own_slots e s))
       some y false start r = r
       some y true None r = r
       some y true (Some t) r = ap (λ ns. g t y.duration ∷ ns) r
 
       by : (o : Option Span) → filter_map of_meet (meets_of e (meets_in s)) ≡ filter_map of_slot (own_slots e s)
-          → filter_map of_meet (meets_of e (meets_in (record x { span = o } ∷ s))) ≡ filter_map of_slot (own_slots e (record x { span = o } ∷ s))
+          → filter_map of_meet (meets_of e (meets_in (record x { span = o } ∷ s)))
+          ≡ filter_map of_slot (own_slots e (record x { span = o } ∷ s))
       by None r = r ∙ none (x.event.0 == e)
       by (Some y) r = some y (x.event.0 == e) y.start r
 
-  each_num : (P : ℕ → Type 0) → ((t : TimeId) (d : ℕ) → 1 ≤ d → t.0 + d ≤ TIMES → P (g t d)) → (s : List Slot) → AreShort s → All_of P (filter_map of_slot (own_slots e s))
+  each_num : (P : ℕ → Type 0) → ((t : TimeId) (d : ℕ) → 1 ≤ d → t.0 + d ≤ TIMES → P (g t d)) → (s : List Slot)
+      → AreShort s → All_of P (filter_map of_slot (own_slots e s))
   each_num P h [] a = tt
-  each_num P h (x ∷ s) a = by (x.event.0 == e) x.span (All-head (λ (x : Slot). IsShort x.span) x s a) (each_num P h s (All-tail (λ (x : Slot). IsShort x.span) x s a))
+  each_num P h (x ∷ s) a = by (x.event.0 == e) x.span (All-head (λ (x : Slot). IsShort x.span) x s a)
+      (each_num P h s (All-tail (λ (x : Slot). IsShort x.span) x s a))
     where
-      some : (d : ℕ) (start : Option TimeId) → IsShort (Some (record { duration = d; start = start })) → All_of P (filter_map of_slot (own_slots e s))
-          → All_of P (filter_map of_slot (record x { span = Some (record { duration = d; start = start }) } ∷ own_slots e s))
+      some : (d : ℕ) (start : Option TimeId) → IsShort (Some (record { duration = d; start = start }))
+          → All_of P (filter_map of_slot (own_slots e s))
+          → All_of P (filter_map of_slot (record x { span = Some (record { duration = d; start = start }) } ∷ own_slots
+          e s))
       some d None b r = r
       some d (Some t) b r = (h t d b.0 b.1, r)
 
-      by : (b : Bool) (o : Option Span) → IsShort o → All_of P (filter_map of_slot (own_slots e s)) → All_of P (filter_map of_slot (cond b (record x { span = o } ∷ own_slots e s) (own_slots e s)))
+      by : (b : Bool) (o : Option Span) → IsShort o → All_of P (filter_map of_slot (own_slots e s))
+          → All_of P (filter_map of_slot (cond b (record x { span = o } ∷ own_slots e s) (own_slots e s)))
       by false o i r = r
       by true None i r = r
       by true (Some y) i r = some y.duration y.start i r
@@ -99,7 +117,8 @@ map_same (n ∷ ns) = ap (λ t. n ∷ t) (map_same ns)
 start_same : (x : Slot) → start_key x.span ≡ key_of (λ n. n) (num_at first_num x.span)
 start_same x = by x.span
   where
-    at : (start : Option TimeId) → option_map_or (λ (t : TimeId). t.0) start NOTHING ≡ key_of (λ n. n) (option_map (λ (t : TimeId). t.0) start)
+    at : (start : Option TimeId) → option_map_or (λ (t : TimeId). t.0) start NOTHING
+        ≡ key_of (λ n. n) (option_map (λ (t : TimeId). t.0) start)
     at None = refl
     at (Some t) = refl
 
@@ -110,7 +129,8 @@ start_same x = by x.span
 end_same : (x : Slot) → end_key x.span ≡ key_of (λ n. NOTHING - n) (num_at last_num x.span)
 end_same x = by x.span
   where
-    at : (d : ℕ) (start : Option TimeId) → option_map_or (λ (t : TimeId). NOTHING - (t.0 + d)) start NOTHING ≡ key_of (λ n. NOTHING - n) (option_map (λ (t : TimeId). t.0 + d) start)
+    at : (d : ℕ) (start : Option TimeId) → option_map_or (λ (t : TimeId). NOTHING - (t.0 + d)) start NOTHING
+        ≡ key_of (λ n. NOTHING - n) (option_map (λ (t : TimeId). t.0 + d) start)
     at d None = refl
     at d (Some t) = refl
 
@@ -133,7 +153,8 @@ fold_high n (x ∷ ns) l a =
     let r0 = r.0 in
     (omega (arith, r0), r.1)
 
-ends_fold : (n : ℕ) (ns : List ℕ) → n ≤ NOTHING → All_of IsEnd ns → fold min (NOTHING - n) (map (λ (k : ℕ). NOTHING - k) ns) ≡ NOTHING - fold max n ns
+ends_fold : (n : ℕ) (ns : List ℕ) → n ≤ NOTHING → All_of IsEnd ns
+    → fold min (NOTHING - n) (map (λ (k : ℕ). NOTHING - k) ns) ≡ NOTHING - fold max n ns
 ends_fold n [] l a = refl
 ends_fold n (x ∷ ns) l a =
     let b = a.0.1 in
@@ -145,13 +166,16 @@ or_true true n = refl
 or_true false n = refl
 
 between_is : (ends starts : List ℕ) (least greatest : ℕ) → All_of IsEnd ends → All_of IsStart starts
-    → order_of ends starts least greatest ≡ between (fold min NOTHING (map (λ (k : ℕ). NOTHING - k) ends)) (fold min NOTHING starts) least greatest
+    → order_of ends starts least greatest ≡ between (fold min NOTHING (map (λ (k : ℕ). NOTHING - k) ends))
+    (fold min NOTHING starts) least greatest
 between_is [] starts least greatest a b =
     let v = fold min NOTHING starts in
-    sym (ap (λ c. cond (c || (v == NOTHING)) 0 (outside (pos v -ℤ pos (NOTHING - NOTHING)) (pos least) (pos greatest))) (eq-eqb NOTHING NOTHING refl))
+    sym (ap (λ c. cond (c || (v == NOTHING)) 0 (outside (pos v -ℤ pos (NOTHING - NOTHING)) (pos least) (pos greatest)))
+    (eq-eqb NOTHING NOTHING refl))
 between_is (f ∷ ends) [] least greatest a b =
     let v = fold min NOTHING (map (λ (k : ℕ). NOTHING - k) (f ∷ ends)) in
-    sym (ap (λ c. cond ((v == NOTHING) || c) 0 (outside (pos NOTHING -ℤ pos (NOTHING - v)) (pos least) (pos greatest))) (eq-eqb NOTHING NOTHING refl) ∙ or_true (v == NOTHING) _)
+    sym (ap (λ c. cond ((v == NOTHING) || c) 0 (outside (pos NOTHING -ℤ pos (NOTHING - v)) (pos least) (pos greatest)))
+    (eq-eqb NOTHING NOTHING refl) ∙ or_true (v == NOTHING) _)
 between_is (f ∷ ends) (s ∷ starts) least greatest a b =
     let v = fold min NOTHING (map (λ (k : ℕ). NOTHING - k) (f ∷ ends)) in
     let w = fold min NOTHING (s ∷ starts) in
@@ -162,7 +186,8 @@ between_is (f ∷ ends) (s ∷ starts) least greatest a b =
     let h0 = high.0 in
     let h1 = high.1 in
     let z : min NOTHING (NOTHING - f) ≡ NOTHING - f = omega arith in
-    let last : v ≡ NOTHING - fold max f ends = ap (λ k. fold min k (map (λ (k : ℕ). NOTHING - k) ends)) z ∙ ends_fold f ends f2 a.1 in
+    let last : v ≡ NOTHING - fold max f ends = ap (λ k. fold min k (map (λ (k : ℕ). NOTHING - k) ends)) z
+    ∙ ends_fold f ends f2 a.1 in
     let y : min NOTHING s ≡ s = omega (arith, s1) in
     let first : w ≡ fold min s starts = ap (λ k. fold min k starts) y in
     let low = least_small s starts in
@@ -172,24 +197,32 @@ between_is (f ∷ ends) (s ∷ starts) least greatest a b =
     sym ((λ i. cond (not_last i || not_first i) 0 (outside (pos (first i) -ℤ pos (back i)) (pos least) (pos greatest))))
 
 -- the deviation at a pair
-pub order_is : (s : List Slot) (first second : ℕ) (a b : Edges) (least greatest : ℕ) → AreShort s → IsEdges first s a → IsEdges second s b
-    → order_events (meets_in s) first second least greatest ≡ between (fold min NOTHING a.ends) (fold min NOTHING b.starts) least greatest
+pub order_is : (s : List Slot) (first second : ℕ) (a b : Edges) (least greatest : ℕ) → AreShort s → IsEdges first s a
+    → IsEdges second s b
+    → order_events (meets_in s) first second least greatest
+    ≡ between (fold min NOTHING a.ends) (fold min NOTHING b.starts) least greatest
 order_is s first second a b least greatest short one two =
     let ends = filter_map (λ (x : Slot). num_at last_num x.span) (own_slots first s) in
     let starts = filter_map (λ (x : Slot). num_at first_num x.span) (own_slots second s) in
     let last : fold min NOTHING a.ends ≡ fold min NOTHING (map (λ (k : ℕ). NOTHING - k) ends) =
-    ap (fold min NOTHING) one.ends ∙ key_fold (λ n. NOTHING - n) (λ (x : Slot). num_at last_num x.span) (λ (x : Slot). end_key x.span) end_same NOTHING (own_slots first s) (omega arith) in
+    ap (fold min NOTHING) one.ends ∙ key_fold (λ n. NOTHING - n) (λ (x : Slot). num_at last_num x.span)
+    (λ (x : Slot). end_key x.span) end_same NOTHING (own_slots first s) (omega arith) in
     let start : fold min NOTHING b.starts ≡ fold min NOTHING starts =
-    ap (fold min NOTHING) two.starts ∙ key_fold (λ n. n) (λ (x : Slot). num_at first_num x.span) (λ (x : Slot). start_key x.span) start_same NOTHING (own_slots second s) (omega arith)
+    ap (fold min NOTHING) two.starts ∙ key_fold (λ n. n) (λ (x : Slot). num_at first_num x.span)
+    (λ (x : Slot). start_key x.span) start_same NOTHING (own_slots second s) (omega arith)
     ∙ ap (fold min NOTHING) (map_same starts) in
     (λ i. order_of (own_nums last_num first s i) (own_nums first_num second s i) least greatest)
-    ∙ between_is ends starts least greatest (each_num last_num first IsEnd (λ t d l m. (omega (arith, l), omega (arith, m))) s short) (each_num first_num second IsStart (λ t d l m. omega (arith, l, m)) s short)
+    ∙ between_is ends starts least greatest (each_num last_num first IsEnd
+    (λ t d l m. (omega (arith, l), omega (arith, m))) s short)
+    (each_num first_num second IsStart (λ t d l m. omega (arith, l, m)) s short)
     ∙ sym (λ i. between (last i) (start i) least greatest)
 
 -- it is told by the slots of both
-pub order_same : (s s2 : List Slot) (first second least greatest : ℕ) → own_slots first s2 ≡ own_slots first s → own_slots second s2 ≡ own_slots second s
+pub order_same : (s s2 : List Slot) (first second least greatest : ℕ) → own_slots first s2 ≡ own_slots first s
+    → own_slots second s2 ≡ own_slots second s
     → order_events (meets_in s) first second least greatest ≡ order_events (meets_in s2) first second least greatest
 order_same s s2 first second least greatest one two =
     (λ i. order_of (own_nums last_num first s i) (own_nums first_num second s i) least greatest)
-    ∙ sym (λ i. order_of (filter_map (λ (x : Slot). num_at last_num x.span) (one i)) (filter_map (λ (x : Slot). num_at first_num x.span) (two i)) least greatest)
+    ∙ sym (λ i. order_of (filter_map (λ (x : Slot). num_at last_num x.span) (one i))
+    (filter_map (λ (x : Slot). num_at first_num x.span) (two i)) least greatest)
     ∙ sym (λ i. order_of (own_nums last_num first s2 i) (own_nums first_num second s2 i) least greatest)

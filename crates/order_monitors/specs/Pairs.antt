@@ -1,6 +1,7 @@
 -- The pair of events that a monitor watches, and its deviation by when the meets of both start and
 -- end.
-use Rattle.std.specs.Prelude.{ℕ, ◌-◌, ◌==◌, ◌||◌, pos, ◌-ℤ◌, Bool, if◌then◌else◌, fold, min, Option, None, List, [], slice_get, slice_index_or}
+use Rattle.std.specs.Prelude.{ℕ, ◌-◌, ◌==◌, ◌||◌, pos, ◌-ℤ◌, Bool, if◌then◌else◌, fold, min, Option, None, List, []}
+use Rattle.std.specs.Prelude.{slice_get, slice_index_or}
 use Rattle.std.specs.Option.{option_and_then, option_map_or}
 use Rattle.khe_base.specs.Bounds.{outside}
 use Rattle.khe_instance.specs.KindLaws.{is_kind}
@@ -33,7 +34,8 @@ pair_at p m = option_and_then (λ c. pair_in (pairs_of c.rule) m.point) (slice_g
 -- how far the times between lie outside the bounds, by the key of the last end and the first start
 abbrev pub between : ℕ → ℕ → ℕ → ℕ → ℕ
 between last first least greatest =
-    if (last == NOTHING) || (first == NOTHING) then 0 else outside (pos first -ℤ pos (NOTHING - last)) (pos least) (pos greatest)
+    if (last == NOTHING) || (first == NOTHING) then 0 else outside (pos first -ℤ pos (NOTHING - last)) (pos least)
+    (pos greatest)
 
 -- of events with such starts and ends
 abbrev pub gap : Edges → Edges → EventPair → ℕ
@@ -43,4 +45,5 @@ abbrev pub no_edges : Edges
 no_edges = record { starts = []; ends = [] }
 
 abbrev pub value_of : Parts → List Edges → Monitor → ℕ
-value_of p edges m = option_map_or (λ q. gap (slice_index_or edges q.first.0 no_edges) (slice_index_or edges q.second.0 no_edges) q) (pair_at p m) 0
+value_of p edges m = option_map_or (λ q. gap (slice_index_or edges q.first.0 no_edges)
+    (slice_index_or edges q.second.0 no_edges) q) (pair_at p m) 0

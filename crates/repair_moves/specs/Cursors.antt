@@ -26,7 +26,8 @@ left_of_part p s rule point part spot = from spot.choice
 -- in the first of these parts from a place on, and in the parts after it
 unfoldable pub left_of_parts : Parts → List Slot → Rule → Point → List Part → Spot → List Edit
 left_of_parts p s rule point [] spot = []
-left_of_parts p s rule point (part ∷ parts) spot = left_of_part p s rule point part spot ++ flat_map (λ part. part_from p s rule point part 0) parts
+left_of_parts p s rule point (part ∷ parts) spot =
+    left_of_part p s rule point part spot ++ flat_map (λ part. part_from p s rule point part 0) parts
 
 unfoldable pub ahead_under : Parts → List Slot → Cursor → Monitor → Constraint → List Edit
 ahead_under p s c m k = left_of_parts p s k.rule m.point (drop c.part (parts_of m.kind)) c.spot

@@ -21,7 +21,14 @@ abbrev place : Place
 place = record { role = Some (codes "R"); rtype = 0; fixed = None; workload = 1 }
 
 abbrev event : ℕ → ℕ → EventInfo
-event first duration = record { id = codes "E"; duration = duration; fixed = None; first_meet = first; places = place ∷ [] }
+event first duration = record {
+  id = codes "E";
+  duration = duration;
+  fixed = None;
+  first_meet = first;
+  places =
+      place ∷ [];
+}
 
 abbrev constraint : Rule → Constraint
 constraint r = record { id = codes "c"; required = true; weight = 1; cost = Linear; rule = r }
@@ -43,16 +50,25 @@ small = record {
   resources = record { id = codes "r0"; rtype = 0 } ∷ record { id = codes "r1"; rtype = 0 } ∷ [];
   groups = [];
   events = event 0 2 ∷ event 2 1 ∷ [];
-  constraints = constraint rule.AssignTime ∷ constraint (rule.SplitEvents 1 1 1 2) ∷ constraint (rule.PreferTimes (true ∷ false ∷ []) None) ∷ constraint (rule.LimitWorkload 0 0) ∷ [];
-  monitors = monitor kind.AssignTime 0 (Event (record { 0 = 0 })) ∷ monitor kind.SplitEvents 1 (Event (record { 0 = 0 }))
-      ∷ monitor kind.PreferTimes 2 (Event (record { 0 = 1 })) ∷ monitor kind.LimitWorkload 3 (Resource first_resource) ∷ [];
+  constraints = constraint rule.AssignTime ∷ constraint (rule.SplitEvents 1 1 1 2) ∷ constraint
+      (rule.PreferTimes (true ∷ false ∷ []) None) ∷ constraint (rule.LimitWorkload 0 0) ∷ [];
+  monitors = monitor kind.AssignTime 0 (Event (record { 0 = 0 })) ∷ monitor kind.SplitEvents 1
+      (Event (record { 0 = 0 }))
+      ∷ monitor kind.PreferTimes 2 (Event (record { 0 = 1 })) ∷ monitor kind.LimitWorkload 3
+      (Resource first_resource) ∷ [];
   unit = 2;
 }
 
 -- a slot by its number and event, with a meet of this duration and start whose place is given this, and
 -- one without a meet
 abbrev pub slot : ℕ → ℕ → ℕ → Option TimeId → Option ResourceId → Slot
-slot m e duration start given = record { meet = record { 0 = m }; event = record { 0 = e }; span = Some (record { duration = duration; start = start }); given = given ∷ [] }
+slot m e duration start given = record {
+  meet = record { 0 = m };
+  event = record { 0 = e };
+  span =
+      Some (record { duration = duration; start = start });
+  given = given ∷ [];
+}
 
 abbrev pub free : ℕ → ℕ → Slot
 free m e = record { meet = record { 0 = m }; event = record { 0 = e }; span = None; given = None ∷ [] }

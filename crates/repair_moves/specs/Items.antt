@@ -9,7 +9,8 @@ use Rattle.khe_instance.specs.Slots.{all_tasks}
 use Rattle.khe_instance.specs.Watching.{names_event}
 use Rattle.khe_instance.specs.declared.parts.Parts.{Parts}
 use Rattle.khe_instance.specs.declared.points.Point.{Point}
-use Rattle.khe_instance.specs.declared.points.Point.TheVariants.{Event, EventResource, EventGroup, EventPair as Pair, Resource}
+use Rattle.khe_instance.specs.declared.points.Point.TheVariants.{Event, EventResource, EventGroup, EventPair as Pair}
+use Rattle.khe_instance.specs.declared.points.Point.TheVariants.{Resource}
 use Rattle.khe_instance.specs.declared.rules.Rule.{Rule}
 use Rattle.khe_instance.specs.declared.rules.Rule.TheVariants.{AvoidSplitAssignments}
 use Rattle.khe_told.specs.Slots.{slot_at, is_live, given_at}
@@ -17,7 +18,8 @@ use Rattle.khe_told.specs.declared.slots.Slot.{Slot}
 use Rattle.khe_solution.specs.NextTask.{has_task}
 use Rattle.khe_solution.specs.Reading.{has_place, has_type, is_resource}
 use Rattle.repair_moves.specs.declared.parts.Part.{Part}
-use Rattle.repair_moves.specs.declared.parts.Part.TheVariants.{TimeMoves, SwapMoves, Cuts, Joins, TaskMoves, TradeMoves, Gives}
+use Rattle.repair_moves.specs.declared.parts.Part.TheVariants.{TimeMoves, SwapMoves, Cuts, Joins, TaskMoves, TradeMoves}
+use Rattle.repair_moves.specs.declared.parts.Part.TheVariants.{Gives}
 
 -- how many meet slots and how many task slots an instance has
 abbrev pub meet_slots : Parts → ℕ
@@ -52,13 +54,15 @@ is_meet_at p s rule point n = is_live (slot_at s n) && is_meet_of p rule point (
 -- an event of the point's group, or where it has the point's resource
 abbrev pub is_task_of : Parts → Rule → Point → ℕ → ℕ → Option ResourceId → Bool
 is_task_of p rule (EventResource own place) e k given = (own.0 == e) && (place == k)
-is_task_of p rule (EventGroup g) e k given = names_event p rule (EventGroup g) e && wants_role rule (role_at p.events e k)
+is_task_of p rule (EventGroup g) e k given = names_event p rule (EventGroup g) e && wants_role rule
+    (role_at p.events e k)
 is_task_of p rule (Resource r) e k given = is_resource r.0 given
 is_task_of p rule (Event own) e k given = false
 is_task_of p rule (Pair q) e k given = false
 
 abbrev pub is_task_in : Parts → List Slot → Rule → Point → TaskId → Bool
-is_task_in p s rule point t = let x = slot_at s t.meet.0 in has_place x t.place && is_task_of p rule point x.event.0 t.place (given_at x t.place)
+is_task_in p s rule point t = let x = slot_at s t.meet.0 in
+    has_place x t.place && is_task_of p rule point x.event.0 t.place (given_at x t.place)
 
 unfoldable pub is_task_at : Parts → List Slot → Rule → Point → ℕ → Bool
 is_task_at p s rule point n = is_task_in p s rule point (task_at p n)

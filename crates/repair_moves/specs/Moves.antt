@@ -12,7 +12,8 @@ use Rattle.khe_instance.specs.declared.rules.Constraint.{Constraint}
 use Rattle.khe_instance.specs.declared.rules.Rule.{Rule}
 use Rattle.khe_told.specs.Slots.{slot_at, length_of}
 use Rattle.khe_told.specs.declared.edits.Edit.{Edit}
-use Rattle.khe_told.specs.declared.edits.Edit.TheVariants.{Assign, MoveTo, Split, Merge, SwapMeets, Give, Regive, SwapTasks}
+use Rattle.khe_told.specs.declared.edits.Edit.TheVariants.{Assign, MoveTo, Split, Merge, SwapMeets, Give, Regive}
+use Rattle.khe_told.specs.declared.edits.Edit.TheVariants.{SwapTasks}
 use Rattle.khe_told.specs.declared.slots.Slot.{Slot}
 use Rattle.khe_solution.specs.Reading.{is_placed, resource_at}
 use Rattle.khe_solution.specs.Refusing.{refusal}
@@ -20,11 +21,13 @@ use Rattle.repair_moves.specs.Items.{is_item, item_slots, meet_slots, task_slots
 use Rattle.repair_moves.specs.Picked.{picked}
 use Rattle.repair_moves.specs.Table.{parts_of}
 use Rattle.repair_moves.specs.declared.parts.Part.{Part}
-use Rattle.repair_moves.specs.declared.parts.Part.TheVariants.{TimeMoves, SwapMoves, Cuts, Joins, TaskMoves, TradeMoves, Gives}
+use Rattle.repair_moves.specs.declared.parts.Part.TheVariants.{TimeMoves, SwapMoves, Cuts, Joins, TaskMoves, TradeMoves}
+use Rattle.repair_moves.specs.declared.parts.Part.TheVariants.{Gives}
 
 -- a meet without a start is assigned to a time, and one with a start is moved there
 abbrev pub time_move : List Slot → ℕ → ℕ → Edit
-time_move s n t = if is_placed (slot_at s n) then MoveTo (record { 0 = n }) (record { 0 = t }) else Assign (record { 0 = n }) (record { 0 = t })
+time_move s n t = if is_placed (slot_at s n) then MoveTo (record { 0 = n }) (record { 0 = t }) else Assign
+    (record { 0 = n }) (record { 0 = t })
 
 -- a task without a resource is given one, and one with a resource is given another
 abbrev pub task_move : List Slot → TaskId → ℕ → Edit
@@ -65,7 +68,8 @@ is_choice p s point part n k = is_accepted p s (edit_of p s point part n k)
 
 -- the moves of a part for one meet or task, from a choice on
 unfoldable pub choices_from : Parts → List Slot → Point → Part → ℕ → ℕ → List Edit
-choices_from p s point part n from = map (edit_of p s point part n) (picked (is_choice p s point part n) from (choices p s part n))
+choices_from p s point part n from = map (edit_of p s point part n)
+    (picked (is_choice p s point part n) from (choices p s part n))
 
 -- the meets or tasks of a part, from a slot on
 unfoldable pub items_from : Parts → List Slot → Rule → Point → Part → ℕ → List ℕ
@@ -73,7 +77,8 @@ items_from p s rule point part from = picked (is_item p s rule point part) from 
 
 -- the moves of a part, from a slot on: for all its meets or tasks in order, each once
 unfoldable pub part_from : Parts → List Slot → Rule → Point → Part → ℕ → List Edit
-part_from p s rule point part from = flat_map (λ n. choices_from p s point part n 0) (items_from p s rule point part from)
+part_from p s rule point part from = flat_map (λ n. choices_from p s point part n 0)
+    (items_from p s rule point part from)
 
 -- the moves of a monitor: part by part, in the order of its kind's row
 unfoldable pub moves_under : Parts → List Slot → Monitor → Constraint → List Edit

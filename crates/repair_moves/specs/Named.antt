@@ -24,11 +24,13 @@ pub record AreWithin (p : Parts) (rule : Rule) (point : Point) (start end : ℕ)
 
 -- an event's slots are those of these numbers
 abbrev pub AreSlotsOf : Parts → ℕ → ℕ → ℕ → Type 0
-AreSlotsOf p e start end = (event : EventInfo) → slice_get p.events e ≡ Some event → (start ≡ event.first_meet) × (end ≡ event.first_meet + event.duration)
+AreSlotsOf p e start end = (event : EventInfo) → slice_get p.events e ≡ Some event
+    → (start ≡ event.first_meet) × (end ≡ event.first_meet + event.duration)
 
 -- a task is a monitor's only in an event that the point names
 abbrev pub NamesItsTasks : Parts → Rule → Point → Type 0
-NamesItsTasks p rule point = (e k : ℕ) (given : Option ResourceId) → is_task_of p rule point e k given ≡ true → names_event p rule point e ≡ true
+NamesItsTasks p rule point = (e k : ℕ) (given : Option ResourceId) → is_task_of p rule point e k given ≡ true
+    → names_event p rule point e ≡ true
 
 -- the pair with a number of a rule's list
 abbrev pub pair_at : Rule → ℕ → Option EventPair

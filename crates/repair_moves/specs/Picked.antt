@@ -1,5 +1,6 @@
 -- The numbers of a range that pass a test.
-use Rattle.std.specs.Prelude.{ℕ, ◌+◌, ◌-◌, ◌≡◌, ◌≤◌, ◌<◌, Bool, true, false, Option, Some, None, List, [], ◌∷◌, MatchOption}
+use Rattle.std.specs.Prelude.{ℕ, ◌+◌, ◌-◌, ◌≡◌, ◌≤◌, ◌<◌, Bool, true, false, Option, Some, None, List, [], ◌∷◌}
+use Rattle.std.specs.Prelude.{MatchOption}
 use Rattle.std.specs.List.{filter, range_with_len}
 
 -- from a number on, below another
@@ -16,4 +17,5 @@ abbrev pub NonePass : (ℕ → Bool) → ℕ → ℕ → Type 0
 NonePass test from to = (k : ℕ) → from ≤ k → k < to → test k ≡ false
 
 abbrev pub IsFirst : (ℕ → Bool) → ℕ → ℕ → Option ℕ → Type 0
-IsFirst test from to result = MatchOption result (NonePass test from to) (λ n. (from ≤ n) × (n < to) × (test n ≡ true) × NonePass test from n)
+IsFirst test from to result = MatchOption result (NonePass test from to)
+    (λ n. (from ≤ n) × (n < to) × (test n ≡ true) × NonePass test from n)

@@ -1,9 +1,15 @@
 -- The table of the lists of moves: the parts of a kind, in the order in which they are tried.
 use Rattle.std.specs.Prelude.{List, [], ◌∷◌}
 use Rattle.khe_instance.specs.declared.rules.Kind.{Kind}
-use Rattle.khe_instance.specs.declared.rules.Kind.TheVariants.{AssignTime, AssignResource, SplitEvents, DistributeSplitEvents, PreferTimes, PreferResources, AvoidSplitAssignments, SpreadEvents, LinkEvents, OrderEvents, AvoidClashes, AvoidUnavailableTimes, LimitIdleTimes, ClusterBusyTimes, LimitBusyTimes, LimitWorkload}
+use Rattle.khe_instance.specs.declared.rules.Kind.TheVariants.{AssignTime, AssignResource, SplitEvents}
+use Rattle.khe_instance.specs.declared.rules.Kind.TheVariants.{DistributeSplitEvents, PreferTimes, PreferResources}
+use Rattle.khe_instance.specs.declared.rules.Kind.TheVariants.{AvoidSplitAssignments, SpreadEvents, LinkEvents}
+use Rattle.khe_instance.specs.declared.rules.Kind.TheVariants.{OrderEvents, AvoidClashes, AvoidUnavailableTimes}
+use Rattle.khe_instance.specs.declared.rules.Kind.TheVariants.{LimitIdleTimes, ClusterBusyTimes, LimitBusyTimes}
+use Rattle.khe_instance.specs.declared.rules.Kind.TheVariants.{LimitWorkload}
 use Rattle.repair_moves.specs.declared.parts.Part.{Part}
-use Rattle.repair_moves.specs.declared.parts.Part.TheVariants.{TimeMoves, SwapMoves, Cuts, Joins, TaskMoves, TradeMoves, Gives}
+use Rattle.repair_moves.specs.declared.parts.Part.TheVariants.{TimeMoves, SwapMoves, Cuts, Joins, TaskMoves, TradeMoves}
+use Rattle.repair_moves.specs.declared.parts.Part.TheVariants.{Gives}
 
 unfoldable pub parts_of : Kind → List Part
 parts_of AssignTime = TimeMoves ∷ []

@@ -12,14 +12,16 @@ abbrev pub NoTaskBefore : (TaskId → Bool) → TaskId → TaskId → Type 0
 NoTaskBefore test from t = (u : TaskId) → IsFrom from u → IsBefore u t → test u ≡ false
 
 abbrev pub IsFirstTask : (TaskId → Bool) → TaskId → Option TaskId → Type 0
-IsFirstTask test from result = MatchOption result (NoTask test from) (λ t. IsFrom from t × (test t ≡ true) × NoTaskBefore test from t)
+IsFirstTask test from result = MatchOption result (NoTask test from)
+    (λ t. IsFrom from t × (test t ≡ true) × NoTaskBefore test from t)
 
 -- the first place of a meet from one on whose task passes
 abbrev pub NoPlace : (TaskId → Bool) → ℕ → ℕ → Type 0
 NoPlace test m from = (k : ℕ) → from ≤ k → test (record { meet = record { 0 = m }; place = k }) ≡ false
 
 abbrev pub NoPlaceBefore : (TaskId → Bool) → ℕ → ℕ → ℕ → Type 0
-NoPlaceBefore test m from to = (k : ℕ) → from ≤ k → k < to → test (record { meet = record { 0 = m }; place = k }) ≡ false
+NoPlaceBefore test m from to = (k : ℕ) → from ≤ k → k < to
+    → test (record { meet = record { 0 = m }; place = k }) ≡ false
 
 abbrev pub IsFirstPlace : (TaskId → Bool) → ℕ → ℕ → Option ℕ → Type 0
 IsFirstPlace test m from result = MatchOption result (NoPlace test m from)

@@ -22,8 +22,10 @@ pub record IsFoundOf (p : Parts) (s : List Slot) (point : Point) (part : Part) (
   pub next : choices_from p s point part n from ≡ f.edit ∷ choices_from p s point part n choice
 
 abbrev pub IsNextOf : Parts → List Slot → Point → Part → ℕ → ℕ → Option Found → Type 0
-IsNextOf p s point part n from result = MatchOption result (choices_from p s point part n from ≡ []) (IsFoundOf p s point part n from)
+IsNextOf p s point part n from result = MatchOption result (choices_from p s point part n from ≡ [])
+    (IsFoundOf p s point part n from)
 
 -- the first of these moves of a part
 abbrev pub IsNextIn : Parts → List Slot → Rule → Point → Part → List Edit → Option Found → Type 0
-IsNextIn p s rule point part moves result = MatchOption result (moves ≡ []) (λ f. moves ≡ f.edit ∷ left_of_part p s rule point part f.spot)
+IsNextIn p s rule point part moves result = MatchOption result (moves ≡ [])
+    (λ f. moves ≡ f.edit ∷ left_of_part p s rule point part f.spot)

@@ -1,5 +1,6 @@
 -- One more task is added up.
-use Rattle.std.proofs.Common.{◌≡◌, ◌∙◌, sym, ap, ℕ, ◌+◌, ◌*◌, ◌<◌, ◌≤◌, ◌&&◌, cond, Bool, List, length, get_or, take, arith, slice_index, length-take-le}
+use Rattle.std.proofs.Common.{◌≡◌, ◌∙◌, sym, ap, ℕ, ◌+◌, ◌*◌, ◌<◌, ◌≤◌, ◌&&◌, cond, Bool, List, length, get_or, take}
+use Rattle.std.proofs.Common.{arith, slice_index, length-take-le}
 use Rattle.std.proofs.lemmas.List.Sums.{sum_by_more, count_by-le-length}
 use Rattle.std.specs.List.{range_with_len}
 use Rattle.std.proofs.lemmas.List.FromFn.{length-range_with_len}
@@ -19,10 +20,12 @@ use Rattle.timetables.specs.Counts.{count_at, row_of, is_busy, idle_times}
 use Rattle.resource_deviations.specs.Filled.{IsFilled, HasRows, AddsCounts, AddsWorkload}
 
 -- no more tasks run than there are
-pub counts-few : (p : Parts) (ds : List Duty) (rows : List (List ℕ)) (sums : List ℕ) → IsFilled p ds rows sums → (r t : ℕ) → count_at rows r t ≤ length ds
+pub counts-few : (p : Parts) (ds : List Duty) (rows : List (List ℕ)) (sums : List ℕ) → IsFilled p ds rows sums
+    → (r t : ℕ) → count_at rows r t ≤ length ds
 counts-few p ds rows sums f r t =
     let e : count_at rows r t ≡ running_tasks ds r t = f.counts r t in
-    let l : running_tasks ds r t ≤ length ds = count_by-le-length (λ (d : Duty). is_resource r d.resource && runs d.meet t) ds in
+    let l : running_tasks ds r t ≤ length ds = count_by-le-length
+    (λ (d : Duty). is_resource r d.resource && runs d.meet t) ds in
     omega arith
 
 pub filled-more : (p : Parts) (ds : List Duty) (rows new : List (List ℕ)) (sums more : List ℕ) (i : ℕ) (d : Duty)
@@ -36,36 +39,46 @@ filled-more p ds rows new sums more i d h few f room counts size worth small = r
   sums_of_all = size;
   few = let e : length (take (i + 1) ds) ≡ i + 1 = length-take-le (i + 1) ds (omega arith) in omega arith;
   counts = λ r t.
-      counts r t ∙ (λ j. f.counts r t j + cond (is_resource r (get_or ds i d).resource && runs (get_or ds i d).meet t) 1 0)
+      counts r t ∙ (λ j. f.counts r t j + cond (is_resource r (get_or ds i d).resource && runs (get_or ds i d).meet t) 1
+      0)
       ∙ sym (sum_by_more (λ (x : Duty). cond (is_resource r x.resource && runs x.meet t) 1 0) ds i d h);
   workloads = λ r.
-      worth r ∙ (λ j. f.workloads r j + cond (is_resource r (get_or ds i d).resource) (workload_of p.events p.unit (get_or ds i d)) 0)
+      worth r ∙ (λ j. f.workloads r j + cond (is_resource r (get_or ds i d).resource)
+      (workload_of p.events p.unit (get_or ds i d)) 0)
       ∙ sym (sum_by_more (λ (x : Duty). cond (is_resource r x.resource) (workload_of p.events p.unit x) 0) ds i d h);
   small = λ r.
       let now : length (take (i + 1) ds) ≡ i + 1 = length-take-le (i + 1) ds (omega arith) in
       let then : length (take i ds) ≡ i = length-take-le i ds (omega arith) in
-      let e : length (take (i + 1) ds) * (NUMBER * p.unit) ≡ length (take i ds) * (NUMBER * p.unit) + NUMBER * p.unit = ap (λ n. n * (NUMBER * p.unit)) (now ∙ ap (λ n. n + 1) (sym then)) ∙ (let z : (length (take i ds) + 1) * (NUMBER * p.unit) ≡ length (take i ds) * (NUMBER * p.unit) + NUMBER * p.unit = omega arith in z) in
+      let e : length (take (i + 1) ds) * (NUMBER * p.unit) ≡ length (take i ds) * (NUMBER * p.unit) + NUMBER * p.unit =
+      ap (λ n. n * (NUMBER * p.unit)) (now ∙ ap (λ n. n + 1) (sym then))
+      ∙ (let z : (length (take i ds) + 1) * (NUMBER * p.unit)
+      ≡ length (take i ds) * (NUMBER * p.unit) + NUMBER * p.unit = omega arith in z) in
       let a = small r in
       let b = f.small r in
       omega arith;
 }
 
 -- what is counted is of the tasks
-pub filled-measured : (p : Parts) (ds : List Duty) (rows : List (List ℕ)) (sums : List ℕ) → IsFilled p ds rows sums → (rule : Rule) (r : ℕ)
+pub filled-measured : (p : Parts) (ds : List Duty) (rows : List (List ℕ)) (sums : List ℕ) → IsFilled p ds rows sums
+    → (rule : Rule) (r : ℕ)
     → measured p rule (slice_index (row_of rows r)) (slice_index sums r) ≡ resource_deviation p ds rule r
 filled-measured p ds rows sums f rule r = λ i. measured p rule (λ t. f.counts r t i) (f.workloads r i)
 
 -- so no deviation is above the greatest
-pub filled-small : (p : Parts) (ds : List Duty) (rows : List (List ℕ)) (sums : List ℕ) → IsFilled p ds rows sums → AreWithinLimits p → 0 < p.unit → (rule : Rule) (r : ℕ) → IsRule p rule
+pub filled-small : (p : Parts) (ds : List Duty) (rows : List (List ℕ)) (sums : List ℕ) → IsFilled p ds rows sums
+    → AreWithinLimits p → 0 < p.unit → (rule : Rule) (r : ℕ) → IsRule p rule
     → measured p rule (slice_index (row_of rows r)) (slice_index sums r) ≤ GREATEST_DEVIATION
 filled-small p ds rows sums f limits positive rule r h =
-    let most : length ds * (NUMBER * p.unit) ≤ TASKS * (NUMBER * p.unit) = mul-le (length ds) (NUMBER * p.unit) TASKS (NUMBER * p.unit) f.few (omega arith) in
+    let most : length ds * (NUMBER * p.unit) ≤ TASKS * (NUMBER * p.unit) =
+    mul-le (length ds) (NUMBER * p.unit) TASKS (NUMBER * p.unit) f.few (omega arith) in
     measured-small p (slice_index (row_of rows r)) (slice_index sums r) limits positive
-    (λ t. let l = counts-few p ds rows sums f r t in omega (arith, l, f.few)) (let l = f.small r in omega (arith, l, most)) rule h
+    (λ t. let l = counts-few p ds rows sums f r t in omega (arith, l, f.few))
+    (let l = f.small r in omega (arith, l, most)) rule h
 
 -- no set has more idle times than times
 pub idle_few : (row : List ℕ) (set : List Bool) → idle_times row set ≤ length set
 idle_few row set =
-    let l = count_by-le-length (is_idle_time (has_member set) (is_busy row) (length set)) (range_with_len 0 (length set)) in
+    let l = count_by-le-length (is_idle_time (has_member set) (is_busy row) (length set))
+    (range_with_len 0 (length set)) in
     let e = length-range_with_len 0 (length set) in
     omega arith

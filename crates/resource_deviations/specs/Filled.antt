@@ -23,7 +23,9 @@ pub record IsFilled (p : Parts) (ds : List Duty) (rows : List (List ℕ)) (sums 
 
 -- one more task is in the counts, and in the workloads
 abbrev pub AddsCounts : Duty → List (List ℕ) → List (List ℕ) → Type 0
-AddsCounts d old new = (r t : ℕ) → count_at new r t ≡ count_at old r t + (if is_resource r d.resource && runs d.meet t then 1 else 0)
+AddsCounts d old new = (r t : ℕ) → count_at new r t
+    ≡ count_at old r t + (if is_resource r d.resource && runs d.meet t then 1 else 0)
 
 abbrev pub AddsWorkload : Parts → Duty → List ℕ → List ℕ → Type 0
-AddsWorkload p d old new = (r : ℕ) → slice_index new r ≡ slice_index old r + (if is_resource r d.resource then workload_of p.events p.unit d else 0)
+AddsWorkload p d old new = (r : ℕ) → slice_index new r
+    ≡ slice_index old r + (if is_resource r d.resource then workload_of p.events p.unit d else 0)

@@ -4,7 +4,8 @@ use Rattle.khe_instance.specs.declared.parts.Parts.{Parts}
 use Rattle.khe_instance.specs.declared.points.Point.{Point}
 use Rattle.khe_instance.specs.declared.points.Point.TheVariants.{Resource}
 use Rattle.khe_instance.specs.declared.rules.Rule.{Rule}
-use Rattle.khe_instance.specs.declared.rules.Rule.TheVariants.{AvoidUnavailableTimes, LimitIdleTimes, ClusterBusyTimes, LimitBusyTimes}
+use Rattle.khe_instance.specs.declared.rules.Rule.TheVariants.{AvoidUnavailableTimes, LimitIdleTimes, ClusterBusyTimes}
+use Rattle.khe_instance.specs.declared.rules.Rule.TheVariants.{LimitBusyTimes}
 
 -- in the order of its list, with repeats
 abbrev pub sets_of : Rule → List (List Bool)

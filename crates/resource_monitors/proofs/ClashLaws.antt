@@ -1,5 +1,6 @@
 -- The totals while a count is turned.
-use Rattle.std.proofs.Common.{ℕ, ◌≡◌, ◌≤◌, ◌<◌, ◌+◌, ◌-◌, ◌*◌, ◌∙◌, zero, suc, List, [], ◌∷◌, set, take, get_or, length, slice_index, refl, sym, ap, arith, sum_by, ◌⊎◌, inl, inr, get_or-set_same}
+use Rattle.std.proofs.Common.{ℕ, ◌≡◌, ◌≤◌, ◌<◌, ◌+◌, ◌-◌, ◌*◌, ◌∙◌, zero, suc, List, [], ◌∷◌, set, take, get_or, length}
+use Rattle.std.proofs.Common.{slice_index, refl, sym, ap, arith, sum_by, ◌⊎◌, inl, inr, get_or-set_same}
 use Rattle.std.specs.List.{range_with_len}
 use Rattle.std.proofs.lemmas.Bool.{cases_eq}
 use Rattle.std.proofs.lemmas.List.{length-set, take_all, get_or-set_other}
@@ -15,14 +16,16 @@ pub read_at : (xs : List ℕ) (i v : ℕ) → i < length xs → v ≡ get_or xs 
 read_at xs i v l is = is ∙ get_or_from_slice_get xs i (get_or xs i 0) v (slice_get-get_or xs i 0 l)
 
 -- a sum over the times is one over the row
-over_times : (row : List ℕ) (n : ℕ) → n ≤ length row → sum_by (λ k. k - 1) (take n row) ≡ sum_by (λ t. slice_index row t - 1) (range_with_len 0 n)
+over_times : (row : List ℕ) (n : ℕ) → n ≤ length row
+    → sum_by (λ k. k - 1) (take n row) ≡ sum_by (λ t. slice_index row t - 1) (range_with_len 0 n)
 over_times row zero l = refl
 over_times row (suc n) l =
     let e : suc n ≡ n + 1 = omega arith in
     ap (λ k. sum_by (λ m. m - 1) (take k row)) e
     ∙ sum_by_more (λ m. m - 1) row n 0 (omega (arith, l))
     ∙ ap (λ s. s + (slice_index row n - 1)) (over_times row n (omega (arith, l)))
-    ∙ sym (ap (λ k. sum_by (λ t. slice_index row t - 1) (range_with_len 0 k)) e ∙ sum_by_range_more (λ t. slice_index row t - 1) n)
+    ∙ sym (ap (λ k. sum_by (λ t. slice_index row t - 1) (range_with_len 0 k)) e
+    ∙ sum_by_range_more (λ t. slice_index row t - 1) n)
 
 pub by_times : (row : List ℕ) → clashes_of row ≡ sum_by (λ t. slice_index row t - 1) (range_with_len 0 (length row))
 by_times row = ap clashes_of (sym (take_all (length row) row (omega arith))) ∙ over_times row (length row) (omega arith)
@@ -36,14 +39,16 @@ few_in (n ∷ row) h =
     omega (arith, a, b, c)
 
 -- totals are small
-pub total_small : (rows : List (List ℕ)) (totals : List ℕ) → HasClashes rows totals → (r : ℕ) → slice_index totals r ≤ TIMES * GREATEST_COUNT
+pub total_small : (rows : List (List ℕ)) (totals : List ℕ) → HasClashes rows totals → (r : ℕ)
+    → slice_index totals r ≤ TIMES * GREATEST_COUNT
 total_small rows totals h r =
     let a = few_in (row_of rows r) (h.few r) in
     let b = h.short r in
     let c = h.each r in
     omega (arith, a, b, c)
 
-module _ (rows : List (List ℕ)) (totals : List ℕ) (h : HasClashes rows totals) (r t : ℕ) (there : r < length rows) (time : t < length (row_of rows r)) where
+module _ (rows : List (List ℕ)) (totals : List ℕ) (h : HasClashes rows totals) (r t : ℕ) (there : r < length rows)
+    (time : t < length (row_of rows r)) where
   -- one count's part
   pub part : count_at rows r t - 1 ≤ slice_index totals r
   part =
@@ -52,7 +57,8 @@ module _ (rows : List (List ℕ)) (totals : List ℕ) (h : HasClashes rows total
       omega (arith, a, e)
 
   -- another count
-  pub total_turned : (n : ℕ) → n ≤ GREATEST_COUNT → HasClashes (with_count rows r t n) (set totals r (slice_index totals r + (n - 1) - (count_at rows r t - 1)))
+  pub total_turned : (n : ℕ) → n ≤ GREATEST_COUNT
+      → HasClashes (with_count rows r t n) (set totals r (slice_index totals r + (n - 1) - (count_at rows r t - 1)))
   total_turned n l = record {
     amount = length-set totals r total ∙ h.amount ∙ sym (length-set rows r row);
     short = λ q. short q (cases_eq q r);
@@ -73,12 +79,15 @@ module _ (rows : List (List ℕ)) (totals : List ℕ) (h : HasClashes rows total
       away q e = get_or-set_other rows r q row [] e
 
       short : (q : ℕ) → (q ≡ r) ⊎ (q ≡ r → ⊥) → length (row_of (set rows r row) q) ≤ TIMES
-      short q (inl e) = let a = ap length (here q e) in let b = length-set (row_of rows r) t n in let c = h.short r in omega (arith, a, b, c)
+      short q (inl e) = let a = ap length (here q e) in let b = length-set (row_of rows r) t n in let c = h.short r in
+          omega (arith, a, b, c)
       short q (inr e) = let a = ap length (away q e) in let c = h.short q in omega (arith, a, c)
 
       few : (q u : ℕ) → (q ≡ r) ⊎ (q ≡ r → ⊥) → (u ≡ t) ⊎ (u ≡ t → ⊥) → count_at (set rows r row) q u ≤ GREATEST_COUNT
-      few q u (inl e) (inl f) = let a = ap (λ xs. slice_index xs u) (here q e) ∙ ap (slice_index row) f ∙ get_or-set_same (row_of rows r) t n 0 time in omega (arith, a, l)
-      few q u (inl e) (inr f) = let a = ap (λ xs. slice_index xs u) (here q e) ∙ get_or-set_other (row_of rows r) t u n 0 f in let b = h.few r u in omega (arith, a, b)
+      few q u (inl e) (inl f) = let a = ap (λ xs. slice_index xs u) (here q e) ∙ ap (slice_index row) f
+          ∙ get_or-set_same (row_of rows r) t n 0 time in omega (arith, a, l)
+      few q u (inl e) (inr f) = let a = ap (λ xs. slice_index xs u) (here q e)
+          ∙ get_or-set_other (row_of rows r) t u n 0 f in let b = h.few r u in omega (arith, a, b)
       few q u (inr e) f = let a = ap (λ xs. slice_index xs u) (away q e) in let b = h.few q u in omega (arith, a, b)
 
       same : slice_index (set totals r total) r ≡ clashes_of row
@@ -88,6 +97,7 @@ module _ (rows : List (List ℕ)) (totals : List ℕ) (h : HasClashes rows total
           let c = h.each r in
           omega (arith, a, b, c)
 
-      each : (q : ℕ) → (q ≡ r) ⊎ (q ≡ r → ⊥) → slice_index (set totals r total) q ≡ clashes_of (row_of (set rows r row) q)
+      each : (q : ℕ) → (q ≡ r) ⊎ (q ≡ r → ⊥) → slice_index (set totals r total) q
+          ≡ clashes_of (row_of (set rows r row) q)
       each q (inl e) = ap (slice_index (set totals r total)) e ∙ same ∙ sym (ap clashes_of (here q e))
       each q (inr e) = get_or-set_other totals r q total 0 e ∙ h.each q ∙ sym (ap clashes_of (away q e))

@@ -23,43 +23,73 @@ use Rattle.resource_monitors.proofs.FamilyLaws.{agrees_after, agrees_same, due_w
 use Rattle.resource_monitors.proofs.StateLaws.{given_of, tasks_few}
 use Rattle.resource_monitors.proofs.TurnLaws.{tasks_turned, turned_once}
 
-module _ (p : Parts) (made : AreWellMade p) (s : List Slot) (c : Change) (told : AreTold p s) (fits : Fits p s c) (rows : List (List ℕ)) (before : (r t : ℕ) → count_at rows r t ≡ running_tasks (duties_in s) r t) where
-  turns : IsTurn (run_of (slot_at s (meet_of c)) c) (given_by (slot_at s (meet_of c)) c) (count_at rows) (running_tasks (duties_in (after s c)))
-  turns = subst (λ (f : ℕ → ℕ → ℕ). IsTurn (run_of (slot_at s (meet_of c)) c) (given_by (slot_at s (meet_of c)) c) f (running_tasks (duties_in (after s c)))) (λ i r t. sym (before r t) i) (tasks_turned s c fits.there fits.suits)
+module _ (p : Parts) (made : AreWellMade p) (s : List Slot) (c : Change) (told : AreTold p s) (fits : Fits p s c)
+    (rows : List (List ℕ)) (before : (r t : ℕ) → count_at rows r t ≡ running_tasks (duties_in s) r t) where
+  turns : IsTurn (run_of (slot_at s (meet_of c)) c) (given_by (slot_at s (meet_of c)) c) (count_at rows)
+      (running_tasks (duties_in (after s c)))
+  turns = subst (λ (f : ℕ → ℕ → ℕ). IsTurn (run_of (slot_at s (meet_of c)) c) (given_by (slot_at s (meet_of c)) c) f
+      (running_tasks (duties_in (after s c)))) (λ i r t. sym (before r t) i) (tasks_turned s c fits.there fits.suits)
 
   -- a change of no cell
-  pub counts_none : run_of (slot_at s (meet_of c)) c ≡ None → (r t : ℕ) → count_at rows r t ≡ running_tasks (duties_in (after s c)) r t
+  pub counts_none : run_of (slot_at s (meet_of c)) c ≡ None → (r t : ℕ)
+      → count_at rows r t ≡ running_tasks (duties_in (after s c)) r t
   counts_none e r t =
-      let i : IsTurn None (given_by (slot_at s (meet_of c)) c) (count_at rows) (running_tasks (duties_in (after s c))) = subst (λ o. IsTurn o (given_by (slot_at s (meet_of c)) c) (count_at rows) (running_tasks (duties_in (after s c)))) e turns in
+      let i : IsTurn None (given_by (slot_at s (meet_of c)) c) (count_at rows) (running_tasks (duties_in (after s c))) =
+      subst (λ o. IsTurn o (given_by (slot_at s (meet_of c)) c) (count_at rows)
+      (running_tasks (duties_in (after s c)))) e turns in
       sym (i r t)
 
-  pub agrees_none : run_of (slot_at s (meet_of c)) c ≡ None → (served : Kind → Bool) → ((k : Kind) → served k ≡ true → is_at_cells k ≡ true) → (ds : List ℕ) → Agrees p served s ds → Agrees p served (after s c) ds
+  pub agrees_none : run_of (slot_at s (meet_of c)) c ≡ None → (served : Kind → Bool)
+      → ((k : Kind) → served k ≡ true → is_at_cells k ≡ true) → (ds : List ℕ) → Agrees p served s ds
+      → Agrees p served (after s c) ds
   agrees_none e served cells ds = agrees_same p served made cells s (after s c) rows ds before (counts_none e)
 
-  module _ (run : Run) (e : run_of (slot_at s (meet_of c)) c ≡ Some run) (given : List (Option ResourceId)) (is : given ≡ given_by (slot_at s (meet_of c)) c) where
+  module _ (run : Run) (e : run_of (slot_at s (meet_of c)) c ≡ Some run) (given : List (Option ResourceId))
+      (is : given ≡ given_by (slot_at s (meet_of c)) c) where
     turn : Turned run.rises given run.start run.end (count_at rows) (running_tasks (duties_in (after s c)))
     turn =
-        let i : IsTurn (Some run) (given_by (slot_at s (meet_of c)) c) (count_at rows) (running_tasks (duties_in (after s c))) = subst (λ o. IsTurn o (given_by (slot_at s (meet_of c)) c) (count_at rows) (running_tasks (duties_in (after s c)))) e turns in
-        subst (λ g. Turned run.rises g run.start run.end (count_at rows) (running_tasks (duties_in (after s c)))) (sym is) i
+        let i : IsTurn (Some run) (given_by (slot_at s (meet_of c)) c) (count_at rows)
+        (running_tasks (duties_in (after s c))) = subst
+        (λ o. IsTurn o (given_by (slot_at s (meet_of c)) c) (count_at rows) (running_tasks (duties_in (after s c))))
+        e turns in
+        subst (λ g. Turned run.rises g run.start run.end (count_at rows) (running_tasks (duties_in (after s c))))
+        (sym is) i
 
     abbrev pub IsTurnable : Type 0
-    IsTurnable = (new : ℕ → ℕ → ℕ) × ((q t : ℕ) → new q t ≤ GREATEST_COUNT) × Turned run.rises given run.start run.end (count_at rows) new
+    IsTurnable = (new : ℕ → ℕ → ℕ) × ((q t : ℕ) → new q t ≤ GREATEST_COUNT)
+        × Turned run.rises given run.start run.end (count_at rows) new
 
     pub turnable : IsTurnable
-    turnable = (running_tasks (duties_in (after s c)), (λ q t. (let l = tasks_few p made (after s c) fits.told q t in omega (arith, l))), turn)
+    turnable = (
+      running_tasks (duties_in (after s c)),
+      (λ q t. (let l = tasks_few p made (after s c) fits.told q t in omega (arith, l))),
+      turn,
+    )
 
     pub resources : AreOf given (length p.resources)
     resources = subst (λ g. AreOf g (length p.resources)) (sym is) (given_of p made s c told fits)
 
-    pub counts_then : (rows2 : List (List ℕ)) → Turned run.rises given run.start run.end (count_at rows) (count_at rows2) → (r t : ℕ) → count_at rows2 r t ≡ running_tasks (duties_in (after s c)) r t
-    counts_then rows2 h = turned_once run.rises given run.start run.end (count_at rows) (count_at rows2) (running_tasks (duties_in (after s c))) h turn
+    pub counts_then : (rows2 : List (List ℕ)) → Turned run.rises given run.start run.end (count_at rows)
+        (count_at rows2) → (r t : ℕ) → count_at rows2 r t ≡ running_tasks (duties_in (after s c)) r t
+    counts_then rows2 h = turned_once run.rises given run.start run.end (count_at rows) (count_at rows2)
+        (running_tasks (duties_in (after s c))) h turn
 
-    pub few_then : (rows2 : List (List ℕ)) → Turned run.rises given run.start run.end (count_at rows) (count_at rows2) → (r t : ℕ) → count_at rows2 r t ≤ TASKS
-    few_then rows2 h r t = let l = tasks_few p made (after s c) fits.told r t in let q = counts_then rows2 h r t in omega (arith, l, q)
+    pub few_then : (rows2 : List (List ℕ)) → Turned run.rises given run.start run.end (count_at rows) (count_at rows2)
+        → (r t : ℕ) → count_at rows2 r t ≤ TASKS
+    few_then rows2 h r t = let l = tasks_few p made (after s c) fits.told r t in let q = counts_then rows2 h r t in
+        omega (arith, l, q)
 
-    pub agrees_then : (rows2 : List (List ℕ)) → Turned run.rises given run.start run.end (count_at rows) (count_at rows2) → (served : Kind → Bool) → ((k : Kind) → served k ≡ true → is_at_cells k ≡ true) → (ds0 ds : List ℕ)
-        → AreAllReported p served (value_in p rows2) (is_due p rows2 run.start run.end (limit_for run.rises (length given))) given (length given) ds0 ds → Agrees p served s ds0 → Agrees p served (after s c) ds
-    agrees_then rows2 h served cells ds0 ds all = agrees_after p served made cells s (after s c) rows rows2 given run.rises run.start run.end ds0 ds before (counts_then rows2 h) h all
+    pub agrees_then : (rows2 : List (List ℕ)) → Turned run.rises given run.start run.end (count_at rows)
+        (count_at rows2) → (served : Kind → Bool) → ((k : Kind) → served k ≡ true → is_at_cells k ≡ true)
+        → (ds0 ds : List ℕ)
+        → AreAllReported p served (value_in p rows2) (is_due p rows2 run.start run.end
+        (limit_for run.rises (length given))) given (length given) ds0 ds → Agrees p served s ds0
+        → Agrees p served (after s c) ds
+    agrees_then rows2 h served cells ds0 ds all =
+        agrees_after p served made cells s (after s c) rows rows2 given run.rises run.start run.end ds0 ds before
+        (counts_then rows2 h) h all
 
-    pub watchers_then : (served : Kind → Bool) → due_all served p.monitors (lists_any p run.start run.end) given ≤ served_watchers p served s c
-    watchers_then served = subst (λ g. due_all served p.monitors (lists_any p run.start run.end) g ≤ served_watchers p served s c) (sym is) (due_watchers p served s c run e)
+    pub watchers_then : (served : Kind → Bool) → due_all served p.monitors (lists_any p run.start run.end)
+        given ≤ served_watchers p served s c
+    watchers_then served = subst (λ g. due_all served p.monitors (lists_any p run.start run.end) g ≤ served_watchers p
+        served s c) (sym is) (due_watchers p served s c run e)

@@ -34,14 +34,21 @@ long_row (suc n) m zero l = length-replicate m 0
 long_row (suc n) m (suc r) l = long_row n m r (omega (arith, l))
 
 opened : (p : Parts) → HasRows p (no_counts (length p.resources) (length p.times))
-opened p = record { resources = length-replicate (length p.resources) (replicate (length p.times) 0); times = λ r l. long_row (length p.resources) (length p.times) r l }
+opened p = record {
+  resources = length-replicate (length p.resources) (replicate (length p.times) 0);
+  times =
+      λ r l. long_row (length p.resources) (length p.times) r l;
+}
 
-pub family_opened : (served : Kind → Bool) (p : Parts) (s : List Slot) (rows : List (List ℕ)) (sets : List (List (List Bool))) (lists : List (List Post)) → s ≡ no_meets p → rows ≡ no_counts (length p.resources) (length p.times)
+pub family_opened : (served : Kind → Bool) (p : Parts) (s : List Slot) (rows : List (List ℕ))
+    (sets : List (List (List Bool))) (lists : List (List Post)) → s ≡ no_meets p
+    → rows ≡ no_counts (length p.resources) (length p.times)
     → sets ≡ room_for p → AreLists served (length p.resources) p.monitors lists → IsFamily served p s rows sets lists
 family_opened served p s rows sets lists a b c d = record {
   told = subst (AreTold p) (sym a) (told_opened p);
   rows_all = subst (HasRows p) (sym b) (opened p);
-  counts = λ r t. (ap (λ xs. count_at xs r t) b ∙ none_count (length p.resources) (length p.times) r t ∙ sym (ap (λ (ds : List Duty). running_tasks ds r t) (ap duties_in a ∙ no_duties p)));
+  counts = λ r t. (ap (λ xs. count_at xs r t) b ∙ none_count (length p.resources) (length p.times) r t
+      ∙ sym (ap (λ (ds : List Duty). running_tasks ds r t) (ap duties_in a ∙ no_duties p)));
   sets_all = c;
   lists_all = d;
 }

@@ -1,5 +1,6 @@
 -- The list of one resource.
-use Rattle.std.proofs.Common.{ℕ, ◌≡◌, ◌<◌, ◌∙◌, Bool, true, Option, Some, None, List, [], length, get_or, slice_get, refl, sym, ap, subst, arith, zero-add}
+use Rattle.std.proofs.Common.{ℕ, ◌≡◌, ◌<◌, ◌∙◌, Bool, true, Option, Some, None, List, [], length, get_or, slice_get}
+use Rattle.std.proofs.Common.{refl, sym, ap, subst, arith, zero-add}
 use Rattle.std.proofs.lemmas.Bool.{and_from, and_parts, eqb-true, false≢true}
 use Rattle.std.proofs.lemmas.Option.{slice_get-get_or, get_or_from_slice_get}
 use Rattle.khe_base.specs.declared.numbers.ResourceId.{ResourceId}
@@ -10,51 +11,75 @@ use Rattle.khe_instance.specs.declared.points.Point.{Point}
 use Rattle.khe_instance.specs.declared.points.Point.TheVariants.{Resource}
 use Rattle.khe_instance.specs.declared.rules.Kind.{Kind}
 use Rattle.resource_monitors.specs.Cells.{is_at_cells, differs_at, is_due, is_due_if, is_low, lists_any, may_differ}
-use Rattle.resource_monitors.specs.Posts.{AreLists, ArePosts, AreReported, due, due_for, is_served_at, list_for, posts_of}
+use Rattle.resource_monitors.specs.Posts.{AreLists, ArePosts, AreReported, due, due_for, is_served_at, list_for}
+use Rattle.resource_monitors.specs.Posts.{posts_of}
 use Rattle.resource_monitors.specs.declared.posts.Post.{Post}
 use Rattle.resource_monitors.proofs.PostLaws.{posts_each}
 
-pub list_at : (served : Kind → Bool) (n : ℕ) (ms : List Monitor) (lists : List (List Post)) (k : ℕ) (item list : List Post) → AreLists served n ms lists → k < n → item ≡ get_or lists k item → list ≡ item → list ≡ posts_of served ms k
+pub list_at : (served : Kind → Bool) (n : ℕ) (ms : List Monitor) (lists : List (List Post)) (k : ℕ)
+    (item list : List Post) → AreLists served n ms lists → k < n → item ≡ get_or lists k item → list ≡ item
+    → list ≡ posts_of served ms k
 list_at served n ms lists k item list u l is same =
-    same ∙ is ∙ get_or_from_slice_get lists k (get_or lists k []) item (slice_get-get_or lists k [] (let z = u.resources_all in omega (arith, z, l))) ∙ u.each k l
+    same ∙ is ∙ get_or_from_slice_get lists k (get_or lists k []) item
+    (slice_get-get_or lists k [] (let z = u.resources_all in omega (arith, z, l))) ∙ u.each k l
 
-pub are_posts : (p : Parts) (served : Kind → Bool) (k : ℕ) (list : List Post) → list ≡ posts_of served p.monitors k → ArePosts p list
-are_posts p served k list is i a h = (posts_each (is_served_at served k) p.monitors 0 p.monitors (λ n. ap (slice_get p.monitors) (zero-add n)) i a (ap (λ xs. slice_get xs i) (sym is) ∙ h)).0
+pub are_posts : (p : Parts) (served : Kind → Bool) (k : ℕ) (list : List Post) → list ≡ posts_of served p.monitors k
+    → ArePosts p list
+are_posts p served k list is i a h = (posts_each (is_served_at served k) p.monitors 0 p.monitors
+    (λ n. ap (slice_get p.monitors) (zero-add n)) i a (ap (λ xs. slice_get xs i) (sym is) ∙ h)).0
 
-pub are_at_cells : (p : Parts) (served : Kind → Bool) → ((k : Kind) → served k ≡ true → is_at_cells k ≡ true) → (k : ℕ) (list : List Post) → list ≡ posts_of served p.monitors k → (i : ℕ) (a : Post) → slice_get list i ≡ Some a → is_at_cells a.monitor.kind ≡ true
+pub are_at_cells : (p : Parts) (served : Kind → Bool) → ((k : Kind) → served k ≡ true → is_at_cells k ≡ true)
+    → (k : ℕ) (list : List Post) → list ≡ posts_of served p.monitors k → (i : ℕ) (a : Post) → slice_get list i ≡ Some a
+    → is_at_cells a.monitor.kind ≡ true
 are_at_cells p served cells k list is i a h =
-    let f = posts_each (is_served_at served k) p.monitors 0 p.monitors (λ n. ap (slice_get p.monitors) (zero-add n)) i a (ap (λ xs. slice_get xs i) (sym is) ∙ h) in
+    let f = posts_each (is_served_at served k) p.monitors 0 p.monitors (λ n. ap (slice_get p.monitors) (zero-add n)) i a
+    (ap (λ xs. slice_get xs i) (sym is) ∙ h) in
     cells a.monitor.kind (and_parts (served a.monitor.kind) (is_at a.monitor.point k) f.1).0
 
 -- what a place's list is
-pub reported_for : (p : Parts) (value : Monitor → ℕ) (test : Monitor → Bool) (served : Kind → Bool) (place : Option ResourceId) (r : ResourceId) (list : List Post) (old new : List ℕ)
+pub reported_for : (p : Parts) (value : Monitor → ℕ) (test : Monitor → Bool) (served : Kind → Bool)
+    (place : Option ResourceId) (r : ResourceId) (list : List Post) (old new : List ℕ)
     → place ≡ Some r → list ≡ posts_of served p.monitors r.0 → AreReported p value test list (length list) old new
     → AreReported p value test (list_for served p.monitors place) (length (list_for served p.monitors place)) old new
 reported_for p value test served place r list old new at is u =
-    subst (λ (xs : List Post). AreReported p value test xs (length xs) old new) (is ∙ sym (ap (list_for served p.monitors) at)) u
+    subst (λ (xs : List Post). AreReported p value test xs (length xs) old new)
+    (is ∙ sym (ap (list_for served p.monitors) at)) u
 
-pub due_for_is : (p : Parts) (test : Monitor → Bool) (served : Kind → Bool) (place : Option ResourceId) (r : ResourceId) (list : List Post) → place ≡ Some r → list ≡ posts_of served p.monitors r.0 → due_for served p.monitors test place ≡ due test list
+pub due_for_is : (p : Parts) (test : Monitor → Bool) (served : Kind → Bool) (place : Option ResourceId) (r : ResourceId)
+    (list : List Post) → place ≡ Some r → list ≡ posts_of served p.monitors r.0
+    → due_for served p.monitors test place ≡ due test list
 due_for_is p test served place r list at is = ap (due_for served p.monitors test) at ∙ sym (ap (due test) is)
 
-pub reported_none : (p : Parts) (value : Monitor → ℕ) (test : Monitor → Bool) (served : Kind → Bool) (place : Option ResourceId) (old : List ℕ) → place ≡ None
+pub reported_none : (p : Parts) (value : Monitor → ℕ) (test : Monitor → Bool) (served : Kind → Bool)
+    (place : Option ResourceId) (old : List ℕ) → place ≡ None
     → AreReported p value test (list_for served p.monitors place) (length (list_for served p.monitors place)) old old
 reported_none p value test served place old at =
-    subst (λ (xs : List Post). AreReported p value test xs (length xs) old old) (sym (ap (list_for served p.monitors) at))
+    subst (λ (xs : List Post). AreReported p value test xs (length xs) old old)
+    (sym (ap (list_for served p.monitors) at))
     (record { amount = refl; each = λ j a l h t. absurd (omega (arith, l)); kept = λ i m g o. o; others = λ i n. refl })
 
 -- fewer of them
-pub reported_fewer : (p : Parts) (value : Monitor → ℕ) (test few : Monitor → Bool) (list : List Post) (k : ℕ) (old new : List ℕ) → ((j : ℕ) (a : Post) → slice_get list j ≡ Some a → few a.monitor ≡ true → test a.monitor ≡ true)
+pub reported_fewer : (p : Parts) (value : Monitor → ℕ) (test few : Monitor → Bool) (list : List Post) (k : ℕ)
+    (old new : List ℕ) → ((j : ℕ) (a : Post) → slice_get list j ≡ Some a → few a.monitor ≡ true → test a.monitor ≡ true)
     → AreReported p value test list k old new → AreReported p value few list k old new
-reported_fewer p value test few list k old new less u = record { amount = u.amount; each = λ j a l h t. u.each j a l h (less j a h t); kept = u.kept; others = u.others }
+reported_fewer p value test few list k old new less u =
+    record { amount = u.amount; each = λ j a l h t. u.each j a l h (less j a h t); kept = u.kept; others = u.others }
 
 -- at one resource it is known whether one of the counts is low
-pub due_at : (p : Parts) (served : Kind → Bool) (rows : List (List ℕ)) (start end limit : ℕ) (r : ResourceId) (list : List Post) → list ≡ posts_of served p.monitors r.0
-    → (j : ℕ) (a : Post) → slice_get list j ≡ Some a → is_due p rows start end limit a.monitor ≡ true → is_due_if p start end (is_low rows start end limit r.0) a.monitor ≡ true
+pub due_at : (p : Parts) (served : Kind → Bool) (rows : List (List ℕ)) (start end limit : ℕ) (r : ResourceId)
+    (list : List Post) → list ≡ posts_of served p.monitors r.0
+    → (j : ℕ) (a : Post) → slice_get list j ≡ Some a → is_due p rows start end limit a.monitor ≡ true
+    → is_due_if p start end (is_low rows start end limit r.0) a.monitor ≡ true
 due_at p served rows start end limit r list is j a h t =
-    let f = posts_each (is_served_at served r.0) p.monitors 0 p.monitors (λ n. ap (slice_get p.monitors) (zero-add n)) j a (ap (λ xs. slice_get xs j) (sym is) ∙ h) in
-    let parts = and_parts (lists_any p start end a.monitor) (differs_at a.monitor.kind rows start end limit a.monitor.point) t in
-    and_from (may_differ a.monitor.kind (is_low rows start end limit r.0)) (lists_any p start end a.monitor) (differs a.monitor.point (and_parts (served a.monitor.kind) (is_at a.monitor.point r.0) f.1).1 parts.1) parts.0
+    let f = posts_each (is_served_at served r.0) p.monitors 0 p.monitors (λ n. ap (slice_get p.monitors) (zero-add n)) j
+    a (ap (λ xs. slice_get xs j) (sym is) ∙ h) in
+    let parts = and_parts (lists_any p start end a.monitor)
+    (differs_at a.monitor.kind rows start end limit a.monitor.point) t in
+    and_from (may_differ a.monitor.kind (is_low rows start end limit r.0)) (lists_any p start end a.monitor)
+    (differs a.monitor.point (and_parts (served a.monitor.kind) (is_at a.monitor.point r.0) f.1).1 parts.1) parts.0
   where
-    differs : (point : Point) → is_at point r.0 ≡ true → differs_at a.monitor.kind rows start end limit point ≡ true → may_differ a.monitor.kind (is_low rows start end limit r.0) ≡ true
-    differs (Resource q) e d = ap (λ n. may_differ a.monitor.kind (is_low rows start end limit n)) (sym (eqb-true q.0 r.0 e)) ∙ d
+    differs : (point : Point) → is_at point r.0 ≡ true → differs_at a.monitor.kind rows start end limit point ≡ true
+        → may_differ a.monitor.kind (is_low rows start end limit r.0) ≡ true
+    differs (Resource q) e d = ap (λ n. may_differ a.monitor.kind (is_low rows start end limit n))
+        (sym (eqb-true q.0 r.0 e)) ∙ d
     differs _ e d = absurd (false≢true e)

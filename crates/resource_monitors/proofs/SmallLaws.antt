@@ -16,7 +16,8 @@ use Rattle.resource_monitors.specs.Cells.{value_at, value_in}
 
 module _ (p : Parts) (made : AreWellMade p) (rows : List (List ℕ)) (few : (r t : ℕ) → count_at rows r t ≤ TASKS) where
   small_at : (rule : Rule) → IsRule p rule → (point : Point) → value_at p rows rule point ≤ GREATEST_DEVIATION
-  small_at rule h (Resource r) = measured-small p (slice_index (row_of rows r.0)) 0 made.limits made.unit.positive (few r.0) (omega arith) rule h
+  small_at rule h (Resource r) = measured-small p (slice_index (row_of rows r.0)) 0 made.limits made.unit.positive
+      (few r.0) (omega arith) rule h
   small_at rule h _ = omega arith
 
   pub value_small : (m : Monitor) → IsMonitor p m → value_in p rows m ≤ GREATEST_DEVIATION

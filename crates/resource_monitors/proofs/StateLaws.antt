@@ -1,5 +1,7 @@
 -- Told states: the one without meets, what the slots of others are given, and how many tasks run.
-use Rattle.std.proofs.Common.{ℕ, ◌≡◌, ◌≤◌, ◌<◌, ◌+◌, ◌∙◌, zero, suc, cond, Bool, true, false, Option, Some, None, List, [], ◌∷◌, ◌++◌, map, replicate, length, get_or, slice_get, refl, sym, ap, subst, arith, IfSome, get_or-set_same}
+use Rattle.std.proofs.Common.{ℕ, ◌≡◌, ◌≤◌, ◌<◌, ◌+◌, ◌∙◌, zero, suc, cond, Bool, true, false, Option, Some, None, List}
+use Rattle.std.proofs.Common.{[], ◌∷◌, ◌++◌, map, replicate, length, get_or, slice_get, refl, sym, ap, subst, arith}
+use Rattle.std.proofs.Common.{IfSome, get_or-set_same}
 use Rattle.std.specs.Prelude.{◌==◌, ◌&&◌}
 use Rattle.std.specs.Option.{option_map_or}
 use Rattle.std.specs.List.{range_with_len}
@@ -20,7 +22,8 @@ use Rattle.khe_instance.proofs.DutiesLemmas.{are-duties, typed}
 use Rattle.khe_told.specs.Changes.{after, changed, meet_of}
 use Rattle.khe_told.specs.Fits.{AreTold, IsSlot, Fits}
 use Rattle.khe_told.specs.Lists.{meets_in, tasks_in, duties_in}
-use Rattle.khe_told.specs.Slots.{no_meets, slots_from, slots_of_event, empty_slot, emptied, slot_at, no_slot, held, held_by}
+use Rattle.khe_told.specs.Slots.{no_meets, slots_from, slots_of_event, empty_slot, emptied, slot_at, no_slot, held}
+use Rattle.khe_told.specs.Slots.{held_by}
 use Rattle.khe_told.specs.declared.changes.Change.{Change}
 use Rattle.khe_told.specs.declared.changes.Change.TheVariants.{Add, Drop, Place as PlaceAt, Lift, Give, Take}
 use Rattle.khe_told.specs.declared.slots.Slot.{Slot}
@@ -46,11 +49,19 @@ free_both (x ∷ s) t a b = (a.0, free_both s t a.1 b)
 
 free_event : (e : ℕ) (event : EventInfo) (ms : List ℕ) → AreFree (map (λ m. empty_slot m e event) ms)
 free_event e event [] = tt
-free_event e event (m ∷ ms) = (record { span = refl; given = ap (λ n. replicate n None) (sym (length-replicate (length event.places) None)) }, free_event e event ms)
+free_event e event (m ∷ ms) = (
+  record {
+    span = refl;
+    given =
+        ap (λ n. replicate n None) (sym (length-replicate (length event.places) None));
+  },
+  free_event e event ms,
+)
 
 free_from : (e : ℕ) (events : List EventInfo) → AreFree (slots_from e events)
 free_from e [] = tt
-free_from e (event ∷ events) = free_both (slots_of_event e event) (slots_from (e + 1) events) (free_event e event (range_with_len event.first_meet event.duration)) (free_from (e + 1) events)
+free_from e (event ∷ events) = free_both (slots_of_event e event) (slots_from (e + 1) events)
+    (free_event e event (range_with_len event.first_meet event.duration)) (free_from (e + 1) events)
 
 free_emptied : (s : List Slot) → AreFree s → map emptied s ≡ s
 free_emptied [] h = refl
@@ -60,8 +71,10 @@ free_slots : (p : Parts) (s : List Slot) → AreFree s → (k : ℕ) (d : Slot) 
 free_slots p [] h k d l = absurd (omega (arith, l))
 free_slots p (x ∷ s) h zero d l = record {
   duration = subst (λ o. IfSome o (λ (y : Span). 1 ≤ y.duration)) (sym h.0.span) tt;
-  ends = subst (λ o. IfSome o (λ (y : Span). IfSome y.start (λ t. t.0 + y.duration ≤ length p.times))) (sym h.0.span) tt;
-  given = λ e k place r a b c. absurd (nothing (length x.given) k r (ap (λ (g : List (Option ResourceId)). slice_get g k) (sym h.0.given) ∙ c));
+  ends = subst (λ o. IfSome o (λ (y : Span). IfSome y.start (λ t. t.0 + y.duration ≤ length p.times))) (sym h.0.span)
+      tt;
+  given = λ e k place r a b c. absurd (nothing (length x.given) k r
+      (ap (λ (g : List (Option ResourceId)). slice_get g k) (sym h.0.given) ∙ c));
   empty = λ e. h.0.given;
 }
   where
@@ -100,9 +113,16 @@ pub no_duties : (p : Parts) → duties_in (no_meets p) ≡ []
 no_duties p = free_duties (no_meets p) (free_from 0 p.events)
 
 -- no more tasks run than an instance may have
-pub tasks_few : (p : Parts) → AreWellMade p → (s : List Slot) → AreTold p s → (r t : ℕ) → running_tasks (duties_in s) r t ≤ TASKS
+pub tasks_few : (p : Parts) → AreWellMade p → (s : List Slot) → AreTold p s → (r t : ℕ)
+    → running_tasks (duties_in s) r t ≤ TASKS
 tasks_few p made s told r t =
-    let of : AreOfState p (meets_in s) (duties_in s) = record { tasks = tasks_in s; told = listed_told p s made.first_meets told; same = sym (duties_listed 0 s (told_from p s made.first_meets told.whose)) } in
+    let of : AreOfState p (meets_in s) (duties_in s) =
+    record {
+      tasks = tasks_in s;
+      told = listed_told p s made.first_meets told;
+      same =
+          sym (duties_listed 0 s (told_from p s made.first_meets told.whose));
+    } in
     let few = (are-duties p (meets_in s) (duties_in s) made of).few in
     let l = count_by-le-length (λ (d : Duty). is_resource r d.resource && runs d.meet t) (duties_in s) in
     omega (arith, few, l)
@@ -111,11 +131,14 @@ slot_of : (p : Parts) (x : Slot) → IsFrame p.events x → IsSlot p x → AreOf
 slot_of p x frame is j r h =
     let event = frame.slot.0 in
     let there = frame.slot.1 in
-    let many : length x.given ≡ length event.places = frame.places ∙ ap (λ o. option_map_or (λ (y : EventInfo). length y.places) o 0) there in
+    let many : length x.given ≡ length event.places =
+    frame.places ∙ ap (λ o. option_map_or (λ (y : EventInfo). length y.places) o 0) there in
     let l = slice_get_within x.given j (Some r) h in
-    by event.places (slice_get event.places j) refl (omega (arith, many, l)) (λ place e. typed p place.rtype r (is.given event j place r there e h))
+    by event.places (slice_get event.places j) refl (omega (arith, many, l))
+    (λ place e. typed p place.rtype r (is.given event j place r there e h))
   where
-    by : (places : List Place) (o : Option Place) → slice_get places j ≡ o → j < length places → ((place : Place) → slice_get places j ≡ Some place → r.0 < length p.resources) → r.0 < length p.resources
+    by : (places : List Place) (o : Option Place) → slice_get places j ≡ o → j < length places
+        → ((place : Place) → slice_get places j ≡ Some place → r.0 < length p.resources) → r.0 < length p.resources
     by places (Some place) e l f = f place e
     by places None e l f = absurd (no places j l e)
       where
@@ -124,10 +147,14 @@ slot_of p x frame is j r h =
         no (y ∷ xs) zero l e = none-some y (sym e)
         no (y ∷ xs) (suc i) l e = no xs i (omega (arith, l)) e
 
-pub at_slot : (p : Parts) → AreWellMade p → (s : List Slot) → AreTold p s → (m : ℕ) → m < length s → AreOf (slot_at s m).given (length p.resources)
-at_slot p made s told m l = slot_of p (slot_at s m) (All-get_or (IsFrame p.events) s m no_slot l (frames p s made.first_meets told.whose)) (All-get_or (IsSlot p) s m no_slot l told.slots)
+pub at_slot : (p : Parts) → AreWellMade p → (s : List Slot) → AreTold p s → (m : ℕ) → m < length s
+    → AreOf (slot_at s m).given (length p.resources)
+at_slot p made s told m l = slot_of p (slot_at s m)
+    (All-get_or (IsFrame p.events) s m no_slot l (frames p s made.first_meets told.whose))
+    (All-get_or (IsSlot p) s m no_slot l told.slots)
 
-pub given_of : (p : Parts) → AreWellMade p → (s : List Slot) (c : Change) → AreTold p s → Fits p s c → AreOf (given_by (slot_at s (meet_of c)) c) (length p.resources)
+pub given_of : (p : Parts) → AreWellMade p → (s : List Slot) (c : Change) → AreTold p s → Fits p s c
+    → AreOf (given_by (slot_at s (meet_of c)) c) (length p.resources)
 given_of p made s (Add m d) told f = at_slot p made s told m.0 f.there
 given_of p made s (Drop m d) told f = at_slot p made s told m.0 f.there
 given_of p made s (PlaceAt m t) told f = at_slot p made s told m.0 f.there
@@ -139,11 +166,15 @@ given_of p made s (Give k r) told f = single
 
     own : r.0 < length p.resources
     own =
-        let a = at_slot p made (after s (Give k r)) f.told k.meet.0 (let z = length-set s k.meet.0 (changed x (Give k r)) in omega (arith, z, f.there)) in
-        a k.place r (ap (λ (y : Slot). slice_get y.given k.place) (get_or-set_same s k.meet.0 (changed x (Give k r)) no_slot f.there) ∙ set-there x.given k.place (Some r) None f.suits.2)
+        let a = at_slot p made (after s (Give k r)) f.told k.meet.0
+        (let z = length-set s k.meet.0 (changed x (Give k r)) in omega (arith, z, f.there)) in
+        a k.place r (ap (λ (y : Slot). slice_get y.given k.place)
+        (get_or-set_same s k.meet.0 (changed x (Give k r)) no_slot f.there)
+        ∙ set-there x.given k.place (Some r) None f.suits.2)
 
     single : AreOf (Some r ∷ []) (length p.resources)
-    single zero q e = subst (λ (y : ResourceId). y.0 < length p.resources) (same_Some r q (same_Some (Some r) (Some q) e)) own
+    single zero q e = subst (λ (y : ResourceId). y.0 < length p.resources)
+        (same_Some r q (same_Some (Some r) (Some q) e)) own
     single (suc j) q e = absurd (none-some (Some q) e)
 given_of p made s (Take k r) told f = single
   where
@@ -151,5 +182,6 @@ given_of p made s (Take k r) told f = single
     own = at_slot p made s told k.meet.0 f.there k.place r f.suits.2
 
     single : AreOf (Some r ∷ []) (length p.resources)
-    single zero q e = subst (λ (y : ResourceId). y.0 < length p.resources) (same_Some r q (same_Some (Some r) (Some q) e)) own
+    single zero q e = subst (λ (y : ResourceId). y.0 < length p.resources)
+        (same_Some r q (same_Some (Some r) (Some q) e)) own
     single (suc j) q e = absurd (none-some (Some q) e)

@@ -1,6 +1,7 @@
 -- The kinds that are measured by how many tasks of a resource run at each time, and the counts that
 -- they read: a row for each resource, with a count for each time.
-use Rattle.std.specs.Prelude.{ℕ, ◌≡◌, ◌<◌, ◌+◌, ◌-◌, ◌==◌, ◌&&◌, ◌||◌, not, nat_le, nat_lt, Bool, true, false, if◌then◌else◌, Option, List, length, slice_get, slice_index, count_by}
+use Rattle.std.specs.Prelude.{ℕ, ◌≡◌, ◌<◌, ◌+◌, ◌-◌, ◌==◌, ◌&&◌, ◌||◌, not, nat_le, nat_lt, Bool, true, false}
+use Rattle.std.specs.Prelude.{if◌then◌else◌, Option, List, length, slice_get, slice_index, count_by}
 use Rattle.std.specs.List.{range_with_len, list_any}
 use Rattle.std.specs.Option.{option_map_or}
 use Rattle.khe_base.specs.declared.numbers.ResourceId.{ResourceId}
@@ -94,4 +95,5 @@ pub record AreRaised (r start end : ℕ) (low high : List (List ℕ)) : Type 0 w
 
 -- each count is above another by as many places as are given the resource, in a run
 abbrev pub AreAbove : List (Option ResourceId) → ℕ → ℕ → (ℕ → ℕ → ℕ) → (ℕ → ℕ → ℕ) → Type 0
-AreAbove given start end low high = (q t : ℕ) → high q t ≡ low q t + (if in_run start end t then given_to q given else 0)
+AreAbove given start end low high = (q t : ℕ)
+    → high q t ≡ low q t + (if in_run start end t then given_to q given else 0)

@@ -13,7 +13,8 @@ use Rattle.resource_monitors.specs.Sets.{room_for}
 use Rattle.resource_monitors.specs.declared.posts.Post.{Post}
 
 -- a told state of the instance, its counts, the instance's sets of times and served monitors
-pub record IsFamily (served : Kind → Bool) (p : Parts) (s : List Slot) (rows : List (List ℕ)) (sets : List (List (List Bool))) (lists : List (List Post)) : Type 0 where
+pub record IsFamily (served : Kind → Bool) (p : Parts) (s : List Slot) (rows : List (List ℕ))
+    (sets : List (List (List Bool))) (lists : List (List Post)) : Type 0 where
   pub told : AreTold p s
   pub rows_all : HasRows p rows
   pub counts : (r t : ℕ) → count_at rows r t ≡ running_tasks (duties_in s) r t

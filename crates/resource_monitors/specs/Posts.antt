@@ -1,5 +1,6 @@
 -- The monitors that a family serves, for each resource.
-use Rattle.std.specs.Prelude.{ℕ, ◌≡◌, ◌<◌, ◌+◌, ◌&&◌, Bool, true, if◌then◌else◌, Option, Some, List, [], ◌∷◌, length, slice_get, slice_index_or, count_by}
+use Rattle.std.specs.Prelude.{ℕ, ◌≡◌, ◌<◌, ◌+◌, ◌&&◌, Bool, true, if◌then◌else◌, Option, Some, List, [], ◌∷◌, length}
+use Rattle.std.specs.Prelude.{slice_get, slice_index_or, count_by}
 use Rattle.std.specs.List.{sum_by}
 use Rattle.std.specs.Option.{option_map_or}
 use Rattle.khe_base.specs.declared.numbers.ResourceId.{ResourceId}
@@ -28,7 +29,8 @@ abbrev pub posts_of : (Kind → Bool) → List Monitor → ℕ → List Post
 posts_of served monitors r = posts_from (is_served_at served r) 0 monitors
 
 -- a list for each resource
-pub record AreLists (served : Kind → Bool) (resources : ℕ) (monitors : List Monitor) (lists : List (List Post)) : Type 0 where
+pub record AreLists (served : Kind → Bool) (resources : ℕ) (monitors : List Monitor) (lists : List (List Post)) : Type
+    0 where
   pub resources_all : length lists ≡ resources
   pub each : (r : ℕ) → r < resources → slice_index_or lists r [] ≡ posts_of served monitors r
 
@@ -42,18 +44,25 @@ ArePosts p list = (k : ℕ) (a : Post) → slice_get list k ≡ Some a → slice
 
 -- the first posts of a list that pass a test have their values, what was right is still right, and
 -- all other numbers are as they were
-pub record AreReported (p : Parts) (value : Monitor → ℕ) (test : Monitor → Bool) (list : List Post) (k : ℕ) (old new : List ℕ) : Type 0 where
+pub record AreReported (p : Parts) (value : Monitor → ℕ) (test : Monitor → Bool) (list : List Post) (k : ℕ)
+    (old new : List ℕ) : Type 0 where
   pub amount : length new ≡ length old
-  pub each : (j : ℕ) (a : Post) → j < k → slice_get list j ≡ Some a → test a.monitor ≡ true → slice_get new a.number.0 ≡ Some (value a.monitor)
-  pub kept : (i : ℕ) (m : Monitor) → slice_get p.monitors i ≡ Some m → slice_get old i ≡ Some (value m) → slice_get new i ≡ Some (value m)
-  pub others : (i : ℕ) → ((j : ℕ) (a : Post) → slice_get list j ≡ Some a → a.number.0 ≡ i → ⊥) → slice_get new i ≡ slice_get old i
+  pub each : (j : ℕ) (a : Post) → j < k → slice_get list j ≡ Some a → test a.monitor ≡ true
+      → slice_get new a.number.0 ≡ Some (value a.monitor)
+  pub kept : (i : ℕ) (m : Monitor) → slice_get p.monitors i ≡ Some m → slice_get old i ≡ Some (value m)
+      → slice_get new i ≡ Some (value m)
+  pub others : (i : ℕ) → ((j : ℕ) (a : Post) → slice_get list j ≡ Some a → a.number.0 ≡ i → ⊥)
+      → slice_get new i ≡ slice_get old i
 
 -- so have all that are at what the first places are given
-pub record AreAllReported (p : Parts) (served : Kind → Bool) (value : Monitor → ℕ) (test : Monitor → Bool) (given : List (Option ResourceId)) (k : ℕ) (old new : List ℕ) : Type 0 where
+pub record AreAllReported (p : Parts) (served : Kind → Bool) (value : Monitor → ℕ) (test : Monitor → Bool)
+    (given : List (Option ResourceId)) (k : ℕ) (old new : List ℕ) : Type 0 where
   pub amount : length new ≡ length old
-  pub each : (i : ℕ) (m : Monitor) (q : ResourceId) (j : ℕ) → j < k → slice_get given j ≡ Some (Some q) → slice_get p.monitors i ≡ Some m → served m.kind ≡ true → m.point ≡ Resource q → test m ≡ true
+  pub each : (i : ℕ) (m : Monitor) (q : ResourceId) (j : ℕ) → j < k → slice_get given j ≡ Some (Some q)
+      → slice_get p.monitors i ≡ Some m → served m.kind ≡ true → m.point ≡ Resource q → test m ≡ true
       → slice_get new i ≡ Some (value m)
-  pub kept : (i : ℕ) (m : Monitor) → slice_get p.monitors i ≡ Some m → slice_get old i ≡ Some (value m) → slice_get new i ≡ Some (value m)
+  pub kept : (i : ℕ) (m : Monitor) → slice_get p.monitors i ≡ Some m → slice_get old i ≡ Some (value m)
+      → slice_get new i ≡ Some (value m)
   pub others : KeepsOthers p served old new
 
 -- how many posts pass a test, and those of what a place is given

@@ -12,7 +12,8 @@ use Rattle.resource_monitors.specs.Cells.{AreAbove}
 use Rattle.resource_monitors.specs.declared.runs.Run.{Run}
 
 abbrev pub run_from : Option TimeId → Option Span → Bool → Option Run
-run_from start span rises = option_and_then (λ (y : Span). option_map (λ (t : TimeId). record { start = t.0; end = t.0 + y.duration; rises = rises }) start) span
+run_from start span rises = option_and_then (λ (y : Span). option_map
+    (λ (t : TimeId). record { start = t.0; end = t.0 + y.duration; rises = rises }) start) span
 
 -- the times of the meet, where it has a start before or after
 abbrev pub run_of : Slot → Change → Option Run

@@ -1,6 +1,7 @@
 -- What a script plays on: a state, and the whole states that were saved at the open marks. Each command
 -- makes of it what the tables of edits and marks say.
-use Rattle.std.specs.Prelude.{ℕ, ◌-◌, ◌==◌, nat_lt, ◌||◌, Bool, true, false, if◌then◌else◌, Option, Some, None, List, [], ◌∷◌, drop, length, map}
+use Rattle.std.specs.Prelude.{ℕ, ◌-◌, ◌==◌, nat_lt, ◌||◌, Bool, true, false, if◌then◌else◌, Option, Some, None, List}
+use Rattle.std.specs.Prelude.{[], ◌∷◌, drop, length, map}
 use Rattle.std.specs.Option.{option_map_or}
 use Rattle.khe_base.specs.declared.limits.TheConstants.{MARKS}
 use Rattle.khe_instance.specs.declared.parts.Parts.{Parts}

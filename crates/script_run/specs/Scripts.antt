@@ -18,7 +18,8 @@ by_reading (Err fault) go stop = stop fault
 
 abbrev pub answers : Parts → Play → ℕ → List (List ℕ) → List ℕ
 answers p w number [] = []
-answers p w number (line ∷ more) = by_reading (reading line) (λ c. answer p w c ++ answers p (played p w c) (number + 1) more) (fault_line number)
+answers p w number (line ∷ more) = by_reading (reading line)
+    (λ c. answer p w c ++ answers p (played p w c) (number + 1) more) (fault_line number)
 
 -- the answers that are left after a line with this reading
 abbrev pub answers_after : Parts → Play → ℕ → Result Command LineFault → List (List ℕ) → List ℕ

@@ -1,5 +1,6 @@
 -- The resources that may have a task in a monitor's role, as they are found.
-use Rattle.std.proofs.Common.{ℕ, ◌≡◌, ◌≤◌, ◌<◌, ◌∙◌, ◌||◌, ◌⊎◌, inl, inr, suc, Bool, true, Option, Some, None, List, [], ◌∷◌, length, slice_get, refl, sym, ap, arith}
+use Rattle.std.proofs.Common.{ℕ, ◌≡◌, ◌≤◌, ◌<◌, ◌∙◌, ◌||◌, ◌⊎◌, inl, inr, suc, Bool, true, Option, Some, None, List, []}
+use Rattle.std.proofs.Common.{◌∷◌, length, slice_get, refl, sym, ap, arith}
 use Rattle.std.specs.Option.{option_map}
 use Rattle.std.proofs.lemmas.Bool.{cases_eq, ne_eqb, true≢false}
 use Rattle.std.proofs.lemmas.Option.{none-some, same_Some, slice_get_within}
@@ -14,7 +15,8 @@ use Rattle.event_monitors.specs.Reports.{has}
 use Rattle.set_monitors.specs.AvoidSplitAssignments.{AreCandidates, CanHold, IsListed, wants}
 use Rattle.set_monitors.specs.Candidates.{AreTyped, HasTypes, HasTypesOf}
 
-pub are_candidates : (p : Parts) (m : Monitor) (types : List Bool) (numbers : List ℕ) → HasTypes p m types → AreTyped p types (length p.resources) numbers → AreCandidates p m numbers
+pub are_candidates : (p : Parts) (m : Monitor) (types : List Bool) (numbers : List ℕ) → HasTypes p m types
+    → AreTyped p types (length p.resources) numbers → AreCandidates p m numbers
 are_candidates p m types numbers has are = record {
   ascending = are.ascending;
   known = λ r can. of r can;
@@ -24,11 +26,13 @@ are_candidates p m types numbers has are = record {
     of : (r : ℕ) → CanHold p m r → IsListed numbers r
     of r can = typed_of (slice_get p.resources r) refl can.typed
       where
-        typed_of : (o : Option ResourceInfo) → slice_get p.resources r ≡ o → option_map (λ (x : ResourceInfo). x.rtype) o ≡ Some can.place.rtype → IsListed numbers r
+        typed_of : (o : Option ResourceInfo) → slice_get p.resources r ≡ o
+            → option_map (λ (x : ResourceInfo). x.rtype) o ≡ Some can.place.rtype → IsListed numbers r
         typed_of None at t = absurd (none-some can.place.rtype t)
         typed_of (Some x) at t =
             are.known r x (slice_get_within p.resources r x at) at
-            (ap (has_member types) (same_Some x.rtype can.place.rtype t) ∙ has can.e can.named can.event can.k can.place can.there can.placed can.role)
+            (ap (has_member types) (same_Some x.rtype can.place.rtype t)
+            ∙ has can.e can.named can.event can.k can.place can.there can.placed can.role)
 
 -- halves: the number that is sought stands from `low` to `end`
 pub record IsSought (numbers : List ℕ) (number low end : ℕ) : Type 0 where
@@ -39,7 +43,8 @@ pub record IsSought (numbers : List ℕ) (number low end : ℕ) : Type 0 where
 pub record AreAdding (size : ℕ) (rule : Rule) (places : List Place) (old types : List Bool) (i : ℕ) : Type 0 where
   pub size_is : length types ≡ size
   pub grown : (t : ℕ) → has_member old t ≡ true → has_member types t ≡ true
-  pub added : (k : ℕ) (q : Place) → k < i → slice_get places k ≡ Some q → wants rule q.role ≡ true → has_member types q.rtype ≡ true
+  pub added : (k : ℕ) (q : Place) → k < i → slice_get places k ≡ Some q → wants rule q.role ≡ true
+      → has_member types q.rtype ≡ true
 
 -- while they are added for one event after the other
 pub record AreFound (p : Parts) (m : Monitor) (events : List ℕ) (types : List Bool) (i : ℕ) : Type 0 where
@@ -54,8 +59,10 @@ listed_of (x ∷ list) e h = by (cases_eq x e) (λ is. listed_of list e is)
     by (inl z) rest = (0, ap Some z)
     by (inr n) rest = let at = rest (sym (ap (λ b. b || has list e) (ne_eqb x e n)) ∙ h) in (suc at.0, at.1)
 
-pub found_all : (p : Parts) (m : Monitor) (events : List ℕ) (types : List Bool) (i : ℕ) → AreFound p m events types i → length events ≤ i → ((e : ℕ) → e < length p.events → has events e ≡ names p e m) → HasTypes p m types
+pub found_all : (p : Parts) (m : Monitor) (events : List ℕ) (types : List Bool) (i : ℕ) → AreFound p m events types i
+    → length events ≤ i → ((e : ℕ) → e < length p.events → has events e ≡ names p e m) → HasTypes p m types
 found_all p m events types i are past named e is event k place at placed role =
     let l : e < length p.events = slice_get_within p.events e event at in
     let listed = listed_of events e (named e l ∙ is) in
-    are.found listed.0 e (let a = slice_get_within events listed.0 e listed.1 in omega (arith, a, past)) listed.1 event k place at placed role
+    are.found listed.0 e (let a = slice_get_within events listed.0 e listed.1 in omega (arith, a, past)) listed.1 event
+    k place at placed role

@@ -1,6 +1,8 @@
 -- Avoid Split Assignments: how many tasks in the role each resource has among a monitor's events, and
 -- how many resources have some.
-use Rattle.std.proofs.Common.{ℕ, ◌≡◌, ◌≤◌, ◌<◌, ◌+◌, ◌-◌, ◌==◌, ◌∙◌, ◌&&◌, ◌||◌, Bool, true, false, cond, Option, Some, None, is_some, is_none, List, [], ◌∷◌, set, length, slice_get, refl, sym, ap, subst, arith, sum_by, count_by, filter, zero-add, ltb}
+use Rattle.std.proofs.Common.{ℕ, ◌≡◌, ◌≤◌, ◌<◌, ◌+◌, ◌-◌, ◌==◌, ◌∙◌, ◌&&◌, ◌||◌, Bool, true, false, cond, Option, Some}
+use Rattle.std.proofs.Common.{None, is_some, is_none, List, [], ◌∷◌, set, length, slice_get, refl, sym, ap, subst}
+use Rattle.std.proofs.Common.{arith, sum_by, count_by, filter, zero-add, ltb}
 use Rattle.std.specs.List.{list_any, range_with_len}
 use Rattle.std.specs.Option.{option_map_or}
 use Rattle.std.proofs.lemmas.Bool.{lt-ltb}
@@ -22,7 +24,8 @@ use Rattle.khe_instance.specs.declared.parts.Parts.{Parts}
 use Rattle.khe_instance.specs.declared.parts.Place.{Place}
 use Rattle.khe_instance.specs.declared.points.Monitor.{Monitor}
 use Rattle.khe_instance.specs.declared.points.Point.{Point}
-use Rattle.khe_instance.specs.declared.points.Point.TheVariants.{Event, EventResource, EventGroup, EventPair as Pair, Resource}
+use Rattle.khe_instance.specs.declared.points.Point.TheVariants.{Event, EventResource, EventGroup, EventPair as Pair}
+use Rattle.khe_instance.specs.declared.points.Point.TheVariants.{Resource}
 use Rattle.khe_instance.specs.declared.rules.Constraint.{Constraint}
 use Rattle.khe_instance.specs.declared.rules.Kind.TheVariants as kind
 use Rattle.khe_instance.specs.declared.rules.Rule.{Rule}
@@ -146,10 +149,12 @@ pub record IsShared (p : Parts) (m : Monitor) (s : List Slot) (numbers row : Lis
 any : (p q : Duty → Bool) (ds : List Duty) → list_any p (filter q ds) ≡ ltb 0 (sum_by (λ d. cond (q d && p d) 1 0) ds)
 any p q [] = refl
 any p q (d ∷ ds) =
-    first (q d) (filter q ds) ∙ by (q d) (p d) (list_any p (filter q ds)) (sum_by (λ d. cond (q d && p d) 1 0) ds) (any p q ds)
+    first (q d) (filter q ds) ∙ by (q d) (p d) (list_any p (filter q ds)) (sum_by (λ d. cond (q d && p d) 1 0) ds)
+    (any p q ds)
     ∙ ap (ltb 0) (sym (sum_by-cons (λ d. cond (q d && p d) 1 0) d ds))
   where
-    first : (a : Bool) (xs : List Duty) → list_any p (cond a (d ∷ xs) xs) ≡ cond a (p d || list_any p xs) (list_any p xs)
+    first : (a : Bool) (xs : List Duty) → list_any p (cond a (d ∷ xs) xs)
+        ≡ cond a (p d || list_any p xs) (list_any p xs)
     first true xs = refl
     first false xs = refl
 
@@ -158,7 +163,8 @@ any p q (d ∷ ds) =
     by true false c n h = h ∙ ap (ltb 0) (sym (zero-add n))
     by false b c n h = h ∙ ap (ltb 0) (sym (zero-add n))
 
-sum_of_parts : (f g h : Slot → ℕ) (s : List Slot) → ((x : Slot) → f x ≡ g x + h x) → sum_by f s ≡ sum_by g s + sum_by h s
+sum_of_parts : (f g h : Slot → ℕ) (s : List Slot) → ((x : Slot) → f x ≡ g x + h x)
+    → sum_by f s ≡ sum_by g s + sum_by h s
 sum_of_parts f g h [] each = refl
 sum_of_parts f g h (x ∷ s) each =
     let a = sum_by-cons f x s in
@@ -183,7 +189,8 @@ module _ (own : ℕ → Bool) (has : ℕ → ℕ → Bool) (r : ℕ) where
   none true = refl
   none false = refl
 
-  of_given : (m : Meet) (start : ℕ) (given : List (Option ResourceId)) → sum_by mine (duties_with m start given) ≡ cond (own m.event.0) (given_from (has m.event.0) r start given) 0
+  of_given : (m : Meet) (start : ℕ) (given : List (Option ResourceId))
+      → sum_by mine (duties_with m start given) ≡ cond (own m.event.0) (given_from (has m.event.0) r start given) 0
   of_given m start [] = none (own m.event.0)
   of_given m start (o ∷ given) =
       sum_by-cons mine (record { meet = m; place = start; resource = o }) (duties_with m (start + 1) given)
@@ -197,20 +204,25 @@ module _ (own : ℕ → Bool) (has : ℕ → ℕ → Bool) (r : ℕ) where
   of_slots : (s : List Slot) → sum_by mine (duties_in s) ≡ sum_by live s
   of_slots [] = refl
   of_slots (x ∷ s) =
-      sum_by-append mine (duties_of x) (duties_in s) ∙ ap (λ n. n + sum_by mine (duties_in s)) (one x.span) ∙ ap (λ n. live x + n) (of_slots s)
+      sum_by-append mine (duties_of x) (duties_in s) ∙ ap (λ n. n + sum_by mine (duties_in s)) (one x.span)
+      ∙ ap (λ n. live x + n) (of_slots s)
       ∙ sym (sum_by-cons live x s)
     where
       one : (o : Option Span) → sum_by mine (duties_of (record x { span = o })) ≡ live (record x { span = o })
       one None = none (own x.event.0)
-      one (Some y) = of_given (record { meet = x.meet; event = x.event; duration = y.duration; start = y.start }) 0 x.given
+      one (Some y) = of_given (record { meet = x.meet; event = x.event; duration = y.duration; start = y.start }) 0
+          x.given
 
-  parts : (b : Bool) (o : Option Span) (n : ℕ) → cond b n 0 ≡ cond b (cond (is_some o) n 0) 0 + cond b (cond (is_none o) n 0) 0
+  parts : (b : Bool) (o : Option Span) (n : ℕ) → cond b n 0
+      ≡ cond b (cond (is_some o) n 0) 0 + cond b (cond (is_none o) n 0) 0
   parts false o n = refl
   parts true None n = sym (zero-add n)
   parts true (Some y) n = omega arith
 
-  some_have : (s : List Slot) → sum_by (λ (x : Slot). cond (own x.event.0) (cond (is_none x.span) (given_from (has x.event.0) r 0 x.given) 0) 0) s ≡ 0
-      → list_any (λ (d : Duty). is_resource r d.resource) (filter is_there (duties_in s)) ≡ ltb 0 (sum_by (λ (x : Slot). cond (own x.event.0) (given_from (has x.event.0) r 0 x.given) 0) s)
+  some_have : (s : List Slot) → sum_by (λ (x : Slot). cond (own x.event.0)
+      (cond (is_none x.span) (given_from (has x.event.0) r 0 x.given) 0) 0) s ≡ 0
+      → list_any (λ (d : Duty). is_resource r d.resource) (filter is_there (duties_in s))
+      ≡ ltb 0 (sum_by (λ (x : Slot). cond (own x.event.0) (given_from (has x.event.0) r 0 x.given) 0) s)
   some_have s free =
       any (λ (d : Duty). is_resource r d.resource) is_there (duties_in s)
       ∙ ap (ltb 0) (of_slots s ∙ all)
@@ -224,21 +236,33 @@ module _ (own : ℕ → Bool) (has : ℕ → ℕ → Bool) (r : ℕ) where
 
 -- the deviation by a rule and a point
 abbrev has_at : Parts → Rule → Point → List Slot → ℕ → Bool
-has_at p r point s q = list_any (λ (d : Duty). is_resource q d.resource) (filter (λ (d : Duty). names_event p r point d.meet.event.0 && wants r (role_at p.events d.meet.event.0 d.place)) (duties_in s))
+has_at p r point s q = list_any (λ (d : Duty). is_resource q d.resource)
+    (filter (λ (d : Duty). names_event p r point d.meet.event.0 && wants r (role_at p.events d.meet.event.0 d.place))
+    (duties_in s))
 
 abbrev SameAt : Parts → List Slot → List ℕ → Option GroupInfo → Type 0
 SameAt p s role o =
-    option_map_or (λ (group : GroupInfo). count_by (λ q. list_any (λ (d : Duty). is_resource q d.resource) (filter (λ (d : Duty). has_member group.events d.meet.event.0 && is_role role (role_at p.events d.meet.event.0 d.place)) (duties_in s))) (range_with_len 0 (length p.resources)) - 1) o 0
-    ≡ count_by (λ q. list_any (λ (d : Duty). is_resource q d.resource) (filter (λ (d : Duty). option_map_or (λ (group : GroupInfo). has_member group.events d.meet.event.0) o false && is_role role (role_at p.events d.meet.event.0 d.place)) (duties_in s))) (range_with_len 0 (length p.resources)) - 1
+    option_map_or (λ (group : GroupInfo). count_by
+    (λ q. list_any (λ (d : Duty). is_resource q d.resource)
+    (filter (λ (d : Duty). has_member group.events d.meet.event.0 && is_role role
+    (role_at p.events d.meet.event.0 d.place)) (duties_in s))) (range_with_len 0 (length p.resources)) - 1) o 0
+    ≡ count_by (λ q. list_any (λ (d : Duty). is_resource q d.resource)
+    (filter (λ (d : Duty). option_map_or (λ (group : GroupInfo). has_member group.events d.meet.event.0) o
+    false && is_role role (role_at p.events d.meet.event.0 d.place)) (duties_in s)))
+    (range_with_len 0 (length p.resources)) - 1
 
-shared_at : (p : Parts) (s : List Slot) (r : Rule) (point : Point) → is_kind (kind_of r) kind.AvoidSplitAssignments ≡ true → IsPointOf p r point
-    → deviation_at p (meets_in s) (duties_in s) r point ≡ count_by (has_at p r point s) (range_with_len 0 (length p.resources)) - 1
+shared_at : (p : Parts) (s : List Slot) (r : Rule) (point : Point)
+    → is_kind (kind_of r) kind.AvoidSplitAssignments ≡ true → IsPointOf p r point
+    → deviation_at p (meets_in s) (duties_in s) r point
+    ≡ count_by (has_at p r point s) (range_with_len 0 (length p.resources)) - 1
 shared_at p s r point k i =
     let of = rule_of_kind kind.AvoidSplitAssignments r k in
-    subst (λ q. IsPointOf p q point → deviation_at p (meets_in s) (duties_in s) q point ≡ count_by (has_at p q point s) (range_with_len 0 (length p.resources)) - 1) (sym of.1) (at of.0 point) i
+    subst (λ q. IsPointOf p q point → deviation_at p (meets_in s) (duties_in s) q point
+    ≡ count_by (has_at p q point s) (range_with_len 0 (length p.resources)) - 1) (sym of.1) (at of.0 point) i
   where
     at : (role : List ℕ) (point : Point) → IsPointOf p (AvoidSplitAssignments role) point
-        → deviation_at p (meets_in s) (duties_in s) (AvoidSplitAssignments role) point ≡ count_by (has_at p (AvoidSplitAssignments role) point s) (range_with_len 0 (length p.resources)) - 1
+        → deviation_at p (meets_in s) (duties_in s) (AvoidSplitAssignments role) point
+        ≡ count_by (has_at p (AvoidSplitAssignments role) point s) (range_with_len 0 (length p.resources)) - 1
     at role (Event e) i = absurd i
     at role (EventResource e k) i = absurd i
     at role (EventGroup g) i = let t = there p.groups g i in by (slice_get p.groups g) t.value t.found
@@ -249,10 +273,13 @@ shared_at p s r point k i =
     at role (Resource g) i = absurd i
 
 -- what is read is the definition's deviation
-pub shared_exact : (p : Parts) (m : Monitor) (s : List Slot) (numbers counts : List ℕ) (above : ℕ) → IsShared p m s numbers counts above → deviation_in p s m ≡ above - 1
+pub shared_exact : (p : Parts) (m : Monitor) (s : List Slot) (numbers counts : List ℕ) (above : ℕ)
+    → IsShared p m s numbers counts above → deviation_in p s m ≡ above - 1
 shared_exact p m s numbers counts above k =
-    ap (λ o. option_map_or (λ (c : Constraint). deviation_at p (meets_in s) (duties_in s) c.rule m.point) o 0) k.monitor.1
-    ∙ shared_at p s k.monitor.0.rule m.point (ap (λ a. is_kind a kind.AvoidSplitAssignments) (sym k.monitor.2) ∙ k.serves) k.monitor.3
+    ap (λ o. option_map_or (λ (c : Constraint). deviation_at p (meets_in s) (duties_in s) c.rule m.point) o 0)
+    k.monitor.1
+    ∙ shared_at p s k.monitor.0.rule m.point (ap (λ a. is_kind a kind.AvoidSplitAssignments) (sym k.monitor.2)
+    ∙ k.serves) k.monitor.3
     ∙ (λ j. count_by (λ q. has q j) (range_with_len 0 (length p.resources)) - 1)
     ∙ sym (ap (λ (n : ℕ). n - 1) k.above)
   where
@@ -260,16 +287,20 @@ shared_exact p m s numbers counts above k =
     named e = sym (ap (λ o. option_map_or (λ (c : Constraint). names_event p c.rule m.point e) o false) k.monitor.1)
 
     roles : (e place : ℕ) → wants k.monitor.0.rule (role_at p.events e place) ≡ in_role p m e place
-    roles e place = sym (ap (λ o. option_map_or (λ (c : Constraint). wants c.rule (role_at p.events e place)) o false) k.monitor.1)
+    roles e place = sym (ap (λ o. option_map_or (λ (c : Constraint). wants c.rule (role_at p.events e place)) o false)
+        k.monitor.1)
 
     has : (q : ℕ) → has_at p k.monitor.0.rule m.point s q ≡ ltb 0 (held p m s q)
     has q =
-        (λ j. list_any (λ (d : Duty). is_resource q d.resource) (filter (λ (d : Duty). named d.meet.event.0 j && roles d.meet.event.0 d.place j) (duties_in s)))
+        (λ j. list_any (λ (d : Duty). is_resource q d.resource)
+        (filter (λ (d : Duty). named d.meet.event.0 j && roles d.meet.event.0 d.place j) (duties_in s)))
         ∙ some_have (λ e. names p e m) (in_role p m) q s (k.free q)
 
 -- a change of a slot of another event leaves all that is kept
-pub shared_elsewhere : (p : Parts) (m : Monitor) (s : List Slot) (k : ℕ) (x : Slot) (numbers counts : List ℕ) (above : ℕ) → k < length s → emptied x ≡ emptied (slot_at s k)
-    → names p (slot_at s k).event.0 m ≡ false → IsShared p m s numbers counts above → IsShared p m (set s k x) numbers counts above
+pub shared_elsewhere : (p : Parts) (m : Monitor) (s : List Slot) (k : ℕ) (x : Slot) (numbers counts : List ℕ)
+    (above : ℕ) → k < length s → emptied x ≡ emptied (slot_at s k)
+    → names p (slot_at s k).event.0 m ≡ false → IsShared p m s numbers counts above
+    → IsShared p m (set s k x) numbers counts above
 shared_elsewhere p m s k x numbers counts above l same named kept = record {
   monitor = kept.monitor;
   serves = kept.serves;
@@ -277,7 +308,8 @@ shared_elsewhere p m s k x numbers counts above l same named kept = record {
   amount = kept.amount;
   counts = λ i r h. kept.counts i r h ∙ ap Some (sym (is r));
   others = λ r h. kept.others r (let a = is r in omega (arith, a, h));
-  free = λ r. sum_elsewhere p m (λ (y : Slot). cond (is_none y.span) (given_in p m r y) 0) s k x l same named ∙ kept.free r;
+  free = λ r. sum_elsewhere p m (λ (y : Slot). cond (is_none y.span) (given_in p m r y) 0) s k x l same named
+      ∙ kept.free r;
   few = λ r. let a = kept.few r in let b = is r in omega (arith, a, b);
   above = kept.above ∙ sym (λ j. holders p (λ r. is r j));
 }

@@ -11,7 +11,8 @@ use Rattle.set_monitors.specs.AvoidSplitAssignments.{AreAscending, IsListed, in_
 
 -- the types of an event's places in the role are among these
 abbrev pub HasTypesOf : Parts → Monitor → ℕ → List Bool → Type 0
-HasTypesOf p m e types = (event : EventInfo) (k : ℕ) (place : Place) → slice_get p.events e ≡ Some event → slice_get event.places k ≡ Some place → in_role p m e k ≡ true
+HasTypesOf p m e types = (event : EventInfo) (k : ℕ) (place : Place) → slice_get p.events e ≡ Some event
+    → slice_get event.places k ≡ Some place → in_role p m e k ≡ true
     → has_member types place.rtype ≡ true
 
 -- and so for each of a monitor's events
@@ -22,4 +23,5 @@ HasTypes p m types = (e : ℕ) → names p e m ≡ true → HasTypesOf p m e typ
 pub record AreTyped (p : Parts) (types : List Bool) (n : ℕ) (numbers : List ℕ) : Type 0 where
   pub ascending : AreAscending numbers
   pub within : (k r : ℕ) → slice_get numbers k ≡ Some r → r < n
-  pub known : (r : ℕ) (x : ResourceInfo) → r < n → slice_get p.resources r ≡ Some x → has_member types x.rtype ≡ true → IsListed numbers r
+  pub known : (r : ℕ) (x : ResourceInfo) → r < n → slice_get p.resources r ≡ Some x → has_member types x.rtype ≡ true
+      → IsListed numbers r

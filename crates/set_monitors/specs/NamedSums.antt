@@ -1,5 +1,6 @@
 -- Sums over the slots of the events that a monitor names.
-use Rattle.std.proofs.Common.{ℕ, ◌≡◌, ◌<◌, ◌+◌, ◌∙◌, Bool, true, false, cond, List, [], ◌∷◌, map, set, length, refl, ap, arith, sum_by}
+use Rattle.std.proofs.Common.{ℕ, ◌≡◌, ◌<◌, ◌+◌, ◌∙◌, Bool, true, false, cond, List, [], ◌∷◌, map, set, length, refl, ap}
+use Rattle.std.proofs.Common.{arith, sum_by}
 use Rattle.std.specs.List.{range_with_len}
 use Rattle.std.proofs.lemmas.List.Sums.{sum_by-append, sum_by-cons, sum_by-set}
 use Rattle.khe_instance.specs.declared.parts.EventInfo.{EventInfo}
@@ -18,7 +19,8 @@ named_sum p m f s = sum_by (named_part p m f) s
 
 module _ (p : Parts) (m : Monitor) (f : Slot → ℕ) where
   -- a change of another event's slot leaves the sum
-  pub sum_elsewhere : (s : List Slot) (k : ℕ) (x : Slot) → k < length s → emptied x ≡ emptied (slot_at s k) → names p (slot_at s k).event.0 m ≡ false
+  pub sum_elsewhere : (s : List Slot) (k : ℕ) (x : Slot) → k < length s → emptied x ≡ emptied (slot_at s k)
+      → names p (slot_at s k).event.0 m ≡ false
       → named_sum p m f (set s k x) ≡ named_sum p m f s
   sum_elsewhere s k x l same named =
       let a = sum_by-set (named_part p m f) s k x no_slot l in
@@ -28,7 +30,8 @@ module _ (p : Parts) (m : Monitor) (f : Slot → ℕ) where
       omega (arith, a, old, new)
 
   -- one of its own changes the sum by the slot's part
-  pub sum_turned : (s : List Slot) (k : ℕ) (x : Slot) → k < length s → x.event.0 ≡ (slot_at s k).event.0 → names p (slot_at s k).event.0 m ≡ true
+  pub sum_turned : (s : List Slot) (k : ℕ) (x : Slot) → k < length s → x.event.0 ≡ (slot_at s k).event.0
+      → names p (slot_at s k).event.0 m ≡ true
       → named_sum p m f (set s k x) + f (slot_at s k) ≡ named_sum p m f s + f x
   sum_turned s k x l e named =
       let a = sum_by-set (named_part p m f) s k x no_slot l in
@@ -45,7 +48,8 @@ module _ (p : Parts) (m : Monitor) (f : Slot → ℕ) where
       of_event e event (k ∷ ks) =
           let a = sum_by-cons (named_part p m f) (empty_slot k e event) (map (λ k. empty_slot k e event) ks) in
           let b = of_event e event ks in
-          let c : named_part p m f (empty_slot k e event) ≡ 0 = by (names p e m) (f (empty_slot k e event)) (free k e event) in
+          let c : named_part p m f (empty_slot k e event) ≡ 0 =
+          by (names p e m) (f (empty_slot k e event)) (free k e event) in
           omega (arith, a, b, c)
         where
           by : (b : Bool) (n : ℕ) → n ≡ 0 → cond b n 0 ≡ 0

@@ -1,6 +1,7 @@
 -- Spread Events: how many meets of a monitor's events start in each listed time group, and by how
 -- many these are too few or too many.
-use Rattle.std.proofs.Common.{ℕ, ◌≡◌, ◌≤◌, ◌<◌, ◌+◌, ◌-◌, ◌∙◌, ◌&&◌, Bool, true, false, cond, Option, Some, None, List, [], ◌∷◌, set, length, slice_get, refl, sym, ap, subst, arith, sum_by, count_by}
+use Rattle.std.proofs.Common.{ℕ, ◌≡◌, ◌≤◌, ◌<◌, ◌+◌, ◌-◌, ◌∙◌, ◌&&◌, Bool, true, false, cond, Option, Some, None, List}
+use Rattle.std.proofs.Common.{[], ◌∷◌, set, length, slice_get, refl, sym, ap, subst, arith, sum_by, count_by}
 use Rattle.std.specs.Option.{option_map_or}
 use Rattle.std.proofs.lemmas.List.Sums.{sum_by-cons}
 use Rattle.std.proofs.Common.{zero-add}
@@ -19,7 +20,8 @@ use Rattle.khe_instance.specs.declared.parts.GroupInfo.{GroupInfo}
 use Rattle.khe_instance.specs.declared.parts.Parts.{Parts}
 use Rattle.khe_instance.specs.declared.points.Monitor.{Monitor}
 use Rattle.khe_instance.specs.declared.points.Point.{Point}
-use Rattle.khe_instance.specs.declared.points.Point.TheVariants.{Event, EventResource, EventGroup, EventPair as Pair, Resource}
+use Rattle.khe_instance.specs.declared.points.Point.TheVariants.{Event, EventResource, EventGroup, EventPair as Pair}
+use Rattle.khe_instance.specs.declared.points.Point.TheVariants.{Resource}
 use Rattle.khe_instance.specs.declared.rules.Constraint.{Constraint}
 use Rattle.khe_instance.specs.declared.rules.Kind.TheVariants as kind
 use Rattle.khe_instance.specs.declared.rules.Rule.{Rule}
@@ -107,52 +109,71 @@ module _ (group times : List Bool) where
       both true c = refl
       both false c = refl
 
-      by : (o : Option Span) → count_by is_in (meets_in (record x { span = o } ∷ s)) ≡ of_slot (record x { span = o }) + count_by is_in (meets_in s)
+      by : (o : Option Span) → count_by is_in (meets_in (record x { span = o } ∷ s))
+          ≡ of_slot (record x { span = o }) + count_by is_in (meets_in s)
       by None = none (has_member group x.event.0) (count_by is_in (meets_in s))
       by (Some y) =
-          sum_by-cons (λ m. cond (is_in m) 1 0) (record { meet = x.meet; event = x.event; duration = y.duration; start = y.start }) (meets_in s)
+          sum_by-cons (λ m. cond (is_in m) 1 0) (record
+          { meet = x.meet; event = x.event; duration = y.duration; start = y.start }) (meets_in s)
           ∙ ap (λ n. n + count_by is_in (meets_in s)) (both (has_member group x.event.0) (starts_in times y.start))
 
 -- the deviation by a rule and a point
 abbrev started_at : Parts → Rule → Point → List Slot → List Bool → ℕ
-started_at p r point s times = sum_by (λ x. cond (names_event p r point x.event.0) (span_share (one_in times) x.span) 0) s
+started_at p r point s times = sum_by (λ x. cond (names_event p r point x.event.0) (span_share (one_in times) x.span) 0)
+    s
 
-spread_at : (p : Parts) (s : List Slot) (r : Rule) (point : Point) → is_kind (kind_of r) kind.SpreadEvents ≡ true → IsPointOf p r point
+spread_at : (p : Parts) (s : List Slot) (r : Rule) (point : Point) → is_kind (kind_of r) kind.SpreadEvents ≡ true
+    → IsPointOf p r point
     → deviation_at p (meets_in s) (duties_in s) r point ≡ spread_by (started_at p r point s) (spreads_in r)
 spread_at p s r point k i =
     let of = rule_of_kind kind.SpreadEvents r k in
-    subst (λ q. IsPointOf p q point → deviation_at p (meets_in s) (duties_in s) q point ≡ spread_by (started_at p q point s) (spreads_in q)) (sym of.1) (at of.0 point) i
+    subst (λ q. IsPointOf p q point → deviation_at p (meets_in s) (duties_in s) q point
+    ≡ spread_by (started_at p q point s) (spreads_in q)) (sym of.1) (at of.0 point) i
   where
     at : (spreads : List Spread) (point : Point) → IsPointOf p (SpreadEvents spreads) point
-        → deviation_at p (meets_in s) (duties_in s) (SpreadEvents spreads) point ≡ spread_by (started_at p (SpreadEvents spreads) point s) spreads
+        → deviation_at p (meets_in s) (duties_in s) (SpreadEvents spreads) point
+        ≡ spread_by (started_at p (SpreadEvents spreads) point s) spreads
     at spreads (Event e) i = absurd i
     at spreads (EventResource e k) i = absurd i
     at spreads (EventGroup g) i = let t = there p.groups g i in by (slice_get p.groups g) t.value t.found
       where
         by : (o : Option GroupInfo) (group : GroupInfo) → o ≡ Some group
-            → option_map_or (λ (group : GroupInfo). sum_by (λ (q : Spread). count_outside (count_by (is_in group.events q.group) (meets_in s)) q.min q.max) spreads) o 0
-            ≡ spread_by (λ times. sum_by (λ (x : Slot). cond (option_map_or (λ (group : GroupInfo). has_member group.events x.event.0) o false) (span_share (one_in times) x.span) 0) s) spreads
+            → option_map_or (λ (group : GroupInfo). sum_by
+            (λ (q : Spread). count_outside (count_by (is_in group.events q.group) (meets_in s)) q.min q.max)
+            spreads) o 0
+            ≡ spread_by (λ times. sum_by (λ (x : Slot). cond
+            (option_map_or (λ (group : GroupInfo). has_member group.events x.event.0) o false)
+            (span_share (one_in times) x.span) 0) s) spreads
         by o group is =
-            subst (λ o. option_map_or (λ (group : GroupInfo). sum_by (λ (q : Spread). count_outside (count_by (is_in group.events q.group) (meets_in s)) q.min q.max) spreads) o 0
-            ≡ spread_by (λ times. sum_by (λ (x : Slot). cond (option_map_or (λ (group : GroupInfo). has_member group.events x.event.0) o false) (span_share (one_in times) x.span) 0) s) spreads)
+            subst (λ o. option_map_or (λ (group : GroupInfo). sum_by
+            (λ (q : Spread). count_outside (count_by (is_in group.events q.group) (meets_in s)) q.min q.max)
+            spreads) o 0
+            ≡ spread_by (λ times. sum_by (λ (x : Slot). cond
+            (option_map_or (λ (group : GroupInfo). has_member group.events x.event.0) o false)
+            (span_share (one_in times) x.span) 0) s) spreads)
             (sym is) (λ j. spread_by (λ times. starting group.events times s j) spreads)
     at spreads (Pair g) i = absurd i
     at spreads (Resource g) i = absurd i
 
 -- what is read is the definition's deviation
-pub spread_exact : (p : Parts) (m : Monitor) (s : List Slot) (counts : List ℕ) (outside : ℕ) → IsSpread p m s counts outside → deviation_in p s m ≡ outside
+pub spread_exact : (p : Parts) (m : Monitor) (s : List Slot) (counts : List ℕ) (outside : ℕ)
+    → IsSpread p m s counts outside → deviation_in p s m ≡ outside
 spread_exact p m s counts outside k =
     let c = k.monitor.0 in
     let there = k.monitor.1 in
-    let named : (e : ℕ) → names_event p c.rule m.point e ≡ names p e m = λ e. sym (ap (λ o. option_map_or (λ (c : Constraint). names_event p c.rule m.point e) o false) there) in
-    let listed : spreads_in c.rule ≡ spreads_of p m = sym (ap (λ o. option_map_or (λ (c : Constraint). spreads_in c.rule) o []) there) in
+    let named : (e : ℕ) → names_event p c.rule m.point e ≡ names p e m =
+    λ e. sym (ap (λ o. option_map_or (λ (c : Constraint). names_event p c.rule m.point e) o false) there) in
+    let listed : spreads_in c.rule ≡ spreads_of p m =
+    sym (ap (λ o. option_map_or (λ (c : Constraint). spreads_in c.rule) o []) there) in
     ap (λ o. option_map_or (λ (c : Constraint). deviation_at p (meets_in s) (duties_in s) c.rule m.point) o 0) there
     ∙ spread_at p s c.rule m.point (ap (λ a. is_kind a kind.SpreadEvents) (sym k.monitor.2) ∙ k.serves) k.monitor.3
-    ∙ (λ j. spread_by (λ times. sum_by (λ (x : Slot). cond (named x.event.0 j) (span_share (one_in times) x.span) 0) s) (listed j))
+    ∙ (λ j. spread_by (λ times. sum_by (λ (x : Slot). cond (named x.event.0 j) (span_share (one_in times) x.span) 0) s)
+    (listed j))
     ∙ sym k.outside
 
 -- a change of a slot of another event leaves all that is kept
-pub spread_elsewhere : (p : Parts) (m : Monitor) (s : List Slot) (k : ℕ) (x : Slot) (counts : List ℕ) (outside : ℕ) → k < length s → emptied x ≡ emptied (slot_at s k)
+pub spread_elsewhere : (p : Parts) (m : Monitor) (s : List Slot) (k : ℕ) (x : Slot) (counts : List ℕ) (outside : ℕ)
+    → k < length s → emptied x ≡ emptied (slot_at s k)
     → names p (slot_at s k).event.0 m ≡ false → IsSpread p m s counts outside → IsSpread p m (set s k x) counts outside
 spread_elsewhere p m s k x counts outside l same named kept = record {
   monitor = kept.monitor;

@@ -1,5 +1,6 @@
 -- The event of a live meet, and its places.
-use Rattle.std.proofs.Common.{ℕ, ◌≡◌, ◌<◌, ◌∙◌, true, Option, Some, None, List, length, slice_get, refl, sym, ap, arith, inl, inr}
+use Rattle.std.proofs.Common.{ℕ, ◌≡◌, ◌<◌, ◌∙◌, true, Option, Some, None, List, length, slice_get, refl, sym, ap, arith}
+use Rattle.std.proofs.Common.{inl, inr}
 use Rattle.std.specs.Prelude.{◌&&◌, nat_lt}
 use Rattle.std.proofs.lemmas.Bool.{cases_lt, lt-ltb}
 use Rattle.std.proofs.lemmas.List.{get_or_past}
@@ -37,19 +38,24 @@ there s k m e = elim (cases_lt k (length s)) [
       absurd (let g : ⊥ = cc in g)
 ]
 
-pub event_known : (p : Parts) (s : List Slot) (k : ℕ) (m : Meet) → AreTold p s → meet_in (slot_at s k) ≡ Some m → m.event.0 < length p.events
+pub event_known : (p : Parts) (s : List Slot) (k : ℕ) (m : Meet) → AreTold p s → meet_in (slot_at s k) ≡ Some m
+    → m.event.0 < length p.events
 event_known p s k m told e =
     let o = owner p s k told (there s k m e) in
     let within = slice_get_within p.events (slot_at s k).event.0 o.event o.there in
     let same = ap (λ (z : EventId). z.0) (of_event (slot_at s k) m e).event in
     omega (arith, within, same)
 
-pub place_known : (p : Parts) (s : List Slot) (k : ℕ) (m : Meet) (event : EventInfo) (place : ℕ) → AreTold p s → meet_in (slot_at s k) ≡ Some m → slice_get p.events m.event.0 ≡ Some event
+pub place_known : (p : Parts) (s : List Slot) (k : ℕ) (m : Meet) (event : EventInfo) (place : ℕ) → AreTold p s
+    → meet_in (slot_at s k) ≡ Some m → slice_get p.events m.event.0 ≡ Some event
     → place < length event.places → has_place (slot_at s k) place ≡ true
 place_known p s k m event place told e at l =
     let o = owner p s k told (there s k m e) in
     let is = of_event (slot_at s k) m e in
-    let same : event ≡ o.event = same_Some event o.event (sym at ∙ ap (λ (z : EventId). slice_get p.events z.0) is.event ∙ o.there) in
-    let places : length event.places ≡ length (slot_at s k).given = ap (λ (z : EventInfo). length z.places) same ∙ o.places in
-    let within : nat_lt place (length (slot_at s k).given) ≡ true = lt-ltb place (length (slot_at s k).given) (omega (arith, places, l)) in
+    let same : event ≡ o.event = same_Some event o.event
+    (sym at ∙ ap (λ (z : EventId). slice_get p.events z.0) is.event ∙ o.there) in
+    let places : length event.places ≡ length (slot_at s k).given =
+    ap (λ (z : EventInfo). length z.places) same ∙ o.places in
+    let within : nat_lt place (length (slot_at s k).given) ≡ true =
+    lt-ltb place (length (slot_at s k).given) (omega (arith, places, l)) in
     ap (λ b. b && nat_lt place (length (slot_at s k).given)) is.live ∙ within

@@ -8,7 +8,8 @@ use Rattle.solve_board.specs.declared.views.BoardView.{BoardView}
 use Rattle.solve_board.specs.Runs.{Splits as Parts}
 
 -- a new board
-pub begins : (jobs : ℕ) → jobs ≤ 10000 → Holds jobs (record { words = 0 ∷ jobs ∷ []; homes = []; views = first_view jobs ∷ [] })
+pub begins : (jobs : ℕ) → jobs ≤ 10000 → Holds jobs
+    (record { words = 0 ∷ jobs ∷ []; homes = []; views = first_view jobs ∷ [] })
 begins jobs few = (
   0,
   jobs,
@@ -24,7 +25,8 @@ begins jobs few = (
   },
 )
   where
-    one : (by : ℕ) (v : BoardView) → get_elem? (first_view jobs ∷ []) by ≡ some v → IsView jobs jobs (first_view jobs ∷ []) v
+    one : (by : ℕ) (v : BoardView) → get_elem? (first_view jobs ∷ []) by ≡ some v
+        → IsView jobs jobs (first_view jobs ∷ []) v
     one zero v e = subst (IsView jobs jobs (first_view jobs ∷ [])) (some-injective _ _ e) record {
       offers = λ n is. absurd (omega (arith, is));
       looks = λ n is. absurd (omega (arith, is));

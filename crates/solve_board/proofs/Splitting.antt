@@ -12,7 +12,8 @@ use Rattle.solve_board.proofs.ReachedLemmas as runs
 use Rattle.solve_board.proofs.Sums as sums
 use Rattle.solve_board.proofs.Kept.{view_stays}
 
-splits_keep : (jobs next low : ℕ) (views : List BoardView) (id : ℕ) (v : BoardView) → IsKept jobs next low views → get_elem? views id ≡ some v → 0 < v.weight → 0 < v.left
+splits_keep : (jobs next low : ℕ) (views : List BoardView) (id : ℕ) (v : BoardView) → IsKept jobs next low views
+    → get_elem? views id ≡ some v → 0 < v.weight → 0 < v.left
     → IsKept jobs next low (set views id (split_view v) ++ new_view v ∷ [])
 splits_keep jobs next low views id v k at some_weight some_left =
     let w = split_view v in
@@ -22,8 +23,15 @@ splits_keep jobs next low views id v k at some_weight some_left =
     let views' : List BoardView = one ++ new ∷ [] in
     let sum = λ (f : BoardView → ℕ). sums.total_snoc f one new in
     let swap = λ (f : BoardView → ℕ). sums.total_set f views id v w at in
-    let more : (n : ℕ) → IsOffered views n → IsOffered views' n = λ n is. omega (arith, sum (λ (u : BoardView). times n u.offers), swap (λ (u : BoardView). times n u.offers), is) in
-    let old = sums.each_set (λ _. IsView jobs low views) (λ _. IsView jobs low views') views id w k.each (λ j u. view_stays jobs low low views views' u (omega arith) more) record {
+    let more : (n : ℕ) → IsOffered views n → IsOffered views' n =
+    λ n is. omega (
+      arith,
+      sum (λ (u : BoardView). times n u.offers),
+      swap (λ (u : BoardView). times n u.offers),
+      is,
+    ) in
+    let old = sums.each_set (λ _. IsView jobs low views) (λ _. IsView jobs low views') views id w k.each
+    (λ j u. view_stays jobs low low views views' u (omega arith) more) record {
       offers = mine.offers;
       looks = λ n is. ((mine.looks n is).0, more n (mine.looks n is).1);
       seen = mine.seen;
@@ -41,13 +49,17 @@ splits_keep jobs next low views id v k at some_weight some_left =
     } in
     record {
       few = k.few;
-      claims = λ h. let a = sum (λ (u : BoardView). weigh h u.claims) in let b = swap (λ (u : BoardView). weigh h u.claims) in let c = k.claims h in omega (arith, a, b, c);
+      claims = λ h. let a = sum (λ (u : BoardView). weigh h u.claims) in let b =
+          swap (λ (u : BoardView). weigh h u.claims) in let c = k.claims h in omega (arith, a, b, c);
       lowest = k.lowest;
       shown = λ lt. more low (k.shown lt);
-      budget = let a = sum (λ (u : BoardView). u.left + u.weight) in let b = swap (λ (u : BoardView). u.left + u.weight) in let c = k.budget in omega (arith, a, b, c, some_left);
+      budget = let a = sum (λ (u : BoardView). u.left + u.weight) in let b =
+          swap (λ (u : BoardView). u.left + u.weight) in let c = k.budget in omega (arith, a, b, c, some_left);
       reached = runs.split_reached next views id v at k.reached;
-      each = λ j u e. ⊎_elim (λ was. old j u was) (λ (same : new ≡ u). subst (IsView jobs low views') same fresh) (at_snoc one new u j e);
+      each = λ j u e. ⊎_elim (λ was. old j u was) (λ (same : new ≡ u). subst (IsView jobs low views') same fresh)
+          (at_snoc one new u j e);
     }
 
-pub splits : (jobs id : ℕ) (v : BoardView) → 0 < v.weight → 0 < v.left → Splits (Holds jobs) id v (split_view v) (new_view v)
+pub splits : (jobs id : ℕ) (v : BoardView) → 0 < v.weight → 0 < v.left
+    → Splits (Holds jobs) id v (split_view v) (new_view v)
 splits jobs id v weight left s h at = (h.0, h.1, h.2, splits_keep jobs h.0 h.1 s.views id v h.3 at weight left)

@@ -19,7 +19,8 @@ Offers st me n me' = (me' ≡ (offered me.0 st.first n, me.1)) × (n ≤ me.0.se
 
 -- the least offer isn't above what the seat has seen or offered
 abbrev pub Looks : Step (Unit {0}) → Seated → ℕ → Seated → Type 0
-Looks st me n me' = (me' ≡ (looked me.0 n, me.1)) × (n ≤ me.0.jobs) × (n ≤ me.0.seen) × ((o : ℕ) → IsAmong o me.0.offers → n ≤ o)
+Looks st me n me' = (me' ≡ (looked me.0 n, me.1)) × (n ≤ me.0.jobs) × (n ≤ me.0.seen)
+    × ((o : ℕ) → IsAmong o me.0.offers → n ≤ o)
 
 -- nothing changes, and the seat has claimed no number twice
 abbrev pub Tells : Step (Unit {0}) → Seated → ℕ → Seated → Type 0

@@ -18,7 +18,12 @@ pub data Event : Type 0 where
 abbrev pub after : BoardState → Event → BoardState
 after s (Steps step) = stepped s step
 after s Splits = record { next = s.next; claims = s.claims ++ [] ∷ []; offers = s.offers ++ [] ∷ [] }
-after s (Joins into from) = record { next = s.next; claims = moved s.claims into from; offers = moved s.offers into from }
+after s (Joins into from) = record {
+  next = s.next;
+  claims = moved s.claims into from;
+  offers =
+      moved s.offers into from;
+}
 
 -- what a state has to show for an event
 abbrev pub MayHappen : BoardState → Event → Type 0

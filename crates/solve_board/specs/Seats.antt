@@ -16,7 +16,8 @@ view seat = seat.me.0
 -- some run of a board as plain data leads to this next number and to a worker with these claims and offers
 abbrev pub EndsRun : BoardView → ℕ → Type 0
 EndsRun v next = (events : List Event) × IsRun nobody events × ((ran nobody events).next ≡ next)
-    × ((worker : ℕ) × (list_of (ran nobody events).claims worker ≡ v.claims) × (list_of (ran nobody events).offers worker ≡ v.offers))
+    × ((worker : ℕ) × (list_of (ran nobody events).claims worker ≡ v.claims)
+    × (list_of (ran nobody events).offers worker ≡ v.offers))
 
 -- the seat is this board's
 pub record IsSeatOf (board : Board) (seat : BoardSeat) : Type 0 where

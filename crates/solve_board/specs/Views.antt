@@ -40,4 +40,11 @@ new_view v = record { claims = []; offers = []; looks = []; seen = v.seen; jobs 
 
 -- after a join of the second seat into the first
 abbrev pub joined_view : BoardView → BoardView → BoardView
-joined_view v w = record v { claims = v.claims ++ w.claims; offers = v.offers ++ w.offers; looks = v.looks ++ w.looks; seen = min v.seen w.seen; left = v.left + w.left; weight = v.weight + w.weight }
+joined_view v w = record v {
+  claims = v.claims ++ w.claims;
+  offers = v.offers ++ w.offers;
+  looks = v.looks ++ w.looks;
+  seen = min v.seen w.seen;
+  left = v.left + w.left;
+  weight = v.weight + w.weight;
+}

@@ -6,7 +6,8 @@ use Rattle.demand_matching.specs.declared.domains.Pick.TheVariants.{One}
 use Rattle.demand_matching.specs.Domains.{Domains, IsInRange, with_domain}
 use Rattle.structure_tests.specs.Matchings.{SameSizes}
 
-pub single_in_range : (w : Domains) (time resource : ℕ) → time < w.last → resource < w.width → IsInRange w (record { times = One time; shift = 0; resources = One resource })
+pub single_in_range : (w : Domains) (time resource : ℕ) → time < w.last → resource < w.width
+    → IsInRange w (record { times = One time; shift = 0; resources = One resource })
 single_in_range w time resource l m = record {
   times = tt;
   resources = tt;

@@ -1,5 +1,7 @@
 -- Sets of times as rows of bits.
-use Rattle.std.proofs.Common.{◌≡◌, ◌∙◌, sym, ap, ap₂, subst, ℕ, ◌+◌, ◌*◌, ◌^◌, ◌<◌, ◌≤◌, Bool, false, not, ◌&&◌, List, length, get_or, arith, count_ones, bit_and, ◌⊎◌, inl, inr, mod-eq_of_lt, lt_of_le_of_lt, subst₂, true≢false}
+use Rattle.std.proofs.Common.{◌≡◌, ◌∙◌, sym, ap, ap₂, subst, ℕ, ◌+◌, ◌*◌, ◌^◌, ◌<◌, ◌≤◌, Bool, false, not, ◌&&◌, List}
+use Rattle.std.proofs.Common.{length, get_or, arith, count_ones, bit_and, ◌⊎◌, inl, inr, mod-eq_of_lt, lt_of_le_of_lt}
+use Rattle.std.proofs.Common.{subst₂, true≢false}
 use Rattle.std.specs.Int.{bit_not, w64}
 use Rattle.std.proofs.lemmas.Nat.{and_le_l}
 use Rattle.khe_base.specs.Bits.{has_bit, is_set}
@@ -16,7 +18,8 @@ module _ (words row : List ℕ) (k : ℕ) where
   -- one more word of members whose bits are set in the row
   pub common-more : get_or words k 0 < 2 ^ 64
       → count_below (λ t. is_set words t && is_set row t) (64 * (k + 1))
-      ≡ count_below (λ t. is_set words t && is_set row t) (64 * k) + count_ones (bit_and (get_or words k 0) (get_or row k 0))
+      ≡ count_below (λ t. is_set words t && is_set row t) (64 * k) + count_ones
+      (bit_and (get_or words k 0) (get_or row k 0))
   common-more small =
       let a = get_or words k 0 in
       let b = get_or row k 0 in
@@ -26,22 +29,28 @@ module _ (words row : List ℕ) (k : ℕ) where
       let fits : w < 2 ^ 64 = omega arith in
       let e : 64 * k + 64 ≡ 64 * (k + 1) = omega arith in
       ap (count_below p) (sym e)
-      ∙ count_ones-bits p w (64 * k) 64 (λ i h. has_bit-and a b i ∙ ap₂ (λ x y. x && y) (sym (is_set-place words k i h)) (sym (is_set-place row k i h)))
+      ∙ count_ones-bits p w (64 * k) 64 (λ i h. has_bit-and a b i
+      ∙ ap₂ (λ x y. x && y) (sym (is_set-place words k i h)) (sym (is_set-place row k i h)))
       ∙ ap (λ x. count_below p (64 * k) + count_ones x) (mod-eq_of_lt fits)
 
-  pub common-bits : (i : ℕ) → i < 64 → has_bit (bit_and (get_or words k 0) (get_or row k 0)) i ≡ (is_set words (64 * k + i) && is_set row (64 * k + i))
-  common-bits i h = has_bit-and (get_or words k 0) (get_or row k 0) i ∙ ap₂ (λ x y. x && y) (sym (is_set-place words k i h)) (sym (is_set-place row k i h))
+  pub common-bits : (i : ℕ) → i < 64 → has_bit (bit_and (get_or words k 0) (get_or row k 0)) i
+      ≡ (is_set words (64 * k + i) && is_set row (64 * k + i))
+  common-bits i h = has_bit-and (get_or words k 0) (get_or row k 0) i
+      ∙ ap₂ (λ x y. x && y) (sym (is_set-place words k i h)) (sym (is_set-place row k i h))
 
   pub free-bits : get_or row k 0 < 2 ^ 64 → (i : ℕ) → i < 64
-      → has_bit (bit_and (get_or words k 0) (bit_not w64 (get_or row k 0))) i ≡ (is_set words (64 * k + i) && not (is_set row (64 * k + i)))
+      → has_bit (bit_and (get_or words k 0) (bit_not w64 (get_or row k 0))) i
+      ≡ (is_set words (64 * k + i) && not (is_set row (64 * k + i)))
   free-bits small i h =
       has_bit-and (get_or words k 0) (bit_not w64 (get_or row k 0)) i
-      ∙ ap₂ (λ x y. x && y) (sym (is_set-place words k i h)) (has_bit-not (get_or row k 0) i small h ∙ ap not (sym (is_set-place row k i h)))
+      ∙ ap₂ (λ x y. x && y) (sym (is_set-place words k i h))
+      (has_bit-not (get_or row k 0) i small h ∙ ap not (sym (is_set-place row k i h)))
 
   -- one more word of members whose bits are not set in the row
   pub free-more : get_or words k 0 < 2 ^ 64 → get_or row k 0 < 2 ^ 64
       → count_below (λ t. is_set words t && not (is_set row t)) (64 * (k + 1))
-      ≡ count_below (λ t. is_set words t && not (is_set row t)) (64 * k) + count_ones (bit_and (get_or words k 0) (bit_not w64 (get_or row k 0)))
+      ≡ count_below (λ t. is_set words t && not (is_set row t)) (64 * k) + count_ones
+      (bit_and (get_or words k 0) (bit_not w64 (get_or row k 0)))
   free-more small small_row =
       let a = get_or words k 0 in
       let b = get_or row k 0 in
@@ -73,24 +82,30 @@ module _ (words row : List ℕ) (first end size : ℕ) (is : IsWithin words firs
 
   -- so what is counted before the end is counted in all
   pub common-whole : (now : List Bool) (k : ℕ) → set_of_bits words size ≡ now → end ≤ k
-      → count_below (λ t. is_set words t && is_set row t) (64 * k) ≡ count_below (λ t. has_member now t && is_set row t) (length now)
+      → count_below (λ t. is_set words t && is_set row t) (64 * k)
+      ≡ count_below (λ t. has_member now t && is_set row t) (length now)
   common-whole now k e over =
       let p = λ (t : ℕ). is_set words t && is_set row t in
-      let ends : count_below p (64 * k) ≡ count_below p size = count_below-ends p (64 * k) size (no_common-after k over) no_common-beyond in
+      let ends : count_below p (64 * k) ≡ count_below p size =
+      count_below-ends p (64 * k) size (no_common-after k over) no_common-beyond in
       let set = set_of_bits words size in
       let alike : count_below p size ≡ count_below (λ t. has_member set t && is_set row t) (length set) =
-      sym (λ i. count_below (λ t. has_member-set_of_bits words size is.beyond t i && is_set row t) (length-set_of_bits words size i))
+      sym (λ i. count_below (λ t. has_member-set_of_bits words size is.beyond t i && is_set row t)
+      (length-set_of_bits words size i))
       in
-      subst (λ (v : List Bool). count_below p (64 * k) ≡ count_below (λ t. has_member v t && is_set row t) (length v)) e (ends ∙ alike)
+      subst (λ (v : List Bool). count_below p (64 * k) ≡ count_below (λ t. has_member v t && is_set row t) (length v)) e
+      (ends ∙ alike)
 
   -- what holds of the bits below the size holds of the set
-  moved : (now : List Bool) → set_of_bits words size ≡ now → (Q : (ℕ → Bool) → ℕ → Type 0) → Q (is_set words) size → Q (has_member now) (length now)
+  moved : (now : List Bool) → set_of_bits words size ≡ now → (Q : (ℕ → Bool) → ℕ → Type 0) → Q (is_set words) size
+      → Q (has_member now) (length now)
   moved now e Q q =
       let set = set_of_bits words size in
       let same : has_member set ≡ is_set words = λ i t. has_member-set_of_bits words size is.beyond t i in
       subst (λ v. Q (has_member v) (length v)) e (subst₂ Q (sym same) (sym (length-set_of_bits words size)) q)
 
-  no_common : (k : ℕ) → end ≤ k → ((t : ℕ) → t < 64 * k → (is_set words t && is_set row t) ≡ false) → (t : ℕ) → (is_set words t && is_set row t) ≡ false
+  no_common : (k : ℕ) → end ≤ k → ((t : ℕ) → t < 64 * k → (is_set words t && is_set row t) ≡ false) → (t : ℕ)
+      → (is_set words t && is_set row t) ≡ false
   no_common k over none t = by (grind arith)
     where
       by : (t < 64 * k) ⊎ (64 * k ≤ t) → (is_set words t && is_set row t) ≡ false
@@ -102,16 +117,20 @@ module _ (words row : List ℕ) (first end size : ℕ) (is : IsWithin words firs
       → ((t : ℕ) → t < 64 * k → (is_set words t && is_set row t) ≡ false)
       → 0 ≡ count_below (is_idle_time (has_member now) (is_set row) (length now)) (length now)
   idle-nowhere now k e over none =
-      moved now e (λ m n. 0 ≡ count_below (is_idle_time m (is_set row) n) n) (sym (idle-none (is_set words) (is_set row) size (no_common k over none)))
+      moved now e (λ m n. 0 ≡ count_below (is_idle_time m (is_set row) n) n)
+      (sym (idle-none (is_set words) (is_set row) size (no_common k over none)))
 
   -- else the idle times are the free ones between the ends
   pub idle-ends : (now : List Bool) (k before_first before_last : ℕ) → set_of_bits words size ≡ now → end ≤ k
-      → HasEnds (λ t. is_set words t && is_set row t) (λ t. is_set words t && not (is_set row t)) (64 * k) before_first before_last
+      → HasEnds (λ t. is_set words t && is_set row t) (λ t. is_set words t && not (is_set row t)) (64 * k) before_first
+      before_last
       → count_below (is_idle_time (has_member now) (is_set row) (length now)) (length now) + before_first ≡ before_last
   idle-ends now k before_first before_last e over ends =
-      let counted = idle-between (is_set words) (is_set row) size ends.first ends.last ends.at_first ends.at_last ends.ordered (within (grind arith)) ends.none_before (λ t h. after t h (grind arith)) in
+      let counted = idle-between (is_set words) (is_set row) size ends.first ends.last ends.at_first ends.at_last
+      ends.ordered (within (grind arith)) ends.none_before (λ t h. after t h (grind arith)) in
       moved now e (λ m n. count_below (is_idle_time m (is_set row) n) n + before_first ≡ before_last)
-      (ap (λ n. count_below (is_idle_time (is_set words) (is_set row) size) size + n) ends.first_is ∙ counted ∙ sym ends.last_is)
+      (ap (λ n. count_below (is_idle_time (is_set words) (is_set row) size) size + n) ends.first_is ∙ counted
+      ∙ sym ends.last_is)
     where
       within : (ends.last < size) ⊎ (size ≤ ends.last) → ends.last < size
       within (inl h) = h

@@ -1,5 +1,7 @@
 -- The busy members of a set, from the first to the last.
-use Rattle.std.proofs.Common.{◌≡◌, ◌∙◌, sym, ap, subst, ℕ, ◌+◌, ◌-◌, ◌*◌, ◌%◌, ◌/◌, ◌^◌, ◌<◌, ◌≤◌, Bool, true, false, nat_eq, arith, count_ones, suc, Option, Some, None, ◌⊎◌, inl, inr, IsSomeAnd, MatchOption, le-div_iff_mul-le, div-lt_iff_lt-mul, lt_of_lt_of_le, lt_of_le_of_lt, pow-suc, mul_comm}
+use Rattle.std.proofs.Common.{◌≡◌, ◌∙◌, sym, ap, subst, ℕ, ◌+◌, ◌-◌, ◌*◌, ◌%◌, ◌/◌, ◌^◌, ◌<◌, ◌≤◌, Bool, true, false}
+use Rattle.std.proofs.Common.{nat_eq, arith, count_ones, suc, Option, Some, None, ◌⊎◌, inl, inr, IsSomeAnd, MatchOption}
+use Rattle.std.proofs.Common.{le-div_iff_mul-le, div-lt_iff_lt-mul, lt_of_lt_of_le, lt_of_le_of_lt, pow-suc, mul_comm}
 use Rattle.std.specs.Int.{bit_at, w64, trailing_zeros, leading_zeros}
 use Rattle.std.proofs.lemmas.Nat.{pow_pos, leading_top}
 use Rattle.std.proofs.lemmas.Nat.Bits.{bit_at-trailing_zeros, bit_at_above, bit_at-zero}
@@ -15,7 +17,8 @@ one_not_zero e = absurd (omega (arith, e))
 pub top_bit : (a j : ℕ) → 2 ^ j ≤ a → a < 2 ^ suc j → bit_at a j ≡ 1
 top_bit a j low high =
     let one : 1 ≤ a / 2 ^ j = (le-div_iff_mul-le (pow_pos j)).1 (omega arith) in
-    let two : a / 2 ^ j < 2 = (div-lt_iff_lt-mul (pow_pos j)).1 (subst (λ x. a < x) (pow-suc 2 j ∙ mul_comm (2 ^ j) 2) high) in
+    let two : a / 2 ^ j < 2 = (div-lt_iff_lt-mul (pow_pos j)).1
+    (subst (λ x. a < x) (pow-suc 2 j ∙ mul_comm (2 ^ j) 2) high) in
     omega arith
 
 module _ (busy free : ℕ → Bool) where
@@ -36,7 +39,8 @@ module _ (busy free : ℕ → Bool) where
   IsSpan n None = (t : ℕ) → t < n → busy t ≡ false
   IsSpan n (Some s) = HasEnds n s.before_first s.before_last
 
-  later : (n m : ℕ) → n ≤ m → ((t : ℕ) → n ≤ t → t < m → busy t ≡ false) → (span : Option Span) → IsSpan n span → IsSpan m span
+  later : (n m : ℕ) → n ≤ m → ((t : ℕ) → n ≤ t → t < m → busy t ≡ false) → (span : Option Span) → IsSpan n span
+      → IsSpan m span
   later n m le none None is = λ t h. by t h (grind arith)
     where
       by : (t : ℕ) → t < m → (t < n) ⊎ (n ≤ t) → busy t ≡ false
@@ -59,21 +63,26 @@ module _ (busy free : ℕ → Bool) where
       by t low high (inl h) = is.none_after t low h
       by t low high (inr h) = none t h high
 
-  module _ (k b f unbusy : ℕ) (bits : (i : ℕ) → i < 64 → has_bit b i ≡ busy (64 * k + i)) (frees : (i : ℕ) → i < 64 → has_bit f i ≡ free (64 * k + i))
+  module _ (k b f unbusy : ℕ) (bits : (i : ℕ) → i < 64 → has_bit b i ≡ busy (64 * k + i))
+      (frees : (i : ℕ) → i < 64 → has_bit f i ≡ free (64 * k + i))
       (counted : unbusy ≡ count_below free (64 * k)) where
     at : (t : ℕ) → 64 * k ≤ t → t < 64 * (k + 1) → busy t ≡ has_bit b (t - 64 * k)
-    at t low high = let e : 64 * k + (t - 64 * k) ≡ t = omega arith in ap busy (sym e) ∙ sym (bits (t - 64 * k) (omega arith))
+    at t low high = let e : 64 * k + (t - 64 * k) ≡ t = omega arith in
+        ap busy (sym e) ∙ sym (bits (t - 64 * k) (omega arith))
 
     part : (n : ℕ) → n < 64 → unbusy + count_ones (f % 2 ^ n) ≡ count_below free (64 * k + n)
-    part n h = ap (λ x. x + count_ones (f % 2 ^ n)) counted ∙ sym (count_ones-bits free f (64 * k) n (λ i l. frees i (omega arith)))
+    part n h = ap (λ x. x + count_ones (f % 2 ^ n)) counted
+        ∙ sym (count_ones-bits free f (64 * k) n (λ i l. frees i (omega arith)))
 
     -- a word with no busy time
     unmet : b ≡ 0 → (span : Option Span) → IsSpan (64 * k) span → IsSpan (64 * (k + 1)) span
     unmet z span is =
         later (64 * k) (64 * (k + 1)) (omega arith)
-        (λ t low high. at t low high ∙ ap (λ x. has_bit x (t - 64 * k)) z ∙ ap (λ x. nat_eq x 1) (bit_at-zero (t - 64 * k))) span is
+        (λ t low high. at t low high ∙ ap (λ x. has_bit x (t - 64 * k)) z
+        ∙ ap (λ x. nat_eq x 1) (bit_at-zero (t - 64 * k))) span is
 
-    module _ (low j : ℕ) (low_in : low < 64) (low_set : bit_at b low ≡ 1) (low_least : (i : ℕ) → i < low → bit_at b i ≡ 0)
+    module _ (low j : ℕ) (low_in : low < 64) (low_set : bit_at b low ≡ 1)
+        (low_least : (i : ℕ) → i < low → bit_at b i ≡ 0)
         (j_in : j < 64) (j_set : bit_at b j ≡ 1) (j_greatest : (i : ℕ) → j < i → bit_at b i ≡ 0) where
       ends_ordered : (low ≤ j) ⊎ (j < low) → low ≤ j
       ends_ordered (inl h) = h
@@ -125,7 +134,8 @@ module _ (busy free : ℕ → Bool) where
           }
 
       met : (span new : Option Span)
-          → MatchOption span (IsSomeAnd new (λ s. s.before_first ≡ unbusy + count_ones (f % 2 ^ low))) (λ old. IsSomeAnd new (λ s. s.before_first ≡ old.before_first))
+          → MatchOption span (IsSomeAnd new (λ s. s.before_first ≡ unbusy + count_ones (f % 2 ^ low)))
+          (λ old. IsSomeAnd new (λ s. s.before_first ≡ old.before_first))
           → IsSomeAnd new (λ s. s.before_last ≡ unbusy + count_ones (f % 2 ^ j))
           → IsSpan (64 * k) span → IsSpan (64 * (k + 1)) new
       met None None first last is = absurd last
@@ -136,7 +146,9 @@ module _ (busy free : ℕ → Bool) where
     -- the span with one more word
     pub IsSpan-widened : (span new : Option Span) → b < 2 ^ 64
         → (b ≡ 0 → new ≡ span)
-        → (0 < b → MatchOption span (IsSomeAnd new (λ s. s.before_first ≡ unbusy + count_ones (f % 2 ^ trailing_zeros w64 b))) (λ old. IsSomeAnd new (λ s. s.before_first ≡ old.before_first)))
+        → (0 < b → MatchOption span (IsSomeAnd new (λ s. s.before_first
+        ≡ unbusy + count_ones (f % 2 ^ trailing_zeros w64 b)))
+        (λ old. IsSomeAnd new (λ s. s.before_first ≡ old.before_first)))
         → (0 < b → IsSomeAnd new (λ s. s.before_last ≡ unbusy + count_ones (f % 2 ^ (63 - leading_zeros w64 b))))
         → IsSpan (64 * k) span → IsSpan (64 * (k + 1)) new
     IsSpan-widened span new small same first last is = by (grind arith)
@@ -149,5 +161,6 @@ module _ (busy free : ℕ → Bool) where
             let place : leading_zeros w64 b + suc l.0 ≡ 64 = l.1 in
             let e : 63 - leading_zeros w64 b ≡ l.0 = omega arith in
             let in_word : l.0 < 64 = omega arith in
-            met (trailing_zeros w64 b) l.0 t.0 t.1 t.2 in_word (top_bit b l.0 l.2 l.3) (λ i h. bit_at_above b (suc l.0) i l.3 (omega arith)) span new (first pos)
+            met (trailing_zeros w64 b) l.0 t.0 t.1 t.2 in_word (top_bit b l.0 l.2 l.3)
+            (λ i h. bit_at_above b (suc l.0) i l.3 (omega arith)) span new (first pos)
             (subst (λ n. IsSomeAnd new (λ s. s.before_last ≡ unbusy + count_ones (f % 2 ^ n))) e (last pos)) is

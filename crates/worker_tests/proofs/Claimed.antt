@@ -17,7 +17,8 @@ still_drawing jobs n v w d is lt = subst (IsDrawing jobs) (sym is) record {
   where
     one_more : (m : ℕ) → Dec (0 < times m v.claims) → IsAmong m (v.claims ++ n ∷ []) → m < jobs
     one_more m (yes was) _ = d.below m was
-    one_more m (no not) among = let same : m ≡ n = one_is m n (omega (arith, weigh-append (one_at m) v.claims (n ∷ []), not, among)) in omega (arith, same, lt)
+    one_more m (no not) among = let same : m ≡ n =
+        one_is m n (omega (arith, weigh-append (one_at m) v.claims (n ∷ []), not, among)) in omega (arith, same, lt)
 
 pub claimed_budget : (n : ℕ) (v w : BoardView) → w ≡ claimed v n → budget w ≡ budget v
 claimed_budget n v w is = ap budget is

@@ -1,5 +1,7 @@
 -- What a change does to the workloads that are kept and to the monitors on them.
-use Rattle.std.proofs.Common.{ℕ, ◌≡◌, ◌≤◌, ◌<◌, ◌+◌, ◌-◌, ◌*◌, ◌^◌, ◌∙◌, ◌&&◌, ◌⊎◌, inl, inr, zero, suc, Bool, true, false, cond, Some, None, List, [], ◌∷◌, set, replicate, length, get_or, slice_get, slice_index, refl, sym, ap, subst, arith, sum_by, count_by, All, zero-add}
+use Rattle.std.proofs.Common.{ℕ, ◌≡◌, ◌≤◌, ◌<◌, ◌+◌, ◌-◌, ◌*◌, ◌^◌, ◌∙◌, ◌&&◌, ◌⊎◌, inl, inr, zero, suc, Bool, true}
+use Rattle.std.proofs.Common.{false, cond, Some, None, List, [], ◌∷◌, set, replicate, length, get_or, slice_get}
+use Rattle.std.proofs.Common.{slice_index, refl, sym, ap, subst, arith, sum_by, count_by, All, zero-add}
 use Rattle.std.specs.Option.{option_map_or}
 use Rattle.std.proofs.lemmas.Bool.{and_parts, cases_eq, eq-eqb, ne_eqb, true≢false}
 use Rattle.std.proofs.lemmas.List.{length-replicate, length-set}
@@ -23,7 +25,8 @@ use Rattle.khe_told.specs.Changes.{after, meet_of}
 use Rattle.khe_told.specs.Fits.{AreTold, Fits, IsSlot}
 use Rattle.khe_told.specs.Lists.{duties_in}
 use Rattle.khe_told.specs.Slots.{IsBareIfFree, no_meets, no_slot, slot_at}
-use Rattle.khe_told.specs.Watchers.{loaded_resources, served_watchers, touched_resources, touched_times, watch_count, watches_with}
+use Rattle.khe_told.specs.Watchers.{loaded_resources, served_watchers, touched_resources, touched_times, watch_count}
+use Rattle.khe_told.specs.Watchers.{watches_with}
 use Rattle.khe_told.specs.declared.changes.Change.{Change}
 use Rattle.khe_told.specs.declared.changes.Change.TheVariants.{Add, Drop, Place as PlaceAt, Lift, Give, Take}
 use Rattle.khe_told.specs.declared.slots.Slot.{Slot}
@@ -65,14 +68,19 @@ module _ (p : Parts) (made : AreWellMade p) (s : List Slot) (told : AreTold p s)
   known (Lift m t) f r e = absurd (none-some r e)
 
   pub event_at : (m : ℕ) → m < length s → (slot_at s m).event.0 < length p.events
-  event_at m l = let f = All-get_or (IsFrame p.events) s m no_slot l (frames p s made.first_meets told.whose) in slice_get_within p.events (slot_at s m).event.0 f.slot.0 f.slot.1
+  event_at m l = let f = All-get_or (IsFrame p.events) s m no_slot l (frames p s made.first_meets told.whose) in
+      slice_get_within p.events (slot_at s m).event.0 f.slot.0 f.slot.1
 
-  turned : (c : Change) → Fits p s c → (q : ℕ) → workload_in p.events p.unit (duties_in (after s c)) q + lost p q (slot_at s (meet_of c)) c ≡ workload_in p.events p.unit (duties_in s) q + gained p q (slot_at s (meet_of c)) c
+  turned : (c : Change) → Fits p s c → (q : ℕ) → workload_in p.events p.unit (duties_in (after s c)) q + lost p q
+      (slot_at s (meet_of c)) c ≡ workload_in p.events p.unit (duties_in s) q + gained p q (slot_at s (meet_of c)) c
   turned c f q = loads_turned p q s c f.there f.suits (bare_at (meet_of c) f.there)
 
   -- a resource that is given, one that is taken, and all other changes
-  pub gave : (k : TaskId) (r : ResourceId) (old : List ℕ) (w : ℕ) → Fits p s (Give k r) → HasLoads p s old → w ≡ worth_in p (slot_at s k.meet.0) k.place → HasLoads p (after s (Give k r)) (set old r.0 (slice_index old r.0 + w))
-  gave k r old w f h is = subst (λ n. HasLoads p (after s (Give k r)) (set old r.0 (slice_index old r.0 + n))) (sym is) given
+  pub gave : (k : TaskId) (r : ResourceId) (old : List ℕ) (w : ℕ) → Fits p s (Give k r) → HasLoads p s old
+      → w ≡ worth_in p (slot_at s k.meet.0) k.place
+      → HasLoads p (after s (Give k r)) (set old r.0 (slice_index old r.0 + w))
+  gave k r old w f h is = subst (λ n. HasLoads p (after s (Give k r)) (set old r.0 (slice_index old r.0 + n))) (sym is)
+      given
     where
       worth : ℕ
       worth = worth_in p (slot_at s k.meet.0) k.place
@@ -89,17 +97,24 @@ module _ (p : Parts) (made : AreWellMade p) (s : List Slot) (told : AreTold p s)
         each = λ q. by _ _ _ _ _ (raised old r.0 worth q within) (h.each q) (turned (Give k r) f q);
       }
 
-  pub enough : (k : TaskId) (r : ResourceId) (old : List ℕ) (w : ℕ) → Fits p s (Take k r) → HasLoads p s old → w ≡ worth_in p (slot_at s k.meet.0) k.place → w ≤ slice_index old r.0
+  pub enough : (k : TaskId) (r : ResourceId) (old : List ℕ) (w : ℕ) → Fits p s (Take k r) → HasLoads p s old
+      → w ≡ worth_in p (slot_at s k.meet.0) k.place → w ≤ slice_index old r.0
   enough k r old w f h is =
-      by (workload_in p.events p.unit (duties_in (after s (Take k r))) r.0) (workload_in p.events p.unit (duties_in s) r.0) (slice_index old r.0) w
-      (ap (λ n. workload_in p.events p.unit (duties_in (after s (Take k r))) r.0 + n) is ∙ sym (ap (λ b. workload_in p.events p.unit (duties_in (after s (Take k r))) r.0 + cond b (worth_in p (slot_at s k.meet.0) k.place) 0) (eq-eqb r.0 r.0 refl)) ∙ turned (Take k r) f r.0)
+      by (workload_in p.events p.unit (duties_in (after s (Take k r))) r.0)
+      (workload_in p.events p.unit (duties_in s) r.0) (slice_index old r.0) w
+      (ap (λ n. workload_in p.events p.unit (duties_in (after s (Take k r))) r.0 + n) is
+      ∙ sym (ap (λ b. workload_in p.events p.unit (duties_in (after s (Take k r))) r.0 + cond b
+      (worth_in p (slot_at s k.meet.0) k.place) 0) (eq-eqb r.0 r.0 refl)) ∙ turned (Take k r) f r.0)
       (h.each r.0)
     where
       by : (a b c w : ℕ) → a + w ≡ b + 0 → c ≡ b → w ≤ c
       by a b c w e f = omega (arith, e, f)
 
-  pub took : (k : TaskId) (r : ResourceId) (old : List ℕ) (w : ℕ) → Fits p s (Take k r) → HasLoads p s old → w ≡ worth_in p (slot_at s k.meet.0) k.place → HasLoads p (after s (Take k r)) (set old r.0 (slice_index old r.0 - w))
-  took k r old w f h is = subst (λ n. HasLoads p (after s (Take k r)) (set old r.0 (slice_index old r.0 - n))) (sym is) taken
+  pub took : (k : TaskId) (r : ResourceId) (old : List ℕ) (w : ℕ) → Fits p s (Take k r) → HasLoads p s old
+      → w ≡ worth_in p (slot_at s k.meet.0) k.place
+      → HasLoads p (after s (Take k r)) (set old r.0 (slice_index old r.0 - w))
+  took k r old w f h is = subst (λ n. HasLoads p (after s (Take k r)) (set old r.0 (slice_index old r.0 - n))) (sym is)
+      taken
     where
       worth : ℕ
       worth = worth_in p (slot_at s k.meet.0) k.place
@@ -119,22 +134,28 @@ module _ (p : Parts) (made : AreWellMade p) (s : List Slot) (told : AreTold p s)
         each = λ q. by _ _ _ _ _ (lowered old r.0 worth q within own) (h.each q) (turned (Take k r) f q);
       }
 
-  pub room : (k : TaskId) (r : ResourceId) (old : List ℕ) (w : ℕ) → Fits p s (Give k r) → HasLoads p s old → w ≡ worth_in p (slot_at s k.meet.0) k.place → slice_index old r.0 + w < 2 ^ 128
+  pub room : (k : TaskId) (r : ResourceId) (old : List ℕ) (w : ℕ) → Fits p s (Give k r) → HasLoads p s old
+      → w ≡ worth_in p (slot_at s k.meet.0) k.place → slice_index old r.0 + w < 2 ^ 128
   room k r old w f h is =
-      by (workload_in p.events p.unit (duties_in (after s (Give k r))) r.0) (workload_in p.events p.unit (duties_in s) r.0) (slice_index old r.0) w p.unit
-      (turned (Give k r) f r.0 ∙ ap (λ b. workload_in p.events p.unit (duties_in s) r.0 + cond b (worth_in p (slot_at s k.meet.0) k.place) 0) (eq-eqb r.0 r.0 refl) ∙ ap (λ n. workload_in p.events p.unit (duties_in s) r.0 + n) (sym is))
+      by (workload_in p.events p.unit (duties_in (after s (Give k r))) r.0)
+      (workload_in p.events p.unit (duties_in s) r.0) (slice_index old r.0) w p.unit
+      (turned (Give k r) f r.0 ∙ ap (λ b. workload_in p.events p.unit (duties_in s) r.0 + cond b
+      (worth_in p (slot_at s k.meet.0) k.place) 0) (eq-eqb r.0 r.0 refl)
+      ∙ ap (λ n. workload_in p.events p.unit (duties_in s) r.0 + n) (sym is))
       (h.each r.0) (load_small p made (after s (Give k r)) f.told r.0) made.limits.unit
     where
       by : (a b c w u : ℕ) → a + 0 ≡ b + w → c ≡ b → a ≤ GREATEST_DEVIATION * u → u ≤ UNIT → c + w < 2 ^ 128
       by a b c w u e f g l = omega (arith, e, f, g, l)
 
-  pub kept : (c : Change) (old : List ℕ) → named_by c ≡ None → Fits p s c → HasLoads p s old → HasLoads p (after s c) old
+  pub kept : (c : Change) (old : List ℕ) → named_by c ≡ None → Fits p s c → HasLoads p s old
+      → HasLoads p (after s c) old
   kept c old e f h = record { resources = h.resources; each = λ q. h.each q ∙ sym (still c e f q) }
     where
       none : (a b : ℕ) → a + 0 ≡ b + 0 → a ≡ b
       none a b e = omega (arith, e)
 
-      still : (c : Change) → named_by c ≡ None → Fits p s c → (q : ℕ) → workload_in p.events p.unit (duties_in (after s c)) q ≡ workload_in p.events p.unit (duties_in s) q
+      still : (c : Change) → named_by c ≡ None → Fits p s c → (q : ℕ)
+          → workload_in p.events p.unit (duties_in (after s c)) q ≡ workload_in p.events p.unit (duties_in s) q
       still (Add m d) e f q = none _ _ (turned (Add m d) f q)
       still (Drop m d) e f q = none _ _ (turned (Drop m d) f q)
       still (PlaceAt m t) e f q = none _ _ (turned (PlaceAt m t) f q)
@@ -142,7 +163,8 @@ module _ (p : Parts) (made : AreWellMade p) (s : List Slot) (told : AreTold p s)
       still (Give k r) e f q = absurd (none-some r (sym e))
       still (Take k r) e f q = absurd (none-some r (sym e))
 
-  unnamed : (c : Change) → ((k : TaskId) (r : ResourceId) → c ≡ Give k r → ⊥) → ((k : TaskId) (r : ResourceId) → c ≡ Take k r → ⊥) → named_by c ≡ None
+  unnamed : (c : Change) → ((k : TaskId) (r : ResourceId) → c ≡ Give k r → ⊥)
+      → ((k : TaskId) (r : ResourceId) → c ≡ Take k r → ⊥) → named_by c ≡ None
   unnamed (Give k r) a b = absurd (a k r refl)
   unnamed (Take k r) a b = absurd (b k r refl)
   unnamed (Add m d) a b = refl
@@ -151,28 +173,39 @@ module _ (p : Parts) (made : AreWellMade p) (s : List Slot) (told : AreTold p s)
   unnamed (Lift m t) a b = refl
 
   -- the same by what the change is
-  pub gave_by : (c : Change) (k : TaskId) (r : ResourceId) (old new : List ℕ) (w : ℕ) → c ≡ Give k r → Fits p s c → HasLoads p s old → w ≡ worth_in p (slot_at s k.meet.0) k.place → new ≡ set old r.0 (slice_index old r.0 + w) → HasLoads p (after s c) new
-  gave_by c k r old new w is f h e made = subst (λ x. HasLoads p (after s x) new) (sym is) (subst (HasLoads p (after s (Give k r))) (sym made) (gave k r old w (subst (Fits p s) is f) h e))
+  pub gave_by : (c : Change) (k : TaskId) (r : ResourceId) (old new : List ℕ) (w : ℕ) → c ≡ Give k r → Fits p s c
+      → HasLoads p s old → w ≡ worth_in p (slot_at s k.meet.0) k.place → new ≡ set old r.0 (slice_index old r.0 + w)
+      → HasLoads p (after s c) new
+  gave_by c k r old new w is f h e made = subst (λ x. HasLoads p (after s x) new) (sym is)
+      (subst (HasLoads p (after s (Give k r))) (sym made) (gave k r old w (subst (Fits p s) is f) h e))
 
-  pub took_by : (c : Change) (k : TaskId) (r : ResourceId) (old new : List ℕ) (w : ℕ) → c ≡ Take k r → Fits p s c → HasLoads p s old → w ≡ worth_in p (slot_at s k.meet.0) k.place → new ≡ set old r.0 (slice_index old r.0 - w) → HasLoads p (after s c) new
-  took_by c k r old new w is f h e made = subst (λ x. HasLoads p (after s x) new) (sym is) (subst (HasLoads p (after s (Take k r))) (sym made) (took k r old w (subst (Fits p s) is f) h e))
+  pub took_by : (c : Change) (k : TaskId) (r : ResourceId) (old new : List ℕ) (w : ℕ) → c ≡ Take k r → Fits p s c
+      → HasLoads p s old → w ≡ worth_in p (slot_at s k.meet.0) k.place → new ≡ set old r.0 (slice_index old r.0 - w)
+      → HasLoads p (after s c) new
+  took_by c k r old new w is f h e made = subst (λ x. HasLoads p (after s x) new) (sym is)
+      (subst (HasLoads p (after s (Take k r))) (sym made) (took k r old w (subst (Fits p s) is f) h e))
 
-  pub kept_by : (c : Change) (old : List ℕ) → ((k : TaskId) (r : ResourceId) → c ≡ Give k r → ⊥) → ((k : TaskId) (r : ResourceId) → c ≡ Take k r → ⊥) → Fits p s c → HasLoads p s old → HasLoads p (after s c) old
+  pub kept_by : (c : Change) (old : List ℕ) → ((k : TaskId) (r : ResourceId) → c ≡ Give k r → ⊥)
+      → ((k : TaskId) (r : ResourceId) → c ≡ Take k r → ⊥) → Fits p s c → HasLoads p s old → HasLoads p (after s c) old
   kept_by c old a b f h = kept c old (unnamed c a b) f h
 
   -- no workload is great
-  pub small_then : (s2 : List Slot) (loads : List ℕ) → AreTold p s2 → HasLoads p s2 loads → (r : ℕ) → slice_index loads r ≤ GREATEST_DEVIATION * p.unit
+  pub small_then : (s2 : List Slot) (loads : List ℕ) → AreTold p s2 → HasLoads p s2 loads → (r : ℕ)
+      → slice_index loads r ≤ GREATEST_DEVIATION * p.unit
   small_then s2 loads t h r = subst (λ n. n ≤ GREATEST_DEVIATION * p.unit) (sym (h.each r)) (load_small p made s2 t r)
 
   -- the workloads of all other resources stay
-  elsewhere : (c : Change) (r : ResourceId) → named_by c ≡ Some r → Fits p s c → (q : ℕ) → (r.0 ≡ q → ⊥) → workload_in p.events p.unit (duties_in (after s c)) q ≡ workload_in p.events p.unit (duties_in s) q
+  elsewhere : (c : Change) (r : ResourceId) → named_by c ≡ Some r → Fits p s c → (q : ℕ) → (r.0 ≡ q → ⊥)
+      → workload_in p.events p.unit (duties_in (after s c)) q ≡ workload_in p.events p.unit (duties_in s) q
   elsewhere (Give k x) r e f q n =
-      by _ _ _ (turned (Give k x) f q) (ap (λ b. cond b (worth_in p (slot_at s k.meet.0) k.place) 0) (ne_eqb x.0 q (λ h. n (sym (ap (λ (y : ResourceId). y.0) (same_Some x r e)) ∙ h))))
+      by _ _ _ (turned (Give k x) f q) (ap (λ b. cond b (worth_in p (slot_at s k.meet.0) k.place) 0)
+      (ne_eqb x.0 q (λ h. n (sym (ap (λ (y : ResourceId). y.0) (same_Some x r e)) ∙ h))))
     where
       by : (a b w : ℕ) → a + 0 ≡ b + w → w ≡ 0 → a ≡ b
       by a b w e f = omega (arith, e, f)
   elsewhere (Take k x) r e f q n =
-      by _ _ _ (turned (Take k x) f q) (ap (λ b. cond b (worth_in p (slot_at s k.meet.0) k.place) 0) (ne_eqb x.0 q (λ h. n (sym (ap (λ (y : ResourceId). y.0) (same_Some x r e)) ∙ h))))
+      by _ _ _ (turned (Take k x) f q) (ap (λ b. cond b (worth_in p (slot_at s k.meet.0) k.place) 0)
+      (ne_eqb x.0 q (λ h. n (sym (ap (λ (y : ResourceId). y.0) (same_Some x r e)) ∙ h))))
     where
       by : (a b w : ℕ) → a + w ≡ b + 0 → w ≡ 0 → a ≡ b
       by a b w e f = omega (arith, e, f)
@@ -181,13 +214,18 @@ module _ (p : Parts) (made : AreWellMade p) (s : List Slot) (told : AreTold p s)
   elsewhere (PlaceAt m t) r e f q n = absurd (none-some r e)
   elsewhere (Lift m t) r e f q n = absurd (none-some r e)
 
-  pub agrees_kept : (c : Change) (loads : List ℕ) → HasLoads p s loads → HasLoads p (after s c) loads → (ds : List ℕ) → Agrees p is_on_workload s ds → Agrees p is_on_workload (after s c) ds
+  pub agrees_kept : (c : Change) (loads : List ℕ) → HasLoads p s loads → HasLoads p (after s c) loads → (ds : List ℕ)
+      → Agrees p is_on_workload s ds → Agrees p is_on_workload (after s c) ds
   agrees_kept c loads before now ds agrees i m there serves =
       let is = monitor_made p made i m there in
-      agrees i m there serves ∙ ap Some (value_is p s loads m is serves before) ∙ ap Some (sym (value_is p (after s c) loads m is serves now))
+      agrees i m there serves ∙ ap Some (value_is p s loads m is serves before)
+      ∙ ap Some (sym (value_is p (after s c) loads m is serves now))
 
-  module _ (c : Change) (fits : Fits p s c) (r : ResourceId) (named : named_by c ≡ Some r) (list : List Post) (is_list : list ≡ posts_of is_on_workload p.monitors r.0) where
-    pub agrees_then : (old new : List ℕ) → HasLoads p s old → HasLoads p (after s c) new → (ds0 ds : List ℕ) → AreReported p (value_in p new) (λ m. true) list (length list) ds0 ds → Agrees p is_on_workload s ds0 → Agrees p is_on_workload (after s c) ds
+  module _ (c : Change) (fits : Fits p s c) (r : ResourceId) (named : named_by c ≡ Some r) (list : List Post)
+      (is_list : list ≡ posts_of is_on_workload p.monitors r.0) where
+    pub agrees_then : (old new : List ℕ) → HasLoads p s old → HasLoads p (after s c) new → (ds0 ds : List ℕ)
+        → AreReported p (value_in p new) (λ m. true) list (length list) ds0 ds → Agrees p is_on_workload s ds0
+        → Agrees p is_on_workload (after s c) ds
     agrees_then old new before now ds0 ds reported agrees i m there serves =
         by (cases_eq r.0 on.resource.0) ∙ ap Some (sym (value_is p (after s c) new m is serves now))
       where
@@ -199,22 +237,29 @@ module _ (p : Parts) (made : AreWellMade p) (s : List Slot) (told : AreTold p s)
 
         by : (r.0 ≡ on.resource.0) ⊎ (r.0 ≡ on.resource.0 → ⊥) → slice_get ds i ≡ Some (value_in p new m)
         by (inl e) =
-            let served : is_served_at is_on_workload r.0 m ≡ true = ap (λ b. b && is_at m.point r.0) serves ∙ ap (λ x. is_at x r.0) on.point ∙ eq-eqb on.resource.0 r.0 (sym e) in
+            let served : is_served_at is_on_workload r.0 m ≡ true =
+            ap (λ b. b && is_at m.point r.0) serves ∙ ap (λ x. is_at x r.0) on.point
+            ∙ eq-eqb on.resource.0 r.0 (sym e) in
             let f = posts_all (is_served_at is_on_workload r.0) 0 p.monitors i m there served in
-            let g : slice_get list f.0 ≡ Some (post i m) = ap (λ xs. slice_get xs f.0) is_list ∙ f.1 ∙ ap (λ n. Some (post n m)) (zero-add i) in
+            let g : slice_get list f.0 ≡ Some (post i m) =
+            ap (λ xs. slice_get xs f.0) is_list ∙ f.1 ∙ ap (λ n. Some (post n m)) (zero-add i) in
             reported.each f.0 (post i m) (slice_get_within list f.0 (post i m) g) g refl
         by (inr n) = reported.kept i m there
             (agrees i m there serves ∙ ap Some (value_is p s old m is serves before)
-            ∙ ap Some (sym (value_same p old new m on.resource is on.point (now.each on.resource.0 ∙ elsewhere c r named fits on.resource.0 n ∙ sym (before.each on.resource.0)))))
+            ∙ ap Some (sym (value_same p old new m on.resource is on.point
+            (now.each on.resource.0 ∙ elsewhere c r named fits on.resource.0 n ∙ sym (before.each on.resource.0)))))
 
-    pub others_then : (new ds0 ds : List ℕ) → AreReported p (value_in p new) (λ m. true) list (length list) ds0 ds → KeepsOthers p is_on_workload ds0 ds
+    pub others_then : (new ds0 ds : List ℕ) → AreReported p (value_in p new) (λ m. true) list (length list) ds0 ds
+        → KeepsOthers p is_on_workload ds0 ds
     others_then new ds0 ds reported i m there serves = reported.others i own
       where
         own : (j : ℕ) (a : Post) → slice_get list j ≡ Some a → a.number.0 ≡ i → ⊥
         own j a g e =
-            let f = posts_each (is_served_at is_on_workload r.0) p.monitors 0 p.monitors (λ n. ap (slice_get p.monitors) (zero-add n)) j a (ap (λ xs. slice_get xs j) (sym is_list) ∙ g) in
+            let f = posts_each (is_served_at is_on_workload r.0) p.monitors 0 p.monitors
+            (λ n. ap (slice_get p.monitors) (zero-add n)) j a (ap (λ xs. slice_get xs j) (sym is_list) ∙ g) in
             let same : a.monitor ≡ m = same_Some a.monitor m (sym f.0 ∙ ap (slice_get p.monitors) e ∙ there) in
-            true≢false (sym (and_parts (is_on_workload a.monitor.kind) (is_at a.monitor.point r.0) f.1).0 ∙ ap (λ (x : Monitor). is_on_workload x.kind) same ∙ serves)
+            true≢false (sym (and_parts (is_on_workload a.monitor.kind) (is_at a.monitor.point r.0) f.1).0
+            ∙ ap (λ (x : Monitor). is_on_workload x.kind) same ∙ serves)
 
     loaded : (c : Change) → named_by c ≡ Some r → loaded_resources c ≡ r.0 ∷ []
     loaded (Give k x) e = ap (λ (y : ResourceId). y.0 ∷ []) (same_Some x r e)
@@ -225,7 +270,8 @@ module _ (p : Parts) (made : AreWellMade p) (s : List Slot) (told : AreTold p s)
     loaded (Lift m t) e = absurd (none-some r e)
 
     -- a monitor on the workload watches the change
-    watched : (m : Monitor) → IsMonitor p m → cond {A = ℕ} (is_on_workload m.kind && is_at m.point r.0) 1 0 ≤ cond (is_on_workload m.kind) (watch_count p (slot_at s (meet_of c)) c m) 0
+    watched : (m : Monitor) → IsMonitor p m → cond {A = ℕ} (is_on_workload m.kind && is_at m.point r.0) 1 0 ≤ cond
+        (is_on_workload m.kind) (watch_count p (slot_at s (meet_of c)) c m) 0
     watched m is = by (is_on_workload m.kind) refl
       where
         last : (a b n : ℕ) (w : Bool) → n ≡ a + b + (0 + cond {A = ℕ} w 1 0) → cond {A = ℕ} w 1 0 ≤ n
@@ -236,32 +282,38 @@ module _ (p : Parts) (made : AreWellMade p) (s : List Slot) (told : AreTold p s)
             let x = slot_at s (meet_of c) in
             let rule = LimitWorkload on.least on.greatest in
             let event : ℕ = cond {A = ℕ} (names_event p rule m.point x.event.0) 1 0 in
-            let cells : ℕ = count_by (is_at m.point) (touched_resources x c) * count_by (lists_time rule) (touched_times x c) in
+            let cells : ℕ = count_by (is_at m.point) (touched_resources x c) * count_by (lists_time rule)
+            (touched_times x c) in
             last event cells (watch_count p x c m) (is_at m.point r.0)
             (ap (λ o. option_map_or (λ (k : Constraint). watches_with p x c k.rule m.point) o 0) on.there
             ∙ ap (λ (y : Rule). watches_with p x c y m.point) on.rule
             ∙ ap (λ xs. event + cells + count_by (is_at m.point) xs) (loaded c named))
 
-        by : (b : Bool) → is_on_workload m.kind ≡ b → cond {A = ℕ} (b && is_at m.point r.0) 1 0 ≤ cond b (watch_count p (slot_at s (meet_of c)) c m) 0
+        by : (b : Bool) → is_on_workload m.kind ≡ b → cond {A = ℕ} (b && is_at m.point r.0) 1 0 ≤ cond b
+            (watch_count p (slot_at s (meet_of c)) c m) 0
         by true e = counted (on_workload p m is e)
         by false e = omega arith
 
     pub steps_then : length list ≤ served_watchers p is_on_workload s c
     unfolding served_watchers
     steps_then =
-        let a = ap length is_list ∙ sym (ones (posts_of is_on_workload p.monitors r.0)) ∙ posts_sum (is_served_at is_on_workload r.0) (λ m. 1) 0 p.monitors in
-        let b = sum_less (λ (m : Monitor). cond {A = ℕ} (is_on_workload m.kind && is_at m.point r.0) 1 0) (λ (m : Monitor). cond (is_on_workload m.kind) (watch_count p (slot_at s (meet_of c)) c m) 0) p.monitors
+        let a = ap length is_list ∙ sym (ones (posts_of is_on_workload p.monitors r.0))
+        ∙ posts_sum (is_served_at is_on_workload r.0) (λ m. 1) 0 p.monitors in
+        let b = sum_less (λ (m : Monitor). cond {A = ℕ} (is_on_workload m.kind && is_at m.point r.0) 1 0)
+        (λ (m : Monitor). cond (is_on_workload m.kind) (watch_count p (slot_at s (meet_of c)) c m) 0) p.monitors
         (λ i d l. watched (get_or p.monitors i d) (made.monitors.each i d l)) in
         subst (λ n. n ≤ served_watchers p is_on_workload s c) (sym a) b
 
 -- a family that was told of no meets
-pub family_opened : (p : Parts) (s : List Slot) (loads : List ℕ) (lists : List (List Post)) → s ≡ no_meets p → loads ≡ replicate (length p.resources) 0
+pub family_opened : (p : Parts) (s : List Slot) (loads : List ℕ) (lists : List (List Post)) → s ≡ no_meets p
+    → loads ≡ replicate (length p.resources) 0
     → AreLists is_on_workload (length p.resources) p.monitors lists → IsFamily p s loads lists
 family_opened p s loads lists a b c = record {
   told = subst (AreTold p) (sym a) (told_opened p);
   loads_all = record {
     resources = ap length b ∙ length-replicate (length p.resources) 0;
-    each = λ r. (ap (λ xs. slice_index xs r) b ∙ none (length p.resources) r ∙ sym (ap (λ (ds : List Duty). workload_in p.events p.unit ds r) (ap duties_in a ∙ no_duties p)));
+    each = λ r. (ap (λ xs. slice_index xs r) b ∙ none (length p.resources) r
+        ∙ sym (ap (λ (ds : List Duty). workload_in p.events p.unit ds r) (ap duties_in a ∙ no_duties p)));
   };
   lists_all = c;
 }

@@ -1,5 +1,6 @@
 -- What a monitor on a workload measures.
-use Rattle.std.proofs.Common.{ℕ, ◌≡◌, ◌≤◌, ◌<◌, ◌*◌, ◌∙◌, true, Some, List, length, slice_get, slice_index, sym, ap, subst, arith}
+use Rattle.std.proofs.Common.{ℕ, ◌≡◌, ◌≤◌, ◌<◌, ◌*◌, ◌∙◌, true, Some, List, length, slice_get, slice_index, sym, ap}
+use Rattle.std.proofs.Common.{subst, arith}
 use Rattle.std.specs.Option.{option_map_or}
 use Rattle.khe_base.specs.declared.limits.TheConstants.{GREATEST_DEVIATION}
 use Rattle.khe_base.specs.declared.numbers.ResourceId.{ResourceId}
@@ -36,12 +37,23 @@ pub record IsOnWorkload (p : Parts) (m : Monitor) : Type 0 where
 
 pub on_workload : (p : Parts) (m : Monitor) → IsMonitor p m → is_on_workload m.kind ≡ true → IsOnWorkload p m
 on_workload p m (c, there, of_rule, point) served =
-    let of : IsOfKind kind.LimitWorkload c.rule = subst (λ k. IsOfKind k c.rule) (sym of_rule ∙ same_kind m.kind kind.LimitWorkload served) (of_kind c.rule) in
+    let of : IsOfKind kind.LimitWorkload c.rule =
+    subst (λ k. IsOfKind k c.rule) (sym of_rule ∙ same_kind m.kind kind.LimitWorkload served) (of_kind c.rule) in
     let at = of_point p m.point (subst (λ (x : Rule). IsPointOf p x m.point) of.2 point) in
-    record { constraint = c; there = there; least = of.0; greatest = of.1; rule = of.2; resource = at.0; point = at.1; known = at.2 }
+    record {
+      constraint = c;
+      there = there;
+      least = of.0;
+      greatest = of.1;
+      rule = of.2;
+      resource = at.0;
+      point = at.1;
+      known = at.2;
+    }
 
 -- its deviation is what is measured of the workload
-pub value_is : (p : Parts) (s : List Slot) (loads : List ℕ) (m : Monitor) → IsMonitor p m → is_on_workload m.kind ≡ true → HasLoads p s loads → deviation_in p s m ≡ value_in p loads m
+pub value_is : (p : Parts) (s : List Slot) (loads : List ℕ) (m : Monitor) → IsMonitor p m → is_on_workload m.kind ≡ true
+    → HasLoads p s loads → deviation_in p s m ≡ value_in p loads m
 value_is p s loads m is served h =
     let on = on_workload p m is served in
     ap (λ o. option_map_or (λ (x : Constraint). deviation_at p (meets_in s) (duties_in s) x.rule m.point) o 0) on.there
@@ -51,7 +63,8 @@ value_is p s loads m is served h =
     ∙ sym (ap (λ o. option_map_or (λ (x : Constraint). value_at p loads x.rule m.point) o 0) on.there)
 
 -- it turns on the workload of its resource alone
-pub value_same : (p : Parts) (old new : List ℕ) (m : Monitor) (r : ResourceId) → IsMonitor p m → m.point ≡ Resource r → slice_index new r.0 ≡ slice_index old r.0 → value_in p new m ≡ value_in p old m
+pub value_same : (p : Parts) (old new : List ℕ) (m : Monitor) (r : ResourceId) → IsMonitor p m → m.point ≡ Resource r
+    → slice_index new r.0 ≡ slice_index old r.0 → value_in p new m ≡ value_in p old m
 value_same p old new m r (c, there, kind, point) at h =
     ap (λ o. option_map_or (λ (x : Constraint). value_at p new x.rule m.point) o 0) there
     ∙ ap (value_at p new c.rule) at
@@ -61,16 +74,21 @@ value_same p old new m r (c, there, kind, point) at h =
 
 -- and is no greater than any deviation
 module _ (p : Parts) (made : AreWellMade p) where
-  outside_small : (load : ℕ) → load ≤ GREATEST_DEVIATION * p.unit → (rule : Rule) → IsRule p rule → outside p rule load ≤ GREATEST_DEVIATION
-  outside_small load small (LimitWorkload least greatest) h = measured-small p (λ t. 0) load made.limits made.unit.positive (λ t. omega arith) small (LimitWorkload least greatest) h
+  outside_small : (load : ℕ) → load ≤ GREATEST_DEVIATION * p.unit → (rule : Rule) → IsRule p rule
+      → outside p rule load ≤ GREATEST_DEVIATION
+  outside_small load small (LimitWorkload least greatest) h =
+      measured-small p (λ t. 0) load made.limits made.unit.positive (λ t. omega arith) small
+      (LimitWorkload least greatest) h
   outside_small load small _ h = omega arith
 
-  pub value_small : (loads : List ℕ) → ((r : ℕ) → slice_index loads r ≤ GREATEST_DEVIATION * p.unit) → (m : Monitor) → IsMonitor p m → value_in p loads m ≤ GREATEST_DEVIATION
+  pub value_small : (loads : List ℕ) → ((r : ℕ) → slice_index loads r ≤ GREATEST_DEVIATION * p.unit) → (m : Monitor)
+      → IsMonitor p m → value_in p loads m ≤ GREATEST_DEVIATION
   value_small loads small m (c, there, kind, point) =
       let e = ap (λ o. option_map_or (λ (x : Constraint). value_at p loads x.rule m.point) o 0) there in
       let l = by m.point in
       omega (arith, e, l)
     where
       by : (point : Point) → value_at p loads c.rule point ≤ GREATEST_DEVIATION
-      by (Resource r) = outside_small (slice_index loads r.0) (small r.0) c.rule (constraint_made p made m.constraint c there).rule
+      by (Resource r) = outside_small (slice_index loads r.0) (small r.0) c.rule
+          (constraint_made p made m.constraint c there).rule
       by _ = omega arith

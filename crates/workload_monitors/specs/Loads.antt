@@ -32,7 +32,13 @@ named_by _ = None
 
 -- what a task of a slot is worth, in parts of one over the unit
 abbrev pub worth_in : Parts → Slot → ℕ → ℕ
-worth_in p x place = workload_of p.events p.unit (record { meet = record { meet = x.meet; event = x.event; duration = length_of x; start = start_of x }; place = place; resource = None })
+worth_in p x place = workload_of p.events p.unit
+    (record {
+      meet = record { meet = x.meet; event = x.event; duration = length_of x; start = start_of x };
+      place =
+          place;
+      resource = None;
+    })
 
 -- a workload for each resource: that of its tasks
 pub record HasLoads (p : Parts) (s : List Slot) (loads : List ℕ) : Type 0 where

@@ -1,5 +1,6 @@
 -- Why a solution is invalid: the first cause of its first entry that has one.
-use Rattle.std.specs.Prelude.{ℕ, ◌+◌, ◌==◌, Bool, false, not, ◌&&◌, ◌||◌, nat_lt, if◌then◌else◌, Option, Some, None, is_some, is_none, List, [], ◌∷◌, ◌++◌, find, length, slice_get}
+use Rattle.std.specs.Prelude.{ℕ, ◌+◌, ◌==◌, Bool, false, not, ◌&&◌, ◌||◌, nat_lt, if◌then◌else◌, Option, Some, None}
+use Rattle.std.specs.Prelude.{is_some, is_none, List, [], ◌∷◌, ◌++◌, find, length, slice_get}
 use Rattle.std.specs.List.{list_any, sum_by}
 use Rattle.std.specs.Option.{option_map, option_map_or, option_or, option_and_then}
 use Rattle.khe_base.specs.declared.numbers.ResourceId.{ResourceId}
@@ -12,7 +13,8 @@ use Rattle.khe_instance.specs.declared.parts.Parts.{Parts}
 use Rattle.khe_instance.specs.declared.parts.Place.{Place}
 use Rattle.xhstt_completion.specs.Entries.{entries_of, duration_of, time_of, start_of, resource_of, role_of}
 use Rattle.xhstt_completion.specs.declared.faults.Cause.{Cause}
-use Rattle.xhstt_completion.specs.declared.faults.TheConstants.{TOO_LONG, SPLIT_FIXED, FIXED_TIME, OFF_END, BAD_ROLE, FIXED_RESOURCE, WRONG_TYPE}
+use Rattle.xhstt_completion.specs.declared.faults.TheConstants.{TOO_LONG, SPLIT_FIXED, FIXED_TIME, OFF_END, BAD_ROLE}
+use Rattle.xhstt_completion.specs.declared.faults.TheConstants.{FIXED_RESOURCE, WRONG_TYPE}
 use Rattle.xhstt_shape.specs.declared.records.RawEntry.{RawEntry}
 use Rattle.xhstt_shape.specs.declared.records.RawGiven.{RawGiven}
 
@@ -34,7 +36,8 @@ moves_fixed p event entry = differ_in_time (time_of p entry) event.fixed
 
 -- an entry ends after the last time
 abbrev pub ends_late : Parts → EventInfo → RawEntry → Bool
-ends_late p event entry = option_map_or (λ s. nat_lt (length p.times) (s.0 + duration_of event entry)) (start_of p event entry) false
+ends_late p event entry = option_map_or (λ s. nat_lt (length p.times) (s.0 + duration_of event entry))
+    (start_of p event entry) false
 
 -- whether a place is the one for a resource that is given for this role; or, without a role, whether
 -- it has none either, and has this resource
@@ -48,7 +51,8 @@ place_for p event given = find (is_place_for (resource_of p given) (role_of give
 
 -- the role came before, among the resources that the entry gave so far
 abbrev pub came_before : List RawGiven → RawGiven → Bool
-came_before before given = option_map_or (λ role. list_any (λ other. is_role role (role_of other)) before) (role_of given) false
+came_before before given = option_map_or (λ role. list_any (λ other. is_role role (role_of other)) before)
+    (role_of given) false
 
 -- a resource is not the one that its place has
 abbrev pub differ_in_resource : Option ResourceId → Option ResourceId → Bool
@@ -98,10 +102,12 @@ used_by p e event entries = sum_by (duration_of event) (entries_of p e entries)
 -- the cause at an entry that follows others
 abbrev pub cause_after : Parts → List RawEntry → RawEntry → Option ℕ
 cause_after p before entry =
-    option_and_then (λ e. option_and_then (λ event. cause_in p event (used_by p e.0 event before) entry) (slice_get p.events e.0)) (event_named p entry.reference.id)
+    option_and_then (λ e. option_and_then (λ event. cause_in p event (used_by p e.0 event before) entry)
+    (slice_get p.events e.0)) (event_named p entry.reference.id)
 
 -- the first cause at entries that follow others
 abbrev pub first_cause : Parts → List RawEntry → List RawEntry → Option Cause
 first_cause p before [] = None
 first_cause p before (entry ∷ rest) =
-    option_or (option_map (λ cause. record { cause = cause; entry = length before }) (cause_after p before entry)) (first_cause p (before ++ entry ∷ []) rest)
+    option_or (option_map (λ cause. record { cause = cause; entry = length before }) (cause_after p before entry))
+    (first_cause p (before ++ entry ∷ []) rest)

@@ -1,5 +1,6 @@
 -- The state that a solution of an archive says, completed as KHE completes a solution that it reads.
-use Rattle.std.specs.Prelude.{ℕ, ◌≡◌, ◌-◌, ◌==◌, if◌then◌else◌, Option, Some, None, List, [], ◌∷◌, ◌++◌, map, find, Result, Ok, Err}
+use Rattle.std.specs.Prelude.{ℕ, ◌≡◌, ◌-◌, ◌==◌, if◌then◌else◌, Option, Some, None, List, [], ◌∷◌, ◌++◌, map, find}
+use Rattle.std.specs.Prelude.{Result, Ok, Err}
 use Rattle.std.specs.List.{flat_map, enumerate_from}
 use Rattle.std.specs.Option.{option_or, option_and_then}
 use Rattle.khe_base.specs.declared.numbers.ResourceId.{ResourceId}
@@ -29,16 +30,23 @@ pub record Part : Type 0 where
 
 -- the part that an entry says
 abbrev pub part_of : Parts → EventInfo → RawEntry → Part
-part_of p event entry = record { duration = duration_of event entry; start = start_of p event entry; given = entry.resources }
+part_of p event entry = record {
+  duration = duration_of event entry;
+  start = start_of p event entry;
+  given =
+      entry.resources;
+}
 
 -- where the entries of an event fall short of its duration, one more part lasts so long, at the
 -- preassigned time if there is one
 abbrev pub missing_parts : EventInfo → ℕ → List Part
-missing_parts event missing = if missing == 0 then [] else record { duration = missing; start = event.fixed; given = [] } ∷ []
+missing_parts event missing = if missing == 0 then [] else record
+    { duration = missing; start = event.fixed; given = [] } ∷ []
 
 -- the parts of an event with a number: its entries in order, and what they miss
 abbrev pub parts_of : Parts → List RawEntry → ℕ × EventInfo → List Part
-parts_of p entries (e, event) = map (part_of p event) (entries_of p e entries) ++ missing_parts event (event.duration - used_by p e event entries)
+parts_of p entries (e, event) = map (part_of p event) (entries_of p e entries)
+    ++ missing_parts event (event.duration - used_by p e event entries)
 
 -- the resource that is given for a role
 abbrev pub given_for : Parts → List RawGiven → List ℕ → Option ResourceId
@@ -50,11 +58,20 @@ resource_at p given place = option_or place.fixed (option_and_then (given_for p 
 
 -- the meet of a part in a slot
 abbrev pub meet_of : ℕ → ℕ × Part → Meet
-meet_of e (slot, part) = record { meet = record { 0 = slot }; event = record { 0 = e }; duration = part.duration; start = part.start }
+meet_of e (slot, part) = record {
+  meet = record { 0 = slot };
+  event = record { 0 = e };
+  duration = part.duration;
+  start = part.start;
+}
 
 -- the task at a place of the meet in a slot
 abbrev pub task_of : Parts → ℕ → List RawGiven → ℕ × Place → Task
-task_of p slot given (k, place) = record { task = record { meet = record { 0 = slot }; place = k }; resource = resource_at p given place }
+task_of p slot given (k, place) = record {
+  task = record { meet = record { 0 = slot }; place = k };
+  resource =
+      resource_at p given place;
+}
 
 -- the tasks of a part in a slot: one for each place of its event
 abbrev pub tasks_of : Parts → EventInfo → ℕ × Part → List Task

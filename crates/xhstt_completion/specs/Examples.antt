@@ -26,11 +26,25 @@ place role fixed = record { role = role; rtype = 0; fixed = fixed; workload = 1 
 
 -- a course of duration 2 with a place for a teacher, and a class that is preassigned
 abbrev pub course : EventInfo
-course = record { id = codes "course"; duration = 2; fixed = None; first_meet = 0; places = place (Some (codes "teacher")) None ∷ place None (Some (record { 0 = 1 })) ∷ [] }
+course = record {
+  id = codes "course";
+  duration = 2;
+  fixed = None;
+  first_meet = 0;
+  places =
+      place (Some (codes "teacher")) None ∷ place None (Some (record { 0 = 1 })) ∷ [];
+}
 
 -- an assembly of duration 2 at the second time, with a preassigned teacher
 abbrev pub assembly : EventInfo
-assembly = record { id = codes "assembly"; duration = 2; fixed = Some (record { 0 = 1 }); first_meet = 2; places = place (Some (codes "teacher")) (Some (record { 0 = 0 })) ∷ [] }
+assembly = record {
+  id = codes "assembly";
+  duration = 2;
+  fixed = Some (record { 0 = 1 });
+  first_meet = 2;
+  places =
+      place (Some (codes "teacher")) (Some (record { 0 = 0 })) ∷ [];
+}
 
 -- three times, two people, a room, and the two events
 abbrev pub school : Parts
@@ -63,7 +77,13 @@ abbrev pub lasting : List ℕ → ℕ → RawEntry
 lasting id duration = record { reference = ref id; duration = Some duration; time = None; resources = [] }
 
 abbrev pub lasting_at : List ℕ → ℕ → List ℕ → RawEntry
-lasting_at id duration time = record { reference = ref id; duration = Some duration; time = Some (ref time); resources = [] }
+lasting_at id duration time = record {
+  reference = ref id;
+  duration = Some duration;
+  time = Some (ref time);
+  resources =
+      [];
+}
 
 abbrev pub giving : RawEntry → List RawGiven → RawEntry
 giving entry given = record entry { resources = given }
@@ -74,7 +94,12 @@ whole id = record { reference = ref id; duration = None; time = None; resources 
 
 -- what entries say of the school
 abbrev pub said : List RawEntry → Result Plain Cause
-said entries = completed school (record { reference = ref (codes "school"); description = None; running_time = None; events = entries })
+said entries = completed school (record {
+  reference = ref (codes "school");
+  description = None;
+  running_time = None;
+  events = entries;
+})
 
 abbrev pub at_entry : ℕ → ℕ → Result Plain Cause
 at_entry entry cause = Err (record { cause = cause; entry = entry })
@@ -82,7 +107,13 @@ at_entry entry cause = Err (record { cause = cause; entry = entry })
 -- ---- states
 
 abbrev pub meet : ℕ → ℕ → ℕ → Option TimeId → Meet
-meet slot e duration start = record { meet = record { 0 = slot }; event = record { 0 = e }; duration = duration; start = start }
+meet slot e duration start = record {
+  meet = record { 0 = slot };
+  event = record { 0 = e };
+  duration = duration;
+  start =
+      start;
+}
 
 abbrev pub task : ℕ → ℕ → Option ResourceId → Task
 task slot place resource = record { task = record { meet = record { 0 = slot }; place = place }; resource = resource }
@@ -99,7 +130,14 @@ lesson = record {
   types = 1;
   resources = resource (codes "r") 0 ∷ [];
   groups = [];
-  events = record { id = codes "e"; duration = 1; fixed = None; first_meet = 0; places = place (Some (codes "T")) None ∷ [] } ∷ [];
+  events = record {
+    id = codes "e";
+    duration = 1;
+    fixed = None;
+    first_meet = 0;
+    places =
+        place (Some (codes "T")) None ∷ [];
+  } ∷ [];
   constraints = [];
   monitors = [];
   unit = 1;
@@ -111,5 +149,11 @@ lesson_solution duration = record {
   reference = ref (codes "i");
   description = None;
   running_time = None;
-  events = record { reference = ref (codes "e"); duration = duration; time = Some (ref (codes "t")); resources = for_role (codes "T") (codes "r") ∷ [] } ∷ [];
+  events = record {
+    reference = ref (codes "e");
+    duration = duration;
+    time = Some (ref (codes "t"));
+    resources =
+        for_role (codes "T") (codes "r") ∷ [];
+  } ∷ [];
 }

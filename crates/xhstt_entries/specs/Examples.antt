@@ -25,7 +25,14 @@ teacher = place (Some (codes "teacher")) None
 -- a lesson of duration 3 with a place for a teacher, and a class that is preassigned; and a talk of
 -- duration 1 with a place for a teacher
 abbrev pub lesson : EventInfo
-lesson = record { id = codes "lesson"; duration = 3; fixed = None; first_meet = 0; places = teacher ∷ place None (Some (record { 0 = 1 })) ∷ [] }
+lesson = record {
+  id = codes "lesson";
+  duration = 3;
+  fixed = None;
+  first_meet = 0;
+  places =
+      teacher ∷ place None (Some (record { 0 = 1 })) ∷ [];
+}
 
 abbrev pub talk : EventInfo
 talk = record { id = codes "talk"; duration = 1; fixed = None; first_meet = 3; places = teacher ∷ [] }
@@ -44,7 +51,13 @@ school = record {
 }
 
 abbrev pub meet : ℕ → ℕ → ℕ → Option TimeId → Meet
-meet slot e duration start = record { meet = record { 0 = slot }; event = record { 0 = e }; duration = duration; start = start }
+meet slot e duration start = record {
+  meet = record { 0 = slot };
+  event = record { 0 = e };
+  duration = duration;
+  start =
+      start;
+}
 
 abbrev pub task : ℕ → ℕ → Option ResourceId → Task
 task slot place resource = record { task = record { meet = record { 0 = slot }; place = place }; resource = resource }
@@ -54,7 +67,8 @@ task slot place resource = record { task = record { meet = record { 0 = slot }; 
 abbrev pub timetable : Plain
 timetable = record {
   meets = meet 0 0 2 (Some (record { 0 = 1 })) ∷ meet 1 0 1 None ∷ meet 3 1 1 None ∷ [];
-  tasks = task 0 0 (Some (record { 0 = 0 })) ∷ task 0 1 (Some (record { 0 = 1 })) ∷ task 1 0 None ∷ task 1 1 (Some (record { 0 = 1 })) ∷ task 3 0 None ∷ [];
+  tasks = task 0 0 (Some (record { 0 = 0 })) ∷ task 0 1 (Some (record { 0 = 1 })) ∷ task 1 0 None ∷ task 1 1
+      (Some (record { 0 = 1 })) ∷ task 3 0 None ∷ [];
   detached = [];
   groups = [];
 }
@@ -62,7 +76,12 @@ timetable = record {
 -- an entry of an event with its duration, its time and what is given
 abbrev pub entry : List ℕ → ℕ → Option (List ℕ) → List RawGiven → RawEntry
 entry id duration None given = record { reference = to id; duration = Some duration; time = None; resources = given }
-entry id duration (Some time) given = record { reference = to id; duration = Some duration; time = Some (to time); resources = given }
+entry id duration (Some time) given = record {
+  reference = to id;
+  duration = Some duration;
+  time = Some (to time);
+  resources = given;
+}
 
 abbrev pub for_role : List ℕ → List ℕ → RawGiven
 for_role role id = record { reference = to id; role = Some (role_named role) }

@@ -37,7 +37,8 @@ resource_id p r = option_map_or (λ resource. resource.id) (slice_get p.resource
 
 -- a resource is given at its place, unless one is preassigned there
 abbrev pub given_at : Parts → Place → ResourceId → List RawGiven
-given_at p place r = option_map_or (λ fixed. []) place.fixed (record { reference = to (resource_id p r); role = option_map role_named place.role } ∷ [])
+given_at p place r = option_map_or (λ fixed. []) place.fixed
+    (record { reference = to (resource_id p r); role = option_map role_named place.role } ∷ [])
 
 -- what a task with its meet gives
 abbrev pub given_by : Parts → Option Place → Option ResourceId → List RawGiven

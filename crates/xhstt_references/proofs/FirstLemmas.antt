@@ -1,5 +1,6 @@
 -- The first of some places, and the places of the elements of a list one after the other.
-use Rattle.std.proofs.Common.{◌≡◌, ◌∙◌, ap, refl, sym, ℕ, ◌+◌, ◌<◌, ◌≤◌, add-one, drop-cons, List, [], ◌∷◌, ◌++◌, length, get_or, drop, Option}
+use Rattle.std.proofs.Common.{◌≡◌, ◌∙◌, ap, refl, sym, ℕ, ◌+◌, ◌<◌, ◌≤◌, add-one, drop-cons, List, [], ◌∷◌, ◌++◌}
+use Rattle.std.proofs.Common.{length, get_or, drop, Option}
 use Rattle.std.specs.List.{flat_map}
 use Rattle.std.proofs.lemmas.List.{drop_all}
 use Rattle.std.proofs.lemmas.List.Sums.{fold-append}
@@ -32,7 +33,8 @@ drop_step xs i d h = drop-cons xs i d h ∙ ap (λ k. get_or xs i d ∷ drop k x
 
 module _ {X : Type 0} (f : X → List ℕ) (xs : List X) (i : ℕ) where
   -- the places of the element at hand, and then those of the rest
-  pub walk_step : (x : X) (before after whole : Option ℕ) → i < length xs → x ≡ get_or xs i x → after ≡ first_of before (f x)
+  pub walk_step : (x : X) (before after whole : Option ℕ) → i < length xs → x ≡ get_or xs i x
+      → after ≡ first_of before (f x)
       → first_of before (flat_map f (drop i xs)) ≡ whole → first_of after (flat_map f (drop (i + 1) xs)) ≡ whole
   walk_step x before after whole h at is old =
       ap (λ y. first_of y (flat_map f (drop (i + 1) xs))) is
@@ -41,5 +43,7 @@ module _ {X : Type 0} (f : X → List ℕ) (xs : List X) (i : ℕ) where
       ∙ old
 
   -- nothing is left
-  pub walk_end : (first whole : Option ℕ) → length xs ≤ i → first_of first (flat_map f (drop i xs)) ≡ whole → first ≡ whole
-  walk_end first whole h old = sym (first_of_nil first) ∙ ap (λ r. first_of first (flat_map f r)) (sym (drop_all i xs h)) ∙ old
+  pub walk_end : (first whole : Option ℕ) → length xs ≤ i → first_of first (flat_map f (drop i xs)) ≡ whole
+      → first ≡ whole
+  walk_end first whole h old = sym (first_of_nil first)
+      ∙ ap (λ r. first_of first (flat_map f r)) (sym (drop_all i xs h)) ∙ old

@@ -1,5 +1,6 @@
 -- The first of some places is the fault that is told.
-use Rattle.std.proofs.Common.{◌≡◌, ◌∙◌, ap, refl, sym, subst, ℕ, min, List, [], ◌∷◌, Option, Some, None, Err, Ok, Result, IfOk}
+use Rattle.std.proofs.Common.{◌≡◌, ◌∙◌, ap, refl, sym, subst, ℕ, min, List, [], ◌∷◌, Option, Some, None, Err, Ok}
+use Rattle.std.proofs.Common.{Result, IfOk}
 use Rattle.std.specs.List.{fold}
 use Rattle.std.specs.Option.{option_map}
 use Rattle.std.specs.Result.{IsErrAnd, result_and}
@@ -22,8 +23,10 @@ pub none_left : (kind : ℕ) (xs : List ℕ) → at_first kind xs None ≡ None 
 none_left kind [] h = refl
 none_left kind (at ∷ more) h = cc
 
-pub passed : (kind : ℕ) (first : Option ℕ) (xs : List ℕ) → first ≡ first_of None xs → option_map (λ at. Bad kind at) first ≡ None → xs ≡ []
-passed kind first xs is h = none_left kind xs (sym (first_is kind xs) ∙ ap (option_map (λ at. Bad kind at)) (sym is) ∙ h)
+pub passed : (kind : ℕ) (first : Option ℕ) (xs : List ℕ) → first ≡ first_of None xs
+    → option_map (λ at. Bad kind at) first ≡ None → xs ≡ []
+passed kind first xs is h = none_left kind xs
+    (sym (first_is kind xs) ∙ ap (option_map (λ at. Bad kind at)) (sym is) ∙ h)
 
 -- a fault that is told of some places is the first of all, whatever follows
 told_first : (kind : ℕ) (xs : List ℕ) (following : Option ReferenceFault) (e : ReferenceFault)
@@ -33,9 +36,11 @@ told_first kind [] following (Bad k at) h = cc
 told_first kind (x ∷ more) following (Bad k at) h = h
 
 pub refused : (kind : ℕ) (first : Option ℕ) (xs : List ℕ) (following : Option ReferenceFault) (e : ReferenceFault)
-    → first ≡ first_of None xs → IsTold {A = Unit {0}} (Err e) (option_map (λ at. Bad kind at) first) → IsTold {A = Unit {0}} (Err e) (at_first kind xs following)
+    → first ≡ first_of None xs → IsTold {A = Unit {0}} (Err e) (option_map (λ at. Bad kind at) first)
+    → IsTold {A = Unit {0}} (Err e) (at_first kind xs following)
 refused kind first xs following e is h =
-    let same : option_map (λ at. Bad kind at) first ≡ at_first kind xs None = ap (option_map (λ at. Bad kind at)) is ∙ first_is kind xs in
+    let same : option_map (λ at. Bad kind at) first ≡ at_first kind xs None =
+    ap (option_map (λ at. Bad kind at)) is ∙ first_is kind xs in
     let P : Option ReferenceFault → Type 0 = λ f. IsTold {A = Unit {0}} (Err e) f in
     told_first kind xs following e (subst P same h)
 
@@ -61,7 +66,8 @@ kept (Ok u) r a P is h = subst (λ x. IfOk x P) (sym is) h
 kept (Err e) r a P is h = subst (λ x. IfOk x P) (sym is) tt
 
 -- and a fault that the judgment found is told
-pub kept_told : {A : Type 0} (j : Result (Unit {0}) ReferenceFault) (r : Result A ReferenceFault) (a : A) (fault : Option ReferenceFault)
+pub kept_told : {A : Type 0} (j : Result (Unit {0}) ReferenceFault) (r : Result A ReferenceFault) (a : A)
+    (fault : Option ReferenceFault)
     → r ≡ result_and j (Ok a) → IsTold j fault → IsTold r fault
 kept_told (Ok u) r a fault is h = subst (λ x. IsTold x fault) (sym is) h
 kept_told (Err NoMemory) r a fault is h = subst (λ x. IsTold x fault) (sym is) tt

@@ -1,5 +1,7 @@
 -- References that are not among names.
-use Rattle.std.proofs.Common.{◌≡◌, ◌∙◌, ap, refl, sym, ℕ, ◌+◌, ◌-◌, ◌<◌, Bool, true, false, not, cond, ltb, nat_lt, if◌then◌else◌, get_or, List, [], ◌∷◌, ◌++◌, map, length, position, Option, Some, None, arith}
+use Rattle.std.proofs.Common.{◌≡◌, ◌∙◌, ap, refl, sym, ℕ, ◌+◌, ◌-◌, ◌<◌, Bool, true, false, not, cond, ltb, nat_lt}
+use Rattle.std.proofs.Common.{if◌then◌else◌, get_or, List, [], ◌∷◌, ◌++◌, map, length, position, Option, Some, None}
+use Rattle.std.proofs.Common.{arith}
 use Rattle.std.specs.List.{filter, filter_map, flat_map, list_any, position_or_len, slice_get, cons_option}
 use Rattle.std.specs.Str.{bytes_eq}
 use Rattle.std.specs.Option.{is_some, option_and_then, option_map_or}
@@ -24,23 +26,27 @@ is_some_position p xs = chosen (ltb (position_or_len p xs) (length xs)) (positio
     chosen false n = refl
 
 -- a reference that has a number is not noted, and one that has none is
-pub known : (first : Option ℕ) (names : List (List ℕ)) (r : Ref) → is_some (number_of r.id names) ≡ true → first ≡ first_of first (unknown names (r ∷ []))
+pub known : (first : Option ℕ) (names : List (List ℕ)) (r : Ref) → is_some (number_of r.id names) ≡ true
+    → first ≡ first_of first (unknown names (r ∷ []))
 known first names r h =
     sym (first_of_nil first)
     ∙ ap (λ b. first_of first (map (λ x. x.at) (cond (not b) (r ∷ []) []))) (sym h ∙ is_some_position _ names)
 
-pub not_known : (first : Option ℕ) (names : List (List ℕ)) (r : Ref) → is_some (number_of r.id names) ≡ false → noted first r.at ≡ first_of first (unknown names (r ∷ []))
+pub not_known : (first : Option ℕ) (names : List (List ℕ)) (r : Ref) → is_some (number_of r.id names) ≡ false
+    → noted first r.at ≡ first_of first (unknown names (r ∷ []))
 not_known first names r h =
     sym (first_of_one first r.at)
     ∙ ap (λ b. first_of first (map (λ x. x.at) (cond (not b) (r ∷ []) []))) (sym h ∙ is_some_position _ names)
 
 -- references one by one
-pub unknown_each : (names : List (List ℕ)) (rs : List Ref) → unknown names rs ≡ flat_map (λ r. unknown names (r ∷ [])) rs
+pub unknown_each : (names : List (List ℕ)) (rs : List Ref)
+    → unknown names rs ≡ flat_map (λ r. unknown names (r ∷ [])) rs
 unknown_each names [] = refl
 unknown_each names (r ∷ rs) = by (not (is_among_names r.id names)) (unknown_each names rs)
   where
     by : (b : Bool) → unknown names rs ≡ flat_map (λ x. unknown names (x ∷ [])) rs
-        → map (λ x. x.at) (cond b (r ∷ filter (λ x. not (is_among_names x.id names)) rs) (filter (λ x. not (is_among_names x.id names)) rs))
+        → map (λ x. x.at) (cond b (r ∷ filter (λ x. not (is_among_names x.id names)) rs)
+        (filter (λ x. not (is_among_names x.id names)) rs))
         ≡ map (λ x. x.at) (cond b (r ∷ []) []) ++ flat_map (λ x. unknown names (x ∷ [])) rs
     by true e = ap (λ t. r.at ∷ t) e
     by false e = e
@@ -55,7 +61,8 @@ left_over count n d h = grind (arith, nat_tests)
 
 -- the place of a time from which an event would go on beyond the last one
 pub off_end_place : (d : Directory) (duration : ℕ) (r : Ref)
-    → off_end_from d duration r ≡ (if option_map_or (λ t. nat_lt (length d.times) (t + duration)) (number_of r.id d.times) false then r.at ∷ [] else [])
+    → off_end_from d duration r ≡ (if option_map_or (λ t. nat_lt (length d.times) (t + duration))
+    (number_of r.id d.times) false then r.at ∷ [] else [])
 off_end_place d duration r = by (number_of r.id d.times)
   where
     by : (o : Option ℕ) → option_map_or (λ t. if nat_lt (length d.times) (t + duration) then r.at ∷ [] else []) o []
@@ -81,23 +88,32 @@ off_end_passed first d duration r late is h =
 
 -- a solution of an instance that is there, and one of none
 module _ (ids : List (List ℕ)) (directories : List Directory) (s : RawSolution) where
-  pub solution_known : (k : ℕ) (d : Directory) → number_of s.reference.id ids ≡ Some k → k < length directories → d ≡ get_or directories k d
+  pub solution_known : (k : ℕ) (d : Directory) → number_of s.reference.id ids ≡ Some k → k < length directories
+      → d ≡ get_or directories k d
       → unknown_in_solution ids directories s ≡ flat_map (unknown_in_entry d) s.events
   solution_known k d is h at =
       let found : slice_get directories k ≡ Some d = slice_get-get_or directories k d h ∙ ap Some (sym at) in
-      ap (λ b. map (λ x. x.at) (cond (not b) (s.reference ∷ []) []) ++ option_map_or (λ e. flat_map (unknown_in_entry e) s.events) (option_and_then (λ j. slice_get directories j) (number_of s.reference.id ids)) [])
+      ap (λ b. map (λ x. x.at) (cond (not b) (s.reference ∷ []) [])
+      ++ option_map_or (λ e. flat_map (unknown_in_entry e) s.events)
+      (option_and_then (λ j. slice_get directories j) (number_of s.reference.id ids)) [])
       (sym (is_some_position _ ids) ∙ ap is_some is)
-      ∙ ap (λ o. option_map_or (λ e. flat_map (unknown_in_entry e) s.events) (option_and_then (λ j. slice_get directories j) o) []) is
+      ∙ ap (λ o. option_map_or (λ e. flat_map (unknown_in_entry e) s.events)
+      (option_and_then (λ j. slice_get directories j) o) []) is
       ∙ ap (λ o. option_map_or (λ e. flat_map (unknown_in_entry e) s.events) o []) found
 
-  pub solution_unknown : number_of s.reference.id ids ≡ None → unknown_in_solution ids directories s ≡ s.reference.at ∷ []
+  pub solution_unknown : number_of s.reference.id ids ≡ None
+      → unknown_in_solution ids directories s ≡ s.reference.at ∷ []
   solution_unknown is =
-      ap (λ b. map (λ x. x.at) (cond (not b) (s.reference ∷ []) []) ++ option_map_or (λ e. flat_map (unknown_in_entry e) s.events) (option_and_then (λ j. slice_get directories j) (number_of s.reference.id ids)) [])
+      ap (λ b. map (λ x. x.at) (cond (not b) (s.reference ∷ []) [])
+      ++ option_map_or (λ e. flat_map (unknown_in_entry e) s.events)
+      (option_and_then (λ j. slice_get directories j) (number_of s.reference.id ids)) [])
       (sym (is_some_position _ ids) ∙ ap is_some is)
-      ∙ ap (λ o. s.reference.at ∷ option_map_or (λ e. flat_map (unknown_in_entry e) s.events) (option_and_then (λ j. slice_get directories j) o) []) is
+      ∙ ap (λ o. s.reference.at ∷ option_map_or (λ e. flat_map (unknown_in_entry e) s.events)
+      (option_and_then (λ j. slice_get directories j) o) []) is
 
 -- where no reference of the solutions is unknown, each of them has a number
-pub all_numbered : (ids : List (List ℕ)) (directories : List Directory) (ss : List RawSolution) → flat_map (unknown_in_solution ids directories) ss ≡ []
+pub all_numbered : (ids : List (List ℕ)) (directories : List Directory) (ss : List RawSolution)
+    → flat_map (unknown_in_solution ids directories) ss ≡ []
     → map Some (filter_map (λ s. number_of s.reference.id ids) ss) ≡ map (λ s. number_of s.reference.id ids) ss
 all_numbered ids directories [] h = refl
 all_numbered ids directories (s ∷ ss) h =
@@ -106,6 +122,7 @@ all_numbered ids directories (s ∷ ss) h =
   where
     by : (o : Option ℕ) → number_of s.reference.id ids ≡ o → unknown_in_solution ids directories s ≡ []
         → map Some (filter_map (λ x. number_of x.reference.id ids) ss) ≡ map (λ x. number_of x.reference.id ids) ss
-        → map Some (cons_option o (filter_map (λ x. number_of x.reference.id ids) ss)) ≡ o ∷ map (λ x. number_of x.reference.id ids) ss
+        → map Some (cons_option o (filter_map (λ x. number_of x.reference.id ids) ss))
+        ≡ o ∷ map (λ x. number_of x.reference.id ids) ss
     by (Some k) is none e = ap (λ t. Some k ∷ t) e
     by None is none e = let bad = sym (solution_unknown ids directories s is) ∙ none in cc

@@ -1,6 +1,7 @@
 -- The directory of an instance: the Ids of its parts, each list in the order of the text.
 use Rattle.std.specs.Prelude.{◌≡◌}
-use Rattle.xhstt_references.specs.Ids.{time_group_ids, week_ids, day_ids, time_ids, resource_type_ids, resource_group_ids, resource_ids, event_group_ids, course_ids, event_ids}
+use Rattle.xhstt_references.specs.Ids.{time_group_ids, week_ids, day_ids, time_ids, resource_type_ids}
+use Rattle.xhstt_references.specs.Ids.{resource_group_ids, resource_ids, event_group_ids, course_ids, event_ids}
 use Rattle.xhstt_references.specs.declared.directories.Directory.{Directory}
 use Rattle.xhstt_shape.specs.declared.records.RawInstance.{RawInstance}
 

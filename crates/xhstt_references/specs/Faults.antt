@@ -2,10 +2,12 @@
 -- the first place in the text.
 use Rattle.std.specs.Prelude.{ℕ, ◌≡◌, min, Option, Some, None, Result, Ok, Err, List, [], ◌∷◌, map}
 use Rattle.std.specs.List.{fold}
-use Rattle.xhstt_references.specs.References.{repeated, repeated_ids, repeated_roles, unknown_references, events_off_end, unknown_in_solutions}
+use Rattle.xhstt_references.specs.References.{repeated, repeated_ids, repeated_roles, unknown_references}
+use Rattle.xhstt_references.specs.References.{events_off_end, unknown_in_solutions}
 use Rattle.xhstt_references.specs.declared.faults.ReferenceFault.{ReferenceFault}
 use Rattle.xhstt_references.specs.declared.faults.ReferenceFault.TheVariants.{Bad, NoMemory}
-use Rattle.xhstt_references.specs.declared.faults.TheConstants.{DUPLICATE_ID, UNKNOWN_REFERENCE, DUPLICATE_ROLE, EVENT_OFF_END}
+use Rattle.xhstt_references.specs.declared.faults.TheConstants.{DUPLICATE_ID, UNKNOWN_REFERENCE, DUPLICATE_ROLE}
+use Rattle.xhstt_references.specs.declared.faults.TheConstants.{EVENT_OFF_END}
 use Rattle.xhstt_shape.specs.declared.records.Archive.{Archive}
 use Rattle.xhstt_shape.specs.declared.records.RawInstance.{RawInstance}
 

@@ -1,6 +1,7 @@
 -- The places at which an archive's names and references fail: Ids and roles that came before, and
 -- references that name nothing.
-use Rattle.std.specs.Prelude.{ℕ, ◌+◌, not, nat_lt, if◌then◌else◌, Option, Some, None, List, [], ◌∷◌, ◌++◌, map, length, slice_get}
+use Rattle.std.specs.Prelude.{ℕ, ◌+◌, not, nat_lt, if◌then◌else◌, Option, Some, None, List, [], ◌∷◌, ◌++◌, map, length}
+use Rattle.std.specs.Prelude.{slice_get}
 use Rattle.std.specs.List.{filter, filter_map, flat_map}
 use Rattle.std.specs.Option.{option_and_then, option_map_or}
 use Rattle.khe_base.specs.Names.{is_among_names, number_of}
@@ -91,14 +92,16 @@ abbrev pub unknown_in_applies : Directory → RawApplies → List ℕ
 unknown_in_applies d (applied.Events groups events) = unknown d.event_groups groups ++ unknown d.events events
 unknown_in_applies d (applied.Groups groups) = unknown d.event_groups groups
 unknown_in_applies d (applied.Pairs pairs) = flat_map (unknown_in_pair d) pairs
-unknown_in_applies d (applied.Resources groups resources) = unknown d.resource_groups groups ++ unknown d.resources resources
+unknown_in_applies d (applied.Resources groups resources) =
+    unknown d.resource_groups groups ++ unknown d.resources resources
 
 abbrev pub unknown_in_spread : Directory → RawSpread → List ℕ
 unknown_in_spread d s = unknown d.time_groups (s.reference ∷ [])
 
 abbrev pub unknown_in_rule : Directory → RawRule → List ℕ
 unknown_in_rule d (ruled.PreferTimes groups times duration) = unknown d.time_groups groups ++ unknown d.times times
-unknown_in_rule d (ruled.PreferResources groups resources role) = unknown d.resource_groups groups ++ unknown d.resources resources
+unknown_in_rule d (ruled.PreferResources groups resources role) =
+    unknown d.resource_groups groups ++ unknown d.resources resources
 unknown_in_rule d (ruled.SpreadEvents groups) = flat_map (unknown_in_spread d) groups
 unknown_in_rule d (ruled.AvoidUnavailableTimes groups times) = unknown d.time_groups groups ++ unknown d.times times
 unknown_in_rule d (ruled.LimitIdleTimes groups least greatest) = unknown d.time_groups groups

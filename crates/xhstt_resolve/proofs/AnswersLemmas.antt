@@ -1,5 +1,6 @@
 -- The first fault of looks for one, in their order.
-use Rattle.std.proofs.Common.{◌≡◌, ◌∙◌, ap, refl, sym, Option, Some, None, Result, Ok, Err, map, option_map, subst, IsErrAnd, IfErr, ℕ, ◌+◌, List, [], ◌∷◌, ◌++◌, append_assoc}
+use Rattle.std.proofs.Common.{◌≡◌, ◌∙◌, ap, refl, sym, Option, Some, None, Result, Ok, Err, map, option_map, subst}
+use Rattle.std.proofs.Common.{IsErrAnd, IfErr, ℕ, ◌+◌, List, [], ◌∷◌, ◌++◌, append_assoc}
 use Rattle.std.specs.Prelude.{unwrap_or}
 use Rattle.std.specs.Option.{option_map_or, option_or}
 use Rattle.xhstt_references.specs.Faults.{IsTold}
@@ -21,7 +22,8 @@ this-first x rest (Limit which value) is = ap (λ o. option_or o rest) is
 this-first x rest NoMemory is = tt
 
 -- the first look finds nothing
-pub next-first : (x rest : Option ResolveFault) (e : ResolveFault) → x ≡ None → IsFirst rest e → IsFirst (option_or x rest) e
+pub next-first : (x rest : Option ResolveFault) (e : ResolveFault) → x ≡ None → IsFirst rest e
+    → IsFirst (option_or x rest) e
 next-first x rest (Bad kind at) none is = ap (λ o. option_or o rest) none ∙ is
 next-first x rest (Limit which value) none is = ap (λ o. option_or o rest) none ∙ is
 next-first x rest NoMemory none is = tt
@@ -36,7 +38,8 @@ some-first x (Limit which value) is = is
 some-first x NoMemory is = tt
 
 -- a fault of references
-pub reference-first : (A : Type 0) (x : Option ReferenceFault) (r : ReferenceFault) → IsTold {A = A} (Err r) x → IsFirst (option_map as_fault x) (as_fault r)
+pub reference-first : (A : Type 0) (x : Option ReferenceFault) (r : ReferenceFault) → IsTold {A = A} (Err r) x
+    → IsFirst (option_map as_fault x) (as_fault r)
 reference-first A x (reference.Bad kind at) is = ap (option_map as_fault) is
 reference-first A x reference.NoMemory is = tt
 
@@ -45,26 +48,32 @@ reference-none x is = ap (option_map as_fault) is
 
 -- the first fault of an archive is the answer of resolving
 pub fault-of : (a : Archive) (e : ResolveFault) → IsFirst (archive_fault a) e → IsFaultOf (resolved a) e
-fault-of a (Bad kind at) is = ap (λ o. option_map_or Err o (Ok (record { instances = map parts_of a.instances; of = instances_of a }))) is
-fault-of a (Limit which value) is = ap (λ o. option_map_or Err o (Ok (record { instances = map parts_of a.instances; of = instances_of a }))) is
+fault-of a (Bad kind at) is = ap (λ o. option_map_or Err o
+    (Ok (record { instances = map parts_of a.instances; of = instances_of a }))) is
+fault-of a (Limit which value) is = ap (λ o. option_map_or Err o
+    (Ok (record { instances = map parts_of a.instances; of = instances_of a }))) is
 fault-of a NoMemory is = tt
 
-pub resolved-sound : (a : Archive) (r : Resolved) → archive_fault a ≡ None → r.instances ≡ map parts_of a.instances → r.of ≡ instances_of a → resolved a ≡ Ok r
+pub resolved-sound : (a : Archive) (r : Resolved) → archive_fault a ≡ None → r.instances ≡ map parts_of a.instances
+    → r.of ≡ instances_of a → resolved a ≡ Ok r
 resolved-sound a r none instances of =
     ap (λ o. option_map_or Err o (Ok (record { instances = map parts_of a.instances; of = instances_of a }))) none
     ∙ (λ j. Ok (record { instances = sym instances j; of = sym of j }))
 
 -- an error that is passed on is the first fault as it was
-pub passed-first : {A : Type 0} (r : Result A ResolveFault) (e : ResolveFault) (first : Option ResolveFault) → IsErrAnd r (λ x. x ≡ e) → IsFirst first e → IfErr r (IsFirst first)
+pub passed-first : {A : Type 0} (r : Result A ResolveFault) (e : ResolveFault) (first : Option ResolveFault)
+    → IsErrAnd r (λ x. x ≡ e) → IsFirst first e → IfErr r (IsFirst first)
 passed-first (Ok a) e first h is = tt
 passed-first (Err x) e first h is = subst (IsFirst first) (sym h) is
 
-pub passed-fault : {A : Type 0} (r : Result A ResolveFault) (e : ResolveFault) (a : Archive) → IsErrAnd r (λ x. x ≡ e) → IsFaultOf (resolved a) e → IfErr r (IsFaultOf (resolved a))
+pub passed-fault : {A : Type 0} (r : Result A ResolveFault) (e : ResolveFault) (a : Archive) → IsErrAnd r (λ x. x ≡ e)
+    → IsFaultOf (resolved a) e → IfErr r (IsFaultOf (resolved a))
 passed-fault (Ok x) e a h is = tt
 passed-fault (Err x) e a h is = subst (IsFaultOf (resolved a)) (sym h) is
 
 -- a list in which one more item was made
-pub pushed : {A B : Type 0} (f : A → B) (old new all : List B) (x : A) (y : B) (before after : List A) → new ≡ old ++ y ∷ [] → y ≡ f x → before ≡ x ∷ after
+pub pushed : {A B : Type 0} (f : A → B) (old new all : List B) (x : A) (y : B) (before after : List A)
+    → new ≡ old ++ y ∷ [] → y ≡ f x → before ≡ x ∷ after
     → old ++ map f before ≡ all → new ++ map f after ≡ all
 pushed f old new all x y before after added made left sofar =
     ap (λ ys. ys ++ map f after) added
@@ -82,5 +91,6 @@ map-twice f g [] = refl
 map-twice f g (x ∷ xs) = ap (λ ys. f (g x) ∷ ys) (map-twice f g xs)
 
 -- numbers that are there, without their options
-pub unwrapped : {A : Type 0} (g : A → Option ℕ) (ns : List ℕ) (xs : List A) → map (λ n. Some n) ns ≡ map g xs → ns ≡ map (λ x. unwrap_or (g x) 0) xs
+pub unwrapped : {A : Type 0} (g : A → Option ℕ) (ns : List ℕ) (xs : List A) → map (λ n. Some n) ns ≡ map g xs
+    → ns ≡ map (λ x. unwrap_or (g x) 0) xs
 unwrapped g ns xs is = sym (some-unwrapped ns) ∙ ap (map (λ o. unwrap_or o 0)) is ∙ map-twice (λ o. unwrap_or o 0) g xs

@@ -1,5 +1,6 @@
 -- An instance with few tasks has few places in each event.
-use Rattle.std.proofs.Common.{ℕ, ◌*◌, ◌≤◌, ◌<◌, ◌^◌, List, [], ◌∷◌, All, length, map, arith, length-append, sum_by, flat_map}
+use Rattle.std.proofs.Common.{ℕ, ◌*◌, ◌≤◌, ◌<◌, ◌^◌, List, [], ◌∷◌, All, length, map, arith, length-append, sum_by}
+use Rattle.std.proofs.Common.{flat_map}
 use Rattle.std.proofs.lemmas.List.{length-map}
 use Rattle.std.proofs.lemmas.List.Elements.{All-nil, All-cons, All-head, All-tail}
 use Rattle.std.proofs.lemmas.List.Sums.{sum_by-cons}
@@ -15,18 +16,27 @@ use Rattle.xhstt_shape.specs.declared.records.RawInstance.{RawInstance}
 once-within : (d n most : ℕ) → 1 ≤ d → d * n ≤ most → n ≤ most
 once-within d n most some h = grind arith
 
-event-few : (i : RawInstance) (e : RawEvent) → IsFormedEvent e → e.duration * length (places_of i e) ≤ TASKS → length e.resources < 2 ^ 32
+event-few : (i : RawInstance) (e : RawEvent) → IsFormedEvent e → e.duration * length (places_of i e) ≤ TASKS
+    → length e.resources < 2 ^ 32
 event-few i e formed h =
-    let few : length (places_of i e) ≤ TASKS = once-within e.duration (length (places_of i e)) TASKS formed.duration.0 h in
-    omega (arith, few, length-append (map (place_of i e) e.resources) (flat_map (group_places i e) e.resource_groups), length-map e.resources (place_of i e))
+    let few : length (places_of i e) ≤ TASKS = once-within e.duration (length (places_of i e)) TASKS formed.duration.0
+    h in
+    omega (
+      arith,
+      few,
+      length-append (map (place_of i e) e.resources) (flat_map (group_places i e) e.resource_groups),
+      length-map e.resources (place_of i e),
+    )
 
-events-few : (i : RawInstance) (es : List RawEvent) → All IsFormedEvent es → sum_by (λ e. e.duration * length (places_of i e)) es ≤ TASKS → All (λ e. length e.resources < 2 ^ 32) es
+events-few : (i : RawInstance) (es : List RawEvent) → All IsFormedEvent es
+    → sum_by (λ e. e.duration * length (places_of i e)) es ≤ TASKS → All (λ e. length e.resources < 2 ^ 32) es
 events-few i [] formed h = All-nil (λ e. length e.resources < 2 ^ 32)
 events-few i (e ∷ es) formed h =
     let split = sum_by-cons (λ x. x.duration * length (places_of i x)) e es in
     let first : e.duration * length (places_of i e) ≤ TASKS = omega (arith, h, split) in
     let rest : sum_by (λ x. x.duration * length (places_of i x)) es ≤ TASKS = omega (arith, h, split) in
-    All-cons (λ x. length x.resources < 2 ^ 32) e es (event-few i e (All-head IsFormedEvent e es formed) first) (events-few i es (All-tail IsFormedEvent e es formed) rest)
+    All-cons (λ x. length x.resources < 2 ^ 32) e es (event-few i e (All-head IsFormedEvent e es formed) first)
+    (events-few i es (All-tail IsFormedEvent e es formed) rest)
 
 pub few-places : (i : RawInstance) → IsFormedInstance i → task_count i ≤ TASKS → HasFewPlaces i
 few-places i formed h = record { places = events-few i i.events formed.events h }

@@ -2,7 +2,8 @@
 use Rattle.std.proofs.Common.{ℕ, ◌≡◌, ◌⊎◌, inl, inr, Option, Some, None, IsSome, All, List, refl, arith}
 use Rattle.std.proofs.lemmas.List.Elements.{All-weaker}
 use Rattle.khe_instance.specs.WellMade.{AreBounds}
-use Rattle.xhstt_resolve.specs.WellFormed.{IsFormedPlace, IsFormedEvent, IsFormedRule, IsFormedConstraint, IsFormedInstance, AreEvents, AreGroups, ArePairs, AreResources}
+use Rattle.xhstt_resolve.specs.WellFormed.{IsFormedPlace, IsFormedEvent, IsFormedRule, IsFormedConstraint}
+use Rattle.xhstt_resolve.specs.WellFormed.{IsFormedInstance, AreEvents, AreGroups, ArePairs, AreResources}
 use Rattle.xhstt_shape.specs.WellFormed as formed
 use Rattle.xhstt_shape.specs.declared.constraints.RawApplies.{RawApplies}
 use Rattle.xhstt_shape.specs.declared.constraints.RawApplies.TheVariants as applied
@@ -70,12 +71,15 @@ pairs (applied.Resources gs rs) is = is
 rule-formed : (r : RawRule) (a : RawApplies) → formed.IsRule r → formed.FitsRule r a → IsFormedRule a r
 rule-formed ruled.AssignTime a is fits = events a fits
 rule-formed (ruled.AssignResource role) a is fits = events a fits
-rule-formed (ruled.SplitEvents min_duration max_duration min_amount max_amount) a is fits = (events a fits, bounds min_duration max_duration is.0, bounds min_amount max_amount is.1)
-rule-formed (ruled.DistributeSplitEvents duration least greatest) a is fits = (events a fits, is.0, bounds least greatest is.1)
+rule-formed (ruled.SplitEvents min_duration max_duration min_amount max_amount) a is fits =
+    (events a fits, bounds min_duration max_duration is.0, bounds min_amount max_amount is.1)
+rule-formed (ruled.DistributeSplitEvents duration least greatest) a is fits =
+    (events a fits, is.0, bounds least greatest is.1)
 rule-formed (ruled.PreferTimes gs times duration) a is fits = (events a fits, is)
 rule-formed (ruled.PreferResources gs rs role) a is fits = events a fits
 rule-formed (ruled.AvoidSplitAssignments role) a is fits = groups a fits
-rule-formed (ruled.SpreadEvents ss) a is fits = (groups a fits, All-weaker formed.IsSpread (λ s. AreBounds s.min s.max) spread-bounds ss is)
+rule-formed (ruled.SpreadEvents ss) a is fits =
+    (groups a fits, All-weaker formed.IsSpread (λ s. AreBounds s.min s.max) spread-bounds ss is)
 rule-formed ruled.LinkEvents a is fits = groups a fits
 rule-formed ruled.OrderEvents a is fits = pairs a fits
 rule-formed ruled.AvoidClashes a is fits = resources a fits
@@ -86,7 +90,11 @@ rule-formed (ruled.LimitBusyTimes gs least greatest) a is fits = (resources a fi
 rule-formed (ruled.LimitWorkload least greatest) a is fits = (resources a fits, bounds least greatest is)
 
 constraint-formed : (c : RawConstraint) → formed.IsConstraint c → IsFormedConstraint c
-constraint-formed c is = record { weight = omega (arith, is.weight); rule = rule-formed c.rule c.applies is.rule is.applies }
+constraint-formed c is = record {
+  weight = omega (arith, is.weight);
+  rule =
+      rule-formed c.rule c.applies is.rule is.applies;
+}
 
 instance-formed : (i : RawInstance) → formed.IsInstance i → IsFormedInstance i
 instance-formed i is = record {

@@ -1,11 +1,13 @@
 -- Steps of loops over lists.
-use Rattle.std.proofs.Common.{◌≡◌, ◌∙◌, sym, ap, subst, ℕ, ◌+◌, ◌-◌, ◌<◌, suc, arith, List, [], ◌∷◌, ◌++◌, map, length, drop, get_or, Result}
+use Rattle.std.proofs.Common.{◌≡◌, ◌∙◌, sym, ap, subst, ℕ, ◌+◌, ◌-◌, ◌<◌, suc, arith, List, [], ◌∷◌, ◌++◌, map, length}
+use Rattle.std.proofs.Common.{drop, get_or, Result}
 use Rattle.std.specs.Result.{IfOk}
 use Rattle.std.specs.List.{flat_map, range_with_len}
 use Rattle.std.proofs.lemmas.List.{append_assoc, drop_more}
 
 -- what is made of one item more, and what the rest will make
-pub flat_map_step : {X Y : Type 0} (f : X → List Y) (made more : List Y) (xs : List X) (k : ℕ) (x : X) → k < length xs → x ≡ get_or xs k x → more ≡ made ++ f x
+pub flat_map_step : {X Y : Type 0} (f : X → List Y) (made more : List Y) (xs : List X) (k : ℕ) (x : X) → k < length xs
+    → x ≡ get_or xs k x → more ≡ made ++ f x
     → more ++ flat_map f (drop (k + 1) xs) ≡ made ++ flat_map f (drop k xs)
 flat_map_step f made more xs k x within at added =
     ap (λ m. m ++ flat_map f (drop (k + 1) xs)) added

@@ -14,7 +14,8 @@ use Rattle.xhstt_resolve.proofs.WellMadeMonitors.{monitors_made}
 use Rattle.xhstt_resolve.proofs.WellMadeParts.{resources_made, groups_made, first_meets_made, unit_made}
 use Rattle.xhstt_shape.specs.declared.records.RawInstance.{RawInstance}
 
-pub parts-well-made : (i : RawInstance) → fault_of_instance i ≡ None → limit_fault i ≡ None → IsFormedInstance i → AreWellMade (parts_of i)
+pub parts-well-made : (i : RawInstance) → fault_of_instance i ≡ None → limit_fault i ≡ None → IsFormedInstance i
+    → AreWellMade (parts_of i)
 parts-well-made i none few formed =
     let sound = faultless i none in
     let small = within i few in

@@ -22,7 +22,13 @@ use Rattle.xhstt_shape.specs.declared.constraints.RawApplies.TheVariants.{Events
 use Rattle.xhstt_shape.specs.declared.constraints.RawConstraint.{RawConstraint}
 use Rattle.xhstt_shape.specs.declared.constraints.RawPair.{RawPair}
 use Rattle.xhstt_shape.specs.declared.constraints.RawRule.{RawRule}
-use Rattle.xhstt_shape.specs.declared.constraints.RawRule.TheVariants.{AssignTime, AssignResource, SplitEvents, DistributeSplitEvents, PreferTimes, PreferResources, AvoidSplitAssignments, SpreadEvents, LinkEvents, OrderEvents, AvoidClashes, AvoidUnavailableTimes, LimitIdleTimes, ClusterBusyTimes, LimitBusyTimes, LimitWorkload}
+use Rattle.xhstt_shape.specs.declared.constraints.RawRule.TheVariants.{AssignTime, AssignResource, SplitEvents}
+use Rattle.xhstt_shape.specs.declared.constraints.RawRule.TheVariants.{DistributeSplitEvents, PreferTimes}
+use Rattle.xhstt_shape.specs.declared.constraints.RawRule.TheVariants.{PreferResources, AvoidSplitAssignments}
+use Rattle.xhstt_shape.specs.declared.constraints.RawRule.TheVariants.{SpreadEvents, LinkEvents, OrderEvents}
+use Rattle.xhstt_shape.specs.declared.constraints.RawRule.TheVariants.{AvoidClashes, AvoidUnavailableTimes}
+use Rattle.xhstt_shape.specs.declared.constraints.RawRule.TheVariants.{LimitIdleTimes, ClusterBusyTimes, LimitBusyTimes}
+use Rattle.xhstt_shape.specs.declared.constraints.RawRule.TheVariants.{LimitWorkload}
 use Rattle.xhstt_shape.specs.declared.constraints.RawSpread.{RawSpread}
 use Rattle.xhstt_shape.specs.declared.records.RawInstance.{RawInstance}
 use Rattle.xhstt_shape.specs.declared.records.Ref.{Ref}
@@ -34,19 +40,26 @@ times_sized i numbers = length-set_of (length i.times) numbers ∙ sym (length-m
 group_timed : (i : RawInstance) (group : Ref) → IsTimes (parts_of i) (group_set i group)
 group_timed i group = times_sized i (times_in i group.id)
 
-groups_listed : (i : RawInstance) (groups : List Ref) → length groups ≤ LISTED → AreListed (parts_of i) (group_sets i groups)
-groups_listed i groups few =
-    (All-map (IsTimes (parts_of i)) (group_set i) groups (λ k d l. group_timed i (get_or groups k d)), omega (arith, few, length-map groups (group_set i)))
+groups_listed : (i : RawInstance) (groups : List Ref) → length groups ≤ LISTED
+    → AreListed (parts_of i) (group_sets i groups)
+groups_listed i groups few = (
+  All-map (IsTimes (parts_of i)) (group_set i) groups (λ k d l. group_timed i (get_or groups k d)),
+  omega
+      (arith, few, length-map groups (group_set i)),
+)
 
 abbrev IsPairMade : RawInstance → EventPair → Type 0
-IsPairMade i q = (q.first.0 < length (events_from i 0 i.events)) × (q.second.0 < length (events_from i 0 i.events)) × AreBounds q.min q.max
+IsPairMade i q = (q.first.0 < length (events_from i 0 i.events)) × (q.second.0 < length (events_from i 0 i.events))
+    × AreBounds q.min q.max
 
-pair_made : (i : RawInstance) (p : RawPair) → unknown_in_pair (directory_of i) p ≡ [] → AreBounds p.min p.max → IsPairMade i (pair_of i p)
+pair_made : (i : RawInstance) (p : RawPair) → unknown_in_pair (directory_of i) p ≡ [] → AreBounds p.min p.max
+    → IsPairMade i (pair_of i p)
 pair_made i p none bounds =
     let parts = none_of (unknown (event_ids i) (p.first ∷ [])) (unknown (event_ids i) (p.second ∷ [])) none in
     (event_known i p.first parts.0, event_known i p.second parts.1, bounds)
 
-pairs_made : (i : RawInstance) (applies : RawApplies) → ArePairs applies → unknown_in_applies (directory_of i) applies ≡ [] → All (IsPairMade i) (pairs_of i applies)
+pairs_made : (i : RawInstance) (applies : RawApplies) → ArePairs applies
+    → unknown_in_applies (directory_of i) applies ≡ [] → All (IsPairMade i) (pairs_of i applies)
 pairs_made i (Events groups events) form none = absurd form
 pairs_made i (Groups groups) form none = absurd form
 pairs_made i (Resources groups resources) form none = absurd form
@@ -54,19 +67,27 @@ pairs_made i (Pairs pairs) form none =
     let each = none-each (unknown_in_pair (directory_of i)) pairs none in
     All-map (IsPairMade i) (pair_of i) pairs (λ k d l. pair_made i _ (each k d l) (form k d l))
 
-spreads_made : (i : RawInstance) (groups : List RawSpread) → All (λ s. AreBounds s.min s.max) groups → All (λ (s : Spread). IsTimes (parts_of i) s.group × AreBounds s.min s.max) (map (spread_of i) groups)
+spreads_made : (i : RawInstance) (groups : List RawSpread) → All (λ s. AreBounds s.min s.max) groups
+    → All (λ (s : Spread). IsTimes (parts_of i) s.group × AreBounds s.min s.max) (map (spread_of i) groups)
 spreads_made i groups form =
-    All-map (λ (s : Spread). IsTimes (parts_of i) s.group × AreBounds s.min s.max) (spread_of i) groups (λ k d l. (group_timed i (get_or groups k d).reference, form k d l))
+    All-map (λ (s : Spread). IsTimes (parts_of i) s.group × AreBounds s.min s.max) (spread_of i) groups
+    (λ k d l. (group_timed i (get_or groups k d).reference, form k d l))
 
-rule_made : (i : RawInstance) (applies : RawApplies) (rule : RawRule) → IsFormedRule applies rule → unknown_in_applies (directory_of i) applies ≡ [] → listed_groups rule ≤ LISTED → IsRule (parts_of i) (rule_of i applies rule)
+rule_made : (i : RawInstance) (applies : RawApplies) (rule : RawRule) → IsFormedRule applies rule
+    → unknown_in_applies (directory_of i) applies ≡ [] → listed_groups rule ≤ LISTED
+    → IsRule (parts_of i) (rule_of i applies rule)
 rule_made i applies AssignTime form none few = tt
 rule_made i applies (AssignResource role) form none few = tt
 rule_made i applies (SplitEvents a b c d) form none few = (form.1, form.2)
 rule_made i applies (DistributeSplitEvents d least greatest) form none few = (form.1, form.2)
-rule_made i applies (PreferTimes groups times duration) form none few = (times_sized i (listed_times i groups times), form.1)
-rule_made i applies (PreferResources groups resources role) form none few = length-set_of (length i.resources) (listed_resources i groups resources) ∙ sym (length-map i.resources (resource_of i))
+rule_made i applies (PreferTimes groups times duration) form none few =
+    (times_sized i (listed_times i groups times), form.1)
+rule_made i applies (PreferResources groups resources role) form none few =
+    length-set_of (length i.resources) (listed_resources i groups resources)
+    ∙ sym (length-map i.resources (resource_of i))
 rule_made i applies (AvoidSplitAssignments role) form none few = tt
-rule_made i applies (SpreadEvents groups) form none few = (spreads_made i groups form.1, omega (arith, few, length-map groups (spread_of i)))
+rule_made i applies (SpreadEvents groups) form none few =
+    (spreads_made i groups form.1, omega (arith, few, length-map groups (spread_of i)))
 rule_made i applies LinkEvents form none few = tt
 rule_made i applies OrderEvents form none few = pairs_made i applies form none
 rule_made i applies AvoidClashes form none few = tt
@@ -77,16 +98,27 @@ rule_made i applies (LimitBusyTimes groups least greatest) form none few = (grou
 rule_made i applies (LimitWorkload least greatest) form none few = form.1
 
 -- a list of numbers that come from elements, in the limit
-listed_each : (cs : List RawConstraint) → All (λ n. n ≤ LISTED) (map (λ (c : RawConstraint). listed_groups c.rule) cs) → All (λ c. listed_groups c.rule ≤ LISTED) cs
+listed_each : (cs : List RawConstraint) → All (λ n. n ≤ LISTED) (map (λ (c : RawConstraint). listed_groups c.rule) cs)
+    → All (λ c. listed_groups c.rule ≤ LISTED) cs
 listed_each [] all = All-nil (λ (c : RawConstraint). listed_groups c.rule ≤ LISTED)
 listed_each (c ∷ cs) all =
     let rest = map (λ (x : RawConstraint). listed_groups x.rule) cs in
-    All-cons (λ (x : RawConstraint). listed_groups x.rule ≤ LISTED) c cs (All-head (λ n. n ≤ LISTED) (listed_groups c.rule) rest all) (listed_each cs (All-tail (λ n. n ≤ LISTED) (listed_groups c.rule) rest all))
+    All-cons (λ (x : RawConstraint). listed_groups x.rule ≤ LISTED) c cs
+    (All-head (λ n. n ≤ LISTED) (listed_groups c.rule) rest all)
+    (listed_each cs (All-tail (λ n. n ≤ LISTED) (listed_groups c.rule) rest all))
 
-constraint_made : (i : RawInstance) (c : RawConstraint) → IsFormedConstraint c → unknown_in_constraint (directory_of i) c ≡ [] → listed_groups c.rule ≤ LISTED → IsConstraint (parts_of i) (constraint_of i c)
-constraint_made i c form none few = record { weight = form.weight; rule = rule_made i c.applies c.rule form.rule (none_of (unknown_in_applies (directory_of i) c.applies) _ none).0 few }
+constraint_made : (i : RawInstance) (c : RawConstraint) → IsFormedConstraint c
+    → unknown_in_constraint (directory_of i) c ≡ [] → listed_groups c.rule ≤ LISTED
+    → IsConstraint (parts_of i) (constraint_of i c)
+constraint_made i c form none few = record {
+  weight = form.weight;
+  rule =
+      rule_made i c.applies c.rule form.rule (none_of (unknown_in_applies (directory_of i) c.applies) _ none).0 few;
+}
 
-pub constraints_made : (i : RawInstance) → IsFaultless i → IsWithin i → IsFormedInstance i → All (IsConstraint (parts_of i)) (map (constraint_of i) i.constraints)
+pub constraints_made : (i : RawInstance) → IsFaultless i → IsWithin i → IsFormedInstance i
+    → All (IsConstraint (parts_of i)) (map (constraint_of i) i.constraints)
 constraints_made i sound small formed =
     let few = listed_each i.constraints small.listed in
-    All-map (IsConstraint (parts_of i)) (constraint_of i) i.constraints (λ k d l. constraint_made i _ (formed.constraints k d l) (sound.in_constraints k d l) (few k d l))
+    All-map (IsConstraint (parts_of i)) (constraint_of i) i.constraints
+    (λ k d l. constraint_made i _ (formed.constraints k d l) (sound.in_constraints k d l) (few k d l))

@@ -1,26 +1,40 @@
 -- What is true of an instance in which no fault and no excess is found.
-use Rattle.std.proofs.Common.{ℕ, ◌≡◌, ◌≤◌, ◌*◌, Bool, true, false, cond, Option, Some, None, List, [], ◌∷◌, length, map, refl, flat_map, nat_lt, All, if◌then◌else◌, option_map}
+use Rattle.std.proofs.Common.{ℕ, ◌≡◌, ◌≤◌, ◌*◌, Bool, true, false, cond, Option, Some, None, List, [], ◌∷◌, length, map}
+use Rattle.std.proofs.Common.{refl, flat_map, nat_lt, All, if◌then◌else◌, option_map}
 use Rattle.std.specs.Prelude.{find}
 use Rattle.std.specs.Option.{option_or}
 use Rattle.std.proofs.lemmas.Bool.{ltb-false}
 use Rattle.std.proofs.lemmas.List.Elements.{All-nil, All-cons}
 use Rattle.khe_base.proofs.ListLemmas.{none_of, none-each}
-use Rattle.khe_base.specs.declared.limits.TheConstants.{TIMES, TIME_GROUPS, RESOURCE_TYPES, RESOURCES, RESOURCE_GROUPS, EVENTS, EVENT_GROUPS, CONSTRAINTS, DURATION, TASKS, CELLS, LISTED, MONITORS, WATCHES, UNIT}
+use Rattle.khe_base.specs.declared.limits.TheConstants.{TIMES, TIME_GROUPS, RESOURCE_TYPES, RESOURCES, RESOURCE_GROUPS}
+use Rattle.khe_base.specs.declared.limits.TheConstants.{EVENTS, EVENT_GROUPS, CONSTRAINTS, DURATION, TASKS, CELLS}
+use Rattle.khe_base.specs.declared.limits.TheConstants.{LISTED, MONITORS, WATCHES, UNIT}
 use Rattle.xhstt_references.specs.Faults.{at_first, fault_of_instance}
-use Rattle.xhstt_references.specs.References.{repeated, repeated_ids, repeated_roles, roles_of, unknown_in_time, unknown_in_group, unknown_in_resource, unknown_in_event, unknown_in_constraint, unknown_references, off_end, events_off_end}
+use Rattle.xhstt_references.specs.References.{repeated, repeated_ids, repeated_roles, roles_of, unknown_in_time}
+use Rattle.xhstt_references.specs.References.{unknown_in_group, unknown_in_resource, unknown_in_event}
+use Rattle.xhstt_references.specs.References.{unknown_in_constraint, unknown_references, off_end, events_off_end}
 use Rattle.xhstt_references.specs.declared.faults.ReferenceFault.{ReferenceFault}
-use Rattle.xhstt_references.specs.declared.faults.TheConstants.{DUPLICATE_ID, UNKNOWN_REFERENCE, DUPLICATE_ROLE, EVENT_OFF_END}
-use Rattle.xhstt_resolve.specs.Limits.{first_above, above, count_fault, total_duration, task_count, listed_groups, watch_count, size_fault, monitor_fault, limit_fault}
+use Rattle.xhstt_references.specs.declared.faults.TheConstants.{DUPLICATE_ID, UNKNOWN_REFERENCE, DUPLICATE_ROLE}
+use Rattle.xhstt_references.specs.declared.faults.TheConstants.{EVENT_OFF_END}
+use Rattle.xhstt_resolve.specs.Limits.{first_above, above, count_fault, total_duration, task_count, listed_groups}
+use Rattle.xhstt_resolve.specs.Limits.{watch_count, size_fault, monitor_fault, limit_fault}
 use Rattle.xhstt_resolve.specs.Points.{monitors_of}
 use Rattle.xhstt_resolve.specs.Units.{running_units}
 use Rattle.xhstt_resolve.specs.declared.faults.ResolveFault.{ResolveFault}
 use Rattle.xhstt_resolve.specs.declared.faults.ResolveFault.TheVariants.{Limit}
-use Rattle.xhstt_resolve.specs.declared.faults.TheConstants.{TOO_MANY_TIMES, TOO_MANY_TIME_GROUPS, TOO_MANY_RESOURCE_TYPES, TOO_MANY_RESOURCES, TOO_MANY_RESOURCE_GROUPS, TOO_MANY_EVENTS, TOO_MANY_EVENT_GROUPS, TOO_MANY_CONSTRAINTS, TOO_LONG_DURATION, TOO_MANY_TASKS, TOO_MANY_CELLS, TOO_MANY_LISTED, TOO_MANY_MONITORS, TOO_MANY_WATCHES, TOO_GREAT_UNIT}
+use Rattle.xhstt_resolve.specs.declared.faults.TheConstants.{TOO_MANY_TIMES, TOO_MANY_TIME_GROUPS}
+use Rattle.xhstt_resolve.specs.declared.faults.TheConstants.{TOO_MANY_RESOURCE_TYPES, TOO_MANY_RESOURCES}
+use Rattle.xhstt_resolve.specs.declared.faults.TheConstants.{TOO_MANY_RESOURCE_GROUPS, TOO_MANY_EVENTS}
+use Rattle.xhstt_resolve.specs.declared.faults.TheConstants.{TOO_MANY_EVENT_GROUPS, TOO_MANY_CONSTRAINTS}
+use Rattle.xhstt_resolve.specs.declared.faults.TheConstants.{TOO_LONG_DURATION, TOO_MANY_TASKS, TOO_MANY_CELLS}
+use Rattle.xhstt_resolve.specs.declared.faults.TheConstants.{TOO_MANY_LISTED, TOO_MANY_MONITORS, TOO_MANY_WATCHES}
+use Rattle.xhstt_resolve.specs.declared.faults.TheConstants.{TOO_GREAT_UNIT}
 use Rattle.xhstt_shape.specs.declared.records.RawInstance.{RawInstance}
 use Rattle.xhstt_references.specs.Directories.{directory_of}
 
 -- of faults in order none is there
-first-none : (kind : ℕ) (places : List ℕ) (following : Option ReferenceFault) → at_first kind places following ≡ None → (places ≡ []) × (following ≡ None)
+first-none : (kind : ℕ) (places : List ℕ) (following : Option ReferenceFault) → at_first kind places following ≡ None
+    → (places ≡ []) × (following ≡ None)
 first-none kind [] following e = (refl, e)
 first-none kind (x ∷ xs) following e = absurd (let g : ⊥ = cc in g)
 
@@ -64,11 +78,13 @@ faultless i e =
     }
 
 -- no value is above the greatest
-none-above : (which greatest : ℕ) (values : List ℕ) → first_above which greatest values ≡ None → All (λ v. v ≤ greatest) values
+none-above : (which greatest : ℕ) (values : List ℕ) → first_above which greatest values ≡ None
+    → All (λ v. v ≤ greatest) values
 none-above which greatest [] e = All-nil (λ v. v ≤ greatest)
 none-above which greatest (x ∷ xs) e = by (nat_lt greatest x) refl e (none-above which greatest xs)
   where
-    by : (b : Bool) → nat_lt greatest x ≡ b → option_map (Limit which) (cond b (Some x) (find (nat_lt greatest) xs)) ≡ None
+    by : (b : Bool) → nat_lt greatest x ≡ b → option_map (Limit which) (cond b (Some x) (find (nat_lt greatest) xs))
+        ≡ None
         → (first_above which greatest xs ≡ None → All (λ v. v ≤ greatest) xs) → All (λ v. v ≤ greatest) (x ∷ xs)
     by true is e later = absurd (let g : ⊥ = cc in g)
     by false is e later = All-cons (λ v. v ≤ greatest) x xs (ltb-false _ _ is) (later e)
@@ -76,12 +92,14 @@ none-above which greatest (x ∷ xs) e = by (nat_lt greatest x) refl e (none-abo
 pub not-above : (which greatest value : ℕ) → above which greatest value ≡ None → value ≤ greatest
 not-above which greatest value e = by (nat_lt greatest value) refl e
   where
-    by : (b : Bool) → nat_lt greatest value ≡ b → (if b then Some (Limit which value) else None) ≡ None → value ≤ greatest
+    by : (b : Bool) → nat_lt greatest value ≡ b → (if b then Some (Limit which value) else None) ≡ None
+        → value ≤ greatest
     by true is e = absurd (let g : ⊥ = cc in g)
     by false is e = ltb-false _ _ is
 
 -- of two looks neither finds a fault
-neither : (fault following : Option ResolveFault) → option_or fault following ≡ None → (fault ≡ None) × (following ≡ None)
+neither : (fault following : Option ResolveFault) → option_or fault following ≡ None
+    → (fault ≡ None) × (following ≡ None)
 neither None following e = (refl, e)
 neither (Some x) following e = absurd (let g : ⊥ = cc in g)
 
@@ -108,16 +126,19 @@ within i e =
     let duration = neither (above TOO_LONG_DURATION DURATION (total_duration i)) _ sizes.0 in
     let tasks = neither (above TOO_MANY_TASKS TASKS (task_count i)) _ duration.1 in
     let cells = neither (above TOO_MANY_CELLS CELLS (length i.resources * length i.times)) _ tasks.1 in
-    let listed = neither (first_above TOO_MANY_LISTED LISTED (map (λ c. listed_groups c.rule) i.constraints)) _ cells.1 in
+    let listed = neither (first_above TOO_MANY_LISTED LISTED (map (λ c. listed_groups c.rule) i.constraints)) _
+    cells.1 in
     let last = neither (monitor_fault i) None listed.1 in
     let monitors = neither (above TOO_MANY_MONITORS MONITORS (length (monitors_of i))) _ last.0 in
     let watches = neither (above TOO_MANY_WATCHES WATCHES (watch_count i)) _ monitors.1 in
-    let units = neither (first_above TOO_GREAT_UNIT UNIT (running_units 1 (map (λ x. x.duration) i.events))) None watches.1 in
+    let units = neither (first_above TOO_GREAT_UNIT UNIT (running_units 1 (map (λ x. x.duration) i.events))) None
+    watches.1 in
     let times = neither (above TOO_MANY_TIMES TIMES (length i.times)) _ counts.0 in
     let time_groups = neither (above TOO_MANY_TIME_GROUPS TIME_GROUPS (length i.time_groups)) _ times.1 in
     let types = neither (above TOO_MANY_RESOURCE_TYPES RESOURCE_TYPES (length i.resource_types)) _ time_groups.1 in
     let resources = neither (above TOO_MANY_RESOURCES RESOURCES (length i.resources)) _ types.1 in
-    let resource_groups = neither (above TOO_MANY_RESOURCE_GROUPS RESOURCE_GROUPS (length i.resource_groups)) _ resources.1 in
+    let resource_groups = neither (above TOO_MANY_RESOURCE_GROUPS RESOURCE_GROUPS (length i.resource_groups)) _
+    resources.1 in
     let events = neither (above TOO_MANY_EVENTS EVENTS (length i.events)) _ resource_groups.1 in
     let groups = neither (above TOO_MANY_EVENT_GROUPS EVENT_GROUPS (length i.event_groups)) _ events.1 in
     let constraints = neither (above TOO_MANY_CONSTRAINTS CONSTRAINTS (length i.constraints)) None groups.1 in

@@ -5,7 +5,8 @@ use Rattle.xhstt_resolve.specs.declared.collecting.Mentions.{Mentions}
 
 -- one more mention
 abbrev pub with_mention : Mentions → ℕ → Mentions
-with_mention m n = if has_member m.seen n then m else record { seen = with_member m.seen n; numbers = m.numbers ++ n ∷ [] }
+with_mention m n = if has_member m.seen n then m else record
+    { seen = with_member m.seen n; numbers = m.numbers ++ n ∷ [] }
 
 -- no mention of the numbers below a size
 abbrev pub no_mentions : ℕ → Mentions

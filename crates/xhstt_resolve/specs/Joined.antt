@@ -17,4 +17,5 @@ with_last k ns = if ends_with k ns then ns else ns ++ k ∷ []
 abbrev pub joined : ℕ → List (List ℕ) → List (List ℕ) → List (List ℕ) → List (List ℕ)
 joined k names [] lists = lists
 joined k names (id ∷ ids) [] = []
-joined k names (id ∷ ids) (ns ∷ lists) = (if is_among_names id names then with_last k ns else ns) ∷ joined k names ids lists
+joined k names (id ∷ ids) (ns ∷ lists) = (if is_among_names id names then with_last k ns else ns) ∷ joined k names ids
+    lists

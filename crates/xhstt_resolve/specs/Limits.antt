@@ -1,9 +1,12 @@
 -- The limits on the sizes of an instance, in the order of their numbers, each with the value that is
 -- above it.
-use Rattle.std.specs.Prelude.{ℕ, ◌*◌, ◌==◌, if◌then◌else◌, nat_lt, Option, Some, None, List, [], ◌∷◌, map, length, find, slice_get}
+use Rattle.std.specs.Prelude.{ℕ, ◌*◌, ◌==◌, if◌then◌else◌, nat_lt, Option, Some, None, List, [], ◌∷◌, map, length, find}
+use Rattle.std.specs.Prelude.{slice_get}
 use Rattle.std.specs.List.{sum_by}
 use Rattle.std.specs.Option.{option_map, option_map_or, option_or}
-use Rattle.khe_base.specs.declared.limits.TheConstants.{TIMES, TIME_GROUPS, RESOURCE_TYPES, RESOURCES, RESOURCE_GROUPS, EVENTS, EVENT_GROUPS, CONSTRAINTS, DURATION, TASKS, CELLS, LISTED, MONITORS, WATCHES, UNIT}
+use Rattle.khe_base.specs.declared.limits.TheConstants.{TIMES, TIME_GROUPS, RESOURCE_TYPES, RESOURCES, RESOURCE_GROUPS}
+use Rattle.khe_base.specs.declared.limits.TheConstants.{EVENTS, EVENT_GROUPS, CONSTRAINTS, DURATION, TASKS, CELLS}
+use Rattle.khe_base.specs.declared.limits.TheConstants.{LISTED, MONITORS, WATCHES, UNIT}
 use Rattle.khe_instance.specs.declared.points.Point.{Point}
 use Rattle.khe_instance.specs.declared.points.Point.TheVariants as point
 use Rattle.xhstt_resolve.specs.Members.{times_in, events_in, listed_times}
@@ -13,7 +16,13 @@ use Rattle.xhstt_resolve.specs.Rules.{pairs_of}
 use Rattle.xhstt_resolve.specs.Units.{running_units}
 use Rattle.xhstt_resolve.specs.declared.faults.ResolveFault.{ResolveFault}
 use Rattle.xhstt_resolve.specs.declared.faults.ResolveFault.TheVariants.{Limit}
-use Rattle.xhstt_resolve.specs.declared.faults.TheConstants.{TOO_MANY_TIMES, TOO_MANY_TIME_GROUPS, TOO_MANY_RESOURCE_TYPES, TOO_MANY_RESOURCES, TOO_MANY_RESOURCE_GROUPS, TOO_MANY_EVENTS, TOO_MANY_EVENT_GROUPS, TOO_MANY_CONSTRAINTS, TOO_LONG_DURATION, TOO_MANY_TASKS, TOO_MANY_CELLS, TOO_MANY_LISTED, TOO_MANY_MONITORS, TOO_MANY_WATCHES, TOO_GREAT_UNIT}
+use Rattle.xhstt_resolve.specs.declared.faults.TheConstants.{TOO_MANY_TIMES, TOO_MANY_TIME_GROUPS}
+use Rattle.xhstt_resolve.specs.declared.faults.TheConstants.{TOO_MANY_RESOURCE_TYPES, TOO_MANY_RESOURCES}
+use Rattle.xhstt_resolve.specs.declared.faults.TheConstants.{TOO_MANY_RESOURCE_GROUPS, TOO_MANY_EVENTS}
+use Rattle.xhstt_resolve.specs.declared.faults.TheConstants.{TOO_MANY_EVENT_GROUPS, TOO_MANY_CONSTRAINTS}
+use Rattle.xhstt_resolve.specs.declared.faults.TheConstants.{TOO_LONG_DURATION, TOO_MANY_TASKS, TOO_MANY_CELLS}
+use Rattle.xhstt_resolve.specs.declared.faults.TheConstants.{TOO_MANY_LISTED, TOO_MANY_MONITORS, TOO_MANY_WATCHES}
+use Rattle.xhstt_resolve.specs.declared.faults.TheConstants.{TOO_GREAT_UNIT}
 use Rattle.xhstt_shape.specs.declared.constraints.RawConstraint.{RawConstraint}
 use Rattle.xhstt_shape.specs.declared.constraints.RawRule.{RawRule}
 use Rattle.xhstt_shape.specs.declared.constraints.RawRule.TheVariants as ruled

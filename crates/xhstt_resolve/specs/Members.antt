@@ -5,7 +5,8 @@ use Rattle.std.specs.List.{filter, filter_map, flat_map, fold}
 use Rattle.std.specs.Option.{option_to_list}
 use Rattle.khe_base.specs.IdSet.{no_members, with_member}
 use Rattle.khe_base.specs.Names.{is_among_names, number_of}
-use Rattle.xhstt_references.specs.Ids.{time_group_ids, time_ids, resource_group_ids, resource_ids, event_group_ids, event_ids}
+use Rattle.xhstt_references.specs.Ids.{time_group_ids, time_ids, resource_group_ids, resource_ids, event_group_ids}
+use Rattle.xhstt_references.specs.Ids.{event_ids}
 use Rattle.xhstt_shape.specs.declared.records.RawEvent.{RawEvent}
 use Rattle.xhstt_shape.specs.declared.records.RawInstance.{RawInstance}
 use Rattle.xhstt_shape.specs.declared.records.RawResource.{RawResource}

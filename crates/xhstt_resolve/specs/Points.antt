@@ -54,10 +54,12 @@ points_of_events i (Some role) events = flat_map (role_points i role) events
 
 -- the points of a constraint, each at its first mention; a pair is a point each time that it is listed
 abbrev pub points_in : RawInstance → Option (List ℕ) → RawApplies → List Point
-points_in i role (applied.Events groups events) = points_of_events i role (first_mentions (listed_events i groups events))
+points_in i role (applied.Events groups events) =
+    points_of_events i role (first_mentions (listed_events i groups events))
 points_in i role (applied.Groups groups) = map point.EventGroup (first_mentions (numbers_of (event_group_ids i) groups))
 points_in i role (applied.Pairs pairs) = map point.EventPair (range_with_len 0 (length pairs))
-points_in i role (applied.Resources groups resources) = map resource_point (first_mentions (listed_resources i groups resources))
+points_in i role (applied.Resources groups resources) =
+    map resource_point (first_mentions (listed_resources i groups resources))
 
 abbrev pub points_of : RawInstance → RawConstraint → List Point
 points_of i c = points_in i (role_of c.rule) c.applies

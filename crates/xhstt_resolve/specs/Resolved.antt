@@ -42,4 +42,5 @@ instances_of a = map (λ s. unwrap_or (number_of s.reference.id (instance_ids a)
 
 -- the instances and each solution's instance, or the first fault
 abbrev pub resolved : Archive → Result Resolved ResolveFault
-resolved a = option_map_or Err (archive_fault a) (Ok (record { instances = map parts_of a.instances; of = instances_of a }))
+resolved a = option_map_or Err (archive_fault a)
+    (Ok (record { instances = map parts_of a.instances; of = instances_of a }))

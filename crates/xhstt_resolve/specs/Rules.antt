@@ -43,17 +43,25 @@ pairs_of i _ = []
 abbrev pub rule_of : RawInstance → RawApplies → RawRule → Rule
 rule_of i applies ruled.AssignTime = rule.AssignTime
 rule_of i applies (ruled.AssignResource role) = rule.AssignResource role.text
-rule_of i applies (ruled.SplitEvents min_duration max_duration min_amount max_amount) = rule.SplitEvents min_duration max_duration min_amount max_amount
-rule_of i applies (ruled.DistributeSplitEvents duration least greatest) = rule.DistributeSplitEvents duration least greatest
-rule_of i applies (ruled.PreferTimes groups times duration) = rule.PreferTimes (time_set i (listed_times i groups times)) duration
-rule_of i applies (ruled.PreferResources groups resources role) = rule.PreferResources (resource_set i (listed_resources i groups resources)) role.text
+rule_of i applies (ruled.SplitEvents min_duration max_duration min_amount max_amount) =
+    rule.SplitEvents min_duration max_duration min_amount max_amount
+rule_of i applies (ruled.DistributeSplitEvents duration least greatest) =
+    rule.DistributeSplitEvents duration least greatest
+rule_of i applies (ruled.PreferTimes groups times duration) =
+    rule.PreferTimes (time_set i (listed_times i groups times)) duration
+rule_of i applies (ruled.PreferResources groups resources role) =
+    rule.PreferResources (resource_set i (listed_resources i groups resources)) role.text
 rule_of i applies (ruled.AvoidSplitAssignments role) = rule.AvoidSplitAssignments role.text
 rule_of i applies (ruled.SpreadEvents groups) = rule.SpreadEvents (map (spread_of i) groups)
 rule_of i applies ruled.LinkEvents = rule.LinkEvents
 rule_of i applies ruled.OrderEvents = rule.OrderEvents (pairs_of i applies)
 rule_of i applies ruled.AvoidClashes = rule.AvoidClashes
-rule_of i applies (ruled.AvoidUnavailableTimes groups times) = rule.AvoidUnavailableTimes (time_set i (listed_times i groups times))
-rule_of i applies (ruled.LimitIdleTimes groups least greatest) = rule.LimitIdleTimes (group_sets i groups) least greatest
-rule_of i applies (ruled.ClusterBusyTimes groups least greatest) = rule.ClusterBusyTimes (group_sets i groups) least greatest
-rule_of i applies (ruled.LimitBusyTimes groups least greatest) = rule.LimitBusyTimes (group_sets i groups) least greatest
+rule_of i applies (ruled.AvoidUnavailableTimes groups times) =
+    rule.AvoidUnavailableTimes (time_set i (listed_times i groups times))
+rule_of i applies (ruled.LimitIdleTimes groups least greatest) =
+    rule.LimitIdleTimes (group_sets i groups) least greatest
+rule_of i applies (ruled.ClusterBusyTimes groups least greatest) =
+    rule.ClusterBusyTimes (group_sets i groups) least greatest
+rule_of i applies (ruled.LimitBusyTimes groups least greatest) =
+    rule.LimitBusyTimes (group_sets i groups) least greatest
 rule_of i applies (ruled.LimitWorkload least greatest) = rule.LimitWorkload least greatest

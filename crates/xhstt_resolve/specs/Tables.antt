@@ -2,8 +2,10 @@
 use Rattle.std.specs.Prelude.{ℕ, ◌≡◌, ◌<◌, ◌≤◌, ◌^◌, List, [], length, slice_index_or, All}
 use Rattle.std.specs.Option.{option_map_or}
 use Rattle.khe_base.specs.Names.{number_of}
-use Rattle.khe_base.specs.declared.limits.TheConstants.{TIMES, TIME_GROUPS, RESOURCE_TYPES, RESOURCES, RESOURCE_GROUPS, EVENTS, EVENT_GROUPS, CONSTRAINTS}
-use Rattle.xhstt_references.specs.Ids.{time_group_ids, time_ids, resource_type_ids, resource_group_ids, resource_ids, event_group_ids, event_ids}
+use Rattle.khe_base.specs.declared.limits.TheConstants.{TIMES, TIME_GROUPS, RESOURCE_TYPES, RESOURCES, RESOURCE_GROUPS}
+use Rattle.khe_base.specs.declared.limits.TheConstants.{EVENTS, EVENT_GROUPS, CONSTRAINTS}
+use Rattle.xhstt_references.specs.Ids.{time_group_ids, time_ids, resource_type_ids, resource_group_ids, resource_ids}
+use Rattle.xhstt_references.specs.Ids.{event_group_ids, event_ids}
 use Rattle.xhstt_references.specs.declared.directories.Directory.{Directory}
 use Rattle.xhstt_resolve.specs.Members.{times_in, resources_in, events_in, listed}
 use Rattle.xhstt_resolve.specs.declared.tables.Lookup.{Lookup}

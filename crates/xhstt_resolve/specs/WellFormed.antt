@@ -44,8 +44,10 @@ AreResources _ = ⊥
 abbrev pub IsFormedRule : RawApplies → RawRule → Type 0
 IsFormedRule applies ruled.AssignTime = AreEvents applies
 IsFormedRule applies (ruled.AssignResource role) = AreEvents applies
-IsFormedRule applies (ruled.SplitEvents min_duration max_duration min_amount max_amount) = AreEvents applies × AreBounds min_duration max_duration × AreBounds min_amount max_amount
-IsFormedRule applies (ruled.DistributeSplitEvents duration least greatest) = AreEvents applies × IsDuration duration × AreBounds least greatest
+IsFormedRule applies (ruled.SplitEvents min_duration max_duration min_amount max_amount) =
+    AreEvents applies × AreBounds min_duration max_duration × AreBounds min_amount max_amount
+IsFormedRule applies (ruled.DistributeSplitEvents duration least greatest) =
+    AreEvents applies × IsDuration duration × AreBounds least greatest
 IsFormedRule applies (ruled.PreferTimes groups times duration) = AreEvents applies × IfSome duration IsDuration
 IsFormedRule applies (ruled.PreferResources groups resources role) = AreEvents applies
 IsFormedRule applies (ruled.AvoidSplitAssignments role) = AreGroups applies

@@ -1,5 +1,7 @@
 -- What the walk let through is in form.
-use Rattle.std.proofs.Common.{◌≡◌, ℕ, ◌≤◌, Bool, true, false, ◌&&◌, ltb, leb, if◌then◌else◌, Option, Some, None, Result, Ok, Err, List, [], ◌∷◌, map, All, IfSome, IfOk, IsSome, is_some, length, refl, inl, inr, sym, ap, subst, ◌∙◌, arith, encode_utf8_all}
+use Rattle.std.proofs.Common.{◌≡◌, ℕ, ◌≤◌, Bool, true, false, ◌&&◌, ltb, leb, if◌then◌else◌, Option, Some, None, Result}
+use Rattle.std.proofs.Common.{Ok, Err, List, [], ◌∷◌, map, All, IfSome, IfOk, IsSome, is_some, length, refl, inl, inr}
+use Rattle.std.proofs.Common.{sym, ap, subst, ◌∙◌, arith, encode_utf8_all}
 use Rattle.std.specs.Prelude.{unwrap_or}
 use Rattle.std.specs.Option.{option_map, option_and_then}
 use Rattle.std.specs.List.{list_all}
@@ -27,19 +29,30 @@ use Rattle.xhstt_shape.specs.declared.words.Kind.TheVariants as kind
 use Rattle.xhstt_shape.specs.declared.words.Label.TheVariants as label
 use Rattle.xhstt_shape.specs.declared.words.Tag.{Tag}
 use Rattle.xhstt_shape.specs.declared.words.Tag.TheVariants as tag
-use Rattle.xhstt_shape.specs.Contents.{without_front, before_rest, without_back, trimmed, trimmed_text, role_text, is_digit, value_after, number_between}
+use Rattle.xhstt_shape.specs.Contents.{without_front, before_rest, without_back, trimmed, trimmed_text, role_text}
+use Rattle.xhstt_shape.specs.Contents.{is_digit, value_after, number_between}
 use Rattle.xhstt_shape.specs.Faults.{Outcome, IsTold}
 use Rattle.xhstt_shape.specs.Shape.{judged, shape}
 use Rattle.xhstt_shape.specs.Schema.{once, at_most_once, many, children, constraint_children, content}
-use Rattle.xhstt_shape.specs.Values.{kids_of, elements, named, every, every_inside, all, all_inside, role, no_name, optional_name, optional_reference, optional, reference, the_role, number, optional_number, lower, upper, optional_duration, duration, workload, event_resource, event, pair, spread, applies, rule, kinds, kind_among, kind_of, constraint_of, constraint, instance, given, entry, solution, solution_group, archive, attribute_name, as_reference}
+use Rattle.xhstt_shape.specs.Values.{kids_of, elements, named, every, every_inside, all, all_inside, role, no_name}
+use Rattle.xhstt_shape.specs.Values.{optional_name, optional_reference, optional, reference, the_role, number}
+use Rattle.xhstt_shape.specs.Values.{optional_number, lower, upper, optional_duration, duration, workload}
+use Rattle.xhstt_shape.specs.Values.{event_resource, event, pair, spread, applies, rule, kinds, kind_among, kind_of}
+use Rattle.xhstt_shape.specs.Values.{constraint_of, constraint, instance, given, entry, solution, solution_group}
+use Rattle.xhstt_shape.specs.Values.{archive, attribute_name, as_reference}
 use Rattle.xhstt_shape.specs.Walk.{attribute, child, fault_of, settled, rule_for}
-use Rattle.xhstt_shape.specs.WellFormed.{IsRole, IsNumber, IsDuration, AreBounds, IsEventResource, IsEvent, IsPair, IsSpread, IsRule, FitsRule, IsConstraint, IsInstance, IsGiven, IsEntry, IsSolution, IsSolutionGroup, IsInForm}
+use Rattle.xhstt_shape.specs.WellFormed.{IsRole, IsNumber, IsDuration, AreBounds, IsEventResource, IsEvent, IsPair}
+use Rattle.xhstt_shape.specs.WellFormed.{IsSpread, IsRule, FitsRule, IsConstraint, IsInstance, IsGiven, IsEntry}
+use Rattle.xhstt_shape.specs.WellFormed.{IsSolution, IsSolutionGroup, IsInForm}
 use Rattle.xhstt_shape.specs.Words.{word, kind_word}
-use Rattle.xhstt_shape.proofs.Fine.{IsFine, FineChild, AreFine, FineInside, FineInside-from, fine_role, FineNamed, child_fine, elements_fine, named_fine, named_own, has_found, Leads, named_inside, kids_fine, only_own}
+use Rattle.xhstt_shape.proofs.Fine.{IsFine, FineChild, AreFine, FineInside, FineInside-from, fine_role, FineNamed}
+use Rattle.xhstt_shape.proofs.Fine.{child_fine, elements_fine, named_fine, named_own, has_found, Leads, named_inside}
+use Rattle.xhstt_shape.proofs.Fine.{kids_fine, only_own}
 use Rattle.khe_base.proofs.ResultLemmas.{some-mapped}
 
 -- each element of a list that is made of another
-all_made : {X Y : Type 0} (P : Y → Type 0) (Q : X → Type 0) (f : X → Y) → ((x : X) → Q x → P (f x)) → (xs : List X) → All Q xs → All P (map f xs)
+all_made : {X Y : Type 0} (P : Y → Type 0) (Q : X → Type 0) (f : X → Y) → ((x : X) → Q x → P (f x)) → (xs : List X)
+    → All Q xs → All P (map f xs)
 all_made P Q f go xs h = All-map P f xs (All-weaker Q (λ x. P (f x)) go xs h)
 
 each_made : {X Y : Type 0} (P : Y → Type 0) (f : X → Y) → ((x : X) → P (f x)) → (xs : List X) → All P (map f xs)
@@ -66,11 +79,13 @@ between least greatest bytes =
     (leb-true least v low.1, leb-true v greatest high.1))
     (λ _. tt)
 
-number_in : (least greatest : ℕ) (t : Tag) (e : Standing) → IfSome (optional_number least greatest t e) (IsWithin least greatest)
+number_in : (least greatest : ℕ) (t : Tag) (e : Standing)
+    → IfSome (optional_number least greatest t e) (IsWithin least greatest)
 unfolding optional_number number
 number_in least greatest t e =
     let go : (o : Option Standing) → IfSome (option_and_then (number least greatest) o) (IsWithin least greatest) =
-    λ o. elim o as (λ x. IfSome (option_and_then (number least greatest) x) (IsWithin least greatest)) [ None ↦ tt | Some c ↦ between least greatest (trimmed_text c.info.value) ] in
+    λ o. elim o as (λ x. IfSome (option_and_then (number least greatest) x) (IsWithin least greatest))
+    [ None ↦ tt | Some c ↦ between least greatest (trimmed_text c.info.value) ] in
     go (child t e.kids)
 
 weaker : {X : Type 0} (o : Option X) (P Q : X → Type 0) → ((x : X) → P x → Q x) → IfSome o P → IfSome o Q
@@ -83,11 +98,15 @@ or_else (Some x) d P h k = h
 
 lower_in : (t : Tag) (e : Standing) → IsNumber (lower t e)
 unfolding lower
-lower_in t e = or_else (optional_number 0 NUMBER t e) 0 IsNumber (weaker (optional_number 0 NUMBER t e) (IsWithin 0 NUMBER) IsNumber (λ n h. h.1) (number_in 0 NUMBER t e)) (omega arith)
+lower_in t e = or_else (optional_number 0 NUMBER t e) 0 IsNumber
+    (weaker (optional_number 0 NUMBER t e) (IsWithin 0 NUMBER) IsNumber (λ n h. h.1) (number_in 0 NUMBER t e))
+    (omega arith)
 
 upper_in : (t : Tag) (e : Standing) → upper t e ≤ BOUND
 unfolding upper
-upper_in t e = or_else (optional_number 0 BOUND t e) BOUND (λ n. n ≤ BOUND) (weaker (optional_number 0 BOUND t e) (IsWithin 0 BOUND) (λ n. n ≤ BOUND) (λ n h. h.1) (number_in 0 BOUND t e)) (omega arith)
+upper_in t e = or_else (optional_number 0 BOUND t e) BOUND (λ n. n ≤ BOUND)
+    (weaker (optional_number 0 BOUND t e) (IsWithin 0 BOUND) (λ n. n ≤ BOUND) (λ n h. h.1) (number_in 0 BOUND t e))
+    (omega arith)
 
 optional_duration_in : (e : Standing) → IfSome (optional_duration e) IsDuration
 unfolding optional_duration
@@ -99,7 +118,8 @@ duration_in e = or_else (optional_duration e) 1 IsDuration (optional_duration_in
 
 workload_in : (e : Standing) → IfSome (workload e) IsNumber
 unfolding workload
-workload_in e = weaker (optional_number 0 NUMBER tag.Workload e) (IsWithin 0 NUMBER) IsNumber (λ n h. h.1) (number_in 0 NUMBER tag.Workload e)
+workload_in e = weaker (optional_number 0 NUMBER tag.Workload e) (IsWithin 0 NUMBER) IsNumber (λ n h. h.1)
+    (number_in 0 NUMBER tag.Workload e)
 
 pair_in : (e : Standing) → IsPair (pair e)
 unfolding pair
@@ -119,7 +139,8 @@ without_front-back : (bs : List ℕ) → without_front (without_back (without_fr
 without_front-back [] = refl
 without_front-back (b ∷ bs) =
     let P : List ℕ → Type 0 = λ x. without_front (without_back x) ≡ without_back x in
-    cond_both (is_white b) (without_front bs) (b ∷ bs) P (λ _. without_front-back bs) (λ e. front_kept b (without_back bs) e)
+    cond_both (is_white b) (without_front bs) (b ∷ bs) P (λ _. without_front-back bs)
+    (λ e. front_kept b (without_back bs) e)
 
 before_kept : (b : ℕ) (bs : List ℕ) → without_back bs ≡ bs → without_back (before_rest b bs) ≡ before_rest b bs
 before_kept b [] h = elim (cases_Bool (is_white b)) [ inl e ↦ rw e refl | inr e ↦ rw (e, e) refl ]
@@ -133,13 +154,16 @@ trimmed-again : (bs : List ℕ) → trimmed (trimmed bs) ≡ trimmed bs
 trimmed-again bs = ap without_back (without_front-back bs) ∙ without_back-again (without_front bs)
 
 -- the text of bytes without white at their ends has none
-whole_text : (bs : List ℕ) → trimmed bs ≡ bs → trimmed (encode_utf8_all (unwrap_or (text_of bs) [])) ≡ encode_utf8_all (unwrap_or (text_of bs) [])
+whole_text : (bs : List ℕ) → trimmed bs ≡ bs → trimmed (encode_utf8_all (unwrap_or (text_of bs) []))
+    ≡ encode_utf8_all (unwrap_or (text_of bs) [])
 whole_text bs h =
-    let P : Bool → Type 0 = λ b. trimmed (encode_utf8_all (unwrap_or (if b then Some (characters bs) else None) [])) ≡ encode_utf8_all (unwrap_or (if b then Some (characters bs) else None) []) in
+    let P : Bool → Type 0 = λ b. trimmed (encode_utf8_all (unwrap_or (if b then Some (characters bs) else None) []))
+    ≡ encode_utf8_all (unwrap_or (if b then Some (characters bs) else None) []) in
     elim (cases_Bool (is_utf8 bs)) [
       | inl e ↦
           let back : encode_utf8_all (characters bs) ≡ bs = encodes-chars bs (IsUtf8-from_is_utf8 bs e) in
-          let is : trimmed (encode_utf8_all (characters bs)) ≡ encode_utf8_all (characters bs) = ap trimmed back ∙ h ∙ sym back in
+          let is : trimmed (encode_utf8_all (characters bs)) ≡ encode_utf8_all (characters bs) =
+          ap trimmed back ∙ h ∙ sym back in
           subst P (sym e) is
       | inr e ↦ subst P (sym e) refl
     ]
@@ -160,12 +184,14 @@ record HasRole (r : Row) : Type 0 where
 
 role_named : (r : Row) (e : Standing) → HasRole r → FineNamed r tag.Role e → IsRole (role e)
 role_named r e has h =
-    role_in e (subst (λ (own : Row). IsFine (fault_of own e)) (has.settles e.info) (named_own r tag.Role has.rule e has.found h))
+    role_in e (subst (λ (own : Row). IsFine (fault_of own e)) (has.settles e.info)
+    (named_own r tag.Role has.rule e has.found h))
 
 optional_role_in : (r : Row) (e : Standing) → HasRole r → AreFine r e.kids → IfSome (optional role tag.Role e) IsRole
 optional_role_in r e has h =
     let go : (o : Option Standing) → IfSome o (FineNamed r tag.Role) → IfSome (option_map role o) IsRole =
-    λ o. elim o as (λ x. IfSome x (FineNamed r tag.Role) → IfSome (option_map role x) IsRole) [ None ↦ λ _. tt | Some c ↦ λ f. role_named r c has f ] in
+    λ o. elim o as (λ x. IfSome x (FineNamed r tag.Role) → IfSome (option_map role x) IsRole)
+    [ None ↦ λ _. tt | Some c ↦ λ f. role_named r c has f ] in
     go (child tag.Role e.kids) (child_fine r tag.Role e.kids h)
 
 there : {X : Type 0} (o : Option X) (d : X) (P : X → Type 0) → IsSome o → IfSome o P → P (unwrap_or o d)
@@ -182,8 +208,10 @@ unfolding the_role settled
 the_role_in r e needs h =
     let inside = FineInside-from r e needs.has_elements h in
     let has : HasRole r = record { rule = once tag.Role row.Role; found = needs.found; settles = λ i. refl } in
-    let some : IsSome (child tag.Role e.kids) = has_found (children r) (word tag.Role) (once tag.Role row.Role) e.kids needs.found inside.has in
-    there (optional role tag.Role e) no_name IsRole (some-mapped role (child tag.Role e.kids) some) (optional_role_in r e has inside.kids)
+    let some : IsSome (child tag.Role e.kids) = has_found (children r) (word tag.Role) (once tag.Role row.Role) e.kids
+    needs.found inside.has in
+    there (optional role tag.Role e) no_name IsRole (some-mapped role (child tag.Role e.kids) some)
+    (optional_role_in r e has inside.kids)
 
 -- event resources
 
@@ -211,14 +239,18 @@ open_type : rule_for (children row.OpenResource) (word tag.ResourceType) ≡ Som
 unfolding children word
 open_type = refl
 
-no_reference : (e : Standing) → optional_reference e ≡ None → is_some (attribute label.Reference e.info.attributes) ≡ false
+no_reference : (e : Standing) → optional_reference e ≡ None
+    → is_some (attribute label.Reference e.info.attributes) ≡ false
 unfolding optional_reference optional_name
 no_reference e h =
-    let go : (o : Option AttributeInfo) → option_map as_reference (option_map attribute_name o) ≡ None → is_some o ≡ false =
-    λ o. elim o as (λ x. option_map as_reference (option_map attribute_name x) ≡ None → is_some x ≡ false) [ None ↦ λ _. refl | Some a ↦ λ k. cc ] in
+    let go : (o : Option AttributeInfo) → option_map as_reference (option_map attribute_name o) ≡ None
+    → is_some o ≡ false =
+    λ o. elim o as (λ x. option_map as_reference (option_map attribute_name x) ≡ None → is_some x ≡ false)
+    [ None ↦ λ _. refl | Some a ↦ λ k. cc ] in
     go (attribute label.Reference e.info.attributes) h
 
-referred_resource : (e : Standing) → is_some (attribute label.Reference e.info.attributes) ≡ true → IsFine (fault_of row.EventResource e) → IsEventResource (event_resource e)
+referred_resource : (e : Standing) → is_some (attribute label.Reference e.info.attributes) ≡ true
+    → IsFine (fault_of row.EventResource e) → IsEventResource (event_resource e)
 unfolding event_resource
 referred_resource e is h =
     let inside = FineInside-from row.EventResource e elements_of_resource h in
@@ -232,15 +264,23 @@ open_resource : (e : Standing) → IsFine (fault_of row.OpenResource e) → IsEv
 unfolding event_resource
 open_resource e h =
     let inside = FineInside-from row.OpenResource e elements_of_open h in
-    let named_role : IsSome (child tag.Role e.kids) = has_found (children row.OpenResource) (word tag.Role) (once tag.Role row.Role) e.kids open_role inside.has in
-    let typed : IsSome (child tag.ResourceType e.kids) = has_found (children row.OpenResource) (word tag.ResourceType) (once tag.ResourceType row.Reference) e.kids open_type inside.has in
+    let named_role : IsSome (child tag.Role e.kids) =
+    has_found (children row.OpenResource) (word tag.Role) (once tag.Role row.Role) e.kids open_role inside.has in
+    let typed : IsSome (child tag.ResourceType e.kids) =
+    has_found (children row.OpenResource) (word tag.ResourceType) (once tag.ResourceType row.Reference) e.kids
+    open_type inside.has in
     record {
       role = optional_role_in row.OpenResource e role_of_open inside.kids;
       workload = workload_in e;
-      closed = λ _. (some-mapped role (child tag.Role e.kids) named_role, some-mapped reference (child tag.ResourceType e.kids) typed);
+      closed = λ _. (
+        some-mapped role (child tag.Role e.kids) named_role,
+        some-mapped reference
+            (child tag.ResourceType e.kids) typed,
+      );
     }
 
-resource_in : (e : Standing) → IsFine (fault_of (settled row.EventResource e.info) e) → IsEventResource (event_resource e)
+resource_in : (e : Standing) → IsFine (fault_of (settled row.EventResource e.info) e)
+    → IsEventResource (event_resource e)
 unfolding settled
 resource_in e h =
     let P : Bool → Type 0 = λ b. IsFine (fault_of (if b then row.EventResource else row.OpenResource) e) in
@@ -257,13 +297,19 @@ resources_only = refl
 
 event_resources : Leads row.Event tag.Resources row.EventResources
 unfolding children word settled content
-event_resources = record { rule = at_most_once tag.Resources row.EventResources; found = refl; settles = λ i. refl; has_elements = refl }
+event_resources = record {
+  rule = at_most_once tag.Resources row.EventResources;
+  found = refl;
+  settles = λ i. refl;
+  has_elements = refl;
+}
 
 event_in : (e : Standing) → FineInside row.Event e → IsEvent (event e)
 unfolding event every
 event_in e h =
     let resources : Forest = kids_of (child tag.Resources e.kids) in
-    let fine : AreFine row.EventResources resources = kids_fine row.Event tag.Resources row.EventResources e.kids event_resources h.kids in
+    let fine : AreFine row.EventResources resources =
+    kids_fine row.Event tag.Resources row.EventResources e.kids event_resources h.kids in
     record {
       duration = duration_in e;
       workload = workload_in e;
@@ -293,7 +339,11 @@ rule_in : (k : Kind) (e : Standing) → IsFine (fault_of (row.Constraint k) e) �
 unfolding rule
 rule_in kind.AssignTime e h = tt
 rule_in kind.AssignResource e h = the_role_in (row.Constraint kind.AssignResource) e roles_of_assigned h
-rule_in kind.SplitEvents e h = (bounds_in tag.MinimumDuration tag.MaximumDuration e, bounds_in tag.MinimumAmount tag.MaximumAmount e)
+rule_in kind.SplitEvents e h = (
+  bounds_in tag.MinimumDuration tag.MaximumDuration e,
+  bounds_in tag.MinimumAmount
+      tag.MaximumAmount e,
+)
 rule_in kind.DistributeSplitEvents e h = (duration_in e, bounds_in tag.Minimum tag.Maximum e)
 rule_in kind.PreferTimes e h = optional_duration_in e
 rule_in kind.PreferResources e h = the_role_in (row.Constraint kind.PreferResources) e roles_of_preferred h
@@ -339,7 +389,8 @@ rules_of_kinds : children row.Constraints ≡ map kind_rule kinds
 unfolding children
 rules_of_kinds = refl
 
-rule_for-kinds : (ks : List Kind) (name : List ℕ) → rule_for (map kind_rule ks) name ≡ option_map kind_rule (kind_among ks name)
+rule_for-kinds : (ks : List Kind) (name : List ℕ)
+    → rule_for (map kind_rule ks) name ≡ option_map kind_rule (kind_among ks name)
 unfolding word
 rule_for-kinds [] name = refl
 rule_for-kinds (k ∷ ks) name =
@@ -348,7 +399,8 @@ rule_for-kinds (k ∷ ks) name =
       | inr e ↦ rw e (rule_for-kinds ks name)
     ]
 
-kind_from : (o : Option Kind) (c : Child) → option_map kind_rule o ≡ Some c → c ≡ kind_rule (unwrap_or o kind.LinkEvents)
+kind_from : (o : Option Kind) (c : Child) → option_map kind_rule o ≡ Some c
+    → c ≡ kind_rule (unwrap_or o kind.LinkEvents)
 kind_from None c e = cc
 kind_from (Some k) c e = cc
 
@@ -366,7 +418,13 @@ constraint_child_in e h =
 
 instance_events : Leads row.Instance tag.Events row.Events
 unfolding children word settled content
-instance_events = record { rule = at_most_once tag.Events row.Events; found = refl; settles = λ i. refl; has_elements = refl }
+instance_events = record {
+  rule = at_most_once tag.Events row.Events;
+  found = refl;
+  settles = λ i. refl;
+  has_elements =
+      refl;
+}
 
 events_event : Leads row.Events tag.Event row.Event
 unfolding children word settled content
@@ -374,15 +432,22 @@ events_event = record { rule = many tag.Event row.Event; found = refl; settles =
 
 instance_constraints : Leads row.Instance tag.Constraints row.Constraints
 unfolding children word settled content
-instance_constraints = record { rule = at_most_once tag.Constraints row.Constraints; found = refl; settles = λ i. refl; has_elements = refl }
+instance_constraints = record {
+  rule = at_most_once tag.Constraints row.Constraints;
+  found = refl;
+  settles = λ i. refl;
+  has_elements = refl;
+}
 
 instance_in : (e : Standing) → FineInside row.Instance e → IsInstance (instance e)
 unfolding instance every all_inside
 instance_in e h =
     let events : Forest = kids_of (child tag.Events e.kids) in
     let constraints : Forest = kids_of (child tag.Constraints e.kids) in
-    let fine_events : AreFine row.Events events = kids_fine row.Instance tag.Events row.Events e.kids instance_events h.kids in
-    let fine_constraints : AreFine row.Constraints constraints = kids_fine row.Instance tag.Constraints row.Constraints e.kids instance_constraints h.kids in
+    let fine_events : AreFine row.Events events =
+    kids_fine row.Instance tag.Events row.Events e.kids instance_events h.kids in
+    let fine_constraints : AreFine row.Constraints constraints =
+    kids_fine row.Instance tag.Constraints row.Constraints e.kids instance_constraints h.kids in
     record {
       events = all_made IsEvent (FineNamed row.Events tag.Event) event
           (λ x f. event_in x (named_inside row.Events tag.Event row.Event x events_event f))
@@ -399,15 +464,32 @@ role_of_given = record { rule = at_most_once tag.Role row.Role; found = refl; se
 
 entry_resources : Leads row.Entry tag.Resources row.GivenResources
 unfolding children word settled content
-entry_resources = record { rule = at_most_once tag.Resources row.GivenResources; found = refl; settles = λ i. refl; has_elements = refl }
+entry_resources = record {
+  rule = at_most_once tag.Resources row.GivenResources;
+  found = refl;
+  settles = λ i. refl;
+  has_elements = refl;
+}
 
 solution_events : Leads row.Solution tag.Events row.Entries
 unfolding children word settled content
-solution_events = record { rule = at_most_once tag.Events row.Entries; found = refl; settles = λ i. refl; has_elements = refl }
+solution_events = record {
+  rule = at_most_once tag.Events row.Entries;
+  found = refl;
+  settles = λ i. refl;
+  has_elements =
+      refl;
+}
 
 group_solution : Leads row.SolutionGroup tag.Solution row.Solution
 unfolding children word settled content
-group_solution = record { rule = many tag.Solution row.Solution; found = refl; settles = λ i. refl; has_elements = refl }
+group_solution = record {
+  rule = many tag.Solution row.Solution;
+  found = refl;
+  settles = λ i. refl;
+  has_elements =
+      refl;
+}
 
 -- a row whose elements are all of another row
 record LeadsOnly (r to : Row) : Type 0 where
@@ -418,7 +500,8 @@ record LeadsOnly (r to : Row) : Type 0 where
 
 only_inside : (r to : Row) (e : Standing) → LeadsOnly r to → FineChild r e → FineInside to e
 only_inside r to e leads h =
-    FineInside-from to e leads.has_elements (subst (λ (own : Row). IsFine (fault_of own e)) (leads.settles e.info) (only_own r leads.rule e leads.only h))
+    FineInside-from to e leads.has_elements (subst (λ (own : Row). IsFine (fault_of own e)) (leads.settles e.info)
+    (only_own r leads.rule e leads.only h))
 
 given_only : LeadsOnly row.GivenResources row.Given
 unfolding children settled content
@@ -436,7 +519,8 @@ entry_in : (e : Standing) → FineInside row.Entry e → IsEntry (entry e)
 unfolding entry every
 entry_in e h =
     let resources : Forest = kids_of (child tag.Resources e.kids) in
-    let fine : AreFine row.GivenResources resources = kids_fine row.Entry tag.Resources row.GivenResources e.kids entry_resources h.kids in
+    let fine : AreFine row.GivenResources resources =
+    kids_fine row.Entry tag.Resources row.GivenResources e.kids entry_resources h.kids in
     record {
       duration = optional_duration_in e;
       resources = all_made IsGiven (FineChild row.GivenResources) given
@@ -448,7 +532,8 @@ solution_in : (e : Standing) → FineInside row.Solution e → IsSolution (solut
 unfolding solution every
 solution_in e h =
     let events : Forest = kids_of (child tag.Events e.kids) in
-    let fine : AreFine row.Entries events = kids_fine row.Solution tag.Events row.Entries e.kids solution_events h.kids in
+    let fine : AreFine row.Entries events = kids_fine row.Solution tag.Events row.Entries e.kids solution_events
+    h.kids in
     all_made IsEntry (FineChild row.Entries) entry
     (λ x f. entry_in x (only_inside row.Entries row.Entry x entries_only f))
     (elements events) (elements_fine row.Entries events fine)
@@ -464,11 +549,21 @@ solution_group_in e h =
 
 archive_instances : Leads row.Archive tag.Instances row.Instances
 unfolding children word settled content
-archive_instances = record { rule = at_most_once tag.Instances row.Instances; found = refl; settles = λ i. refl; has_elements = refl }
+archive_instances = record {
+  rule = at_most_once tag.Instances row.Instances;
+  found = refl;
+  settles = λ i. refl;
+  has_elements = refl;
+}
 
 archive_groups : Leads row.Archive tag.SolutionGroups row.SolutionGroups
 unfolding children word settled content
-archive_groups = record { rule = at_most_once tag.SolutionGroups row.SolutionGroups; found = refl; settles = λ i. refl; has_elements = refl }
+archive_groups = record {
+  rule = at_most_once tag.SolutionGroups row.SolutionGroups;
+  found = refl;
+  settles = λ i. refl;
+  has_elements = refl;
+}
 
 instances_only : LeadsOnly row.Instances row.Instance
 unfolding children settled content
@@ -476,7 +571,13 @@ instances_only = record { rule = many tag.Instance row.Instance; only = refl; se
 
 groups_only : LeadsOnly row.SolutionGroups row.SolutionGroup
 unfolding children settled content
-groups_only = record { rule = many tag.SolutionGroup row.SolutionGroup; only = refl; settles = λ i. refl; has_elements = refl }
+groups_only = record {
+  rule = many tag.SolutionGroup row.SolutionGroup;
+  only = refl;
+  settles = λ i. refl;
+  has_elements =
+      refl;
+}
 
 elements_of_archive : content row.Archive ≡ content_of.Elements
 unfolding content
@@ -488,8 +589,10 @@ archive_in e h =
     let inside = FineInside-from row.Archive e elements_of_archive h in
     let instances : Forest = kids_of (child tag.Instances e.kids) in
     let groups : Forest = kids_of (child tag.SolutionGroups e.kids) in
-    let fine_instances : AreFine row.Instances instances = kids_fine row.Archive tag.Instances row.Instances e.kids archive_instances inside.kids in
-    let fine_groups : AreFine row.SolutionGroups groups = kids_fine row.Archive tag.SolutionGroups row.SolutionGroups e.kids archive_groups inside.kids in
+    let fine_instances : AreFine row.Instances instances =
+    kids_fine row.Archive tag.Instances row.Instances e.kids archive_instances inside.kids in
+    let fine_groups : AreFine row.SolutionGroups groups =
+    kids_fine row.Archive tag.SolutionGroups row.SolutionGroups e.kids archive_groups inside.kids in
     record {
       instances = all_made IsInstance (FineChild row.Instances) instance
           (λ x f. instance_in x (only_inside row.Instances row.Instance x instances_only f))

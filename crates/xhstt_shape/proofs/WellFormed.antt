@@ -10,7 +10,9 @@ use Rattle.xhstt_shape.specs.WellFormed.{IsWellFormed}
 use Rattle.xhstt_shape.proofs.InForm.{told-in_form}
 use Rattle.xhstt_shape.proofs.Spellable.{told-spellable}
 
-pub told-well_formed : (r : Result Archive ShapeFault) (bytes : List ℕ) (f : Forest) (i : Info) (kids others : Forest) → f ≡ node i kids others → IsTold r (shape (record { info = i; kids = kids })) → IfOk r (λ a. Spelled bytes f → IsWellFormed a)
+pub told-well_formed : (r : Result Archive ShapeFault) (bytes : List ℕ) (f : Forest) (i : Info) (kids others : Forest)
+    → f ≡ node i kids others → IsTold r (shape (record { info = i; kids = kids }))
+    → IfOk r (λ a. Spelled bytes f → IsWellFormed a)
 told-well_formed (Ok a) bytes f i kids others is told =
     λ spelled. record {
       in_form = told-in_form (Ok a) (record { info = i; kids = kids }) told;

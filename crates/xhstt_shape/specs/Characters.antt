@@ -106,7 +106,8 @@ IsSpellableApplies (applied.Resources groups resources) = AreSpellableRefs group
 abbrev pub IsSpellableRule : RawRule → Type 0
 IsSpellableRule (ruled.AssignResource role) = IsSpellableName role
 IsSpellableRule (ruled.PreferTimes groups times duration) = AreSpellableRefs groups × AreSpellableRefs times
-IsSpellableRule (ruled.PreferResources groups resources role) = AreSpellableRefs groups × AreSpellableRefs resources × IsSpellableName role
+IsSpellableRule (ruled.PreferResources groups resources role) =
+    AreSpellableRefs groups × AreSpellableRefs resources × IsSpellableName role
 IsSpellableRule (ruled.AvoidSplitAssignments role) = IsSpellableName role
 IsSpellableRule (ruled.SpreadEvents groups) = All IsSpellableSpread groups
 IsSpellableRule (ruled.AvoidUnavailableTimes groups times) = AreSpellableRefs groups × AreSpellableRefs times

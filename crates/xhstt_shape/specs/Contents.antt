@@ -1,5 +1,6 @@
 -- What the bytes of an element without children say: a text, a number, a word or a role.
-use Rattle.std.specs.Prelude.{ℕ, ◌+◌, ◌-◌, ◌*◌, ◌==◌, ◌&&◌, Bool, true, false, if◌then◌else◌, nat_lt, nat_le, Option, Some, None, unwrap_or, List, [], ◌∷◌, length, codes, encode_utf8_all}
+use Rattle.std.specs.Prelude.{ℕ, ◌+◌, ◌-◌, ◌*◌, ◌==◌, ◌&&◌, Bool, true, false, if◌then◌else◌, nat_lt, nat_le, Option}
+use Rattle.std.specs.Prelude.{Some, None, unwrap_or, List, [], ◌∷◌, length, codes, encode_utf8_all}
 use Rattle.std.specs.List.{list_all}
 use Rattle.std.specs.Str.{bytes_eq}
 use Rattle.khe_base.specs.Text.{text_of}
@@ -56,7 +57,8 @@ number_between least greatest bytes =
     then Some (value_after 0 bytes) else None
 
 unfoldable pub truth_of : List ℕ → Option Bool
-truth_of bytes = if bytes_eq (codes "true") bytes then Some true else if bytes_eq (codes "false") bytes then Some false else None
+truth_of bytes = if bytes_eq (codes "true") bytes then Some true else if bytes_eq (codes "false") bytes then Some false
+    else None
 
 unfoldable pub function_of : List ℕ → Option CostFn
 function_of bytes =

@@ -95,10 +95,12 @@ applies (applied.Resources groups resources) = applied.Resources (references gro
 abbrev pub rule : RawRule → RawRule
 rule ruled.AssignTime = ruled.AssignTime
 rule (ruled.AssignResource role) = ruled.AssignResource (name role)
-rule (ruled.SplitEvents min_duration max_duration min_amount max_amount) = ruled.SplitEvents min_duration max_duration min_amount max_amount
+rule (ruled.SplitEvents min_duration max_duration min_amount max_amount) =
+    ruled.SplitEvents min_duration max_duration min_amount max_amount
 rule (ruled.DistributeSplitEvents duration min max) = ruled.DistributeSplitEvents duration min max
 rule (ruled.PreferTimes groups times duration) = ruled.PreferTimes (references groups) (references times) duration
-rule (ruled.PreferResources groups resources role) = ruled.PreferResources (references groups) (references resources) (name role)
+rule (ruled.PreferResources groups resources role) =
+    ruled.PreferResources (references groups) (references resources) (name role)
 rule (ruled.AvoidSplitAssignments role) = ruled.AvoidSplitAssignments (name role)
 rule (ruled.SpreadEvents groups) = ruled.SpreadEvents (map spread groups)
 rule ruled.LinkEvents = ruled.LinkEvents

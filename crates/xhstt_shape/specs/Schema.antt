@@ -57,76 +57,130 @@ attributes _ = []
 -- the children that each constraint has, before those of its kind
 abbrev pub constraint : Row → List Child → List Child
 constraint applies further =
-    at_most_once tag.Name row.Text ∷ (once tag.Required row.Truth ∷ (once tag.Weight row.Number ∷ (once tag.CostFunction row.Function ∷ (once tag.AppliesTo applies ∷ further))))
+    at_most_once tag.Name row.Text ∷ (once tag.Required
+    row.Truth ∷ (once tag.Weight row.Number ∷ (once tag.CostFunction
+    row.Function ∷ (once tag.AppliesTo applies ∷ further))))
 
 -- the children of a constraint, in the order of the table
 unfoldable pub constraint_children : Kind → List Child
 constraint_children kind.AssignTime = constraint row.EventApplies []
 constraint_children kind.AssignResource = constraint row.EventApplies (once tag.Role row.Role ∷ [])
-constraint_children kind.SplitEvents = constraint row.EventApplies (at_most_once tag.MinimumDuration row.Number ∷ (at_most_once tag.MaximumDuration row.Bound ∷ (at_most_once tag.MinimumAmount row.Number ∷ (at_most_once tag.MaximumAmount row.Bound ∷ []))))
-constraint_children kind.DistributeSplitEvents = constraint row.EventApplies (once tag.Duration row.Duration ∷ (at_most_once tag.Minimum row.Number ∷ (at_most_once tag.Maximum row.Bound ∷ [])))
-constraint_children kind.PreferTimes = constraint row.EventApplies (at_most_once tag.TimeGroups row.TimeGroupReferences ∷ (at_most_once tag.Times row.TimeReferences ∷ (at_most_once tag.Duration row.Duration ∷ [])))
-constraint_children kind.PreferResources = constraint row.EventApplies (at_most_once tag.ResourceGroups row.ResourceGroupReferences ∷ (at_most_once tag.Resources row.ResourceReferences ∷ (once tag.Role row.Role ∷ [])))
+constraint_children kind.SplitEvents = constraint row.EventApplies
+    (at_most_once tag.MinimumDuration row.Number ∷ (at_most_once tag.MaximumDuration
+    row.Bound ∷ (at_most_once tag.MinimumAmount row.Number ∷ (at_most_once tag.MaximumAmount row.Bound ∷ []))))
+constraint_children kind.DistributeSplitEvents =
+    constraint row.EventApplies (once tag.Duration
+    row.Duration ∷ (at_most_once tag.Minimum row.Number ∷ (at_most_once tag.Maximum row.Bound ∷ [])))
+constraint_children kind.PreferTimes = constraint row.EventApplies
+    (at_most_once tag.TimeGroups row.TimeGroupReferences ∷ (at_most_once tag.Times
+    row.TimeReferences ∷ (at_most_once tag.Duration row.Duration ∷ [])))
+constraint_children kind.PreferResources = constraint row.EventApplies
+    (at_most_once tag.ResourceGroups row.ResourceGroupReferences ∷ (at_most_once tag.Resources
+    row.ResourceReferences ∷ (once tag.Role row.Role ∷ [])))
 constraint_children kind.AvoidSplitAssignments = constraint row.GroupApplies (once tag.Role row.Role ∷ [])
 constraint_children kind.SpreadEvents = constraint row.GroupApplies (at_most_once tag.TimeGroups row.Spreads ∷ [])
 constraint_children kind.LinkEvents = constraint row.GroupApplies []
 constraint_children kind.OrderEvents = constraint row.PairApplies []
 constraint_children kind.AvoidClashes = constraint row.ResourceApplies []
-constraint_children kind.AvoidUnavailableTimes = constraint row.ResourceApplies (at_most_once tag.TimeGroups row.TimeGroupReferences ∷ (at_most_once tag.Times row.TimeReferences ∷ []))
-constraint_children kind.LimitIdleTimes = constraint row.ResourceApplies (at_most_once tag.TimeGroups row.TimeGroupReferences ∷ (at_most_once tag.Minimum row.Number ∷ (at_most_once tag.Maximum row.Bound ∷ [])))
-constraint_children kind.ClusterBusyTimes = constraint row.ResourceApplies (at_most_once tag.TimeGroups row.TimeGroupReferences ∷ (at_most_once tag.Minimum row.Number ∷ (at_most_once tag.Maximum row.Bound ∷ [])))
-constraint_children kind.LimitBusyTimes = constraint row.ResourceApplies (at_most_once tag.TimeGroups row.TimeGroupReferences ∷ (at_most_once tag.Minimum row.Number ∷ (at_most_once tag.Maximum row.Bound ∷ [])))
-constraint_children kind.LimitWorkload = constraint row.ResourceApplies (at_most_once tag.Minimum row.Number ∷ (at_most_once tag.Maximum row.Bound ∷ []))
+constraint_children kind.AvoidUnavailableTimes =
+    constraint row.ResourceApplies (at_most_once tag.TimeGroups
+    row.TimeGroupReferences ∷ (at_most_once tag.Times row.TimeReferences ∷ []))
+constraint_children kind.LimitIdleTimes = constraint row.ResourceApplies
+    (at_most_once tag.TimeGroups row.TimeGroupReferences ∷ (at_most_once tag.Minimum
+    row.Number ∷ (at_most_once tag.Maximum row.Bound ∷ [])))
+constraint_children kind.ClusterBusyTimes = constraint row.ResourceApplies
+    (at_most_once tag.TimeGroups row.TimeGroupReferences ∷ (at_most_once tag.Minimum
+    row.Number ∷ (at_most_once tag.Maximum row.Bound ∷ [])))
+constraint_children kind.LimitBusyTimes = constraint row.ResourceApplies
+    (at_most_once tag.TimeGroups row.TimeGroupReferences ∷ (at_most_once tag.Minimum
+    row.Number ∷ (at_most_once tag.Maximum row.Bound ∷ [])))
+constraint_children kind.LimitWorkload = constraint row.ResourceApplies
+    (at_most_once tag.Minimum row.Number ∷ (at_most_once tag.Maximum row.Bound ∷ []))
 
 -- the children of an element, in the order of the table
 unfoldable pub children : Row → List Child
 children row.Archive =
-    at_most_once tag.MetaData row.MetaData ∷ (at_most_once tag.Instances row.Instances ∷ (at_most_once tag.SolutionGroups row.SolutionGroups ∷ []))
+    at_most_once tag.MetaData row.MetaData ∷ (at_most_once tag.Instances
+    row.Instances ∷ (at_most_once tag.SolutionGroups row.SolutionGroups ∷ []))
 children row.MetaData =
-    at_most_once tag.Name row.Text ∷ (at_most_once tag.Contributor row.Text ∷ (at_most_once tag.Date row.Text ∷ (at_most_once tag.Country row.Text ∷ (at_most_once tag.Description row.Text ∷ (at_most_once tag.Publication row.Text ∷ (at_most_once tag.Remarks row.Text ∷ []))))))
+    at_most_once tag.Name row.Text ∷ (at_most_once tag.Contributor
+    row.Text ∷ (at_most_once tag.Date row.Text ∷ (at_most_once tag.Country
+    row.Text ∷ (at_most_once tag.Description row.Text ∷ (at_most_once tag.Publication
+    row.Text ∷ (at_most_once tag.Remarks row.Text ∷ []))))))
 children row.Instances = many tag.Instance row.Instance ∷ []
 children row.Instance =
-    at_most_once tag.MetaData row.MetaData ∷ (at_most_once tag.Times row.Times ∷ (at_most_once tag.Resources row.Resources ∷ (at_most_once tag.Events row.Events ∷ (at_most_once tag.Constraints row.Constraints ∷ []))))
+    at_most_once tag.MetaData row.MetaData ∷ (at_most_once tag.Times
+    row.Times ∷ (at_most_once tag.Resources row.Resources ∷ (at_most_once tag.Events
+    row.Events ∷ (at_most_once tag.Constraints row.Constraints ∷ []))))
 children row.Times = at_most_once tag.TimeGroups row.TimeGroups ∷ (many tag.Time row.Time ∷ [])
 children row.TimeGroups =
     many tag.Week row.Named ∷ (many tag.Day row.Named ∷ (many tag.TimeGroup row.Named ∷ []))
 children row.Named = at_most_once tag.Name row.Text ∷ []
 children row.Time =
-    at_most_once tag.Name row.Text ∷ (at_most_once tag.Week row.Reference ∷ (at_most_once tag.Day row.Reference ∷ (at_most_once tag.TimeGroups row.TimeGroupReferences ∷ [])))
+    at_most_once tag.Name row.Text ∷ (at_most_once tag.Week
+    row.Reference ∷ (at_most_once tag.Day row.Reference ∷ (at_most_once tag.TimeGroups
+    row.TimeGroupReferences ∷ [])))
 children row.Resources =
-    at_most_once tag.ResourceTypes row.ResourceTypes ∷ (at_most_once tag.ResourceGroups row.ResourceGroups ∷ (many tag.Resource row.Resource ∷ []))
+    at_most_once tag.ResourceTypes row.ResourceTypes ∷ (at_most_once tag.ResourceGroups
+    row.ResourceGroups ∷ (many tag.Resource row.Resource ∷ []))
 children row.ResourceTypes = many tag.ResourceType row.Named ∷ []
 children row.ResourceGroups = many tag.ResourceGroup row.ResourceGroup ∷ []
 children row.ResourceGroup = at_most_once tag.Name row.Text ∷ (once tag.ResourceType row.Reference ∷ [])
 children row.Resource =
-    at_most_once tag.Name row.Text ∷ (once tag.ResourceType row.Reference ∷ (at_most_once tag.ResourceGroups row.ResourceGroupReferences ∷ []))
+    at_most_once tag.Name row.Text ∷ (once tag.ResourceType
+    row.Reference ∷ (at_most_once tag.ResourceGroups row.ResourceGroupReferences ∷ []))
 children row.Events = at_most_once tag.EventGroups row.EventGroups ∷ (many tag.Event row.Event ∷ [])
 children row.EventGroups = many tag.Course row.Named ∷ (many tag.EventGroup row.Named ∷ [])
 children row.Event =
-    at_most_once tag.Name row.Text ∷ (once tag.Duration row.Duration ∷ (at_most_once tag.Workload row.Number ∷ (at_most_once tag.Course row.Reference ∷ (at_most_once tag.Time row.Reference ∷ (at_most_once tag.Resources row.EventResources ∷ (at_most_once tag.ResourceGroups row.ResourceGroupReferences ∷ (at_most_once tag.EventGroups row.EventGroupReferences ∷ [])))))))
+    at_most_once tag.Name row.Text ∷ (once tag.Duration
+    row.Duration ∷ (at_most_once tag.Workload row.Number ∷ (at_most_once tag.Course
+    row.Reference ∷ (at_most_once tag.Time row.Reference ∷ (at_most_once tag.Resources
+    row.EventResources ∷ (at_most_once tag.ResourceGroups
+    row.ResourceGroupReferences ∷ (at_most_once tag.EventGroups row.EventGroupReferences ∷ [])))))))
 children row.EventResources = many tag.Resource row.EventResource ∷ []
 children row.EventResource =
-    at_most_once tag.Role row.Role ∷ (at_most_once tag.ResourceType row.Reference ∷ (at_most_once tag.Workload row.Number ∷ []))
+    at_most_once tag.Role row.Role ∷ (at_most_once tag.ResourceType
+    row.Reference ∷ (at_most_once tag.Workload row.Number ∷ []))
 children row.OpenResource =
     once tag.Role row.Role ∷ (once tag.ResourceType row.Reference ∷ (at_most_once tag.Workload row.Number ∷ []))
 children row.Constraints =
-    many (tag.Constraint kind.AssignTime) (row.Constraint kind.AssignTime) ∷ (many (tag.Constraint kind.AssignResource) (row.Constraint kind.AssignResource) ∷ (many (tag.Constraint kind.SplitEvents) (row.Constraint kind.SplitEvents) ∷ (many (tag.Constraint kind.DistributeSplitEvents) (row.Constraint kind.DistributeSplitEvents) ∷ (many (tag.Constraint kind.PreferTimes) (row.Constraint kind.PreferTimes) ∷ (many (tag.Constraint kind.PreferResources) (row.Constraint kind.PreferResources) ∷ (many (tag.Constraint kind.AvoidSplitAssignments) (row.Constraint kind.AvoidSplitAssignments) ∷ (many (tag.Constraint kind.SpreadEvents) (row.Constraint kind.SpreadEvents) ∷ (many (tag.Constraint kind.LinkEvents) (row.Constraint kind.LinkEvents) ∷ (many (tag.Constraint kind.OrderEvents) (row.Constraint kind.OrderEvents) ∷ (many (tag.Constraint kind.AvoidClashes) (row.Constraint kind.AvoidClashes) ∷ (many (tag.Constraint kind.AvoidUnavailableTimes) (row.Constraint kind.AvoidUnavailableTimes) ∷ (many (tag.Constraint kind.LimitIdleTimes) (row.Constraint kind.LimitIdleTimes) ∷ (many (tag.Constraint kind.ClusterBusyTimes) (row.Constraint kind.ClusterBusyTimes) ∷ (many (tag.Constraint kind.LimitBusyTimes) (row.Constraint kind.LimitBusyTimes) ∷ (many (tag.Constraint kind.LimitWorkload) (row.Constraint kind.LimitWorkload) ∷ [])))))))))))))))
-children row.EventApplies = at_most_once tag.EventGroups row.EventGroupReferences ∷ (at_most_once tag.Events row.EventReferences ∷ [])
+    many (tag.Constraint kind.AssignTime) (row.Constraint kind.AssignTime) ∷ (many (tag.Constraint kind.AssignResource)
+    (row.Constraint kind.AssignResource) ∷ (many (tag.Constraint kind.SplitEvents)
+    (row.Constraint kind.SplitEvents) ∷ (many (tag.Constraint kind.DistributeSplitEvents)
+    (row.Constraint kind.DistributeSplitEvents) ∷ (many (tag.Constraint kind.PreferTimes)
+    (row.Constraint kind.PreferTimes) ∷ (many (tag.Constraint kind.PreferResources)
+    (row.Constraint kind.PreferResources) ∷ (many (tag.Constraint kind.AvoidSplitAssignments)
+    (row.Constraint kind.AvoidSplitAssignments) ∷ (many (tag.Constraint kind.SpreadEvents)
+    (row.Constraint kind.SpreadEvents) ∷ (many (tag.Constraint kind.LinkEvents)
+    (row.Constraint kind.LinkEvents) ∷ (many (tag.Constraint kind.OrderEvents)
+    (row.Constraint kind.OrderEvents) ∷ (many (tag.Constraint kind.AvoidClashes)
+    (row.Constraint kind.AvoidClashes) ∷ (many (tag.Constraint kind.AvoidUnavailableTimes)
+    (row.Constraint kind.AvoidUnavailableTimes) ∷ (many (tag.Constraint kind.LimitIdleTimes)
+    (row.Constraint kind.LimitIdleTimes) ∷ (many (tag.Constraint kind.ClusterBusyTimes)
+    (row.Constraint kind.ClusterBusyTimes) ∷ (many (tag.Constraint kind.LimitBusyTimes)
+    (row.Constraint kind.LimitBusyTimes) ∷ (many (tag.Constraint kind.LimitWorkload)
+    (row.Constraint kind.LimitWorkload) ∷ [])))))))))))))))
+children row.EventApplies = at_most_once tag.EventGroups
+    row.EventGroupReferences ∷ (at_most_once tag.Events row.EventReferences ∷ [])
 children row.GroupApplies = at_most_once tag.EventGroups row.EventGroupReferences ∷ []
-children row.ResourceApplies = at_most_once tag.ResourceGroups row.ResourceGroupReferences ∷ (at_most_once tag.Resources row.ResourceReferences ∷ [])
+children row.ResourceApplies = at_most_once tag.ResourceGroups
+    row.ResourceGroupReferences ∷ (at_most_once tag.Resources row.ResourceReferences ∷ [])
 children row.PairApplies = at_most_once tag.EventPairs row.EventPairs ∷ []
 children row.EventPairs = many tag.EventPair row.EventPair ∷ []
 children row.EventPair =
-    once tag.FirstEvent row.Reference ∷ (once tag.SecondEvent row.Reference ∷ (at_most_once tag.MinSeparation row.Number ∷ (at_most_once tag.MaxSeparation row.Bound ∷ [])))
+    once tag.FirstEvent row.Reference ∷ (once tag.SecondEvent
+    row.Reference ∷ (at_most_once tag.MinSeparation row.Number ∷ (at_most_once tag.MaxSeparation row.Bound ∷ [])))
 children row.Spreads = many tag.TimeGroup row.Spread ∷ []
 children row.Spread = at_most_once tag.Minimum row.Number ∷ (at_most_once tag.Maximum row.Bound ∷ [])
 children row.SolutionGroups = many tag.SolutionGroup row.SolutionGroup ∷ []
 children row.SolutionGroup = at_most_once tag.MetaData row.MetaData ∷ (many tag.Solution row.Solution ∷ [])
 children row.Solution =
-    at_most_once tag.Description row.Text ∷ (at_most_once tag.RunningTime row.Text ∷ (at_most_once tag.Events row.Entries ∷ (at_most_once tag.Report row.Anything ∷ [])))
+    at_most_once tag.Description row.Text ∷ (at_most_once tag.RunningTime
+    row.Text ∷ (at_most_once tag.Events row.Entries ∷ (at_most_once tag.Report row.Anything ∷ [])))
 children row.Entries = many tag.Event row.Entry ∷ []
 children row.Entry =
-    at_most_once tag.Duration row.Duration ∷ (at_most_once tag.Time row.Reference ∷ (at_most_once tag.Resources row.GivenResources ∷ []))
+    at_most_once tag.Duration row.Duration ∷ (at_most_once tag.Time
+    row.Reference ∷ (at_most_once tag.Resources row.GivenResources ∷ []))
 children row.GivenResources = many tag.Resource row.Given ∷ []
 children row.Given = at_most_once tag.Role row.Role ∷ []
 children row.TimeGroupReferences = many tag.TimeGroup row.Reference ∷ []

@@ -176,7 +176,8 @@ required e = unwrap_or (option_and_then (λ c. truth_of (trimmed_text c.info.val
 
 -- the cost function of a constraint
 unfoldable pub cost_function : Standing → CostFn
-cost_function e = unwrap_or (option_and_then (λ c. function_of (trimmed_text c.info.value)) (child tag.CostFunction e.kids)) Linear
+cost_function e = unwrap_or (option_and_then (λ c. function_of (trimmed_text c.info.value))
+    (child tag.CostFunction e.kids)) Linear
 
 unfoldable pub meta_data : Standing → MetaData
 meta_data e = record {
@@ -307,19 +308,24 @@ unfoldable pub rule : Kind → Standing → RawRule
 rule kind.AssignTime e = ruled.AssignTime
 rule kind.AssignResource e = ruled.AssignResource (the_role e)
 rule kind.SplitEvents e =
-    ruled.SplitEvents (lower tag.MinimumDuration e) (upper tag.MaximumDuration e) (lower tag.MinimumAmount e) (upper tag.MaximumAmount e)
+    ruled.SplitEvents (lower tag.MinimumDuration e) (upper tag.MaximumDuration e) (lower tag.MinimumAmount e)
+    (upper tag.MaximumAmount e)
 rule kind.DistributeSplitEvents e = ruled.DistributeSplitEvents (duration e) (lower tag.Minimum e) (upper tag.Maximum e)
 rule kind.PreferTimes e = ruled.PreferTimes (references tag.TimeGroups e) (references tag.Times e) (optional_duration e)
-rule kind.PreferResources e = ruled.PreferResources (references tag.ResourceGroups e) (references tag.Resources e) (the_role e)
+rule kind.PreferResources e = ruled.PreferResources (references tag.ResourceGroups e) (references tag.Resources e)
+    (the_role e)
 rule kind.AvoidSplitAssignments e = ruled.AvoidSplitAssignments (the_role e)
 rule kind.SpreadEvents e = ruled.SpreadEvents (map spread (every tag.TimeGroups e))
 rule kind.LinkEvents e = ruled.LinkEvents
 rule kind.OrderEvents e = ruled.OrderEvents
 rule kind.AvoidClashes e = ruled.AvoidClashes
 rule kind.AvoidUnavailableTimes e = ruled.AvoidUnavailableTimes (references tag.TimeGroups e) (references tag.Times e)
-rule kind.LimitIdleTimes e = ruled.LimitIdleTimes (references tag.TimeGroups e) (lower tag.Minimum e) (upper tag.Maximum e)
-rule kind.ClusterBusyTimes e = ruled.ClusterBusyTimes (references tag.TimeGroups e) (lower tag.Minimum e) (upper tag.Maximum e)
-rule kind.LimitBusyTimes e = ruled.LimitBusyTimes (references tag.TimeGroups e) (lower tag.Minimum e) (upper tag.Maximum e)
+rule kind.LimitIdleTimes e = ruled.LimitIdleTimes (references tag.TimeGroups e) (lower tag.Minimum e)
+    (upper tag.Maximum e)
+rule kind.ClusterBusyTimes e = ruled.ClusterBusyTimes (references tag.TimeGroups e) (lower tag.Minimum e)
+    (upper tag.Maximum e)
+rule kind.LimitBusyTimes e = ruled.LimitBusyTimes (references tag.TimeGroups e) (lower tag.Minimum e)
+    (upper tag.Maximum e)
 rule kind.LimitWorkload e = ruled.LimitWorkload (lower tag.Minimum e) (upper tag.Maximum e)
 
 -- the kinds in the order of the table

@@ -2,12 +2,14 @@
 -- attributes in order, the attributes that it lacks, its text where elements are to stand, its
 -- children from left to right, each first by its name and then walked, the children that it lacks,
 -- and last its value.
-use Rattle.std.specs.Prelude.{ℕ, Bool, true, false, not, ◌||◌, if◌then◌else◌, Option, Some, None, is_some, Result, Ok, Err, List, [], ◌∷◌, ◌++◌, find}
+use Rattle.std.specs.Prelude.{ℕ, Bool, true, false, not, ◌||◌, if◌then◌else◌, Option, Some, None, is_some, Result, Ok}
+use Rattle.std.specs.Prelude.{Err, List, [], ◌∷◌, ◌++◌, find}
 use Rattle.std.specs.List.{list_all, list_any}
 use Rattle.std.specs.Str.{bytes_eq}
 use Rattle.xhstt_text.specs.Forest.{AttributeInfo, Info, Forest, empty, node}
 use Rattle.xhstt_text.specs.Handles.{Standing}
-use Rattle.xhstt_shape.specs.declared.faults.TheConstants.{UNKNOWN_ELEMENT, MISSING_CHILD, REPEATED_CHILD, BAD_NUMBER, BAD_WORD}
+use Rattle.xhstt_shape.specs.declared.faults.TheConstants.{UNKNOWN_ELEMENT, MISSING_CHILD, REPEATED_CHILD, BAD_NUMBER}
+use Rattle.xhstt_shape.specs.declared.faults.TheConstants.{BAD_WORD}
 use Rattle.xhstt_shape.specs.declared.faults.ShapeFault.{ShapeFault}
 use Rattle.xhstt_shape.specs.declared.faults.ShapeFault.TheVariants.{Bad}
 use Rattle.xhstt_shape.specs.declared.schema.Child.{Child}
@@ -33,7 +35,8 @@ attribute l given = find (λ a. bytes_eq (label_word l) a.name) given
 -- the first child of a name
 abbrev pub child : Tag → Forest → Option Standing
 child t empty = None
-child t (node i kids others) = if bytes_eq (word t) i.name then Some (record { info = i; kids = kids }) else child t others
+child t (node i kids others) = if bytes_eq (word t) i.name then Some (record { info = i; kids = kids }) else child t
+    others
 
 -- whether the table has an attribute of this name
 abbrev pub is_label : List Given → List ℕ → Bool
@@ -42,7 +45,8 @@ is_label givens name = list_any (λ g. bytes_eq (label_word g.label) name) given
 -- the first attribute that the table does not have
 abbrev pub attributes_fault : List Given → List AttributeInfo → Outcome
 attributes_fault givens [] = fine
-attributes_fault givens (a ∷ more) = followed_by (unless (is_label givens a.name) (bad UNKNOWN_ELEMENT a.at)) (attributes_fault givens more)
+attributes_fault givens (a ∷ more) = followed_by (unless (is_label givens a.name) (bad UNKNOWN_ELEMENT a.at))
+    (attributes_fault givens more)
 
 -- whether an attribute stands, or need not
 abbrev pub has_given : Given → List AttributeInfo → Bool
@@ -54,7 +58,8 @@ has_attributes givens given = list_all (λ g. has_given g given) givens
 
 -- the first attribute that the table does not have, or else an attribute that is missing
 abbrev pub all_attributes_fault : List Given → Info → Outcome
-all_attributes_fault givens i = followed_by (attributes_fault givens i.attributes) (unless (has_attributes givens i.attributes) (bad MISSING_CHILD i.at))
+all_attributes_fault givens i = followed_by (attributes_fault givens i.attributes)
+    (unless (has_attributes givens i.attributes) (bad MISSING_CHILD i.at))
 
 -- text where elements are to stand
 abbrev pub loose_fault : Content → Option ℕ → Outcome
@@ -104,7 +109,8 @@ rule_for rules name = find (λ c. bytes_eq (word c.tag) name) rules
 
 -- the row of an element: an event resource without a reference is one of another row
 unfoldable pub settled : Row → Info → Row
-settled row.EventResource i = if is_some (attribute label.Reference i.attributes) then row.EventResource else row.OpenResource
+settled row.EventResource i = if is_some (attribute label.Reference i.attributes) then row.EventResource else
+    row.OpenResource
 settled r i = r
 
 -- whether a name is one of these
@@ -122,7 +128,8 @@ rule_or_fault None seen i = Err (Bad UNKNOWN_ELEMENT i.at)
 rule_or_fault (Some c) seen i = if is_among i.name seen then Err (Bad REPEATED_CHILD i.at) else Ok c
 
 -- the first fault of a child and of those after it, where the table has this child for its name
-abbrev pub by_rule : Result Child ShapeFault → List Tag → Info → Forest → (Row → Outcome) → (List Tag → Outcome) → Outcome
+abbrev pub by_rule : Result Child ShapeFault → List Tag → Info → Forest → (Row → Outcome) → (List Tag → Outcome)
+    → Outcome
 by_rule (Err fault) seen i kids inner others = Err fault
 by_rule (Ok c) seen i kids inner others =
     let own = settled c.row i in
@@ -133,7 +140,8 @@ by_rule (Ok c) seen i kids inner others =
 abbrev pub children_fault : Row → List Tag → Forest → Outcome
 children_fault r seen empty = fine
 children_fault r seen (node i kids others) =
-    by_rule (rule_or_fault (rule_for (children r) i.name) seen i) seen i kids (λ own. children_fault own [] kids) (λ now. children_fault r now others)
+    by_rule (rule_or_fault (rule_for (children r) i.name) seen i) seen i kids (λ own. children_fault own [] kids)
+    (λ now. children_fault r now others)
 
 -- the first fault of an element of a row
 abbrev pub fault_of : Row → Standing → Outcome

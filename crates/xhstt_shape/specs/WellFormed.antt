@@ -57,7 +57,8 @@ IsSpread s = AreBounds s.min s.max
 -- the numbers and the role of a rule
 abbrev pub IsRule : RawRule → Type 0
 IsRule (ruled.AssignResource role) = IsRole role
-IsRule (ruled.SplitEvents min_duration max_duration min_amount max_amount) = AreBounds min_duration max_duration × AreBounds min_amount max_amount
+IsRule (ruled.SplitEvents min_duration max_duration min_amount max_amount) =
+    AreBounds min_duration max_duration × AreBounds min_amount max_amount
 IsRule (ruled.DistributeSplitEvents duration min max) = IsDuration duration × AreBounds min max
 IsRule (ruled.PreferTimes groups times duration) = IfSome duration IsDuration
 IsRule (ruled.PreferResources groups resources role) = IsRole role

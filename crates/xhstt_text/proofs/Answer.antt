@@ -1,5 +1,6 @@
 -- What the reader answers, from what the machine does.
-use Rattle.std.proofs.Common.{◌≡◌, ◌<◌, ℕ, List, [], length, Result, Ok, Err, refl, sym, ◌∙◌, ap, subst, IfOk, arith, ◌⊎◌, inl, inr}
+use Rattle.std.proofs.Common.{◌≡◌, ◌<◌, ℕ, List, [], length, Result, Ok, Err, refl, sym, ◌∙◌, ap, subst, IfOk, arith}
+use Rattle.std.proofs.Common.{◌⊎◌, inl, inr}
 use Rattle.xhstt_text.specs.declared.faults.TextFault.{TextFault}
 use Rattle.xhstt_text.specs.declared.faults.TextFault.TheVariants.{Bad, NoMemory}
 use Rattle.xhstt_text.specs.declared.tree.Attribute.{Attribute}
@@ -16,26 +17,36 @@ use Rattle.xhstt_text.proofs.Sound.{document_from}
 use Rattle.xhstt_text.proofs.Lasting.{lasts}
 use Rattle.xhstt_text.proofs.Total.{told}
 
-same_rows : (bytes : List ℕ) (rows : Rows) → outcome_of bytes ≡ Ok rows → (d : Document) → IsDocument d → bytes ≡ spelling d → table d ≡ rows
+same_rows : (bytes : List ℕ) (rows : Rows) → outcome_of bytes ≡ Ok rows → (d : Document) → IsDocument d
+    → bytes ≡ spelling d → table d ≡ rows
 same_rows bytes rows e d h same =
-    let whole : Outcome = Ok rows in let k : Ok (table d) ≡ whole = sym (run_document d h) ∙ ap outcome_of (sym same) ∙ e in cc
+    let whole : Outcome = Ok rows in let k : Ok (table d) ≡ whole =
+    sym (run_document d h) ∙ ap outcome_of (sym same) ∙ e in cc
 
 abbrev Exact : {T : Type 0} → List ℕ → Result T TextFault → (T → List Node) → (T → List Attribute) → Type 0
-Exact bytes r nodes attributes = Leads r (outcome_of bytes) (λ t. Ok (record { nodes = nodes t; attributes = attributes t }))
+Exact bytes r nodes attributes = Leads r (outcome_of bytes)
+    (λ t. Ok (record { nodes = nodes t; attributes = attributes t }))
 
-pub spelled : {T : Type 0} (bytes : List ℕ) (r : Result T TextFault) (nodes : T → List Node) (attributes : T → List Attribute) → IsUtf8 bytes → Exact bytes r nodes attributes → IfOk r (λ t. Spells bytes (record { nodes = nodes t; attributes = attributes t }))
+pub spelled : {T : Type 0} (bytes : List ℕ) (r : Result T TextFault) (nodes : T → List Node)
+    (attributes : T → List Attribute) → IsUtf8 bytes → Exact bytes r nodes attributes
+    → IfOk r (λ t. Spells bytes (record { nodes = nodes t; attributes = attributes t }))
 spelled bytes (Ok t) nodes attributes u e =
     let rows : Rows = record { nodes = nodes t; attributes = attributes t } in
     let d = document_from bytes rows e in
     (d.0, (u, d.1, d.2), sym (same_rows bytes rows e d.0 d.1 d.2))
 spelled bytes (Err f) nodes attributes u e = tt
 
-pub alone : {T : Type 0} (bytes : List ℕ) (r : Result T TextFault) (nodes : T → List Node) (attributes : T → List Attribute) → Exact bytes r nodes attributes → IfOk r (λ t. (d : Document) → IsSpellingOf bytes d → table d ≡ record { nodes = nodes t; attributes = attributes t })
-alone bytes (Ok t) nodes attributes e = λ d h. same_rows bytes (record { nodes = nodes t; attributes = attributes t }) e d h.1 h.2
+pub alone : {T : Type 0} (bytes : List ℕ) (r : Result T TextFault) (nodes : T → List Node)
+    (attributes : T → List Attribute) → Exact bytes r nodes attributes
+    → IfOk r (λ t. (d : Document) → IsSpellingOf bytes d
+    → table d ≡ record { nodes = nodes t; attributes = attributes t })
+alone bytes (Ok t) nodes attributes e = λ d h. same_rows bytes (record { nodes = nodes t; attributes = attributes t }) e
+    d h.1 h.2
 alone bytes (Err f) nodes attributes e = tt
 
 -- bytes with a fault spell no document
-faulty : (bytes : List ℕ) (f : TextFault) → outcome_of bytes ≡ Err f → (d : Document) → IsDocument d → bytes ≡ spelling d → ⊥
+faulty : (bytes : List ℕ) (f : TextFault) → outcome_of bytes ≡ Err f → (d : Document) → IsDocument d
+    → bytes ≡ spelling d → ⊥
 faulty bytes f e d h same =
     let k : Ok (table d) ≡ outcome_of bytes = sym (run_document d h) ∙ ap outcome_of (sym same) in cc
 
@@ -65,33 +76,43 @@ abbrev failing : {T : Type 0} → TextFault → Result T TextFault
 failing f = Err f
 
 -- the reader's fault is the first, where the bytes are UTF-8
-pub first_fault : {T : Type 0} (bytes : List ℕ) (r : Result T TextFault) (nodes : T → List Node) (attributes : T → List Attribute) → IsUtf8 bytes → Exact bytes r nodes attributes → (kind at : ℕ) → r ≡ Err (Bad kind at) → IsFirstFault bytes kind at
+pub first_fault : {T : Type 0} (bytes : List ℕ) (r : Result T TextFault) (nodes : T → List Node)
+    (attributes : T → List Attribute) → IsUtf8 bytes → Exact bytes r nodes attributes → (kind at : ℕ)
+    → r ≡ Err (Bad kind at) → IsFirstFault bytes kind at
 first_fault bytes (Ok t) nodes attributes u e kind at is = cc
 first_fault bytes (Err (Bad k a)) nodes attributes u e kind at is =
     let same : Bad k a ≡ Bad kind at = cc in
     inr (u, subst (λ (f : TextFault). outcome_of bytes ≡ Err f) same e)
 first_fault bytes (Err NoMemory) nodes attributes u e kind at is = cc
 
-pub fault_answered : {T : Type 0} (bytes : List ℕ) (r : Result T TextFault) (nodes : T → List Node) (attributes : T → List Attribute) → IsUtf8 bytes → Exact bytes r nodes attributes → (kind at : ℕ) → IsFirstFault bytes kind at → (r ≡ Err (Bad kind at)) ⊎ (r ≡ Err NoMemory)
+pub fault_answered : {T : Type 0} (bytes : List ℕ) (r : Result T TextFault) (nodes : T → List Node)
+    (attributes : T → List Attribute) → IsUtf8 bytes → Exact bytes r nodes attributes → (kind at : ℕ)
+    → IsFirstFault bytes kind at → (r ≡ Err (Bad kind at)) ⊎ (r ≡ Err NoMemory)
 fault_answered bytes r nodes attributes u e kind at (inl h) = absurd (not_text bytes at h.1 u)
-fault_answered bytes (Ok t) nodes attributes u e kind at (inr h) = no_both (outcome_of bytes) (record { nodes = nodes t; attributes = attributes t }) (Bad kind at) e h.1
-fault_answered bytes (Err (Bad k a)) nodes attributes u e kind at (inr h) = inl (ap failing (same_fault (outcome_of bytes) (Bad k a) (Bad kind at) e h.1))
+fault_answered bytes (Ok t) nodes attributes u e kind at (inr h) =
+    no_both (outcome_of bytes) (record { nodes = nodes t; attributes = attributes t }) (Bad kind at) e h.1
+fault_answered bytes (Err (Bad k a)) nodes attributes u e kind at (inr h) =
+    inl (ap failing (same_fault (outcome_of bytes) (Bad k a) (Bad kind at) e h.1))
 fault_answered bytes (Err NoMemory) nodes attributes u e kind at (inr h) = inr refl
 
 -- where they are not
-pub utf8_answered : {T : Type 0} (bytes : List ℕ) (place : ℕ) (r : Result T TextFault) → r ≡ Err (Bad NOT_UTF8 place) → IsValidUpTo bytes place → (kind at : ℕ) → IsFirstFault bytes kind at → (r ≡ Err (Bad kind at)) ⊎ (r ≡ Err NoMemory)
+pub utf8_answered : {T : Type 0} (bytes : List ℕ) (place : ℕ) (r : Result T TextFault) → r ≡ Err (Bad NOT_UTF8 place)
+    → IsValidUpTo bytes place → (kind at : ℕ) → IsFirstFault bytes kind at
+    → (r ≡ Err (Bad kind at)) ⊎ (r ≡ Err NoMemory)
 utf8_answered bytes place r e v kind at (inl h) =
     let same : place ≡ at = sym (utf8_valid_len-IsValidUpTo bytes place v) ∙ utf8_valid_len-IsValidUpTo bytes at h.1 in
     inl (e ∙ ap (λ n. failing (Bad NOT_UTF8 n)) same ∙ ap (λ k. failing (Bad k at)) (sym h.0))
 utf8_answered bytes place r e v kind at (inr h) = absurd (not_text bytes place v h.0)
 
-pub utf8_fault : {T : Type 0} (bytes : List ℕ) (place : ℕ) (r : Result T TextFault) → r ≡ Err (Bad NOT_UTF8 place) → IsValidUpTo bytes place → (kind at : ℕ) → r ≡ Err (Bad kind at) → IsFirstFault bytes kind at
+pub utf8_fault : {T : Type 0} (bytes : List ℕ) (place : ℕ) (r : Result T TextFault) → r ≡ Err (Bad NOT_UTF8 place)
+    → IsValidUpTo bytes place → (kind at : ℕ) → r ≡ Err (Bad kind at) → IsFirstFault bytes kind at
 utf8_fault bytes place r e v kind at is =
     let same = same_parts kind at NOT_UTF8 place (fault_in (Bad kind at) (Bad NOT_UTF8 place) r is e) in
     inl (same.0, subst (IsValidUpTo bytes) (sym same.1) v)
 
 -- there is no other
-pub one_first : (bytes : List ℕ) (kind at other place : ℕ) → IsFirstFault bytes kind at → IsFirstFault bytes other place → (kind ≡ other) × (at ≡ place)
+pub one_first : (bytes : List ℕ) (kind at other place : ℕ) → IsFirstFault bytes kind at → IsFirstFault bytes other place
+    → (kind ≡ other) × (at ≡ place)
 one_first bytes kind at other place (inl h) (inl k) =
     (h.0 ∙ sym k.0, sym (utf8_valid_len-IsValidUpTo bytes at h.1) ∙ utf8_valid_len-IsValidUpTo bytes place k.1)
 one_first bytes kind at other place (inl h) (inr k) = absurd (not_text bytes at h.1 k.0)

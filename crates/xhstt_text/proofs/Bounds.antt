@@ -17,7 +17,8 @@ Stands-ends t a (node info kids others) b s i low high =
     elim (eq-or-lt_of_le low) [
       | inl here ↦ subst (λ n. (n < (node_at t n).end) × ((node_at t n).end ≤ b)) here (omega arith, others_go_on)
       | inr after ↦ elim (cases_lt i (node_at t a).end) [
-        | inl below ↦ let inside = Stands-ends t (a + 1) kids (node_at t a).end s.1 i (omega arith) below in (inside.0, omega (arith, inside.1))
+        | inl below ↦ let inside = Stands-ends t (a + 1) kids (node_at t a).end s.1 i (omega arith) below in
+            (inside.0, omega (arith, inside.1))
         | inr beyond ↦ Stands-ends t (node_at t a).end others b s.2 i beyond high
       ]
     ]
@@ -42,7 +43,8 @@ past-end t i past = ap (λ n. n.end) (get_or_past t.nodes i no_node past)
 
 -- rows that stand for one element, and whose spans lie within the text, are a table
 pub IsFlatTable-stands : (t : FlatTable) (info : Info) (kids : Forest)
-    → Stands t 0 (node info kids empty) (length t.nodes) → length t.bytes < 2 ^ 32 → All (IsNodeOf t) t.nodes → All (IsAttributeOf t.bytes) t.attributes → IsFlatTable t
+    → Stands t 0 (node info kids empty) (length t.nodes) → length t.bytes < 2 ^ 32 → All (IsNodeOf t) t.nodes
+    → All (IsAttributeOf t.bytes) t.attributes → IsFlatTable t
 IsFlatTable-stands t info kids s short nodes attributes =
     let whole : (node_at t 0).end ≡ length t.nodes = s.2 in
     let later : 0 + 1 ≤ (node_at t 0).end = Stands-le t 1 kids (node_at t 0).end s.1 in

@@ -1,5 +1,6 @@
 -- What a text is written as stands for the text.
-use Rattle.std.proofs.Common.{◌≡◌, ℕ, ◌+◌, ◌/◌, true, false, eqb, ltb, List, [], ◌∷◌, ◌++◌, refl, sym, ap, ◌∙◌, arith, append_assoc}
+use Rattle.std.proofs.Common.{◌≡◌, ℕ, ◌+◌, ◌/◌, true, false, eqb, ltb, List, [], ◌∷◌, ◌++◌, refl, sym, ap, ◌∙◌, arith}
+use Rattle.std.proofs.Common.{append_assoc}
 use Rattle.std.specs.Prelude.{unwrap_or, encode_utf8_all}
 use Rattle.std.specs.Str.{IsUtf8}
 use Rattle.std.proofs.lemmas.Bool.{and_from, not_from_false, cond_both, eqb-true}
@@ -25,8 +26,14 @@ AllAre-encode c h =
     let P : List ℕ → Type 0 = λ x. AllAre is_itself x in
     cond_both (ltb c 128) _ _ P (λ e. (h, tt)) (λ e.
     cond_both (ltb c 2048) _ _ P (λ k. (high_is_itself (192 + c / 64) (omega arith), (is_later c, tt))) (λ k.
-    cond_both (ltb c 65536) _ _ P (λ m. (high_is_itself (224 + c / 4096) (omega arith), (is_later (c / 64), (is_later c, tt))))
-    (λ m. (high_is_itself (240 + c / 262144) (omega arith), (is_later (c / 4096), (is_later (c / 64), (is_later c, tt)))))))
+    cond_both (ltb c 65536) _ _ P (λ m. (
+      high_is_itself (224 + c / 4096) (omega arith),
+      (is_later (c / 64), (is_later c, tt)),
+    ))
+    (λ m. (
+      high_is_itself (240 + c / 262144) (omega arith),
+      (is_later (c / 4096), (is_later (c / 64), (is_later c, tt))),
+    ))))
 
 -- what one character is written as stands for it, whatever follows
 abbrev Gives : ℕ → List ℕ → List ℕ → Type 0
@@ -72,13 +79,19 @@ carriage_return_given rest = refl
 character_given : (c : ℕ) (rest : List ℕ) → Gives c (escaped_character c) rest
 character_given c rest =
     let P : List ℕ → Type 0 = λ written. Gives c written rest in
-    cond_both (eqb c 38) _ _ P (λ e. referred_as c 38 (escaped_character 38) rest (eqb-true c 38 e) (ampersand_given rest)) (λ not_ampersand.
-    cond_both (eqb c 60) _ _ P (λ e. referred_as c 60 (escaped_character 60) rest (eqb-true c 60 e) (less_given rest)) (λ not_less.
-    cond_both (eqb c 62) _ _ P (λ e. referred_as c 62 (escaped_character 62) rest (eqb-true c 62 e) (greater_given rest)) (λ _.
-    cond_both (eqb c 34) _ _ P (λ e. referred_as c 34 (escaped_character 34) rest (eqb-true c 34 e) (quotation_given rest)) (λ _.
+    cond_both (eqb c 38) _ _ P (λ e. referred_as c 38 (escaped_character 38) rest (eqb-true c 38 e)
+    (ampersand_given rest)) (λ not_ampersand.
+    cond_both (eqb c 60) _ _ P (λ e. referred_as c 60 (escaped_character 60) rest (eqb-true c 60 e) (less_given rest))
+    (λ not_less.
+    cond_both (eqb c 62) _ _ P (λ e. referred_as c 62 (escaped_character 62) rest (eqb-true c 62 e)
+    (greater_given rest)) (λ _.
+    cond_both (eqb c 34) _ _ P (λ e. referred_as c 34 (escaped_character 34) rest (eqb-true c 34 e)
+    (quotation_given rest)) (λ _.
     cond_both (eqb c 9) _ _ P (λ e. referred_as c 9 (escaped_character 9) rest (eqb-true c 9 e) (tab_given rest)) (λ _.
-    cond_both (eqb c 10) _ _ P (λ e. referred_as c 10 (escaped_character 10) rest (eqb-true c 10 e) (line_feed_given rest)) (λ _.
-    cond_both (eqb c 13) _ _ P (λ e. referred_as c 13 (escaped_character 13) rest (eqb-true c 13 e) (carriage_return_given rest)) (λ _.
+    cond_both (eqb c 10) _ _ P (λ e. referred_as c 10 (escaped_character 10) rest (eqb-true c 10 e)
+    (line_feed_given rest)) (λ _.
+    cond_both (eqb c 13) _ _ P (λ e. referred_as c 13 (escaped_character 13) rest (eqb-true c 13 e)
+    (carriage_return_given rest)) (λ _.
     written_itself c rest not_ampersand not_less)))))))
 
 text_given : (cs : List ℕ) → plain_after Plain [] (encodes (escaped cs)) ≡ encodes cs
@@ -88,7 +101,8 @@ text_given (c ∷ cs) =
     ∙ character_given c (encodes (escaped cs))
     ∙ ap (λ x. encode c ++ x) (text_given cs)
 
-pub unescaped-escaped : (cs written : List ℕ) → IsUtf8 (encode_utf8_all cs) → written ≡ escaped cs → unescaped (encode_utf8_all written) ≡ cs
+pub unescaped-escaped : (cs written : List ℕ) → IsUtf8 (encode_utf8_all cs) → written ≡ escaped cs
+    → unescaped (encode_utf8_all written) ≡ cs
 unescaped-escaped cs written u e =
     ap (λ w. unwrap_or (text_of (plain_after Plain [] (encodes w))) []) e
     ∙ ap (λ x. unwrap_or (text_of x) []) (text_given cs)

@@ -1,6 +1,7 @@
 -- The forest of a table, row by row: it unfolds as its rows say, and a table that stands for a
 -- forest gives that forest.
-use Rattle.std.proofs.Common.{◌≡◌, ◌≢◌, ℕ, zero, suc, ◌+◌, ◌-◌, ◌<◌, ◌≤◌, min, max, length, ap, ◌∙◌, sym, refl, inl, inr, arith}
+use Rattle.std.proofs.Common.{◌≡◌, ◌≢◌, ℕ, zero, suc, ◌+◌, ◌-◌, ◌<◌, ◌≤◌, min, max, length, ap, ◌∙◌, sym, refl, inl}
+use Rattle.std.proofs.Common.{inr, arith}
 use Rattle.std.proofs.Math.Nat.{eq-or-lt_of_le}
 use Rattle.std.proofs.lemmas.Bool.{lt-ltb, le-ltb}
 use Rattle.xhstt_text.specs.Forest.{Info, Forest, empty, node}
@@ -8,14 +9,17 @@ use Rattle.xhstt_text.specs.FlatTable.{FlatTable, IsFlatTable, info_at, node_at,
 use Rattle.xhstt_text.specs.Handles.{size, IsRow}
 
 -- more steps than there are rows change nothing
-rows_within-enough : (j k : ℕ) (t : FlatTable) (a b : ℕ) → b - a ≤ j → b - a ≤ k → rows_within j t a b ≡ rows_within k t a b
+rows_within-enough : (j k : ℕ) (t : FlatTable) (a b : ℕ) → b - a ≤ j → b - a ≤ k
+    → rows_within j t a b ≡ rows_within k t a b
 unfolding rows_within
 rows_within-enough zero zero t a b few many = refl
 rows_within-enough zero (suc k) t a b few many = let past : b ≤ a = omega arith in rw (le-ltb a b past) refl
 rows_within-enough (suc j) zero t a b few many = let past : b ≤ a = omega arith in rw (le-ltb a b past) refl
 rows_within-enough (suc j) (suc k) t a b few many =
-    let kids : rows_within j t (a + 1) (min (node_at t a).end b) ≡ rows_within k t (a + 1) (min (node_at t a).end b) = rows_within-enough j k t (a + 1) (min (node_at t a).end b) (omega arith) (omega arith) in
-    let others : rows_within j t (max (a + 1) (node_at t a).end) b ≡ rows_within k t (max (a + 1) (node_at t a).end) b = rows_within-enough j k t (max (a + 1) (node_at t a).end) b (omega arith) (omega arith) in
+    let kids : rows_within j t (a + 1) (min (node_at t a).end b) ≡ rows_within k t (a + 1) (min (node_at t a).end b) =
+    rows_within-enough j k t (a + 1) (min (node_at t a).end b) (omega arith) (omega arith) in
+    let others : rows_within j t (max (a + 1) (node_at t a).end) b ≡ rows_within k t (max (a + 1) (node_at t a).end) b =
+    rows_within-enough j k t (max (a + 1) (node_at t a).end) b (omega arith) (omega arith) in
     rw (kids, others) refl
 
 -- no rows stand for no elements
@@ -31,8 +35,11 @@ forest-node t a b later within =
     let some : a < b = omega arith in
     let kids_end : min (node_at t a).end b ≡ (node_at t a).end = omega arith in
     let next : max (a + 1) (node_at t a).end ≡ (node_at t a).end = omega arith in
-    let kids : rows_within (b - a) t (a + 1) (node_at t a).end ≡ rows_within ((node_at t a).end - (a + 1)) t (a + 1) (node_at t a).end = rows_within-enough _ _ t (a + 1) (node_at t a).end (omega arith) (omega arith) in
-    let others : rows_within (b - a) t (node_at t a).end b ≡ rows_within (b - (node_at t a).end) t (node_at t a).end b = rows_within-enough _ _ t (node_at t a).end b (omega arith) (omega arith) in
+    let kids : rows_within (b - a) t (a + 1) (node_at t a).end
+    ≡ rows_within ((node_at t a).end - (a + 1)) t (a + 1) (node_at t a).end =
+    rows_within-enough _ _ t (a + 1) (node_at t a).end (omega arith) (omega arith) in
+    let others : rows_within (b - a) t (node_at t a).end b ≡ rows_within (b - (node_at t a).end) t (node_at t a).end b =
+    rows_within-enough _ _ t (node_at t a).end b (omega arith) (omega arith) in
     rows_within-enough (b - a) (suc (b - a)) t a b (omega arith) (omega arith)
     ∙ rw (lt-ltb a b some, kids_end, next, kids, others) refl
 
@@ -75,7 +82,8 @@ pub forest-root : (t : FlatTable) → IsFlatTable t
 forest-root t table =
     let whole : (node_at t 0).end ≡ length t.nodes = table.whole in
     forest-node t 0 (length t.nodes) (table.later 0 table.some) (omega arith)
-    ∙ ap (λ f. node (info_at t 0) (forest t 1 (node_at t 0).end) f) (forest-empty t (node_at t 0).end (length t.nodes) (omega arith))
+    ∙ ap (λ f. node (info_at t 0) (forest t 1 (node_at t 0).end) f)
+    (forest-empty t (node_at t 0).end (length t.nodes) (omega arith))
 
 -- what follows the first element, and what is below it, is smaller than the forest
 pub size-others : (f : Forest) (info : Info) (kids others : Forest) → f ≡ node info kids others → size others < size f

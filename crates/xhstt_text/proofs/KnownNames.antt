@@ -33,15 +33,24 @@ same_or false false c e = refl
 same_name : (key x : Bor (List ℕ)) → slice_cmp nat_cmp key.now x.now ≡ Equal → key.now ≡ x.now
 same_name key x e = (bytes_eq-Decides key.now x.now).0 (sym (is_eq-slice_cmp key.now x.now) ∙ ap is_eq e)
 
-found_at : (bs : List ℕ) (key x : Bor (List ℕ)) (ks : List (Bor (List ℕ))) (o : Ordering) → compare key x ≡ o → list_any (finds bs) (insert_key compare ks key) ≡ (finds bs key || list_any (finds bs) ks) → list_any (finds bs) (match_ordering o (key ∷ x ∷ ks) (x ∷ ks) (x ∷ insert_key compare ks key)) ≡ (finds bs key || (finds bs x || list_any (finds bs) ks))
+found_at : (bs : List ℕ) (key x : Bor (List ℕ)) (ks : List (Bor (List ℕ))) (o : Ordering) → compare key x ≡ o
+    → list_any (finds bs) (insert_key compare ks key) ≡ (finds bs key || list_any (finds bs) ks)
+    → list_any (finds bs) (match_ordering o (key ∷ x ∷ ks) (x ∷ ks) (x ∷ insert_key compare ks key))
+    ≡ (finds bs key || (finds bs x || list_any (finds bs) ks))
 found_at bs key x ks Less e h = refl
-found_at bs key x ks Equal e h = same_or (finds bs key) (finds bs x) (list_any (finds bs) ks) (ap (λ (k : List ℕ). is_eq (slice_cmp nat_cmp bs k)) (same_name key x e))
-found_at bs key x ks Greater e h = ap (λ v. finds bs x || v) h ∙ swap_or (finds bs key) (finds bs x) (list_any (finds bs) ks)
+found_at bs key x ks Equal e h = same_or (finds bs key) (finds bs x) (list_any (finds bs) ks)
+    (ap (λ (k : List ℕ). is_eq (slice_cmp nat_cmp bs k)) (same_name key x e))
+found_at bs key x ks Greater e h = ap (λ v. finds bs x || v) h
+    ∙ swap_or (finds bs key) (finds bs x) (list_any (finds bs) ks)
 
-found_after : (bs : List ℕ) (key : Bor (List ℕ)) (ks : List (Bor (List ℕ))) → list_any (finds bs) (insert_key compare ks key) ≡ (finds bs key || list_any (finds bs) ks)
+found_after : (bs : List ℕ) (key : Bor (List ℕ)) (ks : List (Bor (List ℕ)))
+    → list_any (finds bs) (insert_key compare ks key) ≡ (finds bs key || list_any (finds bs) ks)
 found_after bs key [] = refl
 found_after bs key (x ∷ ks) = found_at bs key x ks (compare key x) refl (found_after bs key ks)
 
-pub holds_more : (bs : List ℕ) (key : Bor (List ℕ)) (ks new : List (Bor (List ℕ))) (known : Bool) → new ≡ insert_key compare ks key → list_any (finds bs) ks ≡ known → list_any (finds bs) new ≡ (bytes_eq bs key.now || known)
+pub holds_more : (bs : List ℕ) (key : Bor (List ℕ)) (ks new : List (Bor (List ℕ))) (known : Bool)
+    → new ≡ insert_key compare ks key → list_any (finds bs) ks ≡ known
+    → list_any (finds bs) new ≡ (bytes_eq bs key.now || known)
 holds_more bs key ks new known e h =
-    ap (list_any (finds bs)) e ∙ found_after bs key ks ∙ ap (λ v. finds bs key || v) h ∙ ap (λ v. v || known) (is_eq-slice_cmp bs key.now)
+    ap (list_any (finds bs)) e ∙ found_after bs key ks ∙ ap (λ v. finds bs key || v) h
+    ∙ ap (λ v. v || known) (is_eq-slice_cmp bs key.now)

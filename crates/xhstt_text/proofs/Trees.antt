@@ -28,7 +28,8 @@ read-document : (bytes : List ℕ) (tree : Tree) → IsRead bytes tree
 read-document bytes tree read d form spells =
     let given : Ok (rows_of tree) ≡ Ok (table d) = sym read.rows ∙ ap outcome_of spells ∙ run_document d form in
     let same : rows_of tree ≡ table d = cc in
-    document-table d (flat_table tree) form (read.same ∙ spells) (ap (λ r. r.nodes) same) (ap (λ r. r.attributes) same) (subst (λ bs. length bs < 2 ^ 32) (sym read.same) read.short)
+    document-table d (flat_table tree) form (read.same ∙ spells) (ap (λ r. r.nodes) same) (ap (λ r. r.attributes) same)
+    (subst (λ bs. length bs < 2 ^ 32) (sym read.same) read.short)
 
 -- an answer of the reader: the machine's, and over the bytes
 pub record Answers (bytes : List ℕ) (r : Result Tree TextFault) : Type 0 where
@@ -45,7 +46,8 @@ read-table bytes (Ok tree) a =
 read-table bytes (Err e) a = tt
 
 -- the bytes spell its forest
-pub read-spelled : (bytes : List ℕ) (r : Result Tree TextFault) → IsUtf8 bytes → Answers bytes r → IfOk r (λ tree. Spelled bytes (root_forest tree))
+pub read-spelled : (bytes : List ℕ) (r : Result Tree TextFault) → IsUtf8 bytes → Answers bytes r
+    → IfOk r (λ tree. Spelled bytes (root_forest tree))
 read-spelled bytes (Ok tree) utf8 a =
     let read : IsRead bytes tree = record { rows = a.exact; same = a.same; short = a.short } in
     let found = document_from bytes (rows_of tree) a.exact in
@@ -53,7 +55,8 @@ read-spelled bytes (Ok tree) utf8 a =
 read-spelled bytes (Err e) utf8 a = tt
 
 -- and no other
-pub read-alone : (bytes : List ℕ) (r : Result Tree TextFault) → Answers bytes r → IfOk r (λ tree. (f : Forest) → Spelled bytes f → root_forest tree ≡ f)
+pub read-alone : (bytes : List ℕ) (r : Result Tree TextFault) → Answers bytes r
+    → IfOk r (λ tree. (f : Forest) → Spelled bytes f → root_forest tree ≡ f)
 read-alone bytes (Ok tree) a =
     let read : IsRead bytes tree = record { rows = a.exact; same = a.same; short = a.short } in
     λ f spelled. (read-document bytes tree read spelled.0 spelled.1.1 spelled.1.2).1 ∙ sym spelled.2

@@ -1,5 +1,6 @@
 -- The bytes that a text is made of.
-use Rattle.std.specs.Prelude.{ℕ, ◌≡◌, Bool, true, false, not, ◌&&◌, ◌||◌, ◌==◌, nat_le, ◌≤◌, suc, if◌then◌else◌, List, [], ◌∷◌}
+use Rattle.std.specs.Prelude.{ℕ, ◌≡◌, Bool, true, false, not, ◌&&◌, ◌||◌, ◌==◌, nat_le, ◌≤◌, suc, if◌then◌else◌, List}
+use Rattle.std.specs.Prelude.{[], ◌∷◌}
 
 -- space, tab, line feed or carriage return
 abbrev pub is_white : ℕ → Bool

@@ -1,10 +1,12 @@
 -- The grammar of a text: the parts of a document, how they are spelled, which of them are allowed,
 -- and the table and the forest that a document stands for.
-use Rattle.std.specs.Prelude.{ℕ, suc, ◌≡◌, ◌+◌, ◌<◌, Bool, true, false, ◌||◌, if◌then◌else◌, List, [], ◌∷◌, ◌++◌, length, Option, Some, None}
+use Rattle.std.specs.Prelude.{ℕ, suc, ◌≡◌, ◌+◌, ◌<◌, Bool, true, false, ◌||◌, if◌then◌else◌, List, [], ◌∷◌, ◌++◌}
+use Rattle.std.specs.Prelude.{length, Option, Some, None}
 use Rattle.std.specs.Str.{IsUtf8, bytes_eq}
 use Rattle.khe_base.specs.declared.limits.TheConstants.{DEPTH}
 use Rattle.xhstt_text.specs.Units.{Piece, piece_text, IsPiece}
-use Rattle.xhstt_text.specs.Bytes.{IsDeclared, declaration_start, is_white, is_text, is_quoted, is_quote, IsWhite, IsGap, IsName, IsComment}
+use Rattle.xhstt_text.specs.Bytes.{IsDeclared, declaration_start, is_white, is_text, is_quoted, is_quote, IsWhite}
+use Rattle.xhstt_text.specs.Bytes.{IsGap, IsName, IsComment}
 use Rattle.xhstt_text.specs.declared.tree.Span.{Span}
 use Rattle.xhstt_text.specs.declared.tree.Node.{Node}
 use Rattle.xhstt_text.specs.declared.tree.Attribute.{Attribute}
@@ -121,7 +123,8 @@ has_name name (other ∷ others) = bytes_eq name other || has_name name others
 abbrev pub AreAttributes : List (List ℕ) → Attributes → Type 0
 AreAttributes earlier none = Unit {0}
 AreAttributes earlier (attribute gap name before after quote value more) =
-    IsGap gap × IsName name × (has_name name earlier ≡ false) × IsWhite before × IsWhite after × (is_quote quote ≡ true) × IsValue quote value × AreAttributes (name ∷ earlier) more
+    IsGap gap × IsName name × (has_name name earlier ≡ false) × IsWhite before × IsWhite after × (is_quote quote ≡ true)
+    × IsValue quote value × AreAttributes (name ∷ earlier) more
 
 -- the start tag is in form
 abbrev pub IsStart : Start → Type 0
@@ -182,7 +185,12 @@ attributes_of at none = []
 attributes_of at (attribute gap name before after quote value more) =
     let from = at + length gap in
     let opened = from + length name + length before + 1 + length after + 1 in
-    record { at = from; name = span from (from + length name); value = span opened (opened + length (value_text value)) } ∷ attributes_of (opened + length (value_text value) + 1) more
+    record {
+      at = from;
+      name = span from (from + length name);
+      value =
+          span opened (opened + length (value_text value));
+    } ∷ attributes_of (opened + length (value_text value) + 1) more
 
 -- the rows of all attributes in content that begins at a place
 abbrev pub attribute_rows : ℕ → Content → List Attribute
@@ -194,7 +202,9 @@ attribute_rows at (short s c) =
     attributes_of (at + 1 + length s.name) s.attributes ++ attribute_rows (at + start_length s + 2) c
 attribute_rows at (long s inner shut white c) =
     let from = at + start_length s + 1 in
-    attributes_of (at + 1 + length s.name) s.attributes ++ (attribute_rows from inner ++ attribute_rows (from + length (text inner) + 2 + length shut + length white + 1) c)
+    attributes_of (at + 1 + length s.name) s.attributes
+    ++ (attribute_rows from inner ++ attribute_rows
+    (from + length (text inner) + 2 + length shut + length white + 1) c)
 
 -- the place of the first byte of the direct text that is not white
 abbrev pub loose_in : ℕ → Content → Option ℕ
@@ -229,13 +239,16 @@ rows parent number first at (piece u c) = rows parent number first (at + length 
 rows parent number first at (comment inner c) = rows parent number first (at + 4 + length inner + 1) c
 rows parent number first at (short s c) =
     let after = at + start_length s + 2 in
-    row parent at s first (number + 1) (span after after) None ∷ rows parent (number + 1) (first + count s.attributes) after c
+    row parent at s first (number + 1) (span after after) None ∷ rows parent (number + 1) (first + count s.attributes)
+    after c
 rows parent number first at (long s inner shut white c) =
     let from = at + start_length s + 1 in
     let to = from + length (text inner) in
     let inside = rows (Some number) (number + 1) (first + count s.attributes) from inner in
     let last = number + 1 + length inside in
-    row parent at s first last (span from to) (loose_in from inner) ∷ (inside ++ rows parent last (first + count s.attributes + length (attribute_rows from inner)) (to + 2 + length shut + length white + 1) c)
+    row parent at s first last (span from to) (loose_in from inner) ∷ (inside
+    ++ rows parent last (first + count s.attributes + length (attribute_rows from inner))
+    (to + 2 + length shut + length white + 1) c)
 
 -- the rows of the elements and of the attributes of a text
 pub record Rows : Type 0 where
@@ -267,7 +280,8 @@ infos at none = []
 infos at (attribute gap name before after quote value more) =
     let from = at + length gap in
     let opened = from + length name + length before + 1 + length after + 1 in
-    record { at = from; name = name; value_at = opened; value = value_text value } ∷ infos (opened + length (value_text value) + 1) more
+    record { at = from; name = name; value_at = opened; value = value_text value } ∷ infos
+    (opened + length (value_text value) + 1) more
 
 -- whether the content has an element
 abbrev pub has_element : Content → Bool
@@ -286,11 +300,26 @@ forest_at at (piece u c) = forest_at (at + length (piece_text u)) c
 forest_at at (comment inner c) = forest_at (at + 4 + length inner + 1) c
 forest_at at (short s c) =
     let after = at + start_length s + 2 in
-    node (record { at = at; name = s.name; attributes = infos (at + 1 + length s.name) s.attributes; value_at = after; value = []; loose = None }) no_elements (forest_at after c)
+    node (record {
+      at = at;
+      name = s.name;
+      attributes = infos (at + 1 + length s.name) s.attributes;
+      value_at = after;
+      value = [];
+      loose = None;
+    }) no_elements (forest_at after c)
 forest_at at (long s inner shut white c) =
     let from = at + start_length s + 1 in
     let value = if has_element inner then [] else text inner in
-    node (record { at = at; name = s.name; attributes = infos (at + 1 + length s.name) s.attributes; value_at = from; value = value; loose = loose_in from inner }) (forest_at from inner) (forest_at (from + length (text inner) + 2 + length shut + length white + 1) c)
+    node (record {
+      at = at;
+      name = s.name;
+      attributes = infos (at + 1 + length s.name) s.attributes;
+      value_at = from;
+      value = value;
+      loose = loose_in from inner;
+    }) (forest_at from inner)
+    (forest_at (from + length (text inner) + 2 + length shut + length white + 1) c)
 
 -- the tree of a document
 abbrev pub forest_of : Document → Forest

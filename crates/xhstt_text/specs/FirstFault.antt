@@ -24,4 +24,5 @@ HasFault bytes = (kind : ℕ) × (at : ℕ) × IsFirstFault bytes kind at
 -- whatever bytes follow, a fault of another kind than these two stays the first
 abbrev pub HasLastingFaults : List ℕ → Type 0
 HasLastingFaults bytes =
-    (kind at : ℕ) (more : List ℕ) → (kind ≡ NOT_UTF8 → ⊥) → (kind ≡ BAD_MARKUP → ⊥) → IsFirstFault bytes kind at → IsUtf8 (bytes ++ more) → IsFirstFault (bytes ++ more) kind at
+    (kind at : ℕ) (more : List ℕ) → (kind ≡ NOT_UTF8 → ⊥) → (kind ≡ BAD_MARKUP → ⊥) → IsFirstFault bytes kind at
+    → IsUtf8 (bytes ++ more) → IsFirstFault (bytes ++ more) kind at

@@ -1,5 +1,6 @@
 -- The flat table of a `Tree`, the bounds that it keeps, and the forest that it stands for.
-use Rattle.std.specs.Prelude.{◌≡◌, ℕ, zero, suc, ◌+◌, ◌-◌, ◌<◌, ◌≤◌, ◌^◌, min, max, nat_lt, if◌then◌else◌, List, [], length, map, slice_range, slice_index_or, All, None}
+use Rattle.std.specs.Prelude.{◌≡◌, ℕ, zero, suc, ◌+◌, ◌-◌, ◌<◌, ◌≤◌, ◌^◌, min, max, nat_lt, if◌then◌else◌, List, []}
+use Rattle.std.specs.Prelude.{length, map, slice_range, slice_index_or, All, None}
 use Rattle.xhstt_text.specs.Forest.{AttributeInfo, Info, Forest, empty, node}
 use Rattle.xhstt_text.specs.declared.tree.Attribute.{Attribute}
 use Rattle.xhstt_text.specs.declared.tree.Node.{Node}
@@ -58,7 +59,8 @@ unfoldable pub rows_within : ℕ → FlatTable → ℕ → ℕ → Forest
 rows_within zero t a b = empty
 rows_within (suc depth) t a b =
     if nat_lt a b
-    then node (info_at t a) (rows_within depth t (a + 1) (min (node_at t a).end b)) (rows_within depth t (max (a + 1) (node_at t a).end) b)
+    then node (info_at t a) (rows_within depth t (a + 1) (min (node_at t a).end b))
+    (rows_within depth t (max (a + 1) (node_at t a).end) b)
     else empty
 
 -- the forest that the rows from `a` up to `b` stand for

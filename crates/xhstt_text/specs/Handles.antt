@@ -45,9 +45,18 @@ attribute_code =
 abbrev pub info_code : Coded Info
 info_code =
     code_by (ℕ × (List ℕ × (List AttributeInfo × (ℕ × (List ℕ × Option ℕ)))))
-    (coded× coded_ℕ (coded× (coded_list coded_ℕ) (coded× (coded_list attribute_code) (coded× coded_ℕ (coded× (coded_list coded_ℕ) (coded_option coded_ℕ))))))
+    (coded× coded_ℕ (coded× (coded_list coded_ℕ) (coded× (coded_list attribute_code)
+    (coded× coded_ℕ (coded× (coded_list coded_ℕ) (coded_option coded_ℕ))))))
     (λ i. (i.at, (i.name, (i.attributes, (i.value_at, (i.value, i.loose))))))
-    (λ p. record { at = p.0; name = p.1.0; attributes = p.1.1.0; value_at = p.1.1.1.0; value = p.1.1.1.1.0; loose = p.1.1.1.1.1 })
+    (λ p. record {
+      at = p.0;
+      name = p.1.0;
+      attributes = p.1.1.0;
+      value_at = p.1.1.1.0;
+      value = p.1.1.1.1.0;
+      loose =
+          p.1.1.1.1.1;
+    })
     (λ _. refl)
 
 -- a forest is stored in document order, with a mark where a row ends
@@ -77,8 +86,10 @@ first_forest (f ∷ _) = f
 
 abbrev pub forest_code : Coded Forest
 forest_code =
-    code_by (List (Option Info)) (coded_list (coded_option info_code)) (λ f. marked f []) (λ ms. first_forest (unmarked ms)) (λ f. ap first_forest (unmarked-marked f []))
+    code_by (List (Option Info)) (coded_list (coded_option info_code)) (λ f. marked f [])
+    (λ ms. first_forest (unmarked ms)) (λ f. ap first_forest (unmarked-marked f []))
 
 abbrev pub standing_code : Coded Standing
 standing_code =
-    code_by (Info × Forest) (coded× info_code forest_code) (λ s. (s.info, s.kids)) (λ p. record { info = p.0; kids = p.1 }) (λ _. refl)
+    code_by (Info × Forest) (coded× info_code forest_code) (λ s. (s.info, s.kids))
+    (λ p. record { info = p.0; kids = p.1 }) (λ _. refl)

@@ -1,7 +1,8 @@
 -- A machine that reads a text a byte at a time, up to the end or to the first fault. The grammar in
 -- `Document` says what a text is, and the reader is shown to do as this machine, which says where bytes
 -- that spell no text leave the grammar first.
-use Rattle.std.specs.Prelude.{◌*◌, Bool, false, ℕ, ◌+◌, ◌==◌, ◌&&◌, nat_lt, nat_le, if◌then◌else◌, List, [], ◌∷◌, ◌++◌, length, set, Option, Some, None, Result, Ok, Err}
+use Rattle.std.specs.Prelude.{◌*◌, Bool, false, ℕ, ◌+◌, ◌==◌, ◌&&◌, nat_lt, nat_le, if◌then◌else◌, List, [], ◌∷◌, ◌++◌}
+use Rattle.std.specs.Prelude.{length, set, Option, Some, None, Result, Ok, Err}
 use Rattle.std.specs.Str.{bytes_eq}
 use Rattle.khe_base.specs.declared.limits.TheConstants.{DEPTH}
 use Rattle.xhstt_text.specs.Units.{is_decimal, is_hexadecimal, digit, is_character, is_last}
@@ -10,7 +11,8 @@ use Rattle.xhstt_text.specs.Document.{Rows, span, has_name}
 use Rattle.xhstt_text.specs.declared.tree.Node.{Node}
 use Rattle.xhstt_text.specs.declared.tree.Attribute.{Attribute}
 use Rattle.xhstt_text.specs.declared.faults.TextFault.{TextFault}
-use Rattle.xhstt_text.specs.Faults.{bad_markup, mismatched_end, bad_reference, unsupported, too_deep, no_tag, no_comment}
+use Rattle.xhstt_text.specs.Faults.{bad_markup, mismatched_end, bad_reference, unsupported, too_deep, no_tag}
+use Rattle.xhstt_text.specs.Faults.{no_comment}
 
 -- an open element: its number, its name, and its row as far as it is known
 pub record Frame : Type 0 where
@@ -56,7 +58,8 @@ pub data Phase : Type 0 where
   ended : Phase  -- after the outermost element
   ended_open : ℕ → Phase  -- after the `<` at this place, which stands after the outermost element
   bang : ℕ → Place → Phase  -- after the `<!` at this place
-  other_word : ℕ → ℕ → List ℕ → Phase  -- after the `<!` at the first place, in a word that begins at the second and is not supported: the letters that must follow
+  other_word : ℕ → ℕ → List ℕ → Phase  -- after the `<!` at the first place, in
+      a word that begins at the second and is not supported: the letters that must follow
   bang_dash : Place → Phase  -- after `<!-`
   in_comment : Place → ℕ → Phase  -- in a comment, after so many dashes
   opened : ℕ → Phase  -- after the `<` at this place
@@ -72,7 +75,8 @@ pub data Phase : Type 0 where
   wide_2 : Bool → Within → Phase  -- after the second: whether it is the greatest
   reference : ℕ → Within → Phase  -- after the `&` at this place
   reference_a : ℕ → Within → Phase  -- after the `&a` at this place
-  word : ℕ → List ℕ → Within → Phase  -- in the name of an entity, after the `&` at this place: the bytes that must follow
+  word : ℕ → List ℕ → Within → Phase  -- in the name of an entity, after the `&` at this place: the bytes that must
+      follow
   hash : ℕ → Within → Phase  -- after the `&#` at this place
   hash_x : ℕ → Within → Phase  -- after the `&#x` at this place
   in_decimal : ℕ → ℕ → Within → Phase  -- in a decimal number, after the `&#` at this place: the number so far
@@ -172,7 +176,8 @@ step_opened [] place r at b =
     if is_first b then state (start_name place (b ∷ [])) r
     else (if b == 33 then state (bang place early) r else refused (no_tag place at b))
 step_opened (f ∷ fs) place r at b =
-    if is_first b then (if nat_lt (length (f ∷ fs)) DEPTH then state (start_name place (b ∷ [])) r else refused (too_deep place))
+    if is_first b then (if nat_lt (length (f ∷ fs)) DEPTH then state (start_name place (b ∷ [])) r else refused
+    (too_deep place))
     else (if b == 47 then state (shut_begin place) r
     else (if b == 33 then state (bang place early) r else refused (no_tag place at b)))
 
@@ -182,7 +187,8 @@ closed r = record r { frames = [] }
 
 abbrev pub step_declaration : Read → ℕ → ℕ → Step
 step_declaration r at b =
-    if b == 60 then state (declared_open at) r else (if is_white b then state content (closed r) else refused (bad_markup at))
+    if b == 60 then state (declared_open at) r else
+    (if is_white b then state content (closed r) else refused (bad_markup at))
 
 abbrev pub step_question : List ℕ → Read → ℕ → ℕ → Step
 step_question [] r at b = if is_white b then state (in_declaration false) r else refused (bad_markup at)
@@ -235,7 +241,8 @@ abbrev pub step_shut : List Frame → ℕ → List ℕ → Read → ℕ → ℕ 
 step_shut [] place name r at b = refused (bad_markup at)
 step_shut (f ∷ fs) place name r at b =
     if is_white b then state (shut_gap place name) r
-    else (if b == 62 then (if bytes_eq name f.name then state (resume fs) (close_element f fs r place) else refused (mismatched_end place))
+    else (if b == 62 then (if bytes_eq name f.name then state (resume fs) (close_element f fs r place) else refused
+    (mismatched_end place))
     else refused (bad_markup at))
 
 abbrev pub start_of : ℕ → List ℕ → Read → Tag
@@ -280,7 +287,8 @@ step (equals t place name) r at b =
     else refused (bad_markup at))
 step (in_value t place name quote from) r at b =
     if is_quoted quote b then state (in_value t place name quote from) r
-    else (if b == quote then state (valued (with_name t name)) (record r { attributes = r.attributes ++ attribute_row place name from at ∷ [] })
+    else (if b == quote then state (valued (with_name t name))
+    (record r { attributes = r.attributes ++ attribute_row place name from at ∷ [] })
     else (if b == 38 then state (reference at (in_quotes t place name quote from)) r
     else (if b == 239 then state (wide_1 (in_quotes t place name quote from)) r
     else refused (bad_markup at))))

@@ -1,5 +1,6 @@
 -- How the parts of the reader follow the machine.
-use Rattle.std.specs.Prelude.{ℕ, ◌≡◌, ◌<◌, ◌+◌, Bool, true, false, ◌==◌, ◌&&◌, ◌||◌, nat_eq, if◌then◌else◌, List, [], ◌∷◌, ◌++◌, length, map, reverse, Option, None, Result, Ok, Err}
+use Rattle.std.specs.Prelude.{ℕ, ◌≡◌, ◌<◌, ◌+◌, Bool, true, false, ◌==◌, ◌&&◌, ◌||◌, nat_eq, if◌then◌else◌, List, []}
+use Rattle.std.specs.Prelude.{◌∷◌, ◌++◌, length, map, reverse, Option, None, Result, Ok, Err}
 use Rattle.std.specs.Borrow.{Bor}
 use Rattle.std.specs.List.{starts_with}
 use Rattle.std.specs.BTreeSet.{BTreeSet, contains_by}
@@ -29,11 +30,13 @@ is_byte k b = b == k
 
 -- from one place to another, over all bytes that pass
 abbrev pub Skips : (ℕ → Bool) → ℕ → List ℕ → ℕ → List ℕ → Type 0
-Skips test at bs to rest = (w : List ℕ) × AllAre test w × (bs ≡ w ++ rest) × (to ≡ at + length w) × (begins test rest ≡ false)
+Skips test at bs to rest = (w : List ℕ) × AllAre test w × (bs ≡ w ++ rest) × (to ≡ at + length w)
+    × (begins test rest ≡ false)
 
 -- a name, from one place to another, up to the last byte that can belong to it
 abbrev pub TakesName : ℕ → List ℕ → List ℕ → ℕ → List ℕ → Type 0
-TakesName at bs name to rest = IsName name × (bs ≡ name ++ rest) × (to ≡ at + length name) × (begins is_name rest ≡ false)
+TakesName at bs name to rest = IsName name × (bs ≡ name ++ rest) × (to ≡ at + length name)
+    × (begins is_name rest ≡ false)
 
 -- the byte is white, or the first byte of text
 abbrev pub is_loose_text : ℕ → Bool
@@ -41,7 +44,8 @@ is_loose_text b = is_text b || b == 38 || b == 239
 
 -- a digit and what it stands for, from one place to the next
 abbrev pub TakesDigit : (ℕ → Bool) → ℕ → List ℕ → ℕ → ℕ → List ℕ → Type 0
-TakesDigit test at bs value to rest = (b : ℕ) × (test b ≡ true) × (bs ≡ b ∷ rest) × (value ≡ digit b) × (to ≡ at + 1) × (value < 16)
+TakesDigit test at bs value to rest = (b : ℕ) × (test b ≡ true) × (bs ≡ b ∷ rest) × (value ≡ digit b) × (to ≡ at + 1)
+    × (value < 16)
 
 -- no piece stands here
 abbrev pub NoPiece : List ℕ → Type 0
@@ -70,7 +74,8 @@ broken place at (b ∷ bs) = bad_reference place
 -- `[CDATA[`
 abbrev pub other_markup : ℕ → ℕ → List ℕ → TextFault
 other_markup place at bs =
-    if starts_with nat_eq bs (68 ∷ 79 ∷ 67 ∷ 84 ∷ 89 ∷ 80 ∷ 69 ∷ []) || starts_with nat_eq bs (91 ∷ 67 ∷ 68 ∷ 65 ∷ 84 ∷ 65 ∷ 91 ∷ []) then unsupported place else bad_markup at
+    if starts_with nat_eq bs (68 ∷ 79 ∷ 67 ∷ 84 ∷ 89 ∷ 80 ∷ 69 ∷ []) || starts_with nat_eq bs
+    (91 ∷ 67 ∷ 68 ∷ 65 ∷ 84 ∷ 65 ∷ 91 ∷ []) then unsupported place else bad_markup at
 
 -- after the `<` at the first place, the bytes from the second on begin no tag and no comment
 abbrev pub unopened : ℕ → ℕ → List ℕ → TextFault

@@ -10,7 +10,8 @@ IsValueAmong span (a ∷ more) = (span ≡ a.value) ⊎ IsValueAmong span more
 -- the bytes are the value of an attribute of an element
 abbrev pub IsAttributeIn : List ℕ → Forest → Type 0
 IsAttributeIn span empty = ⊥
-IsAttributeIn span (node i kids others) = IsValueAmong span i.attributes ⊎ (IsAttributeIn span kids ⊎ IsAttributeIn span others)
+IsAttributeIn span (node i kids others) = IsValueAmong span i.attributes
+    ⊎ (IsAttributeIn span kids ⊎ IsAttributeIn span others)
 
 -- the bytes stand between the tags of an element
 abbrev pub IsElementIn : List ℕ → Forest → Type 0

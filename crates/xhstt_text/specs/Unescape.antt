@@ -4,8 +4,10 @@ use Rattle.std.specs.Prelude.{ℕ, ◌≡◌, true, unwrap_or, List, [], ◌∷�
 use Rattle.std.specs.Str.{IsUtf8}
 use Rattle.khe_base.specs.Text.{text_of}
 use Rattle.xhstt_text.specs.Bytes.{is_text, IsComment}
-use Rattle.xhstt_text.specs.Document.{Value, done, plain, piece_of, value_text, IsValue, Content, nothing, byte, piece, comment, short, long, text}
-use Rattle.xhstt_text.specs.Units.{Entity, less, greater, ampersand, apostrophe, quotation, Piece, wide, named, decimal, hexadecimal, number_from, IsPiece}
+use Rattle.xhstt_text.specs.Document.{Value, done, plain, piece_of, value_text, IsValue, Content, nothing, byte, piece}
+use Rattle.xhstt_text.specs.Document.{comment, short, long, text}
+use Rattle.xhstt_text.specs.Units.{Entity, less, greater, ampersand, apostrophe, quotation, Piece, wide, named, decimal}
+use Rattle.xhstt_text.specs.Units.{hexadecimal, number_from, IsPiece}
 use Rattle.xhstt_text.specs.UnescapeMachine.{plain_after}
 use Rattle.xhstt_text.specs.declared.unescaping.Part.TheVariants.{Plain}
 

@@ -1,12 +1,14 @@
 -- A machine that replaces references and leaves comments out, a byte at a time. It is a tool of the
 -- proofs: `Unescape` says what a text stands for, and the machine is shown to give that for each text
 -- of the grammar.
-use Rattle.std.specs.Prelude.{ℕ, ◌+◌, ◌-◌, ◌*◌, ◌&&◌, ◌||◌, ◌==◌, nat_lt, nat_le, nat_eq, if◌then◌else◌, Option, Some, None, List, [], ◌∷◌, ◌++◌, drop, codes, encode_utf8}
+use Rattle.std.specs.Prelude.{ℕ, ◌+◌, ◌-◌, ◌*◌, ◌&&◌, ◌||◌, ◌==◌, nat_lt, nat_le, nat_eq, if◌then◌else◌, Option, Some}
+use Rattle.std.specs.Prelude.{None, List, [], ◌∷◌, ◌++◌, drop, codes, encode_utf8}
 use Rattle.std.specs.List.{starts_with}
 use Rattle.std.specs.Option.{option_and_then, option_map_or}
 use Rattle.std.specs.Str.{bytes_eq}
 use Rattle.xhstt_text.specs.declared.unescaping.Part.{Part}
-use Rattle.xhstt_text.specs.declared.unescaping.Part.TheVariants.{Plain, Reference, Less, Mark, MarkDash, Comment, Dash, Dashes}
+use Rattle.xhstt_text.specs.declared.unescaping.Part.TheVariants.{Plain, Reference, Less, Mark, MarkDash, Comment, Dash}
+use Rattle.xhstt_text.specs.declared.unescaping.Part.TheVariants.{Dashes}
 
 -- what a digit writes, up to 15
 abbrev pub digit : ℕ → Option ℕ
@@ -19,12 +21,14 @@ digit c =
 -- the number that a digit makes of what was written before it, where the digit is one of this base
 -- and the number is not above the last character
 abbrev pub with_digit : ℕ → ℕ → ℕ → Option ℕ
-with_digit base before d = if nat_lt d base && nat_le (before * base + d) 0x10FFFF then Some (before * base + d) else None
+with_digit base before d = if nat_lt d base && nat_le (before * base + d) 0x10FFFF then Some (before * base + d) else
+    None
 
 -- the number that digits of this base write after what was written before them
 abbrev pub number_after : ℕ → ℕ → List ℕ → Option ℕ
 number_after base before [] = Some before
-number_after base before (c ∷ cs) = option_and_then (λ n. number_after base n cs) (option_and_then (with_digit base before) (digit c))
+number_after base before (c ∷ cs) = option_and_then (λ n. number_after base n cs)
+    (option_and_then (with_digit base before) (digit c))
 
 -- a character in UTF-8; nothing for a number that is none
 abbrev pub character_bytes : ℕ → List ℕ

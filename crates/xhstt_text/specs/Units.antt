@@ -1,6 +1,7 @@
 -- What may stand in text for one character, and is more than one byte to the reader: a reference, or
 -- a character from U+F000 to U+FFFF, of which the last two are refused.
-use Rattle.std.specs.Prelude.{ℕ, ◌≡◌, ◌+◌, ◌*◌, ◌-◌, Bool, true, not, ◌&&◌, ◌||◌, ◌==◌, nat_le, if◌then◌else◌, List, [], ◌∷◌, ◌++◌}
+use Rattle.std.specs.Prelude.{ℕ, ◌≡◌, ◌+◌, ◌*◌, ◌-◌, Bool, true, not, ◌&&◌, ◌||◌, ◌==◌, nat_le, if◌then◌else◌, List, []}
+use Rattle.std.specs.Prelude.{◌∷◌, ◌++◌}
 use Rattle.xhstt_text.specs.Bytes.{AllAre}
 
 -- the five entities that have a name
@@ -57,7 +58,8 @@ AreDigits test (d ∷ ds) = (test d ≡ true) × AllAre test ds
 
 -- a character that a text may have
 abbrev pub is_character : ℕ → Bool
-is_character n = n == 9 || n == 10 || n == 13 || (nat_le 32 n && nat_le n 55295) || (nat_le 57344 n && nat_le n 65533) || (nat_le 65536 n && nat_le n 1114111)
+is_character n = n == 9 || n == 10 || n == 13 || (nat_le 32 n && nat_le n 55295) || (nat_le 57344 n && nat_le n 65533)
+    || (nat_le 65536 n && nat_le n 1114111)
 
 -- the last byte of such a character, where the second is the greatest or not
 abbrev pub is_last : Bool → ℕ → Bool

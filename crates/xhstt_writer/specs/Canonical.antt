@@ -18,31 +18,42 @@ use Rattle.xhstt_shape.specs.declared.words.Kind.TheVariants as kind
 use Rattle.xhstt_shape.specs.declared.words.Label.TheVariants as label
 use Rattle.xhstt_shape.specs.declared.words.Tag.{Tag}
 use Rattle.xhstt_shape.specs.declared.words.Tag.TheVariants as tag
-use Rattle.xhstt_writer.specs.Parts.{Body, text, element, Part, row, each, one, if_some, list_of, name_part, number, role, labelled, label_if, identified, reference, references}
+use Rattle.xhstt_writer.specs.Parts.{Body, text, element, Part, row, each, one, if_some, list_of, name_part, number}
+use Rattle.xhstt_writer.specs.Parts.{role, labelled, label_if, identified, reference, references}
 
 -- what is said of an archive, an instance or a solution group as a whole
 abbrev pub meta_data_parts : MetaData → List Part
 meta_data_parts m =
-    name_part m.name ∷ (if_some tag.Contributor text m.contributor ∷ (if_some tag.Date text m.date ∷ (if_some tag.Country text m.country ∷ (if_some tag.Description text m.description ∷ (if_some tag.Publication text m.publication ∷ (if_some tag.Remarks text m.remarks ∷ []))))))
+    name_part m.name ∷ (if_some tag.Contributor text
+    m.contributor ∷ (if_some tag.Date text m.date ∷ (if_some tag.Country text
+    m.country ∷ (if_some tag.Description text m.description ∷ (if_some tag.Publication text
+    m.publication ∷ (if_some tag.Remarks text m.remarks ∷ []))))))
 
 abbrev pub meta_data : MetaData → Body
 meta_data m = element [] (row (meta_data_parts m))
 
 abbrev pub event_resource_parts : RawEventResource → List Part
-event_resource_parts r = if_some tag.Role role r.role ∷ (if_some tag.ResourceType reference r.resource_type ∷ (if_some tag.Workload number r.workload ∷ []))
+event_resource_parts r = if_some tag.Role role
+    r.role ∷ (if_some tag.ResourceType reference r.resource_type ∷ (if_some tag.Workload number r.workload ∷ []))
 
 abbrev pub event_resource : RawEventResource → Body
-event_resource r = element (label_if label.Reference (option_map (λ x. x.id) r.reference)) (row (event_resource_parts r))
+event_resource r = element (label_if label.Reference (option_map (λ x. x.id) r.reference))
+    (row (event_resource_parts r))
 
 abbrev pub event_parts : RawEvent → List Part
 event_parts e =
-    name_part e.name ∷ (one tag.Duration (number e.duration) ∷ (if_some tag.Workload number e.workload ∷ (if_some tag.Course reference e.course ∷ (if_some tag.Time reference e.time ∷ (list_of tag.Resources (each (λ _. tag.Resource) event_resource e.resources) ∷ (references tag.ResourceGroups tag.ResourceGroup e.resource_groups ∷ (references tag.EventGroups tag.EventGroup e.event_groups ∷ [])))))))
+    name_part e.name ∷ (one tag.Duration (number e.duration) ∷ (if_some tag.Workload number
+    e.workload ∷ (if_some tag.Course reference e.course ∷ (if_some tag.Time reference
+    e.time ∷ (list_of tag.Resources (each (λ _. tag.Resource) event_resource e.resources) ∷ (references
+    tag.ResourceGroups tag.ResourceGroup e.resource_groups ∷ (references tag.EventGroups tag.EventGroup
+    e.event_groups ∷ [])))))))
 
 abbrev pub event : RawEvent → Body
 event e = element (identified e.id (label_if label.Color e.color)) (row (event_parts e))
 
 abbrev pub pair_parts : RawPair → List Part
-pair_parts p = one tag.FirstEvent (reference p.first) ∷ (one tag.SecondEvent (reference p.second) ∷ (one tag.MinSeparation (number p.min) ∷ (one tag.MaxSeparation (number p.max) ∷ [])))
+pair_parts p = one tag.FirstEvent (reference p.first) ∷ (one tag.SecondEvent
+    (reference p.second) ∷ (one tag.MinSeparation (number p.min) ∷ (one tag.MaxSeparation (number p.max) ∷ [])))
 
 abbrev pub pair : RawPair → Body
 pair p = element [] (row (pair_parts p))
@@ -54,24 +65,40 @@ abbrev pub spread : RawSpread → Body
 spread s = element (labelled label.Reference s.reference.id ∷ []) (row (spread_parts s))
 
 abbrev pub applies_parts : RawApplies → List Part
-applies_parts (applied.Events groups events) = references tag.EventGroups tag.EventGroup groups ∷ (references tag.Events tag.Event events ∷ [])
+applies_parts (applied.Events groups events) =
+    references tag.EventGroups tag.EventGroup groups ∷ (references tag.Events tag.Event events ∷ [])
 applies_parts (applied.Groups groups) = references tag.EventGroups tag.EventGroup groups ∷ []
 applies_parts (applied.Pairs pairs) = list_of tag.EventPairs (each (λ _. tag.EventPair) pair pairs) ∷ []
-applies_parts (applied.Resources groups resources) = references tag.ResourceGroups tag.ResourceGroup groups ∷ (references tag.Resources tag.Resource resources ∷ [])
+applies_parts (applied.Resources groups resources) =
+    references tag.ResourceGroups tag.ResourceGroup groups ∷ (references tag.Resources tag.Resource resources ∷ [])
 
 -- the children of a constraint after those that each constraint has
 abbrev pub rule_parts : RawRule → List Part
 rule_parts (ruled.AssignResource r) = one tag.Role (role r) ∷ []
-rule_parts (ruled.SplitEvents a b c d) = one tag.MinimumDuration (number a) ∷ (one tag.MaximumDuration (number b) ∷ (one tag.MinimumAmount (number c) ∷ (one tag.MaximumAmount (number d) ∷ [])))
-rule_parts (ruled.DistributeSplitEvents duration min max) = one tag.Duration (number duration) ∷ (one tag.Minimum (number min) ∷ (one tag.Maximum (number max) ∷ []))
-rule_parts (ruled.PreferTimes groups times duration) = references tag.TimeGroups tag.TimeGroup groups ∷ (references tag.Times tag.Time times ∷ (if_some tag.Duration number duration ∷ []))
-rule_parts (ruled.PreferResources groups resources r) = references tag.ResourceGroups tag.ResourceGroup groups ∷ (references tag.Resources tag.Resource resources ∷ (one tag.Role (role r) ∷ []))
+rule_parts (ruled.SplitEvents a b c d) = one tag.MinimumDuration
+    (number a) ∷ (one tag.MaximumDuration (number b) ∷ (one tag.MinimumAmount
+    (number c) ∷ (one tag.MaximumAmount (number d) ∷ [])))
+rule_parts (ruled.DistributeSplitEvents duration min max) =
+    one tag.Duration (number duration) ∷ (one tag.Minimum (number min) ∷ (one tag.Maximum (number max) ∷ []))
+rule_parts (ruled.PreferTimes groups times duration) =
+    references tag.TimeGroups tag.TimeGroup groups ∷ (references tag.Times tag.Time
+    times ∷ (if_some tag.Duration number duration ∷ []))
+rule_parts (ruled.PreferResources groups resources r) =
+    references tag.ResourceGroups tag.ResourceGroup
+    groups ∷ (references tag.Resources tag.Resource resources ∷ (one tag.Role (role r) ∷ []))
 rule_parts (ruled.AvoidSplitAssignments r) = one tag.Role (role r) ∷ []
 rule_parts (ruled.SpreadEvents groups) = list_of tag.TimeGroups (each (λ _. tag.TimeGroup) spread groups) ∷ []
-rule_parts (ruled.AvoidUnavailableTimes groups times) = references tag.TimeGroups tag.TimeGroup groups ∷ (references tag.Times tag.Time times ∷ [])
-rule_parts (ruled.LimitIdleTimes groups min max) = references tag.TimeGroups tag.TimeGroup groups ∷ (one tag.Minimum (number min) ∷ (one tag.Maximum (number max) ∷ []))
-rule_parts (ruled.ClusterBusyTimes groups min max) = references tag.TimeGroups tag.TimeGroup groups ∷ (one tag.Minimum (number min) ∷ (one tag.Maximum (number max) ∷ []))
-rule_parts (ruled.LimitBusyTimes groups min max) = references tag.TimeGroups tag.TimeGroup groups ∷ (one tag.Minimum (number min) ∷ (one tag.Maximum (number max) ∷ []))
+rule_parts (ruled.AvoidUnavailableTimes groups times) =
+    references tag.TimeGroups tag.TimeGroup groups ∷ (references tag.Times tag.Time times ∷ [])
+rule_parts (ruled.LimitIdleTimes groups min max) =
+    references tag.TimeGroups tag.TimeGroup groups ∷ (one tag.Minimum
+    (number min) ∷ (one tag.Maximum (number max) ∷ []))
+rule_parts (ruled.ClusterBusyTimes groups min max) =
+    references tag.TimeGroups tag.TimeGroup groups ∷ (one tag.Minimum
+    (number min) ∷ (one tag.Maximum (number max) ∷ []))
+rule_parts (ruled.LimitBusyTimes groups min max) =
+    references tag.TimeGroups tag.TimeGroup groups ∷ (one tag.Minimum
+    (number min) ∷ (one tag.Maximum (number max) ∷ []))
 rule_parts (ruled.LimitWorkload min max) = one tag.Minimum (number min) ∷ (one tag.Maximum (number max) ∷ [])
 rule_parts _ = []
 
@@ -104,7 +131,9 @@ function_word Step = codes "Step"
 -- the children that each constraint has, before those of its rule
 abbrev pub constraint_parts : RawConstraint → List Part → List Part
 constraint_parts c further =
-    name_part c.name ∷ (one tag.Required (text (truth_word c.required)) ∷ (one tag.Weight (number c.weight) ∷ (one tag.CostFunction (text (function_word c.cost)) ∷ (one tag.AppliesTo (element [] (row (applies_parts c.applies))) ∷ further))))
+    name_part c.name ∷ (one tag.Required (text (truth_word c.required)) ∷ (one tag.Weight
+    (number c.weight) ∷ (one tag.CostFunction (text (function_word c.cost)) ∷ (one tag.AppliesTo
+    (element [] (row (applies_parts c.applies))) ∷ further))))
 
 abbrev pub constraint : RawConstraint → Body
 constraint c = element (identified c.id []) (row (constraint_parts c (rule_parts c.rule)))

@@ -42,7 +42,16 @@ event id duration = record {
 
 -- a required constraint of linear cost and weight 2 on the event E
 abbrev pub constraint : RawRule → RawConstraint
-constraint rule = record { id = name (codes "c"); name = []; required = true; weight = 2; cost = Linear; applies = applied.Events [] (to (codes "E") ∷ []); rule = rule }
+constraint rule = record {
+  id = name (codes "c");
+  name = [];
+  required = true;
+  weight = 2;
+  cost = Linear;
+  applies =
+      applied.Events [] (to (codes "E") ∷ []);
+  rule = rule;
+}
 
 -- three times, an event of duration 3, a constraint of this rule, and a solution without entries
 abbrev pub one_event : RawRule → Archive

@@ -9,5 +9,6 @@ returns c = λ p are.
     let is = c.deficit-deficit.ensures p are in
     record {
       deficit = deficit_told p d.told deficit is;
-      hall = hall_kept p d.told d.units d.picks d.matching d.cells d.tasks d.times are deficit c.in_ok-hall.hall is (c.in_ok-hall.ensures p are);
+      hall = hall_kept p d.told d.units d.picks d.matching d.cells d.tasks d.times are deficit c.in_ok-hall.hall is
+          (c.in_ok-hall.ensures p are);
     }

@@ -6,4 +6,5 @@ returns-clause-only g c = let w = c.args.engine.now in asks.dearer_at w.parts w.
 
 pub returns-clause-known : goal.returns-clause-known
 returns-clause-known g c =
-    let w = c.args.engine.now in asks.dearer_known w.parts w.state w.marked _ (asks.dearer_at w.parts w.state w.marked _ c.only_dearer.ensures)
+    let w = c.args.engine.now in asks.dearer_known w.parts w.state w.marked _
+    (asks.dearer_at w.parts w.state w.marked _ c.only_dearer.ensures)

@@ -10,7 +10,8 @@ invariant-loop-accepted g l =
       saved : l.engine.saved ≡ [];
       room : l.depth ≤ l.engine.spare;
       fewer : l.accepted + l.left ≤ l.budget;
-      runs : runs_from w.parts l.depth l.diversifier l.left l.accepted (l.budget - l.left) l.engine.state ≡ repaired w.parts w.state l.depth l.budget l.diversifier;
+      runs : runs_from w.parts l.depth l.diversifier l.left l.accepted (l.budget - l.left) l.engine.state
+          ≡ repaired w.parts w.state l.depth l.budget l.diversifier;
     }
 
 abbrev pub decreases-loop-accepted : goal.decreases-loop-accepted

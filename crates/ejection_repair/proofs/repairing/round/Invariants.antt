@@ -11,5 +11,7 @@ invariant-loop-gone g l =
     record {
       back : IsBack w l.engine;
       fewer : l.left ≤ l.fn.left;
-      runs : (a t : ℕ) → runs_from w.parts l.depth v l.fn.left a t w.state ≡ run w.parts l.depth v l.left a (t + (l.fn.left - l.left)) w.state (tries_from w.parts w.state v l.gone (l.depth - l.gone));
+      runs : (a t : ℕ) → runs_from w.parts l.depth v l.fn.left a t w.state
+          ≡ run w.parts l.depth v l.left a (t + (l.fn.left - l.left)) w.state
+          (tries_from w.parts w.state v l.gone (l.depth - l.gone));
     }

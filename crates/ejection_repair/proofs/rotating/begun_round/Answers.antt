@@ -6,7 +6,8 @@ use Rattle.ejection_repair.proofs.rotating.begun_round.Goals as goal
 
 pub returns-then-count-eq0-clause-ahead : goal.returns-then-count-eq0-clause-ahead
 returns-then-count-eq0-clause-ahead c =
-    begun_none c.args.inst.now c.args.solution.now.slots c.args.first c.args.diversifier _ refl (c.requires.count ∙ c.if-count-eq0.true) _ c.begun_at.ensures
+    begun_none c.args.inst.now c.args.solution.now.slots c.args.first c.args.diversifier _ refl
+    (c.requires.count ∙ c.if-count-eq0.true) _ c.begun_at.ensures
 
 pub returns-clause-ahead : goal.returns-clause-ahead
 returns-clause-ahead c =
@@ -15,5 +16,6 @@ returns-clause-ahead c =
     let n = c.args.diversifier % c.args.count in
     let below = mod_below c.args.diversifier c.args.count (omega arith) in
     let small : p.result.count ≡ n = omega arith in
-    begun_round c.args.inst.now c.args.solution.now.slots _ c.args.first n c.args.diversifier xs refl (p.ensures.ahead ∙ ap (λ k. drop k xs) small)
+    begun_round c.args.inst.now c.args.solution.now.slots _ c.args.first n c.args.diversifier xs refl
+    (p.ensures.ahead ∙ ap (λ k. drop k xs) small)
     (ap (λ k. c.args.diversifier % k) (sym c.requires.count)) _ c.begun_at-2.ensures

@@ -6,7 +6,8 @@ use Rattle.ejection_repair.proofs.rotating.moves_from.Goals as goal
 
 pub begun_round-requires-in-None-clause-count : goal.begun_round-requires-in-None-clause-count
 begun_round-requires-in-None-clause-count c =
-    passed_all _ _ c.pass_by-passed.result.count c.args.diversifier c.pass_by-passed.ensures.count c.if-passed-diversifier.false c.pass_by-passed.ensures.ahead c.in-None.ensures.next.0
+    passed_all _ _ c.pass_by-passed.result.count c.args.diversifier c.pass_by-passed.ensures.count
+    c.if-passed-diversifier.false c.pass_by-passed.ensures.ahead c.in-None.ensures.next.0
 
 pub returns-in-Some-clause-ahead : goal.returns-in-Some-clause-ahead
 returns-in-Some-clause-ahead c =

@@ -23,8 +23,10 @@ invariant-extend-loop-edit g l =
       inst : l.inst ≡ w.parts;
       more : 0 < l.more;
       round : IsRound w.parts l.round;
-      looks : look w.parts l.aim.lowest l.left (tried (further_at w.parts w.marked l.aim.diversifier (l.more - 1)) (chain_at l.trail w) (moves_ahead w.parts w.state.slots l.round))
-          ≡ look w.parts l.aim.lowest l.fn.left (extensions w.parts w.marked l.aim.diversifier l.more (chain_at l.trail w) l.fn.monitor.0);
+      looks : look w.parts l.aim.lowest l.left (tried (further_at w.parts w.marked l.aim.diversifier (l.more - 1))
+          (chain_at l.trail w) (moves_ahead w.parts w.state.slots l.round))
+          ≡ look w.parts l.aim.lowest l.fn.left (extensions w.parts w.marked l.aim.diversifier l.more
+          (chain_at l.trail w) l.fn.monitor.0);
     }
 
 abbrev pub decreases-extend-loop-edit : goal.decreases-extend-loop-edit

@@ -7,7 +7,8 @@ use Rattle.ejection_repair.proofs.sweeping.begun_round.Goals as goal
 pub returns-then-count-eq0 : goal.returns-then-count-eq0
 returns-then-count-eq0 g c =
     let costs = costs_at c.args.engine.now.parts c.args.engine.now.state in
-    defects_begun costs 0 0 c.args.diversifier _ c.begun_at.ensures refl (rotated_none c.args.diversifier (defects_from costs 0) (c.requires ∙ c.if-count-eq0.true))
+    defects_begun costs 0 0 c.args.diversifier _ c.begun_at.ensures refl
+    (rotated_none c.args.diversifier (defects_from costs 0) (c.requires ∙ c.if-count-eq0.true))
 
 pub returns : goal.returns
 returns g c =

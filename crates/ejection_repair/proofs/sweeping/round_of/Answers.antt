@@ -5,7 +5,8 @@ use Rattle.ejection_repair.proofs.sweeping.round_of.Goals as goal
 
 pub begun_round-requires-in-None : goal.begun_round-requires-in-None
 begun_round-requires-in-None g c =
-    passed_all _ _ c.pass_defects-passed.result.count c.args.diversifier c.pass_defects-passed.ensures.count c.if-passed-diversifier.false c.pass_defects-passed.ensures.from c.in-None.ensures.next
+    passed_all _ _ c.pass_defects-passed.result.count c.args.diversifier c.pass_defects-passed.ensures.count
+    c.if-passed-diversifier.false c.pass_defects-passed.ensures.from c.in-None.ensures.next
 
 pub returns-in-Some : goal.returns-in-Some
 returns-in-Some g c =
@@ -17,4 +18,5 @@ returns-in-Some g c =
     let long = more.1 in
     let same : p.result.count ≡ v = omega arith in
     let small : v < length xs = omega arith in
-    defects_begun costs _ v v _ c.begun_at.ensures (p.ensures.from ∙ ap (λ k. drop k xs) same) (rotated_small v xs small)
+    defects_begun costs _ v v _ c.begun_at.ensures (p.ensures.from ∙ ap (λ k. drop k xs) same)
+    (rotated_small v xs small)

@@ -13,7 +13,9 @@ invariant-loop-defect g l =
     let w = l.fn.engine in
     record {
       back : IsBack w l.engine;
-      looks : look w.parts l.aim.lowest l.left (flat_map (extensions w.parts w.marked l.aim.diversifier l.more (chain_at l.trail w)) (defects_ahead (costs_at w.parts w.state) l.round))
+      looks : look w.parts l.aim.lowest l.left (flat_map
+          (extensions w.parts w.marked l.aim.diversifier l.more (chain_at l.trail w))
+          (defects_ahead (costs_at w.parts w.state) l.round))
           ≡ look w.parts l.aim.lowest l.fn.left (chains w.parts w.state l.aim.diversifier l.more);
     }
 

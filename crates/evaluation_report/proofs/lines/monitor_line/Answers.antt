@@ -8,7 +8,8 @@ constraint-constraint-requires c =
 
 pub push_point-requires-clause-rule : goal.push_point-requires-clause-rule
 push_point-requires-clause-rule c =
-    constraint-rule c.args.inst.now c.facts.ensures c.monitor-monitor.result.constraint c.constraint-constraint.result.now c.constraint-constraint.ensures
+    constraint-rule c.args.inst.now c.facts.ensures c.monitor-monitor.result.constraint
+    c.constraint-constraint.result.now c.constraint-constraint.ensures
 
 pub push_point-requires-clause-point : goal.push_point-requires-clause-point
 push_point-requires-clause-point c =

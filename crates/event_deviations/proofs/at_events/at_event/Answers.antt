@@ -10,7 +10,9 @@ pub returns-in-SplitEvents-clause-exact : goal.returns-in-SplitEvents-clause-exa
 returns-in-SplitEvents-clause-exact c =
     let r = c.in-SplitEvents in
     ap₂ (λ (a b : ℕ). a + b)
-    (c.count_unfit.ensures.exact ∙ ap (count_by (λ m. is_unfit r.min_duration r.max_duration m.duration)) c.meets-meets.ensures.are)
+    (c.count_unfit.ensures.exact ∙ ap (count_by (λ m. is_unfit r.min_duration r.max_duration m.duration))
+    c.meets-meets.ensures.are)
     (c.count_out.ensures.exact
-    ∙ ap (λ n. count_outside n r.min_amount r.max_amount) (c.amount.ensures.exact ∙ ap (λ (ms : List Meet). sum_by (λ m. 1) ms) c.meets-meets.ensures.are))
+    ∙ ap (λ n. count_outside n r.min_amount r.max_amount)
+    (c.amount.ensures.exact ∙ ap (λ (ms : List Meet). sum_by (λ m. 1) ms) c.meets-meets.ensures.are))
     ∙ ap (λ (rule : Rule). event_deviation c.args.index.now.meets rule c.args.event.0) (sym r.is)

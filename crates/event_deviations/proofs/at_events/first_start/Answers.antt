@@ -19,9 +19,11 @@ loop-meet-preserved c =
       | in-Some w ↦
           let given : f m ≡ Some (w.in-Some.start.0) = ap (option_map (λ (s : TimeId). s.0)) w.in-Some.is in
           let new = w.first-is ∙ w.less-first.ensures in
-          let in_time : w.in-Some.start.0 + m.duration ≤ TIMES = subst (λ o. IfSome o (λ s. s.0 + m.duration ≤ TIMES)) w.in-Some.is (c.requires i none here) in
+          let in_time : w.in-Some.start.0 + m.duration ≤ TIMES =
+          subst (λ o. IfSome o (λ s. s.0 + m.duration ≤ TIMES)) w.in-Some.is (c.requires i none here) in
           record {
-            exact = least-more f ms i none here (w.in-Some.start.0) c.loop-meet.first c.match-meet.first given old.exact new;
+            exact = least-more f ms i none here (w.in-Some.start.0) c.loop-meet.first c.match-meet.first given old.exact
+                new;
             bound = rw new (IfSome-less c.loop-meet.first (w.in-Some.start.0) TIMES old.bound (omega arith));
           }
       | in_default w ↦

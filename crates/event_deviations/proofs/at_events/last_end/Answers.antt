@@ -17,11 +17,14 @@ loop-meet-preserved c =
     let old = c.loop-meet.invariant in
     elim c.match-meet.branch [
       | in-Some w ↦
-          let given : f m ≡ Some (w.in-Some.start.0 + m.duration) = ap (option_map (λ (s : TimeId). s.0 + m.duration)) w.in-Some.is in
+          let given : f m ≡ Some (w.in-Some.start.0 + m.duration) =
+          ap (option_map (λ (s : TimeId). s.0 + m.duration)) w.in-Some.is in
           let new = w.last-is ∙ w.greater-last.ensures in
-          let in_time : w.in-Some.start.0 + m.duration ≤ TIMES = subst (λ o. IfSome o (λ s. s.0 + m.duration ≤ TIMES)) w.in-Some.is (c.requires i none here) in
+          let in_time : w.in-Some.start.0 + m.duration ≤ TIMES =
+          subst (λ o. IfSome o (λ s. s.0 + m.duration ≤ TIMES)) w.in-Some.is (c.requires i none here) in
           record {
-            exact = greatest-more f ms i none here (w.in-Some.start.0 + m.duration) c.loop-meet.last c.match-meet.last given old.exact new;
+            exact = greatest-more f ms i none here (w.in-Some.start.0 + m.duration) c.loop-meet.last c.match-meet.last
+                given old.exact new;
             bound = rw new (IfSome-greater c.loop-meet.last (w.in-Some.start.0 + m.duration) TIMES old.bound (in_time));
           }
       | in_default w ↦

@@ -14,5 +14,6 @@ returns-clause-exact c =
     c.saturating_sub.ensures
     ∙ ap (λ (n : ℕ). n - 1)
     (c.count.ensures
-    ∙ marked_count-by c.loop-event.seen (has_duty_among infos ds c.args.role.now es) (length c.args.index.now.parts.resources) (old.long ∙ c.requires.seen)
+    ∙ marked_count-by c.loop-event.seen (has_duty_among infos ds c.args.role.now es)
+    (length c.args.index.now.parts.resources) (old.long ∙ c.requires.seen)
     (λ r. old.marked r ∙ ap (λ l. has_duty_among infos ds c.args.role.now l r) all))

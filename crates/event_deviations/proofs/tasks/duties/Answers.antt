@@ -20,7 +20,8 @@ pub split_at-requires : goal.split_at-requires
 split_at-requires c =
     let xs = c.args.meets.now in
     let i = c.loop-meet.meet-index in
-    enough-step c.args.inst.now xs i _ c.loop-meet.rest.now (drop_more xs i _ c.loop-meet-test.true) c.loop-meet.invariant.beside _
+    enough-step c.args.inst.now xs i _ c.loop-meet.rest.now (drop_more xs i _ c.loop-meet-test.true)
+    c.loop-meet.invariant.beside _
     (places_there c.args.inst.now.events _ _ c.event.result.now c.event.ensures c.len-places.ensures)
 
 pub loop-meet-preserved : goal.loop-meet-preserved
@@ -31,6 +32,8 @@ loop-meet-preserved c =
     let places = places_there c.args.inst.now.events _ _ c.event.result.now c.event.ensures c.len-places.ensures in
     record {
       made = rw (c.in_ok-push_duties.ensures, c.split_at.ensures.front, c.split_at.ensures.back)
-          (duties-step c.args.inst.now xs i _ c.loop-meet.rest.now here c.loop-meet.invariant.beside _ places _ _ c.loop-meet.invariant.made);
-      beside = rw c.split_at.ensures.back (Beside-step c.args.inst.now xs i _ c.loop-meet.rest.now here c.loop-meet.invariant.beside _ places);
+          (duties-step c.args.inst.now xs i _ c.loop-meet.rest.now here c.loop-meet.invariant.beside _ places _ _
+          c.loop-meet.invariant.made);
+      beside = rw c.split_at.ensures.back (Beside-step c.args.inst.now xs i _ c.loop-meet.rest.now here
+          c.loop-meet.invariant.beside _ places);
     }

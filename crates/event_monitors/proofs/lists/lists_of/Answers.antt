@@ -10,16 +10,20 @@ add-requires-clause-monitor g c =
     let posts = c.args.posts.now in
     let k = c.loop-place.place in
     let a = get_or posts k no_post in
-    monitor_made c.args.inst.now c.facts.ensures a.number.0 a.monitor (c.requires.each k a (slice_get-get_or posts k no_post c.loop-place-test.true)).there
+    monitor_made c.args.inst.now c.facts.ensures a.number.0 a.monitor
+    (c.requires.each k a (slice_get-get_or posts k no_post c.loop-place-test.true)).there
 
 pub loop-place-preserved : goal.loop-place-preserved
 loop-place-preserved g c =
     let posts = c.args.posts.now in
     let k = c.loop-place.place in
-    one_listed c.args.inst.now posts c.loop-place.lists c.add.new.lists k (get_or posts k no_post) (slice_get-get_or posts k no_post c.loop-place-test.true) c.loop-place.invariant c.in_ok-add.ensures
+    one_listed c.args.inst.now posts c.loop-place.lists c.add.new.lists k (get_or posts k no_post)
+    (slice_get-get_or posts k no_post c.loop-place-test.true) c.loop-place.invariant c.in_ok-add.ensures
 
 pub returns : goal.returns
 returns g c =
     let posts = c.args.posts.now in
-    let all : c.loop-place.place ≡ length posts = let past = c.loop-place-test.false in let most = c.loop-place.auto.place-end in omega (arith, past, most) in
-    all_listed c.args.inst.now posts c.loop-place.lists (subst (AreListedTo c.args.inst.now posts c.loop-place.lists) all c.loop-place.invariant)
+    let all : c.loop-place.place ≡ length posts = let past = c.loop-place-test.false in let most =
+    c.loop-place.auto.place-end in omega (arith, past, most) in
+    all_listed c.args.inst.now posts c.loop-place.lists
+    (subst (AreListedTo c.args.inst.now posts c.loop-place.lists) all c.loop-place.invariant)

@@ -6,7 +6,8 @@ use Rattle.event_monitors.proofs.reports.report.Given as goal
 abbrev pub invariant-loop-place : goal.invariant-loop-place
 invariant-loop-place g l =
     record {
-      under : AreUnderWay g.G.Gauge.Keeps g.G.Gauge.value l.inst l.posts (after l.told l.change) l.fn.gauges.items l.gauges.items (g.Y.Tally.deviations l.fn.tally) (g.Y.Tally.deviations l.tally) (drop l.place-index l.list);
+      under : AreUnderWay g.G.Gauge.Keeps g.G.Gauge.value l.inst l.posts (after l.told l.change) l.fn.gauges.items
+          l.gauges.items (g.Y.Tally.deviations l.fn.tally) (g.Y.Tally.deviations l.tally) (drop l.place-index l.list);
       same_rest : g.Y.Tally.HasSameRest l.fn.tally l.tally;
       steps : l.steps ≡ l.fn.steps + l.place-index;
     }

@@ -14,11 +14,16 @@ overflow_add-result g c =
     let share = g.S.Share.share in
     let rule = c.constraint.result.now.rule in
     let spans : c.span-span.result ≡ x.span = c.span-span.ensures ∙ ap (λ n. (slot_at s n).span) c.meet.ensures in
-    let given : c.given-given.result.now ≡ x.given = c.given-given.ensures ∙ ap (λ n. (slot_at s n).given) c.meet-2.ensures in
-    let before = c.share-before.ensures ∙ (λ j. share rule (spans j) ((c.given_of.ensures ∙ ap (given_at m.point) given) j)) in
-    let later = c.share-later.ensures ∙ (λ j. share rule ((c.span_after.ensures ∙ ap (λ y. span_after y k) spans) j) ((c.given_later.ensures ∙ ap (λ gs. given_at m.point (given_after gs k)) given) j)) in
-    let t = turned_total share g.met.S.Share.bounded c.args.inst.now m c.constraint.result.now s k c.args.total c.share-before.result c.share-later.result
-    c.facts.ensures c.requires.fits c.requires.monitor c.constraint.ensures c.requires.named c.requires.total before later in
+    let given : c.given-given.result.now ≡ x.given =
+    c.given-given.ensures ∙ ap (λ n. (slot_at s n).given) c.meet-2.ensures in
+    let before = c.share-before.ensures ∙ (λ j. share rule (spans j)
+    ((c.given_of.ensures ∙ ap (given_at m.point) given) j)) in
+    let later = c.share-later.ensures ∙ (λ j. share rule ((c.span_after.ensures ∙ ap (λ y. span_after y k) spans) j)
+    ((c.given_later.ensures ∙ ap (λ gs. given_at m.point (given_after gs k)) given) j)) in
+    let t = turned_total share g.met.S.Share.bounded c.args.inst.now m c.constraint.result.now s k c.args.total
+    c.share-before.result c.share-later.result
+    c.facts.ensures c.requires.fits c.requires.monitor c.constraint.ensures c.requires.named c.requires.total before
+    later in
     let small = t.small in
     omega (arith, small)
 
@@ -31,8 +36,13 @@ returns-clause-small g c =
     let share = g.S.Share.share in
     let rule = c.constraint.result.now.rule in
     let spans : c.span-span.result ≡ x.span = c.span-span.ensures ∙ ap (λ n. (slot_at s n).span) c.meet.ensures in
-    let given : c.given-given.result.now ≡ x.given = c.given-given.ensures ∙ ap (λ n. (slot_at s n).given) c.meet-2.ensures in
-    let before = c.share-before.ensures ∙ (λ j. share rule (spans j) ((c.given_of.ensures ∙ ap (given_at m.point) given) j)) in
-    let later = c.share-later.ensures ∙ (λ j. share rule ((c.span_after.ensures ∙ ap (λ y. span_after y k) spans) j) ((c.given_later.ensures ∙ ap (λ gs. given_at m.point (given_after gs k)) given) j)) in
-    (turned_total share g.met.S.Share.bounded c.args.inst.now m c.constraint.result.now s k c.args.total c.share-before.result c.share-later.result
-    c.facts.ensures c.requires.fits c.requires.monitor c.constraint.ensures c.requires.named c.requires.total before later).small
+    let given : c.given-given.result.now ≡ x.given =
+    c.given-given.ensures ∙ ap (λ n. (slot_at s n).given) c.meet-2.ensures in
+    let before = c.share-before.ensures ∙ (λ j. share rule (spans j)
+    ((c.given_of.ensures ∙ ap (given_at m.point) given) j)) in
+    let later = c.share-later.ensures ∙ (λ j. share rule ((c.span_after.ensures ∙ ap (λ y. span_after y k) spans) j)
+    ((c.given_later.ensures ∙ ap (λ gs. given_at m.point (given_after gs k)) given) j)) in
+    (turned_total share g.met.S.Share.bounded c.args.inst.now m c.constraint.result.now s k c.args.total
+    c.share-before.result c.share-later.result
+    c.facts.ensures c.requires.fits c.requires.monitor c.constraint.ensures c.requires.named c.requires.total before
+    later).small

@@ -5,4 +5,5 @@ use Rattle.hall_report.specs.Kept.{cell_demand}
 use Rattle.hall_report.proofs.listing.list_cells.Given as goal
 
 abbrev pub invariant-loop-more : goal.invariant-loop-more
-invariant-loop-more l = l.list ≡ l.fn.list ++ chosen (λ i. has_member l.marks (l.first + i)) 0 (map (cell_demand l.times) (take l.more l.cells))
+invariant-loop-more l = l.list ≡ l.fn.list ++ chosen (λ i. has_member l.marks (l.first + i)) 0
+    (map (cell_demand l.times) (take l.more l.cells))

@@ -16,4 +16,6 @@ list_place-requires c = record {
 
 pub loop-place-preserved : goal.loop-place-preserved
 loop-place-preserved c =
-    places_more (is_marked c.args.units.now c.args.marks.now) _ c.loop-place.list c.args.list.now (λ k. map (λ o. Task c.args.meet k o) (range_with_len 0 c.args.duration)) c.loop-place.place c.loop-place.invariant c.in_ok-list_place.ensures
+    places_more (is_marked c.args.units.now c.args.marks.now) _ c.loop-place.list c.args.list.now
+    (λ k. map (λ o. Task c.args.meet k o) (range_with_len 0 c.args.duration)) c.loop-place.place
+    c.loop-place.invariant c.in_ok-list_place.ensures

@@ -6,4 +6,5 @@ use Rattle.hall_report.proofs.listing.list_meet.Given as goal
 
 abbrev pub invariant-loop-place : goal.invariant-loop-place
 invariant-loop-place l =
-    l.list ≡ l.fn.list ++ filter (is_marked l.units l.marks) (flat_map (λ k. map (λ o. Task l.meet k o) (range_with_len 0 l.duration)) (range_with_len 0 l.place))
+    l.list ≡ l.fn.list ++ filter (is_marked l.units l.marks)
+    (flat_map (λ k. map (λ o. Task l.meet k o) (range_with_len 0 l.duration)) (range_with_len 0 l.place))

@@ -5,4 +5,5 @@ use Rattle.hall_report.proofs.marks.marked.Given as goal
 
 abbrev pub invariant-loop-number : goal.invariant-loop-number
 invariant-loop-number l =
-    (length l.marks ≡ l.size) × ((n : ℕ) → has_member l.marks n ≡ list_any (λ m. m == n) (take l.number-index l.numbers))
+    (length l.marks ≡ l.size) × ((n : ℕ) → has_member l.marks n
+    ≡ list_any (λ m. m == n) (take l.number-index l.numbers))

@@ -9,4 +9,6 @@ use Rattle.hall_report.proofs.renewing.renew.Given as goal
 abbrev pub invariant-loop-offset : goal.invariant-loop-offset
 invariant-loop-offset l =
     (l.unit ≡ unit_at l.units.next.items l.units.held.items l.meet.0 l.offset)
-    × IsRenewed l.fn.matching l.matching (number_of l.units l.meet.0) (domain_in l.inst.events l.picks.starts.items l.picks.resources.items (slot_at l.told l.meet.0)) l.from l.end l.offset
+    × IsRenewed l.fn.matching l.matching (number_of l.units l.meet.0)
+    (domain_in l.inst.events l.picks.starts.items l.picks.resources.items (slot_at l.told l.meet.0)) l.from l.end
+    l.offset

@@ -7,4 +7,6 @@ use Rattle.hall_report.proofs.renewing.renew_unit.Given as goal
 abbrev pub invariant-loop-place : goal.invariant-loop-place
 invariant-loop-place l =
     (l.from ≤ l.place)
-    × IsRenewed l.fn.matching l.matching (λ k o. l.first + k) (λ k o. domain_in l.inst.events l.picks.starts.items l.picks.resources.items (slot_at l.told l.meet.0) k l.offset) l.from l.place 1
+    × IsRenewed l.fn.matching l.matching (λ k o. l.first + k)
+    (λ k o. domain_in l.inst.events l.picks.starts.items l.picks.resources.items (slot_at l.told l.meet.0) k
+    l.offset) l.from l.place 1

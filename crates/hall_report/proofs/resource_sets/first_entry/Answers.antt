@@ -9,4 +9,5 @@ pub first_task-requires : goal.first_task-requires
 first_task-requires c = first_unit c.args.inst.now c.args.event.0 _ c.facts.ensures c.event.ensures
 
 pub returns : goal.returns
-returns c = c.first_task.ensures ∙ sym (ap (λ o. first_task c.args.inst.now.events (option_map_or (λ (x : EventInfo). x.first_meet) o 0)) c.event.ensures)
+returns c = c.first_task.ensures ∙ sym (ap (λ o. first_task c.args.inst.now.events
+    (option_map_or (λ (x : EventInfo). x.first_meet) o 0)) c.event.ensures)

@@ -7,4 +7,5 @@ pub loop-event-preserved : goal.loop-event-preserved
 loop-event-preserved c =
     c.in_ok-push.ensures.items
     ∙ ap (λ xs. xs ++ c.event.result.now.first_meet ∷ []) c.loop-event.invariant
-    ∙ sym (mapped_next (λ (e : EventInfo). e.first_meet) c.args.inst.now.events c.loop-event.event c.event.result.now c.event.ensures)
+    ∙ sym (mapped_next (λ (e : EventInfo). e.first_meet) c.args.inst.now.events c.loop-event.event c.event.result.now
+    c.event.ensures)

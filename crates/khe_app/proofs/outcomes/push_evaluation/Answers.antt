@@ -1,5 +1,6 @@
 -- At each turn one monitor leaves what is left and joins the lines.
-use Rattle.std.proofs.Common.{◌≡◌, ◌≤◌, ◌<◌, ◌+◌, ◌++◌, [], ◌∙◌, sym, ap, subst, arith, length, drop, get_or, append_assoc, OnOk, false, ◌==◌}
+use Rattle.std.proofs.Common.{◌≡◌, ◌≤◌, ◌<◌, ◌+◌, ◌++◌, [], ◌∙◌, sym, ap, subst, arith, length, drop, get_or}
+use Rattle.std.proofs.Common.{append_assoc, OnOk, false, ◌==◌}
 use Rattle.std.proofs.Math.ListN.{drop_of_length-le}
 use Rattle.std.proofs.lemmas.List.{append-nil}
 use Rattle.std.specs.List.{enumerate_from, flat_map, list_any}
@@ -21,9 +22,11 @@ loop-number-preserved c = λ s is alone.
     let f = monitor_text c.args.all p s in
     let rest = flat_map f (enumerate_from (i + 1) (drop (i + 1) ms)) in
     let deviation : get_or c.as_slice-deviations.result.now i 0 ≡ evaluated.deviation_in p s found.value =
-    ap (λ ds. get_or ds i 0) (c.as_slice-deviations.ensures ∙ ap (λ (v : Values). v.deviations) is) ∙ mapped-there (evaluated.deviation_in p s) ms i found.value 0 found.found in
+    ap (λ ds. get_or ds i 0) (c.as_slice-deviations.ensures ∙ ap (λ (v : Values). v.deviations) is)
+    ∙ mapped-there (evaluated.deviation_in p s) ms i found.value 0 found.found in
     let cost : get_or c.as_slice-costs.result.now i 0 ≡ evaluated.cost_in p s (i, found.value) =
-    ap (λ cs. get_or cs i 0) (c.as_slice-costs.ensures ∙ ap (λ (v : Values). v.costs) is) ∙ cost-there p s i found.value found.found in
+    ap (λ cs. get_or cs i 0) (c.as_slice-costs.ensures ∙ ap (λ (v : Values). v.costs) is)
+    ∙ cost-there p s i found.value found.found in
     let attached : evaluated.is_detached s i ≡ false = ap (λ ds. list_any (λ d. d.0 == i) ds) alone in
     ap (λ t. t ++ rest) (c.in_ok-push_monitor.ensures s found.value deviation cost attached)
     ∙ append_assoc c.loop-number.text (f (i, found.value)) rest

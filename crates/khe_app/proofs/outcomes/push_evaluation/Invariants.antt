@@ -8,5 +8,6 @@ use Rattle.khe_app.proofs.outcomes.push_evaluation.Given as goal
 
 abbrev pub invariant-loop-number : goal.invariant-loop-number
 invariant-loop-number l = (s : Plain) → l.fn.values ≡ values_of l.fn.inst s → s.detached ≡ []
-    → l.text ++ flat_map (monitor_text l.fn.all l.fn.inst s) (enumerate_from l.number (drop l.number l.fn.inst.monitors))
+    → l.text ++ flat_map (monitor_text l.fn.all l.fn.inst s)
+    (enumerate_from l.number (drop l.number l.fn.inst.monitors))
     ≡ l.fn.text ++ flat_map (monitor_text l.fn.all l.fn.inst s) (enumerate_from 0 l.fn.inst.monitors)

@@ -17,4 +17,5 @@ invalid_line-requires c =
     let p = c.args.inst.now in
     let raw = c.args._solution.now in
     let x = c.in-Invalid in
-    invalid-known p raw (record { cause = x.cause; entry = x.entry }) (invalid-is p (completed p raw) x.cause x.entry (sym x.is ∙ c.requires))
+    invalid-known p raw (record { cause = x.cause; entry = x.entry })
+    (invalid-is p (completed p raw) x.cause x.entry (sym x.is ∙ c.requires))

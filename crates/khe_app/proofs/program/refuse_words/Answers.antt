@@ -7,7 +7,10 @@ use Rattle.khe_app.proofs.program.refuse_words.Goals as goal
 
 pub returns-clause-end : goal.returns-clause-end
 returns-clause-end g c = λ h sound faults.
-    end_written None h sound faults faults (g.K.Sink.taken c.args.out.now) (g.K.Sink.taken c.put.new.out) (g.K.Sink.faults c.args.out.now) (g.K.Sink.faults c.put.new.out) not_understood_line 2 c.put.result.0
+    end_written None h sound faults faults (g.K.Sink.taken c.args.out.now) (g.K.Sink.taken c.put.new.out)
+    (g.K.Sink.faults c.args.out.now) (g.K.Sink.faults c.put.new.out) not_understood_line 2 c.put.result.0
     (unread h 2 not_understood_line (λ under. (refl, refl))) (inr (inl refl))
-    (subst (λ bytes. Written (g.K.Sink.taken c.args.out.now) (g.K.Sink.taken c.put.new.out) (g.K.Sink.faults c.args.out.now) (g.K.Sink.faults c.put.new.out) bytes 2 c.put.result.0) c.not_understood.ensures c.put.ensures.written)
+    (subst (λ bytes. Written (g.K.Sink.taken c.args.out.now) (g.K.Sink.taken c.put.new.out)
+    (g.K.Sink.faults c.args.out.now) (g.K.Sink.faults c.put.new.out) bytes 2 c.put.result.0)
+    c.not_understood.ensures c.put.ensures.written)
     (λ s l. unread-there h l)

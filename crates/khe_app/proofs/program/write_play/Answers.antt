@@ -9,7 +9,12 @@ use Rattle.khe_app.proofs.program.write_play.Goals as goal
 pub returns-in-Refused-clause-written : goal.returns-in-Refused-clause-written
 returns-in-Refused-clause-written g c =
     let line = refusal_line c.in-Refused.refusal in
-    inr (3, line, subst (λ (a : Play). IsTextOf a 3 line) (sym c.in-Refused.is) (refl, refl), c.put_refusal.ensures.written)
+    inr (
+      3,
+      line,
+      subst (λ (a : Play). IsTextOf a 3 line) (sym c.in-Refused.is) (refl, refl),
+      c.put_refusal.ensures.written,
+    )
 
 pub returns-in-TooLarge-clause-written : goal.returns-in-TooLarge-clause-written
 returns-in-TooLarge-clause-written g c =
@@ -17,6 +22,7 @@ returns-in-TooLarge-clause-written g c =
       7,
       script_too_large_line,
       subst (λ (a : Play). IsTextOf a 7 script_too_large_line) (sym c.in-TooLarge.is) (refl, refl),
-      subst (λ bytes. Written (g.K.Sink.taken c.args.out.now) (g.K.Sink.taken c.put.new.out) (g.K.Sink.faults c.args.out.now) (g.K.Sink.faults c.put.new.out) bytes 7 c.put.result.0)
+      subst (λ bytes. Written (g.K.Sink.taken c.args.out.now) (g.K.Sink.taken c.put.new.out)
+          (g.K.Sink.faults c.args.out.now) (g.K.Sink.faults c.put.new.out) bytes 7 c.put.result.0)
           c.script_too_large.ensures c.put.ensures.written,
     )

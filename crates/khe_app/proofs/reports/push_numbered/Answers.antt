@@ -16,9 +16,11 @@ returns c =
     let h = λ (q : Parts). outcome_text a._all q (completed q raw) in
     let line = solution_line a.number a.group.now p.id in
     let part = ap (λ o. option_map_or f o []) c.instance_at-inst.ensures in
-    let outcome : a.outcome.now ≡ h p = c.requires.outcome ∙ ap (λ o. option_map_or h o []) c.instance_at-inst.ensures in
+    let outcome : a.outcome.now ≡ h p = c.requires.outcome
+    ∙ ap (λ o. option_map_or h o []) c.instance_at-inst.ensures in
     let whole =
-    ap (λ t. t ++ a.outcome.now) (c.in_ok-push_text.ensures.ok ∙ ap (λ t. a.text.now ++ t) (c.in_ok-line.ensures ∙ ap (solution_line a.number a.group.now) c.id.ensures))
+    ap (λ t. t ++ a.outcome.now) (c.in_ok-push_text.ensures.ok
+    ∙ ap (λ t. a.text.now ++ t) (c.in_ok-line.ensures ∙ ap (solution_line a.number a.group.now) c.id.ensures))
     ∙ append_assoc a.text.now line a.outcome.now
     ∙ ap (λ t. a.text.now ++ (line ++ t)) outcome
     ∙ ap (λ t. a.text.now ++ t) (sym part) in

@@ -12,7 +12,8 @@ abbrev pub invariant-loop-group : goal.invariant-loop-group
 invariant-loop-group g l =
     let left = drop l.group-index l.fn.archive.solution_groups in
     record {
-      amid : IsAmid (g.K.Sink.taken l.fn.out) (g.K.Sink.taken l.out) l.text (groups_text l.fn.all l.fn.resolved l.number left) (report l.fn.all l.fn.archive l.fn.resolved);
+      amid : IsAmid (g.K.Sink.taken l.fn.out) (g.K.Sink.taken l.out) l.text
+          (groups_text l.fn.all l.fn.resolved l.number left) (report l.fn.all l.fn.archive l.fn.resolved);
       ones : AreOnes l.fn.resolved l.number (flat_map (λ x. x.solutions) left);
       to_come : drop l.number (solutions l.fn.archive) ≡ flat_map (λ x. x.solutions) left;
       size : l.number + length (flat_map (λ x. x.solutions) left) ≡ length (solutions l.fn.archive);

@@ -9,7 +9,11 @@ use Rattle.khe_app.proofs.reports.write_group.Given as goal
 abbrev pub invariant-loop-k : goal.invariant-loop-k
 invariant-loop-k g l = record {
   ahead : IsAhead (outcome_at l.fn.job.all l.fn.resolved) (map (λ x. x.now) l.fn.raws) l.ahead;
-  amid : (before : Option (List ℕ)) (rest whole : List ℕ) → IsAmid before (g.K.Sink.taken l.fn.out) l.fn.text (group_text l.fn.job.all l.fn.resolved l.fn.first l.fn.group ++ rest) whole
-      → IsAmid before (g.K.Sink.taken l.out) l.text (flat_map (numbered_text l.fn.job.all l.fn.resolved l.fn.group.id.text) (enumerate_from (l.fn.first + l.k) (drop l.k l.fn.group.solutions)) ++ rest) whole;
+  amid : (before : Option (List ℕ)) (rest whole : List ℕ)
+      → IsAmid before (g.K.Sink.taken l.fn.out) l.fn.text
+      (group_text l.fn.job.all l.fn.resolved l.fn.first l.fn.group ++ rest) whole
+      → IsAmid before (g.K.Sink.taken l.out) l.text
+      (flat_map (numbered_text l.fn.job.all l.fn.resolved l.fn.group.id.text)
+      (enumerate_from (l.fn.first + l.k) (drop l.k l.fn.group.solutions)) ++ rest) whole;
   counted : g.K.Sink.faults l.fn.out ≤ g.K.Sink.faults l.out;
 }

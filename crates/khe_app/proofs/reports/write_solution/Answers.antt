@@ -9,14 +9,16 @@ pub returns-in_err-push_numbered-clause-front : goal.returns-in_err-push_numbere
 returns-in_err-push_numbered-clause-front g c = λ before rest whole h.
     always-err c.from_residual.result
     (amid-stop before (g.K.Sink.taken c.args.out.now) c.args.text.now
-    (numbered_text c.args.all c.args.resolved.now c.args.group.now (c.args.number, c.args.solution.now) ++ rest) whole h)
+    (numbered_text c.args.all c.args.resolved.now c.args.group.now (c.args.number, c.args.solution.now) ++ rest) whole
+    h)
 
 pub returns-clause-amid : goal.returns-clause-amid
 returns-clause-amid g c = λ before rest whole h.
     let taken = g.K.Sink.taken c.args.out.now in
     let part = numbered_text c.args.all c.args.resolved.now c.args.group.now (c.args.number, c.args.solution.now) in
     let pushed = amid-push before taken c.args.text.now part rest whole h in
-    c.flush_long.ensures.amid before rest whole (subst (λ t. IsAmid before taken t rest whole) (sym c.in_ok-push_numbered.ensures) pushed)
+    c.flush_long.ensures.amid before rest whole (subst (λ t. IsAmid before taken t rest whole)
+    (sym c.in_ok-push_numbered.ensures) pushed)
 
 pub returns-clause-front : goal.returns-clause-front
 returns-clause-front g c = λ before rest whole h.

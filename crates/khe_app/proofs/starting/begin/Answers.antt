@@ -15,7 +15,8 @@ instance_numbered-inst-requires c =
     let n = c.args.number in
     let low : n < length r.of = omega (arith, c.if-len-number.false, c.len.ensures) in
     let s = chosen c.args.archive.now r n c.requires low in
-    subst (λ k. k < length r.instances) (sym c.instance_number-instance.ensures) (slice_get_within r.instances (get_or r.of n 0) s.parts s.there)
+    subst (λ k. k < length r.instances) (sym c.instance_number-instance.ensures)
+    (slice_get_within r.instances (get_or r.of n 0) s.parts s.there)
 
 pub solution-requires-clause-named : goal.solution-requires-clause-named
 solution-requires-clause-named c =
@@ -23,7 +24,9 @@ solution-requires-clause-named c =
     let n = c.args.number in
     let low : n < length r.of = omega (arith, c.if-len-number.false, c.len.ensures) in
     let p = c.instance_numbered-inst.result.now in
-    let at : slice_get r.instances (get_or r.of n 0) ≡ Some p = subst (λ k. slice_get r.instances k ≡ Some p) c.instance_number-instance.ensures c.instance_numbered-inst.ensures in
+    let at : slice_get r.instances (get_or r.of n 0) ≡ Some p =
+    subst (λ k. slice_get r.instances k ≡ Some p) c.instance_number-instance.ensures
+    c.instance_numbered-inst.ensures in
     names c.args.archive.now r n (chosen c.args.archive.now r n c.requires low) p at
 
 pub returns-in-Ok-clause-begun : goal.returns-in-Ok-clause-begun
@@ -32,8 +35,15 @@ returns-in-Ok-clause-begun c =
     let n = c.args.number in
     let low : n < length r.of = omega (arith, c.if-len-number.false, c.len.ensures) in
     let p = c.instance_numbered-inst.result.now in
-    let at : slice_get r.instances (get_or r.of n 0) ≡ Some p = subst (λ k. slice_get r.instances k ≡ Some p) c.instance_number-instance.ensures c.instance_numbered-inst.ensures in
-    (p, c.instance_numbered-inst.ensures, c.in-Ok.ensures.valid, begun_at c.args.archive.now r n (chosen c.args.archive.now r n c.requires low) p c.in-Ok.plain at c.in-Ok.ensures.exact)
+    let at : slice_get r.instances (get_or r.of n 0) ≡ Some p =
+    subst (λ k. slice_get r.instances k ≡ Some p) c.instance_number-instance.ensures
+    c.instance_numbered-inst.ensures in (
+      p,
+      c.instance_numbered-inst.ensures,
+      c.in-Ok.ensures.valid,
+      begun_at c.args.archive.now r n
+          (chosen c.args.archive.now r n c.requires low) p c.in-Ok.plain at c.in-Ok.ensures.exact,
+    )
 
 pub returns-in-Err-Invalid-clause-barred : goal.returns-in-Err-Invalid-clause-barred
 returns-in-Err-Invalid-clause-barred c =
@@ -41,9 +51,13 @@ returns-in-Err-Invalid-clause-barred c =
     let n = c.args.number in
     let low : n < length r.of = omega (arith, c.if-len-number.false, c.len.ensures) in
     let p = c.instance_numbered-inst.result.now in
-    let at : slice_get r.instances (get_or r.of n 0) ≡ Some p = subst (λ k. slice_get r.instances k ≡ Some p) c.instance_number-instance.ensures c.instance_numbered-inst.ensures in
+    let at : slice_get r.instances (get_or r.of n 0) ≡ Some p =
+    subst (λ k. slice_get r.instances k ≡ Some p) c.instance_number-instance.ensures
+    c.instance_numbered-inst.ensures in
     let s = chosen c.args.archive.now r n c.requires low in
     let cause : Cause = record { cause = c.in-Err-Invalid.cause; entry = c.in-Err-Invalid.entry } in
-    let is : (raw : RawSolution) → slice_get (solutions_of c.args.archive.now) n ≡ Some raw → completed p raw ≡ Err cause =
-    λ raw found. subst (IsFaultOf (completed p raw)) c.in-Err-Invalid.field-0-is (c.in-Err-Invalid.ensures.invalid raw found) in
+    let is : (raw : RawSolution) → slice_get (solutions_of c.args.archive.now) n ≡ Some raw
+    → completed p raw ≡ Err cause =
+    λ raw found. subst (IsFaultOf (completed p raw)) c.in-Err-Invalid.field-0-is
+    (c.in-Err-Invalid.ensures.invalid raw found) in
     (barred_at c.args.archive.now r n s p cause at is, invalid-known p s.raw cause (is s.raw s.found))

@@ -10,7 +10,8 @@ returns-clause-bits c =
     let k = c.args.n % 64 in
     let within : k < 64 = omega arith in
     let word = get_or c.args.words.now.items (c.args.n / 64) 0 in
-    let e : c.index_mut.result.now ≡ word = get_or_read c.args.words.now.items _ _ c.requires c.index_mut.ensures.value 0 in
+    let e : c.index_mut.result.now ≡ word = get_or_read c.args.words.now.items _ _ c.requires c.index_mut.ensures.value
+    0 in
     rw e
     (is_set-replaced c.args.words.now.items c.args.n 0 _ c.requires true
     (ap (λ x. nat_eq x 1) (bit_at_set_same w64 word k within))

@@ -10,4 +10,5 @@ pub loop-k-preserved : goal.loop-k-preserved
 loop-k-preserved c =
     let words = c.args.words.now in
     let k = c.loop-k.k in
-    c.in_ok-push_members.ensures ∙ ap (λ ms. ms ++ members_in (get_or words k 0) (64 * k) 64) c.loop-k.invariant ∙ sym (members_below-more words k)
+    c.in_ok-push_members.ensures ∙ ap (λ ms. ms ++ members_in (get_or words k 0) (64 * k) 64) c.loop-k.invariant
+    ∙ sym (members_below-more words k)

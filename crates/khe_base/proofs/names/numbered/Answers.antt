@@ -9,6 +9,8 @@ pub returns-then-not-branch : goal.returns-then-not-branch
 returns-then-not-branch c =
     let n = c.name-item.result in
     let seen : is_among_names n (take c.loop-name.name-index c.args.names.now) ≡ true =
-    ap (is_among_names n) (sym c.loop-name.invariant.0) ∙ not-false _ (sym c.in_ok-insert.ensures.new ∙ c.if-not-branch.true)
+    ap (is_among_names n) (sym c.loop-name.invariant.0)
+    ∙ not-false _ (sym c.in_ok-insert.ensures.new ∙ c.if-not-branch.true)
     in
-    sym (ap (λ b. if b then Some c.args.names.now else None) (are_distinct-repeated _ _ n c.loop-name-test.true c.name-item.is seen))
+    sym (ap (λ b. if b then Some c.args.names.now else None)
+    (are_distinct-repeated _ _ n c.loop-name-test.true c.name-item.is seen))

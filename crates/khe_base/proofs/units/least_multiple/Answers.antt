@@ -11,5 +11,6 @@ pub returns : goal.returns
 returns c =
     let d = c.args.duration in
     let g = c.greatest_divisor-shared.result in
-    let is : IsGcd c.args.unit d g = subst (λ x. IsGcd c.args.unit x g) c.from.ensures c.greatest_divisor-shared.ensures in
+    let is : IsGcd c.args.unit d g = subst (λ x. IsGcd c.args.unit x g) c.from.ensures
+    c.greatest_divisor-shared.ensures in
     rw (c.from-2.ensures, c.from-3.ensures) (IsLeastMultiple-from_gcd _ d g is c.requires.unit c.requires.duration)

@@ -11,7 +11,8 @@ loop-number-preserved c =
     let s = c.args.solution.now.slots in
     let many = slots_number c.args.inst.now s (subst (λ p. AreTold p s) c.requires c.facts-2.ensures.told) in
     let end = c.meet_slots-number-end.ensures in
-    meets_next _ _ _ c.loop-number.number s c.meet.result (omega (arith, c.loop-number-test.true, end, many)) c.meet.ensures c.in_ok-add_meet.ensures c.loop-number.invariant
+    meets_next _ _ _ c.loop-number.number s c.meet.result (omega (arith, c.loop-number-test.true, end, many))
+    c.meet.ensures c.in_ok-add_meet.ensures c.loop-number.invariant
 
 pub returns : goal.returns
 returns c =

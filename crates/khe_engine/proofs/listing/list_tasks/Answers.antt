@@ -8,7 +8,8 @@ use Rattle.khe_engine.proofs.listing.list_tasks.Goals as goal
 
 pub add_tasks-requires-clause-there : goal.add_tasks-requires-clause-there
 add_tasks-requires-clause-there c =
-    let many = slots_number c.args.inst.now c.args.solution.now.slots (subst (λ p. AreTold p c.args.solution.now.slots) c.requires c.facts-2.ensures.told) in
+    let many = slots_number c.args.inst.now c.args.solution.now.slots
+    (subst (λ p. AreTold p c.args.solution.now.slots) c.requires c.facts-2.ensures.told) in
     omega (arith, c.loop-number-test.true, c.meet_slots-number-end.ensures, many)
 
 pub loop-number-preserved : goal.loop-number-preserved
@@ -16,7 +17,8 @@ loop-number-preserved c =
     let s = c.args.solution.now.slots in
     let many = slots_number c.args.inst.now s (subst (λ p. AreTold p s) c.requires c.facts-2.ensures.told) in
     let end = c.meet_slots-number-end.ensures in
-    tasks_next _ _ _ c.loop-number.number s (omega (arith, c.loop-number-test.true, end, many)) c.in_ok-add_tasks.ensures c.loop-number.invariant
+    tasks_next _ _ _ c.loop-number.number s (omega (arith, c.loop-number-test.true, end, many))
+    c.in_ok-add_tasks.ensures c.loop-number.invariant
 
 pub returns : goal.returns
 returns c =

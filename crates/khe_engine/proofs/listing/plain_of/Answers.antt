@@ -13,8 +13,10 @@ returns-clause-state c =
     let s = c.args.solution.now.slots in
     let b = c.args.graph.now in
     let valid = subst (λ p. AreValid p s) c.requires.parts c.facts-2.ensures in
-    let first = if_ok _ _ (λ q. (c.list_meets-meets.result ≡ Ok q.0) × (c.list_tasks-tasks.result ≡ Ok q.1)) c.in_ok-meets.ensures.0 c.both.ensures in
-    let second = if_ok _ _ (λ q. (c.detached-detached.result ≡ Ok q.0) × (c.groups-groups.result ≡ Ok q.1)) c.in_ok-meets.ensures.1 c.both-2.ensures in
+    let first = if_ok _ _ (λ q. (c.list_meets-meets.result ≡ Ok q.0) × (c.list_tasks-tasks.result ≡ Ok q.1))
+    c.in_ok-meets.ensures.0 c.both.ensures in
+    let second = if_ok _ _ (λ q. (c.detached-detached.result ≡ Ok q.0) × (c.groups-groups.result ≡ Ok q.1))
+    c.in_ok-meets.ensures.1 c.both-2.ensures in
     listed_state c.args.inst.now s b _ valid c.requires.rates c.facts-3.ensures.groups record {
       meets = if_ok _ _ (λ v. v ≡ meets_in s) first.0 c.list_meets-meets.ensures;
       tasks = if_ok _ _ (λ v. v ≡ tasks_in s) first.1 c.list_tasks-tasks.ensures;
@@ -27,8 +29,10 @@ returns-clause-valid c =
     let s = c.args.solution.now.slots in
     let b = c.args.graph.now in
     let valid = subst (λ p. AreValid p s) c.requires.parts c.facts-2.ensures in
-    let first = if_ok _ _ (λ q. (c.list_meets-meets.result ≡ Ok q.0) × (c.list_tasks-tasks.result ≡ Ok q.1)) c.in_ok-meets.ensures.0 c.both.ensures in
-    let second = if_ok _ _ (λ q. (c.detached-detached.result ≡ Ok q.0) × (c.groups-groups.result ≡ Ok q.1)) c.in_ok-meets.ensures.1 c.both-2.ensures in
+    let first = if_ok _ _ (λ q. (c.list_meets-meets.result ≡ Ok q.0) × (c.list_tasks-tasks.result ≡ Ok q.1))
+    c.in_ok-meets.ensures.0 c.both.ensures in
+    let second = if_ok _ _ (λ q. (c.detached-detached.result ≡ Ok q.0) × (c.groups-groups.result ≡ Ok q.1))
+    c.in_ok-meets.ensures.1 c.both-2.ensures in
     listed_whole c.args.inst.now s b _ c.facts.ensures valid c.requires.rates c.facts-3.ensures.groups record {
       meets = if_ok _ _ (λ v. v ≡ meets_in s) first.0 c.list_meets-meets.ensures;
       tasks = if_ok _ _ (λ v. v ≡ tasks_in s) first.1 c.list_tasks-tasks.ensures;

@@ -8,6 +8,7 @@ use Rattle.khe_engine.proofs.opening.set_all.Given as goal
 abbrev pub invariant-loop-number : goal.invariant-loop-number
 invariant-loop-number g l = record {
   many : length (deviations_of l.graph) ≡ length l.inst.monitors;
-  set : (i : ℕ) (m : Monitor) → i < l.number → slice_get l.inst.monitors i ≡ Some m → slice_get (deviations_of l.graph) i ≡ Some (deviation_in l.inst (g.F.Family.told l.families) m);
+  set : (i : ℕ) (m : Monitor) → i < l.number → slice_get l.inst.monitors i ≡ Some m
+      → slice_get (deviations_of l.graph) i ≡ Some (deviation_in l.inst (g.F.Family.told l.families) m);
   rest : HaveSameRest l.fn.graph l.graph;
 }

@@ -7,7 +7,8 @@ use Rattle.khe_engine.proofs.telling.tell_all.Goals as goal
 
 pub tell_slot-requires-clause-there : goal.tell_slot-requires-clause-there
 tell_slot-requires-clause-there g c =
-    let many = slots_number c.args.inst.now c.args.solution.now.slots (subst (λ p. AreTold p c.args.solution.now.slots) c.requires.parts c.facts-2.ensures.told) in
+    let many = slots_number c.args.inst.now c.args.solution.now.slots
+    (subst (λ p. AreTold p c.args.solution.now.slots) c.requires.parts c.facts-2.ensures.told) in
     omega (arith, c.loop-number-test.true, c.meet_slots-number-end.ensures, many)
 
 pub returns-clause-told : goal.returns-clause-told

@@ -9,7 +9,8 @@ pub returns-then-is_back_of_groups-clause-state : goal.returns-then-is_back_of_g
 returns-then-is_back_of_groups-clause-state g c =
     let s = state_of c.args.solution.now.slots c.args.listeners.now.graph in
     let sort : is_back_of_groups c.args.back ≡ true = sym c.is_back_of_groups.ensures ∙ c.if-is_back_of_groups.true in
-    (λ i. record { slots = c.args.solution.now.slots; grouping = c.undo.ensures.grouping i }) ∙ sym (undone_groups s c.args.back sort)
+    (λ i. record { slots = c.args.solution.now.slots; grouping = c.undo.ensures.grouping i })
+    ∙ sym (undone_groups s c.args.back sort)
 
 pub returns-else-is_back_of_groups-clause-state : goal.returns-else-is_back_of_groups-clause-state
 returns-else-is_back_of_groups-clause-state g c =
@@ -23,6 +24,9 @@ returns-else-is_back_of_groups-clause-steps g c =
     let s = state_of c.args.solution.now.slots c.args.listeners.now.graph in
     let sort : is_back_of_groups c.args.back ≡ false = sym c.is_back_of_groups.ensures ∙ c.if-is_back_of_groups.false in
     let taken = c.undo-else-is_back_of_groups.ensures.steps in
-    let same : watcher_counts c.args.solution.now.parts c.undo-else-is_back_of_groups.new.self.slots (backs.undone_changes c.args.solution.now.slots c.args.back) ≡ watcher_counts c.args.inst.now c.undo-else-is_back_of_groups.new.self.slots (undone_changes s c.args.back) =
-    λ i. watcher_counts (c.requires.parts i) c.undo-else-is_back_of_groups.new.self.slots (sym (list_meets s c.args.back sort) i) in
+    let same : watcher_counts c.args.solution.now.parts c.undo-else-is_back_of_groups.new.self.slots
+    (backs.undone_changes c.args.solution.now.slots c.args.back)
+    ≡ watcher_counts c.args.inst.now c.undo-else-is_back_of_groups.new.self.slots (undone_changes s c.args.back) =
+    λ i. watcher_counts (c.requires.parts i) c.undo-else-is_back_of_groups.new.self.slots
+    (sym (list_meets s c.args.back sort) i) in
     omega (arith, taken, same)

@@ -24,7 +24,8 @@ loop-back-preserved g c =
     record {
       parts = r.parts;
       state = ap (λ x. undone_all x (inner j1)) st ∙ sym (ap (undone_all s0) first) ∙ v.state;
-      leads = marks_more p n c.revert.new.listeners.graph.seats s1 j1 r.seats (subst (λ x. MarksLead p n x j1) (sym st) l.1);
+      leads = marks_more p n c.revert.new.listeners.graph.seats s1 j1 r.seats
+          (subst (λ x. MarksLead p n x j1) (sym st) l.1);
       outer = sym (ap outer e.0) ∙ v.outer;
       marks = pop_marks j0 j1 b e.0 e.1 ∙ v.marks;
       spare = let a = pop_records j0 j1 b e.0 e.1 in let f = v.spare in let d = e.2 in omega (arith, a, f, d);
@@ -36,7 +37,9 @@ loop-back-preserved g c =
       steps =
           let a = v.steps in
           let f = r.steps in
-          let d : undo_cost p s0 (inner j0) ≡ watcher_counts p s1.slots (undone_changes s0 b) + undo_cost p s1 (inner j1) =
-          ap (undo_cost p s0) first ∙ (λ i. watcher_counts p (sym st i).slots (undone_changes s0 b) + undo_cost p (sym st i) (inner j1)) in
+          let d : undo_cost p s0 (inner j0) ≡ watcher_counts p s1.slots (undone_changes s0 b) + undo_cost p s1
+          (inner j1) =
+          ap (undo_cost p s0) first ∙ (λ i. watcher_counts p (sym st i).slots (undone_changes s0 b) + undo_cost p
+          (sym st i) (inner j1)) in
           omega (arith, a, f, d);
     }

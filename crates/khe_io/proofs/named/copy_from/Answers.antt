@@ -19,7 +19,8 @@ slice_bounds-rest-start c =
 pub returns-clause-placed : goal.returns-clause-placed
 returns-clause-placed c =
     let same = bytes_at-read _ _ _ _ c.requires.place.file c.index-files-place.is c.as_slice.ensures in
-    let counted : IsCount c.as_slice.result.now c.args.place.from (length c.args.buf.now) c.args.most c.min-count.result =
+    let counted : IsCount c.as_slice.result.now c.args.place.from (length c.args.buf.now) c.args.most
+    c.min-count.result =
     record { fitting = c.min.result; left = c.min.ensures; least = c.min-count.ensures } in
     let P : List ℕ → Type 0 = λ bytes. c.args.place.from ≤ length bytes in
     let Q : List ℕ → Type 0 = λ bytes. c.args.place.from + c.min-count.result ≤ length bytes in
@@ -31,14 +32,18 @@ returns-clause-placed c =
 pub returns-clause-copied : goal.returns-clause-copied
 returns-clause-copied c =
     let same = bytes_at-read _ _ _ _ c.requires.place.file c.index-files-place.is c.as_slice.ensures in
-    let counted : IsCount c.as_slice.result.now c.args.place.from (length c.args.buf.now) c.args.most c.min-count.result =
+    let counted : IsCount c.as_slice.result.now c.args.place.from (length c.args.buf.now) c.args.most
+    c.min-count.result =
     record { fitting = c.min.result; left = c.min.ensures; least = c.min-count.ensures } in
-    let copied = c.copy_from_slice.ensures.after ∙ ap (take c.min-count.result) (take_rest c.as_slice.result.now c.args.place.from) in
-    rw same (drop-copied c.as_slice.result.now c.copy_from_slice.new.self c.args.buf.now c.args.place.from c.min-count.result copied (IsCount-left _ _ _ _ _ counted))
+    let copied = c.copy_from_slice.ensures.after ∙ ap (take c.min-count.result)
+    (take_rest c.as_slice.result.now c.args.place.from) in
+    rw same (drop-copied c.as_slice.result.now c.copy_from_slice.new.self c.args.buf.now c.args.place.from
+    c.min-count.result copied (IsCount-left _ _ _ _ _ counted))
 
 pub returns-clause-end : goal.returns-clause-end
 returns-clause-end c =
     let same = bytes_at-read _ _ _ _ c.requires.place.file c.index-files-place.is c.as_slice.ensures in
-    let counted : IsCount c.as_slice.result.now c.args.place.from (length c.args.buf.now) c.args.most c.min-count.result =
+    let counted : IsCount c.as_slice.result.now c.args.place.from (length c.args.buf.now) c.args.most
+    c.min-count.result =
     record { fitting = c.min.result; left = c.min.ensures; least = c.min-count.ensures } in
     rw same (IsCount-end _ _ _ _ _ counted c.requires.buffer c.requires.most)

@@ -5,7 +5,8 @@ use Rattle.khe_io.proofs.texts.put_all.Goals as goal
 
 pub loop-rest-preserved : goal.loop-rest-preserved
 loop-rest-preserved g c = record {
-  split = Took-step _ _ _ _ _ _ _ c.loop-rest.invariant.split.1 c.loop-rest.invariant.split.2 c.in_ok-count.ensures.took;
+  split = Took-step _ _ _ _ _ _ _ c.loop-rest.invariant.split.1 c.loop-rest.invariant.split.2
+      c.in_ok-count.ensures.took;
   counted = omega (arith, c.loop-rest.invariant.counted, c.write.ensures.counted);
   untouched = λ empty.
       let more : 0 < length c.loop-rest.rest.now = search rules in

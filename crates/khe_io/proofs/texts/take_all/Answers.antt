@@ -10,7 +10,8 @@ pub loop-bytes-init : goal.loop-bytes-init
 loop-bytes-init g c = record {
   rest =
       rw c.new-bytes.ensures.items
-      (RestUnder-opened (g.S.Shelf.holdings c.args.shelf.now) c.args.name.now (g.S.Shelf.left c.open.new.self) c.in_ok-open.ensures.opened);
+      (RestUnder-opened (g.S.Shelf.holdings c.args.shelf.now) c.args.name.now (g.S.Shelf.left c.open.new.self)
+      c.in_ok-open.ensures.opened);
   within = rw c.new-bytes.ensures.len (omega arith);
   is_open = c.in_ok-open.ensures.source;
   present = λ sound missing. cc ((c.in_ok-open.ensures.missing sound).1 missing);
@@ -47,9 +48,16 @@ loop-bytes-preserved g c = record {
       rw c.in_ok-extend_from_slice.ensures.items
       (RestUnder-gave _ _ _ _ _ _ c.loop-bytes.invariant.rest c.in_ok-count.ensures.gave);
   within =
-      let fits : c.in_ok-count.count ≤ c.args.limit - vec_len c.loop-bytes.bytes = rw (← c.len.ensures) c.if-count-limit.false in
-      let grown : vec_len c.extend_from_slice.new.self ≡ vec_len c.loop-bytes.bytes + length (take c.in_ok-count.count c.read.new.buf) = c.in_ok-extend_from_slice.ensures.len in
-      omega (arith, length-take-le c.in_ok-count.count c.read.new.buf c.in_ok-count.ensures.within, c.loop-bytes.invariant.within);
+      let fits : c.in_ok-count.count ≤ c.args.limit - vec_len c.loop-bytes.bytes =
+      rw (← c.len.ensures) c.if-count-limit.false in
+      let grown : vec_len c.extend_from_slice.new.self
+      ≡ vec_len c.loop-bytes.bytes + length (take c.in_ok-count.count c.read.new.buf) =
+      c.in_ok-extend_from_slice.ensures.len in
+      omega (
+        arith,
+        length-take-le c.in_ok-count.count c.read.new.buf c.in_ok-count.ensures.within,
+        c.loop-bytes.invariant.within,
+      );
   is_open = c.read.ensures.stays_open;
   present = c.loop-bytes.invariant.present;
   unchanged = c.read.ensures.unchanged ∙ c.loop-bytes.invariant.unchanged;

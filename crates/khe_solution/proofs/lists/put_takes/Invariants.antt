@@ -5,7 +5,8 @@ use Rattle.khe_solution.proofs.lists.put_takes.Given as goal
 
 abbrev pub invariant-loop-place : goal.invariant-loop-place
 invariant-loop-place l = record {
-  made : l.list.items ++ takes_from l.meet l.place (drop l.place l.given) ≡ l.fn.list.items ++ takes_from l.meet 0 l.given;
+  made : l.list.items ++ takes_from l.meet l.place (drop l.place l.given) ≡ l.fn.list.items
+      ++ takes_from l.meet 0 l.given;
   len : vec_len l.list ≤ vec_len l.fn.list + l.place;
   room : vec_capacity l.fn.list ≤ vec_capacity l.list;
 }

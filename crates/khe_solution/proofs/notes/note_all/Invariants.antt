@@ -13,7 +13,8 @@ invariant-loop-change g l =
       same : g.V.Watcher.told l.watcher ≡ l.slots;
       fits : AllFit l.inst l.slots rest;
       told : after_all l.slots rest ≡ after_all l.fn.slots l.list;
-      noted : option_map (λ cs. cs ++ rest) (g.V.Watcher.noted l.watcher) ≡ option_map (λ cs. cs ++ l.list) (g.V.Watcher.noted l.fn.watcher);
+      noted : option_map (λ cs. cs ++ rest) (g.V.Watcher.noted l.watcher)
+          ≡ option_map (λ cs. cs ++ l.list) (g.V.Watcher.noted l.fn.watcher);
       same_rest : g.V.Watcher.HasSameRest l.fn.watcher l.watcher;
       steps : l.steps + watcher_counts l.inst l.slots rest ≤ l.fn.steps + watcher_counts l.inst l.fn.slots l.list;
       silent : g.V.Watcher.is_silent ≡ true → l.steps ≡ l.fn.steps;

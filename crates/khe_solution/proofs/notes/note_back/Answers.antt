@@ -15,12 +15,14 @@ loop-change-preserved g c =
     let old = inverses c.loop-change.list.items in
     let b = c.inverse-back.result in
     let e : old ≡ b ∷ new =
-    ap inverses c.in-Some.ensures.items ∙ inverses_more c.pop.new.self.items c.in-Some.change ∙ ap (λ q. q ∷ new) (sym c.inverse-back.ensures) in
+    ap inverses c.in-Some.ensures.items ∙ inverses_more c.pop.new.self.items c.in-Some.change
+    ∙ ap (λ q. q ∷ new) (sym c.inverse-back.ensures) in
     let f : AllFit p t (b ∷ new) = subst (AllFit p t) e i.fits in
     let n : c.note.new.self ≡ after t b = c.note.ensures in
     let k : watcher_counts p t old ≡ watcher_count p t b + watcher_counts p c.note.new.self new =
     ap (watcher_counts p t) e ∙ ap (λ s. watcher_count p t b + watcher_counts p s new) (sym n) in
-    let q : watcher_count p (g.V.Watcher.told c.loop-change.watcher) b ≡ watcher_count p t b = ap (λ s. watcher_count p s b) i.same in
+    let q : watcher_count p (g.V.Watcher.told c.loop-change.watcher) b ≡ watcher_count p t b =
+    ap (λ s. watcher_count p s b) i.same in
     let w = c.note-in-Some.ensures.steps in
     let s = i.steps in
     record {

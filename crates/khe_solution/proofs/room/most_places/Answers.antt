@@ -8,7 +8,8 @@ loop-e-preserved c =
     let f = places_few c.args.inst.now c.loop-e.e c.event.result.now c.facts.ensures c.event.ensures in
     record {
       few = c.larger-most.ensures.least TASKS c.loop-e.invariant.few (omega (arith, f));
-      each = most_more c.args.inst.now c.loop-e.e c.loop-e.most _ c.event.result.now c.loop-e.invariant.each c.event.ensures c.larger-most.ensures.first (omega arith);
+      each = most_more c.args.inst.now c.loop-e.e c.loop-e.most _ c.event.result.now c.loop-e.invariant.each
+          c.event.ensures c.larger-most.ensures.first (omega arith);
     }
 
 pub returns-clause-each : goal.returns-clause-each

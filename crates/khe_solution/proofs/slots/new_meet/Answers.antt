@@ -11,16 +11,22 @@ event-requires c =
 
 pub unreachable-requires-in_default-first_free : goal.unreachable-requires-in_default-first_free
 unreachable-requires-in_default-first_free c =
-    never_full c.args.inst.now c.args.slots.now c.args.meet.0 c.in-Some.own c.event.result.now c.requires.told c.facts.ensures c.requires.long
-    (subst (λ s. Shows (slot_at s c.args.meet.0) c.in-Some.own) c.told.ensures c.in-Some.ensures) c.event.ensures c.in_default-first_free.ensures
+    never_full c.args.inst.now c.args.slots.now c.args.meet.0 c.in-Some.own c.event.result.now c.requires.told
+    c.facts.ensures c.requires.long
+    (subst (λ s. Shows (slot_at s c.args.meet.0) c.in-Some.own) c.told.ensures c.in-Some.ensures) c.event.ensures
+    c.in_default-first_free.ensures
 
 pub overflow_cast-result : goal.overflow_cast-result
 overflow_cast-result c =
-    let small = first_small c.args.inst.now c.args.slots.now c.args.meet.0 c.in-Some-first_free.slot c.in-Some.own c.event.result.now c.requires.told c.facts.ensures c.requires.long
-    (subst (λ s. Shows (slot_at s c.args.meet.0) c.in-Some.own) c.told.ensures c.in-Some.ensures) c.event.ensures c.in-Some-first_free.ensures in
+    let small = first_small c.args.inst.now c.args.slots.now c.args.meet.0 c.in-Some-first_free.slot c.in-Some.own
+    c.event.result.now c.requires.told c.facts.ensures c.requires.long
+    (subst (λ s. Shows (slot_at s c.args.meet.0) c.in-Some.own) c.told.ensures c.in-Some.ensures) c.event.ensures
+    c.in-Some-first_free.ensures in
     omega (arith, small)
 
 pub returns : goal.returns
 returns c =
-    first_found c.args.inst.now c.args.slots.now c.args.meet.0 c.in-Some-first_free.slot c.in-Some.own c.event.result.now c.requires.told c.facts.ensures c.requires.long
-    (subst (λ s. Shows (slot_at s c.args.meet.0) c.in-Some.own) c.told.ensures c.in-Some.ensures) c.event.ensures c.in-Some-first_free.ensures
+    first_found c.args.inst.now c.args.slots.now c.args.meet.0 c.in-Some-first_free.slot c.in-Some.own
+    c.event.result.now c.requires.told c.facts.ensures c.requires.long
+    (subst (λ s. Shows (slot_at s c.args.meet.0) c.in-Some.own) c.told.ensures c.in-Some.ensures) c.event.ensures
+    c.in-Some-first_free.ensures

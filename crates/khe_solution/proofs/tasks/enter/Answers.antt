@@ -27,7 +27,8 @@ returns-in-Some c =
     let m = c.args.meet.0 in
     let t = c.args.rows.now in
     let u = c.put_meet.new.rows in
-    let a : c.first_task.result ≡ first_in s m = c.first_task.ensures ∙ first_told c.args.inst.now s m c.facts.ensures.first_meets c.requires.told in
+    let a : c.first_task.result ≡ first_in s m = c.first_task.ensures
+    ∙ first_told c.args.inst.now s m c.facts.ensures.first_meets c.requires.told in
     entered_live s m t u c.in-Some.ensures.live c.requires.before c.put_meet.ensures.rows c.put_meet.ensures.stride
     (subst2 (λ n g. AreAllPut t u n (length g) g true) a c.given.ensures c.put_meet.ensures.put)
 

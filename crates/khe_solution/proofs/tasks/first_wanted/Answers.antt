@@ -18,7 +18,8 @@ returns-in_default c =
     let s = c.args.told.now in
     let t = c.args.rows.now in
     fewer_unwanted s c.args.wanted c.args.from (64 * t.stride) (tasks_of_all s) c.requires.kept.long
-    (out_unwanted s t c.args.wanted c.args.from c.loop-next.next (64 * t.stride) c.requires.kept (row_below c.args.wanted) c.loop-next.invariant.clear c.in_default.ensures)
+    (out_unwanted s t c.args.wanted c.args.from c.loop-next.next (64 * t.stride) c.requires.kept
+    (row_below c.args.wanted) c.loop-next.invariant.clear c.in_default.ensures)
 
 pub returns-then-number-end : goal.returns-then-number-end
 returns-then-number-end c =
@@ -29,13 +30,16 @@ returns-then-number-end c =
     let b = c.task_slots-end.ensures in
     let d = c.if-number-end.true in
     fewer_unwanted s c.args.wanted c.args.from n (tasks_of_all s) (omega (arith, a, b, d))
-    (out_unwanted s t c.args.wanted c.args.from c.loop-next.next n c.requires.kept (row_below c.args.wanted) c.loop-next.invariant.clear c.in-Some.ensures.3)
+    (out_unwanted s t c.args.wanted c.args.from c.loop-next.next n c.requires.kept (row_below c.args.wanted)
+    c.loop-next.invariant.clear c.in-Some.ensures.3)
 
 pub returns-then-has_task : goal.returns-then-has_task
 returns-then-has_task c =
     let s = c.args.told.now in
-    wanted_found s c.args.rows.now c.args.wanted c.args.from c.loop-next.next c.in-Some.number c.task-task.result c.requires.kept (row_below c.args.wanted) c.loop-next.invariant.after c.loop-next.invariant.clear
-    c.in-Some.ensures (task_of c.args.inst.now s c.in-Some.number c.task-task.result c.facts.ensures.first_meets c.requires.told c.task-task.ensures)
+    wanted_found s c.args.rows.now c.args.wanted c.args.from c.loop-next.next c.in-Some.number c.task-task.result
+    c.requires.kept (row_below c.args.wanted) c.loop-next.invariant.after c.loop-next.invariant.clear
+    c.in-Some.ensures (task_of c.args.inst.now s c.in-Some.number c.task-task.result c.facts.ensures.first_meets
+    c.requires.told c.task-task.ensures)
     (sym c.has_task.ensures ∙ c.if-has_task.true)
 
 pub loop-next-preserved : goal.loop-next-preserved
@@ -45,8 +49,10 @@ loop-next-preserved c =
     let b = c.in-Some.ensures.0 in
     record {
       after = omega (arith, a, b);
-      clear = wanted_more s c.args.rows.now c.args.wanted c.args.from c.loop-next.next c.in-Some.number c.task-task.result c.requires.kept (row_below c.args.wanted) c.loop-next.invariant.clear
-          c.in-Some.ensures (task_of c.args.inst.now s c.in-Some.number c.task-task.result c.facts.ensures.first_meets c.requires.told c.task-task.ensures)
+      clear = wanted_more s c.args.rows.now c.args.wanted c.args.from c.loop-next.next c.in-Some.number
+          c.task-task.result c.requires.kept (row_below c.args.wanted) c.loop-next.invariant.clear
+          c.in-Some.ensures (task_of c.args.inst.now s c.in-Some.number c.task-task.result c.facts.ensures.first_meets
+          c.requires.told c.task-task.ensures)
           (sym c.has_task.ensures ∙ c.if-has_task.false);
     }
 
@@ -56,4 +62,5 @@ returns c =
     let a = tasks_told c.args.inst.now s c.facts.ensures.first_meets c.requires.told in
     let b = c.task_slots-end.ensures in
     let d = c.loop-next-test.false in
-    fewer_unwanted s c.args.wanted c.args.from c.loop-next.next (tasks_of_all s) (omega (arith, a, b, d)) c.loop-next.invariant.clear
+    fewer_unwanted s c.args.wanted c.args.from c.loop-next.next (tasks_of_all s) (omega (arith, a, b, d))
+    c.loop-next.invariant.clear

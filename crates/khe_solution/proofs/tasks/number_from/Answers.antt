@@ -11,7 +11,8 @@ returns-then-from-len c =
     let s = c.args.told.now in
     let a = c.len.ensures in
     let b = c.if-from-len.true in
-    c.task_slots.ensures ∙ tasks_told p s c.facts.ensures.first_meets c.requires.told ∙ sym (number_past s c.args.from (omega (arith, a, b)))
+    c.task_slots.ensures ∙ tasks_told p s c.facts.ensures.first_meets c.requires.told
+    ∙ sym (number_past s c.args.from (omega (arith, a, b)))
 
 pub first_task-requires : goal.first_task-requires
 first_task-requires c =
@@ -26,7 +27,8 @@ returns c =
     let s = c.args.told.now in
     let m = c.args.from.meet.0 in
     let k = c.args.from.place in
-    let first : c.first_task.result ≡ first_in s m = c.first_task.ensures ∙ first_told p s m c.facts.ensures.first_meets c.requires.told in
+    let first : c.first_task.result ≡ first_in s m =
+    c.first_task.ensures ∙ first_told p s m c.facts.ensures.first_meets c.requires.told in
     let capped : c.least.result ≡ cond (nat_lt k (places (slot_at s m))) k (places (slot_at s m)) =
     c.least.ensures ∙ ap (λ g. cond (nat_lt k (length g)) k (length g)) c.given-places.ensures in
     λ i. first i + capped i

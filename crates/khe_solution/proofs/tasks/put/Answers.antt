@@ -8,15 +8,18 @@ use Rattle.khe_solution.proofs.tasks.put.Goals as goal
 pub put_bit-requires-clause-there : goal.put_bit-requires-clause-there
 put_bit-requires-clause-there c =
     let t = c.args.rows.now in
-    let e : c.spot_of-spot.result ≡ spot_of t.stride (row_of c.args.given) c.args.number = c.spot_of-spot.ensures ∙ ap (λ r. spot_of t.stride r c.args.number) c.row_of-row.ensures.is in
+    let e : c.spot_of-spot.result ≡ spot_of t.stride (row_of c.args.given) c.args.number =
+    c.spot_of-spot.ensures ∙ ap (λ r. spot_of t.stride r c.args.number) c.row_of-row.ensures.is in
     let k = ap (λ n. n / 64) e in
-    let a = put_there t (row_of c.args.given) c.args.number c.requires.rows (row_below c.args.given) c.requires.number in
+    let a = put_there t (row_of c.args.given) c.args.number c.requires.rows (row_below c.args.given)
+    c.requires.number in
     omega (arith, k, a)
 
 pub put_bit-requires-clause-room : goal.put_bit-requires-clause-room
 put_bit-requires-clause-room c =
     let t = c.args.rows.now in
-    let e : c.spot_of-spot.result ≡ spot_of t.stride (row_of c.args.given) c.args.number = c.spot_of-spot.ensures ∙ ap (λ r. spot_of t.stride r c.args.number) c.row_of-row.ensures.is in
+    let e : c.spot_of-spot.result ≡ spot_of t.stride (row_of c.args.given) c.args.number =
+    c.spot_of-spot.ensures ∙ ap (λ r. spot_of t.stride r c.args.number) c.row_of-row.ensures.is in
     let k = ap (λ n. n / 64 / 64) e in
     let a = put_room t (row_of c.args.given) c.args.number c.requires.rows (row_below c.args.given) c.requires.number in
     omega (arith, k, a)
@@ -25,6 +28,7 @@ pub returns-clause-put : goal.returns-clause-put
 returns-clause-put c =
     let t = c.args.rows.now in
     let u : TaskRows = record { words = c.put_bit.new.words; marks = c.put_bit.new.marks; stride = t.stride } in
-    let e : c.spot_of-spot.result ≡ spot_of t.stride (row_of c.args.given) c.args.number = c.spot_of-spot.ensures ∙ ap (λ r. spot_of t.stride r c.args.number) c.row_of-row.ensures.is in
+    let e : c.spot_of-spot.result ≡ spot_of t.stride (row_of c.args.given) c.args.number =
+    c.spot_of-spot.ensures ∙ ap (λ r. spot_of t.stride r c.args.number) c.row_of-row.ensures.is in
     put_is t u (row_of c.args.given) c.args.number c.args.is_in c.requires.number refl
     (λ m. c.put_bit.ensures.bits m ∙ ap (λ k. cond (nat_eq m k) c.args.is_in (is_set t.words.items m)) e)

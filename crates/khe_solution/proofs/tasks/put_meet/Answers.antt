@@ -8,5 +8,6 @@ loop-place-preserved c =
     record {
       rows = c.put.ensures.rows;
       stride = c.put.ensures.stride ∙ i.stride;
-      put = put_more c.args.rows.now c.loop-place.rows c.put.new.rows c.args.first c.loop-place.place c.args.given.now c.args.is_in i.stride i.put c.put.ensures.put;
+      put = put_more c.args.rows.now c.loop-place.rows c.put.new.rows c.args.first c.loop-place.place c.args.given.now
+          c.args.is_in i.stride i.put c.put.ensures.put;
     }

@@ -8,4 +8,5 @@ enter_all-requires-clause-none c =
     let a = tasks_told c.args.inst.now c.args.told.now c.facts.ensures.first_meets c.requires.told in
     let b = c.task_slots.ensures in
     let d = c.in_ok-rows.ensures.long in
-    entered_none c.args.told.now c.in_ok-rows.rows c.in_ok-rows.ensures.rows (omega (arith, a, b, d)) c.in_ok-rows.ensures.none
+    entered_none c.args.told.now c.in_ok-rows.rows c.in_ok-rows.ensures.rows (omega (arith, a, b, d))
+    c.in_ok-rows.ensures.none

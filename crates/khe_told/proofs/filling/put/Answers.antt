@@ -9,13 +9,16 @@ use Rattle.khe_told.proofs.StoredLaws.{row_to}
 use Rattle.khe_told.proofs.filling.put.Goals as goal
 
 pub loop-place-init : goal.loop-place-init
-loop-place-init c = put_start c.args.rows.now.items c.args.given.now.items c.args.meet.now c.args.tasks.now c.index-row.result.now c.requires.order c.requires.there c.requires.many c.index-row.ensures
+loop-place-init c = put_start c.args.rows.now.items c.args.given.now.items c.args.meet.now c.args.tasks.now
+    c.index-row.result.now c.requires.order c.requires.there c.requires.many c.index-row.ensures
 
 pub index_mut-requires-in-loop-place : goal.index_mut-requires-in-loop-place
 index_mut-requires-in-loop-place c =
     let i = c.loop-place.invariant in
     let row = c.index-row.result.now in
-    let l = row_to 0 (length c.loop-place.given.items) (set c.args.rows.now.items c.args.meet.now.meet.0 (record row { span = span_of c.args.meet.now })) c.args.meet.now.meet.0 (record row { span = span_of c.args.meet.now }) i.order i.found in
+    let l = row_to 0 (length c.loop-place.given.items)
+    (set c.args.rows.now.items c.args.meet.now.meet.0 (record row { span = span_of c.args.meet.now }))
+    c.args.meet.now.meet.0 (record row { span = span_of c.args.meet.now }) i.order i.found in
     let few = i.few in
     let n = c.loop-place.given.ok.0 in
     omega (arith, l, few, n)
@@ -25,5 +28,8 @@ loop-place-preserved c =
     let none : Task = record { task = record { meet = record { 0 = 0 }; place = 0 }; resource = None } in
     let k = c.loop-place.place in
     let within : k < length c.args.tasks.now = omega arith in
-    put_more (set c.args.rows.now.items c.args.meet.now.meet.0 (record c.index-row.result.now { span = span_of c.args.meet.now })) c.loop-place.given.items (slots_in 0 c.args.rows.now.items c.args.given.now.items) c.args.meet.now c.args.tasks.now c.index-row.result.now k (slice_index_or c.args.tasks.now k none) c.loop-place.invariant
+    put_more (set c.args.rows.now.items c.args.meet.now.meet.0
+    (record c.index-row.result.now { span = span_of c.args.meet.now })) c.loop-place.given.items
+    (slots_in 0 c.args.rows.now.items c.args.given.now.items) c.args.meet.now c.args.tasks.now
+    c.index-row.result.now k (slice_index_or c.args.tasks.now k none) c.loop-place.invariant
     (slice_get-get_or c.args.tasks.now k none within)

@@ -4,4 +4,5 @@ use Rattle.khe_told.proofs.PuttingLaws.{IsPut}
 use Rattle.khe_told.proofs.filling.put.Given as goal
 
 abbrev pub invariant-loop-place : goal.invariant-loop-place
-invariant-loop-place l = IsPut l.rows.items l.given.items (slots_in 0 l.fn.rows.items l.fn.given.items) l.meet l.tasks l.row l.place
+invariant-loop-place l = IsPut l.rows.items l.given.items (slots_in 0 l.fn.rows.items l.fn.given.items) l.meet l.tasks
+    l.row l.place

@@ -6,4 +6,5 @@ use Rattle.khe_told.proofs.filling.put_all.Given as goal
 
 abbrev pub invariant-loop-meet : goal.invariant-loop-meet
 invariant-loop-meet l =
-    AreInOrder 0 (length l.given.items) l.rows.items × IsAmid l.inst l.plain.meets l.plain.tasks (slots_in 0 l.rows.items l.given.items) l.meet-index l.next
+    AreInOrder 0 (length l.given.items) l.rows.items
+    × IsAmid l.inst l.plain.meets l.plain.tasks (slots_in 0 l.rows.items l.given.items) l.meet-index l.next

@@ -7,6 +7,10 @@ use Rattle.link_monitors.proofs.links.no_links.Goals as goal
 
 pub returns-clause-linked : goal.returns-clause-linked
 returns-clause-linked c =
-    let table : c.in_ok-running.table ≡ no_counts c.args.events c.args.times = if_ok _ _ (λ v. v ≡ no_counts c.args.events c.args.times) c.in_ok-running.ensures.1 c.open-table.ensures in
-    let running : c.in_ok-running.running ≡ replicate c.args.times 0 = if_ok _ _ (λ v. v ≡ replicate c.args.times 0) c.in_ok-running.ensures.0 c.none_running-running.ensures in
-    subst (λ rows. AreLinked rows c.args.events c.running.inside.items.items 0) (sym table) (subst (λ xs. AreLinked (no_counts c.args.events c.args.times) c.args.events xs 0) (sym (c.running.view_is ∙ running)) (none_linked c.args.events c.args.times c.requires))
+    let table : c.in_ok-running.table ≡ no_counts c.args.events c.args.times =
+    if_ok _ _ (λ v. v ≡ no_counts c.args.events c.args.times) c.in_ok-running.ensures.1 c.open-table.ensures in
+    let running : c.in_ok-running.running ≡ replicate c.args.times 0 =
+    if_ok _ _ (λ v. v ≡ replicate c.args.times 0) c.in_ok-running.ensures.0 c.none_running-running.ensures in
+    subst (λ rows. AreLinked rows c.args.events c.running.inside.items.items 0) (sym table)
+    (subst (λ xs. AreLinked (no_counts c.args.events c.args.times) c.args.events xs 0)
+    (sym (c.running.view_is ∙ running)) (none_linked c.args.events c.args.times c.requires))

@@ -18,13 +18,15 @@ end_of-end-requires c =
     let l = slice_get_within (members_at p point) r c.event.result.0 c.row_in-row.ensures in
     let amount = c.requires.of.amount in
     let long = sym (c.requires.linked.long r (omega (arith, l, amount))) in
-    let e = lift_end p s c.args.meet c.args.start c.requires.fits point links.table (length links.running.items) r c.requires.of at (length links.running.items) long in
+    let e = lift_end p s c.args.meet c.args.start c.requires.fits point links.table (length links.running.items) r
+    c.requires.of at (length links.running.items) long in
     let few = c.requires.linked.few in
     omega (arith, e, few)
 
 pub free-requires-clause-event : goal.free-requires-clause-event
 free-requires-clause-event c =
-    let l = slice_get_within (members_at c.args.inst.now c.args.monitor.point) c.row_in-row.result.0 c.event.result.0 c.row_in-row.ensures in
+    let l = slice_get_within (members_at c.args.inst.now c.args.monitor.point) c.row_in-row.result.0 c.event.result.0
+    c.row_in-row.ensures in
     let amount = c.requires.of.amount in
     omega (arith, l, amount)
 
@@ -39,14 +41,16 @@ free-requires-clause-times c =
     let l = slice_get_within (members_at p point) r c.event.result.0 c.row_in-row.ensures in
     let amount = c.requires.of.amount in
     let long = sym (c.requires.linked.long r (omega (arith, l, amount))) in
-    let e = lift_end p s c.args.meet c.args.start c.requires.fits point links.table (length links.running.items) r c.requires.of at (length links.running.items) long in
+    let e = lift_end p s c.args.meet c.args.start c.requires.fits point links.table (length links.running.items) r
+    c.requires.of at (length links.running.items) long in
     let is = c.end_of-end.ensures in
     omega (arith, e, is)
 
 pub free-requires-clause-some : goal.free-requires-clause-some
 free-requires-clause-some c = λ t run.
     let at = c.row_in-row.ensures ∙ ap (λ e. Some e.0) c.event.ensures in
-    lift_some c.args.inst.now c.args.told.now c.args.meet c.args.start c.requires.fits c.args.monitor.point c.args.links.now.table (length c.args.links.now.running.items) c.row_in-row.result.0 c.requires.of at t
+    lift_some c.args.inst.now c.args.told.now c.args.meet c.args.start c.requires.fits c.args.monitor.point
+    c.args.links.now.table (length c.args.links.now.running.items) c.row_in-row.result.0 c.requires.of at t
     (ap (λ e. in_run c.args.start.0 e t) (sym c.end_of-end.ensures) ∙ run)
 
 pub returns-clause-of : goal.returns-clause-of
@@ -59,7 +63,10 @@ returns-clause-of c =
     let new = c.free.new.links in
     let end = c.end_of-end.result in
     subst (AreOfGroup p point (after s change) new.table) (sym c.free.ensures.times)
-    (group_lowered p point s change old.table new.table (length old.running.items) c.row_in-row.result.0 c.args.start.0 end c.requires.fits.there
-    (λ t. lift_before p s c.args.meet c.args.start c.requires.fits t ∙ ap (λ e. in_run c.args.start.0 e t) (sym c.end_of-end.ensures))
+    (group_lowered p point s change old.table new.table (length old.running.items) c.row_in-row.result.0 c.args.start.0
+    end c.requires.fits.there
+    (λ t. lift_before p s c.args.meet c.args.start c.requires.fits t
+    ∙ ap (λ e. in_run c.args.start.0 e t) (sym c.end_of-end.ensures))
     (lift_after p s c.args.meet c.args.start c.requires.fits)
-    (c.row_in-row.ensures ∙ ap (λ e. Some e.0) c.event.ensures) c.free.ensures.events c.free.ensures.counts c.requires.of)
+    (c.row_in-row.ensures ∙ ap (λ e. Some e.0) c.event.ensures) c.free.ensures.events c.free.ensures.counts
+    c.requires.of)

@@ -16,7 +16,8 @@ end_of-end-requires c =
 
 pub fill-requires-clause-event : goal.fill-requires-clause-event
 fill-requires-clause-event c =
-    let l = slice_get_within (members_at c.args.inst.now c.args.monitor.point) c.row_in-row.result.0 c.event.result.0 c.row_in-row.ensures in
+    let l = slice_get_within (members_at c.args.inst.now c.args.monitor.point) c.row_in-row.result.0 c.event.result.0
+    c.row_in-row.ensures in
     let amount = c.requires.of.amount in
     omega (arith, l, amount)
 
@@ -29,8 +30,10 @@ fill-requires-clause-times c =
 
 pub fill-requires-clause-room : goal.fill-requires-clause-room
 fill-requires-clause-room c = λ t run.
-    let few = meets_few c.args.inst.now c.args.told.now (PlaceAt c.args.meet c.args.start) c.event.result.0 t c.facts.ensures c.requires.fits in
-    subst (λ n. n < GREATEST_COUNT) (sym (c.requires.of.cells c.row_in-row.result.0 c.event.result.0 t c.row_in-row.ensures)) few
+    let few = meets_few c.args.inst.now c.args.told.now (PlaceAt c.args.meet c.args.start) c.event.result.0 t
+    c.facts.ensures c.requires.fits in
+    subst (λ n. n < GREATEST_COUNT) (sym (c.requires.of.cells c.row_in-row.result.0 c.event.result.0 t
+    c.row_in-row.ensures)) few
 
 pub returns-clause-of : goal.returns-clause-of
 returns-clause-of c =
@@ -42,7 +45,10 @@ returns-clause-of c =
     let new = c.fill.new.links in
     let end = c.end_of-end.result in
     subst (AreOfGroup p point (after s change) new.table) (sym c.fill.ensures.times)
-    (group_raised p point s change old.table new.table (length old.running.items) c.row_in-row.result.0 c.args.start.0 end c.requires.fits.there
+    (group_raised p point s change old.table new.table (length old.running.items) c.row_in-row.result.0 c.args.start.0
+    end c.requires.fits.there
     (place_before p s c.args.meet c.args.start c.requires.fits)
-    (λ t. place_after p s c.args.meet c.args.start c.requires.fits t ∙ ap (λ e. in_run c.args.start.0 e t) (sym c.end_of-end.ensures))
-    (c.row_in-row.ensures ∙ ap (λ e. Some e.0) c.event.ensures) c.fill.ensures.events c.fill.ensures.counts c.requires.of)
+    (λ t. place_after p s c.args.meet c.args.start c.requires.fits t
+    ∙ ap (λ e. in_run c.args.start.0 e t) (sym c.end_of-end.ensures))
+    (c.row_in-row.ensures ∙ ap (λ e. Some e.0) c.event.ensures) c.fill.ensures.events c.fill.ensures.counts
+    c.requires.of)

@@ -6,12 +6,15 @@ use Rattle.link_monitors.proofs.TurnLaws.{member_there, members_few}
 use Rattle.link_monitors.proofs.turns.row_in.Goals as goal
 
 pub row_of_event-requires-clause-ascending : goal.row_of_event-requires-clause-ascending
-row_of_event-requires-clause-ascending c = subst AreAscending (sym c.members.ensures) (members_ascend c.args.inst.now c.args.monitor.point)
+row_of_event-requires-clause-ascending c = subst AreAscending (sym c.members.ensures)
+    (members_ascend c.args.inst.now c.args.monitor.point)
 
 pub row_of_event-requires-clause-there : goal.row_of_event-requires-clause-there
 row_of_event-requires-clause-there c =
-    let a = member_there c.args.inst.now c.args.monitor c.args.event.0 c.requires.monitor c.requires.served c.requires.named in
+    let a = member_there c.args.inst.now c.args.monitor c.args.event.0 c.requires.monitor c.requires.served
+    c.requires.named in
     (a.0, ap (λ xs. slice_get xs a.0) c.members.ensures ∙ a.1)
 
 pub row_of_event-requires-clause-few : goal.row_of_event-requires-clause-few
-row_of_event-requires-clause-few c = subst (λ xs. length xs ≤ EVENTS) (sym c.members.ensures) (members_few c.args.inst.now c.args.monitor.point c.facts.ensures)
+row_of_event-requires-clause-few c = subst (λ xs. length xs ≤ EVENTS) (sym c.members.ensures)
+    (members_few c.args.inst.now c.args.monitor.point c.facts.ensures)

@@ -4,4 +4,5 @@ use Rattle.khe_base.specs.declared.numbers.MonitorId.{MonitorId}
 use Rattle.monitor_graph.proofs.groups.first_of.Given as goal
 
 abbrev pub invariant-loop-place : goal.invariant-loop-place
-invariant-loop-place l = (k : ℕ) (d : MonitorId) → k < l.place → ((slice_index_or l.children k d).0 == l.child.0) ≡ false
+invariant-loop-place l = (k : ℕ) (d : MonitorId) → k < l.place
+    → ((slice_index_or l.children k d).0 == l.child.0) ≡ false

@@ -17,10 +17,14 @@ loop-place-preserved c =
     let hard = c.hard_of-hard.ensures in
     let soft = c.soft_of-soft.ensures in
     record {
-      hard = (λ j. i.hard j + (hard.value ∙ sym (at_line hard_cost lines (get_or c.args.children.now k first).0 _ known)) j)
-          ∙ sym (sum_by_more (λ (x : MonitorId). option_map_or hard_cost (slice_get lines x.0) 0) c.args.children.now k first l);
-      soft = (λ j. i.soft j + (soft.value ∙ sym (at_line soft_cost lines (get_or c.args.children.now k first).0 _ known)) j)
-          ∙ sym (sum_by_more (λ (x : MonitorId). option_map_or soft_cost (slice_get lines x.0) 0) c.args.children.now k first l);
+      hard = (λ j. i.hard j + (hard.value ∙ sym (at_line hard_cost lines (get_or c.args.children.now k first).0 _
+          known)) j)
+          ∙ sym (sum_by_more (λ (x : MonitorId). option_map_or hard_cost (slice_get lines x.0) 0) c.args.children.now k
+          first l);
+      soft = (λ j. i.soft j + (soft.value ∙ sym (at_line soft_cost lines (get_or c.args.children.now k first).0 _
+          known)) j)
+          ∙ sym (sum_by_more (λ (x : MonitorId). option_map_or soft_cost (slice_get lines x.0) 0) c.args.children.now k
+          first l);
       hard_small = omega (arith, i, hard);
       soft_small = omega (arith, i, soft);
     }

@@ -6,4 +6,5 @@ use Rattle.monitor_graph.proofs.listing.detached_of.Given as goal
 
 abbrev pub invariant-loop-place : goal.invariant-loop-place
 invariant-loop-place l =
-    l.detached ++ detached_from l.place (map (λ (x : Line). x.attached) (drop l.place l.lines)) ≡ detached_from 0 (map (λ (x : Line). x.attached) l.lines)
+    l.detached ++ detached_from l.place (map (λ (x : Line). x.attached) (drop l.place l.lines))
+    ≡ detached_from 0 (map (λ (x : Line). x.attached) l.lines)

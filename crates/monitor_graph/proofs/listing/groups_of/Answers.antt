@@ -6,4 +6,5 @@ use Rattle.monitor_graph.proofs.listing.groups_of.Goals as goal
 pub loop-number-preserved : goal.loop-number-preserved
 loop-number-preserved c =
     let many = c.facts.ensures.valid.numbers in
-    groups_next _ _ _ c.loop-number.number c.args.groups.now.groups (omega (arith, many, c.loop-number-test.true)) c.in_ok-add_group.ensures c.loop-number.invariant
+    groups_next _ _ _ c.loop-number.number c.args.groups.now.groups (omega (arith, many, c.loop-number-test.true))
+    c.in_ok-add_group.ensures c.loop-number.invariant

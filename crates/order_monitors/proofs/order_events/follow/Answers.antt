@@ -33,10 +33,13 @@ returns-then-is_empty c =
     let list = c.index-lists-event.result in
     let event = c.event-event.result.0 in
     let own = ap (λ e. e.0) (c.event-event.ensures ∙ ap (λ n. (slot_at s n).event) c.meet.ensures) in
-    let l : event < length lists = let a = fits_event p s c.args.change c.requires.fits in let r = c.requires.rows in omega (arith, own, a, r) in
+    let l : event < length lists = let a = fits_event p s c.args.change c.requires.fits in let r = c.requires.rows in
+    omega (arith, own, a, r) in
     let none = nil_from_length list (eqb-true (length list) 0 (sym c.is_empty.ensures ∙ c.if-is_empty.true)) in
-    let here = get_or_from_slice_get lists event list [] (slice_get-get_or lists event list l ∙ ap Some (sym c.index-lists-event.is)) in
-    edges_kept p s c.args.change c.facts.ensures c.requires.fits lists c.args.edges.now.items (ap (λ n. get_or lists n []) (sym own) ∙ here ∙ none) c.requires.of
+    let here = get_or_from_slice_get lists event list []
+    (slice_get-get_or lists event list l ∙ ap Some (sym c.index-lists-event.is)) in
+    edges_kept p s c.args.change c.facts.ensures c.requires.fits lists c.args.edges.now.items
+    (ap (λ n. get_or lists n []) (sym own) ∙ here ∙ none) c.requires.of
 
 pub turn-requires-clause-of : goal.turn-requires-clause-of
 turn-requires-clause-of c =
@@ -51,10 +54,13 @@ turn-requires-clause-of c =
     let a = fits_event p s c.args.change c.requires.fits in
     let l : event < length lists = let r = c.requires.rows in omega (arith, own, a, r) in
     let m : event < length edges = let r = c.requires.of.rows in omega (arith, own, a, r) in
-    let here = get_or_from_slice_get lists event list [] (slice_get-get_or lists event list l ∙ ap Some (sym c.index-lists-event.is)) in
+    let here = get_or_from_slice_get lists event list []
+    (slice_get-get_or lists event list l ∙ ap Some (sym c.index-lists-event.is)) in
     let some : IsWatched lists e = λ none.
-    true≢false (sym (eq-eqb (length list) 0 (ap length (sym here ∙ ap (λ n. get_or lists n []) own ∙ none))) ∙ sym c.is_empty.ensures ∙ c.if-is_empty.false) in
-    c.requires.of.each e c.index_mut.result.now (ap (slice_get edges) (sym own) ∙ slice_get-get_or edges event c.index_mut.result.now m ∙ ap Some (sym c.index_mut.ensures.value)) some
+    true≢false (sym (eq-eqb (length list) 0 (ap length (sym here ∙ ap (λ n. get_or lists n []) own ∙ none)))
+    ∙ sym c.is_empty.ensures ∙ c.if-is_empty.false) in
+    c.requires.of.each e c.index_mut.result.now (ap (slice_get edges) (sym own)
+    ∙ slice_get-get_or edges event c.index_mut.result.now m ∙ ap Some (sym c.index_mut.ensures.value)) some
 
 pub returns : goal.returns
 returns c =
@@ -64,6 +70,8 @@ returns c =
     let edges = c.args.edges.now.items in
     let e = (slot_at s (meet_of k)).event.0 in
     let own = ap (λ e. e.0) (c.event-event.ensures ∙ ap (λ n. (slot_at s n).event) c.meet.ensures) in
-    let l : e < length edges = let a = fits_event p s k c.requires.fits in let r = c.requires.of.rows in omega (arith, a, r) in
+    let l : e < length edges = let a = fits_event p s k c.requires.fits in let r = c.requires.of.rows in
+    omega (arith, a, r) in
     subst (λ n. AreEdges p c.args.lists.now (after s k) (slice_set edges n c.turn.new.edges)) (sym own)
-    (edges_turned p s k c.facts.ensures c.requires.fits c.args.lists.now edges c.turn.new.edges l c.turn.ensures c.requires.of)
+    (edges_turned p s k c.facts.ensures c.requires.fits c.args.lists.now edges c.turn.new.edges l c.turn.ensures
+    c.requires.of)

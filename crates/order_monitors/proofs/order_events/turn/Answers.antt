@@ -20,7 +20,8 @@ overflow_sub-meet c =
     let p = c.args.inst.now in
     let s = c.args.told.now in
     let own = ap (λ e. e.0) (c.event.ensures ∙ ap (λ n. (slot_at s n).event) c.meet-meet.ensures) in
-    let t = (is_turn p s c.args.change c.facts.ensures c.requires.fits c.event-2.result.now (ap (slice_get p.events) (sym own) ∙ c.event-2.ensures)).from in
+    let t = (is_turn p s c.args.change c.facts.ensures c.requires.fits c.event-2.result.now
+    (ap (slice_get p.events) (sym own) ∙ c.event-2.ensures)).from in
     let m = c.meet-meet.ensures in
     omega (arith, t, m)
 
@@ -29,9 +30,11 @@ set-requires-clause-start c =
     let p = c.args.inst.now in
     let s = c.args.told.now in
     let own = ap (λ e. e.0) (c.event.ensures ∙ ap (λ n. (slot_at s n).event) c.meet-meet.ensures) in
-    let t = (is_turn p s c.args.change c.facts.ensures c.requires.fits c.event-2.result.now (ap (slice_get p.events) (sym own) ∙ c.event-2.ensures)).within in
+    let t = (is_turn p s c.args.change c.facts.ensures c.requires.fits c.event-2.result.now
+    (ap (slice_get p.events) (sym own) ∙ c.event-2.ensures)).within in
     let m = c.meet-meet.ensures in
-    let l = ap length c.requires.of.starts ∙ length-map (own_slots (slot_at s (meet_of c.args.change)).event.0 s) (λ (x : Slot). start_key x.span) in
+    let l = ap length c.requires.of.starts ∙ length-map (own_slots (slot_at s (meet_of c.args.change)).event.0 s)
+    (λ (x : Slot). start_key x.span) in
     omega (arith, t, m, l)
 
 pub set-requires-clause-end : goal.set-requires-clause-end
@@ -39,9 +42,11 @@ set-requires-clause-end c =
     let p = c.args.inst.now in
     let s = c.args.told.now in
     let own = ap (λ e. e.0) (c.event.ensures ∙ ap (λ n. (slot_at s n).event) c.meet-meet.ensures) in
-    let t = (is_turn p s c.args.change c.facts.ensures c.requires.fits c.event-2.result.now (ap (slice_get p.events) (sym own) ∙ c.event-2.ensures)).within in
+    let t = (is_turn p s c.args.change c.facts.ensures c.requires.fits c.event-2.result.now
+    (ap (slice_get p.events) (sym own) ∙ c.event-2.ensures)).within in
     let m = c.meet-meet.ensures in
-    let l = ap length c.requires.of.ends ∙ length-map (own_slots (slot_at s (meet_of c.args.change)).event.0 s) (λ (x : Slot). end_key x.span) in
+    let l = ap length c.requires.of.ends ∙ length-map (own_slots (slot_at s (meet_of c.args.change)).event.0 s)
+    (λ (x : Slot). end_key x.span) in
     omega (arith, t, m, l)
 
 pub set-requires-clause-short : goal.set-requires-clause-short
@@ -50,8 +55,11 @@ set-requires-clause-short c =
     let s = c.args.told.now in
     let k = c.args.change in
     let own = ap (λ e. e.0) (c.event.ensures ∙ ap (λ n. (slot_at s n).event) c.meet-meet.ensures) in
-    let spans : c.span_after-span.result ≡ span_after (slot_at s (meet_of k)).span k = c.span_after-span.ensures ∙ ap (λ y. span_after y k) (c.span.ensures ∙ ap (λ n. (slot_at s n).span) c.meet-meet.ensures) in
-    subst IsShort (sym spans) (is_turn p s k c.facts.ensures c.requires.fits c.event-2.result.now (ap (slice_get p.events) (sym own) ∙ c.event-2.ensures)).short
+    let spans : c.span_after-span.result ≡ span_after (slot_at s (meet_of k)).span k =
+    c.span_after-span.ensures ∙ ap (λ y. span_after y k)
+    (c.span.ensures ∙ ap (λ n. (slot_at s n).span) c.meet-meet.ensures) in
+    subst IsShort (sym spans) (is_turn p s k c.facts.ensures c.requires.fits c.event-2.result.now
+    (ap (slice_get p.events) (sym own) ∙ c.event-2.ensures)).short
 
 pub returns : goal.returns
 returns c =
@@ -59,8 +67,12 @@ returns c =
     let s = c.args.told.now in
     let k = c.args.change in
     let own = ap (λ e. e.0) (c.event.ensures ∙ ap (λ n. (slot_at s n).event) c.meet-meet.ensures) in
-    let spans : c.span_after-span.result ≡ span_after (slot_at s (meet_of k)).span k = c.span_after-span.ensures ∙ ap (λ y. span_after y k) (c.span.ensures ∙ ap (λ n. (slot_at s n).span) c.meet-meet.ensures) in
+    let spans : c.span_after-span.result ≡ span_after (slot_at s (meet_of k)).span k =
+    c.span_after-span.ensures ∙ ap (λ y. span_after y k)
+    (c.span.ensures ∙ ap (λ n. (slot_at s n).span) c.meet-meet.ensures) in
     let first = c.event-2.result.now.first_meet in
-    turned p s k c.facts.ensures c.requires.fits c.event-2.result.now c.args.edges.now c.set.new.self (ap (slice_get p.events) (sym own) ∙ c.event-2.ensures) c.requires.of
-    (c.set.ensures.starts ∙ (λ i. slice_set c.args.edges.now.starts (c.meet-meet.ensures i - first) (start_key (spans i))))
+    turned p s k c.facts.ensures c.requires.fits c.event-2.result.now c.args.edges.now c.set.new.self
+    (ap (slice_get p.events) (sym own) ∙ c.event-2.ensures) c.requires.of
+    (c.set.ensures.starts ∙ (λ i. slice_set c.args.edges.now.starts (c.meet-meet.ensures i - first)
+    (start_key (spans i))))
     (c.set.ensures.ends ∙ (λ i. slice_set c.args.edges.now.ends (c.meet-meet.ensures i - first) (end_key (spans i))))

@@ -18,6 +18,10 @@ returns-clause-value c =
     let w1 = within.1 in
     let l0 : q.first.0 < length edges = omega (arith, r, w0) in
     let l1 : q.second.0 < length edges = omega (arith, r, w1) in
-    let a = get_or_from_slice_get edges q.first.0 c.index-edges-pair.result no_edges (slice_get-get_or edges q.first.0 c.index-edges-pair.result l0 ∙ ap Some (sym c.index-edges-pair.is)) in
-    let b = get_or_from_slice_get edges q.second.0 c.index-edges-pair-2.result no_edges (slice_get-get_or edges q.second.0 c.index-edges-pair-2.result l1 ∙ ap Some (sym c.index-edges-pair-2.is)) in
-    c.gap.ensures.value ∙ sym ((λ i. gap (a i) (b i) q)) ∙ sym (ap (λ o. option_map_or (λ (q : EventPair). gap (get_or edges q.first.0 no_edges) (get_or edges q.second.0 no_edges) q) o 0) at)
+    let a = get_or_from_slice_get edges q.first.0 c.index-edges-pair.result no_edges
+    (slice_get-get_or edges q.first.0 c.index-edges-pair.result l0 ∙ ap Some (sym c.index-edges-pair.is)) in
+    let b = get_or_from_slice_get edges q.second.0 c.index-edges-pair-2.result no_edges
+    (slice_get-get_or edges q.second.0 c.index-edges-pair-2.result l1 ∙ ap Some (sym c.index-edges-pair-2.is)) in
+    c.gap.ensures.value ∙ sym ((λ i. gap (a i) (b i) q))
+    ∙ sym (ap (λ o. option_map_or (λ (q : EventPair). gap (get_or edges q.first.0 no_edges)
+    (get_or edges q.second.0 no_edges) q) o 0) at)

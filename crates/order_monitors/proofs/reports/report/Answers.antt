@@ -10,14 +10,17 @@ use Rattle.khe_instance.proofs.MadeLemmas.{monitor_made}
 pub loop-place-init : goal.loop-place-init
 loop-place-init g c =
     record {
-      reported = subst (λ xs. AreReported c.args.inst.now c.args.posts.now c.args.event.0 c.args.edges.now (g.Y.Tally.deviations c.args.tally.now) (g.Y.Tally.deviations c.args.tally.now) xs) (sym c.requires.list)
-          (reported_start c.args.inst.now c.args.posts.now c.requires.posts c.args.event.0 c.args.edges.now (g.Y.Tally.deviations c.args.tally.now));
+      reported = subst (λ xs. AreReported c.args.inst.now c.args.posts.now c.args.event.0 c.args.edges.now
+          (g.Y.Tally.deviations c.args.tally.now) (g.Y.Tally.deviations c.args.tally.now) xs) (sym c.requires.list)
+          (reported_start c.args.inst.now c.args.posts.now c.requires.posts c.args.event.0 c.args.edges.now
+          (g.Y.Tally.deviations c.args.tally.now));
       same_rest = g.met.Y.Tally.same_rest_refl c.args.tally.now;
       steps = omega arith;
     }
 
 pub bounds-posts-place : goal.bounds-posts-place
-bounds-posts-place g c = spot_within c.args.inst.now c.args.posts.now c.args.event.0 c.args.list.now c.loop-place.place-index no_post c.requires.list c.loop-place-test.true
+bounds-posts-place g c = spot_within c.args.inst.now c.args.posts.now c.args.event.0 c.args.list.now
+    c.loop-place.place-index no_post c.requires.list c.loop-place-test.true
 
 pub value-deviation-requires-clause-monitor : goal.value-deviation-requires-clause-monitor
 value-deviation-requires-clause-monitor g c =
@@ -25,7 +28,8 @@ value-deviation-requires-clause-monitor g c =
     let posts = c.args.posts.now in
     let k = get_or c.args.list.now c.loop-place.place-index 0 in
     let a : Post = get_or posts k no_post in
-    let at = spot_post p posts c.args.event.0 c.args.list.now c.loop-place.place-index no_post c.requires.list c.loop-place-test.true in
+    let at = spot_post p posts c.args.event.0 c.args.list.now c.loop-place.place-index no_post c.requires.list
+    c.loop-place-test.true in
     monitor_made p c.facts.ensures a.number.0 a.monitor (c.requires.posts.each k a at).there
 
 pub set-requires-clause-known : goal.set-requires-clause-known
@@ -34,7 +38,8 @@ set-requires-clause-known g c =
     let posts = c.args.posts.now in
     let k = get_or c.args.list.now c.loop-place.place-index 0 in
     let a : Post = get_or posts k no_post in
-    let at = spot_post p posts c.args.event.0 c.args.list.now c.loop-place.place-index no_post c.requires.list c.loop-place-test.true in
+    let at = spot_post p posts c.args.event.0 c.args.list.now c.loop-place.place-index no_post c.requires.list
+    c.loop-place-test.true in
     let l = slice_get_within p.monitors _ _ (c.requires.posts.each k a at).there in
     let n = c.loop-place.invariant.reported.amount in
     let m = c.requires.monitors in
@@ -55,11 +60,15 @@ loop-place-preserved g c =
     let u = c.loop-place.invariant.reported in
     let old = g.Y.Tally.deviations c.args.tally.now in
     let now = g.Y.Tally.deviations c.loop-place.tally in
-    let known : a.number.0 < length now = let x = slice_get_within p.monitors _ _ (c.requires.posts.each k a at).there in let n = u.amount in let m = c.requires.monitors in omega (arith, x, n, m) in
-    let stepped = reported_step p posts c.requires.posts e c.args.edges.now old k c.value-deviation.result a now (drop (i + 1) list) at (spot_named p posts e list i no_post is l) known c.value-deviation.ensures.value
+    let known : a.number.0 < length now = let x =
+    slice_get_within p.monitors _ _ (c.requires.posts.each k a at).there in let n = u.amount in let m =
+    c.requires.monitors in omega (arith, x, n, m) in
+    let stepped = reported_step p posts c.requires.posts e c.args.edges.now old k c.value-deviation.result a now
+    (drop (i + 1) list) at (spot_named p posts e list i no_post is l) known c.value-deviation.ensures.value
     (subst (λ xs. AreReported p posts e c.args.edges.now old now xs) (spot_drop p posts e list i no_post is l) u) in
     record {
-      reported = subst (λ ds. AreReported p posts e c.args.edges.now old ds (drop (i + 1) list)) (sym c.set.ensures.set) stepped;
+      reported = subst (λ ds. AreReported p posts e c.args.edges.now old ds (drop (i + 1) list)) (sym c.set.ensures.set)
+          stepped;
       same_rest = g.met.Y.Tally.same_rest_trans _ _ _ c.loop-place.invariant.same_rest c.set.ensures.rest;
       steps = let x = c.set.ensures.steps in let y = c.loop-place.invariant.steps in omega (arith, x, y);
     }

@@ -13,7 +13,8 @@ use Rattle.plain_eval.proofs.costing.costs_of.Goals as goal
 
 pub cost_at-cost-requires-clause-monitor : goal.cost_at-cost-requires-clause-monitor
 cost_at-cost-requires-clause-monitor c =
-    all-there (IsMonitor c.args.inst.now) c.args.inst.now.monitors c.loop-number.number c.monitor-monitor.result c.facts.ensures.monitors.each c.monitor-monitor.ensures
+    all-there (IsMonitor c.args.inst.now) c.args.inst.now.monitors c.loop-number.number c.monitor-monitor.result
+    c.facts.ensures.monitors.each c.monitor-monitor.ensures
 
 pub loop-number-preserved : goal.loop-number-preserved
 loop-number-preserved c =
@@ -26,9 +27,13 @@ loop-number-preserved c =
     let is : cost ≡ cost_at p detached ds i =
     c.cost_at-cost.ensures.exact
     ∙ ap (λ b. monitor_cost p b m (get_or ds i 0)) (c.has.ensures.below ∙ c.in_ok-detached.ensures i)
-    ∙ sym (ap (λ o. option_map_or (λ (x : Monitor). monitor_cost p (detached i) x (get_or ds i 0)) o 0) c.monitor-monitor.ensures) in
+    ∙ sym (ap (λ o. option_map_or (λ (x : Monitor). monitor_cost p (detached i) x (get_or ds i 0)) o 0)
+    c.monitor-monitor.ensures) in
     record {
-      costs = c.in_ok-push.ensures.ok ∙ (λ j. c.loop-number.invariant.costs j ++ is j ∷ []) ∙ sym (map-range_with_len_more (cost_at p detached ds) 0 i i (zero-add i));
-      small = All-same (λ x. x ≤ GREATEST_COST) c.push.new.self (c.loop-number.costs ++ cost ∷ []) c.in_ok-push.ensures.ok
-          (All-push (λ x. x ≤ GREATEST_COST) c.loop-number.costs cost c.loop-number.invariant.small c.cost_at-cost.ensures.small);
+      costs = c.in_ok-push.ensures.ok ∙ (λ j. c.loop-number.invariant.costs j ++ is j ∷ [])
+          ∙ sym (map-range_with_len_more (cost_at p detached ds) 0 i i (zero-add i));
+      small = All-same (λ x. x ≤ GREATEST_COST) c.push.new.self (c.loop-number.costs ++ cost ∷ [])
+          c.in_ok-push.ensures.ok
+          (All-push (λ x. x ≤ GREATEST_COST) c.loop-number.costs cost c.loop-number.invariant.small
+          c.cost_at-cost.ensures.small);
     }

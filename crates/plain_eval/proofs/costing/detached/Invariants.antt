@@ -8,5 +8,6 @@ use Rattle.plain_eval.proofs.costing.detached.Given as goal
 abbrev pub invariant-loop-monitor : goal.invariant-loop-monitor
 invariant-loop-monitor l = record {
   size : length l.detached ≡ length l.fn.inst.monitors;
-  members : (m : ℕ) → (has_member l.detached m || list_any (λ d. d.0 == m) (drop l.monitor-index l.fn.plain.detached)) ≡ is_detached l.fn.plain m;
+  members : (m : ℕ) → (has_member l.detached m || list_any (λ d. d.0 == m) (drop l.monitor-index l.fn.plain.detached))
+      ≡ is_detached l.fn.plain m;
 }

@@ -1,5 +1,6 @@
 -- At each turn one cost joins the totals.
-use Rattle.std.proofs.Common.{ℕ, ◌≡◌, ◌≤◌, ◌+◌, ◌*◌, ◌∙◌, Bool, true, false, sym, ap, arith, get_or, slice_index, if◌then◌else◌}
+use Rattle.std.proofs.Common.{ℕ, ◌≡◌, ◌≤◌, ◌+◌, ◌*◌, ◌∙◌, Bool, true, false, sym, ap, arith, get_or, slice_index}
+use Rattle.std.proofs.Common.{if◌then◌else◌}
 use Rattle.std.specs.Option.{option_map_or}
 use Rattle.khe_base.proofs.ListLemmas.{all-there}
 use Rattle.khe_base.specs.declared.limits.TheConstants.{GREATEST_COST}
@@ -18,7 +19,8 @@ other_part false n = omega arith
 
 pub is_hard-requires : goal.is_hard-requires
 is_hard-requires c =
-    all-there (IsMonitor c.args.inst.now) c.args.inst.now.monitors c.loop-number.number c.monitor-monitor.result c.facts.ensures.monitors.each c.monitor-monitor.ensures
+    all-there (IsMonitor c.args.inst.now) c.args.inst.now.monitors c.loop-number.number c.monitor-monitor.result
+    c.facts.ensures.monitors.each c.monitor-monitor.ensures
 
 pub loop-number-preserved : goal.loop-number-preserved
 loop-number-preserved c =
@@ -26,7 +28,8 @@ loop-number-preserved c =
     let costs = c.args.costs.now in
     let i = c.loop-number.number in
     let cost = get_or costs i 0 in
-    let hard : c.is_hard.result ≡ is_hard_at p i = c.is_hard.ensures ∙ sym (ap (λ o. option_map_or (is_hard p) o false) c.monitor-monitor.ensures) in
+    let hard : c.is_hard.result ≡ is_hard_at p i =
+    c.is_hard.ensures ∙ sym (ap (λ o. option_map_or (is_hard p) o false) c.monitor-monitor.ensures) in
     let few : cost ≤ GREATEST_COST = c.requires.small i 0 c.loop-number-test.true in
     let a = part c.is_hard.result cost in
     let b = other_part c.is_hard.result cost in

@@ -7,8 +7,10 @@ use Rattle.plain_eval.proofs.costing.totals_of.Given as goal
 
 abbrev pub invariant-loop-number : goal.invariant-loop-number
 invariant-loop-number l = record {
-  hard : l.totals.hard ≡ sum_by (λ n. if is_hard_at l.inst n then slice_index l.costs n else 0) (range_with_len 0 l.number);
-  soft : l.totals.soft ≡ sum_by (λ n. if is_hard_at l.inst n then 0 else slice_index l.costs n) (range_with_len 0 l.number);
+  hard : l.totals.hard ≡ sum_by (λ n. if is_hard_at l.inst n then slice_index l.costs n else 0)
+      (range_with_len 0 l.number);
+  soft : l.totals.soft ≡ sum_by (λ n. if is_hard_at l.inst n then 0 else slice_index l.costs n)
+      (range_with_len 0 l.number);
   small_hard : l.totals.hard ≤ l.number * GREATEST_COST;
   small_soft : l.totals.soft ≤ l.number * GREATEST_COST;
 }

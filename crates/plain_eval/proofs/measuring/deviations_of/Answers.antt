@@ -11,8 +11,11 @@ returns-clause-exact c =
     let p = c.args.inst.now in
     let s = c.args.plain.now in
     let events = c.in_ok-events.events in
-    let meets : events.meets ≡ s.meets = ap (λ (st : State). st.meets) c.in_ok-events.ensures ∙ c.as_slice-meets.ensures in
+    let meets : events.meets ≡ s.meets = ap (λ (st : State). st.meets) c.in_ok-events.ensures
+    ∙ c.as_slice-meets.ensures in
     let own : events.duties ≡ duties s.meets s.tasks =
-    ap (λ (st : State). st.duties) c.in_ok-events.ensures ∙ c.as_slice-duties.ensures ∙ c.in_ok-owned.ensures ∙ (λ j. duties (c.as_slice-meets.ensures j) (c.as_slice-tasks.ensures j)) in
-    let is : deviations_by p events.meets events.duties ≡ evaluated.deviations p s = λ j. deviations_by p (meets j) (own j) in
+    ap (λ (st : State). st.duties) c.in_ok-events.ensures ∙ c.as_slice-duties.ensures ∙ c.in_ok-owned.ensures
+    ∙ (λ j. duties (c.as_slice-meets.ensures j) (c.as_slice-tasks.ensures j)) in
+    let is : deviations_by p events.meets events.duties ≡ evaluated.deviations p s =
+    λ j. deviations_by p (meets j) (own j) in
     subst (λ (xs : List ℕ). IfOk c.listed.result (λ ds. ds ≡ xs)) is c.listed.ensures.exact

@@ -9,7 +9,8 @@ use Rattle.plain_eval.proofs.measuring.listed.Goals as goal
 
 pub deviation_of-requires-clause-monitor : goal.deviation_of-requires-clause-monitor
 deviation_of-requires-clause-monitor c =
-    all-there (IsMonitor c.args.inst.now) c.args.inst.now.monitors c.loop-number.number c.monitor-monitor.result c.facts.ensures.monitors.each c.monitor-monitor.ensures
+    all-there (IsMonitor c.args.inst.now) c.args.inst.now.monitors c.loop-number.number c.monitor-monitor.result
+    c.facts.ensures.monitors.each c.monitor-monitor.ensures
 
 pub loop-number-preserved : goal.loop-number-preserved
 loop-number-preserved c =
@@ -27,6 +28,7 @@ loop-number-preserved c =
           ∙ ap (λ xs. c.loop-number.deviations ++ map f xs) (sym (drop-there ms i m c.monitor-monitor.ensures))
           ∙ c.loop-number.invariant.deviations;
       small = All-same (λ x. x ≤ GREATEST_DEVIATION) c.push.new.self (c.loop-number.deviations ++ d ∷ []) pushed
-          (All-push (λ x. x ≤ GREATEST_DEVIATION) c.loop-number.deviations d c.loop-number.invariant.small c.deviation_of.ensures.bound);
+          (All-push (λ x. x ≤ GREATEST_DEVIATION) c.loop-number.deviations d c.loop-number.invariant.small
+          c.deviation_of.ensures.bound);
       room = c.deviation_of.ensures.event_room ∙ c.loop-number.invariant.room;
     }

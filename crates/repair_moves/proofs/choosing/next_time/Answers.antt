@@ -10,10 +10,13 @@ use Rattle.repair_moves.proofs.SlotLaws.{live_long}
 use Rattle.repair_moves.proofs.choosing.next_time.Goals as goal
 
 pub returns-in_err-own-clause-next : goal.returns-in_err-own-clause-next
-returns-in_err-own-clause-next c = rw c.from_residual.ensures (λ k a b. laws.time_dead c.args.inst.now c.args.solution.now.slots c.args.point c.args.item k c.in_err-own.ensures)
+returns-in_err-own-clause-next c = rw c.from_residual.ensures
+    (λ k a b. laws.time_dead c.args.inst.now c.args.solution.now.slots c.args.point c.args.item k c.in_err-own.ensures)
 
 pub returns-then-is_fixed_event-clause-next : goal.returns-then-is_fixed_event-clause-next
-returns-then-is_fixed_event-clause-next c = λ k a b. laws.time_fixed c.args.inst.now c.args.solution.now.slots c.args.point c.args.item k (ap (λ (e : EventId). is_fixed_event c.args.inst.now e.0) c.in_ok-own.ensures.event ∙ sym c.is_fixed_event.ensures ∙ c.if-is_fixed_event.true)
+returns-then-is_fixed_event-clause-next c = λ k a b. laws.time_fixed c.args.inst.now c.args.solution.now.slots
+    c.args.point c.args.item k (ap (λ (e : EventId). is_fixed_event c.args.inst.now e.0) c.in_ok-own.ensures.event
+    ∙ sym c.is_fixed_event.ensures ∙ c.if-is_fixed_event.true)
 
 pub returns-then-is_elsewhere-clause-next : goal.returns-then-is_elsewhere-clause-next
 returns-then-is_elsewhere-clause-next c =
@@ -28,7 +31,8 @@ returns-then-is_elsewhere-clause-next c =
       within,
       laws.time_move_may c.args.inst.now c.args.solution.now.slots c.args.point c.args.item t (record {
         live = shows.live;
-        free = (ap (λ (e : EventId). is_fixed_event c.args.inst.now e.0) c.in_ok-own.ensures.event ∙ sym c.is_fixed_event.ensures ∙ c.if-is_fixed_event.false);
+        free = (ap (λ (e : EventId). is_fixed_event c.args.inst.now e.0) c.in_ok-own.ensures.event
+            ∙ sym c.is_fixed_event.ensures ∙ c.if-is_fixed_event.false);
         within = within;
         other = ap (is_time t) shows.start ∙ c.is_elsewhere.ensures ∙ ap not c.if-is_elsewhere.true;
         ends = omega arith;
@@ -39,11 +43,17 @@ returns-then-is_elsewhere-clause-next c =
 pub loop-time-preserved : goal.loop-time-preserved
 loop-time-preserved c = record {
   onward = let o = c.loop-time.invariant.onward in omega (arith, o);
-  none = none_more (is_choice c.args.inst.now c.args.solution.now.slots c.args.point TimeMoves c.args.item) c.args.from c.loop-time.time c.loop-time.invariant.none
-      (laws.time_start c.args.inst.now c.args.solution.now.slots c.args.point c.args.item c.loop-time.time (ap (is_time c.loop-time.time) c.in_ok-own.ensures.start ∙ c.is_elsewhere.ensures ∙ ap not c.if-is_elsewhere.false));
+  none = none_more (is_choice c.args.inst.now c.args.solution.now.slots c.args.point TimeMoves c.args.item) c.args.from
+      c.loop-time.time c.loop-time.invariant.none
+      (laws.time_start c.args.inst.now c.args.solution.now.slots c.args.point c.args.item c.loop-time.time
+      (ap (is_time c.loop-time.time) c.in_ok-own.ensures.start ∙ c.is_elsewhere.ensures
+      ∙ ap not c.if-is_elsewhere.false));
 }
 
 pub returns-clause-next : goal.returns-clause-next
 returns-clause-next c =
-    none_on (is_choice c.args.inst.now c.args.solution.now.slots c.args.point TimeMoves c.args.item) c.args.from c.loop-time.time (length c.args.inst.now.times) c.loop-time.invariant.none
-    (λ k a b. laws.time_late c.args.inst.now c.args.solution.now.slots c.args.point c.args.item k (let l = c.loop-time-test.false in let many = c.times.ensures in let d = c.in_ok-own.ensures.duration in omega arith))
+    none_on (is_choice c.args.inst.now c.args.solution.now.slots c.args.point TimeMoves c.args.item) c.args.from
+    c.loop-time.time (length c.args.inst.now.times) c.loop-time.invariant.none
+    (λ k a b. laws.time_late c.args.inst.now c.args.solution.now.slots c.args.point c.args.item k
+    (let l = c.loop-time-test.false in let many = c.times.ensures in let d = c.in_ok-own.ensures.duration in
+    omega arith))

@@ -13,13 +13,15 @@ returns-then-event-events-clause-are c = λ event at.
 
 pub overflow_add-result : goal.overflow_add-result
 overflow_add-result c =
-    let w = event_within 0 c.args.event.0 c.args.inst.now.events c.event-info.result.now c.facts.ensures.first_meets c.event-info.ensures in
+    let w = event_within 0 c.args.event.0 c.args.inst.now.events c.event-info.result.now c.facts.ensures.first_meets
+    c.event-info.ensures in
     let d = c.facts.ensures.limits.duration in
     omega (arith, w, d)
 
 pub returns-clause-within : goal.returns-clause-within
 returns-clause-within c =
-    let w = event_within 0 c.args.event.0 c.args.inst.now.events c.event-info.result.now c.facts.ensures.first_meets c.event-info.ensures in
+    let w = event_within 0 c.args.event.0 c.args.inst.now.events c.event-info.result.now c.facts.ensures.first_meets
+    c.event-info.ensures in
     omega (arith, w)
 
 pub returns-clause-are : goal.returns-clause-are

@@ -5,7 +5,8 @@ use Rattle.repair_moves.proofs.walking.next_move.Given as goal
 abbrev pub invariant-loop-part : goal.invariant-loop-part
 invariant-loop-part l =
     record {
-      ahead : ahead l.inst l.solution.slots l.fn.cursor ≡ left_of_parts l.inst l.solution.slots l.rule l.monitor.point (drop l.part l.parts) l.spot;
+      ahead : ahead l.inst l.solution.slots l.fn.cursor
+          ≡ left_of_parts l.inst l.solution.slots l.rule l.monitor.point (drop l.part l.parts) l.spot;
       small : l.spot.item + 1 < 2 ^ 32;
       same : l.cursor ≡ l.fn.cursor;
     }

@@ -6,4 +6,5 @@ use Rattle.xhstt_shape.specs.declared.records.RawGiven.{RawGiven}
 use Rattle.repair_tests.proofs.worked.are_resources.Given as goal
 
 abbrev pub invariant-loop-given : goal.invariant-loop-given
-invariant-loop-given l = All (λ (given : RawGiven). IsSome (resource_named l.inst given.reference.id)) (take l.given-index l.all)
+invariant-loop-given l = All (λ (given : RawGiven). IsSome (resource_named l.inst given.reference.id))
+    (take l.given-index l.all)

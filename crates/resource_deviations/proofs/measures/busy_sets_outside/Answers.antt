@@ -14,11 +14,13 @@ loop-mask-preserved c =
     let busy : List Bool → Bool = λ m. nat_lt 0 (count m) in
     elim c.if-busy_in-gt0.branch [
       | then-busy_in-gt0 w ↦
-          let holds : busy (get_or masks i mask) ≡ true = ap busy (sym c.mask-item.is) ∙ lt-ltb 0 (count mask) (omega arith) in
+          let holds : busy (get_or masks i mask) ≡ true =
+          ap busy (sym c.mask-item.is) ∙ lt-ltb 0 (count mask) (omega arith) in
           let more = count_by_more_yes busy masks i mask c.loop-mask-test.true holds in
           record { value = omega (arith, more); small = omega arith }
       | else-busy_in-gt0 w ↦
-          let fails : busy (get_or masks i mask) ≡ false = ap busy (sym c.mask-item.is) ∙ le-ltb 0 (count mask) (omega arith) in
+          let fails : busy (get_or masks i mask) ≡ false =
+          ap busy (sym c.mask-item.is) ∙ le-ltb 0 (count mask) (omega arith) in
           let more = count_by_more_no busy masks i mask c.loop-mask-test.true fails in
           record { value = omega (arith, more); small = omega arith }
     ]

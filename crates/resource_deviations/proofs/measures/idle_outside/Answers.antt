@@ -17,6 +17,7 @@ loop-mask-preserved c =
     let long : length mask ≡ length (get_or masks i mask) = ap (λ (m : List Bool). length m) c.mask-item.is in
     let size : length (get_or masks i mask) ≡ length row = c.requires.sizes i mask c.loop-mask-test.true in
     record {
-      value = (λ j. c.loop-mask.invariant.value j + its j) ∙ sym (sum_by_more (idle_times row) masks i mask c.loop-mask-test.true);
+      value = (λ j. c.loop-mask.invariant.value j + its j)
+          ∙ sym (sum_by_more (idle_times row) masks i mask c.loop-mask-test.true);
       small = omega (arith, here, few, long, size, c.requires.times, c.loop-mask.invariant.small);
     }

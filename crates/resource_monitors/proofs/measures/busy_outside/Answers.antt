@@ -9,10 +9,13 @@ pub loop-mask-preserved : goal.loop-mask-preserved
 loop-mask-preserved c =
     let masks = c.args.masks.now in
     let mask = c.mask-item.result in
-    let excess : List Bool → ℕ = λ m. used_outside (busy_times (row_of c.args.table.now c.args.r.0) m) c.args.least c.args.greatest in
-    let here : c.set_outside-total.result ≡ excess mask = c.set_outside-total.ensures.value ∙ ap (λ n. used_outside n c.args.least c.args.greatest) c.busy_in.ensures in
+    let excess : List Bool → ℕ = λ m. used_outside (busy_times (row_of c.args.table.now c.args.r.0) m) c.args.least
+    c.args.greatest in
+    let here : c.set_outside-total.result ≡ excess mask =
+    c.set_outside-total.ensures.value ∙ ap (λ n. used_outside n c.args.least c.args.greatest) c.busy_in.ensures in
     let its = here ∙ ap excess c.mask-item.is in
     record {
-      value = (λ j. c.loop-mask.invariant.value j + its j) ∙ sym (sum_by_more excess masks c.loop-mask.mask-index mask c.loop-mask-test.true);
+      value = (λ j. c.loop-mask.invariant.value j + its j)
+          ∙ sym (sum_by_more excess masks c.loop-mask.mask-index mask c.loop-mask-test.true);
       small = omega arith;
     }

@@ -6,6 +6,7 @@ use Rattle.resource_monitors.proofs.measures.busy_outside.Given as goal
 
 abbrev pub invariant-loop-mask : goal.invariant-loop-mask
 invariant-loop-mask l = record {
-  value : l.total ≡ sum_by (λ m. used_outside (busy_times (row_of l.table l.r.0) m) l.least l.greatest) (take l.mask-index l.masks);
+  value : l.total ≡ sum_by (λ m. used_outside (busy_times (row_of l.table l.r.0) m) l.least l.greatest)
+      (take l.mask-index l.masks);
   small : l.total ≤ l.mask-index * 8589934592;
 }

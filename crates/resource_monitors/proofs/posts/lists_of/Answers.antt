@@ -7,13 +7,17 @@ use Rattle.resource_monitors.proofs.posts.lists_of.Goals as goal
 
 pub add_post-requires : goal.add_post-requires
 add_post-requires g c = λ r e.
-    let a = monitored c.args.inst.now c.monitor-monitor.result r (monitor_made c.args.inst.now c.facts.ensures c.loop-k.k c.monitor-monitor.result c.monitor-monitor.ensures) e in
+    let a = monitored c.args.inst.now c.monitor-monitor.result r
+    (monitor_made c.args.inst.now c.facts.ensures c.loop-k.k c.monitor-monitor.result c.monitor-monitor.ensures)
+    e in
     let b = c.loop-k.invariant.resources_all in
     omega (arith, a, b)
 
 pub loop-k-preserved : goal.loop-k-preserved
 loop-k-preserved g c =
-    lists_more g.K.CellKinds.serves_kind (length c.args.inst.now.resources) c.args.inst.now.monitors c.loop-k.k c.monitor-monitor.result c.loop-k.lists.items c.add_post.new.lists.items
+    lists_more g.K.CellKinds.serves_kind (length c.args.inst.now.resources) c.args.inst.now.monitors c.loop-k.k
+    c.monitor-monitor.result c.loop-k.lists.items c.add_post.new.lists.items
     (slice_get_within c.args.inst.now.monitors c.loop-k.k c.monitor-monitor.result c.monitor-monitor.ensures)
-    (get_or_from_slice_get c.args.inst.now.monitors c.loop-k.k c.monitor-monitor.result c.monitor-monitor.result c.monitor-monitor.ensures)
+    (get_or_from_slice_get c.args.inst.now.monitors c.loop-k.k c.monitor-monitor.result c.monitor-monitor.result
+    c.monitor-monitor.ensures)
     c.loop-k.invariant c.in_ok-add_post.ensures.amount c.in_ok-add_post.ensures.posts

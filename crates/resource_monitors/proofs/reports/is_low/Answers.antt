@@ -5,4 +5,6 @@ use Rattle.resource_monitors.proofs.ReportLaws.{run_step}
 use Rattle.resource_monitors.proofs.reports.is_low.Goals as goal
 
 pub loop-t-preserved : goal.loop-t-preserved
-loop-t-preserved c = run_step (λ t. nat_le (count_at c.args.table.now c.args.r.0 t) c.args.limit) c.loop-t.t c.args.end c.loop-t-test.true (sym (ap (λ n. nat_le n c.args.limit) c.count.ensures) ∙ lt-leb c.count.result c.args.limit c.if-count-limit.false) ∙ c.loop-t.invariant
+loop-t-preserved c = run_step (λ t. nat_le (count_at c.args.table.now c.args.r.0 t) c.args.limit) c.loop-t.t c.args.end
+    c.loop-t-test.true (sym (ap (λ n. nat_le n c.args.limit) c.count.ensures)
+    ∙ lt-leb c.count.result c.args.limit c.if-count-limit.false) ∙ c.loop-t.invariant

@@ -5,4 +5,5 @@ use Rattle.resource_monitors.specs.Cells.{is_low}
 use Rattle.resource_monitors.proofs.reports.is_low.Given as goal
 
 abbrev pub invariant-loop-t : goal.invariant-loop-t
-invariant-loop-t l = list_any (λ t. nat_le (count_at l.table l.r.0 t) l.limit) (range_with_len l.t (l.end - l.t)) ≡ is_low l.table l.start l.end l.limit l.r.0
+invariant-loop-t l = list_any (λ t. nat_le (count_at l.table l.r.0 t) l.limit) (range_with_len l.t (l.end - l.t))
+    ≡ is_low l.table l.start l.end l.limit l.r.0

@@ -5,4 +5,5 @@ use Rattle.khe_instance.specs.declared.rules.Constraint.{Constraint}
 use Rattle.resource_monitors.proofs.reports.lists.Goals as goal
 
 pub returns : goal.returns
-returns c = c.lists_time.ensures ∙ sym (ap (λ o. option_map_or (λ (x : Constraint). lists_time x.rule c.args.time) o false) c.constraint.ensures)
+returns c = c.lists_time.ensures ∙ sym (ap (λ o. option_map_or (λ (x : Constraint). lists_time x.rule c.args.time) o
+    false) c.constraint.ensures)

@@ -12,17 +12,25 @@ use Rattle.resource_monitors.proofs.reports.report.Goals as goal
 use Rattle.khe_instance.proofs.MadeLemmas.{monitor_made}
 
 abbrev no_post : Post
-no_post = record { number = record { 0 = 0 }; monitor = record { kind = kind.AssignTime; constraint = 0; point = point.Event (record { 0 = 0 }) } }
+no_post = record {
+  number = record { 0 = 0 };
+  monitor =
+      record { kind = kind.AssignTime; constraint = 0; point = point.Event (record { 0 = 0 }) };
+}
 
 pub report_one-requires-clause-monitor : goal.report_one-requires-clause-monitor
-report_one-requires-clause-monitor g c = monitor_made c.args.inst.now c.facts.ensures _ _ (c.requires.posts _ _ (slice_get-get_or c.args.list.now c.loop-post.post-index no_post c.loop-post-test.true))
+report_one-requires-clause-monitor g c = monitor_made c.args.inst.now c.facts.ensures _ _
+    (c.requires.posts _ _ (slice_get-get_or c.args.list.now c.loop-post.post-index no_post c.loop-post-test.true))
 
 pub report_one-requires-clause-kind : goal.report_one-requires-clause-kind
-report_one-requires-clause-kind g c = c.requires.kinds _ _ (slice_get-get_or c.args.list.now c.loop-post.post-index no_post c.loop-post-test.true)
+report_one-requires-clause-kind g c = c.requires.kinds _ _
+    (slice_get-get_or c.args.list.now c.loop-post.post-index no_post c.loop-post-test.true)
 
 pub report_one-requires-clause-known : goal.report_one-requires-clause-known
 report_one-requires-clause-known g c =
-    let x = slice_get_within c.args.inst.now.monitors _ _ (c.requires.posts _ _ (slice_get-get_or c.args.list.now c.loop-post.post-index no_post c.loop-post-test.true)) in
+    let x = slice_get_within c.args.inst.now.monitors _ _
+    (c.requires.posts _ _ (slice_get-get_or c.args.list.now c.loop-post.post-index no_post
+    c.loop-post-test.true)) in
     let b = c.loop-post.invariant.reported.amount in
     let d = c.requires.monitors in
     omega (arith, x, b, d)
@@ -38,9 +46,13 @@ loop-post-preserved g c =
     let called : Monitor → Bool = is_due_if p c.args.start c.args.end c.args.low in
     let value : Monitor → ℕ = value_in p c.args.table.now in
     let u = c.loop-post.invariant.reported in
-    let known : a.number.0 < length (g.Y.Tally.deviations c.loop-post.tally) = let x = slice_get_within p.monitors _ _ (c.requires.posts _ _ there) in let b = u.amount in let d = c.requires.monitors in omega (arith, x, b, d) in
+    let known : a.number.0 < length (g.Y.Tally.deviations c.loop-post.tally) = let x =
+    slice_get_within p.monitors _ _ (c.requires.posts _ _ there) in let b = u.amount in let d =
+    c.requires.monitors in omega (arith, x, b, d) in
     record {
-      reported = reported_step p value called list (g.Y.Tally.deviations c.args.tally.now) c.requires.posts i a (g.Y.Tally.deviations c.loop-post.tally) (g.Y.Tally.deviations c.report_one.new.tally) there known c.report_one.ensures.set u;
+      reported = reported_step p value called list (g.Y.Tally.deviations c.args.tally.now) c.requires.posts i a
+          (g.Y.Tally.deviations c.loop-post.tally) (g.Y.Tally.deviations c.report_one.new.tally) there known
+          c.report_one.ensures.set u;
       same_rest = g.met.Y.Tally.same_rest_trans _ _ _ c.loop-post.invariant.same_rest c.report_one.ensures.rest;
       steps =
           let x = c.report_one.ensures.steps in

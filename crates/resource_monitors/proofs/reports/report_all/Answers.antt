@@ -10,7 +10,8 @@ use Rattle.resource_monitors.proofs.ReportLaws.{all_step}
 use Rattle.resource_monitors.proofs.reports.report_all.Goals as goal
 
 pub report_place-requires-clause-resource : goal.report_place-requires-clause-resource
-report_place-requires-clause-resource g c = λ r e. c.requires.resources c.loop-place.place-index r (slice_get-get_or c.args.given.now c.loop-place.place-index None c.loop-place-test.true ∙ ap Some e)
+report_place-requires-clause-resource g c = λ r e. c.requires.resources c.loop-place.place-index r
+    (slice_get-get_or c.args.given.now c.loop-place.place-index None c.loop-place-test.true ∙ ap Some e)
 
 pub loop-place-preserved : goal.loop-place-preserved
 loop-place-preserved g c =
@@ -23,7 +24,9 @@ loop-place-preserved g c =
     let due : Monitor → Bool = is_due p c.args.table.now c.args.start c.args.end c.args.limit in
     let value : Monitor → ℕ = value_in p c.args.table.now in
     record {
-      reported = all_step p value due g.K.CellKinds.serves_kind given (g.Y.Tally.deviations c.args.tally.now) i o (g.Y.Tally.deviations c.loop-place.tally) (g.Y.Tally.deviations c.report_place.new.tally) there c.report_place.ensures.reported c.loop-place.invariant.reported;
+      reported = all_step p value due g.K.CellKinds.serves_kind given (g.Y.Tally.deviations c.args.tally.now) i o
+          (g.Y.Tally.deviations c.loop-place.tally) (g.Y.Tally.deviations c.report_place.new.tally) there
+          c.report_place.ensures.reported c.loop-place.invariant.reported;
       same_rest = g.met.Y.Tally.same_rest_trans _ _ _ c.loop-place.invariant.same_rest c.report_place.ensures.rest;
       steps =
           let x = c.report_place.ensures.steps in

@@ -11,7 +11,8 @@ invariant-loop-line g l =
     let p = l.fn.engine.parts in
     record {
       parts : l.engine.parts ≡ p;
-      amid : IsAmid (g.K.Sink.taken l.fn.out) (g.K.Sink.taken l.out) l.text (answers p (play_of l.engine) (l.number + 1) (lines l.rest)) (script_text p (play_of l.fn.engine) l.script);
+      amid : IsAmid (g.K.Sink.taken l.fn.out) (g.K.Sink.taken l.out) l.text
+          (answers p (play_of l.engine) (l.number + 1) (lines l.rest)) (script_text p (play_of l.fn.engine) l.script);
       read : is_read (lines l.rest) ≡ is_read (lines l.script);
       few : l.number + length l.rest ≤ length l.script;
       counted : g.K.Sink.faults l.fn.out ≤ g.K.Sink.faults l.out;

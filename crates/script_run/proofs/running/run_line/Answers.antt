@@ -12,7 +12,8 @@ use Rattle.script_run.proofs.running.run_line.Goals as goal
 pub returns-in_err-carry_out-in-Ok-clause-front : goal.returns-in_err-carry_out-in-Ok-clause-front
 returns-in_err-carry_out-in-Ok-clause-front g c = λ before more whole h.
     always-err c.from_residual.result
-    (amid-stop before (g.K.Sink.taken c.args.out.now) c.args.text.now (answers c.args.engine.now.parts (play_of c.args.engine.now) c.args.number (c.args.line.now ∷ more)) whole h)
+    (amid-stop before (g.K.Sink.taken c.args.out.now) c.args.text.now
+    (answers c.args.engine.now.parts (play_of c.args.engine.now) c.args.number (c.args.line.now ∷ more)) whole h)
 
 pub returns-in_err-flush_long-in-Ok-clause-front : goal.returns-in_err-flush_long-in-Ok-clause-front
 returns-in_err-flush_long-in-Ok-clause-front g c = λ before more whole h.
@@ -23,7 +24,8 @@ returns-in_err-flush_long-in-Ok-clause-front g c = λ before more whole h.
     let rest = answers p (played p w c.in-Ok.command) (n + 1) more in
     let is : reading c.args.line.now ≡ Ok c.in-Ok.command = sym c.read_line.ensures ∙ c.in-Ok.is in
     let amid =
-    subst (λ r. IsAmid before taken c.args.text.now (by_reading r (λ x. answer p w x ++ answers p (played p w x) (n + 1) more) (fault_line n)) whole) is h in
+    subst (λ r. IsAmid before taken c.args.text.now
+    (by_reading r (λ x. answer p w x ++ answers p (played p w x) (n + 1) more) (fault_line n)) whole) is h in
     let pushed = amid-push before taken c.args.text.now (answer p w c.in-Ok.command) rest whole amid in
     always-err c.from_residual-in_err-flush_long-in-Ok.result
     (amid-cut before taken (g.K.Sink.taken c.flush_long.new.out) c.carry_out.new.text rest whole
@@ -33,9 +35,11 @@ returns-in_err-flush_long-in-Ok-clause-front g c = λ before more whole h.
 pub returns-in_err-fault_line-in-Err-clause-front : goal.returns-in_err-fault_line-in-Err-clause-front
 returns-in_err-fault_line-in-Err-clause-front g c = λ before more whole h.
     always-err c.from_residual-in_err-fault_line-in-Err.result
-    (amid-stop before (g.K.Sink.taken c.args.out.now) c.args.text.now (answers c.args.engine.now.parts (play_of c.args.engine.now) c.args.number (c.args.line.now ∷ more)) whole h)
+    (amid-stop before (g.K.Sink.taken c.args.out.now) c.args.text.now
+    (answers c.args.engine.now.parts (play_of c.args.engine.now) c.args.number (c.args.line.now ∷ more)) whole h)
 
 pub returns-in_err-push_text-in-Err-clause-front : goal.returns-in_err-push_text-in-Err-clause-front
 returns-in_err-push_text-in-Err-clause-front g c = λ before more whole h.
     always-err c.from_residual-in_err-push_text-in-Err.result
-    (amid-stop before (g.K.Sink.taken c.args.out.now) c.args.text.now (answers c.args.engine.now.parts (play_of c.args.engine.now) c.args.number (c.args.line.now ∷ more)) whole h)
+    (amid-stop before (g.K.Sink.taken c.args.out.now) c.args.text.now
+    (answers c.args.engine.now.parts (play_of c.args.engine.now) c.args.number (c.args.line.now ∷ more)) whole h)

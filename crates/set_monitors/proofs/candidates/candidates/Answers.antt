@@ -10,4 +10,5 @@ returns c =
     let p = c.args.inst.now in
     let m = c.args.monitor in
     let types = c.in_ok-types.types in
-    IfOk-weaker c.resources_with.result (AreTyped p types (length p.resources)) (AreCandidates p m) (λ numbers are. are_candidates p m types numbers c.in_ok-types.ensures are) c.resources_with.ensures
+    IfOk-weaker c.resources_with.result (AreTyped p types (length p.resources)) (AreCandidates p m)
+    (λ numbers are. are_candidates p m types numbers c.in_ok-types.ensures are) c.resources_with.ensures

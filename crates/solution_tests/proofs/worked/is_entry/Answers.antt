@@ -10,5 +10,6 @@ returns c = λ e. record {
   event = ap is_some (sym c.event_named.ensures ∙ c.in-Some.is);
   duration = c.is_duration.ensures c.if-not-is_duration.false;
   time = c.is_time.ensures c.if-not-is_time.false;
-  resources = subst (All (λ (given : RawGiven). IsSome (resource_named c.args.inst.now given.reference.id))) c.as_slice.ensures (c.are_resources.ensures e);
+  resources = subst (All (λ (given : RawGiven). IsSome (resource_named c.args.inst.now given.reference.id)))
+      c.as_slice.ensures (c.are_resources.ensures e);
 }

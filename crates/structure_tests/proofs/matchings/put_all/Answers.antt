@@ -6,7 +6,13 @@ use Rattle.structure_tests.proofs.matchings.put_all.Goals as goal
 pub put-requires-clause-time : goal.put-requires-clause-time
 put-requires-clause-time c =
     let below : c.loop-demand.demand < c.args.matching.now.last * c.args.columns = omega (arith, c.requires.last) in
-    omega (arith, c.loop-demand.invariant.last, div_below c.loop-demand.demand c.args.columns c.args.matching.now.last c.requires.columns below)
+    omega (
+      arith,
+      c.loop-demand.invariant.last,
+      div_below c.loop-demand.demand c.args.columns c.args.matching.now.last
+          c.requires.columns below,
+    )
 
 pub loop-demand-preserved : goal.loop-demand-preserved
-loop-demand-preserved c = same_sizes_trans c.args.matching.now c.loop-demand.matching _ c.loop-demand.invariant c.put.ensures
+loop-demand-preserved c = same_sizes_trans c.args.matching.now c.loop-demand.matching _ c.loop-demand.invariant
+    c.put.ensures

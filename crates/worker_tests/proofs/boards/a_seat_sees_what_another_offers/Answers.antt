@@ -16,8 +16,12 @@ offer-requires-clause-job g c =
     let second = c.claim-second in
     let split = c.split-other in
     let jobs : second.new.seat.me.0.jobs ≡ 2 =
-    ap jobs_of second.ensures.view ∙ ap jobs_of split.ensures.new ∙ ap jobs_of first.ensures.view ∙ ap jobs_of c.in_ok-board.ensures.view in
-    (omega (arith, jobs, c.if-second-ne1.false), just_claimed split.result.me.0 second.new.seat.me.0 second.result second.ensures.view)
+    ap jobs_of second.ensures.view ∙ ap jobs_of split.ensures.new ∙ ap jobs_of first.ensures.view
+    ∙ ap jobs_of c.in_ok-board.ensures.view in (
+      omega (arith, jobs, c.if-second-ne1.false),
+      just_claimed split.result.me.0 second.new.seat.me.0 second.result
+          second.ensures.view,
+    )
 
 pub claim-third-requires-clause-below : goal.claim-third-requires-clause-below
 claim-third-requires-clause-below g c =
@@ -27,7 +31,10 @@ claim-third-requires-clause-below g c =
     let old = split.new.seat.me.0 in
     let new = looked.new.seat.me.0 in
     let claims : new.claims ≡ first.result ∷ [] =
-    look_claims looked.result old new looked.ensures.answer ∙ ap claims_of split.ensures.old ∙ ap claims_of first.ensures.view ∙ ap (λ (v : BoardView). v.claims ++ first.result ∷ []) c.in_ok-board.ensures.view in
+    look_claims looked.result old new looked.ensures.answer ∙ ap claims_of split.ensures.old
+    ∙ ap claims_of first.ensures.view ∙ ap (λ (v : BoardView). v.claims ++ first.result ∷ [])
+    c.in_ok-board.ensures.view in
     let jobs : new.jobs ≡ 2 =
-    look_jobs looked.result old new looked.ensures.answer ∙ ap jobs_of split.ensures.old ∙ ap jobs_of first.ensures.view ∙ ap jobs_of c.in_ok-board.ensures.view in
+    look_jobs looked.result old new looked.ensures.answer ∙ ap jobs_of split.ensures.old ∙ ap jobs_of first.ensures.view
+    ∙ ap jobs_of c.in_ok-board.ensures.view in
     one_below new.claims first.result new.jobs claims (omega (arith, jobs, c.if-first-ne0.false))

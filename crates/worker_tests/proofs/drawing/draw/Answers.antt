@@ -10,6 +10,7 @@ claims-preserved c =
     let new = claim.new.seat.me.0 in
     record {
       seat = claim.ensures.seat;
-      drawing = still_drawing c.args.count claim.result old new c.claims.invariant.drawing claim.ensures.view c.if-number-count.false;
+      drawing = still_drawing c.args.count claim.result old new c.claims.invariant.drawing claim.ensures.view
+          c.if-number-count.false;
       budget = claimed_budget claim.result old new claim.ensures.view ∙ c.claims.invariant.budget;
     }

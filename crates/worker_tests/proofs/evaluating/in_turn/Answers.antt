@@ -7,7 +7,8 @@ use Rattle.parallel_solve.proofs.ReadyLemmas.{ready}
 use Rattle.worker_tests.proofs.evaluating.in_turn.Goals as goal
 
 pub loop-number-init : goal.loop-number-init
-loop-number-init g c = c.new-ahead.ensures (numbered_verdict c.args.read.now.resolved) (map (λ (x : Bor RawSolution). x.now) c.in_ok-raws.raws.items)
+loop-number-init g c = c.new-ahead.ensures (numbered_verdict c.args.read.now.resolved)
+    (map (λ (x : Bor RawSolution). x.now) c.in_ok-raws.raws.items)
 
 pub reach-requires-clause-ones : goal.reach-requires-clause-ones
 reach-requires-clause-ones g c κs within =

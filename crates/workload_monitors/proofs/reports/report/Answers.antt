@@ -12,21 +12,32 @@ use Rattle.workload_monitors.proofs.reports.report.Goals as goal
 use Rattle.khe_instance.proofs.MadeLemmas.{monitor_made}
 
 abbrev no_post : Post
-no_post = record { number = record { 0 = 0 }; monitor = record { kind = kind.AssignTime; constraint = 0; point = point.Event (record { 0 = 0 }) } }
+no_post = record {
+  number = record { 0 = 0 };
+  monitor =
+      record { kind = kind.AssignTime; constraint = 0; point = point.Event (record { 0 = 0 }) };
+}
 
 pub value-deviation-requires-clause-monitor : goal.value-deviation-requires-clause-monitor
-value-deviation-requires-clause-monitor g c = monitor_made c.args.inst.now c.facts.ensures _ _ (c.requires.posts _ _ (slice_get-get_or c.args.list.now c.loop-post.post-index no_post c.loop-post-test.true))
+value-deviation-requires-clause-monitor g c =
+    monitor_made c.args.inst.now c.facts.ensures _ _
+    (c.requires.posts _ _ (slice_get-get_or c.args.list.now c.loop-post.post-index no_post c.loop-post-test.true))
 
 pub set-requires-clause-known : goal.set-requires-clause-known
 set-requires-clause-known g c =
-    let x = slice_get_within c.args.inst.now.monitors _ _ (c.requires.posts _ _ (slice_get-get_or c.args.list.now c.loop-post.post-index no_post c.loop-post-test.true)) in
+    let x = slice_get_within c.args.inst.now.monitors _ _
+    (c.requires.posts _ _ (slice_get-get_or c.args.list.now c.loop-post.post-index no_post
+    c.loop-post-test.true)) in
     let b = c.loop-post.invariant.reported.amount in
     let d = c.requires.monitors in
     omega (arith, x, b, d)
 
 pub set-requires-clause-small : goal.set-requires-clause-small
 set-requires-clause-small g c =
-    let l = value_small c.args.inst.now c.facts.ensures c.args.loads.now c.requires.small _ (monitor_made c.args.inst.now c.facts.ensures _ _ (c.requires.posts _ _ (slice_get-get_or c.args.list.now c.loop-post.post-index no_post c.loop-post-test.true))) in
+    let l = value_small c.args.inst.now c.facts.ensures c.args.loads.now c.requires.small _
+    (monitor_made c.args.inst.now c.facts.ensures _ _
+    (c.requires.posts _ _ (slice_get-get_or c.args.list.now c.loop-post.post-index no_post
+    c.loop-post-test.true))) in
     let e = c.value-deviation.ensures in
     omega (arith, l, e)
 
@@ -39,10 +50,14 @@ loop-post-preserved g c =
     let there = slice_get-get_or list i no_post c.loop-post-test.true in
     let value : Monitor → ℕ = value_in p c.args.loads.now in
     let u = c.loop-post.invariant.reported in
-    let known : a.number.0 < length (g.Y.Tally.deviations c.loop-post.tally) = let x = slice_get_within p.monitors _ _ (c.requires.posts _ _ there) in let b = u.amount in let d = c.requires.monitors in omega (arith, x, b, d) in
+    let known : a.number.0 < length (g.Y.Tally.deviations c.loop-post.tally) = let x =
+    slice_get_within p.monitors _ _ (c.requires.posts _ _ there) in let b = u.amount in let d =
+    c.requires.monitors in omega (arith, x, b, d) in
     record {
-      reported = reported_step p value (λ m. true) list (g.Y.Tally.deviations c.args.tally.now) c.requires.posts i a (g.Y.Tally.deviations c.loop-post.tally) (g.Y.Tally.deviations c.set.new.self) there known
-          (c.set.ensures.set ∙ ap (λ n. set (g.Y.Tally.deviations c.loop-post.tally) a.number.0 n) c.value-deviation.ensures) u;
+      reported = reported_step p value (λ m. true) list (g.Y.Tally.deviations c.args.tally.now) c.requires.posts i a
+          (g.Y.Tally.deviations c.loop-post.tally) (g.Y.Tally.deviations c.set.new.self) there known
+          (c.set.ensures.set ∙ ap (λ n. set (g.Y.Tally.deviations c.loop-post.tally) a.number.0 n)
+          c.value-deviation.ensures) u;
       same_rest = g.met.Y.Tally.same_rest_trans _ _ _ c.loop-post.invariant.same_rest c.set.ensures.rest;
       steps =
           let x = c.set.ensures.steps in

@@ -19,7 +19,8 @@ returns-then-is_some c =
     let i = c.loop-number.number in
     let one = c.index-given-number.result in
     let cause : c.given_cause-cause.result ≡ given_cause p event (take i given) one = c.given_cause-cause.ensures in
-    let some : is_some (given_cause p event (take i given) one) ≡ true = ap is_some (sym cause) ∙ sym c.is_some.ensures ∙ c.if-is_some.true in
+    let some : is_some (given_cause p event (take i given) one) ≡ true =
+    ap is_some (sym cause) ∙ sym c.is_some.ensures ∙ c.if-is_some.true in
     cause ∙ sym (option_or-some _ (first_given_cause p event (take i given ++ one ∷ []) (drop (i + 1) given)) some)
     ∙ sym (first_given_cause-drop p event (take i given) given i one c.loop-number-test.true c.index-given-number.is)
     ∙ c.loop-number.invariant
@@ -32,8 +33,10 @@ loop-number-preserved c =
     let i = c.loop-number.number in
     let one = c.index-given-number.result in
     let cause : c.given_cause-cause.result ≡ given_cause p event (take i given) one = c.given_cause-cause.ensures in
-    let none : is_some (given_cause p event (take i given) one) ≡ false = ap is_some (sym cause) ∙ sym c.is_some.ensures ∙ c.if-is_some.false in
-    ap (λ before. first_given_cause p event before (drop (i + 1) given)) (take-next given i one c.loop-number-test.true c.index-given-number.is)
+    let none : is_some (given_cause p event (take i given) one) ≡ false =
+    ap is_some (sym cause) ∙ sym c.is_some.ensures ∙ c.if-is_some.false in
+    ap (λ before. first_given_cause p event before (drop (i + 1) given))
+    (take-next given i one c.loop-number-test.true c.index-given-number.is)
     ∙ sym (option_or-none _ (first_given_cause p event (take i given ++ one ∷ []) (drop (i + 1) given)) none)
     ∙ sym (first_given_cause-drop p event (take i given) given i one c.loop-number-test.true c.index-given-number.is)
     ∙ c.loop-number.invariant

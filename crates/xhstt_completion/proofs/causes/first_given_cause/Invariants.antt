@@ -5,4 +5,5 @@ use Rattle.xhstt_completion.proofs.causes.first_given_cause.Given as goal
 
 abbrev pub invariant-loop-number : goal.invariant-loop-number
 invariant-loop-number l =
-    first_given_cause l.inst l.event (take l.number l.given) (drop l.number l.given) ≡ first_given_cause l.inst l.event [] l.given
+    first_given_cause l.inst l.event (take l.number l.given) (drop l.number l.given)
+    ≡ first_given_cause l.inst l.event [] l.given

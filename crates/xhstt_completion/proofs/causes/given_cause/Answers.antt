@@ -14,7 +14,9 @@ returns c =
     let r = c.resource_of-resource.result in
     let place = c.in-Some.place.now in
     let found : place_for p event given ≡ Some place =
-    ap (λ x. find (is_place_for x (role_of given)) event.places) c.resource_of-resource.ensures.named ∙ sym c.in-Some.ensures
+    ap (λ x. find (is_place_for x (role_of given)) event.places) c.resource_of-resource.ensures.named
+    ∙ sym c.in-Some.ensures
     in
     let fresh : came_before c.args.before.now given ≡ false = sym c.came_before.ensures ∙ c.if-came_before.false in
-    c.place_cause.ensures ∙ sym (given_cause-place p event c.args.before.now given r place c.resource_of-resource.ensures.named found fresh)
+    c.place_cause.ensures ∙ sym (given_cause-place p event c.args.before.now given r place
+    c.resource_of-resource.ensures.named found fresh)

@@ -7,4 +7,5 @@ use Rattle.xhstt_completion.proofs.causes.is_any_given_for.Given as goal
 
 abbrev pub invariant-loop-other : goal.invariant-loop-other
 invariant-loop-other l =
-    list_any (λ other. is_role l.role (role_of other)) (drop l.other-index l.given) ≡ list_any (λ other. is_role l.role (role_of other)) l.given
+    list_any (λ other. is_role l.role (role_of other)) (drop l.other-index l.given)
+    ≡ list_any (λ other. is_role l.role (role_of other)) l.given

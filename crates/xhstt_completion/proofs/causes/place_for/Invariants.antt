@@ -7,4 +7,5 @@ use Rattle.xhstt_completion.proofs.causes.place_for.Given as goal
 
 abbrev pub invariant-loop-place : goal.invariant-loop-place
 invariant-loop-place l =
-    find (is_place_for (Some l.resource) (role_of l.given)) (drop l.place-index l.places) ≡ find (is_place_for (Some l.resource) (role_of l.given)) l.places
+    find (is_place_for (Some l.resource) (role_of l.given)) (drop l.place-index l.places)
+    ≡ find (is_place_for (Some l.resource) (role_of l.given)) l.places

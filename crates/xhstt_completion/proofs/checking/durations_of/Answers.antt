@@ -12,5 +12,6 @@ loop-number-preserved c =
     let event = c.event.result.now in
     c.in_ok-push.ensures.items
     ∙ ap (λ xs. xs ++ event.duration ∷ []) c.loop-number.invariant
-    ∙ ap (λ (x : EventInfo). map (λ e. e.duration) (take n events) ++ x.duration ∷ []) (sym (get_or_from_slice_get events n event event c.event.ensures))
+    ∙ ap (λ (x : EventInfo). map (λ e. e.duration) (take n events) ++ x.duration ∷ [])
+    (sym (get_or_from_slice_get events n event event c.event.ensures))
     ∙ sym (map_more (λ (x : EventInfo). x.duration) events n event (slice_get_within events n event c.event.ensures))

@@ -11,6 +11,7 @@ abbrev pub invariant-loop-number : goal.invariant-loop-number
 invariant-loop-number l = record {
   many : length l.left.items ≡ length l.inst.events;
   few : l.number + sum_by (λ x. x) l.left.items ≤ DURATION;
-  left : (e : ℕ) (event : EventInfo) → slice_get l.inst.events e ≡ Some event → get_or l.left.items e 0 + used_by l.inst e event (take l.number l.entries) ≡ event.duration;
+  left : (e : ℕ) (event : EventInfo) → slice_get l.inst.events e ≡ Some event
+      → get_or l.left.items e 0 + used_by l.inst e event (take l.number l.entries) ≡ event.duration;
   rest : first_cause l.inst (take l.number l.entries) (drop l.number l.entries) ≡ first_cause l.inst [] l.entries;
 }

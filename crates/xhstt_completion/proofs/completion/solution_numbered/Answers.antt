@@ -15,10 +15,12 @@ returns-then-left-solutions c =
     let left = c.loop-group.left in
     let solutions = c.as_slice-solutions.result.now in
     let later = flat_map (λ (g : SolutionGroup). g.solutions) (drop (i + 1) groups) in
-    sym (slice_get_read solutions _ left c.index-solutions-left.result refl c.if-left-solutions.true c.index-solutions-left.is)
+    sym (slice_get_read solutions _ left c.index-solutions-left.result refl c.if-left-solutions.true
+    c.index-solutions-left.is)
     ∙ sym (slice_get-append_left solutions later left c.if-left-solutions.true)
     ∙ ap (λ xs. slice_get (xs ++ later) left) c.as_slice-solutions.ensures
-    ∙ ap (λ gs. slice_get (flat_map (λ (g : SolutionGroup). g.solutions) gs) left) (sym (drop-next groups i group c.loop-group-test.true c.group-item.is))
+    ∙ ap (λ gs. slice_get (flat_map (λ (g : SolutionGroup). g.solutions) gs) left)
+    (sym (drop-next groups i group c.loop-group-test.true c.group-item.is))
     ∙ c.loop-group.invariant
     ∙ ap (λ gs. slice_get (flat_map (λ (g : SolutionGroup). g.solutions) gs) c.args.number) c.as_slice-groups.ensures
 
@@ -32,5 +34,6 @@ loop-group-preserved c =
     let later = flat_map (λ (g : SolutionGroup). g.solutions) (drop (i + 1) groups) in
     sym (slice_get-append_right solutions later left c.if-left-solutions.false)
     ∙ ap (λ xs. slice_get (xs ++ later) left) c.as_slice-solutions.ensures
-    ∙ ap (λ gs. slice_get (flat_map (λ (g : SolutionGroup). g.solutions) gs) left) (sym (drop-next groups i group c.loop-group-test.true c.group-item.is))
+    ∙ ap (λ gs. slice_get (flat_map (λ (g : SolutionGroup). g.solutions) gs) left)
+    (sym (drop-next groups i group c.loop-group-test.true c.group-item.is))
     ∙ c.loop-group.invariant

@@ -5,4 +5,5 @@ use Rattle.xhstt_completion.proofs.completion.solution_numbered.Given as goal
 
 abbrev pub invariant-loop-group : goal.invariant-loop-group
 invariant-loop-group l =
-    slice_get (flat_map (λ group. group.solutions) (drop l.group-index l.groups)) l.left ≡ slice_get (flat_map (λ group. group.solutions) l.groups) l.fn.number
+    slice_get (flat_map (λ group. group.solutions) (drop l.group-index l.groups)) l.left
+    ≡ slice_get (flat_map (λ group. group.solutions) l.groups) l.fn.number

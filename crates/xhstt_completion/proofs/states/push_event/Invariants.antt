@@ -14,8 +14,10 @@ invariant-loop-at l =
     let all = enumerate_from l.event.first_meet (parts_left l.inst l.event l.event.duration mine) in
     let later = enumerate_from l.slot (parts_left l.inst l.event l.left rest) in
     record {
-      meets : l.timetable.meets ++ map (meet_of l.number.0) later ≡ l.fn.timetable.meets ++ map (meet_of l.number.0) all;
-      tasks : l.timetable.tasks ++ flat_map (tasks_of l.inst l.event) later ≡ l.fn.timetable.tasks ++ flat_map (tasks_of l.inst l.event) all;
+      meets : l.timetable.meets ++ map (meet_of l.number.0) later ≡ l.fn.timetable.meets
+          ++ map (meet_of l.number.0) all;
+      tasks : l.timetable.tasks ++ flat_map (tasks_of l.inst l.event) later ≡ l.fn.timetable.tasks
+          ++ flat_map (tasks_of l.inst l.event) all;
       fits : sum_by (duration_of l.event) rest ≤ l.left;
       room : l.slot + l.left ≤ l.event.first_meet + l.event.duration;
     }

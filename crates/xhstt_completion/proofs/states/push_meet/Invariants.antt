@@ -7,6 +7,7 @@ use Rattle.xhstt_completion.proofs.states.push_meet.Given as goal
 abbrev pub invariant-loop-number : goal.invariant-loop-number
 invariant-loop-number l = record {
   meets : l.timetable.meets ≡ l.fn.timetable.meets ++ l.fn.meet ∷ [];
-  tasks : l.timetable.tasks ++ map (task_of l.inst l.fn.meet.meet.0 l.given) (enumerate_from l.number (drop l.number l.places))
+  tasks : l.timetable.tasks ++ map (task_of l.inst l.fn.meet.meet.0 l.given)
+      (enumerate_from l.number (drop l.number l.places))
       ≡ l.fn.timetable.tasks ++ map (task_of l.inst l.fn.meet.meet.0 l.given) (enumerate_from 0 l.places);
 }

@@ -18,11 +18,13 @@ loop-event-preserved c =
     ap (enumerate_from e) (drop-next p.events e event within there.at)
     in
     record {
-      meets = append-step _ c.loop-event.timetable.meets (meets_at p entries (e, event)) (flat_map (meets_at p entries) (enumerate_from (e + 1) (drop (e + 1) p.events))) _ _
+      meets = append-step _ c.loop-event.timetable.meets (meets_at p entries (e, event))
+          (flat_map (meets_at p entries) (enumerate_from (e + 1) (drop (e + 1) p.events))) _ _
           (c.in_ok-push_event.ensures.meets event there.found)
           (ap (flat_map (meets_at p entries)) next)
           c.loop-event.invariant.meets;
-      tasks = append-step _ c.loop-event.timetable.tasks (tasks_at p entries (e, event)) (flat_map (tasks_at p entries) (enumerate_from (e + 1) (drop (e + 1) p.events))) _ _
+      tasks = append-step _ c.loop-event.timetable.tasks (tasks_at p entries (e, event))
+          (flat_map (tasks_at p entries) (enumerate_from (e + 1) (drop (e + 1) p.events))) _ _
           (c.in_ok-push_event.ensures.tasks event there.found)
           (ap (flat_map (tasks_at p entries)) next)
           c.loop-event.invariant.tasks;

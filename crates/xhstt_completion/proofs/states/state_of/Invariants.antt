@@ -8,6 +8,8 @@ abbrev pub invariant-loop-event : goal.invariant-loop-event
 invariant-loop-event l =
     let later = enumerate_from l.event (drop l.event l.inst.events) in
     record {
-      meets : l.timetable.meets ++ flat_map (meets_at l.inst l.entries) later ≡ flat_map (meets_at l.inst l.entries) (enumerate_from 0 l.inst.events);
-      tasks : l.timetable.tasks ++ flat_map (tasks_at l.inst l.entries) later ≡ flat_map (tasks_at l.inst l.entries) (enumerate_from 0 l.inst.events);
+      meets : l.timetable.meets ++ flat_map (meets_at l.inst l.entries) later
+          ≡ flat_map (meets_at l.inst l.entries) (enumerate_from 0 l.inst.events);
+      tasks : l.timetable.tasks ++ flat_map (tasks_at l.inst l.entries) later
+          ≡ flat_map (tasks_at l.inst l.entries) (enumerate_from 0 l.inst.events);
     }

@@ -17,12 +17,15 @@ loop-meet-init c =
     let ts = c.as_slice.result.now in
     let rest = c.as_slice-rest.result.now in
     let found : rest ≡ duties xs ts = c.as_slice-rest.ensures ∙ c.in_ok-owned.ensures in
-    let same : duties xs ts ≡ duties c.args.plain.now.meets c.args.plain.now.tasks = ap₂ duties c.as_slice-meets.ensures c.as_slice.ensures in
+    let same : duties xs ts ≡ duties c.args.plain.now.meets c.args.plain.now.tasks =
+    ap₂ duties c.as_slice-meets.ensures c.as_slice.ensures in
     record {
-      made = ap (λ l. l ++ map (entry_of p rest) xs) c.new-entries.ensures ∙ ap₂ (λ r l. map (entry_of p r) l) (found ∙ same) c.as_slice-meets.ensures;
+      made = ap (λ l. l ++ map (entry_of p rest) xs) c.new-entries.ensures
+          ∙ ap₂ (λ r l. map (entry_of p r) l) (found ∙ same) c.as_slice-meets.ensures;
       stands = record {
         tasks = ts;
-        beside = Beside-from_told p xs ts (told_of p c.args.plain.now.meets xs c.args.plain.now.tasks ts c.as_slice-meets.ensures c.as_slice.ensures c.requires);
+        beside = Beside-from_told p xs ts (told_of p c.args.plain.now.meets xs c.args.plain.now.tasks ts
+            c.as_slice-meets.ensures c.as_slice.ensures c.requires);
         is = found;
       };
       given = subst (All (IsGiven p)) (sym (found ∙ same)) c.requires.given;
@@ -30,7 +33,8 @@ loop-meet-init c =
 
 pub event-requires : goal.event-requires
 event-requires c =
-    let told = told_of c.args.inst.now c.args.plain.now.meets c.as_slice-meets.result.now c.args.plain.now.tasks c.as_slice.result.now c.as_slice-meets.ensures c.as_slice.ensures c.requires in
+    let told = told_of c.args.inst.now c.args.plain.now.meets c.as_slice-meets.result.now c.args.plain.now.tasks
+    c.as_slice.result.now c.as_slice-meets.ensures c.as_slice.ensures c.requires in
     let slot = (told.meets c.loop-meet.meet-index _ c.loop-meet-test.true).slot in
     slice_get_within c.args.inst.now.events _ slot.0 slot.1
 
@@ -38,12 +42,14 @@ pub split_at-requires : goal.split_at-requires
 split_at-requires c =
     let xs = c.as_slice-meets.result.now in
     let i = c.loop-meet.meet-index in
-    enough_left c.args.inst.now xs i _ c.loop-meet.rest.now (drop_more xs i _ c.loop-meet-test.true) c.loop-meet.invariant.stands _
+    enough_left c.args.inst.now xs i _ c.loop-meet.rest.now (drop_more xs i _ c.loop-meet-test.true)
+    c.loop-meet.invariant.stands _
     (places_there c.args.inst.now.events _ _ c.event.result.now c.event.ensures c.len-places.ensures)
 
 pub entry-requires-clause-event : goal.entry-requires-clause-event
 entry-requires-clause-event c =
-    let told = told_of c.args.inst.now c.args.plain.now.meets c.as_slice-meets.result.now c.args.plain.now.tasks c.as_slice.result.now c.as_slice-meets.ensures c.as_slice.ensures c.requires in
+    let told = told_of c.args.inst.now c.args.plain.now.meets c.as_slice-meets.result.now c.args.plain.now.tasks
+    c.as_slice.result.now c.as_slice-meets.ensures c.as_slice.ensures c.requires in
     let slot = (told.meets c.loop-meet.meet-index _ c.loop-meet-test.true).slot in
     slice_get_within c.args.inst.now.events _ slot.0 slot.1
 
@@ -52,12 +58,14 @@ entry-requires-clause-events c =
     let p = c.args.inst.now in
     let xs = c.as_slice-meets.result.now in
     let i = c.loop-meet.meet-index in
-    let told = told_of p c.args.plain.now.meets xs c.args.plain.now.tasks c.as_slice.result.now c.as_slice-meets.ensures c.as_slice.ensures c.requires in
+    let told = told_of p c.args.plain.now.meets xs c.args.plain.now.tasks c.as_slice.result.now c.as_slice-meets.ensures
+    c.as_slice.ensures c.requires in
     let slot = (told.meets i _ c.loop-meet-test.true).slot in
     let there = slice_get_within p.events _ slot.0 slot.1 in
     let places = places_there p.events _ _ c.event.result.now c.event.ensures c.len-places.ensures in
     subst (All (λ d. d.meet.event.0 < length p.events))
-    (sym (c.split_at.ensures.front ∙ own_taken p xs i _ c.loop-meet.rest.now (drop_more xs i _ c.loop-meet-test.true) c.loop-meet.invariant.stands _ places))
+    (sym (c.split_at.ensures.front ∙ own_taken p xs i _ c.loop-meet.rest.now (drop_more xs i _ c.loop-meet-test.true)
+    c.loop-meet.invariant.stands _ places))
     (all_own (λ m. m.event.0 < length p.events) _ there _)
 
 pub loop-meet-preserved : goal.loop-meet-preserved

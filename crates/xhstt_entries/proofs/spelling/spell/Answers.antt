@@ -5,4 +5,5 @@ use Rattle.xhstt_entries.proofs.EntryLaws.{each_entry}
 use Rattle.xhstt_entries.proofs.spelling.spell.Goals as goal
 
 pub returns-clause-solution : goal.returns-clause-solution
-returns-clause-solution c = subst (All (IsEntry c.args.inst.now)) (sym c.in_ok-entries.ensures) (each_entry c.args.inst.now c.args.plain.now c.facts.ensures c.requires)
+returns-clause-solution c = subst (All (IsEntry c.args.inst.now)) (sym c.in_ok-entries.ensures)
+    (each_entry c.args.inst.now c.args.plain.now c.facts.ensures c.requires)

@@ -7,4 +7,5 @@ use Rattle.xhstt_references.proofs.instances.event_off_end.Given as goal
 
 abbrev pub invariant-loop-event : goal.invariant-loop-event
 invariant-loop-event l =
-    first_of l.first.at (flat_map (off_end l.directory) (drop l.event-index l.events)) ≡ first_of None (flat_map (off_end l.directory) l.events)
+    first_of l.first.at (flat_map (off_end l.directory) (drop l.event-index l.events))
+    ≡ first_of None (flat_map (off_end l.directory) l.events)

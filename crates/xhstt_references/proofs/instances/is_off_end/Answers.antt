@@ -7,7 +7,8 @@ use Rattle.xhstt_references.proofs.instances.is_off_end.Goals as goal
 
 pub overflow_sub-result : goal.overflow_sub-result
 overflow_sub-result c =
-    let below : c.in-Some.number < length c.args.times.now = number_below c.args.time.now _ _ (sym c.number.ensures ∙ c.in-Some.is) in
+    let below : c.in-Some.number < length c.args.times.now =
+    number_below c.args.time.now _ _ (sym c.number.ensures ∙ c.in-Some.is) in
     omega (arith, c.len-count.ensures.len)
 
 pub returns-in-Some : goal.returns-in-Some

@@ -1,7 +1,8 @@
 -- The names of each sort, and the places of all that are repeated.
 use Rattle.std.proofs.Common.{◌≡◌, [], ◌∙◌, ap, sym, map, None, Ok, OnOk, Result}
 use Rattle.khe_base.proofs.ResultLemmas.{if_ok}
-use Rattle.xhstt_references.specs.Ids.{time_group_ids, week_ids, day_ids, time_ids, resource_type_ids, resource_group_ids, resource_ids, event_group_ids, course_ids, event_ids}
+use Rattle.xhstt_references.specs.Ids.{time_group_ids, week_ids, day_ids, time_ids, resource_type_ids}
+use Rattle.xhstt_references.specs.Ids.{resource_group_ids, resource_ids, event_group_ids, course_ids, event_ids}
 use Rattle.xhstt_references.specs.First.{first_of}
 use Rattle.xhstt_references.specs.References.{repeated}
 use Rattle.xhstt_references.proofs.FirstLemmas.{first_of_eight}
@@ -20,8 +21,10 @@ returns c =
     let resources = c.resource_names-resources in
     let events = c.event_names-events in
     let constraints = c.names_of-constraints in
-    let made = if_ok c.both.result _ (λ p. (times.result ≡ Ok p.0) × (resources.result ≡ Ok p.1)) c.in_ok-times.ensures.0 c.both.ensures in
-    let others = if_ok c.both-2.result _ (λ p. (events.result ≡ Ok p.0) × (constraints.result ≡ Ok p.1)) c.in_ok-times.ensures.1 c.both-2.ensures in
+    let made = if_ok c.both.result _ (λ p. (times.result ≡ Ok p.0) × (resources.result ≡ Ok p.1))
+    c.in_ok-times.ensures.0 c.both.ensures in
+    let others = if_ok c.both-2.result _ (λ p. (events.result ≡ Ok p.0) × (constraints.result ≡ Ok p.1))
+    c.in_ok-times.ensures.1 c.both-2.ensures in
     let r1 = repeated (map (λ g. g.id) i.time_groups) in
     let r2 = repeated (map (λ t. t.id) i.times) in
     let r3 = repeated (map (λ t. t.id) i.resource_types) in
@@ -43,10 +46,14 @@ returns c =
             weeks = if_ok _ _ (λ n. r1 ≡ [] → n.weeks ≡ week_ids i) made.0 times.ensures.weeks p1.0 j;
             days = if_ok _ _ (λ n. r1 ≡ [] → n.days ≡ day_ids i) made.0 times.ensures.days p1.0 j;
             times = if_ok _ _ (λ n. r2 ≡ [] → n.times ≡ time_ids i) made.0 times.ensures.times p2.0 j;
-            resource_types = if_ok _ _ (λ n. r3 ≡ [] → n.types ≡ resource_type_ids i) made.1 resources.ensures.types p3.0 j;
-            resource_groups = if_ok _ _ (λ n. r4 ≡ [] → n.groups ≡ resource_group_ids i) made.1 resources.ensures.groups p4.0 j;
-            resources = if_ok _ _ (λ n. r5 ≡ [] → n.resources ≡ resource_ids i) made.1 resources.ensures.resources p5.0 j;
-            event_groups = if_ok _ _ (λ n. r6 ≡ [] → n.groups ≡ event_group_ids i) others.0 events.ensures.groups p6.0 j;
+            resource_types = if_ok _ _ (λ n. r3 ≡ [] → n.types ≡ resource_type_ids i) made.1 resources.ensures.types
+                p3.0 j;
+            resource_groups = if_ok _ _ (λ n. r4 ≡ [] → n.groups ≡ resource_group_ids i) made.1 resources.ensures.groups
+                p4.0 j;
+            resources = if_ok _ _ (λ n. r5 ≡ [] → n.resources ≡ resource_ids i) made.1 resources.ensures.resources p5.0
+                j;
+            event_groups = if_ok _ _ (λ n. r6 ≡ [] → n.groups ≡ event_group_ids i) others.0 events.ensures.groups p6.0
+                j;
             courses = if_ok _ _ (λ n. r6 ≡ [] → n.courses ≡ course_ids i) others.0 events.ensures.courses p6.0 j;
             events = if_ok _ _ (λ n. r7 ≡ [] → n.events ≡ event_ids i) others.0 events.ensures.events p7.0 j;
           },

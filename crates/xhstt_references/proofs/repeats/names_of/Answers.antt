@@ -8,8 +8,10 @@ loop-item-preserved g c =
     let adds = c.in_ok-note_repeated.ensures.names in
     let notes = c.in_ok-note_repeated.ensures.first in
     record {
-      names = names_step id _ _ _ _ _ _ c.loop-item-test.true c.item-item.is c.id.ensures adds c.loop-item.invariant.names;
-      first = places_step id _ _ _ _ _ _ _ _ c.loop-item-test.true c.item-item.is c.id.ensures adds notes c.loop-item.invariant.first;
+      names = names_step id _ _ _ _ _ _ c.loop-item-test.true c.item-item.is c.id.ensures adds
+          c.loop-item.invariant.names;
+      first = places_step id _ _ _ _ _ _ _ _ c.loop-item-test.true c.item-item.is c.id.ensures adds notes
+          c.loop-item.invariant.first;
     }
 
 pub returns-clause-names : goal.returns-clause-names

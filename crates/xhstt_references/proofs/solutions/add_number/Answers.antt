@@ -10,12 +10,14 @@ use Rattle.xhstt_references.proofs.solutions.add_number.Goals as goal
 
 pub bounds-directories-number : goal.bounds-directories-number
 bounds-directories-number c =
-    let below : c.in-Some.number < length c.args.instances.now = number_below c.args.solution.now.reference.id _ _ (sym c.number.ensures ∙ c.in-Some.is) in
+    let below : c.in-Some.number < length c.args.instances.now =
+    number_below c.args.solution.now.reference.id _ _ (sym c.number.ensures ∙ c.in-Some.is) in
     omega (arith, c.requires.same)
 
 pub overflow_cast-number : goal.overflow_cast-number
 overflow_cast-number c =
-    let below : c.in-Some.number < length c.args.instances.now = number_below c.args.solution.now.reference.id _ _ (sym c.number.ensures ∙ c.in-Some.is) in
+    let below : c.in-Some.number < length c.args.instances.now =
+    number_below c.args.solution.now.reference.id _ _ (sym c.number.ensures ∙ c.in-Some.is) in
     omega (arith, c.requires.few)
 
 pub returns-in_ok-push-in-Some-clause-first : goal.returns-in_ok-push-in-Some-clause-first
@@ -26,13 +28,19 @@ returns-in_ok-push-in-Some-clause-first c =
     let n = c.in-Some.number in
     let d = c.index-directories-number.result in
     let found : number_of solution.reference.id ids ≡ Some n = sym c.number.ensures ∙ c.in-Some.is in
-    let below : n < length directories = omega (arith, number_below solution.reference.id ids n found, c.requires.same) in
+    let below : n < length directories = omega (
+      arith,
+      number_below solution.reference.id ids n found,
+      c.requires.same,
+    ) in
     c.note_unknown_in.ensures
     ∙ ap (λ es. first_of c.args.first.now.at (flat_map (unknown_in_entry d) es)) c.as_slice.ensures
-    ∙ ap (first_of c.args.first.now.at) (sym (solution_known ids directories solution n d found below c.index-directories-number.is))
+    ∙ ap (first_of c.args.first.now.at) (sym (solution_known ids directories solution n d found below
+    c.index-directories-number.is))
 
 pub returns-in-None-clause-first : goal.returns-in-None-clause-first
 returns-in-None-clause-first c =
     c.note.ensures
     ∙ sym (first_of_one c.args.first.now.at c.args.solution.now.reference.at)
-    ∙ ap (first_of c.args.first.now.at) (sym (solution_unknown c.args.instances.now c.args.directories.now c.args.solution.now (sym c.number.ensures ∙ c.in-None.is)))
+    ∙ ap (first_of c.args.first.now.at) (sym (solution_unknown c.args.instances.now c.args.directories.now
+    c.args.solution.now (sym c.number.ensures ∙ c.in-None.is)))

@@ -7,12 +7,16 @@ use Rattle.xhstt_references.proofs.solutions.add_numbers.Goals as goal
 
 pub loop-solution-preserved : goal.loop-solution-preserved
 loop-solution-preserved c = record {
-  numbers = numbers_step (λ s. number_of s.reference.id c.args.instances.now) _ _ _ _ _ c.loop-solution-test.true c.solution-item.is c.in_ok-add_number.ensures.number c.loop-solution.invariant.numbers;
-  first = walk_step (unknown_in_solution c.args.instances.now c.args.directories.now) _ _ _ _ _ _ c.loop-solution-test.true c.solution-item.is c.in_ok-add_number.ensures.first c.loop-solution.invariant.first;
+  numbers = numbers_step (λ s. number_of s.reference.id c.args.instances.now) _ _ _ _ _ c.loop-solution-test.true
+      c.solution-item.is c.in_ok-add_number.ensures.number c.loop-solution.invariant.numbers;
+  first = walk_step (unknown_in_solution c.args.instances.now c.args.directories.now) _ _ _ _ _ _
+      c.loop-solution-test.true c.solution-item.is c.in_ok-add_number.ensures.first c.loop-solution.invariant.first;
 }
 
 pub returns-clause-numbers : goal.returns-clause-numbers
-returns-clause-numbers c = numbers_end (λ s. number_of s.reference.id c.args.instances.now) _ _ _ c.loop-solution-test.false c.loop-solution.invariant.numbers
+returns-clause-numbers c = numbers_end (λ s. number_of s.reference.id c.args.instances.now) _ _ _
+    c.loop-solution-test.false c.loop-solution.invariant.numbers
 
 pub returns-clause-first : goal.returns-clause-first
-returns-clause-first c = walk_end (unknown_in_solution c.args.instances.now c.args.directories.now) _ _ _ _ c.loop-solution-test.false c.loop-solution.invariant.first
+returns-clause-first c = walk_end (unknown_in_solution c.args.instances.now c.args.directories.now) _ _ _ _
+    c.loop-solution-test.false c.loop-solution.invariant.first

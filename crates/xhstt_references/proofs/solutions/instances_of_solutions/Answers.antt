@@ -11,15 +11,19 @@ use Rattle.xhstt_references.specs.References.{unknown_in_solution, unknown_in_so
 use Rattle.xhstt_references.specs.declared.directories.Directory.{Directory}
 use Rattle.xhstt_references.specs.declared.faults.TheConstants.{UNKNOWN_REFERENCE}
 use Rattle.xhstt_shape.specs.declared.records.Archive.{Archive}
-use Rattle.xhstt_references.proofs.SolutionsLemmas.{groups_numbers_step, groups_numbers_end, groups_places_step, groups_places_end}
+use Rattle.xhstt_references.proofs.SolutionsLemmas.{groups_numbers_step, groups_numbers_end, groups_places_step}
+use Rattle.xhstt_references.proofs.SolutionsLemmas.{groups_places_end}
 use Rattle.xhstt_references.proofs.ToldLemmas.{passed, passed_on, refused}
 use Rattle.xhstt_references.proofs.UnknownLemmas.{all_numbered}
 use Rattle.xhstt_references.proofs.solutions.instances_of_solutions.Goals as goal
 
 pub loop-group-init : goal.loop-group-init
 loop-group-init c = record {
-  numbers = λ j. c.new-numbers.ensures j ++ filter_map (λ s. number_of s.reference.id c.args.instances.now) (flat_map (λ g. g.solutions) (c.as_slice-group-items.ensures j));
-  first = λ j. first_of (c.new-first.ensures j) (flat_map (unknown_in_solution c.args.instances.now c.args.directories.now) (flat_map (λ g. g.solutions) (c.as_slice-group-items.ensures j)));
+  numbers = λ j. c.new-numbers.ensures j ++ filter_map (λ s. number_of s.reference.id c.args.instances.now)
+      (flat_map (λ g. g.solutions) (c.as_slice-group-items.ensures j));
+  first = λ j. first_of (c.new-first.ensures j)
+      (flat_map (unknown_in_solution c.args.instances.now c.args.directories.now)
+      (flat_map (λ g. g.solutions) (c.as_slice-group-items.ensures j)));
 }
 
 pub loop-group-preserved : goal.loop-group-preserved
@@ -27,19 +31,23 @@ loop-group-preserved c =
     let unknown = unknown_in_solution c.args.instances.now c.args.directories.now in
     record {
       numbers =
-          groups_numbers_step (λ g. g.solutions) _ _ (λ s. number_of s.reference.id c.args.instances.now) _ _ _ c.loop-group-test.true c.group-item.is
-          (c.in_ok-add_numbers.ensures.numbers ∙ ap (λ ss. c.loop-group.numbers ++ filter_map (λ s. number_of s.reference.id c.args.instances.now) ss) c.as_slice-solutions.ensures)
+          groups_numbers_step (λ g. g.solutions) _ _ (λ s. number_of s.reference.id c.args.instances.now) _ _ _
+          c.loop-group-test.true c.group-item.is
+          (c.in_ok-add_numbers.ensures.numbers ∙ ap (λ ss. c.loop-group.numbers
+          ++ filter_map (λ s. number_of s.reference.id c.args.instances.now) ss) c.as_slice-solutions.ensures)
           c.loop-group.invariant.numbers;
       first =
           groups_places_step (λ g. g.solutions) _ _ unknown _ _ _ c.loop-group-test.true c.group-item.is
-          (c.in_ok-add_numbers.ensures.first ∙ ap (λ ss. first_of c.loop-group.first.at (flat_map unknown ss)) c.as_slice-solutions.ensures)
+          (c.in_ok-add_numbers.ensures.first ∙ ap (λ ss. first_of c.loop-group.first.at (flat_map unknown ss))
+          c.as_slice-solutions.ensures)
           c.loop-group.invariant.first;
     }
 
 pub add_numbers-requires : goal.add_numbers-requires
 add_numbers-requires c =
     let instances = c.args.archive.now.instances in
-    let named : length c.args.instances.now ≡ length instances = ap length c.requires.instances ∙ length-map instances (λ i. i.id.text) in
+    let named : length c.args.instances.now ≡ length instances =
+    ap length c.requires.instances ∙ length-map instances (λ i. i.id.text) in
     record {
       few = omega (arith, named, c.requires.few);
       same = ap length c.requires.directories ∙ length-map instances directory_of ∙ sym named;
@@ -48,8 +56,10 @@ add_numbers-requires c =
 -- what was noted is the first of all unknown references of the solutions
 first_is : (archive : Archive) (instances : List (List ℕ)) (directories : List Directory) (first : Option ℕ)
     → instances ≡ instance_ids archive → directories ≡ map directory_of archive.instances
-    → first ≡ first_of None (flat_map (unknown_in_solution instances directories) (solutions_of archive)) → first ≡ first_of None (unknown_in_solutions archive)
-first_is archive instances directories first named listed is = is ∙ (λ j. first_of None (flat_map (unknown_in_solution (named j) (listed j)) (solutions_of archive)))
+    → first ≡ first_of None (flat_map (unknown_in_solution instances directories) (solutions_of archive))
+    → first ≡ first_of None (unknown_in_solutions archive)
+first_is archive instances directories first named listed is =
+    is ∙ (λ j. first_of None (flat_map (unknown_in_solution (named j) (listed j)) (solutions_of archive)))
 
 pub returns : goal.returns
 returns c =
@@ -59,12 +69,15 @@ returns c =
     let none : unknown_in_solutions archive ≡ [] =
     passed _ _ _ (first_is archive _ _ _ c.requires.instances c.requires.directories end) c.in_ok-fault.ensures
     in
-    let numbers : c.loop-group.numbers ≡ filter_map (λ s. number_of s.reference.id (instance_ids archive)) (solutions_of archive) =
-    groups_numbers_end (λ g. g.solutions) _ _ (λ s. number_of s.reference.id c.args.instances.now) _ c.loop-group-test.false c.loop-group.invariant.numbers
+    let numbers : c.loop-group.numbers ≡ filter_map (λ s. number_of s.reference.id (instance_ids archive))
+    (solutions_of archive) =
+    groups_numbers_end (λ g. g.solutions) _ _ (λ s. number_of s.reference.id c.args.instances.now) _
+    c.loop-group-test.false c.loop-group.invariant.numbers
     ∙ (λ j. filter_map (λ s. number_of s.reference.id (c.requires.instances j)) (solutions_of archive))
     in
     record {
-      numbers = ap (map Some) numbers ∙ all_numbered (instance_ids archive) (map directory_of archive.instances) (solutions_of archive) none;
+      numbers = ap (map Some) numbers ∙ all_numbered (instance_ids archive) (map directory_of archive.instances)
+          (solutions_of archive) none;
       told = ap (λ xs. at_first UNKNOWN_REFERENCE xs None) none;
     }
 

@@ -9,4 +9,5 @@ pub returns-in-Pairs-clause-count : goal.returns-in-Pairs-clause-count
 returns-in-Pairs-clause-count c =
     let x = c.args.constraint.now in
     c.len-in-Pairs.ensures
-    ∙ sym (ap (λ a. length (points_in c.args.lookup.now.instance.now (role_of x.rule) a)) c.in-Pairs.is ∙ length-map-range_with_len EventPair 0 (length c.in-Pairs.pairs))
+    ∙ sym (ap (λ a. length (points_in c.args.lookup.now.instance.now (role_of x.rule) a)) c.in-Pairs.is
+    ∙ length-map-range_with_len EventPair 0 (length c.in-Pairs.pairs))

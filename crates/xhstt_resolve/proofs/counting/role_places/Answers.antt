@@ -7,4 +7,5 @@ use Rattle.xhstt_resolve.proofs.counting.role_places.Goals as goal
 
 pub returns : goal.returns
 returns c =
-    c.places_with.ensures ∙ ap (count_by (has_role c.args.role.now)) c.places_at.ensures ∙ sym (length_role_points c.args.lookup.now.instance.now c.args.role.now c.args.event)
+    c.places_with.ensures ∙ ap (count_by (has_role c.args.role.now)) c.places_at.ensures
+    ∙ sym (length_role_points c.args.lookup.now.instance.now c.args.role.now c.args.event)

@@ -7,6 +7,8 @@ use Rattle.xhstt_resolve.proofs.events.events_of.Given as goal
 
 abbrev pub invariant-loop-event : goal.invariant-loop-event
 invariant-loop-event l = record {
-  made : l.events ++ events_from l.lookup.instance.now l.next (drop l.event-index l.lookup.instance.now.events) ≡ events_from l.lookup.instance.now 0 l.lookup.instance.now.events;
-  counted : l.next + sum_by (λ e. e.duration) (drop l.event-index l.lookup.instance.now.events) ≡ total_duration l.lookup.instance.now;
+  made : l.events ++ events_from l.lookup.instance.now l.next (drop l.event-index l.lookup.instance.now.events)
+      ≡ events_from l.lookup.instance.now 0 l.lookup.instance.now.events;
+  counted : l.next + sum_by (λ e. e.duration) (drop l.event-index l.lookup.instance.now.events)
+      ≡ total_duration l.lookup.instance.now;
 }

@@ -33,7 +33,8 @@ returns-clause-within c =
     let made = c.sized_instance.result in
     let none : count_fault i ≡ None = sym c.count_fault.ensures.fault ∙ c.in_default.is in
     IfOk-weaker made (λ _. size_fault i ≡ None) (λ _. limit_fault i ≡ None)
-    (λ _ sizes. both-none (count_fault i) (option_or (size_fault i) None) none (both-none (size_fault i) None sizes refl))
+    (λ _ sizes. both-none (count_fault i) (option_or (size_fault i) None) none
+    (both-none (size_fault i) None sizes refl))
     (subst (λ x. IfOk made (λ _. size_fault x ≡ None)) c.in_ok-lookup.ensures.instance c.sized_instance.ensures.within)
 
 pub returns-clause-fault : goal.returns-clause-fault

@@ -23,4 +23,5 @@ loop-number-preserved g c =
     ∙ ap (joined i (groups x) ids) c.loop-number.invariant
     ∙ ap (λ n. joined n (groups x) ids (map (members groups (take i xs)) ids)) (sym whole)
     ∙ joined-members groups (take i xs) x ids
-    ∙ ap (λ ys. map (members groups ys) ids) (ap (λ y. take i xs ++ y ∷ []) c.index-items-number.is ∙ sym (take_more xs i x within))
+    ∙ ap (λ ys. map (members groups ys) ids) (ap (λ y. take i xs ++ y ∷ []) c.index-items-number.is
+    ∙ sym (take_more xs i x within))

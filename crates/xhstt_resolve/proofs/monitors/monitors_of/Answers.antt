@@ -22,4 +22,5 @@ loop-number-preserved c =
     let items = c.as_slice-constraint-items.ensures in
     let within : k < length i.constraints = subst (λ xs. k < length xs) items c.loop-number-test.true in
     let at : x ≡ get_or i.constraints k x = c.constraint-item.is ∙ ap (λ xs. get_or xs k x) items in
-    monitors_step i k x c.loop-number.monitors c.push_monitors.new.monitors within at c.in_ok-push_monitors.ensures ∙ c.loop-number.invariant
+    monitors_step i k x c.loop-number.monitors c.push_monitors.new.monitors within at c.in_ok-push_monitors.ensures
+    ∙ c.loop-number.invariant

@@ -6,4 +6,5 @@ use Rattle.xhstt_resolve.proofs.monitors.monitors_of.Given as goal
 
 abbrev pub invariant-loop-number : goal.invariant-loop-number
 invariant-loop-number l =
-    l.monitors ++ flat_map (monitors_at l.lookup.instance.now) (enumerate_from l.number (drop l.number l.lookup.instance.now.constraints)) ≡ monitors_of l.lookup.instance.now
+    l.monitors ++ flat_map (monitors_at l.lookup.instance.now)
+    (enumerate_from l.number (drop l.number l.lookup.instance.now.constraints)) ≡ monitors_of l.lookup.instance.now

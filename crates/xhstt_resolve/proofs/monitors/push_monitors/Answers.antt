@@ -10,5 +10,6 @@ returns c =
     let x = c.args.constraint.now in
     let points : c.as_slice.result.now ≡ points_of i x = c.as_slice.ensures ∙ c.in_ok-points.ensures in
     on_ok_weaker c.push_points.result
-    (λ e. e ∙ (λ j. c.args.monitors.now ++ map (monitor_of (c.kind_of-kind.ensures i x.applies j) c.args.number) (points j)))
+    (λ e. e ∙ (λ j. c.args.monitors.now ++ map (monitor_of (c.kind_of-kind.ensures i x.applies j) c.args.number)
+    (points j)))
     c.push_points.ensures

@@ -14,6 +14,8 @@ loop-group-preserved c =
     let within : k < length e.resource_groups = subst (λ xs. k < length xs) items c.loop-group-test.true in
     let at : r ≡ get_or e.resource_groups k r = c.group-item.is ∙ ap (λ xs. get_or xs k r) items in
     let added : c.push_members.new.places ≡ c.loop-group.places ++ group_places i e r =
-    c.in_ok-push_members.ensures ∙ ap (λ ns. c.loop-group.places ++ map (member_place i e) ns) (c.members-members.ensures ∙ ap (λ f. f r.id) c.requires.tables.resources.members)
+    c.in_ok-push_members.ensures ∙ ap (λ ns. c.loop-group.places ++ map (member_place i e) ns)
+    (c.members-members.ensures ∙ ap (λ f. f r.id) c.requires.tables.resources.members)
     in
-    flat_map_step (group_places i e) c.loop-group.places c.push_members.new.places e.resource_groups k r within at added ∙ c.loop-group.invariant
+    flat_map_step (group_places i e) c.loop-group.places c.push_members.new.places e.resource_groups k r within at added
+    ∙ c.loop-group.invariant

@@ -5,4 +5,5 @@ use Rattle.xhstt_resolve.proofs.places.push_listed.Given as goal
 
 abbrev pub invariant-loop-resource : goal.invariant-loop-resource
 invariant-loop-resource l =
-    l.places ++ map (place_of l.lookup.instance.now l.event) (drop l.resource-index l.event.resources) ≡ l.fn.places ++ map (place_of l.lookup.instance.now l.event) l.event.resources
+    l.places ++ map (place_of l.lookup.instance.now l.event) (drop l.resource-index l.event.resources) ≡ l.fn.places
+    ++ map (place_of l.lookup.instance.now l.event) l.event.resources

@@ -5,4 +5,5 @@ use Rattle.xhstt_resolve.proofs.places.push_members.Given as goal
 
 abbrev pub invariant-loop-member : goal.invariant-loop-member
 invariant-loop-member l =
-    l.places ++ map (member_place l.lookup.instance.now l.event) (drop l.member-index l.members) ≡ l.fn.places ++ map (member_place l.lookup.instance.now l.event) l.members
+    l.places ++ map (member_place l.lookup.instance.now l.event) (drop l.member-index l.members) ≡ l.fn.places
+    ++ map (member_place l.lookup.instance.now l.event) l.members

@@ -10,12 +10,20 @@ use Rattle.xhstt_resolve.proofs.points.events_of.Goals as goal
 
 pub returns-clause-numbers : goal.returns-clause-numbers
 returns-clause-numbers c =
-    if_ok_same c.first_mentions.result (ap first_mentions (listed-at c.args.lookup.now.tables.events c.requires.tables.events c.args.groups.now c.args.events.now)) c.first_mentions.ensures.numbers
+    if_ok_same c.first_mentions.result (ap first_mentions
+    (listed-at c.args.lookup.now.tables.events c.requires.tables.events c.args.groups.now c.args.events.now))
+    c.first_mentions.ensures.numbers
 
 pub returns-clause-few : goal.returns-clause-few
 returns-clause-few c =
     let i = c.args.lookup.now.instance.now in
     let t = c.args.lookup.now.tables.events in
     IfOk-weaker c.first_mentions.result (λ ns. length ns ≤ length t.names.now) (λ ns. length ns ≤ EVENTS)
-    (λ ns h. omega (arith, h, ap length c.requires.tables.events.names, length-map i.events (λ e. e.id.text), c.requires.counts.events))
+    (λ ns h. omega (
+      arith,
+      h,
+      ap length c.requires.tables.events.names,
+      length-map i.events (λ e. e.id.text),
+      c.requires.counts.events,
+    ))
     c.first_mentions.ensures.few

@@ -7,9 +7,11 @@ use Rattle.xhstt_resolve.proofs.points.groups_of.Goals as goal
 
 pub first_named-requires : goal.first_named-requires
 first_named-requires c =
-    let few : length c.args.lookup.now.instance.now.event_groups < 2 ^ 32 = omega (arith, c.requires.counts.event_groups) in
+    let few : length c.args.lookup.now.instance.now.event_groups < 2 ^ 32 =
+    omega (arith, c.requires.counts.event_groups) in
     groups_few c.args.lookup.now.instance.now c.args.lookup.now.names.now c.requires.names few
 
 pub returns : goal.returns
 returns c =
-    if_ok_same c.first_named.result (ap (λ ids. first_mentions (numbers_of ids c.args.groups.now)) c.requires.names.event_groups) c.first_named.ensures
+    if_ok_same c.first_named.result (ap (λ ids. first_mentions (numbers_of ids c.args.groups.now))
+    c.requires.names.event_groups) c.first_named.ensures

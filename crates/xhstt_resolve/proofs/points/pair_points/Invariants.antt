@@ -5,4 +5,5 @@ use Rattle.khe_instance.specs.declared.points.Point.TheVariants.{EventPair}
 use Rattle.xhstt_resolve.proofs.points.pair_points.Given as goal
 
 abbrev pub invariant-loop-pair : goal.invariant-loop-pair
-invariant-loop-pair l = l.points ++ map EventPair (range_with_len l.pair (l.count - l.pair)) ≡ map EventPair (range_with_len 0 l.count)
+invariant-loop-pair l = l.points ++ map EventPair (range_with_len l.pair (l.count - l.pair))
+    ≡ map EventPair (range_with_len 0 l.count)

@@ -6,4 +6,5 @@ use Rattle.xhstt_resolve.proofs.points.points_of_role.Given as goal
 
 abbrev pub invariant-loop-event : goal.invariant-loop-event
 invariant-loop-event l =
-    l.points ++ flat_map (role_points l.lookup.instance.now l.role) (drop l.event-index l.events) ≡ flat_map (role_points l.lookup.instance.now l.role) l.events
+    l.points ++ flat_map (role_points l.lookup.instance.now l.role) (drop l.event-index l.events)
+    ≡ flat_map (role_points l.lookup.instance.now l.role) l.events

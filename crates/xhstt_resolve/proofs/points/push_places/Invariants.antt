@@ -6,4 +6,5 @@ use Rattle.xhstt_resolve.proofs.points.push_places.Given as goal
 
 abbrev pub invariant-loop-place : goal.invariant-loop-place
 invariant-loop-place l =
-    l.points ++ map (place_point l.event) (numbers_from (has_role l.role) l.place (drop l.place l.resources)) ≡ l.fn.points ++ map (place_point l.event) (numbers_where (has_role l.role) l.resources)
+    l.points ++ map (place_point l.event) (numbers_from (has_role l.role) l.place (drop l.place l.resources))
+    ≡ l.fn.points ++ map (place_point l.event) (numbers_where (has_role l.role) l.resources)

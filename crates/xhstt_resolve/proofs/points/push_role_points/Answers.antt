@@ -12,4 +12,5 @@ returns-in-None c =
     let e = c.args.event in
     let old = c.args.points.now in
     let past : length i.events ≤ e = subst (λ xs. length xs ≤ e) c.as_slice.ensures c.in-None.ensures.lookup.3 in
-    sym (ap (λ rs. old ++ map (place_point e) (numbers_where (has_role c.args.role.now) rs)) (places_at-past i e past) ∙ append-nil old)
+    sym (ap (λ rs. old ++ map (place_point e) (numbers_where (has_role c.args.role.now) rs)) (places_at-past i e past)
+    ∙ append-nil old)

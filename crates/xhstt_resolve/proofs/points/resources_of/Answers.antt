@@ -7,4 +7,6 @@ use Rattle.xhstt_resolve.proofs.points.resources_of.Goals as goal
 
 pub returns : goal.returns
 returns c =
-    if_ok_same c.first_mentions.result (ap first_mentions (listed-at c.args.lookup.now.tables.resources c.requires.tables.resources c.args.groups.now c.args.resources.now)) c.first_mentions.ensures.numbers
+    if_ok_same c.first_mentions.result (ap first_mentions
+    (listed-at c.args.lookup.now.tables.resources c.requires.tables.resources c.args.groups.now
+    c.args.resources.now)) c.first_mentions.ensures.numbers

@@ -14,7 +14,8 @@ use Rattle.khe_base.proofs.ListLemmas.{drop-next}
 
 pub made_instance-requires : goal.made_instance-requires
 made_instance-requires c =
-    subst IsFormedInstance (sym c.raw-item.is) (All-get_or IsFormedInstance c.args.raws.now c.loop-raw.raw-index c.raw-item.result c.loop-raw-test.true c.requires)
+    subst IsFormedInstance (sym c.raw-item.is) (All-get_or IsFormedInstance c.args.raws.now c.loop-raw.raw-index
+    c.raw-item.result c.loop-raw-test.true c.requires)
 
 pub returns-in_err-instance-clause-fault : goal.returns-in_err-instance-clause-fault
 returns-in_err-instance-clause-fault c =
@@ -24,7 +25,8 @@ returns-in_err-instance-clause-fault c =
     let e = c.in_err-instance.field-0.0 in
     let rest = earliest (map instance_fault (drop (i + 1) raws)) in
     let same : option_or (instance_fault x) rest ≡ earliest (map instance_fault raws) =
-    ap (λ ys. earliest (map instance_fault ys)) (sym (drop-next raws i x c.loop-raw-test.true c.raw-item.is)) ∙ c.loop-raw.invariant.sound in
+    ap (λ ys. earliest (map instance_fault ys)) (sym (drop-next raws i x c.loop-raw-test.true c.raw-item.is))
+    ∙ c.loop-raw.invariant.sound in
     passed-first c.from_residual.result e (earliest (map instance_fault raws)) c.from_residual.ensures.1
     (subst (λ o. IsFirst o e) same (this-first (instance_fault x) rest e c.in_err-instance.ensures.fault))
 
@@ -37,9 +39,11 @@ loop-raw-preserved c =
     let rest = earliest (map instance_fault after) in
     let left = drop-next raws i x c.loop-raw-test.true c.raw-item.is in
     record {
-      instances = pushed parts_of c.loop-raw.made.instances c.keep.new.made.instances (map parts_of raws) x c.in_ok-instance.instance (drop i raws) after
+      instances = pushed parts_of c.loop-raw.made.instances c.keep.new.made.instances (map parts_of raws) x
+          c.in_ok-instance.instance (drop i raws) after
           c.in_ok-keep.ensures.instances c.in_ok-instance.ensures.instance left c.loop-raw.invariant.instances;
-      directories = pushed directory_of c.loop-raw.made.directories c.keep.new.made.directories (map directory_of raws) x c.in_ok-instance.directory (drop i raws) after
+      directories = pushed directory_of c.loop-raw.made.directories c.keep.new.made.directories (map directory_of raws)
+          x c.in_ok-instance.directory (drop i raws) after
           c.in_ok-keep.ensures.directories c.in_ok-instance.ensures.directory left c.loop-raw.invariant.directories;
       sound = sym (ap (λ o. option_or o rest) c.in_ok-instance.ensures.sound)
           ∙ ap (λ ys. earliest (map instance_fault ys)) (sym left)

@@ -12,9 +12,17 @@ loop-group-preserved c =
     let x = c.group-item.result in
     let later = flat_map (λ g. g.solutions) (drop (i + 1) gs) in
     let same = c.as_slice-group-items.ensures in
-    let left = drop-next gs i x (subst (λ xs. i < length xs) same c.loop-group-test.true) (c.group-item.is ∙ ap (λ xs. get_or xs i x) same) in
-    let split : flat_map (λ g. g.solutions) (drop i gs) ≡ x.solutions ++ later = ap (flat_map (λ g. g.solutions)) left ∙ flat_map-cons (λ g. g.solutions) x (drop (i + 1) gs) in
+    let left = drop-next gs i x (subst (λ xs. i < length xs) same c.loop-group-test.true)
+    (c.group-item.is ∙ ap (λ xs. get_or xs i x) same) in
+    let split : flat_map (λ g. g.solutions) (drop i gs) ≡ x.solutions ++ later =
+    ap (flat_map (λ g. g.solutions)) left ∙ flat_map-cons (λ g. g.solutions) x (drop (i + 1) gs) in
     record {
-      counted = omega (arith, c.loop-group.invariant.counted, ap length split, length-append x.solutions later, c.len.ensures);
+      counted = omega (
+        arith,
+        c.loop-group.invariant.counted,
+        ap length split,
+        length-append x.solutions later,
+        c.len.ensures,
+      );
       small = omega (arith, c.loop-group.invariant.small, c.len.ensures);
     }

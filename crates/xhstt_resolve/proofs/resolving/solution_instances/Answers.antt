@@ -8,4 +8,5 @@ use Rattle.xhstt_resolve.proofs.resolving.solution_instances.Goals as goal
 pub returns-clause-numbers : goal.returns-clause-numbers
 returns-clause-numbers c =
     let a = c.args.archive.now in
-    unwrapped (λ s. number_of s.reference.id (instance_ids a)) c.in_ok-instances_of_solutions.field-0 (solutions_of a) c.in_ok-instances_of_solutions.ensures.numbers
+    unwrapped (λ s. number_of s.reference.id (instance_ids a)) c.in_ok-instances_of_solutions.field-0 (solutions_of a)
+    c.in_ok-instances_of_solutions.ensures.numbers

@@ -5,4 +5,5 @@ use Rattle.xhstt_resolve.proofs.rules.group_set.Goals as goal
 
 pub returns : goal.returns
 returns c =
-    if_ok_same c.group_set.result (time_set-at c.args.lookup.now.instance.now c.args.lookup.now.tables.times c.requires.tables.times c.args.group.now.id) c.group_set.ensures
+    if_ok_same c.group_set.result (time_set-at c.args.lookup.now.instance.now c.args.lookup.now.tables.times
+    c.requires.tables.times c.args.group.now.id) c.group_set.ensures

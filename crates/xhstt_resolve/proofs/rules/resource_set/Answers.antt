@@ -5,4 +5,5 @@ use Rattle.xhstt_resolve.proofs.rules.resource_set.Goals as goal
 
 pub returns : goal.returns
 returns c =
-    if_ok_same c.set.result (resource_set-listed c.args.lookup.now.instance.now c.args.lookup.now.tables.resources c.requires.tables.resources c.args.groups.now c.args.resources.now) c.set.ensures
+    if_ok_same c.set.result (resource_set-listed c.args.lookup.now.instance.now c.args.lookup.now.tables.resources
+    c.requires.tables.resources c.args.groups.now c.args.resources.now) c.set.ensures

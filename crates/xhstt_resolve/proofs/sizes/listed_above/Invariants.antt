@@ -6,4 +6,5 @@ use Rattle.xhstt_resolve.proofs.sizes.listed_above.Given as goal
 
 abbrev pub invariant-loop-constraint : goal.invariant-loop-constraint
 invariant-loop-constraint l =
-    find (ltb LISTED) (map (λ c. listed_groups c.rule) (drop l.constraint-index l.instance.constraints)) ≡ find (ltb LISTED) (map (λ c. listed_groups c.rule) l.instance.constraints)
+    find (ltb LISTED) (map (λ c. listed_groups c.rule) (drop l.constraint-index l.instance.constraints))
+    ≡ find (ltb LISTED) (map (λ c. listed_groups c.rule) l.instance.constraints)

@@ -18,10 +18,23 @@ loop-group-preserved c =
     let within : k < length e.resource_groups = subst (λ xs. k < length xs) items c.loop-group-test.true in
     let at : r ≡ get_or e.resource_groups k r = c.group-item.is ∙ ap (λ xs. get_or xs k r) items in
     let own : length (group_places i e r) ≡ length c.members.result.now =
-    length-map (resources_in i r.id) (member_place i e) ∙ ap length (sym (c.members.ensures ∙ ap (λ f. f r.id) table.members))
+    length-map (resources_in i r.id) (member_place i e)
+    ∙ ap length (sym (c.members.ensures ∙ ap (λ f. f r.id) table.members))
     in
     let step = length_step (group_places i e) e.resource_groups k r within at in
     let bound : length c.members.result.now ≤ RESOURCES =
-    omega (arith, ap length c.members.ensures, table.table.bounded r.id, ap length table.names, length-map i.resources (λ x. x.id.text), c.requires.counts.resources)
+    omega (
+      arith,
+      ap length c.members.ensures,
+      table.table.bounded r.id,
+      ap length table.names,
+      length-map i.resources
+          (λ x. x.id.text),
+      c.requires.counts.resources,
+    )
     in
-    record { counted = omega (arith, step, own, c.loop-group.invariant.counted); small = omega (arith, bound, c.loop-group.invariant.small) }
+    record {
+      counted = omega (arith, step, own, c.loop-group.invariant.counted);
+      small =
+          omega (arith, bound, c.loop-group.invariant.small);
+    }

@@ -15,15 +15,20 @@ returns-clause-lookup c =
     let e = c.in_ok-times.events in
     let resources = c.table_of-resources in
     let events = c.table_of-events in
-    let others = if_ok c.both.result _ (λ p. (resources.result ≡ Ok p.0) × (events.result ≡ Ok p.1)) c.in_ok-times.ensures.1 c.both.ensures in
+    let others = if_ok c.both.result _ (λ p. (resources.result ≡ Ok p.0) × (events.result ≡ Ok p.1))
+    c.in_ok-times.ensures.1 c.both.ensures in
     record {
       names = c.requires.names;
       tables = AreTablesOf-made i d t r e c.requires.names
           (subst (λ xs. IsTableOf d.times (members_in d.time_groups groups_of_time xs) t) c.as_slice.ensures
-          (if_ok _ _ (IsTableOf d.times (members_in d.time_groups groups_of_time c.as_slice.result.now)) c.in_ok-times.ensures.0 c.table_of-times.ensures))
-          (subst (λ xs. IsTableOf d.resources (members_in d.resource_groups groups_of_resource xs) r) c.as_slice-2.ensures
-          (if_ok _ _ (IsTableOf d.resources (members_in d.resource_groups groups_of_resource c.as_slice-2.result.now)) others.0 resources.ensures))
+          (if_ok _ _ (IsTableOf d.times (members_in d.time_groups groups_of_time c.as_slice.result.now))
+          c.in_ok-times.ensures.0 c.table_of-times.ensures))
+          (subst (λ xs. IsTableOf d.resources (members_in d.resource_groups groups_of_resource xs) r)
+          c.as_slice-2.ensures
+          (if_ok _ _ (IsTableOf d.resources (members_in d.resource_groups groups_of_resource c.as_slice-2.result.now))
+          others.0 resources.ensures))
           (subst (λ xs. IsTableOf d.events (members_in d.event_groups groups_of_event xs) e) c.as_slice-3.ensures
-          (if_ok _ _ (IsTableOf d.events (members_in d.event_groups groups_of_event c.as_slice-3.result.now)) others.1 events.ensures));
+          (if_ok _ _ (IsTableOf d.events (members_in d.event_groups groups_of_event c.as_slice-3.result.now)) others.1
+          events.ensures));
       counts = c.requires.counts;
     }

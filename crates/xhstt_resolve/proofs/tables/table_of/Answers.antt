@@ -4,5 +4,6 @@ use Rattle.xhstt_resolve.proofs.tables.table_of.Goals as goal
 
 pub returns : goal.returns
 returns g c =
-    IsTableOf-made g.T.Grouped.groups c.args.items.now (record { names = c.args.names; group_names = c.args.group_names; members = c.in_ok-members.members })
+    IsTableOf-made g.T.Grouped.groups c.args.items.now
+    (record { names = c.args.names; group_names = c.args.group_names; members = c.in_ok-members.members })
     c.requires.few c.requires.same c.in_ok-members.ensures

@@ -4,10 +4,18 @@ use Rattle.std.proofs.lemmas.List.{length-map}
 use Rattle.xhstt_resolve.proofs.watching.events_in.Goals as goal
 
 pub returns-clause-count : goal.returns-clause-count
-returns-clause-count c = ap length c.members.ensures ∙ ap (λ f. length (f c.args.group.now.id.text)) c.requires.tables.events.members
+returns-clause-count c = ap length c.members.ensures
+    ∙ ap (λ f. length (f c.args.group.now.id.text)) c.requires.tables.events.members
 
 pub returns-clause-small : goal.returns-clause-small
 returns-clause-small c =
     let i = c.args.lookup.now.instance.now in
     let table = c.requires.tables.events in
-    omega (arith, ap length c.members.ensures, table.table.bounded c.args.group.now.id.text, ap length table.names, length-map i.events (λ e. e.id.text), c.requires.counts.events)
+    omega (
+      arith,
+      ap length c.members.ensures,
+      table.table.bounded c.args.group.now.id.text,
+      ap length table.names,
+      length-map i.events (λ e. e.id.text),
+      c.requires.counts.events,
+    )

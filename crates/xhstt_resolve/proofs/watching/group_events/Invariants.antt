@@ -6,6 +6,7 @@ use Rattle.xhstt_resolve.proofs.watching.group_events.Given as goal
 
 abbrev pub invariant-loop-group : goal.invariant-loop-group
 invariant-loop-group l = record {
-  counted : l.total + sum_by (group_size l.lookup.instance.now) (drop l.group-index l.groups) ≡ sum_by (group_size l.lookup.instance.now) l.groups;
+  counted : l.total + sum_by (group_size l.lookup.instance.now) (drop l.group-index l.groups)
+      ≡ sum_by (group_size l.lookup.instance.now) l.groups;
   small : l.total ≤ l.group-index * 10000;
 }

@@ -7,6 +7,7 @@ use Rattle.xhstt_resolve.proofs.watching.group_times.Given as goal
 
 abbrev pub invariant-loop-group : goal.invariant-loop-group
 invariant-loop-group l = record {
-  counted : l.total + sum_by (λ g. length (times_in l.lookup.instance.now g.id)) (drop l.group-index l.groups) ≡ sum_by (λ g. length (times_in l.lookup.instance.now g.id)) l.groups;
+  counted : l.total + sum_by (λ g. length (times_in l.lookup.instance.now g.id)) (drop l.group-index l.groups)
+      ≡ sum_by (λ g. length (times_in l.lookup.instance.now g.id)) l.groups;
   small : l.total ≤ l.group-index * TIMES;
 }

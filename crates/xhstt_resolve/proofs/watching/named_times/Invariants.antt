@@ -6,6 +6,7 @@ use Rattle.xhstt_resolve.proofs.watching.named_times.Given as goal
 
 abbrev pub invariant-loop-reference : goal.invariant-loop-reference
 invariant-loop-reference l = record {
-  counted : l.total + length (numbers_of (time_ids l.lookup.instance.now) (drop l.reference-index l.references)) ≡ length (numbers_of (time_ids l.lookup.instance.now) l.references);
+  counted : l.total + length (numbers_of (time_ids l.lookup.instance.now) (drop l.reference-index l.references))
+      ≡ length (numbers_of (time_ids l.lookup.instance.now) l.references);
   small : l.total ≤ l.reference-index;
 }

@@ -8,9 +8,18 @@ use Rattle.xhstt_resolve.proofs.watching.resource_count.Goals as goal
 pub returns-clause-count : goal.returns-clause-count
 returns-clause-count c =
     let table = c.args.lookup.now.tables.resources in
-    c.len.ensures ∙ ap length (c.in_ok-mentions.ensures.numbers ∙ ap first_mentions (listed-at table c.requires.tables.resources c.args.groups.now c.args.resources.now))
+    c.len.ensures ∙ ap length (c.in_ok-mentions.ensures.numbers
+    ∙ ap first_mentions (listed-at table c.requires.tables.resources c.args.groups.now c.args.resources.now))
 
 pub returns-clause-few : goal.returns-clause-few
 returns-clause-few c =
     let i = c.args.lookup.now.instance.now in
-    omega (arith, c.len.ensures, c.in_ok-mentions.ensures.few, ap length c.requires.tables.resources.names, length-map i.resources (λ r. r.id.text), c.requires.counts.resources)
+    omega (
+      arith,
+      c.len.ensures,
+      c.in_ok-mentions.ensures.few,
+      ap length c.requires.tables.resources.names,
+      length-map
+          i.resources (λ r. r.id.text),
+      c.requires.counts.resources,
+    )

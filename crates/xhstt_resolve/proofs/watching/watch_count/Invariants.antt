@@ -6,6 +6,7 @@ use Rattle.xhstt_resolve.proofs.watching.watch_count.Given as goal
 
 abbrev pub invariant-loop-constraint : goal.invariant-loop-constraint
 invariant-loop-constraint l = record {
-  counted : l.total + sum_by (watches_of l.lookup.instance.now) (drop l.constraint-index l.lookup.instance.now.constraints) ≡ watch_count l.lookup.instance.now;
+  counted : l.total + sum_by (watches_of l.lookup.instance.now)
+      (drop l.constraint-index l.lookup.instance.now.constraints) ≡ watch_count l.lookup.instance.now;
   small : l.total ≤ l.constraint-index * 2 ^ 112;
 }

@@ -5,4 +5,5 @@ use Rattle.xhstt_shape.specs.Contents as spec
 use Rattle.xhstt_shape.proofs.contents.value_of.Given as goal
 
 abbrev pub invariant-loop-digit : goal.invariant-loop-digit
-invariant-loop-digit l = (spec.value_after l.value (drop l.digit-index l.digits) ≡ spec.value_after 0 l.digits) × (l.value < 10 ^ l.digit-index)
+invariant-loop-digit l = (spec.value_after l.value (drop l.digit-index l.digits) ≡ spec.value_after 0 l.digits)
+    × (l.value < 10 ^ l.digit-index)

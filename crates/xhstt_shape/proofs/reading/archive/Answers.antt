@@ -10,4 +10,5 @@ returns-clause-in_form c = told-in_form c.archive_of.result c.root-root.result c
 
 pub returns-clause-well_formed : goal.returns-clause-well_formed
 returns-clause-well_formed c =
-    told-well_formed c.archive_of.result c.args.tree.now.bytes.now (root_forest c.args.tree.now) c.root-root.result.info c.root-root.result.kids empty c.root-root.ensures c.archive_of.ensures
+    told-well_formed c.archive_of.result c.args.tree.now.bytes.now (root_forest c.args.tree.now) c.root-root.result.info
+    c.root-root.result.kids empty c.root-root.ensures c.archive_of.ensures

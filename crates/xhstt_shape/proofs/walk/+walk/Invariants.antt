@@ -12,7 +12,8 @@ decreases-look_at_children l = 2 * size l.element.now.kids
 
 abbrev pub invariant-look_at_children-loop-next : goal.invariant-look_at_children-loop-next
 invariant-look_at_children-loop-next l =
-    (spec.children_fault l.row l.seen l.rest ≡ spec.children_fault l.row [] l.element.kids) × (size l.rest ≤ size l.element.kids)
+    (spec.children_fault l.row l.seen l.rest ≡ spec.children_fault l.row [] l.element.kids)
+    × (size l.rest ≤ size l.element.kids)
 
 abbrev pub decreases-look_at_children-loop-next : goal.decreases-look_at_children-loop-next
 decreases-look_at_children-loop-next l = size l.rest

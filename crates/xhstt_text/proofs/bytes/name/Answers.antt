@@ -9,4 +9,7 @@ skip-requires c = omega (arith, c.name_length-length.ensures, prefix_len-le-leng
 
 pub returns-in-len1-up : goal.returns-in-len1-up
 returns-in-len1-up c =
-    takes_name c.args.here.at c.args.here.rest.now (take c.name_length-length.result c.args.here.rest.now) c.skip.result.at c.skip.result.rest.now c.name_length-length.result (begins_at is_first c.args.here.rest.now (omega arith) (sym c.is_first.ensures ∙ c.if-is_first.true)) c.name_length-length.ensures refl c.skip.ensures.at c.skip.ensures.rest
+    takes_name c.args.here.at c.args.here.rest.now (take c.name_length-length.result c.args.here.rest.now)
+    c.skip.result.at c.skip.result.rest.now c.name_length-length.result
+    (begins_at is_first c.args.here.rest.now (omega arith) (sym c.is_first.ensures ∙ c.if-is_first.true))
+    c.name_length-length.ensures refl c.skip.ensures.at c.skip.ensures.rest

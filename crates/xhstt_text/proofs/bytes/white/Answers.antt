@@ -8,4 +8,5 @@ pub skip-requires : goal.skip-requires
 skip-requires c = omega (arith, c.white_length.ensures, prefix_len-le-length is_white c.args.here.rest.now)
 
 pub returns : goal.returns
-returns c = skips_from is_white c.args.here.at c.args.here.rest.now c.skip.result.at c.skip.result.rest.now c.white_length.result c.white_length.ensures c.skip.ensures.at c.skip.ensures.rest
+returns c = skips_from is_white c.args.here.at c.args.here.rest.now c.skip.result.at c.skip.result.rest.now
+    c.white_length.result c.white_length.ensures c.skip.ensures.at c.skip.ensures.rest

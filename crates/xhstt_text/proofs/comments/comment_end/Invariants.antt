@@ -4,7 +4,8 @@ use Rattle.xhstt_text.proofs.comments.comment_end.Given as goal
 
 abbrev pub invariant-bytes : goal.invariant-bytes
 invariant-bytes l = record {
-  follows : (place : Place) (r : Read) → run (in_comment place 0) r l.fn.from.at l.fn.from.rest.now ≡ run (in_comment place l.dashes) r l.here.at l.here.rest.now;
+  follows : (place : Place) (r : Read) → run (in_comment place 0) r l.fn.from.at l.fn.from.rest.now
+      ≡ run (in_comment place l.dashes) r l.here.at l.here.rest.now;
   few : l.dashes + length l.here.rest.now ≤ length l.fn.from.rest.now;
   place : l.fn.from.at ≤ l.here.at;
 }

@@ -7,7 +7,9 @@ use Rattle.xhstt_text.proofs.comments.space.Given as goal
 
 abbrev pub invariant-space : goal.invariant-space
 invariant-space l = record {
-  follows : (place : Place) (nodes : List Node) (rows : List Attribute) → run (phase_of place) (read_of [] nodes rows) l.fn.from.at l.fn.from.rest.now ≡ run (phase_of place) (read_of [] nodes rows) l.here.at l.here.rest.now;
+  follows : (place : Place) (nodes : List Node) (rows : List Attribute)
+      → run (phase_of place) (read_of [] nodes rows) l.fn.from.at l.fn.from.rest.now
+      ≡ run (phase_of place) (read_of [] nodes rows) l.here.at l.here.rest.now;
   place : l.fn.from.at ≤ l.here.at;
 }
 

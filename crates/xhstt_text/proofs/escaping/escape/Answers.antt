@@ -11,11 +11,13 @@ use Rattle.xhstt_text.proofs.escaping.escape.Goals as goal
 
 pub returns : goal.returns
 returns c =
-    let t = YieldsList-end (YieldsList-from_chars c.as_str.result.now c.as_str.utf8 cc) c.loop-character.yielded _ c.loop-character.yielded_by _ _ c.in-None.is c.next.ensures.steps in
+    let t = YieldsList-end (YieldsList-from_chars c.as_str.result.now c.as_str.utf8 cc) c.loop-character.yielded _
+    c.loop-character.yielded_by _ _ c.in-None.is c.next.ensures.steps in
     let same : c.loop-character.yielded ≡ c.args.text.now =
     sym (map-id c.loop-character.yielded) ∙ t.0 ∙ encodes_same _ _ (encodes-chars _ c.as_str.utf8 ∙ c.as_str.ensures) in
     let written : c.loop-character.written ≡ escaped c.args.text.now = c.loop-character.invariant ∙ ap escaped same in
     record {
       written = written;
-      read_back = unescaped-escaped c.args.text.now c.loop-character.written (subst IsUtf8 c.as_str.ensures c.as_str.utf8) written;
+      read_back = unescaped-escaped c.args.text.now c.loop-character.written
+          (subst IsUtf8 c.as_str.ensures c.as_str.utf8) written;
     }

@@ -5,7 +5,8 @@ use Rattle.xhstt_text.proofs.reader.tags.Given as goal
 
 abbrev pub invariant-tags : goal.invariant-tags
 invariant-tags l = record {
-  follows : outcome_of l.fn.bytes ≡ run (resume (frames_of l.table.stack.items)) (read_of (frames_of l.table.stack.items) l.table.nodes.items l.table.attributes.items) l.here.at l.here.rest.now;
+  follows : outcome_of l.fn.bytes ≡ run (resume (frames_of l.table.stack.items))
+      (read_of (frames_of l.table.stack.items) l.table.nodes.items l.table.attributes.items) l.here.at l.here.rest.now;
   count : length l.table.nodes.items ≤ l.here.at;
 }
 

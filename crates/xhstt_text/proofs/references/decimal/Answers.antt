@@ -15,7 +15,8 @@ digits-preserved c =
         was.0 * 10 + value,
         c.min-number.ensures ∙ capped_decimal was.0 value c.digits.number was.1,
         λ z. absurd (omega arith),
-        λ w r. was.3 w r ∙ decimal_step c.args.place c.digits.digits was.0 value w r h.at h.rest.now next.at next.rest.now was.2 c.in-Some.ensures,
+        λ w r. was.3 w r ∙ decimal_step c.args.place c.digits.digits was.0 value w r h.at h.rest.now next.at
+            next.rest.now was.2 c.in-Some.ensures,
       );
       first = λ z. absurd (omega arith);
       few = omega (arith, c.digits.invariant.few, longer);

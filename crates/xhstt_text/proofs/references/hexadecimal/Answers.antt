@@ -15,7 +15,8 @@ digits-preserved c =
         was.0 * 16 + value,
         c.min-number.ensures ∙ capped_hexadecimal was.0 value c.digits.number was.1,
         λ z. absurd (omega arith),
-        λ w r. was.3 w r ∙ hexadecimal_step c.args.place c.digits.digits was.0 value w r h.at h.rest.now next.at next.rest.now was.2 c.in-Some.ensures,
+        λ w r. was.3 w r ∙ hexadecimal_step c.args.place c.digits.digits was.0 value w r h.at h.rest.now next.at
+            next.rest.now was.2 c.in-Some.ensures,
       );
       few = omega (arith, c.digits.invariant.few, longer);
       place = omega (arith, c.digits.invariant.place, longer);

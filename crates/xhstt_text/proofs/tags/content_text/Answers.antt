@@ -17,7 +17,8 @@ returns-in_err-end-clause-leads c = λ f fs nodes rows e.
     let now : Option ℕ = option_or c.args.loose (Some a.at) in
     let p = noted_place c.args.loose a.at in
     passes_on c.from_residual.result c.in_err-end.field-0.0 _ _ _ c.from_residual.ensures.1
-    (notes f fs nodes rows c.args.loose now h.at h.rest.now a.at a.rest.now e refl c.white-start.ensures (sym c.begins_text.ensures ∙ c.if-not-begins_text.false))
+    (notes f fs nodes rows c.args.loose now h.at h.rest.now a.at a.rest.now e refl c.white-start.ensures
+    (sym c.begins_text.ensures ∙ c.if-not-begins_text.false))
     (c.in_err-end.ensures.leads (with_loose_text f now) fs nodes rows p.0 p.1)
 
 pub returns-clause-leads : goal.returns-clause-leads
@@ -25,5 +26,6 @@ returns-clause-leads c = λ f fs nodes rows e.
     let h = c.args.here in
     let a = c.white-start.result in
     let p = noted_place c.args.loose a.at in
-    notes f fs nodes rows c.args.loose c.or.result h.at h.rest.now a.at a.rest.now e c.or.ensures c.white-start.ensures (sym c.begins_text.ensures ∙ c.if-not-begins_text.false)
+    notes f fs nodes rows c.args.loose c.or.result h.at h.rest.now a.at a.rest.now e c.or.ensures c.white-start.ensures
+    (sym c.begins_text.ensures ∙ c.if-not-begins_text.false)
     ∙ c.in_ok-end.ensures.leads (with_loose_text f c.or.result) fs nodes rows p.0 (c.or.ensures ∙ p.1)

@@ -7,7 +7,9 @@ use Rattle.xhstt_text.proofs.tags.known_text.Given as goal
 
 abbrev pub invariant-pieces : goal.invariant-pieces
 invariant-pieces l = record {
-  follows : (f : Frame) (fs : List Frame) (nodes : List Node) (rows : List Attribute) (place : ℕ) → f.node.loose ≡ Some place → run content (read_of (f ∷ fs) nodes rows) l.fn.from.at l.fn.from.rest.now ≡ run content (read_of (f ∷ fs) nodes rows) l.here.at l.here.rest.now;
+  follows : (f : Frame) (fs : List Frame) (nodes : List Node) (rows : List Attribute) (place : ℕ)
+      → f.node.loose ≡ Some place → run content (read_of (f ∷ fs) nodes rows) l.fn.from.at l.fn.from.rest.now
+      ≡ run content (read_of (f ∷ fs) nodes rows) l.here.at l.here.rest.now;
   few : length l.here.rest.now ≤ length l.fn.from.rest.now;
   place : l.fn.from.at ≤ l.here.at;
 }

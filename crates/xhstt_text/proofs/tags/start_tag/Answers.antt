@@ -1,7 +1,8 @@
 use Rattle.std.proofs.Common.{◌≡◌, ◌<◌, length, arith, sym, ◌∙◌}
 use Rattle.xhstt_text.specs.Machine.{run, resume, opened}
 use Rattle.xhstt_text.specs.Reading.{read_of, frames_of}
-use Rattle.xhstt_text.proofs.Follow.{fails_with, not_named, start_colon, passes_on, leads_from, over_start_name, length_frames}
+use Rattle.xhstt_text.proofs.Follow.{fails_with, not_named, start_colon, passes_on, leads_from, over_start_name}
+use Rattle.xhstt_text.proofs.Follow.{length_frames}
 use Rattle.xhstt_text.proofs.tags.start_tag.Goals as goal
 
 pub returns-in_default-clause-leads : goal.returns-in_default-clause-leads
@@ -9,7 +10,8 @@ returns-in_default-clause-leads c =
     let t = c.args.table.now in
     let h = c.args.inside in
     fails_with c.unopened.result _ _ c.unopened.ensures
-    (not_named (frames_of t.stack.items) t.nodes.items t.attributes.items c.args.at h.at h.rest.now c.requires.start c.in_default.ensures)
+    (not_named (frames_of t.stack.items) t.nodes.items t.attributes.items c.args.at h.at h.rest.now c.requires.start
+    c.in_default.ensures)
 
 pub returns-then-next_is-clause-leads : goal.returns-then-next_is-clause-leads
 returns-then-next_is-clause-leads c =
@@ -18,7 +20,8 @@ returns-then-next_is-clause-leads c =
     let d = c.in-Some.after in
     let few : length (frames_of t.stack.items) < 32 = omega (arith, length_frames t.stack.items) in
     fails_with c.unsupported.result _ _ c.unsupported.ensures
-    (start_colon (frames_of t.stack.items) t.nodes.items t.attributes.items c.args.at h.at h.rest.now c.in-Some.found.now d.at d.rest.now few c.in-Some.ensures (sym c.next_is.ensures ∙ c.if-next_is.true))
+    (start_colon (frames_of t.stack.items) t.nodes.items t.attributes.items c.args.at h.at h.rest.now
+    c.in-Some.found.now d.at d.rest.now few c.in-Some.ensures (sym c.next_is.ensures ∙ c.if-next_is.true))
 
 pub returns-in_err-last-clause-leads : goal.returns-in_err-last-clause-leads
 returns-in_err-last-clause-leads c =
@@ -28,8 +31,11 @@ returns-in_err-last-clause-leads c =
     let fs = frames_of t.stack.items in
     let few : length fs < 32 = omega (arith, length_frames t.stack.items) in
     let first : c.len-first.result ≡ length t.attributes.items = omega (arith, t.attributes.ok.0) in
-    passes_on c.from_residual.result c.in_err-last.field-0.0 (run (opened c.args.at) (read_of fs t.nodes.items t.attributes.items) h.at h.rest.now) _ _ c.from_residual.ensures.1
-    (over_start_name fs t.nodes.items t.attributes.items c.args.at h.at h.rest.now c.in-Some.found.now d.at d.rest.now c.len-first.result first few c.in-Some.ensures (sym c.next_is.ensures ∙ c.if-next_is.false))
+    passes_on c.from_residual.result c.in_err-last.field-0.0
+    (run (opened c.args.at) (read_of fs t.nodes.items t.attributes.items) h.at h.rest.now) _ _
+    c.from_residual.ensures.1
+    (over_start_name fs t.nodes.items t.attributes.items c.args.at h.at h.rest.now c.in-Some.found.now d.at d.rest.now
+    c.len-first.result first few c.in-Some.ensures (sym c.next_is.ensures ∙ c.if-next_is.false))
     (c.in_err-last.ensures.leads fs t.nodes.items c.args.at c.in-Some.found.now c.len-first.result)
 
 pub returns-clause-leads : goal.returns-clause-leads
@@ -41,7 +47,10 @@ returns-clause-leads c =
     let n = c.end_of_start.new.table in
     let few : length fs < 32 = omega (arith, length_frames t.stack.items) in
     let first : c.len-first.result ≡ length t.attributes.items = omega (arith, t.attributes.ok.0) in
-    leads_from c.end_of_start.result (run (opened c.args.at) (read_of fs t.nodes.items t.attributes.items) h.at h.rest.now) _ (λ q. run (resume (frames_of n.stack.items)) (read_of (frames_of n.stack.items) n.nodes.items n.attributes.items) q.at q.rest.now)
-    (over_start_name fs t.nodes.items t.attributes.items c.args.at h.at h.rest.now c.in-Some.found.now d.at d.rest.now c.len-first.result first few c.in-Some.ensures (sym c.next_is.ensures ∙ c.if-next_is.false)
+    leads_from c.end_of_start.result (run (opened c.args.at) (read_of fs t.nodes.items t.attributes.items) h.at
+    h.rest.now) _ (λ q. run (resume (frames_of n.stack.items))
+    (read_of (frames_of n.stack.items) n.nodes.items n.attributes.items) q.at q.rest.now)
+    (over_start_name fs t.nodes.items t.attributes.items c.args.at h.at h.rest.now c.in-Some.found.now d.at d.rest.now
+    c.len-first.result first few c.in-Some.ensures (sym c.next_is.ensures ∙ c.if-next_is.false)
     ∙ c.in_ok-last.ensures.leads fs t.nodes.items c.args.at c.in-Some.found.now c.len-first.result)
     c.end_of_start.ensures.leads

@@ -10,5 +10,7 @@ pub returns : goal.returns
 unfolding put_all
 returns g c more t rest whole h =
     let later : List ℕ = filled more false t rest in
-    let own = function_end tag.CostFunction c.args.cost later ∙ ap (λ w. 62 ∷ (w ++ closed tag.CostFunction later)) (sym c.function_word.ensures) in
-    c.plain.ensures later whole (subst (λ (x : List ℕ). g.O.Output.said c.args.out.now (between false (60 ∷ (word tag.CostFunction ++ x))) whole) own h)
+    let own = function_end tag.CostFunction c.args.cost later
+    ∙ ap (λ w. 62 ∷ (w ++ closed tag.CostFunction later)) (sym c.function_word.ensures) in
+    c.plain.ensures later whole (subst (λ (x : List ℕ). g.O.Output.said c.args.out.now
+    (between false (60 ∷ (word tag.CostFunction ++ x))) whole) own h)

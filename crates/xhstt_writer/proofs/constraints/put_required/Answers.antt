@@ -10,5 +10,7 @@ pub returns : goal.returns
 unfolding put_all
 returns g c more t rest whole h =
     let later : List ℕ = filled more false t rest in
-    let own = truth_end tag.Required c.args.required later ∙ ap (λ w. 62 ∷ (w ++ closed tag.Required later)) (sym c.truth_word.ensures) in
-    c.plain.ensures later whole (subst (λ (x : List ℕ). g.O.Output.said c.args.out.now (between c.args.opened (60 ∷ (word tag.Required ++ x))) whole) own h)
+    let own = truth_end tag.Required c.args.required later
+    ∙ ap (λ w. 62 ∷ (w ++ closed tag.Required later)) (sym c.truth_word.ensures) in
+    c.plain.ensures later whole (subst (λ (x : List ℕ). g.O.Output.said c.args.out.now
+    (between c.args.opened (60 ∷ (word tag.Required ++ x))) whole) own h)

@@ -8,9 +8,14 @@ use Rattle.xhstt_writer.proofs.instances.events.Goals as goal
 
 pub returns : goal.returns
 returns g c more t rest whole h =
-    c.some_events.ensures more t rest whole (subst (λ (bs : List Body). g.O.Output.said c.args.out.now (filled (put_all tag.Events bs more) c.args.opened t rest) whole) (around_any (row (events_parts c.args.instance.now)) (sym c.has_no_events.ensures ∙ c.if-has_no_events.false)) h)
+    c.some_events.ensures more t rest whole (subst
+    (λ (bs : List Body). g.O.Output.said c.args.out.now (filled (put_all tag.Events bs more) c.args.opened t rest)
+    whole) (around_any (row (events_parts c.args.instance.now))
+    (sym c.has_no_events.ensures ∙ c.if-has_no_events.false)) h)
 
 pub returns-then-has_no_events : goal.returns-then-has_no_events
 unfolding put_all
 returns-then-has_no_events g c more t rest whole h =
-    subst (λ (bs : List Body). g.O.Output.said c.args.out.now (filled (put_all tag.Events bs more) c.args.opened t rest) whole) (around_none (row (events_parts c.args.instance.now)) (sym c.has_no_events.ensures ∙ c.if-has_no_events.true)) h
+    subst (λ (bs : List Body). g.O.Output.said c.args.out.now (filled (put_all tag.Events bs more) c.args.opened t rest)
+    whole) (around_none (row (events_parts c.args.instance.now))
+    (sym c.has_no_events.ensures ∙ c.if-has_no_events.true)) h

@@ -8,9 +8,14 @@ use Rattle.xhstt_writer.proofs.instances.times.Goals as goal
 
 pub returns : goal.returns
 returns g c more t rest whole h =
-    c.some_times.ensures more t rest whole (subst (λ (bs : List Body). g.O.Output.said c.args.out.now (filled (put_all tag.Times bs more) c.args.opened t rest) whole) (around_any (row (times_parts c.args.instance.now)) (sym c.has_no_times.ensures ∙ c.if-has_no_times.false)) h)
+    c.some_times.ensures more t rest whole (subst
+    (λ (bs : List Body). g.O.Output.said c.args.out.now (filled (put_all tag.Times bs more) c.args.opened t rest)
+    whole) (around_any (row (times_parts c.args.instance.now))
+    (sym c.has_no_times.ensures ∙ c.if-has_no_times.false)) h)
 
 pub returns-then-has_no_times : goal.returns-then-has_no_times
 unfolding put_all
 returns-then-has_no_times g c more t rest whole h =
-    subst (λ (bs : List Body). g.O.Output.said c.args.out.now (filled (put_all tag.Times bs more) c.args.opened t rest) whole) (around_none (row (times_parts c.args.instance.now)) (sym c.has_no_times.ensures ∙ c.if-has_no_times.true)) h
+    subst (λ (bs : List Body). g.O.Output.said c.args.out.now (filled (put_all tag.Times bs more) c.args.opened t rest)
+    whole) (around_none (row (times_parts c.args.instance.now))
+    (sym c.has_no_times.ensures ∙ c.if-has_no_times.true)) h

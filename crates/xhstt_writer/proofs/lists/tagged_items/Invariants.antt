@@ -7,5 +7,7 @@ use Rattle.xhstt_writer.proofs.lists.tagged_items.Given as goal
 
 abbrev pub invariant-loop-item : goal.invariant-loop-item
 invariant-loop-item g l =
-    (t : Tag) (rest : List ℕ) (whole : Aim) → g.O.Output.said l.fn.out (filled (each g.T.Tagged.own_tag g.T.Write.body l.items) l.fn.opened t rest) whole
-    → g.O.Output.said l.out (filled (each g.T.Tagged.own_tag g.T.Write.body (drop l.item-index l.items)) l.still t rest) whole
+    (t : Tag) (rest : List ℕ) (whole : Aim) → g.O.Output.said l.fn.out
+    (filled (each g.T.Tagged.own_tag g.T.Write.body l.items) l.fn.opened t rest) whole
+    → g.O.Output.said l.out (filled (each g.T.Tagged.own_tag g.T.Write.body (drop l.item-index l.items)) l.still t rest)
+    whole

@@ -12,5 +12,15 @@ returns g c =
     let faults = g.K.Sink.faults c.args.stream.now.sink.now in
     let bytes = spec.canonical c.args.archive.now in
     let aim : Aim = record { reference = name; waiting = waiting; before = taken; faults = faults; bytes = bytes } in
-    let said = c.put_archive.ensures aim (refl, refl, begun name waiting taken faults c.args.stream.now.ended c.args.stream.now.pending.now.items bytes c.requires.ended c.requires.pending) in
-    record { same_reference = said.0; same_buffer = said.1; streams = renamed name waiting 0 0 _ taken _ faults c.put_archive.new.out.ended _ [] bytes said.2 }
+    let said = c.put_archive.ensures aim (
+      refl,
+      refl,
+      begun name waiting taken faults c.args.stream.now.ended
+          c.args.stream.now.pending.now.items bytes c.requires.ended c.requires.pending,
+    ) in
+    record {
+      same_reference = said.0;
+      same_buffer = said.1;
+      streams =
+          renamed name waiting 0 0 _ taken _ faults c.put_archive.new.out.ended _ [] bytes said.2;
+    }

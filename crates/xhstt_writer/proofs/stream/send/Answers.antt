@@ -8,7 +8,8 @@ pub returns-in-Some-clause-front : goal.returns-in-Some-clause-front
 returns-in-Some-clause-front g c = sent_front _ _ c.stream_to.result c.in-Some.fault _ c.in-Some.is c.stream_to.ensures
 
 pub returns-in-Some-clause-failed : goal.returns-in-Some-clause-failed
-returns-in-Some-clause-failed g c = sink_refused _ _ c.stream_to.result c.in-Some.fault _ c.in-Some.is c.stream_to.ensures
+returns-in-Some-clause-failed g c = sink_refused _ _ c.stream_to.result c.in-Some.fault _ c.in-Some.is
+    c.stream_to.ensures
 
 pub returns-in-Some-clause-counted : goal.returns-in-Some-clause-counted
 returns-in-Some-clause-counted g c = c.stream_to.ensures.counted

@@ -10,7 +10,8 @@ use Rattle.khe_base.proofs.IdSetLemmas.{member_below}
 pub follow_at-requires-clause-picked : goal.follow_at-requires-clause-picked
 follow_at-requires-clause-picked c =
     let t = c.args.table.now in
-    ap (is_picked t.resources c.in-Some.domain.resources) c.number-resource.ensures ∙ picked_hit t.resources c.in-Some.domain.resources c.loop-i.i (omega (arith, c.count-i-end.ensures))
+    ap (is_picked t.resources c.in-Some.domain.resources) c.number-resource.ensures
+    ∙ picked_hit t.resources c.in-Some.domain.resources c.loop-i.i (omega (arith, c.count-i-end.ensures))
 
 pub loop-i-preserved : goal.loop-i-preserved
 loop-i-preserved c =
@@ -27,5 +28,8 @@ loop-i-preserved c =
 pub returns-clause-reached : goal.returns-clause-reached
 returns-clause-reached c =
     let t = c.args.table.now in
-    let its = sym (get_or_read t.demands.items c.args.from c.index.result.now (omega (arith, member_below c.args.self.now.marks c.args.from c.requires.from, c.requires.reach.size)) c.index.ensures None) ∙ c.in-Some.is in
-    λ s by may owner. all_picked_reached t c.in-Some.domain c.loop-i.self c.args.from c.loop-i.i s by its (omega (arith, c.count-i-end.ensures)) c.loop-i.invariant.reached may owner
+    let its = sym (get_or_read t.demands.items c.args.from c.index.result.now
+    (omega (arith, member_below c.args.self.now.marks c.args.from c.requires.from, c.requires.reach.size))
+    c.index.ensures None) ∙ c.in-Some.is in
+    λ s by may owner. all_picked_reached t c.in-Some.domain c.loop-i.self c.args.from c.loop-i.i s by its
+    (omega (arith, c.count-i-end.ensures)) c.loop-i.invariant.reached may owner

@@ -9,5 +9,7 @@ use Rattle.demand_matching.proofs.reach.Reach.follow.Given as goal
 abbrev pub invariant-loop-i : goal.invariant-loop-i
 invariant-loop-i l = record {
   reaches : Reaches l.table l.fn.self l.self;
-  reached : (j time by : ℕ) → j < l.i → is_picked l.table.times l.domain.times time ≡ true → owner_of l.table (get_or (picked l.table.resources l.domain.resources) j 0 * l.table.last + l.domain.shift + time) ≡ Some by → has_member l.self.marks by ≡ true;
+  reached : (j time by : ℕ) → j < l.i → is_picked l.table.times l.domain.times time ≡ true
+      → owner_of l.table (get_or (picked l.table.resources l.domain.resources) j
+      0 * l.table.last + l.domain.shift + time) ≡ Some by → has_member l.self.marks by ≡ true;
 }

@@ -8,7 +8,8 @@ abbrev pub invariant-loop-k : goal.invariant-loop-k
 invariant-loop-k l = record {
   within : l.k ≤ length l.self.demands;
   reaches : Reaches l.table l.fn.self l.self;
-  reached : (j supply by : ℕ) → j < l.k → may_take (domains_of l.table) (get_or l.self.demands j 0) supply ≡ true → owner_of l.table supply ≡ Some by → has_member l.self.marks by ≡ true;
+  reached : (j supply by : ℕ) → j < l.k → may_take (domains_of l.table) (get_or l.self.demands j 0) supply ≡ true
+      → owner_of l.table supply ≡ Some by → has_member l.self.marks by ≡ true;
 }
 
 abbrev pub decreases-loop-k : goal.decreases-loop-k

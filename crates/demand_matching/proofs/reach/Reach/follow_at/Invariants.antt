@@ -8,5 +8,6 @@ use Rattle.demand_matching.proofs.reach.Reach.follow_at.Given as goal
 abbrev pub invariant-loop-i : goal.invariant-loop-i
 invariant-loop-i l = record {
   reaches : Reaches l.table l.fn.self l.self;
-  reached : (j by : ℕ) → j < l.i → owner_of l.table (l.row + get_or (picked l.table.times l.domain.times) j 0) ≡ Some by → has_member l.self.marks by ≡ true;
+  reached : (j by : ℕ) → j < l.i → owner_of l.table (l.row + get_or (picked l.table.times l.domain.times) j 0) ≡ Some by
+      → has_member l.self.marks by ≡ true;
 }

@@ -16,6 +16,9 @@ pub returns : goal.returns
 returns c =
     let size : c.args.demand < length c.args.self.now.marks = omega (arith, c.requires.reach.size) in
     record {
-      reaches = reaches_more c.args.table.now c.args.self.now _ c.args.demand c.requires.reach c.requires.demand c.requires.present c.requires.all (sym c.has.ensures.below ∙ c.if-has.false) c.in_ok-push.ensures.ok c.insert.ensures;
-      reached = ap (λ v. has_member v c.args.demand) c.insert.ensures ∙ member_same c.args.self.now.marks c.args.demand size;
+      reaches = reaches_more c.args.table.now c.args.self.now _ c.args.demand c.requires.reach c.requires.demand
+          c.requires.present c.requires.all (sym c.has.ensures.below ∙ c.if-has.false) c.in_ok-push.ensures.ok
+          c.insert.ensures;
+      reached = ap (λ v. has_member v c.args.demand) c.insert.ensures
+          ∙ member_same c.args.self.now.marks c.args.demand size;
     }

@@ -1,4 +1,5 @@
-use Rattle.std.proofs.Common.{ℕ, ◌+◌, ◌*◌, ◌/◌, ◌%◌, ◌^◌, ◌<◌, ◌≤◌, ◌≡◌, ◌≢◌, ap, sym, ◌∙◌, arith, inl, inr, nat_eq, eqb}
+use Rattle.std.proofs.Common.{ℕ, ◌+◌, ◌*◌, ◌/◌, ◌%◌, ◌^◌, ◌<◌, ◌≤◌, ◌≡◌, ◌≢◌, ap, sym, ◌∙◌, arith, inl, inr, nat_eq}
+use Rattle.std.proofs.Common.{eqb}
 use Rattle.std.proofs.lemmas.Bool.{eq-eqb, ne_eqb}
 use Rattle.std.proofs.lemmas.Nat.{one_shl}
 use Rattle.std.proofs.lemmas.Nat.Bits.{bit_at-pow_same, bit_at-pow_other}
@@ -15,7 +16,8 @@ one_bit n k i e h =
     ∙ elim (cases_eqb i (n % 64)) [
       | inl x ↦
           let same : n ≡ 64 * k + i = omega arith in
-          ap (λ v. has_bit (2 ^ (n % 64)) v) x ∙ ap (λ v. nat_eq v 1) (bit_at-pow_same (n % 64)) ∙ sym (eq-eqb n (64 * k + i) same)
+          ap (λ v. has_bit (2 ^ (n % 64)) v) x ∙ ap (λ v. nat_eq v 1) (bit_at-pow_same (n % 64))
+          ∙ sym (eq-eqb n (64 * k + i) same)
       | inr x ↦
           let apart : n ≢ 64 * k + i = λ z. x (omega arith) in
           ap (λ v. nat_eq v 1) (bit_at-pow_other (n % 64) i x) ∙ sym (ne_eqb n (64 * k + i) apart)
@@ -25,4 +27,5 @@ pub returns-in-One : goal.returns-in-One
 returns-in-One c =
     let low : c.in-One.n / 64 ≤ c.args.k = rw c.in-One.is at c.requires.first in
     let high : c.args.k < c.in-One.n / 64 + 1 = rw c.in-One.is at c.requires.end in
-    λ i h. one_bit c.in-One.n c.args.k i (omega arith) h ∙ ap (λ p. is_picked c.args.self.now p (64 * c.args.k + i)) (sym c.in-One.is)
+    λ i h. one_bit c.in-One.n c.args.k i (omega arith) h
+    ∙ ap (λ p. is_picked c.args.self.now p (64 * c.args.k + i)) (sym c.in-One.is)

@@ -7,7 +7,8 @@ use Rattle.demand_matching.proofs.table.Table.free_between.Goals as goal
 pub free_at-requires-clause-picked : goal.free_at-requires-clause-picked
 free_at-requires-clause-picked c =
     let t = c.args.self.now in
-    ap (is_picked t.resources c.args.domain.resources) c.number-resource.ensures ∙ picked_hit t.resources c.args.domain.resources c.loop-i.i (omega arith)
+    ap (is_picked t.resources c.args.domain.resources) c.number-resource.ensures
+    ∙ picked_hit t.resources c.args.domain.resources c.loop-i.i (omega arith)
 
 pub loop-i-preserved : goal.loop-i-preserved
 loop-i-preserved c =

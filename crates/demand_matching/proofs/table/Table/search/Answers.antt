@@ -14,7 +14,9 @@ unreachable-requires c =
     let inv = c.loop-place.invariant in
     let search = inv.goes_on.search in
     let near : c.loop-place.place < demands_in t = omega (arith, search.len_fits) in
-    let read = domain_read t order c.loop-place.place c.index-demand.result.now c.index.result.now (omega (arith, search.order.order_length)) (search.order.order_below c.loop-place.place near) c.index-demand.ensures c.index.ensures in
+    let read = domain_read t order c.loop-place.place c.index-demand.result.now c.index.result.now
+    (omega (arith, search.order.order_length)) (search.order.order_below c.loop-place.place near)
+    c.index-demand.ensures c.index.ensures in
     let some = search.there c.loop-place.place c.loop-place-test.true in
     false≢true (sym (ap is_some (sym read ∙ c.in_default.is)) ∙ some)
 
@@ -25,7 +27,9 @@ free_in-requires-clause-domain c =
     let inv = c.loop-place.invariant in
     let search = inv.goes_on.search in
     let near : c.loop-place.place < demands_in t = omega (arith, search.len_fits) in
-    let read = domain_read t order c.loop-place.place c.index-demand.result.now c.index.result.now (omega (arith, search.order.order_length)) (search.order.order_below c.loop-place.place near) c.index-demand.ensures c.index.ensures in
+    let read = domain_read t order c.loop-place.place c.index-demand.result.now c.index.result.now
+    (omega (arith, search.order.order_length)) (search.order.order_below c.loop-place.place near)
+    c.index-demand.ensures c.index.ensures in
     c.requires.table.in_range (get_or order c.loop-place.place 0) c.in-Some.domain (sym read ∙ c.in-Some.is)
 
 pub meet_all-met-requires-clause-domain : goal.meet_all-met-requires-clause-domain
@@ -35,7 +39,9 @@ meet_all-met-requires-clause-domain c =
     let inv = c.loop-place.invariant in
     let search = inv.goes_on.search in
     let near : c.loop-place.place < demands_in t = omega (arith, search.len_fits) in
-    let read = domain_read t order c.loop-place.place c.index-demand.result.now c.index.result.now (omega (arith, search.order.order_length)) (search.order.order_below c.loop-place.place near) c.index-demand.ensures c.index.ensures in
+    let read = domain_read t order c.loop-place.place c.index-demand.result.now c.index.result.now
+    (omega (arith, search.order.order_length)) (search.order.order_below c.loop-place.place near)
+    c.index-demand.ensures c.index.ensures in
     sym read ∙ c.in-Some.is
 
 pub meet_all-met-requires-clause-taken : goal.meet_all-met-requires-clause-taken
@@ -45,8 +51,11 @@ meet_all-met-requires-clause-taken c =
     let inv = c.loop-place.invariant in
     let search = inv.goes_on.search in
     let near : c.loop-place.place < demands_in t = omega (arith, search.len_fits) in
-    let read = domain_read t order c.loop-place.place c.index-demand.result.now c.index.result.now (omega (arith, search.order.order_length)) (search.order.order_below c.loop-place.place near) c.index-demand.ensures c.index.ensures in
-    λ s may free. c.in-None.ensures s (sym (may_is (domains_of t) c.in-Some.domain (get_or order c.loop-place.place 0) s (sym read ∙ c.in-Some.is)) ∙ may) free
+    let read = domain_read t order c.loop-place.place c.index-demand.result.now c.index.result.now
+    (omega (arith, search.order.order_length)) (search.order.order_below c.loop-place.place near)
+    c.index-demand.ensures c.index.ensures in
+    λ s may free. c.in-None.ensures s (sym (may_is (domains_of t) c.in-Some.domain (get_or order c.loop-place.place 0) s
+    (sym read ∙ c.in-Some.is)) ∙ may) free
 
 pub returns-in-Some-free_in : goal.returns-in-Some-free_in
 returns-in-Some-free_in c =
@@ -55,18 +64,22 @@ returns-in-Some-free_in c =
     let inv = c.loop-place.invariant in
     let search = inv.goes_on.search in
     let near : c.loop-place.place < demands_in t = omega (arith, search.len_fits) in
-    let read = domain_read t order c.loop-place.place c.index-demand.result.now c.index.result.now (omega (arith, search.order.order_length)) (search.order.order_below c.loop-place.place near) c.index-demand.ensures c.index.ensures in
+    let read = domain_read t order c.loop-place.place c.index-demand.result.now c.index.result.now
+    (omega (arith, search.order.order_length)) (search.order.order_below c.loop-place.place near)
+    c.index-demand.ensures c.index.ensures in
     let g = inv.goes_on in
     let it = c.in-Some-free_in.ensures in
     record {
-      search = search_shorter t c.args.head order c.loop-place.order.spots.items c.loop-place.order.met_from.items c.loop-place.met (c.loop-place.place + 1) (omega arith) search;
+      search = search_shorter t c.args.head order c.loop-place.order.spots.items c.loop-place.order.met_from.items
+          c.loop-place.met (c.loop-place.place + 1) (omega arith) search;
       keeps = g.keeps;
       within = within_less t c.args.order.now c.loop-place.order c.args.left c.loop-place.met g.within;
       marked = c.unmark.ensures;
       after = inv.from_head;
       below = it.below;
       free = it.free;
-      allowed = may_is (domains_of t) c.in-Some.domain (get_or order c.loop-place.place 0) c.in-Some-free_in.supply (sym read ∙ c.in-Some.is) ∙ it.admitted;
+      allowed = may_is (domains_of t) c.in-Some.domain (get_or order c.loop-place.place 0) c.in-Some-free_in.supply
+          (sym read ∙ c.in-Some.is) ∙ it.admitted;
     }
 
 pub loop-place-preserved : goal.loop-place-preserved
@@ -77,6 +90,10 @@ loop-place-preserved c =
     record {
       from_head = omega (arith, inv.from_head);
       within = omega (arith, g.longer);
-      goes_on = goes_on_trans t c.args.head c.args.order.now c.loop-place.order c.meet_all-met.new.order c.loop-place.unseen.items c.meet_all-met.new.unseen.items c.args.left c.loop-place.met c.meet_all-met.result c.requires.table inv.goes_on g;
-      closed = search_more t c.loop-place.order c.meet_all-met.new.order c.meet_all-met.new.unseen.items c.args.head c.loop-place.place c.loop-place.met c.meet_all-met.result c.loop-place-test.true g inv.closed c.meet_all-met.ensures.reached;
+      goes_on = goes_on_trans t c.args.head c.args.order.now c.loop-place.order c.meet_all-met.new.order
+          c.loop-place.unseen.items c.meet_all-met.new.unseen.items c.args.left c.loop-place.met c.meet_all-met.result
+          c.requires.table inv.goes_on g;
+      closed = search_more t c.loop-place.order c.meet_all-met.new.order c.meet_all-met.new.unseen.items c.args.head
+          c.loop-place.place c.loop-place.met c.meet_all-met.result c.loop-place-test.true g inv.closed
+          c.meet_all-met.ensures.reached;
     }

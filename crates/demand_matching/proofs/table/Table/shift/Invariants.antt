@@ -12,7 +12,8 @@ invariant-loop-freed l = record {
   below : l.supply < supplies_in l.self;
   free : owner_of l.self l.supply ≡ None;
   allowed : may_take (domains_of l.self) (get_or l.order.demands.items l.place 0) l.supply ≡ true;
-  same : (k : ℕ) → k ≤ l.place → supply_of l.self (get_or l.order.demands.items k 0) ≡ supply_of l.fn.self (get_or l.order.demands.items k 0);
+  same : (k : ℕ) → k ≤ l.place → supply_of l.self (get_or l.order.demands.items k 0)
+      ≡ supply_of l.fn.self (get_or l.order.demands.items k 0);
   others : (demand : ℕ) → is_none (supply_of l.self demand) ≡ is_none (supply_of l.fn.self demand);
 }
 

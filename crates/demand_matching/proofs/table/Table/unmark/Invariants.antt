@@ -7,5 +7,6 @@ abbrev pub invariant-loop-place : goal.invariant-loop-place
 invariant-loop-place l = record {
   room : length l.unseen.items ≡ length l.fn.unseen.items;
   still : (supply : ℕ) → is_set l.unseen.items supply ≡ false → is_set l.fn.unseen.items supply ≡ false;
-  none : (k supply : ℕ) → l.from ≤ k → k < l.place → supply_of l.self (get_or l.order.demands.items k 0) ≡ Some supply → is_set l.unseen.items supply ≡ false → ⊥;
+  none : (k supply : ℕ) → l.from ≤ k → k < l.place → supply_of l.self (get_or l.order.demands.items k 0) ≡ Some supply
+      → is_set l.unseen.items supply ≡ false → ⊥;
 }

@@ -13,7 +13,9 @@ bounds-as_slice-event c =
     let p = c.self.inside.inst.now in
     let ms = c.self.inside.meets.now in
     let within : c.args.event.0 < length p.events = rw (← c.self.view_is) at c.requires in
-    let long : length c.as_slice.result.now ≡ length p.events = ap length c.as_slice.ensures ∙ length_by (λ e. meets_of e ms) (length p.events) c.self.inside.by_event c.self.invariant.meets_are in
+    let long : length c.as_slice.result.now ≡ length p.events =
+    ap length c.as_slice.ensures ∙ length_by (λ e. meets_of e ms) (length p.events) c.self.inside.by_event
+    c.self.invariant.meets_are in
     subst (λ n. c.args.event.0 < n) (sym long) within
 
 pub returns-clause-are : goal.returns-clause-are
@@ -21,7 +23,9 @@ returns-clause-are c =
     let p = c.self.inside.inst.now in
     let ms = c.self.inside.meets.now in
     let within : c.args.event.0 < length p.events = rw (← c.self.view_is) at c.requires in
-    let found = read_by (λ e. meets_of e ms) (length p.events) c.args.event.0 c.as_slice.result.now c.index-as_slice-event.result (c.as_slice.ensures ∙ c.self.invariant.meets_are) within c.index-as_slice-event.is in
+    let found = read_by (λ e. meets_of e ms) (length p.events) c.args.event.0 c.as_slice.result.now
+    c.index-as_slice-event.result (c.as_slice.ensures ∙ c.self.invariant.meets_are) within
+    c.index-as_slice-event.is in
     rw (← c.self.view_is) (c.as_slice-2.ensures ∙ found)
 
 pub returns-clause-bounded : goal.returns-clause-bounded
@@ -29,22 +33,33 @@ returns-clause-bounded c =
     let p = c.self.inside.inst.now in
     let ms = c.self.inside.meets.now in
     let within : c.args.event.0 < length p.events = rw (← c.self.view_is) at c.requires in
-    let found = read_by (λ e. meets_of e ms) (length p.events) c.args.event.0 c.as_slice.result.now c.index-as_slice-event.result (c.as_slice.ensures ∙ c.self.invariant.meets_are) within c.index-as_slice-event.is in
-    let bounded = of_one_event p ms c.self.inside.duties.now c.self.invariant.made c.self.invariant.state c.args.event.0 within in
-    rw (← c.self.view_is) (subst (AreOfOneEvent (length p.times) (duration_at p.events c.args.event.0)) (sym (c.as_slice-2.ensures ∙ found)) bounded)
+    let found = read_by (λ e. meets_of e ms) (length p.events) c.args.event.0 c.as_slice.result.now
+    c.index-as_slice-event.result (c.as_slice.ensures ∙ c.self.invariant.meets_are) within
+    c.index-as_slice-event.is in
+    let bounded = of_one_event p ms c.self.inside.duties.now c.self.invariant.made c.self.invariant.state c.args.event.0
+    within in
+    rw (← c.self.view_is) (subst (AreOfOneEvent (length p.times) (duration_at p.events c.args.event.0))
+    (sym (c.as_slice-2.ensures ∙ found)) bounded)
 
 pub returns-clause-few : goal.returns-clause-few
 returns-clause-few c =
     let p = c.self.inside.inst.now in
     let ms = c.self.inside.meets.now in
     let within : c.args.event.0 < length p.events = rw (← c.self.view_is) at c.requires in
-    let found = read_by (λ e. meets_of e ms) (length p.events) c.args.event.0 c.as_slice.result.now c.index-as_slice-event.result (c.as_slice.ensures ∙ c.self.invariant.meets_are) within c.index-as_slice-event.is in
-    let bounded = of_one_event p ms c.self.inside.duties.now c.self.invariant.made c.self.invariant.state c.args.event.0 within in
-    let own : length (meets_of c.args.event.0 ms) ≤ duration_at p.events c.args.event.0 = omega (arith, few (meets_of c.args.event.0 ms) bounded.each, bounded.together) in
-    rw (← c.self.view_is) (subst (λ (xs : List Meet). length xs ≤ duration_at p.events c.args.event.0) (sym (c.as_slice-2.ensures ∙ found)) own)
+    let found = read_by (λ e. meets_of e ms) (length p.events) c.args.event.0 c.as_slice.result.now
+    c.index-as_slice-event.result (c.as_slice.ensures ∙ c.self.invariant.meets_are) within
+    c.index-as_slice-event.is in
+    let bounded = of_one_event p ms c.self.inside.duties.now c.self.invariant.made c.self.invariant.state c.args.event.0
+    within in
+    let own : length (meets_of c.args.event.0 ms) ≤ duration_at p.events c.args.event.0 =
+    omega (arith, few (meets_of c.args.event.0 ms) bounded.each, bounded.together) in
+    rw (← c.self.view_is) (subst (λ (xs : List Meet). length xs ≤ duration_at p.events c.args.event.0)
+    (sym (c.as_slice-2.ensures ∙ found)) own)
 
 pub returns-clause-short : goal.returns-clause-short
-returns-clause-short c = rw (← c.self.view_is) (short c.self.inside.inst.now c.self.inside.meets.now c.self.inside.duties.now c.self.invariant.made c.self.invariant.state c.args.event.0)
+returns-clause-short c = rw (← c.self.view_is)
+    (short c.self.inside.inst.now c.self.inside.meets.now c.self.inside.duties.now c.self.invariant.made
+    c.self.invariant.state c.args.event.0)
 
 pub returns-clause-times : goal.returns-clause-times
 returns-clause-times c = rw (← c.self.view_is) c.self.invariant.made.limits.times

@@ -11,10 +11,21 @@ value-requires g c =
     let k = c.place_of-k.result in
     let a = c.place_of-k.ensures.0 in
     let there = c.place_of-k.ensures.1 in
-    let within : k < length c.args.self.now.gauges.items = let x = slice_get_within c.args.self.now.index.posts k a there in let y = c.requires.of.2 in omega (arith, x, y) in
-    let here : slice_get c.args.self.now.gauges.items k ≡ Some c.index.result.now = slice_get-get_or c.args.self.now.gauges.items k c.index.result.now within ∙ ap Some (sym c.index.ensures) in
-    let same : get_or c.as_slice.result.now k no_post ≡ a = ap (λ xs. get_or xs k no_post) c.as_slice.ensures ∙ get_or_from_slice_get c.args.self.now.index.posts k a no_post there in
-    record { keeps = (c.args.self.now.told, subst (λ (b : Post). g.G.Gauge.Keeps c.index.result.now c.args.inst.now b.monitor c.args.self.now.told) (sym same) (c.requires.of.3 k a c.index.result.now there here)) }
+    let within : k < length c.args.self.now.gauges.items = let x =
+    slice_get_within c.args.self.now.index.posts k a there in let y = c.requires.of.2 in omega (arith, x, y) in
+    let here : slice_get c.args.self.now.gauges.items k ≡ Some c.index.result.now =
+    slice_get-get_or c.args.self.now.gauges.items k c.index.result.now within ∙ ap Some (sym c.index.ensures) in
+    let same : get_or c.as_slice.result.now k no_post ≡ a =
+    ap (λ xs. get_or xs k no_post) c.as_slice.ensures
+    ∙ get_or_from_slice_get c.args.self.now.index.posts k a no_post there in
+    record {
+      keeps = (
+        c.args.self.now.told,
+        subst
+            (λ (b : Post). g.G.Gauge.Keeps c.index.result.now c.args.inst.now b.monitor c.args.self.now.told) (sym same)
+            (c.requires.of.3 k a c.index.result.now there here),
+      );
+    }
 
 pub returns-clause-value : goal.returns-clause-value
 returns-clause-value g c =
@@ -23,10 +34,15 @@ returns-clause-value g c =
     let k = c.place_of-k.result in
     let a = c.place_of-k.ensures.0 in
     let there = c.place_of-k.ensures.1 in
-    let within : k < length c.args.self.now.gauges.items = let x = slice_get_within c.args.self.now.index.posts k a there in let y = c.requires.of.2 in omega (arith, x, y) in
-    let here : slice_get c.args.self.now.gauges.items k ≡ Some c.index.result.now = slice_get-get_or c.args.self.now.gauges.items k c.index.result.now within ∙ ap Some (sym c.index.ensures) in
-    let same : get_or c.as_slice.result.now k no_post ≡ a = ap (λ xs. get_or xs k no_post) c.as_slice.ensures ∙ get_or_from_slice_get c.args.self.now.index.posts k a no_post there in
-    let found : slice_get p.monitors c.args.monitor.0 ≡ Some a.monitor = ap (slice_get p.monitors) (sym c.place_of-k.ensures.2) ∙ (c.requires.of.0.each k a there).there in
+    let within : k < length c.args.self.now.gauges.items = let x =
+    slice_get_within c.args.self.now.index.posts k a there in let y = c.requires.of.2 in omega (arith, x, y) in
+    let here : slice_get c.args.self.now.gauges.items k ≡ Some c.index.result.now =
+    slice_get-get_or c.args.self.now.gauges.items k c.index.result.now within ∙ ap Some (sym c.index.ensures) in
+    let same : get_or c.as_slice.result.now k no_post ≡ a =
+    ap (λ xs. get_or xs k no_post) c.as_slice.ensures
+    ∙ get_or_from_slice_get c.args.self.now.index.posts k a no_post there in
+    let found : slice_get p.monitors c.args.monitor.0 ≡ Some a.monitor =
+    ap (slice_get p.monitors) (sym c.place_of-k.ensures.2) ∙ (c.requires.of.0.each k a there).there in
     ap (option_map (deviation_in p s)) found
     ∙ ap Some (g.met.G.Gauge.exact c.index.result.now p a.monitor s (c.requires.of.3 k a c.index.result.now there here))
     ∙ sym (ap Some (c.value.ensures.value ∙ ap (λ (b : Post). g.G.Gauge.value c.index.result.now p b.monitor) same))

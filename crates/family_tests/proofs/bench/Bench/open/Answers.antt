@@ -6,6 +6,8 @@ pub invariant_of-result : goal.invariant_of-result
 invariant_of-result g c = (
   c.in_ok-family.ensures.of,
   c.in_ok-family.ensures.told ∙ sym c.in_ok-told.ensures,
-  bench_opened c.args.inst.now g.F.Family.serves_kind c.in_ok-told.told (g.F.Family.told c.in_ok-family.family) c.in_ok-held.held.items c.set_all.new.marks.values.items
-      c.in_ok-told.ensures c.in_ok-family.ensures.told (c.in_ok-held.ensures ∙ ap (λ n. replicate n 0) c.events.ensures) c.set_all.ensures.monitors c.set_all.ensures.agrees,
+  bench_opened c.args.inst.now g.F.Family.serves_kind c.in_ok-told.told (g.F.Family.told c.in_ok-family.family)
+      c.in_ok-held.held.items c.set_all.new.marks.values.items
+      c.in_ok-told.ensures c.in_ok-family.ensures.told (c.in_ok-held.ensures ∙ ap (λ n. replicate n 0) c.events.ensures)
+      c.set_all.ensures.monitors c.set_all.ensures.agrees,
 )

@@ -9,6 +9,9 @@ use Rattle.hall_report.proofs.demands.Demands.hall.Goals as goal
 
 pub returns : goal.returns
 returns c = λ p are.
-    hall_is p c.args.self.now.told c.args.self.now.units c.args.self.now.picks c.args.self.now.matching c.args.self.now.cells c.args.self.now.tasks c.args.self.now.times are
+    hall_is p c.args.self.now.told c.args.self.now.units c.args.self.now.picks c.args.self.now.matching
+    c.args.self.now.cells c.args.self.now.tasks c.args.self.now.times are
     c.in_ok-marks.ensures.0 c.in_ok-marks.marks c.list.new.hall c.in_ok-marks.ensures.1 c.in_ok-marks.ensures.2
-    (c.in_ok-list.ensures ∙ ap (λ xs. (xs ++ filter (is_marked c.args.self.now.units c.in_ok-marks.marks) (task_demands c.args.self.now.told)) ++ chosen (λ i. has_member c.in_ok-marks.marks (c.args.self.now.tasks + i)) 0 (map (cell_demand c.args.self.now.times) c.args.self.now.cells)) c.new-hall.ensures)
+    (c.in_ok-list.ensures ∙ ap (λ xs. (xs ++ filter (is_marked c.args.self.now.units c.in_ok-marks.marks)
+    (task_demands c.args.self.now.told)) ++ chosen (λ i. has_member c.in_ok-marks.marks (c.args.self.now.tasks + i))
+    0 (map (cell_demand c.args.self.now.times) c.args.self.now.cells)) c.new-hall.ensures)

@@ -12,5 +12,6 @@ returns-clause-room c =
 pub returns-clause-bits : goal.returns-clause-bits
 returns-clause-bits c n =
     let words = c.self.inside.words.items in
-    ap (λ w. is_set w n) c.as_slice.ensures.value ∙ sym (has_member-set_of_bits words c.self.inside.size c.self.invariant.beyond n)
+    ap (λ w. is_set w n) c.as_slice.ensures.value
+    ∙ sym (has_member-set_of_bits words c.self.inside.size c.self.invariant.beyond n)
     ∙ ap (λ s. has_member s n) c.self.view_is

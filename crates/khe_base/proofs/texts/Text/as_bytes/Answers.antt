@@ -5,4 +5,5 @@ use Rattle.khe_base.proofs.texts.Text.as_bytes.Goals as goal
 
 pub returns : goal.returns
 returns c =
-    c.as_bytes.ensures.value ∙ sym (encodes-chars _ (IsUtf8-string_bytes c.self.inside.items)) ∙ ap encode_utf8_all c.self.view_is
+    c.as_bytes.ensures.value ∙ sym (encodes-chars _ (IsUtf8-string_bytes c.self.inside.items))
+    ∙ ap encode_utf8_all c.self.view_is

@@ -9,5 +9,6 @@ pub returns-clause-ok : goal.returns-clause-ok
 returns-clause-ok c =
     ap characters c.in_ok-push.ensures.bytes
     ∙ chars-append _ _ (IsUtf8-string_bytes c.self.inside.items)
-    ∙ ap (λ t. characters (string_bytes c.self.inside.items) ++ t) (characters-encode c.args.character c.ranges.character.0)
+    ∙ ap (λ t. characters (string_bytes c.self.inside.items) ++ t)
+    (characters-encode c.args.character c.ranges.character.0)
     ∙ ap (λ t. t ++ c.args.character ∷ []) c.self.view_is

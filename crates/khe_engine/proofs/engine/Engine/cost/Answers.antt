@@ -15,4 +15,5 @@ pub returns : goal.returns
 returns g c =
     let i = c.self.inside in
     let h = c.self.invariant.4 in
-    rw (← c.self.view_is) (c.cost.ensures i.inst.now h.rates ∙ ap (λ xs. get_or xs c.args.monitor.0 0) (costs_same i.inst.now i.solution.slots i.listeners.graph h))
+    rw (← c.self.view_is) (c.cost.ensures i.inst.now h.rates
+    ∙ ap (λ xs. get_or xs c.args.monitor.0 0) (costs_same i.inst.now i.solution.slots i.listeners.graph h))

@@ -6,4 +6,5 @@ use Rattle.khe_engine.proofs.engine.Engine.deficit.Goals as goal
 pub returns : goal.returns
 returns g c =
     let i = c.self.inside in
-    rw (← c.self.view_is) (c.deficit.ensures i.inst.now c.self.invariant.1 ∙ ap (deficit_of i.inst.now) c.self.invariant.3)
+    rw (← c.self.view_is) (c.deficit.ensures i.inst.now c.self.invariant.1
+    ∙ ap (deficit_of i.inst.now) c.self.invariant.3)

@@ -16,4 +16,5 @@ returns g c =
     let i = c.self.inside in
     let d = ap (λ (w : World). length w.parts.monitors) c.self.view_is in
     let e = c.requires in
-    rw (← c.self.view_is) (value_is i.inst.now i.solution.slots i.listeners.graph c.args.monitor.0 c.deviation.result c.self.invariant.4 (omega (arith, d, e)) c.deviation.ensures)
+    rw (← c.self.view_is) (value_is i.inst.now i.solution.slots i.listeners.graph c.args.monitor.0 c.deviation.result
+    c.self.invariant.4 (omega (arith, d, e)) c.deviation.ensures)

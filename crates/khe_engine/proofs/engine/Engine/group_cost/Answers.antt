@@ -10,4 +10,6 @@ returns g c =
     let i = c.self.inside in
     let h = c.self.invariant.4 in
     rw (← c.self.view_is) (c.group_cost.ensures i.inst.now h.rates
-    ∙ ap (λ xs. totals_among i.inst.now xs (map (λ (m : MonitorId). m.0) (children_at i.listeners.graph.groups c.args.group.0))) (costs_same i.inst.now i.solution.slots i.listeners.graph h))
+    ∙ ap (λ xs. totals_among i.inst.now xs (map (λ (m : MonitorId). m.0)
+    (children_at i.listeners.graph.groups c.args.group.0)))
+    (costs_same i.inst.now i.solution.slots i.listeners.graph h))

@@ -6,4 +6,5 @@ use Rattle.khe_engine.proofs.engine.Engine.hall.Goals as goal
 pub returns : goal.returns
 returns g c =
     let i = c.self.inside in
-    rw (← c.self.view_is) (subst (λ s. IfOk c.hall.result (AreCompeting i.inst.now s)) c.self.invariant.3 (c.hall.ensures i.inst.now c.self.invariant.1))
+    rw (← c.self.view_is) (subst (λ s. IfOk c.hall.result (AreCompeting i.inst.now s)) c.self.invariant.3
+    (c.hall.ensures i.inst.now c.self.invariant.1))

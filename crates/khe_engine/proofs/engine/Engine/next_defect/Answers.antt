@@ -7,4 +7,5 @@ pub returns : goal.returns
 returns g c =
     let i = c.self.inside in
     let h = c.self.invariant.4 in
-    rw (← c.self.view_is) (subst (λ xs. IsNextDefect xs c.args.from c.next_defect.result) (costs_same i.inst.now i.solution.slots i.listeners.graph h) (c.next_defect.ensures i.inst.now h.rates))
+    rw (← c.self.view_is) (subst (λ xs. IsNextDefect xs c.args.from c.next_defect.result)
+    (costs_same i.inst.now i.solution.slots i.listeners.graph h) (c.next_defect.ensures i.inst.now h.rates))

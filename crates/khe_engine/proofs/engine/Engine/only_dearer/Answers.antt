@@ -6,4 +6,5 @@ pub returns : goal.returns
 returns g c =
     let i = c.self.inside in
     let h = c.self.invariant.4 in
-    rw (← c.self.view_is) (c.only_dearer.ensures i.inst.now h.rates ∙ dearer_same i.inst.now i.solution.slots i.listeners.graph h)
+    rw (← c.self.view_is) (c.only_dearer.ensures i.inst.now h.rates
+    ∙ dearer_same i.inst.now i.solution.slots i.listeners.graph h)

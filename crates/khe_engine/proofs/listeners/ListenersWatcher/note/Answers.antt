@@ -7,6 +7,7 @@ returns-clause-of g c =
     let n = c.note.ensures in (
       n.of,
       before.1,
-      values_noted c.args.inst.now g.F.Family.serves_kind (g.F.Family.told c.args.self.now.families) (g.F.Family.told c.note.new.self) c.args.self.now.graph c.note.new.tally
+      values_noted c.args.inst.now g.F.Family.serves_kind (g.F.Family.told c.args.self.now.families)
+          (g.F.Family.told c.note.new.self) c.args.self.now.graph c.note.new.tally
           before.1 before.2 n.rest n.monitors n.served,
     )

@@ -20,6 +20,8 @@ returns c =
     let made = subst AreWellMade c.self.view_is c.self.invariant.0 in
     let events = c.args.self.now.events in
     let slot = c.args.meet.0 in
-    let at : get_or (slots_from 0 events) slot 0 ≡ c.event_of.result = get_or_from_slice_get (slots_from 0 events) slot c.event_of.result 0 (ap (λ xs. slice_get xs slot) (sym table.slots_are) ∙ c.event_of.ensures) in
+    let at : get_or (slots_from 0 events) slot 0 ≡ c.event_of.result =
+    get_or_from_slice_get (slots_from 0 events) slot c.event_of.result 0
+    (ap (λ xs. slice_get xs slot) (sym table.slots_are) ∙ c.event_of.ensures) in
     let within : slot < length (slots_from 0 events) = omega (arith, length-slots_from 0 events, c.requires) in
     subst (λ e. HasSlot events e slot) at (slot-event slot events made.first_meets within)

@@ -13,4 +13,5 @@ first_task-requires c =
 pub returns : goal.returns
 returns c =
     let table = subst (λ (p : Parts). IsSlotTable p.events c.self.inside.slots) c.self.view_is c.self.invariant.1 in
-    table-first c.args.self.now.events c.self.inside.slots c.args.meet.0 c.first_task.result table c.requires c.first_task.ensures
+    table-first c.args.self.now.events c.self.inside.slots c.args.meet.0 c.first_task.result table c.requires
+    c.first_task.ensures

@@ -10,8 +10,10 @@ returns-then-contains-clause-sound c sound =
 pub returns-then-contains-clause-stays_sound : goal.returns-then-contains-clause-stays_sound
 returns-then-contains-clause-stays_sound c sound =
     rw (c.fault.ensures.failing, c.fault.ensures.made)
-    (none_to_come-later c.args.self.now.failing c.args.self.now.made c.in-Some.number (omega (arith, c.in-Some.ensures.1)) sound)
+    (none_to_come-later c.args.self.now.failing c.args.self.now.made c.in-Some.number
+    (omega (arith, c.in-Some.ensures.1)) sound)
 
 pub returns-clause-stays_sound : goal.returns-clause-stays_sound
 returns-clause-stays_sound c sound =
-    none_to_come-later c.args.self.now.failing c.args.self.now.made c.in-Some.number (omega (arith, c.in-Some.ensures.1)) sound
+    none_to_come-later c.args.self.now.failing c.args.self.now.made c.in-Some.number
+    (omega (arith, c.in-Some.ensures.1)) sound

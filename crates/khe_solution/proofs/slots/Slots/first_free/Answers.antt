@@ -12,4 +12,5 @@ returns c =
     let from = c.args.from in
     subst (λ (s : List Slot). MatchOption r (AreLive s from (length s)) (λ n. IsFirstFree s from n)) c.self.view_is
     (first_free_or_none c.self.inside.told c.self.inside.free.items from r c.self.invariant.0
-    (subst (λ (ws : List ℕ). MatchOption r ((m : ℕ) → from ≤ m → is_set ws m ≡ false) (λ n. IsFirst ws from n)) c.as_slice.ensures.value c.first_set.ensures))
+    (subst (λ (ws : List ℕ). MatchOption r ((m : ℕ) → from ≤ m → is_set ws m ≡ false) (λ n. IsFirst ws from n))
+    c.as_slice.ensures.value c.first_set.ensures))

@@ -11,6 +11,7 @@ invariant_of-self c =
     let s : List Slot = c.self.inside.told in
     let fits = subst (λ (q : List Slot). Fits c.args.inst.now q c.args.change) (sym c.self.view_is) c.requires in (
       subst (λ (q : List Slot). AreFree q c.keep_free.new.words.items) (sym c.note.ensures)
-          (free_kept s c.args.change c.self.inside.free.items c.keep_free.new.words.items fits.there c.self.invariant.0 c.keep_free.ensures.length c.keep_free.ensures.bits),
+          (free_kept s c.args.change c.self.inside.free.items c.keep_free.new.words.items fits.there c.self.invariant.0
+          c.keep_free.ensures.length c.keep_free.ensures.bits),
       subst (λ (q : List Slot). AreKept q c.keep_tasks.new.rows) (sym c.note.ensures) c.keep_tasks.ensures,
     )

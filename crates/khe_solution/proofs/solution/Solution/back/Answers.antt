@@ -12,5 +12,6 @@ returns-clause-leads c =
     let s = c.args.self.now.slots in
     let e = c.args.edit.now in
     let v : AreValid p s = subst (λ (q : Timetable). AreValid q.parts q.slots) c.self.view_is c.self.invariant.0 in
-    let known : c.back_of.result ≡ back_of s e = c.back_of.ensures ∙ ap (λ (q : Timetable). back_of q.slots e) c.self.view_is in
+    let known : c.back_of.result ≡ back_of s e = c.back_of.ensures
+    ∙ ap (λ (q : Timetable). back_of q.slots e) c.self.view_is in
     subst (LeadsBack p (edited s e)) (sym known) (back_leads p s e v c.requires.ours c.requires.accepted)

@@ -6,4 +6,5 @@ use Rattle.khe_solution.proofs.solution.Solution.edit.Goals as goal
 
 pub list_edit-requires-clause-room : goal.list_edit-requires-clause-room
 list_edit-requires-clause-room g c =
-    subst (λ s. AreRoomy s (vec_capacity c.self.inside.list)) (sym c.told.ensures) (edit_room _ _ _ c.self.invariant.0 c.facts.ensures c.self.invariant.1)
+    subst (λ s. AreRoomy s (vec_capacity c.self.inside.list)) (sym c.told.ensures)
+    (edit_room _ _ _ c.self.invariant.0 c.facts.ensures c.self.invariant.1)

@@ -15,7 +15,8 @@ turn-requires-clause-there c =
     omega (arith, n, v, l)
 
 pub turn-requires-clause-suits : goal.turn-requires-clause-suits
-turn-requires-clause-suits c = subst (λ (s : List Slot). Suits (slot_at s (meet_of c.args.change)) c.args.change) (sym c.self.view_is) c.requires.fits.suits
+turn-requires-clause-suits c = subst (λ (s : List Slot). Suits (slot_at s (meet_of c.args.change)) c.args.change)
+    (sym c.self.view_is) c.requires.fits.suits
 
 pub returns : goal.returns
 returns c = c.turn.ensures.slots ∙ ap (λ (s : List Slot). after s c.args.change) c.self.view_is

@@ -22,12 +22,16 @@ returns c =
     let events = length c.members-events.result.now in
     let times = c.times.result in
     let of = none_of_group p m.point events times (ap length c.members-events.ensures) c.times.ensures in
-    all_ok c.no_links.result (λ l. l.table ≡ no_counts events times) (λ l. length l.running.items ≡ times) (λ l. AreLinked l.table l.events l.running.items l.apart)
-    (λ l. IsMonitor p m × (is_kind m.kind kind.LinkEvents ≡ true) × AreOfGroup p m.point (no_meets p) l.table (length l.running.items) × AreLinked l.table l.events l.running.items l.apart)
+    all_ok c.no_links.result (λ l. l.table ≡ no_counts events times) (λ l. length l.running.items ≡ times)
+    (λ l. AreLinked l.table l.events l.running.items l.apart)
+    (λ l. IsMonitor p m × (is_kind m.kind kind.LinkEvents ≡ true)
+    × AreOfGroup p m.point (no_meets p) l.table (length l.running.items)
+    × AreLinked l.table l.events l.running.items l.apart)
     (λ l table long linked. (
       c.requires.monitor,
       c.requires.served,
-      subst (AreOfGroup p m.point (no_meets p) l.table) (sym long) (subst (λ rows. AreOfGroup p m.point (no_meets p) rows times) (sym table) of),
+      subst (AreOfGroup p m.point (no_meets p) l.table) (sym long)
+          (subst (λ rows. AreOfGroup p m.point (no_meets p) rows times) (sym table) of),
       linked,
     ))
     c.no_links.ensures.table c.no_links.ensures.times c.no_links.ensures.linked

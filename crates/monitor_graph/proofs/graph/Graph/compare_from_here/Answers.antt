@@ -13,4 +13,5 @@ invariant_of-self c =
 
 pub returns-clause-marked : goal.returns-clause-marked
 returns-clause-marked c p e =
-    c.mark_costs.ensures ∙ ap line_costs c.as_slice.ensures.value ∙ ap (λ (b : Board). line_costs b.lines) c.self.view_is ∙ sym (costs_are c.args.self.now p e)
+    c.mark_costs.ensures ∙ ap line_costs c.as_slice.ensures.value
+    ∙ ap (λ (b : Board). line_costs b.lines) c.self.view_is ∙ sym (costs_are c.args.self.now p e)

@@ -23,7 +23,11 @@ pub returns : goal.returns
 returns c p e =
     let g = c.args.group.0 in
     group_is c.args.self.now p (children_at c.args.self.now.groups g) e c.totals_among.result
-    (c.totals_among.ensures.hard ∙ (λ i. sum_by (λ (x : MonitorId). option_map_or hard_cost (slice_get (c.as_slice.ensures.value i) x.0) 0) (c.children.ensures i))
-    ∙ ap (λ (b : Board). sum_by (λ (x : MonitorId). option_map_or hard_cost (slice_get b.lines x.0) 0) (children_at b.groups g)) c.self.view_is)
-    (c.totals_among.ensures.soft ∙ (λ i. sum_by (λ (x : MonitorId). option_map_or soft_cost (slice_get (c.as_slice.ensures.value i) x.0) 0) (c.children.ensures i))
-    ∙ ap (λ (b : Board). sum_by (λ (x : MonitorId). option_map_or soft_cost (slice_get b.lines x.0) 0) (children_at b.groups g)) c.self.view_is)
+    (c.totals_among.ensures.hard ∙ (λ i. sum_by (λ (x : MonitorId). option_map_or hard_cost
+    (slice_get (c.as_slice.ensures.value i) x.0) 0) (c.children.ensures i))
+    ∙ ap (λ (b : Board). sum_by (λ (x : MonitorId). option_map_or hard_cost (slice_get b.lines x.0) 0)
+    (children_at b.groups g)) c.self.view_is)
+    (c.totals_among.ensures.soft ∙ (λ i. sum_by (λ (x : MonitorId). option_map_or soft_cost
+    (slice_get (c.as_slice.ensures.value i) x.0) 0) (c.children.ensures i))
+    ∙ ap (λ (b : Board). sum_by (λ (x : MonitorId). option_map_or soft_cost (slice_get b.lines x.0) 0)
+    (children_at b.groups g)) c.self.view_is)

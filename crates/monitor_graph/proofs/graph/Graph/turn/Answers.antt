@@ -18,23 +18,28 @@ recount-requires c =
     let m = c.args.monitor.0 in
     let costs = line_costs s.lines.items in
     let kept = c.self.invariant.2 in
-    let low : m < length s.lines.items = subst (λ (b : Board). m < length b.lines) (sym c.self.view_is) c.requires.known in
+    let low : m < length s.lines.items = subst (λ (b : Board). m < length b.lines) (sym c.self.view_is)
+    c.requires.known in
     let many = length-map s.lines.items line_cost in
     let below : m < length costs = omega (arith, low, many) in
     let before : c.cost_of-before.result ≡ get_or costs m 0 =
-    c.cost_of-before.ensures.value ∙ ap line_cost c.index.ensures ∙ sym (at_line line_cost s.lines.items m c.index.result.now low) ∙ sym (get-map line_cost s.lines.items m) in
+    c.cost_of-before.ensures.value ∙ ap line_cost c.index.ensures
+    ∙ sym (at_line line_cost s.lines.items m c.index.result.now low) ∙ sym (get-map line_cost s.lines.items m) in
     let long = kept.long in
-    let marked : c.index-marked.result.now ≡ get_or s.marked.items m 0 = c.index-marked.ensures ∙ get-any s.marked.items m c.index-marked.result.now 0 (omega (arith, below, long)) in
+    let marked : c.index-marked.result.now ≡ get_or s.marked.items m 0 =
+    c.index-marked.ensures ∙ get-any s.marked.items m c.index-marked.result.now 0 (omega (arith, below, long)) in
     record {
       fits = subst (λ x. CanRecount x c.cost_of-before.result s.dearer s.numbers m) (sym marked)
-          (subst (λ x. CanRecount (get_or s.marked.items m 0) x s.dearer s.numbers m) (sym before) (can_recount costs s.marked.items s.dearer s.numbers m kept below));
+          (subst (λ x. CanRecount (get_or s.marked.items m 0) x s.dearer s.numbers m) (sym before)
+          (can_recount costs s.marked.items s.dearer s.numbers m kept below));
     }
 
 pub replace-requires-clause-before : goal.replace-requires-clause-before
 replace-requires-clause-before c d =
     let s = c.self.inside in
     let m = c.args.monitor.0 in
-    let low : m < length s.lines.items = subst (λ (b : Board). m < length b.lines) (sym c.self.view_is) c.requires.known in
+    let low : m < length s.lines.items = subst (λ (b : Board). m < length b.lines) (sym c.self.view_is)
+    c.requires.known in
     c.cost_of-before.ensures.value ∙ ap line_cost (c.index.ensures ∙ get-any s.lines.items m c.index.result.now d low)
 
 pub invariant_of-self : goal.invariant_of-self
@@ -44,22 +49,30 @@ invariant_of-self c =
     let y = c.args.line in
     let i = c.self.invariant in
     let costs = line_costs s.lines.items in
-    let low : m < length s.lines.items = subst (λ (b : Board). m < length b.lines) (sym c.self.view_is) c.requires.known in
+    let low : m < length s.lines.items = subst (λ (b : Board). m < length b.lines) (sym c.self.view_is)
+    c.requires.known in
     let many = length-map s.lines.items line_cost in
     let below : m < length costs = omega (arith, low, many) in
     let before : c.cost_of-before.result ≡ get_or costs m 0 =
-    c.cost_of-before.ensures.value ∙ ap line_cost c.index.ensures ∙ sym (at_line line_cost s.lines.items m c.index.result.now low) ∙ sym (get-map line_cost s.lines.items m) in
+    c.cost_of-before.ensures.value ∙ ap line_cost c.index.ensures
+    ∙ sym (at_line line_cost s.lines.items m c.index.result.now low) ∙ sym (get-map line_cost s.lines.items m) in
     let after : c.cost_of-after.result ≡ line_cost y = c.cost_of-after.ensures.value in
     let long = i.2.long in
-    let marked : c.index-marked.result.now ≡ get_or s.marked.items m 0 = c.index-marked.ensures ∙ get-any s.marked.items m c.index-marked.result.now 0 (omega (arith, below, long)) in
+    let marked : c.index-marked.result.now ≡ get_or s.marked.items m 0 =
+    c.index-marked.ensures ∙ get-any s.marked.items m c.index-marked.result.now 0 (omega (arith, below, long)) in
     let lines : c.replace.new.lines.items ≡ set s.lines.items m y = c.replace.ensures.lines in
     let put = c.put.ensures in
-    let defects = defects_set s.lines.items s.words.items s.summary.items c.put.new.words.items c.put.new.summary.items m y i.1 low put.length put.summary
+    let defects = defects_set s.lines.items s.words.items s.summary.items c.put.new.words.items c.put.new.summary.items
+    m y i.1 low put.length put.summary
     (λ n. put.bits n ∙ ap (λ v. cond (nat_eq n m) (nat_lt 0 v) (is_set s.words.items n)) after) put.summed in
-    let compared = recounted costs s.marked.items s.dearer s.numbers c.recount.new.count c.recount.new.numbers m (line_cost y) i.2 below
-    (sym (λ j. c.recount.new.count + is_dearer (marked j) (before j)) ∙ c.recount.ensures.count ∙ (λ j. s.dearer + is_dearer (marked j) (after j)))
-    (sym (λ j. c.recount.new.numbers + is_dearer (marked j) (before j) * m) ∙ c.recount.ensures.numbers ∙ (λ j. s.numbers + is_dearer (marked j) (after j) * m)) in
-    let costs_now : set costs m (line_cost y) ≡ line_costs c.replace.new.lines.items = sym (ap line_costs lines ∙ map-set line_cost s.lines.items m y) in (
+    let compared = recounted costs s.marked.items s.dearer s.numbers c.recount.new.count c.recount.new.numbers m
+    (line_cost y) i.2 below
+    (sym (λ j. c.recount.new.count + is_dearer (marked j) (before j)) ∙ c.recount.ensures.count
+    ∙ (λ j. s.dearer + is_dearer (marked j) (after j)))
+    (sym (λ j. c.recount.new.numbers + is_dearer (marked j) (before j) * m) ∙ c.recount.ensures.numbers
+    ∙ (λ j. s.numbers + is_dearer (marked j) (after j) * m)) in
+    let costs_now : set costs m (line_cost y) ≡ line_costs c.replace.new.lines.items =
+    sym (ap line_costs lines ∙ map-set line_cost s.lines.items m y) in (
       c.replace.ensures.totalled,
       subst (λ xs. AreDefects xs c.put.new.words.items c.put.new.summary.items) (sym lines) defects,
       subst (λ xs. AreCompared xs s.marked.items c.recount.new.count c.recount.new.numbers) costs_now compared,

@@ -7,12 +7,19 @@ pub invariant_of-self : goal.invariant_of-self
 invariant_of-self c =
     let s = c.self.inside in
     let i = c.self.invariant in
-    let empty = subst (λ (v : Seating). slice_get v.groups c.args.group.0 ≡ Some (Some [])) (sym c.self.view_is) c.requires.empty in
-    ((dropped (groups_of s.sizes.items s.children.items) s.monitors s.sizes.items s.children.items s.held.items c.args.group.0 i.0 empty).kept, i.1, i.2)
+    let empty = subst (λ (v : Seating). slice_get v.groups c.args.group.0 ≡ Some (Some [])) (sym c.self.view_is)
+    c.requires.empty in (
+      (dropped (groups_of s.sizes.items s.children.items) s.monitors s.sizes.items s.children.items s.held.items
+          c.args.group.0 i.0 empty).kept,
+      i.1,
+      i.2,
+    )
 
 pub returns-clause-groups : goal.returns-clause-groups
 returns-clause-groups c =
     let s = c.self.inside in
-    let empty = subst (λ (v : Seating). slice_get v.groups c.args.group.0 ≡ Some (Some [])) (sym c.self.view_is) c.requires.empty in
-    (dropped (groups_of s.sizes.items s.children.items) s.monitors s.sizes.items s.children.items s.held.items c.args.group.0 c.self.invariant.0 empty).view
+    let empty = subst (λ (v : Seating). slice_get v.groups c.args.group.0 ≡ Some (Some [])) (sym c.self.view_is)
+    c.requires.empty in
+    (dropped (groups_of s.sizes.items s.children.items) s.monitors s.sizes.items s.children.items s.held.items
+    c.args.group.0 c.self.invariant.0 empty).view
     ∙ ap (λ (v : Seating). set v.groups c.args.group.0 None) c.self.view_is

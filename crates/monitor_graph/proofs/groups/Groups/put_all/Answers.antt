@@ -9,12 +9,17 @@ use Rattle.monitor_graph.proofs.OpenLaws.{put_none, put_at, put_children, put_se
 use Rattle.monitor_graph.proofs.groups.Groups.put_all.Goals as goal
 
 pub loop-place-init : goal.loop-place-init
-loop-place-init c = record { groups = put_none c.args.self.now.groups c.args.group.0 c.requires.empty; monitors = refl; seats = refl }
+loop-place-init c = record {
+  groups = put_none c.args.self.now.groups c.args.group.0 c.requires.empty;
+  monitors = refl;
+  seats = refl;
+}
 
 pub insert-requires-clause-there : goal.insert-requires-clause-there
 insert-requires-clause-there c =
     ap (λ (gs : Groups). has_group gs c.args.group.0) c.loop-place.invariant.groups
-    ∙ ap (λ o. is_some (option_and_then (λ x. x) o)) (put_at c.args.self.now.groups c.args.group.0 (take c.loop-place.place c.args.children.now) c.requires.empty)
+    ∙ ap (λ o. is_some (option_and_then (λ x. x) o))
+    (put_at c.args.self.now.groups c.args.group.0 (take c.loop-place.place c.args.children.now) c.requires.empty)
 
 pub insert-requires-clause-known : goal.insert-requires-clause-known
 insert-requires-clause-known c =
@@ -26,7 +31,8 @@ pub insert-requires-clause-place : goal.insert-requires-clause-place
 insert-requires-clause-place c =
     let xs = c.args.children.now in
     let k = c.loop-place.place in
-    let e = ap (λ (gs : Groups). length (children_at gs c.args.group.0)) c.loop-place.invariant.groups ∙ ap length (put_children c.args.self.now.groups c.args.group.0 (take k xs) c.requires.empty) in
+    let e = ap (λ (gs : Groups). length (children_at gs c.args.group.0)) c.loop-place.invariant.groups
+    ∙ ap length (put_children c.args.self.now.groups c.args.group.0 (take k xs) c.requires.empty) in
     let long = length-take k xs in
     omega (arith, e, long)
 
@@ -36,14 +42,16 @@ insert-requires-clause-fresh c =
     let k = c.loop-place.place in
     let first : MonitorId = record { 0 = 0 } in
     ap (λ (gs : Groups). has_child gs c.args.group.0 (get_or xs k first).0) c.loop-place.invariant.groups
-    ∙ ap (is_among (get_or xs k first).0) (put_children c.args.self.now.groups c.args.group.0 (take k xs) c.requires.empty)
+    ∙ ap (is_among (get_or xs k first).0) (put_children c.args.self.now.groups c.args.group.0 (take k xs)
+    c.requires.empty)
     ∙ put_fresh xs k first c.requires.once c.loop-place-test.true
 
 pub insert-requires-clause-room : goal.insert-requires-clause-room
 insert-requires-clause-room c =
     let xs = c.args.children.now in
     let k = c.loop-place.place in
-    let e = ap seated c.loop-place.invariant.groups ∙ put_seated c.args.self.now.groups c.args.group.0 (take k xs) c.requires.empty in
+    let e = ap seated c.loop-place.invariant.groups
+    ∙ put_seated c.args.self.now.groups c.args.group.0 (take k xs) c.requires.empty in
     let long = length-take k xs in
     let seats = c.loop-place.invariant.seats in
     let room = c.requires.room in
@@ -55,7 +63,8 @@ loop-place-preserved c =
     let k = c.loop-place.place in
     let first : MonitorId = record { 0 = 0 } in
     record {
-      groups = c.insert.ensures.groups ∙ ap (λ (gs : Groups). set gs c.args.group.0 (Some (insert (children_at gs c.args.group.0) k (get_or xs k first)))) c.loop-place.invariant.groups
+      groups = c.insert.ensures.groups ∙ ap (λ (gs : Groups). set gs c.args.group.0
+          (Some (insert (children_at gs c.args.group.0) k (get_or xs k first)))) c.loop-place.invariant.groups
           ∙ put_more c.args.self.now.groups c.args.group.0 k xs first c.requires.empty c.loop-place-test.true;
       monitors = c.insert.ensures.monitors ∙ c.loop-place.invariant.monitors;
       seats = c.insert.ensures.seats ∙ c.loop-place.invariant.seats;

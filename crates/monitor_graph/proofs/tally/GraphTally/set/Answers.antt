@@ -8,6 +8,7 @@ pub returns-then-old-deviation-clause-set : goal.returns-then-old-deviation-clau
 returns-then-old-deviation-clause-set g c =
     let d = c.index-old.result.now in
     let m = c.args.monitor.0 in
-    let same : d ≡ get_or c.args.self.now.lines m d = c.index-old.ensures ∙ ap (λ (b : Board). get_or b.lines m d) c.self.view_is in
+    let same : d ≡ get_or c.args.self.now.lines m d =
+    c.index-old.ensures ∙ ap (λ (b : Board). get_or b.lines m d) c.self.view_is in
     let e : c.args.deviation ≡ d.deviation = sym c.if-old-deviation.true in
     deviations_same c.args.self.now.lines m d c.args.deviation (e ∙ ap (λ (x : Line). x.deviation) same)

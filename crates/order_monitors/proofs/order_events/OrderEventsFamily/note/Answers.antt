@@ -28,11 +28,13 @@ report-requires-clause-list g c =
     let lists = c.args.self.now.lists in
     let posts = c.args.self.now.posts in
     let e = (slot_at s (meet_of c.args.change)).event.0 in
-    let own : c.event-event.result.0 ≡ e = ap (λ x. x.0) (c.event-event.ensures ∙ ap (λ n. (slot_at s n).event) c.meet.ensures) in
+    let own : c.event-event.result.0 ≡ e = ap (λ x. x.0)
+    (c.event-event.ensures ∙ ap (λ n. (slot_at s n).event) c.meet.ensures) in
     let list = c.index-lists-event.result in
     c.as_slice-list.ensures
     ∙ list_of p posts lists e list c.requires.of.1 (fits_event p s c.args.change c.requires.fits)
-    (c.index-lists-event.is ∙ ap (λ ls. get_or ls c.event-event.result.0 list) c.as_slice-lists.ensures ∙ ap (λ n. get_or lists n list) own)
+    (c.index-lists-event.is ∙ ap (λ ls. get_or ls c.event-event.result.0 list) c.as_slice-lists.ensures
+    ∙ ap (λ n. get_or lists n list) own)
     ∙ ap (λ ps. posts_at p ps e) (sym c.as_slice-posts.ensures)
     ∙ ap (posts_at p c.as_slice-posts.result.now) (sym own)
 
@@ -44,7 +46,8 @@ returns-clause-of g c =
     let es = c.follow.new.edges.items in (
       c.requires.of.0,
       c.requires.of.1,
-      subst (λ t. AreEdges p c.args.self.now.lists t es) (sym c.note.ensures) (subst (λ ls. AreEdges p ls s2 es) c.as_slice-lists.ensures c.follow.ensures),
+      subst (λ t. AreEdges p c.args.self.now.lists t es) (sym c.note.ensures)
+          (subst (λ ls. AreEdges p ls s2 es) c.as_slice-lists.ensures c.follow.ensures),
       subst AreShort (sym c.note.ensures) (short_after p s c.args.change c.facts.ensures c.requires.fits),
     )
 
@@ -60,12 +63,15 @@ returns-clause-served g c = λ agrees.
     let es = c.follow.new.edges.items in
     let old = g.Y.Tally.deviations c.args.tally.now in
     let new = g.Y.Tally.deviations c.report.new.tally in
-    let own : c.event-event.result.0 ≡ e = ap (λ x. x.0) (c.event-event.ensures ∙ ap (λ n. (slot_at s n).event) c.meet.ensures) in
-    let a = subst (λ ps. AreReported p ps c.event-event.result.0 c.as_slice-edges.result.now old new []) c.as_slice-posts.ensures c.report.ensures.all in
+    let own : c.event-event.result.0 ≡ e = ap (λ x. x.0)
+    (c.event-event.ensures ∙ ap (λ n. (slot_at s n).event) c.meet.ensures) in
+    let a = subst (λ ps. AreReported p ps c.event-event.result.0 c.as_slice-edges.result.now old new [])
+    c.as_slice-posts.ensures c.report.ensures.all in
     let b = subst (λ n. AreReported p posts n c.as_slice-edges.result.now old new []) own a in
     let told = subst (λ x. AreReported p posts e x old new []) c.as_slice-edges.ensures.value b in
     subst (λ t. Agrees p is_order t new) (sym c.note.ensures)
-    (agrees_on p posts lists s s2 es old new e c.facts.ensures c.requires.of.0 c.requires.of.1 (subst (λ ls. AreEdges p ls s2 es) c.as_slice-lists.ensures c.follow.ensures)
+    (agrees_on p posts lists s s2 es old new e c.facts.ensures c.requires.of.0 c.requires.of.1
+    (subst (λ ls. AreEdges p ls s2 es) c.as_slice-lists.ensures c.follow.ensures)
     (short_after p s k c.facts.ensures c.requires.fits) (own_same p s k c.facts.ensures c.requires.fits) told agrees)
 
 pub returns-clause-steps : goal.returns-clause-steps
@@ -75,10 +81,12 @@ returns-clause-steps g c =
     let lists = c.args.self.now.lists in
     let posts = c.args.self.now.posts in
     let e = (slot_at s (meet_of c.args.change)).event.0 in
-    let own : c.event-event.result.0 ≡ e = ap (λ x. x.0) (c.event-event.ensures ∙ ap (λ n. (slot_at s n).event) c.meet.ensures) in
+    let own : c.event-event.result.0 ≡ e = ap (λ x. x.0)
+    (c.event-event.ensures ∙ ap (λ n. (slot_at s n).event) c.meet.ensures) in
     let list = c.index-lists-event.result in
     let is = list_of p posts lists e list c.requires.of.1 (fits_event p s c.args.change c.requires.fits)
-    (c.index-lists-event.is ∙ ap (λ ls. get_or ls c.event-event.result.0 list) c.as_slice-lists.ensures ∙ ap (λ n. get_or lists n list) own) in
+    (c.index-lists-event.is ∙ ap (λ ls. get_or ls c.event-event.result.0 list) c.as_slice-lists.ensures
+    ∙ ap (λ n. get_or lists n list) own) in
     let long = ap length (c.as_slice-list.ensures ∙ is) in
     let few = steps_on p is_order posts s c.args.change c.requires.of.0 in
     let taken = c.report.ensures.steps in

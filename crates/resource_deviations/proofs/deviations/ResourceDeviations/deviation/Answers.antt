@@ -13,8 +13,10 @@ returns-clause-bound c =
     let constraint = c.constraint.result.now in
     let Small : ℕ → Type 0 = λ n. n ≤ GREATEST_DEVIATION in
     subst Small (sym c.of_rule.ensures)
-    (filled-small p ds c.args.self.now.table c.args.self.now.workloads.items c.args.self.now.filled made.limits made.unit.positive constraint.rule c.in-Resource.r.0
+    (filled-small p ds c.args.self.now.table c.args.self.now.workloads.items c.args.self.now.filled made.limits
+    made.unit.positive constraint.rule c.in-Resource.r.0
     (constraint_made p made c.args.monitor.constraint constraint c.constraint.ensures).rule)
 
 pub of_rule-requires-clause-resource : goal.of_rule-requires-clause-resource
-of_rule-requires-clause-resource c = monitored c.args.self.now.inst.now c.args.monitor c.in-Resource.r c.requires.monitor c.in-Resource.is
+of_rule-requires-clause-resource c = monitored c.args.self.now.inst.now c.args.monitor c.in-Resource.r
+    c.requires.monitor c.in-Resource.is

@@ -15,7 +15,9 @@ pub value-requires-clause-monitor : goal.value-requires-clause-monitor
 value-requires-clause-monitor g c = monitor_made c.args.inst.now c.facts.ensures _ _ c.monitor-of.ensures
 
 pub value-requires-clause-kind : goal.value-requires-clause-kind
-value-requires-clause-kind g c = g.met.K.CellKinds.at_cells c.monitor-of.result.kind (subst (λ o. IfSome o (λ (m : Monitor). g.K.CellKinds.serves_kind m.kind ≡ true)) c.monitor-of.ensures c.requires.served)
+value-requires-clause-kind g c = g.met.K.CellKinds.at_cells c.monitor-of.result.kind
+    (subst (λ o. IfSome o (λ (m : Monitor). g.K.CellKinds.serves_kind m.kind ≡ true)) c.monitor-of.ensures
+    c.requires.served)
 
 pub returns-clause-value : goal.returns-clause-value
 returns-clause-value g c =
@@ -23,8 +25,11 @@ returns-clause-value g c =
     let f = c.requires.of in
     let m = c.monitor-of.result in
     let is : IsMonitor p m = monitor_made p c.facts.ensures _ _ c.monitor-of.ensures in
-    let kind : is_at_cells m.kind ≡ true = g.met.K.CellKinds.at_cells m.kind (subst (λ o. IfSome o (λ (x : Monitor). g.K.CellKinds.serves_kind x.kind ≡ true)) c.monitor-of.ensures c.requires.served) in
-    ap (option_map (deviation_in p c.args.self.now.told)) c.monitor-of.ensures ∙ ap Some (value_is p c.args.self.now.told c.args.self.now.table m is kind f.counts ∙ sym c.value.ensures)
+    let kind : is_at_cells m.kind ≡ true = g.met.K.CellKinds.at_cells m.kind
+    (subst (λ o. IfSome o (λ (x : Monitor). g.K.CellKinds.serves_kind x.kind ≡ true)) c.monitor-of.ensures
+    c.requires.served) in
+    ap (option_map (deviation_in p c.args.self.now.told)) c.monitor-of.ensures
+    ∙ ap Some (value_is p c.args.self.now.told c.args.self.now.table m is kind f.counts ∙ sym c.value.ensures)
 
 pub returns-clause-small : goal.returns-clause-small
 returns-clause-small g c =
@@ -32,6 +37,8 @@ returns-clause-small g c =
     let f = c.requires.of in
     let m = c.monitor-of.result in
     let is : IsMonitor p m = monitor_made p c.facts.ensures _ _ c.monitor-of.ensures in
-    let l = value_small p c.facts.ensures c.args.self.now.table (λ r t. (let a = f.counts r t in let b = tasks_few p c.facts.ensures c.args.self.now.told f.told r t in omega (arith, a, b))) m is in
+    let l = value_small p c.facts.ensures c.args.self.now.table
+    (λ r t. (let a = f.counts r t in let b = tasks_few p c.facts.ensures c.args.self.now.told f.told r t in
+    omega (arith, a, b))) m is in
     let e = c.value.ensures in
     omega (arith, l, e)

@@ -10,4 +10,6 @@ open-requires-2 g c =
     omega (arith, few, times)
 
 pub returns-clause-of : goal.returns-clause-of
-returns-clause-of g c = family_opened g.K.CellKinds.serves_kind c.args.inst.now _ _ _ _ c.in_ok-told.ensures (c.in_ok-table.ensures ∙ (λ i. no_counts (c.resources.ensures i) (c.times.ensures i))) c.in_ok-sets.ensures c.in_ok-lists.ensures
+returns-clause-of g c = family_opened g.K.CellKinds.serves_kind c.args.inst.now _ _ _ _ c.in_ok-told.ensures
+    (c.in_ok-table.ensures ∙ (λ i. no_counts (c.resources.ensures i) (c.times.ensures i))) c.in_ok-sets.ensures
+    c.in_ok-lists.ensures

@@ -9,6 +9,9 @@ pub returns : goal.returns
 returns c =
     let rows = c.self.inside.table in
     let r = c.args.r.0 in
-    let within : r < length c.self.inside.clashes.items = let a = c.self.invariant.amount in let b : r < length rows = subst (λ (xs : List (List ℕ)). r < length xs) (sym c.self.view_is) c.requires in omega (arith, a, b) in
-    subst (λ (xs : List (List ℕ)). c.index.result.now ≡ sum_by (λ t. slice_index (row_of xs r) t - 1) (range_with_len 0 (length (row_of xs r)))) c.self.view_is
-    (read_at c.self.inside.clashes.items r c.index.result.now within c.index.ensures ∙ c.self.invariant.each r ∙ by_times (row_of rows r))
+    let within : r < length c.self.inside.clashes.items = let a = c.self.invariant.amount in let b : r < length rows =
+    subst (λ (xs : List (List ℕ)). r < length xs) (sym c.self.view_is) c.requires in omega (arith, a, b) in
+    subst (λ (xs : List (List ℕ)). c.index.result.now
+    ≡ sum_by (λ t. slice_index (row_of xs r) t - 1) (range_with_len 0 (length (row_of xs r)))) c.self.view_is
+    (read_at c.self.inside.clashes.items r c.index.result.now within c.index.ensures ∙ c.self.invariant.each r
+    ∙ by_times (row_of rows r))

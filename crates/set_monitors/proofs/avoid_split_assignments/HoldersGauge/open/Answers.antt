@@ -13,5 +13,7 @@ returns c =
     let row = c.in_ok-counts.counts.items in
     let same = c.in_ok-counts.ensures.ok.1 in
     let are : AreCandidates p m numbers = subst (AreCandidates p m) (sym same) c.in_ok-candidates.ensures in
-    let zeros : row ≡ replicate c.len.result 0 = if_ok c.no_tasks-counts.result c.in_ok-counts.counts (λ v. v.items ≡ replicate c.len.result 0) c.in_ok-counts.ensures.ok.0 c.no_tasks-counts.ensures in
-    shared_none p m numbers row c.requires.monitor c.requires.served are (zeros ∙ ap (λ n. replicate n 0) (c.len.ensures ∙ ap length (sym same)))
+    let zeros : row ≡ replicate c.len.result 0 = if_ok c.no_tasks-counts.result c.in_ok-counts.counts
+    (λ v. v.items ≡ replicate c.len.result 0) c.in_ok-counts.ensures.ok.0 c.no_tasks-counts.ensures in
+    shared_none p m numbers row c.requires.monitor c.requires.served are
+    (zeros ∙ ap (λ n. replicate n 0) (c.len.ensures ∙ ap length (sym same)))

@@ -12,13 +12,15 @@ pub turned-self-requires-clause-listed : goal.turned-self-requires-clause-listed
 turned-self-requires-clause-listed c =
     let g = c.args.self.now in
     subst (λ xs. NamesListed xs c.args.change) (sym c.as_slice-candidates.ensures)
-    (named_listed c.args.inst.now c.args.monitor c.args.told.now g.candidates g.counts.items g.above c.requires.keeps c.args.change c.requires.fits c.requires.named (sym c.touches.ensures ∙ c.if-touches.true))
+    (named_listed c.args.inst.now c.args.monitor c.args.told.now g.candidates g.counts.items g.above c.requires.keeps
+    c.args.change c.requires.fits c.requires.named (sym c.touches.ensures ∙ c.if-touches.true))
 
 pub turned-self-requires-clause-within : goal.turned-self-requires-clause-within
 turned-self-requires-clause-within c =
     let g = c.args.self.now in
     let kept = c.requires.keeps in
-    held_within (held c.args.inst.now c.args.monitor c.args.told.now) g.candidates g.counts.items kept.amount kept.counts kept.few
+    held_within (held c.args.inst.now c.args.monitor c.args.told.now) g.candidates g.counts.items kept.amount
+    kept.counts kept.few
 
 pub turned-self-requires-clause-above : goal.turned-self-requires-clause-above
 turned-self-requires-clause-above c =
@@ -32,13 +34,17 @@ returns-then-touches c =
     let old = g.counts.items in
     let new = c.turned-self.new.counts.items in
     let same = c.as_slice-candidates.ensures in
-    shared_turned c.args.inst.now c.args.monitor c.args.told.now g.candidates old g.above c.requires.keeps c.args.change new c.turned-self.result c.facts.ensures c.requires.fits c.requires.named
+    shared_turned c.args.inst.now c.args.monitor c.args.told.now g.candidates old g.above c.requires.keeps c.args.change
+    new c.turned-self.result c.facts.ensures c.requires.fits c.requires.named
     (sym c.touches.ensures ∙ c.if-touches.true) (c.turned-self.ensures.amount ∙ ap length same)
-    (subst (λ (xs : List ℕ). (f : ℕ → ℕ) → AreHeld f xs old → AreHeld (held_after f c.args.change) xs new) same c.turned-self.ensures.counts)
-    (subst (λ (xs : List ℕ). (f : ℕ → ℕ) → AreHeld f xs old → c.turned-self.result ≡ above_after g.above f c.args.change) same c.turned-self.ensures.above)
+    (subst (λ (xs : List ℕ). (f : ℕ → ℕ) → AreHeld f xs old → AreHeld (held_after f c.args.change) xs new) same
+    c.turned-self.ensures.counts)
+    (subst (λ (xs : List ℕ). (f : ℕ → ℕ) → AreHeld f xs old
+    → c.turned-self.result ≡ above_after g.above f c.args.change) same c.turned-self.ensures.above)
 
 pub returns-else-touches : goal.returns-else-touches
 returns-else-touches c =
     let g = c.args.self.now in
-    shared_kept c.args.inst.now c.args.monitor c.args.told.now g.candidates g.counts.items g.above c.requires.keeps c.args.change c.facts.ensures c.requires.fits c.requires.named
+    shared_kept c.args.inst.now c.args.monitor c.args.told.now g.candidates g.counts.items g.above c.requires.keeps
+    c.args.change c.facts.ensures c.requires.fits c.requires.named
     (sym c.touches.ensures ∙ c.if-touches.false)

@@ -16,14 +16,17 @@ returns c =
     let row = c.in_ok-counts.counts.items in
     let f = started p m (no_meets p) in
     let zeros : row ≡ replicate (length spreads) 0 = c.in_ok-counts.ensures.items_if_clones_equal (λ y h. h) in
-    let are : AreCounts f spreads row = subst (AreCounts f spreads) (sym zeros) (counts_none f spreads (started_none p m)) in
-    let small : c.out_of.result ≤ GREATEST_DEVIATION = omega (arith, c.out_of.ensures.bound, c.listed-spreads.ensures.listed) in
+    let are : AreCounts f spreads row = subst (AreCounts f spreads) (sym zeros)
+    (counts_none f spreads (started_none p m)) in
+    let small : c.out_of.result ≤ GREATEST_DEVIATION =
+    omega (arith, c.out_of.ensures.bound, c.listed-spreads.ensures.listed) in
     record {
       monitor = c.requires.monitor;
       serves = c.requires.served;
       amount = ap length zeros ∙ length-replicate (length spreads) 0 ∙ ap length same;
       counts = subst (λ qs. AreCounts f qs row) same are;
       few = λ times. (let e = started_none p m times in omega (arith, e));
-      outside = c.out_of.ensures.outside f (subst (AreCounts f spreads) (sym c.deref.ensures.value) are) ∙ ap (spread_by f) same;
+      outside = c.out_of.ensures.outside f (subst (AreCounts f spreads) (sym c.deref.ensures.value) are)
+          ∙ ap (spread_by f) same;
       small = small;
     }

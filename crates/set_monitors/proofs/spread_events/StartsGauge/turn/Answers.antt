@@ -8,7 +8,8 @@ use Rattle.set_monitors.proofs.spread_events.StartsGauge.turn.Goals as goal
 pub turn_counts-requires-clause-few : goal.turn_counts-requires-clause-few
 turn_counts-requires-clause-few c =
     let kept = c.requires.keeps in
-    counts_few (started c.args.inst.now c.args.monitor c.args.told.now) (spreads_of c.args.inst.now c.args.monitor) c.args.self.now.counts.items kept.amount kept.counts kept.few
+    counts_few (started c.args.inst.now c.args.monitor c.args.told.now) (spreads_of c.args.inst.now c.args.monitor)
+    c.args.self.now.counts.items kept.amount kept.counts kept.few
 
 pub out_of-self-requires-clause-few : goal.out_of-self-requires-clause-few
 out_of-self-requires-clause-few c =
@@ -17,9 +18,11 @@ out_of-self-requires-clause-few c =
     let s = c.args.told.now in
     let spreads = c.listed-spreads.result.now in
     let row = c.turn_counts.new.counts.items in
-    let are = spread_counts p m s c.args.change spreads c.args.self.now.counts.items row c.requires.fits c.requires.named c.listed-spreads.ensures.spreads c.requires.keeps.counts c.turn_counts.ensures.counts in
+    let are = spread_counts p m s c.args.change spreads c.args.self.now.counts.items row c.requires.fits
+    c.requires.named c.listed-spreads.ensures.spreads c.requires.keeps.counts c.turn_counts.ensures.counts in
     subst AreFew (sym c.deref.ensures.value)
-    (counts_few (started p m (after s c.args.change)) spreads row c.turn_counts.ensures.amount are (λ times. started_few p m (after s c.args.change) times c.facts.ensures c.requires.fits.told))
+    (counts_few (started p m (after s c.args.change)) spreads row c.turn_counts.ensures.amount are
+    (λ times. started_few p m (after s c.args.change) times c.facts.ensures c.requires.fits.told))
 
 pub returns-then-is_of_start : goal.returns-then-is_of_start
 returns-then-is_of_start c =
@@ -30,19 +33,23 @@ returns-then-is_of_start c =
     let spreads = c.listed-spreads.result.now in
     let same = c.listed-spreads.ensures.spreads in
     let row = c.turn_counts.new.counts.items in
-    let are = spread_counts p m s c.args.change spreads c.args.self.now.counts.items row c.requires.fits c.requires.named same c.requires.keeps.counts c.turn_counts.ensures.counts in
-    let small : c.out_of-self.result ≤ GREATEST_DEVIATION = omega (arith, c.out_of-self.ensures.bound, c.listed-spreads.ensures.listed) in
+    let are = spread_counts p m s c.args.change spreads c.args.self.now.counts.items row c.requires.fits
+    c.requires.named same c.requires.keeps.counts c.turn_counts.ensures.counts in
+    let small : c.out_of-self.result ≤ GREATEST_DEVIATION =
+    omega (arith, c.out_of-self.ensures.bound, c.listed-spreads.ensures.listed) in
     record {
       monitor = c.requires.keeps.monitor;
       serves = c.requires.keeps.serves;
       amount = c.turn_counts.ensures.amount ∙ ap length same;
       counts = subst (λ qs. AreCounts f qs row) same are;
       few = λ times. started_few p m (after s c.args.change) times c.facts.ensures c.requires.fits.told;
-      outside = c.out_of-self.ensures.outside f (subst (AreCounts f spreads) (sym c.deref.ensures.value) are) ∙ ap (spread_by f) same;
+      outside = c.out_of-self.ensures.outside f (subst (AreCounts f spreads) (sym c.deref.ensures.value) are)
+          ∙ ap (spread_by f) same;
       small = small;
     }
 
 pub returns-else-is_of_start : goal.returns-else-is_of_start
 returns-else-is_of_start c =
-    spread_kept c.args.inst.now c.args.monitor c.args.told.now c.args.change c.args.self.now.counts.items c.args.self.now.outside c.requires.fits c.requires.named
+    spread_kept c.args.inst.now c.args.monitor c.args.told.now c.args.change c.args.self.now.counts.items
+    c.args.self.now.outside c.requires.fits c.requires.named
     (sym c.is_of_start.ensures ∙ c.if-is_of_start.false) c.requires.keeps

@@ -21,4 +21,5 @@ invariant_of-result c =
     let own_meets = if_ok _ _ (λ (t : List Slot). meets_in t ≡ plain.meets) second c.from_plain-told.ensures.meets in
     let own_tasks = if_ok _ _ (λ (t : List Slot). tasks_in t ≡ plain.tasks) second c.from_plain-told.ensures.tasks in
     same_told p c.in_ok-solution.told c.in_ok-solution.solution.slots c.facts.ensures.first_meets told
-    (subst (λ q. AreTold q c.in_ok-solution.solution.slots) parts c.facts-2.ensures.told) (own_meets ∙ sym meets) (own_tasks ∙ sym tasks)
+    (subst (λ q. AreTold q c.in_ok-solution.solution.slots) parts c.facts-2.ensures.told) (own_meets ∙ sym meets)
+    (own_tasks ∙ sym tasks)

@@ -7,5 +7,9 @@ pub fetch_add-requires : goal.fetch_add-requires
 fetch_add-requires c =
     let board = c.args.self.now in
     let id = board.table.shared.table_id in
-    let seat = c.args.seat.now in
-    (c.requires.seat.table, omega (arith, board.words_are), claiming.claims board.table.shared.key id.slots seat.id seat.me c.requires.weight (λ n is. omega (arith, c.requires.below n is, c.requires.seat.jobs, board.jobs_are)))
+    let seat = c.args.seat.now in (
+      c.requires.seat.table,
+      omega (arith, board.words_are),
+      claiming.claims board.table.shared.key id.slots seat.id
+          seat.me c.requires.weight (λ n is. omega (arith, c.requires.below n is, c.requires.seat.jobs, board.jobs_are)),
+    )

@@ -8,5 +8,6 @@ use Rattle.timetables.proofs.masks.Mask.idle.Given as goal
 abbrev pub invariant-loop-k : goal.invariant-loop-k
 invariant-loop-k l = record {
   counted : l.unbusy ≡ count_below (λ t. is_set l.self-inside.words.items t && not (is_set l.row t)) (64 * l.k);
-  span : IsSpan (λ t. is_set l.self-inside.words.items t && is_set l.row t) (λ t. is_set l.self-inside.words.items t && not (is_set l.row t)) (64 * l.k) l.span;
+  span : IsSpan (λ t. is_set l.self-inside.words.items t && is_set l.row t)
+      (λ t. is_set l.self-inside.words.items t && not (is_set l.row t)) (64 * l.k) l.span;
 }

@@ -17,22 +17,27 @@ value-requires-clause-monitor c = monitor_made c.args.inst.now c.facts.ensures _
 pub value-requires-clause-small : goal.value-requires-clause-small
 value-requires-clause-small c =
     subst (λ xs. (r : ℕ) → slice_index xs r ≤ GREATEST_DEVIATION * c.args.inst.now.unit) (sym c.as_slice.ensures.value)
-    (small_then c.args.inst.now c.facts.ensures c.args.self.now.told c.requires.of.told c.args.self.now.told c.args.self.now.loads.items c.requires.of.told c.requires.of.loads_all)
+    (small_then c.args.inst.now c.facts.ensures c.args.self.now.told c.requires.of.told c.args.self.now.told
+    c.args.self.now.loads.items c.requires.of.told c.requires.of.loads_all)
 
 pub returns-clause-value : goal.returns-clause-value
 returns-clause-value c =
     let p = c.args.inst.now in
     let m = c.monitor-of.result in
     let is : IsMonitor p m = monitor_made p c.facts.ensures _ _ c.monitor-of.ensures in
-    let kind : is_on_workload m.kind ≡ true = subst (λ o. IfSome o (λ (x : Monitor). is_on_workload x.kind ≡ true)) c.monitor-of.ensures c.requires.served in
+    let kind : is_on_workload m.kind ≡ true = subst (λ o. IfSome o (λ (x : Monitor). is_on_workload x.kind ≡ true))
+    c.monitor-of.ensures c.requires.served in
     ap (option_map (deviation_in p c.args.self.now.told)) c.monitor-of.ensures
-    ∙ ap Some (value_is p c.args.self.now.told c.args.self.now.loads.items m is kind c.requires.of.loads_all ∙ sym (c.value.ensures ∙ ap (λ xs. value_in p xs m) c.as_slice.ensures.value))
+    ∙ ap Some (value_is p c.args.self.now.told c.args.self.now.loads.items m is kind c.requires.of.loads_all
+    ∙ sym (c.value.ensures ∙ ap (λ xs. value_in p xs m) c.as_slice.ensures.value))
 
 pub returns-clause-small : goal.returns-clause-small
 returns-clause-small c =
     let p = c.args.inst.now in
     let m = c.monitor-of.result in
     let is : IsMonitor p m = monitor_made p c.facts.ensures _ _ c.monitor-of.ensures in
-    let l = value_small p c.facts.ensures c.args.self.now.loads.items (small_then p c.facts.ensures c.args.self.now.told c.requires.of.told c.args.self.now.told c.args.self.now.loads.items c.requires.of.told c.requires.of.loads_all) m is in
+    let l = value_small p c.facts.ensures c.args.self.now.loads.items
+    (small_then p c.facts.ensures c.args.self.now.told c.requires.of.told c.args.self.now.told
+    c.args.self.now.loads.items c.requires.of.told c.requires.of.loads_all) m is in
     let e = c.value.ensures ∙ ap (λ xs. value_in p xs m) c.as_slice.ensures.value in
     omega (arith, l, e)

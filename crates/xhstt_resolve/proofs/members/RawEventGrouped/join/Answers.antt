@@ -9,7 +9,8 @@ use Rattle.xhstt_resolve.proofs.members.RawEventGrouped.join.Goals as goal
 
 pub join_all-requires-clause-same : goal.join_all-requires-clause-same
 join_all-requires-clause-same c =
-    length_after c.args.number (named (option_to_list (option_copied c.as_ref.result))) c.args.names.now c.args.lists.now.items c.join_optional.new.lists.items c.requires.same c.in_ok-join_optional.ensures
+    length_after c.args.number (named (option_to_list (option_copied c.as_ref.result))) c.args.names.now
+    c.args.lists.now.items c.join_optional.new.lists.items c.requires.same c.in_ok-join_optional.ensures
 
 pub returns : goal.returns
 returns c =

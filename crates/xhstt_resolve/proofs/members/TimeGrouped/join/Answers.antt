@@ -9,14 +9,17 @@ use Rattle.xhstt_resolve.proofs.members.TimeGrouped.join.Goals as goal
 
 pub join_optional-requires-2-clause-same : goal.join_optional-requires-2-clause-same
 join_optional-requires-2-clause-same c =
-    length_after c.args.number (named (option_to_list (option_copied c.as_ref.result))) c.args.names.now c.args.lists.now.items c.join_optional.new.lists.items c.requires.same c.in_ok-join_optional.ensures
+    length_after c.args.number (named (option_to_list (option_copied c.as_ref.result))) c.args.names.now
+    c.args.lists.now.items c.join_optional.new.lists.items c.requires.same c.in_ok-join_optional.ensures
 
 pub join_all-requires-clause-same : goal.join_all-requires-clause-same
 join_all-requires-clause-same c =
     let first =
-    length_after c.args.number (named (option_to_list (option_copied c.as_ref.result))) c.args.names.now c.args.lists.now.items c.join_optional.new.lists.items c.requires.same c.in_ok-join_optional.ensures
+    length_after c.args.number (named (option_to_list (option_copied c.as_ref.result))) c.args.names.now
+    c.args.lists.now.items c.join_optional.new.lists.items c.requires.same c.in_ok-join_optional.ensures
     in
-    length_after c.args.number (named (option_to_list (option_copied c.as_ref-2.result))) c.args.names.now c.join_optional.new.lists.items c.join_optional-2.new.lists.items first c.in_ok-join_optional-2.ensures
+    length_after c.args.number (named (option_to_list (option_copied c.as_ref-2.result))) c.args.names.now
+    c.join_optional.new.lists.items c.join_optional-2.new.lists.items first c.in_ok-join_optional-2.ensures
 
 pub returns : goal.returns
 returns c =
@@ -30,9 +33,11 @@ returns c =
     c.in_ok-join_optional.ensures ∙ ap (λ o. joined k (named (option_to_list o)) ids first) c.as_ref.ensures.value
     in
     let two : c.join_optional-2.new.lists.items ≡ joined k day ids c.join_optional.new.lists.items =
-    c.in_ok-join_optional-2.ensures ∙ ap (λ o. joined k (named (option_to_list o)) ids c.join_optional.new.lists.items) c.as_ref-2.ensures.value
+    c.in_ok-join_optional-2.ensures ∙ ap (λ o. joined k (named (option_to_list o)) ids c.join_optional.new.lists.items)
+    c.as_ref-2.ensures.value
     in
     on_ok_weaker c.join_all.result
-    (λ e. joined-three k week day groups ids first c.join_optional.new.lists.items c.join_optional-2.new.lists.items c.join_all.new.lists.items one two
+    (λ e. joined-three k week day groups ids first c.join_optional.new.lists.items c.join_optional-2.new.lists.items
+    c.join_all.new.lists.items one two
     (e ∙ ap (λ rs. joined k (named rs) ids c.join_optional-2.new.lists.items) c.as_slice.ensures))
     c.join_all.ensures

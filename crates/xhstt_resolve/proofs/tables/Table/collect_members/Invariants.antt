@@ -6,4 +6,5 @@ use Rattle.xhstt_resolve.proofs.tables.Table.collect_members.Given as goal
 
 abbrev pub invariant-loop-group : goal.invariant-loop-group
 invariant-loop-group g l =
-    fold g.C.Collect.added l.into (flat_map (λ r. members_at l.self r.id) (drop l.group-index l.groups)) ≡ fold g.C.Collect.added l.fn.into (flat_map (λ r. members_at l.self r.id) l.groups)
+    fold g.C.Collect.added l.into (flat_map (λ r. members_at l.self r.id) (drop l.group-index l.groups))
+    ≡ fold g.C.Collect.added l.fn.into (flat_map (λ r. members_at l.self r.id) l.groups)

@@ -18,5 +18,8 @@ pub returns-clause-few : goal.returns-clause-few
 returns-clause-few c =
     let t = c.args.self.now in
     let ns = listed_at t c.args.groups.now c.args.singles.now in
-    let made = c.in_ok-collect.ensures ∙ ap (λ m. fold with_mention m ns) (c.in_ok-mentions.ensures ∙ ap no_mentions c.size.ensures) in
-    subst (λ m. length m.numbers ≤ length t.names.now) (sym made) (collected_few (length t.names.now) ns c.requires.small (listed_within t c.requires c.args.groups.now c.args.singles.now))
+    let made = c.in_ok-collect.ensures ∙ ap (λ m. fold with_mention m ns)
+    (c.in_ok-mentions.ensures ∙ ap no_mentions c.size.ensures) in
+    subst (λ m. length m.numbers ≤ length t.names.now) (sym made)
+    (collected_few (length t.names.now) ns c.requires.small
+    (listed_within t c.requires c.args.groups.now c.args.singles.now))

@@ -8,7 +8,8 @@ use Rattle.xhstt_text.proofs.handles.Children.next.Goals as goal
 pub returns-then-self-clause-value : goal.returns-then-self-clause-value
 returns-then-self-clause-value c =
     let t = flat_table c.self.inside.tree.now in
-    let none : c.args.self.now ≡ empty = sym c.self.view_is ∙ forest-empty t c.self.inside.at c.self.inside.to (omega arith) in
+    let none : c.args.self.now ≡ empty = sym c.self.view_is
+    ∙ forest-empty t c.self.inside.at c.self.inside.to (omega arith) in
     (none, none)
 
 pub returns-clause-value : goal.returns-clause-value
@@ -17,7 +18,8 @@ returns-clause-value c =
     let at = c.self.inside.at in
     sym c.self.view_is
     ∙ forest-row t at c.self.inside.to c.self.invariant c.if-self.false
-    ∙ ap (λ row. node (info_at t at) (forest t (at + 1) (node_at t at).end) (forest t row.end c.self.inside.to)) (sym c.node_of.ensures)
+    ∙ ap (λ row. node (info_at t at) (forest t (at + 1) (node_at t at).end) (forest t row.end c.self.inside.to))
+    (sym c.node_of.ensures)
 
 pub returns-clause-shorter : goal.returns-clause-shorter
 returns-clause-shorter c = size-others _ _ _ _ (returns-clause-value c)
