@@ -1,3 +1,4 @@
 pub mod FoundLaws
+pub mod MendedLaws
 pub mod SpellLaws
 pub mod TextLaws

@@ -2,6 +2,7 @@
 //! archive is written with a line on how the repair ended.
 #![tactic(auto)]
 
+mod laws;
 mod lines;
 mod mending;
 mod placing;
