@@ -10,4 +10,5 @@ pub mod ReadingLemmas
 pub mod ReadyLemmas
 pub mod RepairEnds
 pub mod ReportLemmas
+pub mod ScriptEnds
 pub mod StartLemmas
