@@ -47,7 +47,7 @@ use Rattle.repair_run.specs.Placed.{archive_with, group_with, groups_with, respe
 role_text : (o : Option Name) → IfSome o IsSpellableName → IfSome o IsRole
     → IfSome (option_map (λ (n : Name). n.text) o) IsRoleText
 role_text None s f = tt
-role_text (Some n) s f = record { text = s; role = record { some = f.some; whole = f.whole } }
+role_text (Some n) s f = record { text = s; form = record { some = f.some; whole = f.whole } }
 
 listed_places : (i : RawInstance) (e : RawEvent) (rs : List RawEventResource) → All IsSpellableEventResource rs
     → All IsEventResource rs → All HasRoleText (map (parts.place_of i e) rs)
@@ -108,7 +108,7 @@ pub record IsWritten (g : RawGiven) : Type 0 where
 named_role : (o : Option (List ℕ)) → IfSome o IsRoleText
     → IfSome (option_map role_named o) IsSpellableName × IfSome (option_map role_named o) IsRole
 named_role None h = (tt, tt)
-named_role (Some role) h = (h.text, h.role)
+named_role (Some role) h = (h.text, h.form)
 
 given_written : (p : Parts) → HasSpellable p → (place : Place) (r : ResourceId) → HasRoleText place
     → All IsWritten (given_at p place r)

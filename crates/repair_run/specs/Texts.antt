@@ -11,7 +11,7 @@ use Rattle.xhstt_shape.specs.WellFormed.{IsRole}
 -- a role that can be written
 pub record IsRoleText (role : List ℕ) : Type 0 where
   pub text : IsSpellable role
-  pub role : IsRole (role_named role)
+  pub form : IsRole (role_named role)
 
 abbrev pub HasRoleText : Place → Type 0
 HasRoleText place = IfSome place.role IsRoleText
