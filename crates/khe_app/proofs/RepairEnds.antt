@@ -1,5 +1,6 @@
 -- How a run ends that repairs a solution.
-use Rattle.std.proofs.Common.{ℕ, ◌≡◌, ◌⊎◌, inl, inr, Bool, List, [], Option, Some, None, IfSome, IsTrue, sym, ap, subst, ◌∙◌}
+use Rattle.std.proofs.Common.{ℕ, ◌≡◌, ◌⊎◌, inl, inr, Bool, List, [], Option, Some, None, IfSome, IsTrue, sym, ap, subst}
+use Rattle.std.proofs.Common.{◌∙◌}
 use Rattle.std.proofs.Common.{refl, arith, encode_utf8_all, slice_get}
 use Rattle.std.proofs.lemmas.Option.{same_Some}
 use Rattle.khe_instance.specs.declared.parts.Parts.{Parts}
@@ -42,7 +43,8 @@ four_apart : (◌≡◌ {A = ℕ} 4 0) ⊎ (◌≡◌ {A = ℕ} 4 3) → ⊥
 four_apart (inl e) = omega (arith, e)
 four_apart (inr e) = omega (arith, e)
 
-repaired_outcome : (h : Holdings) (name : List ℕ) (number depth budget : ℕ) (answer : Answer) (status : ℕ) (text : List ℕ)
+repaired_outcome : (h : Holdings) (name : List ℕ) (number depth budget : ℕ) (answer : Answer) (status : ℕ)
+    (text : List ℕ)
     → IfSome h (λ under. IsAnswerOf (under name) answer)
     → IsRepairIn number depth budget (reading_of answer) status text
     → IfSome h (λ under. IsOutcomeOf (Some (repairing name number depth budget)) under status text)
@@ -84,7 +86,8 @@ end_repaired h name number depth budget answer sound shelf shelf2 before after s
     (decided status (of_reading number depth budget (reading_of answer) status text r)) w
     (λ s l. repaired_there h name number depth budget answer is l)
 
-pub repair_not_two : (number depth budget : ℕ) (answer : Answer) (before after : Option (List ℕ)) (sink sink2 result : ℕ)
+pub repair_not_two : (number depth budget : ℕ) (answer : Answer) (before after : Option (List ℕ))
+    (sink sink2 result : ℕ)
     → ((result ≡ 6) × (after ≡ before)) ⊎ ((status : ℕ) × (text : List ℕ)
     × IsRepairIn number depth budget (reading_of answer) status text
     × Written before after sink sink2 (encode_utf8_all text) status result)
@@ -110,12 +113,14 @@ begun_text a r number depth budget k p q plain before after sink sink2 result at
       0,
       text,
       subst (λ s. IsRepairOf a number depth budget s 0 text) (sym start)
-          (refl, subst (λ (x : Parts). IsRepairText a number x plain depth budget text) (same_Some q p (sym at2 ∙ at)) t),
+          (refl, subst (λ (x : Parts). IsRepairText a number x plain depth budget text) (same_Some q p (sym at2 ∙ at))
+              t),
       w,
     )
 
 -- the line that refuses the solution
-pub barred_text : (a : Archive) (number depth budget : ℕ) (s : Start) (status : ℕ) (text : List ℕ) (r : Refusal) → s ≡ barred r
+pub barred_text : (a : Archive) (number depth budget : ℕ) (s : Start) (status : ℕ) (text : List ℕ) (r : Refusal)
+    → s ≡ barred r
     → IsRepairOf a number depth budget (barred r) status text → IsRepairOf a number depth budget s status text
 barred_text a number depth budget s status text r e h =
     subst (λ x. IsRepairOf a number depth budget x status text) (sym e) h

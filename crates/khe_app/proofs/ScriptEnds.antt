@@ -27,7 +27,8 @@ text_of w script none =
     ap (λ (xs : List Saved). script_text w.parts (record { state = w.state; saved = map (λ (x : Saved). x.state) xs })
     script) none
 
-by_end : (p : Parts) (plain : Plain) (s : State) (script : List ℕ) (r : Result Bool Cut) (before after : Option (List ℕ))
+by_end : (p : Parts) (plain : Plain) (s : State) (script : List ℕ) (r : Result Bool Cut)
+    (before after : Option (List ℕ))
     (sink sink2 result : ℕ) → IsStateOf p plain s
     → IfOk r (λ read. read ≡ is_script script)
     → OnOk r (Took before after (encode_utf8_all (script_text p (begun s) script)))

@@ -1,6 +1,7 @@
 -- How a run of `khe` ends: by the outcome that the definitions give, by a device that refused a
 -- call, or for want of memory.
-use Rattle.std.specs.Prelude.{ℕ, ◌≡◌, ◌⊎◌, Bool, IsTrue, if◌then◌else◌, Option, IfSome, IsSomeAnd, Result, Ok, Err, List, []}
+use Rattle.std.specs.Prelude.{ℕ, ◌≡◌, ◌⊎◌, Bool, IsTrue, if◌then◌else◌, Option, IfSome, IsSomeAnd, Result, Ok, Err}
+use Rattle.std.specs.Prelude.{List, []}
 use Rattle.std.specs.Prelude.{encode_utf8_all}
 use Rattle.khe_io.specs.Faults.{Rose, Took, TookFront}
 use Rattle.khe_app.specs.Outcome.{IsOutcomeOf}

@@ -1,5 +1,6 @@
 -- An archive in which a timetable takes the place of a solution.
-use Rattle.std.specs.Prelude.{ℕ, ◌≡◌, ◌<◌, ◌-◌, if◌then◌else◌, nat_lt, Some, List, [], ◌∷◌, length, slice_get, slice_set}
+use Rattle.std.specs.Prelude.{ℕ, ◌≡◌, ◌<◌, ◌-◌, if◌then◌else◌, nat_lt, Some, List, [], ◌∷◌, length, slice_get}
+use Rattle.std.specs.Prelude.{slice_set}
 use Rattle.std.specs.List.{flat_map}
 use Rattle.std.specs.Option.{option_map_or}
 use Rattle.khe_instance.specs.declared.parts.Parts.{Parts}
