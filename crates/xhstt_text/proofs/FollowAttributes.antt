@@ -1,5 +1,6 @@
 -- The attributes of a start tag as the machine takes them.
-use Rattle.std.proofs.Common.{◌≡◌, ℕ, ◌+◌, Bool, true, false, cond, eqb, List, ◌∷◌, ◌++◌, length, Err, refl, sym, ◌∙◌}
+use Rattle.std.proofs.Common.{◌≡◌, ℕ, ◌+◌, Bool, true, false, cond, eqb, List, [], ◌∷◌, ◌++◌, length, Err, refl, sym}
+use Rattle.std.proofs.Common.{◌∙◌}
 use Rattle.std.proofs.Common.{ap, subst, arith, add-zero}
 use Rattle.xhstt_text.specs.Faults.{bad_markup, unsupported}
 use Rattle.xhstt_text.specs.declared.tree.Attribute.{Attribute}

@@ -1,5 +1,5 @@
 -- Comments, and words that are not supported, as the machine takes them.
-use Rattle.std.proofs.Common.{◌≡◌, ℕ, ◌+◌, ◌<◌, ◌≤◌, Bool, true, false, cond, ◌&&◌, ◌||◌, leb, eqb, get_or, drop}
+use Rattle.std.proofs.Common.{◌≡◌, ℕ, ◌+◌, ◌<◌, ◌≤◌, Bool, true, false, cond, ◌&&◌, ◌||◌, leb, eqb, get_or, drop, []}
 use Rattle.std.proofs.Common.{List, ◌∷◌, ◌++◌, length, map, Err, refl, sym, ◌∙◌, ap, subst, arith}
 use Rattle.std.proofs.lemmas.Bool.Decides.{nat_tests}
 use Rattle.xhstt_text.specs.declared.faults.TextFault.{TextFault}

@@ -1,5 +1,5 @@
 -- An end tag as the machine takes it.
-use Rattle.std.proofs.Common.{◌≡◌, ℕ, ◌+◌, true, false, List, ◌∷◌, Err, refl, sym, ◌∙◌, ap}
+use Rattle.std.proofs.Common.{◌≡◌, ℕ, ◌+◌, true, false, List, [], ◌∷◌, Err, refl, sym, ◌∙◌, ap}
 use Rattle.std.specs.Str.{bytes_eq}
 use Rattle.xhstt_text.specs.Faults.{bad_markup, mismatched_end, unsupported}
 use Rattle.xhstt_text.proofs.Complete.{run_shut_name}

@@ -1,5 +1,5 @@
 -- The value of an attribute as the machine takes it.
-use Rattle.std.proofs.Common.{◌≡◌, ℕ, ◌+◌, true, false, List, ◌∷◌, ◌++◌, Err, refl, sym, ◌∙◌, ap}
+use Rattle.std.proofs.Common.{◌≡◌, ℕ, ◌+◌, true, false, List, [], ◌∷◌, ◌++◌, Err, refl, sym, ◌∙◌, ap}
 use Rattle.xhstt_text.specs.Faults.{bad_markup}
 use Rattle.xhstt_text.specs.Bytes.{is_white, is_name, is_quoted, is_quote}
 use Rattle.xhstt_text.specs.Document.{has_name}
