@@ -5,9 +5,10 @@
 # were not proved before on this machine. Each is run three times in turns, and the fastest run counts. It prints one
 # line. Run it by hand, on a quiet machine: it is no part of the gate.
 #
-#     bench/reading.sh [FOLDER]
+#     bench/reading.sh [FOLDER [KHE]]
 #
-# Where FOLDER is given, the program is made there, and is taken from there if an earlier run has made it.
+# Where FOLDER is given, the program is made there, and is taken from there if an earlier run has made it. Where KHE is
+# given, a program of this repository, its whole evaluation of the same file is timed in the same run.
 . "$(dirname "$0")/programs.sh"
 made=${1:-$work/made}
 program=$made/crates/bench/out/bench
@@ -25,12 +26,16 @@ python3 "$top/bench/archives.py" "${EVENTS:-10000}" 10000 --bytes "${BYTES:-6291
 for run in 1 2 3; do
   "$program" "$archive"
 done | sort -n > "$work/elements"
-python3 "$top/bench/measure.py" 3 "$program" "$archive" -- xmllint --noout --sax "$archive" > "$work/took"
+evaluation=()
+[ -z "${2:-}" ] || evaluation=(-- "$(readlink -f "$2")" evaluate "$archive")
+python3 "$top/bench/measure.py" 3 "$program" "$archive" -- xmllint --noout --sax "$archive" "${evaluation[@]}" > "$work/took"
 awk -v bytes="$(stat -c %s "$archive")" -v elements="$(head -n 1 "$work/elements")" '
   NR == 1 { whole = $1; peak = $2 }
   NR == 2 { xmllint = $1 }
+  NR == 3 { evaluation = $1 }
   END {
     split(elements, one, " ")
     printf "%d bytes, %d elements: reading %.3f s, the whole process %.3f s, xmllint --sax %.3f s, ratio %.2f (aim: below 1.5); memory %.1f MiB, %.2f times the file (aim: below 6)\n",
       bytes, one[2], one[1] / 1000000, whole, xmllint, whole / xmllint, peak / 1048576, peak / bytes
+    if (evaluation) printf "evaluation %.3f s: reading is %.2f of it\n", evaluation, whole / evaluation
   }' "$work/took"
