@@ -52,18 +52,15 @@ pub(crate) fn replaced(
     after: &str,
     part: &str,
     other: &str,
-) -> Result<Option<Vec<u8>>, AllocError> {
+) -> Result<Option<String>, AllocError> {
     let Some((front, rest)) = archive.split_once(after) else {
         return Ok(None);
     };
     let Some((before, behind)) = rest.split_once(part) else {
         return Ok(None);
     };
-    let mut bytes = front.as_bytes().to_vec(alloc)?;
-    for piece in [after, before, other, behind] {
-        bytes.extend_from_slice(piece.as_bytes())?;
-    }
-    Ok(Some(bytes))
+    let text = format!(in alloc; "{front}{after}{before}{other}{behind}")?;
+    Ok(Some(text))
 }
 
 /// The first archive with one part of its text in place of another, or `None` where it has no such
@@ -72,12 +69,10 @@ pub(crate) fn first_with(
     alloc: Global,
     part: &str,
     other: &str,
-) -> Result<Option<Vec<u8>>, AllocError> {
+) -> Result<Option<String>, AllocError> {
     let Some((before, after)) = FIRST.split_once(part) else {
         return Ok(None);
     };
-    let mut bytes = before.as_bytes().to_vec(alloc)?;
-    bytes.extend_from_slice(other.as_bytes())?;
-    bytes.extend_from_slice(after.as_bytes())?;
-    Ok(Some(bytes))
+    let text = format!(in alloc; "{before}{other}{after}")?;
+    Ok(Some(text))
 }

@@ -1,5 +1,5 @@
 use crate::archives::{WITH_RESOURCES, replaced};
-use crate::runs::{GOOD, must_end};
+use program_runs::{End, must_answer};
 use std::alloc::Global;
 use std::process::Abort;
 use std::test::Fail;
@@ -48,18 +48,15 @@ fn must_tell<R: Threads + Sync + Abort>(
         "<Solution Reference=\"I\"><Events>{entries}</Events></Solution>"
     )?;
     let part = "<Solution Reference=\"I\"/>";
-    let bytes = replaced(alloc, TWO_EVENTS, "", part, other.as_str())?.ok_or("no such part")?;
+    let archive = replaced(alloc, TWO_EVENTS, "", part, other.as_str())?.ok_or("no such part")?;
     let first = "archive instances 1 solutions 2\nsolution 0 group \"G\" instance \"I\"\n";
     let second = "solution 1 group \"G\" instance \"I\"\n";
     let text = format!(in alloc; "{first}{lines}{second}{EMPTY}")?;
-    must_end(
-        rt,
-        alloc,
-        &["evaluate", "archive"],
-        bytes,
-        GOOD,
-        (0, text.as_str()),
-    )?;
+    let end = End {
+        status: 0,
+        text: text.as_str(),
+    };
+    must_answer(rt, alloc, &["evaluate", "archive"], archive.as_str(), end)?;
     Ok(())
 }
 
@@ -228,14 +225,17 @@ fn evaluates_behind_an_invalid_solution(rt: HostRuntime) -> Result<(), Fail> {
         "<Solution Reference=\"J\"><Events><Event Reference=\"E\"><Time Reference=\"t1\"/></Event></Events></Solution>";
     let text =
         "archive instances 1 solutions 2\nsolution 0 group \"H\" instance \"J\"\ninvalid 4 OffEnd entry 0\nsolution 1 group \"H\" instance \"J\"\ntotal hard 0 soft 0\n";
-    let bytes = replaced(rt.alloc(), WITH_RESOURCES, "", part, other)?.ok_or("no such part")?;
-    must_end(
+    let archive = replaced(rt.alloc(), WITH_RESOURCES, "", part, other)?.ok_or("no such part")?;
+    let end = End {
+        status: 0,
+        text: text,
+    };
+    must_answer(
         &rt,
         rt.alloc(),
         &["evaluate", "archive"],
-        bytes,
-        GOOD,
-        (0, text),
+        archive.as_str(),
+        end,
     )?;
     Ok(())
 }

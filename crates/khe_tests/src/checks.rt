@@ -1,8 +1,8 @@
-ghost use Rattle.std.specs.Prelude.{◌≤◌};
-
 use crate::archives::FIRST;
-use crate::runs::{Devices, must_answer, must_end, run};
-use khe_base::NoMemory;
+use program_runs::Piece::{Copies, Once};
+use program_runs::{
+    Call, End, File, failing, must_answer, must_end, reads_made, text_of, writes_made,
+};
 use std::alloc::Global;
 use std::process::Abort;
 use std::test::Fail;
@@ -109,7 +109,8 @@ fn must_end_all<R: Threads + Sync + Abort>(
 ) -> Result<(), Fail> {
     for case in cases {
         let (words, archive, status, text) = *case;
-        must_answer(rt, alloc, words, archive, (status, text))?;
+        let end = End { status, text: text };
+        must_answer(rt, alloc, words, archive, end)?;
     }
     Ok(())
 }
@@ -119,76 +120,31 @@ fn archives_are_spelled_or_refused(rt: HostRuntime) -> Result<(), Fail> {
     must_end_all(&rt, rt.alloc(), CASES)
 }
 
-/// More calls of a device than any run here makes.
-const CALLS: u64 = 10_000;
+/// The first archive is spelled.
+const SPELLS: Call<'static> = Call {
+    words: &CHECK,
+    files: &[File {
+        name: "archive",
+        text: FIRST,
+    }],
+};
 
-/// The number of the first call of the shelf that a run on reads of so many bytes does not make, where
-/// each call before it, when it fails, ends the run with nothing written. `None` where a run ends
-/// otherwise.
-fn reads_made<R: Threads + Sync>(rt: &R, alloc: Global, piece: u32) -> Result<Option<u64>, NoMemory>
-    requires { 1 ≤ piece }
-{
-    let whole = FIRST_SPELLED.as_bytes();
-    for call in 1..CALLS {
-        let devices = Devices {
-            read: piece,
-            write: 1_000_000,
-            room: 10_000,
-            failing_read: call,
-            failing_write: 0,
-        };
-        let ended = run(rt, alloc, &CHECK, FIRST.as_bytes().to_vec(alloc)?, devices)?;
-        if ended.status == 0 && ended.text.as_slice() == whole {
-            return Ok(Some(call));
-        }
-        if ended.status != 4 || !ended.text.is_empty() {
-            return Ok(None);
-        }
-    }
-    Ok(None)
-}
-
-/// The number of the first write that a run on writes of so many bytes does not make, where each write
-/// before it, when it fails, ends the run after what the earlier ones took. `None` where a run ends
-/// otherwise.
-fn writes_made<R: Threads + Sync>(
-    rt: &R,
-    alloc: Global,
-    piece: u32,
-) -> Result<Option<u64>, NoMemory>
-    requires { 1 ≤ piece }
-{
-    let whole = FIRST_SPELLED.as_bytes();
-    for call in 1..CALLS {
-        let devices = Devices {
-            read: 1_000_000,
-            write: piece,
-            room: 10_000,
-            failing_read: 0,
-            failing_write: call,
-        };
-        let ended = run(rt, alloc, &CHECK, FIRST.as_bytes().to_vec(alloc)?, devices)?;
-        if ended.status == 0 && ended.text.as_slice() == whole {
-            return Ok(Some(call));
-        }
-        let taken = ended.text.as_slice();
-        let count = (call - 1) * u64::from(piece);
-        if ended.status != 5 || taken.len() as u64 != count || !whole.starts_with(taken) {
-            return Ok(None);
-        }
-    }
-    Ok(None)
-}
+const SPELLED: End<'static> = End {
+    status: 0,
+    text: FIRST_SPELLED,
+};
 
 #[test]
 fn each_call_of_a_check_fails_in_turn(rt: HostRuntime) -> Result<(), Fail> {
     // The archive has 553 bytes; one call opens it, and one sees its end.
     for (piece, calls) in [(1, 556), (100, 9), (1_000_000, 4)] {
-        assert_eq!(rt; reads_made(&rt, rt.alloc(), piece)?, Some(calls));
+        let made = reads_made(&rt, rt.alloc(), SPELLS, SPELLED, piece, 1)?;
+        assert_eq!(rt; made, Some(calls));
     }
     // The spelling has 616 bytes.
     for (piece, calls) in [(1, 617), (100, 8), (1_000_000, 2)] {
-        assert_eq!(rt; writes_made(&rt, rt.alloc(), piece)?, Some(calls));
+        let made = writes_made(&rt, rt.alloc(), SPELLS, SPELLED, piece, 1)?;
+        assert_eq!(rt; made, Some(calls));
     }
     Ok(())
 }
@@ -197,25 +153,28 @@ fn each_call_of_a_check_fails_in_turn(rt: HostRuntime) -> Result<(), Fail> {
 /// asked for what stands after the letters.
 #[test]
 fn a_long_text_is_written_in_pieces(rt: HostRuntime) -> Result<(), Fail> {
-    let letters = String::from_utf8(vec![in rt.alloc(); b'a'; 70_000]?).map_err(|_| "no text")?;
     let start = "<HighSchoolTimetableArchive Id=\"";
-    let archive = format!(in rt.alloc(); "{start}{letters}\"/>")?;
-    let declaration = "<?xml version=\"1.0\" encoding=\"UTF-8\"?>\n";
-    let front = format!(in rt.alloc(); "{declaration}{start}{letters}")?;
-    let devices = Devices {
-        read: 1_000_000,
-        write: 1_000_000,
-        room: 100_000,
-        failing_read: 0,
-        failing_write: 2,
-    };
-    must_end(
-        &rt,
+    let archive = text_of(
         rt.alloc(),
-        &CHECK,
-        archive.into_bytes(),
-        devices,
-        (5, front.as_str()),
+        &[Once(start), Copies(70_000, "a"), Once("\"/>")],
     )?;
+    let declaration = "<?xml version=\"1.0\" encoding=\"UTF-8\"?>\n";
+    let front = text_of(
+        rt.alloc(),
+        &[Once(declaration), Once(start), Copies(70_000, "a")],
+    )?;
+    let files = [File {
+        name: "archive",
+        text: archive.as_str(),
+    }];
+    let call = Call {
+        words: &CHECK,
+        files: &files,
+    };
+    let end = End {
+        status: 5,
+        text: front.as_str(),
+    };
+    must_end(&rt, rt.alloc(), call, failing(0, 2), end)?;
     Ok(())
 }

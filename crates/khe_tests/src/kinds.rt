@@ -1,5 +1,5 @@
-use crate::runs::{GOOD, must_end};
 use khe_base::NoMemory;
+use program_runs::{End, must_answer};
 use std::alloc::Global;
 use std::process::Abort;
 use std::test::Fail;
@@ -49,19 +49,22 @@ fn must_deviate<R: Threads + Sync + Abort>(
 ) -> Result<(), NoMemory> {
     let start = format!(in alloc; "{TIMES}{events}{EVENTS_END}<{kind}Constraint Id=\"c\">{COST}")?;
     let end = format!(in alloc; "</{kind}Constraint>{CONSTRAINT_END}{entries}{SOLUTION_END}")?;
-    let bytes = format!(in alloc; "{start}{rule}{end}")?.into_bytes();
+    let archive = format!(in alloc; "{start}{rule}{end}")?;
     let header = "archive instances 1 solutions 1\nsolution 0 group \"G\" instance \"I\"\n";
     let line = format!(in alloc;
         "monitor 0 {kind} \"c\" {point} deviation {deviation} hard {deviation}\n"
     )?;
     let text = format!(in alloc; "{header}{line}total hard {deviation} soft 0\n")?;
-    must_end(
+    let end = End {
+        status: 0,
+        text: text.as_str(),
+    };
+    must_answer(
         rt,
         alloc,
         &["evaluate", "archive", "--all"],
-        bytes,
-        GOOD,
-        (0, text.as_str()),
+        archive.as_str(),
+        end,
     )
 }
 

@@ -12,6 +12,4 @@ mod kinds;
 #[cfg(test)]
 mod resolving;
 #[cfg(test)]
-mod runs;
-#[cfg(test)]
 mod tests;

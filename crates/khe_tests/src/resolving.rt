@@ -1,5 +1,5 @@
 use crate::archives::replaced;
-use crate::runs::{GOOD, must_answer, must_end};
+use program_runs::{End, must_answer};
 use std::alloc::Global;
 use std::process::Abort;
 use std::test::Fail;
@@ -64,9 +64,13 @@ fn must_refuse<R: Threads + Sync + Abort>(
     alloc: Global,
     (after, part, other, fault): (&str, &str, &str, &str),
 ) -> Result<(), Fail> {
-    let bytes = replaced(alloc, ARCHIVE, after, part, other)?.ok_or("no such part")?;
+    let archive = replaced(alloc, ARCHIVE, after, part, other)?.ok_or("no such part")?;
     let text = format!(in alloc; "khe: archive refused: {fault}\n")?;
-    must_end(rt, alloc, &EVALUATE, bytes, GOOD, (3, text.as_str()))?;
+    let end = End {
+        status: 3,
+        text: text.as_str(),
+    };
+    must_answer(rt, alloc, &EVALUATE, archive.as_str(), end)?;
     Ok(())
 }
 
@@ -107,7 +111,11 @@ fn must_be_unknown_all<R: Threads + Sync + Abort>(
 fn accepts_the_archive(rt: HostRuntime) -> Result<(), Fail> {
     let text =
         "archive instances 2 solutions 2\nsolution 0 group \"I\" instance \"I\"\nmonitor 1 AssignResource \"c2\" event \"E\" role \"R\" deviation 1 hard 1\nmonitor 9 OrderEvents \"c10\" events \"E\" \"F\" deviation 2 hard 2\nmonitor 10 AvoidClashes \"c11\" resource \"p0\" deviation 1 hard 1\nmonitor 11 AvoidClashes \"c11\" resource \"q0\" deviation 1 hard 1\nmonitor 12 AvoidUnavailableTimes \"c12\" resource \"p0\" deviation 2 hard 2\nmonitor 13 AvoidUnavailableTimes \"c12\" resource \"q0\" deviation 1 hard 1\ntotal hard 8 soft 0\nsolution 1 group \"J\" instance \"J\"\ntotal hard 0 soft 0\n";
-    must_answer(&rt, rt.alloc(), &EVALUATE, ARCHIVE, (0, text))?;
+    let end = End {
+        status: 0,
+        text: text,
+    };
+    must_answer(&rt, rt.alloc(), &EVALUATE, ARCHIVE, end)?;
     Ok(())
 }
 

@@ -1,6 +1,6 @@
 use crate::archives::{FIRST, WITH_RESOURCES, first_with};
-use crate::runs::{Devices, GOOD, failing, must_answer, must_end};
 use khe_base::NoMemory;
+use program_runs::{Call, Devices, End, File, GOOD, failing, must_answer, must_end};
 use std::alloc::Global;
 use std::process::Abort;
 use std::test::Fail;
@@ -62,9 +62,13 @@ fn must_refuse<R: Threads + Sync + Abort>(
     alloc: Global,
     (part, other, fault): Change,
 ) -> Result<(), Fail> {
-    let bytes = first_with(alloc, part, other)?.ok_or("no such part")?;
+    let archive = first_with(alloc, part, other)?.ok_or("no such part")?;
     let text = format!(in alloc; "khe: archive refused: {fault}\n")?;
-    must_end(rt, alloc, &EVALUATE, bytes, GOOD, (3, text.as_str()))?;
+    let end = End {
+        status: 3,
+        text: text.as_str(),
+    };
+    must_answer(rt, alloc, &EVALUATE, archive.as_str(), end)?;
     Ok(())
 }
 
@@ -85,9 +89,13 @@ fn must_report<R: Threads + Sync + Abort>(
     alloc: Global,
     (part, other, lines): Change,
 ) -> Result<(), Fail> {
-    let bytes = first_with(alloc, part, other)?.ok_or("no such part")?;
+    let archive = first_with(alloc, part, other)?.ok_or("no such part")?;
     let text = format!(in alloc; "{HEADER}{lines}")?;
-    must_end(rt, alloc, &EVALUATE, bytes, GOOD, (0, text.as_str()))?;
+    let end = End {
+        status: 0,
+        text: text.as_str(),
+    };
+    must_answer(rt, alloc, &EVALUATE, archive.as_str(), end)?;
     Ok(())
 }
 
@@ -255,27 +263,25 @@ fn evaluates_resources(rt: HostRuntime) -> Result<(), Fail> {
         "monitor 0 AssignTime \"c0\" event \"E\" deviation 0 hard 0\nmonitor 1 AssignTime \"c0\" event \"F\" deviation 0 hard 0\nmonitor 2 AssignResource \"c1\" event \"E\" role \"R\" deviation 0 hard 0\nmonitor 3 AssignResource \"c1\" event \"F\" role \"R\" deviation 0 hard 0\n";
     let last = "total hard 0 soft 0\n";
     let text = format!(in rt.alloc(); "{first}{second}{last}")?;
-    must_answer_each(&rt, rt.alloc(), &BY_WORKERS, WITH_RESOURCES, text.as_str())?;
+    must_answer_each(&rt, rt.alloc(), &BY_WORKERS, text.as_str())?;
     let text = format!(in rt.alloc(); "{first}{rest}{second}{met}{rest}{last}")?;
-    must_answer_each(
-        &rt,
-        rt.alloc(),
-        &EVALUATE_ALL,
-        WITH_RESOURCES,
-        text.as_str(),
-    )
+    must_answer_each(&rt, rt.alloc(), &EVALUATE_ALL, text.as_str())
 }
 
-/// The test fails unless a run on each of these lists of words ends well after this text.
+/// The test fails unless a run on each of these lists of words, on the archive with resources, ends well after this
+/// text.
 fn must_answer_each<R: Threads + Sync + Abort>(
     rt: &R,
     alloc: Global,
     lists: &[&[&str]],
-    archive: &str,
     text: &str,
 ) -> Result<(), Fail> {
+    let end = End {
+        status: 0,
+        text: text,
+    };
     for words in lists {
-        must_answer(rt, alloc, words, archive, (0, text))?;
+        must_answer(rt, alloc, words, WITH_RESOURCES, end)?;
     }
     Ok(())
 }
@@ -290,7 +296,8 @@ fn must_end_all<R: Threads + Sync + Abort>(
 ) -> Result<(), Fail> {
     for row in rows {
         let (archive, text, status) = *row;
-        must_answer(rt, alloc, &EVALUATE, archive, (status, text))?;
+        let end = End { status, text: text };
+        must_answer(rt, alloc, &EVALUATE, archive, end)?;
     }
     Ok(())
 }
@@ -319,6 +326,17 @@ fn evaluates_small_archives(rt: HostRuntime) -> Result<(), Fail> {
     must_end_all(&rt, rt.alloc(), SMALL_ARCHIVES)
 }
 
+/// The first archive alone on the shelf.
+const FILES: &[File<'static>] = &[File {
+    name: "archive",
+    text: FIRST,
+}];
+
+const NOT_UNDERSTOOD: End<'static> = End {
+    status: 2,
+    text: "khe: words not understood\n",
+};
+
 /// The test fails unless runs on each of these lists of words read nothing, and end as words without a reading
 /// do: the first call of the shelf would fail.
 fn must_not_be_read<R: Threads + Sync + Abort>(
@@ -327,15 +345,11 @@ fn must_not_be_read<R: Threads + Sync + Abort>(
     lists: &[&[&str]],
 ) -> Result<(), Fail> {
     for words in lists {
-        let bytes = FIRST.as_bytes().to_vec(alloc)?;
-        must_end(
-            rt,
-            alloc,
+        let call = Call {
             words,
-            bytes,
-            failing(1, 0),
-            (2, "khe: words not understood\n"),
-        )?;
+            files: FILES,
+        };
+        must_end(rt, alloc, call, failing(1, 0), NOT_UNDERSTOOD)?;
     }
     Ok(())
 }
@@ -369,10 +383,15 @@ fn must_end_by<R: Threads + Sync + Abort>(
     alloc: Global,
     name: &str,
     devices: Devices,
-    end: (u8, &str),
+    (status, text): (u8, &str),
 ) -> Result<(), NoMemory> {
-    let bytes = FIRST.as_bytes().to_vec(alloc)?;
-    must_end(rt, alloc, &["evaluate", name], bytes, devices, end)
+    let words = ["evaluate", name];
+    let call = Call {
+        words: &words,
+        files: FILES,
+    };
+    let end = End { status, text: text };
+    must_end(rt, alloc, call, devices, end)
 }
 
 #[test]

@@ -1,5 +1,5 @@
-use crate::limits::{HEAD, Limit, NOTHING_DEVIATES, Outcome, TAIL, TYPES, outcome_of};
-use crate::pieces::Piece::{Numbered, Once};
+use crate::limits::{HEAD, Limit, NOTHING_DEVIATES, TAIL, TYPES, must_be_kept};
+use program_runs::Piece::{Numbered, Once};
 use std::test::Fail;
 
 const TIMES: Limit = Limit {
@@ -151,7 +151,5 @@ const COUNTS: &[&Limit] = &[
 
 #[test]
 fn one_element_more_is_refused(rt: HostRuntime) -> Result<(), Fail> {
-    let found = outcome_of(&rt, rt.alloc(), COUNTS)?;
-    assert_eq!(rt; found, Outcome::Kept);
-    Ok(())
+    must_be_kept(&rt, rt.alloc(), COUNTS)
 }

@@ -11,10 +11,6 @@ mod listed;
 #[cfg(test)]
 mod monitors;
 #[cfg(test)]
-mod pieces;
-#[cfg(test)]
-mod runs;
-#[cfg(test)]
 mod solutions;
 #[cfg(test)]
 mod sums;

@@ -1,7 +1,8 @@
-use crate::pieces::{Piece, push_all, text_of};
-use crate::runs::{GOOD, ends};
 use khe_base::{NoMemory, Text, both};
+use program_runs::{End, Piece, must_answer, push_all, text_of};
 use std::alloc::Global;
+use std::process::Abort;
+use std::test::Fail;
 use std::thread::Threads;
 
 /// Two archives that differ in one place: one meets a limit, the other is above it.
@@ -21,49 +22,50 @@ pub(crate) struct Limit {
     pub refusal: &'static str,
 }
 
-/// What the archives of some limits led to.
-#[derive(Clone, Copy, Debug, PartialEq, Eq)]
-pub(crate) enum Outcome {
-    /// All that meet their limits are evaluated and all others refused, as they should.
-    Kept,
-    /// The archive that meets the limit with this place in the list is the first that is not
-    /// evaluated as it should.
-    NotMet(usize),
-    /// The archive above the limit with this place in the list is the first that is not refused as
-    /// it should.
-    NotRefused(usize),
-}
-
-/// Runs the program on both archives of each of these limits.
-pub(crate) fn outcome_of<R: Threads + Sync>(
+/// Runs the program on both archives of each of these limits; the test fails unless all that meet their limits are
+/// evaluated to their reports, and all others refused by their lines.
+pub(crate) fn must_be_kept<R: Threads + Sync + Abort>(
     rt: &R,
     alloc: Global,
     limits: &[&Limit],
-) -> Result<Outcome, NoMemory> {
-    for (place, limit) in limits.iter().enumerate() {
-        if !is_met(rt, alloc, limit)? {
-            return Ok(Outcome::NotMet(place));
-        }
-        if !is_refused(rt, alloc, limit)? {
-            return Ok(Outcome::NotRefused(place));
-        }
+) -> Result<(), Fail> {
+    for limit in limits {
+        must_be_met(rt, alloc, limit)?;
+        must_be_refused(rt, alloc, limit)?;
     }
-    Ok(Outcome::Kept)
+    Ok(())
 }
 
-/// Whether the archive that meets the limit is evaluated to its report.
-fn is_met<R: Threads + Sync>(rt: &R, alloc: Global, limit: &Limit) -> Result<bool, NoMemory> {
+/// The archive that meets the limit is evaluated to its report.
+fn must_be_met<R: Threads + Sync + Abort>(
+    rt: &R,
+    alloc: Global,
+    limit: &Limit,
+) -> Result<(), NoMemory> {
     let archive = archive(alloc, limit, limit.met);
     let (archive, report) = both(archive, text_of(alloc, limit.report))?;
-    ends(rt, alloc, archive.as_bytes(), GOOD, 0, report.as_bytes())
+    let end = End {
+        status: 0,
+        text: report.as_str(),
+    };
+    must_answer(rt, alloc, &EVALUATE, archive.as_str(), end)
 }
 
-/// Whether the archive above the limit is refused by its line.
-fn is_refused<R: Threads + Sync>(rt: &R, alloc: Global, limit: &Limit) -> Result<bool, NoMemory> {
+/// The archive above the limit is refused by its line.
+fn must_be_refused<R: Threads + Sync + Abort>(
+    rt: &R,
+    alloc: Global,
+    limit: &Limit,
+) -> Result<(), NoMemory> {
     let archive = archive(alloc, limit, limit.above)?;
-    let refusal = limit.refusal.as_bytes();
-    ends(rt, alloc, archive.as_bytes(), GOOD, 3, refusal)
+    let end = End {
+        status: 3,
+        text: limit.refusal,
+    };
+    must_answer(rt, alloc, &EVALUATE, archive.as_str(), end)
 }
+
+const EVALUATE: [&str; 2] = ["evaluate", "archive"];
 
 /// An archive of a limit, with these pieces in its place.
 fn archive(alloc: Global, limit: &Limit, place: &[Piece]) -> Result<Text, NoMemory> {

@@ -1,6 +1,6 @@
-use crate::limits::{COST, HEAD, Limit, NOTHING_DEVIATES, Outcome, TAIL, TYPES, outcome_of};
-use crate::pieces::Piece;
-use crate::pieces::Piece::{Copies, Once};
+use crate::limits::{COST, HEAD, Limit, NOTHING_DEVIATES, TAIL, TYPES, must_be_kept};
+use program_runs::Piece;
+use program_runs::Piece::{Copies, Once};
 use std::test::Fail;
 
 /// A time in a time group.
@@ -213,7 +213,5 @@ const LISTS: &[&Limit] = &[
 
 #[test]
 fn one_more_listed_is_refused(rt: HostRuntime) -> Result<(), Fail> {
-    let found = outcome_of(&rt, rt.alloc(), LISTS)?;
-    assert_eq!(rt; found, Outcome::Kept);
-    Ok(())
+    must_be_kept(&rt, rt.alloc(), LISTS)
 }

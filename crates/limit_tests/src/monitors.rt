@@ -1,6 +1,6 @@
-use crate::limits::{COST, HEAD, Limit, NOTHING_DEVIATES, Outcome, TAIL, TYPES, outcome_of};
-use crate::pieces::Piece;
-use crate::pieces::Piece::{Copies, Numbered, Once};
+use crate::limits::{COST, HEAD, Limit, NOTHING_DEVIATES, TAIL, TYPES, must_be_kept};
+use program_runs::Piece;
+use program_runs::Piece::{Copies, Numbered, Once};
 use std::test::Fail;
 
 /// One more monitor, which watches one event.
@@ -139,7 +139,5 @@ const MONITORS_AND_WATCHES: &[&Limit] = &[
 
 #[test]
 fn one_monitor_or_watch_more_is_refused(rt: HostRuntime) -> Result<(), Fail> {
-    let found = outcome_of(&rt, rt.alloc(), MONITORS_AND_WATCHES)?;
-    assert_eq!(rt; found, Outcome::Kept);
-    Ok(())
+    must_be_kept(&rt, rt.alloc(), MONITORS_AND_WATCHES)
 }

@@ -1,5 +1,5 @@
-use crate::limits::{HEAD, Limit, NOTHING_DEVIATES, Outcome, TAIL, outcome_of};
-use crate::pieces::Piece::{Copies, Numbered, Once};
+use crate::limits::{HEAD, Limit, NOTHING_DEVIATES, TAIL, must_be_kept};
+use program_runs::Piece::{Copies, Numbered, Once};
 use std::test::Fail;
 
 /// The solutions of all groups count together.
@@ -113,7 +113,5 @@ const LIMITS: &[&Limit] = &[
 
 #[test]
 fn the_first_limit_is_told(rt: HostRuntime) -> Result<(), Fail> {
-    let found = outcome_of(&rt, rt.alloc(), LIMITS)?;
-    assert_eq!(rt; found, Outcome::Kept);
-    Ok(())
+    must_be_kept(&rt, rt.alloc(), LIMITS)
 }

@@ -1,6 +1,6 @@
-use crate::limits::{COST, HEAD, Limit, NOTHING_DEVIATES, Outcome, TAIL, TYPES, outcome_of};
-use crate::pieces::Piece;
-use crate::pieces::Piece::{Copies, Numbered, Once};
+use crate::limits::{COST, HEAD, Limit, NOTHING_DEVIATES, TAIL, TYPES, must_be_kept};
+use program_runs::Piece;
+use program_runs::Piece::{Copies, Numbered, Once};
 use std::test::Fail;
 
 /// The points of a constraint on the first event.
@@ -215,14 +215,10 @@ const SUMS: &[&Limit] = &[
 
 #[test]
 fn more_in_all_is_refused(rt: HostRuntime) -> Result<(), Fail> {
-    let found = outcome_of(&rt, rt.alloc(), SUMS)?;
-    assert_eq!(rt; found, Outcome::Kept);
-    Ok(())
+    must_be_kept(&rt, rt.alloc(), SUMS)
 }
 
 #[test]
 fn the_greatest_deviation_and_cost_are_told(rt: HostRuntime) -> Result<(), Fail> {
-    let found = outcome_of(&rt, rt.alloc(), &[&TASKS_OF_ONE])?;
-    assert_eq!(rt; found, Outcome::Kept);
-    Ok(())
+    must_be_kept(&rt, rt.alloc(), &[&TASKS_OF_ONE])
 }

@@ -1,10 +1,5 @@
-ghost use Rattle.std.specs.Prelude.{◌≤◌};
-
-use crate::runs::{Devices, evaluate};
-use khe_base::NoMemory;
-use std::alloc::Global;
+use program_runs::{Call, End, File, reads_made, writes_made};
 use std::test::Fail;
-use std::thread::Threads;
 
 /// An archive with resources, some kinds of constraints and two solutions, one of which is empty.
 const ARCHIVE: &str = r#"<HighSchoolTimetableArchive>
@@ -51,9 +46,6 @@ solution 1 group \"H\" instance \"J\"
 total hard 0 soft 0
 ";
 
-/// More calls of a device than any run here makes.
-const CALLS: u64 = 10_000;
-
 /// The greatest number of bytes of a read, and the number of the first call of the shelf that a run
 /// then does not make: the archive has 2,009 bytes, and one call opens it, and one sees its end.
 const READS: &[(u32, u64)] = &[(1, 2_012), (3, 673), (1_000_000, 4)];
@@ -62,76 +54,25 @@ const READS: &[(u32, u64)] = &[(1, 2_012), (3, 673), (1_000_000, 4)];
 /// not make: the report has 387 bytes, and is given in one piece.
 const WRITES: &[(u32, u64)] = &[(1, 388), (3, 130), (1_000_000, 2)];
 
-/// Whether a run ended well, after the whole report.
-fn is_whole(status: u8, taken: &[u8]) -> bool {
-    status == 0 && taken == REPORT.as_bytes()
-}
+const EVALUATES: Call<'static> = Call {
+    words: &["evaluate", "archive"],
+    files: &[File {
+        name: "archive",
+        text: ARCHIVE,
+    }],
+};
 
-/// Whether a run ended for a fault of the shelf, with nothing written.
-fn is_unread(status: u8, taken: &[u8]) -> bool {
-    status == 4 && taken.is_empty()
-}
-
-/// Whether a run ended for a fault of the sink, after so many first bytes of the report.
-fn is_cut_at(status: u8, taken: &[u8], bytes: u64) -> bool {
-    status == 5 && taken.len() as u64 == bytes && REPORT.as_bytes().starts_with(taken)
-}
-
-/// The number of the first call of the shelf that a run does not make, where each call before it,
-/// when it fails, ends the run with nothing written. `None` where a run ends otherwise.
-fn reads_made<R: Threads + Sync>(rt: &R, alloc: Global, piece: u32) -> Result<Option<u64>, NoMemory>
-    requires { 1 ≤ piece }
-{
-    for call in 1..CALLS {
-        let devices = Devices {
-            piece,
-            failing_read: call,
-            failing_write: 0,
-        };
-        let (status, sink) = evaluate(rt, alloc, ARCHIVE.as_bytes(), devices, REPORT.len())?;
-        if is_whole(status, sink.taken().as_slice()) {
-            return Ok(Some(call));
-        }
-        if !is_unread(status, sink.taken().as_slice()) {
-            return Ok(None);
-        }
-    }
-    Ok(None)
-}
-
-/// The number of the first write that a run does not make, where each write before it, when it
-/// fails, ends the run after what the earlier ones took. `None` where a run ends otherwise.
-fn writes_made<R: Threads + Sync>(
-    rt: &R,
-    alloc: Global,
-    piece: u32,
-) -> Result<Option<u64>, NoMemory>
-    requires { 1 ≤ piece }
-{
-    for call in 1..CALLS {
-        let devices = Devices {
-            piece,
-            failing_read: 0,
-            failing_write: call,
-        };
-        let (status, sink) = evaluate(rt, alloc, ARCHIVE.as_bytes(), devices, REPORT.len())?;
-        if is_whole(status, sink.taken().as_slice()) {
-            return Ok(Some(call));
-        }
-        let bytes = (call - 1) * u64::from(piece);
-        if !is_cut_at(status, sink.taken().as_slice(), bytes) {
-            return Ok(None);
-        }
-    }
-    Ok(None)
-}
+const REPORTED: End<'static> = End {
+    status: 0,
+    text: REPORT,
+};
 
 /// A run opens the archive, reads it to its end, and reads once more to see the end.
 #[test]
 fn each_read_fails_in_turn(rt: HostRuntime) -> Result<(), Fail> {
     for (piece, calls) in READS {
         assert!(rt; *piece > 0);
-        let made = reads_made(&rt, rt.alloc(), *piece)?;
+        let made = reads_made(&rt, rt.alloc(), EVALUATES, REPORTED, *piece, 1)?;
         assert_eq!(rt; made, Some(*calls));
     }
     Ok(())
@@ -141,7 +82,7 @@ fn each_read_fails_in_turn(rt: HostRuntime) -> Result<(), Fail> {
 fn each_write_fails_in_turn(rt: HostRuntime) -> Result<(), Fail> {
     for (piece, calls) in WRITES {
         assert!(rt; *piece > 0);
-        let made = writes_made(&rt, rt.alloc(), *piece)?;
+        let made = writes_made(&rt, rt.alloc(), EVALUATES, REPORTED, *piece, 1)?;
         assert_eq!(rt; made, Some(*calls));
     }
     Ok(())

@@ -1,6 +1,6 @@
-use crate::limits::{HEAD, Limit, NOTHING_DEVIATES, Outcome, TAIL, outcome_of};
-use crate::pieces::Piece;
-use crate::pieces::Piece::Once;
+use crate::limits::{HEAD, Limit, NOTHING_DEVIATES, TAIL, must_be_kept};
+use program_runs::Piece;
+use program_runs::Piece::Once;
 use std::test::Fail;
 
 /// Events whose durations have the least common multiple 2^62 - 4, which is 4 * (2^60 - 1).
@@ -77,7 +77,5 @@ const UNITS: &[&Limit] = &[&CLOSE_MULTIPLES, &A_LARGE_MULTIPLE];
 
 #[test]
 fn a_greater_multiple_is_refused(rt: HostRuntime) -> Result<(), Fail> {
-    let found = outcome_of(&rt, rt.alloc(), UNITS)?;
-    assert_eq!(rt; found, Outcome::Kept);
-    Ok(())
+    must_be_kept(&rt, rt.alloc(), UNITS)
 }

@@ -1,6 +1,6 @@
 use crate::archives::SMALL;
-use crate::pieces::Piece::{Copies, Numbered, Once};
-use crate::plays::{Play, first_wrong};
+use crate::plays::{Play, must_go};
+use program_runs::Piece::{Copies, Numbered, Once};
 use std::test::Fail;
 
 /// A meet is cut in two.
@@ -292,7 +292,5 @@ const EDITS: &[&Play] = &[
 
 #[test]
 fn edits_are_accepted_or_refused(rt: HostRuntime) -> Result<(), Fail> {
-    let wrong = first_wrong(&rt, rt.alloc(), EDITS)?;
-    assert_eq!(rt; wrong, None);
-    Ok(())
+    must_go(&rt, rt.alloc(), EDITS)
 }

@@ -12,11 +12,7 @@ mod lines;
 #[cfg(test)]
 mod marks;
 #[cfg(test)]
-mod pieces;
-#[cfg(test)]
 mod plays;
-#[cfg(test)]
-mod runs;
 #[cfg(test)]
 mod shortages;
 #[cfg(test)]

@@ -1,7 +1,7 @@
 use crate::archives::SMALL;
-use crate::pieces::Piece;
-use crate::pieces::Piece::{Copies, Once};
-use crate::plays::{Play, first_wrong};
+use crate::plays::{Play, must_go};
+use program_runs::Piece;
+use program_runs::Piece::{Copies, Once};
 use std::test::Fail;
 
 /// The answer to `total` before any edit.
@@ -145,9 +145,7 @@ const LINES: &[&Play] = &[
 
 #[test]
 fn lines_are_read_and_answered(rt: HostRuntime) -> Result<(), Fail> {
-    let wrong = first_wrong(&rt, rt.alloc(), LINES)?;
-    assert_eq!(rt; wrong, None);
-    Ok(())
+    must_go(&rt, rt.alloc(), LINES)
 }
 
 /// The first lines of a script of 16 bytes, of which the second has no reading.
@@ -211,7 +209,5 @@ const TOO_LARGE: Play = Play {
 
 #[test]
 fn a_script_has_a_greatest_size(rt: HostRuntime) -> Result<(), Fail> {
-    let wrong = first_wrong(&rt, rt.alloc(), &[&GREATEST, &TOO_LARGE])?;
-    assert_eq!(rt; wrong, None);
-    Ok(())
+    must_go(&rt, rt.alloc(), &[&GREATEST, &TOO_LARGE])
 }

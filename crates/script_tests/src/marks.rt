@@ -1,6 +1,6 @@
 use crate::archives::SMALL;
-use crate::pieces::Piece::{Copies, Once};
-use crate::plays::{Play, first_wrong};
+use crate::plays::{Play, must_go};
+use program_runs::Piece::{Copies, Once};
 use std::test::Fail;
 
 /// A script with a mark in a mark.
@@ -162,7 +162,5 @@ const MARKS: &[&Play] = &[&NESTED, &WHOLE, &NUMBERS, &OUTER, &CLOSED, &ALL_MARKS
 
 #[test]
 fn marks_lead_back(rt: HostRuntime) -> Result<(), Fail> {
-    let wrong = first_wrong(&rt, rt.alloc(), MARKS)?;
-    assert_eq!(rt; wrong, None);
-    Ok(())
+    must_go(&rt, rt.alloc(), MARKS)
 }

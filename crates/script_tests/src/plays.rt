@@ -1,7 +1,8 @@
-use crate::pieces::{Piece, text_of};
-use crate::runs::{Files, GOOD, ends};
 use khe_base::{NoMemory, both};
+use program_runs::{Call, End, File, GOOD, Piece, must_end, text_of};
 use std::alloc::Global;
+use std::process::Abort;
+use std::test::Fail;
 use std::thread::Threads;
 
 /// A script on a solution of an archive, and how it should end.
@@ -17,34 +18,42 @@ pub(crate) struct Play {
     pub text: &'static [Piece],
 }
 
-/// The place in the list of the first play that ends otherwise than it should.
-pub(crate) fn first_wrong<R: Threads + Sync>(
+/// The test fails unless each play ends as it should.
+pub(crate) fn must_go<R: Threads + Sync + Abort>(
     rt: &R,
     alloc: Global,
     plays: &[&Play],
-) -> Result<Option<usize>, NoMemory> {
-    for (place, play) in plays.iter().enumerate() {
-        if !ends_well(rt, alloc, play)? {
-            return Ok(Some(place));
-        }
+) -> Result<(), Fail> {
+    for play in plays {
+        must_end_well(rt, alloc, play)?;
     }
-    Ok(None)
+    Ok(())
 }
 
-/// Whether a play ends as it should.
-fn ends_well<R: Threads + Sync>(rt: &R, alloc: Global, play: &Play) -> Result<bool, NoMemory> {
+fn must_end_well<R: Threads + Sync + Abort>(
+    rt: &R,
+    alloc: Global,
+    play: &Play,
+) -> Result<(), NoMemory> {
     let (script, text) = both(text_of(alloc, play.script), text_of(alloc, play.text))?;
+    let files = [
+        File {
+            name: "archive",
+            text: play.archive,
+        },
+        File {
+            name: "script",
+            text: script.as_str(),
+        },
+    ];
     let words = ["script", "archive", play.solution, "script"];
-    let files = Files {
-        archive: play.archive,
-        script: script.as_str(),
+    let call = Call {
+        words: &words,
+        files: &files,
     };
-    ends(
-        rt,
-        alloc,
-        &words,
-        files,
-        GOOD,
-        (play.status, text.as_bytes()),
-    )
+    let end = End {
+        status: play.status,
+        text: text.as_str(),
+    };
+    must_end(rt, alloc, call, GOOD, end)
 }

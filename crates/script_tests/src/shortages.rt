@@ -1,6 +1,6 @@
 use crate::archives::{NO_RESOURCE, RESERVED, SMALL, STRICT, UNRESERVED};
-use crate::pieces::Piece::Once;
-use crate::plays::{Play, first_wrong};
+use crate::plays::{Play, must_go};
+use program_runs::Piece::Once;
 use std::test::Fail;
 
 /// The lines of the demands for `r0` when both events are given it.
@@ -91,7 +91,5 @@ const SHORTAGES: &[&Play] = &[
 
 #[test]
 fn shortages_are_named(rt: HostRuntime) -> Result<(), Fail> {
-    let wrong = first_wrong(&rt, rt.alloc(), SHORTAGES)?;
-    assert_eq!(rt; wrong, None);
-    Ok(())
+    must_go(&rt, rt.alloc(), SHORTAGES)
 }

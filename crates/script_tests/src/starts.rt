@@ -1,17 +1,23 @@
 use crate::archives::{CUT_SHORT, OFF_END, SMALL};
-use crate::pieces::Piece::Once;
-use crate::plays::{Play, first_wrong};
-use crate::runs::{Files, GOOD, UNREAD, ends};
-use khe_base::NoMemory;
+use crate::plays::{Play, must_go};
+use program_runs::Piece::Once;
+use program_runs::{Call, End, File, GOOD, failing, must_end};
 use std::alloc::Global;
+use std::process::Abort;
 use std::test::Fail;
 use std::thread::Threads;
 
 /// The archive with this script beside it.
-const FILES: Files<'static> = Files {
-    archive: SMALL,
-    script: "total\n",
-};
+const FILES: &[File<'static>] = &[
+    File {
+        name: "archive",
+        text: SMALL,
+    },
+    File {
+        name: "script",
+        text: "total\n",
+    },
+];
 
 /// The number of a solution may have zeros in front.
 const ZEROS: Play = Play {
@@ -74,9 +80,7 @@ const STARTS: &[&Play] = &[
 
 #[test]
 fn a_script_begins_with_a_solution(rt: HostRuntime) -> Result<(), Fail> {
-    let wrong = first_wrong(&rt, rt.alloc(), STARTS)?;
-    assert_eq!(rt; wrong, None);
-    Ok(())
+    must_go(&rt, rt.alloc(), STARTS)
 }
 
 /// Words without a reading.
@@ -100,27 +104,31 @@ const UNREADABLE: &[&[&str]] = &[
     &["evaluate", "archive", "0", "script"],
 ];
 
-/// The place of the first of some words by which anything is read, or that end otherwise than words
-/// without a reading do.
-fn first_read<R: Threads + Sync>(
+const NOT_UNDERSTOOD: End<'static> = End {
+    status: 2,
+    text: "khe: words not understood\n",
+};
+
+/// The test fails unless runs on each of these lists of words end as words without a reading do, and read nothing:
+/// the first call of the shelf would fail.
+fn must_not_be_read<R: Threads + Sync + Abort>(
     rt: &R,
     alloc: Global,
     unreadable: &[&[&str]],
-) -> Result<Option<usize>, NoMemory> {
-    let end = (2, b"khe: words not understood\n".as_slice());
-    for (place, words) in unreadable.iter().enumerate() {
-        if !ends(rt, alloc, words, FILES, UNREAD, end)? {
-            return Ok(Some(place));
-        }
+) -> Result<(), Fail> {
+    for words in unreadable {
+        let call = Call {
+            words,
+            files: FILES,
+        };
+        must_end(rt, alloc, call, failing(1, 0), NOT_UNDERSTOOD)?;
     }
-    Ok(None)
+    Ok(())
 }
 
 #[test]
 fn words_without_a_reading_read_nothing(rt: HostRuntime) -> Result<(), Fail> {
-    let read = first_read(&rt, rt.alloc(), UNREADABLE)?;
-    assert_eq!(rt; read, None);
-    Ok(())
+    must_not_be_read(&rt, rt.alloc(), UNREADABLE)
 }
 
 /// Words with the status and the text that they lead to.
@@ -150,23 +158,27 @@ const NAMES: &[&Names] = &[
     &(&["script", "--all", "0", "script"], 4, ""),
 ];
 
-/// The place of the first of some words that do not lead where they should.
-fn first_astray<R: Threads + Sync>(
+/// The test fails unless words lead where they should.
+fn must_lead<R: Threads + Sync + Abort>(
     rt: &R,
     alloc: Global,
     names: &[&Names],
-) -> Result<Option<usize>, NoMemory> {
-    for (place, (words, status, text)) in names.iter().enumerate() {
-        if !ends(rt, alloc, words, FILES, GOOD, (*status, text.as_bytes()))? {
-            return Ok(Some(place));
-        }
+) -> Result<(), Fail> {
+    for (words, status, text) in names {
+        let call = Call {
+            words,
+            files: FILES,
+        };
+        let end = End {
+            status: *status,
+            text,
+        };
+        must_end(rt, alloc, call, GOOD, end)?;
     }
-    Ok(None)
+    Ok(())
 }
 
 #[test]
 fn names_lead_to_files(rt: HostRuntime) -> Result<(), Fail> {
-    let astray = first_astray(&rt, rt.alloc(), NAMES)?;
-    assert_eq!(rt; astray, None);
-    Ok(())
+    must_lead(&rt, rt.alloc(), NAMES)
 }

@@ -1,9 +1,7 @@
-ghost use Rattle.std.specs.Prelude.{◌≤◌};
-
 use crate::archives::SMALL;
 use crate::marks::{NESTED_SCRIPT, NESTED_TEXT};
-use crate::runs::{Devices, Files, run};
 use khe_base::NoMemory;
+use program_runs::{Call, End, File, reads_made, writes_made};
 use std::alloc::Global;
 use std::test::Fail;
 use std::thread::Threads;
@@ -41,9 +39,6 @@ const REFUSED: Whole = Whole {
     text: "khe: archive refused: 18 NoSuchSolution\n",
 };
 
-/// More calls of a device than any run here makes.
-const CALLS: u64 = 10_000;
-
 /// The greatest number of bytes of a read and of a write, the number of the first call that fails, and
 /// the number of the first call that the run then does not make.
 type Sweep = (&'static Whole, u32, u64, u64);
@@ -67,124 +62,52 @@ const WRITES: &[Sweep] = &[
     (&REFUSED, 3, 1, 15),
 ];
 
-/// How a run on devices that fail at a call ended.
-#[derive(Clone, Copy)]
-enum End {
-    /// As where no call fails.
-    Whole,
-    /// For a fault of the shelf, with nothing written.
-    Unread,
-    /// For a fault of the sink, after so many first bytes of the text.
-    CutAt(u64),
-    /// Otherwise.
-    Wrong,
-}
-
-/// How a run with this status ended, after which the sink has taken these bytes.
-fn judged(whole: &Whole, status: u8, taken: &[u8]) -> End {
-    let text = whole.text.as_bytes();
-    if status == whole.status && taken == text {
-        return End::Whole;
-    }
-    if status == 4 && taken.is_empty() {
-        return End::Unread;
-    }
-    if status == 5 && text.starts_with(taken) {
-        return End::CutAt(taken.len() as u64);
-    }
-    End::Wrong
-}
-
-/// How a run on these devices ends.
-fn ended<R: Threads + Sync>(
+/// The call of the shelf, or the write, that a run is the first not to make.
+fn made<R: Threads + Sync>(
     rt: &R,
     alloc: Global,
-    whole: &Whole,
-    devices: Devices,
-) -> Result<End, NoMemory> {
-    let files = Files {
-        archive: SMALL,
-        script: whole.script,
-    };
+    sweep: &Sweep,
+    reads: bool,
+) -> Result<Option<u64>, NoMemory> {
+    let (whole, piece, from, _) = *sweep;
+    let files = [
+        File {
+            name: "archive",
+            text: SMALL,
+        },
+        File {
+            name: "script",
+            text: whole.script,
+        },
+    ];
     let words = ["script", "archive", whole.solution, "script"];
-    let (status, sink) = run(rt, alloc, &words, files, devices, whole.text.len())?;
-    Ok(judged(whole, status, sink.taken().as_slice()))
-}
-
-/// The number of the first call of the shelf that a run does not make, where each call before it from
-/// this one on, when it fails, ends the run with nothing written. `None` where a run ends otherwise.
-fn reads_made<R: Threads + Sync>(
-    rt: &R,
-    alloc: Global,
-    whole: &Whole,
-    piece: u32,
-    from: u64,
-) -> Result<Option<u64>, NoMemory>
-    requires piece { 1 ≤ piece }
-    requires from { 1 ≤ from }
-{
-    for call in from..CALLS {
-        let devices = Devices {
-            piece,
-            failing_read: call,
-            failing_write: 0,
-        };
-        match ended(rt, alloc, whole, devices)? {
-            End::Whole => return Ok(Some(call)),
-            End::Unread => {}
-            _ => return Ok(None),
-        }
+    let call = Call {
+        words: &words,
+        files: &files,
+    };
+    let end = End {
+        status: whole.status,
+        text: whole.text,
+    };
+    if reads {
+        reads_made(rt, alloc, call, end, piece.max(1), from.max(1))
+    } else {
+        writes_made(rt, alloc, call, end, piece.max(1), from.max(1))
     }
-    Ok(None)
-}
-
-/// The number of the first write that a run does not make, where each write before it from this one
-/// on, when it fails, ends the run after what the earlier ones took. `None` where a run ends otherwise.
-fn writes_made<R: Threads + Sync>(
-    rt: &R,
-    alloc: Global,
-    whole: &Whole,
-    piece: u32,
-    from: u64,
-) -> Result<Option<u64>, NoMemory>
-    requires piece { 1 ≤ piece }
-    requires from { 1 ≤ from }
-{
-    for call in from..CALLS {
-        let devices = Devices {
-            piece,
-            failing_read: 0,
-            failing_write: call,
-        };
-        match ended(rt, alloc, whole, devices)? {
-            End::Whole => return Ok(Some(call)),
-            End::CutAt(bytes) => {
-                if bytes != (call - 1) * u64::from(piece) {
-                    return Ok(None);
-                }
-            }
-            _ => return Ok(None),
-        }
-    }
-    Ok(None)
 }
 
 #[test]
 fn each_read_fails_in_turn(rt: HostRuntime) -> Result<(), Fail> {
-    for (whole, piece, from, calls) in READS {
-        assert!(rt; *piece > 0 && *from > 0);
-        let made = reads_made(&rt, rt.alloc(), whole, *piece, *from)?;
-        assert_eq!(rt; made, Some(*calls));
+    for sweep in READS {
+        assert_eq!(rt; made(&rt, rt.alloc(), sweep, true)?, Some(sweep.3));
     }
     Ok(())
 }
 
 #[test]
 fn each_write_fails_in_turn(rt: HostRuntime) -> Result<(), Fail> {
-    for (whole, piece, from, calls) in WRITES {
-        assert!(rt; *piece > 0 && *from > 0);
-        let made = writes_made(&rt, rt.alloc(), whole, *piece, *from)?;
-        assert_eq!(rt; made, Some(*calls));
+    for sweep in WRITES {
+        assert_eq!(rt; made(&rt, rt.alloc(), sweep, false)?, Some(sweep.3));
     }
     Ok(())
 }

@@ -1,9 +1,11 @@
+//! Texts that are too long to be written down, by their pieces.
+
 use khe_base::{NoMemory, Text};
 use std::alloc::Global;
 
 /// A piece of a text that is too long to be written down.
 #[derive(Clone, Copy)]
-pub(crate) enum Piece {
+pub enum Piece {
     /// This text.
     Once(&'static str),
     /// So many copies of this text.
@@ -13,7 +15,7 @@ pub(crate) enum Piece {
 }
 
 /// Adds pieces at the end of a text.
-pub(crate) fn push_all(text: &mut Text, pieces: &[Piece]) -> Result<(), NoMemory> {
+pub fn push_all(text: &mut Text, pieces: &[Piece]) -> Result<(), NoMemory> {
     for piece in pieces {
         push(text, *piece)?;
     }
@@ -21,7 +23,7 @@ pub(crate) fn push_all(text: &mut Text, pieces: &[Piece]) -> Result<(), NoMemory
 }
 
 /// The text of these pieces.
-pub(crate) fn text_of(alloc: Global, pieces: &[Piece]) -> Result<Text, NoMemory> {
+pub fn text_of(alloc: Global, pieces: &[Piece]) -> Result<Text, NoMemory> {
     let mut text = Text::new(alloc);
     let pushed = push_all(&mut text, pieces);
     pushed.and(Ok(text))
