@@ -1,113 +1,105 @@
-//! The command on small archives. What is written was made by a reference program that was written apart
-//! from this one.
+//! The command on small archives. What it should write was made by a reference program that was written
+//! apart from this one.
 
 use crate::archives::{CROSSED, SMALL, TO_CUT, TO_JOIN};
-use crate::programs::{GOOD, run};
-use crate::texts::{CUT, JOINED, KEPT, REPAIRED, SPENT, SWAPPED};
+use crate::texts::{CUT, FRONT, JOINED, KEPT, REPAIRED, SPENT, SWAPPED};
 use khe_base::NoMemory;
+use program_runs::Piece::Once;
+use program_runs::{Call, End, Piece, failing, must_answer, must_end, text_of};
 use std::alloc::Global;
+use std::process::Abort;
 use std::test::Fail;
 use std::thread::Threads;
 
-/// Words on an archive, with the status and the end of the text that they lead to.
-type Row = (&'static str, &'static [&'static str], u8, &'static str);
-
-/// The line that refuses a solution.
-const NO_SUCH_SOLUTION: &str = "khe: archive refused: 18 NoSuchSolution\n";
-
-const ROWS: &[&Row] = &[
-    &(
-        SMALL,
-        &["repair", "archive", "0", "--depth", "1", "--budget", "1000"],
-        0,
-        REPAIRED,
-    ),
-    &(
-        SMALL,
-        &["repair", "archive", "0", "--budget", "1", "--depth", "1"],
-        0,
-        SPENT,
-    ),
-    &(
-        SMALL,
-        &["repair", "archive", "1", "--depth", "01", "--budget", "10"],
-        0,
-        KEPT,
-    ),
-    &(
-        CROSSED,
-        &["repair", "archive", "0", "--depth", "1", "--budget", "10"],
-        0,
-        SWAPPED,
-    ),
-    &(
-        CROSSED,
-        &["repair", "archive", "0", "--depth", "2", "--budget", "10"],
-        0,
-        SWAPPED,
-    ),
-    &(
-        TO_CUT,
-        &["repair", "archive", "0", "--depth", "1", "--budget", "10"],
-        0,
-        CUT,
-    ),
-    &(
-        TO_JOIN,
-        &["repair", "archive", "0", "--depth", "1", "--budget", "10"],
-        0,
-        JOINED,
-    ),
-    &(
-        SMALL,
-        &["repair", "archive", "2", "--depth", "1", "--budget", "10"],
-        3,
-        NO_SUCH_SOLUTION,
-    ),
-    &(
-        "<",
-        &["repair", "archive", "2", "--depth", "1", "--budget", "10"],
-        3,
-        "khe: archive refused: 2 BadMarkup at 1\n",
-    ),
-    &(
-        SMALL,
-        &["repair", "nothing", "2", "--depth", "1", "--budget", "10"],
-        4,
-        "",
-    ),
-];
-
-/// The place of the first row that ends otherwise than it should.
-fn first_wrong<R: Threads + Sync>(
-    rt: &R,
-    alloc: Global,
-    rows: &[&Row],
-) -> Result<Option<usize>, NoMemory> {
-    for (place, (archive, words, status, text)) in rows.iter().enumerate() {
-        if !ends(rt, alloc, words, archive, (*status, text.as_bytes()))? {
-            return Ok(Some(place));
-        }
-    }
-    Ok(None)
+/// A repair of a solution of an archive, and how it should end.
+#[derive(Clone, Copy)]
+struct Row {
+    archive: &'static str,
+    /// The words after the archive's name.
+    words: &'static [&'static str; 5],
+    status: u8,
+    /// All that should be written.
+    text: &'static [Piece],
 }
 
-/// Whether the program on these words and this archive ends with this status, after a text with this end.
-fn ends<R: Threads + Sync>(
+const ROWS: &[Row] = &[
+    Row {
+        archive: SMALL,
+        words: &["0", "--depth", "1", "--budget", "1000"],
+        status: 0,
+        text: &[Once(FRONT), Once(REPAIRED)],
+    },
+    Row {
+        archive: SMALL,
+        words: &["0", "--budget", "1", "--depth", "1"],
+        status: 0,
+        text: &[Once(FRONT), Once(SPENT)],
+    },
+    Row {
+        archive: SMALL,
+        words: &["1", "--depth", "01", "--budget", "10"],
+        status: 0,
+        text: &[Once(FRONT), Once(KEPT)],
+    },
+    Row {
+        archive: CROSSED,
+        words: &["0", "--depth", "1", "--budget", "10"],
+        status: 0,
+        text: &[Once(SWAPPED)],
+    },
+    Row {
+        archive: CROSSED,
+        words: &["0", "--depth", "2", "--budget", "10"],
+        status: 0,
+        text: &[Once(SWAPPED)],
+    },
+    Row {
+        archive: TO_CUT,
+        words: &["0", "--depth", "1", "--budget", "10"],
+        status: 0,
+        text: &[Once(CUT)],
+    },
+    Row {
+        archive: TO_JOIN,
+        words: &["0", "--depth", "1", "--budget", "10"],
+        status: 0,
+        text: &[Once(JOINED)],
+    },
+    Row {
+        archive: SMALL,
+        words: &["2", "--depth", "1", "--budget", "10"],
+        status: 3,
+        text: &[Once("khe: archive refused: 18 NoSuchSolution\n")],
+    },
+    Row {
+        archive: "<",
+        words: &["2", "--depth", "1", "--budget", "10"],
+        status: 3,
+        text: &[Once("khe: archive refused: 2 BadMarkup at 1\n")],
+    },
+];
+
+/// The test fails unless the row ends as it should.
+fn must_repair<R: Threads + Sync + Abort>(
     rt: &R,
     alloc: Global,
-    words: &[&str],
-    archive: &str,
-    end: (u8, &[u8]),
-) -> Result<bool, NoMemory> {
-    let (status, sink) = run(rt, alloc, words, archive, GOOD)?;
-    Ok(status == end.0 && sink.taken().as_slice().ends_with(end.1))
+    row: &Row,
+) -> Result<(), NoMemory> {
+    let text = text_of(alloc, row.text)?;
+    let [number, first, one, second, other] = *row.words;
+    let words = ["repair", "archive", number, first, one, second, other];
+    let end = End {
+        status: row.status,
+        text: text.as_str(),
+    };
+    must_answer(rt, alloc, &words, row.archive, end)
 }
 
 #[test]
 fn repairs_are_written(rt: HostRuntime) -> Result<(), Fail> {
-    let wrong = first_wrong(&rt, rt.alloc(), ROWS)?;
-    assert_eq!(rt; wrong, None);
+    for row in ROWS {
+        must_repair(&rt, rt.alloc(), row)?;
+    }
     Ok(())
 }
 
@@ -131,24 +123,26 @@ const UNREADABLE: &[&[&str]] = &[
     &["repair", "archive", "-1", "--depth", "1", "--budget", "1"],
 ];
 
-/// The place of the first of some words that end otherwise than words without a reading do.
-fn first_read<R: Threads + Sync>(
+const NOT_UNDERSTOOD: End<'static> = End {
+    status: 2,
+    text: "khe: words not understood\n",
+};
+
+/// The test fails unless a run on these words ends as words without a reading do, and reads nothing: the
+/// first call of the shelf would fail.
+fn must_not_be_read<R: Threads + Sync + Abort>(
     rt: &R,
     alloc: Global,
-    unreadable: &[&[&str]],
-) -> Result<Option<usize>, NoMemory> {
-    let end = (2, b"khe: words not understood\n".as_slice());
-    for (place, words) in unreadable.iter().enumerate() {
-        if !ends(rt, alloc, words, SMALL, end)? {
-            return Ok(Some(place));
-        }
-    }
-    Ok(None)
+    words: &[&str],
+) -> Result<(), NoMemory> {
+    let call = Call { words, files: &[] };
+    must_end(rt, alloc, call, failing(1, 0), NOT_UNDERSTOOD)
 }
 
 #[test]
 fn words_are_refused(rt: HostRuntime) -> Result<(), Fail> {
-    let read = first_read(&rt, rt.alloc(), UNREADABLE)?;
-    assert_eq!(rt; read, None);
+    for words in UNREADABLE {
+        must_not_be_read(&rt, rt.alloc(), words)?;
+    }
     Ok(())
 }

@@ -11,8 +11,6 @@ mod commands;
 #[cfg(test)]
 mod families;
 #[cfg(test)]
-mod programs;
-#[cfg(test)]
 mod repairs;
 #[cfg(test)]
 mod sweeps;

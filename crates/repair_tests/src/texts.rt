@@ -1,7 +1,7 @@
 //! What repairs are written as.
 
-/// The small archive with its first solution repaired, as a whole.
-pub(crate) const REPAIRED: &str = r#"<?xml version="1.0" encoding="UTF-8"?>
+/// The small archive up to its solutions.
+pub(crate) const FRONT: &str = r#"<?xml version="1.0" encoding="UTF-8"?>
 <HighSchoolTimetableArchive>
 <Instances>
 <Instance Id="J">
@@ -94,7 +94,10 @@ pub(crate) const REPAIRED: &str = r#"<?xml version="1.0" encoding="UTF-8"?>
 </Instances>
 <SolutionGroups>
 <SolutionGroup Id="H">
-<Solution Reference="J">
+"#;
+
+/// The rest of it with its first solution repaired, and the line.
+pub(crate) const REPAIRED: &str = r#"<Solution Reference="J">
 <Events>
 <Event Reference="E">
 <Duration>3</Duration>
@@ -142,7 +145,7 @@ pub(crate) const REPAIRED: &str = r#"<?xml version="1.0" encoding="UTF-8"?>
 <!-- khe repair done accepted 4 tried 5 hard 0 soft 0 -->
 "#;
 
-/// The end of the same, where one chain may be tried: the solutions and the line.
+/// The same, where one chain may be tried.
 pub(crate) const SPENT: &str = r#"<Solution Reference="J">
 <Events>
 <Event Reference="E">
@@ -180,7 +183,7 @@ pub(crate) const SPENT: &str = r#"<Solution Reference="J">
 <!-- khe repair spent accepted 1 tried 1 settled 0 hard 6 soft 0 -->
 "#;
 
-/// The end of the small archive with its second solution repaired, which nothing improves.
+/// The same with its second solution repaired, which nothing improves.
 pub(crate) const KEPT: &str = r#"<Solution Reference="J"/>
 <Solution Reference="J">
 <Events>
@@ -210,8 +213,80 @@ pub(crate) const KEPT: &str = r#"<Solution Reference="J"/>
 <!-- khe repair done accepted 0 tried 0 hard 0 soft 0 -->
 "#;
 
-/// The end of the crossed archive: the events go to each other's time.
-pub(crate) const SWAPPED: &str = r#"<Solution Reference="K">
+/// The crossed archive: its events go to each other's time.
+pub(crate) const SWAPPED: &str = r#"<?xml version="1.0" encoding="UTF-8"?>
+<HighSchoolTimetableArchive>
+<Instances>
+<Instance Id="K">
+<Times>
+<Time Id="t0"/>
+<Time Id="t1"/>
+</Times>
+<Resources>
+<ResourceTypes>
+<ResourceType Id="X"/>
+</ResourceTypes>
+<Resource Id="r0">
+<ResourceType Reference="X"/>
+</Resource>
+</Resources>
+<Events>
+<Event Id="F">
+<Duration>1</Duration>
+<Resources>
+<Resource Reference="r0"/>
+</Resources>
+</Event>
+<Event Id="G">
+<Duration>1</Duration>
+<Resources>
+<Resource Reference="r0"/>
+</Resources>
+</Event>
+</Events>
+<Constraints>
+<PreferTimesConstraint Id="c0">
+<Required>true</Required>
+<Weight>1</Weight>
+<CostFunction>Linear</CostFunction>
+<AppliesTo>
+<Events>
+<Event Reference="F"/>
+</Events>
+</AppliesTo>
+<Times>
+<Time Reference="t0"/>
+</Times>
+</PreferTimesConstraint>
+<PreferTimesConstraint Id="c1">
+<Required>true</Required>
+<Weight>1</Weight>
+<CostFunction>Linear</CostFunction>
+<AppliesTo>
+<Events>
+<Event Reference="G"/>
+</Events>
+</AppliesTo>
+<Times>
+<Time Reference="t1"/>
+</Times>
+</PreferTimesConstraint>
+<AvoidClashesConstraint Id="c2">
+<Required>true</Required>
+<Weight>5</Weight>
+<CostFunction>Linear</CostFunction>
+<AppliesTo>
+<Resources>
+<Resource Reference="r0"/>
+</Resources>
+</AppliesTo>
+</AvoidClashesConstraint>
+</Constraints>
+</Instance>
+</Instances>
+<SolutionGroups>
+<SolutionGroup Id="G">
+<Solution Reference="K">
 <Events>
 <Event Reference="F">
 <Duration>1</Duration>
@@ -229,8 +304,42 @@ pub(crate) const SWAPPED: &str = r#"<Solution Reference="K">
 <!-- khe repair done accepted 1 tried 2 hard 0 soft 0 -->
 "#;
 
-/// The end of the archive with an event that is to be cut.
-pub(crate) const CUT: &str = r#"<Solution Reference="I">
+/// The archive with an event that is to be cut.
+pub(crate) const CUT: &str = r#"<?xml version="1.0" encoding="UTF-8"?>
+<HighSchoolTimetableArchive>
+<Instances>
+<Instance Id="I">
+<Times>
+<Time Id="t0"/>
+<Time Id="t1"/>
+<Time Id="t2"/>
+</Times>
+<Events>
+<Event Id="E">
+<Duration>3</Duration>
+</Event>
+</Events>
+<Constraints>
+<SplitEventsConstraint Id="c">
+<Required>true</Required>
+<Weight>2</Weight>
+<CostFunction>Linear</CostFunction>
+<AppliesTo>
+<Events>
+<Event Reference="E"/>
+</Events>
+</AppliesTo>
+<MinimumDuration>0</MinimumDuration>
+<MaximumDuration>2147483647</MaximumDuration>
+<MinimumAmount>2</MinimumAmount>
+<MaximumAmount>2147483647</MaximumAmount>
+</SplitEventsConstraint>
+</Constraints>
+</Instance>
+</Instances>
+<SolutionGroups>
+<SolutionGroup Id="G">
+<Solution Reference="I">
 <Events>
 <Event Reference="E">
 <Duration>1</Duration>
@@ -246,8 +355,42 @@ pub(crate) const CUT: &str = r#"<Solution Reference="I">
 <!-- khe repair done accepted 1 tried 1 hard 0 soft 0 -->
 "#;
 
-/// The end of the archive with an event that is to be whole.
-pub(crate) const JOINED: &str = r#"<Solution Reference="I">
+/// The archive with an event that is to be whole.
+pub(crate) const JOINED: &str = r#"<?xml version="1.0" encoding="UTF-8"?>
+<HighSchoolTimetableArchive>
+<Instances>
+<Instance Id="I">
+<Times>
+<Time Id="t0"/>
+<Time Id="t1"/>
+<Time Id="t2"/>
+</Times>
+<Events>
+<Event Id="E">
+<Duration>3</Duration>
+</Event>
+</Events>
+<Constraints>
+<SplitEventsConstraint Id="c">
+<Required>true</Required>
+<Weight>2</Weight>
+<CostFunction>Linear</CostFunction>
+<AppliesTo>
+<Events>
+<Event Reference="E"/>
+</Events>
+</AppliesTo>
+<MinimumDuration>0</MinimumDuration>
+<MaximumDuration>2147483647</MaximumDuration>
+<MinimumAmount>0</MinimumAmount>
+<MaximumAmount>1</MaximumAmount>
+</SplitEventsConstraint>
+</Constraints>
+</Instance>
+</Instances>
+<SolutionGroups>
+<SolutionGroup Id="G">
+<Solution Reference="I">
 <Events>
 <Event Reference="E">
 <Duration>3</Duration>
