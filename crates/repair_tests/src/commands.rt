@@ -15,8 +15,7 @@ use std::thread::Threads;
 #[derive(Clone, Copy)]
 struct Row {
     archive: &'static str,
-    /// The words after the archive's name.
-    words: &'static [&'static str; 5],
+    words: &'static [&'static str],
     status: u8,
     /// All that should be written.
     text: &'static [Piece],
@@ -25,55 +24,55 @@ struct Row {
 const ROWS: &[Row] = &[
     Row {
         archive: SMALL,
-        words: &["0", "--depth", "1", "--budget", "1000"],
+        words: &["repair", "archive", "0", "--depth", "1", "--budget", "1000"],
         status: 0,
         text: &[Once(FRONT), Once(REPAIRED)],
     },
     Row {
         archive: SMALL,
-        words: &["0", "--budget", "1", "--depth", "1"],
+        words: &["repair", "archive", "0", "--budget", "1", "--depth", "1"],
         status: 0,
         text: &[Once(FRONT), Once(SPENT)],
     },
     Row {
         archive: SMALL,
-        words: &["1", "--depth", "01", "--budget", "10"],
+        words: &["repair", "archive", "1", "--depth", "01", "--budget", "10"],
         status: 0,
         text: &[Once(FRONT), Once(KEPT)],
     },
     Row {
         archive: CROSSED,
-        words: &["0", "--depth", "1", "--budget", "10"],
+        words: &["repair", "archive", "0", "--depth", "1", "--budget", "10"],
         status: 0,
         text: &[Once(SWAPPED)],
     },
     Row {
         archive: CROSSED,
-        words: &["0", "--depth", "2", "--budget", "10"],
+        words: &["repair", "archive", "0", "--depth", "2", "--budget", "10"],
         status: 0,
         text: &[Once(SWAPPED)],
     },
     Row {
         archive: TO_CUT,
-        words: &["0", "--depth", "1", "--budget", "10"],
+        words: &["repair", "archive", "0", "--depth", "1", "--budget", "10"],
         status: 0,
         text: &[Once(CUT)],
     },
     Row {
         archive: TO_JOIN,
-        words: &["0", "--depth", "1", "--budget", "10"],
+        words: &["repair", "archive", "0", "--depth", "1", "--budget", "10"],
         status: 0,
         text: &[Once(JOINED)],
     },
     Row {
         archive: SMALL,
-        words: &["2", "--depth", "1", "--budget", "10"],
+        words: &["repair", "archive", "2", "--depth", "1", "--budget", "10"],
         status: 3,
         text: &[Once("khe: archive refused: 18 NoSuchSolution\n")],
     },
     Row {
         archive: "<",
-        words: &["2", "--depth", "1", "--budget", "10"],
+        words: &["repair", "archive", "2", "--depth", "1", "--budget", "10"],
         status: 3,
         text: &[Once("khe: archive refused: 2 BadMarkup at 1\n")],
     },
@@ -86,13 +85,11 @@ fn must_repair<R: Threads + Sync + Abort>(
     row: &Row,
 ) -> Result<(), NoMemory> {
     let text = text_of(alloc, row.text)?;
-    let [number, first, one, second, other] = *row.words;
-    let words = ["repair", "archive", number, first, one, second, other];
     let end = End {
         status: row.status,
         text: text.as_str(),
     };
-    must_answer(rt, alloc, &words, row.archive, end)
+    must_answer(rt, alloc, row.words, row.archive, end)
 }
 
 #[test]
