@@ -13,3 +13,4 @@ pub mod ReportLemmas
 pub mod ScriptEnds
 pub mod StartLemmas
 pub mod TakenScripts
+pub mod ValueLemmas

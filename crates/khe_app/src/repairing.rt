@@ -45,7 +45,7 @@ pub(crate) fn repair<S: Shelf, K: Sink>(
     ensures sink_faults { K.faults out.old ≤ K.faults out.new }
 {
     match answer_to(alloc, shelf, name) {
-        Ok(mut answer) => write_repair(alloc, out, &mut answer, number, depth, budget),
+        Ok(answer) => write_repair(alloc, out, answer, number, depth, budget),
         Err(Stop::ReadFault) => Status(4),
         Err(Stop::NoMemory) => Status(6),
     }
@@ -55,21 +55,21 @@ pub(crate) fn repair<S: Shelf, K: Sink>(
 fn write_repair<K: Sink>(
     alloc: Global,
     out: &mut K,
-    answer: &mut Answer,
+    answer: Answer,
     number: u32,
     depth: u32,
     budget: u32,
 ) -> Status
-    requires ready { IsReadyAnswer answer.old }
+    requires ready { IsReadyAnswer answer }
     requires depth { (1 ≤ depth) × (depth ≤ 4) }
     requires budget { 1 ≤ budget }
-    ensures written { ((result.0 ≡ 6) × (K.taken out.new ≡ K.taken out.old)) ⊎ ((status : ℕ) × (text : List ℕ) × IsRepairIn number depth budget (reading_of answer.old) status text
+    ensures written { ((result.0 ≡ 6) × (K.taken out.new ≡ K.taken out.old)) ⊎ ((status : ℕ) × (text : List ℕ) × IsRepairIn number depth budget (reading_of answer) status text
         × Written (K.taken out.old) (K.taken out.new) (K.faults out.old) (K.faults out.new) (encode_utf8_all text) status result.0) }
     ensures sink_faults { K.faults out.old ≤ K.faults out.new }
 {
     match answer {
-        Answer::Read(read) => repair_in(alloc, out, read, number, depth, budget),
-        Answer::Refused(refusal) => put_refusal(alloc, out, *refusal),
+        Answer::Read(mut read) => repair_in(alloc, out, &mut read, number, depth, budget),
+        Answer::Refused(refusal) => put_refusal(alloc, out, refusal),
     }
 }
 
