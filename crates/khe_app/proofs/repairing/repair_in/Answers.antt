@@ -18,7 +18,7 @@ returns-in-Ok-clause-written g c =
     let b = c.in-Ok.ensures.begun in
     begun_text c.args.read.now.archive c.args.read.now.resolved c.args.number c.args.depth c.args.budget
     c.in-Ok.instance b.0 c.instance_numbered-inst.result.now c.in-Ok.plain _ _ _ _ c.put_repair.result.0 b.1
-    c.instance_numbered-inst.ensures b.2.1 c.put_repair.ensures.written
+    c.instance_numbered-inst.ensures b.3 c.put_repair.ensures.written
 
 pub returns-in-Err-Refused-clause-written : goal.returns-in-Err-Refused-clause-written
 returns-in-Err-Refused-clause-written g c =
