@@ -11,7 +11,7 @@
 rounds=${2:-1}
 python3 "$top/bench/archives.py" "${EVENTS:-10000}" 10000 --rounds "$rounds" --bytes "${BYTES:-62914560}" > "$archive"
 solutions=$(grep -c '^<Solution ' "$archive")
-python3 "$top/bench/measure.py" "${RUNS:-3}" "$khe" evaluate "$archive" -- xmllint --noout --stream "$archive" > "$work/took"
+python3 "$top/bench/measure.py" "${RUNS:-3}" "$khe" evaluate "$archive" -- xmllint --noout --sax "$archive" > "$work/took"
 awk -v bytes="$(stat -c %s "$archive")" -v solutions="$solutions" '
   NR == 1 { khe = $1; peak = $2; report = $3 }
   NR == 2 { xmllint = $1 }

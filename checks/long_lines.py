@@ -80,6 +80,9 @@ def broken(line):
                 now = []
             now.append(n)
         return out + [head + ", ".join(now) + "}"]
+    after = re.match(r"(.*?)\s+-- (.*)$", line)
+    if after and '"' not in after.group(1):
+        return broken(" " * indent + "-- " + after.group(2)) + broken(after.group(1))
     out = []
     while len(line) > LIMIT:
         lead = len(line) - len(line.lstrip(" "))

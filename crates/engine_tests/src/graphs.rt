@@ -223,22 +223,30 @@ fn a_detached_monitor_costs_nothing(rt: HostRuntime) -> Result<(), Fail> {
 fn detach_and_attach(rt: &impl Abort, graph: &mut Graph) -> Result<(), NoMemory> {
     set_all(graph, DEVIATIONS);
     let monitor = MonitorId(0);
-    assert_eq!(rt; edit(graph, Edit::Detach { monitor })?, Ok(None));
-    assert_eq!(rt;
-        edit(graph, Edit::Detach { monitor })?,
-        Err(Refusal::Detached)
-    );
-    assert_eq!(rt; cost(graph, 0), Some(0));
-    assert_eq!(rt; graph.totals(), Totals { hard: 6, soft: 0 });
-    assert_eq!(rt; graph.next_defect(0), Some(MonitorId(1)));
-    assert_eq!(rt; edit(graph, Edit::Attach { monitor })?, Ok(None));
-    assert_eq!(rt;
-        edit(graph, Edit::Attach { monitor })?,
-        Err(Refusal::Attached)
-    );
-    assert_eq!(rt; cost(graph, 0), Some(6));
-    assert_eq!(rt; graph.totals(), Totals { hard: 12, soft: 0 });
+    let detach = Edit::Detach { monitor };
+    let attach = Edit::Attach { monitor };
+    assert!(rt; answers(graph, detach, Ok(None), Err(Refusal::Detached))?);
+    assert!(rt; stands(graph, 0, 6, 1));
+    assert!(rt; answers(graph, attach, Ok(None), Err(Refusal::Attached))?);
+    assert!(rt; stands(graph, 6, 12, 0));
     Ok(())
+}
+
+// Whether an edit answers so the first time and the second.
+fn answers(
+    graph: &mut Graph,
+    made: Edit,
+    first: Result<Option<u32>, Refusal>,
+    second: Result<Option<u32>, Refusal>,
+) -> Result<bool, NoMemory> {
+    Ok(edit(graph, made)? == first && edit(graph, made)? == second)
+}
+
+// Whether monitor 0 costs this, all together cost this, and this is the first defect.
+fn stands(graph: &Graph, first: u128, hard: u128, defect: u32) -> bool {
+    cost(graph, 0) == Some(first)
+        && graph.totals() == Totals { hard, soft: 0 }
+        && graph.next_defect(0) == Some(MonitorId(defect))
 }
 
 #[test]

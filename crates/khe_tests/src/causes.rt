@@ -1,7 +1,7 @@
 use crate::archives::{WITH_RESOURCES, replaced};
-use crate::runs::{GOOD, run};
-use khe_base::NoMemory;
+use crate::runs::{GOOD, must_end};
 use std::alloc::Global;
+use std::process::Abort;
 use std::test::Fail;
 use std::thread::Threads;
 
@@ -34,183 +34,191 @@ const TWO_EVENTS: &str = r#"<HighSchoolTimetableArchive>
 const EMPTY: &str =
     "monitor 1 AssignTime \"time\" event \"F\" deviation 2 hard 2\nmonitor 2 AssignResource \"room\" event \"E\" role \"R\" deviation 2 hard 20\nmonitor 3 AssignResource \"room\" event \"F\" role \"R\" deviation 2 hard 20\ntotal hard 42 soft 0\n";
 
-/// Whether these lines are told of the first solution of that archive where it has these entries,
-/// and of the second one what is told of an empty solution.
-fn tells<R: Threads + Sync>(
+/// The entries of a solution, and the lines that are told of it.
+type Told = (&'static str, &'static str);
+
+/// The test fails unless these lines are told of the first solution of that archive where it has these
+/// entries, and of the second one what is told of an empty solution.
+fn must_tell<R: Threads + Sync + Abort>(
     rt: &R,
     alloc: Global,
-    entries: &str,
-    lines: &str,
-) -> Result<bool, NoMemory> {
+    (entries, lines): Told,
+) -> Result<(), Fail> {
     let other = format!(in alloc;
         "<Solution Reference=\"I\"><Events>{entries}</Events></Solution>"
     )?;
     let part = "<Solution Reference=\"I\"/>";
-    let Some(bytes) = replaced(alloc, TWO_EVENTS, "", part, other.as_str())? else {
-        return Ok(false);
-    };
-    let ended = run(rt, alloc, &["evaluate", "archive"], bytes, GOOD)?;
+    let bytes = replaced(alloc, TWO_EVENTS, "", part, other.as_str())?.ok_or("no such part")?;
     let first = "archive instances 1 solutions 2\nsolution 0 group \"G\" instance \"I\"\n";
     let second = "solution 1 group \"G\" instance \"I\"\n";
     let text = format!(in alloc; "{first}{lines}{second}{EMPTY}")?;
-    let same = ended.text.as_slice() == text.as_bytes();
-    Ok(same && ended.status == 0)
+    must_end(
+        rt,
+        alloc,
+        &["evaluate", "archive"],
+        bytes,
+        GOOD,
+        (0, text.as_str()),
+    )?;
+    Ok(())
 }
+
+fn must_tell_all<R: Threads + Sync + Abort>(
+    rt: &R,
+    alloc: Global,
+    rows: &[Told],
+) -> Result<(), Fail> {
+    for row in rows {
+        must_tell(rt, alloc, *row)?;
+    }
+    Ok(())
+}
+
+/// Entries that are invalid for their times or durations.
+const TIMES_AND_DURATIONS: &[Told] = &[
+    (
+        "<Event Reference=\"F\"><Duration>3</Duration></Event>",
+        "invalid 1 TooLong entry 0\n",
+    ),
+    (
+        "<Event Reference=\"F\"><Duration>1</Duration></Event><Event Reference=\"F\"><Duration>2</Duration></Event>",
+        "invalid 1 TooLong entry 1\n",
+    ),
+    (
+        "<Event Reference=\"F\"><Duration>1</Duration></Event><Event Reference=\"E\"/><Event Reference=\"F\"/>",
+        "invalid 1 TooLong entry 2\n",
+    ),
+    (
+        "<Event Reference=\"E\"><Duration>1</Duration></Event>",
+        "invalid 2 SplitFixed entry 0\n",
+    ),
+    (
+        "<Event Reference=\"F\"/><Event Reference=\"E\"><Duration>1</Duration></Event><Event Reference=\"E\"><Duration>1</Duration></Event>",
+        "invalid 2 SplitFixed entry 1\n",
+    ),
+    (
+        "<Event Reference=\"E\"/><Event Reference=\"E\"><Duration>1</Duration></Event>",
+        "invalid 1 TooLong entry 1\n",
+    ),
+    (
+        "<Event Reference=\"E\"><Time Reference=\"t0\"/></Event>",
+        "invalid 3 FixedTime entry 0\n",
+    ),
+    (
+        "<Event Reference=\"E\"><Duration>2</Duration><Time Reference=\"t2\"/></Event>",
+        "invalid 3 FixedTime entry 0\n",
+    ),
+    (
+        "<Event Reference=\"F\"><Duration>1</Duration><Time Reference=\"t2\"/></Event><Event Reference=\"F\"><Duration>1</Duration><Time Reference=\"t1\"/></Event><Event Reference=\"F\"><Duration>1</Duration><Time Reference=\"t1\"/></Event>",
+        "invalid 1 TooLong entry 2\n",
+    ),
+    (
+        "<Event Reference=\"F\"><Duration>2</Duration><Time Reference=\"t2\"/></Event>",
+        "invalid 4 OffEnd entry 0\n",
+    ),
+    (
+        "<Event Reference=\"E\"/><Event Reference=\"F\"><Time Reference=\"t2\"/><Resources><Resource Reference=\"y0\"><Role>R</Role></Resource></Resources></Event>",
+        "invalid 4 OffEnd entry 1\n",
+    ),
+    (
+        "<Event Reference=\"E\"><Duration>3</Duration><Time Reference=\"t0\"/></Event>",
+        "invalid 1 TooLong entry 0\n",
+    ),
+    (
+        "<Event Reference=\"E\"><Duration>1</Duration><Time Reference=\"t0\"/><Resources><Resource Reference=\"y0\"><Role>R</Role></Resource></Resources></Event>",
+        "invalid 2 SplitFixed entry 0\n",
+    ),
+];
 
 #[test]
 fn names_the_causes_of_times_and_durations(rt: HostRuntime) -> Result<(), Fail> {
-    for (entries, lines) in [
-        (
-            "<Event Reference=\"F\"><Duration>3</Duration></Event>",
-            "invalid 1 TooLong entry 0\n",
-        ),
-        (
-            "<Event Reference=\"F\"><Duration>1</Duration></Event><Event Reference=\"F\"><Duration>2</Duration></Event>",
-            "invalid 1 TooLong entry 1\n",
-        ),
-        (
-            "<Event Reference=\"F\"><Duration>1</Duration></Event><Event Reference=\"E\"/><Event Reference=\"F\"/>",
-            "invalid 1 TooLong entry 2\n",
-        ),
-        (
-            "<Event Reference=\"E\"><Duration>1</Duration></Event>",
-            "invalid 2 SplitFixed entry 0\n",
-        ),
-        (
-            "<Event Reference=\"F\"/><Event Reference=\"E\"><Duration>1</Duration></Event><Event Reference=\"E\"><Duration>1</Duration></Event>",
-            "invalid 2 SplitFixed entry 1\n",
-        ),
-        (
-            "<Event Reference=\"E\"/><Event Reference=\"E\"><Duration>1</Duration></Event>",
-            "invalid 1 TooLong entry 1\n",
-        ),
-        (
-            "<Event Reference=\"E\"><Time Reference=\"t0\"/></Event>",
-            "invalid 3 FixedTime entry 0\n",
-        ),
-        (
-            "<Event Reference=\"E\"><Duration>2</Duration><Time Reference=\"t2\"/></Event>",
-            "invalid 3 FixedTime entry 0\n",
-        ),
-        (
-            "<Event Reference=\"F\"><Duration>1</Duration><Time Reference=\"t2\"/></Event><Event Reference=\"F\"><Duration>1</Duration><Time Reference=\"t1\"/></Event><Event Reference=\"F\"><Duration>1</Duration><Time Reference=\"t1\"/></Event>",
-            "invalid 1 TooLong entry 2\n",
-        ),
-        (
-            "<Event Reference=\"F\"><Duration>2</Duration><Time Reference=\"t2\"/></Event>",
-            "invalid 4 OffEnd entry 0\n",
-        ),
-        (
-            "<Event Reference=\"E\"/><Event Reference=\"F\"><Time Reference=\"t2\"/><Resources><Resource Reference=\"y0\"><Role>R</Role></Resource></Resources></Event>",
-            "invalid 4 OffEnd entry 1\n",
-        ),
-        (
-            "<Event Reference=\"E\"><Duration>3</Duration><Time Reference=\"t0\"/></Event>",
-            "invalid 1 TooLong entry 0\n",
-        ),
-        (
-            "<Event Reference=\"E\"><Duration>1</Duration><Time Reference=\"t0\"/><Resources><Resource Reference=\"y0\"><Role>R</Role></Resource></Resources></Event>",
-            "invalid 2 SplitFixed entry 0\n",
-        ),
-    ] {
-        assert!(rt;
-            tells(&rt, rt.alloc(), entries, lines)?,
-            "{lines} with {entries}"
-        );
-    }
-    Ok(())
+    must_tell_all(&rt, rt.alloc(), TIMES_AND_DURATIONS)
 }
+
+/// Entries that are invalid for their resources.
+const RESOURCES: &[Told] = &[
+    (
+        "<Event Reference=\"F\"><Resources><Resource Reference=\"x0\"><Role>Q</Role></Resource></Resources></Event>",
+        "invalid 5 BadRole entry 0\n",
+    ),
+    (
+        "<Event Reference=\"F\"><Resources><Resource Reference=\"x0\"/></Resources></Event>",
+        "invalid 5 BadRole entry 0\n",
+    ),
+    (
+        "<Event Reference=\"E\"><Resources><Resource Reference=\"x1\"/></Resources></Event>",
+        "invalid 5 BadRole entry 0\n",
+    ),
+    (
+        "<Event Reference=\"F\"><Resources><Resource Reference=\"x0\"><Role>R</Role></Resource><Resource Reference=\"x1\"><Role>R</Role></Resource></Resources></Event>",
+        "invalid 5 BadRole entry 0\n",
+    ),
+    (
+        "<Event Reference=\"F\"><Duration>1</Duration></Event><Event Reference=\"F\"><Duration>1</Duration><Resources><Resource Reference=\"x0\"><Role>R</Role></Resource><Resource Reference=\"x0\"><Role>P</Role></Resource></Resources></Event>",
+        "invalid 5 BadRole entry 1\n",
+    ),
+    (
+        "<Event Reference=\"E\"><Resources><Resource Reference=\"x0\"><Role>P</Role></Resource></Resources></Event>",
+        "invalid 6 FixedResource entry 0\n",
+    ),
+    (
+        "<Event Reference=\"E\"><Resources><Resource Reference=\"y0\"><Role>P</Role></Resource></Resources></Event>",
+        "invalid 6 FixedResource entry 0\n",
+    ),
+    (
+        "<Event Reference=\"F\"/><Event Reference=\"E\"><Resources><Resource Reference=\"x0\"><Role>R</Role></Resource><Resource Reference=\"x0\"/><Resource Reference=\"y0\"><Role>P</Role></Resource><Resource Reference=\"x0\"><Role>R</Role></Resource></Resources></Event>",
+        "invalid 6 FixedResource entry 1\n",
+    ),
+    (
+        "<Event Reference=\"F\"><Resources><Resource Reference=\"y0\"><Role>R</Role></Resource></Resources></Event>",
+        "invalid 7 WrongType entry 0\n",
+    ),
+    (
+        "<Event Reference=\"E\"><Resources><Resource Reference=\"y0\"><Role>R</Role></Resource><Resource Reference=\"x0\"><Role>P</Role></Resource></Resources></Event>",
+        "invalid 7 WrongType entry 0\n",
+    ),
+    (
+        "<Event Reference=\"F\"><Duration>1</Duration></Event><Event Reference=\"F\"><Duration>1</Duration><Resources><Resource Reference=\"y0\"><Role>R</Role></Resource></Resources></Event><Event Reference=\"E\"><Duration>1</Duration></Event>",
+        "invalid 7 WrongType entry 1\n",
+    ),
+];
 
 #[test]
 fn names_the_causes_of_resources(rt: HostRuntime) -> Result<(), Fail> {
-    for (entries, lines) in [
-        (
-            "<Event Reference=\"F\"><Resources><Resource Reference=\"x0\"><Role>Q</Role></Resource></Resources></Event>",
-            "invalid 5 BadRole entry 0\n",
-        ),
-        (
-            "<Event Reference=\"F\"><Resources><Resource Reference=\"x0\"/></Resources></Event>",
-            "invalid 5 BadRole entry 0\n",
-        ),
-        (
-            "<Event Reference=\"E\"><Resources><Resource Reference=\"x1\"/></Resources></Event>",
-            "invalid 5 BadRole entry 0\n",
-        ),
-        (
-            "<Event Reference=\"F\"><Resources><Resource Reference=\"x0\"><Role>R</Role></Resource><Resource Reference=\"x1\"><Role>R</Role></Resource></Resources></Event>",
-            "invalid 5 BadRole entry 0\n",
-        ),
-        (
-            "<Event Reference=\"F\"><Duration>1</Duration></Event><Event Reference=\"F\"><Duration>1</Duration><Resources><Resource Reference=\"x0\"><Role>R</Role></Resource><Resource Reference=\"x0\"><Role>P</Role></Resource></Resources></Event>",
-            "invalid 5 BadRole entry 1\n",
-        ),
-        (
-            "<Event Reference=\"E\"><Resources><Resource Reference=\"x0\"><Role>P</Role></Resource></Resources></Event>",
-            "invalid 6 FixedResource entry 0\n",
-        ),
-        (
-            "<Event Reference=\"E\"><Resources><Resource Reference=\"y0\"><Role>P</Role></Resource></Resources></Event>",
-            "invalid 6 FixedResource entry 0\n",
-        ),
-        (
-            "<Event Reference=\"F\"/><Event Reference=\"E\"><Resources><Resource Reference=\"x0\"><Role>R</Role></Resource><Resource Reference=\"x0\"/><Resource Reference=\"y0\"><Role>P</Role></Resource><Resource Reference=\"x0\"><Role>R</Role></Resource></Resources></Event>",
-            "invalid 6 FixedResource entry 1\n",
-        ),
-        (
-            "<Event Reference=\"F\"><Resources><Resource Reference=\"y0\"><Role>R</Role></Resource></Resources></Event>",
-            "invalid 7 WrongType entry 0\n",
-        ),
-        (
-            "<Event Reference=\"E\"><Resources><Resource Reference=\"y0\"><Role>R</Role></Resource><Resource Reference=\"x0\"><Role>P</Role></Resource></Resources></Event>",
-            "invalid 7 WrongType entry 0\n",
-        ),
-        (
-            "<Event Reference=\"F\"><Duration>1</Duration></Event><Event Reference=\"F\"><Duration>1</Duration><Resources><Resource Reference=\"y0\"><Role>R</Role></Resource></Resources></Event><Event Reference=\"E\"><Duration>1</Duration></Event>",
-            "invalid 7 WrongType entry 1\n",
-        ),
-    ] {
-        assert!(rt;
-            tells(&rt, rt.alloc(), entries, lines)?,
-            "{lines} with {entries}"
-        );
-    }
-    Ok(())
+    must_tell_all(&rt, rt.alloc(), RESOURCES)
 }
+
+/// Entries without a cause.
+const VALID: &[Told] = &[
+    (
+        "",
+        "monitor 1 AssignTime \"time\" event \"F\" deviation 2 hard 2\nmonitor 2 AssignResource \"room\" event \"E\" role \"R\" deviation 2 hard 20\nmonitor 3 AssignResource \"room\" event \"F\" role \"R\" deviation 2 hard 20\ntotal hard 42 soft 0\n",
+    ),
+    (
+        "<Event Reference=\"E\"><Time Reference=\"t1\"/><Resources><Resource Reference=\"x0\"/><Resource Reference=\"x1\"><Role>P</Role></Resource><Resource Reference=\"x0\"><Role>R</Role></Resource></Resources></Event><Event Reference=\"F\"><Time Reference=\"t1\"/><Resources><Resource Reference=\"x0\"><Role>R</Role></Resource></Resources></Event>",
+        "total hard 0 soft 0\n",
+    ),
+    (
+        "<Event Reference=\"F\"><Duration>1</Duration><Time Reference=\"t2\"/><Resources><Resource Reference=\"x0\"><Role>R</Role></Resource></Resources></Event><Event Reference=\"F\"><Duration>1</Duration><Time Reference=\"t2\"/><Resources><Resource Reference=\"x1\"><Role>R</Role></Resource></Resources></Event>",
+        "monitor 2 AssignResource \"room\" event \"E\" role \"R\" deviation 2 hard 20\ntotal hard 20 soft 0\n",
+    ),
+    (
+        "<Event Reference=\"F\"><Duration>1</Duration><Time Reference=\"t2\"/><Resources><Resource Reference=\"x0\"><Role>R</Role></Resource></Resources></Event>",
+        "monitor 1 AssignTime \"time\" event \"F\" deviation 1 hard 1\nmonitor 2 AssignResource \"room\" event \"E\" role \"R\" deviation 2 hard 20\nmonitor 3 AssignResource \"room\" event \"F\" role \"R\" deviation 1 hard 10\ntotal hard 31 soft 0\n",
+    ),
+    (
+        "<Event Reference=\"E\"><Duration>2</Duration><Resources><Resource Reference=\"x1\"><Role>R</Role></Resource></Resources></Event>",
+        "monitor 1 AssignTime \"time\" event \"F\" deviation 2 hard 2\nmonitor 3 AssignResource \"room\" event \"F\" role \"R\" deviation 2 hard 20\ntotal hard 22 soft 0\n",
+    ),
+    (
+        "<Event Reference=\"F\"><Duration>1</Duration><Time Reference=\"t0\"/></Event><Event Reference=\"E\"/><Event Reference=\"F\"><Duration>1</Duration></Event>",
+        "monitor 1 AssignTime \"time\" event \"F\" deviation 1 hard 1\nmonitor 2 AssignResource \"room\" event \"E\" role \"R\" deviation 2 hard 20\nmonitor 3 AssignResource \"room\" event \"F\" role \"R\" deviation 2 hard 20\ntotal hard 41 soft 0\n",
+    ),
+];
 
 #[test]
 fn evaluates_solutions_without_a_cause(rt: HostRuntime) -> Result<(), Fail> {
-    for (entries, lines) in [
-        (
-            "",
-            "monitor 1 AssignTime \"time\" event \"F\" deviation 2 hard 2\nmonitor 2 AssignResource \"room\" event \"E\" role \"R\" deviation 2 hard 20\nmonitor 3 AssignResource \"room\" event \"F\" role \"R\" deviation 2 hard 20\ntotal hard 42 soft 0\n",
-        ),
-        (
-            "<Event Reference=\"E\"><Time Reference=\"t1\"/><Resources><Resource Reference=\"x0\"/><Resource Reference=\"x1\"><Role>P</Role></Resource><Resource Reference=\"x0\"><Role>R</Role></Resource></Resources></Event><Event Reference=\"F\"><Time Reference=\"t1\"/><Resources><Resource Reference=\"x0\"><Role>R</Role></Resource></Resources></Event>",
-            "total hard 0 soft 0\n",
-        ),
-        (
-            "<Event Reference=\"F\"><Duration>1</Duration><Time Reference=\"t2\"/><Resources><Resource Reference=\"x0\"><Role>R</Role></Resource></Resources></Event><Event Reference=\"F\"><Duration>1</Duration><Time Reference=\"t2\"/><Resources><Resource Reference=\"x1\"><Role>R</Role></Resource></Resources></Event>",
-            "monitor 2 AssignResource \"room\" event \"E\" role \"R\" deviation 2 hard 20\ntotal hard 20 soft 0\n",
-        ),
-        (
-            "<Event Reference=\"F\"><Duration>1</Duration><Time Reference=\"t2\"/><Resources><Resource Reference=\"x0\"><Role>R</Role></Resource></Resources></Event>",
-            "monitor 1 AssignTime \"time\" event \"F\" deviation 1 hard 1\nmonitor 2 AssignResource \"room\" event \"E\" role \"R\" deviation 2 hard 20\nmonitor 3 AssignResource \"room\" event \"F\" role \"R\" deviation 1 hard 10\ntotal hard 31 soft 0\n",
-        ),
-        (
-            "<Event Reference=\"E\"><Duration>2</Duration><Resources><Resource Reference=\"x1\"><Role>R</Role></Resource></Resources></Event>",
-            "monitor 1 AssignTime \"time\" event \"F\" deviation 2 hard 2\nmonitor 3 AssignResource \"room\" event \"F\" role \"R\" deviation 2 hard 20\ntotal hard 22 soft 0\n",
-        ),
-        (
-            "<Event Reference=\"F\"><Duration>1</Duration><Time Reference=\"t0\"/></Event><Event Reference=\"E\"/><Event Reference=\"F\"><Duration>1</Duration></Event>",
-            "monitor 1 AssignTime \"time\" event \"F\" deviation 1 hard 1\nmonitor 2 AssignResource \"room\" event \"E\" role \"R\" deviation 2 hard 20\nmonitor 3 AssignResource \"room\" event \"F\" role \"R\" deviation 2 hard 20\ntotal hard 41 soft 0\n",
-        ),
-    ] {
-        assert!(rt;
-            tells(&rt, rt.alloc(), entries, lines)?,
-            "{lines} with {entries}"
-        );
-    }
-    Ok(())
+    must_tell_all(&rt, rt.alloc(), VALID)
 }
 
 #[test]
@@ -221,8 +229,13 @@ fn evaluates_behind_an_invalid_solution(rt: HostRuntime) -> Result<(), Fail> {
     let text =
         "archive instances 1 solutions 2\nsolution 0 group \"H\" instance \"J\"\ninvalid 4 OffEnd entry 0\nsolution 1 group \"H\" instance \"J\"\ntotal hard 0 soft 0\n";
     let bytes = replaced(rt.alloc(), WITH_RESOURCES, "", part, other)?.ok_or("no such part")?;
-    let ended = run(&rt, rt.alloc(), &["evaluate", "archive"], bytes, GOOD)?;
-    assert_eq!(rt; ended.text.as_slice(), text.as_bytes());
-    assert_eq!(rt; ended.status, 0);
+    must_end(
+        &rt,
+        rt.alloc(),
+        &["evaluate", "archive"],
+        bytes,
+        GOOD,
+        (0, text),
+    )?;
     Ok(())
 }

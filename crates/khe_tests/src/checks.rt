@@ -1,9 +1,10 @@
 ghost use Rattle.std.specs.Prelude.{◌≤◌};
 
 use crate::archives::FIRST;
-use crate::runs::{Devices, GOOD, run};
+use crate::runs::{Devices, must_answer, must_end, run};
 use khe_base::NoMemory;
 use std::alloc::Global;
+use std::process::Abort;
 use std::test::Fail;
 use std::thread::Threads;
 
@@ -101,35 +102,21 @@ const CASES: &[Case] = &[
     ),
 ];
 
-/// Whether a run ends with this status after this text.
-fn ends<R: Threads + Sync>(
+fn must_end_all<R: Threads + Sync + Abort>(
     rt: &R,
     alloc: Global,
-    words: &[&str],
-    archive: &[u8],
-    devices: Devices,
-    status: u8,
-    text: &[u8],
-) -> Result<bool, NoMemory> {
-    let ended = run(rt, alloc, words, archive.to_vec(alloc)?, devices)?;
-    Ok(ended.status == status && ended.text.as_slice() == text)
+    cases: &[Case],
+) -> Result<(), Fail> {
+    for case in cases {
+        let (words, archive, status, text) = *case;
+        must_answer(rt, alloc, words, archive, (status, text))?;
+    }
+    Ok(())
 }
 
 #[test]
 fn archives_are_spelled_or_refused(rt: HostRuntime) -> Result<(), Fail> {
-    for (words, archive, status, text) in CASES {
-        let seen = ends(
-            &rt,
-            rt.alloc(),
-            words,
-            archive.as_bytes(),
-            GOOD,
-            *status,
-            text.as_bytes(),
-        )?;
-        assert!(rt; seen, "{text}");
-    }
-    Ok(())
+    must_end_all(&rt, rt.alloc(), CASES)
 }
 
 /// More calls of a device than any run here makes.
@@ -210,12 +197,11 @@ fn each_call_of_a_check_fails_in_turn(rt: HostRuntime) -> Result<(), Fail> {
 /// asked for what stands after the letters.
 #[test]
 fn a_long_text_is_written_in_pieces(rt: HostRuntime) -> Result<(), Fail> {
-    let letters = vec![in rt.alloc(); b'a'; 70_000]?;
-    let mut archive = b"<HighSchoolTimetableArchive Id=\"".to_vec(rt.alloc())?;
-    archive.extend_from_slice(letters.as_slice())?;
-    let mut front = b"<?xml version=\"1.0\" encoding=\"UTF-8\"?>\n".to_vec(rt.alloc())?;
-    front.extend_from_slice(archive.as_slice())?;
-    archive.extend_from_slice(b"\"/>")?;
+    let letters = String::from_utf8(vec![in rt.alloc(); b'a'; 70_000]?).map_err(|_| "no text")?;
+    let start = "<HighSchoolTimetableArchive Id=\"";
+    let archive = format!(in rt.alloc(); "{start}{letters}\"/>")?;
+    let declaration = "<?xml version=\"1.0\" encoding=\"UTF-8\"?>\n";
+    let front = format!(in rt.alloc(); "{declaration}{start}{letters}")?;
     let devices = Devices {
         read: 1_000_000,
         write: 1_000_000,
@@ -223,15 +209,13 @@ fn a_long_text_is_written_in_pieces(rt: HostRuntime) -> Result<(), Fail> {
         failing_read: 0,
         failing_write: 2,
     };
-    let seen = ends(
+    must_end(
         &rt,
         rt.alloc(),
         &CHECK,
-        archive.as_slice(),
+        archive.into_bytes(),
         devices,
-        5,
-        front.as_slice(),
+        (5, front.as_str()),
     )?;
-    assert!(rt; seen);
     Ok(())
 }

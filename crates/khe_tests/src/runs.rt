@@ -4,6 +4,7 @@ use khe_app::khe;
 use khe_base::{NoMemory, Seq, Text};
 use khe_io::{MemoryShelf, MemorySink, Named, OpenGate};
 use std::alloc::{AllocError, Global};
+use std::process::Abort;
 use std::thread::Threads;
 
 /// How the devices of a run behave.
@@ -86,6 +87,53 @@ pub(crate) fn run<R: Threads + Sync>(
         status: status.0,
         text: sink.taken().as_slice().to_vec(alloc)?,
     })
+}
+
+/// The text that a run ended after.
+fn text_of(ended: &Ended) -> &str {
+    match std::str::from_utf8(ended.text.as_slice()) {
+        Ok(text) => text,
+        Err(_) => "bytes that are no text",
+    }
+}
+
+/// Fails the test where a run ended otherwise, and shows both texts.
+fn compare(rt: &impl Abort, ended: &Ended, status: u8, text: &str) {
+    assert_eq!(rt; text_of(ended), text);
+    assert_eq!(rt; ended.status, status, "after {text}");
+}
+
+/// Runs the program on these words, where the bytes stand under `archive`; the test fails unless the run
+/// ends with this status after this text.
+pub(crate) fn must_end<R: Threads + Sync + Abort>(
+    rt: &R,
+    alloc: Global,
+    words: &[&str],
+    bytes: Vec<u8>,
+    devices: Devices,
+    (status, text): (u8, &str),
+) -> Result<(), NoMemory> {
+    let ended = run(rt, alloc, words, bytes, devices)?;
+    compare(rt, &ended, status, text);
+    Ok(())
+}
+
+/// The same where the text of an archive stands under `archive`, and no device fails.
+pub(crate) fn must_answer<R: Threads + Sync + Abort>(
+    rt: &R,
+    alloc: Global,
+    words: &[&str],
+    archive: &str,
+    end: (u8, &str),
+) -> Result<(), NoMemory> {
+    must_end(
+        rt,
+        alloc,
+        words,
+        archive.as_bytes().to_vec(alloc)?,
+        GOOD,
+        end,
+    )
 }
 
 /// Copies of these words.

@@ -1,7 +1,8 @@
 use crate::archives::{FIRST, WITH_RESOURCES, first_with};
-use crate::runs::{Devices, GOOD, failing, run};
+use crate::runs::{Devices, GOOD, failing, must_answer, must_end};
 use khe_base::NoMemory;
 use std::alloc::Global;
+use std::process::Abort;
 use std::test::Fail;
 use std::thread::Threads;
 
@@ -45,161 +46,202 @@ const WITHOUT_READING: [&[&str]; 15] = [
 
 const HEADER: &str = "archive instances 1 solutions 1\nsolution 0 group \"G\" instance \"I\"\n";
 
-#[test]
-fn evaluates_the_first_archive(rt: HostRuntime) -> Result<(), Fail> {
-    let entry =
-        "<Solution Reference=\"I\"><Events><Event Reference=\"E\"><Time Reference=\"t0\"/></Event></Events></Solution>";
-    for (part, other, lines) in [
-        (
-            "",
-            "",
-            "monitor 0 AssignTime \"c\" event \"E\" deviation 3 hard 6\ntotal hard 6 soft 0\n",
-        ),
-        (
-            "Linear",
-            "Quadratic",
-            "monitor 0 AssignTime \"c\" event \"E\" deviation 3 hard 18\ntotal hard 18 soft 0\n",
-        ),
-        (
-            "Linear",
-            "Step",
-            "monitor 0 AssignTime \"c\" event \"E\" deviation 3 hard 2\ntotal hard 2 soft 0\n",
-        ),
-        (
-            ">2<",
-            ">0<",
-            "monitor 0 AssignTime \"c\" event \"E\" deviation 3 hard 0\ntotal hard 0 soft 0\n",
-        ),
-        (
-            "true",
-            "false",
-            "monitor 0 AssignTime \"c\" event \"E\" deviation 3 soft 6\ntotal hard 0 soft 6\n",
-        ),
-        (
-            "<Event Reference=\"E\"/>",
-            "<Event Reference=\"E\"/><Event Reference=\"E\"/>",
-            "monitor 0 AssignTime \"c\" event \"E\" deviation 3 hard 6\ntotal hard 6 soft 0\n",
-        ),
-        (
-            "<Solution Reference=\"I\"/>",
-            entry,
-            "total hard 0 soft 0\n",
-        ),
-    ] {
-        let bytes = first_with(rt.alloc(), part, other)?.ok_or("no such part")?;
-        let ended = run(&rt, rt.alloc(), &EVALUATE, bytes, GOOD)?;
-        let text = format!(in rt.alloc(); "{HEADER}{lines}")?;
-        assert_eq!(rt; ended.text.as_slice(), text.as_bytes(), "with {other}");
-        assert_eq!(rt; ended.status, 0, "with {other}");
+const WHOLE: &str =
+    "monitor 0 AssignTime \"c\" event \"E\" deviation 3 hard 6\ntotal hard 6 soft 0\n";
+
+/// A solution in which the event has a start.
+const TIMED: &str =
+    "<Solution Reference=\"I\"><Events><Event Reference=\"E\"><Time Reference=\"t0\"/></Event></Events></Solution>";
+
+/// A part of the first archive, what stands in its place, and the fault or the lines of the solution.
+type Change = (&'static str, &'static str, &'static str);
+
+/// The test fails unless the first archive with this change is refused with this fault.
+fn must_refuse<R: Threads + Sync + Abort>(
+    rt: &R,
+    alloc: Global,
+    (part, other, fault): Change,
+) -> Result<(), Fail> {
+    let bytes = first_with(alloc, part, other)?.ok_or("no such part")?;
+    let text = format!(in alloc; "khe: archive refused: {fault}\n")?;
+    must_end(rt, alloc, &EVALUATE, bytes, GOOD, (3, text.as_str()))?;
+    Ok(())
+}
+
+fn must_refuse_all<R: Threads + Sync + Abort>(
+    rt: &R,
+    alloc: Global,
+    changes: &[Change],
+) -> Result<(), Fail> {
+    for change in changes {
+        must_refuse(rt, alloc, *change)?;
     }
     Ok(())
 }
+
+/// The test fails unless these lines are told of the solution of the first archive with this change.
+fn must_report<R: Threads + Sync + Abort>(
+    rt: &R,
+    alloc: Global,
+    (part, other, lines): Change,
+) -> Result<(), Fail> {
+    let bytes = first_with(alloc, part, other)?.ok_or("no such part")?;
+    let text = format!(in alloc; "{HEADER}{lines}")?;
+    must_end(rt, alloc, &EVALUATE, bytes, GOOD, (0, text.as_str()))?;
+    Ok(())
+}
+
+fn must_report_all<R: Threads + Sync + Abort>(
+    rt: &R,
+    alloc: Global,
+    changes: &[Change],
+) -> Result<(), Fail> {
+    for change in changes {
+        must_report(rt, alloc, *change)?;
+    }
+    Ok(())
+}
+
+/// Changes of how the only constraint costs, and of the solution.
+const FIRST_REPORTS: &[Change] = &[
+    (
+        "",
+        "",
+        "monitor 0 AssignTime \"c\" event \"E\" deviation 3 hard 6\ntotal hard 6 soft 0\n",
+    ),
+    (
+        "Linear",
+        "Quadratic",
+        "monitor 0 AssignTime \"c\" event \"E\" deviation 3 hard 18\ntotal hard 18 soft 0\n",
+    ),
+    (
+        "Linear",
+        "Step",
+        "monitor 0 AssignTime \"c\" event \"E\" deviation 3 hard 2\ntotal hard 2 soft 0\n",
+    ),
+    (
+        ">2<",
+        ">0<",
+        "monitor 0 AssignTime \"c\" event \"E\" deviation 3 hard 0\ntotal hard 0 soft 0\n",
+    ),
+    (
+        "true",
+        "false",
+        "monitor 0 AssignTime \"c\" event \"E\" deviation 3 soft 6\ntotal hard 0 soft 6\n",
+    ),
+    (
+        "<Event Reference=\"E\"/>",
+        "<Event Reference=\"E\"/><Event Reference=\"E\"/>",
+        "monitor 0 AssignTime \"c\" event \"E\" deviation 3 hard 6\ntotal hard 6 soft 0\n",
+    ),
+    (
+        "<Solution Reference=\"I\"/>",
+        TIMED,
+        "total hard 0 soft 0\n",
+    ),
+];
+
+#[test]
+fn evaluates_the_first_archive(rt: HostRuntime) -> Result<(), Fail> {
+    must_report_all(&rt, rt.alloc(), FIRST_REPORTS)
+}
+
+/// Changes that make the archive one that is refused.
+const REFUSED: &[Change] = &[
+    (
+        "</HighSchoolTimetableArchive>",
+        "</HighSch",
+        "2 BadMarkup at 533",
+    ),
+    ("</Instances>", "</Instance>", "3 MismatchedEnd at 413"),
+    ("<Times>", "<!DOCTYPE a><Times>", "5 Unsupported at 58"),
+    ("<Times>", "<Times>&nbsp;", "4 BadReference at 65"),
+    (
+        "<Weight>2</Weight>",
+        "<Weight>2</Weight><Weight>2</Weight>",
+        "9 RepeatedChild at 266",
+    ),
+    (
+        "<Weight>2</Weight>",
+        "<Weight>1000001</Weight>",
+        "10 BadNumber at 256",
+    ),
+    ("<Weight>2</Weight>", "", "8 MissingChild at 194"),
+    (
+        "<Duration>3</Duration>",
+        "<Duration>0</Duration>",
+        "10 BadNumber at 151",
+    ),
+    ("Linear", "Cubic", "11 BadWord at 280"),
+    ("<Times>", "<Times>loose", "11 BadWord at 65"),
+    ("<Times>", "<Hours/><Times>", "7 UnknownElement at 58"),
+    (
+        "<Time Id=\"t1\"/>",
+        "<Time Id=\"t0\"/>",
+        "12 DuplicateId at 90",
+    ),
+    (
+        "<Event Reference=\"E\"/>",
+        "<Event Reference=\"F\"/>",
+        "13 UnknownReference at 339",
+    ),
+    (
+        "Solution Reference=\"I\"",
+        "Solution Reference=\"J\"",
+        "13 UnknownReference at 485",
+    ),
+    (
+        "<Duration>3</Duration>",
+        "<Duration>3</Duration><Time Reference=\"t1\"/>",
+        "15 EventOffEnd at 180",
+    ),
+    (
+        "<Duration>3</Duration>",
+        "<Duration>200000</Duration>",
+        "16 Limit duration 200000",
+    ),
+];
 
 #[test]
 fn refuses_archives(rt: HostRuntime) -> Result<(), Fail> {
-    for (part, other, fault) in [
-        (
-            "</HighSchoolTimetableArchive>",
-            "</HighSch",
-            "2 BadMarkup at 533",
-        ),
-        ("</Instances>", "</Instance>", "3 MismatchedEnd at 413"),
-        ("<Times>", "<!DOCTYPE a><Times>", "5 Unsupported at 58"),
-        ("<Times>", "<Times>&nbsp;", "4 BadReference at 65"),
-        (
-            "<Weight>2</Weight>",
-            "<Weight>2</Weight><Weight>2</Weight>",
-            "9 RepeatedChild at 266",
-        ),
-        (
-            "<Weight>2</Weight>",
-            "<Weight>1000001</Weight>",
-            "10 BadNumber at 256",
-        ),
-        ("<Weight>2</Weight>", "", "8 MissingChild at 194"),
-        (
-            "<Duration>3</Duration>",
-            "<Duration>0</Duration>",
-            "10 BadNumber at 151",
-        ),
-        ("Linear", "Cubic", "11 BadWord at 280"),
-        ("<Times>", "<Times>loose", "11 BadWord at 65"),
-        ("<Times>", "<Hours/><Times>", "7 UnknownElement at 58"),
-        (
-            "<Time Id=\"t1\"/>",
-            "<Time Id=\"t0\"/>",
-            "12 DuplicateId at 90",
-        ),
-        (
-            "<Event Reference=\"E\"/>",
-            "<Event Reference=\"F\"/>",
-            "13 UnknownReference at 339",
-        ),
-        (
-            "Solution Reference=\"I\"",
-            "Solution Reference=\"J\"",
-            "13 UnknownReference at 485",
-        ),
-        (
-            "<Duration>3</Duration>",
-            "<Duration>3</Duration><Time Reference=\"t1\"/>",
-            "15 EventOffEnd at 180",
-        ),
-        (
-            "<Duration>3</Duration>",
-            "<Duration>200000</Duration>",
-            "16 Limit duration 200000",
-        ),
-    ] {
-        let bytes = first_with(rt.alloc(), part, other)?.ok_or("no such part")?;
-        let ended = run(&rt, rt.alloc(), &EVALUATE, bytes, GOOD)?;
-        let text = format!(in rt.alloc(); "khe: archive refused: {fault}\n")?;
-        assert_eq!(rt; ended.text.as_slice(), text.as_bytes(), "with {other}");
-        assert_eq!(rt; ended.status, 3, "with {other}");
-    }
-    Ok(())
+    must_refuse_all(&rt, rt.alloc(), REFUSED)
 }
+
+/// Changes of how the same is written, and solutions that are invalid.
+const OTHER_REPORTS: &[Change] = &[
+    (
+        "<HighSchoolTimetableArchive>",
+        "\u{feff}<?xml version='1.0'?><!-- a comment --><HighSchoolTimetableArchive>",
+        WHOLE,
+    ),
+    ("Id=\"E\"", "Id=\"&#69;\"", WHOLE),
+    ("Instance Id=\"I\"", "Instance Id='I'", WHOLE),
+    ("<Weight>2</Weight>", "<Weight> 2</Weight>", WHOLE),
+    (
+        "<Required>true</Required><Weight>2</Weight>",
+        "<Weight>2</Weight><Required>true</Required>",
+        WHOLE,
+    ),
+    (
+        "<Solution Reference=\"I\"/>",
+        "<Solution Reference=\"I\"><Events><Event Reference=\"E\"><Duration>1</Duration></Event><Event Reference=\"E\"><Duration>1</Duration></Event></Events></Solution>",
+        WHOLE,
+    ),
+    (
+        "<Solution Reference=\"I\"/>",
+        "<Solution Reference=\"I\"><Events><Event Reference=\"E\"><Time Reference=\"t1\"/></Event></Events></Solution>",
+        "invalid 4 OffEnd entry 0\n",
+    ),
+    (
+        "<Solution Reference=\"I\"/>",
+        "<Solution Reference=\"I\"><Events><Event Reference=\"E\"><Duration>2</Duration></Event><Event Reference=\"E\"><Duration>2</Duration></Event></Events></Solution>",
+        "invalid 1 TooLong entry 1\n",
+    ),
+];
 
 #[test]
 fn evaluates_solutions_and_names_causes(rt: HostRuntime) -> Result<(), Fail> {
-    let whole = "monitor 0 AssignTime \"c\" event \"E\" deviation 3 hard 6\ntotal hard 6 soft 0\n";
-    for (part, other, lines) in [
-        (
-            "<HighSchoolTimetableArchive>",
-            "\u{feff}<?xml version='1.0'?><!-- a comment --><HighSchoolTimetableArchive>",
-            whole,
-        ),
-        ("Id=\"E\"", "Id=\"&#69;\"", whole),
-        ("Instance Id=\"I\"", "Instance Id='I'", whole),
-        ("<Weight>2</Weight>", "<Weight> 2</Weight>", whole),
-        (
-            "<Required>true</Required><Weight>2</Weight>",
-            "<Weight>2</Weight><Required>true</Required>",
-            whole,
-        ),
-        (
-            "<Solution Reference=\"I\"/>",
-            "<Solution Reference=\"I\"><Events><Event Reference=\"E\"><Duration>1</Duration></Event><Event Reference=\"E\"><Duration>1</Duration></Event></Events></Solution>",
-            whole,
-        ),
-        (
-            "<Solution Reference=\"I\"/>",
-            "<Solution Reference=\"I\"><Events><Event Reference=\"E\"><Time Reference=\"t1\"/></Event></Events></Solution>",
-            "invalid 4 OffEnd entry 0\n",
-        ),
-        (
-            "<Solution Reference=\"I\"/>",
-            "<Solution Reference=\"I\"><Events><Event Reference=\"E\"><Duration>2</Duration></Event><Event Reference=\"E\"><Duration>2</Duration></Event></Events></Solution>",
-            "invalid 1 TooLong entry 1\n",
-        ),
-    ] {
-        let bytes = first_with(rt.alloc(), part, other)?.ok_or("no such part")?;
-        let ended = run(&rt, rt.alloc(), &EVALUATE, bytes, GOOD)?;
-        let text = format!(in rt.alloc(); "{HEADER}{lines}")?;
-        assert_eq!(rt; ended.text.as_slice(), text.as_bytes(), "with {other}");
-        assert_eq!(rt; ended.status, 0, "with {other}");
-    }
-    Ok(())
+    must_report_all(&rt, rt.alloc(), OTHER_REPORTS)
 }
 
 #[test]
@@ -213,111 +255,134 @@ fn evaluates_resources(rt: HostRuntime) -> Result<(), Fail> {
         "monitor 0 AssignTime \"c0\" event \"E\" deviation 0 hard 0\nmonitor 1 AssignTime \"c0\" event \"F\" deviation 0 hard 0\nmonitor 2 AssignResource \"c1\" event \"E\" role \"R\" deviation 0 hard 0\nmonitor 3 AssignResource \"c1\" event \"F\" role \"R\" deviation 0 hard 0\n";
     let last = "total hard 0 soft 0\n";
     let text = format!(in rt.alloc(); "{first}{second}{last}")?;
-    for words in BY_WORKERS {
-        let seen = writes(&rt, rt.alloc(), words, WITH_RESOURCES, text.as_str())?;
-        assert!(rt; seen);
-    }
+    must_answer_each(&rt, rt.alloc(), &BY_WORKERS, WITH_RESOURCES, text.as_str())?;
     let text = format!(in rt.alloc(); "{first}{rest}{second}{met}{rest}{last}")?;
-    for words in EVALUATE_ALL {
-        let seen = writes(&rt, rt.alloc(), words, WITH_RESOURCES, text.as_str())?;
-        assert!(rt; seen);
+    must_answer_each(
+        &rt,
+        rt.alloc(),
+        &EVALUATE_ALL,
+        WITH_RESOURCES,
+        text.as_str(),
+    )
+}
+
+/// The test fails unless a run on each of these lists of words ends well after this text.
+fn must_answer_each<R: Threads + Sync + Abort>(
+    rt: &R,
+    alloc: Global,
+    lists: &[&[&str]],
+    archive: &str,
+    text: &str,
+) -> Result<(), Fail> {
+    for words in lists {
+        must_answer(rt, alloc, words, archive, (0, text))?;
     }
     Ok(())
 }
 
-/// Whether a run on these words, where this archive stands under the name, writes this text and ends
-/// well.
-fn writes<R: Threads + Sync>(
+/// An archive, the text after which a run on it ends, and the status.
+type Small = (&'static str, &'static str, u8);
+
+fn must_end_all<R: Threads + Sync + Abort>(
     rt: &R,
     alloc: Global,
-    words: &[&str],
-    archive: &str,
-    text: &str,
-) -> Result<bool, NoMemory> {
-    let bytes = archive.as_bytes().to_vec(alloc)?;
-    let ended = run(rt, alloc, words, bytes, GOOD)?;
-    Ok(ended.status == 0 && ended.text.as_slice() == text.as_bytes())
+    rows: &[Small],
+) -> Result<(), Fail> {
+    for row in rows {
+        let (archive, text, status) = *row;
+        must_answer(rt, alloc, &EVALUATE, archive, (status, text))?;
+    }
+    Ok(())
 }
+
+/// Whole archives.
+const SMALL_ARCHIVES: &[Small] = &[
+    (
+        "<HighSchoolTimetableArchive/>",
+        "archive instances 0 solutions 0\n",
+        0,
+    ),
+    (
+        "<HighSchoolTimetableArchive></HighSch",
+        "khe: archive refused: 2 BadMarkup at 37\n",
+        3,
+    ),
+    (
+        "<HighSchoolTimetableArchive><SolutionGroups><SolutionGroup Id=\"G\"><Solution Reference=\"X\"/></SolutionGroup></SolutionGroups></HighSchoolTimetableArchive>",
+        "khe: archive refused: 13 UnknownReference at 87\n",
+        3,
+    ),
+];
 
 #[test]
 fn evaluates_small_archives(rt: HostRuntime) -> Result<(), Fail> {
-    for (archive, text, status) in [
-        (
-            "<HighSchoolTimetableArchive/>",
-            "archive instances 0 solutions 0\n",
-            0,
-        ),
-        (
-            "<HighSchoolTimetableArchive></HighSch",
-            "khe: archive refused: 2 BadMarkup at 37\n",
-            3,
-        ),
-        (
-            "<HighSchoolTimetableArchive><SolutionGroups><SolutionGroup Id=\"G\"><Solution Reference=\"X\"/></SolutionGroup></SolutionGroups></HighSchoolTimetableArchive>",
-            "khe: archive refused: 13 UnknownReference at 87\n",
-            3,
-        ),
-    ] {
-        let bytes = archive.as_bytes().to_vec(rt.alloc())?;
-        let ended = run(&rt, rt.alloc(), &EVALUATE, bytes, GOOD)?;
-        assert_eq!(rt; ended.text.as_slice(), text.as_bytes(), "{archive}");
-        assert_eq!(rt; ended.status, status, "{archive}");
-    }
-    Ok(())
+    must_end_all(&rt, rt.alloc(), SMALL_ARCHIVES)
 }
 
-/// Whether a run on these words reads nothing, and ends as words without a reading do.
-fn has_no_reading<R: Threads + Sync>(
+/// The test fails unless runs on each of these lists of words read nothing, and end as words without a reading
+/// do: the first call of the shelf would fail.
+fn must_not_be_read<R: Threads + Sync + Abort>(
     rt: &R,
     alloc: Global,
-    words: &[&str],
-) -> Result<bool, NoMemory> {
-    let bytes = FIRST.as_bytes().to_vec(alloc)?;
-    // The first call of the shelf would fail.
-    let ended = run(rt, alloc, words, bytes, failing(1, 0))?;
-    let written = ended.text.as_slice() == b"khe: words not understood\n".as_slice();
-    Ok(written && ended.status == 2)
+    lists: &[&[&str]],
+) -> Result<(), Fail> {
+    for words in lists {
+        let bytes = FIRST.as_bytes().to_vec(alloc)?;
+        must_end(
+            rt,
+            alloc,
+            words,
+            bytes,
+            failing(1, 0),
+            (2, "khe: words not understood\n"),
+        )?;
+    }
+    Ok(())
 }
 
 #[test]
 fn reads_the_words(rt: HostRuntime) -> Result<(), Fail> {
-    for words in WITHOUT_READING {
-        let seen = has_no_reading(&rt, rt.alloc(), words)?;
-        assert!(rt; seen);
-    }
-    Ok(())
+    must_not_be_read(&rt, rt.alloc(), &WITHOUT_READING)
+}
+
+/// Devices that take and give a byte a call.
+const BIT_BY_BIT: Devices = Devices {
+    read: 1,
+    write: 1,
+    room: 10_000,
+    failing_read: 0,
+    failing_write: 0,
+};
+
+/// Devices of which the sink takes three bytes in all.
+const SMALL: Devices = Devices {
+    read: 100,
+    write: 100,
+    room: 3,
+    failing_read: 0,
+    failing_write: 0,
+};
+
+/// The test fails unless a run on the archive under a name ends so with these devices.
+fn must_end_by<R: Threads + Sync + Abort>(
+    rt: &R,
+    alloc: Global,
+    name: &str,
+    devices: Devices,
+    end: (u8, &str),
+) -> Result<(), NoMemory> {
+    let bytes = FIRST.as_bytes().to_vec(alloc)?;
+    must_end(rt, alloc, &["evaluate", name], bytes, devices, end)
 }
 
 #[test]
 fn answers_failing_devices(rt: HostRuntime) -> Result<(), Fail> {
-    let whole =
-        "archive instances 1 solutions 1\nsolution 0 group \"G\" instance \"I\"\nmonitor 0 AssignTime \"c\" event \"E\" deviation 3 hard 6\ntotal hard 6 soft 0\n";
-    let bit_by_bit = Devices {
-        read: 1,
-        write: 1,
-        room: 10_000,
-        failing_read: 0,
-        failing_write: 0,
-    };
-    let small = Devices {
-        read: 100,
-        write: 100,
-        room: 3,
-        failing_read: 0,
-        failing_write: 0,
-    };
-    for (name, devices, status, text) in [
-        ("archive", bit_by_bit, 0, whole),
-        ("archive", small, 5, "arc"),
-        ("archive", failing(0, 1), 5, ""),
-        ("archive", failing(1, 0), 4, ""),
-        ("archive", failing(2, 0), 4, ""),
-        ("nothing", GOOD, 4, ""),
-    ] {
-        let bytes = FIRST.as_bytes().to_vec(rt.alloc())?;
-        let ended = run(&rt, rt.alloc(), &["evaluate", name], bytes, devices)?;
-        assert_eq!(rt; ended.text.as_slice(), text.as_bytes(), "{text}");
-        assert_eq!(rt; ended.status, status, "{text}");
-    }
+    let whole = format!(in rt.alloc(); "{HEADER}{WHOLE}")?;
+    must_end_by(&rt, rt.alloc(), "archive", BIT_BY_BIT, (0, whole.as_str()))?;
+    must_end_by(&rt, rt.alloc(), "archive", SMALL, (5, "arc"))?;
+    must_end_by(&rt, rt.alloc(), "archive", failing(0, 1), (5, ""))?;
+    must_end_by(&rt, rt.alloc(), "archive", failing(1, 0), (4, ""))?;
+    must_end_by(&rt, rt.alloc(), "archive", failing(2, 0), (4, ""))?;
+    must_end_by(&rt, rt.alloc(), "nothing", GOOD, (4, ""))?;
     Ok(())
 }

@@ -5,6 +5,13 @@ pub mod Complete
 pub mod DocumentTable
 pub mod Escapes
 pub mod Follow
+pub mod FollowAttributes
+pub mod FollowComments
+pub mod FollowEndTags
+pub mod FollowOutside
+pub mod FollowStartTags
+pub mod FollowText
+pub mod FollowValues
 pub mod ForestOfTable
 pub mod KnownNames
 pub mod Lasting

@@ -1,4 +1,5 @@
-use Rattle.xhstt_text.proofs.Follow.{fails_with, no_dash}
+use Rattle.xhstt_text.proofs.Follow.{fails_with}
+use Rattle.xhstt_text.proofs.FollowComments.{no_dash}
 use Rattle.xhstt_text.proofs.comments.comment.Goals as goal
 
 pub returns-in_default-clause-leads : goal.returns-in_default-clause-leads

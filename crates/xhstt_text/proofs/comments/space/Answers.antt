@@ -1,7 +1,8 @@
 use Rattle.std.proofs.Common.{◌∙◌, [], arith}
 use Rattle.xhstt_text.specs.Bytes.{is_white}
 use Rattle.xhstt_text.specs.Reading.{read_of}
-use Rattle.xhstt_text.proofs.Follow.{over_space, over_bang, passes_on, skip_place}
+use Rattle.xhstt_text.proofs.Follow.{passes_on, skip_place}
+use Rattle.xhstt_text.proofs.FollowOutside.{over_space, over_bang}
 use Rattle.xhstt_text.proofs.comments.space.Goals as goal
 
 pub returns-in_default-clause-leads : goal.returns-in_default-clause-leads

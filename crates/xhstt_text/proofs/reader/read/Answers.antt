@@ -1,6 +1,7 @@
 use Rattle.std.proofs.Common.{◌∙◌}
 use Rattle.xhstt_text.specs.Machine.{late, outcome_of}
-use Rattle.xhstt_text.proofs.Follow.{fails_with, more_after, at_text_end, some_left, none_left, passes_on}
+use Rattle.xhstt_text.proofs.Follow.{fails_with, passes_on}
+use Rattle.xhstt_text.proofs.FollowOutside.{more_after, at_text_end, some_left, none_left}
 use Rattle.xhstt_text.proofs.reader.read.Goals as goal
 
 pub returns-in_err-end-clause-exact : goal.returns-in_err-end-clause-exact

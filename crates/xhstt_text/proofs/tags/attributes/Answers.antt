@@ -3,9 +3,9 @@ use Rattle.xhstt_text.specs.Bytes.{is_white}
 use Rattle.xhstt_text.specs.Document.{has_name}
 use Rattle.xhstt_text.specs.Machine.{Tag, Read}
 use Rattle.xhstt_text.specs.Reading.{read_of}
-use Rattle.xhstt_text.proofs.Follow.{named_tag, fails_with, attribute_colon, leaves_tag, no_gap, repeated}
-use Rattle.xhstt_text.proofs.Follow.{over_attribute_name, passes_on, skip_length, take_length, known_name, new_name}
-use Rattle.xhstt_text.proofs.Follow.{over_attribute}
+use Rattle.xhstt_text.proofs.Follow.{fails_with, passes_on, skip_length, take_length, known_name, new_name}
+use Rattle.xhstt_text.proofs.FollowAttributes.{named_tag, attribute_colon, leaves_tag, no_gap, repeated}
+use Rattle.xhstt_text.proofs.FollowAttributes.{over_attribute_name, over_attribute}
 use Rattle.xhstt_text.proofs.tags.attributes.Goals as goal
 
 pub attributes-init : goal.attributes-init

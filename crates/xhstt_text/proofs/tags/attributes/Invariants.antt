@@ -2,7 +2,7 @@ use Rattle.std.proofs.Common.{◌≡◌, ◌≤◌, ℕ, List, length}
 use Rattle.xhstt_text.specs.Machine.{Frame, run, valued}
 use Rattle.xhstt_text.specs.Reading.{read_of, bare, Holds}
 use Rattle.xhstt_text.specs.declared.tree.Node.{Node}
-use Rattle.xhstt_text.proofs.Follow.{named_tag}
+use Rattle.xhstt_text.proofs.FollowAttributes.{named_tag}
 use Rattle.xhstt_text.proofs.tags.attributes.Given as goal
 
 abbrev pub invariant-attributes : goal.invariant-attributes

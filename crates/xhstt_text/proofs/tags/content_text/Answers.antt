@@ -1,7 +1,8 @@
 use Rattle.std.proofs.Common.{◌∙◌, Option, Some, ℕ, refl, sym}
 use Rattle.std.specs.Option.{option_or}
 use Rattle.xhstt_text.specs.Reading.{with_loose_text}
-use Rattle.xhstt_text.proofs.Follow.{notes, no_notes, noted_place, passes_on}
+use Rattle.xhstt_text.proofs.Follow.{passes_on}
+use Rattle.xhstt_text.proofs.FollowText.{notes, no_notes, noted_place}
 use Rattle.xhstt_text.proofs.tags.content_text.Goals as goal
 
 pub returns-then-not-begins_text-clause-leads : goal.returns-then-not-begins_text-clause-leads

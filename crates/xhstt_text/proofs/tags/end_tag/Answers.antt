@@ -1,8 +1,8 @@
 use Rattle.std.proofs.Common.{◌≡◌, ◌∷◌, ◌∙◌, sym}
 use Rattle.xhstt_text.specs.Machine.{Read, close_element}
 use Rattle.xhstt_text.specs.Reading.{read_of, frame_of, frames_of}
-use Rattle.xhstt_text.proofs.Follow.{fails_with, shut_unnamed, shut_colon, unended, mismatched, shut_read, known_name}
-use Rattle.xhstt_text.proofs.Follow.{new_name}
+use Rattle.xhstt_text.proofs.Follow.{fails_with, known_name, new_name}
+use Rattle.xhstt_text.proofs.FollowEndTags.{shut_unnamed, shut_colon, unended, mismatched, shut_read}
 use Rattle.xhstt_text.proofs.tags.end_tag.Goals as goal
 
 pub returns-in_default-clause-leads : goal.returns-in_default-clause-leads

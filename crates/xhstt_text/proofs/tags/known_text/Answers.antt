@@ -2,7 +2,8 @@ use Rattle.std.proofs.Common.{◌<◌, ◌≤◌, ◌∷◌, ◌∙◌, length, 
 use Rattle.xhstt_text.specs.Bytes.{is_text}
 use Rattle.xhstt_text.specs.Machine.{content, in_text}
 use Rattle.xhstt_text.specs.Reading.{read_of}
-use Rattle.xhstt_text.proofs.Follow.{passes_on, none_found, some_found, over_known_text, text_enters, skip_length}
+use Rattle.xhstt_text.proofs.Follow.{passes_on, none_found, some_found, skip_length}
+use Rattle.xhstt_text.proofs.FollowText.{over_known_text, text_enters}
 use Rattle.xhstt_text.proofs.tags.known_text.Goals as goal
 
 pub returns-in_err-next-clause-leads : goal.returns-in_err-next-clause-leads

@@ -1,7 +1,8 @@
 use Rattle.std.proofs.Common.{[], refl}
 use Rattle.xhstt_text.specs.Machine.{early, run, resume, content}
 use Rattle.xhstt_text.specs.Reading.{read_of, frames_of}
-use Rattle.xhstt_text.proofs.Follow.{fails_with, leads_from, no_root, over_root, passes_on}
+use Rattle.xhstt_text.proofs.Follow.{fails_with, leads_from, passes_on}
+use Rattle.xhstt_text.proofs.FollowStartTags.{no_root, over_root}
 use Rattle.xhstt_text.proofs.tags.root.Goals as goal
 
 pub returns-in_err-tag-clause-leads : goal.returns-in_err-tag-clause-leads

@@ -1,8 +1,8 @@
 use Rattle.std.proofs.Common.{◌≡◌, ◌<◌, length, arith, sym, ◌∙◌}
 use Rattle.xhstt_text.specs.Machine.{run, resume, opened}
 use Rattle.xhstt_text.specs.Reading.{read_of, frames_of}
-use Rattle.xhstt_text.proofs.Follow.{fails_with, not_named, start_colon, passes_on, leads_from, over_start_name}
-use Rattle.xhstt_text.proofs.Follow.{length_frames}
+use Rattle.xhstt_text.proofs.Follow.{fails_with, passes_on, leads_from}
+use Rattle.xhstt_text.proofs.FollowStartTags.{not_named, start_colon, over_start_name, length_frames}
 use Rattle.xhstt_text.proofs.tags.start_tag.Goals as goal
 
 pub returns-in_default-clause-leads : goal.returns-in_default-clause-leads

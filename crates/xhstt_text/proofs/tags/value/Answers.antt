@@ -1,6 +1,6 @@
 use Rattle.std.proofs.Common.{◌∙◌}
-use Rattle.xhstt_text.proofs.Follow.{fails_with, passes_on, value_no_equals, value_no_quote, value_begins, value_no_end}
-use Rattle.xhstt_text.proofs.Follow.{value_read}
+use Rattle.xhstt_text.proofs.Follow.{fails_with, passes_on}
+use Rattle.xhstt_text.proofs.FollowValues.{value_no_equals, value_no_quote, value_begins, value_no_end, value_read}
 use Rattle.xhstt_text.proofs.tags.value.Goals as goal
 
 pub returns-in_default-clause-leads : goal.returns-in_default-clause-leads

@@ -1,7 +1,8 @@
 use Rattle.std.proofs.Common.{◌<◌, ◌≤◌, ◌∙◌, length, arith}
 use Rattle.xhstt_text.specs.Bytes.{is_quoted}
 use Rattle.xhstt_text.specs.Machine.{in_value, in_quotes}
-use Rattle.xhstt_text.proofs.Follow.{passes_on, none_found, some_found, over_value_bytes, value_enters, skip_length}
+use Rattle.xhstt_text.proofs.Follow.{passes_on, none_found, some_found, skip_length}
+use Rattle.xhstt_text.proofs.FollowValues.{over_value_bytes, value_enters}
 use Rattle.xhstt_text.proofs.tags.value_end.Goals as goal
 
 pub returns-in_err-next-clause-leads : goal.returns-in_err-next-clause-leads
