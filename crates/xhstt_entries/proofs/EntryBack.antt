@@ -147,7 +147,8 @@ module _ (p : Parts) (s : Plain) (made : AreWellMade p) (valid : IsValid p s) (b
 
   ids : map (λ t. t.task) own ≡ map id_at (range_with_len 0 (length event.places))
   ids = tasks_found before m after rising p s.tasks ((valid.told).tasks ∙ ap (flat_map (tasks_of p)) is)
-      ∙ ap (λ n. map id_at (range_with_len 0 n)) (places_there p.events m.event.0 (length event.places) event there refl)
+      ∙ ap (λ n. map id_at (range_with_len 0 n)) (places_there p.events m.event.0 (length event.places) event there
+      refl)
 
   from_zero : (i : ℕ) → slice_get event.places i ≡ slice_get event.places (0 + i)
   from_zero i = let z : i ≡ 0 + i = omega arith in ap (slice_get event.places) z

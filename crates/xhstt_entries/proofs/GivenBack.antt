@@ -178,8 +178,7 @@ are_filled p m event here k (x ∷ xs) (t ∷ ts) at ids given kept =
     let zeroth : k + 0 ≡ k = omega arith in
     let found : place_of p (duty_of m t) ≡ Some x =
     ap (option_and_then (λ (e : EventInfo). slice_get e.places t.task.place)) here
-    ∙ ap (slice_get event.places) (number ∙ sym zeroth) ∙ sym (at 0) in
-    (
+    ∙ ap (slice_get event.places) (number ∙ sym zeroth) ∙ sym (at 0) in (
       record {
         number = number;
         there = found;
@@ -246,7 +245,8 @@ module _ (p : Parts) (made : AreWellMade p) (m : Meet) where
       by None e None g (inr w) = absurd (false≢true w)
       by None e (Some r) g w = cc
 
-  module _ (x : Place) (is : IsPlace p x) (xs : List Place) (distinct : are_distinct (cons_option x.role (roles xs)) ≡ true) where
+  module _ (x : Place) (is : IsPlace p x) (xs : List Place)
+      (distinct : are_distinct (cons_option x.role (roles xs)) ≡ true) where
     -- the resource at the first place
     found_first : (role : List ℕ) → x.fixed ≡ None → x.role ≡ Some role → (rest : List RawGiven)
         → mentions role rest ≡ false → (o : Option ResourceId) → IfSome o (HasType p x.rtype)
@@ -256,7 +256,8 @@ module _ (p : Parts) (made : AreWellMade p) (m : Meet) where
     found_first role free named rest later (Some r) has =
         let test : RawGiven → Bool = λ one. is_role role (role_of one) in
         ap (λ h. option_and_then (resource_of p) (find test (h ++ rest))) (free_place_gives p x r role free named)
-        ∙ ap (λ b. option_and_then (resource_of p) (cond b (Some (for_role p role r)) (find test rest))) (same_name role)
+        ∙ ap (λ b. option_and_then (resource_of p) (cond b (Some (for_role p role r)) (find test rest)))
+        (same_name role)
         ∙ resource_back p r made (typed p x.rtype r has)
 
     resource_found : (front : List RawGiven) (k : ℕ) (t : Task) (ts : List Task) → Fills p m k x t

@@ -1,5 +1,5 @@
 -- The numbers that Ids name, where no two Ids are the same.
-use Rattle.std.proofs.Common.{◌≡◌, ◌∙◌, sym, ap, refl, ℕ, ◌+◌, ◌<◌, Bool, true, false, cond, not, ltb, Option, Some, None}
+use Rattle.std.proofs.Common.{◌≡◌, ◌∙◌, sym, ap, refl, ℕ, ◌+◌, ◌<◌, true, false, cond, not, ltb, Some, None}
 use Rattle.std.proofs.Common.{List, [], ◌∷◌, map, length, arith, slice_get, zero, suc}
 use Rattle.std.specs.List.{position_or_len}
 use Rattle.std.specs.Option.{option_map, option_map_or}
