@@ -8,5 +8,7 @@ pub mod OutcomeLemmas
 pub mod PlayEnds
 pub mod ReadingLemmas
 pub mod ReadyLemmas
+pub mod RepairEnds
 pub mod ReportLemmas
+pub mod ScriptEnds
 pub mod StartLemmas

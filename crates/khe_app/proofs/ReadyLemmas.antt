@@ -1,8 +1,11 @@
 -- An archive that was resolved is ready for its report.
-use Rattle.std.proofs.Common.{ℕ, ◌≡◌, ◌<◌, ◌^◌, Ok, length, ap, ◌∙◌, arith}
+use Rattle.std.proofs.Common.{ℕ, ◌≡◌, ◌<◌, ◌^◌, Ok, All, length, get_or, ap, sym, subst, ◌∙◌, arith}
 use Rattle.std.proofs.lemmas.List.{length-map}
+use Rattle.std.proofs.lemmas.List.Elements.{All-map}
 use Rattle.khe_app.specs.Ready.{IsReady}
 use Rattle.parallel_solve.proofs.ReadyLemmas as solutions
+use Rattle.repair_run.specs.Texts.{HasSpellable}
+use Rattle.repair_run.proofs.SpellLaws.{parts_spellable}
 use Rattle.xhstt_resolve.specs.Parts.{parts_of}
 use Rattle.xhstt_resolve.specs.Resolved.{resolved}
 use Rattle.xhstt_resolve.specs.declared.resolving.Resolved.{Resolved}
@@ -19,4 +22,8 @@ ready a r e form few = record {
   instances = instances-few (length r.instances) (length a.instances)
       (ap length (solutions.resolved-as a r e).instances ∙ length-map a.instances parts_of) few;
   well_formed = form;
+  texts = subst (All HasSpellable) (sym (solutions.resolved-as a r e).instances)
+      (All-map HasSpellable parts_of a.instances
+      (λ k d l. parts_spellable (get_or a.instances k d) (form.spellable.instances k d l)
+      (form.in_form.instances k d l)));
 }

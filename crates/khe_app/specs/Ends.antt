@@ -1,9 +1,13 @@
 -- How a run of `khe` ends: by the outcome that the definitions give, by a device that refused a
 -- call, or for want of memory.
-use Rattle.std.specs.Prelude.{ℕ, ◌≡◌, ◌⊎◌, Bool, IsTrue, Option, IfSome, IsSomeAnd, List, [], encode_utf8_all}
+use Rattle.std.specs.Prelude.{ℕ, ◌≡◌, ◌⊎◌, Bool, IsTrue, if◌then◌else◌, Option, IfSome, IsSomeAnd, Result, Ok, Err}
+use Rattle.std.specs.Prelude.{List, []}
+use Rattle.std.specs.Prelude.{encode_utf8_all}
 use Rattle.khe_io.specs.Faults.{Rose, Took, TookFront}
 use Rattle.khe_app.specs.Outcome.{IsOutcomeOf}
 use Rattle.khe_app.specs.Words.{Asked, asked}
+use Rattle.script_run.specs.declared.writing.Cut.{Cut}
+use Rattle.script_run.specs.declared.writing.Cut.TheVariants.{WriteFault, NoMemory}
 
 -- what a shelf holds under its names, where it tells it
 abbrev pub Holdings : Type 0
@@ -42,6 +46,12 @@ IsDecided status = (status ≡ 0) ⊎ (status ≡ 2) ⊎ (status ≡ 3) ⊎ (sta
 -- all statuses
 abbrev pub IsStatus : ℕ → Type 0
 IsStatus status = IsDecided status ⊎ (status ≡ 4) ⊎ (status ≡ 5) ⊎ (status ≡ 6)
+
+-- the status after a run of a script: it was read to its end or not, or its text was cut off
+abbrev pub status_after : Result Bool Cut → ℕ
+status_after (Ok read) = if read then 0 else 7
+status_after (Err WriteFault) = 5
+status_after (Err NoMemory) = 6
 
 -- what came of writing bytes before a status: all was taken; or the sink refused a call after some; or
 -- memory ran out after some

@@ -8,6 +8,7 @@ use Rattle.khe_engine.specs.States.{State}
 use Rattle.khe_instance.specs.declared.parts.Parts.{Parts}
 use Rattle.khe_instance.specs.declared.states.Plain.{Plain}
 use Rattle.parallel_solve.specs.Verdicts.{parts_at}
+use Rattle.repair_run.specs.Repairs.{IsRepairText}
 use Rattle.script_run.specs.Plays.{begun}
 use Rattle.script_run.specs.Scripts.{is_script, script_text}
 use Rattle.xhstt_completion.specs.Completed.{completed}
@@ -27,7 +28,7 @@ use Rattle.xhstt_resolve.specs.declared.resolving.Resolved.{Resolved}
 use Rattle.xhstt_writer.specs.Archives.{canonical}
 use Rattle.khe_app.specs.Refusals.{refusal_line, not_understood_line, script_too_large_line}
 use Rattle.khe_app.specs.Report.{report}
-use Rattle.khe_app.specs.Words.{Asked, asked, evaluating, scripting, checking}
+use Rattle.khe_app.specs.Words.{Asked, asked, evaluating, scripting, checking, repairing}
 use Rattle.khe_app.specs.declared.scripts.TheConstants.{SCRIPT_BYTES}
 use Rattle.khe_app.specs.declared.refusals.Refusal.{Refusal}
 use Rattle.khe_app.specs.declared.refusals.Refusal.TheVariants.{Fault, Limit, TooLarge, NoSuchSolution, Invalid}
@@ -159,6 +160,29 @@ abbrev pub IsSpellingTo : Option (List ℕ) → ℕ → List ℕ → Type 0
 IsSpellingTo None status text = (status ≡ 4) × (text ≡ [])
 IsSpellingTo (Some bytes) status text = IsRespelled bytes status text
 
+-- what comes of a start: the archive in which the repair of its timetable takes the place of the solution,
+-- and the line on the repair
+abbrev pub IsRepairOf : Archive → ℕ → ℕ → ℕ → Start → ℕ → List ℕ → Type 0
+IsRepairOf a number depth budget (barred refusal) status text = (status ≡ 3) × (text ≡ refusal_line refusal)
+IsRepairOf a number depth budget (begins p plain) status text =
+    (status ≡ 0) × IsRepairText a number p plain depth budget text
+
+abbrev pub IsRepairIn : ℕ → ℕ → ℕ → Reading → ℕ → List ℕ → Type 0
+IsRepairIn number depth budget (evaluable a r) status text =
+    IsRepairOf a number depth budget (start_of a r number) status text
+IsRepairIn number depth budget (refused refusal) status text = (status ≡ 3) × (text ≡ refusal_line refusal)
+
+-- a reading of the archive's bytes, and what comes of its solution with this number
+pub record IsRepaired (number depth budget : ℕ) (bytes : List ℕ) (status : ℕ) (text : List ℕ) : Type 0 where
+  pub reading : Reading
+  pub is : IsReadingOf bytes reading
+  pub repaired : IsRepairIn number depth budget reading status text
+
+-- what the bytes under the archive's name are repaired to; where nothing stands there, status 4 and no text
+abbrev pub IsRepairTo : ℕ → ℕ → ℕ → Option (List ℕ) → ℕ → List ℕ → Type 0
+IsRepairTo number depth budget None status text = (status ≡ 4) × (text ≡ [])
+IsRepairTo number depth budget (Some bytes) status text = IsRepaired number depth budget bytes status text
+
 -- the outcome of what is asked for, and of words without a reading, by what stands under each name
 abbrev pub IsOutcomeOf : Option Asked → (List ℕ → Option (List ℕ)) → ℕ → List ℕ → Type 0
 IsOutcomeOf None under status text = (status ≡ 2) × (text ≡ not_understood_line)
@@ -166,6 +190,8 @@ IsOutcomeOf (Some (evaluating archive all)) under status text = IsAnswerTo all (
 IsOutcomeOf (Some (scripting archive number script)) under status text =
     IsPlayTo number (under archive) (under script) status text
 IsOutcomeOf (Some (checking archive)) under status text = IsSpellingTo (under archive) status text
+IsOutcomeOf (Some (repairing archive number depth budget)) under status text =
+    IsRepairTo number depth budget (under archive) status text
 
 -- `khe` on these words, where these bytes stand under the names, ends with this status after this text
 abbrev pub IsOutcome : List (List ℕ) → (List ℕ → Option (List ℕ)) → ℕ → List ℕ → Type 0

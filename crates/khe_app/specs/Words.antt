@@ -1,6 +1,7 @@
 -- The words of the command line.
-use Rattle.std.specs.Prelude.{ℕ, ◌&&◌, Bool, true, false, if◌then◌else◌, nat_le, Option, Some, None, List, [], ◌∷◌}
-use Rattle.std.specs.Prelude.{codes}
+use Rattle.std.specs.Prelude.{ℕ, ◌&&◌, ◌==◌, Bool, true, false, if◌then◌else◌, nat_le, Option, Some, None, List, []}
+use Rattle.std.specs.Prelude.{◌∷◌}
+use Rattle.std.specs.Prelude.{codes, length}
 use Rattle.std.specs.Option.{option_and_then, option_map}
 use Rattle.std.specs.Str.{bytes_eq}
 use Rattle.edit_script.specs.Numbers.{number_of}
@@ -15,16 +16,35 @@ pub data Asked : Type 0 where
   scripting : List ℕ → ℕ → List ℕ → Asked
   -- the canonical spelling of the archive with this name
   checking : List ℕ → Asked
+  -- the same with one of its solutions repaired: the archive's name, the solution's number, the greatest
+  -- number of moves of a chain, and how many chains may be tried
+  repairing : List ℕ → ℕ → ℕ → ℕ → Asked
 
 -- the name of the archive
 abbrev pub archive_of : Asked → List ℕ
 archive_of (evaluating archive all) = archive
 archive_of (scripting archive solution script) = archive
 archive_of (checking archive) = archive
+archive_of (repairing archive solution depth budget) = archive
 
--- a number of workers: 1 to 18 digits that write 1 to 64
+-- a number from 1 to a greatest one, by 1 to 18 digits that write it
+unfoldable pub number_to : ℕ → List ℕ → Option ℕ
+number_to greatest word = option_and_then (λ n. if nat_le 1 n && nat_le n greatest then Some n else None)
+    (number_of 18 word)
+
+-- the value of an option, the word after it, among words that are options with their values
+unfoldable pub value_of : List ℕ → List (List ℕ) → Option (List ℕ)
+value_of name [] = None
+value_of name (option ∷ []) = None
+value_of name (option ∷ value ∷ more) = if bytes_eq name option then Some value else value_of name more
+
+-- the number from 1 to a greatest one that is the value of an option
+unfoldable pub number_by : List ℕ → ℕ → List (List ℕ) → Option ℕ
+number_by name greatest options = option_and_then (number_to greatest) (value_of name options)
+
+-- a number of workers is at most 64
 unfoldable pub workers_of : List ℕ → Option ℕ
-workers_of word = option_and_then (λ n. if nat_le 1 n && nat_le n 64 then Some n else None) (number_of 18 word)
+workers_of word = number_to 64 word
 
 -- a number of workers that is asked for by an option and its value
 unfoldable pub workers_by : Bool → List ℕ → List ℕ → Option (Bool × ℕ)
@@ -62,16 +82,37 @@ abbrev pub check_by : List ℕ → List (List ℕ) → Option Asked
 check_by archive [] = Some (checking archive)
 check_by archive (word ∷ more) = None
 
+-- the depth of a repair, at most 4, and its budget of chains, at most 1,000,000,000
+unfoldable pub depth_by : List (List ℕ) → Option ℕ
+depth_by options = number_by (codes "--depth") 4 options
+
+unfoldable pub budget_by : List (List ℕ) → Option ℕ
+budget_by options = number_by (codes "--budget") 1000000000 options
+
+-- a repair with these options: each of both stands once where both have values in four words
+unfoldable pub repair_with : List ℕ → ℕ → List (List ℕ) → Option Asked
+repair_with archive solution options =
+    if length options == 4
+    then option_and_then (λ depth. option_map (λ budget. repairing archive solution depth budget) (budget_by options))
+    (depth_by options) else None
+
+-- a repair is asked for by the number of the solution and its options
+abbrev pub repair_by : List ℕ → List (List ℕ) → Option Asked
+repair_by archive [] = None
+repair_by archive (solution ∷ options) = option_and_then (λ number. repair_with archive number options)
+    (number_of 18 solution)
+
 -- what is asked for by a command, the archive's name and the words after it
 unfoldable pub asked_by : List ℕ → List ℕ → List (List ℕ) → Option Asked
 asked_by command name more =
     if bytes_eq (codes "evaluate") command then option_map (λ o. evaluating name o.0) (options_by more)
     else if bytes_eq (codes "script") command then script_by name more
     else if bytes_eq (codes "check") command then check_by name more
+    else if bytes_eq (codes "repair") command then repair_by name more
     else None
 
--- `evaluate ARCHIVE [--all] [--workers N]`, `script ARCHIVE SOLUTION SCRIPT` or `check ARCHIVE`; the second
--- word is the archive's name, whatever it begins with
+-- `evaluate ARCHIVE [--all] [--workers N]`, `script ARCHIVE SOLUTION SCRIPT`, `check ARCHIVE` or `repair ARCHIVE
+-- SOLUTION --depth D --budget B`; the second word is the archive's name, whatever it begins with
 abbrev pub asked : List (List ℕ) → Option Asked
 asked (command ∷ name ∷ more) = asked_by command name more
 asked _ = None

@@ -8,6 +8,7 @@ mod outcomes;
 mod program;
 mod reading;
 mod refusals;
+mod repairing;
 mod reports;
 mod scripts;
 mod starting;

@@ -11,6 +11,7 @@ ghost use Rattle.khe_app.specs.Words.{asked, evaluating, scripting};
 use crate::checking::check;
 use crate::reading::{ReadArchive, Unread, read};
 use crate::refusals::{Refusal, refusal_line};
+use crate::repairing::repair;
 use crate::reports::report;
 use crate::scripts::{SCRIPT_BYTES, play_script};
 use crate::starting::{Begun, start};
@@ -27,9 +28,9 @@ use thiserror::Error;
 ///
 /// | Status | Meaning |
 /// |---|---|
-/// | 0 | the archive was evaluated or written, or the script was read to its end |
+/// | 0 | the archive was evaluated, written or repaired, or the script was read to its end |
 /// | 2 | the words were not understood |
-/// | 3 | the archive was refused, or the solution that the script begins with |
+/// | 3 | the archive was refused, or the solution that a script or a repair begins with |
 /// | 4 | the archive or the script could not be read |
 /// | 5 | the text could not be written |
 /// | 6 | memory ran out |
@@ -80,15 +81,22 @@ impl From<NoMemory> for Stop {
 }
 
 /// Runs the program on these words: reads the archive that they name from the shelf, and writes its
-/// report, the answers to a script, its canonical spelling, or the line that refuses it, to the sink.
+/// report, the answers to a script, its canonical spelling as it is or with a solution repaired, or the
+/// line that refuses it, to the sink.
 ///
 /// The words are `evaluate`, the archive's name, and in any order `--all` where the report is to have all
 /// monitors and `--workers` with the number of workers, 1 to 64; or `script`, the archive's name, the
-/// number of a solution, and the name of the script; or `check` and the archive's name. The answer is a
-/// status, as in `Status`. What was
-/// written before a status of 4 is nothing, and before a status of 5 or 6 a first part of the text. The
-/// text does not depend on the number of workers, who pass the gate before each solution that they
-/// evaluate, with its number.
+/// number of a solution, and the name of the script; or `check` and the archive's name; or `repair`, the
+/// archive's name, the number of a solution, and in any order `--depth` with the greatest number of moves
+/// of a chain, 1 to 4, and `--budget` with the number of chains that may be tried, 1 to 1,000,000,000. The
+/// answer is a status, as in `Status`. What was written before a status of 4 is nothing, and before a
+/// status of 5 or 6 a first part of the text. The text does not depend on the number of workers, who pass
+/// the gate before each solution that they evaluate, with its number.
+///
+/// A repaired timetable takes the place of the entries of its solution, and the line after the archive
+/// tells how the repair ended. It never costs more than the solution did; where the repair is done no
+/// chain of so many moves leaves lower totals, and where the budget is spent none of as many moves as the
+/// line names.
 ///
 /// A report takes time about linear in the archive's bytes, in what its instances follow out, and, for
 /// each solution, in the meets, tasks, covered times, watches and monitors; the workers that run at the
@@ -96,7 +104,8 @@ impl From<NoMemory> for Stop {
 /// the archive with its instances, and what the solutions of one window cost; and of the report what one
 /// solution adds. A script takes besides what opening an engine takes, and for each edit what
 /// watches its changes. A canonical spelling takes time linear in its bytes, and beside the archive and its
-/// instances no more memory than a piece of it.
+/// instances no more memory than a piece of it. A repair takes besides an engine, and for each chain that
+/// it tries what watches the changes of its last move.
 pub fn khe<R: Threads + Sync, S: Shelf, K: Sink, G: Gate>(
     rt: &R,
     alloc: Global,
@@ -176,6 +185,14 @@ fn respond<R: Threads + Sync, S: Shelf, K: Sink, G: Gate>(
             },
         ) => run_script(alloc, shelf, out, archive, solution, script),
         Some(Request::Check { archive }) => check(alloc, shelf, out, archive),
+        Some(
+            Request::Repair {
+                archive,
+                solution,
+                depth,
+                budget,
+            },
+        ) => repair(alloc, shelf, out, archive, solution, depth, budget),
         None => refuse_words(out),
     }
 }

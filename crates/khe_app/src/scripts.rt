@@ -3,12 +3,13 @@
 ghost use Rattle.std.specs.Prelude.{◌≡◌, ◌≤◌, ◌⊎◌, ℕ, List, encode_utf8_all, length};
 ghost use Rattle.khe_engine.specs.Values.{ServesAll};
 ghost use Rattle.khe_instance.specs.States.{IsValid};
-ghost use Rattle.khe_app.specs.Ends.{Written};
+ghost use Rattle.khe_app.specs.Ends.{Written, status_after};
 ghost use Rattle.khe_app.specs.Outcome.{IsRunOf};
 
 use crate::families::Families;
 use crate::program::Status;
 use demand_families::WithDemands;
+use khe_base::NoMemory;
 use khe_engine::Engine;
 use khe_instance::{Instance, Plain};
 use khe_io::Sink;
@@ -57,10 +58,17 @@ fn play_on<K: Sink, F: Shortages + Drop>(
         × Written (K.taken out.old) (K.taken out.new) (K.faults out.old) (K.faults out.new) (encode_utf8_all text) status result.0) }
     ensures sink_faults { K.faults out.old ≤ K.faults out.new }
 {
-    let Ok(mut engine) = Engine::<F>::open(alloc, inst, plain) else {
-        return Status(6);
-    };
-    match run(alloc, &mut engine, script, out) {
+    match Engine::<F>::open(alloc, inst, plain) {
+        Ok(mut engine) => status_after(run(alloc, &mut engine, script, out)),
+        Err(NoMemory) => Status(6),
+    }
+}
+
+/// The status after a run of a script, which was read to its end or not, or cut off.
+fn status_after(ended: Result<bool, Cut>) -> Status
+    ensures { result.0 ≡ status_after ended }
+{
+    match ended {
         Ok(true) => Status(0),
         Ok(false) => Status(7),
         Err(Cut::WriteFault) => Status(5),

@@ -1,6 +1,6 @@
 ghost use Rattle.std.specs.Prelude.{◌≡◌, ◌≤◌, None, Some, map, IfSome, MatchOption, string_bytes};
 ghost use Rattle.khe_app.specs.Requests.{IsFit, asked_of, workers_in};
-ghost use Rattle.khe_app.specs.Words.{asked, asked_by, all_by, both_by, check_by, evaluating, options_by, script_by, workers_by, workers_of};
+ghost use Rattle.khe_app.specs.Words.{asked, asked_by, all_by, both_by, budget_by, check_by, depth_by, evaluating, number_by, number_to, options_by, repair_by, repair_with, script_by, value_of, workers_by, workers_of};
 ghost use Rattle.std.specs.Option.{option_map};
 
 use edit_script::number_of;
@@ -31,11 +31,23 @@ pub(crate) enum Request<'a> {
         /// The name of the archive.
         archive: &'a str,
     },
+    /// An archive with one of its solutions repaired.
+    Repair {
+        /// The name of the archive.
+        archive: &'a str,
+        /// The number of the solution, over all groups.
+        solution: u32,
+        /// The greatest number of moves of a chain, 1 to 4.
+        depth: u32,
+        /// How many chains may be tried, 1 to 1,000,000,000.
+        budget: u32,
+    },
 }
 
 /// What these words ask for, or `None` where they have no reading: the words are `evaluate`, a name,
 /// and in any order `--all` and `--workers` with a number, or nothing more; or `script`, a name, a number
-/// and a name; or `check` and a name.
+/// and a name; or `check` and a name; or `repair`, a name, a number, and in any order `--depth` and
+/// `--budget`, each with a number.
 pub(crate) fn request_of(words: &[String]) -> Option<Request<'_>>
     ensures asked { MatchOption result (asked (map string_bytes words.now) ≡ None) (λ r. asked (map string_bytes words.now) ≡ Some (asked_of r)) }
     ensures fit { IfSome result IsFit }
@@ -60,6 +72,9 @@ fn request_by<'a>(command: &str, archive: &'a str, more: &'a [String]) -> Option
     }
     if command == "check" {
         return check_by(archive, more);
+    }
+    if command == "repair" {
+        return repair_by(archive, more);
     }
     None
 }
@@ -141,9 +156,18 @@ fn workers_of(word: &str) -> Option<u32>
     ensures workers { result ≡ workers_of word.now }
     ensures fit { IfSome result (λ n. (1 ≤ n) × (n ≤ 64)) }
 {
-    let workers = number_of(18, word.as_bytes())?;
-    if 1 <= workers && workers <= 64 {
-        Some(workers)
+    number_to(64, word)
+}
+
+/// The number from 1 to a greatest one that a word writes.
+#[tactic(auto, unfolding(crate::specs::Words::number_to))]
+fn number_to(greatest: u32, word: &str) -> Option<u32>
+    ensures number { result ≡ number_to greatest word.now }
+    ensures fit { IfSome result (λ n. (1 ≤ n) × (n ≤ greatest)) }
+{
+    let number = number_of(18, word.as_bytes())?;
+    if 1 <= number && number <= greatest {
+        Some(number)
     } else {
         None
     }
@@ -173,4 +197,74 @@ fn check_by<'a>(archive: &'a str, words: &'a [String]) -> Option<Request<'a>>
         return None;
     };
     Some(Request::Check { archive })
+}
+
+/// The word after an option among words that are options with their values, if the option is there. It
+/// takes time in proportion to the words.
+fn value_of<'a>(name: &str, options: &'a [String]) -> Option<&'a str>
+    ensures { MatchOption result (value_of name.now (map string_bytes options.now) ≡ None) (λ v. value_of name.now (map string_bytes options.now) ≡ Some v.now) }
+{
+    let mut rest = options;
+    while let [option, value, more @ ..] = rest {
+        if option.as_str() == name {
+            return Some(value.as_str());
+        }
+        rest = more;
+    }
+    None
+}
+
+/// The number from 1 to a greatest one that is the value of an option.
+#[tactic(auto, unfolding(crate::specs::Words::number_by))]
+fn number_by(name: &str, greatest: u32, options: &[String]) -> Option<u32>
+    ensures number { result ≡ number_by name.now greatest (map string_bytes options.now) }
+    ensures fit { IfSome result (λ n. (1 ≤ n) × (n ≤ greatest)) }
+{
+    number_to(greatest, value_of(name, options)?)
+}
+
+/// The greatest number of moves of a chain.
+#[tactic(auto, unfolding(crate::specs::Words::depth_by))]
+fn depth_by(options: &[String]) -> Option<u32>
+    ensures depth { result ≡ depth_by (map string_bytes options.now) }
+    ensures fit { IfSome result (λ n. (1 ≤ n) × (n ≤ 4)) }
+{
+    number_by("--depth", 4, options)
+}
+
+/// How many chains may be tried.
+#[tactic(auto, unfolding(crate::specs::Words::budget_by))]
+fn budget_by(options: &[String]) -> Option<u32>
+    ensures budget { result ≡ budget_by (map string_bytes options.now) }
+    ensures fit { IfSome result (λ n. 1 ≤ n) }
+{
+    number_by("--budget", 1_000_000_000, options)
+}
+
+/// The repair that is asked for by the words after the archive's name.
+fn repair_by<'a>(archive: &'a str, words: &'a [String]) -> Option<Request<'a>>
+    ensures asked { MatchOption result (repair_by archive.now (map string_bytes words.now) ≡ None) (λ r. repair_by archive.now (map string_bytes words.now) ≡ Some (asked_of r)) }
+    ensures fit { IfSome result IsFit }
+{
+    let [solution, options @ ..] = words else {
+        return None;
+    };
+    repair_with(archive, number_of(18, solution.as_bytes())?, options)
+}
+
+/// The repair of a solution that is asked for by its options.
+#[tactic(auto, unfolding(crate::specs::Words::repair_with))]
+fn repair_with<'a>(archive: &'a str, solution: u32, options: &[String]) -> Option<Request<'a>>
+    ensures asked { MatchOption result (repair_with archive.now solution (map string_bytes options.now) ≡ None) (λ r. repair_with archive.now solution (map string_bytes options.now) ≡ Some (asked_of r)) }
+    ensures fit { IfSome result IsFit }
+{
+    if options.len() != 4 {
+        return None;
+    }
+    Some(Request::Repair {
+        archive,
+        solution,
+        depth: depth_by(options)?,
+        budget: budget_by(options)?,
+    })
 }

@@ -95,3 +95,27 @@ pub(crate) const SPLIT: &str = r#"<HighSchoolTimetableArchive>
 </SolutionGroup></SolutionGroups>
 </HighSchoolTimetableArchive>
 "#;
+
+/// An event without a place that is to be cut, whole in its solution.
+pub(crate) const TO_CUT: &str = r#"<HighSchoolTimetableArchive>
+<Instances><Instance Id="I">
+<Times><Time Id="t0"/><Time Id="t1"/><Time Id="t2"/></Times>
+<Events><Event Id="E"><Duration>3</Duration></Event></Events>
+<Constraints><SplitEventsConstraint Id="c"><Required>true</Required><Weight>2</Weight><CostFunction>Linear</CostFunction>
+<AppliesTo><Events><Event Reference="E"/></Events></AppliesTo><MinimumAmount>2</MinimumAmount></SplitEventsConstraint></Constraints>
+</Instance></Instances>
+<SolutionGroups><SolutionGroup Id="G"><Solution Reference="I"/></SolutionGroup></SolutionGroups>
+</HighSchoolTimetableArchive>
+"#;
+
+/// The same event, which is to be whole and is cut in its solution.
+pub(crate) const TO_JOIN: &str = r#"<HighSchoolTimetableArchive>
+<Instances><Instance Id="I">
+<Times><Time Id="t0"/><Time Id="t1"/><Time Id="t2"/></Times>
+<Events><Event Id="E"><Duration>3</Duration></Event></Events>
+<Constraints><SplitEventsConstraint Id="c"><Required>true</Required><Weight>2</Weight><CostFunction>Linear</CostFunction>
+<AppliesTo><Events><Event Reference="E"/></Events></AppliesTo><MaximumAmount>1</MaximumAmount></SplitEventsConstraint></Constraints>
+</Instance></Instances>
+<SolutionGroups><SolutionGroup Id="G"><Solution Reference="I"><Events><Event Reference="E"><Duration>1</Duration></Event><Event Reference="E"><Duration>2</Duration></Event></Events></Solution></SolutionGroup></SolutionGroups>
+</HighSchoolTimetableArchive>
+"#;

@@ -1,0 +1,88 @@
+-- What was written of a script.
+use Rattle.std.proofs.Common.{ℕ, ◌≡◌, ◌≤◌, inl, inr, Bool, if◌then◌else◌, Option, Some, None, IfSome, Result, Ok, Err}
+use Rattle.std.proofs.Common.{IfOk, OnOk, OnErr, List, [], length, map, sym, ap, subst, ◌∙◌, refl, encode_utf8_all}
+use Rattle.std.specs.Prelude.{IsErrOf, IsSomeAnd, ◌<◌}
+use Rattle.khe_engine.specs.Openings.{IsStateOf}
+use Rattle.khe_engine.specs.States.{State}
+use Rattle.khe_engine.specs.Worlds.{Saved, World}
+use Rattle.khe_instance.specs.declared.parts.Parts.{Parts}
+use Rattle.khe_instance.specs.declared.states.Plain.{Plain}
+use Rattle.khe_io.specs.Faults.{Rose, Took, TookFront}
+use Rattle.khe_io.specs.Shelf.{StandsAbove, StandsUnder}
+use Rattle.script_run.specs.Plays.{begun, play_of}
+use Rattle.script_run.specs.Scripts.{is_script, script_text}
+use Rattle.script_run.specs.declared.writing.Cut.{Cut}
+use Rattle.script_run.specs.declared.writing.Cut.TheVariants.{WriteFault, NoMemory}
+use Rattle.khe_app.specs.Answers.{IsScriptOf}
+use Rattle.khe_app.specs.Ends.{Holdings, Written, status_after}
+use Rattle.khe_app.specs.Outcome.{IsRunOf}
+use Rattle.khe_app.specs.declared.program.Play.TheVariants as play
+use Rattle.khe_app.specs.declared.scripts.TheConstants.{SCRIPT_BYTES}
+use Rattle.khe_app.specs.declared.starting.Begun.{Begun}
+
+-- the text of a world without marks
+text_of : (w : World) (script : List ℕ) → w.saved ≡ []
+    → script_text w.parts (play_of w) script ≡ script_text w.parts (begun w.state) script
+text_of w script none =
+    ap (λ (xs : List Saved). script_text w.parts (record { state = w.state; saved = map (λ (x : Saved). x.state) xs })
+    script) none
+
+by_end : (p : Parts) (plain : Plain) (s : State) (script : List ℕ) (r : Result Bool Cut)
+    (before after : Option (List ℕ))
+    (sink sink2 result : ℕ) → IsStateOf p plain s
+    → IfOk r (λ read. read ≡ is_script script)
+    → OnOk r (Took before after (encode_utf8_all (script_text p (begun s) script)))
+    → OnErr r (TookFront before after (encode_utf8_all (script_text p (begun s) script)))
+    → (IsErrOf r WriteFault → Rose sink sink2) → result ≡ status_after r
+    → (status : ℕ) × (text : List ℕ) × IsRunOf p plain script status text
+    × Written before after sink sink2 (encode_utf8_all text) status result
+by_end p plain s script (Ok read) before after sink sink2 result is e whole front fault same = (
+  if is_script script then 0 else 7,
+  script_text p (begun s) script,
+  record { state = s; is = is; status_is = refl; text_is = refl },
+  inl (same ∙ ap (λ (b : Bool). if b then 0 else 7) e, whole),
+)
+by_end p plain s script (Err WriteFault) before after sink sink2 result is e whole front fault same = (
+  if is_script script then 0 else 7,
+  script_text p (begun s) script,
+  record { state = s; is = is; status_is = refl; text_is = refl },
+  inr (inl (same, fault refl, front)),
+)
+by_end p plain s script (Err NoMemory) before after sink sink2 result is e whole front fault same = (
+  if is_script script then 0 else 7,
+  script_text p (begun s) script,
+  record { state = s; is = is; status_is = refl; text_is = refl },
+  inr (inr (same, front)),
+)
+
+-- a run on an engine that lists the timetable and has no marks
+pub run_written : (p : Parts) (plain : Plain) (w : World) (script : List ℕ) (r : Result Bool Cut)
+    (before after : Option (List ℕ)) (sink sink2 result : ℕ) → w.parts ≡ p → IsStateOf p plain w.state → w.saved ≡ []
+    → IfOk r (λ read. read ≡ is_script script)
+    → OnOk r (Took before after (encode_utf8_all (script_text w.parts (play_of w) script)))
+    → OnErr r (TookFront before after (encode_utf8_all (script_text w.parts (play_of w) script)))
+    → (IsErrOf r WriteFault → Rose sink sink2) → result ≡ status_after r
+    → (status : ℕ) × (text : List ℕ) × IsRunOf p plain script status text
+    × Written before after sink sink2 (encode_utf8_all text) status result
+run_written p plain w script r before after sink sink2 result parts is none read whole front fault same =
+    let text : script_text w.parts (play_of w) script ≡ script_text p (begun w.state) script =
+    text_of w script none ∙ ap (λ (q : Parts). script_text q (begun w.state) script) parts in
+    by_end p plain w.state script r before after sink sink2 result is read
+    (subst (λ xs. OnOk r (Took before after (encode_utf8_all xs))) text whole)
+    (subst (λ xs. OnErr r (TookFront before after (encode_utf8_all xs))) text front) fault same
+
+-- what stands under a script's name
+pub script_taken : (h : Holdings) (name bytes : List ℕ) (b : Begun) → StandsUnder h name bytes
+    → length bytes ≤ SCRIPT_BYTES → IfSome h (λ under. IsScriptOf b (under name) (play.Run b bytes))
+script_taken None name bytes b stands small = tt
+script_taken (Some under) name bytes b stands small =
+    subst (λ o. IsScriptOf b o (play.Run b bytes)) (sym stands) (refl, refl, small)
+
+pub script_large : (h : Holdings) (name : List ℕ) (b : Begun) → StandsAbove h name SCRIPT_BYTES
+    → IfSome h (λ under. IsScriptOf b (under name) play.TooLarge)
+script_large None name b above = tt
+script_large (Some under) name b above = by (under name) above
+  where
+    by : (o : Option (List ℕ)) → IsSomeAnd o (λ bytes. SCRIPT_BYTES < length bytes) → IsScriptOf b o play.TooLarge
+    by None none = none
+    by (Some bytes) large = large

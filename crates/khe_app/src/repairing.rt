@@ -1,0 +1,156 @@
+//! Archives with one of their solutions repaired.
+
+ghost use Rattle.std.specs.Prelude.{◌≡◌, ◌≤◌, ◌⊎◌, ℕ, List, Some, IsTrue, encode_utf8_all};
+ghost use Rattle.khe_instance.specs.States.{IsTold, IsValid};
+ghost use Rattle.repair_run.specs.Repairs.{IsRepairText, repair_bytes};
+ghost use Rattle.repair_run.specs.Texts.{HasSpellable};
+ghost use Rattle.xhstt_shape.specs.WellFormed.{IsWellFormed};
+ghost use Rattle.khe_app.specs.Answers.{reading_of, IsReadyAnswer};
+ghost use Rattle.khe_app.specs.Ends.{IsEnd, Written};
+ghost use Rattle.khe_app.specs.Outcome.{IsRepairIn, IsRepairOf, start_of};
+ghost use Rattle.khe_app.specs.Ready.{IsReady};
+ghost use Rattle.khe_app.specs.Words.{repairing};
+
+use crate::families::Families;
+use crate::program::{Answer, Status, Stop, answer_to, put_refusal};
+use crate::reading::{ReadArchive, Unread};
+use crate::starting::{begin, instance_numbered};
+use khe_base::NoMemory;
+use khe_instance::{Instance, Plain};
+use khe_io::{Shelf, Sink};
+use repair_run::{Mended, mend, send_repaired};
+use std::alloc::Global;
+use xhstt_shape::Archive;
+use xhstt_writer::SendFault;
+
+/// Writes the archive under a name with the solution of a number repaired, and the line on the repair; or
+/// the line that refuses the archive or the solution.
+#[tactic(auto, using(crate::proofs::EndsLemmas::end_starved, crate::proofs::EndsLemmas::end_stopped, crate::proofs::RepairEnds::repair_lacks))]
+pub(crate) fn repair<S: Shelf, K: Sink>(
+    alloc: Global,
+    shelf: &mut S,
+    out: &mut K,
+    name: &str,
+    number: u32,
+    depth: u32,
+    budget: u32,
+) -> Status
+    requires depth { (1 ≤ depth) × (depth ≤ 4) }
+    requires budget { 1 ≤ budget }
+    ensures end { IsEnd (Some (repairing name.now number depth budget)) (S.holdings shelf.old) (S.is_sound shelf.old) (S.faults shelf.old) (S.faults shelf.new) (K.taken out.old) (K.taken out.new) (K.faults out.old) (K.faults out.new) result.0 }
+    ensures status { result.0 ≡ 2 → ⊥ }
+    ensures holdings { S.holdings shelf.new ≡ S.holdings shelf.old }
+    ensures shelf_faults { S.faults shelf.old ≤ S.faults shelf.new }
+    ensures sound { IsTrue (S.is_sound shelf.old) → IsTrue (S.is_sound shelf.new) }
+    ensures sink_faults { K.faults out.old ≤ K.faults out.new }
+{
+    match answer_to(alloc, shelf, name) {
+        Ok(mut answer) => write_repair(alloc, out, &mut answer, number, depth, budget),
+        Err(Stop::ReadFault) => Status(4),
+        Err(Stop::NoMemory) => Status(6),
+    }
+}
+
+/// Writes an archive with a solution repaired, or the line that refuses it.
+fn write_repair<K: Sink>(
+    alloc: Global,
+    out: &mut K,
+    answer: &mut Answer,
+    number: u32,
+    depth: u32,
+    budget: u32,
+) -> Status
+    requires ready { IsReadyAnswer answer.old }
+    requires depth { (1 ≤ depth) × (depth ≤ 4) }
+    requires budget { 1 ≤ budget }
+    ensures written { ((result.0 ≡ 6) × (K.taken out.new ≡ K.taken out.old)) ⊎ ((status : ℕ) × (text : List ℕ) × IsRepairIn number depth budget (reading_of answer.old) status text
+        × Written (K.taken out.old) (K.taken out.new) (K.faults out.old) (K.faults out.new) (encode_utf8_all text) status result.0) }
+    ensures sink_faults { K.faults out.old ≤ K.faults out.new }
+{
+    match answer {
+        Answer::Read(read) => repair_in(alloc, out, read, number, depth, budget),
+        Answer::Refused(refusal) => put_refusal(alloc, out, *refusal),
+    }
+}
+
+/// Writes an archive that is read with a solution repaired, or the line that refuses the solution.
+fn repair_in<K: Sink>(
+    alloc: Global,
+    out: &mut K,
+    read: &mut ReadArchive,
+    number: u32,
+    depth: u32,
+    budget: u32,
+) -> Status
+    requires ready { IsReady read.old.archive read.old.resolved }
+    requires depth { (1 ≤ depth) × (depth ≤ 4) }
+    requires budget { 1 ≤ budget }
+    ensures written { ((result.0 ≡ 6) × (K.taken out.new ≡ K.taken out.old)) ⊎ ((status : ℕ) × (text : List ℕ) × IsRepairOf read.old.archive number depth budget (start_of read.old.archive read.old.resolved number) status text
+        × Written (K.taken out.old) (K.taken out.new) (K.faults out.old) (K.faults out.new) (encode_utf8_all text) status result.0) }
+    ensures sink_faults { K.faults out.old ≤ K.faults out.new }
+{
+    match begin(alloc, &read.archive, &read.resolved, number) {
+        Ok((instance, plain)) => {
+            let inst = instance_numbered(&read.resolved, instance);
+            put_repair(
+                alloc,
+                out,
+                &mut read.archive,
+                inst,
+                &plain,
+                number,
+                depth,
+                budget,
+            )
+        }
+        Err(Unread::Refused(refusal)) => put_refusal(alloc, out, refusal),
+        Err(Unread::NoMemory) => Status(6),
+    }
+}
+
+/// Repairs a timetable, and writes the archive with it in place of the solution.
+fn put_repair<K: Sink>(
+    alloc: Global,
+    out: &mut K,
+    archive: &mut Archive,
+    inst: &Instance,
+    plain: &Plain,
+    number: u32,
+    depth: u32,
+    budget: u32,
+) -> Status
+    requires formed { IsWellFormed archive.old }
+    requires texts { HasSpellable inst.now }
+    requires valid { IsValid inst.now plain.now }
+    requires depth { (1 ≤ depth) × (depth ≤ 4) }
+    requires budget { 1 ≤ budget }
+    ensures written { ((result.0 ≡ 6) × (K.taken out.new ≡ K.taken out.old)) ⊎ ((text : List ℕ) × IsRepairText archive.old number inst.now plain.now depth budget text
+        × Written (K.taken out.old) (K.taken out.new) (K.faults out.old) (K.faults out.new) (encode_utf8_all text) 0 result.0) }
+    ensures sink_faults { K.faults out.old ≤ K.faults out.new }
+{
+    inst.facts();
+    match mend::<Families>(alloc, inst, plain, depth, u64::from(budget)) {
+        Ok(mended) => put_mended(alloc, out, archive, inst, &mended, number),
+        Err(NoMemory) => Status(6),
+    }
+}
+
+/// Writes an archive with what a repair leaves in place of a solution, and the line on the repair.
+fn put_mended<K: Sink>(
+    alloc: Global,
+    out: &mut K,
+    archive: &mut Archive,
+    inst: &Instance,
+    mended: &Mended,
+    number: u32,
+) -> Status
+    requires { IsTold inst.now mended.now.plain.meets mended.now.plain.tasks }
+    ensures written { Written (K.taken out.old) (K.taken out.new) (K.faults out.old) (K.faults out.new) (repair_bytes archive.old number inst.now mended.now) 0 result.0 }
+    ensures sink_faults { K.faults out.old ≤ K.faults out.new }
+{
+    match send_repaired(alloc, archive, number, inst, mended, out) {
+        Ok(()) => Status(0),
+        Err(SendFault::WriteFault) => Status(5),
+        Err(SendFault::NoMemory) => Status(6),
+    }
+}

@@ -1,0 +1,5 @@
+pub mod FoundLaws
+pub mod MendedLaws
+pub mod SendLaws
+pub mod SpellLaws
+pub mod TextLaws

@@ -1,0 +1,5 @@
+pub mod Laws
+pub mod Lines
+pub mod Placed
+pub mod Repairs
+pub mod Texts

@@ -1,0 +1,404 @@
+//! What repairs are written as.
+
+/// The small archive up to its solutions.
+pub(crate) const FRONT: &str = r#"<?xml version="1.0" encoding="UTF-8"?>
+<HighSchoolTimetableArchive>
+<Instances>
+<Instance Id="J">
+<Times>
+<Time Id="t0"/>
+<Time Id="t1"/>
+<Time Id="t2"/>
+</Times>
+<Resources>
+<ResourceTypes>
+<ResourceType Id="X"/>
+</ResourceTypes>
+<Resource Id="r0">
+<ResourceType Reference="X"/>
+</Resource>
+<Resource Id="r1">
+<ResourceType Reference="X"/>
+</Resource>
+</Resources>
+<Events>
+<Event Id="E">
+<Duration>3</Duration>
+<Resources>
+<Resource>
+<Role>R</Role>
+<ResourceType Reference="X"/>
+</Resource>
+</Resources>
+</Event>
+<Event Id="F">
+<Duration>1</Duration>
+<Resources>
+<Resource>
+<Role>R</Role>
+<ResourceType Reference="X"/>
+</Resource>
+</Resources>
+</Event>
+</Events>
+<Constraints>
+<AssignTimeConstraint Id="c0">
+<Required>true</Required>
+<Weight>2</Weight>
+<CostFunction>Linear</CostFunction>
+<AppliesTo>
+<Events>
+<Event Reference="E"/>
+<Event Reference="F"/>
+</Events>
+</AppliesTo>
+</AssignTimeConstraint>
+<AssignResourceConstraint Id="c1">
+<Required>true</Required>
+<Weight>1</Weight>
+<CostFunction>Linear</CostFunction>
+<AppliesTo>
+<Events>
+<Event Reference="E"/>
+<Event Reference="F"/>
+</Events>
+</AppliesTo>
+<Role>R</Role>
+</AssignResourceConstraint>
+<AvoidClashesConstraint Id="c2">
+<Required>true</Required>
+<Weight>5</Weight>
+<CostFunction>Linear</CostFunction>
+<AppliesTo>
+<Resources>
+<Resource Reference="r0"/>
+<Resource Reference="r1"/>
+</Resources>
+</AppliesTo>
+</AvoidClashesConstraint>
+<PreferTimesConstraint Id="c3">
+<Required>false</Required>
+<Weight>3</Weight>
+<CostFunction>Linear</CostFunction>
+<AppliesTo>
+<Events>
+<Event Reference="F"/>
+</Events>
+</AppliesTo>
+<Times>
+<Time Reference="t0"/>
+</Times>
+</PreferTimesConstraint>
+</Constraints>
+</Instance>
+</Instances>
+<SolutionGroups>
+<SolutionGroup Id="H">
+"#;
+
+/// The rest of it with its first solution repaired, and the line.
+pub(crate) const REPAIRED: &str = r#"<Solution Reference="J">
+<Events>
+<Event Reference="E">
+<Duration>3</Duration>
+<Time Reference="t0"/>
+<Resources>
+<Resource Reference="r0">
+<Role>R</Role>
+</Resource>
+</Resources>
+</Event>
+<Event Reference="F">
+<Duration>1</Duration>
+<Time Reference="t0"/>
+<Resources>
+<Resource Reference="r1">
+<Role>R</Role>
+</Resource>
+</Resources>
+</Event>
+</Events>
+</Solution>
+<Solution Reference="J">
+<Events>
+<Event Reference="E">
+<Time Reference="t0"/>
+<Resources>
+<Resource Reference="r0">
+<Role>R</Role>
+</Resource>
+</Resources>
+</Event>
+<Event Reference="F">
+<Time Reference="t0"/>
+<Resources>
+<Resource Reference="r1">
+<Role>R</Role>
+</Resource>
+</Resources>
+</Event>
+</Events>
+</Solution>
+</SolutionGroup>
+</SolutionGroups>
+</HighSchoolTimetableArchive>
+<!-- khe repair done accepted 4 tried 5 hard 0 soft 0 -->
+"#;
+
+/// The same, where one chain may be tried.
+pub(crate) const SPENT: &str = r#"<Solution Reference="J">
+<Events>
+<Event Reference="E">
+<Duration>3</Duration>
+<Time Reference="t0"/>
+</Event>
+<Event Reference="F">
+<Duration>1</Duration>
+</Event>
+</Events>
+</Solution>
+<Solution Reference="J">
+<Events>
+<Event Reference="E">
+<Time Reference="t0"/>
+<Resources>
+<Resource Reference="r0">
+<Role>R</Role>
+</Resource>
+</Resources>
+</Event>
+<Event Reference="F">
+<Time Reference="t0"/>
+<Resources>
+<Resource Reference="r1">
+<Role>R</Role>
+</Resource>
+</Resources>
+</Event>
+</Events>
+</Solution>
+</SolutionGroup>
+</SolutionGroups>
+</HighSchoolTimetableArchive>
+<!-- khe repair spent accepted 1 tried 1 settled 0 hard 6 soft 0 -->
+"#;
+
+/// The same with its second solution repaired, which nothing improves.
+pub(crate) const KEPT: &str = r#"<Solution Reference="J"/>
+<Solution Reference="J">
+<Events>
+<Event Reference="E">
+<Duration>3</Duration>
+<Time Reference="t0"/>
+<Resources>
+<Resource Reference="r0">
+<Role>R</Role>
+</Resource>
+</Resources>
+</Event>
+<Event Reference="F">
+<Duration>1</Duration>
+<Time Reference="t0"/>
+<Resources>
+<Resource Reference="r1">
+<Role>R</Role>
+</Resource>
+</Resources>
+</Event>
+</Events>
+</Solution>
+</SolutionGroup>
+</SolutionGroups>
+</HighSchoolTimetableArchive>
+<!-- khe repair done accepted 0 tried 0 hard 0 soft 0 -->
+"#;
+
+/// The crossed archive: its events go to each other's time.
+pub(crate) const SWAPPED: &str = r#"<?xml version="1.0" encoding="UTF-8"?>
+<HighSchoolTimetableArchive>
+<Instances>
+<Instance Id="K">
+<Times>
+<Time Id="t0"/>
+<Time Id="t1"/>
+</Times>
+<Resources>
+<ResourceTypes>
+<ResourceType Id="X"/>
+</ResourceTypes>
+<Resource Id="r0">
+<ResourceType Reference="X"/>
+</Resource>
+</Resources>
+<Events>
+<Event Id="F">
+<Duration>1</Duration>
+<Resources>
+<Resource Reference="r0"/>
+</Resources>
+</Event>
+<Event Id="G">
+<Duration>1</Duration>
+<Resources>
+<Resource Reference="r0"/>
+</Resources>
+</Event>
+</Events>
+<Constraints>
+<PreferTimesConstraint Id="c0">
+<Required>true</Required>
+<Weight>1</Weight>
+<CostFunction>Linear</CostFunction>
+<AppliesTo>
+<Events>
+<Event Reference="F"/>
+</Events>
+</AppliesTo>
+<Times>
+<Time Reference="t0"/>
+</Times>
+</PreferTimesConstraint>
+<PreferTimesConstraint Id="c1">
+<Required>true</Required>
+<Weight>1</Weight>
+<CostFunction>Linear</CostFunction>
+<AppliesTo>
+<Events>
+<Event Reference="G"/>
+</Events>
+</AppliesTo>
+<Times>
+<Time Reference="t1"/>
+</Times>
+</PreferTimesConstraint>
+<AvoidClashesConstraint Id="c2">
+<Required>true</Required>
+<Weight>5</Weight>
+<CostFunction>Linear</CostFunction>
+<AppliesTo>
+<Resources>
+<Resource Reference="r0"/>
+</Resources>
+</AppliesTo>
+</AvoidClashesConstraint>
+</Constraints>
+</Instance>
+</Instances>
+<SolutionGroups>
+<SolutionGroup Id="G">
+<Solution Reference="K">
+<Events>
+<Event Reference="F">
+<Duration>1</Duration>
+<Time Reference="t0"/>
+</Event>
+<Event Reference="G">
+<Duration>1</Duration>
+<Time Reference="t1"/>
+</Event>
+</Events>
+</Solution>
+</SolutionGroup>
+</SolutionGroups>
+</HighSchoolTimetableArchive>
+<!-- khe repair done accepted 1 tried 2 hard 0 soft 0 -->
+"#;
+
+/// The archive with an event that is to be cut.
+pub(crate) const CUT: &str = r#"<?xml version="1.0" encoding="UTF-8"?>
+<HighSchoolTimetableArchive>
+<Instances>
+<Instance Id="I">
+<Times>
+<Time Id="t0"/>
+<Time Id="t1"/>
+<Time Id="t2"/>
+</Times>
+<Events>
+<Event Id="E">
+<Duration>3</Duration>
+</Event>
+</Events>
+<Constraints>
+<SplitEventsConstraint Id="c">
+<Required>true</Required>
+<Weight>2</Weight>
+<CostFunction>Linear</CostFunction>
+<AppliesTo>
+<Events>
+<Event Reference="E"/>
+</Events>
+</AppliesTo>
+<MinimumDuration>0</MinimumDuration>
+<MaximumDuration>2147483647</MaximumDuration>
+<MinimumAmount>2</MinimumAmount>
+<MaximumAmount>2147483647</MaximumAmount>
+</SplitEventsConstraint>
+</Constraints>
+</Instance>
+</Instances>
+<SolutionGroups>
+<SolutionGroup Id="G">
+<Solution Reference="I">
+<Events>
+<Event Reference="E">
+<Duration>1</Duration>
+</Event>
+<Event Reference="E">
+<Duration>2</Duration>
+</Event>
+</Events>
+</Solution>
+</SolutionGroup>
+</SolutionGroups>
+</HighSchoolTimetableArchive>
+<!-- khe repair done accepted 1 tried 1 hard 0 soft 0 -->
+"#;
+
+/// The archive with an event that is to be whole.
+pub(crate) const JOINED: &str = r#"<?xml version="1.0" encoding="UTF-8"?>
+<HighSchoolTimetableArchive>
+<Instances>
+<Instance Id="I">
+<Times>
+<Time Id="t0"/>
+<Time Id="t1"/>
+<Time Id="t2"/>
+</Times>
+<Events>
+<Event Id="E">
+<Duration>3</Duration>
+</Event>
+</Events>
+<Constraints>
+<SplitEventsConstraint Id="c">
+<Required>true</Required>
+<Weight>2</Weight>
+<CostFunction>Linear</CostFunction>
+<AppliesTo>
+<Events>
+<Event Reference="E"/>
+</Events>
+</AppliesTo>
+<MinimumDuration>0</MinimumDuration>
+<MaximumDuration>2147483647</MaximumDuration>
+<MinimumAmount>0</MinimumAmount>
+<MaximumAmount>1</MaximumAmount>
+</SplitEventsConstraint>
+</Constraints>
+</Instance>
+</Instances>
+<SolutionGroups>
+<SolutionGroup Id="G">
+<Solution Reference="I">
+<Events>
+<Event Reference="E">
+<Duration>3</Duration>
+</Event>
+</Events>
+</Solution>
+</SolutionGroup>
+</SolutionGroups>
+</HighSchoolTimetableArchive>
+<!-- khe repair done accepted 1 tried 2 hard 0 soft 0 -->
+"#;
