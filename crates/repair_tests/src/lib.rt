@@ -1,4 +1,5 @@
-//! Tests of repair: what it comes to on small archives, as an oracle of the definitions says.
+//! Tests of repair: what one comes to on small archives, and many by several workers, as an oracle of
+//! the definitions says.
 #![tactic(auto)]
 
 #[cfg(test)]
@@ -8,6 +9,10 @@ mod cases;
 #[cfg(test)]
 mod families;
 #[cfg(test)]
+mod gates;
+#[cfg(test)]
 mod repairs;
+#[cfg(test)]
+mod solves;
 #[cfg(test)]
 mod worked;

@@ -58,8 +58,9 @@ pub data Phase : Type 0 where
   ended : Phase  -- after the outermost element
   ended_open : ℕ → Phase  -- after the `<` at this place, which stands after the outermost element
   bang : ℕ → Place → Phase  -- after the `<!` at this place
-  other_word : ℕ → ℕ → List ℕ → Phase  -- after the `<!` at the first place, in
-      a word that begins at the second and is not supported: the letters that must follow
+  -- after the `<!` at the first place, in a word that begins at the second and is not supported: the letters
+  -- that must follow
+  other_word : ℕ → ℕ → List ℕ → Phase
   bang_dash : Place → Phase  -- after `<!-`
   in_comment : Place → ℕ → Phase  -- in a comment, after so many dashes
   opened : ℕ → Phase  -- after the `<` at this place
@@ -75,8 +76,7 @@ pub data Phase : Type 0 where
   wide_2 : Bool → Within → Phase  -- after the second: whether it is the greatest
   reference : ℕ → Within → Phase  -- after the `&` at this place
   reference_a : ℕ → Within → Phase  -- after the `&a` at this place
-  word : ℕ → List ℕ → Within → Phase  -- in the name of an entity, after the `&` at this place: the bytes that must
-      follow
+  word : ℕ → List ℕ → Within → Phase  -- in the name of an entity, after the `&` at this place: what must follow
   hash : ℕ → Within → Phase  -- after the `&#` at this place
   hash_x : ℕ → Within → Phase  -- after the `&#x` at this place
   in_decimal : ℕ → ℕ → Within → Phase  -- in a decimal number, after the `&#` at this place: the number so far
@@ -176,8 +176,8 @@ step_opened [] place r at b =
     if is_first b then state (start_name place (b ∷ [])) r
     else (if b == 33 then state (bang place early) r else refused (no_tag place at b))
 step_opened (f ∷ fs) place r at b =
-    if is_first b then (if nat_lt (length (f ∷ fs)) DEPTH then state (start_name place (b ∷ [])) r else refused
-    (too_deep place))
+    if is_first b then (if nat_lt (length (f ∷ fs)) DEPTH then state (start_name place (b ∷ [])) r
+    else refused (too_deep place))
     else (if b == 47 then state (shut_begin place) r
     else (if b == 33 then state (bang place early) r else refused (no_tag place at b)))
 
@@ -187,8 +187,8 @@ closed r = record r { frames = [] }
 
 abbrev pub step_declaration : Read → ℕ → ℕ → Step
 step_declaration r at b =
-    if b == 60 then state (declared_open at) r else
-    (if is_white b then state content (closed r) else refused (bad_markup at))
+    if b == 60 then state (declared_open at) r
+    else (if is_white b then state content (closed r) else refused (bad_markup at))
 
 abbrev pub step_question : List ℕ → Read → ℕ → ℕ → Step
 step_question [] r at b = if is_white b then state (in_declaration false) r else refused (bad_markup at)
@@ -241,8 +241,8 @@ abbrev pub step_shut : List Frame → ℕ → List ℕ → Read → ℕ → ℕ 
 step_shut [] place name r at b = refused (bad_markup at)
 step_shut (f ∷ fs) place name r at b =
     if is_white b then state (shut_gap place name) r
-    else (if b == 62 then (if bytes_eq name f.name then state (resume fs) (close_element f fs r place) else refused
-    (mismatched_end place))
+    else (if b == 62 then (if bytes_eq name f.name then state (resume fs) (close_element f fs r place)
+    else refused (mismatched_end place))
     else refused (bad_markup at))
 
 abbrev pub start_of : ℕ → List ℕ → Read → Tag
