@@ -44,7 +44,8 @@ pub answer_is : (p : Parts) (s : State) (plain : Plain) → IsValid p plain → 
 unfolding answer_at
 answer_is p s plain v is = ap (λ (x : Plain). record { totals = totals p s; plain = x }) (listed_is p plain s v is)
 
-pub job_is : (p q : Parts) (s u : State) (depth budget n : ℕ) (a : Answer) → q ≡ p → u ≡ (repaired p s depth budget n).state
+pub job_is : (p q : Parts) (s u : State) (depth budget n : ℕ) (a : Answer) → q ≡ p
+    → u ≡ (repaired p s depth budget n).state
     → a ≡ answer_at q u → a ≡ job_from p s depth budget n
 unfolding job_from
 job_is p q s u depth budget n a e f is = is ∙ (λ i. answer_at (e i) (f i))

@@ -1,5 +1,6 @@
 -- A state has one valid timetable alone: its lists are in order, so they are what the state lists.
-use Rattle.std.proofs.Common.{ℕ, zero, suc, ◌≡◌, ◌≢◌, ◌+◌, ◌<◌, ◌≤◌, Bool, true, false, cond, Option, Some, None, List, []}
+use Rattle.std.proofs.Common.{ℕ, zero, suc, ◌≡◌, ◌≢◌, ◌+◌, ◌<◌, ◌≤◌, Bool, true, false, cond, Option, Some, None, List}
+use Rattle.std.proofs.Common.{[]}
 use Rattle.std.proofs.Common.{◌∷◌, length, map, refl, sym, ap, ◌∙◌, subst, arith}
 use Rattle.std.specs.Prelude.{◌==◌, ◌||◌, not, All, slice_index}
 use Rattle.std.specs.List.{find, list_any, range_with_len}
@@ -97,7 +98,8 @@ detached_back low (suc n) f (x ∷ xs) r a h = by (ℕ_discrete x.0 low)
         (subst (λ k. AreRising (k + 1) (map monitor_number xs)) e r.1)
         (All-tail (λ (y : MonitorId). y.0 < low + 1 + n) x xs all)
         (λ k l. h k (omega (arith, l)) ∙ ap (λ b. b || is_in k xs) (ne_eqb x.0 k (λ q. omega (arith, q, e, l)))))
-    by (no d) = later d (detached_back (low + 1) n f (x ∷ xs) (let from : low ≤ x.0 = r.0 in omega (arith, from, d), r.1)
+    by (no d) = later d (detached_back (low + 1) n f (x ∷ xs)
+        (let from : low ≤ x.0 = r.0 in omega (arith, from, d), r.1)
         all (λ k l. h k (omega (arith, l))))
 
 -- the same of groups
@@ -133,9 +135,11 @@ groups_back low (suc n) f (x ∷ xs) r a h = by (ℕ_discrete x.group.0 low)
     here : (k : ℕ) (b : Bool) → (x.group.0 == k) ≡ b
         → group_of k (x ∷ xs) ≡ cond b (Some x.children) (group_of k xs)
     here k b e =
-        ap (λ c. option_map (λ (y : Group). y.children) (cond c (Some x) (find (λ y. y.group.0 == k) xs))) e ∙ chosen k b
+        ap (λ c. option_map (λ (y : Group). y.children) (cond c (Some x) (find (λ y. y.group.0 == k) xs))) e
+        ∙ chosen k b
 
-    chosen : (k : ℕ) (b : Bool) → option_map (λ (y : Group). y.children) (cond b (Some x) (find (λ y. y.group.0 == k) xs))
+    chosen : (k : ℕ) (b : Bool) → option_map (λ (y : Group). y.children)
+        (cond b (Some x) (find (λ y. y.group.0 == k) xs))
         ≡ cond b (Some x.children) (group_of k xs)
     chosen k true = refl
     chosen k false = refl

@@ -36,12 +36,7 @@ impl<'a, F: Family + Drop + Send + Sync> Work for Repairs<'a, F> {
         open_marked::<F>(alloc, self.inst, self.start)
     }
 
-    fn run(
-        &self,
-        alloc: Global,
-        desk: &mut Engine<'a, F>,
-        job: u64,
-    ) -> Result<Answer, NoMemory> {
+    fn run(&self, alloc: Global, desk: &mut Engine<'a, F>, job: u64) -> Result<Answer, NoMemory> {
         run_job::<F, Brand>(alloc, desk, self.depth, self.budget, job, Blank::new(1))
     }
 }

@@ -1,5 +1,6 @@
 -- The fates of all jobs by their rows.
-use Rattle.std.proofs.Common.{◌≡◌, ◌≢◌, ⊎_elim, ℕ, zero, suc, ◌+◌, ◌<◌, List, [], ◌∷◌, ◌++◌, length, set, take, get_or, replicate}
+use Rattle.std.proofs.Common.{◌≡◌, ◌≢◌, ⊎_elim, ℕ, zero, suc, ◌+◌, ◌<◌, List, [], ◌∷◌, ◌++◌, length, set, take, get_or}
+use Rattle.std.proofs.Common.{replicate}
 use Rattle.std.proofs.Common.{Some, refl, sym, ap, ◌∙◌, subst, arith, length-set}
 use Rattle.std.proofs.lemmas.List.{length-replicate}
 use Rattle.std.specs.Prelude.{slice_get, All}
@@ -42,20 +43,25 @@ module _ (answer : ℕ → Answer) (jobs by : ℕ) where
     skipped = λ n lt _. get_all jobs n (Skipped by) lt;
   }
 
-  pub one_ran : (rows : List Row) (fates : List Fate) (r : Row) → IsRow answer jobs r → AreFates answer jobs rows by fates → AreFates answer jobs (rows ++ r ∷ []) by (set fates r.job (Ran r.totals))
+  pub one_ran : (rows : List Row) (fates : List Fate) (r : Row) → IsRow answer jobs r
+      → AreFates answer jobs rows by fates → AreFates answer jobs (rows ++ r ∷ []) by (set fates r.job (Ran r.totals))
   one_ran rows fates r is a =
       let jobs_are = jobs_of-append rows (r ∷ []) in
-      let here : HasRun answer (set fates r.job (Ran r.totals)) r.job = get_here fates r.job (Ran r.totals) (omega (arith, is.0, a.count)) ∙ ap (λ t. Some (Ran t)) is.1 in
+      let here : HasRun answer (set fates r.job (Ran r.totals)) r.job =
+      get_here fates r.job (Ran r.totals) (omega (arith, is.0, a.count)) ∙ ap (λ t. Some (Ran t)) is.1 in
       record {
         count = length-set fates r.job (Ran r.totals) ∙ a.count;
         ran = λ n h. dite (ℕ_discrete n r.job)
             (λ (e : n ≡ r.job). subst (HasRun answer (set fates r.job (Ran r.totals))) (sym e) here)
             (λ (d : n ≢ r.job). get_else fates r.job n (Ran r.totals) d
-            ∙ a.ran n (⊎_elim (λ l. l) (λ x. absurd (d (one_is n r.job (omega (arith, x))))) (in_either n (jobs_of rows) (r.job ∷ []) (subst (IsAmong n) jobs_are h))));
+            ∙ a.ran n (⊎_elim (λ l. l) (λ x. absurd (d (one_is n r.job (omega (arith, x)))))
+            (in_either n (jobs_of rows) (r.job ∷ []) (subst (IsAmong n) jobs_are h))));
         skipped = λ n lt none.
             let z = ap (times n) jobs_are in
             let s = weigh-append (one_at n) (jobs_of rows) (r.job ∷ []) in
-            get_else fates r.job n (Ran r.totals) (λ e. absurd (let o : one_at n r.job ≡ 1 = ap (λ k. one_at n k) (sym e) ∙ one_here n in omega (arith, none, z, s, o)))
+            get_else fates r.job n (Ran r.totals) (λ e. absurd
+            (let o : one_at n r.job ≡ 1 = ap (λ k. one_at n k) (sym e) ∙ one_here n in
+            omega (arith, none, z, s, o)))
             ∙ a.skipped n lt (omega (arith, none, z, s));
       }
 
@@ -65,7 +71,8 @@ take_suc (x ∷ xs) zero d h = refl
 take_suc (x ∷ xs) (suc i) d h = ap (λ l. x ∷ l) (take_suc xs i d (omega arith))
 
 pub take_more : (xs : List Row) (i : ℕ) (d : Row) → i < length xs → take (i + 1) xs ≡ take i xs ++ get_or xs i d ∷ []
-take_more xs i d h = let e : suc i ≡ i + 1 = omega arith in subst (λ k. take k xs ≡ take i xs ++ get_or xs i d ∷ []) e (take_suc xs i d h)
+take_more xs i d h = let e : suc i ≡ i + 1 = omega arith in
+    subst (λ k. take k xs ≡ take i xs ++ get_or xs i d ∷ []) e (take_suc xs i d h)
 
 pub all_rows : (P : Row → Type 0) (rows : List Row) → AllByRecursion P rows → All P rows
 all_rows P [] h k d lt = absurd (omega (arith, lt))

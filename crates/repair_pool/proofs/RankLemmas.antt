@@ -5,11 +5,13 @@ use Rattle.khe_base.specs.declared.sums.Totals.{Totals}
 use Rattle.repair_pool.specs.Ranks.{is_before, CostsNothing, is_free}
 
 -- what does not come before a does not come before what comes before a
-pub before_lower : (x a b : Totals) (n i j : ℕ) → is_before x n a i ≡ false → is_before b j a i ≡ true → is_before x n b j ≡ false
+pub before_lower : (x a b : Totals) (n i j : ℕ) → is_before x n a i ≡ false → is_before b j a i ≡ true
+    → is_before x n b j ≡ false
 before_lower x a b n i j h k = grind (arith, nat_tests, h, k)
 
 -- what does not come before b does not come before a, before which b does not come
-pub before_through : (x a b : Totals) (n i j : ℕ) → is_before x n b j ≡ false → is_before b j a i ≡ false → is_before x n a i ≡ false
+pub before_through : (x a b : Totals) (n i j : ℕ) → is_before x n b j ≡ false → is_before b j a i ≡ false
+    → is_before x n a i ≡ false
 before_through x a b n i j h k = grind (arith, nat_tests, h, k)
 
 pub before_self : (a : Totals) (i : ℕ) → is_before a i a i ≡ false

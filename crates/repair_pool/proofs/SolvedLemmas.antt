@@ -22,7 +22,8 @@ use Rattle.repair_pool.specs.declared.answers.Solved.{Solved}
 use Rattle.repair_pool.proofs.RankLemmas.{before_through, before_neither}
 use Rattle.repair_pool.proofs.WorkLemmas.{in_either}
 
-row_below : (answer : ℕ → Answer) (jobs n : ℕ) (rows : List Row) → AllByRecursion (IsRow answer jobs) rows → IsAmong n (jobs_of rows) → n < jobs
+row_below : (answer : ℕ → Answer) (jobs n : ℕ) (rows : List Row) → AllByRecursion (IsRow answer jobs) rows
+    → IsAmong n (jobs_of rows) → n < jobs
 row_below answer jobs n [] h is = absurd (omega (arith, is))
 row_below answer jobs n (r ∷ rows) h is = ⊎_elim
     (λ l. let same = one_is n r.job (omega (arith, l)) in omega (arith, same, h.0.0))
@@ -44,7 +45,8 @@ pub record IsClosed (v : BoardView) (next : ℕ) (found : Option ℕ) : Type 0 w
   pub looks : (n : ℕ) → IsAmong n v.looks → IsAmong n v.offers
   pub least : MatchOption found (v.offers ≡ []) (λ m. IsAmong m v.offers × ((n : ℕ) → IsAmong n v.offers → m ≤ n))
 
-module _ (answer : ℕ → Answer) (jobs left : ℕ) (v : BoardView) (rows : List Row) (best : Option Best) (next : ℕ) (least : Option ℕ) (ended : HasEnded answer jobs left v rows best) (closed : IsClosed v next least) where
+module _ (answer : ℕ → Answer) (jobs left : ℕ) (v : BoardView) (rows : List Row) (best : Option Best) (next : ℕ)
+    (least : Option ℕ) (ended : HasEnded answer jobs left v rows best) (closed : IsClosed v next least) where
   done_all : (n : ℕ) → n < jobs → IsDone v.looks (jobs_of rows) n
   done_all n lt =
       let p = ended.past in
@@ -53,13 +55,16 @@ module _ (answer : ℕ → Answer) (jobs left : ℕ) (v : BoardView) (rows : Lis
 
   pub some_best : 0 < jobs → best ≡ None → ⊥
   some_best some is = ⊎_elim
-      (λ l. let none : jobs_of rows ≡ [] = subst (IsBest answer (jobs_of rows)) is ended.is.worked.best_is in let z = ap (times 0) none in omega (arith, l, z))
+      (λ l. let none : jobs_of rows ≡ [] = subst (IsBest answer (jobs_of rows)) is ended.is.worked.best_is in let z =
+      ap (times 0) none in omega (arith, l, z))
       (λ r. omega (arith, r.2))
       (done_all 0 some)
 
 -- what all jobs come to
-pub finished : (answer : ℕ → Answer) (jobs left : ℕ) (v : BoardView) (rows : List Row) (best : Best) (fates : List Fate) (next : ℕ) (least : Option ℕ)
-    → HasEnded answer jobs left v rows (Some best) → IsClosed v next least → AreFates answer jobs rows (unwrap_or least 0) fates
+pub finished : (answer : ℕ → Answer) (jobs left : ℕ) (v : BoardView) (rows : List Row) (best : Best) (fates : List Fate)
+    (next : ℕ) (least : Option ℕ)
+    → HasEnded answer jobs left v rows (Some best) → IsClosed v next least
+    → AreFates answer jobs rows (unwrap_or least 0) fates
     → IsSolved answer jobs (record { job = best.job; totals = best.totals; plain = best.plain; fates = fates })
 finished answer jobs left v rows best fates next None ended closed are = record {
   count = are.count;
@@ -72,7 +77,8 @@ finished answer jobs left v rows best fates next None ended closed are = record 
 }
   where
     ran : (n : ℕ) → n < jobs → IsAmong n (jobs_of rows)
-    ran n lt = ⊎_elim (λ l. l) (λ r. absurd (let o = closed.looks r.0 r.1 in let z = ap (times r.0) closed.least in omega (arith, o, z)))
+    ran n lt = ⊎_elim (λ l. l) (λ r. absurd (let o = closed.looks r.0 r.1 in let z = ap (times r.0) closed.least in
+        omega (arith, o, z)))
         (done_all answer jobs left v rows (Some best) next None ended closed n lt)
 finished answer jobs left v rows best fates next (Some m) ended closed are = record {
   count = are.count;
@@ -91,7 +97,8 @@ finished answer jobs left v rows best fates next (Some m) ended closed are = rec
     m_is = ended.is.worked.offers_are m closed.least.0
 
     after_m : (n : ℕ) → n < jobs → ¬ (0 < times n (jobs_of rows)) → m < n
-    after_m n lt not = ⊎_elim (λ l. absurd (not l)) (λ r. omega (arith, closed.least.1 r.0 (closed.looks r.0 r.1), r.2)) (done n lt)
+    after_m n lt not = ⊎_elim (λ l. absurd (not l)) (λ r. omega (arith, closed.least.1 r.0 (closed.looks r.0 r.1), r.2))
+        (done n lt)
 
     none_before : (k : ℕ) → k < m → CostsNothing (answer k).totals → ⊥
     none_before k lt z = ⊎_elim
@@ -110,15 +117,24 @@ finished answer jobs left v rows best fates next (Some m) ended closed are = rec
       least = none_before;
     })
 
-    lowest : (n : ℕ) → n < jobs → Dec (0 < times n (jobs_of rows)) → is_before (answer n).totals n best.totals best.job ≡ false
+    lowest : (n : ℕ) → n < jobs → Dec (0 < times n (jobs_of rows))
+        → is_before (answer n).totals n best.totals best.job ≡ false
     lowest n lt (yes is) = ended.is.worked.best_is.3 n is
     lowest n lt (no not) = before_through (answer n).totals best.totals (answer m).totals n best.job m
-        (zero_first (answer n).totals (answer m).totals n m m_is.1 (after_m n lt not)) (ended.is.worked.best_is.3 m m_is.0)
+        (zero_first (answer n).totals (answer m).totals n m m_is.1 (after_m n lt not))
+        (ended.is.worked.best_is.3 m m_is.0)
 
 -- the job, its totals and its result are the same, however the jobs were shared
-pub same_solved : (answer : ℕ → Answer) (jobs : ℕ) (s t : Solved) → IsSolved answer jobs s → IsSolved answer jobs t → (s.job ≡ t.job) × (s.totals ≡ t.totals) × (s.plain ≡ t.plain)
+pub same_solved : (answer : ℕ → Answer) (jobs : ℕ) (s t : Solved) → IsSolved answer jobs s → IsSolved answer jobs t
+    → (s.job ≡ t.job) × (s.totals ≡ t.totals) × (s.plain ≡ t.plain)
 same_solved answer jobs s t x y =
-    let a : is_before t.totals t.job s.totals s.job ≡ false = subst (λ (u : Totals). is_before u t.job s.totals s.job ≡ false) (sym y.totals) (x.least t.job y.within) in
-    let b : is_before s.totals s.job t.totals t.job ≡ false = subst (λ (u : Totals). is_before u s.job t.totals t.job ≡ false) (sym x.totals) (y.least s.job x.within) in
-    let job : s.job ≡ t.job = before_neither s.totals t.totals s.job t.job b a in
-    (job, x.totals ∙ ap (λ n. (answer n).totals) job ∙ sym y.totals, x.plain ∙ ap (λ n. (answer n).plain) job ∙ sym y.plain)
+    let a : is_before t.totals t.job s.totals s.job ≡ false =
+    subst (λ (u : Totals). is_before u t.job s.totals s.job ≡ false) (sym y.totals) (x.least t.job y.within) in
+    let b : is_before s.totals s.job t.totals t.job ≡ false =
+    subst (λ (u : Totals). is_before u s.job t.totals t.job ≡ false) (sym x.totals) (y.least s.job x.within) in
+    let job : s.job ≡ t.job = before_neither s.totals t.totals s.job t.job b a in (
+      job,
+      x.totals ∙ ap (λ n. (answer n).totals) job ∙ sym y.totals,
+      x.plain ∙ ap (λ n. (answer n).plain) job
+          ∙ sym y.plain,
+    )

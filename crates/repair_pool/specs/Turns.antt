@@ -1,5 +1,6 @@
 -- A worker's seat while it takes one number after another.
-use Rattle.std.specs.Prelude.{ℕ, ◌≡◌, ◌+◌, ◌<◌, ◌≤◌, Bool, true, false, Option, List, [], ◌∷◌, ◌++◌, if◌then◌else◌, length}
+use Rattle.std.specs.Prelude.{ℕ, ◌≡◌, ◌+◌, ◌<◌, ◌≤◌, Bool, true, false, Option, List, [], ◌∷◌, ◌++◌, if◌then◌else◌}
+use Rattle.std.specs.Prelude.{length}
 use Rattle.solve_board.specs.Counts.{IsAmong}
 use Rattle.solve_board.specs.declared.views.BoardView.{BoardView}
 use Rattle.khe_base.specs.declared.sums.Totals.{Totals}
@@ -10,7 +11,8 @@ use Rattle.repair_pool.specs.declared.answers.Best.{Best}
 use Rattle.repair_pool.specs.declared.answers.Row.{Row}
 
 -- what was done of the jobs is what the seat knows
-pub record IsViewWorked (answer : ℕ → Answer) (jobs : ℕ) (v : BoardView) (rows : List Row) (best : Option Best) : Type 0 where
+pub record IsViewWorked (answer : ℕ → Answer) (jobs : ℕ) (v : BoardView) (rows : List Row) (best : Option Best) : Type
+    0 where
   pub jobs_are : v.jobs ≡ jobs
   pub weight : 0 < v.weight
   pub worked : IsWorked answer jobs v.claims v.offers v.looks rows best
@@ -20,13 +22,15 @@ abbrev pub budget : BoardView → ℕ
 budget v = v.left + v.weight
 
 -- it is at work: it has claimed jobs alone
-pub record IsAtWork (answer : ℕ → Answer) (jobs left : ℕ) (v : BoardView) (rows : List Row) (best : Option Best) : Type 0 where
+pub record IsAtWork (answer : ℕ → Answer) (jobs left : ℕ) (v : BoardView) (rows : List Row) (best : Option Best) : Type
+    0 where
   pub is : IsViewWorked answer jobs v rows best
   pub budgeted : budget v ≡ left
   pub below : (n : ℕ) → IsAmong n v.claims → n < jobs
 
 -- it has ended: it has claimed a number that is no job
-pub record HasEnded (answer : ℕ → Answer) (jobs left : ℕ) (v : BoardView) (rows : List Row) (best : Option Best) : Type 0 where
+pub record HasEnded (answer : ℕ → Answer) (jobs left : ℕ) (v : BoardView) (rows : List Row) (best : Option Best) : Type
+    0 where
   pub is : IsViewWorked answer jobs v rows best
   pub budgeted : budget v ≡ left
   pub past : (n : ℕ) × IsAmong n v.claims × (jobs ≤ n)

@@ -25,7 +25,8 @@ abbrev pub IsDone : List ℕ → List ℕ → ℕ → Type 0
 IsDone looks ran n = IsAmong n ran ⊎ ((m : ℕ) × IsAmong m looks × (m < n))
 
 -- each job that was claimed is done, and those that ran and cost nothing are those that were offered
-pub record IsWorked (answer : ℕ → Answer) (jobs : ℕ) (claims offers looks : List ℕ) (rows : List Row) (best : Option Best) : Type 0 where
+pub record IsWorked (answer : ℕ → Answer) (jobs : ℕ) (claims offers looks : List ℕ) (rows : List Row)
+    (best : Option Best) : Type 0 where
   pub done : (n : ℕ) → IsAmong n claims → n < jobs → IsDone looks (jobs_of rows) n
   pub rows_are : AllByRecursion (IsRow answer jobs) rows
   pub zeros : (n : ℕ) → IsAmong n (jobs_of rows) → CostsNothing (answer n).totals → IsAmong n offers

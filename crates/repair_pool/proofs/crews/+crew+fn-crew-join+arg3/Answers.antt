@@ -15,7 +15,13 @@ returns-clause-ended g t c =
     let mine = c.in_ok-mine.mine in
     let theirs = c.in_ok-theirs.theirs in
     let all = c.in_ok-all.all in
-    let h = ok_is c.join-theirs.result.1 mine (λ (r : Found). HasEnded answer jobs (budget w) r.seat.me.0 r.rows.items r.best) c.join-theirs.ensures.second.1 c.in_ok-mine.was in
-    let k = ok_is c.join-theirs.result.0 theirs (λ (r : Found). HasEnded answer jobs (budget u) r.seat.me.0 r.rows.items r.best) c.join-theirs.ensures.first.1 c.in_ok-theirs.was in
-    subst (λ (n : ℕ). HasEnded answer jobs n all.seat.me.0 all.rows.items all.best) (split_budget v w u c.split-other.ensures.old c.split-other.ensures.new (omega (arith, c.requires.left, c.if-workers-le1.false)))
-    (both_ended answer jobs (budget w) (budget u) mine.seat.me.0 theirs.seat.me.0 all.seat.me.0 mine.rows.items theirs.rows.items all.rows.items mine.best theirs.best all.best h k c.in_ok-all.ensures.view c.in_ok-all.ensures.rows c.in_ok-all.ensures.best)
+    let h = ok_is c.join-theirs.result.1 mine (λ (r : Found). HasEnded answer jobs (budget w) r.seat.me.0 r.rows.items
+    r.best) c.join-theirs.ensures.second.1 c.in_ok-mine.was in
+    let k = ok_is c.join-theirs.result.0 theirs (λ (r : Found). HasEnded answer jobs (budget u) r.seat.me.0 r.rows.items
+    r.best) c.join-theirs.ensures.first.1 c.in_ok-theirs.was in
+    subst (λ (n : ℕ). HasEnded answer jobs n all.seat.me.0 all.rows.items all.best)
+    (split_budget v w u c.split-other.ensures.old c.split-other.ensures.new
+    (omega (arith, c.requires.left, c.if-workers-le1.false)))
+    (both_ended answer jobs (budget w) (budget u) mine.seat.me.0 theirs.seat.me.0 all.seat.me.0 mine.rows.items
+    theirs.rows.items all.rows.items mine.best theirs.best all.best h k c.in_ok-all.ensures.view
+    c.in_ok-all.ensures.rows c.in_ok-all.ensures.best)

@@ -15,6 +15,8 @@ loop-row-preserved c =
     let fates = c.loop-row.fates.items in
     record {
       counted = length-set fates r.job (Ran r.totals) ∙ c.loop-row.invariant.counted;
-      so_far = λ answer h. subst (λ front. AreFates answer c.args.jobs front c.args.by (slice_set fates r.job (Ran r.totals))) (sym (take_more rows i none c.loop-row-test.true))
-          (one_ran answer c.args.jobs c.args.by (take i rows) fates r (h i none c.loop-row-test.true) (c.loop-row.invariant.so_far answer h));
+      so_far = λ answer h. subst (λ front. AreFates answer c.args.jobs front c.args.by
+          (slice_set fates r.job (Ran r.totals))) (sym (take_more rows i none c.loop-row-test.true))
+          (one_ran answer c.args.jobs c.args.by (take i rows) fates r (h i none c.loop-row-test.true)
+          (c.loop-row.invariant.so_far answer h));
     }

@@ -8,5 +8,6 @@ use Rattle.repair_pool.proofs.fates.fates_of.Given as goal
 abbrev pub invariant-loop-row : goal.invariant-loop-row
 invariant-loop-row l = record {
   counted : length l.fates.items ≡ l.jobs;
-  so_far : (answer : ℕ → Answer) → All (IsRow answer l.jobs) l.rows → AreFates answer l.jobs (take l.row-index l.rows) l.by l.fates.items;
+  so_far : (answer : ℕ → Answer) → All (IsRow answer l.jobs) l.rows
+      → AreFates answer l.jobs (take l.row-index l.rows) l.by l.fates.items;
 }

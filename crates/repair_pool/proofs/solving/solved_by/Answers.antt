@@ -18,9 +18,12 @@ returns g c =
     let closed = c.close-least in
     let fates = c.in_ok-fates.fates in
     let left = budget c.in_ok-board.seat.me.0 in
-    let ended = subst (λ (b : Option Best). HasEnded answer jobs left v found.rows.items b) c.in-Some.is c.in_ok-found.ensures.ended in
+    let ended = subst (λ (b : Option Best). HasEnded answer jobs left v found.rows.items b) c.in-Some.is
+    c.in_ok-found.ensures.ended in
     let rows = c.as_slice.ensures.value in
-    let are = c.in_ok-fates.ensures answer (subst (λ (rs : List Row). All (IsRow answer jobs) rs) (sym rows) (all_rows (IsRow answer jobs) found.rows.items ended.is.worked.rows_are)) in
+    let are = c.in_ok-fates.ensures answer (subst (λ (rs : List Row). All (IsRow answer jobs) rs) (sym rows)
+    (all_rows (IsRow answer jobs) found.rows.items ended.is.worked.rows_are)) in
     finished answer jobs left v found.rows.items c.in-Some.best fates closed.result.next closed.result.least ended
     (record { numbers = closed.ensures.numbers; looks = closed.ensures.looks; least = closed.ensures.least })
-    (subst (λ (n : ℕ). AreFates answer jobs found.rows.items n fates) c.unwrap_or.ensures (subst (λ (rs : List Row). AreFates answer jobs rs c.unwrap_or.result fates) rows are))
+    (subst (λ (n : ℕ). AreFates answer jobs found.rows.items n fates) c.unwrap_or.ensures
+    (subst (λ (rs : List Row). AreFates answer jobs rs c.unwrap_or.result fates) rows are))

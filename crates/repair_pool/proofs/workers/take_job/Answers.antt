@@ -8,24 +8,33 @@ use Rattle.repair_pool.proofs.workers.take_job.Goals as goal
 pub returns-then-job-jobs-clause-taken : goal.returns-then-job-jobs-clause-taken
 returns-then-job-jobs-clause-taken g c =
     let found = c.args.found in
-    took_past (g.W.Work.answer c.args.work.now) c.args.jobs found.seat.me.0 found.rows.items found.best c.claim-job.result c.requires.work c.claim-job.new.seat.me.0 c.claim-job.ensures.view c.if-job-jobs.true
+    took_past (g.W.Work.answer c.args.work.now) c.args.jobs found.seat.me.0 found.rows.items found.best
+    c.claim-job.result c.requires.work c.claim-job.new.seat.me.0 c.claim-job.ensures.view c.if-job-jobs.true
 
 pub returns-then-is_needless-clause-taken : goal.returns-then-is_needless-clause-taken
 returns-then-is_needless-clause-taken g c =
     let found = c.args.found in
-    took_skipped (g.W.Work.answer c.args.work.now) c.args.jobs found.seat.me.0 found.rows.items found.best c.claim-job.result c.requires.work c.claim-job.new.seat.me.0 c.claim-job.ensures.view
-    c.is_needless.new.seat.me.0 c.is_needless.ensures.view (c.is_needless.ensures.lower c.if-is_needless.true) c.if-job-jobs.false c.claim-job.ensures.counted
+    took_skipped (g.W.Work.answer c.args.work.now) c.args.jobs found.seat.me.0 found.rows.items found.best
+    c.claim-job.result c.requires.work c.claim-job.new.seat.me.0 c.claim-job.ensures.view
+    c.is_needless.new.seat.me.0 c.is_needless.ensures.view (c.is_needless.ensures.lower c.if-is_needless.true)
+    c.if-job-jobs.false c.claim-job.ensures.counted
 
 pub offer_free-requires-clause-job : goal.offer_free-requires-clause-job
 offer_free-requires-clause-job g c =
-    claimed_there c.args.jobs c.args.found.seat.me.0 c.claim-job.new.seat.me.0 c.is_needless.new.seat.me.0 c.claim-job.result c.requires.work.is.jobs_are c.claim-job.ensures.view c.is_needless.ensures.view c.if-job-jobs.false
+    claimed_there c.args.jobs c.args.found.seat.me.0 c.claim-job.new.seat.me.0 c.is_needless.new.seat.me.0
+    c.claim-job.result c.requires.work.is.jobs_are c.claim-job.ensures.view c.is_needless.ensures.view
+    c.if-job-jobs.false
 
 pub returns-clause-taken : goal.returns-clause-taken
 returns-clause-taken g c =
     let found = c.args.found in
     let answer = g.W.Work.answer c.args.work.now in
     let x = c.offer_free.new.seat.me.0 in
-    let took = took_run answer c.args.jobs found.seat.me.0 found.rows.items found.best c.claim-job.result c.requires.work c.claim-job.new.seat.me.0 c.claim-job.ensures.view
-    c.is_needless.new.seat.me.0 x c.in_ok-answer.answer c.is_needless.ensures.view c.in_ok-answer.ensures.answer c.offer_free.ensures.view c.if-job-jobs.false c.claim-job.ensures.counted in
+    let took = took_run answer c.args.jobs found.seat.me.0 found.rows.items found.best c.claim-job.result
+    c.requires.work c.claim-job.new.seat.me.0 c.claim-job.ensures.view
+    c.is_needless.new.seat.me.0 x c.in_ok-answer.answer c.is_needless.ensures.view c.in_ok-answer.ensures.answer
+    c.offer_free.ensures.view c.if-job-jobs.false c.claim-job.ensures.counted in
     subst (λ b. HasTaken answer c.args.jobs found.seat.me.0 x c.push.new.self.items b true) (sym c.lesser-best.ensures)
-    (subst (λ rows. HasTaken answer c.args.jobs found.seat.me.0 x rows (lesser found.best (Some (best_of c.claim-job.result c.in_ok-answer.answer))) true) (sym c.in_ok-push.ensures.items) took)
+    (subst (λ rows. HasTaken answer c.args.jobs found.seat.me.0 x rows
+    (lesser found.best (Some (best_of c.claim-job.result c.in_ok-answer.answer))) true)
+    (sym c.in_ok-push.ensures.items) took)

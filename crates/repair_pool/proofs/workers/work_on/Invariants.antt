@@ -8,7 +8,8 @@ abbrev pub invariant-jobs : goal.invariant-jobs
 invariant-jobs g l = record {
   desk : g.W.Work.IsReady l.work l.desk;
   seat : IsSeatOf l.board l.found.seat;
-  work : IsAtWork (g.W.Work.answer l.work) l.jobs (budget (view l.fn.seat)) (view l.found.seat) l.found.rows.items l.found.best;
+  work : IsAtWork (g.W.Work.answer l.work) l.jobs (budget (view l.fn.seat)) (view l.found.seat) l.found.rows.items
+      l.found.best;
 }
 
 abbrev pub decreases-jobs : goal.decreases-jobs
