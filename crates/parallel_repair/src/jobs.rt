@@ -39,7 +39,8 @@ pub(crate) fn open_marked<'i, F: Family + Drop>(
 
 /// The present timetable with its totals.
 fn answer_of<F: Family>(alloc: Global, engine: &Engine<'_, F>) -> Result<Answer, NoMemory>
-    ensures { IfOk result (λ a. a ≡ answer_at engine.now.parts engine.now.state) }
+    ensures answer { IfOk result (λ a. a ≡ answer_at engine.now.parts engine.now.state) }
+    ensures valid { IfOk result (λ a. IsValid engine.now.parts a.plain) }
 {
     let totals = engine.totals();
     let plain = engine.plain(alloc)?;
@@ -73,6 +74,7 @@ pub(crate) fn run_job<F: Family, L: Ledger>(
     requires shares { blank.parts ≡ L.parts }
     requires some { 0 < blank.parts }
     ensures answer { IfOk result (λ a. a ≡ job_from engine.old.parts engine.old.state depth budget job) }
+    ensures valid { IfOk result (λ a. IsValid engine.old.parts a.plain) }
     ensures parts { engine.new.parts ≡ engine.old.parts }
     ensures marked { OnOk result (IsMarkedAt engine.old.state engine.new) }
 {

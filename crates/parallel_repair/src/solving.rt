@@ -43,7 +43,8 @@ pub fn solve<F: Family + Drop + Send + Sync, R: Threads + Sync, G: Gate>(
     requires budget { 1 ≤ budget }
     requires jobs { (1 ≤ jobs) × (jobs ≤ 10000) }
     requires workers { (1 ≤ workers) × (workers ≤ 64) }
-    ensures { IfOk result (λ s. IsSolved (job_answer inst.now start.now depth budget) jobs s) }
+    ensures solved { IfOk result (λ s. IsSolved (job_answer inst.now start.now depth budget) jobs s) }
+    ensures valid { IfOk result (λ s. IsValid inst.now s.plain) }
 {
     let work = Repairs::<F> {
         inst,

@@ -30,6 +30,8 @@ impl<'a, F: Family + Drop + Send + Sync> Work for Repairs<'a, F> {
 
     ghost IsSound = { λ w. F.IsWellJoined × ServesAll F.serves_kind × IsRepair w.inst.now w.start.now w.depth w.budget };
 
+    ghost IsFit = { λ w plain. IsValid w.inst.now plain };
+
     ghost IsReady = { λ w e. IsRepair w.inst.now w.start.now w.depth w.budget × IsDesk w.inst.now w.start.now e };
 
     fn open(&self, alloc: Global) -> Result<Engine<'a, F>, NoMemory> {

@@ -1,8 +1,10 @@
 -- The order of results is total.
-use Rattle.std.proofs.Common.{◌≡◌, ℕ, true, false, arith}
+use Rattle.std.proofs.Common.{◌≡◌, ℕ, Bool, true, false, Option, Some, None, arith}
+use Rattle.std.specs.Prelude.{if◌then◌else◌, IfSome}
 use Rattle.std.proofs.lemmas.Bool.Decides.{nat_tests}
 use Rattle.khe_base.specs.declared.sums.Totals.{Totals}
-use Rattle.repair_pool.specs.Ranks.{is_before, CostsNothing, is_free}
+use Rattle.repair_pool.specs.Ranks.{is_before, CostsNothing, is_free, lesser}
+use Rattle.repair_pool.specs.declared.answers.Best.{Best}
 
 -- what does not come before a does not come before what comes before a
 pub before_lower : (x a b : Totals) (n i j : ℕ) → is_before x n a i ≡ false → is_before b j a i ≡ true
@@ -22,6 +24,16 @@ free_zero t h = grind (arith, nat_tests, h)
 
 pub zero_free : (t : Totals) → is_free t ≡ false → CostsNothing t → ⊥
 zero_free t h z = grind (arith, nat_tests, h, z.0, z.1)
+
+-- what is true of two results is true of the lesser
+pub lesser_has : (P : Best → Type 0) (a b : Option Best) → IfSome a P → IfSome b P → IfSome (lesser a b) P
+lesser_has P None b h k = k
+lesser_has P (Some a) None h k = h
+lesser_has P (Some a) (Some b) h k = chosen (is_before b.totals b.job a.totals a.job)
+  where
+    chosen : (c : Bool) → IfSome (if c then Some b else Some a) P
+    chosen true = k
+    chosen false = h
 
 -- of two results neither of which comes before the other the jobs are one
 pub before_neither : (a b : Totals) (i j : ℕ) → is_before a i b j ≡ false → is_before b j a i ≡ false → i ≡ j

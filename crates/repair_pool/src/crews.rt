@@ -1,4 +1,4 @@
-ghost use Rattle.std.specs.Prelude.{◌≡◌, ◌≤◌, ◌<◌, ◌++◌, [], None, IfOk};
+ghost use Rattle.std.specs.Prelude.{◌≡◌, ◌≤◌, ◌<◌, ◌++◌, [], None, IfOk, IfSome};
 ghost use Rattle.std.specs.Thread.{IsSync};
 ghost use Rattle.solve_board.specs.Seats.{view, IsSeatOf};
 ghost use Rattle.solve_board.specs.Views.{joined_view};
@@ -60,6 +60,7 @@ pub(crate) fn crew<R: Threads + Sync, W: Work, G: Gate>(
     requires left { workers ≤ (view seat).left }
     ensures seat { IfOk result (λ r. IsSeatOf board.now r.seat) }
     ensures ended { IfOk result (λ r. HasEnded (W.answer work.now) jobs (budget (view seat)) (view r.seat) r.rows.items r.best) }
+    ensures fit { IfOk result (λ r. IfSome r.best (λ b. W.IsFit work.now b.plain)) }
 {
     if workers <= 1 {
         return work_on(alloc, board, work, gate, jobs, seat);
@@ -72,11 +73,13 @@ pub(crate) fn crew<R: Threads + Sync, W: Work, G: Gate>(
             requires { IsSync W.row × IsSync G.row × W.IsSound work.now × IsSeatOf board.now other × IsAtWork (W.answer work.now) jobs (budget (view other)) (view other) [] None }
             ensures seat { IfOk result (λ r. IsSeatOf board.entry.now r.seat) }
             ensures ended { IfOk result (λ r. HasEnded (W.answer work.entry.now) jobs (budget (view other)) (view r.seat) r.rows.items r.best) }
+            ensures fit { IfOk result (λ r. IfSome r.best (λ b. W.IsFit work.entry.now b.plain)) }
         { work_on(alloc, board, work, gate, jobs, other) },
         move || -> Result<Found, NoMemory>
             requires { IsSync R.row × IsSync W.row × IsSync G.row × W.IsSound work.now × IsSeatOf board.now seat × IsAtWork (W.answer work.now) jobs (budget (view seat)) (view seat) [] None × (fewer ≤ (view seat).left) }
             ensures seat { IfOk result (λ r. IsSeatOf board.entry.now r.seat) }
             ensures ended { IfOk result (λ r. HasEnded (W.answer work.entry.now) jobs (budget (view seat)) (view r.seat) r.rows.items r.best) }
+            ensures fit { IfOk result (λ r. IfSome r.best (λ b. W.IsFit work.entry.now b.plain)) }
         { crew(rt, alloc, board, work, gate, jobs, fewer, seat) },
     );
     let mine = mine?;

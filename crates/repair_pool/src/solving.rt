@@ -36,7 +36,8 @@ pub fn solved_by<R: Threads + Sync, W: Work, G: Gate>(
     requires sound { W.IsSound work.now }
     requires jobs { (1 ≤ jobs) × (jobs ≤ 10000) }
     requires workers { (1 ≤ workers) × (workers ≤ 64) }
-    ensures { IfOk result (λ s. IsSolved (W.answer work.now) jobs s) }
+    ensures solved { IfOk result (λ s. IsSolved (W.answer work.now) jobs s) }
+    ensures fit { IfOk result (λ s. W.IsFit work.now s.plain) }
 {
     let (board, seat) = Board::new(alloc, jobs)?;
     let found = crew(rt, alloc, &board, work, gate, jobs, workers, seat)?;

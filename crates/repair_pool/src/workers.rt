@@ -1,4 +1,4 @@
-ghost use Rattle.std.specs.Prelude.{◌≡◌, ◌<◌, [], None, IfOk, OnOk, true};
+ghost use Rattle.std.specs.Prelude.{◌≡◌, ◌<◌, [], None, IfOk, IfSome, OnOk, true};
 ghost use Rattle.solve_board.specs.Counts.{IsAmong};
 ghost use Rattle.solve_board.specs.Seats.{view, IsSeatOf};
 ghost use Rattle.repair_pool.specs.Turns.{IsAtWork, HasEnded, HasTaken, HasLooked, HasSeenLower, HasOffered, budget};
@@ -61,9 +61,11 @@ fn take_job<W: Work, G: Gate>(
     requires desk { W.IsReady work.now desk.old }
     requires seat { IsSeatOf board.now found.seat }
     requires work { IsAtWork (W.answer work.now) jobs (budget (view found.seat)) (view found.seat) found.rows.items found.best }
+    requires fit { IfSome found.best (λ b. W.IsFit work.now b.plain) }
     ensures desk { OnOk result (W.IsReady work.now desk.new) }
     ensures seat { IfOk result (λ r. IsSeatOf board.now r.0.seat) }
     ensures taken { IfOk result (λ r. HasTaken (W.answer work.now) jobs (view found.seat) (view r.0.seat) r.0.rows.items r.0.best r.1) }
+    ensures fit { IfOk result (λ r. IfSome r.0.best (λ b. W.IsFit work.now b.plain)) }
 {
     let Found {
         mut seat,
@@ -100,6 +102,7 @@ pub(crate) fn work_on<W: Work, G: Gate>(
     requires work { IsAtWork (W.answer work.now) jobs (budget (view seat)) (view seat) [] None }
     ensures seat { IfOk result (λ r. IsSeatOf board.now r.seat) }
     ensures ended { IfOk result (λ r. HasEnded (W.answer work.now) jobs (budget (view seat)) (view r.seat) r.rows.items r.best) }
+    ensures fit { IfOk result (λ r. IfSome r.best (λ b. W.IsFit work.now b.plain)) }
 {
     let mut desk = work.open(alloc)?;
     let mut found = Found {

@@ -6,6 +6,7 @@ use std::alloc::Global;
 /// a job comes to depends on its number alone, and not on who does it, when, or after which others.
 pub trait Work: Sync {
     ghost use Rattle.std.specs.Prelude.{ℕ, ◌≡◌, IfOk, OnOk};
+    ghost use Rattle.khe_instance.specs.declared.states.Plain.{Plain};
     ghost use Rattle.repair_pool.specs.declared.answers.Answer.{Answer};
 
     /// What a worker works at, from job to job.
@@ -16,6 +17,9 @@ pub trait Work: Sync {
 
     /// That the work can be done.
     ghost IsSound: { Self → Type 0 };
+
+    /// What is known of each timetable that a job comes to.
+    ghost IsFit: { Self → Plain → Type 0 };
 
     /// That a desk is one of this work, ready for a job.
     ghost IsReady: { Self → Self.Desk → Type 0 };
@@ -30,5 +34,6 @@ pub trait Work: Sync {
     fn run(&self, alloc: Global, desk: &mut Self::Desk, job: u64) -> Result<Answer, NoMemory>
         requires { IsReady self.now desk.old }
         ensures answer { IfOk result (λ a. a ≡ answer self.now job) }
+        ensures fit { IfOk result (λ a. IsFit self.now a.plain) }
         ensures ready { OnOk result (IsReady self.now desk.new) };
 }

@@ -1,8 +1,11 @@
 -- What the threads have come to, put together.
-use Rattle.std.proofs.Common.{ℕ, arith, subst}
+use Rattle.std.proofs.Common.{ℕ, Option, arith, subst, sym}
+use Rattle.std.specs.Prelude.{IfSome}
 use Rattle.repair_pool.specs.Turns.{HasEnded, budget}
 use Rattle.repair_pool.proofs.TurnLemmas.{both_ended, split_budget, ok_is}
 use Rattle.repair_pool.specs.declared.workers.Found.{Found}
+use Rattle.repair_pool.proofs.RankLemmas.{lesser_has}
+use Rattle.repair_pool.specs.declared.answers.Best.{Best}
 use Rattle.repair_pool.proofs.crews.+crew+fn-crew-join+arg3.Goals as goal
 
 pub returns-clause-ended : goal.returns-clause-ended
@@ -25,3 +28,13 @@ returns-clause-ended g t c =
     (both_ended answer jobs (budget w) (budget u) mine.seat.me.0 theirs.seat.me.0 all.seat.me.0 mine.rows.items
     theirs.rows.items all.rows.items mine.best theirs.best all.best h k c.in_ok-all.ensures.view
     c.in_ok-all.ensures.rows c.in_ok-all.ensures.best)
+
+pub returns-clause-fit : goal.returns-clause-fit
+returns-clause-fit g t c =
+    let fit : Best → Type 0 = λ (b : Best). g.W.Work.IsFit c.args.work.now b.plain in
+    let mine = c.in_ok-mine.mine in
+    let theirs = c.in_ok-theirs.theirs in
+    let has : Found → Type 0 = λ (r : Found). IfSome r.best fit in
+    subst (λ (b : Option Best). IfSome b fit) (sym c.in_ok-all.ensures.best)
+    (lesser_has fit mine.best theirs.best (ok_is c.join-theirs.result.1 mine has c.join-theirs.ensures.second.2
+    c.in_ok-mine.was) (ok_is c.join-theirs.result.0 theirs has c.join-theirs.ensures.first.2 c.in_ok-theirs.was))

@@ -1,5 +1,6 @@
 -- What the seat and its rows show once the board is closed.
 use Rattle.std.proofs.Common.{ℕ, Option, List, All, subst, sym}
+use Rattle.std.specs.Prelude.{IfSome}
 use Rattle.repair_pool.specs.Worked.{IsRow}
 use Rattle.repair_pool.specs.Turns.{HasEnded, budget}
 use Rattle.repair_pool.specs.Fates.{AreFates}
@@ -9,8 +10,8 @@ use Rattle.repair_pool.proofs.SolvedLemmas.{finished}
 use Rattle.repair_pool.proofs.FateLemmas.{all_rows}
 use Rattle.repair_pool.proofs.solving.solved_by.Goals as goal
 
-pub returns : goal.returns
-returns g c =
+pub returns-clause-solved : goal.returns-clause-solved
+returns-clause-solved g c =
     let answer = g.W.Work.answer c.args.work.now in
     let jobs = c.args.jobs in
     let found = c.in_ok-found.found in
@@ -27,3 +28,8 @@ returns g c =
     (record { numbers = closed.ensures.numbers; looks = closed.ensures.looks; least = closed.ensures.least })
     (subst (λ (n : ℕ). AreFates answer jobs found.rows.items n fates) c.unwrap_or.ensures
     (subst (λ (rs : List Row). AreFates answer jobs rs c.unwrap_or.result fates) rows are))
+
+pub returns-clause-fit : goal.returns-clause-fit
+returns-clause-fit g c =
+    subst (λ (b : Option Best). IfSome b (λ (x : Best). g.W.Work.IsFit c.args.work.now x.plain)) c.in-Some.is
+    c.in_ok-found.ensures.fit

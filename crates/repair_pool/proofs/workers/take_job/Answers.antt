@@ -1,8 +1,11 @@
 -- Each way to go on.
-use Rattle.std.proofs.Common.{Some, true, sym, subst}
+use Rattle.std.proofs.Common.{Option, Some, true, sym, subst}
+use Rattle.std.specs.Prelude.{IfSome}
 use Rattle.repair_pool.specs.Ranks.{lesser}
 use Rattle.repair_pool.specs.Turns.{HasTaken, best_of}
 use Rattle.repair_pool.proofs.TurnLemmas.{took_past, took_skipped, took_run, claimed_there}
+use Rattle.repair_pool.proofs.RankLemmas.{lesser_has}
+use Rattle.repair_pool.specs.declared.answers.Best.{Best}
 use Rattle.repair_pool.proofs.workers.take_job.Goals as goal
 
 pub returns-then-job-jobs-clause-taken : goal.returns-then-job-jobs-clause-taken
@@ -38,3 +41,10 @@ returns-clause-taken g c =
     (subst (λ rows. HasTaken answer c.args.jobs found.seat.me.0 x rows
     (lesser found.best (Some (best_of c.claim-job.result c.in_ok-answer.answer))) true)
     (sym c.in_ok-push.ensures.items) took)
+
+pub returns-clause-fit : goal.returns-clause-fit
+returns-clause-fit g c =
+    let fit : Best → Type 0 = λ (b : Best). g.W.Work.IsFit c.args.work.now b.plain in
+    let mine = Some (best_of c.claim-job.result c.in_ok-answer.answer) in
+    subst (λ (b : Option Best). IfSome b fit) (sym c.lesser-best.ensures)
+    (lesser_has fit c.args.found.best mine c.requires.fit c.in_ok-answer.ensures.fit)
