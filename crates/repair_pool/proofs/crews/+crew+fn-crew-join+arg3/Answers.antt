@@ -19,9 +19,9 @@ returns-clause-ended g t c =
     let theirs = c.in_ok-theirs.theirs in
     let all = c.in_ok-all.all in
     let h = ok_is c.join-theirs.result.1 mine (λ (r : Found). HasEnded answer jobs (budget w) r.seat.me.0 r.rows.items
-    r.best) c.join-theirs.ensures.second.1 c.in_ok-mine.was in
+    r.best) c.join-theirs.ensures.second.1.0 c.in_ok-mine.was in
     let k = ok_is c.join-theirs.result.0 theirs (λ (r : Found). HasEnded answer jobs (budget u) r.seat.me.0 r.rows.items
-    r.best) c.join-theirs.ensures.first.1 c.in_ok-theirs.was in
+    r.best) c.join-theirs.ensures.first.1.0 c.in_ok-theirs.was in
     subst (λ (n : ℕ). HasEnded answer jobs n all.seat.me.0 all.rows.items all.best)
     (split_budget v w u c.split-other.ensures.old c.split-other.ensures.new
     (omega (arith, c.requires.left, c.if-workers-le1.false)))
@@ -36,5 +36,5 @@ returns-clause-fit g t c =
     let theirs = c.in_ok-theirs.theirs in
     let has : Found → Type 0 = λ (r : Found). IfSome r.best fit in
     subst (λ (b : Option Best). IfSome b fit) (sym c.in_ok-all.ensures.best)
-    (lesser_has fit mine.best theirs.best (ok_is c.join-theirs.result.1 mine has c.join-theirs.ensures.second.2
-    c.in_ok-mine.was) (ok_is c.join-theirs.result.0 theirs has c.join-theirs.ensures.first.2 c.in_ok-theirs.was))
+    (lesser_has fit mine.best theirs.best (ok_is c.join-theirs.result.1 mine has c.join-theirs.ensures.second.1.1
+    c.in_ok-mine.was) (ok_is c.join-theirs.result.0 theirs has c.join-theirs.ensures.first.1.1 c.in_ok-theirs.was))
