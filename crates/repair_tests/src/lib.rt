@@ -15,10 +15,10 @@ mod gates;
 #[cfg(test)]
 mod repairs;
 #[cfg(test)]
+mod solves;
+#[cfg(test)]
 mod sweeps;
 #[cfg(test)]
 mod texts;
-#[cfg(test)]
-mod solves;
 #[cfg(test)]
 mod worked;
