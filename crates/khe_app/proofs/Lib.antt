@@ -12,3 +12,4 @@ pub mod RepairEnds
 pub mod ReportLemmas
 pub mod ScriptEnds
 pub mod StartLemmas
+pub mod TakenScripts

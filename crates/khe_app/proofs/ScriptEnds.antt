@@ -1,24 +1,19 @@
 -- What was written of a script.
-use Rattle.std.proofs.Common.{ℕ, ◌≡◌, ◌≤◌, inl, inr, Bool, if◌then◌else◌, Option, Some, None, IfSome, Result, Ok, Err}
-use Rattle.std.proofs.Common.{IfOk, OnOk, OnErr, List, [], length, map, sym, ap, subst, ◌∙◌, refl, encode_utf8_all}
-use Rattle.std.specs.Prelude.{IsErrOf, IsSomeAnd, ◌<◌}
+use Rattle.std.proofs.Common.{ℕ, ◌≡◌, inl, inr, Bool, if◌then◌else◌, Option, Result, Ok, Err, IfOk, OnOk, OnErr, List}
+use Rattle.std.proofs.Common.{[], map, ap, subst, ◌∙◌, refl, encode_utf8_all}
+use Rattle.std.specs.Prelude.{IsErrOf}
 use Rattle.khe_engine.specs.Openings.{IsStateOf}
 use Rattle.khe_engine.specs.States.{State}
 use Rattle.khe_engine.specs.Worlds.{Saved, World}
 use Rattle.khe_instance.specs.declared.parts.Parts.{Parts}
 use Rattle.khe_instance.specs.declared.states.Plain.{Plain}
 use Rattle.khe_io.specs.Faults.{Rose, Took, TookFront}
-use Rattle.khe_io.specs.Shelf.{StandsAbove, StandsUnder}
 use Rattle.script_run.specs.Plays.{begun, play_of}
 use Rattle.script_run.specs.Scripts.{is_script, script_text}
 use Rattle.script_run.specs.declared.writing.Cut.{Cut}
 use Rattle.script_run.specs.declared.writing.Cut.TheVariants.{WriteFault, NoMemory}
-use Rattle.khe_app.specs.Answers.{IsScriptOf}
-use Rattle.khe_app.specs.Ends.{Holdings, Written, status_after}
+use Rattle.khe_app.specs.Ends.{Written, status_after}
 use Rattle.khe_app.specs.Outcome.{IsRunOf}
-use Rattle.khe_app.specs.declared.program.Play.TheVariants as play
-use Rattle.khe_app.specs.declared.scripts.TheConstants.{SCRIPT_BYTES}
-use Rattle.khe_app.specs.declared.starting.Begun.{Begun}
 
 -- the text of a world without marks
 text_of : (w : World) (script : List ℕ) → w.saved ≡ []
@@ -70,19 +65,3 @@ run_written p plain w script r before after sink sink2 result parts is none read
     by_end p plain w.state script r before after sink sink2 result is read
     (subst (λ xs. OnOk r (Took before after (encode_utf8_all xs))) text whole)
     (subst (λ xs. OnErr r (TookFront before after (encode_utf8_all xs))) text front) fault same
-
--- what stands under a script's name
-pub script_taken : (h : Holdings) (name bytes : List ℕ) (b : Begun) → StandsUnder h name bytes
-    → length bytes ≤ SCRIPT_BYTES → IfSome h (λ under. IsScriptOf b (under name) (play.Run b bytes))
-script_taken None name bytes b stands small = tt
-script_taken (Some under) name bytes b stands small =
-    subst (λ o. IsScriptOf b o (play.Run b bytes)) (sym stands) (refl, refl, small)
-
-pub script_large : (h : Holdings) (name : List ℕ) (b : Begun) → StandsAbove h name SCRIPT_BYTES
-    → IfSome h (λ under. IsScriptOf b (under name) play.TooLarge)
-script_large None name b above = tt
-script_large (Some under) name b above = by (under name) above
-  where
-    by : (o : Option (List ℕ)) → IsSomeAnd o (λ bytes. SCRIPT_BYTES < length bytes) → IsScriptOf b o play.TooLarge
-    by None none = none
-    by (Some bytes) large = large

@@ -16,7 +16,7 @@ use Rattle.repair_run.specs.declared.mending.Mended.{Mended}
 
 lower : (p : Parts) (u s : State) → are_lower (totals_at p u) (totals_at p s) ≡ true
     → is_lower (totals p u) (totals p s) ≡ true
-unfolding are_lower, totals_at
+unfolding are_lower totals_at
 lower p u s h = h
 
 pub no_dearer : (p : Parts) (plain : Plain) (depth budget : ℕ) (m : Mended) → IsMended p plain depth budget m

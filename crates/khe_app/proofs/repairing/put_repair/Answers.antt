@@ -1,5 +1,6 @@
 -- The bytes are those of a text.
 use Rattle.std.proofs.Common.{inr, sym, subst}
+use Rattle.repair_run.specs.Repairs.{IsMended}
 use Rattle.khe_app.specs.Ends.{Written}
 use Rattle.khe_app.proofs.repairing.put_repair.Goals as goal
 use Rattle.repair_run.proofs.TextLaws.{repair_text}
@@ -13,8 +14,12 @@ returns-in-Ok-clause-written g c =
     (each_entry p m.plain c.facts.ensures c.in-Ok.ensures.valid.told) in
     inr (
       t.0,
-      record { mended = m; is = c.in-Ok.ensures.mended; bytes_are = t.1 },
+      record {
+        mended = m;
+        is = subst (λ b. IsMended p c.args.plain.now c.args.depth b m) c.from.ensures c.in-Ok.ensures.mended;
+        bytes_are = t.1;
+      },
       subst (λ bytes. Written (g.K.Sink.taken c.args.out.now) (g.K.Sink.taken c.put_mended.new.out)
           (g.K.Sink.faults c.args.out.now) (g.K.Sink.faults c.put_mended.new.out) bytes 0 c.put_mended.result.0)
-          (sym t.1) c.put_mended.ensures,
+          (sym t.1) c.put_mended.ensures.written,
     )
