@@ -9,7 +9,7 @@ fn is_space(byte: u8) -> bool
 }
 
 /// Where the first word begins, or `None` where there is none.
-fn word_start(bytes: &[u8]) -> Option<usize>
+pub(crate) fn word_start(bytes: &[u8]) -> Option<usize>
     ensures place { result ≡ position (λ byte. not (spec.is_space byte)) bytes.now }
     ensures within { IfSome result (λ start. start < length bytes.now) }
 {

@@ -4,6 +4,7 @@
 
 mod asks;
 mod examples;
+mod inside;
 mod looked;
 mod marking;
 mod moving;
@@ -15,5 +16,6 @@ mod searching;
 mod sweeping;
 mod trails;
 
+pub use inside::repair_inside;
 pub use outcome::Outcome;
 pub use repairing::repair;

@@ -58,7 +58,7 @@ pub fn repair<F: Family, L: Ledger>(
 }
 
 /// Looks at the chains of each length up to the depth, in the present state.
-fn round<F: Family, L: Ledger>(
+pub(crate) fn round<F: Family, L: Ledger>(
     engine: &mut Engine<'_, F>,
     aim: &Aim,
     depth: u32,

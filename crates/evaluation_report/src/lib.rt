@@ -1,5 +1,5 @@
 //! The lines of the report on an archive's solutions, and those that answer a script: each call
-//! makes one line, which ends with a line feed. The source of the rules is this project's own form
+//! makes one line, or adds one to a text, and the line ends with a line feed. The source of the rules is this project's own form
 //! of a report.
 #![tactic(auto)]
 
@@ -13,4 +13,6 @@ mod words;
 
 pub use answers::{group_line, meet_line, ok_line, refused_line, task_line};
 pub use demands::{deficit_line, demand_line};
-pub use lines::{header_line, invalid_line, monitor_line, push_cause, solution_line, total_line};
+pub use lines::{
+    header_line, invalid_line, push_cause, push_monitor_line, solution_line, total_line,
+};

@@ -47,51 +47,50 @@ pub fn solution_line(
     Ok(line)
 }
 
-/// The line of a monitor, `monitor M KIND "C" POINT deviation D hard X`: its number, its kind, the
+/// Adds the line of a monitor, `monitor M KIND "C" POINT deviation D hard X`: its number, its kind, the
 /// Id of its constraint, its point, its deviation and its cost. `soft` stands in place of `hard`
 /// where the constraint is not required, and ` detached` at the end where the monitor is not
 /// attached. The point is `event "E"`, `event "E" role "R"`, `group "G"`, `events "E" "F"` or
 /// `resource "R"`.
 ///
 /// Its only error is want of memory. It takes time and memory linear in the Ids.
-pub fn monitor_line(
+pub fn push_monitor_line(
     alloc: Global,
+    text: &mut Text,
     inst: &Instance,
     m: MonitorId,
     deviation: u64,
     cost: u128,
     attached: bool,
-) -> Result<Text, NoMemory>
+) -> Result<(), NoMemory>
     requires { m.0 < length inst.now.monitors }
-    ensures { IfOk result (λ t. t ≡ monitor_line inst.now m.0 deviation cost attached) }
+    ensures { OnOk result (text.new ≡ text.old ++ monitor_line inst.now m.0 deviation cost attached) }
 {
     inst.facts();
     let monitor = inst.monitor(m);
     let constraint = inst.constraint(monitor.constraint);
-    let mut line = monitor_head(alloc, m, monitor, constraint)?;
-    line.push_literal(" ")?;
-    push_point(alloc, &mut line, inst, &constraint.rule, monitor.point)?;
-    push_tail(&mut line, constraint.required, deviation, cost, attached)?;
-    Ok(line)
+    push_head(alloc, text, m, monitor, constraint)?;
+    text.push_literal(" ")?;
+    push_point(alloc, text, inst, &constraint.rule, monitor.point)?;
+    push_tail(text, constraint.required, deviation, cost, attached)
 }
 
-/// What a monitor's line begins with: its number, its kind and the Id of its constraint.
-fn monitor_head(
+/// Adds what a monitor's line begins with: its number, its kind and the Id of its constraint.
+fn push_head(
     alloc: Global,
+    line: &mut Text,
     m: MonitorId,
     monitor: Monitor,
     constraint: &Constraint,
-) -> Result<Text, NoMemory>
-    ensures { IfOk result (λ t. t ≡ monitor_head m.0 monitor constraint.now) }
+) -> Result<(), NoMemory>
+    ensures { OnOk result (line.new ≡ line.old ++ monitor_head m.0 monitor constraint.now) }
 {
-    let mut line = Text::new(alloc);
     line.push_literal("monitor ")?;
     line.push_number(u128::from(m.0))?;
     line.push_literal(" ")?;
     line.push_literal(kind_name(monitor.kind))?;
     line.push_literal(" ")?;
-    push_quoted(alloc, &mut line, &constraint.id)?;
-    Ok(line)
+    push_quoted(alloc, line, &constraint.id)
 }
 
 /// Adds the end of a monitor's line: its deviation, and its cost by whether it is hard.

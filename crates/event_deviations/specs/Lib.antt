@@ -5,4 +5,5 @@ pub mod Indexed
 pub mod Links
 pub mod Marked
 pub mod Rooms
+pub mod ShortLists
 pub mod State

@@ -11,6 +11,7 @@ ghost use Rattle.event_deviations.specs.Indexed.{duties_by_place};
 ghost use Rattle.khe_instance.specs.States.{AreOfState};
 
 use crate::lists::{duties_by, meets_by};
+use crate::short_lists::ShortList;
 use khe_base::{EventId, NoMemory, Seq};
 use khe_instance::{Duty, Instance, Meet};
 use std::alloc::Global;
@@ -22,8 +23,8 @@ pub(crate) struct Index<'a> {
     inst: &'a Instance,
     meets: &'a [Meet],
     duties: &'a [Duty],
-    by_event: Seq<Seq<Meet>>,
-    by_place: Seq<Seq<Seq<Duty>>>,
+    by_event: Seq<ShortList<Meet>>,
+    by_place: Seq<Seq<ShortList<Duty>>>,
 }
 
 impl<'a> Model for Index<'a> {
@@ -87,7 +88,7 @@ impl<'a> Index<'a> {
     }
 
     /// The duties of each place of an event.
-    fn places(&self, event: EventId) -> &[Seq<Duty>]
+    fn places(&self, event: EventId) -> &[ShortList<Duty>]
         requires { event.0 < length self.now.parts.events }
         ensures { result.now ≡ duties_by_place self.now.parts.events self.now.duties event.0 }
     {

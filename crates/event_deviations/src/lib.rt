@@ -11,6 +11,7 @@ mod links;
 mod lists;
 mod marks;
 mod rooms;
+mod short_lists;
 mod tasks;
 
 pub use deviations::EventDeviations;

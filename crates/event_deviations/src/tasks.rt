@@ -2,6 +2,7 @@ ghost use Rattle.std.specs.Prelude.{◌≡◌, ◌++◌, map, IfOk, OnOk};
 ghost use Rattle.khe_instance.specs.Running.{duties as duties_of};
 ghost use Rattle.khe_instance.specs.States.{IsTold};
 
+use crate::lists::sized;
 use khe_base::{NoMemory, Seq};
 use khe_instance::{Duty, Instance, Meet, Task};
 use std::alloc::Global;
@@ -19,7 +20,7 @@ pub fn duties(
     requires { IsTold inst.now meets.now tasks.now }
     ensures { IfOk result (λ ds. ds ≡ duties_of meets.now tasks.now) }
 {
-    let mut duties = Seq::new(alloc);
+    let mut duties = sized(alloc, tasks.len())?;
     let mut rest = tasks;
     for meet in meets {
         let places = inst.event(meet.event).places.len();

@@ -112,9 +112,11 @@ begun_text a r number depth budget k p q plain before after sink sink2 result at
     inr (
       0,
       text,
-      subst (λ s. IsRepairOf a number depth budget s 0 text) (sym start)
-          (refl, subst (λ (x : Parts). IsRepairText a number x plain depth budget text) (same_Some q p (sym at2 ∙ at))
-              t),
+      subst (λ s. IsRepairOf a number depth budget s 0 text) (sym start) (
+        refl,
+        subst (λ (x : Parts). IsRepairText a number x plain depth budget text) (same_Some q p (sym at2 ∙ at))
+            t,
+      ),
       w,
     )
 

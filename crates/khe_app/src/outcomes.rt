@@ -8,7 +8,7 @@ ghost use Rattle.khe_app.specs.Report as spec;
 ghost use Rattle.parallel_solve.specs.Verdicts.{parts_at, values_of, verdict_of};
 ghost use Rattle.xhstt_completion.specs.Completed as completion;
 
-use evaluation_report::{invalid_line, monitor_line, total_line};
+use evaluation_report::{invalid_line, push_monitor_line, total_line};
 use khe_base::{MonitorId, NoMemory, Text};
 use khe_instance::{Instance, Plain};
 use parallel_solve::{SolutionJob, Verdict, numbered};
@@ -36,8 +36,7 @@ fn push_monitor(
     if !all && deviation == 0 {
         return Ok(());
     }
-    let line = monitor_line(alloc, inst, MonitorId(number), deviation, cost, true)?;
-    text.push_text(&line)
+    push_monitor_line(alloc, text, inst, MonitorId(number), deviation, cost, true)
 }
 
 /// Adds the lines of the monitors by what a timetable costs, of all or of those with a deviation, and

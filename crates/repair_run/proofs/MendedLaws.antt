@@ -29,6 +29,7 @@ no_dearer p plain depth budget m is = record {
   where
     u : State
     u = (repaired p is.state depth budget 0).state
+
     by : IsNoWorse p is.state u (accepted_of m.outcome)
         → ((accepted_of m.outcome ≡ 0) × (m.totals ≡ totals p is.state))
         ⊎ ((0 < accepted_of m.outcome) × (is_lower m.totals (totals p is.state) ≡ true))

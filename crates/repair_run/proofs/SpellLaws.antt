@@ -120,6 +120,7 @@ given_written p h place r role = by place.fixed
       texts = (at_spellable (λ (x : ResourceInfo). x.id) p.resources r.0 h.resources, both.0);
       form = both.1;
     }
+
     by : (o : Option ResourceId) → All IsWritten
         (option_map_or (λ fixed. []) o
         (record { reference = to (resource_id p r); role = option_map role_named place.role } ∷ []))

@@ -110,13 +110,33 @@ const UNREADABLE: &[&[&str]] = &[
     &["repair", "archive", "0", "--depth", "0", "--budget", "1"],
     &["repair", "archive", "0", "--depth", "5", "--budget", "1"],
     &["repair", "archive", "0", "--depth", "1", "--budget", "0"],
-    &["repair", "archive", "0", "--depth", "1", "--budget", "1000000001"],
-    &["repair", "archive", "0", "--depth", "1", "--budget", "1", "--depth", "1"],
-    &["repair", "archive", "0", "--depth", "1", "--budget", "1", "--jobs", "1"],
+    &[
+        "repair",
+        "archive",
+        "0",
+        "--depth",
+        "1",
+        "--budget",
+        "1000000001",
+    ],
+    &[
+        "repair", "archive", "0", "--depth", "1", "--budget", "1", "--depth", "1",
+    ],
+    &[
+        "repair", "archive", "0", "--depth", "1", "--budget", "1", "--jobs", "1",
+    ],
     &["repair", "archive", "0", "--depth", "--budget", "1", "1"],
     &["repair", "archive", "0", "1", "--depth", "1", "--budget"],
     &["repair", "archive", "--depth", "1", "--budget", "1", "0"],
-    &["repair", "archive", "4294967296", "--depth", "1", "--budget", "1"],
+    &[
+        "repair",
+        "archive",
+        "4294967296",
+        "--depth",
+        "1",
+        "--budget",
+        "1",
+    ],
     &["repair", "archive", "-1", "--depth", "1", "--budget", "1"],
 ];
 

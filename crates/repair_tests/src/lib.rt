@@ -1,5 +1,5 @@
-//! Tests of repair: what it comes to on small archives, as an oracle of the definitions says, and what the
-//! command for it writes.
+//! Tests of repair: what one comes to on small archives, and many by several workers, as an oracle of the
+//! definitions says, and what the command writes.
 #![tactic(auto)]
 
 #[cfg(test)]
@@ -11,7 +11,11 @@ mod commands;
 #[cfg(test)]
 mod families;
 #[cfg(test)]
+mod gates;
+#[cfg(test)]
 mod repairs;
+#[cfg(test)]
+mod solves;
 #[cfg(test)]
 mod sweeps;
 #[cfg(test)]

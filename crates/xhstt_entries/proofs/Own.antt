@@ -39,10 +39,10 @@ all_or_none q m false e (t ∷ ts) =
     let later = filter (λ d. q d.meet) (map (duty_of m) ts) in
     ap (λ b. cond b (duty_of m t ∷ later) later) e ∙ all_or_none q m false e ts
 
-later_apart : (x y : ℕ) → nat_lt x y ≡ true → (y == x) ≡ false
+pub later_apart : (x y : ℕ) → nat_lt x y ≡ true → (y == x) ≡ false
 later_apart x y e = grind (arith, nat_tests)
 
-earlier_apart : (x y : ℕ) → nat_lt x y ≡ true → (x == y) ≡ false
+pub earlier_apart : (x y : ℕ) → nat_lt x y ≡ true → (x == y) ≡ false
 earlier_apart x y e = grind (arith, nat_tests)
 
 -- no duty of a later meet is one of this meet

@@ -11,6 +11,7 @@ use Rattle.khe_instance.specs.declared.states.Plain.{Plain}
 use Rattle.khe_instance.specs.declared.states.Task.{Task}
 use Rattle.xhstt_shape.specs.declared.records.RawEntry.{RawEntry}
 use Rattle.xhstt_shape.specs.declared.records.RawGiven.{RawGiven}
+use Rattle.xhstt_shape.specs.declared.records.RawSolution.{RawSolution}
 use Rattle.xhstt_entries.specs.Spelled.{role_named, to}
 
 abbrev pub resource : List ℕ → ResourceInfo
@@ -72,6 +73,20 @@ timetable = record {
   detached = [];
   groups = [];
 }
+
+-- the same, but that the second part of the lesson has its last slot
+abbrev pub with_gap : Plain
+with_gap = record {
+  meets = meet 0 0 2 (Some (record { 0 = 1 })) ∷ meet 2 0 1 None ∷ meet 3 1 1 None ∷ [];
+  tasks = task 0 0 (Some (record { 0 = 0 })) ∷ task 0 1 (Some (record { 0 = 1 })) ∷ task 2 0 None ∷ task 2 1
+      (Some (record { 0 = 1 })) ∷ task 3 0 None ∷ [];
+  detached = [];
+  groups = [];
+}
+
+-- a solution that says nothing yet
+abbrev pub empty : RawSolution
+empty = record { reference = to (codes "school"); description = None; running_time = None; events = [] }
 
 -- an entry of an event with its duration, its time and what is given
 abbrev pub entry : List ℕ → ℕ → Option (List ℕ) → List RawGiven → RawEntry

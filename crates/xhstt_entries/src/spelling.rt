@@ -1,9 +1,11 @@
 //! A timetable in place of the entries of a solution.
 
-ghost use Rattle.std.specs.Prelude.{◌≡◌, map, IfOk};
-ghost use Rattle.khe_instance.specs.States.{IsTold};
+ghost use Rattle.std.specs.Prelude.{◌≡◌, map, IfOk, Ok};
+ghost use Rattle.khe_instance.specs.States.{IsTold, IsValid};
 ghost use Rattle.std.specs.Option.{option_map};
+ghost use Rattle.xhstt_completion.specs.Completed.{completed};
 ghost use Rattle.xhstt_completion.specs.Entries.{IsSolution};
+ghost use Rattle.xhstt_entries.specs.Renumbered.{renumbered};
 ghost use Rattle.xhstt_entries.specs.Spelled as spec;
 
 use crate::entries::entry;
@@ -56,7 +58,9 @@ fn copy_of(alloc: Global, reference: &Ref) -> Result<Ref, NoMemory>
 /// that are preassigned. The reference, the description and the running time are the old solution's.
 ///
 /// Every entry is one of the instance: it names an event, a time and resources of it, and its duration is
-/// in range.
+/// in range. Where the timetable is a valid one, its entries are read as the same timetable again: the
+/// same meets and tasks, with the meets of each event in its first slots, in the order of their numbers;
+/// all monitors are attached, and there are no groups.
 ///
 /// It takes time and memory in proportion to the timetable and its Ids.
 pub fn spell(
@@ -68,6 +72,7 @@ pub fn spell(
     requires { IsTold inst.now plain.now.meets plain.now.tasks }
     ensures spelled { IfOk result (λ raw. raw ≡ spec.spelled inst.now plain.now old.now) }
     ensures solution { IfOk result (IsSolution inst.now) }
+    ensures read_again { IsValid inst.now plain.now → IfOk result (λ raw. completed inst.now raw ≡ Ok (renumbered inst.now plain.now)) }
 {
     inst.facts();
     Ok(RawSolution {

@@ -7,7 +7,7 @@ use Rattle.event_deviations.proofs.tasks.duties.Goals as goal
 
 pub loop-meet-init : goal.loop-meet-init
 loop-meet-init c = record {
-  made = ap (λ l. l ++ duties c.args.meets.now c.args.tasks.now) c.new-duties.ensures;
+  made = ap (λ l. l ++ duties c.args.meets.now c.args.tasks.now) c.in_ok-duties.ensures;
   beside = Beside-from_told c.args.inst.now c.args.meets.now c.args.tasks.now c.requires;
 }
 

@@ -1,6 +1,6 @@
 -- A monitor of an instance has a constraint and a point that are there.
 use Rattle.evaluation_report.proofs.MonitorsLemmas.{constraint-within, constraint-rule, monitor-named}
-use Rattle.evaluation_report.proofs.lines.monitor_line.Goals as goal
+use Rattle.evaluation_report.proofs.lines.push_monitor_line.Goals as goal
 
 pub constraint-constraint-requires : goal.constraint-constraint-requires
 constraint-constraint-requires c =

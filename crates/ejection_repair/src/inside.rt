@@ -1,0 +1,65 @@
+//! Repair that can be undone.
+
+ghost use Rattle.std.specs.Prelude.{◌≡◌, ◌≤◌, ◌+◌, length, IfOk};
+ghost use Rattle.khe_base.specs.declared.limits.TheConstants.{MARKS};
+ghost use Rattle.ejection_repair.specs.Kept.{states};
+ghost use Rattle.ejection_repair.specs.Repaired.{repaired};
+
+use crate::asks::{compare_from_here, totals_of};
+use crate::looked::Aim;
+use crate::outcome::{Outcome, Round};
+use crate::repairing::round;
+use khe_base::NoMemory;
+use khe_engine::Engine;
+use khe_told::{Family, Steps};
+use std::sync::ledger::Ledger;
+
+/// Repairs the timetable of an engine inside the marks that are open, and comes to what `repair` comes
+/// to by the same depth, budget and diversifier. The states at the marks stay, so an undo leads back.
+/// As many further marks as the depth says have to be free.
+///
+/// Memory is taken for a record of each move that stays, and before each chain is looked for. Where it
+/// is refused, the timetable is that of the chains taken so far; an undo leads back from there too.
+/// It takes the time of `repair`.
+pub fn repair_inside<F: Family, L: Ledger>(
+    engine: &mut Engine<'_, F>,
+    depth: u32,
+    budget: u64,
+    diversifier: u64,
+    steps: &mut Steps<L>,
+) -> Result<Outcome, NoMemory>
+    requires depth { 1 ≤ depth }
+    requires deepest { depth ≤ 4 }
+    requires budget { 1 ≤ budget }
+    requires marks { length engine.old.saved + depth ≤ MARKS }
+    ensures outcome { IfOk result (λ o. o ≡ (repaired engine.old.parts engine.old.state depth budget diversifier).outcome) }
+    ensures state { IfOk result (λ _. engine.new.state ≡ (repaired engine.old.parts engine.old.state depth budget diversifier).state) }
+    ensures parts { engine.new.parts ≡ engine.old.parts }
+    ensures saved { states engine.new.saved ≡ states engine.old.saved }
+{
+    let mut left = budget;
+    let mut accepted = 0;
+    while accepted <= budget {
+        engine.reserve(depth)?;
+        compare_from_here(engine);
+        let aim = Aim {
+            lowest: totals_of(engine),
+            diversifier,
+        };
+        match round(engine, &aim, depth, &mut left, steps) {
+            Round::Settled => {
+                let tried = budget - left;
+                return Ok(Outcome::Done { accepted, tried });
+            }
+            Round::Taken => accepted += 1,
+            Round::Spent(complete_to) => {
+                return Ok(Outcome::Spent {
+                    accepted,
+                    tried: budget,
+                    complete_to,
+                });
+            }
+        }
+    }
+    unreachable!()
+}

@@ -1,0 +1,57 @@
+ghost use Rattle.std.specs.Prelude.{◌≤◌, IfOk};
+ghost use Rattle.khe_engine.specs.Values.{ServesAll};
+ghost use Rattle.khe_instance.specs.States.{IsValid};
+ghost use Rattle.parallel_repair.specs.Jobs.{job_answer};
+ghost use Rattle.repair_pool.specs.Solved.{IsSolved};
+
+use crate::works::Repairs;
+use khe_base::NoMemory;
+use khe_instance::{Instance, Plain};
+use khe_io::Gate;
+use khe_told::Family;
+use repair_pool::{Solved, solved_by};
+use std::alloc::Global;
+use std::marker::PhantomData;
+use std::thread::Threads;
+
+/// Many repairs of a valid timetable, by 1 to 64 workers: job `j`, of 1 to 10,000 that are numbered
+/// from 0, is `repair` from the timetable by this depth and budget with the diversifier `j`. The answer
+/// is the result of the job with the least totals, and with the lowest number among equal ones; and
+/// what became of each job. A worker passes the gate before each job that it runs, with its number. A
+/// job without a cost lets higher ones be left out. The answer is the same for every number of workers
+/// and all their turns; which jobs are left out isn't.
+///
+/// The depth is 1 to 4, and the budget at least 1. The only error is want of memory. It takes the time
+/// of the jobs that are run, divided among the workers that run at the same time, and for each worker
+/// that of opening one engine, which is led back to the timetable by an undo after each job. It takes
+/// memory for an engine and two timetables for each worker, and a row for each job.
+pub fn solve<F: Family + Drop + Send + Sync, R: Threads + Sync, G: Gate>(
+    rt: &R,
+    alloc: Global,
+    inst: &Instance,
+    start: &Plain,
+    depth: u32,
+    budget: u64,
+    jobs: u64,
+    workers: u32,
+    gate: &G,
+) -> Result<Solved, NoMemory>
+    requires joined { F.IsWellJoined }
+    requires serves { ServesAll F.serves_kind }
+    requires valid { IsValid inst.now start.now }
+    requires depth { (1 ≤ depth) × (depth ≤ 4) }
+    requires budget { 1 ≤ budget }
+    requires jobs { (1 ≤ jobs) × (jobs ≤ 10000) }
+    requires workers { (1 ≤ workers) × (workers ≤ 64) }
+    ensures solved { IfOk result (λ s. IsSolved (job_answer inst.now start.now depth budget) jobs s) }
+    ensures valid { IfOk result (λ s. IsValid inst.now s.plain) }
+{
+    let work = Repairs::<F> {
+        inst,
+        start,
+        depth,
+        budget,
+        families: PhantomData,
+    };
+    solved_by(rt, alloc, &work, jobs, workers, gate)
+}

@@ -1,0 +1,5 @@
+pub mod FateLemmas
+pub mod RankLemmas
+pub mod SolvedLemmas
+pub mod TurnLemmas
+pub mod WorkLemmas

@@ -1,0 +1,5 @@
+pub mod Ranks
+pub mod Solved
+pub mod Worked
+pub mod Turns
+pub mod Fates
