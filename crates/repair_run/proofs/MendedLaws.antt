@@ -1,11 +1,13 @@
 -- What is true of a repaired timetable.
-use Rattle.std.proofs.Common.{ℕ, ◌≡◌, ◌<◌, ◌⊎◌, inl, inr, true, sym, ap, subst, ◌∙◌, refl}
+use Rattle.std.proofs.Common.{ℕ, ◌≡◌, ◌<◌, ◌⊎◌, inl, inr, true, sym, ap, subst, ◌∙◌, refl, tt, Result, Ok, Err}
+use Rattle.std.specs.Prelude.{IfOk}
 use Rattle.ejection_repair.specs.Repaired.{repaired}
 use Rattle.ejection_repair.specs.Settled.{IsNoWorse, IsSettled, accepted_of, settled_to}
 use Rattle.ejection_repair.specs.Values.{are_lower, totals_at}
 use Rattle.ejection_repair.proofs.SettledLaws.{no_worse_by, true_by}
 use Rattle.khe_base.specs.Totals.{is_lower}
 use Rattle.khe_base.specs.declared.sums.Totals.{Totals}
+use Rattle.khe_engine.specs.Openings.{IsStateOf}
 use Rattle.khe_engine.specs.States.{State}
 use Rattle.khe_engine.specs.Values.{totals}
 use Rattle.khe_instance.specs.declared.parts.Parts.{Parts}
@@ -49,3 +51,19 @@ settled p plain depth budget m is =
       costs = is.totals;
       settled = (true_by p is.state u depth budget 0 m.outcome is.outcome refl).0;
     }
+
+-- what is left by a repair on an engine that was opened on the timetable
+pub mended_by : {E : Type 0} (p q : Parts) (plain : Plain) (s : State) (depth budget : ℕ) (r : Result Mended E)
+    → q ≡ p → IsStateOf p plain s
+    → IfOk r (λ m. m.outcome ≡ (repaired q s depth budget 0).outcome)
+    → IfOk r (λ m. IsStateOf q m.plain (repaired q s depth budget 0).state)
+    → IfOk r (λ m. m.totals ≡ totals q (repaired q s depth budget 0).state)
+    → IfOk r (IsMended p plain depth budget)
+mended_by p q plain s depth budget (Ok m) e is outcome listed costs = record {
+  state = s;
+  begins = is;
+  outcome = subst (λ (x : Parts). m.outcome ≡ (repaired x s depth budget 0).outcome) e outcome;
+  listed = subst (λ (x : Parts). IsStateOf x m.plain (repaired x s depth budget 0).state) e listed;
+  totals = subst (λ (x : Parts). m.totals ≡ totals x (repaired x s depth budget 0).state) e costs;
+}
+mended_by p q plain s depth budget (Err f) e is outcome listed costs = tt
