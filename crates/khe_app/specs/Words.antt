@@ -102,17 +102,18 @@ repair_by archive [] = None
 repair_by archive (solution ∷ options) = option_and_then (λ number. repair_with archive number options)
     (number_of 18 solution)
 
--- what is asked for by a command that repairs, the archive's name and the words after it
-unfoldable pub repairing_by : List ℕ → List ℕ → List (List ℕ) → Option Asked
-repairing_by command name more = if bytes_eq (codes "repair") command then repair_by name more else None
-
--- what is asked for by a command, the archive's name and the words after it
-unfoldable pub asked_by : List ℕ → List ℕ → List (List ℕ) → Option Asked
-asked_by command name more =
+-- what is asked for by a command that changes nothing, the archive's name and the words after it
+unfoldable pub told_by : List ℕ → List ℕ → List (List ℕ) → Option Asked
+told_by command name more =
     if bytes_eq (codes "evaluate") command then option_map (λ o. evaluating name o.0) (options_by more)
     else if bytes_eq (codes "script") command then script_by name more
     else if bytes_eq (codes "check") command then check_by name more
-    else repairing_by command name more
+    else None
+
+-- and by any command
+unfoldable pub asked_by : List ℕ → List ℕ → List (List ℕ) → Option Asked
+asked_by command name more =
+    if bytes_eq (codes "repair") command then repair_by name more else told_by command name more
 
 -- `evaluate ARCHIVE [--all] [--workers N]`, `script ARCHIVE SOLUTION SCRIPT`, `check ARCHIVE` or `repair ARCHIVE
 -- SOLUTION --depth D --budget B`; the second word is the archive's name, whatever it begins with

@@ -1,6 +1,6 @@
 ghost use Rattle.std.specs.Prelude.{◌≡◌, ◌≤◌, None, Some, map, IfSome, MatchOption, string_bytes};
 ghost use Rattle.khe_app.specs.Requests.{IsFit, asked_of, workers_in};
-ghost use Rattle.khe_app.specs.Words.{asked, asked_by, all_by, both_by, budget_by, check_by, depth_by, evaluating, number_by, number_to, options_by, repair_by, repair_with, repairing_by, script_by, value_of, workers_by, workers_of};
+ghost use Rattle.khe_app.specs.Words.{asked, asked_by, all_by, both_by, budget_by, check_by, depth_by, evaluating, number_by, number_to, options_by, repair_by, repair_with, script_by, told_by, value_of, workers_by, workers_of};
 ghost use Rattle.std.specs.Option.{option_map};
 
 use edit_script::number_of;
@@ -64,6 +64,18 @@ fn request_by<'a>(command: &str, archive: &'a str, more: &'a [String]) -> Option
     ensures asked { MatchOption result (asked_by command.now archive.now (map string_bytes more.now) ≡ None) (λ r. asked_by command.now archive.now (map string_bytes more.now) ≡ Some (asked_of r)) }
     ensures fit { IfSome result IsFit }
 {
+    if command == "repair" {
+        return repair_by(archive, more);
+    }
+    told_by(command, archive, more)
+}
+
+/// What a command that changes nothing asks for with the archive's name and the words after it.
+#[tactic(auto, unfolding(crate::specs::Words::told_by))]
+fn told_by<'a>(command: &str, archive: &'a str, more: &'a [String]) -> Option<Request<'a>>
+    ensures asked { MatchOption result (told_by command.now archive.now (map string_bytes more.now) ≡ None) (λ r. told_by command.now archive.now (map string_bytes more.now) ≡ Some (asked_of r)) }
+    ensures fit { IfSome result IsFit }
+{
     if command == "evaluate" {
         return evaluate_by(archive, more);
     }
@@ -72,22 +84,6 @@ fn request_by<'a>(command: &str, archive: &'a str, more: &'a [String]) -> Option
     }
     if command == "check" {
         return check_by(archive, more);
-    }
-    repairing_by(command, archive, more)
-}
-
-/// What a command that repairs asks for with the archive's name and the words after it.
-#[tactic(auto, unfolding(crate::specs::Words::repairing_by))]
-fn repairing_by<'a>(
-    command: &str,
-    archive: &'a str,
-    more: &'a [String],
-) -> Option<Request<'a>>
-    ensures asked { MatchOption result (repairing_by command.now archive.now (map string_bytes more.now) ≡ None) (λ r. repairing_by command.now archive.now (map string_bytes more.now) ≡ Some (asked_of r)) }
-    ensures fit { IfSome result IsFit }
-{
-    if command == "repair" {
-        return repair_by(archive, more);
     }
     None
 }
