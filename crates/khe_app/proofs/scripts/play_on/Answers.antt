@@ -1,0 +1,12 @@
+-- What a run on the engine that was opened wrote.
+use Rattle.std.proofs.Common.{inr}
+use Rattle.khe_app.proofs.ScriptEnds.{run_written}
+use Rattle.khe_app.proofs.scripts.play_on.Goals as goal
+
+pub returns-in-Ok-clause-written : goal.returns-in-Ok-clause-written
+returns-in-Ok-clause-written g c =
+    inr (run_written c.args.inst.now c.args.plain.now c.in-Ok.engine c.args.script.now c.run.result
+    (g.K.Sink.taken c.args.out.now) (g.K.Sink.taken c.run.new.out) (g.K.Sink.faults c.args.out.now)
+    (g.K.Sink.faults c.run.new.out) c.status_after.result.0 c.in-Ok.ensures.parts c.in-Ok.ensures.state
+    c.in-Ok.ensures.saved c.run.ensures.read c.run.ensures.whole c.run.ensures.front c.run.ensures.fault
+    c.status_after.ensures)
