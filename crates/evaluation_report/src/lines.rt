@@ -75,6 +75,25 @@ pub fn push_monitor_line(
     push_tail(text, constraint.required, deviation, cost, attached)
 }
 
+/// The line of a monitor, as `push_monitor_line` adds it.
+///
+/// Its only error is want of memory. It takes time and memory linear in the Ids.
+pub fn monitor_line(
+    alloc: Global,
+    inst: &Instance,
+    m: MonitorId,
+    deviation: u64,
+    cost: u128,
+    attached: bool,
+) -> Result<Text, NoMemory>
+    requires { m.0 < length inst.now.monitors }
+    ensures { IfOk result (λ t. t ≡ monitor_line inst.now m.0 deviation cost attached) }
+{
+    let mut line = Text::new(alloc);
+    push_monitor_line(alloc, &mut line, inst, m, deviation, cost, attached)?;
+    Ok(line)
+}
+
 /// Adds what a monitor's line begins with: its number, its kind and the Id of its constraint.
 fn push_head(
     alloc: Global,

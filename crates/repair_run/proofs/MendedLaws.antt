@@ -1,5 +1,5 @@
 -- What is true of a repaired timetable.
-use Rattle.std.proofs.Common.{ℕ, ◌≡◌, ◌<◌, ◌⊎◌, inl, inr, true, sym, ap, subst, ◌∙◌, refl, tt, Result, Ok, Err}
+use Rattle.std.proofs.Common.{ℕ, ◌≡◌, ◌<◌, ◌⊎◌, inl, inr, true, sym, ap, subst, ◌∙◌, refl, Result, Ok, Err}
 use Rattle.std.specs.Prelude.{IfOk}
 use Rattle.ejection_repair.specs.Repaired.{repaired}
 use Rattle.ejection_repair.specs.Settled.{IsNoWorse, IsSettled, accepted_of, settled_to}
