@@ -1,5 +1,5 @@
 -- A job on an engine, from its mark and back.
-use Rattle.std.proofs.Common.{ℕ, ◌≡◌, ◌<◌, List, [], ◌∷◌, refl, length, sym, ap, ◌∙◌, arith}
+use Rattle.std.proofs.Common.{ℕ, ◌≡◌, ◌<◌, List, [], ◌∷◌, refl, length, ◌∙◌, arith}
 use Rattle.ejection_repair.specs.Kept.{states}
 use Rattle.ejection_repair.specs.Repaired.{repaired}
 use Rattle.khe_base.specs.declared.sums.Totals.{Totals}

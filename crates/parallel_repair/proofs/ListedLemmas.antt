@@ -11,7 +11,7 @@ use Rattle.std.proofs.lemmas.List.Elements.{All-nil, All-head, All-tail, All-wea
 use native.Mathlib.Decide.{ℕ_discrete}
 use Rattle.khe_base.specs.declared.limits.TheConstants.{GROUPS}
 use Rattle.khe_base.specs.declared.numbers.MonitorId.{MonitorId}
-use Rattle.khe_engine.specs.Openings.{IsStateOf, grouping_in}
+use Rattle.khe_engine.specs.Openings.{IsStateOf}
 use Rattle.khe_engine.specs.States.{State}
 use Rattle.khe_instance.specs.Evaluated.{is_detached}
 use Rattle.khe_instance.specs.States.{IsGroup, IsValid}
