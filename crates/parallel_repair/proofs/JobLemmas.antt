@@ -1,5 +1,5 @@
 -- A job on an engine, from its mark and back.
-use Rattle.std.proofs.Common.{ℕ, ◌≡◌, ◌<◌, List, [], ◌∷◌, refl, length, sym, ap, ◌∙◌, arith}
+use Rattle.std.proofs.Common.{ℕ, ◌≡◌, ◌<◌, List, [], ◌∷◌, refl, length, ◌∙◌, subst, Result, IfOk, arith}
 use Rattle.ejection_repair.specs.Kept.{states}
 use Rattle.ejection_repair.specs.Repaired.{repaired}
 use Rattle.khe_base.specs.declared.sums.Totals.{Totals}
@@ -11,7 +11,7 @@ use Rattle.khe_instance.specs.States.{IsValid}
 use Rattle.khe_instance.specs.WellMade.{AreWellMade}
 use Rattle.khe_instance.specs.declared.parts.Parts.{Parts}
 use Rattle.khe_instance.specs.declared.states.Plain.{Plain}
-use Rattle.parallel_repair.specs.Jobs.{IsMarkedAt, answer_at, job_from}
+use Rattle.parallel_repair.specs.Jobs.{IsDesk, IsMarkedAt, answer_at, job_answer, job_from}
 use Rattle.parallel_repair.specs.Listed.{state_in}
 use Rattle.repair_pool.specs.declared.answers.Answer.{Answer}
 use Rattle.parallel_repair.proofs.FillLemmas.{state_is}
@@ -63,3 +63,12 @@ pub job_is : (p q : Parts) (s u : State) (depth budget n : ℕ) (a : Answer) →
     → u ≡ (repaired p s depth budget n).state → a ≡ answer_at q u → a ≡ job_from p s depth budget n
 unfolding job_from
 job_is p q s u depth budget n a e f is = is ∙ (λ i. answer_at (e i) (f i))
+
+-- and from a desk it is that of its timetable
+pub from_desk : {E : Type 0} (p : Parts) (start : Plain) (w : World) (depth budget n : ℕ) (r : Result Answer E)
+    → IsDesk p start w → IfOk r (λ a. a ≡ job_from w.parts w.state depth budget n)
+    → IfOk r (λ a. a ≡ job_answer p start depth budget n)
+unfolding job_answer
+from_desk p start w depth budget n r d h =
+    subst (λ (x : Parts × State). IfOk r (λ a. a ≡ job_from x.0 x.1 depth budget n))
+    (λ i. (d.parts i, d.marked.state i)) h

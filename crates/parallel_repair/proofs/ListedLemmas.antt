@@ -11,7 +11,7 @@ use Rattle.std.proofs.lemmas.List.Elements.{All-nil, All-head, All-tail, All-wea
 use native.Mathlib.Decide.{ℕ_discrete}
 use Rattle.khe_base.specs.declared.limits.TheConstants.{GROUPS}
 use Rattle.khe_base.specs.declared.numbers.MonitorId.{MonitorId}
-use Rattle.khe_engine.specs.Openings.{IsStateOf, grouping_in}
+use Rattle.khe_engine.specs.Openings.{IsStateOf}
 use Rattle.khe_engine.specs.States.{State}
 use Rattle.khe_instance.specs.Evaluated.{is_detached}
 use Rattle.khe_instance.specs.States.{IsGroup, IsValid}
@@ -68,7 +68,8 @@ detached_back low (suc n) f [] r a h =
     ap (λ b. detached_from low (not b ∷ more)) (h low (omega arith))
     ∙ detached_back (low + 1) n f [] tt (All-nil (λ (y : MonitorId). y.0 < low + 1 + n))
     (λ k l. h k (omega (arith, l)))
-detached_back low (suc n) f (x ∷ xs) r a h = by (ℕ_discrete x.0 low)
+detached_back low (suc n) f (x ∷ xs) r a h =
+    by (λ ys r' a' h'. detached_back (low + 1) n f ys r' a' h') (ℕ_discrete x.0 low)
   where
     more : List Bool
     more = map (λ k. not (f k)) (range_with_len (low + 1) n)
@@ -93,14 +94,16 @@ detached_back low (suc n) f (x ∷ xs) r a h = by (ℕ_discrete x.0 low)
         ap (λ b. detached_from low (not b ∷ more))
         (h low (omega arith) ∙ not_in low (low + 1) (x ∷ xs) (omega arith) (omega (arith, from, d), r.1)) ∙ back
 
-    by : Dec (x.0 ≡ low) → detached_from low (not (f low) ∷ more) ≡ x ∷ xs
-    by (yes e) = rest e (detached_back (low + 1) n f xs
+    by : ((ys : List MonitorId) → AreRising (low + 1) (map monitor_number ys)
+        → All (λ (y : MonitorId). y.0 < low + 1 + n) ys → ((k : ℕ) → low + 1 ≤ k → f k ≡ is_in k ys)
+        → detached_from (low + 1) more ≡ ys)
+        → Dec (x.0 ≡ low) → detached_from low (not (f low) ∷ more) ≡ x ∷ xs
+    by back (yes e) = rest e (back xs
         (subst (λ k. AreRising (k + 1) (map monitor_number xs)) e r.1)
         (All-tail (λ (y : MonitorId). y.0 < low + 1 + n) x xs all)
         (λ k l. h k (omega (arith, l)) ∙ ap (λ b. b || is_in k xs) (ne_eqb x.0 k (λ q. omega (arith, q, e, l)))))
-    by (no d) = later d (detached_back (low + 1) n f (x ∷ xs)
-        (let from : low ≤ x.0 = r.0 in omega (arith, from, d), r.1)
-        all (λ k l. h k (omega (arith, l))))
+    by back (no d) = later d (back (x ∷ xs) (let from : low ≤ x.0 = r.0 in omega (arith, from, d), r.1) all
+        (λ k l. h k (omega (arith, l))))
 
 -- the same of groups
 not_of : (n low : ℕ) (xs : List Group) → n < low → AreRising low (map group_number xs) → group_of n xs ≡ None
@@ -121,7 +124,8 @@ groups_back low (suc n) f [] r a h =
     ap (λ o. groups_from low (o ∷ map f (range_with_len (low + 1) n))) (h low (omega arith))
     ∙ groups_back (low + 1) n f [] tt (All-nil (λ (y : Group). y.group.0 < low + 1 + n))
     (λ k l. h k (omega (arith, l)))
-groups_back low (suc n) f (x ∷ xs) r a h = by (ℕ_discrete x.group.0 low)
+groups_back low (suc n) f (x ∷ xs) r a h =
+    by (λ ys r' a' h'. groups_back (low + 1) n f ys r' a' h') (ℕ_discrete x.group.0 low)
   where
     more : List (Option (List MonitorId))
     more = map f (range_with_len (low + 1) n)
@@ -132,17 +136,17 @@ groups_back low (suc n) f (x ∷ xs) r a h = by (ℕ_discrete x.group.0 low)
     all : All (λ (y : Group). y.group.0 < low + 1 + n) (x ∷ xs)
     all = subst (λ b. All (λ (y : Group). y.group.0 < b) (x ∷ xs)) bound a
 
-    here : (k : ℕ) (b : Bool) → (x.group.0 == k) ≡ b
-        → group_of k (x ∷ xs) ≡ cond b (Some x.children) (group_of k xs)
-    here k b e =
-        ap (λ c. option_map (λ (y : Group). y.children) (cond c (Some x) (find (λ y. y.group.0 == k) xs))) e
-        ∙ chosen k b
-
     chosen : (k : ℕ) (b : Bool) → option_map (λ (y : Group). y.children)
         (cond b (Some x) (find (λ y. y.group.0 == k) xs))
         ≡ cond b (Some x.children) (group_of k xs)
     chosen k true = refl
     chosen k false = refl
+
+    here : (k : ℕ) (b : Bool) → (x.group.0 == k) ≡ b
+        → group_of k (x ∷ xs) ≡ cond b (Some x.children) (group_of k xs)
+    here k b e =
+        ap (λ c. option_map (λ (y : Group). y.children) (cond c (Some x) (find (λ y. y.group.0 == k) xs))) e
+        ∙ chosen k b
 
     rest : (e : x.group.0 ≡ low) (back : groups_from (low + 1) more ≡ xs) → groups_from low (f low ∷ more) ≡ x ∷ xs
     rest e back =
@@ -156,13 +160,16 @@ groups_back low (suc n) f (x ∷ xs) r a h = by (ℕ_discrete x.group.0 low)
         ap (λ o. groups_from low (o ∷ more))
         (h low (omega arith) ∙ not_of low (low + 1) (x ∷ xs) (omega arith) (omega (arith, from, d), r.1)) ∙ back
 
-    by : Dec (x.group.0 ≡ low) → groups_from low (f low ∷ more) ≡ x ∷ xs
-    by (yes e) = rest e (groups_back (low + 1) n f xs
+    by : ((ys : List Group) → AreRising (low + 1) (map group_number ys)
+        → All (λ (y : Group). y.group.0 < low + 1 + n) ys → ((k : ℕ) → low + 1 ≤ k → f k ≡ group_of k ys)
+        → groups_from (low + 1) more ≡ ys)
+        → Dec (x.group.0 ≡ low) → groups_from low (f low ∷ more) ≡ x ∷ xs
+    by back (yes e) = rest e (back xs
         (subst (λ k. AreRising (k + 1) (map group_number xs)) e r.1)
         (All-tail (λ (y : Group). y.group.0 < low + 1 + n) x xs all)
         (λ k l. h k (omega (arith, l)) ∙ here k false (ne_eqb x.group.0 k (λ q. omega (arith, q, e, l)))))
-    by (no d) = later d (groups_back (low + 1) n f (x ∷ xs)
-        (let from : low ≤ x.group.0 = r.0 in omega (arith, from, d), r.1) all (λ k l. h k (omega (arith, l))))
+    by back (no d) = later d (back (x ∷ xs) (let from : low ≤ x.group.0 = r.0 in omega (arith, from, d), r.1) all
+        (λ k l. h k (omega (arith, l))))
 
 groups_are : (n : ℕ) (xs : List Group) → AreRising 0 (map group_number xs) → All (λ (x : Group). x.group.0 < 0 + n) xs
     → groups_from 0 (numbered_groups n xs) ≡ xs

@@ -1,5 +1,5 @@
 -- A state and its timetable as functions of each other.
-use Rattle.std.specs.Prelude.{ℕ, ◌==◌, if◌then◌else◌, Some, List, [], ◌∷◌, map, length, take, drop}
+use Rattle.std.specs.Prelude.{◌==◌, if◌then◌else◌, Some, List, [], ◌∷◌, map, length, take, drop}
 use Rattle.khe_engine.specs.Openings.{grouping_in}
 use Rattle.khe_engine.specs.States.{State}
 use Rattle.khe_instance.specs.declared.parts.Parts.{Parts}

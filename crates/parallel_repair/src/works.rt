@@ -10,6 +10,7 @@ use std::alloc::Global;
 use std::marker::{Brand, PhantomData};
 
 /// Repairs of one timetable to one depth and budget. The number of a job is its diversifier.
+#[derive(Drop)]
 pub(crate) struct Repairs<'a, F: Family> {
     pub(crate) inst: &'a Instance,
     pub(crate) start: &'a Plain,

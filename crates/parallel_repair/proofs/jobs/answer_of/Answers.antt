@@ -6,4 +6,4 @@ pub returns-clause-answer : goal.returns-clause-answer
 returns-clause-answer g c =
     let w = c.args.engine.now in
     let e = c.in_ok-plain.ensures in
-    answer_is w.parts w.state c.totals.result c.in_ok-plain.plain c.totals.ensures e.state e.valid
+    answer_is w.parts w.state c.totals-totals.result c.in_ok-plain.plain c.totals-totals.ensures e.state e.valid
