@@ -1,19 +1,18 @@
 -- The archive that is made can be written and read back: its numbers are in their ranges, its roles are in
 -- form, and its texts are letters and digits.
-use Rattle.std.proofs.Common.{ℕ, ◌≡◌, ◌+◌, ◌-◌, ◌/◌, ◌%◌, ◌==◌, ◌<◌, ◌≤◌, Bool, true, false, if◌then◌else◌, cond}
-use Rattle.std.proofs.Common.{nat_lt, ◌||◌, suc, zero}
-use Rattle.std.proofs.Common.{Option, Some, None, IfSome, is_some, IsSome, List, [], ◌∷◌, ◌++◌, map, All, refl, subst}
+use Rattle.std.proofs.Common.{ℕ, ◌≡◌, ◌/◌, ◌%◌, ◌==◌, ◌<◌, Bool, true, false, if◌then◌else◌}
+use Rattle.std.proofs.Common.{suc, zero}
+use Rattle.std.proofs.Common.{Option, Some, None, IfSome, List, [], ◌∷◌, ◌++◌, map, All, refl}
 use Rattle.std.proofs.Common.{arith, mod-lt}
 use Rattle.std.specs.Prelude.{codes, decimal}
 use Rattle.std.specs.Fmt.{digit_glyph, digits_onto, digits}
 use Rattle.std.specs.List.{list_all}
 use Rattle.std.proofs.lemmas.Bool.{and_parts}
 use Rattle.std.proofs.lemmas.Bool.Decides.{nat_tests}
-use Rattle.std.proofs.lemmas.List.Elements.{All-nil, All-cons, All-map, All-append}
-use Rattle.xhstt_text.specs.Bytes.{AllAre}
+use Rattle.std.proofs.lemmas.List.Elements.{All-nil, All-cons}
 use Rattle.xhstt_text.specs.Units.{is_character}
 use Rattle.xhstt_shape.specs.Characters.{IsSpellable, IsSpellableRef, AreSpellableRefs}
-use Rattle.job_generator.specs.Names.{name, to, numbered, below, to_each, to_time}
+use Rattle.job_generator.specs.Names.{to, numbered, below, to_each, to_time}
 
 -- a word whose characters all pass
 pub word_fits : (bs : List ℕ) → list_all is_character bs ≡ true → IsSpellable bs
@@ -74,8 +73,3 @@ to_time_fits (Some n) = numbered_fits (codes "t") n refl
 
 pub four : {T : Type 0} (P : T → Type 0) (a b c d : T) → P a → P b → P c → P d → All P (a ∷ (b ∷ (c ∷ (d ∷ []))))
 four P a b c d h k m n = All-cons P a (b ∷ (c ∷ (d ∷ []))) h (three P b c d k m n)
-
-pub six : {T : Type 0} (P : T → Type 0) (a b c d e f : T) → P a → P b → P c → P d → P e → P f
-    → All P (a ∷ (b ∷ (c ∷ (d ∷ (e ∷ (f ∷ []))))))
-six P a b c d e f h k m n o q =
-    All-cons P a (b ∷ (c ∷ (d ∷ (e ∷ (f ∷ []))))) h (All-cons P b (c ∷ (d ∷ (e ∷ (f ∷ [])))) k (four P c d e f m n o q))

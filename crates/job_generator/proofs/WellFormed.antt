@@ -1,25 +1,13 @@
 -- The archive that is made is well formed.
 use Rattle.std.proofs.Common.{ℕ, ◌≡◌, ◌+◌, ◌-◌, ◌*◌, ◌^◌, ◌/◌, ◌%◌, ◌==◌, ◌<◌, ◌≤◌, Bool, true, false, if◌then◌else◌}
 use Rattle.std.proofs.Common.{nat_lt, ◌||◌}
-use Rattle.std.proofs.Common.{Option, Some, None, IfSome, is_some, IsSome, List, [], ◌∷◌, ◌++◌, map, All, refl, sym}
+use Rattle.std.proofs.Common.{Option, Some, None, is_some, List, [], ◌∷◌, ◌++◌, map, All, refl, sym}
 use Rattle.std.proofs.Common.{ap, subst, ◌∙◌, arith, mod-lt}
 use Rattle.std.specs.Prelude.{codes}
 use Rattle.std.proofs.lemmas.Bool.Decides.{nat_tests}
 use Rattle.std.proofs.lemmas.List.Elements.{All-nil, All-cons, All-head, All-tail, All-append}
-use Rattle.xhstt_shape.specs.declared.constraints.RawApplies.{RawApplies}
 use Rattle.xhstt_shape.specs.declared.constraints.RawConstraint.{RawConstraint}
-use Rattle.xhstt_shape.specs.declared.constraints.RawRule.{RawRule}
 use Rattle.xhstt_shape.specs.declared.records.Archive.{Archive}
-use Rattle.xhstt_shape.specs.declared.records.RawEvent.{RawEvent}
-use Rattle.xhstt_shape.specs.declared.records.RawEventResource.{RawEventResource}
-use Rattle.xhstt_shape.specs.declared.records.RawEntry.{RawEntry}
-use Rattle.xhstt_shape.specs.declared.records.RawGiven.{RawGiven}
-use Rattle.xhstt_shape.specs.declared.records.RawSolution.{RawSolution}
-use Rattle.xhstt_shape.specs.declared.records.EventGroup.{EventGroup}
-use Rattle.xhstt_shape.specs.declared.records.RawResource.{RawResource}
-use Rattle.xhstt_shape.specs.declared.records.Ref.{Ref}
-use Rattle.xhstt_shape.specs.declared.records.Time.{Time}
-use Rattle.xhstt_shape.specs.declared.records.TimeGroup.{TimeGroup}
 use Rattle.std.specs.List.{list_all}
 use lib.Utf8.{encode}
 use Rattle.xhstt_text.specs.Units.{is_character}
@@ -31,16 +19,16 @@ use Rattle.job_generator.specs.declared.drawing.DrawnJob.{DrawnJob}
 use Rattle.job_generator.specs.declared.resources.Sort.{Sort}
 use Rattle.job_generator.specs.declared.resources.Sort.TheVariants as sort
 use Rattle.job_generator.specs.Constraints as constraints
-use Rattle.job_generator.specs.Draws.{next, drawn, perhaps}
+use Rattle.job_generator.specs.Draws.{next, drawn}
 use Rattle.job_generator.specs.Events as events
 use Rattle.job_generator.specs.Job as job
 use Rattle.job_generator.specs.Made as made
-use Rattle.job_generator.specs.Names.{name, to, numbered, below, to_each, to_time}
+use Rattle.job_generator.specs.Names.{name, to, below}
 use Rattle.job_generator.specs.Resources as resources
 use Rattle.job_generator.specs.Solutions as solutions
 use Rattle.job_generator.specs.Times as times
 use Rattle.job_generator.specs.Turns.{in_turn, gathered}
-use Rattle.job_generator.proofs.Spellable.{word_fits, numbered_fits, all_made, only, two, three, four, six}
+use Rattle.job_generator.proofs.Spellable.{word_fits, numbered_fits, all_made, only, two, three, four}
 use Rattle.job_generator.proofs.Spellable.{to_each_fits}
 use Rattle.job_generator.proofs.Spellable.{to_time_fits}
 
@@ -418,8 +406,11 @@ prefer_resources = record {
     id = numbered_fits (codes "x") 5 refl;
     name = tt;
     applies = (only fit.IsSpellableRef _ (word_fits (codes "all") refl), All-nil fit.IsSpellableRef);
-    rule = (All-nil fit.IsSpellableRef, only fit.IsSpellableRef _ (word_fits (codes "q0") refl),
-        word_fits (codes "R") refl);
+    rule = (
+      All-nil fit.IsSpellableRef,
+      only fit.IsSpellableRef _ (word_fits (codes "q0") refl),
+      word_fits (codes "R") refl,
+    );
   };
   form_ = record { weight = omega arith; rule = room_role; applies = tt };
 }
@@ -478,8 +469,11 @@ avoid_clashes = record {
   fit_ = record {
     id = numbered_fits (codes "x") 10 refl;
     name = tt;
-    applies = (three fit.IsSpellableRef _ _ _ (word_fits (codes "gp") refl) (word_fits (codes "gc") refl)
-        (word_fits (codes "gq") refl), All-nil fit.IsSpellableRef);
+    applies = (
+      three fit.IsSpellableRef _ _ _ (word_fits (codes "gp") refl) (word_fits (codes "gc") refl)
+          (word_fits (codes "gq") refl),
+      All-nil fit.IsSpellableRef,
+    );
     rule = tt;
   };
   form_ = record { weight = omega arith; rule = tt; applies = tt };
@@ -547,65 +541,97 @@ limit_workload = record {
 
 event_fit_ : All fit.IsSpellableConstraint constraints.event_constraints
 unfolding constraints.event_constraints
-event_fit_ = six fit.IsSpellableConstraint
-    constraints.assign_time constraints.assign_resource constraints.split_events
-    constraints.distribute constraints.prefer_times constraints.prefer_resources
-    assign_time.fit_ assign_resource.fit_ split_events.fit_ distribute.fit_ prefer_times.fit_ prefer_resources.fit_
+event_fit_ =
+    three fit.IsSpellableConstraint constraints.assign_time constraints.assign_resource
+    constraints.split_events assign_time.fit_ assign_resource.fit_
+    split_events.fit_
 
 event_form_ : All form.IsConstraint constraints.event_constraints
 unfolding constraints.event_constraints
-event_form_ = six form.IsConstraint
-    constraints.assign_time constraints.assign_resource constraints.split_events
-    constraints.distribute constraints.prefer_times constraints.prefer_resources
-    assign_time.form_ assign_resource.form_ split_events.form_ distribute.form_ prefer_times.form_
+event_form_ =
+    three form.IsConstraint constraints.assign_time constraints.assign_resource
+    constraints.split_events assign_time.form_ assign_resource.form_
+    split_events.form_
+
+part_fit_ : All fit.IsSpellableConstraint constraints.part_constraints
+unfolding constraints.part_constraints
+part_fit_ =
+    three fit.IsSpellableConstraint constraints.distribute constraints.prefer_times
+    constraints.prefer_resources distribute.fit_ prefer_times.fit_
+    prefer_resources.fit_
+
+part_form_ : All form.IsConstraint constraints.part_constraints
+unfolding constraints.part_constraints
+part_form_ =
+    three form.IsConstraint constraints.distribute constraints.prefer_times
+    constraints.prefer_resources distribute.form_ prefer_times.form_
     prefer_resources.form_
 
 group_fit_ : (size : ℕ) → All fit.IsSpellableConstraint (constraints.group_constraints size)
 unfolding constraints.group_constraints
-group_fit_ size = four fit.IsSpellableConstraint
-    (constraints.avoid_split size) (constraints.spread_events size) constraints.link_events
-    (constraints.order_events size)
-    (avoid_split size).fit_ (spread_events size).fit_ link_events.fit_ (order_events size).fit_
+group_fit_ size =
+    four fit.IsSpellableConstraint (constraints.avoid_split size) (constraints.spread_events size)
+    constraints.link_events (constraints.order_events size) (avoid_split size).fit_ (spread_events size).fit_
+    link_events.fit_ (order_events size).fit_
 
 group_form_ : (size : ℕ) → All form.IsConstraint (constraints.group_constraints size)
 unfolding constraints.group_constraints
-group_form_ size = four form.IsConstraint
-    (constraints.avoid_split size) (constraints.spread_events size) constraints.link_events
-    (constraints.order_events size)
-    (avoid_split size).form_ (spread_events size).form_ link_events.form_ (order_events size).form_
+group_form_ size =
+    four form.IsConstraint (constraints.avoid_split size) (constraints.spread_events size)
+    constraints.link_events (constraints.order_events size) (avoid_split size).form_ (spread_events size).form_
+    link_events.form_ (order_events size).form_
 
 resource_fit_ : All fit.IsSpellableConstraint constraints.resource_constraints
 unfolding constraints.resource_constraints
-resource_fit_ = six fit.IsSpellableConstraint
-    constraints.avoid_clashes constraints.avoid_unavailable constraints.limit_idle
-    constraints.cluster_busy constraints.limit_busy constraints.limit_workload
-    avoid_clashes.fit_ avoid_unavailable.fit_ limit_idle.fit_ cluster_busy.fit_ limit_busy.fit_ limit_workload.fit_
+resource_fit_ =
+    three fit.IsSpellableConstraint constraints.avoid_clashes constraints.avoid_unavailable
+    constraints.limit_idle avoid_clashes.fit_ avoid_unavailable.fit_
+    limit_idle.fit_
 
 resource_form_ : All form.IsConstraint constraints.resource_constraints
 unfolding constraints.resource_constraints
-resource_form_ = six form.IsConstraint
-    constraints.avoid_clashes constraints.avoid_unavailable constraints.limit_idle
-    constraints.cluster_busy constraints.limit_busy constraints.limit_workload
-    avoid_clashes.form_ avoid_unavailable.form_ limit_idle.form_ cluster_busy.form_ limit_busy.form_
+resource_form_ =
+    three form.IsConstraint constraints.avoid_clashes constraints.avoid_unavailable
+    constraints.limit_idle avoid_clashes.form_ avoid_unavailable.form_
+    limit_idle.form_
+
+load_fit_ : All fit.IsSpellableConstraint constraints.load_constraints
+unfolding constraints.load_constraints
+load_fit_ =
+    three fit.IsSpellableConstraint constraints.cluster_busy constraints.limit_busy
+    constraints.limit_workload cluster_busy.fit_ limit_busy.fit_
+    limit_workload.fit_
+
+load_form_ : All form.IsConstraint constraints.load_constraints
+unfolding constraints.load_constraints
+load_form_ =
+    three form.IsConstraint constraints.cluster_busy constraints.limit_busy
+    constraints.limit_workload cluster_busy.form_ limit_busy.form_
     limit_workload.form_
 
 constraints_fit_ : (size : ℕ) → All fit.IsSpellableConstraint (constraints.constraints size)
 unfolding constraints.constraints
 constraints_fit_ size =
-    All-append fit.IsSpellableConstraint (constraints.event_constraints ++ constraints.group_constraints size)
-    constraints.resource_constraints
-    (All-append fit.IsSpellableConstraint constraints.event_constraints (constraints.group_constraints size)
-    event_fit_ (group_fit_ size))
-    resource_fit_
+    let two : List RawConstraint = constraints.event_constraints ++ constraints.part_constraints in
+    let three_ : List RawConstraint = two ++ constraints.group_constraints size in
+    let four_ : List RawConstraint = three_ ++ constraints.resource_constraints in
+    let h = All-append fit.IsSpellableConstraint constraints.event_constraints constraints.part_constraints event_fit_
+    part_fit_ in
+    let k = All-append fit.IsSpellableConstraint two (constraints.group_constraints size) h (group_fit_ size) in
+    let m = All-append fit.IsSpellableConstraint three_ constraints.resource_constraints k resource_fit_ in
+    All-append fit.IsSpellableConstraint four_ constraints.load_constraints m load_fit_
 
 constraints_form_ : (size : ℕ) → All form.IsConstraint (constraints.constraints size)
 unfolding constraints.constraints
 constraints_form_ size =
-    All-append form.IsConstraint (constraints.event_constraints ++ constraints.group_constraints size)
-    constraints.resource_constraints
-    (All-append form.IsConstraint constraints.event_constraints (constraints.group_constraints size)
-    event_form_ (group_form_ size))
-    resource_form_
+    let two : List RawConstraint = constraints.event_constraints ++ constraints.part_constraints in
+    let three_ : List RawConstraint = two ++ constraints.group_constraints size in
+    let four_ : List RawConstraint = three_ ++ constraints.resource_constraints in
+    let h = All-append form.IsConstraint constraints.event_constraints constraints.part_constraints event_form_
+    part_form_ in
+    let k = All-append form.IsConstraint two (constraints.group_constraints size) h (group_form_ size) in
+    let m = All-append form.IsConstraint three_ constraints.resource_constraints k resource_form_ in
+    All-append form.IsConstraint four_ constraints.load_constraints m load_form_
 
 -- the archive
 

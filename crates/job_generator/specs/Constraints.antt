@@ -131,18 +131,25 @@ limit_busy = constraint 14 false 1 Linear (group (codes "gc")) (ruled.LimitBusyT
 unfoldable pub limit_workload : RawConstraint
 limit_workload = constraint 15 false 1 Linear (group (codes "gp")) (ruled.LimitWorkload 0 12)
 
--- the constraints of events, those of groups and pairs of events, and those of resources
+-- the constraints of events, of their parts, and of groups and pairs of events
 unfoldable pub event_constraints : List RawConstraint
-event_constraints =
-    assign_time ∷ (assign_resource ∷ (split_events ∷ (distribute ∷ (prefer_times ∷ (prefer_resources ∷ [])))))
+event_constraints = assign_time ∷ (assign_resource ∷ (split_events ∷ []))
+
+unfoldable pub part_constraints : List RawConstraint
+part_constraints = distribute ∷ (prefer_times ∷ (prefer_resources ∷ []))
 
 unfoldable pub group_constraints : ℕ → List RawConstraint
 group_constraints size =
     avoid_split size ∷ (spread_events size ∷ (link_events ∷ (order_events size ∷ [])))
 
+-- those of resources, and of how much they are busy
 unfoldable pub resource_constraints : List RawConstraint
-resource_constraints =
-    avoid_clashes ∷ (avoid_unavailable ∷ (limit_idle ∷ (cluster_busy ∷ (limit_busy ∷ (limit_workload ∷ [])))))
+resource_constraints = avoid_clashes ∷ (avoid_unavailable ∷ (limit_idle ∷ []))
 
+unfoldable pub load_constraints : List RawConstraint
+load_constraints = cluster_busy ∷ (limit_busy ∷ (limit_workload ∷ []))
+
+-- all of them, in order
 unfoldable pub constraints : ℕ → List RawConstraint
-constraints size = (event_constraints ++ group_constraints size) ++ resource_constraints
+constraints size =
+    (((event_constraints ++ part_constraints) ++ group_constraints size) ++ resource_constraints) ++ load_constraints

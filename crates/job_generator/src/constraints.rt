@@ -376,7 +376,14 @@ fn add_event_constraints(alloc: Global, list: &mut Seq<RawConstraint>) -> Result
 {
     list.push(assign_time(alloc)?)?;
     list.push(assign_resource(alloc)?)?;
-    list.push(split_events(alloc)?)?;
+    list.push(split_events(alloc)?)
+}
+
+/// Adds the constraints of parts of events.
+#[tactic(auto, unfolding(crate::specs::Constraints::part_constraints))]
+fn add_part_constraints(alloc: Global, list: &mut Seq<RawConstraint>) -> Result<(), NoMemory>
+    ensures { OnOk result (list.new ≡ list.old ++ spec.part_constraints) }
+{
     list.push(distribute(alloc)?)?;
     list.push(prefer_times(alloc)?)?;
     list.push(prefer_resources(alloc)?)
@@ -404,7 +411,14 @@ fn add_resource_constraints(alloc: Global, list: &mut Seq<RawConstraint>) -> Res
 {
     list.push(avoid_clashes(alloc)?)?;
     list.push(avoid_unavailable(alloc)?)?;
-    list.push(limit_idle(alloc)?)?;
+    list.push(limit_idle(alloc)?)
+}
+
+/// Adds the constraints of how much resources are busy.
+#[tactic(auto, unfolding(crate::specs::Constraints::load_constraints))]
+fn add_load_constraints(alloc: Global, list: &mut Seq<RawConstraint>) -> Result<(), NoMemory>
+    ensures { OnOk result (list.new ≡ list.old ++ spec.load_constraints) }
+{
     list.push(cluster_busy(alloc)?)?;
     list.push(limit_busy(alloc)?)?;
     list.push(limit_workload(alloc)?)
@@ -417,7 +431,9 @@ pub(crate) fn constraints(alloc: Global, size: u32) -> Result<Seq<RawConstraint>
 {
     let mut list = roomy(alloc, 16)?;
     add_event_constraints(alloc, &mut list)?;
+    add_part_constraints(alloc, &mut list)?;
     add_group_constraints(alloc, &mut list, size)?;
     add_resource_constraints(alloc, &mut list)?;
+    add_load_constraints(alloc, &mut list)?;
     Ok(list)
 }

@@ -7,6 +7,8 @@ mod drawing;
 mod draws;
 mod events;
 mod generating;
+#[allow(dead_code)]
+mod laws;
 mod lists;
 mod names;
 mod resources;

@@ -15,7 +15,9 @@ fn text(alloc: Global, word: &str) -> Result<Text, NoMemory>
     requires { IsTrue (is_ascii word.now) }
     ensures { IfOk result (λ t. t ≡ word.now) }
 {
-    Text::from_str(alloc, word)
+    let mut text = roomy_text(alloc, word.len())?;
+    text.push_literal(word)?;
+    Ok(text)
 }
 
 /// An empty text with room for so many bytes.

@@ -125,7 +125,6 @@ fn resource(alloc: Global, sort: Sort, number: u32) -> Result<RawResource, NoMem
 }
 
 /// Adds so many resources of a sort.
-#[tactic(auto, using(crate::proofs::ListLemmas::below_none, crate::proofs::ListLemmas::below_more))]
 fn add_resources(
     alloc: Global,
     list: &mut Seq<RawResource>,
