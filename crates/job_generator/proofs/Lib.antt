@@ -1,0 +1,3 @@
+pub mod ListLemmas
+pub mod Spellable
+pub mod WellFormed

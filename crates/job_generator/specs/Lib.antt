@@ -1,0 +1,10 @@
+pub mod Constraints
+pub mod Draws
+pub mod Events
+pub mod Job
+pub mod Made
+pub mod Names
+pub mod Resources
+pub mod Solutions
+pub mod Times
+pub mod Turns
