@@ -68,15 +68,23 @@ fn first_difference(taken: &[u8], text: &[u8]) -> usize {
     at
 }
 
-/// What stands in a text from a place on, as far as it is shown.
-fn shown(text: &[u8], at: usize) -> &str {
-    let rest = if at <= text.len() { &text[at..] } else { b"" };
-    let few = if rest.len() > SHOWN {
-        &rest[..SHOWN]
+/// What stands in a text from a place on.
+fn behind(text: &[u8], at: usize) -> &[u8] {
+    if at <= text.len() { &text[at..] } else { b"" }
+}
+
+/// A text as far as it is shown.
+fn first_few(text: &[u8]) -> &[u8] {
+    if text.len() > SHOWN {
+        &text[..SHOWN]
     } else {
-        rest
-    };
-    match std::str::from_utf8(few) {
+        text
+    }
+}
+
+/// What is shown of a text from a place on.
+fn shown(text: &[u8], at: usize) -> &str {
+    match std::str::from_utf8(first_few(behind(text, at))) {
         Ok(text) => text,
         Err(_) => "bytes that are no text",
     }
