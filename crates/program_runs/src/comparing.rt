@@ -75,11 +75,8 @@ fn behind(text: &[u8], at: usize) -> &[u8] {
 
 /// A text as far as it is shown.
 fn first_few(text: &[u8]) -> &[u8] {
-    if text.len() > SHOWN {
-        &text[..SHOWN]
-    } else {
-        text
-    }
+    let count = text.len().min(SHOWN);
+    &text[..count]
 }
 
 /// What is shown of a text from a place on.
