@@ -1,5 +1,6 @@
 use crate::archives::{WITH_RESOURCES, replaced};
-use program_runs::{End, must_answer};
+use crate::ends::must_answer;
+use program_runs::End;
 use std::alloc::Global;
 use std::process::Abort;
 use std::test::Fail;

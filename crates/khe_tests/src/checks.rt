@@ -1,8 +1,7 @@
 use crate::archives::FIRST;
+use crate::ends::{must_answer, must_end};
 use program_runs::Piece::{Copies, Once};
-use program_runs::{
-    Call, End, File, failing, must_answer, must_end, reads_made, text_of, writes_made,
-};
+use program_runs::{Call, End, File, failing, reads_made, text_of, writes_made};
 use std::alloc::Global;
 use std::process::Abort;
 use std::test::Fail;

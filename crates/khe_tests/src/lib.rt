@@ -8,6 +8,8 @@ mod causes;
 #[cfg(test)]
 mod checks;
 #[cfg(test)]
+mod ends;
+#[cfg(test)]
 mod kinds;
 #[cfg(test)]
 mod resolving;

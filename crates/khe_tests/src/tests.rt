@@ -1,6 +1,7 @@
 use crate::archives::{FIRST, WITH_RESOURCES, first_with};
+use crate::ends::{must_answer, must_end};
 use khe_base::NoMemory;
-use program_runs::{Call, Devices, End, File, GOOD, failing, must_answer, must_end};
+use program_runs::{Call, Devices, End, File, GOOD, failing};
 use std::alloc::Global;
 use std::process::Abort;
 use std::test::Fail;

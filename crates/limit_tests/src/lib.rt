@@ -5,6 +5,8 @@
 #[cfg(test)]
 mod counts;
 #[cfg(test)]
+mod ends;
+#[cfg(test)]
 mod limits;
 #[cfg(test)]
 mod listed;

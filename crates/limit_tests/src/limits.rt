@@ -1,5 +1,6 @@
+use crate::ends::must_answer;
 use khe_base::{NoMemory, Text, both};
-use program_runs::{End, Piece, must_answer, push_all, text_of};
+use program_runs::{End, Piece, push_all, text_of};
 use std::alloc::Global;
 use std::process::Abort;
 use std::test::Fail;

@@ -1,11 +1,10 @@
 //! What a run ends with beside what it should end with.
 
-use crate::calls::{Call, End, File};
-use crate::devices::{Devices, GOOD};
+use crate::calls::{Call, End};
+use crate::devices::Devices;
 use crate::runs::run;
-use khe_base::NoMemory;
+use khe_base::{NoMemory, Text, both};
 use std::alloc::Global;
-use std::process::Abort;
 use std::thread::Threads;
 
 /// More bytes than any text has beyond the expected one, so that a longer text shows.
@@ -14,46 +13,51 @@ const SPARE: u64 = 1_000;
 /// How many bytes are shown of texts that differ.
 const SHOWN: usize = 200;
 
-/// Runs the program. The test fails unless the run ends with this status after exactly this text; then it shows both
-/// from the first difference on.
-pub fn must_end<R: Threads + Sync + Abort>(
+/// How a run ended otherwise than it should.
+#[derive(Debug, Drop)]
+pub struct Difference {
+    /// The first byte at which the texts differ, or the length of the shorter one.
+    pub at: usize,
+    /// What was written from there on, as far as it is shown.
+    pub written: Text,
+    /// What should have been written from there on.
+    pub wanted: Text,
+    /// The status that the run ended with.
+    pub status: u8,
+}
+
+/// Runs the program, and answers how it ended otherwise than with this status after exactly this text.
+pub fn difference<R: Threads + Sync>(
     rt: &R,
     alloc: Global,
     call: Call<'_>,
     devices: Devices,
     end: End<'_>,
-) -> Result<(), NoMemory> {
+) -> Result<Option<Difference>, NoMemory> {
     let room = (end.text.len() as u64).saturating_add(SPARE);
     let (status, sink) = run(rt, alloc, call, devices, room)?;
-    compare(rt, status, sink.taken().as_slice(), end);
-    Ok(())
+    difference_of(alloc, status, sink.taken().as_slice(), end)
 }
 
-/// The same where this text stands under `archive` and nothing else does, and no device fails.
-pub fn must_answer<R: Threads + Sync + Abort>(
-    rt: &R,
+fn difference_of(
     alloc: Global,
-    words: &[&str],
-    archive: &str,
+    status: u8,
+    taken: &[u8],
     end: End<'_>,
-) -> Result<(), NoMemory> {
-    let files = [File {
-        name: "archive",
-        text: archive,
-    }];
-    let call = Call {
-        words,
-        files: &files,
-    };
-    must_end(rt, alloc, call, GOOD, end)
-}
-
-fn compare(rt: &impl Abort, status: u8, taken: &[u8], end: End<'_>) {
+) -> Result<Option<Difference>, NoMemory> {
     let text = end.text.as_bytes();
+    if status == end.status && taken == text {
+        return Ok(None);
+    }
     let at = first_difference(taken, text);
-    assert_eq!(rt; shown(taken, at), shown(text, at), "from byte {at} on");
-    assert!(rt; taken == text, "bytes differ from byte {at} on");
-    assert_eq!(rt; status, end.status);
+    let written = Text::from_str(alloc, shown(taken, at));
+    let (written, wanted) = both(written, Text::from_str(alloc, shown(text, at)))?;
+    Ok(Some(Difference {
+        at,
+        written,
+        wanted,
+        status,
+    }))
 }
 
 /// The first place at which two texts differ, or the length of the shorter one.

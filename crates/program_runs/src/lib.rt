@@ -10,7 +10,7 @@ mod runs;
 mod sweeps;
 
 pub use calls::{Call, End, File};
-pub use comparing::{must_answer, must_end};
+pub use comparing::{Difference, difference};
 pub use devices::{Devices, GOOD, failing};
 pub use pieces::{Piece, push_all, text_of};
 pub use runs::run;

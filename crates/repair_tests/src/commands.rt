@@ -2,10 +2,11 @@
 //! apart from this one.
 
 use crate::archives::{CROSSED, SMALL, TO_CUT, TO_JOIN};
+use crate::ends::{must_answer, must_end};
 use crate::texts::{CUT, FRONT, JOINED, KEPT, REPAIRED, SPENT, SWAPPED};
 use khe_base::NoMemory;
 use program_runs::Piece::Once;
-use program_runs::{Call, End, Piece, failing, must_answer, must_end, text_of};
+use program_runs::{Call, End, Piece, failing, text_of};
 use std::alloc::Global;
 use std::process::Abort;
 use std::test::Fail;

@@ -9,6 +9,8 @@ mod cases;
 #[cfg(test)]
 mod commands;
 #[cfg(test)]
+mod ends;
+#[cfg(test)]
 mod families;
 #[cfg(test)]
 mod gates;

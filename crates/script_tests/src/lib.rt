@@ -8,6 +8,8 @@ mod archives;
 #[cfg(test)]
 mod edits;
 #[cfg(test)]
+mod ends;
+#[cfg(test)]
 mod lines;
 #[cfg(test)]
 mod marks;

@@ -1,5 +1,6 @@
+use crate::ends::must_end;
 use khe_base::{NoMemory, both};
-use program_runs::{Call, End, File, GOOD, Piece, must_end, text_of};
+use program_runs::{Call, End, File, GOOD, Piece, text_of};
 use std::alloc::Global;
 use std::process::Abort;
 use std::test::Fail;

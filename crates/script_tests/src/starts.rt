@@ -1,7 +1,8 @@
 use crate::archives::{CUT_SHORT, OFF_END, SMALL};
+use crate::ends::must_end;
 use crate::plays::{Play, must_go};
 use program_runs::Piece::Once;
-use program_runs::{Call, End, File, GOOD, failing, must_end};
+use program_runs::{Call, End, File, GOOD, failing};
 use std::alloc::Global;
 use std::process::Abort;
 use std::test::Fail;
