@@ -1,7 +1,7 @@
 //! Runs that must end as they should.
 
 use khe_base::NoMemory;
-use program_runs::{Call, Devices, End, File, GOOD, difference};
+use program_runs::{Call, Devices, End, File, GOOD, compared};
 use std::alloc::Global;
 use std::process::Abort;
 use std::thread::Threads;
@@ -15,7 +15,7 @@ pub(crate) fn must_end<R: Threads + Sync + Abort>(
     devices: Devices,
     end: End<'_>,
 ) -> Result<(), NoMemory> {
-    let found = difference(rt, alloc, call, devices, end)?;
+    let found = compared(rt, alloc, call, devices, end)?;
     assert!(rt; found.is_none(), "{found:?}");
     Ok(())
 }

@@ -27,7 +27,7 @@ pub struct Difference {
 }
 
 /// Runs the program, and answers how it ended otherwise than with this status after exactly this text.
-pub fn difference<R: Threads + Sync>(
+pub fn compared<R: Threads + Sync>(
     rt: &R,
     alloc: Global,
     call: Call<'_>,

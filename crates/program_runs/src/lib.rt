@@ -10,7 +10,7 @@ mod runs;
 mod sweeps;
 
 pub use calls::{Call, End, File};
-pub use comparing::{Difference, difference};
+pub use comparing::{Difference, compared};
 pub use devices::{Devices, GOOD, failing};
 pub use pieces::{Piece, push_all, text_of};
 pub use runs::run;

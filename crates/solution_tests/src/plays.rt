@@ -95,10 +95,10 @@ fn first_of<L: Ledger>(hand: &mut Hand<'_>, play: &Play, steps: &mut Steps<L>) -
         return Some(play.steps.len());
     }
     for (place, step) in play.steps.iter().enumerate() {
-        match after(hand, before, step, steps) {
-            Some(meets) => before = meets,
-            None => return Some(place),
-        }
+        let Some(meets) = after(hand, before, step, steps) else {
+            return Some(place);
+        };
+        before = meets;
     }
     None
 }
