@@ -1,14 +1,13 @@
 //! Lists of edits, and whether each of them goes as the list has it.
 
 ghost use Rattle.std.specs.Prelude.{◌≡◌, ◌<◌};
-ghost use Rattle.khe_instance.specs.States.{IsValid};
 
 use crate::hands::Hand;
 use crate::moves::{Act, Move};
 use crate::sights::{Sight, heard, heard_back, shows};
 use crate::worked::{Worked, read, state_of};
 use khe_base::NoMemory;
-use khe_instance::{Instance, Plain};
+use khe_instance::Instance;
 use khe_told::{Blank, Refusal, Steps};
 use std::alloc::Global;
 use std::marker::Brand;
@@ -61,21 +60,10 @@ fn wrong_on(
     raw: &RawSolution,
     play: &Play,
 ) -> Result<Option<usize>, NoMemory> {
-    match state_of(alloc, inst, raw) {
-        Some(plain) => wrong_from(alloc, inst, &plain, play),
-        None => Ok(Some(play.steps.len())),
-    }
-}
-
-fn wrong_from(
-    alloc: Global,
-    inst: &Instance,
-    plain: &Plain,
-    play: &Play,
-) -> Result<Option<usize>, NoMemory>
-    requires { IsValid inst.now plain.now }
-{
-    let mut hand = Hand::open(alloc, inst, plain)?;
+    let Some(plain) = state_of(alloc, inst, raw) else {
+        return Ok(Some(play.steps.len()));
+    };
+    let mut hand = Hand::open(alloc, inst, &plain)?;
     Ok(wrong_of::<Brand>(&mut hand, play, Blank::new(1)))
 }
 
@@ -85,43 +73,27 @@ fn wrong_of<L: Ledger>(hand: &mut Hand<'_>, play: &Play, blank: Blank) -> Option
     requires some { 0 < blank.parts }
 {
     let mut steps = Steps::<L>::new(blank);
-    first_of(hand, play, &mut steps)
-}
-
-/// The first step that goes otherwise. It owns nothing, so none of its exits drops anything.
-fn first_of<L: Ledger>(hand: &mut Hand<'_>, play: &Play, steps: &mut Steps<L>) -> Option<usize> {
     let mut before = play.start;
     if !shows(hand, before) {
         return Some(play.steps.len());
     }
     for (place, step) in play.steps.iter().enumerate() {
-        let Some(meets) = after(hand, before, step, steps) else {
-            return Some(place);
-        };
-        before = meets;
+        let (act, outcome) = *step;
+        match outcome {
+            Outcome::Refused(refusal) => {
+                if !is_refused(hand, act, refusal, &mut steps) || !shows(hand, before) {
+                    return Some(place);
+                }
+            }
+            Outcome::Made(made, moves, after) => {
+                if !is_made(hand, act, (made, moves), (before, after), &mut steps) {
+                    return Some(place);
+                }
+                before = after;
+            }
+        }
     }
     None
-}
-
-/// The meets after a step, where it goes as it should.
-fn after<L: Ledger>(
-    hand: &mut Hand<'_>,
-    before: &'static [Sight],
-    step: &Step,
-    steps: &mut Steps<L>,
-) -> Option<&'static [Sight]> {
-    let (act, outcome) = *step;
-    let (is_right, meets) = match outcome {
-        Outcome::Refused(refusal) => (
-            is_refused(hand, act, refusal, steps) && shows(hand, before),
-            before,
-        ),
-        Outcome::Made(made, moves, after) => (
-            is_made(hand, act, (made, moves), (before, after), steps),
-            after,
-        ),
-    };
-    is_right.then_some(meets)
 }
 
 /// Whether an edit is refused so, by a check and when it is made, and nothing is heard of it.
