@@ -19,6 +19,7 @@ use std::thread::Threads;
 
 /// The jobs of a solve of an archive's first solution, which are repairs by single moves; the job that
 /// has the least result, and the fates of all.
+#[derive(Clone, Copy)]
 struct Case<'a> {
     budget: u64,
     workers: u32,
