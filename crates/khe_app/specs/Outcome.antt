@@ -9,6 +9,7 @@ use Rattle.khe_instance.specs.declared.parts.Parts.{Parts}
 use Rattle.khe_instance.specs.declared.states.Plain.{Plain}
 use Rattle.parallel_solve.specs.Verdicts.{parts_at}
 use Rattle.repair_run.specs.Repairs.{IsRepairText}
+use Rattle.repair_run.specs.Solves.{IsSolveText}
 use Rattle.script_run.specs.Plays.{begun}
 use Rattle.script_run.specs.Scripts.{is_script, script_text}
 use Rattle.xhstt_completion.specs.Completed.{completed}
@@ -28,7 +29,7 @@ use Rattle.xhstt_resolve.specs.declared.resolving.Resolved.{Resolved}
 use Rattle.xhstt_writer.specs.Archives.{canonical}
 use Rattle.khe_app.specs.Refusals.{refusal_line, not_understood_line, script_too_large_line}
 use Rattle.khe_app.specs.Report.{report}
-use Rattle.khe_app.specs.Words.{Asked, asked, evaluating, scripting, checking, repairing}
+use Rattle.khe_app.specs.Words.{Asked, asked, evaluating, scripting, checking, repairing, solving}
 use Rattle.khe_app.specs.declared.scripts.TheConstants.{SCRIPT_BYTES}
 use Rattle.khe_app.specs.declared.refusals.Refusal.{Refusal}
 use Rattle.khe_app.specs.declared.refusals.Refusal.TheVariants.{Fault, Limit, TooLarge, NoSuchSolution, Invalid}
@@ -183,6 +184,29 @@ abbrev pub IsRepairTo : ℕ → ℕ → ℕ → Option (List ℕ) → ℕ → Li
 IsRepairTo number depth budget None status text = (status ≡ 4) × (text ≡ [])
 IsRepairTo number depth budget (Some bytes) status text = IsRepaired number depth budget bytes status text
 
+-- what comes of a start: the archive in which the least result of many repairs of its timetable takes the
+-- place of the solution, and the line on its job
+abbrev pub IsSolveOf : Archive → ℕ → ℕ → ℕ → ℕ → Start → ℕ → List ℕ → Type 0
+IsSolveOf a number depth budget jobs (barred refusal) status text = (status ≡ 3) × (text ≡ refusal_line refusal)
+IsSolveOf a number depth budget jobs (begins p plain) status text =
+    (status ≡ 0) × IsSolveText a number p plain depth budget jobs text
+
+abbrev pub IsSolveIn : ℕ → ℕ → ℕ → ℕ → Reading → ℕ → List ℕ → Type 0
+IsSolveIn number depth budget jobs (evaluable a r) status text =
+    IsSolveOf a number depth budget jobs (start_of a r number) status text
+IsSolveIn number depth budget jobs (refused refusal) status text = (status ≡ 3) × (text ≡ refusal_line refusal)
+
+-- a reading of the archive's bytes, and what comes of its solution with this number
+pub record IsSolvedFrom (number depth budget jobs : ℕ) (bytes : List ℕ) (status : ℕ) (text : List ℕ) : Type 0 where
+  pub reading : Reading
+  pub is : IsReadingOf bytes reading
+  pub solved : IsSolveIn number depth budget jobs reading status text
+
+-- what the bytes under the archive's name are solved to; where nothing stands there, status 4 and no text
+abbrev pub IsSolveTo : ℕ → ℕ → ℕ → ℕ → Option (List ℕ) → ℕ → List ℕ → Type 0
+IsSolveTo number depth budget jobs None status text = (status ≡ 4) × (text ≡ [])
+IsSolveTo number depth budget jobs (Some bytes) status text = IsSolvedFrom number depth budget jobs bytes status text
+
 -- the outcome of what is asked for, and of words without a reading, by what stands under each name
 abbrev pub IsOutcomeOf : Option Asked → (List ℕ → Option (List ℕ)) → ℕ → List ℕ → Type 0
 IsOutcomeOf None under status text = (status ≡ 2) × (text ≡ not_understood_line)
@@ -192,6 +216,8 @@ IsOutcomeOf (Some (scripting archive number script)) under status text =
 IsOutcomeOf (Some (checking archive)) under status text = IsSpellingTo (under archive) status text
 IsOutcomeOf (Some (repairing archive number depth budget)) under status text =
     IsRepairTo number depth budget (under archive) status text
+IsOutcomeOf (Some (solving archive number depth budget jobs)) under status text =
+    IsSolveTo number depth budget jobs (under archive) status text
 
 -- `khe` on these words, where these bytes stand under the names, ends with this status after this text
 abbrev pub IsOutcome : List (List ℕ) → (List ℕ → Option (List ℕ)) → ℕ → List ℕ → Type 0

@@ -19,13 +19,9 @@ pub data Asked : Type 0 where
   -- the same with one of its solutions repaired: the archive's name, the solution's number, the greatest
   -- number of moves of a chain, and how many chains may be tried
   repairing : List ℕ → ℕ → ℕ → ℕ → Asked
-
--- the name of the archive
-abbrev pub archive_of : Asked → List ℕ
-archive_of (evaluating archive all) = archive
-archive_of (scripting archive solution script) = archive
-archive_of (checking archive) = archive
-archive_of (repairing archive solution depth budget) = archive
+  -- the same with the least result of many such repairs: besides how many jobs there are; it is the same for
+  -- every number of workers
+  solving : List ℕ → ℕ → ℕ → ℕ → ℕ → Asked
 
 -- a number from 1 to a greatest one, by 1 to 18 digits that write it
 unfoldable pub number_to : ℕ → List ℕ → Option ℕ
@@ -102,6 +98,35 @@ repair_by archive [] = None
 repair_by archive (solution ∷ options) = option_and_then (λ number. repair_with archive number options)
     (number_of 18 solution)
 
+-- the repairs of a solve: their depth and their budget
+unfoldable pub chains_by : List (List ℕ) → Option (ℕ × ℕ)
+chains_by options = option_and_then (λ depth. option_map (λ budget. (depth, budget)) (budget_by options))
+    (depth_by options)
+
+-- how many jobs there are, at most 10,000, and how many workers do them, at most 64
+unfoldable pub jobs_by : List (List ℕ) → Option ℕ
+jobs_by options = number_by (codes "--jobs") 10000 options
+
+unfoldable pub crew_by : List (List ℕ) → Option ℕ
+crew_by options = number_by (codes "--workers") 64 options
+
+unfoldable pub shares_by : List (List ℕ) → Option (ℕ × ℕ)
+shares_by options = option_and_then (λ jobs. option_map (λ workers. (jobs, workers)) (crew_by options))
+    (jobs_by options)
+
+-- a solve with these options: each of the four stands once where all have values in eight words
+unfoldable pub solve_with : List ℕ → ℕ → List (List ℕ) → Option Asked
+solve_with archive solution options =
+    if length options == 8
+    then option_and_then (λ c. option_map (λ s. solving archive solution c.0 c.1 s.0) (shares_by options))
+    (chains_by options) else None
+
+-- a solve is asked for by the number of the solution and its options
+abbrev pub solve_by : List ℕ → List (List ℕ) → Option Asked
+solve_by archive [] = None
+solve_by archive (solution ∷ options) = option_and_then (λ number. solve_with archive number options)
+    (number_of 18 solution)
+
 -- what is asked for by a command that changes nothing, the archive's name and the words after it
 unfoldable pub told_by : List ℕ → List ℕ → List (List ℕ) → Option Asked
 told_by command name more =
@@ -113,10 +138,13 @@ told_by command name more =
 -- and by any command
 unfoldable pub asked_by : List ℕ → List ℕ → List (List ℕ) → Option Asked
 asked_by command name more =
-    if bytes_eq (codes "repair") command then repair_by name more else told_by command name more
+    if bytes_eq (codes "repair") command then repair_by name more
+    else if bytes_eq (codes "solve") command then solve_by name more
+    else told_by command name more
 
--- `evaluate ARCHIVE [--all] [--workers N]`, `script ARCHIVE SOLUTION SCRIPT`, `check ARCHIVE` or `repair ARCHIVE
--- SOLUTION --depth D --budget B`; the second word is the archive's name, whatever it begins with
+-- `evaluate ARCHIVE [--all] [--workers N]`, `script ARCHIVE SOLUTION SCRIPT`, `check ARCHIVE`, `repair ARCHIVE
+-- SOLUTION --depth D --budget B` or `solve ARCHIVE SOLUTION --depth D --budget B --jobs J --workers N`; the second
+-- word is the archive's name, whatever it begins with
 abbrev pub asked : List (List ℕ) → Option Asked
 asked (command ∷ name ∷ more) = asked_by command name more
 asked _ = None

@@ -11,6 +11,7 @@ mod refusals;
 mod repairing;
 mod reports;
 mod scripts;
+mod solving;
 mod starting;
 mod words;
 

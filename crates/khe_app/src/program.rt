@@ -14,6 +14,7 @@ use crate::refusals::{Refusal, refusal_line};
 use crate::repairing::repair;
 use crate::reports::report;
 use crate::scripts::{SCRIPT_BYTES, play_script};
+use crate::solving::solve;
 use crate::starting::{Begun, start};
 use crate::words::{Request, request_of};
 use khe_base::{NoMemory, Seq, limits};
@@ -28,9 +29,9 @@ use thiserror::Error;
 ///
 /// | Status | Meaning |
 /// |---|---|
-/// | 0 | the archive was evaluated, written or repaired, or the script was read to its end |
+/// | 0 | the archive was evaluated, written, repaired or solved, or the script was read to its end |
 /// | 2 | the words were not understood |
-/// | 3 | the archive was refused, or the solution that a script or a repair begins with |
+/// | 3 | the archive was refused, or the solution that a script, a repair or a solve begins with |
 /// | 4 | the archive or the script could not be read |
 /// | 5 | the text could not be written |
 /// | 6 | memory ran out |
@@ -88,15 +89,18 @@ impl From<NoMemory> for Stop {
 /// monitors and `--workers` with the number of workers, 1 to 64; or `script`, the archive's name, the
 /// number of a solution, and the name of the script; or `check` and the archive's name; or `repair`, the
 /// archive's name, the number of a solution, and in any order `--depth` with the greatest number of moves
-/// of a chain, 1 to 4, and `--budget` with the number of chains that may be tried, 1 to 1,000,000,000. The
-/// answer is a status, as in `Status`. What was written before a status of 4 is nothing, and before a
-/// status of 5 or 6 a first part of the text. The text does not depend on the number of workers, who pass
-/// the gate before each solution that they evaluate, with its number.
+/// of a chain, 1 to 4, and `--budget` with the number of chains that may be tried, 1 to 1,000,000,000; or
+/// `solve` with the same words and besides, in any order, `--jobs` with the number of repairs, 1 to 10,000,
+/// and `--workers` with the number of workers, 1 to 64. The answer is a status, as in `Status`. What was
+/// written before a status of 4 is nothing, and before a status of 5 or 6 a first part of the text. The text
+/// does not depend on the number of workers, who pass the gate before each solution that they evaluate and
+/// before each job that they run, with its number.
 ///
 /// A repaired timetable takes the place of the entries of its solution, and the line after the archive
 /// tells how the repair ended. It never costs more than the solution did; where the repair is done no
 /// chain of so many moves leaves lower totals, and where the budget is spent none of as many moves as the
-/// line names.
+/// line names. Of many repairs, which begin their lists of defects and moves at the number of their job, the
+/// one with the least totals takes that place, of equal ones the lowest; the line names its job.
 ///
 /// A report takes time about linear in the archive's bytes, in what its instances follow out, and, for
 /// each solution, in the meets, tasks, covered times, watches and monitors; the workers that run at the
@@ -105,7 +109,8 @@ impl From<NoMemory> for Stop {
 /// solution adds. A script takes besides what opening an engine takes, and for each edit what
 /// watches its changes. A canonical spelling takes time linear in its bytes, and beside the archive and its
 /// instances no more memory than a piece of it. A repair takes besides an engine, and for each chain that
-/// it tries what watches the changes of its last move.
+/// it tries what watches the changes of its last move. Many repairs take the time of all, divided among the
+/// workers that run at the same time, and an engine and two timetables for each worker.
 pub fn khe<R: Threads + Sync, S: Shelf, K: Sink, G: Gate>(
     rt: &R,
     alloc: Global,
@@ -193,6 +198,18 @@ fn respond<R: Threads + Sync, S: Shelf, K: Sink, G: Gate>(
                 budget,
             },
         ) => repair(alloc, shelf, out, archive, solution, depth, budget),
+        Some(
+            Request::Solve {
+                archive,
+                solution,
+                depth,
+                budget,
+                jobs,
+                workers,
+            },
+        ) => solve(
+            rt, alloc, shelf, out, gate, archive, solution, depth, budget, jobs, workers,
+        ),
         None => refuse_words(out),
     }
 }

@@ -1,6 +1,6 @@
 ghost use Rattle.std.specs.Prelude.{◌≡◌, ◌≤◌, None, Some, map, IfSome, MatchOption, string_bytes};
 ghost use Rattle.khe_app.specs.Requests.{IsFit, asked_of, workers_in};
-ghost use Rattle.khe_app.specs.Words.{asked, asked_by, all_by, both_by, budget_by, check_by, depth_by, evaluating, number_by, number_to, options_by, repair_by, repair_with, script_by, told_by, value_of, workers_by, workers_of};
+ghost use Rattle.khe_app.specs.Words.{asked, asked_by, all_by, both_by, budget_by, chains_by, check_by, crew_by, depth_by, evaluating, jobs_by, number_by, number_to, options_by, repair_by, repair_with, script_by, shares_by, solve_by, solve_with, told_by, value_of, workers_by, workers_of};
 ghost use Rattle.std.specs.Option.{option_map};
 
 use edit_script::number_of;
@@ -42,12 +42,28 @@ pub(crate) enum Request<'a> {
         /// How many chains may be tried, 1 to 1,000,000,000.
         budget: u32,
     },
+    /// An archive with one of its solutions replaced by the least result of many repairs of it.
+    Solve {
+        /// The name of the archive.
+        archive: &'a str,
+        /// The number of the solution, over all groups.
+        solution: u32,
+        /// The greatest number of moves of a chain, 1 to 4.
+        depth: u32,
+        /// How many chains each job may try, 1 to 1,000,000,000.
+        budget: u32,
+        /// How many jobs there are, 1 to 10,000.
+        jobs: u32,
+        /// How many workers do them, 1 to 64.
+        workers: u32,
+    },
 }
 
 /// What these words ask for, or `None` where they have no reading: the words are `evaluate`, a name,
 /// and in any order `--all` and `--workers` with a number, or nothing more; or `script`, a name, a number
 /// and a name; or `check` and a name; or `repair`, a name, a number, and in any order `--depth` and
-/// `--budget`, each with a number.
+/// `--budget`, each with a number; or `solve`, a name, a number, and in any order these two, `--jobs` and
+/// `--workers`, each with a number.
 pub(crate) fn request_of(words: &[String]) -> Option<Request<'_>>
     ensures asked { MatchOption result (asked (map string_bytes words.now) ≡ None) (λ r. asked (map string_bytes words.now) ≡ Some (asked_of r)) }
     ensures fit { IfSome result IsFit }
@@ -66,6 +82,9 @@ fn request_by<'a>(command: &str, archive: &'a str, more: &'a [String]) -> Option
 {
     if command == "repair" {
         return repair_by(archive, more);
+    }
+    if command == "solve" {
+        return solve_by(archive, more);
     }
     told_by(command, archive, more)
 }
@@ -275,5 +294,78 @@ fn repair_with<'a>(archive: &'a str, solution: u32, options: &[String]) -> Optio
         solution,
         depth: depth_by(options)?,
         budget: budget_by(options)?,
+    })
+}
+
+/// The greatest number of moves of a chain, and how many chains each job may try.
+#[tactic(auto, unfolding(crate::specs::Words::chains_by))]
+fn chains_by(options: &[String]) -> Option<(u32, u32)>
+    ensures chains { result ≡ chains_by (map string_bytes options.now) }
+    ensures fit { IfSome result (λ c. (1 ≤ c.0) × (c.0 ≤ 4) × (1 ≤ c.1)) }
+{
+    let depth = depth_by(options)?;
+    let budget = budget_by(options)?;
+    Some((depth, budget))
+}
+
+/// How many jobs there are.
+#[tactic(auto, unfolding(crate::specs::Words::jobs_by))]
+fn jobs_by(options: &[String]) -> Option<u32>
+    ensures jobs { result ≡ jobs_by (map string_bytes options.now) }
+    ensures fit { IfSome result (λ n. (1 ≤ n) × (n ≤ 10000)) }
+{
+    number_by("--jobs", 10_000, options)
+}
+
+/// How many workers do them.
+#[tactic(auto, unfolding(crate::specs::Words::crew_by))]
+fn crew_by(options: &[String]) -> Option<u32>
+    ensures workers { result ≡ crew_by (map string_bytes options.now) }
+    ensures fit { IfSome result (λ n. (1 ≤ n) × (n ≤ 64)) }
+{
+    number_by("--workers", 64, options)
+}
+
+/// How many jobs there are, and how many workers do them.
+#[tactic(auto, unfolding(crate::specs::Words::shares_by))]
+fn shares_by(options: &[String]) -> Option<(u32, u32)>
+    ensures shares { result ≡ shares_by (map string_bytes options.now) }
+    ensures fit { IfSome result (λ s. (1 ≤ s.0) × (s.0 ≤ 10000) × (1 ≤ s.1) × (s.1 ≤ 64)) }
+{
+    let jobs = jobs_by(options)?;
+    let workers = crew_by(options)?;
+    Some((jobs, workers))
+}
+
+/// The solve that is asked for by the words after the archive's name.
+fn solve_by<'a>(archive: &'a str, words: &'a [String]) -> Option<Request<'a>>
+    ensures asked { MatchOption result (solve_by archive.now (map string_bytes words.now) ≡ None) (λ r. solve_by archive.now (map string_bytes words.now) ≡ Some (asked_of r)) }
+    ensures fit { IfSome result IsFit }
+{
+    let [solution, options @ ..] = words else {
+        return None;
+    };
+    solve_with(archive, number_of(18, solution.as_bytes())?, options)
+}
+
+/// The solve of a solution that is asked for by its options.
+#[tactic(auto, unfolding(crate::specs::Words::solve_with))]
+fn solve_with<'a>(archive: &'a str, solution: u32, options: &[String]) -> Option<Request<'a>>
+    ensures asked { MatchOption result (solve_with archive.now solution (map string_bytes options.now) ≡ None) (λ r. solve_with archive.now solution (map string_bytes options.now) ≡ Some (asked_of r)) }
+    ensures workers { IfSome result (λ r. option_map (λ s. s.1) (shares_by (map string_bytes options.now)) ≡ Some (workers_in r)) }
+    ensures fit { IfSome result IsFit }
+{
+    if options.len() != 8 {
+        return None;
+    }
+    let (depth, budget) = chains_by(options)?;
+    let (jobs, workers) = shares_by(options)?;
+    Some(Request::Solve {
+        archive,
+        solution,
+        depth,
+        budget,
+        jobs,
+        workers,
     })
 }

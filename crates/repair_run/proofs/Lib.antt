@@ -1,5 +1,6 @@
 pub mod FoundLaws
 pub mod MendedLaws
 pub mod SendLaws
+pub mod SolvedLaws
 pub mod SpellLaws
 pub mod TextLaws

@@ -16,7 +16,7 @@ use Rattle.repair_run.specs.Laws.{IsNoDearer, IsSettledTo}
 use Rattle.repair_run.specs.Repairs.{IsMended}
 use Rattle.repair_run.specs.declared.mending.Mended.{Mended}
 
-lower : (p : Parts) (u s : State) → are_lower (totals_at p u) (totals_at p s) ≡ true
+pub lower : (p : Parts) (u s : State) → are_lower (totals_at p u) (totals_at p s) ≡ true
     → is_lower (totals p u) (totals p s) ≡ true
 unfolding are_lower totals_at
 lower p u s h = h

@@ -1,5 +1,6 @@
--- What is true of a repaired timetable.
-use Rattle.std.specs.Prelude.{ℕ, ◌≡◌, ◌<◌, ◌⊎◌, true}
+-- What is true of a repaired timetable, and of the least result of many repairs.
+use Rattle.std.specs.Prelude.{ℕ, ◌≡◌, ◌<◌, ◌⊎◌, true, false}
+use Rattle.ejection_repair.specs.Repaired.{repaired}
 use Rattle.ejection_repair.specs.Settled.{IsSettled, accepted_of, settled_to}
 use Rattle.khe_base.specs.Totals.{is_lower}
 use Rattle.khe_engine.specs.Openings.{IsStateOf}
@@ -7,6 +8,7 @@ use Rattle.khe_engine.specs.States.{State}
 use Rattle.khe_engine.specs.Values.{totals}
 use Rattle.khe_instance.specs.declared.parts.Parts.{Parts}
 use Rattle.khe_instance.specs.declared.states.Plain.{Plain}
+use Rattle.repair_pool.specs.declared.answers.Solved.{Solved}
 use Rattle.repair_run.specs.declared.mending.Mended.{Mended}
 
 -- it costs what the timetable before it did, and nothing was accepted; or it costs less, and something was
@@ -22,3 +24,8 @@ pub record IsSettledTo (p : Parts) (depth : ℕ) (m : Mended) : Type 0 where
   pub listed : IsStateOf p m.plain after
   pub costs : m.totals ≡ totals p after
   pub settled : IsSettled p after (settled_to depth m.outcome)
+
+-- it costs no more than the state that each job begins with, and no job leaves a state that costs less
+pub record IsLeast (p : Parts) (before : State) (depth budget jobs : ℕ) (s : Solved) : Type 0 where
+  pub cost : (s.totals ≡ totals p before) ⊎ (is_lower s.totals (totals p before) ≡ true)
+  pub least : (n : ℕ) → n < jobs → is_lower (totals p (repaired p before depth budget n).state) s.totals ≡ false

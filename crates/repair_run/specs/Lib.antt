@@ -2,4 +2,5 @@ pub mod Laws
 pub mod Lines
 pub mod Placed
 pub mod Repairs
+pub mod Solves
 pub mod Texts

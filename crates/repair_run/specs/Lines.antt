@@ -1,4 +1,4 @@
--- The line on a repair, a comment after the archive. It ends with a line feed.
+-- The line on a repair, or on many, a comment after the archive. It ends with a line feed.
 use Rattle.std.specs.Prelude.{ℕ, List, ◌++◌, codes}
 use Rattle.std.specs.Fmt.{decimal}
 use Rattle.ejection_repair.specs.declared.outcome.Outcome.{Outcome}
@@ -21,3 +21,7 @@ totals_words t = codes " hard " ++ decimal t.hard ++ codes " soft " ++ decimal t
 
 abbrev pub repair_line : Outcome → Totals → List ℕ
 repair_line o t = codes "<!-- khe repair " ++ outcome_words o ++ totals_words t
+
+-- the job with the least result, and what its timetable costs
+abbrev pub solve_line : ℕ → Totals → List ℕ
+solve_line job t = codes "<!-- khe solve job " ++ decimal job ++ totals_words t

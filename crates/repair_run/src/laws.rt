@@ -1,13 +1,21 @@
-//! What follows from the definition of a repair. The contract of each function is a law: it is proved, and
-//! nothing calls it.
+//! What follows from the definitions of a repair and of a solve. The contract of each function is a law: it is
+//! proved, and nothing calls it.
 #![allow(dead_code)]
 
-ghost use Rattle.std.specs.Prelude.{ℕ};
+ghost use Rattle.std.specs.Prelude.{ℕ, ◌≡◌, List, encode_utf8_all};
+ghost use Rattle.khe_engine.specs.Openings.{IsStateOf};
+ghost use Rattle.khe_engine.specs.States.{State};
+ghost use Rattle.khe_instance.specs.WellMade.{AreWellMade};
 ghost use Rattle.khe_instance.specs.declared.parts.Parts.{Parts};
 ghost use Rattle.khe_instance.specs.declared.states.Plain.{Plain};
-ghost use Rattle.repair_run.specs.Laws.{IsNoDearer, IsSettledTo};
+ghost use Rattle.parallel_repair.specs.Jobs.{job_answer};
+ghost use Rattle.repair_pool.specs.Solved.{IsSolved};
+ghost use Rattle.repair_pool.specs.declared.answers.Solved.{Solved};
+ghost use Rattle.repair_run.specs.Laws.{IsLeast, IsNoDearer, IsSettledTo};
 ghost use Rattle.repair_run.specs.Repairs.{IsMended};
+ghost use Rattle.repair_run.specs.Solves.{IsSolveText};
 ghost use Rattle.repair_run.specs.declared.mending.Mended.{Mended};
+ghost use Rattle.xhstt_shape.specs.declared.records.Archive.{Archive};
 
 // A repair never leaves a timetable that costs more, and where a chain was taken it costs less. Where the
 // repair is done, no chain of so many moves leaves lower totals; where the budget is spent, none of as many
@@ -15,4 +23,15 @@ ghost use Rattle.repair_run.specs.declared.mending.Mended.{Mended};
 fn a_repair_never_costs_more()
     ensures no_dearer { (p : Parts) (plain : Plain) (depth budget : ℕ) (m : Mended) → IsMended p plain depth budget m → IsNoDearer p plain m }
     ensures settled { (p : Parts) (plain : Plain) (depth budget : ℕ) (m : Mended) → IsMended p plain depth budget m → IsSettledTo p depth m }
+{}
+
+// The least result of many repairs never costs more than the timetable that they begin with, and none of them
+// comes to one that costs less, also none that was left out.
+fn a_solve_never_costs_more()
+    ensures { (p : Parts) (plain : Plain) (before : State) (depth budget jobs : ℕ) (s : Solved) → AreWellMade p → IsStateOf p plain before → IsSolved (job_answer p plain depth budget) jobs s → IsLeast p before depth budget jobs s }
+{}
+
+// What a solve is written as is the same bytes, whoever did which jobs and in which order.
+fn a_solve_is_written_in_one_way()
+    ensures { (a : Archive) (number : ℕ) (p : Parts) (plain : Plain) (depth budget jobs : ℕ) (text other : List ℕ) → IsSolveText a number p plain depth budget jobs text → IsSolveText a number p plain depth budget jobs other → encode_utf8_all text ≡ encode_utf8_all other }
 {}

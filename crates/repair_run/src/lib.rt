@@ -1,5 +1,5 @@
-//! What repair makes of an archive: a solution of it is repaired, the timetable takes its place, and the
-//! archive is written with a line on how the repair ended.
+//! What repair makes of an archive: a solution of it is repaired, or by many jobs the least result is
+//! found, the timetable takes its place, and the archive is written with a line on how that ended.
 #![tactic(auto)]
 
 mod laws;
@@ -7,8 +7,10 @@ mod lines;
 mod mending;
 mod placing;
 mod sending;
+mod solves;
 
-pub use lines::repair_line;
+pub use lines::{repair_line, solve_line};
 pub use mending::{Mended, mend};
 pub use placing::respell;
 pub use sending::{send_repaired, send_with};
+pub use solves::send_solved;

@@ -1,4 +1,4 @@
-//! The line on a repair.
+//! The lines on a repair and on many.
 
 ghost use Rattle.std.specs.Prelude.{◌≡◌, ◌++◌, OnOk, IfOk};
 ghost use Rattle.repair_run.specs.Lines as spec;
@@ -19,6 +19,20 @@ pub fn repair_line(alloc: Global, outcome: Outcome, totals: Totals) -> Result<Te
     let mut line = Text::new(alloc);
     line.push_literal("<!-- khe repair ")?;
     push_outcome(&mut line, outcome)?;
+    push_totals(&mut line, totals)?;
+    Ok(line)
+}
+
+/// The line on many repairs, `<!-- khe solve job J hard H soft S -->`: the number of the job with the
+/// least result, and the totals of its timetable. It is a comment of the archive that it stands after.
+///
+/// Its only error is want of memory. It takes constant time and memory.
+pub fn solve_line(alloc: Global, job: u64, totals: Totals) -> Result<Text, NoMemory>
+    ensures { IfOk result (λ t. t ≡ spec.solve_line job totals) }
+{
+    let mut line = Text::new(alloc);
+    line.push_literal("<!-- khe solve job ")?;
+    line.push_number(u128::from(job))?;
     push_totals(&mut line, totals)?;
     Ok(line)
 }

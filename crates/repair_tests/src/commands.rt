@@ -3,7 +3,7 @@
 
 use crate::archives::{CROSSED, SMALL, TO_CUT, TO_JOIN};
 use crate::ends::{must_answer, must_end};
-use crate::texts::{CUT, FRONT, JOINED, KEPT, REPAIRED, SPENT, SWAPPED};
+use crate::texts::{CUT, FIFTH, FRONT, JOINED, KEPT, REPAIRED, SPENT, SWAPPED};
 use khe_base::NoMemory;
 use program_runs::Piece::Once;
 use program_runs::{Call, End, Piece, failing, text_of};
@@ -12,7 +12,7 @@ use std::process::Abort;
 use std::test::Fail;
 use std::thread::Threads;
 
-/// A repair of a solution of an archive, and how it should end.
+/// A repair, or a solve, of a solution of an archive, and how it should end.
 #[derive(Clone, Copy)]
 struct Row {
     archive: &'static str,
@@ -22,18 +22,26 @@ struct Row {
     text: &'static [Piece],
 }
 
-const ROWS: &[Row] = &[
+const REPAIRS: &[Row] = &[
     Row {
         archive: SMALL,
         words: &["repair", "archive", "0", "--depth", "1", "--budget", "1000"],
         status: 0,
-        text: &[Once(FRONT), Once(REPAIRED)],
+        text: &[
+            Once(FRONT),
+            Once(REPAIRED),
+            Once("<!-- khe repair done accepted 4 tried 5 hard 0 soft 0 -->\n"),
+        ],
     },
     Row {
         archive: SMALL,
         words: &["repair", "archive", "0", "--budget", "1", "--depth", "1"],
         status: 0,
-        text: &[Once(FRONT), Once(SPENT)],
+        text: &[
+            Once(FRONT),
+            Once(SPENT),
+            Once("<!-- khe repair spent accepted 1 tried 1 settled 0 hard 6 soft 0 -->\n"),
+        ],
     },
     Row {
         archive: SMALL,
@@ -79,8 +87,59 @@ const ROWS: &[Row] = &[
     },
 ];
 
+const SOLVES: &[Row] = &[
+    Row {
+        archive: SMALL,
+        words: &["solve", "archive", "0", "--depth", "1", "--budget", "1", "--jobs", "3", "--workers", "1"],
+        status: 0,
+        text: &[Once(FRONT), Once(SPENT), Once("<!-- khe solve job 0 hard 6 soft 0 -->\n")],
+    },
+    Row {
+        archive: SMALL,
+        words: &["solve", "archive", "0", "--depth", "1", "--budget", "1", "--jobs", "3", "--workers", "2"],
+        status: 0,
+        text: &[Once(FRONT), Once(SPENT), Once("<!-- khe solve job 0 hard 6 soft 0 -->\n")],
+    },
+    Row {
+        archive: SMALL,
+        words: &["solve", "archive", "0", "--depth", "1", "--budget", "1", "--jobs", "3", "--workers", "3"],
+        status: 0,
+        text: &[Once(FRONT), Once(SPENT), Once("<!-- khe solve job 0 hard 6 soft 0 -->\n")],
+    },
+    Row {
+        archive: SMALL,
+        words: &["solve", "archive", "0", "--depth", "1", "--budget", "1", "--jobs", "3", "--workers", "4"],
+        status: 0,
+        text: &[Once(FRONT), Once(SPENT), Once("<!-- khe solve job 0 hard 6 soft 0 -->\n")],
+    },
+    Row {
+        archive: SMALL,
+        words: &["solve", "archive", "0", "--workers", "2", "--jobs", "5", "--budget", "2", "--depth", "01"],
+        status: 0,
+        text: &[Once(FRONT), Once(FIFTH), Once("<!-- khe solve job 4 hard 3 soft 0 -->\n")],
+    },
+    Row {
+        archive: SMALL,
+        words: &["solve", "archive", "0", "--depth", "1", "--budget", "1000", "--jobs", "2", "--workers", "2"],
+        status: 0,
+        text: &[Once(FRONT), Once(REPAIRED), Once("<!-- khe solve job 0 hard 0 soft 0 -->\n")],
+    },
+    Row {
+        archive: SMALL,
+        words: &["solve", "archive", "2", "--depth", "1", "--budget", "1", "--jobs", "1", "--workers", "1"],
+        status: 3,
+        text: &[Once("khe: archive refused: 18 NoSuchSolution\n")],
+    },
+    Row {
+        archive: "<",
+        words: &["solve", "archive", "2", "--depth", "1", "--budget", "1", "--jobs", "1", "--workers", "1"],
+        status: 3,
+        text: &[Once("khe: archive refused: 2 BadMarkup at 1\n")],
+    },
+];
+
 /// The test fails unless the row ends as it should.
-fn must_repair<R: Threads + Sync + Abort>(
+fn must_end_so<R: Threads + Sync + Abort>(
     rt: &R,
     alloc: Global,
     row: &Row,
@@ -95,8 +154,16 @@ fn must_repair<R: Threads + Sync + Abort>(
 
 #[test]
 fn repairs_are_written(rt: HostRuntime) -> Result<(), Fail> {
-    for row in ROWS {
-        must_repair(&rt, rt.alloc(), row)?;
+    for row in REPAIRS {
+        must_end_so(&rt, rt.alloc(), row)?;
+    }
+    Ok(())
+}
+
+#[test]
+fn solves_are_written(rt: HostRuntime) -> Result<(), Fail> {
+    for row in SOLVES {
+        must_end_so(&rt, rt.alloc(), row)?;
     }
     Ok(())
 }
@@ -139,6 +206,22 @@ const UNREADABLE: &[&[&str]] = &[
         "1",
     ],
     &["repair", "archive", "-1", "--depth", "1", "--budget", "1"],
+    &["solve", "archive"],
+    &["solve", "archive", "0"],
+    &["solve", "archive", "0", "--depth", "1", "--budget", "1"],
+    &["solve", "archive", "0", "--depth", "1", "--budget", "1", "--jobs", "1"],
+    &["solve", "archive", "0", "--depth", "1", "--budget", "1", "--jobs", "1", "--jobs", "1"],
+    &["solve", "archive", "0", "--depth", "1", "--budget", "1", "--jobs", "1", "--workers", "1", "--all"],
+    &["solve", "archive", "0", "--depth", "1", "--budget", "1", "--jobs", "1", "--workers", "1", "--depth", "1"],
+    &["solve", "archive", "0", "--depth", "0", "--budget", "1", "--jobs", "1", "--workers", "1"],
+    &["solve", "archive", "0", "--depth", "5", "--budget", "1", "--jobs", "1", "--workers", "1"],
+    &["solve", "archive", "0", "--depth", "1", "--budget", "0", "--jobs", "1", "--workers", "1"],
+    &["solve", "archive", "0", "--depth", "1", "--budget", "1000000001", "--jobs", "1", "--workers", "1"],
+    &["solve", "archive", "0", "--depth", "1", "--budget", "1", "--jobs", "0", "--workers", "1"],
+    &["solve", "archive", "0", "--depth", "1", "--budget", "1", "--jobs", "10001", "--workers", "1"],
+    &["solve", "archive", "0", "--depth", "1", "--budget", "1", "--jobs", "1", "--workers", "0"],
+    &["solve", "archive", "0", "--depth", "1", "--budget", "1", "--jobs", "1", "--workers", "65"],
+    &["solve", "archive", "4294967296", "--depth", "1", "--budget", "1", "--jobs", "1", "--workers", "1"],
 ];
 
 const NOT_UNDERSTOOD: End<'static> = End {

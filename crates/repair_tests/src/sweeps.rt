@@ -1,13 +1,40 @@
-//! Devices that fail at each call in turn while a repair is run.
+//! Devices that fail at each call in turn while a repair is run, or several.
 
 use crate::archives::SMALL;
-use crate::texts::{FRONT, REPAIRED};
+use crate::texts::{FRONT, REPAIRED, SPENT};
 use khe_base::{NoMemory, Text};
 use program_runs::Piece::Once;
-use program_runs::{Call, End, File, reads_made, text_of, writes_made};
+use program_runs::{Call, End, File, Piece, reads_made, text_of, writes_made};
 use std::alloc::Global;
 use std::test::Fail;
 use std::thread::Threads;
+
+/// What is run on the small archive, and what it writes.
+#[derive(Clone, Copy)]
+struct Run {
+    words: &'static [&'static str],
+    text: &'static [Piece],
+}
+
+const REPAIR: Run = Run {
+    words: &["repair", "archive", "0", "--depth", "1", "--budget", "1000"],
+    text: &[
+        Once(FRONT),
+        Once(REPAIRED),
+        Once("<!-- khe repair done accepted 4 tried 5 hard 0 soft 0 -->\n"),
+    ],
+};
+
+const SOLVE: Run = Run {
+    words: &[
+        "solve", "archive", "0", "--depth", "1", "--budget", "1", "--jobs", "3", "--workers", "2",
+    ],
+    text: &[
+        Once(FRONT),
+        Once(SPENT),
+        Once("<!-- khe solve job 0 hard 6 soft 0 -->\n"),
+    ],
+};
 
 /// The greatest number of bytes of a read and of a write, and the number of the first call that a run
 /// does not make.
@@ -16,23 +43,30 @@ type Sweep = (u32, u64);
 /// Calls of the shelf: one opens the archive of 2,009 bytes, some read it, and one sees its end.
 const READS: &[Sweep] = &[(100, 24), (1_000_000, 4)];
 
+const SOLVE_READS: &[Sweep] = &[(600, 7), (1_000_000, 4)];
+
 /// Writes: an archive of 2,475 bytes in one piece, and then a line of 58 bytes.
 const WRITES: &[Sweep] = &[(33, 78), (495, 7), (2_475, 3)];
 
-/// The call of the shelf, or the write, that a repair is the first not to make.
+/// Writes: an archive of 2,296 bytes in one piece, and then a line of 39 bytes.
+const SOLVE_WRITES: &[Sweep] = &[(600, 6), (2_296, 3)];
+
+/// The call of the shelf, or the write, that a run is the first not to make.
 fn made<R: Threads + Sync>(
     rt: &R,
     alloc: Global,
+    run: &Run,
     piece: u32,
     reads: bool,
 ) -> Result<Option<u64>, NoMemory> {
-    let text = text_of(alloc, &[Once(FRONT), Once(REPAIRED)])?;
-    made_with(rt, alloc, &text, piece, reads)
+    let text = text_of(alloc, run.text)?;
+    made_with(rt, alloc, run.words, &text, piece, reads)
 }
 
 fn made_with<R: Threads + Sync>(
     rt: &R,
     alloc: Global,
+    words: &[&str],
     text: &Text,
     piece: u32,
     reads: bool,
@@ -41,9 +75,8 @@ fn made_with<R: Threads + Sync>(
         name: "archive",
         text: SMALL,
     }];
-    let words = ["repair", "archive", "0", "--depth", "1", "--budget", "1000"];
     let call = Call {
-        words: &words,
+        words,
         files: &files,
     };
     let end = End {
@@ -58,17 +91,33 @@ fn made_with<R: Threads + Sync>(
 }
 
 #[test]
-fn each_read_fails_in_turn(rt: HostRuntime) -> Result<(), Fail> {
+fn each_read_of_a_repair_fails_in_turn(rt: HostRuntime) -> Result<(), Fail> {
     for (piece, calls) in READS {
-        assert_eq!(rt; made(&rt, rt.alloc(), *piece, true)?, Some(*calls));
+        assert_eq!(rt; made(&rt, rt.alloc(), &REPAIR, *piece, true)?, Some(*calls));
     }
     Ok(())
 }
 
 #[test]
-fn each_write_fails_in_turn(rt: HostRuntime) -> Result<(), Fail> {
+fn each_write_of_a_repair_fails_in_turn(rt: HostRuntime) -> Result<(), Fail> {
     for (piece, calls) in WRITES {
-        assert_eq!(rt; made(&rt, rt.alloc(), *piece, false)?, Some(*calls));
+        assert_eq!(rt; made(&rt, rt.alloc(), &REPAIR, *piece, false)?, Some(*calls));
+    }
+    Ok(())
+}
+
+#[test]
+fn each_read_of_a_solve_fails_in_turn(rt: HostRuntime) -> Result<(), Fail> {
+    for (piece, calls) in SOLVE_READS {
+        assert_eq!(rt; made(&rt, rt.alloc(), &SOLVE, *piece, true)?, Some(*calls));
+    }
+    Ok(())
+}
+
+#[test]
+fn each_write_of_a_solve_fails_in_turn(rt: HostRuntime) -> Result<(), Fail> {
+    for (piece, calls) in SOLVE_WRITES {
+        assert_eq!(rt; made(&rt, rt.alloc(), &SOLVE, *piece, false)?, Some(*calls));
     }
     Ok(())
 }

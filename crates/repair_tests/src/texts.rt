@@ -96,7 +96,7 @@ pub(crate) const FRONT: &str = r#"<?xml version="1.0" encoding="UTF-8"?>
 <SolutionGroup Id="H">
 "#;
 
-/// The rest of it with its first solution repaired, and the line.
+/// The rest of it with its first solution repaired.
 pub(crate) const REPAIRED: &str = r#"<Solution Reference="J">
 <Events>
 <Event Reference="E">
@@ -142,7 +142,6 @@ pub(crate) const REPAIRED: &str = r#"<Solution Reference="J">
 </SolutionGroup>
 </SolutionGroups>
 </HighSchoolTimetableArchive>
-<!-- khe repair done accepted 4 tried 5 hard 0 soft 0 -->
 "#;
 
 /// The same, where one chain may be tried.
@@ -180,7 +179,48 @@ pub(crate) const SPENT: &str = r#"<Solution Reference="J">
 </SolutionGroup>
 </SolutionGroups>
 </HighSchoolTimetableArchive>
-<!-- khe repair spent accepted 1 tried 1 settled 0 hard 6 soft 0 -->
+"#;
+
+/// The same, where two chains may be tried and lists are begun at their fifth.
+pub(crate) const FIFTH: &str = r#"<Solution Reference="J">
+<Events>
+<Event Reference="E">
+<Duration>3</Duration>
+<Time Reference="t0"/>
+<Resources>
+<Resource Reference="r0">
+<Role>R</Role>
+</Resource>
+</Resources>
+</Event>
+<Event Reference="F">
+<Duration>1</Duration>
+</Event>
+</Events>
+</Solution>
+<Solution Reference="J">
+<Events>
+<Event Reference="E">
+<Time Reference="t0"/>
+<Resources>
+<Resource Reference="r0">
+<Role>R</Role>
+</Resource>
+</Resources>
+</Event>
+<Event Reference="F">
+<Time Reference="t0"/>
+<Resources>
+<Resource Reference="r1">
+<Role>R</Role>
+</Resource>
+</Resources>
+</Event>
+</Events>
+</Solution>
+</SolutionGroup>
+</SolutionGroups>
+</HighSchoolTimetableArchive>
 "#;
 
 /// The same with its second solution repaired, which nothing improves.

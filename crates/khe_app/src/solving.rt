@@ -1,0 +1,241 @@
+//! Archives with one of their solutions replaced by the least result of many repairs of it.
+
+ghost use Rattle.std.specs.Prelude.{◌≡◌, ◌≤◌, ◌⊎◌, ℕ, List, Some, IfOk, IsTrue, encode_utf8_all};
+ghost use Rattle.khe_instance.specs.States.{IsTold, IsValid};
+ghost use Rattle.parallel_repair.specs.Jobs.{job_answer};
+ghost use Rattle.repair_pool.specs.Solved.{IsSolved};
+ghost use Rattle.repair_run.specs.Solves.{IsSolveText, solve_bytes};
+ghost use Rattle.repair_run.specs.Texts.{HasSpellable};
+ghost use Rattle.xhstt_shape.specs.WellFormed.{IsWellFormed};
+ghost use Rattle.khe_app.specs.Answers.{reading_of, IsBarredBy, IsReadyAnswer};
+ghost use Rattle.khe_app.specs.Ends.{IsEnd, Written};
+ghost use Rattle.khe_app.specs.Outcome.{IsSolveIn, IsSolveOf, Start, barred, start_of};
+ghost use Rattle.khe_app.specs.Ready.{IsReady};
+ghost use Rattle.khe_app.specs.Refusals as refusals;
+ghost use Rattle.khe_app.specs.Words.{solving};
+ghost use Rattle.khe_app.specs.declared.refusals.Refusal.{Refusal as Why};
+
+use crate::families::Families;
+use crate::program::{Answer, Status, Stop, answer_to, put_refusal};
+use crate::reading::{ReadArchive, Unread};
+use crate::starting::{begin, instance_numbered};
+use khe_base::NoMemory;
+use khe_instance::{Instance, Plain};
+use khe_io::{Gate, Shelf, Sink};
+use repair_pool::Solved;
+use repair_run::send_solved;
+use std::alloc::Global;
+use std::thread::Threads;
+use xhstt_shape::Archive;
+use xhstt_writer::SendFault;
+
+/// Writes the archive under a name with the least result of so many jobs in place of the solution of a
+/// number, and the line on its job; or the line that refuses the archive or the solution.
+#[tactic(auto, using(crate::proofs::EndsLemmas::end_starved, crate::proofs::EndsLemmas::end_stopped, crate::proofs::SolveEnds::solve_lacks))]
+pub(crate) fn solve<R: Threads + Sync, S: Shelf, K: Sink, G: Gate>(
+    rt: &R,
+    alloc: Global,
+    shelf: &mut S,
+    out: &mut K,
+    gate: &G,
+    name: &str,
+    number: u32,
+    depth: u32,
+    budget: u32,
+    jobs: u32,
+    workers: u32,
+) -> Status
+    requires depth { (1 ≤ depth) × (depth ≤ 4) }
+    requires budget { 1 ≤ budget }
+    requires jobs { (1 ≤ jobs) × (jobs ≤ 10000) }
+    requires workers { (1 ≤ workers) × (workers ≤ 64) }
+    ensures end { IsEnd (Some (solving name.now number depth budget jobs)) (S.holdings shelf.old) (S.is_sound shelf.old) (S.faults shelf.old) (S.faults shelf.new) (K.taken out.old) (K.taken out.new) (K.faults out.old) (K.faults out.new) result.0 }
+    ensures status { result.0 ≡ 2 → ⊥ }
+    ensures holdings { S.holdings shelf.new ≡ S.holdings shelf.old }
+    ensures shelf_faults { S.faults shelf.old ≤ S.faults shelf.new }
+    ensures sound { IsTrue (S.is_sound shelf.old) → IsTrue (S.is_sound shelf.new) }
+    ensures sink_faults { K.faults out.old ≤ K.faults out.new }
+{
+    match answer_to(alloc, shelf, name) {
+        Ok(answer) => write_solve(
+            rt, alloc, out, gate, answer, number, depth, budget, jobs, workers,
+        ),
+        Err(Stop::ReadFault) => Status(4),
+        Err(Stop::NoMemory) => Status(6),
+    }
+}
+
+/// Writes an archive with a solution replaced, or the line that refuses it.
+fn write_solve<R: Threads + Sync, K: Sink, G: Gate>(
+    rt: &R,
+    alloc: Global,
+    out: &mut K,
+    gate: &G,
+    answer: Answer,
+    number: u32,
+    depth: u32,
+    budget: u32,
+    jobs: u32,
+    workers: u32,
+) -> Status
+    requires ready { IsReadyAnswer answer }
+    requires depth { (1 ≤ depth) × (depth ≤ 4) }
+    requires budget { 1 ≤ budget }
+    requires jobs { (1 ≤ jobs) × (jobs ≤ 10000) }
+    requires workers { (1 ≤ workers) × (workers ≤ 64) }
+    ensures written { ((result.0 ≡ 6) × (K.taken out.new ≡ K.taken out.old)) ⊎ ((status : ℕ) × (text : List ℕ) × IsSolveIn number depth budget jobs (reading_of answer) status text
+        × Written (K.taken out.old) (K.taken out.new) (K.faults out.old) (K.faults out.new) (encode_utf8_all text) status result.0) }
+    ensures sink_faults { K.faults out.old ≤ K.faults out.new }
+{
+    match answer {
+        Answer::Read(mut read) => solve_in(
+            rt, alloc, out, gate, &mut read, number, depth, budget, jobs, workers,
+        ),
+        Answer::Refused(refusal) => put_refusal(alloc, out, refusal),
+    }
+}
+
+/// Writes an archive that is read with a solution replaced, or the line that refuses the solution.
+fn solve_in<R: Threads + Sync, K: Sink, G: Gate>(
+    rt: &R,
+    alloc: Global,
+    out: &mut K,
+    gate: &G,
+    read: &mut ReadArchive,
+    number: u32,
+    depth: u32,
+    budget: u32,
+    jobs: u32,
+    workers: u32,
+) -> Status
+    requires ready { IsReady read.old.archive read.old.resolved }
+    requires depth { (1 ≤ depth) × (depth ≤ 4) }
+    requires budget { 1 ≤ budget }
+    requires jobs { (1 ≤ jobs) × (jobs ≤ 10000) }
+    requires workers { (1 ≤ workers) × (workers ≤ 64) }
+    ensures written { ((result.0 ≡ 6) × (K.taken out.new ≡ K.taken out.old)) ⊎ ((status : ℕ) × (text : List ℕ) × IsSolveOf read.old.archive number depth budget jobs (start_of read.old.archive read.old.resolved number) status text
+        × Written (K.taken out.old) (K.taken out.new) (K.faults out.old) (K.faults out.new) (encode_utf8_all text) status result.0) }
+    ensures sink_faults { K.faults out.old ≤ K.faults out.new }
+{
+    match begin(alloc, &read.archive, &read.resolved, number) {
+        Ok((instance, plain)) => {
+            let inst = instance_numbered(&read.resolved, instance);
+            put_solve(
+                rt,
+                alloc,
+                out,
+                gate,
+                &mut read.archive,
+                inst,
+                &plain,
+                number,
+                depth,
+                budget,
+                jobs,
+                workers,
+            )
+        }
+        Err(unread) => put_unread(alloc, out, unread),
+    }
+}
+
+/// Writes the line that refuses a solution; or nothing, where memory ran out before.
+fn put_unread<K: Sink>(alloc: Global, out: &mut K, unread: Unread) -> Status
+    requires { (s : Start) × IsBarredBy s unread }
+    ensures written { (s : Start) → IsBarredBy s unread → ((result.0 ≡ 6) × (K.taken out.new ≡ K.taken out.old)) ⊎ ((why : Why) × (s ≡ barred why)
+        × Written (K.taken out.old) (K.taken out.new) (K.faults out.old) (K.faults out.new) (encode_utf8_all (refusals.refusal_line why)) 3 result.0) }
+    ensures sink_faults { K.faults out.old ≤ K.faults out.new }
+{
+    match unread {
+        Unread::Refused(refusal) => put_refusal(alloc, out, refusal),
+        Unread::NoMemory => Status(6),
+    }
+}
+
+/// Repairs a timetable by so many jobs, and writes the archive with the least result in place of the
+/// solution.
+fn put_solve<R: Threads + Sync, K: Sink, G: Gate>(
+    rt: &R,
+    alloc: Global,
+    out: &mut K,
+    gate: &G,
+    archive: &mut Archive,
+    inst: &Instance,
+    plain: &Plain,
+    number: u32,
+    depth: u32,
+    budget: u32,
+    jobs: u32,
+    workers: u32,
+) -> Status
+    requires formed { IsWellFormed archive.old }
+    requires texts { HasSpellable inst.now }
+    requires valid { IsValid inst.now plain.now }
+    requires depth { (1 ≤ depth) × (depth ≤ 4) }
+    requires budget { 1 ≤ budget }
+    requires jobs { (1 ≤ jobs) × (jobs ≤ 10000) }
+    requires workers { (1 ≤ workers) × (workers ≤ 64) }
+    ensures written { ((result.0 ≡ 6) × (K.taken out.new ≡ K.taken out.old)) ⊎ ((text : List ℕ) × IsSolveText archive.old number inst.now plain.now depth budget jobs text
+        × Written (K.taken out.old) (K.taken out.new) (K.faults out.old) (K.faults out.new) (encode_utf8_all text) 0 result.0) }
+    ensures sink_faults { K.faults out.old ≤ K.faults out.new }
+{
+    inst.facts();
+    match solve_jobs(rt, alloc, inst, plain, gate, depth, budget, jobs, workers) {
+        Ok(solved) => put_solved(alloc, out, archive, inst, &solved, number),
+        Err(NoMemory) => Status(6),
+    }
+}
+
+/// What so many repairs of a timetable come to, over all families.
+fn solve_jobs<R: Threads + Sync, G: Gate>(
+    rt: &R,
+    alloc: Global,
+    inst: &Instance,
+    plain: &Plain,
+    gate: &G,
+    depth: u32,
+    budget: u32,
+    jobs: u32,
+    workers: u32,
+) -> Result<Solved, NoMemory>
+    requires valid { IsValid inst.now plain.now }
+    requires depth { (1 ≤ depth) × (depth ≤ 4) }
+    requires budget { 1 ≤ budget }
+    requires jobs { (1 ≤ jobs) × (jobs ≤ 10000) }
+    requires workers { (1 ≤ workers) × (workers ≤ 64) }
+    ensures solved { IfOk result (λ s. IsSolved (job_answer inst.now plain.now depth budget) jobs s) }
+    ensures valid { IfOk result (λ s. IsValid inst.now s.plain) }
+{
+    parallel_repair::solve::<Families, R, G>(
+        rt,
+        alloc,
+        inst,
+        plain,
+        depth,
+        u64::from(budget),
+        u64::from(jobs),
+        workers,
+        gate,
+    )
+}
+
+/// Writes an archive with the least result of many repairs in place of a solution, and the line on its
+/// job.
+fn put_solved<K: Sink>(
+    alloc: Global,
+    out: &mut K,
+    archive: &mut Archive,
+    inst: &Instance,
+    solved: &Solved,
+    number: u32,
+) -> Status
+    requires { IsTold inst.now solved.now.plain.meets solved.now.plain.tasks }
+    ensures written { Written (K.taken out.old) (K.taken out.new) (K.faults out.old) (K.faults out.new) (solve_bytes archive.old number inst.now solved.now) 0 result.0 }
+    ensures sink_faults { K.faults out.old ≤ K.faults out.new }
+{
+    match send_solved(alloc, archive, number, inst, solved, out) {
+        Ok(()) => Status(0),
+        Err(SendFault::WriteFault) => Status(5),
+        Err(SendFault::NoMemory) => Status(6),
+    }
+}
