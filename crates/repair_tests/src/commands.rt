@@ -90,49 +90,81 @@ const REPAIRS: &[Row] = &[
 const SOLVES: &[Row] = &[
     Row {
         archive: SMALL,
-        words: &["solve", "archive", "0", "--depth", "1", "--budget", "1", "--jobs", "3", "--workers", "1"],
+        words: &[
+            "solve",
+            "archive",
+            "0",
+            "--workers",
+            "2",
+            "--jobs",
+            "5",
+            "--budget",
+            "2",
+            "--depth",
+            "01",
+        ],
         status: 0,
-        text: &[Once(FRONT), Once(SPENT), Once("<!-- khe solve job 0 hard 6 soft 0 -->\n")],
+        text: &[
+            Once(FRONT),
+            Once(FIFTH),
+            Once("<!-- khe solve job 4 hard 3 soft 0 -->\n"),
+        ],
     },
     Row {
         archive: SMALL,
-        words: &["solve", "archive", "0", "--depth", "1", "--budget", "1", "--jobs", "3", "--workers", "2"],
+        words: &[
+            "solve",
+            "archive",
+            "0",
+            "--depth",
+            "1",
+            "--budget",
+            "1000",
+            "--jobs",
+            "2",
+            "--workers",
+            "2",
+        ],
         status: 0,
-        text: &[Once(FRONT), Once(SPENT), Once("<!-- khe solve job 0 hard 6 soft 0 -->\n")],
+        text: &[
+            Once(FRONT),
+            Once(REPAIRED),
+            Once("<!-- khe solve job 0 hard 0 soft 0 -->\n"),
+        ],
     },
     Row {
         archive: SMALL,
-        words: &["solve", "archive", "0", "--depth", "1", "--budget", "1", "--jobs", "3", "--workers", "3"],
-        status: 0,
-        text: &[Once(FRONT), Once(SPENT), Once("<!-- khe solve job 0 hard 6 soft 0 -->\n")],
-    },
-    Row {
-        archive: SMALL,
-        words: &["solve", "archive", "0", "--depth", "1", "--budget", "1", "--jobs", "3", "--workers", "4"],
-        status: 0,
-        text: &[Once(FRONT), Once(SPENT), Once("<!-- khe solve job 0 hard 6 soft 0 -->\n")],
-    },
-    Row {
-        archive: SMALL,
-        words: &["solve", "archive", "0", "--workers", "2", "--jobs", "5", "--budget", "2", "--depth", "01"],
-        status: 0,
-        text: &[Once(FRONT), Once(FIFTH), Once("<!-- khe solve job 4 hard 3 soft 0 -->\n")],
-    },
-    Row {
-        archive: SMALL,
-        words: &["solve", "archive", "0", "--depth", "1", "--budget", "1000", "--jobs", "2", "--workers", "2"],
-        status: 0,
-        text: &[Once(FRONT), Once(REPAIRED), Once("<!-- khe solve job 0 hard 0 soft 0 -->\n")],
-    },
-    Row {
-        archive: SMALL,
-        words: &["solve", "archive", "2", "--depth", "1", "--budget", "1", "--jobs", "1", "--workers", "1"],
+        words: &[
+            "solve",
+            "archive",
+            "2",
+            "--depth",
+            "1",
+            "--budget",
+            "1",
+            "--jobs",
+            "1",
+            "--workers",
+            "1",
+        ],
         status: 3,
         text: &[Once("khe: archive refused: 18 NoSuchSolution\n")],
     },
     Row {
         archive: "<",
-        words: &["solve", "archive", "2", "--depth", "1", "--budget", "1", "--jobs", "1", "--workers", "1"],
+        words: &[
+            "solve",
+            "archive",
+            "2",
+            "--depth",
+            "1",
+            "--budget",
+            "1",
+            "--jobs",
+            "1",
+            "--workers",
+            "1",
+        ],
         status: 3,
         text: &[Once("khe: archive refused: 2 BadMarkup at 1\n")],
     },
@@ -164,6 +196,48 @@ fn repairs_are_written(rt: HostRuntime) -> Result<(), Fail> {
 fn solves_are_written(rt: HostRuntime) -> Result<(), Fail> {
     for row in SOLVES {
         must_end_so(&rt, rt.alloc(), row)?;
+    }
+    Ok(())
+}
+
+/// The test fails unless a solve by so many workers ends as it should.
+fn must_solve_by<R: Threads + Sync + Abort>(
+    rt: &R,
+    alloc: Global,
+    workers: &str,
+) -> Result<(), NoMemory> {
+    let words = [
+        "solve",
+        "archive",
+        "0",
+        "--depth",
+        "1",
+        "--budget",
+        "1",
+        "--jobs",
+        "3",
+        "--workers",
+        workers,
+    ];
+    let text = text_of(alloc, THREE_JOBS)?;
+    let end = End {
+        status: 0,
+        text: text.as_str(),
+    };
+    must_answer(rt, alloc, &words, SMALL, end)
+}
+
+/// What three jobs with one chain each come to.
+const THREE_JOBS: &[Piece] = &[
+    Once(FRONT),
+    Once(SPENT),
+    Once("<!-- khe solve job 0 hard 6 soft 0 -->\n"),
+];
+
+#[test]
+fn any_number_of_workers_writes_the_same(rt: HostRuntime) -> Result<(), Fail> {
+    for workers in ["1", "2", "3", "4"] {
+        must_solve_by(&rt, rt.alloc(), workers)?;
     }
     Ok(())
 }
@@ -209,19 +283,15 @@ const UNREADABLE: &[&[&str]] = &[
     &["solve", "archive"],
     &["solve", "archive", "0"],
     &["solve", "archive", "0", "--depth", "1", "--budget", "1"],
-    &["solve", "archive", "0", "--depth", "1", "--budget", "1", "--jobs", "1"],
-    &["solve", "archive", "0", "--depth", "1", "--budget", "1", "--jobs", "1", "--jobs", "1"],
-    &["solve", "archive", "0", "--depth", "1", "--budget", "1", "--jobs", "1", "--workers", "1", "--all"],
-    &["solve", "archive", "0", "--depth", "1", "--budget", "1", "--jobs", "1", "--workers", "1", "--depth", "1"],
-    &["solve", "archive", "0", "--depth", "0", "--budget", "1", "--jobs", "1", "--workers", "1"],
-    &["solve", "archive", "0", "--depth", "5", "--budget", "1", "--jobs", "1", "--workers", "1"],
-    &["solve", "archive", "0", "--depth", "1", "--budget", "0", "--jobs", "1", "--workers", "1"],
-    &["solve", "archive", "0", "--depth", "1", "--budget", "1000000001", "--jobs", "1", "--workers", "1"],
-    &["solve", "archive", "0", "--depth", "1", "--budget", "1", "--jobs", "0", "--workers", "1"],
-    &["solve", "archive", "0", "--depth", "1", "--budget", "1", "--jobs", "10001", "--workers", "1"],
-    &["solve", "archive", "0", "--depth", "1", "--budget", "1", "--jobs", "1", "--workers", "0"],
-    &["solve", "archive", "0", "--depth", "1", "--budget", "1", "--jobs", "1", "--workers", "65"],
-    &["solve", "archive", "4294967296", "--depth", "1", "--budget", "1", "--jobs", "1", "--workers", "1"],
+    &[
+        "solve", "archive", "0", "--depth", "1", "--budget", "1", "--jobs", "1",
+    ],
+    &[
+        "solve", "archive", "0", "--depth", "1", "--budget", "1", "--jobs", "1", "--jobs", "1",
+    ],
+    &[
+        "solve", "archive", "0", "--depth", "1", "--budget", "1", "--jobs", "1", "--worker", "1",
+    ],
 ];
 
 const NOT_UNDERSTOOD: End<'static> = End {
@@ -238,6 +308,50 @@ fn must_not_be_read<R: Threads + Sync + Abort>(
 ) -> Result<(), NoMemory> {
     let call = Call { words, files: &[] };
     must_end(rt, alloc, call, failing(1, 0), NOT_UNDERSTOOD)
+}
+
+/// The values of depth, budget, jobs and workers with which a solve has no reading.
+const UNFIT: &[[&str; 4]] = &[
+    ["0", "1", "1", "1"],
+    ["5", "1", "1", "1"],
+    ["1", "0", "1", "1"],
+    ["1", "1000000001", "1", "1"],
+    ["1", "1", "0", "1"],
+    ["1", "1", "10001", "1"],
+    ["1", "1", "1", "0"],
+    ["1", "1", "1", "65"],
+    ["1", "1", "1", "--jobs"],
+];
+
+/// The same of a solve by these values.
+fn must_not_be_solved<R: Threads + Sync + Abort>(
+    rt: &R,
+    alloc: Global,
+    values: &[&str; 4],
+) -> Result<(), NoMemory> {
+    let [depth, budget, jobs, workers] = *values;
+    let words = [
+        "solve",
+        "archive",
+        "0",
+        "--depth",
+        depth,
+        "--budget",
+        budget,
+        "--jobs",
+        jobs,
+        "--workers",
+        workers,
+    ];
+    must_not_be_read(rt, alloc, &words)
+}
+
+#[test]
+fn unfit_values_are_refused(rt: HostRuntime) -> Result<(), Fail> {
+    for values in UNFIT {
+        must_not_be_solved(&rt, rt.alloc(), values)?;
+    }
+    Ok(())
 }
 
 #[test]

@@ -27,7 +27,17 @@ const REPAIR: Run = Run {
 
 const SOLVE: Run = Run {
     words: &[
-        "solve", "archive", "0", "--depth", "1", "--budget", "1", "--jobs", "3", "--workers", "2",
+        "solve",
+        "archive",
+        "0",
+        "--depth",
+        "1",
+        "--budget",
+        "1",
+        "--jobs",
+        "3",
+        "--workers",
+        "2",
     ],
     text: &[
         Once(FRONT),
@@ -49,7 +59,7 @@ const SOLVE_READS: &[Sweep] = &[(600, 7), (1_000_000, 4)];
 const WRITES: &[Sweep] = &[(33, 78), (495, 7), (2_475, 3)];
 
 /// Writes: an archive of 2,296 bytes in one piece, and then a line of 39 bytes.
-const SOLVE_WRITES: &[Sweep] = &[(600, 6), (2_296, 3)];
+const SOLVE_WRITES: &[Sweep] = &[(574, 6), (2_296, 3)];
 
 /// The call of the shelf, or the write, that a run is the first not to make.
 fn made<R: Threads + Sync>(
@@ -101,7 +111,10 @@ fn each_read_of_a_repair_fails_in_turn(rt: HostRuntime) -> Result<(), Fail> {
 #[test]
 fn each_write_of_a_repair_fails_in_turn(rt: HostRuntime) -> Result<(), Fail> {
     for (piece, calls) in WRITES {
-        assert_eq!(rt; made(&rt, rt.alloc(), &REPAIR, *piece, false)?, Some(*calls));
+        assert_eq!(rt;
+            made(&rt, rt.alloc(), &REPAIR, *piece, false)?,
+            Some(*calls)
+        );
     }
     Ok(())
 }
