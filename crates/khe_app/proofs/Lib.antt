@@ -11,6 +11,7 @@ pub mod ReadyLemmas
 pub mod RepairEnds
 pub mod ReportLemmas
 pub mod ScriptEnds
+pub mod SolveEnds
 pub mod StartLemmas
 pub mod TakenScripts
 pub mod ValueLemmas

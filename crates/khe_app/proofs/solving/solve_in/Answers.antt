@@ -1,0 +1,28 @@
+-- The timetable is that of the solution, in its instance.
+use Rattle.khe_base.proofs.ListLemmas.{all-there}
+use Rattle.repair_run.specs.Texts.{HasSpellable}
+use Rattle.khe_app.specs.Outcome.{start_of}
+use Rattle.khe_app.proofs.SolveEnds.{barred_solve, begun_solve}
+use Rattle.khe_app.proofs.solving.solve_in.Goals as goal
+
+pub put_solve-requires-clause-texts : goal.put_solve-requires-clause-texts
+put_solve-requires-clause-texts g c =
+    all-there HasSpellable c.args.read.now.resolved.instances c.in-Ok.instance c.instance_numbered-inst.result.now
+    c.requires.ready.texts c.instance_numbered-inst.ensures
+
+pub put_unread-requires : goal.put_unread-requires
+put_unread-requires g c =
+    (start_of c.args.read.now.archive c.args.read.now.resolved c.args.number, c.in-Err.ensures.barred)
+
+pub returns-in-Ok-clause-written : goal.returns-in-Ok-clause-written
+returns-in-Ok-clause-written g c =
+    let b = c.in-Ok.ensures.begun in
+    begun_solve c.args.read.now.archive c.args.read.now.resolved c.args.number c.args.depth c.args.budget
+    c.args.jobs c.in-Ok.instance b.0 c.instance_numbered-inst.result.now c.in-Ok.plain _ _ _ _
+    c.put_solve.result.0 b.1 c.instance_numbered-inst.ensures b.3 c.put_solve.ensures.written
+
+pub returns-in-Err-clause-written : goal.returns-in-Err-clause-written
+returns-in-Err-clause-written g c =
+    let s = start_of c.args.read.now.archive c.args.read.now.resolved c.args.number in
+    barred_solve c.args.read.now.archive c.args.number c.args.depth c.args.budget c.args.jobs s _ _ _ _
+    c.put_unread.result.0 (c.put_unread.ensures.written s c.in-Err.ensures.barred)
