@@ -1,21 +1,26 @@
 -- What a request stands for.
 use Rattle.std.specs.Prelude.{ℕ, ◌≤◌}
-use Rattle.khe_app.specs.Words.{Asked, evaluating, scripting, checking, repairing}
+use Rattle.khe_app.specs.Words.{Asked, evaluating, scripting, checking, repairing, making, running}
 use Rattle.khe_app.specs.declared.words.Request.{Request}
-use Rattle.khe_app.specs.declared.words.Request.TheVariants.{Evaluate, Script, Check, Repair}
+use Rattle.khe_app.specs.declared.words.Request.TheVariants.{Evaluate, Script, Check, Repair, Make, Run}
 
 abbrev pub asked_of : Request → Asked
 asked_of (Evaluate archive all workers) = evaluating archive.now all
 asked_of (Script archive solution script) = scripting archive.now solution script.now
 asked_of (Check archive) = checking archive.now
 asked_of (Repair archive solution depth budget) = repairing archive.now solution depth budget
+asked_of (Make seed size) = making seed size
+asked_of (Run seed size) = running seed size
 
--- the workers of a report are 1 to 64, the moves of a chain 1 to 4, and one chain at least may be tried
+-- the workers of a report are 1 to 64, the moves of a chain 1 to 4, and one chain at least may be tried; the
+-- events that are made are 1 to 2,000
 abbrev pub IsFit : Request → Type 0
 IsFit (Evaluate archive all workers) = (1 ≤ workers) × (workers ≤ 64)
 IsFit (Script archive solution script) = Unit {0}
 IsFit (Check archive) = Unit {0}
 IsFit (Repair archive solution depth budget) = (1 ≤ depth) × (depth ≤ 4) × (1 ≤ budget)
+IsFit (Make seed size) = (1 ≤ size) × (size ≤ 2000)
+IsFit (Run seed size) = (1 ≤ size) × (size ≤ 2000)
 
 -- how many workers do what is asked for
 abbrev pub workers_in : Request → ℕ
@@ -23,3 +28,5 @@ workers_in (Evaluate archive all workers) = workers
 workers_in (Script archive solution script) = 1
 workers_in (Check archive) = 1
 workers_in (Repair archive solution depth budget) = 1
+workers_in (Make seed size) = 1
+workers_in (Run seed size) = 1

@@ -4,7 +4,7 @@ use Rattle.std.specs.Prelude.{◌∷◌}
 use Rattle.std.specs.Prelude.{codes, length}
 use Rattle.std.specs.Option.{option_and_then, option_map}
 use Rattle.std.specs.Str.{bytes_eq}
-use Rattle.edit_script.specs.Numbers.{number_of}
+use Rattle.edit_script.specs.Numbers.{long_number_of, number_of}
 
 -- what is asked for
 pub data Asked : Type 0 where
@@ -19,13 +19,10 @@ pub data Asked : Type 0 where
   -- the same with one of its solutions repaired: the archive's name, the solution's number, the greatest
   -- number of moves of a chain, and how many chains may be tried
   repairing : List ℕ → ℕ → ℕ → ℕ → Asked
-
--- the name of the archive
-abbrev pub archive_of : Asked → List ℕ
-archive_of (evaluating archive all) = archive
-archive_of (scripting archive solution script) = archive
-archive_of (checking archive) = archive
-archive_of (repairing archive solution depth budget) = archive
+  -- the archive that is made from a seed, with so many events
+  making : ℕ → ℕ → Asked
+  -- the line on the run of the same
+  running : ℕ → ℕ → Asked
 
 -- a number from 1 to a greatest one, by 1 to 18 digits that write it
 unfoldable pub number_to : ℕ → List ℕ → Option ℕ
@@ -110,13 +107,38 @@ told_by command name more =
     else if bytes_eq (codes "check") command then check_by name more
     else None
 
--- and by any command
-unfoldable pub asked_by : List ℕ → List ℕ → List (List ℕ) → Option Asked
-asked_by command name more =
+-- and by any command on an archive
+unfoldable pub archive_by : List ℕ → List ℕ → List (List ℕ) → Option Asked
+archive_by command name more =
     if bytes_eq (codes "repair") command then repair_by name more else told_by command name more
 
--- `evaluate ARCHIVE [--all] [--workers N]`, `script ARCHIVE SOLUTION SCRIPT`, `check ARCHIVE` or `repair ARCHIVE
--- SOLUTION --depth D --budget B`; the second word is the archive's name, whatever it begins with
+-- a seed and a number of events, at most 2,000
+unfoldable pub job_by : List ℕ → List ℕ → Option (ℕ × ℕ)
+job_by seed size = option_and_then (λ s. option_map (λ n. (s, n)) (number_to 2000 size)) (long_number_of seed)
+
+unfoldable pub made_by : List ℕ → List ℕ → Option Asked
+made_by seed size = option_map (λ job. making job.0 job.1) (job_by seed size)
+
+-- and the option to run it
+unfoldable pub run_by : List ℕ → List ℕ → List ℕ → Option Asked
+run_by seed size option =
+    if bytes_eq (codes "--run") option then option_map (λ job. running job.0 job.1) (job_by seed size) else None
+
+-- an archive that is made, or its run
+abbrev pub make_by : List ℕ → List (List ℕ) → Option Asked
+make_by seed (size ∷ []) = made_by seed size
+make_by seed (size ∷ option ∷ []) = run_by seed size option
+make_by seed [] = None
+make_by seed (size ∷ option ∷ third ∷ more) = None
+
+-- and by any command
+unfoldable pub asked_by : List ℕ → List ℕ → List (List ℕ) → Option Asked
+asked_by command first more =
+    if bytes_eq (codes "make") command then make_by first more else archive_by command first more
+
+-- `evaluate ARCHIVE [--all] [--workers N]`, `script ARCHIVE SOLUTION SCRIPT`, `check ARCHIVE`, `repair ARCHIVE
+-- SOLUTION --depth D --budget B`, where the second word is the archive's name, whatever it begins with; or `make
+-- SEED SIZE [--run]`
 abbrev pub asked : List (List ℕ) → Option Asked
-asked (command ∷ name ∷ more) = asked_by command name more
+asked (command ∷ first ∷ more) = asked_by command first more
 asked _ = None

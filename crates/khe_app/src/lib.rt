@@ -4,6 +4,7 @@
 
 mod checking;
 mod families;
+mod making;
 mod outcomes;
 mod program;
 mod reading;
