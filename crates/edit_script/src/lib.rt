@@ -12,5 +12,5 @@ mod words;
 
 pub use commands::{Command, LineFault};
 pub use lines::first_line;
-pub use numbers::{long_number_of, number_of};
+pub use numbers::number_of;
 pub use reading::{asks_deficit, read_line};

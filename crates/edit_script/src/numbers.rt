@@ -50,18 +50,6 @@ pub fn number_of(most: usize, word: &[u8]) -> Option<u32>
     u32::try_from(value_of(word)).ok()
 }
 
-/// The number that a word of 1 to 18 digits writes, or `None` where it writes none. Leading zeros are
-/// allowed, a sign is not. It takes time in proportion to the word, and no memory.
-#[tactic(auto, unfolding(crate::specs::Numbers::long_number_of))]
-pub fn long_number_of(word: &[u8]) -> Option<u64>
-    ensures { result ≡ spec.long_number_of word.now }
-{
-    if !are_digits(word) || word.is_empty() || word.len() > 18 {
-        return None;
-    }
-    Some(value_of(word))
-}
-
 /// Whether each byte is a decimal digit.
 fn are_digits(word: &[u8]) -> bool
     ensures { result ≡ list_all spec.is_digit word.now }

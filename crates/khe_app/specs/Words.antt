@@ -1,10 +1,11 @@
 -- The words of the command line.
-use Rattle.std.specs.Prelude.{ℕ, ◌&&◌, ◌==◌, Bool, true, false, if◌then◌else◌, nat_le, Option, Some, None, List, []}
+use Rattle.std.specs.Prelude.{ℕ, ◌&&◌, ◌==◌, Bool, true, false, if◌then◌else◌, nat_le, nat_lt, Option, Some, None, List, []}
 use Rattle.std.specs.Prelude.{◌∷◌}
 use Rattle.std.specs.Prelude.{codes, length}
+use Rattle.std.specs.List.{list_all}
 use Rattle.std.specs.Option.{option_and_then, option_map}
 use Rattle.std.specs.Str.{bytes_eq}
-use Rattle.edit_script.specs.Numbers.{long_number_of, number_of}
+use Rattle.edit_script.specs.Numbers.{is_digit, number_of, value_after}
 
 -- what is asked for
 pub data Asked : Type 0 where
@@ -112,9 +113,15 @@ unfoldable pub archive_by : List ℕ → List ℕ → List (List ℕ) → Option
 archive_by command name more =
     if bytes_eq (codes "repair") command then repair_by name more else told_by command name more
 
+-- the seed that 1 to 18 digits write
+unfoldable pub seed_of : List ℕ → Option ℕ
+seed_of word =
+    if list_all is_digit word && nat_lt 0 (length word) && nat_le (length word) 18
+    then Some (value_after 0 word) else None
+
 -- a seed and a number of events, at most 2,000
 unfoldable pub job_by : List ℕ → List ℕ → Option (ℕ × ℕ)
-job_by seed size = option_and_then (λ s. option_map (λ n. (s, n)) (number_to 2000 size)) (long_number_of seed)
+job_by seed size = option_and_then (λ s. option_map (λ n. (s, n)) (number_to 2000 size)) (seed_of seed)
 
 unfoldable pub made_by : List ℕ → List ℕ → Option Asked
 made_by seed size = option_map (λ job. making job.0 job.1) (job_by seed size)

@@ -12,6 +12,7 @@ mod refusals;
 mod repairing;
 mod reports;
 mod scripts;
+mod seeds;
 mod starting;
 mod words;
 

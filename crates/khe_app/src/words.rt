@@ -3,7 +3,8 @@ ghost use Rattle.khe_app.specs.Requests.{IsFit, asked_of, workers_in};
 ghost use Rattle.khe_app.specs.Words.{archive_by, asked, asked_by, all_by, both_by, budget_by, check_by, depth_by, evaluating, job_by, made_by, make_by, number_by, number_to, options_by, repair_by, repair_with, run_by, script_by, told_by, value_of, workers_by, workers_of};
 ghost use Rattle.std.specs.Option.{option_map};
 
-use edit_script::{long_number_of, number_of};
+use crate::seeds::seed_of;
+use edit_script::number_of;
 
 /// What the words of the command line ask for.
 #[derive(Clone, Copy)]
@@ -345,7 +346,7 @@ fn job_by(seed: &str, size: &str) -> Option<(u64, u32)>
     ensures job { result ≡ job_by seed.now size.now }
     ensures fit { IfSome result (λ j. (1 ≤ j.1) × (j.1 ≤ 2000)) }
 {
-    let seed = long_number_of(seed.as_bytes())?;
+    let seed = seed_of(seed.as_bytes())?;
     let size = number_to(2_000, size)?;
     Some((seed, size))
 }
