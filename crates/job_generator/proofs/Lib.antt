@@ -1,3 +1,4 @@
 pub mod ListLemmas
+pub mod SlotLaws
 pub mod Spellable
 pub mod WellFormed

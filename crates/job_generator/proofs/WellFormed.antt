@@ -159,7 +159,7 @@ places_form size n = three form.IsEventResource _ _ _
     (record { role = room_role; workload = tt; closed = λ h. (refl, refl) })
 
 -- a duration of an event and of a part
-abbrev IsShort : ℕ → Type 0
+abbrev pub IsShort : ℕ → Type 0
 IsShort n = (1 ≤ n) × (n ≤ 3)
 
 duration_fits : (n : ℕ) → IsShort n → form.IsDuration n
@@ -189,7 +189,7 @@ all_gathered Q P step each (a ∷ more) x h =
     All-append P (step a x).0 (gathered step more (step a x).1).0 (each a x (All-head Q a more h))
     (all_gathered Q P step each more (step a x).1 (All-tail Q a more h))
 
-abbrev IsShortEvent : DrawnEvent → Type 0
+abbrev pub IsShortEvent : DrawnEvent → Type 0
 IsShortEvent e = IsShort e.duration
 
 abbrev IsShortEntry : DrawnEntry → Type 0
@@ -201,7 +201,7 @@ event_short i x =
     let l : ((next x / 2 ^ 33) % 3) < 3 = mod-lt (next x / 2 ^ 33) (omega arith) in
     (omega arith, omega arith)
 
-events_short : (size x : ℕ) → All IsShortEvent (job.events size x).0
+pub events_short : (size x : ℕ) → All IsShortEvent (job.events size x).0
 unfolding job.events
 events_short size x = all_in_turn IsShortEvent job.event event_short (below size) x
 

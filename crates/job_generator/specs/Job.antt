@@ -1,6 +1,7 @@
 -- What is drawn for a job of a size: its events, and the entries of its solutions.
 use Rattle.std.specs.Prelude.{ℕ, ◌+◌, ◌-◌, ◌/◌, ◌%◌, ◌==◌, nat_lt, max, Bool, false, ◌||◌, Option, Some, None}
 use Rattle.std.specs.Prelude.{List, [], ◌∷◌, is_some, if◌then◌else◌}
+use Rattle.std.specs.List.{sum_by}
 use Rattle.job_generator.specs.declared.drawing.DrawnEntry.{DrawnEntry}
 use Rattle.job_generator.specs.declared.drawing.DrawnEvent.{DrawnEvent}
 use Rattle.job_generator.specs.declared.drawing.DrawnJob.{DrawnJob}
@@ -18,6 +19,10 @@ classes size = max 1 (size / 10)
 abbrev pub rooms : ℕ → ℕ
 rooms size = max 1 (size / 10)
 
+-- and how many resources these are together
+abbrev pub resource_count : ℕ → ℕ
+resource_count size = teachers size + classes size + rooms size
+
 -- the preassigned time of an event of a duration: each twentieth event has one
 unfoldable pub fixed_time : ℕ → ℕ → ℕ → Option ℕ × ℕ
 fixed_time i duration x = if i % 20 == 19 then (Some (drawn (41 - duration) x), next x) else (None, x)
@@ -31,6 +36,10 @@ event i x =
 
 unfoldable pub events : ℕ → ℕ → List DrawnEvent × ℕ
 events size x = in_turn event (below size) x
+
+-- for how many times all events run together
+unfoldable pub slots : ℕ → ℕ → ℕ
+slots seed size = sum_by (λ (e : DrawnEvent). e.duration) (events size seed).0
 
 -- whether an event is given in two parts, of duration 1 and of what is left: never where it has a
 -- preassigned time or lasts one time, else in one of two cases

@@ -18,21 +18,27 @@ const SOLUTIONS: u32 = 4;
 /// An event.
 #[derive(Clone, Copy)]
 pub struct DrawnEvent {
+    /// Its number, from 0 in order.
     pub number: u32,
     /// In times, from 1 to 3.
     pub duration: u32,
-    /// The preassigned time.
+    /// The number of its preassigned time, if it has one: from 0 to 40 less its duration.
     pub time: Option<u32>,
 }
 
 /// What a solution says of a part of an event.
 #[derive(Clone, Copy)]
 pub struct DrawnEntry {
+    /// The number of the event.
     pub event: u32,
     /// In times, from 1 to 3.
     pub duration: u32,
+    /// The number of its time, if it has one: from 0 to 40 less its duration, and none where the event has a
+    /// preassigned time.
     pub time: Option<u32>,
+    /// The number of its teacher, if it has one, below the number of teachers.
     pub teacher: Option<u32>,
+    /// The number of its room, if it has one, below the number of rooms.
     pub room: Option<u32>,
 }
 

@@ -12,6 +12,7 @@ const INCREMENT: u64 = 1_442_695_040_888_963_407;
 /// A source of numbers, which a seed decides. It takes no memory.
 #[derive(Drop)]
 pub struct Draws {
+    /// What the next draw is made from: the seed at first, and any number of 64 bits after a draw.
     pub state: u64,
 }
 

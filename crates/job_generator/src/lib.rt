@@ -5,6 +5,7 @@
 mod constraints;
 mod drawing;
 mod draws;
+mod durations;
 mod events;
 mod generating;
 #[allow(dead_code)]
@@ -18,4 +19,6 @@ mod times;
 
 pub use drawing::{DrawnEntry, DrawnEvent, DrawnJob};
 pub use draws::Draws;
+pub use durations::slot_count;
 pub use generating::generate;
+pub use sizes::resource_count;

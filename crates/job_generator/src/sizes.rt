@@ -32,6 +32,14 @@ pub(crate) fn rooms(size: u32) -> u32
     (size / 10).max(1)
 }
 
+/// How many resources a job of a size has: its teachers, its classes and its rooms. It takes constant time.
+pub fn resource_count(size: u32) -> u32
+    ensures value { result ≡ job.resource_count size }
+    ensures some { 1 ≤ result }
+{
+    teachers(size) + classes(size) + rooms(size)
+}
+
 /// How many groups of two events, or of the last one, there are.
 pub(crate) fn halves(size: u32) -> u32
     ensures { result ≡ events.halves size }

@@ -1,7 +1,8 @@
 -- What the program holds before it writes.
-use Rattle.std.specs.Prelude.{ℕ, ◌≡◌, ◌<◌, ◌≤◌, Option, Some, None, List, [], length, slice_get}
+use Rattle.std.specs.Prelude.{ℕ, ◌≡◌, ◌<◌, ◌≤◌, Option, Some, None, List, [], length, slice_get, encode_utf8_all}
 use Rattle.khe_instance.specs.States.{IsValid}
 use Rattle.khe_instance.specs.declared.parts.Parts.{Parts}
+use Rattle.khe_app.specs.Ends.{Written}
 use Rattle.khe_app.specs.Outcome.{Reading, evaluable, refused, IsReadingOf, IsRunOf, IsScripted, Start, begins, barred}
 use Rattle.khe_app.specs.Outcome.{start_in}
 use Rattle.khe_app.specs.Ready.{IsReady}
@@ -47,6 +48,17 @@ pub record IsBegun (s : Start) (b : Begun) : Type 0 where
 abbrev pub IsBarredBy : Start → Unread → Type 0
 IsBarredBy s (unread.Refused refusal) = (s ≡ barred refusal) × IsNamed refusal
 IsBarredBy s unread.NoMemory = Unit {0}
+
+-- a reason not to read that has a name
+abbrev pub IsNamedUnread : Unread → Type 0
+IsNamedUnread (unread.Refused refusal) = IsNamed refusal
+IsNamedUnread unread.NoMemory = Unit {0}
+
+-- what came of writing the line of a refusal, or nothing where memory ran out
+abbrev pub IsUnreadEnd : Option (List ℕ) → Option (List ℕ) → ℕ → ℕ → ℕ → Unread → Type 0
+IsUnreadEnd before after sink sink2 result (unread.Refused refusal) =
+    Written before after sink sink2 (encode_utf8_all (refusal_line refusal)) 3 result
+IsUnreadEnd before after sink sink2 result unread.NoMemory = (result ≡ 6) × (after ≡ before)
 
 -- what a script leads to, of the start that is held and of what stands under its name
 abbrev pub IsScriptOf : Begun → Option (List ℕ) → Play → Type 0

@@ -3,10 +3,12 @@ use Rattle.std.specs.Prelude.{ℕ, ◌≡◌, ◌<◌, ◌≤◌, ◌⊎◌, Boo
 use Rattle.std.specs.Prelude.{length, slice_get, encode_utf8_all}
 use Rattle.std.specs.Option.{option_map_or}
 use Rattle.khe_base.specs.declared.limits.TheConstants.{ARCHIVE_BYTES}
+use Rattle.job_generator.specs.Made.{made}
 use Rattle.khe_engine.specs.Openings.{IsStateOf}
 use Rattle.khe_engine.specs.States.{State}
 use Rattle.khe_instance.specs.declared.parts.Parts.{Parts}
 use Rattle.khe_instance.specs.declared.states.Plain.{Plain}
+use Rattle.made_run.specs.Runs.{IsRunLine}
 use Rattle.parallel_solve.specs.Verdicts.{parts_at}
 use Rattle.repair_run.specs.Repairs.{IsRepairText}
 use Rattle.repair_run.specs.Solves.{IsSolveText}
@@ -29,7 +31,7 @@ use Rattle.xhstt_resolve.specs.declared.resolving.Resolved.{Resolved}
 use Rattle.xhstt_writer.specs.Archives.{canonical}
 use Rattle.khe_app.specs.Refusals.{refusal_line, not_understood_line, script_too_large_line}
 use Rattle.khe_app.specs.Report.{report}
-use Rattle.khe_app.specs.Words.{Asked, asked, evaluating, scripting, checking, repairing, solving}
+use Rattle.khe_app.specs.Words.{Asked, asked, evaluating, scripting, checking, repairing, solving, making, running}
 use Rattle.khe_app.specs.declared.scripts.TheConstants.{SCRIPT_BYTES}
 use Rattle.khe_app.specs.declared.refusals.Refusal.{Refusal}
 use Rattle.khe_app.specs.declared.refusals.Refusal.TheVariants.{Fault, Limit, TooLarge, NoSuchSolution, Invalid}
@@ -207,6 +209,21 @@ abbrev pub IsSolveTo : ℕ → ℕ → ℕ → ℕ → Option (List ℕ) → ℕ
 IsSolveTo number depth budget jobs None status text = (status ≡ 4) × (text ≡ [])
 IsSolveTo number depth budget jobs (Some bytes) status text = IsSolvedFrom number depth budget jobs bytes status text
 
+-- the canonical spelling of the archive that is made
+abbrev pub IsMadeTo : ℕ → ℕ → ℕ → List ℕ → Type 0
+IsMadeTo seed size status text = (status ≡ 0) × (encode_utf8_all text ≡ canonical (made seed size))
+
+-- what comes of a start: the line on the run of the job's commands
+abbrev pub IsRunIn : ℕ → ℕ → Start → ℕ → List ℕ → Type 0
+IsRunIn seed size (barred refusal) status text = (status ≡ 3) × (text ≡ refusal_line refusal)
+IsRunIn seed size (begins p plain) status text = (status ≡ 0) × IsRunLine seed size p plain text
+
+-- a reading of the archive that is made, and what comes of its first solution
+pub record IsRunTo (seed size : ℕ) (status : ℕ) (text : List ℕ) : Type 0 where
+  pub reading : Reading
+  pub is : IsRead (made seed size) (resolved (made seed size)) reading
+  pub run : IsRunIn seed size (start_in 0 reading) status text
+
 -- the outcome of what is asked for, and of words without a reading, by what stands under each name
 abbrev pub IsOutcomeOf : Option Asked → (List ℕ → Option (List ℕ)) → ℕ → List ℕ → Type 0
 IsOutcomeOf None under status text = (status ≡ 2) × (text ≡ not_understood_line)
@@ -218,6 +235,8 @@ IsOutcomeOf (Some (repairing archive number depth budget)) under status text =
     IsRepairTo number depth budget (under archive) status text
 IsOutcomeOf (Some (solving archive number depth budget jobs)) under status text =
     IsSolveTo number depth budget jobs (under archive) status text
+IsOutcomeOf (Some (making seed size)) under status text = IsMadeTo seed size status text
+IsOutcomeOf (Some (running seed size)) under status text = IsRunTo seed size status text
 
 -- `khe` on these words, where these bytes stand under the names, ends with this status after this text
 abbrev pub IsOutcome : List (List ℕ) → (List ℕ → Option (List ℕ)) → ℕ → List ℕ → Type 0

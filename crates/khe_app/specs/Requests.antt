@@ -1,8 +1,8 @@
 -- What a request stands for.
 use Rattle.std.specs.Prelude.{ℕ, ◌≤◌}
-use Rattle.khe_app.specs.Words.{Asked, evaluating, scripting, checking, repairing, solving}
+use Rattle.khe_app.specs.Words.{Asked, evaluating, scripting, checking, repairing, solving, making, running}
 use Rattle.khe_app.specs.declared.words.Request.{Request}
-use Rattle.khe_app.specs.declared.words.Request.TheVariants.{Evaluate, Script, Check, Repair, Solve}
+use Rattle.khe_app.specs.declared.words.Request.TheVariants.{Evaluate, Script, Check, Repair, Solve, Make, Run}
 
 abbrev pub asked_of : Request → Asked
 asked_of (Evaluate archive all workers) = evaluating archive.now all
@@ -10,8 +10,11 @@ asked_of (Script archive solution script) = scripting archive.now solution scrip
 asked_of (Check archive) = checking archive.now
 asked_of (Repair archive solution depth budget) = repairing archive.now solution depth budget
 asked_of (Solve archive solution depth budget jobs workers) = solving archive.now solution depth budget jobs
+asked_of (Make seed size) = making seed size
+asked_of (Run seed size) = running seed size
 
--- workers are 1 to 64, the moves of a chain 1 to 4, one chain at least may be tried, and jobs are 1 to 10,000
+-- workers are 1 to 64, the moves of a chain 1 to 4, one chain at least may be tried, and jobs are 1 to 10,000;
+-- the events that are made are 1 to 2,000
 abbrev pub IsFit : Request → Type 0
 IsFit (Evaluate archive all workers) = (1 ≤ workers) × (workers ≤ 64)
 IsFit (Script archive solution script) = Unit {0}
@@ -19,6 +22,8 @@ IsFit (Check archive) = Unit {0}
 IsFit (Repair archive solution depth budget) = (1 ≤ depth) × (depth ≤ 4) × (1 ≤ budget)
 IsFit (Solve archive solution depth budget jobs workers) = (1 ≤ depth) × (depth ≤ 4) × (1 ≤ budget)
     × (1 ≤ jobs) × (jobs ≤ 10000) × (1 ≤ workers) × (workers ≤ 64)
+IsFit (Make seed size) = (1 ≤ size) × (size ≤ 2000)
+IsFit (Run seed size) = (1 ≤ size) × (size ≤ 2000)
 
 -- how many workers do what is asked for
 abbrev pub workers_in : Request → ℕ
@@ -27,3 +32,5 @@ workers_in (Script archive solution script) = 1
 workers_in (Check archive) = 1
 workers_in (Repair archive solution depth budget) = 1
 workers_in (Solve archive solution depth budget jobs workers) = workers
+workers_in (Make seed size) = 1
+workers_in (Run seed size) = 1

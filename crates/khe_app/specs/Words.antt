@@ -1,10 +1,11 @@
 -- The words of the command line.
-use Rattle.std.specs.Prelude.{ℕ, ◌&&◌, ◌==◌, Bool, true, false, if◌then◌else◌, nat_le, Option, Some, None, List, []}
+use Rattle.std.specs.Prelude.{ℕ, ◌&&◌, ◌==◌, Bool, true, false, if◌then◌else◌, nat_le, nat_lt, Option, Some, None, List, []}
 use Rattle.std.specs.Prelude.{◌∷◌}
 use Rattle.std.specs.Prelude.{codes, length}
+use Rattle.std.specs.List.{list_all}
 use Rattle.std.specs.Option.{option_and_then, option_map}
 use Rattle.std.specs.Str.{bytes_eq}
-use Rattle.edit_script.specs.Numbers.{number_of}
+use Rattle.edit_script.specs.Numbers.{is_digit, number_of, value_after}
 
 -- what is asked for
 pub data Asked : Type 0 where
@@ -22,6 +23,10 @@ pub data Asked : Type 0 where
   -- the same with the least result of many such repairs: besides how many jobs there are; it is the same for
   -- every number of workers
   solving : List ℕ → ℕ → ℕ → ℕ → ℕ → Asked
+  -- the archive that is made from a seed, with so many events
+  making : ℕ → ℕ → Asked
+  -- the line on the run of the same
+  running : ℕ → ℕ → Asked
 
 -- a number from 1 to a greatest one, by 1 to 18 digits that write it
 unfoldable pub number_to : ℕ → List ℕ → Option ℕ
@@ -135,16 +140,46 @@ told_by command name more =
     else if bytes_eq (codes "check") command then check_by name more
     else None
 
--- and by any command
-unfoldable pub asked_by : List ℕ → List ℕ → List (List ℕ) → Option Asked
-asked_by command name more =
+-- and by any command on an archive
+unfoldable pub archive_by : List ℕ → List ℕ → List (List ℕ) → Option Asked
+archive_by command name more =
     if bytes_eq (codes "repair") command then repair_by name more
     else if bytes_eq (codes "solve") command then solve_by name more
     else told_by command name more
 
+-- the seed that 1 to 18 digits write
+unfoldable pub seed_of : List ℕ → Option ℕ
+seed_of word =
+    if list_all is_digit word && nat_lt 0 (length word) && nat_le (length word) 18
+    then Some (value_after 0 word) else None
+
+-- a seed and a number of events, at most 2,000
+unfoldable pub job_by : List ℕ → List ℕ → Option (ℕ × ℕ)
+job_by seed size = option_and_then (λ s. option_map (λ n. (s, n)) (number_to 2000 size)) (seed_of seed)
+
+unfoldable pub made_by : List ℕ → List ℕ → Option Asked
+made_by seed size = option_map (λ job. making job.0 job.1) (job_by seed size)
+
+-- and the option to run it
+unfoldable pub run_by : List ℕ → List ℕ → List ℕ → Option Asked
+run_by seed size option =
+    if bytes_eq (codes "--run") option then option_map (λ job. running job.0 job.1) (job_by seed size) else None
+
+-- an archive that is made, or its run
+abbrev pub make_by : List ℕ → List (List ℕ) → Option Asked
+make_by seed (size ∷ []) = made_by seed size
+make_by seed (size ∷ option ∷ []) = run_by seed size option
+make_by seed [] = None
+make_by seed (size ∷ option ∷ third ∷ more) = None
+
+-- and by any command
+unfoldable pub asked_by : List ℕ → List ℕ → List (List ℕ) → Option Asked
+asked_by command first more =
+    if bytes_eq (codes "make") command then make_by first more else archive_by command first more
+
 -- `evaluate ARCHIVE [--all] [--workers N]`, `script ARCHIVE SOLUTION SCRIPT`, `check ARCHIVE`, `repair ARCHIVE
--- SOLUTION --depth D --budget B` or `solve ARCHIVE SOLUTION --depth D --budget B --jobs J --workers N`; the second
--- word is the archive's name, whatever it begins with
+-- SOLUTION --depth D --budget B` or `solve ARCHIVE SOLUTION --depth D --budget B --jobs J --workers N`, where the
+-- second word is the archive's name, whatever it begins with; or `make SEED SIZE [--run]`
 abbrev pub asked : List (List ℕ) → Option Asked
-asked (command ∷ name ∷ more) = asked_by command name more
+asked (command ∷ first ∷ more) = asked_by command first more
 asked _ = None

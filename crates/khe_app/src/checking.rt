@@ -49,7 +49,7 @@ fn write_spelling<K: Sink>(alloc: Global, out: &mut K, answer: &Answer) -> Statu
 }
 
 /// Writes an archive in its canonical spelling, in pieces.
-fn put_spelling<K: Sink>(alloc: Global, out: &mut K, archive: &Archive) -> Status
+pub(crate) fn put_spelling<K: Sink>(alloc: Global, out: &mut K, archive: &Archive) -> Status
     ensures written { Written (K.taken out.old) (K.taken out.new) (K.faults out.old) (K.faults out.new) (canonical archive.now) 0 result.0 }
     ensures sink_faults { K.faults out.old ≤ K.faults out.new }
 {

@@ -4,6 +4,7 @@
 
 mod checking;
 mod families;
+mod making;
 mod outcomes;
 mod program;
 mod reading;
@@ -11,6 +12,7 @@ mod refusals;
 mod repairing;
 mod reports;
 mod scripts;
+mod seeds;
 mod solving;
 mod starting;
 mod words;

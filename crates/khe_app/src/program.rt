@@ -9,6 +9,7 @@ ghost use Rattle.khe_app.specs.Refusals as refusals;
 ghost use Rattle.khe_app.specs.Words.{asked, evaluating, scripting};
 
 use crate::checking::check;
+use crate::making::{make, make_run};
 use crate::reading::{ReadArchive, Unread, read};
 use crate::refusals::{Refusal, refusal_line};
 use crate::repairing::repair;
@@ -29,7 +30,7 @@ use thiserror::Error;
 ///
 /// | Status | Meaning |
 /// |---|---|
-/// | 0 | the archive was evaluated, written, repaired or solved, or the script was read to its end |
+/// | 0 | the archive was evaluated, written, repaired, solved or made, the script was read to its end, or the job was run |
 /// | 2 | the words were not understood |
 /// | 3 | the archive was refused, or the solution that a script, a repair or a solve begins with |
 /// | 4 | the archive or the script could not be read |
@@ -210,6 +211,8 @@ fn respond<R: Threads + Sync, S: Shelf, K: Sink, G: Gate>(
         ) => solve(
             rt, alloc, shelf, out, gate, archive, solution, depth, budget, jobs, workers,
         ),
+        Some(Request::Make { seed, size }) => make(alloc, out, seed, size),
+        Some(Request::Run { seed, size }) => make_run(alloc, out, seed, size),
         None => refuse_words(out),
     }
 }
@@ -290,7 +293,7 @@ fn run_script<S: Shelf, K: Sink>(
 
 /// Writes a text, and answers the status that stands before it, or 5 where it was not written
 /// whole.
-fn put<K: Sink>(out: &mut K, status: u8, bytes: &[u8]) -> Status
+pub(crate) fn put<K: Sink>(out: &mut K, status: u8, bytes: &[u8]) -> Status
     ensures written { Written (K.taken out.old) (K.taken out.new) (K.faults out.old) (K.faults out.new) bytes.now status result.0 }
     ensures ample { (result.0 ≡ status) ⊎ (result.0 ≡ 5) }
     ensures sink_faults { K.faults out.old ≤ K.faults out.new }

@@ -94,7 +94,7 @@ pub(crate) fn read(alloc: Global, bytes: Seq<u8>) -> Result<ReadArchive, Unread>
 }
 
 /// A fault of resolving as a reason not to read.
-fn unresolved(fault: ResolveFault) -> Unread
+pub(crate) fn unresolved(fault: ResolveFault) -> Unread
     ensures { result ≡ of_resolve fault }
 {
     match fault {

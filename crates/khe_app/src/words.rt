@@ -1,8 +1,9 @@
 ghost use Rattle.std.specs.Prelude.{◌≡◌, ◌≤◌, None, Some, map, IfSome, MatchOption, string_bytes};
 ghost use Rattle.khe_app.specs.Requests.{IsFit, asked_of, workers_in};
-ghost use Rattle.khe_app.specs.Words.{asked, asked_by, all_by, both_by, budget_by, chains_by, check_by, crew_by, depth_by, evaluating, jobs_by, number_by, number_to, options_by, repair_by, repair_with, script_by, shares_by, solve_by, solve_with, told_by, value_of, workers_by, workers_of};
+ghost use Rattle.khe_app.specs.Words.{all_by, archive_by, asked, asked_by, both_by, budget_by, chains_by, check_by, crew_by, depth_by, evaluating, job_by, jobs_by, made_by, make_by, number_by, number_to, options_by, repair_by, repair_with, run_by, script_by, shares_by, solve_by, solve_with, told_by, value_of, workers_by, workers_of};
 ghost use Rattle.std.specs.Option.{option_map};
 
+use crate::seeds::seed_of;
 use edit_script::number_of;
 
 /// What the words of the command line ask for.
@@ -57,27 +58,53 @@ pub(crate) enum Request<'a> {
         /// How many workers do them, 1 to 64.
         workers: u32,
     },
+    /// An archive that is made.
+    Make {
+        /// The seed of what is drawn, below 10^18.
+        seed: u64,
+        /// How many events it has, 1 to 2,000.
+        size: u32,
+    },
+    /// The run of a job that is made.
+    Run {
+        /// The seed of what is drawn, below 10^18.
+        seed: u64,
+        /// How many events it has, 1 to 2,000.
+        size: u32,
+    },
 }
 
 /// What these words ask for, or `None` where they have no reading: the words are `evaluate`, a name,
 /// and in any order `--all` and `--workers` with a number, or nothing more; or `script`, a name, a number
 /// and a name; or `check` and a name; or `repair`, a name, a number, and in any order `--depth` and
 /// `--budget`, each with a number; or `solve`, a name, a number, and in any order these two, `--jobs` and
-/// `--workers`, each with a number.
+/// `--workers`, each with a number; or `make`, two numbers, and `--run` or nothing more.
 pub(crate) fn request_of(words: &[String]) -> Option<Request<'_>>
     ensures asked { MatchOption result (asked (map string_bytes words.now) ≡ None) (λ r. asked (map string_bytes words.now) ≡ Some (asked_of r)) }
     ensures fit { IfSome result IsFit }
 {
     match words {
-        [command, archive, more @ ..] => { request_by(command.as_str(), archive.as_str(), more) }
+        [command, first, more @ ..] => request_by(command.as_str(), first.as_str(), more),
         _ => None,
     }
 }
 
-/// What a command asks for with the archive's name and the words after it.
+/// What a command asks for with the words after it.
 #[tactic(auto, unfolding(crate::specs::Words::asked_by))]
-fn request_by<'a>(command: &str, archive: &'a str, more: &'a [String]) -> Option<Request<'a>>
-    ensures asked { MatchOption result (asked_by command.now archive.now (map string_bytes more.now) ≡ None) (λ r. asked_by command.now archive.now (map string_bytes more.now) ≡ Some (asked_of r)) }
+fn request_by<'a>(command: &str, first: &'a str, more: &'a [String]) -> Option<Request<'a>>
+    ensures asked { MatchOption result (asked_by command.now first.now (map string_bytes more.now) ≡ None) (λ r. asked_by command.now first.now (map string_bytes more.now) ≡ Some (asked_of r)) }
+    ensures fit { IfSome result IsFit }
+{
+    if command == "make" {
+        return make_by(first, more);
+    }
+    archive_by(command, first, more)
+}
+
+/// What a command on an archive asks for with the archive's name and the words after it.
+#[tactic(auto, unfolding(crate::specs::Words::archive_by))]
+fn archive_by<'a>(command: &str, archive: &'a str, more: &'a [String]) -> Option<Request<'a>>
+    ensures asked { MatchOption result (archive_by command.now archive.now (map string_bytes more.now) ≡ None) (λ r. archive_by command.now archive.now (map string_bytes more.now) ≡ Some (asked_of r)) }
     ensures fit { IfSome result IsFit }
 {
     if command == "repair" {
@@ -368,4 +395,50 @@ fn solve_with<'a>(archive: &'a str, solution: u32, options: &[String]) -> Option
         jobs,
         workers,
     })
+}
+
+/// What is made by these words after the command: an archive, or the run of a job.
+fn make_by<'a>(seed: &str, words: &[String]) -> Option<Request<'a>>
+    ensures asked { MatchOption result (make_by seed.now (map string_bytes words.now) ≡ None) (λ r. make_by seed.now (map string_bytes words.now) ≡ Some (asked_of r)) }
+    ensures fit { IfSome result IsFit }
+{
+    match words {
+        [size] => made_by(seed, size.as_str()),
+        [size, option] => run_by(seed, size.as_str(), option.as_str()),
+        _ => None,
+    }
+}
+
+/// The archive that is made from a seed and with so many events.
+#[tactic(auto, unfolding(crate::specs::Words::made_by))]
+fn made_by<'a>(seed: &str, size: &str) -> Option<Request<'a>>
+    ensures asked { MatchOption result (made_by seed.now size.now ≡ None) (λ r. made_by seed.now size.now ≡ Some (asked_of r)) }
+    ensures fit { IfSome result IsFit }
+{
+    let (seed, size) = job_by(seed, size)?;
+    Some(Request::Make { seed, size })
+}
+
+/// The run of a job, where an option asks for it.
+#[tactic(auto, unfolding(crate::specs::Words::run_by))]
+fn run_by<'a>(seed: &str, size: &str, option: &str) -> Option<Request<'a>>
+    ensures asked { MatchOption result (run_by seed.now size.now option.now ≡ None) (λ r. run_by seed.now size.now option.now ≡ Some (asked_of r)) }
+    ensures fit { IfSome result IsFit }
+{
+    if option == "--run" {
+        let (seed, size) = job_by(seed, size)?;
+        return Some(Request::Run { seed, size });
+    }
+    None
+}
+
+/// The seed and the number of events that two words write.
+#[tactic(auto, unfolding(crate::specs::Words::job_by))]
+fn job_by(seed: &str, size: &str) -> Option<(u64, u32)>
+    ensures job { result ≡ job_by seed.now size.now }
+    ensures fit { IfSome result (λ j. (1 ≤ j.1) × (j.1 ≤ 2000)) }
+{
+    let seed = seed_of(seed.as_bytes())?;
+    let size = number_to(2_000, size)?;
+    Some((seed, size))
 }

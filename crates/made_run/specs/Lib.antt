@@ -1,0 +1,4 @@
+pub mod Commands
+pub mod Courses
+pub mod Lines
+pub mod Runs

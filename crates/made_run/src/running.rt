@@ -1,0 +1,189 @@
+//! The run.
+
+ghost use Rattle.std.specs.Prelude.{◌≡◌, ◌+◌, ◌*◌, ◌<◌, ◌≤◌, ◌^◌, [], IfOk, OnOk};
+ghost use Rattle.edit_script.specs.declared.commands.Command.TheVariants as command;
+ghost use Rattle.demand_families.specs.Shortages.{deficit_of};
+ghost use Rattle.job_generator.specs.Made.{state_after};
+ghost use Rattle.khe_engine.specs.Values.{ServesAll};
+ghost use Rattle.khe_instance.specs.States.{IsValid};
+ghost use Rattle.made_run.specs.Commands as spec;
+ghost use Rattle.made_run.specs.Courses.{after, course, course_of, started};
+ghost use Rattle.made_run.specs.Lines.{made_line};
+ghost use Rattle.made_run.specs.Runs.{IsJob, IsRunLine};
+
+use crate::drawing::draw_edit;
+use crate::lines::{push_counts, push_deficit, push_instance, push_job, push_totals};
+use crate::marks::{begin_before, end_after, undo_after};
+use job_generator::Draws;
+use khe_base::{NoMemory, Text};
+use khe_engine::{EditFault, Engine};
+use khe_instance::{Instance, Plain};
+use khe_told::{Blank, Edit, Family, Steps};
+use std::alloc::Global;
+use std::marker::Brand;
+use std::sync::ledger::Ledger;
+
+/// What a job was made from.
+#[derive(Clone, Copy, Debug, PartialEq, Eq)]
+pub struct Job {
+    /// The seed that its draws began with.
+    pub seed: u64,
+    /// How many events it has.
+    pub size: u32,
+    /// For how many times its events run together, at least 1.
+    pub slots: u32,
+}
+
+/// How many edits of a run were accepted and how many refused.
+#[derive(Clone, Copy, Debug, PartialEq, Eq)]
+pub struct Counts {
+    pub accepted: u32,
+    pub refused: u32,
+}
+
+/// The line on the run of a job, `made seed S size N resources K monitors M accepted A refused F hard H
+/// soft S deficit D` with a line feed: its ten edits an event are drawn, in tens of which each has a mark
+/// and every second is undone, and carried out on an engine of a timetable of the job's instance.
+///
+/// The draws go on from those of the archive. The only error is want of memory. It takes what opening an
+/// engine takes, for each edit what watches its changes, and at the end what it takes to find what is
+/// short.
+pub fn run_line<F: Family + Drop>(
+    alloc: Global,
+    inst: &Instance,
+    plain: &Plain,
+    draws: &mut Draws,
+    job: Job,
+) -> Result<Text, NoMemory>
+    requires joined { F.IsWellJoined }
+    requires serves { ServesAll F.serves_kind }
+    requires valid { IsValid inst.now plain.now }
+    requires job { IsJob job }
+    requires drawn { draws.old.state ≡ state_after job.seed job.size }
+    ensures { IfOk result (IsRunLine job.seed job.size inst.now plain.now) }
+{
+    let mut engine = Engine::<F>::open(alloc, inst, plain)?;
+    run_on::<F, Brand>(alloc, &mut engine, draws, job, Blank::new(1))
+}
+
+/// Runs the edits of a job on an engine, and forms the line.
+fn run_on<F: Family, L: Ledger>(
+    alloc: Global,
+    engine: &mut Engine<'_, F>,
+    draws: &mut Draws,
+    job: Job,
+    blank: Blank,
+) -> Result<Text, NoMemory>
+    requires name { blank.name ≡ L.name }
+    requires shares { blank.parts ≡ L.parts }
+    requires some { 0 < blank.parts }
+    requires marks { engine.old.saved ≡ [] }
+    requires small { job.size < 2 ^ 28 }
+    requires slots { 1 ≤ job.slots }
+    ensures { IfOk result (λ t. t ≡ made_line job.seed job.size engine.old.parts (course engine.old.parts (started engine.old.state) (spec.drawn_commands job.size job.slots draws.old.state))) }
+{
+    let mut steps = Steps::<L>::new(blank);
+    let counts = run_all(engine, draws, job, &mut steps)?;
+    line_on(alloc, engine, job, counts)
+}
+
+/// Carries out all edits and marks of a job, and counts the edits.
+fn run_all<F: Family, L: Ledger>(
+    engine: &mut Engine<'_, F>,
+    draws: &mut Draws,
+    job: Job,
+    steps: &mut Steps<L>,
+) -> Result<Counts, NoMemory>
+    requires marks { engine.old.saved ≡ [] }
+    requires small { job.size < 2 ^ 28 }
+    requires slots { 1 ≤ job.slots }
+    ensures parts { engine.new.parts ≡ engine.old.parts }
+    ensures course { IfOk result (λ n. course_of engine.new n ≡ course engine.old.parts (started engine.old.state) (spec.drawn_commands job.size job.slots draws.old.state)) }
+{
+    let mut counts = Counts {
+        accepted: 0,
+        refused: 0,
+    };
+    for number in 0..10 * job.size {
+        step(engine, draws, job, number, &mut counts, steps)?;
+    }
+    Ok(counts)
+}
+
+/// Draws the edit with a number and carries it out, with the marks before and after it.
+#[tactic(auto, unfolding(crate::specs::Commands::step))]
+fn step<F: Family, L: Ledger>(
+    engine: &mut Engine<'_, F>,
+    draws: &mut Draws,
+    job: Job,
+    number: u32,
+    counts: &mut Counts,
+    steps: &mut Steps<L>,
+) -> Result<(), NoMemory>
+    requires slots { 1 ≤ job.slots }
+    requires few { counts.old.accepted + counts.old.refused < 2 ^ 32 - 1 }
+    ensures parts { engine.new.parts ≡ engine.old.parts }
+    ensures course { OnOk result (course_of engine.new counts.new ≡ course engine.old.parts (course_of engine.old counts.old) (spec.step job.size job.slots number draws.old.state).0) }
+    ensures state { OnOk result (draws.new.state ≡ (spec.step job.size job.slots number draws.old.state).1) }
+    ensures counted { OnOk result (counts.new.accepted + counts.new.refused ≡ counts.old.accepted + counts.old.refused + 1) }
+{
+    begin_before(engine, number);
+    let edit = draw_edit(draws, job.size, job.slots);
+    carry_out(engine, edit, counts, steps)?;
+    undo_after(engine, number, steps);
+    end_after(engine, number);
+    Ok(())
+}
+
+/// Carries out an edit, and counts it.
+fn carry_out<F: Family, L: Ledger>(
+    engine: &mut Engine<'_, F>,
+    edit: Edit,
+    counts: &mut Counts,
+    steps: &mut Steps<L>,
+) -> Result<(), NoMemory>
+    requires few { counts.old.accepted + counts.old.refused < 2 ^ 32 - 1 }
+    ensures parts { engine.new.parts ≡ engine.old.parts }
+    ensures course { OnOk result (course_of engine.new counts.new ≡ after engine.old.parts (course_of engine.old counts.old) (command.Edit edit)) }
+    ensures counted { OnOk result (counts.new.accepted + counts.new.refused ≡ counts.old.accepted + counts.old.refused + 1) }
+{
+    match engine.edit(edit, steps) {
+        Ok(_) => {
+            counts.accepted += 1;
+            Ok(())
+        }
+        Err(EditFault::Refused(_)) => {
+            counts.refused += 1;
+            Ok(())
+        }
+        Err(EditFault::NoMemory) => Err(NoMemory),
+    }
+}
+
+/// The line on a run that left this engine.
+#[tactic(auto, unfolding(crate::specs::Lines::made_line))]
+fn line_on<F: Family>(
+    alloc: Global,
+    engine: &Engine<'_, F>,
+    job: Job,
+    counts: Counts,
+) -> Result<Text, NoMemory>
+    ensures { IfOk result (λ t. t ≡ made_line job.seed job.size engine.now.parts (course_of engine.now counts)) }
+{
+    let deficit = deficit_on(alloc, engine)?;
+    let mut line = Text::new(alloc);
+    push_job(&mut line, job.seed, job.size)?;
+    push_instance(&mut line, engine.instance())?;
+    push_counts(&mut line, counts.accepted, counts.refused)?;
+    push_totals(&mut line, engine.totals())?;
+    push_deficit(&mut line, deficit)?;
+    Ok(line)
+}
+
+/// How many demands no assignment can serve.
+fn deficit_on<F: Family>(alloc: Global, engine: &Engine<'_, F>) -> Result<u32, NoMemory>
+    ensures { IfOk result (λ d. d ≡ deficit_of engine.now.parts engine.now.state.slots) }
+{
+    let shortage = engine.shortage(alloc)?;
+    Ok(shortage.deficit)
+}
