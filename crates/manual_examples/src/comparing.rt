@@ -1,0 +1,142 @@
+//! What the manual shows beside what comes.
+
+use crate::examples::{Example, example_of, is_shown};
+use crate::faults::Fault;
+use crate::playing::{came_of, refusal_of};
+use khe_base::Text;
+use std::alloc::Global;
+use std::fs;
+use std::rt::Files;
+use std::thread::Threads;
+
+/// How much was compared, and how much of it differed.
+#[derive(Clone, Copy, Default)]
+pub(crate) struct Tally {
+    pub(crate) compared: u32,
+    pub(crate) differing: u32,
+}
+
+/// Notes in a tally whether what came is what is shown, and prints what is not.
+fn note<R: Print>(rt: &R, tally: &mut Tally, what: &str, came: &str, shown: &str) {
+    tally.compared = tally.compared.saturating_add(1);
+    if !is_shown(came, shown) {
+        tally.differing = tally.differing.saturating_add(1);
+        let _ = println!(rt; "{}\nshown:\n{}\ncame:\n{}", what, shown, came);
+    }
+}
+
+/// Compares all that the manual shows with what comes.
+pub(crate) fn compare_manual<R: Threads + Files + Print + Alloc + Sync>(
+    rt: &R,
+    alloc: Global,
+    tally: &mut Tally,
+) -> Result<(), Fault> {
+    let manual = fs::read_to_string(rt, "manual.md")?;
+    compare_blocks(rt, alloc, tally, manual.as_str())?;
+    compare_refusals(rt, alloc, tally, manual.as_str())
+}
+
+/// Compares the blocks of a document. Every second piece between fences is one.
+fn compare_blocks<R: Threads + Files + Print + Alloc + Sync>(
+    rt: &R,
+    alloc: Global,
+    tally: &mut Tally,
+    document: &str,
+) -> Result<(), Fault> {
+    let mut before = None;
+    for piece in document.split("\n```") {
+        before = match before {
+            Some(text) => {
+                compare_block(rt, alloc, tally, text, piece)?;
+                None
+            }
+            None => Some(piece),
+        };
+    }
+    Ok(())
+}
+
+/// Compares a block with what comes of its commands. A block without commands after the name of a file in a
+/// paragraph that ends with a colon shows that file.
+fn compare_block<R: Threads + Files + Print + Alloc + Sync>(
+    rt: &R,
+    alloc: Global,
+    tally: &mut Tally,
+    before: &str,
+    block: &str,
+) -> Result<(), Fault> {
+    for text in block.split("\n$ ").skip(1) {
+        compare_example(rt, alloc, tally, example_of(text))?;
+    }
+    match file_of(before) {
+        Some(file) => compare_file(rt, tally, file, block),
+        None => Ok(()),
+    }
+}
+
+/// The file of examples that is named in the last line of a text which ends with a colon.
+fn file_of(text: &str) -> Option<&str> {
+    let line = text.trim_end().strip_suffix(':')?.lines().last()?;
+    line.split('`').find(|word| word.starts_with("examples/"))
+}
+
+/// Compares a block with the file that it shows.
+fn compare_file<R: Files + Print + Alloc>(
+    rt: &R,
+    tally: &mut Tally,
+    file: &str,
+    block: &str,
+) -> Result<(), Fault> {
+    let text = fs::read_to_string(rt, file)?;
+    note(rt, tally, file, text.as_str(), example_of(block).shown);
+    Ok(())
+}
+
+/// Compares an example with what comes of its command.
+fn compare_example<R: Threads + Files + Print + Sync>(
+    rt: &R,
+    alloc: Global,
+    tally: &mut Tally,
+    example: Example<'_>,
+) -> Result<(), Fault> {
+    let mut came = Text::new(alloc);
+    came_of(rt, alloc, example, &mut came)?;
+    note(rt, tally, example.command, came.as_str(), example.shown);
+    Ok(())
+}
+
+/// Compares the rows of the table of refusals with what comes of their files.
+fn compare_refusals<R: Threads + Files + Print + Sync>(
+    rt: &R,
+    alloc: Global,
+    tally: &mut Tally,
+    document: &str,
+) -> Result<(), Fault> {
+    for line in document.lines() {
+        if let Some((refusal, file)) = refusal_in(line) {
+            compare_refusal(rt, alloc, tally, refusal, file)?;
+        }
+    }
+    Ok(())
+}
+
+/// The refusal and the file, without its ending, of a row of the table of refusals.
+fn refusal_in(line: &str) -> Option<(&str, &str)> {
+    let (refusal, more) = line.strip_prefix("| `")?.split_once("` | `")?;
+    let (file, _) = more.split_once(".xml` | ")?;
+    Some((refusal, file))
+}
+
+/// Compares a refusal with what comes of its file.
+fn compare_refusal<R: Threads + Files + Print + Sync>(
+    rt: &R,
+    alloc: Global,
+    tally: &mut Tally,
+    refusal: &str,
+    file: &str,
+) -> Result<(), Fault> {
+    let mut came = Text::new(alloc);
+    refusal_of(rt, alloc, file, &mut came)?;
+    note(rt, tally, file, came.as_str(), refusal);
+    Ok(())
+}
