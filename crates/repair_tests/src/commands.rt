@@ -87,6 +87,21 @@ const REPAIRS: &[Row] = &[
     },
 ];
 
+/// A solve of a solution that the small archive does not have.
+const LACKING: &[&str] = &[
+    "solve",
+    "archive",
+    "2",
+    "--depth",
+    "1",
+    "--budget",
+    "1",
+    "--jobs",
+    "1",
+    "--workers",
+    "1",
+];
+
 const SOLVES: &[Row] = &[
     Row {
         archive: SMALL,
@@ -134,37 +149,13 @@ const SOLVES: &[Row] = &[
     },
     Row {
         archive: SMALL,
-        words: &[
-            "solve",
-            "archive",
-            "2",
-            "--depth",
-            "1",
-            "--budget",
-            "1",
-            "--jobs",
-            "1",
-            "--workers",
-            "1",
-        ],
+        words: LACKING,
         status: 3,
         text: &[Once("khe: archive refused: 18 NoSuchSolution\n")],
     },
     Row {
         archive: "<",
-        words: &[
-            "solve",
-            "archive",
-            "2",
-            "--depth",
-            "1",
-            "--budget",
-            "1",
-            "--jobs",
-            "1",
-            "--workers",
-            "1",
-        ],
+        words: LACKING,
         status: 3,
         text: &[Once("khe: archive refused: 2 BadMarkup at 1\n")],
     },

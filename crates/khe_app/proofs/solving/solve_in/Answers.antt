@@ -6,7 +6,7 @@ use Rattle.khe_app.proofs.SolveEnds.{barred_solve, begun_solve}
 use Rattle.khe_app.proofs.solving.solve_in.Goals as goal
 
 pub put_solve-requires-clause-texts : goal.put_solve-requires-clause-texts
-put_solve-requires-clause-texts g c =
+put_solve-requires-clause-texts g c = λ _ _.
     all-there HasSpellable c.args.read.now.resolved.instances c.in-Ok.instance c.instance_numbered-inst.result.now
     c.requires.ready.texts c.instance_numbered-inst.ensures
 
