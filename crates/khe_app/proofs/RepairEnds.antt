@@ -31,15 +31,15 @@ of_reading number depth budget (evaluable a r) status text h =
     of_start a number depth budget (start_of a r number) status text h
 of_reading number depth budget (refused refusal) status text h = inr h.0
 
-decided : (status : ℕ) → (status ≡ 0) ⊎ (status ≡ 3) → IsDecided status
+pub decided : (status : ℕ) → (status ≡ 0) ⊎ (status ≡ 3) → IsDecided status
 decided status (inl e) = inl e
 decided status (inr e) = inr (inr (inl e))
 
-two_apart : (status : ℕ) → (status ≡ 0) ⊎ (status ≡ 3) → status ≡ 2 → ⊥
+pub two_apart : (status : ℕ) → (status ≡ 0) ⊎ (status ≡ 3) → status ≡ 2 → ⊥
 two_apart status (inl e) two = omega (arith, e, two)
 two_apart status (inr e) two = omega (arith, e, two)
 
-four_apart : (◌≡◌ {A = ℕ} 4 0) ⊎ (◌≡◌ {A = ℕ} 4 3) → ⊥
+pub four_apart : (◌≡◌ {A = ℕ} 4 0) ⊎ (◌≡◌ {A = ℕ} 4 3) → ⊥
 four_apart (inl e) = omega (arith, e)
 four_apart (inr e) = omega (arith, e)
 

@@ -136,6 +136,7 @@ fn step<F: Family, L: Ledger>(
 }
 
 /// Carries out an edit, and counts it.
+#[tactic(auto, using(crate::proofs::CourseLaws::accepted_course, crate::proofs::CourseLaws::refused_course))]
 fn carry_out<F: Family, L: Ledger>(
     engine: &mut Engine<'_, F>,
     edit: Edit,
