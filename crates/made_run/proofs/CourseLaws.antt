@@ -1,21 +1,21 @@
 -- What the calls of an engine make of a course.
-use Rattle.std.proofs.Common.{ℕ, ◌≡◌, ◌+◌, ◌%◌, ◌==◌, Bool, true, false, Option, Some, None, Result, List, [], ◌∷◌}
-use Rattle.std.proofs.Common.{◌++◌, cond, refl, sym, ap, subst, ◌∙◌}
-use Rattle.std.specs.Prelude.{if◌then◌else◌, ◌↔◌, OnOk, OnErr, IfErr, Err, length}
+use Rattle.std.proofs.Common.{ℕ, ◌≡◌, ◌+◌, ◌%◌, ◌==◌, Bool, true, false, Option, Some, None, Result, Err, List, [], ◌∷◌}
+use Rattle.std.proofs.Common.{◌++◌, refl, sym, ap, ◌∙◌}
+use Rattle.std.specs.Prelude.{if◌then◌else◌, ◌↔◌, OnOk, OnErr, IfErr, length}
 use Rattle.khe_base.specs.declared.limits.TheConstants.{MARKS}
 use Rattle.khe_instance.specs.declared.parts.Parts.{Parts}
 use Rattle.khe_told.specs.declared.changes.Change.{Change}
 use Rattle.khe_told.specs.declared.edits.Edit.{Edit}
 use Rattle.khe_told.specs.declared.refusals.Refusal.{Refusal}
 use Rattle.khe_told.specs.declared.refusals.Refusal.TheVariants.{NoMark, MarksFull}
-use Rattle.khe_engine.specs.States.{State, edited, refusal}
+use Rattle.khe_engine.specs.States.{edited, refusal}
 use Rattle.khe_engine.specs.Worlds.{Saved, World, closed, fresh, grown}
 use Rattle.edit_script.specs.declared.commands.Command.{Command}
 use Rattle.edit_script.specs.declared.commands.Command.TheVariants as command
 use Rattle.script_run.specs.Plays.{Play, play_of, played}
 use Rattle.script_run.proofs.PlayLaws.{played_begin, played_edit, played_end, played_refused, played_undo}
 use Rattle.made_run.specs.Commands as spec
-use Rattle.made_run.specs.Courses.{Course, after, counted, course, course_of, started}
+use Rattle.made_run.specs.Courses.{Course, after, counted, course, course_of}
 use Rattle.made_run.specs.declared.running.Counts.{Counts}
 
 -- one list of commands after another

@@ -37,7 +37,9 @@ pub struct Job {
 /// How many edits of a run were accepted and how many refused.
 #[derive(Clone, Copy, Debug, PartialEq, Eq)]
 pub struct Counts {
+    /// How many were made.
     pub accepted: u32,
+    /// How many were refused.
     pub refused: u32,
 }
 
