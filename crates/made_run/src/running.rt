@@ -106,7 +106,8 @@ fn run_all<F: Family, L: Ledger>(
         accepted: 0,
         refused: 0,
     };
-    for number in 0..10 * job.size {
+    let edits = 10 * job.size;
+    for number in 0..edits {
         step(engine, draws, job, number, &mut counts, steps)?;
     }
     Ok(counts)

@@ -11,7 +11,7 @@ use Rattle.made_run.proofs.running.run_all.Goals as goal
 pub loop-number-init : goal.loop-number-init
 loop-number-init g c = record {
   parts = refl;
-  course = begin_run c.args.engine.now c.loop-number.initial.counts c.args.job.size c.args.job.slots
+  course = begin_run c.args.engine.now (record { accepted = 0; refused = 0 }) c.args.job.size c.args.job.slots
       c.args.draws.now.state c.requires.marks refl refl;
   counted = refl;
 }
