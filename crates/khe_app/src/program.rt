@@ -31,7 +31,7 @@ use thiserror::Error;
 /// |---|---|
 /// | 0 | the archive was evaluated, written, repaired or made, the script was read to its end, or the job was run |
 /// | 2 | the words were not understood |
-/// | 3 | the archive was refused, or the solution that a script or a repair begins with |
+/// | 3 | the archive was refused, or the solution that a script, a repair or a run begins with |
 /// | 4 | the archive or the script could not be read |
 /// | 5 | the text could not be written |
 /// | 6 | memory ran out |
@@ -83,14 +83,15 @@ impl From<NoMemory> for Stop {
 
 /// Runs the program on these words: reads the archive that they name from the shelf, and writes its
 /// report, the answers to a script, its canonical spelling as it is or with a solution repaired, or the
-/// line that refuses it, to the sink.
+/// line that refuses it, to the sink; or makes an archive, and writes it or the line on its run.
 ///
 /// The words are `evaluate`, the archive's name, and in any order `--all` where the report is to have all
 /// monitors and `--workers` with the number of workers, 1 to 64; or `script`, the archive's name, the
 /// number of a solution, and the name of the script; or `check` and the archive's name; or `repair`, the
 /// archive's name, the number of a solution, and in any order `--depth` with the greatest number of moves
-/// of a chain, 1 to 4, and `--budget` with the number of chains that may be tried, 1 to 1,000,000,000. The
-/// answer is a status, as in `Status`. What was written before a status of 4 is nothing, and before a
+/// of a chain, 1 to 4, and `--budget` with the number of chains that may be tried, 1 to 1,000,000,000; or
+/// `make`, a seed of up to 18 digits, the number of events, 1 to 2,000, and `--run` or nothing more, for which
+/// nothing is read. The answer is a status, as in `Status`. What was written before a status of 4 is nothing, and before a
 /// status of 5 or 6 a first part of the text. The text does not depend on the number of workers, who pass
 /// the gate before each solution that they evaluate, with its number.
 ///
@@ -106,7 +107,8 @@ impl From<NoMemory> for Stop {
 /// solution adds. A script takes besides what opening an engine takes, and for each edit what
 /// watches its changes. A canonical spelling takes time linear in its bytes, and beside the archive and its
 /// instances no more memory than a piece of it. A repair takes besides an engine, and for each chain that
-/// it tries what watches the changes of its last move.
+/// it tries what watches the changes of its last move. An archive is made in time and memory linear in the
+/// number of its events, and its run takes what a script of ten edits an event takes.
 pub fn khe<R: Threads + Sync, S: Shelf, K: Sink, G: Gate>(
     rt: &R,
     alloc: Global,
