@@ -91,9 +91,9 @@ impl From<NoMemory> for Stop {
 /// archive's name, the number of a solution, and in any order `--depth` with the greatest number of moves
 /// of a chain, 1 to 4, and `--budget` with the number of chains that may be tried, 1 to 1,000,000,000; or
 /// `make`, a seed of up to 18 digits, the number of events, 1 to 2,000, and `--run` or nothing more, for which
-/// nothing is read. The answer is a status, as in `Status`. What was written before a status of 4 is nothing, and before a
-/// status of 5 or 6 a first part of the text. The text does not depend on the number of workers, who pass
-/// the gate before each solution that they evaluate, with its number.
+/// nothing is read. The answer is a status, as in `Status`. What was written before a status of 4 is
+/// nothing, and before a status of 5 or 6 a first part of the text. The text does not depend on the number
+/// of workers, who pass the gate before each solution that they evaluate, with its number.
 ///
 /// A repaired timetable takes the place of the entries of its solution, and the line after the archive
 /// tells how the repair ended. It never costs more than the solution did; where the repair is done no
