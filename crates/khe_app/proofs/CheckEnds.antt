@@ -18,7 +18,7 @@ use Rattle.xhstt_writer.specs.Archives.{canonical}
 use Rattle.xhstt_writer.proofs.Written.{canonical_spells}
 
 -- the canonical spelling of a well-formed archive is UTF-8
-canonical_utf8 : (a : Archive) → IsWellFormed a → IsUtf8 (canonical a)
+pub canonical_utf8 : (a : Archive) → IsWellFormed a → IsUtf8 (canonical a)
 canonical_utf8 a w = let read = canonical_spells a w in read.2.1.0
 
 -- a text that the bytes of an answer spell

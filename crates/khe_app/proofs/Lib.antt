@@ -3,6 +3,7 @@ pub mod CheckEnds
 pub mod EndsLemmas
 pub mod FewLemmas
 pub mod GroupLemmas
+pub mod MakeEnds
 pub mod OnlyLemmas
 pub mod OutcomeLemmas
 pub mod PlayEnds

@@ -32,7 +32,7 @@ use thiserror::Error;
 /// |---|---|
 /// | 0 | the archive was evaluated, written, repaired, solved or made, the script was read to its end, or the job was run |
 /// | 2 | the words were not understood |
-/// | 3 | the archive was refused, or the solution that a script, a repair or a solve begins with |
+/// | 3 | the archive was refused, or the solution that a script, a repair, a solve or a run begins with |
 /// | 4 | the archive or the script could not be read |
 /// | 5 | the text could not be written |
 /// | 6 | memory ran out |
@@ -84,7 +84,7 @@ impl From<NoMemory> for Stop {
 
 /// Runs the program on these words: reads the archive that they name from the shelf, and writes its
 /// report, the answers to a script, its canonical spelling as it is or with a solution repaired, or the
-/// line that refuses it, to the sink.
+/// line that refuses it, to the sink; or makes an archive, and writes it or the line on its run.
 ///
 /// The words are `evaluate`, the archive's name, and in any order `--all` where the report is to have all
 /// monitors and `--workers` with the number of workers, 1 to 64; or `script`, the archive's name, the
@@ -92,10 +92,11 @@ impl From<NoMemory> for Stop {
 /// archive's name, the number of a solution, and in any order `--depth` with the greatest number of moves
 /// of a chain, 1 to 4, and `--budget` with the number of chains that may be tried, 1 to 1,000,000,000; or
 /// `solve` with the same words and besides, in any order, `--jobs` with the number of repairs, 1 to 10,000,
-/// and `--workers` with the number of workers, 1 to 64. The answer is a status, as in `Status`. What was
-/// written before a status of 4 is nothing, and before a status of 5 or 6 a first part of the text. The text
-/// does not depend on the number of workers, who pass the gate before each solution that they evaluate and
-/// before each job that they run, with its number.
+/// and `--workers` with the number of workers, 1 to 64; or `make`, a seed of up to 18 digits, the number of
+/// events, 1 to 2,000, and `--run` or nothing more, for which nothing is read. The answer is a status, as in
+/// `Status`. What was written before a status of 4 is nothing, and before a status of 5 or 6 a first part of
+/// the text. The text does not depend on the number of workers, who pass the gate before each solution that
+/// they evaluate and before each job that they run, with its number.
 ///
 /// A repaired timetable takes the place of the entries of its solution, and the line after the archive
 /// tells how the repair ended. It never costs more than the solution did; where the repair is done no
@@ -112,6 +113,8 @@ impl From<NoMemory> for Stop {
 /// instances no more memory than a piece of it. A repair takes besides an engine, and for each chain that
 /// it tries what watches the changes of its last move. Many repairs take the time of all, divided among the
 /// workers that run at the same time, and an engine and two timetables for each worker.
+/// An archive is made in time and memory linear in the number of its events, and its run takes what a script
+/// of ten edits an event takes.
 pub fn khe<R: Threads + Sync, S: Shelf, K: Sink, G: Gate>(
     rt: &R,
     alloc: Global,

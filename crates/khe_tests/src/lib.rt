@@ -12,6 +12,8 @@ mod ends;
 #[cfg(test)]
 mod kinds;
 #[cfg(test)]
+mod makes;
+#[cfg(test)]
 mod resolving;
 #[cfg(test)]
 mod tests;

@@ -37,7 +37,9 @@ pub struct Job {
 /// How many edits of a run were accepted and how many refused.
 #[derive(Clone, Copy, Debug, PartialEq, Eq)]
 pub struct Counts {
+    /// How many were made.
     pub accepted: u32,
+    /// How many were refused.
     pub refused: u32,
 }
 
@@ -104,7 +106,8 @@ fn run_all<F: Family, L: Ledger>(
         accepted: 0,
         refused: 0,
     };
-    for number in 0..10 * job.size {
+    let edits = 10 * job.size;
+    for number in 0..edits {
         step(engine, draws, job, number, &mut counts, steps)?;
     }
     Ok(counts)
@@ -136,6 +139,7 @@ fn step<F: Family, L: Ledger>(
 }
 
 /// Carries out an edit, and counts it.
+#[tactic(auto, using(crate::proofs::CourseLaws::accepted_course, crate::proofs::CourseLaws::refused_course))]
 fn carry_out<F: Family, L: Ledger>(
     engine: &mut Engine<'_, F>,
     edit: Edit,

@@ -1,5 +1,5 @@
-//! Command lines of a document, as far as documents use them: `khe` with its words, perhaps only the last lines
-//! of it; the status; a file that is shown, or made by `printf`.
+//! Command lines of a document, as far as documents use them: `khe` with its words, perhaps only the first
+//! or the last lines of it, or to a file; the status; a file that is shown, or made by `printf`.
 
 use crate::examples::Example;
 use crate::faults::Fault;
@@ -50,7 +50,10 @@ fn play_step<R: Threads + Files + Sync>(
             return Ok(0);
         }
     }
-    run_step(rt, alloc, step, came)
+    match step.split_once(" > ") {
+        Some((command, name)) => run_to_file(rt, alloc, command, name),
+        None => run_step(rt, alloc, step, came),
+    }
 }
 
 /// Makes a file of the lines that are shown of it.
@@ -61,20 +64,32 @@ fn show_file<R: Files>(rt: &R, name: &str, shown: &str, came: &mut Text) -> Resu
     Ok(0)
 }
 
-/// Runs `khe` with the words of a command, and adds what it writes, or its last lines where the command asks for
-/// these alone. It answers the status.
+/// Runs `khe` with the words of a command, and adds what it writes, or its first or last lines where the command
+/// asks for these alone. It answers the status.
 fn run_step<R: Threads + Files + Sync>(
     rt: &R,
     alloc: Global,
     step: &str,
     came: &mut Text,
 ) -> Result<u8, Fault> {
-    let (command, last) = match step.split_once(" | tail -") {
-        Some((command, count)) => (command, count.parse::<usize>().unwrap_or(0)),
-        None => (step, usize::MAX),
+    let (command, kept) = match step.split_once(" | ") {
+        Some((command, kept)) => (command, kept),
+        None => (step, ""),
     };
     let (status, sink) = run(rt, alloc, command)?;
-    push_last(came, text_of(sink.taken().as_slice()), last)?;
+    push_kept(came, text_of(sink.taken().as_slice()), kept)?;
+    Ok(status)
+}
+
+/// Runs `khe` with the words of a command, and writes what it writes to a file. It answers the status.
+fn run_to_file<R: Threads + Files + Sync>(
+    rt: &R,
+    alloc: Global,
+    command: &str,
+    name: &str,
+) -> Result<u8, Fault> {
+    let (status, sink) = run(rt, alloc, command)?;
+    fs::write(rt, name, sink.taken().as_slice())?;
     Ok(status)
 }
 
@@ -86,10 +101,26 @@ fn text_of(bytes: &[u8]) -> &str {
     }
 }
 
-/// Adds so many last lines of a text, or all of it where it has no more.
-fn push_last(came: &mut Text, text: &str, count: usize) -> Result<(), NoMemory> {
-    let left_out = text.lines().count().saturating_sub(count);
-    for line in text.lines().skip(left_out) {
+/// Adds a text, or what `head -N` or `tail -N` keeps of it.
+fn push_kept(came: &mut Text, text: &str, kept: &str) -> Result<(), NoMemory> {
+    if let Some(count) = kept.strip_prefix("tail -") {
+        let left_out = text.lines().count().saturating_sub(number_of(count));
+        return push_lines(came, text, left_out, usize::MAX);
+    }
+    if let Some(count) = kept.strip_prefix("head -") {
+        return push_lines(came, text, 0, number_of(count));
+    }
+    came.push_str(text)
+}
+
+/// The number of lines that a command asks for.
+fn number_of(word: &str) -> usize {
+    word.parse::<usize>().unwrap_or(0)
+}
+
+/// Adds so many lines of a text, after those that are left out.
+fn push_lines(came: &mut Text, text: &str, left_out: usize, count: usize) -> Result<(), NoMemory> {
+    for line in text.lines().skip(left_out).take(count) {
         came.push_str(line)?;
         came.push_literal("\n")?;
     }

@@ -1,5 +1,8 @@
--- Words without a reading.
-use Rattle.std.proofs.Common.{None, map, string_bytes}
+-- Words without a reading, and those that name no archive.
+use Rattle.std.proofs.Common.{None, Some, map, string_bytes, ap, ◌∙◌}
+use Rattle.khe_app.specs.Requests.{asked_of}
+use Rattle.khe_app.specs.Words.{making, running}
+use Rattle.khe_app.specs.declared.words.Request.{Request}
 use Rattle.khe_app.proofs.EndsLemmas.{by_words}
 use Rattle.khe_app.proofs.program.respond.Goals as goal
 
@@ -12,3 +15,25 @@ returns-in-None-clause-end g c =
     (g.K.Sink.taken c.refuse_words.new.out) (g.K.Sink.faults c.args.out.now)
     (g.K.Sink.faults c.refuse_words.new.out) c.refuse_words.result.0 c.in-None.ensures.asked
     (c.refuse_words.ensures.end h sound faults)
+
+pub returns-in-Some-Make-clause-end : goal.returns-in-Some-Make-clause-end
+returns-in-Some-Make-clause-end g c =
+    let h = g.S.Shelf.holdings c.args.shelf.now in
+    let sound = g.S.Shelf.is_sound c.args.shelf.now in
+    let faults = g.S.Shelf.faults c.args.shelf.now in
+    by_words (map string_bytes c.args.words.now) (Some (making c.in-Some-Make.seed c.in-Some-Make.size)) h sound faults
+    faults (g.K.Sink.taken c.args.out.now) (g.K.Sink.taken c.make.new.out) (g.K.Sink.faults c.args.out.now)
+    (g.K.Sink.faults c.make.new.out) c.make.result.0
+    (c.in-Some-Make.ensures.asked ∙ ap (λ (r : Request). Some (asked_of r)) c.in-Some-Make.field-0-is)
+    (c.make.ensures.end h sound faults)
+
+pub returns-in-Some-Run-clause-end : goal.returns-in-Some-Run-clause-end
+returns-in-Some-Run-clause-end g c =
+    let h = g.S.Shelf.holdings c.args.shelf.now in
+    let sound = g.S.Shelf.is_sound c.args.shelf.now in
+    let faults = g.S.Shelf.faults c.args.shelf.now in
+    by_words (map string_bytes c.args.words.now) (Some (running c.in-Some-Run.seed c.in-Some-Run.size)) h sound faults
+    faults (g.K.Sink.taken c.args.out.now) (g.K.Sink.taken c.make_run.new.out) (g.K.Sink.faults c.args.out.now)
+    (g.K.Sink.faults c.make_run.new.out) c.make_run.result.0
+    (c.in-Some-Run.ensures.asked ∙ ap (λ (r : Request). Some (asked_of r)) c.in-Some-Run.field-0-is)
+    (c.make_run.ensures.end h sound faults)
