@@ -5,7 +5,7 @@
 #
 #     bench/repair.sh KHE [ARCHIVE [SOLUTION]]
 #
-# KHE is a proved program, say ~/.cache/khe/khe. Without an archive it is one of 300 events by archives.py; SOLUTION is 0
+# KHE is a proved program, say ~/.cache/khe/khe. Without an archive it is that of `khe make 7 300`; SOLUTION is 0
 # if missing. DEPTH (2) and BUDGET (1000000) are taken from the environment. Run it by hand, on a quiet machine: it is
 # no part of the gate.
 . "$(dirname "$0")/setup.sh"
@@ -14,7 +14,7 @@ budget=${BUDGET:-1000000}
 if [ $# -ge 2 ]; then
   archive=$(readlink -f "$2")
 else
-  python3 "$top/bench/archives.py" "${EVENTS:-300}" 1 > "$archive"
+  "$khe" make "${SEED:-7}" "${EVENTS:-300}" > "$archive"
 fi
 repair=(repair "$archive" "${3:-0}" --depth "$depth" --budget "$budget")
 line=$("$khe" "${repair[@]}" | tail -n 1)

@@ -1,4 +1,4 @@
-"""Writes a script of edits on the first solution of an archive of archives.py to standard output.
+"""Writes a script of edits on the first solution of an archive of archives.py, or of `khe make`, to standard output.
 
     python3 bench/scripts.py ARCHIVE LINES [SEED]
 
@@ -14,7 +14,7 @@ import xml.etree.ElementTree
 
 
 class Timetable:
-    """The meets of the first solution: how long each lasts, its start if it may move, its teacher and room."""
+    """The meets of the first solution: how long each lasts, its start if it has one and may move, its teacher and room."""
 
     def __init__(self, archive):
         root = xml.etree.ElementTree.parse(archive).getroot()
@@ -35,13 +35,14 @@ class Timetable:
             meet = first[event]
             first[event] += 1
             self.durations[meet] = int(entry.find("Duration").text)
-            if event not in fixed:
-                self.starts[meet] = int(entry.find("Time").get("Reference")[1:])
+            time = entry.find("Time")
+            if event not in fixed and time is not None:
+                self.starts[meet] = int(time.get("Reference")[1:])
             for resource in entry.findall("Resources/Resource"):
                 place = 1 if resource.find("Role").text == "T" else 2
                 self.given[meet, place] = number[resource.get("Reference")]
         self.movable = sorted(self.starts)
-        self.meets = sorted(self.durations)
+        self.filled = {place: sorted(meet for meet, at in self.given if at == place) for place in (1, 2)}
 
     def copy(self):
         return dict(self.starts), dict(self.given)
@@ -67,7 +68,8 @@ def edit(table, draw):
                 return "swap %d %d" % (a, b)
         else:
             place = 1 + draw(2)
-            a, b = table.meets[draw(len(table.meets))], table.meets[draw(len(table.meets))]
+            filled = table.filled[place]
+            a, b = filled[draw(len(filled))], filled[draw(len(filled))]
             if kind < 18:
                 resource = table.kinds[place][draw(len(table.kinds[place]))]
                 if resource != table.given[a, place]:

@@ -6,8 +6,8 @@
 #
 #     bench/scripts.sh KHE [ARCHIVE SCRIPT]
 #
-# KHE is a proved program, say ~/.cache/khe/khe. Without the other words the archive is one of 300
-# events by archives.py, and the script moves its meets, exchanges them and gives their tasks other
+# KHE is a proved program, say ~/.cache/khe/khe. Without the other words the archive is that of
+# `khe make 7 300`, and the script moves its meets, exchanges them and gives their tasks other
 # resources, with a mark around each few edits that is mostly undone. Run it by hand, on a quiet machine: it
 # is no part of the gate.
 . "$(dirname "$0")/setup.sh"
@@ -16,7 +16,7 @@ if [ $# -ge 3 ]; then
   archive=$(readlink -f "$2")
   script=$(readlink -f "$3")
 else
-  python3 "$top/bench/archives.py" "${EVENTS:-300}" 1 > "$archive"
+  "$khe" make "${SEED:-7}" "${EVENTS:-300}" > "$archive"
   python3 "$top/bench/scripts.py" "$archive" "${LINES_OF:-200000}" > "$script"
 fi
 : > "$work/empty"
