@@ -1,5 +1,5 @@
 -- How a run ends that replaces a solution by the least result of many repairs.
-use Rattle.std.proofs.Common.{ℕ, ◌≡◌, ◌⊎◌, inl, inr, Bool, List, [], Option, Some, None, IfSome, IsTrue, sym, subst}
+use Rattle.std.proofs.Common.{ℕ, ◌≡◌, ◌⊎◌, inl, inr, Bool, List, [], Option, Some, None, IfSome, sym, subst}
 use Rattle.std.proofs.Common.{◌∙◌, refl, arith, encode_utf8_all, slice_get}
 use Rattle.std.proofs.lemmas.Option.{same_Some}
 use Rattle.khe_instance.specs.declared.parts.Parts.{Parts}

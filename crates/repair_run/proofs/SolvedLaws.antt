@@ -1,5 +1,5 @@
 -- What is true of the least result of many repairs.
-use Rattle.std.proofs.Common.{ℕ, ◌≡◌, ◌<◌, ◌⊎◌, ◌==◌, ◌&&◌, ◌||◌, nat_lt, inl, inr, Bool, true, false, List, ◌++◌}
+use Rattle.std.proofs.Common.{ℕ, ◌≡◌, ◌⊎◌, ◌==◌, ◌&&◌, ◌||◌, nat_lt, inl, inr, Bool, true, false, List, ◌++◌}
 use Rattle.std.proofs.Common.{sym, ap, subst, ◌∙◌, refl, encode_utf8_all}
 use Rattle.ejection_repair.specs.Repaired.{repaired}
 use Rattle.ejection_repair.specs.Settled.{IsNoWorse, accepted_of}
