@@ -1,13 +1,15 @@
 -- All events of a job together run for as many times as there are events, or up to three times as many.
-use Rattle.std.proofs.Common.{ℕ, ◌≡◌, ◌+◌, ◌*◌, ◌<◌, ◌≤◌, ◌^◌, List, [], ◌∷◌, All, map, length, refl, sym, ap, subst}
+use Rattle.std.proofs.Common.{ℕ, ◌≡◌, ◌*◌, ◌<◌, ◌≤◌, ◌^◌, List, [], ◌∷◌, All, Some, map, length, slice_get, refl, sym, ap}
 use Rattle.std.proofs.Common.{◌∙◌, arith}
-use Rattle.std.specs.List.{range_with_len, sum_by}
+use Rattle.std.specs.List.{sum_by}
 use Rattle.std.proofs.lemmas.List.Elements.{All-head, All-tail}
 use Rattle.std.proofs.lemmas.List.FromFn.{length-range_with_len}
 use Rattle.std.proofs.lemmas.List.Sums.{sum_by-cons}
+use Rattle.std.proofs.lemmas.Option.{same_Some}
 use Rattle.khe_base.proofs.ListLemmas.{sum-mapped}
 use Rattle.xhstt_shape.specs.declared.records.Archive.{Archive}
 use Rattle.xhstt_shape.specs.declared.records.RawEvent.{RawEvent}
+use Rattle.xhstt_shape.specs.declared.records.RawInstance.{RawInstance}
 use Rattle.job_generator.specs.declared.drawing.DrawnEvent.{DrawnEvent}
 use Rattle.job_generator.specs.Events as events
 use Rattle.job_generator.specs.Job as job
@@ -71,3 +73,25 @@ pub made_instances : (seed size : ℕ)
     → (made.made seed size).instances ≡ made.instance size (job.events size seed).0 ∷ []
 unfolding made.made made.archive job.job
 made_instances seed size = refl
+
+-- what is counted in that archive
+pub some_instances : (seed size : ℕ) (a : Archive) (xs : List RawInstance) → a ≡ made.made seed size
+    → xs ≡ a.instances → 0 < length xs
+some_instances seed size a xs e f =
+    let all : xs ≡ made.instance size (job.events size seed).0 ∷ [] =
+    f ∙ ap (λ (x : Archive). x.instances) e ∙ made_instances seed size in
+    let one : length xs ≡ 1 = ap length all in
+    omega (arith, one)
+
+pub durations_of : (seed size : ℕ) (a : Archive) (xs : List RawInstance) (i : RawInstance) (es : List RawEvent)
+    → a ≡ made.made seed size → xs ≡ a.instances → slice_get xs 0 ≡ Some i → es ≡ i.events
+    → sum_by (λ (e : RawEvent). e.duration) es ≡ job.slots seed size
+durations_of seed size a xs i es e f at g =
+    let all : xs ≡ made.instance size (job.events size seed).0 ∷ [] =
+    f ∙ ap (λ (x : Archive). x.instances) e ∙ made_instances seed size in
+    let first : Some i ≡ Some (made.instance size (job.events size seed).0) =
+    sym at ∙ ap (λ (ys : List RawInstance). slice_get ys 0) all in
+    let same : i ≡ made.instance size (job.events size seed).0 = same_Some i _ first in
+    ap (λ (ys : List RawEvent). sum_by (λ (x : RawEvent). x.duration) ys)
+    (g ∙ ap (λ (x : RawInstance). x.events) same)
+    ∙ made_durations seed size

@@ -45,7 +45,9 @@ pub struct DrawnEntry {
 /// The events of a job, and the entries of its solutions.
 #[derive(Drop)]
 pub struct DrawnJob {
+    /// In the order of their numbers.
     pub events: Seq<DrawnEvent>,
+    /// The entries of each solution, event by event.
     pub solutions: Seq<Seq<DrawnEntry>>,
 }
 
