@@ -1,25 +1,23 @@
 //! The sixteen families of deviations as one.
 
-use event_monitors::{
-    AssignResource, AssignTime, DistributeSplitEvents, PreferResources, PreferTimes, SplitEvents,
-};
+use event_monitors::{Counted, Misfilled, Misplaced, OfDuration, OneOf, Split, Sum, Unfilled, Unplaced};
 use khe_told::Both;
-use link_monitors::LinkEvents;
+use link_monitors::Links;
 use order_monitors::OrderEvents;
-use set_monitors::{AvoidSplitAssignments, SpreadEvents};
+use set_monitors::{Holders, Starts};
 use workload_monitors::ResourceFamilies;
 
-/// The kinds at events and at pairs of them.
-type OfEvents = Both<
-    AssignTime,
-    Both<PreferTimes, Both<SplitEvents, Both<DistributeSplitEvents, OrderEvents>>>,
->;
+/// The kinds at events.
+type AtEvents = OneOf<OneOf<Sum<Unplaced>, Sum<Misplaced>>, OneOf<Split, Sum<OfDuration>>>;
 
-/// The kinds at groups of events and at places of events.
-type OfSets = Both<
-    AssignResource,
-    Both<PreferResources, Both<SpreadEvents, Both<LinkEvents, AvoidSplitAssignments>>>,
->;
+/// The kinds at places of events.
+type AtPlaces = OneOf<Sum<Unfilled>, Sum<Misfilled>>;
+
+/// The kinds at groups of events.
+type AtGroups = OneOf<Starts, OneOf<Links, Holders>>;
+
+/// All but those at pairs of events, as one family: it looks up an event's monitors once for each change.
+type OfEvents = Counted<OneOf<AtEvents, OneOf<AtPlaces, AtGroups>>>;
 
 /// All of them.
-pub(crate) type Families = Both<OfEvents, Both<OfSets, ResourceFamilies>>;
+pub(crate) type Families = Both<OfEvents, Both<OrderEvents, ResourceFamilies>>;

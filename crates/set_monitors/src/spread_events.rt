@@ -57,14 +57,16 @@ impl Gauge for Starts {
         })
     }
 
-    fn turn(&mut self, inst: &Instance, monitor: Monitor, told: &Told, change: Change) {
+    fn turn(&mut self, inst: &Instance, monitor: Monitor, told: &Told, change: Change) -> bool {
         inst.facts();
         let _ = told;
+        let before = self.outside;
         if is_of_start(change) {
             let spreads = listed(inst, monitor);
             turn_counts(spreads, &mut self.counts, change);
             self.outside = out_of(spreads, &self.counts);
         }
+        self.outside != before
     }
 
     fn value(&self, inst: &Instance, monitor: Monitor) -> u64 {
