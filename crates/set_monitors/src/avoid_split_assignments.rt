@@ -67,11 +67,12 @@ impl Gauge for Holders {
 
     fn turn(&mut self, inst: &Instance, monitor: Monitor, told: &Told, change: Change) -> bool {
         inst.facts();
-        let before = self.above;
-        if touches(inst, monitor, told, change) {
-            let candidates = self.candidates.as_slice();
-            self.above = turned(candidates, &mut self.counts, before, change);
+        if !touches(inst, monitor, told, change) {
+            return false;
         }
+        let before = self.above;
+        let candidates = self.candidates.as_slice();
+        self.above = turned(candidates, &mut self.counts, before, change);
         self.above != before
     }
 
