@@ -123,7 +123,8 @@ count_below-grows p a zero =
     let e : count_below p (a + 0) ≡ count_below p a = ap (count_below p) (add-zero a) in
     omega arith
 count_below-grows p a (suc n) =
-    let e : count_below p (a + suc n) ≡ count_below p (a + n + 1) = ap (count_below p) (omega arith) in
+    let places : a + suc n ≡ a + n + 1 = omega arith in
+    let e : count_below p (a + suc n) ≡ count_below p (a + n + 1) = ap (count_below p) places in
     let more : count_below p (a + n + 1) ≡ count_below p (a + n) + one_if (p (a + n)) = count_below-more p (a + n) in
     let less : count_below p a ≤ count_below p (a + n) = count_below-grows p a n in
     omega arith

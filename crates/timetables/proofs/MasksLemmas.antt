@@ -184,7 +184,8 @@ module _ (words row : List ℕ) (first end size : ℕ) (is : IsWithin words firs
       fits = lt_of_le_of_lt (and_le_l (get_or words first 0) (get_or row first 0)) small
 
       span : (new : Option Span) → (b ≡ 0 → new ≡ None)
-          → (0 < b → IsSomeAnd new (λ s. s.before_first ≡ low)) → (0 < b → IsSomeAnd new (λ s. s.before_last ≡ high))
+          → (0 < b → IsSomeAnd new (λ s. s.before_first ≡ 0 + low))
+          → (0 < b → IsSomeAnd new (λ s. s.before_last ≡ 0 + high))
           → IsSpan (λ t. is_set words t && is_set row t) (λ t. is_set words t && not (is_set row t)) (64 * (first + 1))
           new
       span new zero lows highs =
@@ -201,8 +202,8 @@ module _ (words row : List ℕ) (first end size : ℕ) (is : IsWithin words firs
           (span None (λ h. refl) (λ h. absurd (let n = z in omega (arith, n, h)))
           (λ h. absurd (let n = z in omega (arith, n, h))))
       by (inr pos) =
-          let ends = idle-ends now (first + 1) low high e over
-          (span (Some (record { before_first = low; before_last = high })) (λ z. absurd (omega (arith, z, pos)))
+          let ends = idle-ends now (first + 1) (0 + low) (0 + high) e over
+          (span (Some (record { before_first = 0 + low; before_last = 0 + high })) (λ z. absurd (omega (arith, z, pos)))
           (λ h. refl) (λ h. refl)) in
           let is : low + r ≡ high = some pos in
           omega (arith, ends, is)

@@ -9,7 +9,7 @@ pub returns-clause-between : goal.returns-clause-between
 returns-clause-between c pos =
     let t = trailing_zeros w64 c.args.busy in
     let l = 63 - leading_zeros w64 c.args.busy in
-    let mask : bit_and c.args.free (1 * 2 ^ l % 2 ^ 64 - 1) ≡ c.args.free % 2 ^ l =
+    let mask =
     ap (λ x. bit_and c.args.free (x - 1)) (one_shl l 64 (omega arith)) ∙ and_mask c.args.free l in
     ap (λ x. count_ones (c.args.free % 2 ^ t) + count_ones (x / 2 ^ t)) mask
     ∙ count_ones-split c.args.free t l (low_high c.args.busy pos (omega arith))

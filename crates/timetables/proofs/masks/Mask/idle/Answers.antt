@@ -13,8 +13,8 @@ use Rattle.timetables.proofs.MasksLemmas.{no_free-beyond, idle-nowhere, idle-end
 use Rattle.timetables.proofs.Spans.{IsSpan, IsSpan-widened}
 use Rattle.timetables.proofs.masks.Mask.idle.Goals as goal
 
-pub bounds-row-self-first : goal.bounds-row-self-first
-bounds-row-self-first c =
+pub bounds-row-self-inside : goal.bounds-row-self-inside
+bounds-row-self-inside c =
     let size : length c.args.self.now ≡ c.self.inside.size =
     ap length (sym c.self.view_is) ∙ length-set_of_bits c.self.inside.words.items c.self.inside.size in
     let room : length c.self.inside.words.items ≡ words_for c.self.inside.size = c.self.invariant.room in

@@ -41,8 +41,8 @@ loop-k-preserved c =
     let sofar = c.loop-k.invariant in
     omega (arith, ones, more, sofar)
 
-pub returns-then-both-gt0-in-loop-k : goal.returns-then-both-gt0-in-loop-k
-returns-then-both-gt0-in-loop-k c =
+pub returns-then-both-gt0 : goal.returns-then-both-gt0
+returns-then-both-gt0 c =
     let words = c.self.inside.words.items in
     let row = c.args.row.now in
     let k = c.loop-k.k in
