@@ -44,12 +44,14 @@ module _ {A B : Type 0} (keeps_a : A → Parts → Monitor → List Slot → Typ
       → keeps_b g p m s → keeps_b g p m (after s c))
       → (g : OneOf A B) (p : Parts) (m : Monitor) (s : List Slot) (c : Change) → (hears_a c || hears_b c) ≡ false
       → Fits p s c → keeps_one keeps_a keeps_b g p m s → keeps_one keeps_a keeps_b g p m (after s c)
-  deaf_one hears_a hears_b a b (First g) p m s c h fits kept = a g p m s c (first_false (hears_a c) (hears_b c) h) fits kept
+  deaf_one hears_a hears_b a b (First g) p m s c h fits kept =
+      a g p m s c (first_false (hears_a c) (hears_b c) h) fits kept
     where
       first_false : (x y : Bool) → (x || y) ≡ false → x ≡ false
       first_false false y h = refl
       first_false true y h = absurd (true≢false h)
-  deaf_one hears_a hears_b a b (Second g) p m s c h fits kept = b g p m s c (second_false (hears_a c) (hears_b c) h) fits kept
+  deaf_one hears_a hears_b a b (Second g) p m s c h fits kept =
+      b g p m s c (second_false (hears_a c) (hears_b c) h) fits kept
     where
       second_false : (x y : Bool) → (x || y) ≡ false → y ≡ false
       second_false false y h = h

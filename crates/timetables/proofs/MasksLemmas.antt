@@ -11,8 +11,8 @@ use Rattle.khe_base.proofs.BitsLemmas.{has_bit-and, has_bit-not, is_set-place}
 use Rattle.khe_base.proofs.IdSetLemmas.{length-set_of_bits, has_member-set_of_bits}
 use Rattle.khe_base.specs.Busy.{count_below, is_idle_time}
 use Rattle.timetables.specs.Stored.{IsWithin}
-use Rattle.timetables.proofs.CountsLemmas.{count_ones-bits, count_below-ends, count_below-grows, count_below-stays, idle-none}
-use Rattle.timetables.proofs.CountsLemmas.{idle-between}
+use Rattle.timetables.proofs.CountsLemmas.{count_ones-bits, count_below-ends, count_below-grows, count_below-stays}
+use Rattle.timetables.proofs.CountsLemmas.{idle-none, idle-between}
 use Rattle.timetables.proofs.Spans.{HasEnds, IsSpan, IsSpan-widened}
 use Rattle.timetables.specs.declared.masks.Span.{Span}
 

@@ -1,4 +1,4 @@
-use Rattle.std.proofs.Common.{◌≡◌, ◌+◌, ◌-◌, ◌%◌, ◌/◌, ◌^◌, ◌<◌, ◌∙◌, ap, count_ones, bit_and, arith}
+use Rattle.std.proofs.Common.{◌+◌, ◌-◌, ◌%◌, ◌/◌, ◌^◌, ◌∙◌, ap, count_ones, bit_and, arith}
 use Rattle.std.specs.Int.{w64, trailing_zeros, leading_zeros}
 use Rattle.std.proofs.lemmas.Nat.{and_mask, one_shl}
 use Rattle.timetables.proofs.CountsLemmas.{count_ones-split}

@@ -1,11 +1,10 @@
 -- A word with a common bit makes the count rise, and the others leave it.
-use Rattle.std.proofs.Common.{◌≡◌, ◌≤◌, ◌∙◌, ◌<◌, ◌+◌, ◌*◌, ◌^◌, ◌&&◌, nat_lt, ap, sym, length, get_or, count_ones}
-use Rattle.std.proofs.Common.{bit_and, arith, lt-ltb, true, ℕ, zero, suc, refl}
+use Rattle.std.proofs.Common.{◌≡◌, ◌≤◌, ◌∙◌, ◌<◌, ◌+◌, ◌*◌, ◌^◌, ◌&&◌, nat_lt, ap, sym, length, get_or}
+use Rattle.std.proofs.Common.{bit_and, arith, lt-ltb, ℕ, zero, suc, refl}
 use Rattle.std.proofs.lemmas.List.{get_or_read}
 use Rattle.std.proofs.lemmas.Nat.{zero_from_ones}
 use Rattle.khe_base.specs.Bits.{is_set, words_for}
 use Rattle.khe_base.specs.Busy.{count_below}
-use Rattle.khe_base.specs.IdSet.{has_member}
 use Rattle.khe_base.proofs.IdSetLemmas.{length-set_of_bits}
 use Rattle.timetables.proofs.CountsLemmas.{count_below-stays, no_ones_of}
 use Rattle.timetables.proofs.MasksLemmas.{common-more, common-some, common-whole, no_common-before}
