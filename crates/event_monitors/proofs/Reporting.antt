@@ -96,6 +96,7 @@ module _ {G : Type 0} (keeps : G → Parts → Monitor → List Slot → Type 0)
     amount = refl;
     tally = refl;
     later = λ k h. refl;
+    waiting = λ k a h there. refl;
     kept = λ k a g h there here. law g a.monitor (not_named k a h there) (kept k a g there here);
     follows = λ k h a g0 g there old new agrees. agrees
         ∙ ap (λ x. Some (value x p a.monitor)) (same_Some g0 g (sym old ∙ new));
@@ -126,37 +127,48 @@ module _ {G : Type 0} (keeps : G → Parts → Monitor → List Slot → Type 0)
   get-other (z ∷ xs) (suc i) zero x n = refl
   get-other (z ∷ xs) (suc i) (suc j) x n = get-other xs i j x (λ h. n (ap suc h))
 
-  -- one more
-  pub under_step : (k : ℕ) (a : Post) (g : G) (gauges : List G) (ds rest : List ℕ) → slice_get posts k ≡ Some a
+  apart_from : (k j : ℕ) (rest : List ℕ) → has rest k ≡ false → has rest j ≡ true → k ≡ j → ⊥
+  apart_from k j rest fresh h n = true≢false (sym h ∙ ap (has rest) (sym n) ∙ fresh)
+
+  or_more : (k j : ℕ) (rest : List ℕ) → (k ≡ j → ⊥) → has rest j ≡ true → has (k ∷ rest) j ≡ true
+  or_more k j rest n h = (λ i. ne_eqb k j n i || h i)
+
+  or_less : (k j : ℕ) (rest : List ℕ) → has rest j ≡ false → (k ≡ j → ⊥) → has (k ∷ rest) j ≡ false
+  or_less k j rest h n = (λ i. ne_eqb k j n i || h i)
+
+  -- one more gauge keeps the state after
+  kept_step : (k : ℕ) (a : Post) (g : G) (gauges : List G) (ds rest : List ℕ) → slice_get posts k ≡ Some a
+      → k < length gauges → keeps g p a.monitor s
+      → AreUnderWay keeps value p posts s gauges0 gauges ds0 ds (k ∷ rest)
+      → (j : ℕ) (b : Post) (x : G) → has rest j ≡ false → slice_get posts j ≡ Some b
+      → slice_get (set gauges k g) j ≡ Some x → keeps x p b.monitor s
+  kept_step k a g gauges ds rest there l keep u j b x h t n = by (cases_eq k j)
+    where
+      by : (k ≡ j) ⊎ (k ≡ j → ⊥) → keeps x p b.monitor s
+      by (inl o) =
+          let same : a ≡ b = same_Some a b (sym there ∙ ap (slice_get posts) o ∙ t) in
+          let new : g ≡ x = get-same gauges k g x l (ap (slice_get (set gauges k g)) o ∙ n) in
+          subst (λ y. keeps y p b.monitor s) new (subst (λ (c : Post). keeps g p c.monitor s) same keep)
+      by (inr o) = u.kept j b x (or_less k j rest h o) t (sym (get-other gauges k j g o) ∙ n)
+
+  -- one more, that the tally is set for
+  under_set : (k : ℕ) (a : Post) (g : G) (gauges : List G) (ds rest : List ℕ) → slice_get posts k ≡ Some a
       → k < length gauges → a.number.0 < length ds → has rest k ≡ false
       → keeps g p a.monitor s → AreUnderWay keeps value p posts s gauges0 gauges ds0 ds (k ∷ rest)
       → AreUnderWay keeps value p posts s gauges0 (set gauges k g) ds0 (set ds a.number.0 (value g p a.monitor)) rest
-  under_step k a g gauges ds rest there l d fresh keep u = record {
+  under_set k a g gauges ds rest there l d fresh keep u = record {
     amount = length-set gauges k g ∙ u.amount;
     tally = length-set ds a.number.0 (value g p a.monitor) ∙ u.tally;
-    later = λ j h. get-other gauges k j g (apart j h) ∙ u.later j (or_more j h);
-    kept = λ j b x h t n. kept_by j b x h t n (cases_eq k j);
+    later = λ j h. get-other gauges k j g (apart_from k j rest fresh h)
+        ∙ u.later j (or_more k j rest (apart_from k j rest fresh h) h);
+    waiting = λ j b h t. get-other ds a.number.0 b.number.0 (value g p a.monitor)
+        (λ n. apart_from k j rest fresh h (posts_once p served posts all k j a b there t n))
+        ∙ u.waiting j b (or_more k j rest (apart_from k j rest fresh h) h) t;
+    kept = kept_step k a g gauges ds rest there l keep u;
     follows = λ j h. follows_by j h (cases_eq k j);
     others = λ i h. get-other ds a.number.0 i (value g p a.monitor) (h k a there) ∙ u.others i h;
   }
     where
-      apart : (j : ℕ) → has rest j ≡ true → k ≡ j → ⊥
-      apart j h n = true≢false (sym h ∙ ap (has rest) (sym n) ∙ fresh)
-
-      or_more : (j : ℕ) → has rest j ≡ true → has (k ∷ rest) j ≡ true
-      or_more j h = (λ i. ne_eqb k j (apart j h) i || h i)
-
-      or_less : (j : ℕ) → has rest j ≡ false → (k ≡ j → ⊥) → has (k ∷ rest) j ≡ false
-      or_less j h n = (λ i. ne_eqb k j n i || h i)
-
-      kept_by : (j : ℕ) (b : Post) (x : G) → has rest j ≡ false → slice_get posts j ≡ Some b
-          → slice_get (set gauges k g) j ≡ Some x → (k ≡ j) ⊎ (k ≡ j → ⊥) → keeps x p b.monitor s
-      kept_by j b x h t n (inl o) =
-          let same : a ≡ b = same_Some a b (sym there ∙ ap (slice_get posts) o ∙ t) in
-          let new : g ≡ x = get-same gauges k g x l (ap (slice_get (set gauges k g)) o ∙ n) in
-          subst (λ y. keeps y p b.monitor s) new (subst (λ (c : Post). keeps g p c.monitor s) same keep)
-      kept_by j b x h t n (inr o) = u.kept j b x (or_less j h o) t (sym (get-other gauges k j g o) ∙ n)
-
       follows_by : (j : ℕ) → has rest j ≡ false → (k ≡ j) ⊎ (k ≡ j → ⊥)
           → Follows value p posts gauges0 (set gauges k g) ds0 (set ds a.number.0 (value g p a.monitor)) j
       follows_by j h (inl o) b g0 x t old new agrees =
@@ -168,7 +180,57 @@ module _ {G : Type 0} (keeps : G → Parts → Monitor → List Slot → Type 0)
       follows_by j h (inr o) b g0 x t old new agrees =
           get-other ds a.number.0 b.number.0 (value g p a.monitor)
           (λ n. o (posts_once p served posts all k j a b there t n))
-          ∙ u.follows j (or_less j h o) b g0 x t old (sym (get-other gauges k j g o) ∙ new) agrees
+          ∙ u.follows j (or_less k j rest h o) b g0 x t old (sym (get-other gauges k j g o) ∙ new) agrees
+
+  -- one more, that is read as before and that the tally is not set for
+  under_pass : (k : ℕ) (a : Post) (g1 g : G) (gauges : List G) (ds rest : List ℕ) → slice_get posts k ≡ Some a
+      → k < length gauges → slice_get gauges k ≡ Some g1 → has rest k ≡ false
+      → keeps g p a.monitor s → value g p a.monitor ≡ value g1 p a.monitor
+      → AreUnderWay keeps value p posts s gauges0 gauges ds0 ds (k ∷ rest)
+      → AreUnderWay keeps value p posts s gauges0 (set gauges k g) ds0 ds rest
+  under_pass k a g1 g gauges ds rest there l was fresh keep equal u = record {
+    amount = length-set gauges k g ∙ u.amount;
+    tally = u.tally;
+    later = λ j h. get-other gauges k j g (apart_from k j rest fresh h)
+        ∙ u.later j (or_more k j rest (apart_from k j rest fresh h) h);
+    waiting = λ j b h t. u.waiting j b (or_more k j rest (apart_from k j rest fresh h) h) t;
+    kept = kept_step k a g gauges ds rest there l keep u;
+    follows = λ j h. follows_by j h (cases_eq k j);
+    others = u.others;
+  }
+    where
+      here : has (k ∷ rest) k ≡ true
+      here = (λ i. eq-eqb k k refl i || has rest k)
+
+      follows_by : (j : ℕ) → has rest j ≡ false → (k ≡ j) ⊎ (k ≡ j → ⊥)
+          → Follows value p posts gauges0 (set gauges k g) ds0 ds j
+      follows_by j h (inl o) b g0 x t old new agrees =
+          let same : a ≡ b = same_Some a b (sym there ∙ ap (slice_get posts) o ∙ t) in
+          let is : g ≡ x = get-same gauges k g x l (ap (slice_get (set gauges k g)) o ∙ new) in
+          let first : g0 ≡ g1 =
+          same_Some g0 g1 (sym old ∙ ap (slice_get gauges0) (sym o) ∙ sym (u.later k here) ∙ was) in
+          subst (λ (c : Post). slice_get ds c.number.0 ≡ Some (value x p c.monitor)) same
+          (u.waiting k a here there
+          ∙ subst (λ (c : Post). slice_get ds0 c.number.0 ≡ Some (value g0 p c.monitor)) (sym same) agrees
+          ∙ ap (λ y. Some (value y p a.monitor)) first ∙ ap Some (sym equal)
+          ∙ ap (λ y. Some (value y p a.monitor)) is)
+      follows_by j h (inr o) b g0 x t old new agrees =
+          u.follows j (or_less k j rest h o) b g0 x t old (sym (get-other gauges k j g o) ∙ new) agrees
+
+  -- one more, by whether the tally is set for it
+  pub under_step : (b : Bool) (k : ℕ) (a : Post) (g1 g : G) (gauges : List G) (ds ds2 rest : List ℕ)
+      → slice_get posts k ≡ Some a → k < length gauges → slice_get gauges k ≡ Some g1 → a.number.0 < length ds
+      → has rest k ≡ false → keeps g p a.monitor s
+      → (b ≡ true → ds2 ≡ set ds a.number.0 (value g p a.monitor)) → (b ≡ false → ds2 ≡ ds)
+      → (b ≡ false → value g p a.monitor ≡ value g1 p a.monitor)
+      → AreUnderWay keeps value p posts s gauges0 gauges ds0 ds (k ∷ rest)
+      → AreUnderWay keeps value p posts s gauges0 (set gauges k g) ds0 ds2 rest
+  under_step true k a g1 g gauges ds ds2 rest there l was d fresh keep are passed equal u =
+      subst (λ xs. AreUnderWay keeps value p posts s gauges0 (set gauges k g) ds0 xs rest) (sym (are refl))
+      (under_set k a g gauges ds rest there l d fresh keep u)
+  under_step false k a g1 g gauges ds ds2 rest there l was d fresh keep are passed equal u =
+      subst (λ xs. AreUnderWay keeps value p posts s gauges0 (set gauges k g) ds0 xs rest) (sym (passed refl))
+      (under_pass k a g1 g gauges ds rest there l was fresh keep (equal refl) u)
 
 -- the next of a list
 module _ (p : Parts) (posts : List Post) (e : ℕ) (list : List ℕ) (i : ℕ) (d : Post) (is : list ≡ posts_at p posts e)

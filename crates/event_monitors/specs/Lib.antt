@@ -4,6 +4,7 @@ pub mod DistributeSplitEvents
 pub mod DutySums
 pub mod Lists
 pub mod MeetSums
+pub mod OneOfs
 pub mod Posts
 pub mod PreferResources
 pub mod PreferTimes

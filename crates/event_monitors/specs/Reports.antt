@@ -29,6 +29,8 @@ pub record AreUnderWay {G : Type 0} (keeps : G → Parts → Monitor → List Sl
   pub amount : length gauges ≡ length gauges0
   pub tally : length ds ≡ length ds0
   pub later : (k : ℕ) → has rest k ≡ true → slice_get gauges k ≡ slice_get gauges0 k
+  pub waiting : (k : ℕ) (a : Post) → has rest k ≡ true → slice_get posts k ≡ Some a
+      → slice_get ds a.number.0 ≡ slice_get ds0 a.number.0
   pub kept : (k : ℕ) (a : Post) (g : G) → has rest k ≡ false → slice_get posts k ≡ Some a → slice_get gauges k ≡ Some g
       → keeps g p a.monitor s
   pub follows : (k : ℕ) → has rest k ≡ false → Follows value p posts gauges0 gauges ds0 ds k

@@ -46,13 +46,15 @@ pub trait Gauge {
         requires served { serves_kind monitor.kind ≡ true }
         ensures { IfOk result (λ g. Keeps g inst.now monitor (no_meets inst.now)) };
 
-    /// Follows a change of an event that the monitor names. What was told is the state before the
+    /// Follows a change of an event that the monitor names, and answers `false` only where the
+    /// deviation that is read from it is still the same. What was told is the state before the
     /// change. It takes no memory.
-    fn turn(&mut self, inst: &Instance, monitor: Monitor, told: &Told, change: Change)
+    fn turn(&mut self, inst: &Instance, monitor: Monitor, told: &Told, change: Change) -> bool
         requires keeps { Keeps self.old inst.now monitor told.now }
         requires fits { Fits inst.now told.now change }
         requires named { names inst.now (slot_at told.now (meet_of change)).event.0 monitor ≡ true }
-        ensures { Keeps self.new inst.now monitor (after told.now change) };
+        ensures keeps { Keeps self.new inst.now monitor (after told.now change) }
+        ensures same { result ≡ false → value self.new inst.now monitor ≡ value self.old inst.now monitor };
 
     /// The monitor's deviation. It takes no memory.
     fn value(&self, inst: &Instance, monitor: Monitor) -> u64

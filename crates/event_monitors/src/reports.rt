@@ -1,4 +1,4 @@
-ghost use Rattle.std.specs.Prelude.{◌≡◌, ◌<◌, ◌≤◌, ◌+◌, ℕ, List, [], Some, true, length, slice_get, slice_set};
+ghost use Rattle.std.specs.Prelude.{◌≡◌, ◌<◌, ◌≤◌, ◌+◌, ℕ, List, [], Some, false, true, length, slice_get, slice_set};
 ghost use Rattle.khe_told.specs.Changes.{after, meet_of};
 ghost use Rattle.khe_told.specs.Fits.{Fits};
 ghost use Rattle.khe_told.specs.Slots.{slot_at};
@@ -11,7 +11,8 @@ use khe_instance::Instance;
 use khe_told::{Change, Steps, Tally, Told};
 use std::sync::ledger::Ledger;
 
-/// Turns the gauge of one monitor, and reports its deviation.
+/// Turns the gauge of one monitor, and reports its deviation where that may be another; answers
+/// whether it did.
 fn turn_one<G: Gauge, Y: Tally, L: Ledger>(
     inst: &Instance,
     told: &Told,
@@ -20,23 +21,28 @@ fn turn_one<G: Gauge, Y: Tally, L: Ledger>(
     gauge: &mut G,
     tally: &mut Y,
     steps: &mut Steps<L>,
-)
+) -> bool
     requires fits { Fits inst.now told.now change }
     requires keeps { G.Keeps gauge.old inst.now post.monitor told.now }
     requires named { names inst.now (slot_at told.now (meet_of change)).event.0 post.monitor ≡ true }
     requires known { post.number.0 < length (Y.deviations tally.old) }
     ensures keeps { G.Keeps gauge.new inst.now post.monitor (after told.now change) }
-    ensures set { Y.deviations tally.new ≡ slice_set (Y.deviations tally.old) post.number.0 (G.value gauge.new inst.now post.monitor) }
+    ensures set { result ≡ true → Y.deviations tally.new ≡ slice_set (Y.deviations tally.old) post.number.0 (G.value gauge.new inst.now post.monitor) }
+    ensures passed { result ≡ false → Y.deviations tally.new ≡ Y.deviations tally.old }
+    ensures same { result ≡ false → G.value gauge.new inst.now post.monitor ≡ G.value gauge.old inst.now post.monitor }
     ensures rest { Y.HasSameRest tally.old tally.new }
-    ensures steps { steps.new ≡ steps.old + 1 }
+    ensures steps { steps.new ≤ steps.old + 1 }
 {
-    gauge.turn(inst, post.monitor, told, change);
+    if !gauge.turn(inst, post.monitor, told, change) {
+        return false;
+    }
     let value = gauge.value(inst, post.monitor);
     tally.set(post.number, value, steps);
+    true
 }
 
-/// Turns the gauges of the monitors that name the event of a change, and reports each of them once.
-/// What was told is the state before the change. It takes the time of these monitors.
+/// Turns the gauges of the monitors that name the event of a change, and reports each of them at most
+/// once. What was told is the state before the change. It takes the time of these monitors.
 pub(crate) fn report<G: Gauge, Y: Tally, L: Ledger>(
     inst: &Instance,
     told: &Told,
@@ -55,10 +61,10 @@ pub(crate) fn report<G: Gauge, Y: Tally, L: Ledger>(
     requires monitors { length (Y.deviations tally.old) ≡ length inst.now.monitors }
     ensures all { AreUnderWay G.Keeps G.value inst.now posts.now (after told.now change) gauges.old.items gauges.new.items (Y.deviations tally.old) (Y.deviations tally.new) [] }
     ensures rest { Y.HasSameRest tally.old tally.new }
-    ensures steps { steps.new ≡ steps.old + length list.now }
+    ensures steps { steps.new ≤ steps.old + length list.now }
 {
     for place in list {
         let k = *place as usize;
-        turn_one(inst, told, change, posts[k], &mut gauges[k], tally, steps);
+        let _ = turn_one(inst, told, change, posts[k], &mut gauges[k], tally, steps);
     }
 }

@@ -58,9 +58,10 @@ impl Gauge for Split {
         Ok(Split { unfit: 0, meets: 0 })
     }
 
-    fn turn(&mut self, inst: &Instance, monitor: Monitor, told: &Told, change: Change) {
+    fn turn(&mut self, inst: &Instance, monitor: Monitor, told: &Told, change: Change) -> bool {
         self.unfit = turned::<Unfit>(self.unfit, inst, monitor, told, change);
         self.meets = turned::<Meets>(self.meets, inst, monitor, told, change);
+        true
     }
 
     fn value(&self, inst: &Instance, monitor: Monitor) -> u64 {

@@ -81,8 +81,10 @@ impl<S: Summed> Gauge for Sum<S> {
         })
     }
 
-    fn turn(&mut self, inst: &Instance, monitor: Monitor, told: &Told, change: Change) {
-        self.total = turned::<S>(self.total, inst, monitor, told, change);
+    fn turn(&mut self, inst: &Instance, monitor: Monitor, told: &Told, change: Change) -> bool {
+        let before = self.total;
+        self.total = turned::<S>(before, inst, monitor, told, change);
+        self.total != before
     }
 
     fn value(&self, inst: &Instance, monitor: Monitor) -> u64 {

@@ -46,8 +46,10 @@ impl Gauge for Links {
         no_links(alloc, events.len() as u32, inst.times())
     }
 
-    fn turn(&mut self, inst: &Instance, monitor: Monitor, told: &Told, change: Change) {
+    fn turn(&mut self, inst: &Instance, monitor: Monitor, told: &Told, change: Change) -> bool {
+        let before = self.apart;
         follow(self, inst, monitor, told, change);
+        self.apart != before
     }
 
     fn value(&self, inst: &Instance, monitor: Monitor) -> u64 {

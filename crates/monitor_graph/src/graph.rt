@@ -239,6 +239,15 @@ impl Graph {
         let place = monitor.0 as usize;
         let before = cost_of(&self.lines[place]);
         let after = cost_of(&line);
+        replace(
+            &mut self.lines,
+            &mut self.hard,
+            &mut self.soft,
+            place,
+            line,
+            before,
+            after,
+        );
         let marked = self.marked[place];
         put(&mut self.words, &mut self.summary, place, after > 0);
         recount(
@@ -248,15 +257,6 @@ impl Graph {
             before,
             after,
             monitor.0,
-        );
-        replace(
-            &mut self.lines,
-            &mut self.hard,
-            &mut self.soft,
-            place,
-            line,
-            before,
-            after,
         );
     }
 }

@@ -97,7 +97,8 @@ fn add_cost(hard: &mut u128, soft: &mut u128, line: &Line, cost: u128)
 }
 
 /// Puts a line in the place of another, of which both costs are known, and keeps the totals by the
-/// difference.
+/// difference. The line is put first, before anything else is written, so that where its fields were just
+/// read from that place only the changed one is stored.
 #[tactic(auto, using(crate::proofs::LineLaws::totalled_set))]
 pub(crate) fn replace(
     lines: &mut Vec<Line>,
@@ -117,9 +118,9 @@ pub(crate) fn replace(
     ensures totalled { AreTotalled lines.new.items hard.new soft.new }
 {
     let old = lines[place];
+    lines[place] = line;
     take_cost(hard, soft, &old, before);
     add_cost(hard, soft, &line, after);
-    lines[place] = line;
 }
 
 /// The costs of some monitors, added up, in time in proportion to them.

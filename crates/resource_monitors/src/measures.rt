@@ -62,7 +62,7 @@ pub(crate) fn busy_sets_outside(
 {
     let mut busy_sets = 0;
     for mask in masks {
-        if table.busy_in(r, mask) > 0 {
+        if table.meets(r, mask) {
             busy_sets += 1;
         }
     }

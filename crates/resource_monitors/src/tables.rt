@@ -1,4 +1,4 @@
-ghost use Rattle.std.specs.Prelude.{◌≡◌, ◌+◌, ◌-◌, ◌<◌, ◌≤◌, length, slice_index, IfOk};
+ghost use Rattle.std.specs.Prelude.{◌≡◌, ◌+◌, ◌-◌, ◌<◌, ◌≤◌, length, nat_lt, slice_index, IfOk};
 ghost use Rattle.std.specs.List.{range_with_len, sum_by};
 ghost use Rattle.khe_base.specs.declared.limits.TheConstants.{GREATEST_COUNT, TIMES};
 ghost use Rattle.timetables.specs.Counts.{no_counts, row_of, count_at, with_count, busy_times, idle_times};
@@ -92,6 +92,16 @@ impl CellTable {
         ensures { result ≡ busy_times (row_of self.now r.0) mask.now }
     {
         self.table.busy_in(r, mask)
+    }
+
+    /// Whether a resource is busy at one of the times of a mask. It takes no more time than to count
+    /// these times.
+    pub(crate) fn meets(&self, r: ResourceId, mask: &Mask) -> bool
+        requires resource { r.0 < length self.now }
+        requires size { length mask.now ≡ length (row_of self.now r.0) }
+        ensures { result ≡ nat_lt 0 (busy_times (row_of self.now r.0) mask.now) }
+    {
+        self.table.meets(r, mask)
     }
 
     /// The number of idle times of a mask: times of the mask at which a resource isn't busy,

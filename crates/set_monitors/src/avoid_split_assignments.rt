@@ -65,12 +65,15 @@ impl Gauge for Holders {
         })
     }
 
-    fn turn(&mut self, inst: &Instance, monitor: Monitor, told: &Told, change: Change) {
+    fn turn(&mut self, inst: &Instance, monitor: Monitor, told: &Told, change: Change) -> bool {
         inst.facts();
-        if touches(inst, monitor, told, change) {
-            let candidates = self.candidates.as_slice();
-            self.above = turned(candidates, &mut self.counts, self.above, change);
+        if !touches(inst, monitor, told, change) {
+            return false;
         }
+        let before = self.above;
+        let candidates = self.candidates.as_slice();
+        self.above = turned(candidates, &mut self.counts, before, change);
+        self.above != before
     }
 
     fn value(&self, inst: &Instance, monitor: Monitor) -> u64 {

@@ -57,14 +57,17 @@ impl Gauge for Starts {
         })
     }
 
-    fn turn(&mut self, inst: &Instance, monitor: Monitor, told: &Told, change: Change) {
+    fn turn(&mut self, inst: &Instance, monitor: Monitor, told: &Told, change: Change) -> bool {
         inst.facts();
         let _ = told;
-        if is_of_start(change) {
-            let spreads = listed(inst, monitor);
-            turn_counts(spreads, &mut self.counts, change);
-            self.outside = out_of(spreads, &self.counts);
+        if !is_of_start(change) {
+            return false;
         }
+        let before = self.outside;
+        let spreads = listed(inst, monitor);
+        turn_counts(spreads, &mut self.counts, change);
+        self.outside = out_of(spreads, &self.counts);
+        self.outside != before
     }
 
     fn value(&self, inst: &Instance, monitor: Monitor) -> u64 {

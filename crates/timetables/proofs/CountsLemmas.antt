@@ -9,6 +9,7 @@ use Rattle.std.proofs.lemmas.List.Sums.{sum_by_push, count_by-le-length}
 use Rattle.std.proofs.lemmas.List.FromFn.{length-range_with_len, get_or-range_with_len}
 use Rattle.std.proofs.lemmas.List.Folds.{list_any_at}
 use Rattle.std.proofs.lemmas.Nat.{pow_pos, mod-pow-add, ones_cat, shr_split}
+use Rattle.std.proofs.Math.Pow.{mod-mod-pow}
 use Rattle.khe_base.specs.Bits.{has_bit}
 use Rattle.khe_base.proofs.BitsLemmas.{bit_at-has_bit}
 use Rattle.khe_base.proofs.ListLemmas.{range_more}
@@ -98,6 +99,34 @@ count_ones-part w n =
     let e : count_ones (w / 2 ^ n * 2 ^ n + w % 2 ^ n) ≡ count_ones (w / 2 ^ n) + count_ones (w % 2 ^ n) =
     ones_cat n (w / 2 ^ n) (w % 2 ^ n) (mod-lt w (pow_pos n)) in
     let whole : count_ones (w / 2 ^ n * 2 ^ n + w % 2 ^ n) ≡ count_ones w = ap count_ones (shr_split w n) in
+    omega arith
+
+pub no_ones_of : (w : ℕ) → w ≡ 0 → count_ones w ≡ 0
+no_ones_of w e = ap count_ones e ∙ no_ones
+
+-- the bits of a word below a place, by a lower place
+pub count_ones-split : (w low high : ℕ) → low ≤ high
+    → count_ones (w % 2 ^ low) + count_ones (w % 2 ^ high / 2 ^ low) ≡ count_ones (w % 2 ^ high)
+count_ones-split w low high le =
+    let v = w % 2 ^ high in
+    let e : count_ones (v / 2 ^ low * 2 ^ low + v % 2 ^ low) ≡ count_ones (v / 2 ^ low) + count_ones (v % 2 ^ low) =
+    ones_cat low (v / 2 ^ low) (v % 2 ^ low) (mod-lt v (pow_pos low)) in
+    let whole : count_ones (v / 2 ^ low * 2 ^ low + v % 2 ^ low) ≡ count_ones v = ap count_ones (shr_split v low) in
+    let places : high - low + low ≡ high = omega arith in
+    let rest : count_ones (v % 2 ^ low) ≡ count_ones (w % 2 ^ low) =
+    ap count_ones (subst (λ n. w % 2 ^ n % 2 ^ low ≡ w % 2 ^ low) places (mod-mod-pow w (high - low) low)) in
+    omega arith
+
+-- a count grows with its bound
+pub count_below-grows : (p : ℕ → Bool) (a n : ℕ) → count_below p a ≤ count_below p (a + n)
+count_below-grows p a zero =
+    let e : count_below p (a + 0) ≡ count_below p a = ap (count_below p) (add-zero a) in
+    omega arith
+count_below-grows p a (suc n) =
+    let places : a + suc n ≡ a + n + 1 = omega arith in
+    let e : count_below p (a + suc n) ≡ count_below p (a + n + 1) = ap (count_below p) places in
+    let more : count_below p (a + n + 1) ≡ count_below p (a + n) + one_if (p (a + n)) = count_below-more p (a + n) in
+    let less : count_below p a ≤ count_below p (a + n) = count_below-grows p a n in
     omega arith
 
 -- the lowest bits of a word are counted as the numbers for which they stand

@@ -1,8 +1,8 @@
 -- Sets of times as rows of bits.
 use Rattle.std.proofs.Common.{◌≡◌, ◌∙◌, sym, ap, ap₂, subst, ℕ, ◌+◌, ◌*◌, ◌^◌, ◌<◌, ◌≤◌, Bool, false, not, ◌&&◌, List}
 use Rattle.std.proofs.Common.{length, get_or, arith, count_ones, bit_and, ◌⊎◌, inl, inr, mod-eq_of_lt, lt_of_le_of_lt}
-use Rattle.std.proofs.Common.{subst₂, true≢false}
-use Rattle.std.specs.Int.{bit_not, w64}
+use Rattle.std.proofs.Common.{subst₂, true≢false, refl, ◌-◌, ◌%◌, Option, Some, None, IsSomeAnd}
+use Rattle.std.specs.Int.{bit_not, leading_zeros, trailing_zeros, w64}
 use Rattle.std.proofs.lemmas.Nat.{and_le_l}
 use Rattle.khe_base.specs.Bits.{has_bit, is_set}
 use Rattle.khe_base.specs.IdSet.{has_member}
@@ -11,8 +11,10 @@ use Rattle.khe_base.proofs.BitsLemmas.{has_bit-and, has_bit-not, is_set-place}
 use Rattle.khe_base.proofs.IdSetLemmas.{length-set_of_bits, has_member-set_of_bits}
 use Rattle.khe_base.specs.Busy.{count_below, is_idle_time}
 use Rattle.timetables.specs.Stored.{IsWithin}
-use Rattle.timetables.proofs.CountsLemmas.{count_ones-bits, count_below-ends, idle-none, idle-between}
-use Rattle.timetables.proofs.Spans.{HasEnds}
+use Rattle.timetables.proofs.CountsLemmas.{count_ones-bits, count_below-ends, count_below-grows, count_below-stays}
+use Rattle.timetables.proofs.CountsLemmas.{idle-none, idle-between}
+use Rattle.timetables.proofs.Spans.{HasEnds, IsSpan, IsSpan-widened}
+use Rattle.timetables.specs.declared.masks.Span.{Span}
 
 module _ (words row : List ℕ) (k : ℕ) where
   -- one more word of members whose bits are set in the row
@@ -139,3 +141,69 @@ module _ (words row : List ℕ) (first end size : ℕ) (is : IsWithin words firs
       after : (t : ℕ) → ends.last < t → (t < 64 * k) ⊎ (64 * k ≤ t) → (is_set words t && is_set row t) ≡ false
       after t h (inl low) = ends.none_after t h low
       after t h (inr high) = no_common-after k over t high
+
+  -- one word with a common bit is enough
+  pub common-some : (now : List Bool) (k : ℕ) → set_of_bits words size ≡ now → k < end
+      → 0 < count_below (λ t. is_set words t && is_set row t) (64 * (k + 1))
+      → 0 < count_below (λ t. has_member now t && is_set row t) (length now)
+  common-some now k e l pos =
+      let p = λ (t : ℕ). is_set words t && is_set row t in
+      let at : 64 * (k + 1) + (64 * end - 64 * (k + 1)) ≡ 64 * end = omega arith in
+      let grows : count_below p (64 * (k + 1)) ≤ count_below p (64 * end) =
+      subst (λ n. count_below p (64 * (k + 1)) ≤ count_below p n) at
+      (count_below-grows p (64 * (k + 1)) (64 * end - 64 * (k + 1))) in
+      let whole : count_below p (64 * end) ≡ count_below (λ t. has_member now t && is_set row t) (length now) =
+      common-whole now end e (omega arith) in
+      omega arith
+
+  -- the idle times of a set in one word
+  pub idle-in_word : (now : List Bool) (r : ℕ) → set_of_bits words size ≡ now → end ≡ first + 1
+      → get_or words first 0 < 2 ^ 64 → get_or row first 0 < 2 ^ 64
+      → (bit_and (get_or words first 0) (get_or row first 0) ≡ 0 → r ≡ 0)
+      → (0 < bit_and (get_or words first 0) (get_or row first 0)
+      → count_ones (bit_and (get_or words first 0) (bit_not w64 (get_or row first 0))
+      % 2 ^ trailing_zeros w64 (bit_and (get_or words first 0) (get_or row first 0))) + r
+      ≡ count_ones (bit_and (get_or words first 0) (bit_not w64 (get_or row first 0))
+      % 2 ^ (63 - leading_zeros w64 (bit_and (get_or words first 0) (get_or row first 0)))))
+      → r ≡ count_below (is_idle_time (has_member now) (is_set row) (length now)) (length now)
+  idle-in_word now r e one small small_row none some = by (grind arith)
+    where
+      b : ℕ
+      b = bit_and (get_or words first 0) (get_or row first 0)
+
+      f : ℕ
+      f = bit_and (get_or words first 0) (bit_not w64 (get_or row first 0))
+
+      low : ℕ
+      low = count_ones (f % 2 ^ trailing_zeros w64 b)
+
+      high : ℕ
+      high = count_ones (f % 2 ^ (63 - leading_zeros w64 b))
+
+      fits : b < 2 ^ 64
+      fits = lt_of_le_of_lt (and_le_l (get_or words first 0) (get_or row first 0)) small
+
+      span : (new : Option Span) → (b ≡ 0 → new ≡ None)
+          → (0 < b → IsSomeAnd new (λ s. s.before_first ≡ 0 + low))
+          → (0 < b → IsSomeAnd new (λ s. s.before_last ≡ 0 + high))
+          → IsSpan (λ t. is_set words t && is_set row t) (λ t. is_set words t && not (is_set row t)) (64 * (first + 1))
+          new
+      span new zero lows highs =
+          IsSpan-widened (λ t. is_set words t && is_set row t) (λ t. is_set words t && not (is_set row t)) first b f 0
+          (common-bits words row first) (free-bits words row first small_row)
+          (sym (count_below-stays (λ t. is_set words t && not (is_set row t)) 0 (64 * first) (omega arith)
+          (λ t l h. no_free-before t h))) None new fits zero lows highs (λ t h. no_common-before t h)
+
+      over : end ≤ first + 1
+      over = omega (arith, one)
+
+      by : (b ≡ 0) ⊎ (0 < b) → r ≡ count_below (is_idle_time (has_member now) (is_set row) (length now)) (length now)
+      by (inl z) = none z ∙ idle-nowhere now (first + 1) e over
+          (span None (λ h. refl) (λ h. absurd (let n = z in omega (arith, n, h)))
+          (λ h. absurd (let n = z in omega (arith, n, h))))
+      by (inr pos) =
+          let ends = idle-ends now (first + 1) (0 + low) (0 + high) e over
+          (span (Some (record { before_first = 0 + low; before_last = 0 + high })) (λ z. absurd (omega (arith, z, pos)))
+          (λ h. refl) (λ h. refl)) in
+          let is : low + r ≡ high = some pos in
+          omega (arith, ends, is)

@@ -21,6 +21,20 @@ top_bit a j low high =
     (subst (λ x. a < x) (pow-suc 2 j ∙ mul_comm (2 ^ j) 2) high) in
     omega arith
 
+-- the lowest bit of a word is not above the highest
+pub low_high : (b : ℕ) → 0 < b → b < 2 ^ 64 → trailing_zeros w64 b ≤ 63 - leading_zeros w64 b
+low_high b pos small =
+    let t = bit_at-trailing_zeros w64 b pos small in
+    let l = leading_top 64 b pos small in
+    let place : leading_zeros w64 b + suc l.0 ≡ 64 = l.1 in
+    let e : 63 - leading_zeros w64 b ≡ l.0 = omega arith in
+    subst (λ n. trailing_zeros w64 b ≤ n) (sym e)
+    (ordered (trailing_zeros w64 b) l.0 (top_bit b l.0 l.2 l.3) t.2 (grind arith))
+  where
+    ordered : (low j : ℕ) → bit_at b j ≡ 1 → ((i : ℕ) → i < low → bit_at b i ≡ 0) → (low ≤ j) ⊎ (j < low) → low ≤ j
+    ordered low j set least (inl h) = h
+    ordered low j set least (inr h) = let z : bit_at b j ≡ 0 = least j h in absurd (one_not_zero (sym set ∙ z))
+
 module _ (busy free : ℕ → Bool) where
   -- the first and the last busy number below n, and how many free ones stand before each
   pub record HasEnds (n before_first before_last : ℕ) : Type 0 where

@@ -1,4 +1,4 @@
-ghost use Rattle.std.specs.Prelude.{◌≡◌, ◌+◌, ◌-◌, ◌*◌, ◌%◌, ◌^◌, ◌<◌, ◌≤◌, ◌&&◌, ℕ, false, length, slice_index, count_ones, IfOk, IsSomeAnd, MatchOption};
+ghost use Rattle.std.specs.Prelude.{◌≡◌, ◌+◌, ◌-◌, ◌*◌, ◌%◌, ◌^◌, ◌<◌, ◌≤◌, ◌&&◌, ℕ, false, length, nat_lt, slice_index, count_ones, IfOk, IsSomeAnd, MatchOption};
 ghost use Rattle.std.specs.Int.{w64, trailing_zeros, leading_zeros};
 ghost use Rattle.khe_base.specs.Bits.{is_set, words_for};
 ghost use Rattle.khe_base.specs.IdSet.{has_member};
@@ -75,12 +75,32 @@ impl Mask {
         count
     }
 
+    /// Whether a member's bit is set in a row of bits. It takes no more time than to count them.
+    pub(crate) fn meets(&self, row: &[u64]) -> bool
+        requires { length row.now ≡ words_for (length self.now) }
+        ensures { result ≡ nat_lt 0 (count_below (λ t. has_member self.now t && is_set row.now t) (length self.now)) }
+    {
+        for k in self.first..self.end {
+            let both = self.words[k] & row[k];
+            if both > 0 {
+                return true;
+            }
+        }
+        false
+    }
+
     /// The number of members whose bit isn't set in a row of bits, while that of an earlier and
     /// of a later member is. It takes time in proportion to the words that have a member.
     pub(crate) fn idle(&self, row: &[u64]) -> u32
         requires { length row.now ≡ words_for (length self.now) }
         ensures { result ≡ count_below (is_idle_time (has_member self.now) (is_set row.now) (length self.now)) (length self.now) }
     {
+        let amount = self.end.saturating_sub(self.first);
+        if amount == 1 {
+            let word = self.words[self.first];
+            let bits = row[self.first];
+            return idle_in_word(word & bits, word & !bits);
+        }
         let mut unbusy = 0;
         let mut span = None;
         for k in self.first..self.end {
@@ -142,4 +162,18 @@ fn widened(span: Option<Span>, unbusy: u32, busy: u64, free: u64) -> Option<Span
         before_first,
         before_last,
     })
+}
+
+// The idle times of a single word: the unbusy ones from the first busy time to the last. Most sets lie in
+// one word, where no unbusy times before or after these have to be counted.
+fn idle_in_word(busy: u64, free: u64) -> u32
+    ensures none { busy ≡ 0 → result ≡ 0 }
+    ensures between { 0 < busy → count_ones (free % 2 ^ trailing_zeros w64 busy) + result ≡ count_ones (free % 2 ^ (63 - leading_zeros w64 busy)) }
+{
+    if busy == 0 {
+        return 0;
+    }
+    let last = 63 - busy.leading_zeros();
+    let first = busy.trailing_zeros();
+    ((free & ((1 << last) - 1)) >> first).count_ones()
 }

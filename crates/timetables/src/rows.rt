@@ -1,4 +1,4 @@
-ghost use Rattle.std.specs.Prelude.{◌≡◌, ◌+◌, ◌-◌, ◌*◌, ◌^◌, ◌<◌, ℕ, length, replicate, slice_index, slice_set, IfOk};
+ghost use Rattle.std.specs.Prelude.{◌≡◌, ◌+◌, ◌-◌, ◌*◌, ◌^◌, ◌<◌, ℕ, length, nat_lt, replicate, slice_index, slice_set, IfOk};
 ghost use Rattle.khe_base.specs.declared.limits.TheConstants.{GREATEST_COUNT};
 ghost use Rattle.khe_base.specs.Bits.{has_bit, words_for};
 ghost use Rattle.timetables.specs.Counts.{is_busy, busy_times, idle_times};
@@ -78,6 +78,13 @@ impl Row {
         ensures { result ≡ busy_times self.now mask.now }
     {
         mask.common(self.busy.as_slice())
+    }
+
+    pub fn meets(&self, mask: &Mask) -> bool
+        requires { length mask.now ≡ length self.now }
+        ensures { result ≡ nat_lt 0 (busy_times self.now mask.now) }
+    {
+        mask.meets(self.busy.as_slice())
     }
 
     pub fn idle_in(&self, mask: &Mask) -> u32

@@ -1,4 +1,4 @@
-ghost use Rattle.std.specs.Prelude.{◌≡◌, ◌+◌, ◌-◌, ◌*◌, ◌<◌, ℕ, length, IfOk};
+ghost use Rattle.std.specs.Prelude.{◌≡◌, ◌+◌, ◌-◌, ◌*◌, ◌<◌, ℕ, length, nat_lt, IfOk};
 ghost use Rattle.khe_base.specs.declared.limits.TheConstants.{GREATEST_COUNT};
 ghost use Rattle.khe_base.specs.Bits.{has_bit, words_for};
 ghost use Rattle.timetables.specs.Counts.{no_counts, row_of, count_at, with_count, is_busy, busy_times, idle_times};
@@ -100,6 +100,16 @@ impl Timetable {
         ensures { result ≡ busy_times (row_of self.now r.0) mask.now }
     {
         self.rows[r.0 as usize].busy_in(mask)
+    }
+
+    /// Whether a resource is busy at one of the times of a mask. It takes no more time than to count
+    /// these times.
+    pub fn meets(&self, r: ResourceId, mask: &Mask) -> bool
+        requires resource { r.0 < length self.now }
+        requires size { length mask.now ≡ length (row_of self.now r.0) }
+        ensures { result ≡ nat_lt 0 (busy_times (row_of self.now r.0) mask.now) }
+    {
+        self.rows[r.0 as usize].meets(mask)
     }
 
     /// The number of idle times of a mask: times of the mask at which a resource isn't busy,

@@ -1,4 +1,4 @@
-use Rattle.std.proofs.Common.{◌≡◌, ◌∙◌, ◌<◌, ◌+◌, Some, length, get_or, set, drop, slice_get, sym, ap, subst, arith}
+use Rattle.std.proofs.Common.{◌≡◌, ◌∙◌, ◌<◌, ◌+◌, Some, length, get_or, drop, slice_get, sym, ap, subst, arith}
 use Rattle.std.proofs.lemmas.Option.{slice_get-get_or, slice_get_within}
 use Rattle.khe_told.specs.Changes.{after, changed, meet_of}
 use Rattle.khe_told.specs.Slots.{slot_at}
@@ -91,17 +91,19 @@ loop-place-preserved g c =
     let known : a.number.0 < length (g.Y.Tally.deviations c.loop-place.tally) = let x =
     slice_get_within p.monitors _ _ (c.requires.posts.each _ _ there).there in let b = u.tally in let d =
     c.requires.monitors in omega (arith, x, b, d) in
-    let turned = under_step g.G.Gauge.Keeps g.G.Gauge.value p g.G.Gauge.serves_kind posts s2 c.args.gauges.now.items
-    (g.Y.Tally.deviations c.args.tally.now) e c.requires.posts k a c.turn_one.new.gauge c.loop-place.gauges.items
-    (g.Y.Tally.deviations c.loop-place.tally) (drop (i + 1) list)
-    there within known (spot_fresh p posts e list i no_post is l) c.turn_one.ensures.keeps
-    (subst (λ xs. AreUnderWay g.G.Gauge.Keeps g.G.Gauge.value p posts s2 c.args.gauges.now.items
-    c.loop-place.gauges.items (g.Y.Tally.deviations c.args.tally.now) (g.Y.Tally.deviations c.loop-place.tally) xs)
-    (spot_drop p posts e list i no_post is l) u) in
+    let here : slice_get c.loop-place.gauges.items k ≡ Some c.index_mut.result.now =
+    slice_get-get_or c.loop-place.gauges.items k c.index_mut.result.now within
+    ∙ ap Some (sym c.index_mut.ensures.value) in
     record {
-      under = subst (λ ds. AreUnderWay g.G.Gauge.Keeps g.G.Gauge.value p posts s2 c.args.gauges.now.items
-          (set c.loop-place.gauges.items k c.turn_one.new.gauge) (g.Y.Tally.deviations c.args.tally.now) ds
-          (drop (i + 1) list)) (sym c.turn_one.ensures.set) turned;
+      under = under_step g.G.Gauge.Keeps g.G.Gauge.value p g.G.Gauge.serves_kind posts s2 c.args.gauges.now.items
+          (g.Y.Tally.deviations c.args.tally.now) e c.requires.posts c.turn_one.result k a c.index_mut.result.now
+          c.turn_one.new.gauge c.loop-place.gauges.items (g.Y.Tally.deviations c.loop-place.tally)
+          (g.Y.Tally.deviations c.turn_one.new.tally) (drop (i + 1) list) there within here known
+          (spot_fresh p posts e list i no_post is l) c.turn_one.ensures.keeps c.turn_one.ensures.set
+          c.turn_one.ensures.passed c.turn_one.ensures.same
+          (subst (λ xs. AreUnderWay g.G.Gauge.Keeps g.G.Gauge.value p posts s2 c.args.gauges.now.items
+          c.loop-place.gauges.items (g.Y.Tally.deviations c.args.tally.now) (g.Y.Tally.deviations c.loop-place.tally)
+          xs) (spot_drop p posts e list i no_post is l) u);
       same_rest = g.met.Y.Tally.same_rest_trans _ _ _ c.loop-place.invariant.same_rest c.turn_one.ensures.rest;
       steps = let x = c.turn_one.ensures.steps in let y = c.loop-place.invariant.steps in omega (arith, x, y);
     }

@@ -1,9 +1,9 @@
 -- One set more, which has a busy time or has none.
-use Rattle.std.proofs.Common.{◌≡◌, ◌∙◌, sym, ap, ℕ, Bool, true, false, List, nat_lt, get_or, arith, lt-ltb, le-ltb}
+use Rattle.std.proofs.Common.{◌≡◌, ◌∙◌, sym, ap, ℕ, Bool, true, false, List, nat_lt, get_or, arith, rules}
 use Rattle.std.proofs.lemmas.List.Sums.{count_by_more_yes, count_by_more_no}
 use Rattle.timetables.specs.Counts.{row_of, busy_times}
 use Rattle.resource_monitors.proofs.measures.busy_sets_outside.Goals as goal
-use Rattle.resource_monitors.proofs.measures.busy_sets_outside.Goals.{then-busy_in-gt0, else-busy_in-gt0}
+use Rattle.resource_monitors.proofs.measures.busy_sets_outside.Goals.{then-meets, else-meets}
 
 pub loop-mask-preserved : goal.loop-mask-preserved
 loop-mask-preserved c =
@@ -12,15 +12,17 @@ loop-mask-preserved c =
     let mask = c.mask-item.result in
     let count : List Bool → ℕ = busy_times (row_of c.args.table.now c.args.r.0) in
     let busy : List Bool → Bool = λ m. nat_lt 0 (count m) in
-    elim c.if-busy_in-gt0.branch [
-      | then-busy_in-gt0 w ↦
+    elim c.if-meets.branch [
+      | then-meets w ↦
+          let met : c.meets.result ≡ true = search rules in
           let holds : busy (get_or masks i mask) ≡ true =
-          ap busy (sym c.mask-item.is) ∙ lt-ltb 0 (count mask) (omega arith) in
+          ap busy (sym c.mask-item.is) ∙ sym c.meets.ensures ∙ met in
           let more = count_by_more_yes busy masks i mask c.loop-mask-test.true holds in
           record { value = omega (arith, more); small = omega arith }
-      | else-busy_in-gt0 w ↦
+      | else-meets w ↦
+          let unmet : c.meets.result ≡ false = search rules in
           let fails : busy (get_or masks i mask) ≡ false =
-          ap busy (sym c.mask-item.is) ∙ le-ltb 0 (count mask) (omega arith) in
+          ap busy (sym c.mask-item.is) ∙ sym c.meets.ensures ∙ unmet in
           let more = count_by_more_no busy masks i mask c.loop-mask-test.true fails in
           record { value = omega (arith, more); small = omega arith }
     ]

@@ -13,7 +13,7 @@ turned-self-requires-clause-listed c =
     let g = c.args.self.now in
     subst (λ xs. NamesListed xs c.args.change) (sym c.as_slice-candidates.ensures)
     (named_listed c.args.inst.now c.args.monitor c.args.told.now g.candidates g.counts.items g.above c.requires.keeps
-    c.args.change c.requires.fits c.requires.named (sym c.touches.ensures ∙ c.if-touches.true))
+    c.args.change c.requires.fits c.requires.named (sym c.touches.ensures ∙ c.if-not-touches.false))
 
 pub turned-self-requires-clause-within : goal.turned-self-requires-clause-within
 turned-self-requires-clause-within c =
@@ -28,23 +28,23 @@ turned-self-requires-clause-above c =
     let b = c.requires.keeps.above in
     omega (arith, a, b)
 
-pub returns-then-touches : goal.returns-then-touches
-returns-then-touches c =
+pub returns-clause-keeps : goal.returns-clause-keeps
+returns-clause-keeps c =
     let g = c.args.self.now in
     let old = g.counts.items in
     let new = c.turned-self.new.counts.items in
     let same = c.as_slice-candidates.ensures in
     shared_turned c.args.inst.now c.args.monitor c.args.told.now g.candidates old g.above c.requires.keeps c.args.change
     new c.turned-self.result c.facts.ensures c.requires.fits c.requires.named
-    (sym c.touches.ensures ∙ c.if-touches.true) (c.turned-self.ensures.amount ∙ ap length same)
+    (sym c.touches.ensures ∙ c.if-not-touches.false) (c.turned-self.ensures.amount ∙ ap length same)
     (subst (λ (xs : List ℕ). (f : ℕ → ℕ) → AreHeld f xs old → AreHeld (held_after f c.args.change) xs new) same
     c.turned-self.ensures.counts)
     (subst (λ (xs : List ℕ). (f : ℕ → ℕ) → AreHeld f xs old
     → c.turned-self.result ≡ above_after g.above f c.args.change) same c.turned-self.ensures.above)
 
-pub returns-else-touches : goal.returns-else-touches
-returns-else-touches c =
+pub returns-then-not-touches-clause-keeps : goal.returns-then-not-touches-clause-keeps
+returns-then-not-touches-clause-keeps c =
     let g = c.args.self.now in
     shared_kept c.args.inst.now c.args.monitor c.args.told.now g.candidates g.counts.items g.above c.requires.keeps
     c.args.change c.facts.ensures c.requires.fits c.requires.named
-    (sym c.touches.ensures ∙ c.if-touches.false)
+    (sym c.touches.ensures ∙ c.if-not-touches.true)

@@ -24,8 +24,8 @@ out_of-self-requires-clause-few c =
     (counts_few (started p m (after s c.args.change)) spreads row c.turn_counts.ensures.amount are
     (λ times. started_few p m (after s c.args.change) times c.facts.ensures c.requires.fits.told))
 
-pub returns-then-is_of_start : goal.returns-then-is_of_start
-returns-then-is_of_start c =
+pub returns-clause-keeps : goal.returns-clause-keeps
+returns-clause-keeps c =
     let p = c.args.inst.now in
     let m = c.args.monitor in
     let s = c.args.told.now in
@@ -48,8 +48,8 @@ returns-then-is_of_start c =
       small = small;
     }
 
-pub returns-else-is_of_start : goal.returns-else-is_of_start
-returns-else-is_of_start c =
+pub returns-then-not-is_of_start-clause-keeps : goal.returns-then-not-is_of_start-clause-keeps
+returns-then-not-is_of_start-clause-keeps c =
     spread_kept c.args.inst.now c.args.monitor c.args.told.now c.args.change c.args.self.now.counts.items
     c.args.self.now.outside c.requires.fits c.requires.named
-    (sym c.is_of_start.ensures ∙ c.if-is_of_start.false) c.requires.keeps
+    (sym c.is_of_start.ensures ∙ c.if-not-is_of_start.true) c.requires.keeps

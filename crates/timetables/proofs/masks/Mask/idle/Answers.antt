@@ -1,7 +1,7 @@
 -- Each word adds its free times, and widens the span where it has a busy one.
 use Rattle.std.proofs.Common.{◌≡◌, ◌∙◌, ◌<◌, ◌≤◌, ◌+◌, ◌*◌, ◌^◌, ◌&&◌, not, ap, sym, length, get_or, count_ones}
-use Rattle.std.proofs.Common.{bit_and, arith, subst}
-use Rattle.std.specs.Int.{bit_not, w64}
+use Rattle.std.proofs.Common.{bit_and, arith, subst, ◌%◌, ◌-◌}
+use Rattle.std.specs.Int.{bit_not, leading_zeros, trailing_zeros, w64}
 use Rattle.std.proofs.lemmas.Nat.{and_le_l}
 use Rattle.std.proofs.lemmas.List.{get_or_read}
 use Rattle.khe_base.specs.Bits.{is_set, words_for}
@@ -9,9 +9,37 @@ use Rattle.khe_base.proofs.IdSetLemmas.{length-set_of_bits}
 use Rattle.khe_base.specs.Busy.{count_below}
 use Rattle.timetables.proofs.CountsLemmas.{count_below-stays, count_below-le}
 use Rattle.timetables.proofs.MasksLemmas.{free-more, common-bits, free-bits, no_common-before, no_free-before}
-use Rattle.timetables.proofs.MasksLemmas.{no_free-beyond, idle-nowhere, idle-ends}
+use Rattle.timetables.proofs.MasksLemmas.{no_free-beyond, idle-nowhere, idle-ends, idle-in_word}
 use Rattle.timetables.proofs.Spans.{IsSpan, IsSpan-widened}
 use Rattle.timetables.proofs.masks.Mask.idle.Goals as goal
+
+pub bounds-row-self-inside : goal.bounds-row-self-inside
+bounds-row-self-inside c =
+    let size : length c.args.self.now ≡ c.self.inside.size =
+    ap length (sym c.self.view_is) ∙ length-set_of_bits c.self.inside.words.items c.self.inside.size in
+    let room : length c.self.inside.words.items ≡ words_for c.self.inside.size = c.self.invariant.room in
+    let one = c.if-amount-eq1.true in
+    omega (arith, one)
+
+pub returns-then-amount-eq1 : goal.returns-then-amount-eq1
+returns-then-amount-eq1 c =
+    let words = c.self.inside.words.items in
+    let row = c.args.row.now in
+    let first = c.self.inside.first in
+    let one = c.if-amount-eq1.true in
+    let within : first < length words = let w = c.self.invariant.within in omega (arith, one, w) in
+    let e : c.index-word.result.now ≡ get_or words first 0 =
+    get_or_read words _ _ within c.index-word.ensures 0 in
+    let small : get_or words first 0 < 2 ^ 64 = omega arith in
+    let small_row : get_or row first 0 < 2 ^ 64 = (c.type_inv.row first).fits in
+    idle-in_word words row _ _ _ c.self.invariant c.args.self.now c.idle_in_word.result c.self.view_is
+    (omega (arith, one)) small small_row
+    (subst (λ w. bit_and w (get_or row first 0) ≡ 0 → c.idle_in_word.result ≡ 0) e c.idle_in_word.ensures.none)
+    (subst (λ w. 0 < bit_and w (get_or row first 0)
+    → count_ones (bit_and w (bit_not w64 (get_or row first 0))
+    % 2 ^ trailing_zeros w64 (bit_and w (get_or row first 0))) + c.idle_in_word.result
+    ≡ count_ones (bit_and w (bit_not w64 (get_or row first 0))
+    % 2 ^ (63 - leading_zeros w64 (bit_and w (get_or row first 0))))) e c.idle_in_word.ensures.between)
 
 pub loop-k-init : goal.loop-k-init
 loop-k-init c =

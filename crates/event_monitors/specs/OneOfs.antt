@@ -1,0 +1,70 @@
+-- A gauge of one of two sorts: what it keeps and what is read from it, and its laws.
+use Rattle.std.proofs.Common.{ℕ, ◌≡◌, ◌<◌, Bool, true, false, List, length, refl}
+use Rattle.std.specs.Prelude.{◌||◌, slice_set}
+use Rattle.std.proofs.lemmas.Bool.{true≢false}
+use Rattle.khe_instance.specs.declared.parts.Parts.{Parts}
+use Rattle.khe_instance.specs.declared.points.Monitor.{Monitor}
+use Rattle.khe_told.specs.Agreement.{deviation_in}
+use Rattle.khe_told.specs.Changes.{after}
+use Rattle.khe_told.specs.Fits.{Fits}
+use Rattle.khe_told.specs.Slots.{emptied, slot_at}
+use Rattle.khe_told.specs.declared.changes.Change.{Change}
+use Rattle.khe_told.specs.declared.slots.Slot.{Slot}
+use Rattle.event_monitors.specs.Posts.{names}
+use Rattle.event_monitors.specs.declared.one_of.OneOf.{OneOf}
+use Rattle.event_monitors.specs.declared.one_of.OneOf.TheVariants.{First, Second}
+
+module _ {A B : Type 0} (keeps_a : A → Parts → Monitor → List Slot → Type 0)
+    (keeps_b : B → Parts → Monitor → List Slot → Type 0) where
+  -- it keeps what its sort keeps
+  abbrev pub keeps_one : OneOf A B → Parts → Monitor → List Slot → Type 0
+  keeps_one (First g) p m s = keeps_a g p m s
+  keeps_one (Second g) p m s = keeps_b g p m s
+
+module _ {A B : Type 0} (value_a : A → Parts → Monitor → ℕ) (value_b : B → Parts → Monitor → ℕ) where
+  -- and is read as its sort is read
+  abbrev pub value_one : OneOf A B → Parts → Monitor → ℕ
+  value_one (First g) p m = value_a g p m
+  value_one (Second g) p m = value_b g p m
+
+module _ {A B : Type 0} (keeps_a : A → Parts → Monitor → List Slot → Type 0)
+    (keeps_b : B → Parts → Monitor → List Slot → Type 0) where
+  pub exact_one : (value_a : A → Parts → Monitor → ℕ) (value_b : B → Parts → Monitor → ℕ)
+      → ((g : A) (p : Parts) (m : Monitor) (s : List Slot) → keeps_a g p m s → deviation_in p s m ≡ value_a g p m)
+      → ((g : B) (p : Parts) (m : Monitor) (s : List Slot) → keeps_b g p m s → deviation_in p s m ≡ value_b g p m)
+      → (g : OneOf A B) (p : Parts) (m : Monitor) (s : List Slot) → keeps_one keeps_a keeps_b g p m s
+      → deviation_in p s m ≡ value_one value_a value_b g p m
+  exact_one value_a value_b a b (First g) p m s kept = a g p m s kept
+  exact_one value_a value_b a b (Second g) p m s kept = b g p m s kept
+
+  pub deaf_one : (hears_a hears_b : Change → Bool)
+      → ((g : A) (p : Parts) (m : Monitor) (s : List Slot) (c : Change) → hears_a c ≡ false → Fits p s c
+      → keeps_a g p m s → keeps_a g p m (after s c))
+      → ((g : B) (p : Parts) (m : Monitor) (s : List Slot) (c : Change) → hears_b c ≡ false → Fits p s c
+      → keeps_b g p m s → keeps_b g p m (after s c))
+      → (g : OneOf A B) (p : Parts) (m : Monitor) (s : List Slot) (c : Change) → (hears_a c || hears_b c) ≡ false
+      → Fits p s c → keeps_one keeps_a keeps_b g p m s → keeps_one keeps_a keeps_b g p m (after s c)
+  deaf_one hears_a hears_b a b (First g) p m s c h fits kept =
+      a g p m s c (first_false (hears_a c) (hears_b c) h) fits kept
+    where
+      first_false : (x y : Bool) → (x || y) ≡ false → x ≡ false
+      first_false false y h = refl
+      first_false true y h = absurd (true≢false h)
+  deaf_one hears_a hears_b a b (Second g) p m s c h fits kept =
+      b g p m s c (second_false (hears_a c) (hears_b c) h) fits kept
+    where
+      second_false : (x y : Bool) → (x || y) ≡ false → y ≡ false
+      second_false false y h = h
+      second_false true y h = absurd (true≢false h)
+
+  pub elsewhere_one : ((g : A) (p : Parts) (m : Monitor) (s : List Slot) (k : ℕ) (x : Slot) → k < length s
+      → emptied x ≡ emptied (slot_at s k) → names p (slot_at s k).event.0 m ≡ false → keeps_a g p m s
+      → keeps_a g p m (slice_set s k x))
+      → ((g : B) (p : Parts) (m : Monitor) (s : List Slot) (k : ℕ) (x : Slot) → k < length s
+      → emptied x ≡ emptied (slot_at s k) → names p (slot_at s k).event.0 m ≡ false → keeps_b g p m s
+      → keeps_b g p m (slice_set s k x))
+      → (g : OneOf A B) (p : Parts) (m : Monitor) (s : List Slot) (k : ℕ) (x : Slot) → k < length s
+      → emptied x ≡ emptied (slot_at s k) → names p (slot_at s k).event.0 m ≡ false
+      → keeps_one keeps_a keeps_b g p m s → keeps_one keeps_a keeps_b g p m (slice_set s k x)
+  elsewhere_one a b (First g) p m s k x l same named kept = a g p m s k x l same named kept
+  elsewhere_one a b (Second g) p m s k x l same named kept = b g p m s k x l same named kept
