@@ -3,6 +3,7 @@ pub mod FitLemmas
 pub mod PartFacts
 pub mod PartsLemmas
 pub mod Pieces
+pub mod Resolved
 pub mod Roles
 pub mod Valid
 pub mod WellMadeLemmas

@@ -11,7 +11,7 @@ mod examples;
 mod faults;
 mod states;
 
-pub use completion::{completed, solution};
+pub use completion::{completed, numbered_solution, solution};
 pub use faults::{
     BAD_ROLE, Cause, FIXED_RESOURCE, FIXED_TIME, OFF_END, SPLIT_FIXED, SolutionFault, TOO_LONG,
     WRONG_TYPE,
