@@ -1,5 +1,8 @@
 pub mod CausesLemmas
+pub mod ChainLemmas
+pub mod EventLemmas
 pub mod FitLemmas
+pub mod FoundLemmas
 pub mod PartFacts
 pub mod PartsLemmas
 pub mod Pieces

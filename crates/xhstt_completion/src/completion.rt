@@ -3,6 +3,7 @@ ghost use Rattle.std.specs.Option.{option_copied};
 ghost use Rattle.khe_instance.specs.States.{IsValid};
 ghost use Rattle.xhstt_completion.specs.Completed.{completed, IsFaultOf};
 ghost use Rattle.xhstt_completion.specs.Entries.{IsSolution, solutions};
+ghost use Rattle.xhstt_completion.specs.Found.{AreFound};
 ghost use Rattle.xhstt_completion.specs.Numbered.{IsOne, parts_at};
 ghost use Rattle.xhstt_resolve.specs.Resolved as resolving;
 ghost use Rattle.xhstt_shape.specs.WellFormed.{IsInForm};
@@ -11,6 +12,7 @@ ghost use Rattle.xhstt_shape.specs.declared.records.RawSolution.{RawSolution};
 use crate::SolutionFault;
 use crate::checking::first_cause;
 use crate::faults::Cause;
+use crate::lookups::{Found, looked_up};
 use crate::states::state_of;
 use khe_base::Seq;
 use khe_instance::{Instance, Plain};
@@ -35,12 +37,31 @@ pub fn completed(alloc: Global, inst: &Instance, raw: &RawSolution) -> Result<Pl
     ensures valid { IfOk result (IsValid inst.now) }
     ensures plain { IfOk result (λ plain. (plain.detached ≡ []) × (plain.groups ≡ [])) }
 {
+    let found = looked_up(alloc, inst, raw.events.as_slice())?;
+    completed_by(alloc, inst, raw, &found)
+}
+
+/// The state that a solution says, by what its entries name.
+fn completed_by(
+    alloc: Global,
+    inst: &Instance,
+    raw: &RawSolution,
+    found: &Found,
+) -> Result<Plain, SolutionFault>
+    requires solution { IsSolution inst.now raw.now }
+    requires many { length found.now.named.items ≡ length raw.now.events }
+    requires each { AreFound inst.now raw.now.events found.now.named.items found.now.given.items }
+    ensures exact { IfOk result (λ plain. completed inst.now raw.now ≡ Ok plain) }
+    ensures invalid { IfErr result (IsFaultOf (completed inst.now raw.now)) }
+    ensures valid { IfOk result (IsValid inst.now) }
+    ensures plain { IfOk result (λ plain. (plain.detached ≡ []) × (plain.groups ≡ [])) }
+{
     let entries = raw.events.as_slice();
-    if let Some(Cause { cause, entry }) = first_cause(alloc, inst, entries)? {
+    if let Some(Cause { cause, entry }) = first_cause(alloc, inst, entries, found)? {
         return Err(SolutionFault::Invalid { cause, entry });
     }
     inst.facts();
-    Ok(state_of(alloc, inst, entries)?)
+    Ok(state_of(alloc, inst, entries, found)?)
 }
 
 /// The completed state of the solution of an archive with this number, counted from 0 over all

@@ -3,12 +3,14 @@
 #![tactic(auto)]
 
 mod causes;
+mod chains;
 mod checking;
 mod completion;
 mod entries;
 #[allow(dead_code)]
 mod examples;
 mod faults;
+mod lookups;
 mod states;
 
 pub use completion::{completed, numbered_solution, solution};
