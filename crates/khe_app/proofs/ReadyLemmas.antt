@@ -4,6 +4,7 @@ use Rattle.std.proofs.lemmas.List.{length-map}
 use Rattle.std.proofs.lemmas.List.Elements.{All-map}
 use Rattle.khe_app.specs.Ready.{IsReady}
 use Rattle.parallel_solve.proofs.ReadyLemmas as solutions
+use Rattle.xhstt_completion.proofs.Resolved.{resolved-as}
 use Rattle.repair_run.specs.Texts.{HasSpellable}
 use Rattle.repair_run.proofs.SpellLaws.{parts_spellable}
 use Rattle.xhstt_resolve.specs.Parts.{parts_of}
@@ -18,11 +19,12 @@ instances-few n m e h = omega (arith, e, h)
 pub ready : (a : Archive) (r : Resolved) → resolved a ≡ Ok r → formed.IsWellFormed a → length a.instances < 2 ^ 32
     → IsReady a r
 ready a r e form few = record {
+  resolved_is = e;
   ready = solutions.ready a r e form.in_form;
   instances = instances-few (length r.instances) (length a.instances)
-      (ap length (solutions.resolved-as a r e).instances ∙ length-map a.instances parts_of) few;
+      (ap length (resolved-as a r e).instances ∙ length-map a.instances parts_of) few;
   well_formed = form;
-  texts = subst (All HasSpellable) (sym (solutions.resolved-as a r e).instances)
+  texts = subst (All HasSpellable) (sym (resolved-as a r e).instances)
       (All-map HasSpellable parts_of a.instances
       (λ k d l. parts_spellable (get_or a.instances k d) (form.spellable.instances k d l)
       (form.in_form.instances k d l)));

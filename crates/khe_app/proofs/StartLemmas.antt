@@ -11,7 +11,6 @@ use Rattle.khe_app.specs.Ready.{IsReady}
 use Rattle.parallel_solve.specs.Verdicts.{parts_at}
 use Rattle.khe_app.specs.declared.refusals.Refusal.TheVariants.{NoSuchSolution, Invalid}
 use Rattle.xhstt_completion.specs.Completed.{completed}
-use Rattle.xhstt_completion.specs.Entries.{IsSolution}
 use Rattle.xhstt_completion.specs.declared.faults.Cause.{Cause}
 use Rattle.xhstt_references.specs.References.{solutions_of}
 use Rattle.xhstt_resolve.specs.declared.resolving.Resolved.{Resolved}
@@ -25,7 +24,12 @@ pub record IsChosen (a : Archive) (r : Resolved) (number : ℕ) : Type 0 where
   pub parts : Parts
   pub there : slice_get r.instances (get_or r.of number 0) ≡ Some parts
   pub at : parts_at r number ≡ Some parts
-  pub solution : IsSolution parts raw
+
+-- a number's instance, where it is looked up
+pub at_number : (r : Resolved) (number : ℕ) (p : Parts) → number < length r.of
+    → slice_get r.instances (get_or r.of number 0) ≡ Some p → parts_at r number ≡ Some p
+at_number r number p l at =
+    ap (option_and_then (λ j. slice_get r.instances j)) (slice_get-get_or r.of number 0 l) ∙ at
 
 pub chosen : (a : Archive) (r : Resolved) (number : ℕ) → IsReady a r → number < length r.of → IsChosen a r number
 chosen a r number ready l =
@@ -40,7 +44,6 @@ chosen a r number ready l =
       parts = one.parts;
       there = sym (ap (option_and_then (λ j. slice_get r.instances j)) k) ∙ at;
       at = at;
-      solution = one.solution;
     }
 
 started : (a : Archive) (r : Resolved) (number : ℕ) (c : IsChosen a r number)
@@ -54,13 +57,6 @@ started a r number c =
 pub same_parts : (a : Archive) (r : Resolved) (number : ℕ) (c : IsChosen a r number) (p : Parts)
     → slice_get r.instances (get_or r.of number 0) ≡ Some p → c.parts ≡ p
 same_parts a r number c p at = same_Some c.parts p (sym c.there ∙ at)
-
-pub names : (a : Archive) (r : Resolved) (number : ℕ) (c : IsChosen a r number) (p : Parts)
-    → slice_get r.instances (get_or r.of number 0) ≡ Some p
-    → (raw : RawSolution) → slice_get (solutions_of a) number ≡ Some raw → IsSolution p raw
-names a r number c p at raw found =
-    subst (λ q. IsSolution q raw) (same_parts a r number c p at)
-    (subst (IsSolution c.parts) (same_Some c.raw raw (sym c.found ∙ found)) c.solution)
 
 pub begun_at : (a : Archive) (r : Resolved) (number : ℕ) (c : IsChosen a r number) (p : Parts) (plain : Plain)
     → slice_get r.instances (get_or r.of number 0) ≡ Some p

@@ -57,7 +57,7 @@ pub(crate) fn begin(
     }
     let instance = instance_number(resolved, number);
     let inst = instance_numbered(resolved, instance);
-    match solution(alloc, inst, archive, number) {
+    match solution(alloc, inst, archive, resolved, number) {
         Ok(plain) => Ok((instance, plain)),
         Err(SolutionFault::Invalid { cause, entry }) => {
             Err(Unread::Refused(Refusal::Invalid { cause, entry }))

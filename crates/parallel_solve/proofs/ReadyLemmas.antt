@@ -1,164 +1,17 @@
--- An archive that was resolved: each solution has its instance, of which its references name parts.
-use Rattle.std.proofs.Common.{ℕ, ◌≡◌, ◌<◌, ◌≤◌, ◌^◌, true, Option, Some, None, IsSome, IfSome, is_some, Ok, Err, List}
-use Rattle.std.proofs.Common.{[], ◌∷◌, ◌++◌, length, map, refl, sym, ap, subst, ◌∙◌, arith, slice_get, option_map, All}
-use Rattle.std.proofs.Common.{flat_map, inl, inr, zero-add}
-use Rattle.std.specs.Option.{option_and_then, option_map_or, option_or}
+-- An archive that was resolved: each solution has its instance.
+use Rattle.std.proofs.Common.{ℕ, ◌≡◌, ◌<◌, ◌≤◌, ◌^◌, Ok, length, sym, ap, subst, ◌∙◌, arith, zero-add}
 use Rattle.std.specs.Prelude.{unwrap_or}
-use Rattle.std.proofs.lemmas.Option.{slice_get-map, slice_get_cases}
 use Rattle.std.proofs.lemmas.List.{length-map}
-use Rattle.std.proofs.lemmas.List.Concat.{flat_map-cons}
-use Rattle.std.proofs.lemmas.List.Elements.{All-nil, All-cons, All-head, All-tail, All-append, All-weaker}
-use Rattle.khe_base.proofs.ListLemmas.{all-there, none_of, none-each}
-use Rattle.khe_base.specs.Names.{is_among_names, number_of}
+use Rattle.khe_base.specs.Names.{number_of}
 use Rattle.khe_base.specs.declared.limits.TheConstants.{SOLUTIONS}
-use Rattle.khe_instance.specs.Named.{event_named, time_named, resource_named}
 use Rattle.parallel_solve.specs.Ready.{IsOne, IsReady}
-use Rattle.xhstt_completion.specs.Entries as entries
-use Rattle.xhstt_references.specs.Ids.{instance_ids, time_ids, resource_ids, event_ids}
-use Rattle.xhstt_references.specs.References.{unknown, unknown_one, unknown_in_entry, unknown_in_given}
-use Rattle.xhstt_references.specs.References.{unknown_in_solution, unknown_in_solutions, solutions_of}
-use Rattle.xhstt_references.specs.Directories.{directory_of}
-use Rattle.xhstt_references.specs.declared.directories.Directory.{Directory}
-use Rattle.xhstt_references.specs.Faults.{fault_of_solutions}
-use Rattle.xhstt_references.specs.declared.faults.TheConstants.{UNKNOWN_REFERENCE}
-use Rattle.xhstt_resolve.proofs.WellMadeIds.{event-ids, resource-ids}
-use Rattle.xhstt_resolve.proofs.WellMadeLists.{known, among}
-use Rattle.xhstt_resolve.specs.Parts.{parts_of, events_from, resource_of}
-use Rattle.xhstt_resolve.specs.Faults.{as_fault}
-use Rattle.xhstt_resolve.specs.Resolved.{resolved, archive_fault, instances_of, solutions_fault}
-use Rattle.xhstt_resolve.specs.Limits.{above}
-use Rattle.xhstt_resolve.specs.declared.faults.ResolveFault.{ResolveFault}
-use Rattle.xhstt_resolve.specs.declared.faults.TheConstants.{TOO_MANY_SOLUTIONS}
+use Rattle.xhstt_completion.proofs.Resolved.{one, resolved-as}
+use Rattle.xhstt_references.specs.Ids.{instance_ids}
+use Rattle.xhstt_references.specs.References.{solutions_of}
+use Rattle.xhstt_resolve.specs.Resolved.{resolved}
 use Rattle.xhstt_resolve.specs.declared.resolving.Resolved.{Resolved}
 use Rattle.xhstt_shape.specs.WellFormed as formed
 use Rattle.xhstt_shape.specs.declared.records.Archive.{Archive}
-use Rattle.xhstt_shape.specs.declared.records.RawEntry.{RawEntry}
-use Rattle.xhstt_shape.specs.declared.records.RawInstance.{RawInstance}
-use Rattle.xhstt_shape.specs.declared.records.RawSolution.{RawSolution}
-use Rattle.xhstt_shape.specs.declared.records.Ref.{Ref}
-use Rattle.xhstt_shape.specs.declared.records.SolutionGroup.{SolutionGroup}
-use Rattle.khe_base.proofs.ResultLemmas.{some-mapped}
-use Rattle.xhstt_resolve.proofs.WellMadeFaults.{not-above}
-use Rattle.xhstt_references.proofs.ToldLemmas.{none_left}
-
-known-some : (id : List ℕ) (ids : List (List ℕ)) → is_among_names id ids ≡ true → IsSome (number_of id ids)
-known-some id ids e = ap is_some (known id ids e).is
-
-event-known : (i : RawInstance) (id : List ℕ) → is_among_names id (event_ids i) ≡ true
-    → IsSome (event_named (parts_of i) id)
-event-known i id e =
-    some-mapped _ (number_of id (map (λ x. x.id) (events_from i 0 i.events)))
-    (subst (λ ids. IsSome (number_of id ids)) (sym (event-ids i 0 i.events)) (known-some id (event_ids i) e))
-
-resource-known : (i : RawInstance) (id : List ℕ) → is_among_names id (resource_ids i) ≡ true
-    → IsSome (resource_named (parts_of i) id)
-resource-known i id e =
-    some-mapped _ (number_of id (map (λ x. x.id) (map (resource_of i) i.resources)))
-    (subst (λ ids. IsSome (number_of id ids)) (sym (resource-ids i i.resources)) (known-some id (resource_ids i) e))
-
-time-known : (i : RawInstance) (o : Option Ref) → unknown_one (time_ids i) o ≡ []
-    → IfSome o (λ t. IsSome (time_named (parts_of i) t.id))
-time-known i None e = tt
-time-known i (Some t) e = some-mapped _ (number_of t.id (time_ids i))
-    (known-some t.id (time_ids i) (among (time_ids i) t [] e).0)
-
-entry-known : (i : RawInstance) (e : RawEntry) → unknown_in_entry (directory_of i) e ≡ [] → formed.IsEntry e
-    → entries.IsEntry (parts_of i) e
-entry-known i e none form =
-    let d = directory_of i in
-    let first = none_of (unknown (event_ids i) (e.reference ∷ []))
-    (unknown_one (time_ids i) e.time ++ flat_map (unknown_in_given d) e.resources) none in
-    let rest = none_of (unknown_one (time_ids i) e.time) (flat_map (unknown_in_given d) e.resources) first.1 in
-    record {
-      event = event-known i e.reference.id (among (event_ids i) e.reference [] first.0).0;
-      duration = form.duration;
-      time = time-known i e.time rest.0;
-      resources =
-          All-weaker (λ g. unknown_in_given d g ≡ []) (λ g. IsSome (resource_named (parts_of i) g.reference.id))
-          (λ g clear. resource-known i g.reference.id (among (resource_ids i) g.reference [] clear).0) e.resources
-          (none-each (unknown_in_given d) e.resources rest.1);
-    }
-
-entries-known : (i : RawInstance) (es : List RawEntry) → All (λ e. unknown_in_entry (directory_of i) e ≡ []) es
-    → All formed.IsEntry es → All (entries.IsEntry (parts_of i)) es
-entries-known i [] none form = All-nil (entries.IsEntry (parts_of i))
-entries-known i (e ∷ es) none form =
-    All-cons (entries.IsEntry (parts_of i)) e es
-    (entry-known i e (All-head (λ x. unknown_in_entry (directory_of i) x ≡ []) e es none)
-    (All-head formed.IsEntry e es form))
-    (entries-known i es (All-tail (λ x. unknown_in_entry (directory_of i) x ≡ []) e es none)
-    (All-tail formed.IsEntry e es form))
-
--- all solutions of groups in form are in form
-solutions-formed : (gs : List SolutionGroup) → All formed.IsSolutionGroup gs
-    → All formed.IsSolution (flat_map (λ g. g.solutions) gs)
-solutions-formed [] form = All-nil formed.IsSolution
-solutions-formed (g ∷ gs) form =
-    subst (All formed.IsSolution) (sym (flat_map-cons (λ x. x.solutions) g gs))
-    (All-append formed.IsSolution g.solutions (flat_map (λ x. x.solutions) gs)
-    (All-head formed.IsSolutionGroup g gs form) (solutions-formed gs (All-tail formed.IsSolutionGroup g gs form)))
-
--- what an archive without a fault gives
-pub record IsResolvedAs (a : Archive) (r : Resolved) : Type 0 where
-  pub sound : archive_fault a ≡ None
-  pub instances : r.instances ≡ map parts_of a.instances
-  pub of : r.of ≡ instances_of a
-
-pub resolved-as : (a : Archive) (r : Resolved) → resolved a ≡ Ok r → IsResolvedAs a r
-resolved-as a r e = by (archive_fault a) refl e
-  where
-    by : (o : Option ResolveFault) → archive_fault a ≡ o
-        → option_map_or Err o (Ok (record { instances = map parts_of a.instances; of = instances_of a })) ≡ Ok r
-        → IsResolvedAs a r
-    by None is e =
-        let same : r ≡ record { instances = map parts_of a.instances; of = instances_of a } = cc in
-        record { sound = is; instances = ap (λ x. x.instances) same; of = ap (λ x. x.of) same }
-    by (Some fault) is e = absurd (let g : ⊥ = cc in g)
-
--- of faults in order none is there
-neither : {A : Type 0} (o q : Option A) → option_or o q ≡ None → (o ≡ None) × (q ≡ None)
-neither None q e = (refl, e)
-neither (Some x) q e = absurd (let g : ⊥ = cc in g)
-
-none-mapped : {A B : Type 0} (f : A → B) (o : Option A) → option_map f o ≡ None → o ≡ None
-none-mapped f None e = refl
-none-mapped f (Some x) e = absurd (let g : ⊥ = cc in g)
-
--- a solution of a resolved archive has its instance
-one-ready : (a : Archive) (r : Resolved) → IsResolvedAs a r
-    → All (λ s. unknown_in_solution (instance_ids a) (map directory_of a.instances) s ≡ []) (solutions_of a)
-    → All formed.IsSolution (solutions_of a)
-    → (k : ℕ) (raw : RawSolution) → slice_get (solutions_of a) k ≡ Some raw → IsOne r k raw
-one-ready a r held none form k raw at =
-    let ds = map directory_of a.instances in
-    let f = λ (d : Directory). flat_map (unknown_in_entry d) raw.events in
-    let parts = none_of (unknown (instance_ids a) (raw.reference ∷ []))
-    (option_map_or f (option_and_then (λ n. slice_get ds n) (number_of raw.reference.id (instance_ids a))) [])
-    (all-there (λ s. unknown_in_solution (instance_ids a) ds s ≡ []) (solutions_of a) k raw none at) in
-    let place = known raw.reference.id (instance_ids a) (among (instance_ids a) raw.reference [] parts.0).0 in
-    elim (slice_get_cases a.instances place.n).1 [
-      | inl there ↦
-          (let i = there.0 in
-          let named : option_and_then (λ n. slice_get ds n) (number_of raw.reference.id (instance_ids a))
-          ≡ Some (directory_of i) =
-          ap (λ o. option_and_then (λ n. slice_get ds n) o) place.is ∙ slice_get-map directory_of a.instances place.n
-          ∙ ap (option_map directory_of) there.2 in
-          let clear : f (directory_of i) ≡ [] = sym (ap (λ o. option_map_or f o []) named) ∙ parts.1 in
-          let g = λ (s : RawSolution). unwrap_or (number_of s.reference.id (instance_ids a)) 0 in
-          let number : slice_get r.of k ≡ Some place.n =
-          ap (λ xs. slice_get xs k) held.of ∙ slice_get-map g (solutions_of a) k ∙ ap (option_map g) at
-          ∙ ap (λ o. Some (unwrap_or o 0)) place.is in
-          let instance : slice_get r.instances place.n ≡ Some (parts_of i) =
-          ap (λ xs. slice_get xs place.n) held.instances ∙ slice_get-map parts_of a.instances place.n
-          ∙ ap (option_map parts_of) there.2 in
-          record {
-            parts = parts_of i;
-            at = ap (λ o. option_and_then (λ n. slice_get r.instances n) o) number ∙ instance;
-            solution = entries-known i raw.events (none-each (unknown_in_entry (directory_of i)) raw.events clear)
-                (all-there formed.IsSolution (solutions_of a) k raw form at);
-          })
-      | inr past ↦ absurd (omega (arith, place.within, past.0, length-map a.instances (λ i. i.id.text)))
-    ]
 
 solutions-few : (n : ℕ) → n ≤ SOLUTIONS → n < 2 ^ 32
 solutions-few n h = omega (arith, h)
@@ -167,22 +20,9 @@ solutions-few n h = omega (arith, h)
 pub ready : (a : Archive) (r : Resolved) → resolved a ≡ Ok r → formed.IsInForm a → IsReady a r
 ready a r e form =
     let held = resolved-as a r e in
-    let first = neither _ _ held.sound in
-    let second = neither _ _ first.1 in
-    let last = neither (solutions_fault a) None second.1 in
-    let number = neither (above TOO_MANY_SOLUTIONS SOLUTIONS (length (solutions_of a))) _ last.0 in
-    let references = neither (option_map as_fault (fault_of_solutions a)) None number.1 in
-    let within : length (solutions_of a) ≤ SOLUTIONS =
-    not-above TOO_MANY_SOLUTIONS SOLUTIONS (length (solutions_of a)) number.0 in
-    let none : unknown_in_solutions a ≡ [] = none_left UNKNOWN_REFERENCE (unknown_in_solutions a)
-    (none-mapped as_fault (fault_of_solutions a) references.0) in
-    let each = none-each (unknown_in_solution (instance_ids a) (map directory_of a.instances)) (solutions_of a) none in
-    let count : length r.of ≡ length (solutions_of a) =
-    ap length held.of ∙ length-map (solutions_of a)
-    (λ s. unwrap_or (number_of s.reference.id (instance_ids a)) 0) in
     record {
-      ones = λ k raw at. subst (λ n. IsOne r n raw) (sym (zero-add k))
-          (one-ready a r held each (solutions-formed a.solution_groups form.solution_groups) k raw at);
-      counted = count;
-      few = solutions-few (length (solutions_of a)) within;
+      ones = λ k raw at. subst (λ n. IsOne r n raw) (sym (zero-add k)) (one a r e form k raw at);
+      counted = ap length held.of ∙ length-map (solutions_of a)
+          (λ s. unwrap_or (number_of s.reference.id (instance_ids a)) 0);
+      few = solutions-few (length (solutions_of a)) held.few;
     }

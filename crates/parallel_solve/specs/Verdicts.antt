@@ -1,6 +1,6 @@
 -- What comes of the solutions of an archive.
-use Rattle.std.specs.Prelude.{ℕ, Option, Result, Ok, Err, slice_get}
-use Rattle.std.specs.Option.{option_map_or, option_and_then}
+use Rattle.std.specs.Prelude.{ℕ, Result, Ok, Err}
+use Rattle.std.specs.Option.{option_map_or}
 use Rattle.khe_instance.specs.Evaluated.{deviations, costs, totals}
 use Rattle.khe_instance.specs.declared.parts.Parts.{Parts}
 use Rattle.khe_instance.specs.declared.states.Plain.{Plain}
@@ -8,6 +8,7 @@ use Rattle.parallel_solve.specs.declared.verdicts.Verdict.{Verdict}
 use Rattle.parallel_solve.specs.declared.verdicts.Verdict.TheVariants.{Valid, Invalid}
 use Rattle.plain_eval.specs.declared.evaluation.Values.{Values}
 use Rattle.xhstt_completion.specs.Completed.{completed}
+pub use Rattle.xhstt_completion.specs.Numbered.{parts_at}
 use Rattle.xhstt_completion.specs.declared.faults.Cause.{Cause}
 use Rattle.xhstt_resolve.specs.declared.resolving.Resolved.{Resolved}
 use Rattle.xhstt_shape.specs.declared.records.RawSolution.{RawSolution}
@@ -20,10 +21,6 @@ values_of p s = record { deviations = deviations p s; costs = costs p s; totals 
 abbrev pub verdict_of : Parts → Result Plain Cause → Verdict
 verdict_of p (Ok s) = Valid (values_of p s)
 verdict_of p (Err cause) = Invalid cause.cause cause.entry
-
--- the parts of the instance of the solution with this number
-abbrev pub parts_at : Resolved → ℕ → Option Parts
-parts_at r number = option_and_then (λ k. slice_get r.instances k) (slice_get r.of number)
 
 -- what comes of the solution with this number; each one of a resolved archive has its parts
 abbrev pub numbered_verdict : Resolved → ℕ × RawSolution → Verdict

@@ -1,7 +1,6 @@
 ghost use Rattle.std.specs.Prelude.{◌≡◌, IfOk, IsSome, Some, map, slice_get};
 ghost use Rattle.resource_deviations.specs.Sets.{room_for};
 ghost use Rattle.xhstt_completion.specs.Completed as completion;
-ghost use Rattle.xhstt_completion.specs.Entries.{IsSolution};
 ghost use Rattle.parallel_solve.specs.Verdicts.{verdict_of, numbered_verdict, parts_at};
 ghost use Rattle.parallel_solve.specs.Ready.{IsOne};
 
@@ -11,7 +10,7 @@ use khe_instance::Instance;
 use plain_eval::{Values, evaluate_in};
 use resource_deviations::ResourceRoom;
 use std::alloc::Global;
-use xhstt_completion::{SolutionFault, completed};
+use xhstt_completion::{SolutionFault, numbered_solution};
 use xhstt_resolve::Resolved;
 use xhstt_shape::RawSolution;
 
@@ -24,19 +23,22 @@ pub enum Verdict {
     Invalid { cause: u32, entry: u32 },
 }
 
-/// What comes of a solution of an instance, with what depends on the instance alone. It takes the time
-/// and memory of completing it and evaluating its state.
+/// What comes of the solution with this number, of this instance, with what depends on the instance
+/// alone. It takes the time and memory of completing it and evaluating its state.
 fn judge(
     alloc: Global,
     inst: &Instance,
     room: &ResourceRoom,
+    resolved: &Resolved,
+    number: u32,
     raw: &RawSolution,
 ) -> Result<Verdict, NoMemory>
-    requires solution { IsSolution inst.now raw.now }
+    requires one { IsOne resolved.now number raw.now }
+    requires instance { parts_at resolved.now number ≡ Some inst.now }
     requires room { room.now ≡ room_for inst.now }
     ensures { IfOk result (λ v. v ≡ verdict_of inst.now (completion.completed inst.now raw.now)) }
 {
-    match completed(alloc, inst, raw) {
+    match numbered_solution(alloc, inst, resolved, number, raw) {
         Ok(plain) => Ok(Verdict::Valid(evaluate_in(alloc, inst, room, &plain)?)),
         Err(SolutionFault::Invalid { cause, entry }) => Ok(Verdict::Invalid { cause, entry }),
         Err(SolutionFault::NoMemory) => Err(NoMemory),
@@ -94,7 +96,7 @@ pub fn numbered(
     ensures { IfOk result (λ v. v ≡ numbered_verdict resolved.now (number, raw.now)) }
 {
     let (inst, room) = place_of(resolved, rooms, number);
-    let told = judge(alloc, inst, room, raw)?;
+    let told = judge(alloc, inst, room, resolved, number, raw)?;
     Ok(told)
 }
 

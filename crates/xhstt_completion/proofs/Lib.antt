@@ -1,8 +1,12 @@
 pub mod CausesLemmas
+pub mod ChainLemmas
+pub mod EventLemmas
 pub mod FitLemmas
+pub mod FoundLemmas
 pub mod PartFacts
 pub mod PartsLemmas
 pub mod Pieces
+pub mod Resolved
 pub mod Roles
 pub mod Valid
 pub mod WellMadeLemmas

@@ -1,15 +1,14 @@
 //! The causes for which an entry is invalid.
 
-ghost use Rattle.std.specs.Prelude.{◌≡◌, ◌<◌, [], length, Some, IsSome, All, find};
+ghost use Rattle.std.specs.Prelude.{◌≡◌, ◌<◌, [], length, map, Some, find};
 ghost use Rattle.std.specs.List.{list_any};
 ghost use Rattle.std.specs.Option.{option_copied};
 ghost use Rattle.khe_instance.specs.Lookups.{is_role};
-ghost use Rattle.khe_instance.specs.Named.{resource_named};
 ghost use Rattle.khe_instance.specs.Running.{is_resource};
 ghost use Rattle.xhstt_completion.specs.Causes.{is_too_long, splits_fixed, moves_fixed, ends_late, is_place_for, place_for, came_before, place_cause, given_cause, first_given_cause, cause_in, differ_in_time, differ_in_resource};
-ghost use Rattle.xhstt_completion.specs.Entries.{role_of};
+ghost use Rattle.xhstt_completion.specs.Entries.{resource_of, role_of, time_of};
 
-use crate::entries::{duration_of, is_given_for, resource_of, start_of, time_of};
+use crate::entries::{duration_of, is_given_for, start_of};
 use crate::faults::{
     BAD_ROLE, FIXED_RESOURCE, FIXED_TIME, OFF_END, SPLIT_FIXED, TOO_LONG, WRONG_TYPE,
 };
@@ -17,15 +16,19 @@ use khe_base::{ResourceId, Text, TimeId};
 use khe_instance::{EventInfo, Instance, Place};
 use xhstt_shape::{RawEntry, RawGiven};
 
-/// The first cause at an entry of an event, of which earlier entries used so much. It takes time in
-/// proportion to the resources of the entry times the places of the event.
+/// The first cause at an entry of an event, of which earlier entries used so much, by the time and the
+/// resources that it names. It takes time in proportion to the resources of the entry times the places
+/// of the event.
 pub(crate) fn cause_in(
     inst: &Instance,
     event: &EventInfo,
     used: u32,
     entry: &RawEntry,
+    time: Option<TimeId>,
+    resources: &[ResourceId],
 ) -> Option<u32>
-    requires { All (λ given. IsSome (resource_named inst.now given.reference.id)) entry.now.resources }
+    requires time { time_of inst.now entry.now ≡ time }
+    requires resources { map (resource_of inst.now) entry.now.resources ≡ map Some resources.now }
     ensures { result ≡ cause_in inst.now event.now used entry.now }
 {
     if is_too_long(event, used, entry) {
@@ -34,13 +37,13 @@ pub(crate) fn cause_in(
     if splits_fixed(event, entry) {
         return Some(SPLIT_FIXED);
     }
-    if differ_in_time(time_of(inst, entry), event.fixed) {
+    if differ_in_time(time, event.fixed) {
         return Some(FIXED_TIME);
     }
-    if ends_late(inst, event, entry) {
+    if ends_late(inst, event, entry, time) {
         return Some(OFF_END);
     }
-    first_given_cause(inst, event, entry.resources.as_slice())
+    first_given_cause(inst, event, entry.resources.as_slice(), resources)
 }
 
 /// Whether an entry, with those of its event before it, lasts longer than the event.
@@ -69,10 +72,11 @@ fn differ_in_time(x: Option<TimeId>, y: Option<TimeId>) -> bool
 }
 
 /// Whether an entry ends after the last time.
-fn ends_late(inst: &Instance, event: &EventInfo, entry: &RawEntry) -> bool
+fn ends_late(inst: &Instance, event: &EventInfo, entry: &RawEntry, time: Option<TimeId>) -> bool
+    requires { time_of inst.now entry.now ≡ time }
     ensures { result ≡ ends_late inst.now event.now entry.now }
 {
-    match start_of(inst, event, entry) {
+    match start_of(event, time) {
         Some(start) => {
             let end = u64::from(start.0) + u64::from(duration_of(event, entry));
             u64::from(inst.times()) < end
@@ -81,14 +85,20 @@ fn ends_late(inst: &Instance, event: &EventInfo, entry: &RawEntry) -> bool
     }
 }
 
-/// The first cause at the resources that an entry gives.
-fn first_given_cause(inst: &Instance, event: &EventInfo, given: &[RawGiven]) -> Option<u32>
-    requires { All (λ one. IsSome (resource_named inst.now one.reference.id)) given.now }
+/// The first cause at the resources that an entry gives, which have these numbers.
+fn first_given_cause(
+    inst: &Instance,
+    event: &EventInfo,
+    given: &[RawGiven],
+    resources: &[ResourceId],
+) -> Option<u32>
+    requires { map (resource_of inst.now) given.now ≡ map Some resources.now }
     ensures { result ≡ first_given_cause inst.now event.now [] given.now }
 {
     for (number, one) in given.iter().enumerate() {
         let before = &given[..number];
-        let cause = given_cause(inst, event, before, one);
+        let resource = resources[number];
+        let cause = given_cause(inst, event, before, one, resource);
         if cause.is_some() {
             return cause;
         }
@@ -102,11 +112,11 @@ fn given_cause(
     event: &EventInfo,
     before: &[RawGiven],
     given: &RawGiven,
+    resource: ResourceId,
 ) -> Option<u32>
-    requires { IsSome (resource_named inst.now given.now.reference.id) }
+    requires { resource_of inst.now given.now ≡ Some resource }
     ensures { result ≡ given_cause inst.now event.now before.now given.now }
 {
-    let resource = resource_of(inst, given);
     let Some(place) = place_for(event, resource, given) else {
         return Some(BAD_ROLE);
     };

@@ -3,15 +3,21 @@ ghost use Rattle.std.specs.Option.{option_copied};
 ghost use Rattle.khe_instance.specs.States.{IsValid};
 ghost use Rattle.xhstt_completion.specs.Completed.{completed, IsFaultOf};
 ghost use Rattle.xhstt_completion.specs.Entries.{IsSolution, solutions};
+ghost use Rattle.xhstt_completion.specs.Found.{AreFound};
+ghost use Rattle.xhstt_completion.specs.Numbered.{IsOne, parts_at};
+ghost use Rattle.xhstt_resolve.specs.Resolved as resolving;
+ghost use Rattle.xhstt_shape.specs.WellFormed.{IsInForm};
 ghost use Rattle.xhstt_shape.specs.declared.records.RawSolution.{RawSolution};
 
 use crate::SolutionFault;
 use crate::checking::first_cause;
 use crate::faults::Cause;
+use crate::lookups::{Found, looked_up};
 use crate::states::state_of;
 use khe_base::Seq;
 use khe_instance::{Instance, Plain};
 use std::alloc::Global;
+use xhstt_resolve::Resolved;
 use xhstt_shape::{Archive, RawSolution};
 
 /// The state that a solution says, completed as KHE completes a solution that it reads: the entries
@@ -31,25 +37,50 @@ pub fn completed(alloc: Global, inst: &Instance, raw: &RawSolution) -> Result<Pl
     ensures valid { IfOk result (IsValid inst.now) }
     ensures plain { IfOk result (λ plain. (plain.detached ≡ []) × (plain.groups ≡ [])) }
 {
+    let found = looked_up(alloc, inst, raw.events.as_slice())?;
+    completed_by(alloc, inst, raw, &found)
+}
+
+/// The state that a solution says, by what its entries name.
+fn completed_by(
+    alloc: Global,
+    inst: &Instance,
+    raw: &RawSolution,
+    found: &Found,
+) -> Result<Plain, SolutionFault>
+    requires solution { IsSolution inst.now raw.now }
+    requires many { length found.now.named.items ≡ length raw.now.events }
+    requires each { AreFound inst.now raw.now.events found.now.named.items found.now.given.items }
+    ensures exact { IfOk result (λ plain. completed inst.now raw.now ≡ Ok plain) }
+    ensures invalid { IfErr result (IsFaultOf (completed inst.now raw.now)) }
+    ensures valid { IfOk result (IsValid inst.now) }
+    ensures plain { IfOk result (λ plain. (plain.detached ≡ []) × (plain.groups ≡ [])) }
+{
     let entries = raw.events.as_slice();
-    if let Some(Cause { cause, entry }) = first_cause(alloc, inst, entries)? {
+    if let Some(Cause { cause, entry }) = first_cause(alloc, inst, entries, found)? {
         return Err(SolutionFault::Invalid { cause, entry });
     }
     inst.facts();
-    Ok(state_of(alloc, inst, entries)?)
+    Ok(state_of(alloc, inst, entries, found)?)
 }
 
 /// The completed state of the solution of an archive with this number, counted from 0 over all
-/// solution groups in order. It does what `completed` does, in the same time and memory, and besides
-/// takes time in proportion to the solution groups.
+/// solution groups in order. The archive is in form, `resolved` is what `resolve` answers for it, and
+/// the instance is the solution's: then the references of the solution name parts of the instance.
+///
+/// It does what `completed` does, in the same time and memory, and besides takes time in proportion
+/// to the solution groups.
 pub fn solution(
     alloc: Global,
     inst: &Instance,
     archive: &Archive,
+    resolved: &Resolved,
     number: u32,
 ) -> Result<Plain, SolutionFault>
+    requires formed { IsInForm archive.now }
+    requires resolved { resolving.resolved archive.now ≡ Ok resolved.now }
     requires there { number < length (solutions archive.now) }
-    requires named { (raw : RawSolution) → slice_get (solutions archive.now) number ≡ Some raw → IsSolution inst.now raw }
+    requires instance { parts_at resolved.now number ≡ Some inst.now }
     ensures exact { IfOk result (λ plain. (raw : RawSolution) → slice_get (solutions archive.now) number ≡ Some raw → completed inst.now raw ≡ Ok plain) }
     ensures invalid { IfErr result (λ fault. (raw : RawSolution) → slice_get (solutions archive.now) number ≡ Some raw → IsFaultOf (completed inst.now raw) fault) }
     ensures valid { IfOk result (IsValid inst.now) }
@@ -57,6 +88,27 @@ pub fn solution(
     let Some(raw) = solution_numbered(archive, number) else {
         unreachable!()
     };
+    numbered_solution(alloc, inst, resolved, number, raw)
+}
+
+/// What `solution` answers, for a solution that is at hand: it is not looked for in its group, so a
+/// worker that goes through many takes no time in proportion to the groups.
+///
+/// It does what `completed` does, in the same time and memory. Of what was resolved, and of the
+/// number, only the contract reads.
+pub fn numbered_solution(
+    alloc: Global,
+    inst: &Instance,
+    _resolved: &Resolved,
+    _number: u32,
+    raw: &RawSolution,
+) -> Result<Plain, SolutionFault>
+    requires one { IsOne _resolved.now _number raw.now }
+    requires instance { parts_at _resolved.now _number ≡ Some inst.now }
+    ensures exact { IfOk result (λ plain. completed inst.now raw.now ≡ Ok plain) }
+    ensures invalid { IfErr result (IsFaultOf (completed inst.now raw.now)) }
+    ensures valid { IfOk result (IsValid inst.now) }
+{
     completed(alloc, inst, raw)
 }
 

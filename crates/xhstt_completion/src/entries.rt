@@ -1,10 +1,11 @@
 //! What the entries of a solution say, read through an instance.
 
 ghost use Rattle.std.specs.Prelude.{◌≡◌, ◌<◌, length, Some, IsSome, slice_get};
+ghost use Rattle.std.specs.Option.{option_or};
 ghost use Rattle.khe_instance.specs.Lookups.{is_role};
 ghost use Rattle.khe_instance.specs.Named.{event_named, resource_named};
 ghost use Rattle.khe_instance.specs.WellMade.{AreWellMade};
-ghost use Rattle.xhstt_completion.specs.Entries.{duration_of, time_of, start_of, resource_of, role_of};
+ghost use Rattle.xhstt_completion.specs.Entries.{duration_of, time_of, resource_of, role_of};
 
 use khe_base::{EventId, ResourceId, Text, TimeId};
 use khe_instance::{EventInfo, Instance};
@@ -34,11 +35,11 @@ pub(crate) fn time_of(inst: &Instance, entry: &RawEntry) -> Option<TimeId>
     inst.time_named(&time.id)
 }
 
-/// When an entry starts: at the preassigned time where it does not say.
-pub(crate) fn start_of(inst: &Instance, event: &EventInfo, entry: &RawEntry) -> Option<TimeId>
-    ensures { result ≡ start_of inst.now event.now entry.now }
+/// When an entry starts that gives this time: at the preassigned time where it gives none.
+pub(crate) fn start_of(event: &EventInfo, time: Option<TimeId>) -> Option<TimeId>
+    ensures { result ≡ option_or time event.now.fixed }
 {
-    time_of(inst, entry).or(event.fixed)
+    time.or(event.fixed)
 }
 
 /// The resource that is given, in the time of a hash of its Id.

@@ -3,15 +3,17 @@
 #![tactic(auto)]
 
 mod causes;
+mod chains;
 mod checking;
 mod completion;
 mod entries;
 #[allow(dead_code)]
 mod examples;
 mod faults;
+mod lookups;
 mod states;
 
-pub use completion::{completed, solution};
+pub use completion::{completed, numbered_solution, solution};
 pub use faults::{
     BAD_ROLE, Cause, FIXED_RESOURCE, FIXED_TIME, OFF_END, SPLIT_FIXED, SolutionFault, TOO_LONG,
     WRONG_TYPE,

@@ -1,14 +1,18 @@
 //! The state that the entries of a solution say, where none of them has a cause.
 
-ghost use Rattle.std.specs.Prelude.{◌≡◌, ◌<◌, ◌≤◌, ◌+◌, ◌++◌, ◌∷◌, [], ℕ, length, map, All, IfOk, OnOk, Some, slice_get, slice_index_or, replicate, vec_len};
-ghost use Rattle.std.specs.List.{enumerate_from, sum_by};
-ghost use Rattle.khe_base.specs.declared.limits.TheConstants.{DURATION, TASKS};
+ghost use Rattle.std.specs.Prelude.{◌≡◌, ◌<◌, ◌≤◌, ◌++◌, ◌∷◌, [], ℕ, length, map, All, IfOk, OnOk, Some, get_or, slice_get};
+ghost use Rattle.std.specs.List.{enumerate_from, flat_map};
+ghost use Rattle.khe_base.specs.declared.limits.TheConstants.{TASKS};
 ghost use Rattle.khe_instance.specs.declared.parts.EventInfo.{EventInfo};
 ghost use Rattle.xhstt_completion.specs.Causes.{used_by};
-ghost use Rattle.xhstt_completion.specs.Completed.{state_of, meets_at, tasks_at, task_of, resource_at, given_for};
-ghost use Rattle.xhstt_completion.specs.Entries.{IsEntry, entries_of};
+ghost use Rattle.xhstt_completion.specs.Completed.{state_of, meets_at, tasks_at, meet_of, tasks_of, task_of, missing_parts, resource_at, given_for};
+ghost use Rattle.xhstt_completion.specs.Chains.{IsChain};
+ghost use Rattle.xhstt_completion.specs.Entries.{IsEntry, entries_of, resource_of};
+ghost use Rattle.xhstt_completion.specs.Found.{AreFound};
 
-use crate::entries::{duration_of, event_of, is_given_for, start_of};
+use crate::chains::{Chains, chained};
+use crate::entries::{duration_of, is_given_for, start_of};
+use crate::lookups::{Found, resources_at};
 use khe_base::{EventId, MeetId, NoMemory, ResourceId, Seq, TaskId, Text};
 use khe_instance::{EventInfo, Instance, Meet, Place, Plain, Task};
 use std::alloc::Global;
@@ -21,25 +25,24 @@ struct Timetable {
     tasks: Seq<Task>,
 }
 
-/// The state that entries say. It takes time and memory in proportion to the events, the entries
-/// and the state, and for each entry its resources times the places of its event, on average.
+/// The state that entries say, by what they name. It takes time and memory in proportion to the
+/// events, the entries and the state, and for each entry its resources times the places of its event.
 pub(crate) fn state_of(
     alloc: Global,
     inst: &Instance,
     entries: &[RawEntry],
+    found: &Found,
 ) -> Result<Plain, NoMemory>
     requires entries { All (IsEntry inst.now) entries.now }
+    requires many { length found.now.named.items ≡ length entries.now }
+    requires each { AreFound inst.now entries.now found.now.named.items found.now.given.items }
     requires fit { (e : ℕ) (event : EventInfo) → slice_get inst.now.events e ≡ Some event → used_by inst.now e event entries.now ≤ event.duration }
     ensures { IfOk result (λ plain. plain ≡ state_of inst.now entries.now) }
 {
-    let numbers = entries_by_event(alloc, inst, entries)?;
-    let mut timetable = Timetable {
-        meets: Seq::new(alloc),
-        tasks: Seq::new(alloc),
-    };
+    let chains = chained(alloc, inst, entries, found.named.as_slice())?;
+    let mut timetable = room(alloc, inst, entries.len())?;
     for event in 0..inst.events() {
-        let own = numbers[event as usize].as_slice();
-        push_event(&mut timetable, inst, EventId(event), entries, own)?;
+        push_event(&mut timetable, inst, EventId(event), entries, found, &chains)?;
     }
     let Timetable { meets, tasks } = timetable;
     Ok(Plain {
@@ -50,47 +53,37 @@ pub(crate) fn state_of(
     })
 }
 
-/// For each event the numbers of its entries, in order.
-fn entries_by_event(
-    alloc: Global,
-    inst: &Instance,
-    entries: &[RawEntry],
-) -> Result<Vec<Seq<usize>>, NoMemory>
-    requires { All (IsEntry inst.now) entries.now }
-    ensures length { IfOk result (λ numbers. vec_len numbers ≡ length inst.now.events) }
-    ensures own { IfOk result (λ numbers. (e : ℕ) → e < length inst.now.events → map (slice_get entries.now) (slice_index_or numbers.items e []) ≡ map Some (entries_of inst.now e entries.now)) }
+/// No meets and no tasks, with room for a meet of each event and each entry.
+fn room(alloc: Global, inst: &Instance, entries: usize) -> Result<Timetable, NoMemory>
+    ensures meets { IfOk result (λ t. t.meets ≡ []) }
+    ensures tasks { IfOk result (λ t. t.tasks ≡ []) }
 {
-    let mut numbers = no_numbers(alloc, inst.events())?;
-    for (number, entry) in entries.iter().enumerate() {
-        let event = event_of(inst, entry);
-        numbers[event.0 as usize].push(number)?;
-    }
-    Ok(numbers)
+    let most = entries.saturating_add(inst.events() as usize);
+    Ok(Timetable {
+        meets: Seq {
+            items: Vec::with_capacity(alloc, most)?,
+        },
+        tasks: Seq::new(alloc),
+    })
 }
 
-/// So many empty lists.
-fn no_numbers(alloc: Global, count: u32) -> Result<Vec<Seq<usize>>, NoMemory>
-    ensures { IfOk result (λ numbers. numbers.items ≡ replicate count []) }
-{
-    let mut numbers = Vec::new(alloc);
-    for _ in 0..count {
-        numbers.push(Seq::new(alloc))?;
-    }
-    Ok(numbers)
-}
-
-/// Adds the meets and the tasks of an event: one meet for each of its entries, which have these
-/// numbers, and one for what they miss.
+/// Adds the meets and the tasks of an event: one meet for each of its entries, and one for what they
+/// miss.
 fn push_event(
     timetable: &mut Timetable,
     inst: &Instance,
     number: EventId,
     entries: &[RawEntry],
-    own: &[usize],
+    found: &Found,
+    chains: &Chains,
 ) -> Result<(), NoMemory>
     requires there { number.0 < length inst.now.events }
     requires entries { All (IsEntry inst.now) entries.now }
-    requires own { map (slice_get entries.now) own.now ≡ map Some (entries_of inst.now number.0 entries.now) }
+    requires many { length found.now.named.items ≡ length entries.now }
+    requires each { AreFound inst.now entries.now found.now.named.items found.now.given.items }
+    requires firsts { length chains.now.firsts.items ≡ length inst.now.events }
+    requires nexts { length chains.now.nexts.items ≡ length entries.now }
+    requires own { IsChain entries.now chains.now.nexts.items 0 (get_or chains.now.firsts.items number.0 0) (entries_of inst.now number.0 entries.now) }
     requires fits { (event : EventInfo) → slice_get inst.now.events number.0 ≡ Some event → used_by inst.now number.0 event entries.now ≤ event.duration }
     ensures meets { OnOk result ((event : EventInfo) → slice_get inst.now.events number.0 ≡ Some event → timetable.new.meets ≡ timetable.old.meets ++ meets_at inst.now entries.now (number.0, event)) }
     ensures tasks { OnOk result ((event : EventInfo) → slice_get inst.now.events number.0 ≡ Some event → timetable.new.tasks ≡ timetable.old.tasks ++ tasks_at inst.now entries.now (number.0, event)) }
@@ -99,47 +92,62 @@ fn push_event(
     let event = inst.event(number);
     let mut slot = event.first_meet;
     let mut left = event.duration;
-    for at in own {
-        let entry = entry_at(entries, *at);
+    let mut at = chains.firsts[number.0 as usize];
+    while at < entries.len() {
+        let entry = &entries[at];
+        let named = found.named[at];
         let meet = Meet {
             meet: MeetId(slot),
             event: number,
             duration: duration_of(event, entry),
-            start: start_of(inst, event, entry),
+            start: start_of(event, named.time),
         };
-        push_meet(timetable, inst, event, meet, entry.resources.as_slice())?;
+        let given = resources_at(found.given.as_slice(), named, entry);
+        push_meet(timetable, inst, event, meet, entry.resources.as_slice(), given)?;
         slot += 1;
         left -= meet.duration;
+        at = chains.nexts[at];
     }
-    if left > 0 {
-        let meet = Meet {
-            meet: MeetId(slot),
-            event: number,
-            duration: left,
-            start: event.fixed,
-        };
-        push_meet(timetable, inst, event, meet, &[])?;
-    }
+    push_rest(timetable, inst, event, number, slot, left)?;
     Ok(())
 }
 
-/// The entry with this number.
-fn entry_at(entries: &[RawEntry], number: usize) -> &RawEntry
-    requires { number < length entries.now }
-    ensures { slice_get entries.now number ≡ Some result.now }
+/// Adds the meet of what the entries of an event miss, if they miss anything, and its tasks.
+fn push_rest(
+    timetable: &mut Timetable,
+    inst: &Instance,
+    event: &EventInfo,
+    number: EventId,
+    slot: u32,
+    left: u32,
+) -> Result<(), NoMemory>
+    requires { length event.now.places ≤ TASKS }
+    ensures meets { OnOk result (timetable.new.meets ≡ timetable.old.meets ++ map (meet_of number.0) (enumerate_from slot (missing_parts event.now left))) }
+    ensures tasks { OnOk result (timetable.new.tasks ≡ timetable.old.tasks ++ flat_map (tasks_of inst.now event.now) (enumerate_from slot (missing_parts event.now left))) }
 {
-    &entries[number]
+    if left == 0 {
+        return Ok(());
+    }
+    let meet = Meet {
+        meet: MeetId(slot),
+        event: number,
+        duration: left,
+        start: event.fixed,
+    };
+    push_meet(timetable, inst, event, meet, &[], &[])
 }
 
-/// Adds a meet of an event, for which these resources are given, and its tasks.
+/// Adds a meet of an event, for which these resources with these numbers are given, and its tasks.
 fn push_meet(
     timetable: &mut Timetable,
     inst: &Instance,
     event: &EventInfo,
     meet: Meet,
     given: &[RawGiven],
+    resources: &[ResourceId],
 ) -> Result<(), NoMemory>
-    requires { length event.now.places ≤ TASKS }
+    requires few { length event.now.places ≤ TASKS }
+    requires resources { map (resource_of inst.now) given.now ≡ map Some resources.now }
     ensures meets { OnOk result (timetable.new.meets ≡ timetable.old.meets ++ meet ∷ []) }
     ensures tasks { OnOk result (timetable.new.tasks ≡ timetable.old.tasks ++ map (task_of inst.now meet.meet.0 given.now) (enumerate_from 0 event.now.places)) }
 {
@@ -150,29 +158,41 @@ fn push_meet(
             meet: meet.meet,
             place: number as u32,
         };
-        let resource = resource_at(inst, given, place);
+        let resource = resource_at(inst, given, resources, place);
         timetable.tasks.push(Task { task, resource })?;
     }
     Ok(())
 }
 
 /// The resource at a place: the preassigned one, or else that which is given for its role.
-fn resource_at(inst: &Instance, given: &[RawGiven], place: &Place) -> Option<ResourceId>
+fn resource_at(
+    inst: &Instance,
+    given: &[RawGiven],
+    resources: &[ResourceId],
+    place: &Place,
+) -> Option<ResourceId>
+    requires { map (resource_of inst.now) given.now ≡ map Some resources.now }
     ensures { result ≡ resource_at inst.now given.now place.now }
 {
-    match &place.role {
-        Some(role) => place.fixed.or(given_for(inst, given, role)),
-        None => place.fixed,
+    match (place.fixed, &place.role) {
+        (None, Some(role)) => given_for(inst, given, resources, role),
+        _ => place.fixed,
     }
 }
 
 /// The resource that is given for a role.
-fn given_for(inst: &Instance, given: &[RawGiven], role: &Text) -> Option<ResourceId>
-    ensures { result ≡ given_for inst.now given.now role.now }
+fn given_for(
+    _inst: &Instance,
+    given: &[RawGiven],
+    resources: &[ResourceId],
+    role: &Text,
+) -> Option<ResourceId>
+    requires { map (resource_of _inst.now) given.now ≡ map Some resources.now }
+    ensures { result ≡ given_for _inst.now given.now role.now }
 {
-    for one in given {
+    for (number, one) in given.iter().enumerate() {
         if is_given_for(one, role) {
-            return inst.resource_named(&one.reference.id);
+            return Some(resources[number]);
         }
     }
     None

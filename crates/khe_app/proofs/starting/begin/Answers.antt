@@ -6,7 +6,7 @@ use Rattle.xhstt_completion.specs.declared.faults.Cause.{Cause}
 use Rattle.xhstt_shape.specs.declared.records.RawSolution.{RawSolution}
 use Rattle.xhstt_references.specs.References.{solutions_of}
 use Rattle.khe_app.proofs.CauseLemmas.{invalid-known}
-use Rattle.khe_app.proofs.StartLemmas.{barred_at, begun_at, chosen, names}
+use Rattle.khe_app.proofs.StartLemmas.{at_number, barred_at, begun_at, chosen}
 use Rattle.khe_app.proofs.starting.begin.Goals as goal
 
 pub instance_numbered-inst-requires : goal.instance_numbered-inst-requires
@@ -18,8 +18,8 @@ instance_numbered-inst-requires c =
     subst (λ k. k < length r.instances) (sym c.instance_number-instance.ensures)
     (slice_get_within r.instances (get_or r.of n 0) s.parts s.there)
 
-pub solution-requires-clause-named : goal.solution-requires-clause-named
-solution-requires-clause-named c =
+pub solution-requires-clause-instance : goal.solution-requires-clause-instance
+solution-requires-clause-instance c =
     let r = c.args.resolved.now in
     let n = c.args.number in
     let low : n < length r.of = omega (arith, c.if-len-number.false, c.len.ensures) in
@@ -27,7 +27,7 @@ solution-requires-clause-named c =
     let at : slice_get r.instances (get_or r.of n 0) ≡ Some p =
     subst (λ k. slice_get r.instances k ≡ Some p) c.instance_number-instance.ensures
     c.instance_numbered-inst.ensures in
-    names c.args.archive.now r n (chosen c.args.archive.now r n c.requires low) p at
+    at_number r n p low at
 
 pub returns-in-Ok-clause-begun : goal.returns-in-Ok-clause-begun
 returns-in-Ok-clause-begun c =

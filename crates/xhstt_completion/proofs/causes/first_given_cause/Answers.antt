@@ -1,15 +1,19 @@
 -- The next resource has the first cause, or those after it have.
-use Rattle.std.proofs.Common.{◌≡◌, ◌∙◌, ◌+◌, ◌++◌, ◌∷◌, [], sym, ap, subst, true, false, take, drop}
-use Rattle.std.specs.Prelude.{IsSome, is_some}
-use Rattle.khe_instance.specs.Named.{resource_named}
+use Rattle.std.proofs.Common.{◌≡◌, ◌∙◌, ◌+◌, ◌++◌, ◌∷◌, [], sym, ap, arith, true, false, take, drop}
+use Rattle.std.specs.Prelude.{is_some}
 use Rattle.xhstt_completion.specs.Causes.{given_cause, first_given_cause}
 use Rattle.xhstt_completion.proofs.CausesLemmas.{first_given_cause-drop, option_or-some, option_or-none, take-next}
+use Rattle.xhstt_completion.proofs.FoundLemmas.{as-many, given-taken}
 use Rattle.xhstt_completion.proofs.causes.first_given_cause.Goals as goal
 
 pub given_cause-cause-requires : goal.given_cause-cause-requires
 given_cause-cause-requires c =
-    subst (λ one. IsSome (resource_named c.args.inst.now one.reference.id)) (sym c.index-given-number.is)
-    (c.requires c.loop-number.number c.index-given-number.result c.loop-number-test.true)
+    given-taken c.args.inst.now c.args.given.now c.args.resources.now c.loop-number.number c.index-given-number.result
+    (record { 0 = 0 }) c.requires c.loop-number-test.true c.index-given-number.is
+
+pub bounds-resources-number : goal.bounds-resources-number
+bounds-resources-number c =
+    omega (arith, as-many c.args.inst.now c.args.given.now c.args.resources.now c.requires, c.loop-number-test.true)
 
 pub returns-then-is_some : goal.returns-then-is_some
 returns-then-is_some c =

@@ -10,9 +10,9 @@ use Rattle.xhstt_completion.specs.declared.faults.Cause.{Cause}
 use Rattle.xhstt_shape.specs.declared.records.RawEntry.{RawEntry}
 use Rattle.std.proofs.lemmas.Bool.{cases_eq, eq-eqb, ne_eqb}
 use Rattle.std.proofs.lemmas.List.{get_or-map, length-map, length-set, get_or-set_same, get_or-set_other}
-use Rattle.std.proofs.lemmas.List.{get_or_default}
+use Rattle.std.proofs.lemmas.List.{get_or_default, length-take-le}
 use Rattle.std.proofs.lemmas.List.Sums.{sum-map, sum_by-set}
-use Rattle.std.proofs.lemmas.Option.{get_or_from_slice_get, slice_get_within, same_Some}
+use Rattle.std.proofs.lemmas.Option.{get_or_from_slice_get, slice_get_within, slice_get_read, same_Some}
 use Rattle.khe_base.specs.declared.limits.TheConstants.{DURATION}
 use Rattle.khe_instance.specs.Named.{event_named}
 use Rattle.khe_instance.specs.declared.parts.EventInfo.{EventInfo}
@@ -43,6 +43,53 @@ loop-number-init c =
       rest = refl;
     }
 
+-- what the entries of an event used before is what is not left of it
+balanced : (p : Parts) (before : List RawEntry) (left : List ℕ) (e rest : ℕ) (event : EventInfo) → e < length left
+    → rest ≡ get_or left e rest → get_or left e 0 + used_by p e event before ≡ event.duration
+    → (rest ≤ event.duration) × (event.duration - rest ≡ used_by p e event before)
+balanced p before left e rest event within at balance =
+    let is : rest ≡ get_or left e 0 = at ∙ get_or_default left e rest 0 within in
+    (omega (arith, is, balance), omega (arith, is, balance))
+
+pub overflow_sub-used : goal.overflow_sub-used
+overflow_sub-used c =
+    let e = c.named_at-named.result.event in
+    let event = c.event-event.result.now in
+    let old = c.loop-number.left.items in
+    let within : e.0 < length old = subst (λ k. e.0 < k) (sym c.loop-number.invariant.many)
+    c.named_at-named.ensures.there in
+    (balanced c.args.inst.now (take c.loop-number.number c.args.entries.now) old e.0 c.index-rest.result.now event within
+    c.index-rest.ensures (c.loop-number.invariant.left e.0 event c.event-event.ensures)).0
+
+pub returns-in-Some : goal.returns-in-Some
+returns-in-Some c =
+    let p = c.args.inst.now in
+    let entries = c.args.entries.now in
+    let n = c.loop-number.number in
+    let e = c.named_at-named.result.event in
+    let event = c.event-event.result.now in
+    let entry = c.index-entries-number.result in
+    let old = c.loop-number.left.items in
+    let before = take n entries in
+    let is = c.named_at-named.ensures.found entry
+    (slice_get_read entries _ n entry refl c.loop-number-test.true c.index-entries-number.is) in
+    let within : e.0 < length old = subst (λ k. e.0 < k) (sym c.loop-number.invariant.many)
+    c.named_at-named.ensures.there in
+    let used = (balanced p before old e.0 c.index-rest.result.now event within c.index-rest.ensures
+    (c.loop-number.invariant.left e.0 event c.event-event.ensures)).1 in
+    let at : ℕ → ℕ → Cause = λ k cause. record { cause = cause; entry = k } in
+    let here : cause_after p before entry ≡ Some c.in-Some.cause =
+    cause_after-in p before entry e event is.event c.event-event.ensures
+    ∙ ap (λ k. cause_in p event k entry) (sym used) ∙ sym c.cause_in.ensures ∙ c.in-Some.is
+    in
+    let low : n ≤ length entries = omega (arith, c.loop-number-test.true) in
+    let long : length before ≡ n = length-take-le n entries low in
+    sym (ap (λ k. Some (at k c.in-Some.cause)) long)
+    ∙ sym (ap (λ (o : Option ℕ). option_or (option_map (at (length before)) o)
+    (first_cause p (before ++ entry ∷ []) (drop (n + 1) entries))) here)
+    ∙ sym (first_cause-drop p before entries n entry c.loop-number-test.true c.index-entries-number.is)
+    ∙ c.loop-number.invariant.rest
+
 -- without a cause at an entry, the first one stands later
 step : (p : Parts) (before : List RawEntry) (later : Option Cause) (entry : RawEntry)
     → cause_after p before entry ≡ None
@@ -52,22 +99,47 @@ step p before later entry free =
     ap (λ (o : Option ℕ). option_or (let at : ℕ → Cause = λ cause. record { cause = cause; entry = length before } in
     option_map at o) later) free
 
+pub resources_at-resources-requires : goal.resources_at-resources-requires
+resources_at-resources-requires c =
+    let entry = c.index-entries-number.result in
+    let is = c.named_at-named.ensures.found entry
+    (slice_get_read c.args.entries.now _ c.loop-number.number entry refl c.loop-number-test.true
+    c.index-entries-number.is) in
+    omega (arith, is.within, ap length c.as_slice.ensures.value)
+
+pub cause_in-requires-clause-time : goal.cause_in-requires-clause-time
+cause_in-requires-clause-time c =
+    let entry = c.index-entries-number.result in
+    (c.named_at-named.ensures.found entry (slice_get_read c.args.entries.now _ c.loop-number.number entry refl
+    c.loop-number-test.true c.index-entries-number.is)).time
+
+pub cause_in-requires-clause-resources : goal.cause_in-requires-clause-resources
+cause_in-requires-clause-resources c =
+    let entry = c.index-entries-number.result in
+    let is = c.named_at-named.ensures.found entry
+    (slice_get_read c.args.entries.now _ c.loop-number.number entry refl c.loop-number-test.true
+    c.index-entries-number.is) in
+    is.resources ∙ ap (map (λ x. Some x)) (sym (c.resources_at-resources.ensures
+    ∙ ap (λ xs. take (length entry.resources) (drop c.named_at-named.result.first xs)) c.as_slice.ensures.value))
+
 pub loop-number-preserved : goal.loop-number-preserved
 loop-number-preserved c =
     let p = c.args.inst.now in
     let entries = c.args.entries.now in
     let n = c.loop-number.number in
-    let e0 = c.event_of-id.result in
+    let e0 = c.named_at-named.result.event in
     let event0 = c.event-event.result.now in
     let entry = c.index-entries-number.result in
+    let is = c.named_at-named.ensures.found entry
+    (slice_get_read entries _ n entry refl c.loop-number-test.true c.index-entries-number.is) in
+    let e0_there : e0.0 < length p.events = c.named_at-named.ensures.there in
     let old = c.loop-number.left.items in
     let rest = c.index-rest.result.now in
     let d = c.duration_of.result in
     let before = take n entries in
-    let named : event_named p entry.reference.id ≡ Some e0 = c.event_of-id.ensures.named in
+    let named : event_named p entry.reference.id ≡ Some e0 = is.event in
     let there0 : slice_get p.events e0.0 ≡ Some event0 = c.event-event.ensures in
-    let in_old : e0.0 < length old = subst (λ k. e0.0 < k) (sym c.loop-number.invariant.many)
-    c.event_of-id.ensures.there in
+    let in_old : e0.0 < length old = subst (λ k. e0.0 < k) (sym c.loop-number.invariant.many) e0_there in
     let next : take (n + 1) entries ≡ before ++ entry ∷ [] =
     take-next entries n entry c.loop-number-test.true c.index-entries-number.is in
     let lasts : d ≡ duration_of event0 entry = c.duration_of.ensures in
@@ -82,9 +154,9 @@ loop-number-preserved c =
     let within : used_by p e0.0 event0 before + duration_of event0 entry ≤ event0.duration =
     not_too_long p event0 _ entry no_cause in
     let is_entry : IsEntry p entry = subst (IsEntry p) (sym c.index-entries-number.is)
-    (c.requires n entry c.loop-number-test.true) in
+    (c.requires.entries n entry c.loop-number-test.true) in
     let is_event0 : IsEvent p event0 = subst (IsEvent p) (get_or_from_slice_get p.events e0.0 event0 event0 there0)
-    (c.facts.ensures.events e0.0 event0 c.event_of-id.ensures.there) in
+    (c.facts.ensures.events e0.0 event0 e0_there) in
     let positive : 1 ≤ duration_of event0 entry =
     unwrap_or-positive entry.duration event0.duration is_entry.duration is_event0.duration.0 in
     let later = slice_set old e0.0 (rest - d) in

@@ -3,5 +3,5 @@ use Rattle.std.proofs.Common.{◌≡◌, drop}
 use Rattle.xhstt_completion.specs.Completed.{given_for}
 use Rattle.xhstt_completion.proofs.states.given_for.Given as goal
 
-abbrev pub invariant-loop-one : goal.invariant-loop-one
-invariant-loop-one l = given_for l.inst (drop l.one-index l.given) l.role ≡ given_for l.inst l.given l.role
+abbrev pub invariant-loop-number : goal.invariant-loop-number
+invariant-loop-number l = given_for l._inst (drop l.number l.given) l.role ≡ given_for l._inst l.given l.role

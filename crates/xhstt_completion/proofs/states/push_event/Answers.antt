@@ -1,30 +1,28 @@
 -- One part more.
-use Rattle.std.proofs.Common.{◌≡◌, ◌∙◌, ◌+◌, ◌-◌, ◌≤◌, ◌++◌, ◌∷◌, [], sym, ap, subst, arith, map, drop}
-use Rattle.std.specs.List.{sum_by, enumerate_from, flat_map}
-use Rattle.std.proofs.lemmas.List.Sums.{sum_by-cons}
-use Rattle.std.proofs.lemmas.Option.{slice_get_within, same_Some, get_or_from_slice_get}
+use Rattle.std.proofs.Common.{ℕ, ◌≡◌, ◌∙◌, ◌+◌, ◌-◌, ◌<◌, ◌≤◌, ◌++◌, ◌∷◌, [], Some, sym, ap, subst, arith, map, length}
+use Rattle.std.proofs.Common.{get_or, take, drop}
+use Rattle.std.specs.List.{enumerate_from}
+use Rattle.std.specs.Option.{option_or}
+use Rattle.std.proofs.lemmas.List.{get_or_default}
+use Rattle.std.proofs.lemmas.Option.{same_Some}
+use Rattle.khe_instance.specs.declared.parts.EventInfo.{EventInfo}
 use Rattle.khe_instance.specs.declared.states.Meet.{Meet}
-use Rattle.xhstt_completion.specs.Completed.{part_of, meet_of, tasks_of, task_of}
-use Rattle.xhstt_completion.specs.Entries.{IsEntry, duration_of, start_of, entries_of}
+use Rattle.xhstt_completion.specs.Chains.{IsChain}
+use Rattle.xhstt_completion.specs.Completed.{part_of, meet_of, task_of, meets_at, tasks_at}
+use Rattle.xhstt_completion.specs.Entries.{IsEntry, duration_of, start_of, entries_of, resource_of}
 use Rattle.xhstt_completion.proofs.CausesLemmas.{unwrap_or-positive}
-use Rattle.xhstt_completion.proofs.PartsLemmas.{parts_left, parts_left-cons, number-taken, append-step}
+use Rattle.xhstt_completion.proofs.EventLemmas.{IsLeft, here, left-more, left-all, next-fits, all-meets, all-tasks}
+use Rattle.xhstt_completion.proofs.FoundLemmas.{found-there}
 use Rattle.xhstt_completion.proofs.WellMadeLemmas.{event-made, places-few, slots-few}
 use Rattle.xhstt_completion.proofs.states.push_event.Goals as goal
-use Rattle.khe_base.proofs.ListLemmas.{drop-next}
+use Rattle.xhstt_shape.specs.declared.records.RawEntry.{RawEntry}
 
-pub entry_at-entry-requires : goal.entry_at-entry-requires
-entry_at-entry-requires c =
-    let entries = c.args.entries.now in
-    let mine = entries_of c.args.inst.now c.args.number.0 entries in
-    let taken = number-taken entries c.args.own.now mine c.loop-at.at-index c.requires.own c.loop-at-test.true in
-    slice_get_within entries _ taken.value taken.found
-
-pub push_meet-requires : goal.push_meet-requires
-push_meet-requires c = places-few c.args.inst.now c.args.number.0 c.event-event.result.now c.facts.ensures
+pub push_meet-requires-clause-few : goal.push_meet-requires-clause-few
+push_meet-requires-clause-few c = places-few c.args.inst.now c.args.number.0 c.event-event.result.now c.facts.ensures
     c.event-event.ensures
 
-pub push_meet-requires-then-left-gt0 : goal.push_meet-requires-then-left-gt0
-push_meet-requires-then-left-gt0 c = places-few c.args.inst.now c.args.number.0 c.event-event.result.now c.facts.ensures
+pub push_rest-requires : goal.push_rest-requires
+push_rest-requires c = places-few c.args.inst.now c.args.number.0 c.event-event.result.now c.facts.ensures
     c.event-event.ensures
 
 pub overflow_add-slot : goal.overflow_add-slot
@@ -33,58 +31,78 @@ overflow_add-slot c =
     c.event-event.ensures in
     omega (arith, bound, c.loop-at.invariant.room)
 
--- the next entry, and how long the entries last that are left with it
-pub overflow_sub-left : goal.overflow_sub-left
-overflow_sub-left c =
+pub loop-at-init : goal.loop-at-init
+loop-at-init c =
     let p = c.args.inst.now in
     let entries = c.args.entries.now in
+    let firsts = c.args.chains.now.firsts.items in
+    let nexts = c.args.chains.now.nexts.items in
+    let e = c.args.number.0 in
     let event = c.event-event.result.now in
-    let mine = entries_of p c.args.number.0 entries in
-    let i = c.loop-at.at-index in
-    let entry = c.entry_at-entry.result.now in
-    let taken = number-taken entries c.args.own.now mine i c.requires.own c.loop-at-test.true in
-    let same : taken.value ≡ entry = same_Some taken.value entry (sym taken.found ∙ c.entry_at-entry.ensures) in
-    let next : drop i mine ≡ taken.value ∷ drop (i + 1) mine =
-    drop-next mine i taken.value taken.there (sym taken.at) in
-    let lasts : c.duration_of.result ≡ duration_of event entry = c.duration_of.ensures in
-    let value_lasts : duration_of event taken.value ≡ duration_of event entry = ap (duration_of event) same in
-    let fits : sum_by (duration_of event) (drop i mine) ≤ c.loop-at.left = c.loop-at.invariant.fits in
-    omega (arith, ap (sum_by (duration_of event)) next, sum_by-cons (duration_of event) taken.value (drop (i + 1) mine))
+    let at = c.index-at.result.now in
+    let within : e < length firsts = omega (arith, c.requires.there, c.requires.firsts) in
+    let at_is : at ≡ get_or firsts e 0 = c.index-at.ensures ∙ get_or_default firsts e at 0 within in
+    left-all p entries nexts event e at c.args.timetable.now.meets c.args.timetable.now.tasks
+    (subst (λ n. IsChain entries nexts 0 n (entries_of p e entries)) (sym at_is) c.requires.own)
+    (c.requires.fits event c.event-event.ensures)
+
+pub resources_at-given-requires : goal.resources_at-given-requires
+resources_at-given-requires c =
+    let is = found-there c.args.inst.now c.args.entries.now c.args.found.now.named.items c.args.found.now.given.items
+    c.loop-at.at c.index-entries-at.result c.index-named.result.now c.requires.each c.requires.many c.loop-at-test.true
+    c.index-entries-at.is c.index-named.ensures in
+    omega (arith, is.within, ap length c.as_slice.ensures.value)
+
+pub push_meet-requires-clause-resources : goal.push_meet-requires-clause-resources
+push_meet-requires-clause-resources c =
+    let p = c.args.inst.now in
+    let entry = c.index-entries-at.result in
+    let n = c.index-named.result.now in
+    let is = found-there p c.args.entries.now c.args.found.now.named.items c.args.found.now.given.items c.loop-at.at entry
+    n c.requires.each c.requires.many c.loop-at-test.true c.index-entries-at.is c.index-named.ensures in
+    ap (map (resource_of p)) c.as_slice-in-loop-at.ensures ∙ is.resources
+    ∙ ap (map (λ x. Some x)) (sym (c.resources_at-given.ensures
+    ∙ ap (λ xs. take (length entry.resources) (drop n.first xs)) c.as_slice.ensures.value))
+
+pub overflow_sub-left : goal.overflow_sub-left
+overflow_sub-left c =
+    let event = c.event-event.result.now in
+    let entry = c.index-entries-at.result in
+    let inv = c.loop-at.invariant in
+    let is = here c.args.entries.now c.args.chains.now.nexts.items c.loop-at.at inv.rest entry inv.chain
+    c.loop-at-test.true c.index-entries-at.is in
+    let fits = next-fits event c.loop-at.left inv.rest is.next.entry is.next.later is.next.is inv.fits in
+    omega (arith, fits.0, ap (duration_of event) is.same, c.duration_of.ensures)
 
 pub loop-at-preserved : goal.loop-at-preserved
 loop-at-preserved c =
     let p = c.args.inst.now in
     let entries = c.args.entries.now in
+    let nexts = c.args.chains.now.nexts.items in
     let e = c.args.number.0 in
     let event = c.event-event.result.now in
-    let mine = entries_of p e entries in
-    let i = c.loop-at.at-index in
+    let at = c.loop-at.at in
     let slot = c.loop-at.slot in
     let left = c.loop-at.left in
-    let entry = c.entry_at-entry.result.now in
+    let meets = c.loop-at.timetable.meets in
+    let tasks = c.loop-at.timetable.tasks in
+    let old = c.args.timetable.now in
+    let entry = c.index-entries-at.result in
     let d = c.duration_of.result in
-    let taken = number-taken entries c.args.own.now mine i c.requires.own c.loop-at-test.true in
-    let same : taken.value ≡ entry = same_Some taken.value entry (sym taken.found ∙ c.entry_at-entry.ensures) in
-    let later = drop (i + 1) mine in
-    let next : drop i mine ≡ entry ∷ later = drop-next mine i taken.value taken.there (sym taken.at)
-    ∙ ap (λ x. x ∷ later) same in
-    let lasts : d ≡ duration_of event entry = c.duration_of.ensures in
-    let starts : c.start_of.result ≡ start_of p event entry = c.start_of.ensures in
+    let inv = c.loop-at.invariant in
+    let found = found-there p entries c.args.found.now.named.items c.args.found.now.given.items at entry
+    c.index-named.result.now c.requires.each c.requires.many c.loop-at-test.true c.index-entries-at.is
+    c.index-named.ensures in
+    let is = here entries nexts at inv.rest entry inv.chain c.loop-at-test.true c.index-entries-at.is in
+    let lasts : duration_of event is.next.entry ≡ d = ap (duration_of event) is.same ∙ sym c.duration_of.ensures in
+    let starts : start_of p event is.next.entry ≡ c.start_of.result =
+    ap (start_of p event) is.same ∙ ap (λ t. option_or t event.fixed) found.time ∙ sym c.start_of.ensures in
     let made = event-made p e event c.facts.ensures c.event-event.ensures in
-    let in_entries = slice_get_within entries _ entry c.entry_at-entry.ensures in
-    let is_entry : IsEntry p entry = subst (IsEntry p)
-    (get_or_from_slice_get entries _ entry entry c.entry_at-entry.ensures)
-    (c.requires.entries _ entry in_entries) in
-    let positive : 1 ≤ duration_of event entry = unwrap_or-positive entry.duration event.duration is_entry.duration
+    let is_entry : IsEntry p entry = subst (IsEntry p) (sym c.index-entries-at.is)
+    (c.requires.entries at entry c.loop-at-test.true) in
+    let own : 1 ≤ duration_of event entry = unwrap_or-positive entry.duration event.duration is_entry.duration
     made.duration.0 in
-    let parts : parts_left p event left (drop i mine) ≡ part_of p event entry ∷ parts_left p event (left - d) later =
-    ap (parts_left p event left) next ∙ parts_left-cons p event left entry later
-    ∙ ap (λ k. part_of p event entry ∷ parts_left p event (left - k) later) (sym lasts)
-    in
-    let slotted : enumerate_from slot (parts_left p event left (drop i mine))
-    ≡ (slot, part_of p event entry) ∷ enumerate_from (slot + 1) (parts_left p event (left - d) later) =
-    ap (enumerate_from slot) parts
-    in
+    let positive : 1 ≤ duration_of event is.next.entry = omega (arith, own, ap (duration_of event) is.same) in
     let meet : Meet = record {
       meet = record { 0 = slot };
       event = record { 0 = e };
@@ -92,28 +110,63 @@ loop-at-preserved c =
       start =
           c.start_of.result;
     } in
-    let meet_is : meet_of e (slot, part_of p event entry) ≡ meet =
-    let back = sym lasts in
-    let from = sym starts in
-    λ k. record { meet = record { 0 = slot }; event = record { 0 = e }; duration = back k; start = from k }
+    let meet_is : meet_of e (slot, part_of p event is.next.entry) ≡ meet =
+    λ k. record { meet = record { 0 = slot }; event = record { 0 = e }; duration = lasts k; start = starts k }
     in
-    let fits : sum_by (duration_of event) (drop i mine) ≤ left = c.loop-at.invariant.fits in
-    let sums : sum_by (duration_of event) (drop i mine) ≡ duration_of event entry + sum_by (duration_of event) later =
-    ap (sum_by (duration_of event)) next ∙ sum_by-cons (duration_of event) entry later
+    let given : c.as_slice-in-loop-at.result.now ≡ is.next.entry.resources =
+    c.as_slice-in-loop-at.ensures ∙ ap (λ (x : RawEntry). x.resources) (sym is.same) in
+    let room : at < length nexts = omega (arith, c.loop-at-test.true, c.requires.nexts) in
+    let next : c.index-at-in-loop-at.result.now ≡ get_or nexts at 0 =
+    c.index-at-in-loop-at.ensures ∙ get_or_default nexts at c.index-at-in-loop-at.result.now 0 room in
+    let more = left-more p entries nexts event e at slot left meets c.push_meet.new.timetable.meets tasks
+    c.push_meet.new.timetable.tasks old.tasks old.meets inv is.next positive
+    (c.in_ok-push_meet.ensures.meets ∙ ap (λ m. meets ++ m ∷ []) (sym meet_is))
+    (c.in_ok-push_meet.ensures.tasks ∙ ap (λ g. tasks ++ map (task_of p slot g) (enumerate_from 0 event.places)) given)
     in
-    record {
-      meets = append-step _ c.loop-at.timetable.meets (meet ∷ [])
-          (map (meet_of e) (enumerate_from (slot + 1) (parts_left p event (left - d) later))) _ _
-          c.in_ok-push_meet.ensures.meets
-          (ap (map (meet_of e)) slotted ∙ ap (λ x. x ∷ map (meet_of e)
-          (enumerate_from (slot + 1) (parts_left p event (left - d) later))) meet_is)
-          c.loop-at.invariant.meets;
-      tasks = append-step _ c.loop-at.timetable.tasks (tasks_of p event (slot, part_of p event entry))
-          (flat_map (tasks_of p event) (enumerate_from (slot + 1) (parts_left p event (left - d) later))) _ _
-          (c.in_ok-push_meet.ensures.tasks ∙ ap (λ given. c.loop-at.timetable.tasks
-          ++ map (task_of p slot given) (enumerate_from 0 event.places)) c.as_slice.ensures)
-          (ap (flat_map (tasks_of p event)) slotted)
-          c.loop-at.invariant.tasks;
-      fits = omega arith;
-      room = omega (arith, c.loop-at.invariant.room);
-    }
+    subst (λ n. IsLeft p entries nexts event e n (slot + 1) (left - d) c.push_meet.new.timetable.meets
+    c.push_meet.new.timetable.tasks old.meets old.tasks) (sym next)
+    (subst (λ k. IsLeft p entries nexts event e (get_or nexts at 0) (slot + 1) (left - k)
+    c.push_meet.new.timetable.meets c.push_meet.new.timetable.tasks old.meets old.tasks) lasts more)
+
+pub loop-at-smaller : goal.loop-at-smaller
+loop-at-smaller c =
+    let entries = c.args.entries.now in
+    let nexts = c.args.chains.now.nexts.items in
+    let at = c.loop-at.at in
+    let inv = c.loop-at.invariant in
+    let is = here entries nexts at inv.rest c.index-entries-at.result inv.chain c.loop-at-test.true
+    c.index-entries-at.is in
+    let room : at < length nexts = omega (arith, c.loop-at-test.true, c.requires.nexts) in
+    let next : c.index-at-in-loop-at.result.now ≡ get_or nexts at 0 =
+    c.index-at-in-loop-at.ensures ∙ get_or_default nexts at c.index-at-in-loop-at.result.now 0 room in
+    omega (arith, is.next.ahead, next, c.loop-at-test.true)
+
+pub returns-clause-meets : goal.returns-clause-meets
+returns-clause-meets c = λ event at.
+    let p = c.args.inst.now in
+    let entries = c.args.entries.now in
+    let e = c.args.number.0 in
+    let own = c.event-event.result.now in
+    let old = c.args.timetable.now in
+    let sofar = c.loop-at.timetable in
+    let over : length entries ≤ c.loop-at.at = omega (arith, c.loop-at-test.false) in
+    subst (λ x. c.push_rest.new.timetable.meets ≡ old.meets ++ meets_at p entries (e, x))
+    (same_Some own event (sym c.event-event.ensures ∙ at))
+    (all-meets p entries c.args.chains.now.nexts.items own e c.loop-at.at c.loop-at.slot c.loop-at.left sofar.meets
+    c.push_rest.new.timetable.meets sofar.tasks old.tasks old.meets c.loop-at.invariant over
+    c.in_ok-push_rest.ensures.meets)
+
+pub returns-clause-tasks : goal.returns-clause-tasks
+returns-clause-tasks c = λ event at.
+    let p = c.args.inst.now in
+    let entries = c.args.entries.now in
+    let e = c.args.number.0 in
+    let own = c.event-event.result.now in
+    let old = c.args.timetable.now in
+    let sofar = c.loop-at.timetable in
+    let over : length entries ≤ c.loop-at.at = omega (arith, c.loop-at-test.false) in
+    subst (λ x. c.push_rest.new.timetable.tasks ≡ old.tasks ++ tasks_at p entries (e, x))
+    (same_Some own event (sym c.event-event.ensures ∙ at))
+    (all-tasks p entries c.args.chains.now.nexts.items own e c.loop-at.at c.loop-at.slot c.loop-at.left sofar.meets
+    sofar.tasks c.push_rest.new.timetable.tasks old.tasks old.meets c.loop-at.invariant over
+    c.in_ok-push_rest.ensures.tasks)

@@ -1,10 +1,24 @@
 -- One event more.
-use Rattle.std.proofs.Common.{◌≡◌, ◌+◌, ◌<◌, ◌∷◌, ap, subst, length, drop}
+use Rattle.std.proofs.Common.{◌≡◌, ◌∙◌, ◌+◌, ◌<◌, ◌∷◌, ap, sym, subst, length, drop, slice_get}
 use Rattle.std.specs.List.{enumerate_from, flat_map}
 use Rattle.xhstt_completion.specs.Completed.{meets_at, tasks_at}
 use Rattle.xhstt_completion.proofs.PartsLemmas.{element-there, append-step}
 use Rattle.xhstt_completion.proofs.states.state_of.Goals as goal
 use Rattle.khe_base.proofs.ListLemmas.{drop-next}
+
+pub chained-requires-clause-many : goal.chained-requires-clause-many
+chained-requires-clause-many c = ap length c.as_slice.ensures.value ∙ c.requires.many
+
+pub chained-requires-clause-events : goal.chained-requires-clause-events
+chained-requires-clause-events c = λ i entry n at_entry at_n.
+    (c.requires.each i entry n at_entry (ap (λ ns. slice_get ns i) (sym c.as_slice.ensures.value) ∙ at_n)).event
+
+pub push_event-requires-clause-own : goal.push_event-requires-clause-own
+push_event-requires-clause-own c =
+    let e = c.loop-event.event in
+    let within : e < length c.args.inst.now.events =
+    subst (λ k. e < k) c.events-event-end.ensures c.loop-event-test.true in
+    c.in_ok-chains.ensures.chains e within
 
 pub loop-event-preserved : goal.loop-event-preserved
 loop-event-preserved c =

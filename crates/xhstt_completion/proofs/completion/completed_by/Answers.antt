@@ -6,7 +6,7 @@ use Rattle.xhstt_completion.specs.Causes.{first_cause}
 use Rattle.xhstt_completion.specs.Entries.{IsEntry}
 use Rattle.xhstt_completion.proofs.FitLemmas.{event-fits}
 use Rattle.xhstt_completion.proofs.Valid.{state-valid}
-use Rattle.xhstt_completion.proofs.completion.completed.Goals as goal
+use Rattle.xhstt_completion.proofs.completion.completed_by.Goals as goal
 
 pub state_of-requires-clause-fit : goal.state_of-requires-clause-fit
 state_of-requires-clause-fit c =
@@ -20,5 +20,5 @@ returns-clause-valid c =
     let p = c.args.inst.now in
     let entries = c.as_slice-entries.result.now in
     let none : first_cause p [] entries ≡ None = sym (c.in_ok-cause.ensures) ∙ c.in_default.is in
-    let named : All (IsEntry p) entries = subst (All (IsEntry p)) (sym c.as_slice-entries.ensures) c.requires in
+    let named : All (IsEntry p) entries = subst (All (IsEntry p)) (sym c.as_slice-entries.ensures) c.requires.solution in
     subst (IsValid p) (sym (c.in_ok-state_of.ensures)) (state-valid p entries c.facts.ensures named none)
