@@ -2,11 +2,13 @@
 """Runs every example of README.md and docs/manual.md, and compares what they show with what comes.
 
     checks/documents.py KHE
+    checks/documents.py --copy
 
 KHE is the program, say ./khe or a proved build. A block of text whose lines begin with `$ ` shows commands with
 their output. They are run in order in a folder that has examples/ and the program, as `khe` and as `./khe`. A
 command `cat NAME` of a file that isn't there shows that file: it is made so. A block without commands after a
-paragraph that names a file of examples/ shows that file. It prints a line for each difference, then how many
+paragraph that names a file of examples/ shows that file. The copies of the manual and of examples/ on which the gate
+runs the manual's examples are compared with them; `--copy` makes these copies anew. It prints a line for each difference, then how many
 commands and files it compared, and ends with status 1 where one differed.
 """
 
@@ -19,6 +21,31 @@ import tempfile
 
 TOP = os.path.dirname(os.path.dirname(os.path.abspath(__file__)))
 DOCUMENTS = ["README.md", "docs/manual.md"]
+COPIES = os.path.join(TOP, "crates/manual_examples/data")
+
+
+def copied():
+    """The files that have a copy for the gate, each with its copy."""
+    yield os.path.join(TOP, "docs/manual.md"), os.path.join(COPIES, "manual.md")
+    for folder, _, names in os.walk(os.path.join(TOP, "examples")):
+        for name in names:
+            path = os.path.join(folder, name)
+            yield path, os.path.join(COPIES, os.path.relpath(path, TOP))
+
+
+def bytes_of(path):
+    if not os.path.exists(path):
+        return None
+    with open(path, "rb") as file:
+        return file.read()
+
+
+def copy():
+    """Makes the copies anew."""
+    shutil.rmtree(COPIES, ignore_errors=True)
+    for path, other in copied():
+        os.makedirs(os.path.dirname(other), exist_ok=True)
+        shutil.copyfile(path, other)
 
 
 def blocks(text):
@@ -88,6 +115,9 @@ class Comparison:
 
 
 def main():
+    if sys.argv[1] == "--copy":
+        copy()
+        return
     program = os.path.abspath(sys.argv[1])
     with tempfile.TemporaryDirectory() as folder:
         shutil.copytree(os.path.join(TOP, "examples"), os.path.join(folder, "examples"))
@@ -99,6 +129,8 @@ def main():
         comparison = Comparison(folder)
         for name in DOCUMENTS:
             comparison.document(name)
+        for path, other in copied():
+            comparison.compare(path, "its copy for the gate", bytes_of(path), bytes_of(other))
     print("%d compared, %d differing" % (comparison.compared, comparison.differing))
     sys.exit(1 if comparison.differing or not comparison.compared else 0)
 

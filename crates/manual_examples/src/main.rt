@@ -1,6 +1,6 @@
 //! Runs the examples of the manual: each command by `khe` on the files that lie beside it, and compares what comes
-//! with what stands below the command. The manual and the example files lie in this crate's `data/`, where the
-//! program is run by the gate; docs/manual.md and examples/ lead there. It prints each example that differs, and how
+//! with what stands below the command. Copies of the manual and of the example files lie in this crate's `data/`,
+//! where the program is run by the gate; `checks/documents.py` makes and compares them. It prints each example that differs, and how
 //! many examples, refusals and scripts there are and how many differ.
 #![tactic(auto)]
 
