@@ -8,8 +8,8 @@ KHE is the program, say ./khe or a proved build. A block of text whose lines beg
 their output. They are run in order in a folder that has examples/ and the program, as `khe` and as `./khe`. A
 command `cat NAME` of a file that isn't there shows that file: it is made so. A block without commands after a
 paragraph that names a file of examples/ shows that file. The copies of the manual and of examples/ on which the gate
-runs the manual's examples are compared with them; `--copy` makes these copies anew. It prints a line for each difference, then how many
-commands and files it compared, and ends with status 1 where one differed.
+runs the manual's examples are compared with them; `--copy` makes these copies anew. It prints a line for each
+difference, then how many commands and files it compared, and ends with status 1 where one differed.
 """
 
 import os
