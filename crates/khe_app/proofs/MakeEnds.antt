@@ -1,6 +1,6 @@
 -- How a run ends that makes an archive, or runs its job.
-use Rattle.std.proofs.Common.{ℕ, ◌≡◌, ◌<◌, ◌^◌, ◌⊎◌, inl, inr, Bool, List, [], Option, Some, None, IfSome, IsTrue, Ok, Err}
-use Rattle.std.proofs.Common.{sym, ap, subst, ◌∙◌, refl, arith, encode_utf8_all, length, slice_get}
+use Rattle.std.proofs.Common.{ℕ, ◌≡◌, ◌<◌, ◌^◌, ◌⊎◌, inl, inr, Bool, List, [], Option, Some, None, IfSome}
+use Rattle.std.proofs.Common.{IsTrue, Ok, Err, sym, ap, subst, ◌∙◌, refl, arith, encode_utf8_all, length, slice_get}
 use Rattle.std.specs.Str.{IsUtf8, chars}
 use Rattle.std.proofs.lemmas.Str.{encodes-chars}
 use Rattle.std.proofs.lemmas.Option.{same_Some}

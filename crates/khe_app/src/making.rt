@@ -11,7 +11,6 @@ ghost use Rattle.khe_app.specs.Outcome.{IsRunIn, IsRunTo, start_of};
 ghost use Rattle.khe_app.specs.Ready.{IsReady};
 ghost use Rattle.khe_app.specs.Words.{making, running};
 
-
 use crate::checking::put_spelling;
 use crate::families::Families;
 use crate::program::{Status, put, put_refusal};
