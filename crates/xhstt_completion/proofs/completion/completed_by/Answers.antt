@@ -4,9 +4,20 @@ use Rattle.std.specs.Prelude.{All}
 use Rattle.khe_instance.specs.States.{IsValid}
 use Rattle.xhstt_completion.specs.Causes.{first_cause}
 use Rattle.xhstt_completion.specs.Entries.{IsEntry}
+use Rattle.xhstt_completion.specs.Found.{AreFound}
 use Rattle.xhstt_completion.proofs.FitLemmas.{event-fits}
 use Rattle.xhstt_completion.proofs.Valid.{state-valid}
 use Rattle.xhstt_completion.proofs.completion.completed_by.Goals as goal
+
+pub first_cause-requires-clause-each : goal.first_cause-requires-clause-each
+first_cause-requires-clause-each c =
+    subst (λ entries. AreFound c.args.inst.now entries c.args.found.now.named.items c.args.found.now.given.items)
+    (sym c.as_slice-entries.ensures) c.requires.each
+
+pub state_of-requires-clause-each : goal.state_of-requires-clause-each
+state_of-requires-clause-each c =
+    subst (λ entries. AreFound c.args.inst.now entries c.args.found.now.named.items c.args.found.now.given.items)
+    (sym c.as_slice-entries.ensures) c.requires.each
 
 pub state_of-requires-clause-fit : goal.state_of-requires-clause-fit
 state_of-requires-clause-fit c =
