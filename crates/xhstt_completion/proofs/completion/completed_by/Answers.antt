@@ -31,5 +31,6 @@ returns-clause-valid c =
     let p = c.args.inst.now in
     let entries = c.as_slice-entries.result.now in
     let none : first_cause p [] entries ≡ None = sym (c.in_ok-cause.ensures) ∙ c.in_default.is in
-    let named : All (IsEntry p) entries = subst (All (IsEntry p)) (sym c.as_slice-entries.ensures) c.requires.solution in
+    let named : All (IsEntry p) entries = subst (All (IsEntry p)) (sym c.as_slice-entries.ensures)
+    c.requires.solution in
     subst (IsValid p) (sym (c.in_ok-state_of.ensures)) (state-valid p entries c.facts.ensures named none)
