@@ -1,5 +1,6 @@
 //! Tests of the edits of a timetable: each step of a list is checked, made, undone and made again,
-//! and what was noted and what stands is compared with what was worked out by hand.
+//! and what was noted and what stands is compared with what was worked out by hand. And a test of
+//! solutions by their numbers.
 #![tactic(auto)]
 
 #[cfg(test)]
@@ -8,6 +9,8 @@ mod archives;
 mod hands;
 #[cfg(test)]
 mod moves;
+#[cfg(test)]
+mod numbers;
 #[cfg(test)]
 mod plays;
 #[cfg(test)]

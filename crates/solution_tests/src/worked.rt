@@ -1,10 +1,11 @@
 //! Instances and states of them, read from texts.
 
-ghost use Rattle.std.specs.Prelude.{◌≡◌, ◌<◌, ◌^◌, All, IfSome, IsSome, true, length};
+ghost use Rattle.std.specs.Prelude.{◌≡◌, ◌<◌, ◌^◌, All, IfSome, IsSome, Ok, true, length};
 ghost use Rattle.khe_instance.specs.Named.{resource_named, time_named};
 ghost use Rattle.khe_instance.specs.States.{IsValid};
 ghost use Rattle.khe_instance.specs.WellMade.{IsDuration};
 ghost use Rattle.xhstt_completion.specs.Entries.{IsEntry, IsSolution};
+ghost use Rattle.xhstt_resolve.specs.Resolved as resolving;
 ghost use Rattle.xhstt_shape.specs.WellFormed.{IsInForm};
 
 use khe_base::limits::NUMBER;
@@ -19,8 +20,8 @@ use xhstt_text::elements;
 /// An archive with its instances.
 #[derive(Drop)]
 pub(crate) struct Worked {
-    archive: Archive,
-    resolved: Resolved,
+    pub archive: Archive,
+    pub resolved: Resolved,
 }
 
 /// The archive that a text spells, if it has no fault.
@@ -45,7 +46,10 @@ fn archive_of(alloc: Global, text: &str) -> Option<Archive>
 }
 
 /// The archive that a text spells with its instances, if it has no fault.
-pub(crate) fn read(alloc: Global, text: &str) -> Option<Worked> {
+pub(crate) fn read(alloc: Global, text: &str) -> Option<Worked>
+    ensures formed { IfSome result (λ w. IsInForm w.archive) }
+    ensures resolved { IfSome result (λ w. resolving.resolved w.archive ≡ Ok w.resolved) }
+{
     let archive = archive_of(alloc, text)?;
     let Ok(resolved) = resolve(alloc, &archive) else {
         return None;

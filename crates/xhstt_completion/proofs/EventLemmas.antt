@@ -1,6 +1,6 @@
 -- The meets and the tasks of an event, one entry after the other.
-use Rattle.std.proofs.Common.{ℕ, ◌≡◌, ◌∙◌, ◌+◌, ◌-◌, ◌<◌, ◌≤◌, ◌++◌, ◌∷◌, [], Some, List, All, length, map, get_or}
-use Rattle.std.proofs.Common.{slice_get, refl, sym, ap, subst, arith}
+use Rattle.std.proofs.Common.{ℕ, ◌≡◌, ◌∙◌, ◌+◌, ◌-◌, ◌<◌, ◌≤◌, ◌++◌, ◌∷◌, [], List, length, map, get_or}
+use Rattle.std.proofs.Common.{refl, sym, ap, arith}
 use Rattle.std.specs.List.{sum_by, enumerate_from, flat_map}
 use Rattle.std.proofs.lemmas.List.Sums.{sum_by-cons}
 use Rattle.std.proofs.lemmas.Option.{same_Some, slice_get_read}
@@ -11,7 +11,7 @@ use Rattle.khe_instance.specs.declared.states.Task.{Task}
 use Rattle.xhstt_completion.specs.Chains.{IsChain}
 use Rattle.xhstt_completion.specs.Causes.{used_by}
 use Rattle.xhstt_completion.specs.Completed.{part_of, missing_parts, meet_of, tasks_of, meets_at, tasks_at}
-use Rattle.xhstt_completion.specs.Entries.{duration_of, start_of, entries_of}
+use Rattle.xhstt_completion.specs.Entries.{duration_of, entries_of}
 use Rattle.xhstt_completion.proofs.ChainLemmas.{IsNext, chain-next, chain-over}
 use Rattle.xhstt_completion.proofs.PartsLemmas.{parts_left, parts_left-cons, append-step}
 use Rattle.xhstt_shape.specs.declared.records.RawEntry.{RawEntry}
@@ -49,7 +49,8 @@ pub left-more : (p : Parts) (entries : List RawEntry) (nexts : List ℕ) (event 
     → more_tasks ≡ tasks ++ tasks_of p event (slot, part_of p event n.entry)
     → IsLeft p entries nexts event e (get_or nexts at 0) (slot + 1) (left - duration_of event n.entry)
     more_meets more_tasks old_meets old_tasks
-left-more p entries nexts event e at slot left meets more_meets tasks more_tasks old_tasks old_meets l n positive one_meet
+left-more p entries nexts event e at slot left meets more_meets tasks more_tasks old_tasks old_meets l n positive
+    one_meet
     one_task =
     let part = part_of p event n.entry in
     let d = duration_of event n.entry in
@@ -123,4 +124,8 @@ pub here : (entries : List RawEntry) (nexts : List ℕ) (at : ℕ) (rest : List 
     → IsHere entries nexts at rest entry
 here entries nexts at rest entry chain l is =
     let next = chain-next entries nexts at rest chain l in
-    record { next = next; same = same_Some next.entry entry (sym next.found ∙ slice_get_read entries _ at entry refl l is) }
+    record {
+      next = next;
+      same = same_Some next.entry entry
+          (sym next.found ∙ slice_get_read entries _ at entry refl l is);
+    }

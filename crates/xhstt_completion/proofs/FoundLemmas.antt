@@ -1,13 +1,15 @@
 -- What the entries name, one entry after the other.
 use Rattle.std.proofs.Common.{ℕ, ◌≡◌, ◌∙◌, ◌+◌, ◌-◌, ◌<◌, ◌≤◌, Option, Some, None, IsSome, List, [], ◌∷◌, ◌++◌, length}
-use Rattle.std.proofs.Common.{map, take, drop, get_or, slice_get, refl, sym, ap, subst, arith, zero, suc, All, filter_map}
+use Rattle.std.proofs.Common.{map, take, drop, get_or, slice_get, refl, sym, ap, subst, arith, zero, suc, All}
+use Rattle.std.proofs.Common.{filter_map}
 use Rattle.std.proofs.Common.{length-append, inl, inr}
 use Rattle.std.proofs.Common.{true, if◌then◌else◌, find}
 use Rattle.std.specs.Option.{option_map, option_and_then}
 use Rattle.std.proofs.lemmas.List.{length-map}
 use Rattle.std.proofs.lemmas.List.Elements.{All-head, All-tail}
 use Rattle.std.proofs.lemmas.List.Quantifiers.{position-Some}
-use Rattle.std.proofs.lemmas.Option.{none-some, slice_get_within, slice_get_read, slice_get-get_or, same_Some, slice_get_cases}
+use Rattle.std.proofs.lemmas.Option.{none-some, slice_get_within, slice_get_read, slice_get-get_or, same_Some}
+use Rattle.std.proofs.lemmas.Option.{slice_get_cases}
 use Rattle.khe_base.proofs.ListLemmas.{there}
 use Rattle.std.specs.Str.{bytes_eq}
 use Rattle.std.specs.List.{cons_option}
@@ -146,7 +148,8 @@ found-more p entries named given more entry n old at is i e m at_e at_m = elim (
       sym (slice_get-append_right named (n ∷ []) i past.0) ∙ at_m in
       let within : i - length named < 1 = slice_get_within (n ∷ []) (i - length named) m last in
       let here : i ≡ length named = omega (arith, within, past.0) in
-      let same : n ≡ m = same_Some n m (ap (slice_get (n ∷ [])) (let z : 0 ≡ i - length named = omega (arith, here) in z)
+      let same : n ≡ m = same_Some n m (ap (slice_get (n ∷ []))
+      (let z : 0 ≡ i - length named = omega (arith, here) in z)
       ∙ last) in
       let same_entry : entry ≡ e = same_Some entry e (sym at ∙ ap (slice_get entries) (sym here) ∙ at_e) in
       subst (λ x. IsFound p (given ++ more) x m) same_entry (subst (λ x. IsFound p (given ++ more) entry x) same is))

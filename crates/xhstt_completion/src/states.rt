@@ -42,7 +42,14 @@ pub(crate) fn state_of(
     let chains = chained(alloc, inst, entries, found.named.as_slice())?;
     let mut timetable = room(alloc, inst, entries.len())?;
     for event in 0..inst.events() {
-        push_event(&mut timetable, inst, EventId(event), entries, found, &chains)?;
+        push_event(
+            &mut timetable,
+            inst,
+            EventId(event),
+            entries,
+            found,
+            &chains,
+        )?;
     }
     let Timetable { meets, tasks } = timetable;
     Ok(Plain {
@@ -103,7 +110,14 @@ fn push_event(
             start: start_of(event, named.time),
         };
         let given = resources_at(found.given.as_slice(), named, entry);
-        push_meet(timetable, inst, event, meet, entry.resources.as_slice(), given)?;
+        push_meet(
+            timetable,
+            inst,
+            event,
+            meet,
+            entry.resources.as_slice(),
+            given,
+        )?;
         slot += 1;
         left -= meet.duration;
         at = chains.nexts[at];

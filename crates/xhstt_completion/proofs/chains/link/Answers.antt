@@ -1,5 +1,5 @@
 -- One more entry is linked.
-use Rattle.std.proofs.Common.{◌≡◌, ◌∙◌, ◌+◌, ◌-◌, ◌<◌, ℕ, None, ap, subst, arith, length, get_or}
+use Rattle.std.proofs.Common.{◌≡◌, ◌∙◌, ◌+◌, ◌-◌, ◌<◌, None, ap, subst, arith, length, get_or}
 use Rattle.std.proofs.lemmas.List.{length-replicate, length-set}
 use Rattle.xhstt_completion.specs.declared.lookups.Named.{Named}
 use Rattle.xhstt_completion.proofs.ChainLemmas.{AreChains, chains-none, chains-more}
@@ -22,7 +22,8 @@ pub bounds-firsts-event : goal.bounds-firsts-event
 bounds-firsts-event c =
     let k = c.loop-at.at - 1 in
     let low : k < length c.args._entries.now = omega (arith, c.loop-at.invariant.within, c.loop-at-test.true) in
-    let is = linked c.args._inst.now c.args._entries.now c.args.named.now k (record { event = record { 0 = 0 }; time = None; first = 0 })
+    let is = linked c.args._inst.now c.args._entries.now c.args.named.now k
+    (record { event = record { 0 = 0 }; time = None; first = 0 })
     c.requires.many c.requires.events low in
     omega (arith, is.below, c.loop-at.invariant.firsts)
 
@@ -30,7 +31,8 @@ pub bounds-firsts-event-in-loop-at : goal.bounds-firsts-event-in-loop-at
 bounds-firsts-event-in-loop-at c =
     let k = c.loop-at.at - 1 in
     let low : k < length c.args._entries.now = omega (arith, c.loop-at.invariant.within, c.loop-at-test.true) in
-    let is = linked c.args._inst.now c.args._entries.now c.args.named.now k (record { event = record { 0 = 0 }; time = None; first = 0 })
+    let is = linked c.args._inst.now c.args._entries.now c.args.named.now k
+    (record { event = record { 0 = 0 }; time = None; first = 0 })
     c.requires.many c.requires.events low in
     omega (arith, is.below, c.loop-at.invariant.firsts)
 

@@ -58,7 +58,8 @@ overflow_sub-used c =
     let old = c.loop-number.left.items in
     let within : e.0 < length old = subst (λ k. e.0 < k) (sym c.loop-number.invariant.many)
     c.named_at-named.ensures.there in
-    (balanced c.args.inst.now (take c.loop-number.number c.args.entries.now) old e.0 c.index-rest.result.now event within
+    (balanced c.args.inst.now (take c.loop-number.number c.args.entries.now) old e.0 c.index-rest.result.now event
+    within
     c.index-rest.ensures (c.loop-number.invariant.left e.0 event c.event-event.ensures)).0
 
 pub returns-in-Some : goal.returns-in-Some

@@ -1,5 +1,5 @@
 -- The solution that was found has the number.
-use Rattle.std.proofs.Common.{sym, ◌∙◌}
+use Rattle.std.proofs.Common.{sym}
 use Rattle.xhstt_completion.proofs.Resolved.{one}
 use Rattle.xhstt_completion.proofs.completion.solution.Goals as goal
 

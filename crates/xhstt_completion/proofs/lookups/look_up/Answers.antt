@@ -1,5 +1,5 @@
 -- What was found stands last.
-use Rattle.std.proofs.Common.{◌≡◌, ◌∙◌, ◌++◌, sym, ap, filter_map}
+use Rattle.std.proofs.Common.{◌∙◌, ◌++◌, sym, ap, filter_map}
 use Rattle.xhstt_completion.specs.Entries.{resource_of}
 use Rattle.xhstt_completion.specs.declared.lookups.Named.{Named}
 use Rattle.xhstt_completion.proofs.FoundLemmas.{found-last}
@@ -18,7 +18,8 @@ returns-clause-named c =
     } in (
       n,
       c.in_ok-push.ensures.items,
-      found-last p given _ entry n c.event_of-event.ensures.named (sym c.time_of-time.ensures) (c.len-first.ensures ∙ c.args.found.now.given.ok.0)
+      found-last p given _ entry n c.event_of-event.ensures.named (sym c.time_of-time.ensures)
+          (c.len-first.ensures ∙ c.args.found.now.given.ok.0)
           c.requires.resources
           (c.in_ok-push_resources.ensures
           ∙ ap (λ xs. given ++ filter_map (resource_of p) xs) c.as_slice-resources.ensures),

@@ -1,12 +1,9 @@
 -- One more entry.
-use Rattle.std.proofs.Common.{◌≡◌, ◌∙◌, ◌+◌, ◌∷◌, ◌++◌, [], ℕ, Some, ap, sym, subst, arith, length, slice_get, refl}
+use Rattle.std.proofs.Common.{◌≡◌, ◌∙◌, ◌+◌, ◌∷◌, ◌++◌, [], Some, ap, sym, subst, arith, length, slice_get, refl}
 use Rattle.std.proofs.Common.{length-append, filter_map}
 use Rattle.std.proofs.lemmas.Option.{slice_get_read}
-use Rattle.khe_base.specs.declared.numbers.ResourceId.{ResourceId}
-use Rattle.std.proofs.Common.{List}
 use Rattle.xhstt_completion.specs.Entries.{resource_of}
 use Rattle.xhstt_completion.specs.Found.{AreFound, IsFound}
-use Rattle.xhstt_completion.specs.declared.lookups.Named.{Named}
 use Rattle.xhstt_completion.proofs.FoundLemmas.{found-more, found-none}
 use Rattle.xhstt_completion.proofs.lookups.looked_up.Goals as goal
 

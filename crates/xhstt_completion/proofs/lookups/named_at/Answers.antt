@@ -1,5 +1,5 @@
 -- It was looked up.
-use Rattle.std.proofs.Common.{ℕ, ◌≡◌, ◌<◌, Some, arith, slice_get, length, refl}
+use Rattle.std.proofs.Common.{◌≡◌, ◌<◌, Some, arith, slice_get, length, refl}
 use Rattle.std.proofs.lemmas.Option.{slice_get_read}
 use Rattle.khe_base.proofs.ListLemmas.{there}
 use Rattle.xhstt_completion.proofs.FoundLemmas.{event-below}

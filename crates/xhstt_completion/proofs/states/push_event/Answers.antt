@@ -1,11 +1,10 @@
 -- One part more.
-use Rattle.std.proofs.Common.{ℕ, ◌≡◌, ◌∙◌, ◌+◌, ◌-◌, ◌<◌, ◌≤◌, ◌++◌, ◌∷◌, [], Some, sym, ap, subst, arith, map, length}
+use Rattle.std.proofs.Common.{◌≡◌, ◌∙◌, ◌+◌, ◌-◌, ◌<◌, ◌≤◌, ◌++◌, ◌∷◌, [], Some, sym, ap, subst, arith, map, length}
 use Rattle.std.proofs.Common.{get_or, take, drop}
 use Rattle.std.specs.List.{enumerate_from}
 use Rattle.std.specs.Option.{option_or}
 use Rattle.std.proofs.lemmas.List.{get_or_default}
 use Rattle.std.proofs.lemmas.Option.{same_Some}
-use Rattle.khe_instance.specs.declared.parts.EventInfo.{EventInfo}
 use Rattle.khe_instance.specs.declared.states.Meet.{Meet}
 use Rattle.xhstt_completion.specs.Chains.{IsChain}
 use Rattle.xhstt_completion.specs.Completed.{part_of, meet_of, task_of, meets_at, tasks_at}
@@ -58,7 +57,8 @@ push_meet-requires-clause-resources c =
     let p = c.args.inst.now in
     let entry = c.index-entries-at.result in
     let n = c.index-named.result.now in
-    let is = found-there p c.args.entries.now c.args.found.now.named.items c.args.found.now.given.items c.loop-at.at entry
+    let is = found-there p c.args.entries.now c.args.found.now.named.items c.args.found.now.given.items c.loop-at.at
+    entry
     n c.requires.each c.requires.many c.loop-at-test.true c.index-entries-at.is c.index-named.ensures in
     ap (map (resource_of p)) c.as_slice-in-loop-at.ensures ∙ is.resources
     ∙ ap (map (λ x. Some x)) (sym (c.resources_at-given.ensures

@@ -1,0 +1,67 @@
+//! Solutions by their numbers, which are counted over all groups of an archive.
+
+ghost use Rattle.std.specs.Prelude.{◌≡◌, IfSome, Ok, Some};
+ghost use Rattle.xhstt_completion.specs.Numbered.{parts_at};
+ghost use Rattle.xhstt_resolve.specs.Resolved as resolving;
+ghost use Rattle.xhstt_shape.specs.WellFormed.{IsInForm};
+
+use crate::worked::{Worked, read};
+use khe_base::TimeId;
+use khe_instance::Instance;
+use std::alloc::Global;
+use std::test::Fail;
+use xhstt_completion::solution;
+use xhstt_resolve::Resolved;
+
+/// An archive of two groups. Its first solution starts the event at the third time, its second at the
+/// second time, and its third does not start it.
+const GROUPS: &str = r#"<HighSchoolTimetableArchive>
+<Instances><Instance Id="J">
+<Times><Time Id="t0"/><Time Id="t1"/><Time Id="t2"/></Times>
+<Events><Event Id="E"><Duration>1</Duration></Event></Events>
+</Instance></Instances>
+<SolutionGroups>
+<SolutionGroup Id="G">
+<Solution Reference="J"><Events><Event Reference="E"><Time Reference="t2"/></Event></Events></Solution>
+</SolutionGroup>
+<SolutionGroup Id="H">
+<Solution Reference="J"><Events><Event Reference="E"><Time Reference="t1"/></Event></Events></Solution>
+<Solution Reference="J"/>
+</SolutionGroup>
+</SolutionGroups>
+</HighSchoolTimetableArchive>
+"#;
+
+/// The instance of the solution with this number, if there is one.
+fn instance_of(resolved: &Resolved, number: u32) -> Option<&Instance>
+    ensures { IfSome result (λ inst. parts_at resolved.now number ≡ Some inst.now) }
+{
+    let instance = resolved.of.as_slice().get(number as usize)?;
+    resolved.instances.as_slice().get(*instance as usize)
+}
+
+/// Whether the solution with this number has one meet, which starts so.
+fn starts_at(alloc: Global, worked: &Worked, number: u32, start: Option<TimeId>) -> bool
+    requires formed { IsInForm worked.now.archive }
+    requires resolved { resolving.resolved worked.now.archive ≡ Ok worked.now.resolved }
+{
+    let Some(inst) = instance_of(&worked.resolved, number) else {
+        return false;
+    };
+    let Ok(plain) = solution(alloc, inst, &worked.archive, &worked.resolved, number) else {
+        return false;
+    };
+    match plain.meets.as_slice() {
+        [meet] => meet.start == start,
+        _ => false,
+    }
+}
+
+#[test]
+fn solutions_are_counted_over_groups(rt: HostRuntime) -> Result<(), Fail> {
+    let worked = read(rt.alloc(), GROUPS).ok_or("a fault")?;
+    assert!(rt; starts_at(rt.alloc(), &worked, 0, Some(TimeId(2))));
+    assert!(rt; starts_at(rt.alloc(), &worked, 1, Some(TimeId(1))));
+    assert!(rt; starts_at(rt.alloc(), &worked, 2, None));
+    Ok(())
+}
