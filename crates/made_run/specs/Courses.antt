@@ -10,9 +10,9 @@ use Rattle.script_run.specs.Plays.{Play, begun, play_of, played}
 use Rattle.made_run.specs.declared.running.Counts.{Counts}
 
 pub record Course : Type 0 where
-  play : Play
-  accepted : ℕ
-  refused : ℕ
+  pub play : Play
+  pub accepted : ℕ
+  pub refused : ℕ
 
 -- a run that begins with a state
 abbrev pub started : State → Course

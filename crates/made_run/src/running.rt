@@ -1,6 +1,6 @@
 //! The run.
 
-ghost use Rattle.std.specs.Prelude.{◌≡◌, ◌+◌, ◌*◌, ◌<◌, ◌≤◌, ◌^◌, [], IfOk, OnOk};
+ghost use Rattle.std.specs.Prelude.{◌≡◌, ◌+◌, ◌-◌, ◌<◌, ◌≤◌, ◌^◌, [], IfOk, OnOk};
 ghost use Rattle.edit_script.specs.declared.commands.Command.TheVariants as command;
 ghost use Rattle.demand_families.specs.Shortages.{deficit_of};
 ghost use Rattle.job_generator.specs.Made.{state_after};

@@ -4,5 +4,5 @@ use Rattle.made_run.proofs.marks.end.Goals as goal
 
 pub returns-clause-course : goal.returns-clause-course
 returns-clause-course g c = λ n.
-    let e = c.end-_done.ensures in
-    end_course c.args.engine.now.parts c.args.engine.now c.end-_done.new.self n e.state e.saved
+    let e = c.end-done.ensures in
+    end_course c.args.engine.now.parts c.args.engine.now c.end-done.new.self n e.state e.saved

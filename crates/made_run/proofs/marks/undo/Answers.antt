@@ -4,6 +4,6 @@ use Rattle.made_run.proofs.marks.undo.Goals as goal
 
 pub returns-clause-course : goal.returns-clause-course
 returns-clause-course g c = λ n.
-    let e = c.undo-_done.ensures in
-    undo_course c.args.engine.now.parts c.args.engine.now c.undo-_done.new.self c.undo-_done.result n e.refused e.only
+    let e = c.undo-done.ensures in
+    undo_course c.args.engine.now.parts c.args.engine.now c.undo-done.new.self c.undo-done.result n e.refused e.only
     e.ok e.err

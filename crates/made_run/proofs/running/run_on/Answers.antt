@@ -4,8 +4,8 @@ use Rattle.made_run.specs.Commands.{drawn_commands}
 use Rattle.made_run.proofs.RunLaws.{same_line}
 use Rattle.made_run.proofs.running.run_on.Goals as goal
 
-pub returns-clause-eq : goal.returns-clause-eq
-returns-clause-eq g c =
+pub returns : goal.returns
+returns g c =
     let p = c.args.engine.now.parts in
     same_line c.line_on.result c.args.job.seed c.args.job.size p c.run_all.new.engine.parts
     (course p (started c.args.engine.now.state)
