@@ -9,7 +9,9 @@ use Rattle.khe_told.specs.declared.edits.Edit.{Edit}
 use Rattle.khe_told.specs.declared.refusals.Refusal.{Refusal}
 use Rattle.khe_told.specs.declared.refusals.Refusal.TheVariants.{NoMark, MarksFull}
 use Rattle.khe_engine.specs.States.{edited, refusal}
-use Rattle.khe_engine.specs.Worlds.{Saved, World, closed, fresh, grown}
+use Rattle.khe_engine.specs.Worlds.{Saved, World, IsFaultOf, closed, fresh, grown}
+use Rattle.khe_engine.specs.declared.faults.EditFault.{EditFault}
+use Rattle.khe_engine.specs.declared.faults.EditFault.TheVariants.{Refused}
 use Rattle.edit_script.specs.declared.commands.Command.{Command}
 use Rattle.edit_script.specs.declared.commands.Command.TheVariants as command
 use Rattle.script_run.specs.Plays.{Play, play_of, played}
@@ -87,6 +89,11 @@ unfolding after
 refused_course p a b e x n m r s g same more =
     (λ i. record { play = played_refused p a b e x r s g i; accepted = same i; refused = more i })
     ∙ ap (λ (o : Option Refusal). counted o (played p (play_of a) (command.Edit e)) (course_of a n)) (sym r)
+
+-- why an edit was not made, where it was refused
+pub fault_refused : (o : Option Refusal) (f : EditFault) (x : Refusal) → IsFaultOf o f → f ≡ Refused x → o ≡ Some x
+fault_refused (Some r) f x h e = let same : r ≡ x = cc in ap Some same
+fault_refused None f x h e = let apart : ⊥ = cc in absurd apart
 
 -- an edit with the marks before and after it
 around_course : (p : Parts) (c : Course) (n : ℕ) (e : Edit)
