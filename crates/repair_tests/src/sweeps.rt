@@ -9,15 +9,23 @@ use std::alloc::Global;
 use std::test::Fail;
 use std::thread::Threads;
 
-/// What is run on the small archive, and what it writes.
+/// What is run, and what it writes.
 #[derive(Clone, Copy)]
 struct Run {
-    words: &'static [&'static str],
+    call: Call<'static>,
     text: &'static [Piece],
 }
 
+const FILES: &[File<'static>] = &[File {
+    name: "archive",
+    text: SMALL,
+}];
+
 const REPAIR: Run = Run {
-    words: &["repair", "archive", "0", "--depth", "1", "--budget", "1000"],
+    call: Call {
+        words: &["repair", "archive", "0", "--depth", "1", "--budget", "1000"],
+        files: FILES,
+    },
     text: &[
         Once(FRONT),
         Once(REPAIRED),
@@ -26,19 +34,22 @@ const REPAIR: Run = Run {
 };
 
 const SOLVE: Run = Run {
-    words: &[
-        "solve",
-        "archive",
-        "0",
-        "--depth",
-        "1",
-        "--budget",
-        "1",
-        "--jobs",
-        "3",
-        "--workers",
-        "2",
-    ],
+    call: Call {
+        words: &[
+            "solve",
+            "archive",
+            "0",
+            "--depth",
+            "1",
+            "--budget",
+            "1",
+            "--jobs",
+            "3",
+            "--workers",
+            "2",
+        ],
+        files: FILES,
+    },
     text: &[
         Once(FRONT),
         Once(SPENT),
@@ -70,25 +81,17 @@ fn made<R: Threads + Sync>(
     reads: bool,
 ) -> Result<Option<u64>, NoMemory> {
     let text = text_of(alloc, run.text)?;
-    made_with(rt, alloc, run.words, &text, piece, reads)
+    made_with(rt, alloc, run.call, &text, piece, reads)
 }
 
 fn made_with<R: Threads + Sync>(
     rt: &R,
     alloc: Global,
-    words: &[&str],
+    call: Call<'_>,
     text: &Text,
     piece: u32,
     reads: bool,
 ) -> Result<Option<u64>, NoMemory> {
-    let files = [File {
-        name: "archive",
-        text: SMALL,
-    }];
-    let call = Call {
-        words,
-        files: &files,
-    };
     let end = End {
         status: 0,
         text: text.as_str(),
