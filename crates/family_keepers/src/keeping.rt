@@ -1,0 +1,49 @@
+use crate::keepers::Keeper;
+use khe_base::{MonitorId, NoMemory, both};
+use khe_instance::{Instance, Kind};
+use khe_told::{Change, Family, Steps, Tally, Told};
+use std::alloc::Global;
+use std::sync::ledger::Ledger;
+
+/// The family of a keeper: what was told, in one place for all that the keeper is made of.
+#[derive(Drop)]
+pub struct Keeping<K> {
+    told: Told,
+    keeper: K,
+}
+
+impl<K: Keeper + Drop> Family for Keeping<K> {
+    ghost serves_kind = { K.serves_kind };
+
+    ghost IsWellJoined = { K.IsWellJoined };
+
+    ghost told = { λ f. f.told };
+
+    ghost IsOf = { λ f p. K.Keeps f.keeper p f.told };
+
+    fn open(alloc: Global, inst: &Instance) -> Result<Keeping<K>, NoMemory> {
+        let told = Told::open(alloc, inst);
+        let keeper = K::open(alloc, inst);
+        let (told, keeper) = both(told, keeper)?;
+        Ok(Keeping { told, keeper })
+    }
+
+    fn serves(&self, kind: Kind) -> bool {
+        self.keeper.serves(kind)
+    }
+
+    fn note<Y: Tally, L: Ledger>(
+        &mut self,
+        inst: &Instance,
+        change: Change,
+        tally: &mut Y,
+        steps: &mut Steps<L>,
+    ) {
+        self.keeper.follow(inst, &self.told, change, tally, steps);
+        self.told.note(inst, change);
+    }
+
+    fn deviation(&self, inst: &Instance, monitor: MonitorId) -> u64 {
+        self.keeper.deviation(inst, monitor)
+    }
+}

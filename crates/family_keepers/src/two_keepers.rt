@@ -1,0 +1,54 @@
+use crate::keepers::Keeper;
+use khe_base::{MonitorId, NoMemory};
+use khe_instance::{Instance, Kind};
+use khe_told::{Change, Steps, Tally, Told};
+use std::alloc::Global;
+use std::sync::ledger::Ledger;
+
+/// Two keepers as one, which serves the kinds of both. It is well joined where both are and no kind is
+/// served by both.
+#[derive(Drop)]
+pub struct TwoKeepers<A, B> {
+    first: A,
+    second: B,
+}
+
+impl<A: Keeper + Drop, B: Keeper + Drop> Keeper for TwoKeepers<A, B> {
+    ghost use Rattle.std.specs.Prelude.{◌||◌};
+    ghost use Rattle.khe_told.specs.Agreement.{AreApart};
+
+    ghost serves_kind = { λ k. A.serves_kind k || B.serves_kind k };
+
+    ghost IsWellJoined = { A.IsWellJoined × B.IsWellJoined × AreApart A.serves_kind B.serves_kind };
+
+    ghost Keeps = { λ k p s. A.Keeps k.first p s × B.Keeps k.second p s × AreApart A.serves_kind B.serves_kind };
+
+    fn open(alloc: Global, inst: &Instance) -> Result<TwoKeepers<A, B>, NoMemory> {
+        let first = A::open(alloc, inst)?;
+        let second = B::open(alloc, inst)?;
+        Ok(TwoKeepers { first, second })
+    }
+
+    fn serves(&self, kind: Kind) -> bool {
+        self.first.serves(kind) || self.second.serves(kind)
+    }
+
+    fn follow<Y: Tally, L: Ledger>(
+        &mut self,
+        inst: &Instance,
+        told: &Told,
+        change: Change,
+        tally: &mut Y,
+        steps: &mut Steps<L>,
+    ) {
+        self.first.follow(inst, told, change, tally, steps);
+        self.second.follow(inst, told, change, tally, steps);
+    }
+
+    fn deviation(&self, inst: &Instance, monitor: MonitorId) -> u64 {
+        if self.first.serves(inst.monitor(monitor).kind) {
+            return self.first.deviation(inst, monitor);
+        }
+        self.second.deviation(inst, monitor)
+    }
+}
