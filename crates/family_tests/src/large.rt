@@ -3,7 +3,6 @@
 use crate::all_kinds::ALL_KINDS;
 use crate::archives::resolved_of;
 use crate::bench::Bench;
-use crate::families::Families;
 use crate::moves::{Move, stands_at};
 use event_monitors::{
     AssignResource, AssignTime, DistributeSplitEvents, PreferResources, PreferTimes, SplitEvents,
@@ -16,6 +15,7 @@ use resource_monitors::{
     AvoidClashes, AvoidUnavailableTimes, ClusterBusyTimes, LimitBusyTimes, LimitIdleTimes,
 };
 use set_monitors::{AvoidSplitAssignments, SpreadEvents};
+use sixteen_families::Families;
 use std::alloc::Global;
 use std::test::Fail;
 use workload_monitors::LimitWorkload;

@@ -10,7 +10,6 @@ mod bench;
 #[cfg(test)]
 mod event_rows;
 #[cfg(test)]
-mod families;
 mod fitting;
 #[cfg(test)]
 mod large;

@@ -2,10 +2,10 @@
 
 use crate::archives::{Texts, resolved_of};
 use crate::bench::Bench;
-use crate::families::Families;
 use khe_base::{MeetId, NoMemory, ResourceId, TaskId, TimeId};
 use khe_instance::Instance;
 use khe_told::{Change, Family};
+use sixteen_families::Families;
 use std::alloc::Global;
 use xhstt_resolve::Resolved;
 

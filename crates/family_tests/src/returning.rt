@@ -3,11 +3,11 @@
 use crate::all_kinds::ALL_KINDS;
 use crate::archives::resolved_of;
 use crate::bench::Bench;
-use crate::families::Families;
 use crate::moves::Move;
 use khe_base::NoMemory;
 use khe_instance::Instance;
 use khe_told::Family;
+use sixteen_families::Families;
 use std::alloc::Global;
 use std::test::Fail;
 use xhstt_resolve::Resolved;

@@ -3,7 +3,6 @@
 #![tactic(auto)]
 
 mod checking;
-mod families;
 mod making;
 mod outcomes;
 mod program;

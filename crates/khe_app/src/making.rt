@@ -12,7 +12,6 @@ ghost use Rattle.khe_app.specs.Ready.{IsReady};
 ghost use Rattle.khe_app.specs.Words.{making, running};
 
 use crate::checking::put_spelling;
-use crate::families::Families;
 use crate::program::{Status, put, put_refusal};
 use crate::reading::{Unread, unresolved};
 use crate::starting::{begin, instance_numbered};
@@ -21,6 +20,7 @@ use khe_base::NoMemory;
 use khe_instance::{Instance, Plain};
 use khe_io::Sink;
 use made_run::{Job, run_line};
+use sixteen_families::Families;
 use std::alloc::Global;
 use xhstt_resolve::{Resolved, resolve};
 use xhstt_shape::Archive;

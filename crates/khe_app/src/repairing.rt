@@ -11,7 +11,6 @@ ghost use Rattle.khe_app.specs.Outcome.{IsRepairIn, IsRepairOf, start_of};
 ghost use Rattle.khe_app.specs.Ready.{IsReady};
 ghost use Rattle.khe_app.specs.Words.{repairing};
 
-use crate::families::Families;
 use crate::program::{Answer, Status, Stop, answer_to, put_refusal};
 use crate::reading::{ReadArchive, Unread};
 use crate::starting::{begin, instance_numbered};
@@ -19,6 +18,7 @@ use khe_base::NoMemory;
 use khe_instance::{Instance, Plain};
 use khe_io::{Shelf, Sink};
 use repair_run::{Mended, mend, send_repaired};
+use sixteen_families::Families;
 use std::alloc::Global;
 use xhstt_shape::Archive;
 use xhstt_writer::SendFault;

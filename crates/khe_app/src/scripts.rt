@@ -6,7 +6,6 @@ ghost use Rattle.khe_instance.specs.States.{IsValid};
 ghost use Rattle.khe_app.specs.Ends.{Written, status_after};
 ghost use Rattle.khe_app.specs.Outcome.{IsRunOf};
 
-use crate::families::Families;
 use crate::program::Status;
 use demand_families::WithDemands;
 use khe_base::NoMemory;
@@ -14,6 +13,7 @@ use khe_engine::Engine;
 use khe_instance::{Instance, Plain};
 use khe_io::Sink;
 use script_run::{Cut, Shortages, asks_often, run};
+use sixteen_families::Families;
 use std::alloc::Global;
 
 /// The greatest number of bytes of a script: 16 MiB.

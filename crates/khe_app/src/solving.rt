@@ -15,7 +15,6 @@ ghost use Rattle.khe_app.specs.Refusals as refusals;
 ghost use Rattle.khe_app.specs.Words.{solving};
 ghost use Rattle.khe_app.specs.declared.refusals.Refusal.{Refusal as Why};
 
-use crate::families::Families;
 use crate::program::{Answer, Status, Stop, answer_to, put_refusal};
 use crate::reading::{ReadArchive, Unread};
 use crate::starting::{begin, instance_numbered};
@@ -24,6 +23,7 @@ use khe_instance::{Instance, Plain};
 use khe_io::{Gate, Shelf, Sink};
 use repair_pool::Solved;
 use repair_run::send_solved;
+use sixteen_families::Families;
 use std::alloc::Global;
 use std::thread::Threads;
 use xhstt_shape::Archive;

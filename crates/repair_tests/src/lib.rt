@@ -11,8 +11,6 @@ mod commands;
 #[cfg(test)]
 mod ends;
 #[cfg(test)]
-mod families;
-#[cfg(test)]
 mod gates;
 #[cfg(test)]
 mod repairs;

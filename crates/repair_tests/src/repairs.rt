@@ -6,13 +6,13 @@ ghost use Rattle.khe_instance.specs.States.{IsValid};
 
 use crate::archives::{CROSSED, SMALL, SPLIT};
 use crate::cases::{Case, OF_CROSSED, OF_SMALL, OF_SPLIT};
-use crate::families::Families;
 use crate::worked::{Worked, read, state_of};
 use ejection_repair::{Outcome, repair};
 use khe_base::{NoMemory, Totals};
 use khe_engine::Engine;
 use khe_instance::{Instance, Plain};
 use khe_told::{Blank, Family, Steps};
+use sixteen_families::Families;
 use std::alloc::Global;
 use std::marker::Brand;
 use std::sync::ledger::Ledger;

@@ -5,7 +5,6 @@ ghost use Rattle.khe_engine.specs.Values.{ServesAll};
 ghost use Rattle.khe_instance.specs.States.{IsValid};
 
 use crate::archives::{SMALL, SPLIT};
-use crate::families::Families;
 use crate::gates::Meeting;
 use crate::worked::{Worked, read, state_of};
 use khe_base::{NoMemory, Totals};
@@ -14,6 +13,7 @@ use khe_io::{Gate, OpenGate};
 use khe_told::Family;
 use parallel_repair::solve;
 use repair_pool::{Fate, Solved};
+use sixteen_families::Families;
 use std::alloc::Global;
 use std::thread::Threads;
 

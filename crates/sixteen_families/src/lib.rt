@@ -1,0 +1,39 @@
+//! The families of all sixteen kinds of monitors as one, as the engine has them.
+#![tactic(auto)]
+
+use event_monitors::{
+    Counted, Misfilled, Misplaced, OfDuration, OneOf, Split, Sum, Unfilled, Unplaced,
+};
+use family_keepers::{Keeping, TwoKeepers};
+use khe_base::NoMemory;
+use khe_instance::Instance;
+use khe_told::Family;
+use link_monitors::Links;
+use order_monitors::OrderEdges;
+use set_monitors::{Holders, Starts};
+use std::alloc::Global;
+use workload_monitors::ResourceKeepers;
+
+/// The kinds that only a change of a duration may change.
+type OfDurations = Counted<OneOf<Split, Sum<OfDuration>>>;
+
+/// The kinds at places of events.
+type OfTasks = Counted<OneOf<Sum<Unfilled>, Sum<Misfilled>>>;
+
+/// The kinds at events that look at starts, and those at groups of events.
+type OfGroups = Counted<
+    OneOf<OneOf<Starts, Links>, OneOf<Holders, OneOf<Sum<Unplaced>, Sum<Misplaced>>>>,
+>;
+
+/// The kinds at events, at places and groups of them, and at pairs. Kinds that hear the same changes share one
+/// list of an event's monitors, which is looked up once for each change.
+type OfEvents = TwoKeepers<OfGroups, TwoKeepers<OfTasks, TwoKeepers<OfDurations, OrderEdges>>>;
+
+/// All of them, over one told state. They are well joined.
+pub type Families = Keeping<TwoKeepers<OfEvents, ResourceKeepers>>;
+
+/// Opens them: that they are well joined is what this call requires. No program calls it.
+#[allow(dead_code)]
+fn open_all(alloc: Global, inst: &Instance) -> Result<Families, NoMemory> {
+    Families::open(alloc, inst)
+}
