@@ -1,13 +1,13 @@
 -- How a run ends, from what was written of an outcome's text.
 use Rattle.std.proofs.Common.{ℕ, ◌≡◌, ◌⊎◌, inl, inr, Bool, List, [], Option, Some, None, IfSome, IsTrue, sym, ap, subst}
-use Rattle.std.proofs.Common.{◌∙◌, refl, encode_utf8_all, arith}
+use Rattle.std.proofs.Common.{◌∙◌, refl, encode_utf8_all, arith, true, false}
 use Rattle.std.proofs.lemmas.List.{append-nil}
 use Rattle.khe_io.specs.Faults.{Rose, Took, TookFront}
 use Rattle.khe_io.specs.Shelf.{IsMissing, StandsUnder}
 use Rattle.khe_app.specs.Answers.{reading_of, IsAnswerOf, IsOnlyAnswerOf}
 use Rattle.khe_app.specs.Ends.{Holdings, EndedOf, CutOffOf, LacksOf, IsDecided, IsEnd, Written}
 use Rattle.khe_app.specs.Outcome.{Reading, evaluable, refused, IsAnswerTo, IsOutcomeOf, IsReadingOf, status_of, text_of}
-use Rattle.khe_app.specs.Words.{Asked, asked, evaluating}
+use Rattle.khe_app.specs.Words.{Asked, asked, evaluating, is_read}
 use Rattle.khe_app.specs.declared.program.Answer.{Answer}
 
 -- what stands under a name leads to the answer
@@ -20,6 +20,14 @@ pub stands-only : (h : Holdings) (name bytes : List ℕ) (answer : Answer) → S
     → IsOnlyAnswerOf (Some bytes) answer → IfSome h (λ under. IsOnlyAnswerOf (under name) answer)
 stands-only None name bytes answer stands is = tt
 stands-only (Some under) name bytes answer stands is = subst (λ o. IsOnlyAnswerOf o answer) (sym stands) is
+
+-- where something is read, nothing is said of what stays where nothing is
+pub not_unread : {P : Type 0} (o : Option Asked) (a : Asked) → o ≡ Some a → is_read (Some a) ≡ true
+    → is_read o ≡ false → P
+not_unread {P} o a is read unread = let g : ⊥ = cc in absurd g
+  where
+    absurd : ⊥ → P
+    absurd ()
 
 -- a status of its own
 not_decided : (n : ℕ) → (n ≡ 4) ⊎ (n ≡ 5) ⊎ (n ≡ 6) → IsDecided n → ⊥

@@ -28,6 +28,17 @@ pub data Asked : Type 0 where
   -- the line on the run of the same
   running : ℕ → ℕ → Asked
 
+-- whether anything is read for it: an archive that is made is not, and nothing is for words without a reading
+abbrev pub is_read : Option Asked → Bool
+is_read None = false
+is_read (Some (evaluating archive all)) = true
+is_read (Some (scripting archive number script)) = true
+is_read (Some (checking archive)) = true
+is_read (Some (repairing archive number depth budget)) = true
+is_read (Some (solving archive number depth budget jobs)) = true
+is_read (Some (making seed size)) = false
+is_read (Some (running seed size)) = false
+
 -- a number from 1 to a greatest one, by 1 to 18 digits that write it
 unfoldable pub number_to : ℕ → List ℕ → Option ℕ
 number_to greatest word = option_and_then (λ n. if nat_le 1 n && nat_le n greatest then Some n else None)

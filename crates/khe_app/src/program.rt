@@ -1,4 +1,4 @@
-ghost use Rattle.std.specs.Prelude.{◌≡◌, ◌<◌, ◌≤◌, ◌⊎◌, ◌↔◌, ℕ, Bool, List, None, Some, map, IsTrue, IfOk, IfSome, IsErrOf, length, slice_get, string_bytes, encode_utf8_all};
+ghost use Rattle.std.specs.Prelude.{◌≡◌, ◌<◌, ◌≤◌, ◌⊎◌, ◌↔◌, ℕ, Bool, false, List, None, Some, map, IsTrue, IfOk, IfSome, IsErrOf, length, slice_get, string_bytes, encode_utf8_all};
 ghost use Rattle.khe_base.specs.declared.limits.TheConstants.{ARCHIVE_BYTES};
 ghost use Rattle.khe_io.specs.Faults.{Rose};
 ghost use Rattle.khe_io.specs.Shelf.{IsMissing};
@@ -6,7 +6,7 @@ ghost use Rattle.khe_app.specs.Answers.{reading_of, IsAnswerOf, IsOnlyAnswerOf, 
 ghost use Rattle.khe_app.specs.Ends.{EndedBy, CutOff, Holdings, LacksName, LacksOf, IsDecided, IsEnd, IsStatus, Written};
 ghost use Rattle.khe_app.specs.Outcome.{IsReadingOf, status_of, text_of};
 ghost use Rattle.khe_app.specs.Refusals as refusals;
-ghost use Rattle.khe_app.specs.Words.{asked, evaluating, scripting};
+ghost use Rattle.khe_app.specs.Words.{asked, evaluating, is_read, scripting};
 
 use crate::checking::check;
 use crate::making::{make, make_run};
@@ -152,6 +152,7 @@ pub fn khe<R: Threads + Sync, S: Shelf, K: Sink, G: Gate>(
         → (result.0 ≡ 6) ⊎ EndedBy (map string_bytes words.now) (S.holdings shelf.old) (K.taken out.old) (K.taken out.new) result.0 }
 
     // The devices stay as they were but for what was read and written.
+    ensures unread { is_read (asked (map string_bytes words.now)) ≡ false → shelf.new ≡ shelf.old }
     ensures holdings { S.holdings shelf.new ≡ S.holdings shelf.old }
     ensures shelf_faults { S.faults shelf.old ≤ S.faults shelf.new }
     ensures sound { IsTrue (S.is_sound shelf.old) → IsTrue (S.is_sound shelf.new) }
@@ -173,6 +174,7 @@ fn respond<R: Threads + Sync, S: Shelf, K: Sink, G: Gate>(
     ensures end { IsEnd (asked (map string_bytes words.now)) (S.holdings shelf.old) (S.is_sound shelf.old) (S.faults shelf.old) (S.faults shelf.new) (K.taken out.old) (K.taken out.new) (K.faults out.old) (K.faults out.new) result.0 }
     ensures no_reading { asked (map string_bytes words.now) ≡ None → ((result.0 ≡ 2) ⊎ (result.0 ≡ 5)) × (shelf.new ≡ shelf.old) }
     ensures not_understood { result.0 ≡ 2 → asked (map string_bytes words.now) ≡ None }
+    ensures unread { is_read (asked (map string_bytes words.now)) ≡ false → shelf.new ≡ shelf.old }
     ensures holdings { S.holdings shelf.new ≡ S.holdings shelf.old }
     ensures shelf_faults { S.faults shelf.old ≤ S.faults shelf.new }
     ensures sound { IsTrue (S.is_sound shelf.old) → IsTrue (S.is_sound shelf.new) }

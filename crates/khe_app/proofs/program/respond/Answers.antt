@@ -1,9 +1,9 @@
 -- Words without a reading, and those that name no archive.
-use Rattle.std.proofs.Common.{None, Some, map, string_bytes, ap, ◌∙◌}
+use Rattle.std.proofs.Common.{None, Some, map, string_bytes, ap, ◌∙◌, refl}
 use Rattle.khe_app.specs.Requests.{asked_of}
-use Rattle.khe_app.specs.Words.{making, running}
+use Rattle.khe_app.specs.Words.{asked, making, running}
 use Rattle.khe_app.specs.declared.words.Request.{Request}
-use Rattle.khe_app.proofs.EndsLemmas.{by_words}
+use Rattle.khe_app.proofs.EndsLemmas.{by_words, not_unread}
 use Rattle.khe_app.proofs.program.respond.Goals as goal
 
 pub returns-in-None-clause-end : goal.returns-in-None-clause-end
@@ -37,3 +37,23 @@ returns-in-Some-Run-clause-end g c =
     (g.K.Sink.faults c.make_run.new.out) c.make_run.result.0
     (c.in-Some-Run.ensures.asked ∙ ap (λ (r : Request). Some (asked_of r)) c.in-Some-Run.field-0-is)
     (c.make_run.ensures.end h sound faults)
+
+pub returns-in-Some-Evaluate-clause-unread : goal.returns-in-Some-Evaluate-clause-unread
+returns-in-Some-Evaluate-clause-unread g c = not_unread (asked (map string_bytes c.args.words.now)) _
+    (c.in-Some-Evaluate.ensures.asked ∙ ap (λ (r : Request). Some (asked_of r)) c.in-Some-Evaluate.field-0-is) refl
+
+pub returns-in-Some-Script-clause-unread : goal.returns-in-Some-Script-clause-unread
+returns-in-Some-Script-clause-unread g c = not_unread (asked (map string_bytes c.args.words.now)) _
+    (c.in-Some-Script.ensures.asked ∙ ap (λ (r : Request). Some (asked_of r)) c.in-Some-Script.field-0-is) refl
+
+pub returns-in-Some-Check-clause-unread : goal.returns-in-Some-Check-clause-unread
+returns-in-Some-Check-clause-unread g c = not_unread (asked (map string_bytes c.args.words.now)) _
+    (c.in-Some-Check.ensures.asked ∙ ap (λ (r : Request). Some (asked_of r)) c.in-Some-Check.field-0-is) refl
+
+pub returns-in-Some-Repair-clause-unread : goal.returns-in-Some-Repair-clause-unread
+returns-in-Some-Repair-clause-unread g c = not_unread (asked (map string_bytes c.args.words.now)) _
+    (c.in-Some-Repair.ensures.asked ∙ ap (λ (r : Request). Some (asked_of r)) c.in-Some-Repair.field-0-is) refl
+
+pub returns-in-Some-Solve-clause-unread : goal.returns-in-Some-Solve-clause-unread
+returns-in-Some-Solve-clause-unread g c = not_unread (asked (map string_bytes c.args.words.now)) _
+    (c.in-Some-Solve.ensures.asked ∙ ap (λ (r : Request). Some (asked_of r)) c.in-Some-Solve.field-0-is) refl
