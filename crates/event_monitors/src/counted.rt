@@ -9,7 +9,7 @@ use khe_told::{Change, Steps, Tally, Told};
 use std::alloc::Global;
 use std::sync::ledger::Ledger;
 
-/// A keeper that has a gauge for each monitor that it serves.
+/// A keeper that has a gauge for each monitor that it serves. What was told is lent to it.
 ///
 /// A change turns the gauges of the monitors that name its event, and no other; where there are
 /// none, or where they hear no such change, it takes constant time.
