@@ -1,4 +1,4 @@
--- From gauges and lists to what a family promises.
+-- From gauges and lists to what a keeper promises.
 use Rattle.std.proofs.Common.{ℕ, ◌≡◌, ◌≤◌, ◌<◌, ◌+◌, ◌∙◌, zero, suc, Bool, false, cond, Option, Some, None, List, []}
 use Rattle.std.proofs.Common.{◌∷◌, ◌++◌, ◌⊎◌, inl, inr, length, get_or, set, slice_get, refl, sym, ap, subst, arith}
 use Rattle.std.proofs.Common.{sum_by, count_by, map}

@@ -1,13 +1,14 @@
 use crate::counted::Counted;
 use crate::shares::{Share, changes_tasks};
 use crate::sums::{Sum, Summed};
+use family_keepers::Keeping;
 use khe_base::ResourceId;
 use khe_instance::{Instance, Kind, Rule};
 use khe_told::{Change, Span};
 
 /// The family of Assign Resource: a monitor's deviation is the duration of the tasks at its place
 /// without a resource.
-pub type AssignResource = Counted<Sum<Unfilled>>;
+pub type AssignResource = Keeping<Counted<Sum<Unfilled>>>;
 
 /// A slot counts for the duration of its meet where the place is given nothing.
 #[derive(Drop)]

@@ -1,13 +1,14 @@
 use crate::counted::Counted;
 use crate::shares::{Share, changes_meets};
 use crate::sums::{Sum, Summed};
+use family_keepers::Keeping;
 use khe_base::ResourceId;
 use khe_instance::{Instance, Kind, Rule};
 use khe_told::{Change, Span};
 
 /// The family of Assign Time: a monitor's deviation is the duration of its event's meets without a
 /// start.
-pub type AssignTime = Counted<Sum<Unplaced>>;
+pub type AssignTime = Keeping<Counted<Sum<Unplaced>>>;
 
 /// A slot counts for the duration of its meet where that has no start.
 #[derive(Drop)]

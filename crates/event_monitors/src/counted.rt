@@ -2,24 +2,24 @@ use crate::gauges::Gauge;
 use crate::indexes::Index;
 use crate::posts::gauges_of;
 use crate::reports::report;
-use khe_base::{MonitorId, NoMemory, beside, both};
+use family_keepers::Keeper;
+use khe_base::{MonitorId, NoMemory, beside};
 use khe_instance::{Instance, Kind};
-use khe_told::{Change, Family, Steps, Tally, Told};
+use khe_told::{Change, Steps, Tally, Told};
 use std::alloc::Global;
 use std::sync::ledger::Ledger;
 
-/// A family that has a gauge for each monitor that it serves.
+/// A keeper that has a gauge for each monitor that it serves. What was told is lent to it.
 ///
 /// A change turns the gauges of the monitors that name its event, and no other; where there are
 /// none, or where they hear no such change, it takes constant time.
 #[derive(Drop)]
 pub struct Counted<G> {
-    told: Told,
     index: Index,
     gauges: Vec<G>,
 }
 
-impl<G: Gauge + Drop> Family for Counted<G> {
+impl<G: Gauge + Drop> Keeper for Counted<G> {
     ghost use Rattle.std.specs.Prelude.{◌≡◌, length};
     ghost use Rattle.event_monitors.specs.Posts.{ArePosts, AreListed, AreKept};
 
@@ -27,44 +27,37 @@ impl<G: Gauge + Drop> Family for Counted<G> {
 
     ghost IsWellJoined = { Unit {0} };
 
-    ghost told = { λ f. f.told };
-
-    ghost IsOf = { λ f p. ArePosts p G.serves_kind f.index.posts × AreListed p f.index.posts f.index.lists
-        × (length f.gauges.items ≡ length f.index.posts) × AreKept G.Keeps p f.index.posts f.gauges.items f.told };
+    ghost Keeps = { λ f p s. ArePosts p G.serves_kind f.index.posts × AreListed p f.index.posts f.index.lists
+        × (length f.gauges.items ≡ length f.index.posts) × AreKept G.Keeps p f.index.posts f.gauges.items s };
 
     fn open(alloc: Global, inst: &Instance) -> Result<Counted<G>, NoMemory> {
-        let told = Told::open(alloc, inst);
         let index = Index::open::<G>(alloc, inst)?;
         let gauges = gauges_of(alloc, inst, index.posts.as_slice());
-        let ((told, gauges), index) = beside(both(told, gauges), index)?;
-        Ok(Counted {
-            told,
-            index,
-            gauges,
-        })
+        let (gauges, index) = beside(gauges, index)?;
+        Ok(Counted { index, gauges })
     }
 
     fn serves(&self, kind: Kind) -> bool {
         G::serves(kind)
     }
 
-    fn note<Y: Tally, L: Ledger>(
+    fn follow<Y: Tally, L: Ledger>(
         &mut self,
         inst: &Instance,
+        told: &Told,
         change: Change,
         tally: &mut Y,
         steps: &mut Steps<L>,
     ) {
         if !G::hears(change) {
-            self.told.note(inst, change);
             return;
         }
-        let event = self.told.event(change.meet());
+        let event = told.event(change.meet());
         let list = self.index.lists.as_slice()[event.0 as usize].as_slice();
         let posts = self.index.posts.as_slice();
         report(
             inst,
-            &self.told,
+            told,
             change,
             posts,
             list,
@@ -72,7 +65,6 @@ impl<G: Gauge + Drop> Family for Counted<G> {
             tally,
             steps,
         );
-        self.told.note(inst, change);
     }
 
     fn deviation(&self, inst: &Instance, monitor: MonitorId) -> u64 {

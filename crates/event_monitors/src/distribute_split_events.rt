@@ -1,13 +1,14 @@
 use crate::counted::Counted;
 use crate::shares::{Share, changes_durations};
 use crate::sums::{Sum, Summed};
+use family_keepers::Keeping;
 use khe_base::{ResourceId, count_out};
 use khe_instance::{Instance, Kind, Rule};
 use khe_told::{Change, Span};
 
 /// The family of Distribute Split Events: a monitor's deviation is by how many its event has too few
 /// or too many meets of the rule's duration.
-pub type DistributeSplitEvents = Counted<Sum<OfDuration>>;
+pub type DistributeSplitEvents = Keeping<Counted<Sum<OfDuration>>>;
 
 /// A slot counts for 1 where it has a meet of the rule's duration.
 #[derive(Drop)]

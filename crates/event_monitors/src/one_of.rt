@@ -6,8 +6,8 @@ use std::alloc::Global;
 
 /// A gauge of one of two sorts, by the monitor's kind; where both sorts serve a kind it is the first.
 ///
-/// A family of such gauges has one list of monitors for each event, and is told of each change once,
-/// where two families would be told of it twice.
+/// A keeper of such gauges has one list of monitors for each event, and follows each change once,
+/// where two keepers would each follow it.
 #[derive(Drop)]
 pub enum OneOf<A, B> {
     First(A),

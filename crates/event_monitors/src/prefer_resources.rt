@@ -4,13 +4,14 @@ ghost use Rattle.khe_instance.specs.EventDeviation.{misfilled_duration};
 use crate::counted::Counted;
 use crate::shares::{Share, changes_tasks};
 use crate::sums::{Sum, Summed};
+use family_keepers::Keeping;
 use khe_base::{IdSet, ResourceId};
 use khe_instance::{Instance, Kind, Rule};
 use khe_told::{Change, Span};
 
 /// The family of Prefer Resources: a monitor's deviation is the duration of the tasks at its place
 /// with a resource outside the preferred ones.
-pub type PreferResources = Counted<Sum<Misfilled>>;
+pub type PreferResources = Keeping<Counted<Sum<Misfilled>>>;
 
 /// A slot counts for the duration of its meet where the place is given a resource outside the
 /// preferred ones.

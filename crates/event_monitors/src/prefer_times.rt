@@ -4,13 +4,14 @@ ghost use Rattle.khe_instance.specs.EventDeviation.{misplaced_duration};
 use crate::counted::Counted;
 use crate::shares::{Share, changes_meets};
 use crate::sums::{Sum, Summed};
+use family_keepers::Keeping;
 use khe_base::{IdSet, ResourceId};
 use khe_instance::{Instance, Kind, Rule};
 use khe_told::{Change, Span};
 
 /// The family of Prefer Times: a monitor's deviation is the duration of its event's meets with a
 /// start outside the preferred times, or of those alone of one duration, where the rule has one.
-pub type PreferTimes = Counted<Sum<Misplaced>>;
+pub type PreferTimes = Keeping<Counted<Sum<Misplaced>>>;
 
 /// A slot counts for the duration of its meet where that starts outside the preferred times.
 #[derive(Drop)]

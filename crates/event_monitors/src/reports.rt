@@ -17,19 +17,19 @@ fn turn_one<G: Gauge, Y: Tally, L: Ledger>(
     inst: &Instance,
     told: &Told,
     change: Change,
-    post: Post,
+    post: &Post,
     gauge: &mut G,
     tally: &mut Y,
     steps: &mut Steps<L>,
 ) -> bool
     requires fits { Fits inst.now told.now change }
-    requires keeps { G.Keeps gauge.old inst.now post.monitor told.now }
-    requires named { names inst.now (slot_at told.now (meet_of change)).event.0 post.monitor ≡ true }
-    requires known { post.number.0 < length (Y.deviations tally.old) }
-    ensures keeps { G.Keeps gauge.new inst.now post.monitor (after told.now change) }
-    ensures set { result ≡ true → Y.deviations tally.new ≡ slice_set (Y.deviations tally.old) post.number.0 (G.value gauge.new inst.now post.monitor) }
+    requires keeps { G.Keeps gauge.old inst.now post.now.monitor told.now }
+    requires named { names inst.now (slot_at told.now (meet_of change)).event.0 post.now.monitor ≡ true }
+    requires known { post.now.number.0 < length (Y.deviations tally.old) }
+    ensures keeps { G.Keeps gauge.new inst.now post.now.monitor (after told.now change) }
+    ensures set { result ≡ true → Y.deviations tally.new ≡ slice_set (Y.deviations tally.old) post.now.number.0 (G.value gauge.new inst.now post.now.monitor) }
     ensures passed { result ≡ false → Y.deviations tally.new ≡ Y.deviations tally.old }
-    ensures same { result ≡ false → G.value gauge.new inst.now post.monitor ≡ G.value gauge.old inst.now post.monitor }
+    ensures same { result ≡ false → G.value gauge.new inst.now post.now.monitor ≡ G.value gauge.old inst.now post.now.monitor }
     ensures rest { Y.HasSameRest tally.old tally.new }
     ensures steps { steps.new ≤ steps.old + 1 }
 {
@@ -65,6 +65,6 @@ pub(crate) fn report<G: Gauge, Y: Tally, L: Ledger>(
 {
     for place in list {
         let k = *place as usize;
-        let _ = turn_one(inst, told, change, posts[k], &mut gauges[k], tally, steps);
+        let _ = turn_one(inst, told, change, &posts[k], &mut gauges[k], tally, steps);
     }
 }

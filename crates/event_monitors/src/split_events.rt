@@ -7,6 +7,7 @@ ghost use Rattle.event_monitors.specs.SplitEvents.{split_by};
 use crate::counted::Counted;
 use crate::gauges::Gauge;
 use crate::shares::{Share, changes_durations, turned};
+use family_keepers::Keeping;
 use khe_base::{NoMemory, ResourceId, count_out};
 use khe_instance::{Instance, Kind, Monitor, Rule};
 use khe_told::{Change, Span, Told};
@@ -14,7 +15,7 @@ use std::alloc::Global;
 
 /// The family of Split Events: a monitor's deviation is how many of its event's meets are too short
 /// or too long, and by how many the event has too few or too many.
-pub type SplitEvents = Counted<Split>;
+pub type SplitEvents = Keeping<Counted<Split>>;
 
 /// The gauge of Split Events: two sums over the meets of the event.
 #[derive(Drop)]

@@ -1,6 +1,7 @@
 use crate::links::{Links, no_links};
 use crate::turns::{follow, members};
 use event_monitors::{Counted, Gauge};
+use family_keepers::Keeping;
 use khe_base::NoMemory;
 use khe_instance::{Instance, Kind, Monitor};
 use khe_told::{Change, Told};
@@ -10,7 +11,7 @@ use std::alloc::Global;
 /// group's events run and some do not.
 ///
 /// Each monitor keeps counts for the events of its group at all times.
-pub type LinkEvents = Counted<Links>;
+pub type LinkEvents = Keeping<Counted<Links>>;
 
 impl Gauge for Links {
     ghost use Rattle.std.specs.Prelude.{◌≡◌, true, length};

@@ -11,4 +11,4 @@ mod posts;
 mod reports;
 mod trees;
 
-pub use order_events::OrderEvents;
+pub use order_events::{OrderEdges, OrderEvents};

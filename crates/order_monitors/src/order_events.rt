@@ -10,21 +10,24 @@ use crate::pairs::value;
 use crate::posts::posts_of;
 use crate::reports::report;
 use event_monitors::Post;
-use khe_base::{EventId, MonitorId, NoMemory, Seq, beside, both};
+use family_keepers::{Keeper, Keeping};
+use khe_base::{EventId, MonitorId, NoMemory, Seq, beside};
 use khe_instance::{EventInfo, Instance, Kind};
-use khe_told::{Change, Family, Steps, Tally, Told};
+use khe_told::{Change, Steps, Tally, Told};
 use std::alloc::Global;
 use std::sync::ledger::Ledger;
 
 /// The family of Order Events: a monitor's deviation is how far the times from the end of its first
 /// event's meets to the start of its second's lie outside the bounds, while both have a start.
+pub type OrderEvents = Keeping<OrderEdges>;
+
+/// The keeper of Order Events. What was told is lent to it.
 ///
 /// It keeps, for each event that a served monitor names, when the meet of each meet slot starts and
 /// ends, four numbers a slot. A change takes time of the logarithm of its event's meet slots, and
 /// then that of the monitors that name the event. Where there are none, it takes constant time.
 #[derive(Drop)]
-pub struct OrderEvents {
-    told: Told,
+pub struct OrderEdges {
     posts: Seq<Post>,
     /// For each event the places of the posts that name it.
     lists: Seq<Seq<u32>>,
@@ -32,7 +35,7 @@ pub struct OrderEvents {
     edges: Vec<Edges>,
 }
 
-impl Family for OrderEvents {
+impl Keeper for OrderEdges {
     ghost use Rattle.std.specs.Prelude.{◌≡◌};
     ghost use Rattle.event_monitors.specs.Posts.{ArePosts, AreListed};
     ghost use Rattle.order_monitors.specs.Edges.{AreEdges, AreShort};
@@ -42,19 +45,15 @@ impl Family for OrderEvents {
 
     ghost IsWellJoined = { Unit {0} };
 
-    ghost told = { λ f. f.told };
+    ghost Keeps = { λ f p s. ArePosts p is_order f.posts × AreListed p f.posts f.lists × AreEdges p f.lists s f.edges.items × AreShort s };
 
-    ghost IsOf = { λ f p. ArePosts p is_order f.posts × AreListed p f.posts f.lists × AreEdges p f.lists f.told f.edges.items × AreShort f.told };
-
-    fn open(alloc: Global, inst: &Instance) -> Result<OrderEvents, NoMemory> {
+    fn open(alloc: Global, inst: &Instance) -> Result<OrderEdges, NoMemory> {
         let posts = posts_of(alloc, inst)?;
         let lists = lists_of(alloc, inst, posts.as_slice());
         let (lists, posts) = beside(lists, posts)?;
         let edges = edges_of(alloc, inst, lists.as_slice());
-        let told = Told::open(alloc, inst);
-        let ((told, edges), (lists, posts)) = beside(both(told, edges), (lists, posts))?;
-        Ok(OrderEvents {
-            told,
+        let (edges, (lists, posts)) = beside(edges, (lists, posts))?;
+        Ok(OrderEdges {
             posts,
             lists,
             edges,
@@ -65,18 +64,18 @@ impl Family for OrderEvents {
         kind == Kind::OrderEvents
     }
 
-    fn note<Y: Tally, L: Ledger>(
+    fn follow<Y: Tally, L: Ledger>(
         &mut self,
         inst: &Instance,
+        told: &Told,
         change: Change,
         tally: &mut Y,
         steps: &mut Steps<L>,
     ) {
         inst.facts();
         let lists = self.lists.as_slice();
-        follow(inst, &self.told, lists, change, &mut self.edges);
-        let event = self.told.event(change.meet());
-        self.told.note(inst, change);
+        turn_watched(inst, told, lists, change, &mut self.edges);
+        let event = told.event(change.meet());
         let list = lists[event.0 as usize].as_slice();
         let edges = self.edges.as_slice();
         let posts = self.posts.as_slice();
@@ -112,7 +111,13 @@ fn slots_for(list: &Seq<u32>, event: &EventInfo) -> u32
 
 /// Follows a change where the event of its meet has a list. What was told is the state before the
 /// change.
-fn follow(inst: &Instance, told: &Told, lists: &[Seq<u32>], change: Change, edges: &mut Vec<Edges>)
+fn turn_watched(
+    inst: &Instance,
+    told: &Told,
+    lists: &[Seq<u32>],
+    change: Change,
+    edges: &mut Vec<Edges>,
+)
     requires fits { Fits inst.now told.now change }
     requires rows { length lists.now ≡ length inst.now.events }
     requires of { AreEdges inst.now lists.now told.now edges.old.items }

@@ -7,6 +7,7 @@ ghost use Rattle.set_monitors.specs.AvoidSplitAssignments.{AreAscending, AreHeld
 
 use crate::candidates::{candidates, has_role};
 use event_monitors::{Counted, Gauge};
+use family_keepers::Keeping;
 use khe_base::{NoMemory, ResourceId, Seq, TaskId, beside};
 use khe_instance::{Instance, Kind, Monitor};
 use khe_told::{Change, Told};
@@ -17,7 +18,7 @@ use std::alloc::Global;
 ///
 /// A monitor keeps a count for each resource with the type of such a task, 8 bytes each. A change
 /// of one of these tasks looks for its resource by halves; any other change takes constant time.
-pub type AvoidSplitAssignments = Counted<Holders>;
+pub type AvoidSplitAssignments = Keeping<Counted<Holders>>;
 
 /// The gauge of Avoid Split Assignments.
 #[derive(Drop)]

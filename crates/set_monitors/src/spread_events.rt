@@ -4,6 +4,7 @@ ghost use Rattle.khe_instance.specs.WellMade.{IsMonitor};
 ghost use Rattle.set_monitors.specs.SpreadEvents.{AreCounts, AreFew, count_after, moves_start, spread_by, spreads_of};
 
 use event_monitors::{Counted, Gauge};
+use family_keepers::Keeping;
 use khe_base::{NoMemory, count_out};
 use khe_instance::{Instance, Kind, Monitor, Rule, Spread};
 use khe_told::{Change, Told};
@@ -13,7 +14,7 @@ use std::alloc::Global;
 /// lists, by how many too few or too many meets of its events start in them.
 ///
 /// A change of a start looks at each listed group once, and any other change at none.
-pub type SpreadEvents = Counted<Starts>;
+pub type SpreadEvents = Keeping<Counted<Starts>>;
 
 /// The gauge of Spread Events.
 #[derive(Drop)]

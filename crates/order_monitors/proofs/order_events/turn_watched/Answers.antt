@@ -7,7 +7,7 @@ use Rattle.khe_told.specs.Slots.{slot_at}
 use Rattle.event_monitors.proofs.SlotFacts.{fits_event}
 use Rattle.order_monitors.specs.Edges.{AreEdges, IsWatched}
 use Rattle.order_monitors.proofs.TurnLaws.{edges_kept, edges_turned}
-use Rattle.order_monitors.proofs.order_events.follow.Goals as goal
+use Rattle.order_monitors.proofs.order_events.turn_watched.Goals as goal
 
 pub bounds-lists-event : goal.bounds-lists-event
 bounds-lists-event c =
