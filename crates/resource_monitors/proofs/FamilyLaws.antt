@@ -1,4 +1,4 @@
--- From cells and lists to what a family promises.
+-- From cells and lists to what a keeper promises.
 use Rattle.std.proofs.Common.{ℕ, ◌≡◌, ◌≤◌, ◌<◌, ◌+◌, ◌*◌, ◌-◌, ◌∙◌, ◌&&◌, ◌||◌, suc, Bool, true, false, cond, Option}
 use Rattle.std.proofs.Common.{Some, None, List, [], ◌∷◌, ◌⊎◌, inl, inr, length, get_or, slice_get, refl, sym, ap, subst}
 use Rattle.std.proofs.Common.{arith, sum_by, count_by, zero-add, nat_le, nat_lt, not}

@@ -3,6 +3,7 @@ pub mod CountLaws
 pub mod FamilyLaws
 pub mod FollowLaws
 pub mod ListLaws
+pub mod ListedLaws
 pub mod MeasureLaws
 pub mod OpenLaws
 pub mod PlaceLaws
@@ -12,3 +13,4 @@ pub mod RunLaws
 pub mod SmallLaws
 pub mod StateLaws
 pub mod TurnLaws
+pub mod UnionLaws

@@ -1,4 +1,4 @@
--- A family that was told of no meets.
+-- What is kept while there are no meets.
 use Rattle.std.proofs.Common.{ℕ, ◌≡◌, ◌<◌, ◌∙◌, zero, suc, Bool, List, length, slice_index, refl, sym, ap, subst, arith}
 use Rattle.std.proofs.lemmas.List.{length-replicate}
 use Rattle.std.specs.Prelude.{replicate}
@@ -6,13 +6,10 @@ use Rattle.khe_instance.specs.Running.{running_tasks}
 use Rattle.khe_instance.specs.declared.parts.Parts.{Parts}
 use Rattle.khe_instance.specs.declared.rules.Kind.{Kind}
 use Rattle.khe_instance.specs.declared.states.Duty.{Duty}
-use Rattle.khe_told.specs.Fits.{AreTold}
-use Rattle.khe_told.specs.Lists.{duties_in}
 use Rattle.khe_told.specs.Slots.{no_meets}
-use Rattle.khe_told.specs.declared.slots.Slot.{Slot}
 use Rattle.timetables.specs.Counts.{no_counts, row_of, count_at}
 use Rattle.resource_monitors.specs.Cells.{HasRows}
-use Rattle.resource_monitors.specs.Families.{IsFamily}
+use Rattle.resource_monitors.specs.Kept.{AreKept}
 use Rattle.resource_monitors.specs.Posts.{AreLists}
 use Rattle.resource_monitors.specs.Sets.{room_for}
 use Rattle.resource_monitors.specs.declared.posts.Post.{Post}
@@ -40,15 +37,14 @@ opened p = record {
       λ r l. long_row (length p.resources) (length p.times) r l;
 }
 
-pub family_opened : (served : Kind → Bool) (p : Parts) (s : List Slot) (rows : List (List ℕ))
-    (sets : List (List (List Bool))) (lists : List (List Post)) → s ≡ no_meets p
-    → rows ≡ no_counts (length p.resources) (length p.times)
-    → sets ≡ room_for p → AreLists served (length p.resources) p.monitors lists → IsFamily served p s rows sets lists
-family_opened served p s rows sets lists a b c d = record {
-  told = subst (AreTold p) (sym a) (told_opened p);
+pub kept_opened : (served : Kind → Bool) (p : Parts) (rows : List (List ℕ)) (sets : List (List (List Bool)))
+    (lists : List (List Post)) → rows ≡ no_counts (length p.resources) (length p.times) → sets ≡ room_for p
+    → AreLists served (length p.resources) p.monitors lists → AreKept served p (no_meets p) rows sets lists
+kept_opened served p rows sets lists b c d = record {
+  told = told_opened p;
   rows_all = subst (HasRows p) (sym b) (opened p);
   counts = λ r t. (ap (λ xs. count_at xs r t) b ∙ none_count (length p.resources) (length p.times) r t
-      ∙ sym (ap (λ (ds : List Duty). running_tasks ds r t) (ap duties_in a ∙ no_duties p)));
+      ∙ sym (ap (λ (ds : List Duty). running_tasks ds r t) (no_duties p)));
   sets_all = c;
   lists_all = d;
 }

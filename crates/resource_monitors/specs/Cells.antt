@@ -6,6 +6,7 @@ use Rattle.std.specs.List.{range_with_len, list_any}
 use Rattle.std.specs.Option.{option_map_or}
 use Rattle.khe_base.specs.declared.numbers.ResourceId.{ResourceId}
 use Rattle.khe_instance.specs.Deviation.{measured}
+use Rattle.khe_instance.specs.KindLaws.{is_kind}
 use Rattle.khe_instance.specs.Running.{is_resource}
 use Rattle.khe_instance.specs.Watching.{lists_time}
 use Rattle.khe_instance.specs.declared.parts.Parts.{Parts}
@@ -45,6 +46,10 @@ value_at p rows rule _ = 0
 
 abbrev pub value_in : Parts → List (List ℕ) → Monitor → ℕ
 value_in p rows m = option_map_or (λ c. value_at p rows c.rule m.point) (slice_get p.constraints m.constraint) 0
+
+-- those that list all times
+abbrev pub lists_all : Kind → Bool
+lists_all k = is_kind k kind.AvoidClashes
 
 -- whether a time is one of a run
 abbrev pub in_run : ℕ → ℕ → ℕ → Bool

@@ -1,6 +1,6 @@
 pub mod Cells
 pub mod Clashes
-pub mod Families
+pub mod Kept
 pub mod KindsAtCells
 pub mod Posts
 pub mod Runs

@@ -1,4 +1,4 @@
--- The monitors that a family serves, for each resource.
+-- The monitors that a keeper serves, for each resource.
 use Rattle.std.specs.Prelude.{ℕ, ◌≡◌, ◌<◌, ◌+◌, ◌&&◌, Bool, true, if◌then◌else◌, Option, Some, List, [], ◌∷◌, length}
 use Rattle.std.specs.Prelude.{slice_get, slice_index_or, count_by}
 use Rattle.std.specs.List.{sum_by}

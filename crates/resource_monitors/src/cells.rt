@@ -18,14 +18,15 @@ use crate::runs::{given_by, limit_for, named_by, run_of};
 use crate::tables::CellTable;
 use crate::turns::turn_all;
 use crate::values::value;
+use family_keepers::Keeper;
 use khe_base::{MonitorId, NoMemory, Seq};
 use khe_instance::{Instance, Kind};
-use khe_told::{Change, Family, Steps, Tally, Told};
+use khe_told::{Change, Steps, Tally, Told};
 use std::alloc::Global;
 use std::marker::PhantomData;
 use std::sync::ledger::Ledger;
 
-/// A family of kinds that are measured by how many tasks of a resource run at each time.
+/// A keeper of kinds that are measured by how many tasks of a resource run at each time.
 ///
 /// It keeps a timetable, the masks of the constraints' sets of times and for each resource the
 /// monitors at it. A change turns the counts of the cells that it fills or empties, and then
@@ -34,7 +35,6 @@ use std::sync::ledger::Ledger;
 /// busy or free.
 #[derive(Drop)]
 pub struct Cells<K> {
-    told: Told,
     table: CellTable,
     sets: TimeSets,
     lists: Vec<Seq<Post>>,
@@ -43,7 +43,7 @@ pub struct Cells<K> {
 
 /// Turns the counts by a change, and reports the monitors that list one of its times. What was told
 /// is the state before the change.
-fn follow<K: CellKinds, Y: Tally, L: Ledger>(
+fn turn_and_report<K: CellKinds, Y: Tally, L: Ledger>(
     inst: &Instance,
     told: &Told,
     change: Change,
@@ -89,26 +89,22 @@ fn follow<K: CellKinds, Y: Tally, L: Ledger>(
     );
 }
 
-impl<K: CellKinds> Family for Cells<K> {
+impl<K: CellKinds> Keeper for Cells<K> {
     ghost use Rattle.std.specs.Prelude.{◌≡◌};
-    ghost use Rattle.resource_monitors.specs.Families.{IsFamily};
+    ghost use Rattle.resource_monitors.specs.Kept.{AreKept};
 
     ghost serves_kind = { K.serves_kind };
 
     ghost IsWellJoined = { Unit {0} };
 
-    ghost told = { λ f. f.told };
-
-    ghost IsOf = { λ f p. IsFamily K.serves_kind p f.told f.table f.sets f.lists.items };
+    ghost Keeps = { λ f p s. AreKept K.serves_kind p s f.table f.sets f.lists.items };
 
     fn open(alloc: Global, inst: &Instance) -> Result<Cells<K>, NoMemory> {
         inst.facts();
         let lists = lists_of::<K>(alloc, inst)?;
-        let told = Told::open(alloc, inst)?;
         let table = CellTable::open(alloc, inst.resources(), inst.times())?;
         let sets = TimeSets::open(alloc, inst)?;
         Ok(Cells {
-            told,
             table,
             sets,
             lists,
@@ -120,17 +116,18 @@ impl<K: CellKinds> Family for Cells<K> {
         K::serves(kind)
     }
 
-    fn note<Y: Tally, L: Ledger>(
+    fn follow<Y: Tally, L: Ledger>(
         &mut self,
         inst: &Instance,
+        told: &Told,
         change: Change,
         tally: &mut Y,
         steps: &mut Steps<L>,
     ) {
         let lists = self.lists.as_slice();
-        follow::<K, Y, L>(
+        turn_and_report::<K, Y, L>(
             inst,
-            &self.told,
+            told,
             change,
             &self.sets,
             lists,
@@ -138,7 +135,6 @@ impl<K: CellKinds> Family for Cells<K> {
             tally,
             steps,
         );
-        self.told.note(inst, change);
     }
 
     fn deviation(&self, inst: &Instance, monitor: MonitorId) -> u64 {

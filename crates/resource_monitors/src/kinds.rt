@@ -3,6 +3,7 @@ ghost use Rattle.khe_instance.specs.declared.rules.Kind.{Kind};
 ghost use Rattle.resource_monitors.specs.Cells.{is_at_cells, is_by_busy};
 
 use crate::cells::Cells;
+use family_keepers::Keeping;
 use khe_instance::Kind;
 
 /// Some of the five kinds that are measured by how many tasks of a resource run at each time.
@@ -30,7 +31,7 @@ pub(crate) fn is_by_busy(kind: Kind) -> bool
     }
 }
 
-/// The family of all five kinds, which fill and empty the same cells.
+/// The keeper of all five kinds, which fill and empty the same cells.
 pub type AtCells = Cells<FiveKinds>;
 
 /// All five.
@@ -56,7 +57,7 @@ impl CellKinds for FiveKinds {
 }
 
 /// The family of Avoid Clashes: for each time, how many tasks of the resource run then beyond one.
-pub type AvoidClashes = Cells<Clashes>;
+pub type AvoidClashes = Keeping<Cells<Clashes>>;
 
 /// Its kind.
 pub struct Clashes;
@@ -76,7 +77,7 @@ impl CellKinds for Clashes {
 }
 
 /// The family of Avoid Unavailable Times: how many of the listed times the resource is busy at.
-pub type AvoidUnavailableTimes = Cells<UnavailableTimes>;
+pub type AvoidUnavailableTimes = Keeping<Cells<UnavailableTimes>>;
 
 /// Its kind.
 pub struct UnavailableTimes;
@@ -96,7 +97,7 @@ impl CellKinds for UnavailableTimes {
 }
 
 /// The family of Limit Idle Times: how far the idle times of the listed groups together lie outside the bounds.
-pub type LimitIdleTimes = Cells<IdleTimes>;
+pub type LimitIdleTimes = Keeping<Cells<IdleTimes>>;
 
 /// Its kind.
 pub struct IdleTimes;
@@ -116,7 +117,7 @@ impl CellKinds for IdleTimes {
 }
 
 /// The family of Cluster Busy Times: how far the number of listed groups with a busy time lies outside the bounds.
-pub type ClusterBusyTimes = Cells<BusyGroups>;
+pub type ClusterBusyTimes = Keeping<Cells<BusyGroups>>;
 
 /// Its kind.
 pub struct BusyGroups;
@@ -137,7 +138,7 @@ impl CellKinds for BusyGroups {
 
 /// The family of Limit Busy Times: for each listed group with a busy time, how far the number of its busy times
 /// lies outside the bounds.
-pub type LimitBusyTimes = Cells<BusyTimes>;
+pub type LimitBusyTimes = Keeping<Cells<BusyTimes>>;
 
 /// Its kind.
 pub struct BusyTimes;

@@ -1,5 +1,5 @@
-//! The families of the monitors at resources: five kinds that are measured by how many tasks of a
-//! resource run at each time, over one timetable a family.
+//! The monitors at resources: five kinds that are measured by how many tasks of a resource run at
+//! each time, as one keeper over one timetable, and each as a family of its own.
 #![tactic(auto)]
 
 mod cells;

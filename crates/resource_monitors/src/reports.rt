@@ -1,11 +1,9 @@
-ghost use Rattle.std.specs.Prelude.{◌≡◌, ◌≤◌, ◌<◌, ◌+◌, ℕ, true, nat_lt, if◌then◌else◌, length, slice_get, slice_set, Some, count_by};
-ghost use Rattle.khe_base.specs.IdSet.{has_member};
+ghost use Rattle.std.specs.Prelude.{◌≡◌, ◌≤◌, ◌<◌, ◌+◌, ℕ, true, if◌then◌else◌, length, slice_get, slice_set, Some};
 ghost use Rattle.khe_base.specs.declared.limits.TheConstants.{TASKS};
 ghost use Rattle.khe_base.specs.declared.numbers.ResourceId.{ResourceId};
-ghost use Rattle.khe_instance.specs.Watching.{lists_time};
 ghost use Rattle.khe_instance.specs.WellMade.{IsMonitor};
 ghost use Rattle.timetables.specs.Counts.{count_at, row_of};
-ghost use Rattle.resource_monitors.specs.Cells.{is_at_cells, HasRows, is_due, is_due_if, is_low, lists, lists_any, may_differ, value_in};
+ghost use Rattle.resource_monitors.specs.Cells.{is_at_cells, HasRows, is_due, is_due_if, is_low, lists, lists_all, lists_any, may_differ, value_in};
 ghost use Rattle.resource_monitors.specs.Posts.{ArePosts, AreLists, AreReported, AreAllReported, due, due_for, due_all, list_for};
 ghost use Rattle.resource_monitors.specs.Sets.{room_for};
 ghost use Rattle.resource_monitors.specs.declared.posts.Post.{Post};
@@ -15,52 +13,35 @@ use crate::posts::Post;
 use crate::rooms::TimeSets;
 use crate::tables::CellTable;
 use crate::values::value;
-use khe_base::{IdSet, ResourceId, Seq, TimeId};
-use khe_instance::{Instance, Kind, Monitor, Rule};
+use khe_base::{ResourceId, Seq, TimeId};
+use khe_instance::{Instance, Kind, Monitor};
 use khe_told::{Steps, Tally};
 use std::sync::ledger::Ledger;
 
-/// Whether one of the groups has a time.
-fn has_time(groups: &[IdSet], time: u32) -> bool
-    ensures { result ≡ nat_lt 0 (count_by (λ g. has_member g time) groups.now) }
+/// Whether a kind lists all times.
+fn lists_all(kind: Kind) -> bool
+    ensures { result ≡ lists_all kind }
 {
-    for group in groups {
-        if group.has(time) {
-            return true;
-        }
-    }
-    false
+    kind == Kind::AvoidClashes
 }
 
-/// Whether a rule lists a time.
-fn lists_time(rule: &Rule, time: u32) -> bool
-    ensures { result ≡ lists_time rule.now time }
+/// Whether a monitor lists a time: all, or those of its constraint's sets. It takes constant time.
+fn lists(_inst: &Instance, sets: &TimeSets, monitor: Monitor, time: u32) -> bool
+    requires sets { sets.now ≡ room_for _inst.now }
+    requires monitor { IsMonitor _inst.now monitor }
+    ensures { result ≡ lists _inst.now monitor time }
 {
-    match rule {
-        Rule::AvoidClashes => true,
-        Rule::AvoidUnavailableTimes { times } => times.has(time),
-        Rule::LimitIdleTimes { groups, .. } => has_time(groups.as_slice(), time),
-        Rule::ClusterBusyTimes { groups, .. } => has_time(groups.as_slice(), time),
-        Rule::LimitBusyTimes { groups, .. } => has_time(groups.as_slice(), time),
-        _ => false,
-    }
-}
-
-/// Whether a monitor lists a time.
-fn lists(inst: &Instance, monitor: Monitor, time: u32) -> bool
-    requires { IsMonitor inst.now monitor }
-    ensures { result ≡ lists inst.now monitor time }
-{
-    lists_time(&inst.constraint(monitor.constraint).rule, time)
+    lists_all(monitor.kind) || sets.has(monitor.constraint, time)
 }
 
 /// Whether a monitor lists one of the times of a run.
-fn lists_one(inst: &Instance, monitor: Monitor, start: u32, end: u32) -> bool
-    requires { IsMonitor inst.now monitor }
+fn lists_one(inst: &Instance, sets: &TimeSets, monitor: Monitor, start: u32, end: u32) -> bool
+    requires sets { sets.now ≡ room_for inst.now }
+    requires monitor { IsMonitor inst.now monitor }
     ensures { result ≡ lists_any inst.now start end monitor }
 {
     for t in start..end {
-        if lists(inst, monitor, t) {
+        if lists(inst, sets, monitor, t) {
             return true;
         }
     }
@@ -76,11 +57,19 @@ fn may_differ(kind: Kind, low: bool) -> bool
 }
 
 /// Whether a monitor lists one of the times of a run and may measure another value.
-fn is_due(inst: &Instance, monitor: Monitor, start: u32, end: u32, low: bool) -> bool
-    requires { IsMonitor inst.now monitor }
+fn is_due(
+    inst: &Instance,
+    sets: &TimeSets,
+    monitor: Monitor,
+    start: u32,
+    end: u32,
+    low: bool,
+) -> bool
+    requires sets { sets.now ≡ room_for inst.now }
+    requires monitor { IsMonitor inst.now monitor }
     ensures { result ≡ is_due_if inst.now start end low monitor }
 {
-    may_differ(monitor.kind, low) && lists_one(inst, monitor, start, end)
+    may_differ(monitor.kind, low) && lists_one(inst, sets, monitor, start, end)
 }
 
 /// Reports a monitor, if it lists one of the times and may measure another value.
@@ -106,7 +95,7 @@ fn report_one<Y: Tally, L: Ledger>(
     ensures steps { steps.new ≤ steps.old + (if lists_any inst.now start end post.monitor then 1 else 0) }
 {
     inst.facts();
-    if is_due(inst, post.monitor, start, end, low) {
+    if is_due(inst, sets, post.monitor, start, end, low) {
         let value = value(inst, sets, table, post.monitor);
         tally.set(post.number, value, steps);
     }

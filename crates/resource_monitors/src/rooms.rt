@@ -1,5 +1,5 @@
-ghost use Rattle.std.specs.Prelude.{◌≡◌, ◌<◌, IfOk, Some, length, slice_get};
-ghost use Rattle.resource_monitors.specs.Sets.{room_for};
+ghost use Rattle.std.specs.Prelude.{◌≡◌, ◌<◌, [], IfOk, Some, length, slice_get, slice_index_or};
+ghost use Rattle.resource_monitors.specs.Sets.{has_time, room_for};
 
 use crate::masks::TimeMasks;
 use khe_base::NoMemory;
@@ -25,7 +25,8 @@ impl Model for TimeSets {
 }
 
 impl TimeSets {
-    /// The room for an instance. It takes time and memory for a bit of each time of each listed set.
+    /// The room for an instance. It takes time in proportion to listed sets times times, and memory
+    /// for a bit of each time of each listed set and of each constraint.
     pub(crate) fn open(alloc: Global, inst: &Instance) -> Result<TimeSets, NoMemory>
         ensures { IfOk result (λ room. room ≡ room_for inst.now) }
     {
@@ -43,5 +44,13 @@ impl TimeSets {
         ensures { slice_get self.now constraint ≡ Some result.now }
     {
         self.masks[constraint as usize].as_slice()
+    }
+
+    /// Whether one of the sets of a constraint has a time. It takes constant time.
+    pub(crate) fn has(&self, constraint: u32, time: u32) -> bool
+        requires { constraint < length self.now }
+        ensures { result ≡ has_time (slice_index_or self.now constraint []) time }
+    {
+        self.masks[constraint as usize].has(time)
     }
 }

@@ -35,7 +35,7 @@ use Rattle.resource_monitors.specs.Posts.{AreLists, AreReported, is_served_at, p
 use Rattle.resource_monitors.specs.declared.posts.Post.{Post}
 use Rattle.resource_monitors.proofs.PostLaws.{posts_all, posts_each, posts_sum}
 use Rattle.resource_monitors.proofs.StateLaws.{given_of, no_duties, told_opened}
-use Rattle.workload_monitors.specs.Loads.{HasLoads, IsFamily, is_on_workload, named_by, value_in, worth_in}
+use Rattle.workload_monitors.specs.Loads.{AreKept, HasLoads, is_on_workload, named_by, value_in, worth_in}
 use Rattle.workload_monitors.proofs.BoundLaws.{load_small}
 use Rattle.workload_monitors.proofs.LoadLaws.{gained, loads_turned, lost, lowered, raised}
 use Rattle.workload_monitors.proofs.ValueLaws.{IsOnWorkload, on_workload, value_is, value_same}
@@ -304,16 +304,15 @@ module _ (p : Parts) (made : AreWellMade p) (s : List Slot) (told : AreTold p s)
         (λ i d l. watched (get_or p.monitors i d) (made.monitors.each i d l)) in
         subst (λ n. n ≤ served_watchers p is_on_workload s c) (sym a) b
 
--- a family that was told of no meets
-pub family_opened : (p : Parts) (s : List Slot) (loads : List ℕ) (lists : List (List Post)) → s ≡ no_meets p
-    → loads ≡ replicate (length p.resources) 0
-    → AreLists is_on_workload (length p.resources) p.monitors lists → IsFamily p s loads lists
-family_opened p s loads lists a b c = record {
-  told = subst (AreTold p) (sym a) (told_opened p);
+-- what is kept while there are no meets
+pub kept_opened : (p : Parts) (loads : List ℕ) (lists : List (List Post)) → loads ≡ replicate (length p.resources) 0
+    → AreLists is_on_workload (length p.resources) p.monitors lists → AreKept p (no_meets p) loads lists
+kept_opened p loads lists b c = record {
+  told = told_opened p;
   loads_all = record {
     resources = ap length b ∙ length-replicate (length p.resources) 0;
     each = λ r. (ap (λ xs. slice_index xs r) b ∙ none (length p.resources) r
-        ∙ sym (ap (λ (ds : List Duty). workload_in p.events p.unit ds r) (ap duties_in a ∙ no_duties p)));
+        ∙ sym (ap (λ (ds : List Duty). workload_in p.events p.unit ds r) (no_duties p)));
   };
   lists_all = c;
 }

@@ -57,8 +57,8 @@ value_at p loads rule _ = 0
 abbrev pub value_in : Parts → List ℕ → Monitor → ℕ
 value_in p loads m = option_map_or (λ c. value_at p loads c.rule m.point) (slice_get p.constraints m.constraint) 0
 
--- what the family keeps: a told state of the instance, its workloads and the monitors on them
-pub record IsFamily (p : Parts) (s : List Slot) (loads : List ℕ) (lists : List (List Post)) : Type 0 where
+-- what the keeper keeps: the workloads of a told state of the instance, and the monitors on them
+pub record AreKept (p : Parts) (s : List Slot) (loads : List ℕ) (lists : List (List Post)) : Type 0 where
   pub told : AreTold p s
   pub loads_all : HasLoads p s loads
   pub lists_all : AreLists is_on_workload (length p.resources) p.monitors lists

@@ -1,14 +1,14 @@
-//! The family of the monitors on workloads: what the tasks of each resource are worth together, in
-//! whole parts of one over the instance's unit; and the families of all six kinds at resources as
-//! one.
+//! The keeper of the monitors on workloads: what the tasks of each resource are worth together, in
+//! whole parts of one over the instance's unit; its family; and the keepers of all six kinds at
+//! resources as one.
 #![tactic(auto)]
 
-mod families;
+mod keepers;
 mod limit_workload;
 mod loads;
 mod posts;
 mod reports;
 mod values;
 
-pub use families::ResourceFamilies;
-pub use limit_workload::LimitWorkload;
+pub use keepers::ResourceKeepers;
+pub use limit_workload::{LimitWorkload, Workloads};

@@ -10,28 +10,31 @@ use crate::loads::{named_by, no_loads, turn};
 use crate::posts::lists_of;
 use crate::reports::report;
 use crate::values::value;
+use family_keepers::{Keeper, Keeping};
 use khe_base::{MonitorId, NoMemory, Seq};
 use khe_instance::{Instance, Kind};
-use khe_told::{Change, Family, Steps, Tally, Told};
+use khe_told::{Change, Steps, Tally, Told};
 use resource_monitors::Post;
 use std::alloc::Global;
 use std::sync::ledger::Ledger;
 
 /// The family of Limit Workload: how far the workload of a resource lies outside the bounds.
+pub type LimitWorkload = Keeping<Workloads>;
+
+/// The keeper of Limit Workload.
 ///
 /// It keeps the workload of each resource in whole parts of one over the instance's unit, so that
 /// a deviation is rounded once. Only a change that gives or takes a resource alters a workload, and
 /// then the monitors on it are reported; every other change takes constant time.
 #[derive(Drop)]
-pub struct LimitWorkload {
-    told: Told,
+pub struct Workloads {
     loads: Vec<u128>,
     lists: Vec<Seq<Post>>,
 }
 
 /// Turns the workloads by a change, and reports the monitors on the one that it alters. What was
 /// told is the state before the change.
-fn follow<Y: Tally, L: Ledger>(
+fn turn_and_report<Y: Tally, L: Ledger>(
     inst: &Instance,
     told: &Told,
     change: Change,
@@ -61,47 +64,36 @@ fn follow<Y: Tally, L: Ledger>(
     report(inst, loads.as_slice(), list, tally, steps);
 }
 
-impl Family for LimitWorkload {
+impl Keeper for Workloads {
     ghost use Rattle.std.specs.Prelude.{◌≡◌};
-    ghost use Rattle.workload_monitors.specs.Loads.{IsFamily, is_on_workload};
+    ghost use Rattle.workload_monitors.specs.Loads.{AreKept, is_on_workload};
 
     ghost serves_kind = { is_on_workload };
 
     ghost IsWellJoined = { Unit {0} };
 
-    ghost told = { λ f. f.told };
+    ghost Keeps = { λ f p s. AreKept p s f.loads.items f.lists.items };
 
-    ghost IsOf = { λ f p. IsFamily p f.told f.loads.items f.lists.items };
-
-    fn open(alloc: Global, inst: &Instance) -> Result<LimitWorkload, NoMemory> {
+    fn open(alloc: Global, inst: &Instance) -> Result<Workloads, NoMemory> {
         let lists = lists_of(alloc, inst)?;
-        let told = Told::open(alloc, inst)?;
         let loads = no_loads(alloc, inst.resources())?;
-        Ok(LimitWorkload { told, loads, lists })
+        Ok(Workloads { loads, lists })
     }
 
     fn serves(&self, kind: Kind) -> bool {
         kind == Kind::LimitWorkload
     }
 
-    fn note<Y: Tally, L: Ledger>(
+    fn follow<Y: Tally, L: Ledger>(
         &mut self,
         inst: &Instance,
+        told: &Told,
         change: Change,
         tally: &mut Y,
         steps: &mut Steps<L>,
     ) {
         let lists = self.lists.as_slice();
-        follow(
-            inst,
-            &self.told,
-            change,
-            lists,
-            &mut self.loads,
-            tally,
-            steps,
-        );
-        self.told.note(inst, change);
+        turn_and_report(inst, told, change, lists, &mut self.loads, tally, steps);
     }
 
     fn deviation(&self, inst: &Instance, monitor: MonitorId) -> u64 {

@@ -1,4 +1,4 @@
--- What a family of cells keeps.
+-- What a keeper of cells keeps.
 use Rattle.std.specs.Prelude.{ℕ, ◌≡◌, Bool, List, length}
 use Rattle.khe_instance.specs.Running.{running_tasks}
 use Rattle.khe_instance.specs.declared.parts.Parts.{Parts}
@@ -12,8 +12,8 @@ use Rattle.resource_monitors.specs.Posts.{AreLists}
 use Rattle.resource_monitors.specs.Sets.{room_for}
 use Rattle.resource_monitors.specs.declared.posts.Post.{Post}
 
--- a told state of the instance, its counts, the instance's sets of times and served monitors
-pub record IsFamily (served : Kind → Bool) (p : Parts) (s : List Slot) (rows : List (List ℕ))
+-- the counts of a told state of the instance, the instance's sets of times and served monitors
+pub record AreKept (served : Kind → Bool) (p : Parts) (s : List Slot) (rows : List (List ℕ))
     (sets : List (List (List Bool))) (lists : List (List Post)) : Type 0 where
   pub told : AreTold p s
   pub rows_all : HasRows p rows

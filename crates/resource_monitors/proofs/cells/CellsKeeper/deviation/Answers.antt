@@ -8,7 +8,7 @@ use Rattle.resource_monitors.specs.Cells.{is_at_cells}
 use Rattle.resource_monitors.proofs.MeasureLaws.{value_is}
 use Rattle.resource_monitors.proofs.SmallLaws.{value_small}
 use Rattle.resource_monitors.proofs.StateLaws.{tasks_few}
-use Rattle.resource_monitors.proofs.cells.CellsFamily.deviation.Goals as goal
+use Rattle.resource_monitors.proofs.cells.CellsKeeper.deviation.Goals as goal
 use Rattle.khe_instance.proofs.MadeLemmas.{monitor_made}
 
 pub value-requires-clause-monitor : goal.value-requires-clause-monitor
@@ -20,25 +20,25 @@ value-requires-clause-kind g c = g.met.K.CellKinds.at_cells c.monitor-of.result.
     c.requires.served)
 
 pub returns-clause-value : goal.returns-clause-value
-returns-clause-value g c =
-    let p = c.args.inst.now in
-    let f = c.requires.of in
+returns-clause-value g c = λ s keeps.
+    (let p = c.args.inst.now in
     let m = c.monitor-of.result in
     let is : IsMonitor p m = monitor_made p c.facts.ensures _ _ c.monitor-of.ensures in
     let kind : is_at_cells m.kind ≡ true = g.met.K.CellKinds.at_cells m.kind
     (subst (λ o. IfSome o (λ (x : Monitor). g.K.CellKinds.serves_kind x.kind ≡ true)) c.monitor-of.ensures
     c.requires.served) in
-    ap (option_map (deviation_in p c.args.self.now.told)) c.monitor-of.ensures
-    ∙ ap Some (value_is p c.args.self.now.told c.args.self.now.table m is kind f.counts ∙ sym c.value.ensures)
+    ap (option_map (deviation_in p s)) c.monitor-of.ensures
+    ∙ ap Some (value_is p s c.args.self.now.table m is kind keeps.counts ∙ sym c.value.ensures))
 
 pub returns-clause-small : goal.returns-clause-small
 returns-clause-small g c =
     let p = c.args.inst.now in
-    let f = c.requires.of in
+    let s = c.requires.keeps.0 in
+    let kept = c.requires.keeps.1 in
     let m = c.monitor-of.result in
     let is : IsMonitor p m = monitor_made p c.facts.ensures _ _ c.monitor-of.ensures in
     let l = value_small p c.facts.ensures c.args.self.now.table
-    (λ r t. (let a = f.counts r t in let b = tasks_few p c.facts.ensures c.args.self.now.told f.told r t in
+    (λ r t. (let a = kept.counts r t in let b = tasks_few p c.facts.ensures s kept.told r t in
     omega (arith, a, b))) m is in
     let e = c.value.ensures in
     omega (arith, l, e)

@@ -5,7 +5,7 @@ use Rattle.resource_monitors.specs.Posts.{AreAllReported}
 use Rattle.resource_monitors.proofs.FollowLaws.{counts_none, agrees_none, turnable, resources, counts_then, few_then}
 use Rattle.resource_monitors.proofs.FollowLaws.{agrees_then, watchers_then}
 use Rattle.resource_monitors.proofs.RunLaws.{run_within}
-use Rattle.resource_monitors.proofs.cells.follow.Goals as goal
+use Rattle.resource_monitors.proofs.cells.turn_and_report.Goals as goal
 
 pub turn_all-requires-clause-resources : goal.turn_all-requires-clause-resources
 turn_all-requires-clause-resources g c = λ j r h.

@@ -1,7 +1,7 @@
 use Rattle.std.proofs.Common.{◌∙◌, arith}
 use Rattle.timetables.specs.Counts.{no_counts}
-use Rattle.resource_monitors.proofs.OpenLaws.{family_opened}
-use Rattle.resource_monitors.proofs.cells.CellsFamily.open.Goals as goal
+use Rattle.resource_monitors.proofs.OpenLaws.{kept_opened}
+use Rattle.resource_monitors.proofs.cells.CellsKeeper.open.Goals as goal
 
 pub open-requires-2 : goal.open-requires-2
 open-requires-2 g c =
@@ -9,7 +9,7 @@ open-requires-2 g c =
     let times = c.times.ensures in
     omega (arith, few, times)
 
-pub returns-clause-of : goal.returns-clause-of
-returns-clause-of g c = family_opened g.K.CellKinds.serves_kind c.args.inst.now _ _ _ _ c.in_ok-told.ensures
+pub returns : goal.returns
+returns g c = kept_opened g.K.CellKinds.serves_kind c.args.inst.now _ _ _
     (c.in_ok-table.ensures ∙ (λ i. no_counts (c.resources.ensures i) (c.times.ensures i))) c.in_ok-sets.ensures
     c.in_ok-lists.ensures

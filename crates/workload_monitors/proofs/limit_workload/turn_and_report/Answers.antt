@@ -5,7 +5,7 @@ use Rattle.resource_monitors.proofs.PlaceLaws.{are_posts, list_at}
 use Rattle.workload_monitors.specs.Loads.{HasLoads, is_on_workload}
 use Rattle.workload_monitors.proofs.FollowLaws.{agrees_kept, agrees_then, kept, known, others_then, small_then}
 use Rattle.workload_monitors.proofs.FollowLaws.{steps_then}
-use Rattle.workload_monitors.proofs.limit_workload.follow.Goals as goal
+use Rattle.workload_monitors.proofs.limit_workload.turn_and_report.Goals as goal
 
 pub bounds-lists-r : goal.bounds-lists-r
 bounds-lists-r g c = let a = known c.args.inst.now c.facts.ensures c.args.told.now c.requires.told c.args.change

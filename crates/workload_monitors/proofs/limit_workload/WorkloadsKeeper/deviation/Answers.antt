@@ -8,7 +8,7 @@ use Rattle.khe_told.specs.Agreement.{deviation_in}
 use Rattle.workload_monitors.specs.Loads.{is_on_workload, value_in}
 use Rattle.workload_monitors.proofs.FollowLaws.{small_then}
 use Rattle.workload_monitors.proofs.ValueLaws.{value_is, value_small}
-use Rattle.workload_monitors.proofs.limit_workload.LimitWorkloadFamily.deviation.Goals as goal
+use Rattle.workload_monitors.proofs.limit_workload.WorkloadsKeeper.deviation.Goals as goal
 use Rattle.khe_instance.proofs.MadeLemmas.{monitor_made}
 
 pub value-requires-clause-monitor : goal.value-requires-clause-monitor
@@ -17,27 +17,28 @@ value-requires-clause-monitor c = monitor_made c.args.inst.now c.facts.ensures _
 pub value-requires-clause-small : goal.value-requires-clause-small
 value-requires-clause-small c =
     subst (λ xs. (r : ℕ) → slice_index xs r ≤ GREATEST_DEVIATION * c.args.inst.now.unit) (sym c.as_slice.ensures.value)
-    (small_then c.args.inst.now c.facts.ensures c.args.self.now.told c.requires.of.told c.args.self.now.told
-    c.args.self.now.loads.items c.requires.of.told c.requires.of.loads_all)
+    (small_then c.args.inst.now c.facts.ensures c.requires.keeps.0 c.requires.keeps.1.told c.requires.keeps.0
+    c.args.self.now.loads.items c.requires.keeps.1.told c.requires.keeps.1.loads_all)
 
 pub returns-clause-value : goal.returns-clause-value
-returns-clause-value c =
-    let p = c.args.inst.now in
+returns-clause-value c = λ s keeps.
+    (let p = c.args.inst.now in
     let m = c.monitor-of.result in
     let is : IsMonitor p m = monitor_made p c.facts.ensures _ _ c.monitor-of.ensures in
     let kind : is_on_workload m.kind ≡ true = subst (λ o. IfSome o (λ (x : Monitor). is_on_workload x.kind ≡ true))
     c.monitor-of.ensures c.requires.served in
-    ap (option_map (deviation_in p c.args.self.now.told)) c.monitor-of.ensures
-    ∙ ap Some (value_is p c.args.self.now.told c.args.self.now.loads.items m is kind c.requires.of.loads_all
-    ∙ sym (c.value.ensures ∙ ap (λ xs. value_in p xs m) c.as_slice.ensures.value))
+    ap (option_map (deviation_in p s)) c.monitor-of.ensures
+    ∙ ap Some (value_is p s c.args.self.now.loads.items m is kind keeps.loads_all
+    ∙ sym (c.value.ensures ∙ ap (λ xs. value_in p xs m) c.as_slice.ensures.value)))
 
 pub returns-clause-small : goal.returns-clause-small
 returns-clause-small c =
     let p = c.args.inst.now in
+    let s = c.requires.keeps.0 in
+    let kept = c.requires.keeps.1 in
     let m = c.monitor-of.result in
     let is : IsMonitor p m = monitor_made p c.facts.ensures _ _ c.monitor-of.ensures in
     let l = value_small p c.facts.ensures c.args.self.now.loads.items
-    (small_then p c.facts.ensures c.args.self.now.told c.requires.of.told c.args.self.now.told
-    c.args.self.now.loads.items c.requires.of.told c.requires.of.loads_all) m is in
+    (small_then p c.facts.ensures s kept.told s c.args.self.now.loads.items kept.told kept.loads_all) m is in
     let e = c.value.ensures ∙ ap (λ xs. value_in p xs m) c.as_slice.ensures.value in
     omega (arith, l, e)
