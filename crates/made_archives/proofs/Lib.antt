@@ -1,1 +1,11 @@
+pub mod ConstraintLaws
+pub mod DrawLaws
+pub mod EventLaws
+pub mod FaultLaws
+pub mod IdLaws
 pub mod NameLaws
+pub mod NumberLaws
+pub mod ReferenceLaws
+pub mod SizeLaws
+pub mod SolutionLaws
+pub mod UnitLaws

@@ -1,0 +1,7 @@
+use Rattle.made_archives.proofs.SizeLaws.{cell_count}
+use Rattle.made_archives.proofs.UnitLaws.{units_small}
+use Rattle.made_archives.proofs.FaultLaws.{ids_faultless, solutions_faultless}
+use Rattle.made_archives.proofs.laws.made_names_are_sound.Goals as goal
+
+pub returns : goal.returns
+returns c = λ seed size l m. (ids_faultless seed size, solutions_faultless seed size (record { some = l; few = m }))
