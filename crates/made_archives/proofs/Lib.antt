@@ -3,8 +3,10 @@ pub mod DrawLaws
 pub mod EventLaws
 pub mod FaultLaws
 pub mod IdLaws
+pub mod LimitLaws
 pub mod NameLaws
 pub mod NumberLaws
+pub mod PointLaws
 pub mod ReferenceLaws
 pub mod SizeLaws
 pub mod SolutionLaws

@@ -1,5 +1,4 @@
-use Rattle.made_archives.proofs.SizeLaws.{cell_count}
-use Rattle.made_archives.proofs.UnitLaws.{units_small}
+use Rattle.made_archives.proofs.LimitLaws.{limits_kept}
 use Rattle.made_archives.proofs.FaultLaws.{ids_faultless, solutions_faultless}
 use Rattle.made_archives.proofs.laws.made_names_are_sound.Goals as goal
 
