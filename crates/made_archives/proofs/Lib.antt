@@ -6,6 +6,7 @@ pub mod IdLaws
 pub mod LimitLaws
 pub mod NameLaws
 pub mod NumberLaws
+pub mod PartLaws
 pub mod PointLaws
 pub mod ReferenceLaws
 pub mod SizeLaws

@@ -1,3 +1,4 @@
+use Rattle.made_archives.proofs.PartLaws.{room_typed}
 use Rattle.made_archives.proofs.LimitLaws.{limits_kept}
 use Rattle.made_archives.proofs.FaultLaws.{ids_faultless, solutions_faultless}
 use Rattle.made_archives.proofs.laws.made_names_are_sound.Goals as goal
