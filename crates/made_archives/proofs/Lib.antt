@@ -1,3 +1,5 @@
+pub mod CauseLaws
+pub mod CompletionLaws
 pub mod ConstraintLaws
 pub mod DrawLaws
 pub mod EventLaws

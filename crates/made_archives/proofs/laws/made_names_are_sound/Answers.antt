@@ -1,3 +1,5 @@
+use Rattle.made_archives.proofs.CompletionLaws.{solution_completed}
+use Rattle.made_archives.proofs.CauseLaws as causes
 use Rattle.made_archives.proofs.PartLaws.{room_typed}
 use Rattle.made_archives.proofs.LimitLaws.{limits_kept}
 use Rattle.made_archives.proofs.FaultLaws.{ids_faultless, solutions_faultless}
