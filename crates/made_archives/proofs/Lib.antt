@@ -6,6 +6,7 @@ pub mod EventLaws
 pub mod FaultLaws
 pub mod IdLaws
 pub mod LimitLaws
+pub mod MadeLaws
 pub mod NameLaws
 pub mod NumberLaws
 pub mod PartLaws
