@@ -1,7 +1,7 @@
 -- What is drawn for a job is in range: times before the end, teachers and rooms that there are.
-use Rattle.std.proofs.Common.{ℕ, ◌≡◌, ◌+◌, ◌-◌, ◌*◌, ◌/◌, ◌%◌, ◌^◌, ◌==◌, ◌<◌, ◌≤◌, ◌⊎◌, inl, inr, Bool, true, false, ◌||◌}
+use Rattle.std.proofs.Common.{ℕ, ◌≡◌, ◌+◌, ◌-◌, ◌/◌, ◌%◌, ◌^◌, ◌==◌, ◌<◌, ◌≤◌, ◌⊎◌, inl, inr, Bool, true, false, ◌||◌}
 use Rattle.std.proofs.Common.{if◌then◌else◌, nat_lt, Option, Some, None, is_some, IfSome, List, [], ◌∷◌, map, All}
-use Rattle.std.proofs.Common.{refl, sym, ap, subst, ◌∙◌, arith, mod-lt, max}
+use Rattle.std.proofs.Common.{refl, sym, ap, ◌∙◌, arith, mod-lt}
 use Rattle.std.proofs.lemmas.Bool.{true≢false}
 use Rattle.std.proofs.lemmas.Bool.Decides.{nat_tests}
 use Rattle.std.proofs.lemmas.List.Elements.{All-nil, All-cons}
@@ -11,7 +11,7 @@ use Rattle.job_generator.specs.Draws.{next, drawn, perhaps}
 use Rattle.job_generator.specs.Job as job
 use Rattle.job_generator.specs.Names.{below}
 use Rattle.job_generator.specs.Turns.{in_turn}
-use Rattle.job_generator.proofs.WellFormed.{IsShort, IsShortEvent, events_short}
+use Rattle.job_generator.proofs.WellFormed.{IsShortEvent, events_short}
 
 drawn_below : (n x : ℕ) → 0 < n → drawn n x < n
 unfolding drawn

@@ -1,16 +1,14 @@
 -- The events of the instance that is made name parts of it, and end in time.
-use Rattle.std.proofs.Common.{ℕ, ◌≡◌, ◌+◌, ◌-◌, ◌*◌, ◌/◌, ◌%◌, ◌<◌, ◌≤◌, Bool, true, false, Option, Some, None, IfSome}
-use Rattle.std.proofs.Common.{List, [], ◌∷◌, ◌++◌, map, All, length, slice_get, nat_lt, if◌then◌else◌}
-use Rattle.std.proofs.Common.{refl, sym, ap, subst, ◌∙◌, arith, mod-lt, max, flat_map}
+use Rattle.std.proofs.Common.{ℕ, ◌≡◌, ◌+◌, ◌/◌, ◌%◌, ◌<◌, ◌≤◌, Option, Some, None}
+use Rattle.std.proofs.Common.{List, [], ◌∷◌, map, All, length, nat_lt, if◌then◌else◌}
+use Rattle.std.proofs.Common.{refl, sym, ap, subst, ◌∙◌, arith, mod-lt, flat_map}
 use Rattle.std.specs.Option.{option_map_or}
 use Rattle.std.specs.Prelude.{codes}
 use Rattle.std.proofs.lemmas.Bool.{le-ltb}
 use Rattle.std.proofs.lemmas.List.Elements.{All-nil, All-cons, All-head, All-tail}
 use Rattle.khe_base.specs.Names.{number_of}
+use Rattle.khe_instance.proofs.DutiesLemmas.{All-of_map}
 use Rattle.xhstt_shape.specs.declared.records.RawEvent.{RawEvent}
-use Rattle.xhstt_shape.specs.declared.records.RawEventResource.{RawEventResource}
-use Rattle.xhstt_shape.specs.declared.records.Ref.{Ref}
-use Rattle.xhstt_references.specs.Directories.{directory_of}
 use Rattle.xhstt_references.specs.References as references
 use Rattle.xhstt_entries.proofs.NumberLaws.{number_at}
 use Rattle.job_generator.specs.declared.drawing.DrawnEvent.{DrawnEvent}
@@ -18,14 +16,14 @@ use Rattle.job_generator.specs.declared.resources.Sort.TheVariants as sort
 use Rattle.job_generator.specs.Events as events
 use Rattle.job_generator.specs.Job as job
 use Rattle.job_generator.specs.Made as made
-use Rattle.job_generator.specs.Names.{to, numbered, below, to_time}
+use Rattle.job_generator.specs.Names.{to, numbered, to_time}
 use Rattle.job_generator.proofs.Spellable.{two}
 use Rattle.job_generator.proofs.WellFormed.{IsShortEvent}
 use Rattle.made_archives.proofs.DrawLaws.{AreDrawn, IsTimely, EndsInTime, some_classes}
 use Rattle.made_archives.proofs.IdLaws as id
 use Rattle.made_archives.proofs.IdLaws.{IsSize, row, both_none}
-use Rattle.made_archives.proofs.NumberLaws.{row_there, row_length, all_numbers, all_unmapped}
-use Rattle.made_archives.proofs.ReferenceLaws.{Names, none_unknown, one_known, maybe_known, none_given}
+use Rattle.made_archives.proofs.NumberLaws.{row_there, row_length, all_numbers}
+use Rattle.made_archives.proofs.ReferenceLaws.{directory, Names, none_unknown, one_known, maybe_known, none_given}
 use Rattle.made_archives.proofs.ReferenceLaws as known
 
 -- an event of a job
@@ -48,7 +46,7 @@ each_one size (e ∷ es) n s t = All-cons (IsOne size) e es
 
 pub all_ones : (size : ℕ) (es : List DrawnEvent) → AreDrawn size es → All (IsOne size) es
 all_ones size es drawn = each_one size es
-    (all_unmapped (λ n. n < size) (λ (e : DrawnEvent). e.number) es
+    (All-of_map (λ n. n < size) (λ (e : DrawnEvent). e.number) es
     (subst (All (λ n. n < size)) (sym drawn.numbers) (all_numbers (λ n. n < size) size (λ k l. l))))
     drawn.short drawn.timely
 
@@ -68,27 +66,28 @@ early_enough duration t l m = omega arith
 
 module _ (size : ℕ) (es : List DrawnEvent) (s : IsSize size) (drawn : AreDrawn size es) where
   time_known : (duration : ℕ) (o : Option ℕ) → 1 ≤ duration → EndsInTime duration o
-      → references.unknown_one (directory_of (made.instance size es)).times (to_time o) ≡ []
+      → references.unknown_one (directory size es).times (to_time o) ≡ []
   time_known duration None l h = refl
-  time_known duration (Some t) l h = one_known (directory_of (made.instance size es)).times
+  time_known duration (Some t) l h = one_known (directory size es).times
       (to (numbered (codes "t") t)) (known.time_among size es s drawn t (early_enough duration t l h))
 
   places_known : (n : ℕ)
-      → flat_map (references.unknown_in_place (directory_of (made.instance size es))) (events.places size n) ≡ []
+      → flat_map (references.unknown_in_place (directory size es)) (events.places size n) ≡ []
   unfolding events.places
   places_known n =
-      let d = directory_of (made.instance size es) in
+      let d = directory size es in
       let class : n % job.classes size < job.classes size = mod-lt n (some_classes size) in
       both_none _ _ (both_none _ _ (one_known d.resources (to (numbered (codes "c") (n % job.classes size)))
       (known.class_among size es s drawn (n % job.classes size) class)) refl)
       (both_none _ _ (one_known d.resource_types (to (codes "Teacher")) (known.type_among size es s drawn sort.Teacher))
-      (both_none _ _ (one_known d.resource_types (to (codes "Room")) (known.type_among size es s drawn sort.Room)) refl))
+      (both_none _ _ (one_known d.resource_types (to (codes "Room")) (known.type_among size es s drawn sort.Room))
+      refl))
 
   event_known : (e : DrawnEvent) → IsOne size e
-      → references.unknown_in_event (directory_of (made.instance size es)) (events.event size e) ≡ []
+      → references.unknown_in_event (directory size es) (events.event size e) ≡ []
   unfolding events.event
   event_known e one =
-      let d = directory_of (made.instance size es) in
+      let d = directory size es in
       let within = one.within in
       let half : e.number / 2 < events.halves size = omega arith in
       both_none _ _ (time_known e.duration e.time one.short.0 one.timely)
@@ -97,10 +96,10 @@ module _ (size : ℕ) (es : List DrawnEvent) (s : IsSize size) (drawn : AreDrawn
       (two (Names d.event_groups) (to (codes "all")) (to (numbered (codes "h") (e.number / 2)))
       (known.all_among size es s drawn) (known.half_among size es s drawn (e.number / 2) half))))
 
-  pub events_known : flat_map (references.unknown_in_event (directory_of (made.instance size es)))
+  pub events_known : flat_map (references.unknown_in_event (directory size es))
       (made.instance size es).events ≡ []
   events_known =
-      let d = directory_of (made.instance size es) in
+      let d = directory size es in
       none_given (references.unknown_in_event d) (made.instance size es).events
       (all_events (λ (e : RawEvent). references.unknown_in_event d e ≡ []) size es drawn event_known)
 
@@ -117,15 +116,15 @@ module _ (size : ℕ) (es : List DrawnEvent) (s : IsSize size) (drawn : AreDrawn
   -- preassigned times leave room for their events
 
   pub time_number : (t : ℕ) → t < 40
-      → number_of (numbered (codes "t") t) (directory_of (made.instance size es)).times ≡ Some t
+      → number_of (numbered (codes "t") t) (directory size es).times ≡ Some t
   time_number t l = ap (number_of (numbered (codes "t") t)) (id.time_ids size es)
       ∙ number_at (row (codes "t") 40) t (numbered (codes "t") t) id.times_distinct (row_there (codes "t") 40 t l)
 
   ends_in_time : (duration : ℕ) (o : Option ℕ) → 1 ≤ duration → EndsInTime duration o
-      → option_map_or (references.off_end_from (directory_of (made.instance size es)) duration) (to_time o) [] ≡ []
+      → option_map_or (references.off_end_from (directory size es) duration) (to_time o) [] ≡ []
   ends_in_time duration None l h = refl
   ends_in_time duration (Some t) l h =
-      let d = directory_of (made.instance size es) in
+      let d = directory size es in
       let r = to (numbered (codes "t") t) in
       let count : length d.times ≡ 40 = ap length (id.time_ids size es) ∙ row_length (codes "t") 40 in
       let enough : t + duration ≤ length d.times = subst (λ n. t + duration ≤ n) (sym count) h in
@@ -134,12 +133,12 @@ module _ (size : ℕ) (es : List DrawnEvent) (s : IsSize size) (drawn : AreDrawn
       ∙ ap (λ b. if b then r.at ∷ [] else []) (le-ltb (length d.times) (t + duration) enough)
 
   event_ends : (e : DrawnEvent) → IsOne size e
-      → references.off_end (directory_of (made.instance size es)) (events.event size e) ≡ []
+      → references.off_end (directory size es) (events.event size e) ≡ []
   unfolding events.event
   event_ends e one = ends_in_time e.duration e.time one.short.0 one.timely
 
   pub events_end : references.events_off_end (made.instance size es) ≡ []
   events_end =
-      let d = directory_of (made.instance size es) in
+      let d = directory size es in
       none_given (references.off_end d) (made.instance size es).events
       (all_events (λ (e : RawEvent). references.off_end d e ≡ []) size es drawn event_ends)

@@ -1,8 +1,7 @@
 -- The archive that is made has no fault of names and references.
-use Rattle.std.proofs.Common.{ℕ, ◌≡◌, ◌≤◌, Option, None, List, [], ◌∷◌, ◌++◌, map, flat_map, refl, sym, ap, ◌∙◌}
+use Rattle.std.proofs.Common.{ℕ, ◌≡◌, Option, None, List, [], ◌∷◌, map, flat_map, refl, ap, ◌∙◌}
 use Rattle.std.specs.Prelude.{codes}
-use Rattle.xhstt_shape.specs.declared.records.Archive.{Archive}
-use Rattle.xhstt_shape.specs.declared.records.RawSolution.{RawSolution}
+use Rattle.std.proofs.lemmas.List.{append-nil}
 use Rattle.xhstt_references.specs.Directories.{directory_of}
 use Rattle.xhstt_references.specs.Faults.{at_first, fault_of_ids, fault_of_instance, fault_of_solutions}
 use Rattle.xhstt_references.specs.Ids.{instance_ids}
@@ -11,7 +10,6 @@ use Rattle.xhstt_references.specs.References.{solutions_of, unknown_in_solutions
 use Rattle.xhstt_references.specs.declared.faults.ReferenceFault.{ReferenceFault}
 use Rattle.xhstt_references.specs.declared.faults.TheConstants.{DUPLICATE_ID, UNKNOWN_REFERENCE, DUPLICATE_ROLE}
 use Rattle.xhstt_references.specs.declared.faults.TheConstants.{EVENT_OFF_END}
-use Rattle.job_generator.specs.declared.drawing.DrawnEntry.{DrawnEntry}
 use Rattle.job_generator.specs.declared.drawing.DrawnEvent.{DrawnEvent}
 use Rattle.job_generator.specs.Job as job
 use Rattle.job_generator.specs.Made as made
@@ -49,12 +47,8 @@ module _ (size : ℕ) (es : List DrawnEvent) (s : IsSize size) (drawn : AreDrawn
 pub made_solutions : (seed size : ℕ) → solutions_of (made.made seed size)
     ≡ map solutions.solution (job.solutions size (job.events size seed).0 (job.events size seed).1).0
 unfolding made.made made.archive made.solution_group job.job
-made_solutions seed size = no_more (map solutions.solution (job.solutions size (job.events size seed).0
-    (job.events size seed).1).0)
-  where
-    no_more : (xs : List RawSolution) → xs ++ [] ≡ xs
-    no_more [] = refl
-    no_more (x ∷ xs) = ap (λ r. x ∷ r) (no_more xs)
+made_solutions seed size =
+    append-nil (map solutions.solution (job.solutions size (job.events size seed).0 (job.events size seed).1).0)
 
 pub made_ids : (seed size : ℕ) → instance_ids (made.made seed size) ≡ codes "made" ∷ []
 unfolding made.made made.archive made.instance

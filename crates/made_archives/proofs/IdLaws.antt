@@ -1,23 +1,20 @@
 -- The Ids of the instance that is made: each list of them, and that none has an Id twice.
-use Rattle.std.proofs.Common.{ℕ, ◌≡◌, ◌+◌, ◌-◌, ◌/◌, ◌<◌, ◌≤◌, ◌⊎◌, inl, inr, Bool, true, false, ◌||◌, List, [], ◌∷◌, ◌++◌}
-use Rattle.std.proofs.Common.{map, All, refl, sym, ap, subst, ◌∙◌, arith, max}
-use Rattle.std.specs.List.{filter}
+use Rattle.std.proofs.Common.{ℕ, ◌≡◌, ◌≤◌, ◌⊎◌, inl, inr, true, false, List, [], ◌∷◌, ◌++◌}
+use Rattle.std.proofs.Common.{map, refl, sym, ap, ◌∙◌, arith}
 use Rattle.std.specs.Prelude.{codes}
 use Rattle.std.specs.Str.{bytes_eq}
 use Rattle.std.proofs.lemmas.Bool.{or_cases}
-use Rattle.std.proofs.lemmas.List.{map-append}
-use Rattle.std.proofs.lemmas.List.Elements.{All-nil, All-cons, filter-append}
+use Rattle.std.proofs.lemmas.List.{append-nil, map-append}
+use Rattle.std.proofs.lemmas.List.Elements.{filter-append}
 use Rattle.std.proofs.lemmas.List.Folds.{list_any-append}
 use Rattle.std.proofs.lemmas.Simd.{map-map}
 use Rattle.khe_base.specs.Names.{is_among_names, are_distinct}
 use Rattle.khe_base.proofs.ListLemmas.{filter-all}
-use Rattle.xhstt_shape.specs.declared.records.RawInstance.{RawInstance}
 use Rattle.xhstt_shape.specs.declared.records.RawResource.{RawResource}
 use Rattle.xhstt_shape.specs.declared.records.TimeGroup.{TimeGroup}
 use Rattle.xhstt_references.specs.Ids as ids
-use Rattle.xhstt_references.specs.References.{repeated, repeated_ids}
+use Rattle.xhstt_references.specs.References.{repeated_ids}
 use Rattle.job_generator.specs.declared.drawing.DrawnEvent.{DrawnEvent}
-use Rattle.job_generator.specs.declared.resources.Sort.{Sort}
 use Rattle.job_generator.specs.declared.resources.Sort.TheVariants as sort
 use Rattle.job_generator.specs.Constraints as constraints
 use Rattle.job_generator.specs.Events as events
@@ -28,7 +25,7 @@ use Rattle.job_generator.specs.Resources as resources
 use Rattle.job_generator.specs.Times as times
 use Rattle.job_generator.proofs.Spellable.{all_made, only}
 use Rattle.made_archives.proofs.DrawLaws.{AreDrawn}
-use Rattle.made_archives.proofs.NameLaws.{IsSmall, numbered_distinct, AreForeign, distinct_joined, Begin, letter, foreign}
+use Rattle.made_archives.proofs.NameLaws.{numbered_distinct, AreForeign, distinct_joined, Begin, letter, foreign}
 use Rattle.made_archives.proofs.NameLaws.{none_repeated}
 
 -- the Ids of one word
@@ -68,11 +65,7 @@ module _ (size : ℕ) (es : List DrawnEvent) where
       (all_made (λ (g : TimeGroup). test g ≡ true) times.day (below 5) (λ n. refl))))
       ∙ map-append (λ (g : TimeGroup). g.id.text) (map times.day (below 5)) []
       ∙ ap (λ r. r ++ []) (map-map (λ (g : TimeGroup). g.id.text) times.day (below 5))
-      ∙ no_more day_row
-    where
-      no_more : (xs : List (List ℕ)) → xs ++ [] ≡ xs
-      no_more [] = refl
-      no_more (x ∷ xs) = ap (λ r. x ∷ r) (no_more xs)
+      ∙ append-nil day_row
 
   pub resource_type_ids : ids.resource_type_ids (made.instance size es)
       ≡ codes "Teacher" ∷ (codes "Class" ∷ (codes "Room" ∷ []))
@@ -166,7 +159,8 @@ event_groups_distinct size s =
     let h = row (codes "h") (events.halves size) in
     distinct_joined (codes "all" ∷ []) h refl (numbered_distinct (codes "h") (events.halves size) (omega arith))
     (foreign 97 104 (codes "all" ∷ []) h (λ e. omega arith)
-    (only (λ (n : List ℕ). letter n ≡ 97) (codes "all") refl) (row_begins 104 (codes "h") (events.halves size) (λ n. refl)))
+    (only (λ (n : List ℕ). letter n ≡ 97) (codes "all") refl)
+    (row_begins 104 (codes "h") (events.halves size) (λ n. refl)))
 
 pub events_distinct : (size : ℕ) → IsSize size → are_distinct (row (codes "e") size) ≡ true
 events_distinct size s = let few = s.few in numbered_distinct (codes "e") size (omega arith)

@@ -1,25 +1,24 @@
 -- The archive that is made is within all limits.
-use Rattle.std.proofs.Common.{ℕ, ◌≡◌, ◌+◌, ◌-◌, ◌*◌, ◌/◌, ◌<◌, ◌≤◌, Bool, true, false, cond, if◌then◌else◌, nat_lt}
-use Rattle.std.proofs.Common.{Option, Some, None, List, [], ◌∷◌, ◌++◌, All, length, map, flat_map}
-use Rattle.std.proofs.Common.{refl, sym, ap, subst, ◌∙◌, arith, length-append}
+use Rattle.std.proofs.Common.{ℕ, ◌≡◌, ◌+◌, ◌*◌, ◌≤◌, cond, if◌then◌else◌, nat_lt}
+use Rattle.std.proofs.Common.{Option, Some, None, List, [], ◌∷◌, All, length, map, flat_map}
+use Rattle.std.proofs.Common.{refl, ap, ◌∙◌, arith, length-append}
 use Rattle.std.specs.List.{enumerate_from, find, sum_by}
-use Rattle.std.specs.Option.{option_map, option_map_or, option_or}
+use Rattle.std.specs.Option.{option_map, option_or}
 use Rattle.std.specs.Prelude.{codes}
 use Rattle.std.proofs.lemmas.Bool.{le-ltb}
 use Rattle.std.proofs.lemmas.List.{length-map}
-use Rattle.std.proofs.lemmas.List.Elements.{All-nil, All-cons, All-head, All-tail, All-map, All-weaker}
+use Rattle.std.proofs.lemmas.List.Elements.{All-head, All-tail, All-map, All-weaker}
 use Rattle.std.proofs.lemmas.List.FromFn.{length-map-range_with_len}
 use Rattle.khe_base.specs.declared.limits.TheConstants.{TIMES, TIME_GROUPS, RESOURCE_TYPES, RESOURCES, RESOURCE_GROUPS}
 use Rattle.khe_base.specs.declared.limits.TheConstants.{EVENTS, EVENT_GROUPS, CONSTRAINTS, DURATION, TASKS, CELLS}
-use Rattle.khe_base.specs.declared.limits.TheConstants.{LISTED, MONITORS, SOLUTIONS, WATCHES, UNIT}
+use Rattle.khe_base.specs.declared.limits.TheConstants.{LISTED, MONITORS, WATCHES, UNIT}
 use Rattle.khe_instance.specs.Kinds.{kind_of}
 use Rattle.xhstt_shape.specs.declared.constraints.RawConstraint.{RawConstraint}
 use Rattle.xhstt_shape.specs.declared.records.RawEvent.{RawEvent}
 use Rattle.xhstt_shape.specs.declared.records.RawInstance.{RawInstance}
-use Rattle.xhstt_shape.specs.declared.records.Ref.{Ref}
-use Rattle.xhstt_resolve.specs.Limits.{above, count_fault, earliest, first_above, limit_fault, listed_fault}
+use Rattle.xhstt_resolve.specs.Limits.{above, count_fault, first_above, limit_fault, listed_fault}
 use Rattle.xhstt_resolve.specs.Limits.{listed_groups, monitor_fault, size_fault, task_count, total_duration}
-use Rattle.xhstt_resolve.specs.Limits.{unit_fault, watch_count, watched_times, watches_of}
+use Rattle.xhstt_resolve.specs.Limits.{unit_fault, watch_count, watches_of}
 use Rattle.xhstt_resolve.specs.Members.{listed_times}
 use Rattle.xhstt_resolve.specs.Points.{monitor_of, monitors_at, monitors_of, points_of}
 use Rattle.xhstt_resolve.specs.Rules.{rule_of}
@@ -37,13 +36,12 @@ use Rattle.job_generator.specs.declared.drawing.DrawnEvent.{DrawnEvent}
 use Rattle.job_generator.specs.Constraints as constraints
 use Rattle.job_generator.specs.Events as events
 use Rattle.job_generator.specs.Made as made
-use Rattle.job_generator.specs.Names.{below, numbered, to, to_each}
+use Rattle.job_generator.specs.Names.{below, to, to_each}
 use Rattle.job_generator.specs.Times as times
 use Rattle.job_generator.proofs.WellFormed.{IsShort}
 use Rattle.made_archives.proofs.ConstraintLaws.{Each, all_constraints}
 use Rattle.made_archives.proofs.DrawLaws.{AreDrawn}
 use Rattle.made_archives.proofs.IdLaws.{IsSize}
-use Rattle.made_archives.proofs.NumberLaws.{row_length}
 use Rattle.made_archives.proofs.PointLaws.{IsFew, IsModest, on_events, on_groups, on_pairs, on_resources}
 use Rattle.made_archives.proofs.PointLaws.{groups_times, one_time}
 use Rattle.made_archives.proofs.SizeLaws as count
@@ -64,7 +62,8 @@ all_within which greatest values h = ap (option_map (Limit which)) (none_found v
         ∙ none_found vs (All-tail (λ n. n ≤ greatest) v vs k)
 
 -- of faults of which none is there none is the first
-pub neither : (fault following : Option ResolveFault) → fault ≡ None → following ≡ None → option_or fault following ≡ None
+pub neither : (fault following : Option ResolveFault) → fault ≡ None → following ≡ None
+    → option_or fault following ≡ None
 neither fault following h k = λ i. option_or (h i) (k i)
 
 -- the monitors of constraints

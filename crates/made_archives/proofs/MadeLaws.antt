@@ -1,22 +1,19 @@
 -- The archive that is made is never refused, and its first solution can be completed.
-use Rattle.std.proofs.Common.{ℕ, ◌≡◌, ◌≤◌, Option, Some, None, List, [], ◌∷◌, length, map, slice_get, option_map}
-use Rattle.std.proofs.Common.{Ok, Err, refl, sym, ap, ◌∙◌, arith}
+use Rattle.std.proofs.Common.{ℕ, ◌≡◌, ◌≤◌, Some, None, List, length, map, slice_get, option_map}
+use Rattle.std.proofs.Common.{Ok, Err, refl, ap, ◌∙◌, arith}
 use Rattle.std.specs.Option.{option_and_then, option_map_or}
 use Rattle.std.specs.Prelude.{codes, unwrap_or}
 use Rattle.std.proofs.lemmas.List.{length-map}
 use Rattle.std.proofs.lemmas.Option.{slice_get-map}
 use Rattle.khe_base.specs.Names.{number_of}
 use Rattle.khe_base.specs.declared.limits.TheConstants.{SOLUTIONS}
-use Rattle.khe_instance.specs.declared.parts.Parts.{Parts}
-use Rattle.xhstt_shape.specs.declared.records.RawInstance.{RawInstance}
 use Rattle.xhstt_shape.specs.declared.records.RawSolution.{RawSolution}
-use Rattle.xhstt_references.specs.Faults.{fault_of_instance}
 use Rattle.xhstt_references.specs.Ids.{instance_ids}
 use Rattle.xhstt_references.specs.References.{solutions_of}
 use Rattle.xhstt_resolve.specs.Faults.{as_fault}
 use Rattle.xhstt_resolve.specs.Limits.{earliest}
 use Rattle.xhstt_resolve.specs.Parts.{parts_of}
-use Rattle.xhstt_resolve.specs.Resolved.{archive_fault, instance_fault, instances_of, resolved, solutions_fault}
+use Rattle.xhstt_resolve.specs.Resolved.{archive_fault, instance_fault, instances_of, resolved}
 use Rattle.xhstt_resolve.specs.declared.faults.TheConstants.{TOO_MANY_SOLUTIONS}
 use Rattle.xhstt_resolve.specs.declared.resolving.Resolved.{Resolved}
 use Rattle.xhstt_completion.specs.Completed.{state_of}

@@ -1,26 +1,23 @@
 -- Ids that are a word with a number after it: no two of them are the same, and each has the number of its place.
-use Rattle.std.proofs.Common.{ℕ, ◌≡◌, ◌+◌, ◌*◌, ◌^◌, ◌<◌, ◌≤◌, ◌⊎◌, inl, inr, zero, suc, Bool, true, false, ◌&&◌, ◌||◌, not}
-use Rattle.std.proofs.Common.{if◌then◌else◌, Some, List, [], ◌∷◌, ◌++◌, map, All, length, slice_get, option_map, get_or, eqb}
-use Rattle.std.proofs.Common.{refl, sym, ap, subst, ◌∙◌, arith, zero-add}
-use Rattle.std.specs.List.{list_any, range_with_len}
+use Rattle.std.proofs.Common.{ℕ, ◌≡◌, ◌+◌, ◌<◌, ◌≤◌, ◌⊎◌, inl, inr, zero, suc, true, false, ◌&&◌, ◌||◌, not}
+use Rattle.std.proofs.Common.{if◌then◌else◌, Some, List, [], ◌∷◌, ◌++◌, map, All, slice_get, get_or}
+use Rattle.std.proofs.Common.{refl, sym, ap, ◌∙◌, arith, zero-add}
+use Rattle.std.specs.List.{range_with_len}
 use Rattle.std.specs.Prelude.{decimal}
 use Rattle.std.specs.Str.{bytes_eq}
 use Rattle.std.proofs.lemmas.Bool.{and_from, or_from, or_left, or_right, or_parts, or_cases, not_from_false}
-use Rattle.std.proofs.lemmas.Bool.{false_from_ne_true, true≢false, and_parts, not-true, eq-eqb, ne_eqb}
+use Rattle.std.proofs.lemmas.Bool.{false_from_ne_true, true≢false, and_parts, not-true, eq-eqb}
 use Rattle.std.proofs.lemmas.Fmt.{decimal_injective}
 use Rattle.std.proofs.lemmas.List.Elements.{All-head, All-tail}
 use Rattle.std.proofs.lemmas.List.Folds.{list_any-append}
-use Rattle.std.proofs.lemmas.Option.{slice_get-map}
 use Rattle.std.proofs.lemmas.Simd.{map-map}
 use Rattle.std.proofs.lemmas.Slice.Eq.{bytes_eq-Decides}
-use Rattle.khe_base.specs.Names.{is_among_names, are_distinct, number_of}
+use Rattle.khe_base.specs.Names.{is_among_names, are_distinct}
 use Rattle.xhstt_shape.specs.declared.records.Name.{Name}
 use Rattle.xhstt_references.specs.References.{repeated, repeated_after}
 use Rattle.xhstt_references.proofs.RepeatsLemmas.{among_more}
+use Rattle.xhstt_entries.proofs.NumberLaws.{same_name}
 use Rattle.job_generator.specs.Names.{numbered, below}
-
-pub same_name : (name : List ℕ) → bytes_eq name name ≡ true
-same_name name = (bytes_eq-Decides name name).1 refl
 
 -- names with the same front are the same where what follows is
 same_front : (word xs ys : List ℕ) → bytes_eq (word ++ xs) (word ++ ys) ≡ bytes_eq xs ys
@@ -31,11 +28,13 @@ same_front (c ∷ cs) xs ys = λ i. eq-eqb c c refl i && same_front cs xs ys i
 abbrev pub IsSmall : ℕ → Type 0
 IsSmall n = n < 65536
 
-pub numbered_apart : (word : List ℕ) (j k : ℕ) → j < k → IsSmall k → bytes_eq (numbered word j) (numbered word k) ≡ false
+pub numbered_apart : (word : List ℕ) (j k : ℕ) → j < k → IsSmall k
+    → bytes_eq (numbered word j) (numbered word k) ≡ false
 numbered_apart word j k l m =
     same_front word (decimal j) (decimal k)
     ∙ false_from_ne_true (bytes_eq (decimal j) (decimal k)) (λ e.
-    let same : j ≡ k = decimal_injective j k (omega arith) (omega arith) ((bytes_eq-Decides (decimal j) (decimal k)).0 e)
+    let same : j ≡ k =
+    decimal_injective j k (omega arith) (omega arith) ((bytes_eq-Decides (decimal j) (decimal k)).0 e)
     in absurd (omega arith))
 
 module _ (f : ℕ → List ℕ) (bound : ℕ) (apart : (j k : ℕ) → j < k → k < bound → bytes_eq (f j) (f k) ≡ false) where
@@ -54,7 +53,8 @@ module _ (f : ℕ → List ℕ) (bound : ℕ) (apart : (j k : ℕ) → j < k →
       (distinct_range (a + 1) n (omega arith))
 
 -- so the Ids of a row of numbers are distinct
-pub numbered_distinct : (word : List ℕ) (count : ℕ) → IsSmall count → are_distinct (map (numbered word) (below count)) ≡ true
+pub numbered_distinct : (word : List ℕ) (count : ℕ) → IsSmall count
+    → are_distinct (map (numbered word) (below count)) ≡ true
 unfolding below
 numbered_distinct word count l =
     distinct_range (numbered word) count
@@ -100,7 +100,8 @@ begins c (n ∷ ns) x h e =
     by (or_cases (bytes_eq x n) (is_among_names x ns) e)
     (begins c ns x (All-tail (λ m. letter m ≡ c) n ns h))
   where
-    by : (bytes_eq x n ≡ true) ⊎ (is_among_names x ns ≡ true) → (is_among_names x ns ≡ true → letter x ≡ c) → letter x ≡ c
+    by : (bytes_eq x n ≡ true) ⊎ (is_among_names x ns ≡ true) → (is_among_names x ns ≡ true → letter x ≡ c)
+        → letter x ≡ c
     by (inl here) later = ap letter ((bytes_eq-Decides x n).0 here) ∙ All-head (λ m. letter m ≡ c) n ns h
     by (inr there) later = later there
 
@@ -131,7 +132,8 @@ none_again seen (n ∷ ns) d h =
     by x fresh (inr e) = one (or_cases (bytes_eq x n.text) false e)
       where
         one : (bytes_eq x n.text ≡ true) ⊎ (false ≡ true) → is_among_names x (map (λ m. m.text) ns) ≡ false
-        one (inl same) = ap (λ y. is_among_names y (map (λ (m : Name). m.text) ns)) ((bytes_eq-Decides x n.text).0 same) ∙ fresh
+        one (inl same) =
+            ap (λ y. is_among_names y (map (λ (m : Name). m.text) ns)) ((bytes_eq-Decides x n.text).0 same) ∙ fresh
         one (inr wrong) = absurd (true≢false (sym wrong))
 
 pub none_repeated : {X : Type 0} (id : X → Name) (xs : List X) → are_distinct (map (λ x. (id x).text) xs) ≡ true

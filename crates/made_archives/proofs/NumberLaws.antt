@@ -1,15 +1,14 @@
 -- The places of Ids in the lists of the instance that is made.
-use Rattle.std.proofs.Common.{ℕ, ◌≡◌, ◌+◌, ◌-◌, ◌*◌, ◌/◌, ◌%◌, ◌<◌, ◌≤◌, zero, suc, Bool, true, false, ◌||◌, Some, List, []}
-use Rattle.std.proofs.Common.{◌∷◌, ◌++◌, map, All, length, slice_get, refl, sym, ap, subst, ◌∙◌, arith, max, length-append}
+use Rattle.std.proofs.Common.{ℕ, ◌≡◌, ◌+◌, ◌-◌, ◌<◌, ◌≤◌, zero, suc, Some, List}
+use Rattle.std.proofs.Common.{◌++◌, map, All, length, slice_get, sym, ap, subst, ◌∙◌, arith, length-append}
 use Rattle.std.specs.List.{range_with_len}
 use Rattle.std.specs.Prelude.{codes}
-use Rattle.std.specs.Str.{bytes_eq}
-use Rattle.std.proofs.lemmas.List.Elements.{All-nil, All-cons, All-head, All-tail}
-use Rattle.std.proofs.lemmas.List.FromFn.{length-map-range_with_len, length-range_with_len}
+use Rattle.std.proofs.lemmas.List.Elements.{All-nil, All-cons, All-map}
+use Rattle.std.proofs.lemmas.List.FromFn.{length-map-range_with_len}
 use Rattle.xhstt_completion.proofs.PartsLemmas.{slice_get-append_left, slice_get-append_right}
 use Rattle.job_generator.specs.Job as job
 use Rattle.job_generator.specs.Names.{numbered, below}
-use Rattle.made_archives.proofs.IdLaws.{row, day_row, resource_rows}
+use Rattle.made_archives.proofs.IdLaws.{row, resource_rows}
 use Rattle.made_archives.proofs.NameLaws.{made_there}
 
 pub row_there : (word : List ℕ) (count k : ℕ) → k < count → slice_get (row word count) k ≡ Some (numbered word k)
@@ -65,17 +64,7 @@ module _ (size : ℕ) where
       there_after (p ++ c) q (job.teachers size + job.classes size) n (numbered (codes "q") n) before
       (row_there (codes "q") (job.rooms size) n l)
 
--- what is true of each number below a count is true of all that are made
-pub all_below : {T : Type 0} (P : T → Type 0) (f : ℕ → T) (count : ℕ) → ((k : ℕ) → k < count → P (f k))
-    → All P (map f (below count))
-unfolding below
-all_below P f count each = from 0 count (λ k l m. each k (omega arith))
-  where
-    from : (a n : ℕ) → ((k : ℕ) → a ≤ k → k < a + n → P (f k)) → All P (map f (range_with_len a n))
-    from a zero h = All-nil P
-    from a (suc n) h = All-cons P (f a) (map f (range_with_len (a + 1) n)) (h a (omega arith) (omega arith))
-        (from (a + 1) n (λ k l m. h k (omega arith) (omega arith)))
-
+-- what is true of each number below a count is true of all of them, and of all that are made
 pub all_numbers : (P : ℕ → Type 0) (count : ℕ) → ((k : ℕ) → k < count → P k) → All P (below count)
 unfolding below
 all_numbers P count each = from 0 count (λ k l m. each k (omega arith))
@@ -85,8 +74,6 @@ all_numbers P count each = from 0 count (λ k l m. each k (omega arith))
     from a (suc n) h = All-cons P a (range_with_len (a + 1) n) (h a (omega arith) (omega arith))
         (from (a + 1) n (λ k l m. h k (omega arith) (omega arith)))
 
--- what is true of all that are made of values is true of each value so
-pub all_unmapped : {A T : Type 0} (P : T → Type 0) (f : A → T) (xs : List A) → All P (map f xs) → All (λ x. P (f x)) xs
-all_unmapped P f [] h = All-nil (λ x. P (f x))
-all_unmapped P f (x ∷ xs) h = All-cons (λ y. P (f y)) x xs (All-head P (f x) (map f xs) h)
-    (all_unmapped P f xs (All-tail P (f x) (map f xs) h))
+pub all_below : {T : Type 0} (P : T → Type 0) (f : ℕ → T) (count : ℕ) → ((k : ℕ) → k < count → P (f k))
+    → All P (map f (below count))
+all_below P f count each = All-map P f (below count) (all_numbers (λ k. P (f k)) count each)

@@ -1,8 +1,7 @@
 -- The parts of the instance that is made: what its Ids name, its events and the types of its resources.
-use Rattle.std.proofs.Common.{ℕ, ◌≡◌, ◌+◌, ◌-◌, ◌*◌, ◌/◌, ◌<◌, ◌≤◌, zero, suc, Option, Some, None, List, [], ◌∷◌, ◌++◌, All}
-use Rattle.std.proofs.Common.{length, map, slice_get, option_map, refl, sym, ap, subst, ◌∙◌, arith, length-append, max}
+use Rattle.std.proofs.Common.{ℕ, ◌≡◌, ◌+◌, ◌<◌, zero, suc, Some, List, [], ◌∷◌, ◌++◌, All}
+use Rattle.std.proofs.Common.{length, map, slice_get, option_map, sym, ap, ◌∙◌, arith, length-append}
 use Rattle.std.specs.List.{range_with_len}
-use Rattle.std.specs.Option.{option_and_then}
 use Rattle.std.specs.Prelude.{codes}
 use Rattle.std.proofs.lemmas.List.Elements.{All-nil, All-cons}
 use Rattle.std.proofs.lemmas.List.FromFn.{length-map-range_with_len}
@@ -36,6 +35,10 @@ use Rattle.made_archives.proofs.IdLaws as id
 use Rattle.made_archives.proofs.IdLaws.{IsSize, resource_rows, row}
 use Rattle.made_archives.proofs.NameLaws.{made_there}
 use Rattle.made_archives.proofs.NumberLaws.{room_there, row_there, teacher_there, there_after}
+
+-- the parts of the instance
+abbrev pub parts : ℕ → List DrawnEvent → Parts
+parts size es = parts_of (made.instance size es)
 
 -- the part of an event with a number
 pub record IsEventAt (i : RawInstance) (es : List EventInfo) (k : ℕ) (e : RawEvent) : Type 0 where
@@ -79,7 +82,7 @@ pub record IsTyped (i : RawInstance) (x wanted : List ℕ) : Type 0 where
 
 module _ (size : ℕ) (es : List DrawnEvent) (s : IsSize size) (drawn : AreDrawn size es) where
   pub event_number : (k : ℕ) → k < size
-      → event_named (parts_of (made.instance size es)) (numbered (codes "e") k) ≡ Some (record { 0 = k })
+      → event_named (parts size es) (numbered (codes "e") k) ≡ Some (record { 0 = k })
   event_number k l =
       let i = made.instance size es in
       ap (option_map (λ (n : ℕ). let x : EventId = record { 0 = n } in x))
@@ -88,12 +91,12 @@ module _ (size : ℕ) (es : List DrawnEvent) (s : IsSize size) (drawn : AreDrawn
       (row_there (codes "e") size k l))
 
   pub time_number : (t : ℕ) → t < 40
-      → time_named (parts_of (made.instance size es)) (numbered (codes "t") t) ≡ Some (record { 0 = t })
+      → time_named (parts size es) (numbered (codes "t") t) ≡ Some (record { 0 = t })
   time_number t l = ap (option_map (λ (n : ℕ). let x : TimeId = record { 0 = n } in x))
       (timed.time_number size es s drawn t l)
 
   resource_number : (n : ℕ) (x : List ℕ) → slice_get (resource_rows size) n ≡ Some x
-      → resource_named (parts_of (made.instance size es)) x ≡ Some (record { 0 = n })
+      → resource_named (parts size es) x ≡ Some (record { 0 = n })
   resource_number n x at =
       let i = made.instance size es in
       ap (option_map (λ (m : ℕ). let r : ResourceId = record { 0 = m } in r))
@@ -106,7 +109,7 @@ module _ (size : ℕ) (es : List DrawnEvent) (s : IsSize size) (drawn : AreDrawn
   written k e at = slice_get-map (events.event size) es k ∙ ap (option_map (events.event size)) at
 
   pub event_there : (k : ℕ) (e : DrawnEvent) → slice_get es k ≡ Some e
-      → IsEventAt (made.instance size es) (parts_of (made.instance size es)).events k (events.event size e)
+      → IsEventAt (made.instance size es) (parts size es).events k (events.event size e)
   event_there k e at =
       let i = made.instance size es in
       event_at i 0 i.events k (events.event size e) (written k e at)
@@ -143,7 +146,7 @@ module _ (size : ℕ) (es : List DrawnEvent) (s : IsSize size) (drawn : AreDrawn
       before (made_there (resources.resource sort.Room) (job.rooms size) n l)
 
   type_at : (n : ℕ) (r : RawResource) → slice_get (made.instance size es).resources n ≡ Some r
-      → type_of (parts_of (made.instance size es)) (Some (record { 0 = n }))
+      → type_of (parts size es) (Some (record { 0 = n }))
       ≡ Some (type_named (made.instance size es) r.resource_type)
   type_at n r at =
       let i = made.instance size es in

@@ -1,14 +1,12 @@
 -- How many points the constraints of the instance that is made have, and how much they watch there.
-use Rattle.std.proofs.Common.{ℕ, ◌≡◌, ◌+◌, ◌-◌, ◌*◌, ◌/◌, ◌^◌, ◌==◌, ◌<◌, ◌≤◌, Bool, true, false, if◌then◌else◌, not}
-use Rattle.std.proofs.Common.{Option, Some, None, List, [], ◌∷◌, ◌++◌, All, length, map, max, slice_get, flat_map, filter}
-use Rattle.std.proofs.Common.{refl, sym, ap, subst, ◌∙◌, arith, length-append, get_or, eqb}
-use Rattle.std.specs.List.{sum_by, filter_map, cons_option, range_with_len}
+use Rattle.std.proofs.Common.{ℕ, ◌≡◌, ◌+◌, ◌*◌, ◌^◌, ◌<◌, ◌≤◌, Bool, true, false, if◌then◌else◌}
+use Rattle.std.proofs.Common.{Option, Some, None, List, [], ◌∷◌, ◌++◌, All, length, slice_get}
+use Rattle.std.proofs.Common.{refl, ap, subst, ◌∙◌, arith, get_or, eqb}
+use Rattle.std.specs.List.{sum_by, cons_option, range_with_len}
 use Rattle.std.specs.Option.{option_map_or}
-use Rattle.std.specs.Prelude.{codes}
 use Rattle.std.proofs.Math.Nat.{mul-le-mul}
 use Rattle.std.proofs.lemmas.List.{length-map}
 use Rattle.std.proofs.lemmas.List.Concat.{length-flat_map}
-use Rattle.std.proofs.lemmas.List.Elements.{All-nil, All-cons, All-head, All-tail}
 use Rattle.std.proofs.lemmas.List.FromFn.{length-range_with_len}
 use Rattle.std.proofs.lemmas.List.Sums.{sum_by-le, count_by-le-length}
 use Rattle.khe_base.specs.Names.{number_of, is_among_names}
@@ -29,7 +27,8 @@ use Rattle.xhstt_resolve.specs.Members.{members, members_in, numbers_from, numbe
 use Rattle.xhstt_resolve.specs.Members.{groups_of_event, groups_of_resource, groups_of_time}
 use Rattle.xhstt_resolve.specs.Points.{event_point, resource_point}
 use Rattle.xhstt_resolve.specs.Rules.{event_named}
-use Rattle.xhstt_resolve.specs.Points.{has_role, places_at, points_in, points_of, points_of_events, role_of, role_points}
+use Rattle.xhstt_resolve.specs.Points.{has_role, places_at, points_in, points_of, points_of_events, role_of}
+use Rattle.xhstt_resolve.specs.Points.{role_points}
 use Rattle.xhstt_resolve.proofs.MentionsLemmas.{collected_mentions, collected_few}
 use Rattle.xhstt_resolve.proofs.SizesLemmas.{length_role_points}
 use Rattle.xhstt_resolve.proofs.WatchesLemmas.{event_watches, group_watches, pair_watches, resource_watches, named_by}
@@ -37,7 +36,8 @@ use Rattle.xhstt_resolve.proofs.WellMadeLists.{listed-within, members_in-within,
 
 -- numbers below a size are mentioned first no more often than there are
 pub first_few : (size : ℕ) (ns : List ℕ) → size < 2 ^ 32 → All (λ n. n < size) ns → length (first_mentions ns) ≤ size
-first_few size ns small h = subst (λ ms. length ms ≤ size) (collected_mentions size ns h) (collected_few size ns small h)
+first_few size ns small h =
+    subst (λ ms. length ms ≤ size) (collected_mentions size ns h) (collected_few size ns small h)
 
 -- no more items are in a group than there are
 members_few : {X : Type 0} (test : X → Bool) (k : ℕ) (xs : List X) → length (numbers_from test k xs) ≤ length xs
@@ -131,7 +131,8 @@ module _ (i : RawInstance) (few : IsFew i) where
   one_group : (g : ℕ) → group_size i g ≤ 2000
   one_group g = by (slice_get i.event_groups g)
     where
-      by : (o : Option EventGroup) → option_map_or (λ (group : EventGroup). length (events_in i group.id.text)) o 0 ≤ 2000
+      by : (o : Option EventGroup)
+          → option_map_or (λ (group : EventGroup). length (events_in i group.id.text)) o 0 ≤ 2000
       by None = omega arith
       by (Some group) =
           let size = group_few (event_group_ids i) groups_of_event i.events group.id.text in

@@ -1,20 +1,16 @@
 -- Every reference of the instance that is made names a part of it.
-use Rattle.std.proofs.Common.{ℕ, ◌≡◌, ◌+◌, ◌-◌, ◌*◌, ◌/◌, ◌%◌, ◌==◌, ◌<◌, ◌≤◌, Bool, true, false, not, ◌||◌}
-use Rattle.std.proofs.Common.{if◌then◌else◌, Option, Some, None, IfSome, List, [], ◌∷◌, ◌++◌, map, All, length, slice_get}
-use Rattle.std.proofs.Common.{refl, sym, ap, subst, ◌∙◌, arith, mod-lt, max, flat_map}
-use Rattle.std.specs.List.{filter}
-use Rattle.std.specs.Prelude.{codes, decimal}
+use Rattle.std.proofs.Common.{ℕ, ◌≡◌, ◌+◌, ◌/◌, ◌%◌, ◌==◌, ◌<◌, Bool, true, false, not}
+use Rattle.std.proofs.Common.{if◌then◌else◌, Option, Some, None, IfSome, List, [], ◌∷◌, ◌++◌, map, All, slice_get}
+use Rattle.std.proofs.Common.{refl, sym, ap, subst, ◌∙◌, arith, flat_map}
+use Rattle.std.specs.Prelude.{codes}
 use Rattle.std.specs.Str.{bytes_eq}
 use Rattle.std.proofs.lemmas.Bool.{not_from_true, or_left, or_right}
 use Rattle.std.proofs.lemmas.Fmt.{decimal_digit, decimal_step}
 use Rattle.std.proofs.lemmas.List.Concat.{flat_map-cons}
-use Rattle.std.proofs.lemmas.List.Elements.{All-nil, All-cons, All-head, All-tail, All-append, All-weaker}
+use Rattle.std.proofs.lemmas.List.Elements.{All-head, All-tail, All-append, All-weaker}
 use Rattle.std.proofs.lemmas.List.Folds.{list_any-append}
-use Rattle.khe_base.specs.Names.{is_among_names, are_distinct, number_of}
+use Rattle.khe_base.specs.Names.{is_among_names}
 use Rattle.khe_base.proofs.ListLemmas.{filter-none}
-use Rattle.xhstt_shape.specs.declared.constraints.RawConstraint.{RawConstraint}
-use Rattle.xhstt_shape.specs.declared.records.RawEvent.{RawEvent}
-use Rattle.xhstt_shape.specs.declared.records.RawInstance.{RawInstance}
 use Rattle.xhstt_shape.specs.declared.records.RawResource.{RawResource}
 use Rattle.xhstt_shape.specs.declared.records.Ref.{Ref}
 use Rattle.xhstt_shape.specs.declared.records.Time.{Time}
@@ -25,20 +21,22 @@ use Rattle.xhstt_entries.proofs.NumberLaws.{among_at}
 use Rattle.job_generator.specs.declared.drawing.DrawnEvent.{DrawnEvent}
 use Rattle.job_generator.specs.declared.resources.Sort.{Sort}
 use Rattle.job_generator.specs.declared.resources.Sort.TheVariants as sort
-use Rattle.job_generator.specs.Constraints as constraints
 use Rattle.job_generator.specs.Events as events
 use Rattle.job_generator.specs.Job as job
 use Rattle.job_generator.specs.Made as made
-use Rattle.job_generator.specs.Names.{name, to, numbered, below, to_each, to_time}
+use Rattle.job_generator.specs.Names.{name, to, numbered, below}
 use Rattle.job_generator.specs.Resources as resources
 use Rattle.job_generator.specs.Times as times
-use Rattle.job_generator.proofs.Spellable.{all_made, only, three}
-use Rattle.job_generator.proofs.WellFormed.{IsShortEvent}
-use Rattle.made_archives.proofs.DrawLaws.{AreDrawn, IsTimely, EndsInTime, some_classes}
+use Rattle.job_generator.proofs.Spellable.{all_made, only}
+use Rattle.made_archives.proofs.DrawLaws.{AreDrawn}
 use Rattle.made_archives.proofs.IdLaws as id
 use Rattle.made_archives.proofs.IdLaws.{IsSize, row, day_row, resource_rows, both_none}
-use Rattle.made_archives.proofs.NumberLaws.{row_there, there_after, row_length, teacher_there, class_there, room_there}
-use Rattle.made_archives.proofs.NumberLaws.{all_below, all_numbers, all_unmapped}
+use Rattle.made_archives.proofs.NumberLaws.{row_there, teacher_there, class_there, room_there}
+use Rattle.made_archives.proofs.NumberLaws.{all_below}
+
+-- the directory of the instance
+abbrev pub directory : ℕ → List DrawnEvent → Directory
+directory size es = directory_of (made.instance size es)
 
 -- a name is one of these names
 abbrev pub IsAmong : List (List ℕ) → List ℕ → Type 0
@@ -103,104 +101,104 @@ all_resources P size es each =
 
 module _ (size : ℕ) (es : List DrawnEvent) (s : IsSize size) (drawn : AreDrawn size es) where
   -- what stands in each list of Ids
-  pub time_among : (t : ℕ) → t < 40 → IsAmong (directory_of (made.instance size es)).times (numbered (codes "t") t)
+  pub time_among : (t : ℕ) → t < 40 → IsAmong (directory size es).times (numbered (codes "t") t)
   time_among t l = subst (λ names. IsAmong names (numbered (codes "t") t)) (sym (id.time_ids size es))
       (in_row (codes "t") 40 t l)
 
-  pub day_among : (n : ℕ) → n < 5 → IsAmong (directory_of (made.instance size es)).days (numbered (codes "d") n)
+  pub day_among : (n : ℕ) → n < 5 → IsAmong (directory size es).days (numbered (codes "d") n)
   day_among n l = subst (λ names. IsAmong names (numbered (codes "d") n)) (sym (id.day_ids size es))
       (in_row (codes "d") 5 n l)
 
   pub day_group_among : (n : ℕ) → n < 5
-      → IsAmong (directory_of (made.instance size es)).time_groups (numbered (codes "d") n)
+      → IsAmong (directory size es).time_groups (numbered (codes "d") n)
   day_group_among n l = subst (λ names. IsAmong names (numbered (codes "d") n)) (sym (id.time_group_ids size es))
       (in_first day_row (codes "early" ∷ []) (numbered (codes "d") n) (in_row (codes "d") 5 n l))
 
-  pub early_among : IsAmong (directory_of (made.instance size es)).time_groups (codes "early")
+  pub early_among : IsAmong (directory size es).time_groups (codes "early")
   early_among = subst (λ names. IsAmong names (codes "early")) (sym (id.time_group_ids size es))
       (in_second day_row (codes "early" ∷ []) (codes "early") refl)
 
-  pub type_among : (s : Sort) → IsAmong (directory_of (made.instance size es)).resource_types (resources.type_id s)
+  pub type_among : (s : Sort) → IsAmong (directory size es).resource_types (resources.type_id s)
   type_among sort.Teacher = subst (λ names. IsAmong names (codes "Teacher")) (sym (id.resource_type_ids size es)) refl
   type_among sort.Class = subst (λ names. IsAmong names (codes "Class")) (sym (id.resource_type_ids size es)) refl
   type_among sort.Room = subst (λ names. IsAmong names (codes "Room")) (sym (id.resource_type_ids size es)) refl
 
-  pub group_among : (s : Sort) → IsAmong (directory_of (made.instance size es)).resource_groups (resources.group s)
+  pub group_among : (s : Sort) → IsAmong (directory size es).resource_groups (resources.group s)
   group_among sort.Teacher = subst (λ names. IsAmong names (codes "gp")) (sym (id.resource_group_ids size es)) refl
   group_among sort.Class = subst (λ names. IsAmong names (codes "gc")) (sym (id.resource_group_ids size es)) refl
   group_among sort.Room = subst (λ names. IsAmong names (codes "gq")) (sym (id.resource_group_ids size es)) refl
 
   resource_among : (k : ℕ) (x : List ℕ) → slice_get (resource_rows size) k ≡ Some x
-      → IsAmong (directory_of (made.instance size es)).resources x
+      → IsAmong (directory size es).resources x
   resource_among k x at = subst (λ names. IsAmong names x) (sym (id.resource_ids size es))
       (among_at (resource_rows size) k x at)
 
   pub teacher_among : (n : ℕ) → n < job.teachers size
-      → IsAmong (directory_of (made.instance size es)).resources (numbered (codes "p") n)
+      → IsAmong (directory size es).resources (numbered (codes "p") n)
   teacher_among n l = resource_among n (numbered (codes "p") n) (teacher_there size n l)
 
   pub class_among : (n : ℕ) → n < job.classes size
-      → IsAmong (directory_of (made.instance size es)).resources (numbered (codes "c") n)
+      → IsAmong (directory size es).resources (numbered (codes "c") n)
   class_among n l = resource_among (job.teachers size + n) (numbered (codes "c") n) (class_there size n l)
 
   pub room_among : (n : ℕ) → n < job.rooms size
-      → IsAmong (directory_of (made.instance size es)).resources (numbered (codes "q") n)
+      → IsAmong (directory size es).resources (numbered (codes "q") n)
   room_among n l = resource_among (job.teachers size + job.classes size + n) (numbered (codes "q") n)
       (room_there size n l)
 
-  pub all_among : IsAmong (directory_of (made.instance size es)).event_groups (codes "all")
+  pub all_among : IsAmong (directory size es).event_groups (codes "all")
   all_among = subst (λ names. IsAmong names (codes "all")) (sym (id.event_group_ids size es)) refl
 
   pub half_among : (n : ℕ) → n < events.halves size
-      → IsAmong (directory_of (made.instance size es)).event_groups (numbered (codes "h") n)
+      → IsAmong (directory size es).event_groups (numbered (codes "h") n)
   half_among n l = subst (λ names. IsAmong names (numbered (codes "h") n)) (sym (id.event_group_ids size es))
       (in_second (codes "all" ∷ []) (row (codes "h") (events.halves size)) (numbered (codes "h") n)
       (in_row (codes "h") (events.halves size) n l))
 
-  pub event_among : (n : ℕ) → n < size → IsAmong (directory_of (made.instance size es)).events (numbered (codes "e") n)
+  pub event_among : (n : ℕ) → n < size → IsAmong (directory size es).events (numbered (codes "e") n)
   event_among n l = subst (λ names. IsAmong names (numbered (codes "e") n)) (sym (id.event_ids size es drawn))
       (in_row (codes "e") size n l)
 
   -- times, resource groups and resources
 
-  time_known : (n : ℕ) → n < 40 → references.unknown_in_time (directory_of (made.instance size es)) (times.time n) ≡ []
+  time_known : (n : ℕ) → n < 40 → references.unknown_in_time (directory size es) (times.time n) ≡ []
   time_known n l =
-      let d = directory_of (made.instance size es) in
+      let d = directory size es in
       let day : n / 8 < 5 = omega arith in
       both_none _ _ (one_known d.days (to (numbered (codes "d") (n / 8))) (day_among (n / 8) day)) (by (n % 8 == 0))
     where
-      by : (b : Bool) → references.unknown (directory_of (made.instance size es)).time_groups
+      by : (b : Bool) → references.unknown (directory size es).time_groups
           (if b then to (codes "early") ∷ [] else []) ≡ []
-      by true = one_known (directory_of (made.instance size es)).time_groups (to (codes "early")) early_among
+      by true = one_known (directory size es).time_groups (to (codes "early")) early_among
       by false = refl
 
-  pub times_known : flat_map (references.unknown_in_time (directory_of (made.instance size es)))
+  pub times_known : flat_map (references.unknown_in_time (directory size es))
       (made.instance size es).times ≡ []
   unfolding made.instance times.times
-  times_known = none_given (references.unknown_in_time (directory_of (made.instance size es))) (map times.time (below 40))
-      (all_below (λ (t : Time). references.unknown_in_time (directory_of (made.instance size es)) t ≡ []) times.time 40
+  times_known = none_given (references.unknown_in_time (directory size es)) (map times.time (below 40))
+      (all_below (λ (t : Time). references.unknown_in_time (directory size es) t ≡ []) times.time 40
       time_known)
 
-  pub groups_known : flat_map (references.unknown_in_group (directory_of (made.instance size es)))
+  pub groups_known : flat_map (references.unknown_in_group (directory size es))
       (made.instance size es).resource_groups ≡ []
   unfolding made.instance resources.resource_groups
   groups_known =
-      let types = (directory_of (made.instance size es)).resource_types in
+      let types = (directory size es).resource_types in
       both_none _ _ (one_known types (to (codes "Teacher")) (type_among sort.Teacher))
       (both_none _ _ (one_known types (to (codes "Class")) (type_among sort.Class))
       (both_none _ _ (one_known types (to (codes "Room")) (type_among sort.Room)) refl))
 
   resource_known : (s : Sort) (n : ℕ)
-      → references.unknown_in_resource (directory_of (made.instance size es)) (resources.resource s n) ≡ []
+      → references.unknown_in_resource (directory size es) (resources.resource s n) ≡ []
   resource_known s n =
-      let d = directory_of (made.instance size es) in
+      let d = directory size es in
       both_none _ _ (one_known d.resource_types (to (resources.type_id s)) (type_among s))
       (one_known d.resource_groups (to (resources.group s)) (group_among s))
 
-  pub resources_known : flat_map (references.unknown_in_resource (directory_of (made.instance size es)))
+  pub resources_known : flat_map (references.unknown_in_resource (directory size es))
       (made.instance size es).resources ≡ []
   resources_known =
-      let d = directory_of (made.instance size es) in
+      let d = directory size es in
       let P : RawResource → Type 0 = λ r. references.unknown_in_resource d r ≡ [] in
       none_given (references.unknown_in_resource d) (made.instance size es).resources
       (all_resources P size es resource_known)

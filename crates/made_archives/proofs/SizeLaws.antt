@@ -1,12 +1,10 @@
 -- How many parts of each sort the instance that is made has.
-use Rattle.std.proofs.Common.{ℕ, ◌≡◌, ◌+◌, ◌-◌, ◌*◌, ◌/◌, ◌<◌, ◌≤◌, List, [], ◌∷◌, ◌++◌, All, length, map, max}
+use Rattle.std.proofs.Common.{ℕ, ◌≡◌, ◌+◌, ◌*◌, ◌≤◌, List, [], ◌∷◌, ◌++◌, All, length}
 use Rattle.std.proofs.Common.{refl, sym, ap, subst, ◌∙◌, arith, length-append}
-use Rattle.std.specs.List.{sum_by}
 use Rattle.std.specs.Prelude.{codes}
 use Rattle.std.proofs.lemmas.List.{length-map}
 use Rattle.std.proofs.lemmas.List.Sums.{sum_by-le}
 use Rattle.xhstt_shape.specs.declared.records.RawEvent.{RawEvent}
-use Rattle.xhstt_references.specs.Ids as ids
 use Rattle.xhstt_resolve.specs.Limits.{total_duration, task_count}
 use Rattle.xhstt_resolve.specs.Parts.{places_of}
 use Rattle.job_generator.specs.declared.drawing.DrawnEvent.{DrawnEvent}
@@ -59,7 +57,8 @@ module _ (size : ℕ) (es : List DrawnEvent) where
   pub event_group_count : IsSize size → length (made.instance size es).event_groups ≤ 1001
   event_group_count s =
       let few = s.few in
-      let is : length (made.instance size es).event_groups ≡ length (codes "all" ∷ row (codes "h") (events.halves size)) =
+      let is : length (made.instance size es).event_groups
+      ≡ length (codes "all" ∷ row (codes "h") (events.halves size)) =
       sym (length-map (made.instance size es).event_groups (λ g. g.id.text)) ∙ ap length (id.event_group_ids size es) in
       let halves = row_length (codes "h") (events.halves size) in
       omega arith

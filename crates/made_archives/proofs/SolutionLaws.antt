@@ -1,31 +1,22 @@
 -- The solutions that are made name parts of the instance.
-use Rattle.std.proofs.Common.{ℕ, ◌≡◌, ◌+◌, ◌-◌, ◌*◌, ◌/◌, ◌<◌, ◌≤◌, inl, inr, Option, Some, None, List, [], ◌∷◌, ◌++◌, map, All}
-use Rattle.std.proofs.Common.{flat_map, refl, sym, ap, subst, ◌∙◌, arith}
+use Rattle.std.proofs.Common.{ℕ, ◌≡◌, ◌<◌, ◌≤◌, inl, inr, Option, Some, None, List, [], ◌∷◌, map, All}
+use Rattle.std.proofs.Common.{flat_map, refl, sym, subst, ◌∙◌, arith}
 use Rattle.std.specs.Prelude.{codes}
 use Rattle.std.proofs.lemmas.List.Concat.{flat_map-append}
-use Rattle.std.proofs.lemmas.List.Elements.{All-nil, All-cons, All-head, All-tail, All-append}
-use Rattle.xhstt_shape.specs.declared.records.RawEntry.{RawEntry}
-use Rattle.xhstt_shape.specs.declared.records.RawGiven.{RawGiven}
-use Rattle.xhstt_shape.specs.declared.records.RawSolution.{RawSolution}
-use Rattle.xhstt_shape.specs.declared.records.Ref.{Ref}
-use Rattle.xhstt_references.specs.Directories.{directory_of}
-use Rattle.xhstt_references.specs.Ids.{instance_ids}
+use Rattle.std.proofs.lemmas.List.Elements.{All-nil, All-head, All-tail, All-append}
 use Rattle.xhstt_references.specs.References as references
-use Rattle.xhstt_references.specs.declared.directories.Directory.{Directory}
 use Rattle.job_generator.specs.declared.drawing.DrawnEntry.{DrawnEntry}
 use Rattle.job_generator.specs.declared.drawing.DrawnEvent.{DrawnEvent}
-use Rattle.job_generator.specs.declared.drawing.DrawnJob.{DrawnJob}
 use Rattle.job_generator.specs.Job as job
-use Rattle.job_generator.specs.Made as made
 use Rattle.job_generator.specs.Names.{to, numbered, below, to_time}
 use Rattle.job_generator.specs.Solutions as solutions
 use Rattle.job_generator.specs.Turns.{gathered}
 use Rattle.job_generator.proofs.Spellable.{only, two}
-use Rattle.made_archives.proofs.DrawLaws.{AreDrawn, IsBelow, EndsInTime, IsEntryOf, IsWhole, IsCut, ArePieces}
-use Rattle.made_archives.proofs.DrawLaws.{entries_pieces, events_drawn, each_in_turn}
+use Rattle.made_archives.proofs.DrawLaws.{AreDrawn, IsBelow, EndsInTime, IsEntryOf, ArePieces}
+use Rattle.made_archives.proofs.DrawLaws.{entries_pieces, each_in_turn}
 use Rattle.made_archives.proofs.EventLaws.{IsOne, all_ones}
 use Rattle.made_archives.proofs.IdLaws.{IsSize, both_none}
-use Rattle.made_archives.proofs.ReferenceLaws.{one_known, none_given}
+use Rattle.made_archives.proofs.ReferenceLaws.{directory, one_known, none_given}
 use Rattle.made_archives.proofs.ReferenceLaws as known
 
 -- what an entry names is there
@@ -86,30 +77,34 @@ solutions_named size es x drawn = each_in_turn (All (IsNamed size)) (λ n y. job
 
 module _ (size : ℕ) (es : List DrawnEvent) (s : IsSize size) (drawn : AreDrawn size es) where
   time_known : (o : Option ℕ) → IsBelow 40 o
-      → references.unknown_one (directory_of (made.instance size es)).times (to_time o) ≡ []
+      → references.unknown_one (directory size es).times (to_time o) ≡ []
   time_known None h = refl
-  time_known (Some t) h = one_known (directory_of (made.instance size es)).times (to (numbered (codes "t") t)) (known.time_among size es s drawn t h)
+  time_known (Some t) h = one_known (directory size es).times (to (numbered (codes "t") t))
+      (known.time_among size es s drawn t h)
 
   teacher_known : (o : Option ℕ) → IsBelow (job.teachers size) o
-      → flat_map (references.unknown_in_given (directory_of (made.instance size es)))
+      → flat_map (references.unknown_in_given (directory size es))
       (solutions.given_if (codes "T") (codes "p") o) ≡ []
   teacher_known None h = refl
   teacher_known (Some n) h =
-      both_none _ _ (one_known (directory_of (made.instance size es)).resources (to (numbered (codes "p") n)) (known.teacher_among size es s drawn n h)) refl
+      both_none _ _ (one_known (directory size es).resources (to (numbered (codes "p") n))
+      (known.teacher_among size es s drawn n h)) refl
 
   room_known : (o : Option ℕ) → IsBelow (job.rooms size) o
-      → flat_map (references.unknown_in_given (directory_of (made.instance size es)))
+      → flat_map (references.unknown_in_given (directory size es))
       (solutions.given_if (codes "R") (codes "q") o) ≡ []
   room_known None h = refl
   room_known (Some n) h =
-      both_none _ _ (one_known (directory_of (made.instance size es)).resources (to (numbered (codes "q") n)) (known.room_among size es s drawn n h)) refl
+      both_none _ _ (one_known (directory size es).resources (to (numbered (codes "q") n))
+      (known.room_among size es s drawn n h)) refl
 
   entry_known : (d : DrawnEntry) → IsNamed size d
-      → references.unknown_in_entry (directory_of (made.instance size es)) (solutions.entry d) ≡ []
+      → references.unknown_in_entry (directory size es) (solutions.entry d) ≡ []
   unfolding solutions.entry
   entry_known d h =
-      let given = references.unknown_in_given (directory_of (made.instance size es)) in
-      both_none _ _ (one_known (directory_of (made.instance size es)).events (to (numbered (codes "e") d.event)) (known.event_among size es s drawn d.event h.event))
+      let given = references.unknown_in_given (directory size es) in
+      both_none _ _ (one_known (directory size es).events (to (numbered (codes "e") d.event))
+      (known.event_among size es s drawn d.event h.event))
       (both_none _ _ (time_known d.time h.time)
       (flat_map-append given (solutions.given_if (codes "T") (codes "p") d.teacher)
       (solutions.given_if (codes "R") (codes "q") d.room)
@@ -117,20 +112,20 @@ module _ (size : ℕ) (es : List DrawnEvent) (s : IsSize size) (drawn : AreDrawn
 
   -- the entries of a solution
   entries_known : (ds : List DrawnEntry) → All (IsNamed size) ds
-      → flat_map (references.unknown_in_entry (directory_of (made.instance size es))) (map solutions.entry ds) ≡ []
+      → flat_map (references.unknown_in_entry (directory size es)) (map solutions.entry ds) ≡ []
   entries_known [] h = refl
   entries_known (d ∷ ds) h =
       both_none _ _ (entry_known d (All-head (IsNamed size) d ds h)) (entries_known ds (All-tail (IsNamed size) d ds h))
 
   -- a solution names the one instance that there is
   solution_known : (ds : List DrawnEntry) → All (IsNamed size) ds
-      → references.unknown_in_solution (codes "made" ∷ []) (directory_of (made.instance size es) ∷ [])
+      → references.unknown_in_solution (codes "made" ∷ []) (directory size es ∷ [])
       (solutions.solution ds) ≡ []
   unfolding solutions.solution
   solution_known ds h = entries_known ds h
 
   pub all_known : (dss : List (List DrawnEntry)) → All (All (IsNamed size)) dss
-      → flat_map (references.unknown_in_solution (codes "made" ∷ []) (directory_of (made.instance size es) ∷ []))
+      → flat_map (references.unknown_in_solution (codes "made" ∷ []) (directory size es ∷ []))
       (map solutions.solution dss) ≡ []
   all_known [] h = refl
   all_known (ds ∷ dss) h =

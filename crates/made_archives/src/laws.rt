@@ -13,8 +13,6 @@ fn no_archive_is_refused()
 
 // It is resolved to instances, and its first solution is completed by the parts of its instance.
 fn each_archive_has_a_start()
-    ensures {
-        (seed size : ℕ) → 1 ≤ size → size ≤ 2000
-            → (r : Resolved) × (resolved (made seed size) ≡ Ok r) × HasStart seed size r
-    }
+    ensures { (seed size : ℕ) → 1 ≤ size → size ≤ 2000
+        → (r : Resolved) × (resolved (made seed size) ≡ Ok r) × HasStart seed size r }
 {}
