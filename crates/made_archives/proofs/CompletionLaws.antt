@@ -150,6 +150,7 @@ module _ (size : ℕ) (es : List DrawnEvent) (s : IsSize size) (drawn : AreDrawn
   no_cause x = all_free es x 0 size [] drawn.numbers (all_ones size es drawn) (each_there size es drawn)
       (λ k event l. refl)
 
+  -- so the solution is completed, whatever was drawn
   pub solution_completed : (x : ℕ)
       → completed (parts size es) (solutions.solution (job.solution size es x).0)
       ≡ Ok (state_of (parts size es) (solutions.solution (job.solution size es x).0).events)

@@ -40,6 +40,7 @@ pub record Each (P : RawConstraint → Type 0) (size : ℕ) : Type 0 where
   pub limit_busy : P constraints.limit_busy
   pub limit_workload : P constraints.limit_workload
 
+-- so it is of the list of them
 pub all_constraints : (P : RawConstraint → Type 0) (size : ℕ) (es : List DrawnEvent) → Each P size
     → All P (made.instance size es).constraints
 unfolding made.instance constraints.constraints constraints.event_constraints constraints.part_constraints
@@ -173,6 +174,7 @@ module _ (size : ℕ) (es : List DrawnEvent) (s : IsSize size) (drawn : AreDrawn
         limit_workload = both_none _ _ teachers refl;
       }
 
+  -- no reference of a constraint is unknown
   pub constraints_known : flat_map (references.unknown_in_constraint (directory size es))
       (made.instance size es).constraints ≡ []
   constraints_known =

@@ -17,6 +17,7 @@ drawn_below : (n x : ℕ) → 0 < n → drawn n x < n
 unfolding drawn
 drawn_below n x l = mod-lt (next x / 2 ^ 33) l
 
+-- a number, if there is one, is below a count
 abbrev pub IsBelow : ℕ → Option ℕ → Type 0
 IsBelow n o = IfSome o (λ k. k < n)
 
@@ -58,6 +59,7 @@ fixed_in_time i duration x l = by (i % 20 == 19)
         in_time duration (Some (drawn (41 - duration) x)) (drawn_below (41 - duration) x some)
     by false = tt
 
+-- so it is with an event
 abbrev pub IsTimely : DrawnEvent → Type 0
 IsTimely e = EndsInTime e.duration e.time
 
@@ -71,6 +73,7 @@ event_number : (i x : ℕ) → (job.event i x).0.number ≡ i
 unfolding job.event
 event_number i x = refl
 
+-- what is true of each value that is drawn is true of all
 pub each_in_turn : {A B : Type 0} (P : B → Type 0) (step : A → ℕ → B × ℕ) → ((a : A) (x : ℕ) → P (step a x).0)
     → (xs : List A) (x : ℕ) → All P (in_turn step xs x).0
 each_in_turn P step each [] x = All-nil P
@@ -90,6 +93,7 @@ pub record AreDrawn (size : ℕ) (es : List DrawnEvent) : Type 0 where
   pub short : All IsShortEvent es
   pub timely : All IsTimely es
 
+-- what is drawn from any state is so
 pub events_drawn : (size x : ℕ) → AreDrawn size (job.events size x).0
 unfolding job.events
 events_drawn size x = record {
@@ -159,6 +163,7 @@ pub record IsCut (size : ℕ) (e : DrawnEvent) (ds : List DrawnEntry) : Type 0 w
   pub first_lasts : first.duration ≡ 1
   pub second_lasts : second.duration + 1 ≡ e.duration
 
+-- the entries of an event
 abbrev pub ArePieces : ℕ → DrawnEvent → List DrawnEntry → Type 0
 ArePieces size e ds = IsWhole size e ds ⊎ IsCut size e ds
 
@@ -173,6 +178,7 @@ cut_free e x h = by (is_some e.time) (nat_lt e.duration 2) refl refl h
     by false true f g h = absurd (true≢false (sym h))
     by false false f g h = (sym f, grind (arith, nat_tests))
 
+-- those that are drawn for an event are so
 pub entries_pieces : (size : ℕ) (e : DrawnEvent) (x : ℕ) → IsShortEvent e → ArePieces size e (job.entries size e x).0
 unfolding job.entries job.cut_entries job.whole_entry
 entries_pieces size e x s = by (job.is_cut e x).0 (job.is_cut e x).1 (cut_free e x)

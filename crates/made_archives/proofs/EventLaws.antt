@@ -44,6 +44,7 @@ each_one size (e ∷ es) n s t = All-cons (IsOne size) e es
     (each_one size es (All-tail (λ (e : DrawnEvent). e.number < size) e es n) (All-tail IsShortEvent e es s)
     (All-tail IsTimely e es t))
 
+-- each event that is drawn is one
 pub all_ones : (size : ℕ) (es : List DrawnEvent) → AreDrawn size es → All (IsOne size) es
 all_ones size es drawn = each_one size es
     (All-of_map (λ n. n < size) (λ (e : DrawnEvent). e.number) es
@@ -61,6 +62,7 @@ all_events P size es drawn each = from es (all_ones size es drawn)
     from (x ∷ xs) h = All-cons P (events.event size x) (map (events.event size) xs)
         (each x (All-head (IsOne size) x xs h)) (from xs (All-tail (IsOne size) x xs h))
 
+-- a time that leaves room is one of the forty
 pub early_enough : (duration t : ℕ) → 1 ≤ duration → t + duration ≤ 40 → t < 40
 early_enough duration t l m = omega arith
 
@@ -96,6 +98,7 @@ module _ (size : ℕ) (es : List DrawnEvent) (s : IsSize size) (drawn : AreDrawn
       (two (Names d.event_groups) (to (codes "all")) (to (numbered (codes "h") (e.number / 2)))
       (known.all_among size es s drawn) (known.half_among size es s drawn (e.number / 2) half))))
 
+  -- no reference of an event is unknown
   pub events_known : flat_map (references.unknown_in_event (directory size es))
       (made.instance size es).events ≡ []
   events_known =

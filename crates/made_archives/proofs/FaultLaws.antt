@@ -35,6 +35,7 @@ module _ (size : ℕ) (es : List DrawnEvent) (s : IsSize size) (drawn : AreDrawn
       (both_none _ _ (resources_known size es s drawn)
       (both_none _ _ (events_known size es s drawn) (constraints_known size es s drawn))))
 
+  -- the instance has no fault of names and references
   pub instance_faultless : fault_of_instance (made.instance size es) ≡ None
   instance_faultless =
       let i = made.instance size es in
@@ -54,10 +55,12 @@ pub made_ids : (seed size : ℕ) → instance_ids (made.made seed size) ≡ code
 unfolding made.made made.archive made.instance
 made_ids seed size = refl
 
+-- no Id of instances or of solution groups comes twice
 pub ids_faultless : (seed size : ℕ) → fault_of_ids (made.made seed size) ≡ None
 unfolding made.made made.archive made.instance made.solution_group
 ids_faultless seed size = refl
 
+-- no reference of the solutions is unknown
 pub solutions_faultless : (seed size : ℕ) → IsSize size → fault_of_solutions (made.made seed size) ≡ None
 solutions_faultless seed size s =
     let a = made.made seed size in

@@ -32,6 +32,7 @@ use Rattle.made_archives.proofs.NameLaws.{none_repeated}
 abbrev pub row : List ℕ → ℕ → List (List ℕ)
 row word count = map (numbered word) (below count)
 
+-- the Ids of the days, and those of teachers, classes and rooms
 abbrev pub day_row : List (List ℕ)
 day_row = row (codes "d") 5
 
@@ -169,6 +170,7 @@ events_distinct size s = let few = s.few in numbered_distinct (codes "e") size (
 pub both_none : {A : Type 0} (xs ys : List A) → xs ≡ [] → ys ≡ [] → xs ++ ys ≡ []
 both_none xs ys h k = λ i. h i ++ k i
 
+-- no Id of the instance comes twice
 pub none_repeated_ids : (size : ℕ) (es : List DrawnEvent) → IsSize size → AreDrawn size es
     → repeated_ids (made.instance size es) ≡ []
 none_repeated_ids size es s drawn =

@@ -304,5 +304,6 @@ module _ (size : ℕ) (es : List DrawnEvent) (s : IsSize size) (drawn : AreDrawn
       (neither _ _ (within TOO_MANY_CELLS CELLS (length i.resources * length i.times) (omega arith))
       (neither _ _ listed_within (neither _ _ monitor_within refl))))
 
+  -- no limit is passed
   pub limits_kept : limit_fault (made.instance size es) ≡ None
   limits_kept = neither _ _ count_within (neither _ _ size_within refl)

@@ -28,6 +28,7 @@ same_front (c ∷ cs) xs ys = λ i. eq-eqb c c refl i && same_front cs xs ys i
 abbrev pub IsSmall : ℕ → Type 0
 IsSmall n = n < 65536
 
+-- the same word with a smaller number is another Id
 pub numbered_apart : (word : List ℕ) (j k : ℕ) → j < k → IsSmall k
     → bytes_eq (numbered word j) (numbered word k) ≡ false
 numbered_apart word j k l m =
@@ -76,6 +77,7 @@ made_there f count k l = from 0 count k l ∙ ap (λ n. Some (f n)) (zero-add k)
 abbrev pub AreForeign : List (List ℕ) → List (List ℕ) → Type 0
 AreForeign xs ys = (x : List ℕ) → is_among_names x xs ≡ true → is_among_names x ys ≡ false
 
+-- they are, where each of them is
 pub distinct_joined : (xs ys : List (List ℕ)) → are_distinct xs ≡ true → are_distinct ys ≡ true → AreForeign xs ys
     → are_distinct (xs ++ ys) ≡ true
 distinct_joined [] ys d e h = e
@@ -91,6 +93,7 @@ distinct_joined (x ∷ xs) ys d e h =
 abbrev pub letter : List ℕ → ℕ
 letter name = get_or name 0 0
 
+-- names that begin with a letter
 abbrev pub Begin : ℕ → List (List ℕ) → Type 0
 Begin c names = All (λ n. letter n ≡ c) names
 
@@ -105,6 +108,7 @@ begins c (n ∷ ns) x h e =
     by (inl here) later = ap letter ((bytes_eq-Decides x n).0 here) ∙ All-head (λ m. letter m ≡ c) n ns h
     by (inr there) later = later there
 
+-- names of two letters have none in common
 pub foreign : (c d : ℕ) (xs ys : List (List ℕ)) → (c ≡ d → ⊥) → Begin c xs → Begin d ys → AreForeign xs ys
 foreign c d xs ys apart h k x e =
     false_from_ne_true (is_among_names x ys) (λ f. apart (sym (begins c xs x h e) ∙ begins d ys x k f))
@@ -136,6 +140,7 @@ none_again seen (n ∷ ns) d h =
             ap (λ y. is_among_names y (map (λ (m : Name). m.text) ns)) ((bytes_eq-Decides x n.text).0 same) ∙ fresh
         one (inr wrong) = absurd (true≢false (sym wrong))
 
+-- so what has distinct Ids repeats none
 pub none_repeated : {X : Type 0} (id : X → Name) (xs : List X) → are_distinct (map (λ x. (id x).text) xs) ≡ true
     → repeated (map id xs) ≡ []
 none_repeated id xs d =

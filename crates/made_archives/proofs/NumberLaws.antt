@@ -11,6 +11,7 @@ use Rattle.job_generator.specs.Names.{numbered, below}
 use Rattle.made_archives.proofs.IdLaws.{row, resource_rows}
 use Rattle.made_archives.proofs.NameLaws.{made_there}
 
+-- what stands at a place of a row, and how long it is
 pub row_there : (word : List ℕ) (count k : ℕ) → k < count → slice_get (row word count) k ≡ Some (numbered word k)
 row_there word count k l = made_there (numbered word) count k l
 
@@ -27,6 +28,7 @@ there_after xs ys n k y e at =
     slice_get-append_right xs ys (n + k) past ∙ ap (slice_get ys) left ∙ at
 
 module _ (size : ℕ) where
+  -- where the Ids of teachers, classes and rooms stand
   pub teacher_there : (n : ℕ) → n < job.teachers size
       → slice_get (resource_rows size) n ≡ Some (numbered (codes "p") n)
   teacher_there n l =

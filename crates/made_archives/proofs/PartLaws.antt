@@ -45,6 +45,7 @@ pub record IsEventAt (i : RawInstance) (es : List EventInfo) (k : ℕ) (e : RawE
   pub first : ℕ
   pub found : slice_get es k ≡ Some (event_of i first e)
 
+-- each event has its part
 pub event_at : (i : RawInstance) (next : ℕ) (es : List RawEvent) (k : ℕ) (e : RawEvent) → slice_get es k ≡ Some e
     → IsEventAt i (events_from i next es) k e
 event_at i next [] k e at = absurd (let g : ⊥ = cc in g)
@@ -68,6 +69,7 @@ from_place all (x ∷ xs) a (suc n) h at =
     (ap (slice_get all) number ∙ ap (slice_get all) z ∙ sym (at 0))
     (from_place all xs (a + 1) n rest later)
 
+-- so do those of a job
 pub each_there : (size : ℕ) (es : List DrawnEvent) → AreDrawn size es
     → All (λ (e : DrawnEvent). slice_get es e.number ≡ Some e) es
 unfolding below

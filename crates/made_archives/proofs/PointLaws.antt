@@ -146,6 +146,7 @@ module _ (i : RawInstance) (few : IsFew i) where
       by true = omega arith
       by false = omega arith
 
+  -- what constraints on events, on groups, on pairs and on resources have and watch
   pub on_events : (c : RawConstraint) (groups events : List Ref) → c.applies ≡ applied.Events groups events
       → IsModest i 6000 c
   on_events c groups events is =
@@ -197,6 +198,7 @@ module _ (i : RawInstance) (few : IsFew i) where
       let count = few.times in
       omega arith
 
+  -- five groups have at most 200 times with repeats, and one time is one
   pub groups_times : (groups : List Ref) → length groups ≤ 5 → sum_by (λ g. length (times_in i g.id)) groups ≤ 200
   groups_times groups l =
       let f = λ (g : Ref). length (times_in i g.id) in

@@ -42,6 +42,7 @@ directory size es = directory_of (made.instance size es)
 abbrev pub IsAmong : List (List ℕ) → List ℕ → Type 0
 IsAmong names name = is_among_names name names ≡ true
 
+-- an Id is in its row, and in lists that are joined
 pub in_row : (word : List ℕ) (count k : ℕ) → k < count → IsAmong (row word count) (numbered word k)
 in_row word count k l = among_at (row word count) k (numbered word k) (row_there word count k l)
 
@@ -55,6 +56,7 @@ in_second xs ys x h = list_any-append (λ n. bytes_eq x n) xs ys ∙ or_right (i
 abbrev pub Names : List (List ℕ) → Ref → Type 0
 Names ids r = IsAmong ids r.id
 
+-- so it is with a list of them, with one and with none
 pub none_unknown : (ids : List (List ℕ)) (refs : List Ref) → All (Names ids) refs → references.unknown ids refs ≡ []
 none_unknown ids refs h =
     ap (map (λ (r : Ref). r.at)) (filter-none (λ (r : Ref). not (is_among_names r.id ids)) refs
@@ -172,6 +174,7 @@ module _ (size : ℕ) (es : List DrawnEvent) (s : IsSize size) (drawn : AreDrawn
       by true = one_known (directory size es).time_groups (to (codes "early")) early_among
       by false = refl
 
+  -- no reference of a time, of a resource group or of a resource is unknown
   pub times_known : flat_map (references.unknown_in_time (directory size es))
       (made.instance size es).times ≡ []
   unfolding made.instance times.times

@@ -54,6 +54,7 @@ module _ (size : ℕ) (es : List DrawnEvent) where
   resource_count s = let few = s.few in let is = resource_count_is in
       subst (λ n. n ≤ 800) (sym is) (omega arith)
 
+  -- at most one group for two events, and that of all events
   pub event_group_count : IsSize size → length (made.instance size es).event_groups ≤ 1001
   event_group_count s =
       let few = s.few in
@@ -90,6 +91,7 @@ module _ (size : ℕ) (es : List DrawnEvent) where
     pub durations : All (λ (e : RawEvent). IsShort e.duration) (made.instance size es).events
     durations = all_events (λ (e : RawEvent). IsShort e.duration) size es drawn shorts
 
+    -- all events together last at most 6000 times, and take their three places for as long
     pub duration_sum : total_duration (made.instance size es) ≤ 6000
     duration_sum =
         let i = made.instance size es in

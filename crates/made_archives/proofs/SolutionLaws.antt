@@ -69,6 +69,7 @@ entries_named size es x h = from es x h
         (pieces_named size e (job.entries size e y).0 one (entries_pieces size e y one.short))
         (from more (job.entries size e y).1 (All-tail (IsOne size) e more k))
 
+-- so it is in all entries of all solutions
 pub solutions_named : (size : ℕ) (es : List DrawnEvent) (x : ℕ) → AreDrawn size es
     → All (All (IsNamed size)) (job.solutions size es x).0
 unfolding job.solutions
@@ -124,6 +125,7 @@ module _ (size : ℕ) (es : List DrawnEvent) (s : IsSize size) (drawn : AreDrawn
   unfolding solutions.solution
   solution_known ds h = entries_known ds h
 
+  -- no reference of the solutions is unknown
   pub all_known : (dss : List (List DrawnEntry)) → All (All (IsNamed size)) dss
       → flat_map (references.unknown_in_solution (codes "made" ∷ []) (directory size es ∷ []))
       (map solutions.solution dss) ≡ []

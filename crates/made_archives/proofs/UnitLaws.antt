@@ -64,5 +64,6 @@ units_from u (d ∷ ds) h s =
     (at_most_six (least_multiple u d) next)
     (units_from (least_multiple u d) ds next (All-tail IsShort d ds s))
 
+-- the running multiples of such durations
 pub units_small : (ds : List ℕ) → All IsShort ds → All (λ n. n ≤ 6) (running_units 1 ds)
 units_small ds s = units_from 1 ds (inl refl) s
