@@ -1,0 +1,17 @@
+pub mod CauseLaws
+pub mod CompletionLaws
+pub mod ConstraintLaws
+pub mod DrawLaws
+pub mod EventLaws
+pub mod FaultLaws
+pub mod IdLaws
+pub mod LimitLaws
+pub mod MadeLaws
+pub mod NameLaws
+pub mod NumberLaws
+pub mod PartLaws
+pub mod PointLaws
+pub mod ReferenceLaws
+pub mod SizeLaws
+pub mod SolutionLaws
+pub mod UnitLaws
