@@ -24,10 +24,7 @@ stands-only (Some under) name bytes answer stands is = subst (λ o. IsOnlyAnswer
 -- where something is read, nothing is said of what stays where nothing is
 pub not_unread : {P : Type 0} (o : Option Asked) (a : Asked) → o ≡ Some a → is_read (Some a) ≡ true
     → is_read o ≡ false → P
-not_unread {P} o a is read unread = let g : ⊥ = cc in absurd g
-  where
-    absurd : ⊥ → P
-    absurd ()
+not_unread o a is read unread = absurd (let g : ⊥ = cc in g)
 
 -- a status of its own
 not_decided : (n : ℕ) → (n ≡ 4) ⊎ (n ≡ 5) ⊎ (n ≡ 6) → IsDecided n → ⊥

@@ -1,28 +1,30 @@
 -- How a run ends that makes an archive, or runs its job.
-use Rattle.std.proofs.Common.{ℕ, ◌≡◌, ◌<◌, ◌^◌, ◌⊎◌, inl, inr, Bool, List, [], Option, Some, None, IfSome}
-use Rattle.std.proofs.Common.{IsTrue, Ok, Err, sym, ap, subst, ◌∙◌, refl, arith, encode_utf8_all, length, slice_get}
-use Rattle.std.specs.Str.{IsUtf8, chars}
+use Rattle.std.proofs.Common.{ℕ, ◌≡◌, ◌<◌, ◌≤◌, ◌^◌, ◌⊎◌, inl, inr, List, [], Option, Some, None, IfSome, Bool}
+use Rattle.std.proofs.Common.{Ok, Err, sym, ap, subst, ◌∙◌, refl, arith, encode_utf8_all, length, slice_get, IsTrue}
+use Rattle.std.specs.Option.{option_map_or}
+use Rattle.std.specs.Str.{chars}
 use Rattle.std.proofs.lemmas.Str.{encodes-chars}
 use Rattle.std.proofs.lemmas.Option.{same_Some}
 use Rattle.job_generator.specs.Made.{made}
 use Rattle.job_generator.proofs.SlotLaws.{made_instances}
 use Rattle.khe_instance.specs.declared.parts.Parts.{Parts}
 use Rattle.khe_instance.specs.declared.states.Plain.{Plain}
+use Rattle.made_archives.specs.Starts.{HasStart}
+use Rattle.made_archives.proofs.MadeLaws.{has_start, made_resolved}
 use Rattle.made_run.specs.Runs.{IsRunLine}
-use Rattle.khe_app.specs.Answers.{IsBarredBy, IsNamedUnread, IsUnreadEnd}
-use Rattle.khe_app.specs.Ends.{Holdings, IsDecided, IsEnd, LacksOf, Written}
-use Rattle.khe_app.specs.Outcome.{Reading, evaluable, refused, Start, begins, barred, start_in, start_of, IsOutcomeOf}
-use Rattle.khe_app.specs.Outcome.{IsRead, IsRunIn, IsRunTo}
-use Rattle.khe_app.specs.Readings.{of_resolve}
-use Rattle.khe_app.specs.Refusals.{refusal_line}
+use Rattle.khe_app.specs.Answers.{IsBarredBy}
+use Rattle.khe_app.specs.Ends.{Holdings, IsEnd, LacksOf, Written}
+use Rattle.khe_app.specs.Outcome.{Start, begins, barred, start_by, start_of, IsOutcomeOf, IsRunTo}
 use Rattle.khe_app.specs.Words.{making, running}
 use Rattle.khe_app.specs.declared.reading.Unread.{Unread}
 use Rattle.khe_app.specs.declared.reading.Unread.TheVariants as unread
 use Rattle.khe_app.specs.declared.refusals.Refusal.{Refusal}
-use Rattle.khe_app.specs.declared.refusals.Refusal.TheVariants.{Fault, Limit}
+use Rattle.khe_app.specs.declared.refusals.Refusal.TheVariants.{NoSuchSolution}
 use Rattle.khe_app.proofs.CheckEnds.{canonical_utf8}
 use Rattle.khe_app.proofs.EndsLemmas.{end_starved, end_written, not_two}
-use Rattle.khe_app.proofs.RepairEnds.{decided, two_apart, four_apart}
+use Rattle.parallel_solve.specs.Verdicts.{parts_at}
+use Rattle.xhstt_completion.specs.Completed.{completed}
+use Rattle.xhstt_references.specs.References.{solutions_of}
 use Rattle.xhstt_resolve.specs.Answers.{IsFaultOf}
 use Rattle.xhstt_resolve.specs.Resolved.{resolved}
 use Rattle.xhstt_resolve.specs.declared.faults.ResolveFault.{ResolveFault}
@@ -60,43 +62,35 @@ zero_two e = omega (arith, e)
 
 -- the run of a job
 
-of_start : (seed size : ℕ) (s : Start) (status : ℕ) (text : List ℕ) → IsRunIn seed size s status text
-    → (status ≡ 0) ⊎ (status ≡ 3)
-of_start seed size (barred refusal) status text h = inr h.0
-of_start seed size (begins p plain) status text h = inl h.0
-
-of_run : (seed size status : ℕ) (text : List ℕ) → IsRunTo seed size status text → (status ≡ 0) ⊎ (status ≡ 3)
-of_run seed size status text r = of_start seed size (start_in 0 r.reading) status text r.run
-
-running_outcome : (h : Holdings) (seed size status : ℕ) (text : List ℕ) → IsRunTo seed size status text
-    → IfSome h (λ under. IsOutcomeOf (Some (running seed size)) under status text)
-running_outcome None seed size status text r = tt
-running_outcome (Some under) seed size status text r = r
+running_outcome : (h : Holdings) (seed size : ℕ) (text : List ℕ) → IsRunTo seed size 0 text
+    → IfSome h (λ under. IsOutcomeOf (Some (running seed size)) under 0 text)
+running_outcome None seed size text r = tt
+running_outcome (Some under) seed size text r = r
 
 running_there : (h : Holdings) (seed size : ℕ) → LacksOf (Some (running seed size)) h → ⊥
 running_there None seed size l = l
-running_there (Some under) seed size l = four_apart (of_run seed size 4 [] l)
+running_there (Some under) seed size l = let e : ◌≡◌ {A = ℕ} 4 0 = l.status_is in omega (arith, e)
+
+-- the line was written, or memory ran out before anything was
+abbrev IsRan : ℕ → ℕ → Option (List ℕ) → Option (List ℕ) → ℕ → ℕ → ℕ → Type 0
+IsRan seed size before after sink sink2 result =
+    ((result ≡ 6) × (after ≡ before)) ⊎ ((text : List ℕ) × IsRunTo seed size 0 text
+    × Written before after sink sink2 (encode_utf8_all text) 0 result)
 
 pub end_running : (h : Holdings) (seed size : ℕ) (sound : Bool) (faults : ℕ) (before after : Option (List ℕ))
-    (sink sink2 result : ℕ)
-    → ((result ≡ 6) × (after ≡ before)) ⊎ ((status : ℕ) × (text : List ℕ) × IsRunTo seed size status text
-    × Written before after sink sink2 (encode_utf8_all text) status result)
+    (sink sink2 result : ℕ) → IsRan seed size before after sink sink2 result
     → IsEnd (Some (running seed size)) h sound faults faults before after sink sink2 result
 end_running h seed size sound faults before after sink sink2 result (inl w) =
     end_starved (Some (running seed size)) h sound faults faults before after sink sink2 result w.0 w.1
-end_running h seed size sound faults before after sink sink2 result (inr (status, text, r, w)) =
-    end_written (Some (running seed size)) h sound faults faults before after sink sink2 text status result
-    (running_outcome h seed size status text r) (decided status (of_run seed size status text r)) w
-    (λ s l. running_there h seed size l)
+end_running h seed size sound faults before after sink sink2 result (inr (text, r, w)) =
+    end_written (Some (running seed size)) h sound faults faults before after sink sink2 text 0 result
+    (running_outcome h seed size text r) (inl refl) w (λ s l. running_there h seed size l)
 
 pub running_not_two : (seed size : ℕ) (before after : Option (List ℕ)) (sink sink2 result : ℕ)
-    → ((result ≡ 6) × (after ≡ before)) ⊎ ((status : ℕ) × (text : List ℕ) × IsRunTo seed size status text
-    × Written before after sink sink2 (encode_utf8_all text) status result)
-    → result ≡ 2 → ⊥
+    → IsRan seed size before after sink sink2 result → result ≡ 2 → ⊥
 running_not_two seed size before after sink sink2 result (inl w) two = let six = w.0 in omega (arith, six, two)
-running_not_two seed size before after sink sink2 result (inr (status, text, r, w)) two =
-    not_two before after sink sink2 (encode_utf8_all text) status result w
-    (two_apart status (of_run seed size status text r)) two
+running_not_two seed size before after sink sink2 result (inr (text, r, w)) two =
+    not_two before after sink sink2 (encode_utf8_all text) 0 result w zero_two two
 
 -- the archive that was made has one instance
 one_few : (n : ℕ) → n ≡ 1 → n < 2 ^ 32
@@ -107,94 +101,61 @@ made_few seed size a e =
     one_few (length a.instances)
     (ap (λ (x : Archive). length x.instances) e ∙ ap length (made_instances seed size))
 
--- it is resolved, or why not
-pub named_fault : (f : ResolveFault) → IsNamedUnread (of_resolve f)
-named_fault (resolve.Bad kind at) = tt
-named_fault (resolve.Limit which value) = tt
-named_fault resolve.NoMemory = tt
+no_fault : (seed size : ℕ) (a : Archive) (f : ResolveFault) → 1 ≤ size → size ≤ 2000 → a ≡ made seed size
+    → resolved a ≡ Err f → ⊥
+no_fault seed size a f some few e is =
+    let made_is = made_resolved seed size some few in
+    let faulty : resolved (made seed size) ≡ Err f = sym (ap resolved e) ∙ is in
+    let g : ⊥ = cc in g
 
-read_as : (seed size : ℕ) (a : Archive) (r : Resolved) → a ≡ made seed size → resolved a ≡ Ok r
-    → IsRead (made seed size) (resolved (made seed size)) (evaluable a r)
-read_as seed size a r e is =
-    subst (λ (x : Archive). IsRead x (resolved x) (evaluable a r)) e
-    (subst (λ o. IsRead a o (evaluable a r)) (sym is) refl)
+-- it is resolved, so that a fault is want of memory
+pub not_refused : (seed size : ℕ) (a : Archive) (f : ResolveFault) → 1 ≤ size → size ≤ 2000 → a ≡ made seed size
+    → IsFaultOf (resolved a) f → f ≡ resolve.NoMemory
+not_refused seed size a resolve.NoMemory some few e is = refl
+not_refused seed size a (resolve.Bad kind at) some few e is = absurd (no_fault seed size a _ some few e is)
+not_refused seed size a (resolve.Limit which value) some few e is = absurd (no_fault seed size a _ some few e is)
 
-pub run_of_archive : (seed size : ℕ) (a : Archive) (r : Resolved) (before after : Option (List ℕ))
-    (sink sink2 result : ℕ) → a ≡ made seed size → resolved a ≡ Ok r
-    → ((result ≡ 6) × (after ≡ before)) ⊎ ((status : ℕ) × (text : List ℕ)
-    × IsRunIn seed size (start_of a r 0) status text
-    × Written before after sink sink2 (encode_utf8_all text) status result)
-    → ((result ≡ 6) × (after ≡ before)) ⊎ ((status : ℕ) × (text : List ℕ) × IsRunTo seed size status text
-    × Written before after sink sink2 (encode_utf8_all text) status result)
-run_of_archive seed size a r before after sink sink2 result e is (inl w) = inl w
-run_of_archive seed size a r before after sink sink2 result e is (inr (status, text, h, w)) =
-    inr (status, text, record { reading = evaluable a r; is = read_as seed size a r e is; run = h }, w)
+-- and its first solution begins the run
+started_as : (seed size : ℕ) (r : Resolved) (h : HasStart seed size r)
+    → start_of (made seed size) r 0 ≡ begins h.parts h.state
+started_as seed size r h =
+    ap (λ o. option_map_or (λ raw. option_map_or (λ p. start_by p (completed p raw)) (parts_at r 0)
+    (barred NoSuchSolution)) o (barred NoSuchSolution)) h.first
+    ∙ ap (λ o. option_map_or (λ p. start_by p (completed p h.solution)) o (barred NoSuchSolution)) h.parts_are
+    ∙ ap (start_by h.parts) h.completed_is
 
-refused_as : (seed size : ℕ) (a : Archive) (refusal : Refusal) (f : ResolveFault) → a ≡ made seed size
-    → resolved a ≡ Err f → IsRead a (Err f) (refused refusal)
-    → IsRunTo seed size 3 (refusal_line refusal)
-refused_as seed size a refusal f e is read = record {
-  reading = refused refusal;
-  is = subst (λ (x : Archive). IsRead x (resolved x) (refused refusal)) e
-      (subst (λ o. IsRead a o (refused refusal)) (sym is) read);
-  run = (refl, refl);
-}
-
-pub run_of_fault : (seed size : ℕ) (a : Archive) (f : ResolveFault) (before after : Option (List ℕ))
-    (sink sink2 result : ℕ) → a ≡ made seed size → IsFaultOf (resolved a) f
-    → IsUnreadEnd before after sink sink2 result (of_resolve f)
-    → ((result ≡ 6) × (after ≡ before)) ⊎ ((status : ℕ) × (text : List ℕ) × IsRunTo seed size status text
-    × Written before after sink sink2 (encode_utf8_all text) status result)
-run_of_fault seed size a (resolve.Bad kind at) before after sink sink2 result e is w =
-    inr (
-      3,
-      refusal_line (Fault kind at),
-      refused_as seed size a (Fault kind at) (resolve.Bad kind at) e is refl,
-      w,
+pub start_made : (seed size : ℕ) (a : Archive) (r : Resolved) → 1 ≤ size → size ≤ 2000 → a ≡ made seed size
+    → resolved a ≡ Ok r → (p : Parts) × (plain : Plain) × (start_of a r 0 ≡ begins p plain)
+start_made seed size a r some few e is =
+    let h = has_start seed size some few r (sym (ap resolved e) ∙ is) in (
+      h.parts,
+      h.state,
+      ap (λ (x : Archive). start_of x r 0) e ∙ started_as seed size r h,
     )
-run_of_fault seed size a (resolve.Limit which value) before after sink sink2 result e is w =
-    inr (
-      3,
-      refusal_line (Limit which value),
-      refused_as seed size a (Limit which value) (resolve.Limit which value) e is refl,
-      w,
-    )
-run_of_fault seed size a resolve.NoMemory before after sink sink2 result e is w = inl w
 
--- its first solution stands, or why not
-pub named_barred : (s : Start) (u : Unread) → IsBarredBy s u → IsNamedUnread u
-named_barred s (unread.Refused refusal) h = h.1
-named_barred s unread.NoMemory h = tt
+pub only_starved : (s : Start) (u : Unread) → ((p : Parts) × (plain : Plain) × (s ≡ begins p plain)) → IsBarredBy s u
+    → u ≡ unread.NoMemory
+only_starved s unread.NoMemory start barred_is = refl
+only_starved s (unread.Refused refusal) (p, plain, e) barred_is = absurd (let b = barred_is.0 in let g : ⊥ = cc in g)
 
-pub run_of_barred : (seed size : ℕ) (s : Start) (u : Unread) (before after : Option (List ℕ))
-    (sink sink2 result : ℕ) → IsBarredBy s u → IsUnreadEnd before after sink sink2 result u
-    → ((result ≡ 6) × (after ≡ before)) ⊎ ((status : ℕ) × (text : List ℕ) × IsRunIn seed size s status text
-    × Written before after sink sink2 (encode_utf8_all text) status result)
-run_of_barred seed size s (unread.Refused refusal) before after sink sink2 result h w =
-    inr (
-      3,
-      refusal_line refusal,
-      subst (λ (x : Start). IsRunIn seed size x 3 (refusal_line refusal)) (sym h.0) (refl, refl),
-      w,
-    )
-run_of_barred seed size s unread.NoMemory before after sink sink2 result h w = inl w
-
-pub run_of_start : (a : Archive) (r : Resolved) (seed size k : ℕ) (p q : Parts) (plain : Plain)
-    (before after : Option (List ℕ)) (sink sink2 result : ℕ) → slice_get r.instances k ≡ Some p
-    → slice_get r.instances k ≡ Some q → start_of a r 0 ≡ begins p plain
+pub run_of_start : (seed size : ℕ) (a : Archive) (r : Resolved) (k : ℕ) (p q : Parts) (plain : Plain)
+    (before after : Option (List ℕ)) (sink sink2 result : ℕ) → a ≡ made seed size → resolved a ≡ Ok r
+    → slice_get r.instances k ≡ Some p → slice_get r.instances k ≡ Some q → start_of a r 0 ≡ begins p plain
     → ((result ≡ 6) × (after ≡ before)) ⊎ ((text : List ℕ) × IsRunLine seed size q plain text
     × Written before after sink sink2 (encode_utf8_all text) 0 result)
-    → ((result ≡ 6) × (after ≡ before)) ⊎ ((status : ℕ) × (text : List ℕ)
-    × IsRunIn seed size (start_of a r 0) status text
-    × Written before after sink sink2 (encode_utf8_all text) status result)
-run_of_start a r seed size k p q plain before after sink sink2 result at at2 start (inl w) = inl w
-run_of_start a r seed size k p q plain before after sink sink2 result at at2 start (inr (text, t, w)) =
+    → IsRan seed size before after sink sink2 result
+run_of_start seed size a r k p q plain before after sink sink2 result e is at at2 start (inl w) = inl w
+run_of_start seed size a r k p q plain before after sink sink2 result e is at at2 start (inr (text, t, w)) =
     inr (
-      0,
       text,
-      subst (λ (s : Start). IsRunIn seed size s 0 text) (sym start) (
-        refl,
-        subst (λ (x : Parts). IsRunLine seed size x plain text) (same_Some q p (sym at2 ∙ at)) t,
-      ),
+      record {
+        instances = r;
+        resolved_is = sym (ap resolved e) ∙ is;
+        parts = p;
+        plain = plain;
+        start_is = sym (ap (λ (x : Archive). start_of x r 0) e) ∙ start;
+        status_is = refl;
+        line = subst (λ (x : Parts). IsRunLine seed size x plain text) (same_Some q p (sym at2 ∙ at)) t;
+      },
       w,
     )

@@ -213,16 +213,15 @@ IsSolveTo number depth budget jobs (Some bytes) status text = IsSolvedFrom numbe
 abbrev pub IsMadeTo : ℕ → ℕ → ℕ → List ℕ → Type 0
 IsMadeTo seed size status text = (status ≡ 0) × (encode_utf8_all text ≡ canonical (made seed size))
 
--- what comes of a start: the line on the run of the job's commands
-abbrev pub IsRunIn : ℕ → ℕ → Start → ℕ → List ℕ → Type 0
-IsRunIn seed size (barred refusal) status text = (status ≡ 3) × (text ≡ refusal_line refusal)
-IsRunIn seed size (begins p plain) status text = (status ≡ 0) × IsRunLine seed size p plain text
-
--- a reading of the archive that is made, and what comes of its first solution
+-- the line on the run of the archive that is made, on its first solution: neither is ever refused
 pub record IsRunTo (seed size : ℕ) (status : ℕ) (text : List ℕ) : Type 0 where
-  pub reading : Reading
-  pub is : IsRead (made seed size) (resolved (made seed size)) reading
-  pub run : IsRunIn seed size (start_in 0 reading) status text
+  pub instances : Resolved
+  pub resolved_is : resolved (made seed size) ≡ Ok instances
+  pub parts : Parts
+  pub plain : Plain
+  pub start_is : start_of (made seed size) instances 0 ≡ begins parts plain
+  pub status_is : status ≡ 0
+  pub line : IsRunLine seed size parts plain text
 
 -- the outcome of what is asked for, and of words without a reading, by what stands under each name
 abbrev pub IsOutcomeOf : Option Asked → (List ℕ → Option (List ℕ)) → ℕ → List ℕ → Type 0

@@ -5,15 +5,16 @@ ghost use Rattle.job_generator.specs.Made.{made, state_after};
 ghost use Rattle.khe_instance.specs.States.{IsValid};
 ghost use Rattle.made_run.specs.Runs.{IsJob, IsRunLine};
 ghost use Rattle.xhstt_shape.specs.WellFormed.{IsWellFormed};
-ghost use Rattle.khe_app.specs.Answers.{IsNamedUnread, IsUnreadEnd};
 ghost use Rattle.khe_app.specs.Ends.{Holdings, IsEnd, Written};
-ghost use Rattle.khe_app.specs.Outcome.{IsRunIn, IsRunTo, start_of};
+ghost use Rattle.khe_app.specs.Outcome.{IsRunTo};
 ghost use Rattle.khe_app.specs.Ready.{IsReady};
 ghost use Rattle.khe_app.specs.Words.{making, running};
+ghost use Rattle.khe_app.specs.declared.reading.Unread.TheVariants as unread_by;
+ghost use Rattle.xhstt_resolve.specs.declared.faults.ResolveFault.TheVariants as resolve_fault;
 
 use crate::checking::put_spelling;
-use crate::program::{Status, put, put_refusal};
-use crate::reading::{Unread, unresolved};
+use crate::program::{Status, put};
+use crate::reading::Unread;
 use crate::starting::{begin, instance_numbered};
 use job_generator::{Draws, generate, slot_count};
 use khe_base::NoMemory;
@@ -22,7 +23,7 @@ use khe_io::Sink;
 use made_run::{Job, run_line};
 use sixteen_families::Families;
 use std::alloc::Global;
-use xhstt_resolve::{Resolved, resolve};
+use xhstt_resolve::{ResolveFault, Resolved, resolve};
 use xhstt_shape::Archive;
 
 /// Writes the archive that is made from a seed, with so many events.
@@ -51,7 +52,7 @@ pub(crate) fn make_run<K: Sink>(alloc: Global, out: &mut K, seed: u64, size: u32
     }
 }
 
-/// Writes the line on the run of a job whose archive was made.
+/// Writes the line on the run of a job whose archive was made, which is never refused.
 fn run_made<K: Sink>(
     alloc: Global,
     out: &mut K,
@@ -64,8 +65,8 @@ fn run_made<K: Sink>(
     requires made { archive.now ≡ made seed size }
     requires formed { IsWellFormed archive.now }
     requires drawn { draws.old.state ≡ state_after seed size }
-    ensures written { ((result.0 ≡ 6) × (K.taken out.new ≡ K.taken out.old)) ⊎ ((status : ℕ) × (text : List ℕ) × IsRunTo seed size status text
-        × Written (K.taken out.old) (K.taken out.new) (K.faults out.old) (K.faults out.new) (encode_utf8_all text) status result.0) }
+    ensures written { ((result.0 ≡ 6) × (K.taken out.new ≡ K.taken out.old)) ⊎ ((text : List ℕ) × IsRunTo seed size 0 text
+        × Written (K.taken out.old) (K.taken out.new) (K.faults out.old) (K.faults out.new) (encode_utf8_all text) 0 result.0) }
     ensures sink_faults { K.faults out.old ≤ K.faults out.new }
 {
     let job = Job {
@@ -75,11 +76,22 @@ fn run_made<K: Sink>(
     };
     match resolve(alloc, archive) {
         Ok(resolved) => run_resolved(alloc, out, archive, &resolved, draws, job),
-        Err(fault) => put_unread(alloc, out, unresolved(fault)),
+        Err(fault) => not_resolved(fault),
     }
 }
 
-/// Writes the line on the run of a job on the first solution of its archive.
+/// The status where an archive isn't resolved that is never refused: memory ran out.
+fn not_resolved(fault: ResolveFault) -> Status
+    requires { fault ≡ resolve_fault.NoMemory }
+    ensures { result.0 ≡ 6 }
+{
+    match fault {
+        ResolveFault::NoMemory => Status(6),
+        _ => unreachable!(),
+    }
+}
+
+/// Writes the line on the run of a job on the first solution of its archive, which is never invalid.
 fn run_resolved<K: Sink>(
     alloc: Global,
     out: &mut K,
@@ -88,11 +100,13 @@ fn run_resolved<K: Sink>(
     draws: &mut Draws,
     job: Job,
 ) -> Status
+    requires size { (1 ≤ job.size) × (job.size ≤ 2000) }
+    requires made { archive.now ≡ made job.seed job.size }
     requires ready { IsReady archive.now resolved.now }
     requires job { IsJob job }
     requires drawn { draws.old.state ≡ state_after job.seed job.size }
-    ensures written { ((result.0 ≡ 6) × (K.taken out.new ≡ K.taken out.old)) ⊎ ((status : ℕ) × (text : List ℕ) × IsRunIn job.seed job.size (start_of archive.now resolved.now 0) status text
-        × Written (K.taken out.old) (K.taken out.new) (K.faults out.old) (K.faults out.new) (encode_utf8_all text) status result.0) }
+    ensures written { ((result.0 ≡ 6) × (K.taken out.new ≡ K.taken out.old)) ⊎ ((text : List ℕ) × IsRunTo job.seed job.size 0 text
+        × Written (K.taken out.old) (K.taken out.new) (K.faults out.old) (K.faults out.new) (encode_utf8_all text) 0 result.0) }
     ensures sink_faults { K.faults out.old ≤ K.faults out.new }
 {
     match begin(alloc, archive, resolved, 0) {
@@ -100,7 +114,18 @@ fn run_resolved<K: Sink>(
             let inst = instance_numbered(resolved, instance);
             put_run(alloc, out, inst, &plain, draws, job)
         }
-        Err(unread) => put_unread(alloc, out, unread),
+        Err(unread) => not_begun(unread),
+    }
+}
+
+/// The status where a solution isn't completed that is never invalid: memory ran out.
+fn not_begun(unread: Unread) -> Status
+    requires { unread ≡ unread_by.NoMemory }
+    ensures { result.0 ≡ 6 }
+{
+    match unread {
+        Unread::NoMemory => Status(6),
+        Unread::Refused(_) => unreachable!(),
     }
 }
 
@@ -123,17 +148,5 @@ fn put_run<K: Sink>(
     match run_line::<Families>(alloc, inst, plain, draws, job) {
         Ok(line) => put(out, 0, line.as_bytes()),
         Err(NoMemory) => Status(6),
-    }
-}
-
-/// Writes the line that refuses an archive or a solution, if it was refused.
-fn put_unread<K: Sink>(alloc: Global, out: &mut K, unread: Unread) -> Status
-    requires { IsNamedUnread unread }
-    ensures end { IsUnreadEnd (K.taken out.old) (K.taken out.new) (K.faults out.old) (K.faults out.new) result.0 unread }
-    ensures sink_faults { K.faults out.old ≤ K.faults out.new }
-{
-    match unread {
-        Unread::Refused(refusal) => put_refusal(alloc, out, refusal),
-        Unread::NoMemory => Status(6),
     }
 }
