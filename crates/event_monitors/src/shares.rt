@@ -41,8 +41,8 @@ pub trait Share {
     ghost bounded: { (rule : Rule) (span : Option Span) (given : Option (Option Resource)) → share rule span given ≤ most_of span };
 }
 
-/// Whether a change may change a meet: all but those of tasks.
-pub(crate) fn changes_meets(change: Change) -> bool
+/// Whether a change may change a meet: all but those of tasks. It takes constant time.
+pub fn changes_meets(change: Change) -> bool
     ensures { result ≡ changes_meets change }
 {
     match change {
@@ -53,8 +53,8 @@ pub(crate) fn changes_meets(change: Change) -> bool
 }
 
 /// Whether a change may change what a meet's places are given, or how long it lasts: all but those of
-/// starts.
-pub(crate) fn changes_tasks(change: Change) -> bool
+/// starts. It takes constant time.
+pub fn changes_tasks(change: Change) -> bool
     ensures { result ≡ changes_tasks change }
 {
     match change {

@@ -96,23 +96,6 @@ none_of_group p point n times many all = record {
   cells = λ i e t h. no_count n times i t ∙ sym (none_run p e t);
 }
 
--- a change after which a slot's meet runs as before leaves them as well
-pub group_still : (p : Parts) (point : Point) (s : List Slot) (c : Change) (rows : List (List ℕ)) (times : ℕ)
-    → meet_of c < length s → ((t : ℕ) → slot_runs (changed (slot_at s (meet_of c)) c) t
-    ≡ slot_runs (slot_at s (meet_of c)) t)
-    → AreOfGroup p point s rows times → AreOfGroup p point (after s c) rows times
-group_still p point s c rows times l same of = record {
-  amount = of.amount;
-  all = of.all;
-  cells = λ i e t h. of.cells i e t h ∙ still e t;
-}
-  where
-    still : (e t : ℕ) → meets_at s e t ≡ meets_at (after s c) e t
-    still e t =
-        let a = meets_set s (meet_of c) (changed (slot_at s (meet_of c)) c) e t l in
-        let b = ap (λ r. one_if (((slot_at s (meet_of c)).event.0 == e) && r)) (same t) in
-        omega (arith, a, b)
-
 -- where the slot's meet ran nowhere and runs in a run after, the event's counts rise in it
 pub group_raised : (p : Parts) (point : Point) (s : List Slot) (c : Change) (rows new : List (List ℕ))
     (times rank start end : ℕ) → meet_of c < length s

@@ -1,6 +1,6 @@
 use crate::links::{Links, no_links};
 use crate::turns::{follow, members};
-use event_monitors::{Counted, Gauge};
+use event_monitors::{Counted, Gauge, changes_meets};
 use family_keepers::Keeping;
 use khe_base::NoMemory;
 use khe_instance::{Instance, Kind, Monitor};
@@ -16,11 +16,11 @@ pub type LinkEvents = Keeping<Counted<Links>>;
 impl Gauge for Links {
     ghost use Rattle.std.specs.Prelude.{◌≡◌, true, length};
     ghost use Rattle.khe_instance.specs.KindLaws.{is_kind};
-    ghost use Rattle.event_monitors.specs.ShareLaws.{hears_all};
     ghost use Rattle.khe_instance.specs.WellMade.{IsMonitor};
     ghost use Rattle.khe_instance.specs.declared.rules.Kind.TheVariants as kind;
+    ghost use Rattle.event_monitors.specs.Shares.{changes_meets};
     ghost use Rattle.link_monitors.specs.Counts.{AreLinked};
-    ghost use Rattle.link_monitors.specs.ElsewhereLaws.{group_elsewhere};
+    ghost use Rattle.link_monitors.specs.ElsewhereLaws.{group_elsewhere, group_unheard};
     ghost use Rattle.link_monitors.specs.ExactLaws.{linked_exact};
     ghost use Rattle.link_monitors.specs.Links.{AreOfGroup};
 
@@ -34,11 +34,10 @@ impl Gauge for Links {
         kind == Kind::LinkEvents
     }
 
-    ghost hears = { λ c. true };
+    ghost hears = { changes_meets };
 
     fn hears(change: Change) -> bool {
-        let _ = change;
-        true
+        changes_meets(change)
     }
 
     fn open(alloc: Global, inst: &Instance, monitor: Monitor) -> Result<Links, NoMemory> {
@@ -61,7 +60,7 @@ impl Gauge for Links {
 
     ghost exact = { λ g p m s k. linked_exact p m s g.table g.events g.running.items g.apart k.0 k.1 k.2 k.3 };
 
-    ghost deaf = { λ g p m s c h fits kept. hears_all _ h };
+    ghost deaf = { λ g p m s c h fits kept. (kept.0, kept.1, group_unheard p m.point s c g.table (length g.running.items) h fits.there kept.2, kept.3) };
 
     ghost elsewhere = { λ g p m s k x l same named kept. (kept.0, kept.1, group_elsewhere p m s g.table (length g.running.items) k x kept.0 l same named kept.2, kept.3) };
 }

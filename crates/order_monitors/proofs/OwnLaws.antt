@@ -26,12 +26,30 @@ use Rattle.khe_told.proofs.OpeningLaws.{slots_amount}
 
 -- one element of a list that is filtered
 module _ {X : Type 0} (p : X → Bool) (d : X) where
+  mapped : (f : X → ℕ) (b : Bool) (x : X) (xs : List X)
+      → map f (cond b (x ∷ xs) xs) ≡ cond b (f x ∷ map f xs) (map f xs)
+  mapped f true x xs = refl
+  mapped f false x xs = refl
+
   pub filter_out : (xs : List X) (m : ℕ) (y : X) → m < length xs → p (get_or xs m d) ≡ false → p y ≡ false
       → filter p (set xs m y) ≡ filter p xs
   filter_out [] m y l a b = refl
   filter_out (x ∷ xs) zero y l a b = ap (λ c. cond c (y ∷ filter p xs) (filter p xs)) b
       ∙ sym (ap (λ c. cond c (x ∷ filter p xs) (filter p xs)) a)
   filter_out (x ∷ xs) (suc m) y l a b = ap (λ t. cond (p x) (x ∷ t) t) (filter_out xs m y (omega (arith, l)) a b)
+
+  -- what is read of those that pass stays, where it is the same of the new one
+  pub read_same : (f : X → ℕ) (xs : List X) (m : ℕ) (y : X) → p y ≡ p (get_or xs m d) → f y ≡ f (get_or xs m d)
+      → map f (filter p (set xs m y)) ≡ map f (filter p xs)
+  read_same f [] m y a b = refl
+  read_same f (x ∷ xs) zero y a b =
+      mapped f (p y) y (filter p xs)
+      ∙ (λ j. cond (a j) (b j ∷ map f (filter p xs)) (map f (filter p xs)))
+      ∙ sym (mapped f (p x) x (filter p xs))
+  read_same f (x ∷ xs) (suc m) y a b =
+      mapped f (p x) x (filter p (set xs m y))
+      ∙ ap (λ t. cond (p x) (f x ∷ t) t) (read_same f xs m y a b)
+      ∙ sym (mapped f (p x) x (filter p xs))
 
   counted : (x : X) (xs : List X) → count_by p (x ∷ xs) ≡ cond (p x) 1 0 + count_by p xs
   counted x xs = sum_by-cons (λ y. cond (p y) 1 0) x xs

@@ -144,6 +144,18 @@ agrees_on p posts lists s s2 edges old new e made all listed are short same told
         ∙ there)) ∙ h))
         ∙ agrees i m there serves ∙ ap Some (value_stays p s s2 e m made monitor serves same h)
 
+-- where the starts and ends are the same after a change, what agreed agrees as it is
+pub agrees_still : (p : Parts) (posts : List Post) (lists : List (List ℕ)) (s s2 : List Slot) (edges : List Edges)
+    (ds : List ℕ) → AreWellMade p → ArePosts p is_order posts → AreListed p posts lists → AreEdges p lists s edges
+    → AreShort s → AreEdges p lists s2 edges → AreShort s2 → Agrees p is_order s ds → Agrees p is_order s2 ds
+agrees_still p posts lists s s2 edges ds made all listed are short are2 short2 agrees i m there serves =
+    let found = all.all i m there serves in
+    let a : Post = record { number = record { 0 = i }; monitor = m } in
+    let monitor = monitor_made p made i m there in
+    agrees i m there serves
+    ∙ ap Some (value_is p posts lists s edges made listed are short found.0 a found.1 monitor serves)
+    ∙ ap Some (sym (value_is p posts lists s2 edges made listed are2 short2 found.0 a found.1 monitor serves))
+
 pub others_kept : (p : Parts) (posts : List Post) (edges : List Edges) (old new : List ℕ) (e : ℕ)
     → ArePosts p is_order posts → AreReported p posts e edges old new [] → KeepsOthers p is_order old new
 others_kept p posts edges old new e all told i m there not =

@@ -1,12 +1,12 @@
 -- When the meets of events start and end, before and after a change.
-use Rattle.std.proofs.Common.{ℕ, ◌≡◌, ◌≤◌, ◌<◌, ◌+◌, ◌-◌, ◌∙◌, Some, List, [], ◌∷◌, ◌++◌, map, set, get_or}
-use Rattle.std.proofs.Common.{get_or-set_same, length, slice_get, refl, sym, ap, subst, arith, ◌⊎◌, inl, inr}
+use Rattle.std.proofs.Common.{ℕ, ◌≡◌, ◌≤◌, ◌<◌, ◌+◌, ◌-◌, ◌==◌, ◌∙◌, false, Option, Some, List, [], ◌∷◌, ◌++◌, map, set}
+use Rattle.std.proofs.Common.{get_or, get_or-set_same, length, slice_get, refl, sym, ap, subst, arith, ◌⊎◌, inl, inr}
 use Rattle.std.specs.Prelude.{replicate}
 use Rattle.std.proofs.Math.Seq.{map-set_same}
-use Rattle.std.proofs.lemmas.Bool.{cases_eq}
+use Rattle.std.proofs.lemmas.Bool.{cases_eq, true≢false}
 use Rattle.std.proofs.lemmas.List.{length-append, length-set}
 use Rattle.std.proofs.lemmas.List.Elements.{All-get_or}
-use Rattle.std.proofs.lemmas.Option.{none-some, same_Some}
+use Rattle.std.proofs.lemmas.Option.{get_or_from_slice_get, none-some, same_Some, slice_get-get_or}
 use Rattle.khe_instance.specs.WellMade.{AreWellMade}
 use Rattle.khe_instance.specs.declared.parts.EventInfo.{EventInfo}
 use Rattle.khe_instance.specs.declared.parts.Parts.{Parts}
@@ -14,14 +14,17 @@ use Rattle.khe_told.specs.Changes.{after, changed, meet_of, span_after}
 use Rattle.khe_told.specs.Fits.{Fits}
 use Rattle.khe_told.specs.Slots.{emptied, no_meets, no_slot, slot_at}
 use Rattle.khe_told.specs.declared.changes.Change.{Change}
+use Rattle.khe_told.specs.declared.changes.Change.TheVariants.{Add, Drop, Place as PlaceAt, Lift, Give, Take}
 use Rattle.khe_told.specs.declared.slots.Slot.{Slot}
+use Rattle.khe_told.specs.declared.slots.Span.{Span}
 use Rattle.event_monitors.proofs.PostLaws.{last_of}
 use Rattle.event_monitors.proofs.SlotFacts.{emptied_changed}
+use Rattle.event_monitors.specs.Shares.{changes_meets}
 use Rattle.order_monitors.specs.Edges.{AreEdges, AreShort, IsEdges, IsShort, IsWatched, end_key, own_slots, start_key}
 use Rattle.order_monitors.specs.declared.edges.Edges.{Edges}
 use Rattle.order_monitors.specs.declared.trees.TheConstants.{NOTHING}
 use Rattle.order_monitors.proofs.OwnLaws.{free_keys, in_range, map_set, own_free, own_other, own_set, own_within}
-use Rattle.order_monitors.proofs.OwnLaws.{told_short}
+use Rattle.order_monitors.proofs.OwnLaws.{read_same, told_short}
 use Rattle.khe_base.proofs.ListLemmas.{get-other, get-set}
 
 module _ (p : Parts) (s : List Slot) (c : Change) (made : AreWellMade p) (fits : Fits p s c) where
@@ -104,6 +107,37 @@ module _ (p : Parts) (s : List Slot) (c : Change) (made : AreWellMade p) (fits :
           let new : b ≡ a = same_Some b a (sym (get-set edges e b l) ∙ ap (slice_get (set edges e b)) same ∙ at) in
           subst (λ k. IsEdges k (after s c) a) same (subst (IsEdges e (after s c)) new is)
       by f a at w (inr n) = edges_same f a n (are.each f a (sym (get-other edges e f b n) ∙ at) w)
+
+-- the list that is read at an event's place is the event's
+pub list_here : (lists : List (List ℕ)) (e : ℕ) (list : List ℕ) → e < length lists → list ≡ get_or lists e list
+    → get_or lists e [] ≡ list
+list_here lists e list l is = get_or_from_slice_get lists e list []
+    (slice_get-get_or lists e list l ∙ ap Some (sym is))
+
+-- a change of a task leaves when a meet starts and ends
+span_still : (span : Option Span) (c : Change) → changes_meets c ≡ false → span_after span c ≡ span
+span_still span (Give t r) h = refl
+span_still span (Take t r) h = refl
+span_still span (Add k d) h = absurd (true≢false h)
+span_still span (Drop k d) h = absurd (true≢false h)
+span_still span (PlaceAt k t) h = absurd (true≢false h)
+span_still span (Lift k t) h = absurd (true≢false h)
+
+-- so it leaves those of all events
+pub edges_still : (p : Parts) (s : List Slot) (c : Change) (lists : List (List ℕ)) (edges : List Edges)
+    → changes_meets c ≡ false → AreEdges p lists s edges → AreEdges p lists (after s c) edges
+edges_still p s c lists edges h are = record { rows = are.rows; each = λ e a at w. still e a (are.each e a at w) }
+  where
+    x : Slot
+    x = slot_at s (meet_of c)
+
+    same : (f : Option Span → ℕ) (e : ℕ) → map (λ (y : Slot). f y.span) (own_slots e (after s c))
+        ≡ map (λ (y : Slot). f y.span) (own_slots e s)
+    same f e = read_same (λ (y : Slot). y.event.0 == e) no_slot (λ (y : Slot). f y.span) s (meet_of c) (changed x c)
+        refl (ap f (span_still x.span c h))
+
+    still : (e : ℕ) (a : Edges) → IsEdges e s a → IsEdges e (after s c) a
+    still e a is = record { starts = is.starts ∙ sym (same start_key e); ends = is.ends ∙ sym (same end_key e) }
 
 -- without meets, those of the events so far
 pub record AreOpened (p : Parts) (lists : List (List ℕ)) (edges : List Edges) (n : ℕ) : Type 0 where

@@ -9,7 +9,7 @@ use crate::lists::lists_of;
 use crate::pairs::value;
 use crate::posts::posts_of;
 use crate::reports::report;
-use event_monitors::Post;
+use event_monitors::{Post, changes_meets};
 use family_keepers::{Keeper, Keeping};
 use khe_base::{EventId, MonitorId, NoMemory, Seq, beside};
 use khe_instance::{EventInfo, Instance, Kind};
@@ -24,8 +24,9 @@ pub type OrderEvents = Keeping<OrderEdges>;
 /// The keeper of Order Events. What was told is lent to it.
 ///
 /// It keeps, for each event that a served monitor names, when the meet of each meet slot starts and
-/// ends, four numbers a slot. A change takes time of the logarithm of its event's meet slots, and
-/// then that of the monitors that name the event. Where there are none, it takes constant time.
+/// ends, four numbers a slot. A change of a meet takes time of the logarithm of its event's meet
+/// slots, and then that of the monitors that name the event. Where there are none, and at a change of
+/// a task, it takes constant time.
 #[derive(Drop)]
 pub struct OrderEdges {
     posts: Seq<Post>,
@@ -73,10 +74,15 @@ impl Keeper for OrderEdges {
         steps: &mut Steps<L>,
     ) {
         inst.facts();
-        let lists = self.lists.as_slice();
-        turn_watched(inst, told, lists, change, &mut self.edges);
+        if !changes_meets(change) {
+            return;
+        }
         let event = told.event(change.meet());
-        let list = lists[event.0 as usize].as_slice();
+        let list = self.lists.as_slice()[event.0 as usize].as_slice();
+        if list.is_empty() {
+            return;
+        }
+        turn(inst, told, change, event, &mut self.edges[event.0 as usize]);
         let edges = self.edges.as_slice();
         let posts = self.posts.as_slice();
         report(inst, edges, posts, event, list, tally, steps);
@@ -109,37 +115,16 @@ fn slots_for(list: &Seq<u32>, event: &EventInfo) -> u32
     if list.is_empty() { 0 } else { event.duration }
 }
 
-/// Follows a change where the event of its meet has a list. What was told is the state before the
-/// change.
-fn turn_watched(
-    inst: &Instance,
-    told: &Told,
-    lists: &[Seq<u32>],
-    change: Change,
-    edges: &mut Vec<Edges>,
-)
-    requires fits { Fits inst.now told.now change }
-    requires rows { length lists.now ≡ length inst.now.events }
-    requires of { AreEdges inst.now lists.now told.now edges.old.items }
-    ensures { AreEdges inst.now lists.now (after told.now change) edges.new.items }
-{
-    inst.facts();
-    let event = told.event(change.meet());
-    if lists[event.0 as usize].is_empty() {
-        return;
-    }
-    turn(inst, told, change, &mut edges[event.0 as usize]);
-}
-
 /// Follows a change of one of an event's meet slots. What was told is the state before the change.
-fn turn(inst: &Instance, told: &Told, change: Change, edges: &mut Edges)
+fn turn(inst: &Instance, told: &Told, change: Change, event: EventId, edges: &mut Edges)
     requires fits { Fits inst.now told.now change }
-    requires of { IsEdges (slot_at told.now (meet_of change)).event.0 told.now edges.old }
-    ensures { IsEdges (slot_at told.now (meet_of change)).event.0 (after told.now change) edges.new }
+    requires own { event ≡ (slot_at told.now (meet_of change)).event }
+    requires of { IsEdges event.0 told.now edges.old }
+    ensures { IsEdges event.0 (after told.now change) edges.new }
 {
     inst.facts();
     let meet = change.meet();
-    let first = inst.event(told.event(meet)).first_meet;
+    let first = inst.event(event).first_meet;
     let span = change.span_after(told.span(meet));
     edges.set((meet.0 - first) as usize, span);
 }

@@ -22,7 +22,7 @@ use Rattle.khe_told.specs.declared.slots.Span.{Span}
 use Rattle.event_monitors.specs.Posts.{names}
 use Rattle.event_monitors.specs.Shares.{span_share}
 use Rattle.set_monitors.specs.NamedSums.{named_part, sum_of_none, sum_turned}
-use Rattle.set_monitors.specs.SpreadEvents.{AreCounts, AreFew, IsSpread, count_after, moves_start, one_in, spread_by}
+use Rattle.set_monitors.specs.SpreadEvents.{AreCounts, AreFew, IsSpread, count_after, moves_start, one_in, spread_same}
 use Rattle.set_monitors.specs.SpreadEvents.{spreads_of, started}
 use Rattle.khe_told.proofs.OpeningLaws.{slots_amount}
 
@@ -133,15 +133,6 @@ spread_counts p m s c spreads old row fits named same kept turned k q h =
 pub spread_kept : (p : Parts) (m : Monitor) (s : List Slot) (c : Change) (row : List ℕ) (total : ℕ) → Fits p s c
     → names p (slot_at s (meet_of c)).event.0 m ≡ true → moves_start c ≡ false → IsSpread p m s row total
     → IsSpread p m (after s c) row total
-spread_kept p m s c row total fits named still kept = record {
-  monitor = kept.monitor;
-  serves = kept.serves;
-  amount = kept.amount;
-  counts = λ i q h. kept.counts i q h ∙ ap Some (sym (is q.group));
-  few = λ times. let a = kept.few times in let b = is times in omega (arith, a, b);
-  outside = kept.outside ∙ sym (λ j. spread_by (λ times. is times j) (spreads_of p m));
-  small = kept.small;
-}
-  where
-    is : (times : List Bool) → started p m (after s c) times ≡ started p m s times
-    is times = started_after p m s c times fits named ∙ started_kept (started p m s times) times c still
+spread_kept p m s c row total fits named still kept =
+    spread_same p m s (after s c) row total
+    (λ times. started_after p m s c times fits named ∙ started_kept (started p m s times) times c still) kept

@@ -4,12 +4,13 @@ use Rattle.std.proofs.Common.{ℕ, ◌≡◌, ◌≤◌, ◌<◌, ◌+◌, ◌-�
 use Rattle.std.proofs.Common.{None, is_some, is_none, List, [], ◌∷◌, set, length, slice_get, refl, sym, ap, subst}
 use Rattle.std.proofs.Common.{arith, sum_by, count_by, filter, zero-add, ltb}
 use Rattle.std.specs.List.{list_any, range_with_len}
-use Rattle.std.specs.Option.{option_map_or}
-use Rattle.std.proofs.lemmas.Bool.{lt-ltb}
+use Rattle.std.specs.Option.{option_map, option_map_or}
+use Rattle.std.proofs.lemmas.Bool.{lt-ltb, true≢false}
 use Rattle.std.proofs.lemmas.List.Sums.{sum_by-append, sum_by-cons}
 use Rattle.khe_base.specs.IdSet.{has_member}
 use Rattle.khe_base.specs.declared.limits.TheConstants.{TASKS}
 use Rattle.khe_base.specs.declared.numbers.ResourceId.{ResourceId}
+use Rattle.khe_base.specs.declared.numbers.TimeId.{TimeId}
 use Rattle.khe_base.proofs.ListLemmas.{there}
 use Rattle.khe_instance.specs.Deviation.{deviation_at}
 use Rattle.khe_instance.specs.KindLaws.{is_kind}
@@ -33,15 +34,17 @@ use Rattle.khe_instance.specs.declared.rules.Rule.TheVariants.{AvoidSplitAssignm
 use Rattle.khe_instance.specs.declared.states.Duty.{Duty}
 use Rattle.khe_instance.specs.declared.states.Meet.{Meet}
 use Rattle.khe_told.specs.Agreement.{deviation_in}
+use Rattle.khe_told.specs.Changes.{after, changed, given_after, meet_of, span_after}
 use Rattle.khe_told.specs.Lists.{duties_in, duties_of, duties_with, meets_in}
 use Rattle.khe_told.specs.Slots.{emptied, slot_at}
 use Rattle.khe_told.specs.declared.changes.Change.{Change}
-use Rattle.khe_told.specs.declared.changes.Change.TheVariants.{Give, Take}
+use Rattle.khe_told.specs.declared.changes.Change.TheVariants.{Add, Drop, Place as PlaceAt, Lift, Give, Take}
 use Rattle.khe_told.specs.declared.slots.Slot.{Slot}
 use Rattle.khe_told.specs.declared.slots.Span.{Span}
 use Rattle.event_monitors.specs.Posts.{names}
 use Rattle.event_monitors.specs.ShareLaws.{rule_of_kind}
-use Rattle.set_monitors.specs.NamedSums.{named_sum, sum_elsewhere}
+use Rattle.event_monitors.specs.Shares.{changes_tasks}
+use Rattle.set_monitors.specs.NamedSums.{named_sum, sum_elsewhere, sum_kept}
 
 -- whether a rule is on the places of a role
 abbrev pub wants : Rule → Option (List ℕ) → Bool
@@ -296,23 +299,63 @@ shared_exact p m s numbers counts above k =
         (filter (λ (d : Duty). named d.meet.event.0 j && roles d.meet.event.0 d.place j) (duties_in s)))
         ∙ some_have (λ e. names p e m) (in_role p m) q s (k.free q)
 
--- a change of a slot of another event leaves all that is kept
-pub shared_elsewhere : (p : Parts) (m : Monitor) (s : List Slot) (k : ℕ) (x : Slot) (numbers counts : List ℕ)
-    (above : ℕ) → k < length s → emptied x ≡ emptied (slot_at s k)
-    → names p (slot_at s k).event.0 m ≡ false → IsShared p m s numbers counts above
-    → IsShared p m (set s k x) numbers counts above
-shared_elsewhere p m s k x numbers counts above l same named kept = record {
+-- where each resource has as many tasks, and slots without a meet too, all that is kept stays
+pub shared_same : (p : Parts) (m : Monitor) (s later : List Slot) (numbers counts : List ℕ) (above : ℕ)
+    → ((r : ℕ) → held p m later r ≡ held p m s r) → ((r : ℕ) → loose p m later r ≡ loose p m s r)
+    → IsShared p m s numbers counts above → IsShared p m later numbers counts above
+shared_same p m s later numbers counts above is free kept = record {
   monitor = kept.monitor;
   serves = kept.serves;
   candidates = kept.candidates;
   amount = kept.amount;
   counts = λ i r h. kept.counts i r h ∙ ap Some (sym (is r));
   others = λ r h. kept.others r (let a = is r in omega (arith, a, h));
-  free = λ r. sum_elsewhere p m (λ (y : Slot). cond (is_none y.span) (given_in p m r y) 0) s k x l same named
-      ∙ kept.free r;
+  free = λ r. free r ∙ kept.free r;
   few = λ r. let a = kept.few r in let b = is r in omega (arith, a, b);
   above = kept.above ∙ sym (λ j. holders p (λ r. is r j));
 }
+
+-- so it does after a change of a slot of another event
+pub shared_elsewhere : (p : Parts) (m : Monitor) (s : List Slot) (k : ℕ) (x : Slot) (numbers counts : List ℕ)
+    (above : ℕ) → k < length s → emptied x ≡ emptied (slot_at s k)
+    → names p (slot_at s k).event.0 m ≡ false → IsShared p m s numbers counts above
+    → IsShared p m (set s k x) numbers counts above
+shared_elsewhere p m s k x numbers counts above l same named kept =
+    shared_same p m s (set s k x) numbers counts above
+    (λ r. sum_elsewhere p m (given_in p m r) s k x l same named)
+    (λ r. sum_elsewhere p m (λ (y : Slot). cond (is_none y.span) (given_in p m r y) 0) s k x l same named) kept
+
+-- a change of a start leaves what a slot's places are given, and whether it has a meet
+slot_unheard : (f : Option Span → List (Option ResourceId) → ℕ) → ((o : Option Span) (start : Option TimeId)
+    (given : List (Option ResourceId)) → f (option_map (λ (y : Span). record y { start = start }) o) given ≡ f o given)
+    → (x : Slot) (c : Change) → changes_tasks c ≡ false
+    → f (span_after x.span c) (given_after x.given c) ≡ f x.span x.given
+slot_unheard f same x (PlaceAt k t) h = same x.span (Some t) x.given
+slot_unheard f same x (Lift k t) h = same x.span None x.given
+slot_unheard f same x (Add k d) h = absurd (true≢false h)
+slot_unheard f same x (Drop k d) h = absurd (true≢false h)
+slot_unheard f same x (Give t r) h = absurd (true≢false h)
+slot_unheard f same x (Take t r) h = absurd (true≢false h)
+
+-- so all that is kept stays after it too
+pub shared_unheard : (p : Parts) (m : Monitor) (s : List Slot) (c : Change) (numbers counts : List ℕ) (above : ℕ)
+    → changes_tasks c ≡ false → meet_of c < length s → IsShared p m s numbers counts above
+    → IsShared p m (after s c) numbers counts above
+shared_unheard p m s c numbers counts above h l kept =
+    shared_same p m s (after s c) numbers counts above
+    (λ r. sum_kept p m (given_in p m r) s (meet_of c) (changed x c) l refl
+    (slot_unheard (λ o given. given_from has r 0 given) (λ o start given. refl) x c h))
+    (λ r. sum_kept p m (λ (y : Slot). cond (is_none y.span) (given_in p m r y) 0) s (meet_of c) (changed x c) l refl
+    (slot_unheard (λ o given. cond (is_none o) (given_from has r 0 given) 0) (free r) x c h)) kept
   where
-    is : (r : ℕ) → held p m (set s k x) r ≡ held p m s r
-    is r = sum_elsewhere p m (given_in p m r) s k x l same named
+    x : Slot
+    x = slot_at s (meet_of c)
+
+    has : ℕ → Bool
+    has = in_role p m x.event.0
+
+    free : (r : ℕ) (o : Option Span) (start : Option TimeId) (given : List (Option ResourceId))
+        → cond (is_none (option_map (λ (y : Span). record y { start = start }) o)) (given_from has r 0 given) 0
+        ≡ cond (is_none o) (given_from has r 0 given) 0
+    free r None start given = refl
+    free r (Some y) start given = refl

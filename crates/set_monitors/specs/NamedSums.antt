@@ -29,6 +29,15 @@ module _ (p : Parts) (m : Monitor) (f : Slot → ℕ) where
       let new : named_part p m f x ≡ 0 = ap (λ b. cond b (f x) 0) (ap (λ n. names p n m) e ∙ named) in
       omega (arith, a, old, new)
 
+  -- and so does one that leaves what its slot counts for
+  pub sum_kept : (s : List Slot) (k : ℕ) (x : Slot) → k < length s → x.event.0 ≡ (slot_at s k).event.0
+      → f x ≡ f (slot_at s k)
+      → named_sum p m f (set s k x) ≡ named_sum p m f s
+  sum_kept s k x l e same =
+      let a = sum_by-set (named_part p m f) s k x no_slot l in
+      let part : named_part p m f x ≡ named_part p m f (slot_at s k) = λ j. cond (names p (e j) m) (same j) 0 in
+      omega (arith, a, part)
+
   -- one of its own changes the sum by the slot's part
   pub sum_turned : (s : List Slot) (k : ℕ) (x : Slot) → k < length s → x.event.0 ≡ (slot_at s k).event.0
       → names p (slot_at s k).event.0 m ≡ true

@@ -29,6 +29,7 @@ use Rattle.khe_instance.specs.declared.rules.Rule.TheVariants.{SpreadEvents}
 use Rattle.khe_instance.specs.declared.rules.Spread.{Spread}
 use Rattle.khe_instance.specs.declared.states.Meet.{Meet}
 use Rattle.khe_told.specs.Agreement.{deviation_in}
+use Rattle.khe_told.specs.Changes.{after, changed, meet_of}
 use Rattle.khe_told.specs.Lists.{duties_in, meets_in}
 use Rattle.khe_told.specs.Slots.{emptied, slot_at}
 use Rattle.khe_told.specs.declared.changes.Change.{Change}
@@ -36,9 +37,9 @@ use Rattle.khe_told.specs.declared.changes.Change.TheVariants.{Place as PlaceAt,
 use Rattle.khe_told.specs.declared.slots.Slot.{Slot}
 use Rattle.khe_told.specs.declared.slots.Span.{Span}
 use Rattle.event_monitors.specs.Posts.{names}
-use Rattle.event_monitors.specs.ShareLaws.{rule_of_kind}
-use Rattle.event_monitors.specs.Shares.{span_share}
-use Rattle.set_monitors.specs.NamedSums.{named_sum, sum_elsewhere}
+use Rattle.event_monitors.specs.ShareLaws.{meets_kept, rule_of_kind}
+use Rattle.event_monitors.specs.Shares.{changes_meets, span_share}
+use Rattle.set_monitors.specs.NamedSums.{named_sum, sum_elsewhere, sum_kept}
 
 -- one for a meet that starts in a set of times
 abbrev pub one_in : List Bool → Option TimeId → ℕ → ℕ
@@ -171,11 +172,11 @@ spread_exact p m s counts outside k =
     (listed j))
     ∙ sym k.outside
 
--- a change of a slot of another event leaves all that is kept
-pub spread_elsewhere : (p : Parts) (m : Monitor) (s : List Slot) (k : ℕ) (x : Slot) (counts : List ℕ) (outside : ℕ)
-    → k < length s → emptied x ≡ emptied (slot_at s k)
-    → names p (slot_at s k).event.0 m ≡ false → IsSpread p m s counts outside → IsSpread p m (set s k x) counts outside
-spread_elsewhere p m s k x counts outside l same named kept = record {
+-- where as many meets start in each set of times, all that is kept stays
+pub spread_same : (p : Parts) (m : Monitor) (s later : List Slot) (counts : List ℕ) (outside : ℕ)
+    → ((times : List Bool) → started p m later times ≡ started p m s times)
+    → IsSpread p m s counts outside → IsSpread p m later counts outside
+spread_same p m s later counts outside is kept = record {
   monitor = kept.monitor;
   serves = kept.serves;
   amount = kept.amount;
@@ -184,6 +185,21 @@ spread_elsewhere p m s k x counts outside l same named kept = record {
   outside = kept.outside ∙ sym (λ j. spread_by (λ times. is times j) (spreads_of p m));
   small = kept.small;
 }
-  where
-    is : (times : List Bool) → started p m (set s k x) times ≡ started p m s times
-    is times = sum_elsewhere p m (λ (y : Slot). span_share (one_in times) y.span) s k x l same named
+
+-- so it does after a change of a slot of another event
+pub spread_elsewhere : (p : Parts) (m : Monitor) (s : List Slot) (k : ℕ) (x : Slot) (counts : List ℕ) (outside : ℕ)
+    → k < length s → emptied x ≡ emptied (slot_at s k)
+    → names p (slot_at s k).event.0 m ≡ false → IsSpread p m s counts outside → IsSpread p m (set s k x) counts outside
+spread_elsewhere p m s k x counts outside l same named kept =
+    spread_same p m s (set s k x) counts outside
+    (λ times. sum_elsewhere p m (λ (y : Slot). span_share (one_in times) y.span) s k x l same named) kept
+
+-- and after a change of a task
+pub spread_unheard : (p : Parts) (m : Monitor) (s : List Slot) (c : Change) (counts : List ℕ) (outside : ℕ)
+    → changes_meets c ≡ false → meet_of c < length s → IsSpread p m s counts outside
+    → IsSpread p m (after s c) counts outside
+spread_unheard p m s c counts outside h l kept =
+    let x = slot_at s (meet_of c) in
+    spread_same p m s (after s c) counts outside
+    (λ times. sum_kept p m (λ (y : Slot). span_share (one_in times) y.span) s (meet_of c) (changed x c) l refl
+    (meets_kept (one_in times) x.span c h)) kept

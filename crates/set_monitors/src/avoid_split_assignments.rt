@@ -6,7 +6,7 @@ ghost use Rattle.khe_told.specs.Slots.{slot_at};
 ghost use Rattle.set_monitors.specs.AvoidSplitAssignments.{AreAscending, AreHeld, AreWithin, IsListed, NamesListed, above_after, held_after, in_role, is_in_role, with_one, without_one};
 
 use crate::candidates::{candidates, has_role};
-use event_monitors::{Counted, Gauge};
+use event_monitors::{Counted, Gauge, changes_tasks};
 use family_keepers::Keeping;
 use khe_base::{NoMemory, ResourceId, Seq, TaskId, beside};
 use khe_instance::{Instance, Kind, Monitor};
@@ -34,9 +34,9 @@ pub struct Holders {
 impl Gauge for Holders {
     ghost use Rattle.std.specs.Prelude.{◌≡◌, ◌-◌, true};
     ghost use Rattle.khe_instance.specs.KindLaws.{is_kind};
-    ghost use Rattle.event_monitors.specs.ShareLaws.{hears_all};
     ghost use Rattle.khe_instance.specs.declared.rules.Kind.TheVariants as kind;
-    ghost use Rattle.set_monitors.specs.AvoidSplitAssignments.{IsShared, shared_elsewhere, shared_exact};
+    ghost use Rattle.event_monitors.specs.Shares.{changes_tasks};
+    ghost use Rattle.set_monitors.specs.AvoidSplitAssignments.{IsShared, shared_elsewhere, shared_exact, shared_unheard};
 
     ghost serves_kind = { λ k. is_kind k kind.AvoidSplitAssignments };
 
@@ -48,11 +48,10 @@ impl Gauge for Holders {
         kind == Kind::AvoidSplitAssignments
     }
 
-    ghost hears = { λ c. true };
+    ghost hears = { changes_tasks };
 
     fn hears(change: Change) -> bool {
-        let _ = change;
-        true
+        changes_tasks(change)
     }
 
     fn open(alloc: Global, inst: &Instance, monitor: Monitor) -> Result<Holders, NoMemory> {
@@ -85,7 +84,7 @@ impl Gauge for Holders {
 
     ghost exact = { λ g p m s k. shared_exact p m s g.candidates g.counts.items g.above k };
 
-    ghost deaf = { λ g p m s c h fits kept. hears_all _ h };
+    ghost deaf = { λ g p m s c h fits kept. shared_unheard p m s c g.candidates g.counts.items g.above h fits.there kept };
 
     ghost elsewhere = { λ g p m s k x l same named kept. shared_elsewhere p m s k x g.candidates g.counts.items g.above l same named kept };
 }

@@ -3,7 +3,7 @@ ghost use Rattle.khe_base.specs.declared.limits.TheConstants.{DURATION, LISTED, 
 ghost use Rattle.khe_instance.specs.WellMade.{IsMonitor};
 ghost use Rattle.set_monitors.specs.SpreadEvents.{AreCounts, AreFew, count_after, moves_start, spread_by, spreads_of};
 
-use event_monitors::{Counted, Gauge};
+use event_monitors::{Counted, Gauge, changes_meets};
 use family_keepers::Keeping;
 use khe_base::{NoMemory, count_out};
 use khe_instance::{Instance, Kind, Monitor, Rule, Spread};
@@ -28,9 +28,9 @@ pub struct Starts {
 impl Gauge for Starts {
     ghost use Rattle.std.specs.Prelude.{◌≡◌, true};
     ghost use Rattle.khe_instance.specs.KindLaws.{is_kind};
-    ghost use Rattle.event_monitors.specs.ShareLaws.{hears_all};
     ghost use Rattle.khe_instance.specs.declared.rules.Kind.TheVariants as kind;
-    ghost use Rattle.set_monitors.specs.SpreadEvents.{IsSpread, spread_elsewhere, spread_exact};
+    ghost use Rattle.event_monitors.specs.Shares.{changes_meets};
+    ghost use Rattle.set_monitors.specs.SpreadEvents.{IsSpread, spread_elsewhere, spread_exact, spread_unheard};
 
     ghost serves_kind = { λ k. is_kind k kind.SpreadEvents };
 
@@ -42,11 +42,10 @@ impl Gauge for Starts {
         kind == Kind::SpreadEvents
     }
 
-    ghost hears = { λ c. true };
+    ghost hears = { changes_meets };
 
     fn hears(change: Change) -> bool {
-        let _ = change;
-        true
+        changes_meets(change)
     }
 
     fn open(alloc: Global, inst: &Instance, monitor: Monitor) -> Result<Starts, NoMemory> {
@@ -79,7 +78,7 @@ impl Gauge for Starts {
 
     ghost exact = { λ g p m s k. spread_exact p m s g.counts.items g.outside k };
 
-    ghost deaf = { λ g p m s c h fits kept. hears_all _ h };
+    ghost deaf = { λ g p m s c h fits kept. spread_unheard p m s c g.counts.items g.outside h fits.there kept };
 
     ghost elsewhere = { λ g p m s k x l same named kept. spread_elsewhere p m s k x g.counts.items g.outside l same named kept };
 }

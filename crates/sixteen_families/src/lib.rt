@@ -17,17 +17,15 @@ use workload_monitors::ResourceKeepers;
 /// The kinds that only a change of a duration may change.
 type OfDurations = Counted<OneOf<Split, Sum<OfDuration>>>;
 
-/// The kinds at places of events.
-type OfTasks = Counted<OneOf<Sum<Unfilled>, Sum<Misfilled>>>;
+/// The kinds that only a change of a task or of a duration may change.
+type OfTasks = Counted<OneOf<Holders, OneOf<Sum<Unfilled>, Sum<Misfilled>>>>;
 
-/// The kinds at events that look at starts, and those at groups of events.
-type OfGroups = Counted<
-    OneOf<OneOf<Starts, Links>, OneOf<Holders, OneOf<Sum<Unplaced>, Sum<Misplaced>>>>,
->;
+/// The kinds that only a change of a meet may change: of its start, or of its duration.
+type OfMeets = Counted<OneOf<OneOf<Starts, Links>, OneOf<Sum<Unplaced>, Sum<Misplaced>>>>;
 
 /// The kinds at events, at places and groups of them, and at pairs. Kinds that hear the same changes share one
 /// list of an event's monitors, which is looked up once for each change.
-type OfEvents = TwoKeepers<OfGroups, TwoKeepers<OfTasks, TwoKeepers<OfDurations, OrderEdges>>>;
+type OfEvents = TwoKeepers<OfMeets, TwoKeepers<OfTasks, TwoKeepers<OfDurations, OrderEdges>>>;
 
 /// All of them, over one told state. They are well joined.
 pub type Families = Keeping<TwoKeepers<OfEvents, ResourceKeepers>>;

@@ -1,17 +1,17 @@
-ghost use Rattle.std.specs.Prelude.{◌≡◌, ◌≤◌, ◌+◌, length};
+ghost use Rattle.std.specs.Prelude.{◌≡◌, ◌≤◌, ◌+◌, Some, length};
 ghost use Rattle.khe_told.specs.Agreement.{Agrees, KeepsOthers};
 ghost use Rattle.khe_told.specs.Changes.{after};
 ghost use Rattle.khe_told.specs.Fits.{AreTold, Fits};
 ghost use Rattle.khe_told.specs.Watchers.{served_watchers};
 ghost use Rattle.resource_monitors.specs.Posts.{AreLists};
-ghost use Rattle.workload_monitors.specs.Loads.{HasLoads, is_on_workload};
+ghost use Rattle.workload_monitors.specs.Loads.{HasLoads, is_on_workload, named_by};
 
 use crate::loads::{named_by, no_loads, turn};
 use crate::posts::lists_of;
 use crate::reports::report;
 use crate::values::value;
 use family_keepers::{Keeper, Keeping};
-use khe_base::{MonitorId, NoMemory, Seq};
+use khe_base::{MonitorId, NoMemory, ResourceId, Seq};
 use khe_instance::{Instance, Kind};
 use khe_told::{Change, Steps, Tally, Told};
 use resource_monitors::Post;
@@ -32,12 +32,13 @@ pub struct Workloads {
     lists: Vec<Seq<Post>>,
 }
 
-/// Turns the workloads by a change, and reports the monitors on the one that it alters. What was
-/// told is the state before the change.
+/// Turns the workload that a change alters, that of this resource, and reports the monitors on it.
+/// What was told is the state before the change.
 fn turn_and_report<Y: Tally, L: Ledger>(
     inst: &Instance,
     told: &Told,
     change: Change,
+    r: ResourceId,
     lists: &[Seq<Post>],
     loads: &mut Vec<u128>,
     tally: &mut Y,
@@ -45,6 +46,7 @@ fn turn_and_report<Y: Tally, L: Ledger>(
 )
     requires told { AreTold inst.now told.now }
     requires fits { Fits inst.now told.now change }
+    requires named { named_by change ≡ Some r }
     requires lists { AreLists is_on_workload (length inst.now.resources) inst.now.monitors lists.now }
     requires loads { HasLoads inst.now told.now loads.old.items }
     requires monitors { length (Y.deviations tally.old) ≡ length inst.now.monitors }
@@ -57,9 +59,6 @@ fn turn_and_report<Y: Tally, L: Ledger>(
 {
     inst.facts();
     turn(inst, told, change, loads);
-    let Some(r) = named_by(change) else {
-        return;
-    };
     let list = lists[r.0 as usize].as_slice();
     report(inst, loads.as_slice(), list, tally, steps);
 }
@@ -92,8 +91,12 @@ impl Keeper for Workloads {
         tally: &mut Y,
         steps: &mut Steps<L>,
     ) {
+        inst.facts();
+        let Some(r) = named_by(change) else {
+            return;
+        };
         let lists = self.lists.as_slice();
-        turn_and_report(inst, told, change, lists, &mut self.loads, tally, steps);
+        turn_and_report(inst, told, change, r, lists, &mut self.loads, tally, steps);
     }
 
     fn deviation(&self, inst: &Instance, monitor: MonitorId) -> u64 {

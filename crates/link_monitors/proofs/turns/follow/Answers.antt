@@ -1,4 +1,5 @@
-use Rattle.link_monitors.proofs.TurnLaws.{group_still, runs_still}
+use Rattle.link_monitors.specs.ElsewhereLaws.{group_still}
+use Rattle.link_monitors.proofs.TurnLaws.{runs_still}
 use Rattle.link_monitors.proofs.turns.follow.Goals as goal
 
 pub returns-in_default : goal.returns-in_default

@@ -1,52 +1,89 @@
-use Rattle.std.proofs.Common.{◌≡◌, ◌∙◌, [], get_or, length, sym, ap, subst, arith}
+use Rattle.std.proofs.Common.{◌≡◌, ◌<◌, ◌∙◌, [], Some, get_or, length, slice_set, sym, ap, subst, arith}
+use Rattle.std.proofs.lemmas.Bool.{eq-eqb, eqb-true, true≢false}
+use Rattle.std.proofs.lemmas.List.{nil_from_length}
+use Rattle.std.proofs.lemmas.Option.{slice_get-get_or}
 use Rattle.khe_told.specs.Changes.{after, meet_of}
 use Rattle.khe_told.specs.Slots.{slot_at}
 use Rattle.event_monitors.specs.Posts.{posts_at}
 use Rattle.event_monitors.proofs.Noting.{list_of, steps_on}
 use Rattle.event_monitors.proofs.SlotFacts.{fits_event}
-use Rattle.order_monitors.specs.Edges.{AreEdges}
+use Rattle.order_monitors.specs.Edges.{AreEdges, IsEdges}
 use Rattle.order_monitors.specs.Pairs.{is_order}
 use Rattle.order_monitors.specs.Reports.{AreReported}
-use Rattle.order_monitors.proofs.ReportLaws.{agrees_on}
-use Rattle.order_monitors.proofs.TurnLaws.{own_same, short_after}
+use Rattle.order_monitors.proofs.ReportLaws.{agrees_on, agrees_still}
+use Rattle.order_monitors.proofs.TurnLaws.{edges_kept, edges_still, edges_turned, list_here, own_same, short_after}
 use Rattle.order_monitors.proofs.order_events.OrderEdgesKeeper.follow.Goals as goal
 
-pub bounds-lists-event : goal.bounds-lists-event
-bounds-lists-event g c =
+pub bounds-as_slice-event : goal.bounds-as_slice-event
+bounds-as_slice-event g c =
     let s = c.args.told.now in
     let own = ap (λ e. e.0) (c.event-event.ensures ∙ ap (λ n. (slot_at s n).event) c.meet.ensures) in
     let l = fits_event c.args.inst.now s c.args.change c.requires.fits in
     let r = c.requires.keeps.1.rows in
-    let a = ap length c.as_slice-lists.ensures in
+    let a = ap length c.as_slice.ensures in
     omega (arith, own, l, r, a)
+
+pub index_mut-requires : goal.index_mut-requires
+index_mut-requires g c =
+    let s = c.args.told.now in
+    let own = ap (λ e. e.0) (c.event-event.ensures ∙ ap (λ n. (slot_at s n).event) c.meet.ensures) in
+    let l = fits_event c.args.inst.now s c.args.change c.requires.fits in
+    let r = c.requires.keeps.2.rows in
+    omega (arith, own, l, r)
+
+pub turn-requires-clause-own : goal.turn-requires-clause-own
+turn-requires-clause-own g c = c.event-event.ensures ∙ ap (λ n. (slot_at c.args.told.now n).event) c.meet.ensures
+
+pub turn-requires-clause-of : goal.turn-requires-clause-of
+turn-requires-clause-of g c =
+    let p = c.args.inst.now in
+    let s = c.args.told.now in
+    let lists = c.args.self.now.lists in
+    let edges = c.args.self.now.edges.items in
+    let list = c.index-as_slice-event.result in
+    let event = c.event-event.result.0 in
+    let own = ap (λ e. e.0) (c.event-event.ensures ∙ ap (λ n. (slot_at s n).event) c.meet.ensures) in
+    let a = fits_event p s c.args.change c.requires.fits in
+    let l : event < length lists = let r = c.requires.keeps.1.rows in omega (arith, own, a, r) in
+    let m : event < length edges = let r = c.requires.keeps.2.rows in omega (arith, own, a, r) in
+    let here = list_here lists event list l
+    (c.index-as_slice-event.is ∙ ap (λ ls. get_or ls event list) c.as_slice.ensures) in
+    c.requires.keeps.2.each event c.index_mut.result.now
+    (slice_get-get_or edges event c.index_mut.result.now m ∙ ap Some (sym c.index_mut.ensures.value))
+    (λ none. true≢false (sym (eq-eqb (length c.as_slice-list.result.now) 0
+    (ap length (c.as_slice-list.ensures ∙ sym here ∙ none)))
+    ∙ sym c.is_empty.ensures ∙ c.if-is_empty.false))
 
 pub report-requires-clause-list : goal.report-requires-clause-list
 report-requires-clause-list g c =
     let p = c.args.inst.now in
     let s = c.args.told.now in
-    let lists = c.args.self.now.lists in
-    let posts = c.args.self.now.posts in
-    let e = (slot_at s (meet_of c.args.change)).event.0 in
-    let own : c.event-event.result.0 ≡ e = ap (λ x. x.0)
-    (c.event-event.ensures ∙ ap (λ n. (slot_at s n).event) c.meet.ensures) in
-    let list = c.index-lists-event.result in
+    let event = c.event-event.result.0 in
+    let list = c.index-as_slice-event.result in
+    let own = ap (λ e. e.0) (c.event-event.ensures ∙ ap (λ n. (slot_at s n).event) c.meet.ensures) in
+    let l : event < length p.events = let a = fits_event p s c.args.change c.requires.fits in omega (arith, own, a) in
     c.as_slice-list.ensures
-    ∙ list_of p posts lists e list c.requires.keeps.1 (fits_event p s c.args.change c.requires.fits)
-    (c.index-lists-event.is ∙ ap (λ ls. get_or ls c.event-event.result.0 list) c.as_slice-lists.ensures
-    ∙ ap (λ n. get_or lists n list) own)
-    ∙ ap (λ ps. posts_at p ps e) (sym c.as_slice-posts.ensures)
-    ∙ ap (posts_at p c.as_slice-posts.result.now) (sym own)
+    ∙ list_of p c.args.self.now.posts c.args.self.now.lists event list c.requires.keeps.1 l
+    (c.index-as_slice-event.is ∙ ap (λ ls. get_or ls event list) c.as_slice.ensures)
+    ∙ ap (λ ps. posts_at p ps event) (sym c.as_slice-posts.ensures)
 
 pub returns-clause-keeps : goal.returns-clause-keeps
 returns-clause-keeps g c =
     let p = c.args.inst.now in
     let s = c.args.told.now in
-    let s2 = after s c.args.change in
-    let es = c.turn_watched.new.edges.items in (
+    let k = c.args.change in
+    let edges = c.args.self.now.edges.items in
+    let e = (slot_at s (meet_of k)).event.0 in
+    let own : c.event-event.result.0 ≡ e = ap (λ x. x.0)
+    (c.event-event.ensures ∙ ap (λ n. (slot_at s n).event) c.meet.ensures) in
+    let l : e < length edges = let a = fits_event p s k c.requires.fits in let r = c.requires.keeps.2.rows in
+    omega (arith, a, r) in (
       c.requires.keeps.0,
       c.requires.keeps.1,
-      subst (λ ls. AreEdges p ls s2 es) c.as_slice-lists.ensures c.turn_watched.ensures,
-      short_after p s c.args.change c.facts.ensures c.requires.fits,
+      subst (λ n. AreEdges p c.args.self.now.lists (after s k) (slice_set edges n c.turn.new.edges)) (sym own)
+          (edges_turned p s k c.facts.ensures c.requires.fits c.args.self.now.lists edges c.turn.new.edges l
+          (subst (λ n. IsEdges n (after s k) c.turn.new.edges) own c.turn.ensures) c.requires.keeps.2),
+      short_after p s k c.facts.ensures c.requires.fits,
     )
 
 pub returns-clause-served : goal.returns-clause-served
@@ -58,17 +95,22 @@ returns-clause-served g c = λ agrees.
     let e = (slot_at s (meet_of k)).event.0 in
     let posts = c.args.self.now.posts in
     let lists = c.args.self.now.lists in
-    let es = c.turn_watched.new.edges.items in
+    let edges = c.args.self.now.edges.items in
+    let es = slice_set edges c.event-event.result.0 c.turn.new.edges in
     let old = g.Y.Tally.deviations c.args.tally.now in
     let new = g.Y.Tally.deviations c.report.new.tally in
     let own : c.event-event.result.0 ≡ e = ap (λ x. x.0)
     (c.event-event.ensures ∙ ap (λ n. (slot_at s n).event) c.meet.ensures) in
+    let l : e < length edges = let a = fits_event p s k c.requires.fits in let r = c.requires.keeps.2.rows in
+    omega (arith, a, r) in
+    let are = subst (λ n. AreEdges p lists s2 (slice_set edges n c.turn.new.edges)) (sym own)
+    (edges_turned p s k c.facts.ensures c.requires.fits lists edges c.turn.new.edges l
+    (subst (λ n. IsEdges n s2 c.turn.new.edges) own c.turn.ensures) c.requires.keeps.2) in
     let a = subst (λ ps. AreReported p ps c.event-event.result.0 c.as_slice-edges.result.now old new [])
     c.as_slice-posts.ensures c.report.ensures.all in
     let b = subst (λ n. AreReported p posts n c.as_slice-edges.result.now old new []) own a in
     let told = subst (λ x. AreReported p posts e x old new []) c.as_slice-edges.ensures.value b in
-    agrees_on p posts lists s s2 es old new e c.facts.ensures c.requires.keeps.0 c.requires.keeps.1
-    (subst (λ ls. AreEdges p ls s2 es) c.as_slice-lists.ensures c.turn_watched.ensures)
+    agrees_on p posts lists s s2 es old new e c.facts.ensures c.requires.keeps.0 c.requires.keeps.1 are
     (short_after p s k c.facts.ensures c.requires.fits) (own_same p s k c.facts.ensures c.requires.fits) told agrees
 
 pub returns-clause-steps : goal.returns-clause-steps
@@ -80,11 +122,79 @@ returns-clause-steps g c =
     let e = (slot_at s (meet_of c.args.change)).event.0 in
     let own : c.event-event.result.0 ≡ e = ap (λ x. x.0)
     (c.event-event.ensures ∙ ap (λ n. (slot_at s n).event) c.meet.ensures) in
-    let list = c.index-lists-event.result in
+    let list = c.index-as_slice-event.result in
     let is = list_of p posts lists e list c.requires.keeps.1 (fits_event p s c.args.change c.requires.fits)
-    (c.index-lists-event.is ∙ ap (λ ls. get_or ls c.event-event.result.0 list) c.as_slice-lists.ensures
+    (c.index-as_slice-event.is ∙ ap (λ ls. get_or ls c.event-event.result.0 list) c.as_slice.ensures
     ∙ ap (λ n. get_or lists n list) own) in
     let long = ap length (c.as_slice-list.ensures ∙ is) in
     let few = steps_on p is_order posts s c.args.change c.requires.keeps.0 in
     let taken = c.report.ensures.steps in
     omega (arith, long, few, taken)
+
+pub returns-then-not-changes_meets-clause-keeps : goal.returns-then-not-changes_meets-clause-keeps
+returns-then-not-changes_meets-clause-keeps g c =
+    let p = c.args.inst.now in
+    let s = c.args.told.now in
+    let k = c.args.change in (
+      c.requires.keeps.0,
+      c.requires.keeps.1,
+      edges_still p s k c.args.self.now.lists c.args.self.now.edges.items
+          (sym c.changes_meets.ensures ∙ c.if-not-changes_meets.true) c.requires.keeps.2,
+      short_after p s k c.facts.ensures c.requires.fits,
+    )
+
+pub returns-then-not-changes_meets-clause-served : goal.returns-then-not-changes_meets-clause-served
+returns-then-not-changes_meets-clause-served g c = λ agrees.
+    let p = c.args.inst.now in
+    let s = c.args.told.now in
+    let k = c.args.change in
+    let f = c.requires.keeps in
+    let lists = c.args.self.now.lists in
+    let edges = c.args.self.now.edges.items in
+    let are = edges_still p s k lists edges (sym c.changes_meets.ensures ∙ c.if-not-changes_meets.true) f.2 in
+    agrees_still p c.args.self.now.posts lists s (after s k) edges (g.Y.Tally.deviations c.args.tally.now)
+    c.facts.ensures f.0 f.1 f.2 f.3 are (short_after p s k c.facts.ensures c.requires.fits) agrees
+
+pub returns-then-is_empty-clause-keeps : goal.returns-then-is_empty-clause-keeps
+returns-then-is_empty-clause-keeps g c =
+    let p = c.args.inst.now in
+    let s = c.args.told.now in
+    let k = c.args.change in
+    let lists = c.args.self.now.lists in
+    let list = c.index-as_slice-event.result in
+    let event = c.event-event.result.0 in
+    let own = ap (λ e. e.0) (c.event-event.ensures ∙ ap (λ n. (slot_at s n).event) c.meet.ensures) in
+    let l : event < length lists = let a = fits_event p s k c.requires.fits in let r = c.requires.keeps.1.rows in
+    omega (arith, own, a, r) in
+    let here = list_here lists event list l
+    (c.index-as_slice-event.is ∙ ap (λ ls. get_or ls event list) c.as_slice.ensures) in
+    let none = nil_from_length c.as_slice-list.result.now (eqb-true (length c.as_slice-list.result.now) 0
+    (sym c.is_empty.ensures ∙ c.if-is_empty.true)) in (
+      c.requires.keeps.0,
+      c.requires.keeps.1,
+      edges_kept p s k c.facts.ensures c.requires.fits lists c.args.self.now.edges.items
+          (ap (λ n. get_or lists n []) (sym own) ∙ here ∙ sym c.as_slice-list.ensures ∙ none) c.requires.keeps.2,
+      short_after p s k c.facts.ensures c.requires.fits,
+    )
+
+pub returns-then-is_empty-clause-served : goal.returns-then-is_empty-clause-served
+returns-then-is_empty-clause-served g c = λ agrees.
+    let p = c.args.inst.now in
+    let s = c.args.told.now in
+    let k = c.args.change in
+    let f = c.requires.keeps in
+    let lists = c.args.self.now.lists in
+    let edges = c.args.self.now.edges.items in
+    let list = c.index-as_slice-event.result in
+    let event = c.event-event.result.0 in
+    let own = ap (λ e. e.0) (c.event-event.ensures ∙ ap (λ n. (slot_at s n).event) c.meet.ensures) in
+    let l : event < length lists = let a = fits_event p s k c.requires.fits in let r = f.1.rows in
+    omega (arith, own, a, r) in
+    let here = list_here lists event list l
+    (c.index-as_slice-event.is ∙ ap (λ ls. get_or ls event list) c.as_slice.ensures) in
+    let none = nil_from_length c.as_slice-list.result.now (eqb-true (length c.as_slice-list.result.now) 0
+    (sym c.is_empty.ensures ∙ c.if-is_empty.true)) in
+    let are = edges_kept p s k c.facts.ensures c.requires.fits lists edges
+    (ap (λ n. get_or lists n []) (sym own) ∙ here ∙ sym c.as_slice-list.ensures ∙ none) f.2 in
+    agrees_still p c.args.self.now.posts lists s (after s k) edges (g.Y.Tally.deviations c.args.tally.now)
+    c.facts.ensures f.0 f.1 f.2 f.3 are (short_after p s k c.facts.ensures c.requires.fits) agrees
