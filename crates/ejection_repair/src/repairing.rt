@@ -68,8 +68,8 @@ pub(crate) fn round<F: Family, L: Ledger>(
     requires marked { engine.old.marked ≡ costs_at engine.old.parts engine.old.state }
     requires lowest { aim.now.lowest ≡ totals_at engine.old.parts engine.old.state }
     requires depth { depth ≤ 4 }
-    requires marks { length engine.old.saved + depth ≤ MARKS }
-    requires room { depth ≤ engine.old.spare }
+    requires marks { length engine.old.saved + depth + aim.now.spare_marks ≤ MARKS }
+    requires room { depth + aim.now.spare_marks ≤ engine.old.spare }
     ensures goes { Goes result depth aim.now.diversifier engine.old engine.new left.old left.new }
     ensures kept { IsKept engine.old engine.new }
     ensures room { room engine.old ≤ room engine.new }
@@ -102,7 +102,7 @@ fn repair_exactly<F: Family, L: Ledger>(
     ensures marks { engine.new.saved ≡ [] }
     ensures refused { OnErr result ((engine.new.state ≡ engine.old.state) × (engine.new.marked ≡ engine.old.marked)) }
 {
-    engine.reserve(depth)?;
+    engine.reserve(depth + 1)?;
     let mut left = budget;
     let mut accepted = 0;
     while accepted <= budget {
@@ -110,6 +110,7 @@ fn repair_exactly<F: Family, L: Ledger>(
         let aim = Aim {
             lowest: totals_of(engine),
             diversifier,
+            spare_marks: 1,
         };
         match round(engine, &aim, depth, &mut left, steps) {
             Round::Settled => {
