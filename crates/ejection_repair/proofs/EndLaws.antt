@@ -1,5 +1,5 @@
 -- Looking at the last moves of chains, of which only the states that they leave count.
-use Rattle.std.proofs.Common.{ℕ, zero, suc, ◌≡◌, ◌==◌, ◌-◌, ◌<◌, ◌≤◌, ◌+◌, Bool, true, false, cond, List, [], ◌∷◌, ◌++◌, map}
+use Rattle.std.proofs.Common.{ℕ, zero, suc, ◌≡◌, ◌==◌, ◌-◌, ◌<◌, ◌+◌, Bool, true, false, cond, List, [], ◌∷◌, ◌++◌, map}
 use Rattle.std.proofs.Common.{length, drop, get_or, take, refl, sym, ap, subst, ◌∙◌, arith}
 use Rattle.std.specs.Prelude.{All}
 use Rattle.std.proofs.lemmas.Bool.{eqb-true}
@@ -9,7 +9,6 @@ use Rattle.std.specs.List.{filter, flat_map}
 use Rattle.khe_base.specs.declared.sums.Totals.{Totals}
 use Rattle.khe_instance.specs.declared.parts.Parts.{Parts}
 use Rattle.khe_told.specs.declared.edits.Edit.{Edit}
-use Rattle.khe_told.specs.declared.slots.Slot.{Slot}
 use Rattle.khe_engine.specs.States.{State, edited}
 use Rattle.khe_engine.specs.Worlds.{World}
 use Rattle.repair_moves.specs.Moves.{moves}
@@ -65,10 +64,10 @@ ends_back : (w v : World) (t : Totals) (n : ℕ) (xs ys all : List Edit) → IsB
     → (look w.parts t n (map (ended w.state) xs) ≡ look v.parts t n (map (ended v.state) xs))
     × (map (ended w.state) all ≡ map (ended w.state) xs ++ map (ended w.state) ys)
 ends_back w v t n xs ys all back eq = (
-    ap (λ q. look q t n (map (ended w.state) xs)) (sym back.parts)
-        ∙ ap (λ s. look v.parts t n (map (ended s) xs)) (sym back.state),
-    ap (map (ended w.state)) eq ∙ map-append (ended w.state) xs ys,
-  )
+  ap (λ q. look q t n (map (ended w.state) xs)) (sym back.parts)
+      ∙ ap (λ s. look v.parts t n (map (ended s) xs)) (sym back.state),
+  ap (map (ended w.state)) eq ∙ map-append (ended w.state) xs ys,
+)
 
 pub ends_through : (w v : World) (t : Totals) (n m : ℕ) (xs ys all : List Edit) → IsBack w v → all ≡ xs ++ ys
     → look v.parts t n (map (ended v.state) xs) ≡ through m

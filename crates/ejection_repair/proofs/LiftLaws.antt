@@ -1,16 +1,16 @@
 -- A meet or task that is lifted and then put elsewhere is moved.
-use Rattle.std.proofs.Common.{ℕ, ◌≡◌, ◌<◌, ◌==◌, Bool, true, false, cond, Option, Some, None, List, [], ◌∷◌, map, length}
+use Rattle.std.proofs.Common.{ℕ, ◌≡◌, ◌<◌, ◌==◌, Bool, true, cond, Some, None, List, [], ◌∷◌, map, length}
 use Rattle.std.proofs.Common.{refl, sym, ap, subst, ◌∙◌, arith}
-use Rattle.std.specs.Prelude.{All, is_some, is_none, not, nat_lt, nat_le, ◌&&◌}
+use Rattle.std.specs.Prelude.{All, is_some, not, nat_lt, ◌&&◌}
 use Rattle.std.proofs.lemmas.Bool.{and_parts, eqb-true}
-use Rattle.std.proofs.lemmas.List.Elements.{All-nil, All-cons, All-head, All-tail, All-map}
+use Rattle.std.proofs.lemmas.List.Elements.{All-nil, All-cons, All-head, All-tail}
 use Rattle.khe_base.specs.declared.numbers.MeetId.{MeetId}
 use Rattle.khe_base.specs.declared.numbers.ResourceId.{ResourceId}
 use Rattle.khe_base.specs.declared.numbers.TaskId.{TaskId}
 use Rattle.khe_base.specs.declared.numbers.TimeId.{TimeId}
 use Rattle.khe_base.specs.declared.sums.Totals.{Totals}
 use Rattle.khe_instance.specs.declared.parts.Parts.{Parts}
-use Rattle.khe_told.specs.Slots.{slot_at, length_of, is_live, start_of, given_at}
+use Rattle.khe_told.specs.Slots.{slot_at, is_live}
 use Rattle.khe_told.specs.declared.edits.Edit.{Edit}
 use Rattle.khe_told.specs.declared.edits.Edit.TheVariants.{Assign, Unassign, MoveTo, Split, Merge, SwapMeets, Give}
 use Rattle.khe_told.specs.declared.edits.Edit.TheVariants.{Take, Regive, SwapTasks, Attach, Detach, MakeGroup}
@@ -19,7 +19,7 @@ use Rattle.khe_told.specs.declared.refusals.Refusal.{Refusal}
 use Rattle.khe_told.specs.declared.slots.Slot.{Slot}
 use Rattle.khe_solution.specs.Editing as editing
 use Rattle.khe_solution.specs.Editing.{timed, staffed}
-use Rattle.khe_solution.specs.Reading.{has_place, has_type, is_fixed_event, is_fixed_place, is_placed, resource_at, runs_over}
+use Rattle.khe_solution.specs.Reading.{has_place, has_type, is_fixed_event, is_fixed_place, runs_over}
 use Rattle.khe_solution.specs.Refusing.{first_refusal, assign_row, unassign_row, move_row, give_row, take_row, regive_row}
 use Rattle.khe_solution.specs.Refusing.{refusal}
 use Rattle.khe_solution.proofs.Basics.{AllPass, not-false, passed, live_there}
@@ -28,7 +28,6 @@ use Rattle.khe_solution.proofs.Stages.{MayTurn, place_still, turn_there}
 use Rattle.khe_solution.proofs.StartEdits.{timed_start}
 use Rattle.khe_engine.specs.States.{State, edited}
 use Rattle.khe_engine.specs.Worlds.{World}
-use Rattle.khe_engine.proofs.StateLaws.{edited_meets}
 use Rattle.repair_moves.specs.declared.moved.Moved.{Moved}
 use Rattle.repair_moves.specs.declared.moved.Moved.TheVariants.{Meet, Task}
 use Rattle.ejection_repair.specs.Lifts.{IsMove, ended, lift_of, lifted_by, put_of}
@@ -52,8 +51,16 @@ move_lifted p s m t h =
     let l = live_there s m.0 live in
     let r = timed_reads s m None m.0 l in (
       passing (unassign_row p s m) (a.0, (a.1.1.0, (a.1.1.1.0, tt))),
-      passing (assign_row p s1 m t) (ap not r.live ∙ a.0, (a.1.0, (ap (λ e. is_fixed_event p e.0) r.event ∙ a.1.1.0,
-          (ap is_some (timed_start s m None live), (ap (runs_over p t.0) r.lasts ∙ a.1.1.1.1.1.0, tt))))),
+      passing (assign_row p s1 m t) (
+        ap not r.live ∙ a.0,
+        (
+          a.1.0,
+          (
+            ap (λ e. is_fixed_event p e.0) r.event ∙ a.1.1.0,
+            (ap is_some (timed_start s m None live), (ap (runs_over p t.0) r.lasts ∙ a.1.1.1.1.1.0, tt)),
+          ),
+        ),
+      ),
       timed_twice s m None (Some t) l,
     )
 
@@ -69,9 +76,19 @@ regive_lifted p s k r h =
     let w = turn_there p s k may in
     let q = staffed_reads s k None k.meet.0 w.0 in (
       passing (take_row p s k) (a.0, (a.1.1.0, (a.1.1.1.0, tt))),
-      passing (give_row p s1 k r) ((λ i. not (is_some (q.span i) && nat_lt k.place (q.places i))) ∙ a.0, (a.1.0,
-          (ap (λ e. is_fixed_place p e.0 k.place) q.event ∙ a.1.1.0, (ap is_some (staffed_given s k None w.0 w.1),
-          (ap (λ o. not (has_type p r.0 o)) (place_still p s k k None w.0) ∙ a.1.1.1.1.1.0, tt))))),
+      passing (give_row p s1 k r) (
+        (λ i. not (is_some (q.span i) && nat_lt k.place (q.places i))) ∙ a.0,
+        (
+          a.1.0,
+          (
+            ap (λ e. is_fixed_place p e.0 k.place) q.event ∙ a.1.1.0,
+            (
+              ap is_some (staffed_given s k None w.0 w.1),
+              (ap (λ o. not (has_type p r.0 o)) (place_still p s k k None w.0) ∙ a.1.1.1.1.1.0, tt),
+            ),
+          ),
+        ),
+      ),
       staffed_twice s k None (Some r) w.0,
     )
 

@@ -1,7 +1,7 @@
 //! The last moves of chains, of which only the totals are asked: each is tried by itself, or several
 //! of one meet or task while it is lifted.
 
-ghost use Rattle.std.specs.Prelude.{◌≡◌, ◌<◌, ◌≤◌, ◌+◌, ◌++◌, ◌∷◌, [], Some, All, IfSome, length, map, take};
+ghost use Rattle.std.specs.Prelude.{◌≡◌, ◌<◌, ◌≤◌, ◌+◌, ◌∷◌, [], Some, All, IfSome, length, map, take};
 ghost use Rattle.khe_base.specs.declared.limits.TheConstants.{MARKS};
 ghost use Rattle.repair_moves.specs.Cursors.{IsNext};
 ghost use Rattle.ejection_repair.specs.Chains.{extensions};

@@ -19,9 +19,10 @@ use std::sync::ledger::Ledger;
 /// to by the same depth, budget and diversifier. The states at the marks stay, so an undo leads back.
 /// As many further marks as the depth says have to be free.
 ///
-/// Memory is taken for a record of each move that stays, and before each chain is looked for. Where it
-/// is refused, the timetable is that of the chains taken so far; an undo leads back from there too.
-/// It takes the time of `repair`.
+/// Memory is taken for a record of each move that stays and one more for each chain, and before each
+/// chain is looked for. Where it is refused, the timetable is that of the chains taken so far; an undo
+/// leads back from there too. It takes the time of `repair` where one mark more is free; where none
+/// is, nothing is lifted for several moves, and each makes both of its changes.
 pub fn repair_inside<F: Family, L: Ledger>(
     engine: &mut Engine<'_, F>,
     depth: u32,

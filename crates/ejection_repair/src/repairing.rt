@@ -21,13 +21,15 @@ use std::sync::ledger::Ledger;
 /// defects and of moves is begun, modulo its length.
 ///
 /// The depth is 1 to 4, and the budget, a number of chains, at least 1. Memory is taken first, for a
-/// record of each move of a chain; where it is refused the engine stays as it was. The new state is
-/// reached by edits of meets and tasks that the engine accepts, so groups and detached monitors stay;
-/// it never costs more, and less where a chain was taken; no mark is open afterwards.
+/// record of each move of a chain and one more; where it is refused the engine stays as it was. The
+/// new state is reached by edits of meets and tasks that the engine accepts, so groups and detached
+/// monitors stay; it never costs more, and less where a chain was taken; no mark is open afterwards.
 ///
 /// A try of a chain makes its last move and takes it back: it takes the time of what watches the
-/// move's changes, twice. A chain that is taken is made once. Where the diversifier isn't 0, a list is
-/// gone past to the place where it is begun.
+/// move's changes, twice. Where last moves that follow one another put the same meet elsewhere, or
+/// give the same task to others, it is lifted once for up to 64 of them: each then takes the time of
+/// its second change alone, twice. A chain that is taken is made once. Where the diversifier isn't 0,
+/// a list is gone past to the place where it is begun.
 pub fn repair<F: Family, L: Ledger>(
     engine: &mut Engine<'_, F>,
     depth: u32,

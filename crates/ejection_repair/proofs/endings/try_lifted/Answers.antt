@@ -1,8 +1,6 @@
-use Rattle.std.proofs.Common.{◌≡◌, List, ap, sym, subst, ◌∙◌, arith}
-use Rattle.khe_told.specs.declared.edits.Edit.{Edit}
+use Rattle.std.proofs.Common.{ap, sym, subst, ◌∙◌, arith}
 use Rattle.ejection_repair.specs.Lifts.{IsMove}
 use Rattle.ejection_repair.specs.Looks.{found}
-use Rattle.ejection_repair.proofs.EndLaws as ends
 use Rattle.ejection_repair.proofs.LiftLaws as lifts
 use Rattle.ejection_repair.proofs.SearchLaws as search
 use Rattle.ejection_repair.proofs.endings.try_lifted.Goals as goal

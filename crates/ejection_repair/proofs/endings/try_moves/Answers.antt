@@ -1,10 +1,8 @@
-use Rattle.std.proofs.Common.{◌≡◌, List, refl, sym, ap, subst, ◌∙◌, drop, length, map, take}
+use Rattle.std.proofs.Common.{List, refl, sym, subst, ◌∙◌}
 use Rattle.std.specs.Prelude.{All}
-use Rattle.std.proofs.lemmas.List.{take-append-drop, take_rest}
 use Rattle.std.proofs.lemmas.List.Elements.{All-drop, All-take}
 use Rattle.khe_told.specs.declared.edits.Edit.{Edit}
-use Rattle.ejection_repair.specs.Lifts.{IsMove, ended}
-use Rattle.ejection_repair.specs.Looks.{look}
+use Rattle.ejection_repair.specs.Lifts.{IsMove}
 use Rattle.ejection_repair.proofs.EndLaws as ends
 use Rattle.ejection_repair.proofs.SearchLaws as search
 use Rattle.ejection_repair.proofs.endings.try_moves.Goals as goal

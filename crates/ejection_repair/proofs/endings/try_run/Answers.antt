@@ -1,4 +1,4 @@
-use Rattle.std.proofs.Common.{◌≡◌, Option, List, sym, subst}
+use Rattle.std.proofs.Common.{Option, List, sym, subst}
 use Rattle.repair_moves.specs.declared.moved.Moved.{Moved}
 use Rattle.ejection_repair.specs.Chains.{Chain}
 use Rattle.ejection_repair.specs.Lifts.{IsRun}

@@ -1,6 +1,5 @@
-use Rattle.std.proofs.Common.{◌≡◌, Some, length, sym}
-use Rattle.std.proofs.lemmas.List.{take_all}
-use Rattle.std.proofs.lemmas.List.Elements.{All-more, All-same}
+use Rattle.std.proofs.Common.{◌≡◌, Some}
+use Rattle.std.proofs.lemmas.List.Elements.{All-more}
 use Rattle.khe_told.specs.declared.edits.Edit.{Edit}
 use Rattle.ejection_repair.specs.Lifts.{lifted_by}
 use Rattle.ejection_repair.proofs.lifting.count_lifting.Goals as goal
