@@ -145,11 +145,14 @@ pub ends_done : (p : Parts) (s : State) (t : Totals) (n : ℕ) (es : List Edit) 
     → look p t n (map (ended s) es) ≡ through n
 ends_done p s t n es e = look_nothing p t n _ (ap (map (ended s)) e)
 
-pub one_alone : (s : State) (es : List Edit) (d : Edit) → length es ≡ 1 → map (ended s) es ≡ ended s (get_or es 0 d) ∷ []
+-- a move by itself
+pub one_alone : (s : State) (es : List Edit) (d : Edit) → length es ≡ 1
+    → map (ended s) es ≡ ended s (get_or es 0 d) ∷ []
 one_alone s [] d l = absurd (omega arith)
 one_alone s (e ∷ []) d l = refl
 one_alone s (e ∷ f ∷ es) d l = absurd (omega arith)
 
+-- a list that is empty
 pub none_left : (es : List Edit) → (length es == 0) ≡ true → es ≡ []
 none_left [] h = refl
 none_left (e ∷ es) h = absurd (let n = eqb-true (length (e ∷ es)) 0 h in omega arith)

@@ -20,8 +20,8 @@ use Rattle.khe_told.specs.declared.slots.Slot.{Slot}
 use Rattle.khe_solution.specs.Editing as editing
 use Rattle.khe_solution.specs.Editing.{timed, staffed}
 use Rattle.khe_solution.specs.Reading.{has_place, has_type, is_fixed_event, is_fixed_place, runs_over}
-use Rattle.khe_solution.specs.Refusing.{first_refusal, assign_row, unassign_row, move_row, give_row, take_row, regive_row}
-use Rattle.khe_solution.specs.Refusing.{refusal}
+use Rattle.khe_solution.specs.Refusing.{first_refusal, assign_row, unassign_row, move_row}
+use Rattle.khe_solution.specs.Refusing.{give_row, take_row, regive_row, refusal}
 use Rattle.khe_solution.proofs.Basics.{AllPass, not-false, passed, live_there}
 use Rattle.khe_solution.proofs.EditingLaws.{timed_reads, timed_twice, staffed_given, staffed_reads, staffed_twice}
 use Rattle.khe_solution.proofs.Stages.{MayTurn, place_still, turn_there}

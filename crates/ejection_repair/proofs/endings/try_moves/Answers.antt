@@ -15,34 +15,39 @@ loop-rest-preserved g c =
     let w = c.args.engine.now in let v = c.loop-rest.engine in let i = c.loop-rest.invariant in let e =
     c.in-Through.ensures in
     let rest = c.loop-rest.rest.now in
+    let n = c.run_of-run.result.count in
+    let cut = c.split_at.ensures in
     let first = c.split_at.result.0.now in
     let later = c.split_at.result.1.now in
-    let both = ends.both_parts rest first later c.run_of-run.result.count c.split_at.ensures.front c.split_at.ensures.back in
     let P : Edit → Type 0 = IsMove w.parts w.state.slots in
+    let all : List Edit → Type 0 = λ xs. All P xs in
     record {
       back = search.back_again w v c.try_run.new.engine i.back e.kept e.room e.looks.1 e.looks.2;
-      moves = subst (λ (xs : List Edit). All P xs) (sym c.split_at.ensures.back) (All-drop P c.run_of-run.result.count rest i.moves);
-      looks = sym (ends.ends_through w v c.args.aim.now.lowest c.loop-rest.left c.try_run.new.left first later rest i.back both e.looks.0) ∙ i.looks;
+      moves = subst all (sym cut.back) (All-drop P n rest i.moves);
+      looks = sym (ends.ends_through w v c.args.aim.now.lowest c.loop-rest.left c.try_run.new.left first later rest
+          i.back (ends.both_parts rest first later n cut.front cut.back) e.looks.0) ∙ i.looks;
     }
 
 pub returns-in-Found-clause-looks : goal.returns-in-Found-clause-looks
 returns-in-Found-clause-looks g c =
     let w = c.args.engine.now in let i = c.loop-rest.invariant in
     let rest = c.loop-rest.rest.now in
+    let cut = c.split_at.ensures in
     let first = c.split_at.result.0.now in
     let later = c.split_at.result.1.now in
-    let both = ends.both_parts rest first later c.run_of-run.result.count c.split_at.ensures.front c.split_at.ensures.back in
     sym i.looks ∙ ends.ends_found w c.loop-rest.engine c.args.aim.now.lowest c.loop-rest.left c.try_run.new.left _
-    first later rest i.back both c.in-Found.ensures.looks
+    first later rest i.back (ends.both_parts rest first later c.run_of-run.result.count cut.front cut.back)
+    c.in-Found.ensures.looks
 
 pub returns-in-Spent-clause-looks : goal.returns-in-Spent-clause-looks
 returns-in-Spent-clause-looks g c =
     let w = c.args.engine.now in let i = c.loop-rest.invariant in let e = c.in-Spent.ensures.looks in
     let rest = c.loop-rest.rest.now in
+    let cut = c.split_at.ensures in
     let first = c.split_at.result.0.now in
-    let later = c.split_at.result.1.now in
-    let both = ends.both_parts rest first later c.run_of-run.result.count c.split_at.ensures.front c.split_at.ensures.back in (
-      sym i.looks ∙ ends.ends_spent w c.loop-rest.engine c.args.aim.now.lowest c.loop-rest.left first later rest i.back both e.0,
+    let later = c.split_at.result.1.now in (
+      sym i.looks ∙ ends.ends_spent w c.loop-rest.engine c.args.aim.now.lowest c.loop-rest.left first later rest i.back
+          (ends.both_parts rest first later c.run_of-run.result.count cut.front cut.back) e.0,
       e.1 ∙ i.back.state,
       e.2 ∙ i.back.saved,
       e.3,
@@ -60,6 +65,8 @@ returns-clause-looks g c =
 pub try_run-requires-clause-moves : goal.try_run-requires-clause-moves
 try_run-requires-clause-moves g c =
     let w = c.args.engine.now in let v = c.loop-rest.engine in let i = c.loop-rest.invariant in
+    let rest = c.loop-rest.rest.now in
     let P : Edit → Type 0 = IsMove v.parts v.state.slots in
-    subst (λ (xs : List Edit). All P xs) (sym c.split_at.ensures.front)
-    (All-take P c.run_of-run.result.count c.loop-rest.rest.now (ends.moves_back w v c.loop-rest.rest.now i.back i.moves))
+    let all : List Edit → Type 0 = λ xs. All P xs in
+    subst all (sym c.split_at.ensures.front)
+    (All-take P c.run_of-run.result.count rest (ends.moves_back w v rest i.back i.moves))
