@@ -3,7 +3,9 @@ pub mod AskLaws
 pub mod BoundLaws
 pub mod CountLaws
 pub mod EditLaws
+mod EndLaws
 pub mod KeptLaws
+mod LiftLaws
 pub mod LookLaws
 pub mod MarkLaws
 pub mod RoundLaws
@@ -11,3 +13,4 @@ pub mod RunLaws
 pub mod SearchLaws
 pub mod SettledLaws
 pub mod SweepLaws
+mod WalkLaws

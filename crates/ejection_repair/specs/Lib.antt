@@ -2,6 +2,7 @@ pub mod Bounds
 pub mod Chains
 pub mod Examples
 pub mod Kept
+pub mod Lifts
 pub mod Looks
 pub mod Repaired
 pub mod Rounds

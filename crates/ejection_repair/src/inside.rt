@@ -10,6 +10,7 @@ use crate::looked::Aim;
 use crate::outcome::{Outcome, Round};
 use crate::repairing::round;
 use khe_base::NoMemory;
+use khe_base::limits::MARKS;
 use khe_engine::Engine;
 use khe_told::{Family, Steps};
 use std::sync::ledger::Ledger;
@@ -18,9 +19,10 @@ use std::sync::ledger::Ledger;
 /// to by the same depth, budget and diversifier. The states at the marks stay, so an undo leads back.
 /// As many further marks as the depth says have to be free.
 ///
-/// Memory is taken for a record of each move that stays, and before each chain is looked for. Where it
-/// is refused, the timetable is that of the chains taken so far; an undo leads back from there too.
-/// It takes the time of `repair`.
+/// Memory is taken for a record of each move that stays and one more for each chain, and before each
+/// chain is looked for. Where it is refused, the timetable is that of the chains taken so far; an undo
+/// leads back from there too. It takes the time of `repair` where one mark more is free; where none
+/// is, nothing is lifted for several moves, and each makes both of its changes.
 pub fn repair_inside<F: Family, L: Ledger>(
     engine: &mut Engine<'_, F>,
     depth: u32,
@@ -37,14 +39,16 @@ pub fn repair_inside<F: Family, L: Ledger>(
     ensures parts { engine.new.parts ≡ engine.old.parts }
     ensures saved { states engine.new.saved ≡ states engine.old.saved }
 {
+    let spare_marks = marks_beside(engine, depth);
     let mut left = budget;
     let mut accepted = 0;
     while accepted <= budget {
-        engine.reserve(depth)?;
+        engine.reserve(depth + spare_marks)?;
         compare_from_here(engine);
         let aim = Aim {
             lowest: totals_of(engine),
             diversifier,
+            spare_marks,
         };
         match round(engine, &aim, depth, &mut left, steps) {
             Round::Settled => {
@@ -62,4 +66,13 @@ pub fn repair_inside<F: Family, L: Ledger>(
         }
     }
     unreachable!()
+}
+
+/// How many marks are free beside those of a chain's moves, up to the one that lifting takes.
+fn marks_beside<F: Family>(engine: &Engine<'_, F>, depth: u32) -> u32
+    requires { length engine.now.saved + depth ≤ MARKS }
+    ensures most { result ≤ 1 }
+    ensures marks { length engine.now.saved + depth + result ≤ MARKS }
+{
+    if engine.marks() + depth < MARKS { 1 } else { 0 }
 }

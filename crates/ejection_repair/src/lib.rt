@@ -3,8 +3,10 @@
 #![tactic(auto)]
 
 mod asks;
+mod endings;
 mod examples;
 mod inside;
+mod lifting;
 mod looked;
 mod marking;
 mod moving;

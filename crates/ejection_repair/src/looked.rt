@@ -17,4 +17,7 @@ pub(crate) struct Aim {
     /// The totals that a chain is to go below.
     pub(crate) lowest: Totals,
     pub(crate) diversifier: u64,
+    /// How many marks may be open beside one for each move of a chain: with one, moves of one meet or
+    /// task are tried while it is lifted.
+    pub(crate) spare_marks: u32,
 }

@@ -95,7 +95,7 @@ pub(crate) fn moved_by(solution: &Solution<'_>, edit: Edit) -> Movings
 }
 
 /// Whether two are the same meet or the same task.
-fn is_same(a: Moved, b: Moved) -> bool
+pub(crate) fn is_same(a: Moved, b: Moved) -> bool
     ensures { result ≡ spec.is_same a b }
 {
     match a {

@@ -21,13 +21,15 @@ use std::sync::ledger::Ledger;
 /// defects and of moves is begun, modulo its length.
 ///
 /// The depth is 1 to 4, and the budget, a number of chains, at least 1. Memory is taken first, for a
-/// record of each move of a chain; where it is refused the engine stays as it was. The new state is
-/// reached by edits of meets and tasks that the engine accepts, so groups and detached monitors stay;
-/// it never costs more, and less where a chain was taken; no mark is open afterwards.
+/// record of each move of a chain and one more; where it is refused the engine stays as it was. The
+/// new state is reached by edits of meets and tasks that the engine accepts, so groups and detached
+/// monitors stay; it never costs more, and less where a chain was taken; no mark is open afterwards.
 ///
 /// A try of a chain makes its last move and takes it back: it takes the time of what watches the
-/// move's changes, twice. A chain that is taken is made once. Where the diversifier isn't 0, a list is
-/// gone past to the place where it is begun.
+/// move's changes, twice. Where last moves that follow one another put the same meet elsewhere, or
+/// give the same task to others, it is lifted once for up to 64 of them: each then takes the time of
+/// its second change alone, twice. A chain that is taken is made once. Where the diversifier isn't 0,
+/// a list is gone past to the place where it is begun.
 pub fn repair<F: Family, L: Ledger>(
     engine: &mut Engine<'_, F>,
     depth: u32,
@@ -68,8 +70,8 @@ pub(crate) fn round<F: Family, L: Ledger>(
     requires marked { engine.old.marked ≡ costs_at engine.old.parts engine.old.state }
     requires lowest { aim.now.lowest ≡ totals_at engine.old.parts engine.old.state }
     requires depth { depth ≤ 4 }
-    requires marks { length engine.old.saved + depth ≤ MARKS }
-    requires room { depth ≤ engine.old.spare }
+    requires marks { length engine.old.saved + depth + aim.now.spare_marks ≤ MARKS }
+    requires room { depth + aim.now.spare_marks ≤ engine.old.spare }
     ensures goes { Goes result depth aim.now.diversifier engine.old engine.new left.old left.new }
     ensures kept { IsKept engine.old engine.new }
     ensures room { room engine.old ≤ room engine.new }
@@ -102,7 +104,7 @@ fn repair_exactly<F: Family, L: Ledger>(
     ensures marks { engine.new.saved ≡ [] }
     ensures refused { OnErr result ((engine.new.state ≡ engine.old.state) × (engine.new.marked ≡ engine.old.marked)) }
 {
-    engine.reserve(depth)?;
+    engine.reserve(depth + 1)?;
     let mut left = budget;
     let mut accepted = 0;
     while accepted <= budget {
@@ -110,6 +112,7 @@ fn repair_exactly<F: Family, L: Ledger>(
         let aim = Aim {
             lowest: totals_of(engine),
             diversifier,
+            spare_marks: 1,
         };
         match round(engine, &aim, depth, &mut left, steps) {
             Round::Settled => {

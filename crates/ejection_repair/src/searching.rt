@@ -8,6 +8,7 @@ ghost use Rattle.ejection_repair.specs.Kept.{IsKept, room};
 ghost use Rattle.ejection_repair.specs.Looks.{look, Looks, chain_at};
 
 use crate::asks::{are_lower, only_dearer, totals_of};
+use crate::endings::extend_last;
 use crate::looked::{Aim, Looked};
 use crate::marking::{keep, make, take_back};
 use crate::moving::{is_fresh, longer};
@@ -32,14 +33,17 @@ pub(crate) fn extend<F: Family, L: Ledger>(
 ) -> Looked
     requires known { monitor.0 < length engine.old.parts.monitors }
     requires trail { trail.now.count + 2 * more ≤ 8 }
-    requires marks { length engine.old.saved + more ≤ MARKS }
-    requires room { more ≤ engine.old.spare }
+    requires marks { length engine.old.saved + more + aim.now.spare_marks ≤ MARKS }
+    requires room { more + aim.now.spare_marks ≤ engine.old.spare }
     ensures looks { Looks result (look engine.old.parts aim.now.lowest left.old (extensions engine.old.parts engine.old.marked aim.now.diversifier more (chain_at trail.now engine.old) monitor.0)) engine.old engine.new left.new }
     ensures kept { IsKept engine.old engine.new }
     ensures room { room engine.old ≤ room engine.new }
 {
     if more == 0 {
         return Looked::Through;
+    }
+    if more == 1 {
+        return extend_last(engine, aim, trail, monitor, left, steps);
     }
     let inst = engine.instance();
     let mut round = moves_from(inst, engine.solution(), monitor, aim.diversifier);
@@ -69,8 +73,8 @@ fn attempt<F: Family, L: Ledger>(
     requires ours { is_of_meets edit ≡ true }
     requires accepted { refusal engine.old.parts engine.old.state.slots edit ≡ None }
     requires trail { trail.now.count + 2 * more + 2 ≤ 8 }
-    requires marks { length engine.old.saved + more < MARKS }
-    requires room { more < engine.old.spare }
+    requires marks { length engine.old.saved + more + aim.now.spare_marks < MARKS }
+    requires room { more + aim.now.spare_marks < engine.old.spare }
     ensures looks { Looks result (look engine.old.parts aim.now.lowest left.old (onward engine.old.parts engine.old.marked aim.now.diversifier more (longer_chain (chain_at trail.now engine.old) edit))) engine.old engine.new left.new }
     ensures kept { IsKept engine.old engine.new }
     ensures room { room engine.old ≤ room engine.new }
@@ -112,15 +116,12 @@ fn go_on<F: Family, L: Ledger>(
     steps: &mut Steps<L>,
 ) -> Looked
     requires trail { trail.now.count + 2 * more ≤ 8 }
-    requires marks { length engine.old.saved + more ≤ MARKS }
-    requires room { more ≤ engine.old.spare }
+    requires marks { length engine.old.saved + more + aim.now.spare_marks ≤ MARKS }
+    requires room { more + aim.now.spare_marks ≤ engine.old.spare }
     ensures looks { Looks result (look engine.old.parts aim.now.lowest left.old (further_at engine.old.parts engine.old.marked aim.now.diversifier more (chain_at trail.now engine.old))) engine.old engine.new left.new }
     ensures kept { IsKept engine.old engine.new }
     ensures room { room engine.old ≤ room engine.new }
 {
-    if more == 0 {
-        return Looked::Through;
-    }
     match only_dearer(engine) {
         None => Looked::Through,
         Some(monitor) => extend(engine, aim, trail, monitor, more, left, steps),

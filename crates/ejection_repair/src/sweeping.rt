@@ -111,8 +111,8 @@ pub(crate) fn sweep<F: Family, L: Ledger>(
 ) -> Looked
     requires marked { engine.old.marked ≡ costs_at engine.old.parts engine.old.state }
     requires more { 2 * more ≤ 8 }
-    requires marks { length engine.old.saved + more ≤ MARKS }
-    requires room { more ≤ engine.old.spare }
+    requires marks { length engine.old.saved + more + aim.now.spare_marks ≤ MARKS }
+    requires room { more + aim.now.spare_marks ≤ engine.old.spare }
     ensures looks { Looks result (look engine.old.parts aim.now.lowest left.old (chains engine.old.parts engine.old.state aim.now.diversifier more)) engine.old engine.new left.new }
     ensures kept { IsKept engine.old engine.new }
     ensures room { room engine.old ≤ room engine.new }

@@ -7,6 +7,7 @@ loop-accepted-init g c = record {
   parts = refl;
   saved = refl;
   count = refl;
+  marks = c.marks_beside-spare_marks.ensures.marks;
   fewer = omega arith;
   runs = runs.begun_repaired _ _ _ _ _ c.args.budget refl;
 }

@@ -8,7 +8,7 @@ invariant-loop-accepted g l =
     record {
       parts : l.engine.parts ≡ w.parts;
       saved : l.engine.saved ≡ [];
-      room : l.depth ≤ l.engine.spare;
+      room : l.depth + 1 ≤ l.engine.spare;
       fewer : l.accepted + l.left ≤ l.budget;
       runs : runs_from w.parts l.depth l.diversifier l.left l.accepted (l.budget - l.left) l.engine.state
           ≡ repaired w.parts w.state l.depth l.budget l.diversifier;

@@ -1,4 +1,4 @@
-use Rattle.std.proofs.Common.{◌-◌, true, false, sym, ap, ◌∙◌, refl, arith, List, subst}
+use Rattle.std.proofs.Common.{ℕ, ◌-◌, true, false, sym, ap, ◌∙◌, refl, arith, List, subst}
 use Rattle.ejection_repair.specs.Chains.{Chain, tried, further_at, extensions}
 use Rattle.ejection_repair.specs.Looks.{found, chain_at, look, Looks}
 use Rattle.ejection_repair.proofs.LookLaws as looks
@@ -88,6 +88,15 @@ extend-returns-then-more-eq0-clause-looks g t c =
       refl,
       refl,
     )
+
+pub extend-returns-then-more-eq1-clause-looks : goal.extend-returns-then-more-eq1-clause-looks
+extend-returns-then-more-eq1-clause-looks g t c =
+    let E = c.args.engine.now in
+    let chain = chain_at c.args.trail.now E in
+    let P : ℕ → Type 0 = λ k. Looks c.extend_last.result (look E.parts c.args.aim.now.lowest c.args.left.now
+    (extensions E.parts E.marked c.args.aim.now.diversifier k chain c.args.monitor.0)) E c.extend_last.new.engine
+    c.extend_last.new.left in
+    subst P (sym c.if-more-eq1.true) c.extend_last.ensures.looks
 
 pub extend-loop-edit-init : goal.extend-loop-edit-init
 extend-loop-edit-init g t c =
@@ -179,15 +188,6 @@ extend-returns-clause-looks g t c =
           c.args.aim.now.lowest none,
       i.back.state,
       i.back.saved,
-    )
-
-pub go_on-returns-then-more-eq0-clause-looks : goal.go_on-returns-then-more-eq0-clause-looks
-go_on-returns-then-more-eq0-clause-looks g t c =
-    let E = c.args.engine.now in let chain = chain_at c.args.trail.now E in let v = c.args.aim.now.diversifier in (
-      looks.look_nothing _ _ _ _ (ap (λ k. further_at E.parts E.marked v k chain) c.if-more-eq0.true
-          ∙ search.further_no_more E.parts E.marked v chain),
-      refl,
-      refl,
     )
 
 pub go_on-returns-in-None-clause-looks : goal.go_on-returns-in-None-clause-looks
