@@ -32,7 +32,7 @@ use thiserror::Error;
 /// |---|---|
 /// | 0 | the archive was evaluated, written, repaired, solved or made, the script was read to its end, or the job was run |
 /// | 2 | the words were not understood |
-/// | 3 | the archive was refused, or the solution that a script, a repair, a solve or a run begins with |
+/// | 3 | the archive was refused, or the solution that a script, a repair or a solve begins with |
 /// | 4 | the archive or the script could not be read |
 /// | 5 | the text could not be written |
 /// | 6 | memory ran out |
