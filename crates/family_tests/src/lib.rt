@@ -9,7 +9,6 @@ mod archives;
 mod bench;
 #[cfg(test)]
 mod event_rows;
-#[cfg(test)]
 mod fitting;
 #[cfg(test)]
 mod large;
