@@ -3,11 +3,10 @@ use crate::shortages::shortage_of;
 use hall_report::{Demand, Demands};
 use khe_base::{MonitorId, NoMemory, Seq, both};
 use khe_instance::{Instance, Kind};
-use khe_told::{Change, Family, Steps, Tally, Watcher};
+use khe_told::{Change, Family, Waits};
 use std::alloc::Global;
-use std::sync::ledger::Ledger;
 
-/// Families that keep the demands of the timetable beside them: each change is noted to both. They
+/// Families that keep the demands of the timetable beside them: each change is told to both. They
 /// serve the kinds of the families.
 #[derive(Drop)]
 pub struct WithDemands<F> {
@@ -37,15 +36,9 @@ impl<F: Family + Drop> Family for WithDemands<F> {
         self.families.serves(kind)
     }
 
-    fn note<Y: Tally, L: Ledger>(
-        &mut self,
-        inst: &Instance,
-        change: Change,
-        tally: &mut Y,
-        steps: &mut Steps<L>,
-    ) {
-        self.demands.note(inst, change, steps);
-        self.families.note(inst, change, tally, steps);
+    fn turn<W: Waits>(&mut self, inst: &Instance, change: Change, waits: &mut W) {
+        self.demands.tell(inst, change);
+        self.families.turn(inst, change, waits);
     }
 
     fn deviation(&self, inst: &Instance, monitor: MonitorId) -> u64 {

@@ -38,26 +38,20 @@ pub one_spent : (p : Parts) (s : State) (e : Edit) (t : Totals) (n : ℕ) → n 
 unfolding look
 one_spent p s e t n h = ap (λ n. look p t n (ended s e ∷ [])) h
 
--- whether the state that was come to is lower
-lower_there : (w v : World) (e : Edit) (t : Totals) (b : Bool) → v.parts ≡ w.parts → v.state ≡ edited w.state e
-    → are_lower (totals_at v.parts v.state) t ≡ b → are_lower (totals_at w.parts (edited w.state e)) t ≡ b
-lower_there w v e t b p s low =
-    ap (λ x. are_lower (totals_at w.parts x) t) (sym s) ∙ ap (λ q. are_lower (totals_at q v.state) t) (sym p) ∙ low
-
-pub one_found : (w v : World) (e : Edit) (t : Totals) (n : ℕ) (s : State) → v.parts ≡ w.parts
-    → v.state ≡ edited w.state e → s ≡ v.state → 0 < n → are_lower (totals_at v.parts v.state) t ≡ true
+pub one_found : (w : World) (e : Edit) (t : Totals) (n : ℕ) (s : State) → s ≡ edited w.state e → 0 < n
+    → are_lower (totals_at w.parts (edited w.state e)) t ≡ true
     → look w.parts t n (ended w.state e ∷ []) ≡ found s (n - 1)
-one_found w v e t n s p h same l low =
+one_found w e t n s k l low =
     one_cases w.parts w.state e t n l
-    ∙ ap (λ b. cond b (found (edited w.state e) (n - 1)) (through (n - 1))) (lower_there w v e t true p h low)
-    ∙ ap (λ x. found x (n - 1)) (sym h ∙ sym same)
+    ∙ ap (λ b. cond b (found (edited w.state e) (n - 1)) (through (n - 1))) low
+    ∙ ap (λ x. found x (n - 1)) (sym k)
 
-pub one_through : (w v : World) (e : Edit) (t : Totals) (n : ℕ) → v.parts ≡ w.parts
-    → v.state ≡ edited w.state e → 0 < n → are_lower (totals_at v.parts v.state) t ≡ false
+pub one_through : (w : World) (e : Edit) (t : Totals) (n : ℕ) → 0 < n
+    → are_lower (totals_at w.parts (edited w.state e)) t ≡ false
     → look w.parts t n (ended w.state e ∷ []) ≡ through (n - 1)
-one_through w v e t n p h l low =
+one_through w e t n l low =
     one_cases w.parts w.state e t n l
-    ∙ ap (λ b. cond b (found (edited w.state e) (n - 1)) (through (n - 1))) (lower_there w v e t false p h low)
+    ∙ ap (λ b. cond b (found (edited w.state e) (n - 1)) (through (n - 1))) low
 
 -- the first of a list of moves, from a world that is back where it was
 ends_back : (w v : World) (t : Totals) (n : ℕ) (xs ys all : List Edit) → IsBack w v → all ≡ xs ++ ys

@@ -3,12 +3,14 @@
 ghost use Rattle.std.specs.Prelude.{◌≡◌, ◌<◌, ◌+◌, ◌^◌, IfSome, length};
 ghost use Rattle.std.specs.Option.{option_map};
 ghost use Rattle.monitor_graph.specs.Dearer.{dearer, only};
+ghost use Rattle.khe_engine.specs.States.{edited};
+ghost use Rattle.ejection_repair.specs.Lifts.{IsMove};
 ghost use Rattle.ejection_repair.specs.Rounds.{IsFirstDefect};
 ghost use Rattle.ejection_repair.specs.Values.{are_lower, costs_at, totals_at};
 
 use khe_base::{MonitorId, Totals};
 use khe_engine::Engine;
-use khe_told::Family;
+use khe_told::{Edit, Family};
 
 /// Whether totals are lower than others.
 #[tactic(auto, unfolding(crate::specs::Values::are_lower))]
@@ -24,6 +26,16 @@ pub(crate) fn totals_of<F: Family>(engine: &Engine<'_, F>) -> Totals
     ensures { result ≡ totals_at engine.now.parts engine.now.state }
 {
     engine.totals()
+}
+
+/// The totals that a move of the engine's state would leave.
+#[tactic(auto, unfolding(crate::specs::Values::totals_at))]
+pub(crate) fn totals_after<F: Family>(engine: &mut Engine<'_, F>, edit: Edit) -> Totals
+    requires { IsMove engine.old.parts engine.old.state.slots edit }
+    ensures totals { result ≡ totals_at engine.old.parts (edited engine.old.state edit) }
+    ensures same { engine.new ≡ engine.old }
+{
+    engine.totals_after(&edit)
 }
 
 /// Marks the costs of the engine's state.

@@ -11,7 +11,7 @@ ghost use Rattle.ejection_repair.specs.Looks.{look, Looks, chain_at};
 ghost use Rattle.ejection_repair.specs.Rounds.{IsRound};
 ghost use Rattle.ejection_repair.specs.Trails.{moved_of};
 
-use crate::asks::{are_lower, totals_of};
+use crate::asks::{are_lower, totals_after};
 use crate::lifting::{lift_of, put_of, run_of};
 use crate::looked::{Aim, Looked};
 use crate::marking::{keep, make, take_back};
@@ -220,7 +220,8 @@ fn put_each<F: Family, L: Ledger>(
     Looked::Through
 }
 
-/// Looks at the state that an edit leaves.
+/// Looks at the state that an edit leaves: its totals are asked for, and it is made only where they
+/// are lower.
 fn try_one<F: Family, L: Ledger>(
     engine: &mut Engine<'_, F>,
     aim: &Aim,
@@ -239,11 +240,10 @@ fn try_one<F: Family, L: Ledger>(
         return Looked::Spent;
     }
     *left -= 1;
-    make(engine, edit, steps);
-    if are_lower(totals_of(engine), aim.lowest) {
+    if are_lower(totals_after(engine, edit), aim.lowest) {
+        make(engine, edit, steps);
         keep(engine);
         return Looked::Found;
     }
-    take_back(engine, steps);
     Looked::Through
 }

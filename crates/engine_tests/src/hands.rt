@@ -1,16 +1,14 @@
 //! A graph by hand: calls that look first whether they may be made.
 
-ghost use Rattle.std.specs.Prelude.{◌≡◌, ◌<◌, IfOk};
+ghost use Rattle.std.specs.Prelude.{◌≡◌, IfOk};
 ghost use Rattle.engine_tests.specs.Hands.{AreFresh};
 ghost use Rattle.monitor_graph.specs.Edits.{is_of_groups};
 
 use khe_base::limits::{GREATEST_DEVIATION, MONITORS, WEIGHT};
 use khe_base::{CostFn, GroupId, MonitorId, NoMemory, Totals};
-use khe_told::{Blank, Edit, Refusal, Steps, Tally};
+use khe_told::{Edit, Refusal};
 use monitor_graph::{Graph, Line};
 use std::alloc::Global;
-use std::marker::Brand;
-use std::sync::ledger::Ledger;
 
 /// The weights of monitors, and which of them are hard.
 pub(crate) type Row = (u32, bool);
@@ -43,26 +41,17 @@ pub(crate) fn graph_of(alloc: Global, rows: &[Row], times: u32) -> Result<Graph,
 }
 
 /// Sets one deviation, where there is such a monitor.
-fn set<L: Ledger>(graph: &mut Graph, monitor: u32, deviation: u64, steps: &mut Steps<L>) {
+fn set(graph: &mut Graph, monitor: u32, deviation: u64) {
     if monitor < graph.monitors() && deviation <= GREATEST_DEVIATION {
-        graph.set(MonitorId(monitor), deviation, steps);
+        graph.set(MonitorId(monitor), deviation);
     }
 }
 
 /// Sets the deviations of the monitors from 0 on.
 pub(crate) fn set_all(graph: &mut Graph, deviations: &[u64]) {
-    count_all::<Brand>(graph, Blank::new(1), deviations);
-}
-
-fn count_all<L: Ledger>(graph: &mut Graph, blank: Blank, deviations: &[u64])
-    requires name { blank.name ≡ L.name }
-    requires parts { blank.parts ≡ L.parts }
-    requires some { 0 < blank.parts }
-{
-    let mut steps = Steps::<L>::new(blank);
     let mut monitor = 0;
     for deviation in deviations {
-        set(graph, monitor, *deviation, &mut steps);
+        set(graph, monitor, *deviation);
         if monitor < MONITORS {
             monitor += 1;
         }
@@ -71,17 +60,8 @@ fn count_all<L: Ledger>(graph: &mut Graph, blank: Blank, deviations: &[u64])
 
 /// Sets the deviations of these monitors.
 pub(crate) fn set_each(graph: &mut Graph, monitors: &[u32], deviation: u64) {
-    count_each::<Brand>(graph, Blank::new(1), monitors, deviation);
-}
-
-fn count_each<L: Ledger>(graph: &mut Graph, blank: Blank, monitors: &[u32], deviation: u64)
-    requires name { blank.name ≡ L.name }
-    requires parts { blank.parts ≡ L.parts }
-    requires some { 0 < blank.parts }
-{
-    let mut steps = Steps::<L>::new(blank);
     for monitor in monitors {
-        set(graph, *monitor, deviation, &mut steps);
+        set(graph, *monitor, deviation);
     }
 }
 

@@ -1,6 +1,6 @@
+pub mod KeeperLaws
 pub mod Listing
-pub mod Noting
 pub mod PostLaws
-pub mod Reporting
 pub mod SlotFacts
+pub mod TurnLaws
 pub mod Turning

@@ -32,9 +32,9 @@ use Rattle.khe_instance.specs.declared.rules.Rule.TheVariants.{AvoidSplitAssignm
 use Rattle.khe_instance.specs.declared.rules.Rule.TheVariants.{OrderEvents}
 use Rattle.event_monitors.specs.Lists.{AreAdded, AreOnce, HasPair}
 use Rattle.event_monitors.specs.Posts.{AreListed, names, names_at}
-use Rattle.event_monitors.specs.Reports.{has}
+use Rattle.event_monitors.specs.Turns.{has}
 use Rattle.event_monitors.specs.declared.posts.Post.{Post}
-use Rattle.event_monitors.proofs.Reporting.{found, has_range}
+use Rattle.event_monitors.proofs.TurnLaws.{found, has_range}
 
 module _ (place : ℕ) where
   abbrev more : Bool → List ℕ

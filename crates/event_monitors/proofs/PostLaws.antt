@@ -1,14 +1,15 @@
--- The posts of the served monitors, as they are found one after the other, and by their numbers.
+-- The posts of the served monitors, as they are found one after the other, and their places by number.
 use Rattle.std.proofs.Common.{ℕ, ◌≡◌, ◌≤◌, ◌<◌, ◌+◌, ◌∙◌, zero, suc, Bool, true, false, cond, Some, List, [], ◌∷◌, ◌++◌}
-use Rattle.std.proofs.Common.{◌⊎◌, inl, inr, length, get_or, slice_get, refl, sym, ap, subst, arith}
+use Rattle.std.proofs.Common.{◌⊎◌, inl, inr, length, set, slice_get, refl, sym, ap, subst, arith}
 use mathlib.Core.Logic.{⊎_elim}
 use Rattle.std.proofs.lemmas.Bool.{cases_lt, true≢false}
-use Rattle.std.proofs.lemmas.List.{length-append}
-use Rattle.std.proofs.lemmas.Option.{none-some, same_Some, slice_get-get_or, slice_get_within}
+use Rattle.std.proofs.lemmas.List.{length-append, length-set}
+use Rattle.std.proofs.lemmas.Option.{none-some, same_Some, slice_get_within}
+use Rattle.khe_base.proofs.ListLemmas.{get-other, get-set}
 use Rattle.khe_instance.specs.declared.parts.Parts.{Parts}
 use Rattle.khe_instance.specs.declared.points.Monitor.{Monitor}
 use Rattle.khe_instance.specs.declared.rules.Kind.{Kind}
-use Rattle.event_monitors.specs.Posts.{AreAscending, ArePosts, IsPost}
+use Rattle.event_monitors.specs.Posts.{AreAscending, ArePlaces, ArePosts, IsPost}
 use Rattle.event_monitors.specs.declared.posts.Post.{Post}
 
 -- an element of a list with one more is one of the list, or the last
@@ -123,58 +124,32 @@ all_served p served posts are = record {
   few = are.few;
 }
 
--- halves: the post that is sought stands from `low` to `end`
-pub record IsSought (posts : List Post) (number low end : ℕ) : Type 0 where
-  pub within : end ≤ length posts
-  pub sought : (k : ℕ) (a : Post) → slice_get posts k ≡ Some a → a.number.0 ≡ number → (low ≤ k) × (k ≤ end)
+-- the places of the posts so far
+pub record ArePlaced (posts : List Post) (places : List ℕ) (monitors n : ℕ) : Type 0 where
+  pub rows : length places ≡ monitors
+  pub each : (k : ℕ) (a : Post) → k < n → slice_get posts k ≡ Some a → slice_get places a.number.0 ≡ Some k
 
-module _ (posts : List Post) (number low end middle : ℕ) (d : Post) (up : AreAscending posts)
-    (is : IsSought posts number low end) (above : low ≤ middle) (below : middle < end) where
-  here : slice_get posts middle ≡ Some (get_or posts middle d)
-  here = slice_get-get_or posts middle d (let w = is.within in omega (arith, w, below))
-
-  pub upper_half : (get_or posts middle d).number.0 < number → IsSought posts number (middle + 1) end
-  upper_half less = record {
-    within = is.within;
-    sought = λ k a h e. (from k a h e (cases_lt middle k), (is.sought k a h e).1);
-  }
-    where
-      from : (k : ℕ) (a : Post) → slice_get posts k ≡ Some a → a.number.0 ≡ number → (middle < k) ⊎ (k ≤ middle)
-          → middle + 1 ≤ k
-      from k a h e (inl l) = omega (arith, l)
-      from k a h e (inr l) = absurd (by (cases_lt k middle))
-        where
-          by : (k < middle) ⊎ (middle ≤ k) → ⊥
-          by (inl m) = let q = up k middle a (get_or posts middle d) m h here in omega (arith, q, e, less)
-          by (inr m) =
-              let same : middle ≡ k = omega (arith, l, m) in
-              let q = ap (λ (b : Post). b.number.0) (same_Some (get_or posts middle d) a
-              (sym here ∙ ap (slice_get posts) same ∙ h)) in
-              omega (arith, q, e, less)
-
-  pub lower_half : number ≤ (get_or posts middle d).number.0 → IsSought posts number low middle
-  lower_half most = record {
-    within = let w = is.within in omega (arith, w, below);
-    sought = λ k a h e. ((is.sought k a h e).0, to k a h e (cases_lt middle k));
-  }
-    where
-      to : (k : ℕ) (a : Post) → slice_get posts k ≡ Some a → a.number.0 ≡ number → (middle < k) ⊎ (k ≤ middle)
-          → k ≤ middle
-      to k a h e (inl l) = absurd (let q = up middle k (get_or posts middle d) a l here h in omega (arith, q, e, most))
-      to k a h e (inr l) = l
-
-pub all_sought : (posts : List Post) (number : ℕ) → IsSought posts number 0 (length posts)
-all_sought posts number = record {
-  within = omega arith;
-  sought = λ k a h e. (omega arith, let l = slice_get_within posts k a h in omega (arith, l));
+pub one_placed : (posts : List Post) (places : List ℕ) (monitors n : ℕ) (a : Post) → AreAscending posts
+    → slice_get posts n ≡ Some a → a.number.0 < monitors → ArePlaced posts places monitors n
+    → ArePlaced posts (set places a.number.0 n) monitors (n + 1)
+one_placed posts places monitors n a up there within so = record {
+  rows = length-set places a.number.0 n ∙ so.rows;
+  each = λ k b l h. by k b h (before k l);
 }
+  where
+    before : (k : ℕ) → k < n + 1 → (k < n) ⊎ (n ≡ k)
+    before k l = ⊎_elim (λ h. inl h) (λ (h : n ≤ k). inr (let e : n ≡ k = omega (arith, l, h) in e)) (cases_lt k n)
 
-pub found_at : (posts : List Post) (number low end : ℕ) → IsSought posts number low end → end ≤ low → (k : ℕ) (a : Post)
-    → slice_get posts k ≡ Some a → a.number.0 ≡ number
-    → (b : Post) × (slice_get posts low ≡ Some b) × (b.number.0 ≡ number)
-found_at posts number low end is past k a h e =
-    let s = is.sought k a h e in
-    let s0 = s.0 in
-    let s1 = s.1 in
-    let same : k ≡ low = omega (arith, s0, s1, past) in
-    (a, ap (slice_get posts) (sym same) ∙ h, e)
+    by : (k : ℕ) (b : Post) → slice_get posts k ≡ Some b → (k < n) ⊎ (n ≡ k)
+        → slice_get (set places a.number.0 n) b.number.0 ≡ Some k
+    by k b h (inl l) =
+        let less = up k n b a l h there in
+        get-other places a.number.0 b.number.0 n (λ e. omega (arith, less, e)) ∙ so.each k b l h
+    by k b h (inr e) =
+        let same : a ≡ b = same_Some a b (sym there ∙ ap (slice_get posts) e ∙ h) in
+        ap (λ (c : Post). slice_get (set places a.number.0 n) c.number.0) (sym same)
+        ∙ get-set places a.number.0 n (let r = so.rows in omega (arith, r, within)) ∙ ap Some e
+
+pub all_placed : (posts : List Post) (places : List ℕ) (monitors : ℕ) → ArePlaced posts places monitors (length posts)
+    → ArePlaces posts places
+all_placed posts places monitors so k a h = so.each k a (slice_get_within posts k a h) h

@@ -8,7 +8,7 @@ pub mod OneOfs
 pub mod Posts
 pub mod PreferResources
 pub mod PreferTimes
-pub mod Reports
 pub mod ShareLaws
 pub mod Shares
 pub mod SplitEvents
+pub mod Turns

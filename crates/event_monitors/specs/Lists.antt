@@ -4,7 +4,7 @@ use Rattle.std.specs.Prelude.{slice_get, slice_index_or}
 use Rattle.khe_instance.specs.declared.rules.EventPair.{EventPair}
 use Rattle.khe_instance.specs.declared.rules.Rule.{Rule}
 use Rattle.khe_instance.specs.declared.rules.Rule.TheVariants.{OrderEvents}
-use Rattle.event_monitors.specs.Reports.{has}
+use Rattle.event_monitors.specs.Turns.{has}
 
 -- the place came to the end of the lists of the events that pass the test
 pub record AreAdded (test : ℕ → Bool) (place : ℕ) (old new : List (List ℕ)) : Type 0 where

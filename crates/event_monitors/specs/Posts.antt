@@ -43,6 +43,10 @@ pub record AreListed (p : Parts) (posts : List Post) (lists : List (List ℕ)) :
   pub rows : length lists ≡ length p.events
   pub each : (e : ℕ) (list : List ℕ) → slice_get lists e ≡ Some list → list ≡ posts_at p posts e
 
+-- for each monitor that has a post the place of that
+abbrev pub ArePlaces : List Post → List ℕ → Type 0
+ArePlaces posts places = (k : ℕ) (a : Post) → slice_get posts k ≡ Some a → slice_get places a.number.0 ≡ Some k
+
 -- each gauge keeps what it should of the state
 abbrev pub AreKept : {G : Type 0} → (G → Parts → Monitor → List Slot → Type 0) → Parts → List Post → List G → List Slot
     → Type 0

@@ -1,13 +1,12 @@
 use crate::gauges::Gauge;
 use crate::indexes::Index;
 use crate::posts::gauges_of;
-use crate::reports::report;
+use crate::turns::turn_all;
 use family_keepers::Keeper;
 use khe_base::{MonitorId, NoMemory, beside};
 use khe_instance::{Instance, Kind};
-use khe_told::{Change, Steps, Tally, Told};
+use khe_told::{Change, Told, Waits};
 use std::alloc::Global;
-use std::sync::ledger::Ledger;
 
 /// A keeper that has a gauge for each monitor that it serves. What was told is lent to it.
 ///
@@ -21,14 +20,15 @@ pub struct Counted<G> {
 
 impl<G: Gauge + Drop> Keeper for Counted<G> {
     ghost use Rattle.std.specs.Prelude.{◌≡◌, length};
-    ghost use Rattle.event_monitors.specs.Posts.{ArePosts, AreListed, AreKept};
+    ghost use Rattle.event_monitors.specs.Posts.{ArePosts, AreListed, AreKept, ArePlaces};
 
     ghost serves_kind = { G.serves_kind };
 
     ghost IsWellJoined = { Unit {0} };
 
     ghost Keeps = { λ f p s. ArePosts p G.serves_kind f.index.posts × AreListed p f.index.posts f.index.lists
-        × (length f.gauges.items ≡ length f.index.posts) × AreKept G.Keeps p f.index.posts f.gauges.items s };
+        × (length f.gauges.items ≡ length f.index.posts) × AreKept G.Keeps p f.index.posts f.gauges.items s
+        × ArePlaces f.index.posts f.index.places.items };
 
     fn open(alloc: Global, inst: &Instance) -> Result<Counted<G>, NoMemory> {
         let index = Index::open::<G>(alloc, inst)?;
@@ -41,30 +41,14 @@ impl<G: Gauge + Drop> Keeper for Counted<G> {
         G::serves(kind)
     }
 
-    fn follow<Y: Tally, L: Ledger>(
-        &mut self,
-        inst: &Instance,
-        told: &Told,
-        change: Change,
-        tally: &mut Y,
-        steps: &mut Steps<L>,
-    ) {
+    fn turn<W: Waits>(&mut self, inst: &Instance, told: &Told, change: Change, waits: &mut W) {
         if !G::hears(change) {
             return;
         }
         let event = told.event(change.meet());
         let list = self.index.lists.as_slice()[event.0 as usize].as_slice();
         let posts = self.index.posts.as_slice();
-        report(
-            inst,
-            told,
-            change,
-            posts,
-            list,
-            &mut self.gauges,
-            tally,
-            steps,
-        );
+        turn_all(inst, told, change, posts, list, &mut self.gauges, waits);
     }
 
     fn deviation(&self, inst: &Instance, monitor: MonitorId) -> u64 {

@@ -1,19 +1,21 @@
 ghost use Rattle.std.specs.Prelude.{ℕ, ◌≡◌, ◌<◌, Some, length, slice_get, IfOk};
-ghost use Rattle.event_monitors.specs.Posts.{ArePosts, AreAscending, AreListed};
+ghost use Rattle.event_monitors.specs.Posts.{ArePosts, AreListed, ArePlaces};
 
 use crate::gauges::Gauge;
 use crate::lists::lists_of;
 use crate::posts::{Post, posts_of};
-use khe_base::{MonitorId, NoMemory, Seq, beside};
+use khe_base::{MonitorId, NoMemory, Seq, beside, both};
 use khe_instance::Instance;
 use std::alloc::Global;
 
-/// The served monitors by their numbers, and for each event the places among them of those that
-/// name it.
+/// The served monitors by their numbers, for each event the places among them of those that
+/// name it, and for each monitor its own place.
 #[derive(Drop)]
 pub(crate) struct Index {
     pub(crate) posts: Seq<Post>,
     pub(crate) lists: Seq<Seq<u32>>,
+    /// 0 where a monitor is not served.
+    pub(crate) places: Vec<u32>,
 }
 
 impl Index {
@@ -22,38 +24,39 @@ impl Index {
     pub(crate) fn open<G: Gauge>(alloc: Global, inst: &Instance) -> Result<Index, NoMemory>
         ensures posts { IfOk result (λ i. ArePosts inst.now G.serves_kind i.posts) }
         ensures lists { IfOk result (λ i. AreListed inst.now i.posts i.lists) }
+        ensures places { IfOk result (λ i. ArePlaces i.posts i.places.items) }
     {
         let posts = posts_of::<G>(alloc, inst)?;
         let lists = lists_of::<G>(alloc, inst, posts.as_slice());
-        let (lists, posts) = beside(lists, posts)?;
-        Ok(Index { posts, lists })
+        let places = places_of::<G>(alloc, inst, posts.as_slice());
+        let parts = both(lists, places);
+        let ((lists, places), posts) = beside(parts, posts)?;
+        Ok(Index {
+            posts,
+            lists,
+            places,
+        })
     }
 
-    /// The place of a served monitor, in time of the logarithm of their number.
+    /// The place of a served monitor, in constant time.
     pub(crate) fn place_of(&self, monitor: MonitorId) -> usize
-        requires ascending { AreAscending self.now.posts }
+        requires places { ArePlaces self.now.posts self.now.places.items }
         requires served { (k : ℕ) × (a : Post) × (slice_get self.now.posts k ≡ Some a) × (a.number.0 ≡ monitor.0) }
         ensures { (a : Post) × (slice_get self.now.posts result ≡ Some a) × (a.number.0 ≡ monitor.0) }
     {
-        place_among(self.posts.as_slice(), monitor)
+        self.places[monitor.0 as usize] as usize
     }
 }
 
-/// The place of a post by its number, by halves.
-fn place_among(posts: &[Post], monitor: MonitorId) -> usize
-    requires ascending { AreAscending posts.now }
-    requires served { (k : ℕ) × (a : Post) × (slice_get posts.now k ≡ Some a) × (a.number.0 ≡ monitor.0) }
-    ensures { (a : Post) × (slice_get posts.now result ≡ Some a) × (a.number.0 ≡ monitor.0) }
+/// For each monitor its place among the posts, in time of all monitors.
+fn places_of<G: Gauge>(alloc: Global, inst: &Instance, posts: &[Post]) -> Result<Vec<u32>, NoMemory>
+    requires { ArePosts inst.now G.serves_kind posts.now }
+    ensures { IfOk result (λ places. ArePlaces posts.now places.items) }
 {
-    let mut low = 0;
-    let mut end = posts.len();
-    while low < end {
-        let middle = low + (end - low) / 2;
-        if posts[middle].number.0 < monitor.0 {
-            low = middle + 1;
-        } else {
-            end = middle;
-        }
+    inst.facts();
+    let mut places = vec![in alloc; 0; inst.monitors() as usize]?;
+    for (place, post) in posts.iter().enumerate() {
+        places[post.number.0 as usize] = place as u32;
     }
-    low
+    Ok(places)
 }

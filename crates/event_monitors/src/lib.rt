@@ -14,10 +14,10 @@ mod one_of;
 mod posts;
 mod prefer_resources;
 mod prefer_times;
-mod reports;
 mod shares;
 mod split_events;
 mod sums;
+mod turns;
 
 pub use assign_resource::{AssignResource, Unfilled};
 pub use assign_time::{AssignTime, Unplaced};

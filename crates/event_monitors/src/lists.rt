@@ -3,7 +3,7 @@ ghost use Rattle.khe_instance.specs.Watching.{pair_names};
 ghost use Rattle.khe_instance.specs.WellMade.{IsMonitor};
 ghost use Rattle.event_monitors.specs.Lists.{AreAdded, AreOnce, HasPair};
 ghost use Rattle.event_monitors.specs.Posts.{ArePosts, AreListed, names};
-ghost use Rattle.event_monitors.specs.Reports.{has};
+ghost use Rattle.event_monitors.specs.Turns.{has};
 
 use crate::gauges::Gauge;
 use crate::posts::Post;

@@ -43,6 +43,8 @@ impl<A: Gauge + Drop, B: Gauge + Drop> Gauge for OneOf<A, B> {
         Ok(OneOf::Second(second))
     }
 
+    // Inlined, since the list of an event's monitors is gone through at each change.
+    #[inline(always)]
     fn turn(&mut self, inst: &Instance, monitor: Monitor, told: &Told, change: Change) -> bool {
         match self {
             OneOf::First(gauge) => A::hears(change) && gauge.turn(inst, monitor, told, change),

@@ -7,17 +7,16 @@ ghost use Rattle.khe_told.specs.declared.slots.Slot.{Slot};
 ghost use Rattle.khe_told.specs.Slots.{no_meets};
 ghost use Rattle.khe_told.specs.Changes.{after};
 ghost use Rattle.khe_told.specs.Fits.{Fits};
-ghost use Rattle.khe_told.specs.Agreement.{deviation_in, Agrees, KeepsOthers};
+ghost use Rattle.khe_told.specs.Agreement.{deviation_in};
+ghost use Rattle.khe_told.specs.Waits.{AreUnmoved, WaitAsBefore, WaitOn};
 ghost use Rattle.khe_told.specs.Watchers.{served_watchers};
 
 use khe_base::{MonitorId, NoMemory};
 use khe_instance::{Instance, Kind};
-use khe_told::{Change, Steps, Tally, Told};
+use khe_told::{Change, Told, Waits};
 use std::alloc::Global;
-use std::sync::ledger::Ledger;
 
-/// Keeps what the deviations of the monitors of some kinds are read from, and sets them in a tally change by
-/// change. The meets and tasks themselves are told in one place for several keepers, and each is lent them as
+/// Keeps what the deviations of the monitors of some kinds are read from, change by change. The meets and tasks themselves are told in one place for several keepers, and each is lent them as
 /// they stand before a change.
 pub trait Keeper {
     /// The kinds that it serves.
@@ -38,26 +37,19 @@ pub trait Keeper {
     fn serves(&self, kind: Kind) -> bool
         ensures { result ≡ serves_kind kind };
 
-    /// Follows a change that fits what was told, which is the state before it. Where the tally agreed with the
-    /// definitions on the monitors that it serves, it does so of the state after the change; all other deviations
-    /// and the tally's rest stay. It sets the tally at most once for each watcher of the change that it serves.
-    fn follow<Y: Tally, L: Ledger>(
-        &mut self,
-        inst: &Instance,
-        told: &Told,
-        change: Change,
-        tally: &mut Y,
-        steps: &mut Steps<L>,
-    )
+    /// Follows a change that fits what was told, which is the state before it. Each monitor that it serves whose
+    /// deviation may be another after the change waits then; it lets at most one wait for each watcher of the
+    /// change that it serves.
+    fn turn<W: Waits>(&mut self, inst: &Instance, told: &Told, change: Change, waits: &mut W)
         requires keeps { Keeps self.old inst.now told.now }
         requires fits { Fits inst.now told.now change }
-        requires monitors { length (Y.deviations tally.old) ≡ length inst.now.monitors }
+        requires monitors { W.monitors waits.old ≡ length inst.now.monitors }
         ensures keeps { Keeps self.new inst.now (after told.now change) }
-        ensures monitors { length (Y.deviations tally.new) ≡ length (Y.deviations tally.old) }
-        ensures served { Agrees inst.now serves_kind told.now (Y.deviations tally.old) → Agrees inst.now serves_kind (after told.now change) (Y.deviations tally.new) }
-        ensures others { KeepsOthers inst.now serves_kind (Y.deviations tally.old) (Y.deviations tally.new) }
-        ensures rest { Y.HasSameRest tally.old tally.new }
-        ensures steps { steps.new ≤ steps.old + served_watchers inst.now serves_kind told.now change };
+        ensures monitors { W.monitors waits.new ≡ W.monitors waits.old }
+        ensures unmoved { W.hears ≡ true → AreUnmoved inst.now serves_kind (W.waits waits.new) told.now (after told.now change) }
+        ensures kept { WaitOn (W.waits waits.old) (W.waits waits.new) }
+        ensures others { WaitAsBefore inst.now serves_kind (W.waits waits.old) (W.waits waits.new) }
+        ensures amount { W.amount waits.new ≤ W.amount waits.old + served_watchers inst.now serves_kind told.now change };
 
     /// The deviation, in the state of which it keeps what it should, of a monitor of a kind that it serves: at
     /// most `GREATEST_DEVIATION`.

@@ -1,9 +1,8 @@
 use crate::keepers::Keeper;
 use khe_base::{MonitorId, NoMemory, both};
 use khe_instance::{Instance, Kind};
-use khe_told::{Change, Family, Steps, Tally, Told};
+use khe_told::{Change, Family, Told, Waits};
 use std::alloc::Global;
-use std::sync::ledger::Ledger;
 
 /// The family of a keeper: what was told, in one place for all that the keeper is made of.
 #[derive(Drop)]
@@ -32,14 +31,8 @@ impl<K: Keeper + Drop> Family for Keeping<K> {
         self.keeper.serves(kind)
     }
 
-    fn note<Y: Tally, L: Ledger>(
-        &mut self,
-        inst: &Instance,
-        change: Change,
-        tally: &mut Y,
-        steps: &mut Steps<L>,
-    ) {
-        self.keeper.follow(inst, &self.told, change, tally, steps);
+    fn turn<W: Waits>(&mut self, inst: &Instance, change: Change, waits: &mut W) {
+        self.keeper.turn(inst, &self.told, change, waits);
         self.told.note(inst, change);
     }
 

@@ -1,9 +1,8 @@
 use crate::keepers::Keeper;
 use khe_base::{MonitorId, NoMemory};
 use khe_instance::{Instance, Kind};
-use khe_told::{Change, Steps, Tally, Told};
+use khe_told::{Change, Told, Waits};
 use std::alloc::Global;
-use std::sync::ledger::Ledger;
 
 /// Two keepers as one, which serves the kinds of both. It is well joined where both are and no kind is
 /// served by both.
@@ -33,16 +32,9 @@ impl<A: Keeper + Drop, B: Keeper + Drop> Keeper for TwoKeepers<A, B> {
         self.first.serves(kind) || self.second.serves(kind)
     }
 
-    fn follow<Y: Tally, L: Ledger>(
-        &mut self,
-        inst: &Instance,
-        told: &Told,
-        change: Change,
-        tally: &mut Y,
-        steps: &mut Steps<L>,
-    ) {
-        self.first.follow(inst, told, change, tally, steps);
-        self.second.follow(inst, told, change, tally, steps);
+    fn turn<W: Waits>(&mut self, inst: &Instance, told: &Told, change: Change, waits: &mut W) {
+        self.first.turn(inst, told, change, waits);
+        self.second.turn(inst, told, change, waits);
     }
 
     fn deviation(&self, inst: &Instance, monitor: MonitorId) -> u64 {

@@ -31,6 +31,11 @@ abbrev pub MayHave : Parts → Slot → ℕ → ResourceId → Type 0
 MayHave p x k r = (e : EventInfo) (place : Place) → slice_get p.events x.event.0 ≡ Some e
     → slice_get e.places k ≡ Some place → HasType p place.rtype r
 
+-- the deviation of each served monitor that does not wait is that of the told state
+abbrev pub IsAwaited : Parts → (Kind → Bool) → List Slot → (ℕ → Bool) → List ℕ → Type 0
+IsAwaited p served s waits deviations = (i : ℕ) (m : Monitor) → slice_get p.monitors i ≡ Some m
+    → served m.kind ≡ true → waits i ≡ false → slice_get deviations i ≡ Some (deviation_in p s m)
+
 -- the duration of a meet without a start
 abbrev pub lasts_unless : ℕ → Option TimeId → Option ℕ
 lasts_unless d None = Some d

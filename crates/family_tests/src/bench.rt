@@ -1,20 +1,20 @@
-//! A family beside a tally, which is noted of the changes that fit.
+//! A family that turns by the changes that fit, and the deviations that it told.
 
 ghost use Rattle.std.specs.Prelude.{◌≡◌, ◌<◌, ◌≤◌, ◌+◌, ◌-◌, ◌^◌, length, replicate, slice_index, slice_set, IfOk};
 ghost use Rattle.khe_told.specs.Changes.{after};
 ghost use Rattle.khe_told.specs.Fits.{AreTold, Fits};
 ghost use Rattle.khe_told.specs.Slots.{no_meets};
 ghost use Rattle.khe_told.specs.Agreement.{Agrees};
-ghost use Rattle.family_tests.specs.Benches.{AreHeld, IsBench, IsSetFor};
+ghost use Rattle.khe_told.specs.Waits.{waits_in};
+ghost use Rattle.family_tests.specs.Benches.{AreHeld, IsAwaited, IsBench, IsSetFor};
 
 use crate::fitting::fits;
 use crate::marks::{Marks, no_marks};
 use khe_base::{EventId, MeetId, MonitorId, NoMemory, ResourceId};
 use khe_instance::Instance;
-use khe_told::{Blank, Change, Family, Span, Steps, Told};
+use khe_told::{Change, Family, Span, Told, Waiting};
 use std::alloc::Global;
-use std::marker::{Brand, Model};
-use std::sync::ledger::Ledger;
+use std::marker::Model;
 
 /// A family with the deviations that it has told. It was opened on the instance, and at each moment
 /// the deviations of the monitors that it serves are those of what was told. Contracts see the told
@@ -26,11 +26,12 @@ pub struct Bench<'i, F: Family> {
     told: Told,
     /// How long the told meets of each event last together.
     held: Vec<u32>,
+    waits: Waiting,
     marks: Marks,
 }
 
 impl<'i, F: Family> Model for Bench<'i, F> {
-    ghost use Rattle.std.specs.Prelude.{◌≡◌, List};
+    ghost use Rattle.std.specs.Prelude.{◌≡◌, List, length};
     ghost use Rattle.khe_told.specs.declared.slots.Slot.{Slot};
     ghost use Rattle.family_tests.specs.Benches.{IsBench};
 
@@ -38,35 +39,51 @@ impl<'i, F: Family> Model for Bench<'i, F> {
 
     ghost view = { λ b. b.told };
 
-    ghost invariant = { λ b. F.IsOf b.family b.inst.now × (F.told b.family ≡ b.told) × IsBench b.inst.now F.serves_kind b.told b.held.items b.marks.values.items };
+    ghost invariant = { λ b. F.IsOf b.family b.inst.now × (F.told b.family ≡ b.told) × (length b.waits.flags ≡ length b.inst.now.monitors) × IsBench b.inst.now F.serves_kind b.told b.held.items b.marks.values.items };
 }
 
-/// Notes a change that fits of a family, and of what is kept beside it.
-fn note_fitting<F: Family, L: Ledger>(
-    blank: Blank,
+/// Lets a family turn by a change that fits, sets the deviations that wait then, and follows the
+/// change in what is kept beside the family.
+fn note_fitting<F: Family>(
     inst: &Instance,
     family: &mut F,
     told: &mut Told,
     held: &mut Vec<u32>,
+    waits: &mut Waiting,
     marks: &mut Marks,
     change: Change,
 )
-    requires name { blank.name ≡ L.name }
-    requires parts { blank.parts ≡ L.parts }
-    requires some { 0 < blank.parts }
     requires of { F.IsOf family.old inst.now }
     requires same { F.told family.old ≡ told.old }
+    requires monitors { length waits.old.flags ≡ length inst.now.monitors }
     requires bench { IsBench inst.now F.serves_kind told.old held.old.items marks.old.values.items }
     requires fits { Fits inst.now told.old change }
     ensures of { F.IsOf family.new inst.now }
     ensures same { F.told family.new ≡ told.new }
     ensures told { told.new ≡ after told.old change }
+    ensures monitors { length waits.new.flags ≡ length inst.now.monitors }
     ensures bench { IsBench inst.now F.serves_kind told.new held.new.items marks.new.values.items }
 {
-    let mut steps = Steps::<L>::new(blank);
-    family.note(inst, change, marks, &mut steps);
+    family.turn(inst, change, waits);
+    settle(inst, family, waits, marks);
     hold(inst, told, held, change);
     told.note(inst, change);
+}
+
+/// Sets the deviation of each monitor that waits, after which none does.
+fn settle<F: Family>(inst: &Instance, family: &F, waits: &mut Waiting, marks: &mut Marks)
+    requires of { F.IsOf family.now inst.now }
+    requires waiting { length waits.old.flags ≡ length inst.now.monitors }
+    requires monitors { length marks.old.values.items ≡ length inst.now.monitors }
+    requires awaited { IsAwaited inst.now F.serves_kind (F.told family.now) (waits_in waits.old) marks.old.values.items }
+    ensures waiting { length waits.new.flags ≡ length inst.now.monitors }
+    ensures monitors { length marks.new.values.items ≡ length inst.now.monitors }
+    ensures agrees { Agrees inst.now F.serves_kind (F.told family.now) marks.new.values.items }
+{
+    while let Some(number) = waits.pop() {
+        set_one(inst, family, marks, number);
+        marks.count();
+    }
 }
 
 /// Keeps how long the told meets of each event last together.
@@ -139,6 +156,7 @@ impl<'i, F: Family + Drop> Bench<'i, F> {
         let family = F::open(alloc, inst)?;
         let told = Told::open(alloc, inst)?;
         let held = zeros(alloc, inst.events())?;
+        let waits = Waiting::open(alloc, inst.monitors())?;
         let mut marks = no_marks(alloc, inst.monitors())?;
         set_all(inst, &family, &mut marks);
         Ok(Bench {
@@ -146,6 +164,7 @@ impl<'i, F: Family + Drop> Bench<'i, F> {
             family,
             told,
             held,
+            waits,
             marks,
         })
     }
@@ -155,12 +174,12 @@ impl<'i, F: Family + Drop> Bench<'i, F> {
         if !fits(self.inst, &self.told, self.held.as_slice(), change) {
             return false;
         }
-        note_fitting::<F, Brand>(
-            Blank::new(1),
+        note_fitting(
             self.inst,
             &mut self.family,
             &mut self.told,
             &mut self.held,
+            &mut self.waits,
             &mut self.marks,
             change,
         );

@@ -1,5 +1,5 @@
-//! What tests of the families stand on: a family beside a tally, which asks of each change whether
-//! it fits, and notes it if it does.
+//! What tests of the families stand on: a family beside the deviations that it told, which asks of
+//! each change whether it fits, and turns by it if it does.
 #![tactic(auto)]
 
 #[cfg(test)]

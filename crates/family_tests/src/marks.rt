@@ -1,9 +1,7 @@
 ghost use Rattle.std.specs.Prelude.{◌≡◌, length, IfOk};
 
-use khe_base::{MonitorId, NoMemory};
-use khe_told::{Steps, Tally};
+use khe_base::NoMemory;
 use std::alloc::Global;
-use std::sync::ledger::Ledger;
 
 /// The deviations of monitors, and how often one was set.
 #[derive(Drop)]
@@ -22,18 +20,11 @@ pub(crate) fn no_marks(alloc: Global, monitors: u32) -> Result<Marks, NoMemory>
     })
 }
 
-impl Tally for Marks {
-    ghost deviations = { λ m. m.values.items };
-
-    ghost HasSameRest = { λ x y. Unit {0} };
-
-    fn set<L: Ledger>(&mut self, monitor: MonitorId, deviation: u64, steps: &mut Steps<L>) {
-        self.values[monitor.0 as usize] = deviation;
+impl Marks {
+    /// Counts that a deviation was set.
+    pub(crate) fn count(&mut self)
+        ensures { self.new.values ≡ self.old.values }
+    {
         self.calls = self.calls.saturating_add(1);
-        steps.tick();
     }
-
-    ghost same_rest_refl = { λ x. tt };
-
-    ghost same_rest_trans = { λ x y z a b. tt };
 }

@@ -140,7 +140,7 @@ fn kinds_at_resources(rt: HostRuntime) -> Result<(), Fail> {
     Ok(())
 }
 
-/// Whether a resource clashes at two times, and the tally is set at most twice when one task loses
+/// Whether a resource clashes at two times, and a deviation is set at most twice when one task loses
 /// it.
 fn takes_one_of_two<F: Family + Drop>(bench: &mut Bench<'_, F>) -> bool {
     for each in TWO_TASKS {

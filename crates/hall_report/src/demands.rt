@@ -254,6 +254,29 @@ impl Watcher for Demands {
 
     fn note<L: Ledger>(&mut self, inst: &Instance, change: Change, steps: &mut Steps<L>) {
         let _ = steps;
+        self.tell(inst, change);
+    }
+
+    fn note_all<L: Ledger>(&mut self, inst: &Instance, changes: &[Change], steps: &mut Steps<L>) {
+        let _ = steps;
+        for change in changes {
+            self.tell(inst, *change);
+        }
+    }
+
+    ghost same_rest_refl = { λ x. tt };
+
+    ghost same_rest_trans = { λ x y z a b. tt };
+}
+
+impl Demands {
+    /// Follows a change that fits what was told, and the matching stays a maximum. It takes no memory.
+    pub fn tell(&mut self, inst: &Instance, change: Change)
+        requires of { AreOf inst.now self.old.told self.old.units self.old.picks self.old.matching self.old.cells self.old.tasks self.old.times }
+        requires fits { Fits inst.now self.old.told change }
+        ensures of { AreOf inst.now self.new.told self.new.units self.new.picks self.new.matching self.new.cells self.new.tasks self.new.times }
+        ensures told { self.new.told ≡ after self.old.told change }
+    {
         match change {
             Change::Add { meet, duration } => self.come(inst, meet, duration),
             Change::Drop { meet, duration } => self.go(inst, meet, duration),
@@ -269,8 +292,4 @@ impl Watcher for Demands {
             Change::Take { task, .. } => self.turn(inst, change, task.place, task.place + 1),
         }
     }
-
-    ghost same_rest_refl = { λ x. tt };
-
-    ghost same_rest_trans = { λ x y z a b. tt };
 }

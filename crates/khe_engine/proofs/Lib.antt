@@ -3,5 +3,7 @@ pub mod ListedLaws
 pub mod MarkLaws
 pub mod OpeningLaws
 pub mod RecordLaws
+pub mod SettleLaws
 pub mod StateLaws
+pub mod TrialLaws
 pub mod ValueLaws

@@ -9,7 +9,6 @@ use Rattle.std.proofs.lemmas.List.{length-set, length-map}
 use Rattle.std.proofs.lemmas.List.Elements.{All-cons, All-head, All-tail, All-get_or}
 use Rattle.std.proofs.lemmas.List.Sums.{sum_by-cons}
 use Rattle.std.proofs.lemmas.Option.{same_Some, slice_get_within}
-use Rattle.std.proofs.lemmas.Simd.{map-map}
 use Rattle.khe_base.specs.declared.numbers.EventId.{EventId}
 use Rattle.khe_base.specs.declared.numbers.MeetId.{MeetId}
 use Rattle.khe_base.specs.declared.numbers.ResourceId.{ResourceId}
@@ -29,14 +28,7 @@ use Rattle.khe_told.specs.declared.slots.Slot.{Slot}
 use Rattle.khe_told.specs.declared.slots.Span.{Span}
 use Rattle.khe_solution.proofs.Basics.{there-none, some_value}
 use Rattle.khe_instance.specs.WellMade.{AreFirstMeets}
-use Rattle.khe_instance.specs.declared.points.Monitor.{Monitor}
-use Rattle.khe_instance.specs.declared.rules.Kind.{Kind}
 use Rattle.khe_told.proofs.OpeningLaws.{few_places, slots_amount}
-use Rattle.khe_told.specs.Agreement.{deviation_in}
-use Rattle.monitor_graph.specs.Boards.{Board, HaveSameRest, deviations_of, fixed_of, rate_of}
-use Rattle.monitor_graph.specs.Values.{IsOf}
-use Rattle.khe_engine.specs.Values.{HasValues, ServesAll}
-use Rattle.khe_engine.proofs.ValueLaws.{values_all}
 use Rattle.khe_solution.proofs.Owners.{owner}
 use Rattle.khe_solution.proofs.Spans.{in_event}
 use Rattle.khe_solution.proofs.Rows.{Below, nothing_given}
@@ -487,14 +479,3 @@ places_few p s k m event f t l h at =
     let e = ap (λ (z : EventId). z.0) (event_is (slot_at s k) m h) in
     let i = in_event p s k m.event.0 event t f at l (sym e) in
     few_places p k m.event.0 event f (event, at, i.0, i.1) at
-
--- values that are set one after the other
-pub all_set : (p : Parts) (served : Kind → Bool) (s : List Slot) (b b2 : Board) → ServesAll served → IsOf b p
-    → HaveSameRest b b2 → length (deviations_of b2) ≡ length p.monitors
-    → ((i : ℕ) (m : Monitor) → slice_get p.monitors i ≡ Some m
-    → slice_get (deviations_of b2) i ≡ Some (deviation_in p s m)) → HasValues p s b2
-all_set p served s b b2 all of same many each = record {
-  deviations = values_all p served s (deviations_of b2) all many (λ i m at kind. each i m at);
-  rates = sym (sym (map-map rate_of fixed_of b.lines) ∙ ap (map rate_of) same.lines ∙ map-map rate_of fixed_of b2.lines)
-      ∙ of;
-}

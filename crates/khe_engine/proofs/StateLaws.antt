@@ -65,6 +65,25 @@ other_sort (Take a) h = refl
 other_sort (Regive a b) h = refl
 other_sort (SwapTasks a b) h = refl
 
+-- and not of both
+pub one_sort : (e : Edit) → refusing.is_of_meets e ≡ true → groups.is_of_groups e ≡ false
+one_sort (Attach m) h = absurd (both_ways false refl h)
+one_sort (Detach m) h = absurd (both_ways false refl h)
+one_sort MakeGroup h = absurd (both_ways false refl h)
+one_sort (DropGroup g) h = absurd (both_ways false refl h)
+one_sort (AddChild g m) h = absurd (both_ways false refl h)
+one_sort (RemoveChild g m) h = absurd (both_ways false refl h)
+one_sort (Assign a b) h = refl
+one_sort (Unassign a) h = refl
+one_sort (MoveTo a b) h = refl
+one_sort (Split a b) h = refl
+one_sort (Merge a b) h = refl
+one_sort (SwapMeets a b) h = refl
+one_sort (Give a b) h = refl
+one_sort (Take a) h = refl
+one_sort (Regive a b) h = refl
+one_sort (SwapTasks a b) h = refl
+
 -- an edit of monitors and groups
 pub refusal_groups : (p : Parts) (s : State) (e : Edit) → groups.is_of_groups e ≡ true
     → refusal p s e ≡ groups.refusal s.grouping e

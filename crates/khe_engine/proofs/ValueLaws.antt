@@ -14,7 +14,7 @@ use Rattle.khe_instance.specs.Costs.{costs_of}
 use Rattle.khe_instance.specs.declared.parts.Parts.{Parts}
 use Rattle.khe_instance.specs.declared.points.Monitor.{Monitor}
 use Rattle.khe_instance.specs.declared.rules.Kind.{Kind}
-use Rattle.khe_told.specs.Agreement.{Agrees, deviation_in}
+use Rattle.khe_told.specs.Agreement.{deviation_in}
 use Rattle.khe_told.specs.Changes.{meet_of}
 use Rattle.khe_told.specs.Slots.{slot_at}
 use Rattle.khe_told.specs.Watchers.{watch_count, watcher_count, served_watchers}
@@ -22,10 +22,10 @@ use Rattle.khe_told.specs.declared.changes.Change.{Change}
 use Rattle.khe_told.specs.declared.slots.Slot.{Slot}
 use Rattle.monitor_graph.specs.Boards.{Board, HaveSameRest, KeepsValues, deviations_of, fixed_of, grouping_of, rate_of}
 use Rattle.monitor_graph.specs.Edits.{is_attached}
-use Rattle.monitor_graph.specs.Values.{costs_in}
+use Rattle.monitor_graph.specs.Values.{IsOf, costs_in}
 use Rattle.monitor_graph.specs.declared.lines.Line.{Line}
 use Rattle.khe_engine.specs.States.{HaveSameGroups, state_of}
-use Rattle.khe_engine.specs.Values.{HasValues, ServesAll, costs, deviations_in}
+use Rattle.khe_engine.specs.Values.{HasValues, costs, deviations_in}
 
 -- how many values there are
 pub many_values : (p : Parts) (s : List Slot) (b : Board) → HasValues p s b
@@ -33,35 +33,36 @@ pub many_values : (p : Parts) (s : List Slot) (b : Board) → HasValues p s b
 unfolding deviations_in
 many_values p s b h = ap length h.deviations ∙ length-map p.monitors (deviation_in p s)
 
--- they agree on every kind, and where all agree they are the values
-pub values_agree : (p : Parts) (served : Kind → Bool) (s : List Slot) (b : Board) → HasValues p s b
-    → Agrees p served s (deviations_of b)
+-- they are those of the slots, and what are those of the slots are the values
+pub value_at : (p : Parts) (s : List Slot) (b : Board) (i : ℕ) (m : Monitor) → HasValues p s b
+    → slice_get p.monitors i ≡ Some m
+    → slice_get (deviations_of b) i ≡ Some (deviation_in p s m)
 unfolding deviations_in
-values_agree p served s b h i m at kind = ap (λ ds. slice_get ds i) h.deviations
-    ∙ slice_get-map (deviation_in p s) p.monitors i ∙ ap (option_map (deviation_in p s)) at
+value_at p s b i m h at = ap (λ ds. slice_get ds i) h.deviations ∙ slice_get-map (deviation_in p s) p.monitors i
+    ∙ ap (option_map (deviation_in p s)) at
 
-pub values_all : (p : Parts) (served : Kind → Bool) (s : List Slot) (ds : List ℕ) → ServesAll served
-    → length ds ≡ length p.monitors → Agrees p served s ds → ds ≡ deviations_in p s
+pub values_all : (p : Parts) (s : List Slot) (ds : List ℕ) → length ds ≡ length p.monitors
+    → ((i : ℕ) (m : Monitor) → slice_get p.monitors i ≡ Some m → slice_get ds i ≡ Some (deviation_in p s m))
+    → ds ≡ deviations_in p s
 unfolding deviations_in
-values_all p served s ds all many agree =
+values_all p s ds many each =
     let long = length-map p.monitors (deviation_in p s) in
     same_number_lists ds (map (deviation_in p s) p.monitors) (many ∙ sym long) (λ k l.
     let t = there p.monitors k (omega (arith, l, many)) in
     let d = deviation_in p s t.value in
-    get_or_from_slice_get ds k d 0 (agree k t.value t.found (all t.value.kind))
+    get_or_from_slice_get ds k d 0 (each k t.value t.found)
     ∙ sym (get_or_from_slice_get (map (deviation_in p s) p.monitors) k d 0
     (slice_get-map (deviation_in p s) p.monitors k ∙ ap (option_map (deviation_in p s)) t.found)))
 
--- after a change that the families were noted of
-pub values_noted : (p : Parts) (served : Kind → Bool) (s s2 : List Slot) (b b2 : Board) → ServesAll served
-    → HasValues p s b → HaveSameRest b b2
-    → length (deviations_of b2) ≡ length (deviations_of b)
-    → (Agrees p served s (deviations_of b) → Agrees p served s2 (deviations_of b2)) → HasValues p s2 b2
-values_noted p served s s2 b b2 all h same many agree = record {
-  deviations = values_all p served s2 (deviations_of b2) all (many ∙ many_values p s b h)
-      (agree (values_agree p served s b h));
+-- a graph with such deviations, which is else one of the instance, has the values
+pub all_set : (p : Parts) (s : List Slot) (b b2 : Board) → IsOf b p → HaveSameRest b b2
+    → length (deviations_of b2) ≡ length p.monitors
+    → ((i : ℕ) (m : Monitor) → slice_get p.monitors i ≡ Some m
+    → slice_get (deviations_of b2) i ≡ Some (deviation_in p s m)) → HasValues p s b2
+all_set p s b b2 of same many each = record {
+  deviations = values_all p s (deviations_of b2) many each;
   rates = sym (sym (map-map rate_of fixed_of b.lines) ∙ ap (map rate_of) same.lines ∙ map-map rate_of fixed_of b2.lines)
-      ∙ h.rates;
+      ∙ of;
 }
 
 -- after an edit of monitors and groups, and after more room

@@ -1,5 +1,6 @@
 pub mod Openings
 pub mod Records
+pub mod Settled
 pub mod States
 pub mod Values
 pub mod Worlds

@@ -9,6 +9,7 @@ ghost use Rattle.monitor_graph.specs.Edits as groups;
 ghost use Rattle.monitor_graph.specs.Groups.{seated};
 ghost use Rattle.khe_engine.specs.States.{state_of, refusal, edited, made, changes};
 ghost use Rattle.khe_engine.specs.Values.{HasValues, ServesAll};
+ghost use Rattle.khe_engine.specs.Settled.{IsIdle};
 ghost use Rattle.khe_engine.specs.Worlds.{IsCheck, IsFaultOf, grown};
 ghost use Rattle.khe_engine.specs.Records.{IsRecorded, MarksLead, records, saved_of};
 
@@ -95,10 +96,12 @@ fn edit_meets<F: Family, L: Ledger>(
     requires serves { ServesAll F.serves_kind }
     requires told { F.told listeners.old.families ≡ solution.old.slots }
     requires values { HasValues inst.now solution.old.slots listeners.old.graph }
+    requires idle { IsIdle inst.now listeners.old.waiting }
     ensures parts { solution.new.parts ≡ inst.now }
     ensures of { F.IsOf listeners.new.families inst.now }
     ensures told { F.told listeners.new.families ≡ solution.new.slots }
     ensures values { HasValues inst.now solution.new.slots listeners.new.graph }
+    ensures idle { IsIdle inst.now listeners.new.waiting }
     ensures marked { listeners.new.graph.marked ≡ listeners.old.graph.marked }
     ensures seats { listeners.old.graph.seats ≤ listeners.new.graph.seats }
     ensures made { result ≡ made (state_of solution.old.slots listeners.old.graph) edit }
@@ -135,10 +138,12 @@ fn edit_groups<F: Family, L: Ledger>(
     requires serves { ServesAll F.serves_kind }
     requires told { F.told listeners.old.families ≡ solution.old.slots }
     requires values { HasValues inst.now solution.old.slots listeners.old.graph }
+    requires idle { IsIdle inst.now listeners.old.waiting }
     ensures parts { solution.new.parts ≡ inst.now }
     ensures of { F.IsOf listeners.new.families inst.now }
     ensures told { F.told listeners.new.families ≡ solution.new.slots }
     ensures values { HasValues inst.now solution.new.slots listeners.new.graph }
+    ensures idle { IsIdle inst.now listeners.new.waiting }
     ensures marked { listeners.new.graph.marked ≡ listeners.old.graph.marked }
     ensures seats { listeners.old.graph.seats ≤ listeners.new.graph.seats }
     ensures made { result ≡ made (state_of solution.old.slots listeners.old.graph) edit }
@@ -176,10 +181,12 @@ pub(crate) fn make<F: Family, L: Ledger>(
     requires serves { ServesAll F.serves_kind }
     requires told { F.told listeners.old.families ≡ solution.old.slots }
     requires values { HasValues inst.now solution.old.slots listeners.old.graph }
+    requires idle { IsIdle inst.now listeners.old.waiting }
     ensures parts { solution.new.parts ≡ inst.now }
     ensures of { F.IsOf listeners.new.families inst.now }
     ensures told { F.told listeners.new.families ≡ solution.new.slots }
     ensures values { HasValues inst.now solution.new.slots listeners.new.graph }
+    ensures idle { IsIdle inst.now listeners.new.waiting }
     ensures marked { listeners.new.graph.marked ≡ listeners.old.graph.marked }
     ensures seats { listeners.old.graph.seats ≤ listeners.new.graph.seats }
     ensures made { result ≡ made (state_of solution.old.slots listeners.old.graph) edit }
@@ -237,10 +244,12 @@ pub(crate) fn edit_any<F: Family, L: Ledger>(
     requires serves { ServesAll F.serves_kind }
     requires told { F.told listeners.old.families ≡ solution.old.slots }
     requires values { HasValues inst.now solution.old.slots listeners.old.graph }
+    requires idle { IsIdle inst.now listeners.old.waiting }
     ensures parts { solution.new.parts ≡ inst.now }
     ensures of { F.IsOf listeners.new.families inst.now }
     ensures told { F.told listeners.new.families ≡ solution.new.slots }
     ensures values { HasValues inst.now solution.new.slots listeners.new.graph }
+    ensures idle { IsIdle inst.now listeners.new.waiting }
     ensures marked { listeners.new.graph.marked ≡ listeners.old.graph.marked }
     ensures seats { listeners.old.graph.seats ≤ listeners.new.graph.seats }
     ensures leads { MarksLead inst.now listeners.new.graph.seats (state_of solution.new.slots listeners.new.graph) journal.new.since }

@@ -1,19 +1,22 @@
-ghost use Rattle.std.specs.Prelude.{ℕ, ◌≡◌, ◌↔◌, ◌<◌, ◌≤◌, ◌+◌, ◌-◌, ◌⊎◌, ◌∷◌, [], false, None, Err, List, length, IfErr, IfOk, IsOk, OnErr, OnOk};
+ghost use Rattle.std.specs.Prelude.{ℕ, ◌≡◌, ◌↔◌, ◌<◌, ◌≤◌, ◌+◌, ◌-◌, ◌⊎◌, ◌∷◌, [], false, true, None, Err, List, length, IfErr, IfOk, IsOk, OnErr, OnOk};
 ghost use Rattle.khe_base.specs.declared.limits.TheConstants.{MARKS};
+ghost use Rattle.khe_solution.specs.Refusing.{is_of_meets, refusal as meets_refusal};
 ghost use Rattle.khe_told.specs.Watchers.{watcher_counts};
 ghost use Rattle.khe_told.specs.declared.refusals.Refusal.TheVariants.{NoMark, MarksFull};
 ghost use Rattle.monitor_graph.specs.Edits.{adds_child};
 ghost use Rattle.khe_engine.specs.States.{refusal, edited, made, changes};
+ghost use Rattle.khe_engine.specs.Values.{totals};
 ghost use Rattle.khe_engine.specs.Worlds.{Saved, IsFaultOf, around, closed, fresh, from_mark, grown, kept, last_cost, last_saved, trails_cost};
 
 use crate::editing::edit_any;
 use crate::faults::EditFault;
 use crate::listeners::Listeners;
+use crate::trials::totals_after;
 use crate::undoing::{close, marks_of, unwind, unwind_to};
-use khe_base::NoMemory;
+use khe_base::{NoMemory, Totals};
 use khe_instance::Instance;
 use khe_solution::Solution;
-use khe_told::{Back, Edit, Family, Refusal, Steps};
+use khe_told::{Back, Change, Edit, Family, Refusal, Steps};
 use std::marker::Model;
 use std::sync::ledger::Ledger;
 use undo_paths::Journal;
@@ -30,10 +33,14 @@ pub struct Engine<'i, F: Family> {
     pub(crate) listeners: Listeners<F>,
     /// A record for each edit since the outermost mark.
     pub(crate) journal: Journal<Back>,
+    /// The changes of an edit that is only tried.
+    pub(crate) list: Vec<Change>,
 }
 
 impl<'i, F: Family> Model for Engine<'i, F> {
-    ghost use Rattle.std.specs.Prelude.{◌≡◌};
+    ghost use Rattle.std.specs.Prelude.{◌≡◌, vec_capacity};
+    ghost use Rattle.khe_solution.specs.Timetables.{HasRoom};
+    ghost use Rattle.khe_engine.specs.Settled.{IsIdle};
     ghost use Rattle.khe_engine.specs.States.{state_of};
     ghost use Rattle.khe_engine.specs.Values.{HasValues, ServesAll};
     ghost use Rattle.khe_engine.specs.Worlds.{World};
@@ -51,7 +58,8 @@ impl<'i, F: Family> Model for Engine<'i, F> {
 
     ghost invariant = { λ e. (e.solution.parts ≡ e.inst.now) × F.IsOf e.listeners.families e.inst.now × ServesAll F.serves_kind
         × (F.told e.listeners.families ≡ e.solution.slots) × HasValues e.inst.now e.solution.slots e.listeners.graph
-        × MarksLead e.inst.now e.listeners.graph.seats (state_of e.solution.slots e.listeners.graph) e.journal.since };
+        × MarksLead e.inst.now e.listeners.graph.seats (state_of e.solution.slots e.listeners.graph) e.journal.since
+        × IsIdle e.inst.now e.listeners.waiting × HasRoom e.inst.now (vec_capacity e.list) };
 }
 
 impl<'i, F: Family> Engine<'i, F> {
@@ -122,6 +130,23 @@ impl<'i, F: Family> Engine<'i, F> {
             &mut self.journal,
             edit,
             steps,
+        )
+    }
+
+    /// The totals that an accepted edit of meets and tasks would leave. The engine stays as it is. It
+    /// takes no memory, and as long as the edit and its undoing take but for what costs are kept of.
+    pub fn totals_after(&mut self, edit: &Edit) -> Totals
+        requires ours { is_of_meets edit.now ≡ true }
+        requires accepted { meets_refusal self.old.parts self.old.state.slots edit.now ≡ None }
+        ensures totals { result ≡ totals self.old.parts (edited self.old.state edit.now) }
+        ensures same { self.new ≡ self.old }
+    {
+        totals_after(
+            self.inst,
+            &self.solution,
+            &mut self.listeners,
+            &mut self.list,
+            edit,
         )
     }
 

@@ -8,8 +8,10 @@ mod faults;
 mod listeners;
 mod listing;
 mod opening;
+mod settling;
 mod shortages;
 mod telling;
+mod trials;
 mod undoing;
 mod values;
 

@@ -1,5 +1,6 @@
+use crate::settling::{settle, turn_all};
 use khe_instance::Instance;
-use khe_told::{Change, Family, Steps, Watcher};
+use khe_told::{Change, Family, Steps, Waiting, Watcher};
 use monitor_graph::Graph;
 use std::sync::ledger::Ledger;
 
@@ -9,17 +10,20 @@ use std::sync::ledger::Ledger;
 pub(crate) struct Listeners<F: Family> {
     pub(crate) families: F,
     pub(crate) graph: Graph,
+    /// None between calls.
+    pub(crate) waiting: Waiting,
 }
 
 impl<F: Family> Watcher for Listeners<F> {
     ghost use Rattle.std.specs.Prelude.{false, None};
     ghost use Rattle.std.proofs.Common.{◌∙◌, refl};
+    ghost use Rattle.khe_engine.specs.Settled.{IsIdle};
     ghost use Rattle.khe_engine.specs.Values.{HasValues, ServesAll};
     ghost use Rattle.khe_engine.specs.States.{HaveSameGroups};
 
     ghost told = { λ x. F.told x.families };
 
-    ghost IsOf = { λ x p. F.IsOf x.families p × ServesAll F.serves_kind × HasValues p (F.told x.families) x.graph };
+    ghost IsOf = { λ x p. F.IsOf x.families p × ServesAll F.serves_kind × HasValues p (F.told x.families) x.graph × IsIdle p x.waiting };
 
     ghost noted = { λ x. None };
 
@@ -27,9 +31,28 @@ impl<F: Family> Watcher for Listeners<F> {
 
     ghost HasSameRest = { λ x y. HaveSameGroups x.graph y.graph };
 
-    #[tactic(auto, using(crate::proofs::ValueLaws::values_agree, crate::proofs::ValueLaws::values_noted, crate::proofs::ValueLaws::many_values, crate::proofs::ValueLaws::same_groups, crate::proofs::ValueLaws::served_few))]
+    #[tactic(auto, using(crate::proofs::ValueLaws::same_groups, crate::proofs::ValueLaws::served_few))]
     fn note<L: Ledger>(&mut self, inst: &Instance, change: Change, steps: &mut Steps<L>) {
-        self.families.note(inst, change, &mut self.graph, steps);
+        self.families.turn(inst, change, &mut self.waiting);
+        settle(
+            inst,
+            &self.families,
+            &mut self.graph,
+            &mut self.waiting,
+            steps,
+        );
+    }
+
+    #[tactic(auto, using(crate::proofs::ValueLaws::same_groups))]
+    fn note_all<L: Ledger>(&mut self, inst: &Instance, changes: &[Change], steps: &mut Steps<L>) {
+        turn_all(inst, changes, &mut self.families, &mut self.waiting);
+        settle(
+            inst,
+            &self.families,
+            &mut self.graph,
+            &mut self.waiting,
+            steps,
+        );
     }
 
     ghost same_rest_refl = { λ x. record { grouping = refl; marked = refl; seats = refl } };

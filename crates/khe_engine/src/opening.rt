@@ -7,6 +7,7 @@ ghost use Rattle.khe_told.specs.Slots.{no_meets};
 ghost use Rattle.monitor_graph.specs.Boards.{HaveSameRest, deviations_of, grouping_of};
 ghost use Rattle.monitor_graph.specs.Values.{IsOf};
 ghost use Rattle.khe_engine.specs.Openings.{IsStateOf, grouping_in};
+ghost use Rattle.khe_engine.specs.Settled.{IsIdle};
 ghost use Rattle.khe_engine.specs.Values.{HasValues, ServesAll};
 
 use crate::engine::Engine;
@@ -14,8 +15,8 @@ use crate::listeners::Listeners;
 use crate::telling::tell_all;
 use khe_base::{MonitorId, NoMemory, both};
 use khe_instance::{Instance, Plain};
-use khe_solution::Solution;
-use khe_told::{Blank, Family, Steps, Tally};
+use khe_solution::{Solution, room_for};
+use khe_told::{Blank, Family, Steps, Waiting};
 use monitor_graph::Graph;
 use std::alloc::Global;
 use std::marker::Brand;
@@ -38,19 +39,33 @@ impl<'i, F: Family + Drop> Engine<'i, F> {
         let journal = Journal::open(alloc);
         let families = F::open(alloc, inst);
         let graph = Graph::open(alloc, inst, plain);
-        let ((solution, journal), (families, graph)) = both(
-            both(solution, journal),
-            both(families, graph),
+        let waiting = waiting_of(alloc, inst);
+        let list = room_for(alloc, inst);
+        let (((solution, list), journal), ((families, graph), waiting)) = both(
+            both(both(solution, list), journal),
+            both(both(families, graph), waiting),
         )?;
-        let mut listeners = Listeners { families, graph };
+        let mut listeners = Listeners {
+            families,
+            graph,
+            waiting,
+        };
         listen::<F, Brand>(inst, &solution, &mut listeners, Blank::new(1));
         Ok(Engine {
             inst,
             solution,
             listeners,
             journal,
+            list,
         })
     }
+}
+
+/// None of the instance's monitors. It takes time and memory in proportion to them.
+fn waiting_of(alloc: Global, inst: &Instance) -> Result<Waiting, NoMemory>
+    ensures { IfOk result (IsIdle inst.now) }
+{
+    Waiting::open(alloc, inst.monitors())
 }
 
 /// The families, which were told of no meets, are told of a timetable, and the graph has the
@@ -70,23 +85,20 @@ fn listen<F: Family, L: Ledger>(
     requires none { F.told listeners.old.families ≡ no_meets inst.now }
     requires rates { IsOf listeners.old.graph inst.now }
     requires many { length (deviations_of listeners.old.graph) ≡ length inst.now.monitors }
+    requires idle { IsIdle inst.now listeners.old.waiting }
     ensures of { F.IsOf listeners.new.families inst.now }
     ensures told { F.told listeners.new.families ≡ solution.now.slots }
     ensures values { HasValues inst.now solution.now.slots listeners.new.graph }
+    ensures idle { IsIdle inst.now listeners.new.waiting }
     ensures grouping { grouping_of listeners.new.graph ≡ grouping_of listeners.old.graph }
 {
     let mut steps = Steps::<L>::new(blank);
-    set_all(inst, &listeners.families, &mut listeners.graph, &mut steps);
+    set_all(inst, &listeners.families, &mut listeners.graph);
     tell_all(inst, solution, listeners, &mut steps);
 }
 
 /// Sets every deviation to that of the state that the families were told.
-fn set_all<F: Family, L: Ledger>(
-    inst: &Instance,
-    families: &F,
-    graph: &mut Graph,
-    steps: &mut Steps<L>,
-)
+fn set_all<F: Family>(inst: &Instance, families: &F, graph: &mut Graph)
     requires of { F.IsOf families.now inst.now }
     requires serves { ServesAll F.serves_kind }
     requires rates { IsOf graph.old inst.now }
@@ -98,6 +110,6 @@ fn set_all<F: Family, L: Ledger>(
     for number in 0..inst.monitors() {
         let monitor = MonitorId(number);
         let deviation = families.deviation(inst, monitor);
-        graph.set(monitor, deviation, steps);
+        graph.set(monitor, deviation);
     }
 }

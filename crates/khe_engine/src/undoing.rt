@@ -8,6 +8,7 @@ ghost use Rattle.khe_engine.specs.States.{State, state_of, is_back_of_groups, un
 ghost use Rattle.khe_instance.specs.declared.parts.Parts.{Parts};
 ghost use Rattle.khe_told.specs.declared.refusals.Refusal.TheVariants.{NoMark};
 ghost use Rattle.khe_engine.specs.Values.{HasValues, ServesAll};
+ghost use Rattle.khe_engine.specs.Settled.{IsIdle};
 ghost use Rattle.khe_engine.specs.Worlds.{around, closed, from_mark, fresh, last_cost, last_saved, trails_cost};
 ghost use Rattle.khe_engine.specs.Records.{Leads, MarksLead, records, saved_of, undo_cost, undone_all};
 
@@ -59,10 +60,12 @@ fn revert<F: Family, L: Ledger>(
     requires serves { ServesAll F.serves_kind }
     requires told { F.told listeners.old.families ≡ solution.old.slots }
     requires values { HasValues inst.now solution.old.slots listeners.old.graph }
+    requires idle { IsIdle inst.now listeners.old.waiting }
     ensures parts { solution.new.parts ≡ inst.now }
     ensures of { F.IsOf listeners.new.families inst.now }
     ensures told { F.told listeners.new.families ≡ solution.new.slots }
     ensures values { HasValues inst.now solution.new.slots listeners.new.graph }
+    ensures idle { IsIdle inst.now listeners.new.waiting }
     ensures marked { listeners.new.graph.marked ≡ listeners.old.graph.marked }
     ensures seats { listeners.old.graph.seats ≤ listeners.new.graph.seats }
     ensures state { (state_of solution.new.slots listeners.new.graph) ≡ undone (state_of solution.old.slots listeners.old.graph) back }
@@ -90,10 +93,12 @@ pub(crate) fn unwind<F: Family, L: Ledger>(
     requires serves { ServesAll F.serves_kind }
     requires told { F.told listeners.old.families ≡ solution.old.slots }
     requires values { HasValues inst.now solution.old.slots listeners.old.graph }
+    requires idle { IsIdle inst.now listeners.old.waiting }
     ensures parts { solution.new.parts ≡ inst.now }
     ensures of { F.IsOf listeners.new.families inst.now }
     ensures told { F.told listeners.new.families ≡ solution.new.slots }
     ensures values { HasValues inst.now solution.new.slots listeners.new.graph }
+    ensures idle { IsIdle inst.now listeners.new.waiting }
     ensures marked { listeners.new.graph.marked ≡ listeners.old.graph.marked }
     ensures seats { listeners.old.graph.seats ≤ listeners.new.graph.seats }
     ensures leads { MarksLead inst.now listeners.new.graph.seats (state_of solution.new.slots listeners.new.graph) journal.new.since }
@@ -146,10 +151,12 @@ fn fall<F: Family, L: Ledger>(
     requires serves { ServesAll F.serves_kind }
     requires told { F.told listeners.old.families ≡ solution.old.slots }
     requires values { HasValues inst.now solution.old.slots listeners.old.graph }
+    requires idle { IsIdle inst.now listeners.old.waiting }
     ensures parts { solution.new.parts ≡ inst.now }
     ensures of { F.IsOf listeners.new.families inst.now }
     ensures told { F.told listeners.new.families ≡ solution.new.slots }
     ensures values { HasValues inst.now solution.new.slots listeners.new.graph }
+    ensures idle { IsIdle inst.now listeners.new.waiting }
     ensures marked { listeners.new.graph.marked ≡ listeners.old.graph.marked }
     ensures seats { listeners.old.graph.seats ≤ listeners.new.graph.seats }
     ensures leads { MarksLead inst.now listeners.new.graph.seats (state_of solution.new.slots listeners.new.graph) journal.new.since }
@@ -179,10 +186,12 @@ pub(crate) fn unwind_to<F: Family, L: Ledger>(
     requires serves { ServesAll F.serves_kind }
     requires told { F.told listeners.old.families ≡ solution.old.slots }
     requires values { HasValues inst.now solution.old.slots listeners.old.graph }
+    requires idle { IsIdle inst.now listeners.old.waiting }
     ensures parts { solution.new.parts ≡ inst.now }
     ensures of { F.IsOf listeners.new.families inst.now }
     ensures told { F.told listeners.new.families ≡ solution.new.slots }
     ensures values { HasValues inst.now solution.new.slots listeners.new.graph }
+    ensures idle { IsIdle inst.now listeners.new.waiting }
     ensures marked { listeners.new.graph.marked ≡ listeners.old.graph.marked }
     ensures seats { listeners.old.graph.seats ≤ listeners.new.graph.seats }
     ensures leads { MarksLead inst.now listeners.new.graph.seats (state_of solution.new.slots listeners.new.graph) journal.new.since }

@@ -16,4 +16,5 @@ mod slots;
 mod solution;
 mod tasks;
 
+pub use room::room_for;
 pub use solution::Solution;

@@ -1,9 +1,9 @@
 //! The noting of a list of changes, forwards as they are and backwards as their inverses.
 
-ghost use Rattle.std.specs.Prelude.{◌≡◌, ◌≤◌, ◌+◌, ◌++◌, true, vec_capacity};
+ghost use Rattle.std.specs.Prelude.{◌≡◌, ◌≤◌, ◌+◌, ◌++◌, true, map, vec_capacity};
 ghost use Rattle.std.specs.Option.{option_map};
 ghost use Rattle.khe_told.specs.Fits.{AllFit};
-ghost use Rattle.khe_told.specs.Changes.{after_all, inverses};
+ghost use Rattle.khe_told.specs.Changes.{after_all, inverse, inverses};
 ghost use Rattle.khe_told.specs.Watchers.{watcher_counts};
 
 use crate::slots::Slots;
@@ -11,7 +11,8 @@ use khe_instance::Instance;
 use khe_told::{Change, Steps, Watcher};
 use std::sync::ledger::Ledger;
 
-/// Notes a list of changes, each of which fits after those before it.
+/// Notes a list of changes, each of which fits after those before it: the slots of each, and then the
+/// watcher of all of them.
 pub(crate) fn note_all<V: Watcher, L: Ledger>(
     inst: &Instance,
     list: &[Change],
@@ -32,12 +33,31 @@ pub(crate) fn note_all<V: Watcher, L: Ledger>(
 {
     for change in list {
         slots.note(inst, *change);
-        watcher.note(inst, *change, steps);
+    }
+    watcher.note_all(inst, list, steps);
+}
+
+/// Puts the inverse of each change in its place.
+fn turn_each(list: &mut Vec<Change>)
+    ensures items { list.new.items ≡ map inverse list.old.items }
+    ensures room { vec_capacity list.old ≤ vec_capacity list.new }
+{
+    for k in 0..list.len() {
+        list[k] = list[k].inverse();
     }
 }
 
-/// Notes the inverses of a list of changes, the last one first, and empties the list.
-#[tactic(auto, using(crate::proofs::NoteLaws::inverses_more))]
+/// Puts the inverses of changes in their place, the last one first, in time in proportion to them.
+#[tactic(auto, using(crate::proofs::NoteLaws::inverses_reversed))]
+fn turn_round(list: &mut Vec<Change>)
+    ensures items { list.new.items ≡ inverses list.old.items }
+    ensures room { vec_capacity list.old ≤ vec_capacity list.new }
+{
+    list.reverse();
+    turn_each(list);
+}
+
+/// Notes the inverses of a list of changes, the last one first, and leaves them in the list.
 pub(crate) fn note_back<V: Watcher, L: Ledger>(
     inst: &Instance,
     list: &mut Vec<Change>,
@@ -57,9 +77,6 @@ pub(crate) fn note_back<V: Watcher, L: Ledger>(
     ensures silent { V.is_silent ≡ true → steps.new ≡ steps.old }
     ensures room { vec_capacity list.old ≤ vec_capacity list.new }
 {
-    while let Some(change) = list.pop() {
-        let back = change.inverse();
-        slots.note(inst, back);
-        watcher.note(inst, back, steps);
-    }
+    turn_round(list);
+    note_all(inst, list.as_slice(), slots, watcher, steps);
 }

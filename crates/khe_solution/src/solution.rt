@@ -3,13 +3,15 @@ ghost use Rattle.std.specs.Option.{option_map};
 ghost use Rattle.khe_instance.specs.States.{IsValid};
 ghost use Rattle.khe_told.specs.Lists.{meet_in, meets_in, tasks_in};
 ghost use Rattle.khe_told.specs.Slots.{slot_at, is_live};
-ghost use Rattle.khe_told.specs.Changes.{inverses};
+ghost use Rattle.khe_told.specs.Changes.{after_all, inverses};
+ghost use Rattle.khe_told.specs.Fits.{AllFit, AreTold};
 ghost use Rattle.khe_told.specs.Watchers.{watcher_counts};
 ghost use Rattle.khe_solution.specs.NextTask.{IsNextTask};
 ghost use Rattle.khe_solution.specs.Reading.{has_place, resource_at};
 ghost use Rattle.khe_solution.specs.Refusing.{is_of_meets, checked, refusal};
 ghost use Rattle.khe_solution.specs.Editing.{edited, made, answer};
 ghost use Rattle.khe_solution.specs.Changing.{changes};
+ghost use Rattle.khe_solution.specs.Timetables.{HasRoom};
 ghost use Rattle.khe_solution.specs.Backs.{back_of, undone, undone_changes, LeadsBack};
 ghost use Rattle.khe_told.specs.Valid.{AreValid};
 
@@ -160,6 +162,24 @@ impl<'i> Solution<'i> {
             steps,
         );
         Ok(made)
+    }
+
+    /// Lists the changes of an edit that is not refused, in place of what the list had. It takes no
+    /// memory, and time in proportion to the places of the edit's meets.
+    #[tactic(auto, using(crate::proofs::EditLaws::edit_room, crate::proofs::EditLaws::edit_cuts, crate::proofs::EditLaws::edit_fits, crate::proofs::EditLaws::edit_slots))]
+    pub fn list_changes(&self, edit: &Edit, list: &mut Vec<Change>)
+        requires ours { is_of_meets edit.now ≡ true }
+        requires accepted { refusal self.now.parts self.now.slots edit.now ≡ None }
+        requires room { HasRoom self.now.parts (vec_capacity list.old) }
+        ensures items { list.new.items ≡ changes self.now.slots edit.now }
+        ensures room { vec_capacity list.old ≤ vec_capacity list.new }
+        ensures fit { AllFit self.now.parts self.now.slots (changes self.now.slots edit.now) }
+        ensures leads { after_all self.now.slots (changes self.now.slots edit.now) ≡ edited self.now.slots edit.now }
+        ensures told { AreTold self.now.parts self.now.slots }
+    {
+        self.inst.facts();
+        let made = made(self.inst, &self.slots, *edit);
+        list_edit(list, self.slots.told(), *edit, made);
     }
 
     /// The record that leads back from an edit that is not refused. It takes constant time.

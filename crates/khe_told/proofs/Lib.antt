@@ -9,4 +9,5 @@ pub mod PuttingLaws
 pub mod SlotLaws
 pub mod StoredLaws
 pub mod ValidLaws
+pub mod WaitingLaws
 pub mod WatcherLaws

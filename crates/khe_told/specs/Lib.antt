@@ -8,3 +8,4 @@ pub mod Slots
 pub mod Stored
 pub mod Valid
 pub mod Watchers
+pub mod Waits

@@ -7,20 +7,19 @@ ghost use Rattle.khe_told.specs.declared.slots.Slot.{Slot};
 ghost use Rattle.khe_told.specs.Slots.{no_meets};
 ghost use Rattle.khe_told.specs.Changes.{after};
 ghost use Rattle.khe_told.specs.Fits.{Fits};
-ghost use Rattle.khe_told.specs.Agreement.{deviation_in, Agrees, KeepsOthers};
+ghost use Rattle.khe_told.specs.Agreement.{deviation_in};
+ghost use Rattle.khe_told.specs.Waits.{AreUnmoved, WaitAsBefore, WaitOn};
 ghost use Rattle.khe_told.specs.Watchers.{served_watchers};
 
 use crate::changes::Change;
-use crate::steps::Steps;
-use crate::tallies::Tally;
+use crate::waiting::Waits;
 use khe_base::{MonitorId, NoMemory};
 use khe_instance::{Instance, Kind};
 use std::alloc::Global;
-use std::sync::ledger::Ledger;
 
-/// Keeps the deviations of the monitors of some kinds, change by change, in a tally.
+/// Keeps what the deviations of the monitors of some kinds are read from, change by change.
 ///
-/// A change and then its inverse leave the told state as it was, since `note` gives `after`.
+/// A change and then its inverse leave the told state as it was, since `turn` gives `after`.
 pub trait Family {
     /// The kinds that it serves.
     ghost serves_kind: { Kind → Bool };
@@ -45,26 +44,20 @@ pub trait Family {
     fn serves(&self, kind: Kind) -> bool
         ensures { result ≡ serves_kind kind };
 
-    /// Follows a change that fits what it was told. Where the tally agreed with the definitions on
-    /// the monitors that it serves, it still does; all other deviations and the tally's rest stay.
-    /// It sets the tally at most once for each watcher of the change that it serves.
-    fn note<Y: Tally, L: Ledger>(
-        &mut self,
-        inst: &Instance,
-        change: Change,
-        tally: &mut Y,
-        steps: &mut Steps<L>,
-    )
+    /// Follows a change that fits what it was told, and measures nothing: each monitor that it serves
+    /// whose deviation may be another after the change waits then. It lets at most one wait for each
+    /// watcher of the change that it serves.
+    fn turn<W: Waits>(&mut self, inst: &Instance, change: Change, waits: &mut W)
         requires of { IsOf self.old inst.now }
         requires fits { Fits inst.now (told self.old) change }
-        requires monitors { length (Y.deviations tally.old) ≡ length inst.now.monitors }
+        requires monitors { W.monitors waits.old ≡ length inst.now.monitors }
         ensures of { IsOf self.new inst.now }
         ensures told { told self.new ≡ after (told self.old) change }
-        ensures monitors { length (Y.deviations tally.new) ≡ length (Y.deviations tally.old) }
-        ensures served { Agrees inst.now serves_kind (told self.old) (Y.deviations tally.old) → Agrees inst.now serves_kind (told self.new) (Y.deviations tally.new) }
-        ensures others { KeepsOthers inst.now serves_kind (Y.deviations tally.old) (Y.deviations tally.new) }
-        ensures rest { Y.HasSameRest tally.old tally.new }
-        ensures steps { steps.new ≤ steps.old + served_watchers inst.now serves_kind (told self.old) change };
+        ensures monitors { W.monitors waits.new ≡ W.monitors waits.old }
+        ensures unmoved { W.hears ≡ true → AreUnmoved inst.now serves_kind (W.waits waits.new) (told self.old) (told self.new) }
+        ensures kept { WaitOn (W.waits waits.old) (W.waits waits.new) }
+        ensures others { WaitAsBefore inst.now serves_kind (W.waits waits.old) (W.waits waits.new) }
+        ensures amount { W.amount waits.new ≤ W.amount waits.old + served_watchers inst.now serves_kind (told self.old) change };
 
     /// The deviation, in the told state, of a monitor of a kind that it serves: at most
     /// `GREATEST_DEVIATION`.

@@ -3,7 +3,6 @@
 //! deviations, a family that keeps the deviations of some kinds, and a watcher.
 #![tactic(auto)]
 
-mod both;
 mod changes;
 mod edits;
 mod families;
@@ -14,17 +13,16 @@ mod refusals;
 mod rows;
 mod slots;
 mod steps;
-mod tallies;
 mod told;
+mod waiting;
 mod watchers;
 
-pub use both::Both;
 pub use changes::Change;
 pub use edits::{Back, Edit};
 pub use families::Family;
 pub use refusals::Refusal;
 pub use slots::{Slot, Span};
 pub use steps::{Blank, Steps};
-pub use tallies::Tally;
 pub use told::Told;
+pub use waiting::{Unheard, Waiting, Waits};
 pub use watchers::Watcher;

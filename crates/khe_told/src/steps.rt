@@ -4,8 +4,8 @@ use std::marker::Model;
 pub use std::sync::ledger::Blank;
 use std::sync::ledger::{Book, Ledger, Share};
 
-/// How many steps were taken; one step is one call of `Tally::set`. Contracts see the number. It
-/// takes no bytes and no time when the program runs, and no call changes it but `tick`.
+/// How many steps were taken; one step is one monitor that is measured anew. Contracts see the number.
+/// It takes no bytes and no time when the program runs, and no call changes it but `tick`.
 #[derive(Drop)]
 pub struct Steps<L: Ledger> {
     book: Book<L>,

@@ -3,9 +3,9 @@ ghost use Rattle.std.specs.Option.{option_map};
 ghost use Rattle.khe_instance.specs.declared.parts.Parts.{Parts};
 ghost use Rattle.khe_told.specs.declared.slots.Slot.{Slot};
 ghost use Rattle.khe_told.specs.declared.changes.Change.{Change};
-ghost use Rattle.khe_told.specs.Changes.{after};
-ghost use Rattle.khe_told.specs.Fits.{Fits};
-ghost use Rattle.khe_told.specs.Watchers.{watcher_count};
+ghost use Rattle.khe_told.specs.Changes.{after, after_all};
+ghost use Rattle.khe_told.specs.Fits.{AllFit, Fits};
+ghost use Rattle.khe_told.specs.Watchers.{watcher_count, watcher_counts};
 
 use crate::changes::Change;
 use crate::steps::Steps;
@@ -41,6 +41,17 @@ pub trait Watcher {
         ensures noted { noted self.new ≡ option_map (λ cs. cs ++ change ∷ []) (noted self.old) }
         ensures rest { HasSameRest self.old self.new }
         ensures steps { steps.new ≤ steps.old + watcher_count inst.now (told self.old) change }
+        ensures silent { is_silent ≡ true → steps.new ≡ steps.old };
+
+    /// Follows changes that fit one after the other.
+    fn note_all<L: Ledger>(&mut self, inst: &Instance, changes: &[Change], steps: &mut Steps<L>)
+        requires of { IsOf self.old inst.now }
+        requires fit { AllFit inst.now (told self.old) changes.now }
+        ensures of { IsOf self.new inst.now }
+        ensures told { told self.new ≡ after_all (told self.old) changes.now }
+        ensures noted { noted self.new ≡ option_map (λ cs. cs ++ changes.now) (noted self.old) }
+        ensures rest { HasSameRest self.old self.new }
+        ensures steps { steps.new ≤ steps.old + watcher_counts inst.now (told self.old) changes.now }
         ensures silent { is_silent ≡ true → steps.new ≡ steps.old };
 
     ghost same_rest_refl: { (x : Self) → HasSameRest x x };

@@ -8,4 +8,5 @@ pub mod ListedLaws
 pub mod OpenLaws
 pub mod RowLaws
 pub mod SeatLaws
+pub mod TrialLaws
 pub mod ValueLaws

@@ -8,4 +8,5 @@ pub mod Listed
 pub mod Opened
 pub mod Rows
 pub mod Seating
+pub mod Trials
 pub mod Values

@@ -1,4 +1,4 @@
-ghost use Rattle.std.specs.Prelude.{◌≡◌, ◌<◌, ◌≤◌, ◌+◌, [], true, length, slice_index, slice_set, replicate, All, IfOk, IsOk, OnOk, OnErr};
+ghost use Rattle.std.specs.Prelude.{◌≡◌, ◌<◌, ◌≤◌, ◌+◌, ℕ, List, [], true, length, slice_index, slice_set, replicate, All, IfOk, IsOk, OnOk, OnErr};
 ghost use Rattle.khe_base.specs.declared.limits.TheConstants.{GREATEST_DEVIATION, MONITORS};
 ghost use Rattle.khe_instance.specs.Costs.{totals_of};
 ghost use Rattle.khe_instance.specs.declared.parts.Parts.{Parts};
@@ -7,11 +7,12 @@ ghost use Rattle.monitor_graph.specs.Edits.{is_attached};
 ghost use Rattle.monitor_graph.specs.Groups.{AreGroups, has_group, child_at, seated};
 ghost use Rattle.monitor_graph.specs.Lines.{IsLine};
 ghost use Rattle.monitor_graph.specs.Opened.{IsFresh, groups_in};
+ghost use Rattle.monitor_graph.specs.Trials.{AreTotalsWith, IsStill};
 ghost use Rattle.monitor_graph.specs.Values.{IsOf, IsNextDefect, costs_in, group_totals, only_dearer};
 
 use crate::dearer::{mark_costs, recount};
 use crate::groups::Groups;
-use crate::lines::{Line, cost_of, replace, totals_among};
+use crate::lines::{Line, cost_of, replace, shift, totals_among};
 use crate::rows::{first_set, put};
 use khe_base::bits::no_bits;
 use khe_base::{GroupId, MonitorId, NoMemory, Totals};
@@ -126,12 +127,25 @@ impl Graph {
 
     /// The hard and soft totals of all monitors.
     pub fn totals(&self) -> Totals
-        ensures { (p : Parts) → IsOf self.now p → result ≡ totals_of p (costs_in p self.now) }
+        ensures value { (p : Parts) → IsOf self.now p → result ≡ totals_of p (costs_in p self.now) }
+        ensures whole { AreTotalsWith self.now.lines (deviations_of self.now) result }
     {
         Totals {
             hard: self.hard,
             soft: self.soft,
         }
+    }
+
+    /// Changes totals that are this graph's with other deviations, where the deviation of a monitor
+    /// that is still the graph's becomes another. It takes constant time. Where the graph is of an
+    /// instance such totals are the definitions' (`totals_with`).
+    pub fn shift(&self, monitor: MonitorId, deviation: u64, totals: &mut Totals)
+        requires known { monitor.0 < length self.now.lines }
+        requires small { deviation ≤ GREATEST_DEVIATION }
+        requires before { (ds : List ℕ) × AreTotalsWith self.now.lines ds totals.old × IsStill self.now.lines ds monitor.0 }
+        ensures { (ds : List ℕ) → AreTotalsWith self.now.lines ds totals.old → IsStill self.now.lines ds monitor.0 → AreTotalsWith self.now.lines (slice_set ds monitor.0 deviation) totals.new }
+    {
+        shift(self.lines.as_slice(), monitor.0 as usize, deviation, totals);
     }
 
     /// The first defect with a number of at least this one; `None` where there is none.
@@ -207,6 +221,20 @@ impl Graph {
         ensures there { seated self.old.groups + n ≤ self.old.seats → IsOk result }
     {
         self.groups.reserve(n as usize)
+    }
+
+    /// Changes the deviation of a monitor, and what it costs, in constant time. A deviation that
+    /// stays the same, as most do, is only looked at.
+    pub fn set(&mut self, monitor: MonitorId, deviation: u64)
+        requires known { monitor.0 < length (deviations_of self.old) }
+        requires small { deviation ≤ GREATEST_DEVIATION }
+        ensures set { deviations_of self.new ≡ slice_set (deviations_of self.old) monitor.0 deviation }
+        ensures rest { HaveSameRest self.old self.new }
+    {
+        if self.lines[monitor.0 as usize].deviation == deviation {
+            return;
+        }
+        self.deviate(monitor, deviation);
     }
 
     /// Changes the deviation of a monitor, and what it costs, in constant time. It stands by itself, so

@@ -10,7 +10,6 @@ mod lines;
 mod listing;
 mod opening;
 mod rows;
-mod tally;
 
 pub use graph::Graph;
 pub use lines::Line;

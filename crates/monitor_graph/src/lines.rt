@@ -1,9 +1,10 @@
-ghost use Rattle.std.specs.Prelude.{◌≡◌, ◌<◌, ◌≤◌, ◌+◌, ◌-◌, ◌^◌, ℕ, length, slice_get, slice_index_or, slice_set, All};
+ghost use Rattle.std.specs.Prelude.{◌≡◌, ◌<◌, ◌≤◌, ◌+◌, ◌-◌, ◌*◌, ◌^◌, ℕ, List, length, slice_get, slice_index_or, slice_set, All};
 ghost use Rattle.std.specs.List.{sum_by};
 ghost use Rattle.std.specs.Option.{option_map_or};
-ghost use Rattle.khe_base.specs.declared.limits.TheConstants.{GREATEST_COST, MONITORS};
+ghost use Rattle.khe_base.specs.declared.limits.TheConstants.{GREATEST_COST, GREATEST_DEVIATION, MONITORS};
 ghost use Rattle.khe_base.specs.declared.numbers.MonitorId.{MonitorId};
 ghost use Rattle.monitor_graph.specs.Lines.{line_cost, hard_cost, soft_cost, IsLine, AreTotalled};
+ghost use Rattle.monitor_graph.specs.Trials.{AreTotalsWith, IsStill};
 
 use khe_base::{CostFn, MonitorId, Totals, cost};
 
@@ -121,6 +122,37 @@ pub(crate) fn replace(
     lines[place] = line;
     take_cost(hard, soft, &old, before);
     add_cost(hard, soft, &line, after);
+}
+
+/// Changes totals as they change where the deviation at a place becomes another.
+pub(crate) fn shift(lines: &[Line], place: usize, deviation: u64, totals: &mut Totals)
+    requires known { place < length lines.now }
+    requires each { All IsLine lines.now }
+    requires small { deviation ≤ GREATEST_DEVIATION }
+    requires before { (ds : List ℕ) × AreTotalsWith lines.now ds totals.old × IsStill lines.now ds place }
+    ensures { (ds : List ℕ) → AreTotalsWith lines.now ds totals.old → IsStill lines.now ds place → AreTotalsWith lines.now (slice_set ds place deviation) totals.new }
+{
+    let old = lines[place];
+    if old.deviation == deviation {
+        return;
+    }
+    let line = Line { deviation, ..old };
+    exchange(totals, &old, &line);
+}
+
+/// Changes totals by the costs of a line that takes the place of another.
+fn exchange(totals: &mut Totals, old: &Line, line: &Line)
+    requires old { IsLine old.now }
+    requires line { IsLine line.now }
+    requires hard { hard_cost old.now ≤ totals.old.hard }
+    requires soft { soft_cost old.now ≤ totals.old.soft }
+    requires hard_small { totals.old.hard ≤ MONITORS * GREATEST_COST }
+    requires soft_small { totals.old.soft ≤ MONITORS * GREATEST_COST }
+    ensures hard { totals.new.hard ≡ totals.old.hard - hard_cost old.now + hard_cost line.now }
+    ensures soft { totals.new.soft ≡ totals.old.soft - soft_cost old.now + soft_cost line.now }
+{
+    take_cost(&mut totals.hard, &mut totals.soft, old, cost_of(old));
+    add_cost(&mut totals.hard, &mut totals.soft, line, cost_of(line));
 }
 
 /// The costs of some monitors, added up, in time in proportion to them.

@@ -1,6 +1,6 @@
 pub mod BetweenLaws
 pub mod OwnLaws
 pub mod PairLaws
-pub mod ReportLaws
 pub mod TreeLaws
 pub mod TurnLaws
+pub mod WaitLaws

@@ -1,4 +1,4 @@
 pub mod Edges
 pub mod Pairs
-pub mod Reports
 pub mod Trees
+pub mod Waits

@@ -8,7 +8,7 @@ mod lists;
 mod order_events;
 mod pairs;
 mod posts;
-mod reports;
 mod trees;
+mod waits;
 
 pub use order_events::{OrderEdges, OrderEvents};

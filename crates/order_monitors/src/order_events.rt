@@ -8,14 +8,13 @@ use crate::edges::Edges;
 use crate::lists::lists_of;
 use crate::pairs::value;
 use crate::posts::posts_of;
-use crate::reports::report;
+use crate::waits::add_all;
 use event_monitors::{Post, changes_meets};
 use family_keepers::{Keeper, Keeping};
 use khe_base::{EventId, MonitorId, NoMemory, Seq, beside};
 use khe_instance::{EventInfo, Instance, Kind};
-use khe_told::{Change, Steps, Tally, Told};
+use khe_told::{Change, Told, Waits};
 use std::alloc::Global;
-use std::sync::ledger::Ledger;
 
 /// The family of Order Events: a monitor's deviation is how far the times from the end of its first
 /// event's meets to the start of its second's lie outside the bounds, while both have a start.
@@ -65,14 +64,7 @@ impl Keeper for OrderEdges {
         kind == Kind::OrderEvents
     }
 
-    fn follow<Y: Tally, L: Ledger>(
-        &mut self,
-        inst: &Instance,
-        told: &Told,
-        change: Change,
-        tally: &mut Y,
-        steps: &mut Steps<L>,
-    ) {
+    fn turn<W: Waits>(&mut self, inst: &Instance, told: &Told, change: Change, waits: &mut W) {
         inst.facts();
         if !changes_meets(change) {
             return;
@@ -83,9 +75,8 @@ impl Keeper for OrderEdges {
             return;
         }
         turn(inst, told, change, event, &mut self.edges[event.0 as usize]);
-        let edges = self.edges.as_slice();
         let posts = self.posts.as_slice();
-        report(inst, edges, posts, event, list, tally, steps);
+        add_all(inst, posts, event, list, waits);
     }
 
     fn deviation(&self, inst: &Instance, monitor: MonitorId) -> u64 {

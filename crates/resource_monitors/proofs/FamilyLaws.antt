@@ -17,10 +17,10 @@ use Rattle.khe_instance.specs.declared.points.Point.{Point}
 use Rattle.khe_instance.specs.declared.points.Point.TheVariants.{Resource}
 use Rattle.khe_instance.specs.declared.rules.Constraint.{Constraint}
 use Rattle.khe_instance.specs.declared.rules.Kind.{Kind}
-use Rattle.khe_told.specs.Agreement.{Agrees}
 use Rattle.khe_told.specs.Changes.{meet_of}
 use Rattle.khe_told.specs.Lists.{duties_in}
 use Rattle.khe_told.specs.Slots.{slot_at}
+use Rattle.khe_told.specs.Waits.{AreUnmoved}
 use Rattle.khe_told.specs.Watchers.{served_watchers, watch_count, watches_with, touched_resources, touched_times}
 use Rattle.khe_told.specs.declared.changes.Change.{Change}
 use Rattle.khe_told.specs.declared.changes.Change.TheVariants.{Add, Drop, Place as PlaceAt, Lift, Give, Take}
@@ -29,7 +29,7 @@ use Rattle.khe_told.specs.declared.slots.Span.{Span}
 use Rattle.timetables.specs.Counts.{count_at}
 use Rattle.resource_monitors.specs.Cells.{is_at_cells, is_by_busy, value_in, lists, lists_any, in_run, given_to}
 use Rattle.resource_monitors.specs.Cells.{differs_at, is_due, is_low, limit_for}
-use Rattle.resource_monitors.specs.Posts.{AreAllReported, is_served_at, due_all, due_for}
+use Rattle.resource_monitors.specs.Posts.{AreAllAdded, is_served_at, due_all, due_for}
 use Rattle.resource_monitors.specs.Runs.{Turned, run_of, given_by}
 use Rattle.resource_monitors.specs.declared.runs.Run.{Run}
 use Rattle.resource_monitors.proofs.MeasureLaws.{at_resource, value_busy, value_is, value_same}
@@ -88,19 +88,20 @@ none_in_run f start end t none e = by (f t) refl
         absurd (true≢false (sym (list_any_at f (range_with_len start (end - start)) (t - start) 0
         (let z = length-range_with_len start (end - start) in omega (arith, z, i)) (ap f value ∙ h)) ∙ none))
 
--- what agreed agrees
-pub agrees_after : (p : Parts) (served : Kind → Bool) (made : AreWellMade p)
+-- a monitor that does not wait has the same deviation
+pub unmoved_after : (p : Parts) (served : Kind → Bool) (made : AreWellMade p)
     (cells : (k : Kind) → served k ≡ true → is_at_cells k ≡ true) (s s2 : List Slot) (old new : List (List ℕ))
-    (given : List (Option ResourceId)) (b : Bool) (start end : ℕ) (ds0 ds : List ℕ)
+    (given : List (Option ResourceId)) (b : Bool) (start end : ℕ) (old_waits waits : ℕ → Bool)
     → ((r t : ℕ) → count_at old r t ≡ running_tasks (duties_in s) r t)
     → ((r t : ℕ) → count_at new r t ≡ running_tasks (duties_in s2) r t)
     → Turned b given start end (count_at old) (count_at new)
-    → AreAllReported p served (value_in p new) (is_due p new start end (limit_for b (length given))) given
-    (length given) ds0 ds
-    → Agrees p served s ds0 → Agrees p served s2 ds
-agrees_after p served made cells s s2 old new given b start end ds0 ds before now turned all agrees i m there serves =
-    by (given_or_not given at.0) (lists_any p start end m) refl (differs_at m.kind new start end limit m.point) refl
-    ∙ ap Some (sym (value_is p s2 new m is kind now))
+    → AreAllAdded p served (is_due p new start end (limit_for b (length given))) given (length given) old_waits waits
+    → AreUnmoved p served waits s s2
+unmoved_after p served made cells s s2 old new given b start end old_waits waits before now turned all i m there serves
+    idle =
+    value_is p s2 new m is kind now
+    ∙ by (given_or_not given at.0) (lists_any p start end m) refl (differs_at m.kind new start end limit m.point) refl
+    ∙ sym (value_is p s old m is kind before)
   where
     is : IsMonitor p m
     is = monitor_made p made i m there
@@ -114,14 +115,10 @@ agrees_after p served made cells s s2 old new given b start end ds0 ds before no
     limit : ℕ
     limit = limit_for b (length given)
 
-    still : value_in p new m ≡ value_in p old m → slice_get ds i ≡ Some (value_in p new m)
-    still e = all.kept i m there (agrees i m there serves ∙ ap Some (value_is p s old m is kind before)
-        ∙ ap Some (sym e))
-
     kept : ((t : ℕ) → lists p m t ≡ true → cond (in_run start end t) (given_to at.0.0 given) 0 ≡ 0)
-        → slice_get ds i ≡ Some (value_in p new m)
-    kept h = still (value_same p old new m at.0 is kind at.1
-        (λ t e. turned_same b given start end (count_at old) (count_at new) turned at.0.0 t (h t e)))
+        → value_in p new m ≡ value_in p old m
+    kept h = value_same p old new m at.0 is kind at.1
+        (λ t e. turned_same b given start end (count_at old) (count_at new) turned at.0.0 t (h t e))
 
     busy : differs_at m.kind new start end limit m.point ≡ false → value_in p new m ≡ value_in p old m
     busy e =
@@ -147,24 +144,22 @@ agrees_after p served made cells s s2 old new given b start end ds0 ds before no
         by true e = absurd (true≢false (sym h ∙ none_in_run (λ x. lists p m x) start end t l e))
 
     by : IsGiven given at.0 ⊎ (given_to at.0.0 given ≡ 0) → (c : Bool) → lists_any p start end m ≡ c → (d : Bool)
-        → differs_at m.kind new start end limit m.point ≡ d → slice_get ds i ≡ Some (value_in p new m)
-    by (inl g) true e true f = all.each i m at.0 g.0 g.1 g.2 there serves at.1
-        (and_from (lists_any p start end m) (differs_at m.kind new start end limit m.point) e f)
-    by (inl g) true e false f = still (busy f)
+        → differs_at m.kind new start end limit m.point ≡ d → value_in p new m ≡ value_in p old m
+    by (inl g) true e true f = absurd (true≢false (sym (all.each i m at.0 g.0 g.1 g.2 there serves at.1
+        (and_from (lists_any p start end m) (differs_at m.kind new start end limit m.point) e f)) ∙ idle))
+    by (inl g) true e false f = busy f
     by (inl g) false e d f = kept (λ t h. ap (λ c. cond {A = ℕ} c (given_to at.0.0 given) 0) (outside e t h))
     by (inr z) c e d f = kept (λ t h. none (in_run start end t) (given_to at.0.0 given) z)
 
 -- where no count turned
-pub agrees_same : (p : Parts) (served : Kind → Bool) (made : AreWellMade p)
+pub unmoved_same : (p : Parts) (served : Kind → Bool) (made : AreWellMade p)
     (cells : (k : Kind) → served k ≡ true → is_at_cells k ≡ true) (s s2 : List Slot) (rows : List (List ℕ))
-    (ds : List ℕ)
+    (waits : ℕ → Bool)
     → ((r t : ℕ) → count_at rows r t ≡ running_tasks (duties_in s) r t)
-    → ((r t : ℕ) → count_at rows r t ≡ running_tasks (duties_in s2) r t) → Agrees p served s ds
-    → Agrees p served s2 ds
-agrees_same p served made cells s s2 rows ds before now agrees i m there serves =
+    → ((r t : ℕ) → count_at rows r t ≡ running_tasks (duties_in s2) r t) → AreUnmoved p served waits s s2
+unmoved_same p served made cells s s2 rows waits before now i m there serves idle =
     let is = monitor_made p made i m there in
-    agrees i m there serves ∙ ap Some (value_is p s rows m is (cells m.kind serves) before)
-    ∙ ap Some (sym (value_is p s2 rows m is (cells m.kind serves) now))
+    value_is p s2 rows m is (cells m.kind serves) now ∙ sym (value_is p s rows m is (cells m.kind serves) before)
 
 -- sums
 sum_both : {X : Type 0} (f g h : X → ℕ) → ((x : X) → h x ≡ f x + g x) → (xs : List X)

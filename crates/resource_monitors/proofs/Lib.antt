@@ -8,7 +8,7 @@ pub mod MeasureLaws
 pub mod OpenLaws
 pub mod PlaceLaws
 pub mod PostLaws
-pub mod ReportLaws
+pub mod WaitLaws
 pub mod RunLaws
 pub mod SmallLaws
 pub mod StateLaws

@@ -10,8 +10,8 @@ use Rattle.khe_instance.specs.declared.points.Monitor.{Monitor}
 use Rattle.khe_instance.specs.declared.points.Point.{Point}
 use Rattle.khe_instance.specs.declared.points.Point.TheVariants.{Resource}
 use Rattle.khe_instance.specs.declared.rules.Kind.{Kind}
-use Rattle.resource_monitors.specs.Cells.{is_at_cells, differs_at, is_due, is_due_if, is_low, lists_any, may_differ}
-use Rattle.resource_monitors.specs.Posts.{AreLists, ArePosts, AreReported, due, due_for, is_served_at, list_for}
+use Rattle.resource_monitors.specs.Cells.{differs_at, is_due, is_due_if, is_low, lists_any, may_differ}
+use Rattle.resource_monitors.specs.Posts.{AreLists, ArePosts, AreAdded, due, due_for, is_served_at, list_for}
 use Rattle.resource_monitors.specs.Posts.{posts_of}
 use Rattle.resource_monitors.specs.declared.posts.Post.{Post}
 use Rattle.resource_monitors.proofs.PostLaws.{posts_each}
@@ -28,42 +28,32 @@ pub are_posts : (p : Parts) (served : Kind → Bool) (k : ℕ) (list : List Post
 are_posts p served k list is i a h = (posts_each (is_served_at served k) p.monitors 0 p.monitors
     (λ n. ap (slice_get p.monitors) (zero-add n)) i a (ap (λ xs. slice_get xs i) (sym is) ∙ h)).0
 
-pub are_at_cells : (p : Parts) (served : Kind → Bool) → ((k : Kind) → served k ≡ true → is_at_cells k ≡ true)
-    → (k : ℕ) (list : List Post) → list ≡ posts_of served p.monitors k → (i : ℕ) (a : Post) → slice_get list i ≡ Some a
-    → is_at_cells a.monitor.kind ≡ true
-are_at_cells p served cells k list is i a h =
-    let f = posts_each (is_served_at served k) p.monitors 0 p.monitors (λ n. ap (slice_get p.monitors) (zero-add n)) i a
-    (ap (λ xs. slice_get xs i) (sym is) ∙ h) in
-    cells a.monitor.kind (and_parts (served a.monitor.kind) (is_at a.monitor.point k) f.1).0
-
 -- what a place's list is
-pub reported_for : (p : Parts) (value : Monitor → ℕ) (test : Monitor → Bool) (served : Kind → Bool)
-    (place : Option ResourceId) (r : ResourceId) (list : List Post) (old new : List ℕ)
-    → place ≡ Some r → list ≡ posts_of served p.monitors r.0 → AreReported p value test list (length list) old new
-    → AreReported p value test (list_for served p.monitors place) (length (list_for served p.monitors place)) old new
-reported_for p value test served place r list old new at is u =
-    subst (λ (xs : List Post). AreReported p value test xs (length xs) old new)
-    (is ∙ sym (ap (list_for served p.monitors) at)) u
+pub added_for : (ms : List Monitor) (test : Monitor → Bool) (served : Kind → Bool) (place : Option ResourceId)
+    (r : ResourceId) (list : List Post) (old new : ℕ → Bool) → place ≡ Some r → list ≡ posts_of served ms r.0
+    → AreAdded test list (length list) old new
+    → AreAdded test (list_for served ms place) (length (list_for served ms place)) old new
+added_for ms test served place r list old new at is u =
+    subst (λ (xs : List Post). AreAdded test xs (length xs) old new) (is ∙ sym (ap (list_for served ms) at)) u
 
 pub due_for_is : (p : Parts) (test : Monitor → Bool) (served : Kind → Bool) (place : Option ResourceId) (r : ResourceId)
     (list : List Post) → place ≡ Some r → list ≡ posts_of served p.monitors r.0
     → due_for served p.monitors test place ≡ due test list
 due_for_is p test served place r list at is = ap (due_for served p.monitors test) at ∙ sym (ap (due test) is)
 
-pub reported_none : (p : Parts) (value : Monitor → ℕ) (test : Monitor → Bool) (served : Kind → Bool)
-    (place : Option ResourceId) (old : List ℕ) → place ≡ None
-    → AreReported p value test (list_for served p.monitors place) (length (list_for served p.monitors place)) old old
-reported_none p value test served place old at =
-    subst (λ (xs : List Post). AreReported p value test xs (length xs) old old)
-    (sym (ap (list_for served p.monitors) at))
-    (record { amount = refl; each = λ j a l h t. absurd (omega (arith, l)); kept = λ i m g o. o; others = λ i n. refl })
+pub added_none : (ms : List Monitor) (test : Monitor → Bool) (served : Kind → Bool) (place : Option ResourceId)
+    (old : ℕ → Bool) → place ≡ None
+    → AreAdded test (list_for served ms place) (length (list_for served ms place)) old old
+added_none ms test served place old at =
+    subst (λ (xs : List Post). AreAdded test xs (length xs) old old) (sym (ap (list_for served ms) at))
+    (record { each = λ j a l h t. absurd (omega (arith, l)); kept = λ i e. e; others = λ i n. refl })
 
 -- fewer of them
-pub reported_fewer : (p : Parts) (value : Monitor → ℕ) (test few : Monitor → Bool) (list : List Post) (k : ℕ)
-    (old new : List ℕ) → ((j : ℕ) (a : Post) → slice_get list j ≡ Some a → few a.monitor ≡ true → test a.monitor ≡ true)
-    → AreReported p value test list k old new → AreReported p value few list k old new
-reported_fewer p value test few list k old new less u =
-    record { amount = u.amount; each = λ j a l h t. u.each j a l h (less j a h t); kept = u.kept; others = u.others }
+pub added_fewer : (test few : Monitor → Bool) (list : List Post) (k : ℕ) (old new : ℕ → Bool)
+    → ((j : ℕ) (a : Post) → slice_get list j ≡ Some a → few a.monitor ≡ true → test a.monitor ≡ true)
+    → AreAdded test list k old new → AreAdded few list k old new
+added_fewer test few list k old new less u =
+    record { each = λ j a l h t. u.each j a l h (less j a h t); kept = u.kept; others = u.others }
 
 -- at one resource it is known whether one of the counts is low
 pub due_at : (p : Parts) (served : Kind → Bool) (rows : List (List ℕ)) (start end limit : ℕ) (r : ResourceId)

@@ -9,7 +9,7 @@ use Rattle.khe_instance.specs.declared.parts.Parts.{Parts}
 use Rattle.khe_instance.specs.declared.points.Monitor.{Monitor}
 use Rattle.khe_instance.specs.declared.points.Point.TheVariants.{Resource}
 use Rattle.khe_instance.specs.declared.rules.Kind.{Kind}
-use Rattle.khe_told.specs.Agreement.{KeepsOthers}
+use Rattle.khe_told.specs.Waits.{WaitAsBefore, WaitOn}
 use Rattle.resource_monitors.specs.declared.posts.Post.{Post}
 
 -- a monitor with its number
@@ -42,28 +42,20 @@ list_for served monitors place = option_map_or (λ r. posts_of served monitors r
 abbrev pub ArePosts : Parts → List Post → Type 0
 ArePosts p list = (k : ℕ) (a : Post) → slice_get list k ≡ Some a → slice_get p.monitors a.number.0 ≡ Some a.monitor
 
--- the first posts of a list that pass a test have their values, what was right is still right, and
--- all other numbers are as they were
-pub record AreReported (p : Parts) (value : Monitor → ℕ) (test : Monitor → Bool) (list : List Post) (k : ℕ)
-    (old new : List ℕ) : Type 0 where
-  pub amount : length new ≡ length old
-  pub each : (j : ℕ) (a : Post) → j < k → slice_get list j ≡ Some a → test a.monitor ≡ true
-      → slice_get new a.number.0 ≡ Some (value a.monitor)
-  pub kept : (i : ℕ) (m : Monitor) → slice_get p.monitors i ≡ Some m → slice_get old i ≡ Some (value m)
-      → slice_get new i ≡ Some (value m)
-  pub others : (i : ℕ) → ((j : ℕ) (a : Post) → slice_get list j ≡ Some a → a.number.0 ≡ i → ⊥)
-      → slice_get new i ≡ slice_get old i
+-- the first posts of a list that pass a test wait, those that waited wait on, and nobody else comes
+pub record AreAdded (test : Monitor → Bool) (list : List Post) (k : ℕ) (old new : ℕ → Bool) : Type 0 where
+  pub each : (j : ℕ) (a : Post) → j < k → slice_get list j ≡ Some a → test a.monitor ≡ true → new a.number.0 ≡ true
+  pub kept : WaitOn old new
+  pub others : (i : ℕ) → ((j : ℕ) (a : Post) → slice_get list j ≡ Some a → a.number.0 ≡ i → ⊥) → new i ≡ old i
 
--- so have all that are at what the first places are given
-pub record AreAllReported (p : Parts) (served : Kind → Bool) (value : Monitor → ℕ) (test : Monitor → Bool)
-    (given : List (Option ResourceId)) (k : ℕ) (old new : List ℕ) : Type 0 where
-  pub amount : length new ≡ length old
+-- so do all that are at what the first places are given
+pub record AreAllAdded (p : Parts) (served : Kind → Bool) (test : Monitor → Bool) (given : List (Option ResourceId))
+    (k : ℕ) (old new : ℕ → Bool) : Type 0 where
   pub each : (i : ℕ) (m : Monitor) (q : ResourceId) (j : ℕ) → j < k → slice_get given j ≡ Some (Some q)
       → slice_get p.monitors i ≡ Some m → served m.kind ≡ true → m.point ≡ Resource q → test m ≡ true
-      → slice_get new i ≡ Some (value m)
-  pub kept : (i : ℕ) (m : Monitor) → slice_get p.monitors i ≡ Some m → slice_get old i ≡ Some (value m)
-      → slice_get new i ≡ Some (value m)
-  pub others : KeepsOthers p served old new
+      → new i ≡ true
+  pub kept : WaitOn old new
+  pub others : WaitAsBefore p served old new
 
 -- how many posts pass a test, and those of what a place is given
 abbrev pub due : (Monitor → Bool) → List Post → ℕ

@@ -1,9 +1,9 @@
-ghost use Rattle.std.specs.Prelude.{◌≡◌, ◌≤◌, ◌+◌, ℕ, length};
+ghost use Rattle.std.specs.Prelude.{◌≡◌, ◌≤◌, ◌+◌, ℕ, true, length};
 ghost use Rattle.khe_instance.specs.Running.{running_tasks};
-ghost use Rattle.khe_told.specs.Agreement.{Agrees, KeepsOthers};
 ghost use Rattle.khe_told.specs.Changes.{after};
 ghost use Rattle.khe_told.specs.Fits.{AreTold, Fits};
 ghost use Rattle.khe_told.specs.Lists.{duties_in};
+ghost use Rattle.khe_told.specs.Waits.{AreUnmoved, WaitAsBefore, WaitOn};
 ghost use Rattle.khe_told.specs.Watchers.{served_watchers};
 ghost use Rattle.timetables.specs.Counts.{count_at};
 ghost use Rattle.resource_monitors.specs.Cells.{HasRows};
@@ -12,27 +12,25 @@ ghost use Rattle.resource_monitors.specs.Sets.{room_for};
 
 use crate::kinds::CellKinds;
 use crate::posts::{Post, lists_of};
-use crate::reports::report_all;
 use crate::rooms::TimeSets;
 use crate::runs::{given_by, limit_for, named_by, run_of};
 use crate::tables::CellTable;
 use crate::turns::turn_all;
 use crate::values::value;
+use crate::waits::add_all;
 use family_keepers::Keeper;
 use khe_base::{MonitorId, NoMemory, Seq};
 use khe_instance::{Instance, Kind};
-use khe_told::{Change, Steps, Tally, Told};
+use khe_told::{Change, Told, Waits};
 use std::alloc::Global;
 use std::marker::PhantomData;
-use std::sync::ledger::Ledger;
 
 /// A keeper of kinds that are measured by how many tasks of a resource run at each time.
 ///
 /// It keeps a timetable, the masks of the constraints' sets of times and for each resource the
-/// monitors at it. A change turns the counts of the cells that it fills or empties, and then
-/// measures the monitors at their resources that list one of the times, each once for each place.
-/// Monitors that are measured by busy times alone are passed over where no resource may have become
-/// busy or free.
+/// monitors at it. A change turns the counts of the cells that it fills or empties, and then the
+/// monitors at their resources wait that list one of the times. Monitors that are measured by busy
+/// times alone are passed over where no resource may have become busy or free.
 #[derive(Drop)]
 pub struct Cells<K> {
     table: CellTable,
@@ -41,17 +39,17 @@ pub struct Cells<K> {
     kinds: PhantomData<K>,
 }
 
-/// Turns the counts by a change, and reports the monitors that list one of its times. What was told
-/// is the state before the change.
-fn turn_and_report<K: CellKinds, Y: Tally, L: Ledger>(
+/// Turns the counts by a change, and lets the monitors wait that list one of its times. What was told is the
+/// state before the change. It takes time in proportion to the places times the run, and for each monitor at
+/// what a place is given time in proportion to the run at most.
+fn turn_cells<K: CellKinds, W: Waits>(
     inst: &Instance,
     told: &Told,
     change: Change,
     sets: &TimeSets,
     lists: &[Seq<Post>],
     table: &mut CellTable,
-    tally: &mut Y,
-    steps: &mut Steps<L>,
+    waits: &mut W,
 )
     requires told { AreTold inst.now told.now }
     requires fits { Fits inst.now told.now change }
@@ -59,14 +57,14 @@ fn turn_and_report<K: CellKinds, Y: Tally, L: Ledger>(
     requires lists { AreLists K.serves_kind (length inst.now.resources) inst.now.monitors lists.now }
     requires rows { HasRows inst.now table.old }
     requires counts { (r t : ℕ) → count_at table.old r t ≡ running_tasks (duties_in told.now) r t }
-    requires monitors { length (Y.deviations tally.old) ≡ length inst.now.monitors }
+    requires monitors { W.monitors waits.old ≡ length inst.now.monitors }
     ensures rows { HasRows inst.now table.new }
     ensures counts { (r t : ℕ) → count_at table.new r t ≡ running_tasks (duties_in (after told.now change)) r t }
-    ensures monitors { length (Y.deviations tally.new) ≡ length (Y.deviations tally.old) }
-    ensures served { Agrees inst.now K.serves_kind told.now (Y.deviations tally.old) → Agrees inst.now K.serves_kind (after told.now change) (Y.deviations tally.new) }
-    ensures others { KeepsOthers inst.now K.serves_kind (Y.deviations tally.old) (Y.deviations tally.new) }
-    ensures rest { Y.HasSameRest tally.old tally.new }
-    ensures steps { steps.new ≤ steps.old + served_watchers inst.now K.serves_kind told.now change }
+    ensures monitors { W.monitors waits.new ≡ W.monitors waits.old }
+    ensures unmoved { W.hears ≡ true → AreUnmoved inst.now K.serves_kind (W.waits waits.new) told.now (after told.now change) }
+    ensures kept { WaitOn (W.waits waits.old) (W.waits waits.new) }
+    ensures others { WaitAsBefore inst.now K.serves_kind (W.waits waits.old) (W.waits waits.new) }
+    ensures amount { W.amount waits.new ≤ W.amount waits.old + served_watchers inst.now K.serves_kind told.now change }
 {
     inst.facts();
     let one = [named_by(change)];
@@ -75,18 +73,19 @@ fn turn_and_report<K: CellKinds, Y: Tally, L: Ledger>(
         return;
     };
     turn_all(table, given, run);
-    report_all::<K, Y, L>(
-        inst,
-        sets,
-        table,
-        run.start,
-        run.end,
-        limit_for(run, given),
-        given,
-        lists,
-        tally,
-        steps,
-    );
+    if W::hears() {
+        add_all::<K, W>(
+            inst,
+            sets,
+            table,
+            run.start,
+            run.end,
+            limit_for(run, given),
+            given,
+            lists,
+            waits,
+        );
+    }
 }
 
 impl<K: CellKinds> Keeper for Cells<K> {
@@ -116,24 +115,16 @@ impl<K: CellKinds> Keeper for Cells<K> {
         K::serves(kind)
     }
 
-    fn follow<Y: Tally, L: Ledger>(
-        &mut self,
-        inst: &Instance,
-        told: &Told,
-        change: Change,
-        tally: &mut Y,
-        steps: &mut Steps<L>,
-    ) {
+    fn turn<W: Waits>(&mut self, inst: &Instance, told: &Told, change: Change, waits: &mut W) {
         let lists = self.lists.as_slice();
-        turn_and_report::<K, Y, L>(
+        turn_cells::<K, W>(
             inst,
             told,
             change,
             &self.sets,
             lists,
             &mut self.table,
-            tally,
-            steps,
+            waits,
         );
     }
 

@@ -7,12 +7,12 @@ mod kinds;
 mod masks;
 mod measures;
 mod posts;
-mod reports;
 mod rooms;
 mod runs;
 mod tables;
 mod turns;
 mod values;
+mod waits;
 
 pub use cells::Cells;
 pub use kinds::{

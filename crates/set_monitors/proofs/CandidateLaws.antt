@@ -11,7 +11,7 @@ use Rattle.khe_instance.specs.declared.parts.ResourceInfo.{ResourceInfo}
 use Rattle.khe_instance.specs.declared.points.Monitor.{Monitor}
 use Rattle.khe_instance.specs.declared.rules.Rule.{Rule}
 use Rattle.event_monitors.specs.Posts.{names}
-use Rattle.event_monitors.specs.Reports.{has}
+use Rattle.event_monitors.specs.Turns.{has}
 use Rattle.set_monitors.specs.AvoidSplitAssignments.{AreCandidates, CanHold, IsListed, wants}
 use Rattle.set_monitors.specs.Candidates.{AreTyped, HasTypes, HasTypesOf}
 

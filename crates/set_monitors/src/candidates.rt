@@ -4,7 +4,7 @@ ghost use Rattle.khe_instance.specs.KindLaws.{is_kind};
 ghost use Rattle.khe_instance.specs.WellMade.{IsMonitor};
 ghost use Rattle.khe_instance.specs.declared.rules.Kind.TheVariants as kind;
 ghost use Rattle.event_monitors.specs.Posts.{names};
-ghost use Rattle.event_monitors.specs.Reports.{has};
+ghost use Rattle.event_monitors.specs.Turns.{has};
 ghost use Rattle.set_monitors.specs.AvoidSplitAssignments.{AreCandidates, in_role, wants};
 ghost use Rattle.set_monitors.specs.Candidates.{AreTyped, HasTypes, HasTypesOf};
 

@@ -2,6 +2,8 @@
 
 ghost use Rattle.std.specs.Prelude.{◌≡◌, true, IfOk};
 ghost use Rattle.khe_instance.specs.States.{IsValid};
+ghost use Rattle.khe_told.specs.Changes.{after};
+ghost use Rattle.khe_told.specs.Fits.{Fits};
 ghost use Rattle.khe_solution.specs.Backs.{LeadsBack};
 ghost use Rattle.khe_solution.specs.Refusing.{is_of_meets};
 
@@ -21,6 +23,17 @@ struct Listener {
     list: Vec<Change>,
 }
 
+impl Listener {
+    /// Follows one change, and keeps it.
+    fn hear(&mut self, inst: &Instance, change: Change)
+        requires { Fits inst.now self.old.told change }
+        ensures { self.new.told ≡ after self.old.told change }
+    {
+        self.told.note(inst, change);
+        let _ = self.list.push(change);
+    }
+}
+
 impl Watcher for Listener {
     ghost use Rattle.std.specs.Prelude.{true, None};
 
@@ -36,8 +49,14 @@ impl Watcher for Listener {
 
     fn note<L: Ledger>(&mut self, inst: &Instance, change: Change, steps: &mut Steps<L>) {
         let _ = steps;
-        self.told.note(inst, change);
-        let _ = self.list.push(change);
+        self.hear(inst, change);
+    }
+
+    fn note_all<L: Ledger>(&mut self, inst: &Instance, changes: &[Change], steps: &mut Steps<L>) {
+        let _ = steps;
+        for change in changes {
+            self.hear(inst, *change);
+        }
     }
 
     ghost same_rest_refl = { λ x. tt };

@@ -1,9 +1,9 @@
 -- What a change does to the workloads that are kept and to the monitors on them.
 use Rattle.std.proofs.Common.{ℕ, ◌≡◌, ◌≤◌, ◌<◌, ◌+◌, ◌-◌, ◌*◌, ◌^◌, ◌∙◌, ◌&&◌, ◌⊎◌, inl, inr, zero, suc, Bool, true}
 use Rattle.std.proofs.Common.{false, cond, Some, None, List, [], ◌∷◌, set, replicate, length, get_or, slice_get}
-use Rattle.std.proofs.Common.{slice_index, refl, sym, ap, subst, arith, sum_by, count_by, All, zero-add}
+use Rattle.std.proofs.Common.{slice_index, refl, sym, ap, subst, arith, sum_by, count_by, All}
 use Rattle.std.specs.Option.{option_map_or}
-use Rattle.std.proofs.lemmas.Bool.{and_parts, cases_eq, eq-eqb, ne_eqb, true≢false}
+use Rattle.std.proofs.lemmas.Bool.{cases_eq, eq-eqb, ne_eqb, true≢false}
 use Rattle.std.proofs.lemmas.List.{length-replicate, length-set}
 use Rattle.std.proofs.lemmas.List.Elements.{All-get_or, All-head, All-tail}
 use Rattle.std.proofs.lemmas.List.Sums.{sum_by-cons}
@@ -20,21 +20,23 @@ use Rattle.khe_instance.specs.declared.rules.Constraint.{Constraint}
 use Rattle.khe_instance.specs.declared.rules.Rule.{Rule}
 use Rattle.khe_instance.specs.declared.rules.Rule.TheVariants.{LimitWorkload}
 use Rattle.khe_instance.specs.declared.states.Duty.{Duty}
-use Rattle.khe_told.specs.Agreement.{Agrees, KeepsOthers}
 use Rattle.khe_told.specs.Changes.{after, meet_of}
 use Rattle.khe_told.specs.Fits.{AreTold, Fits, IsSlot}
 use Rattle.khe_told.specs.Lists.{duties_in}
 use Rattle.khe_told.specs.Slots.{IsBareIfFree, no_meets, no_slot, slot_at}
+use Rattle.khe_told.specs.Waits.{AreUnmoved, WaitAsBefore}
 use Rattle.khe_told.specs.Watchers.{loaded_resources, served_watchers, touched_resources, touched_times, watch_count}
 use Rattle.khe_told.specs.Watchers.{watches_with}
 use Rattle.khe_told.specs.declared.changes.Change.{Change}
 use Rattle.khe_told.specs.declared.changes.Change.TheVariants.{Add, Drop, Place as PlaceAt, Lift, Give, Take}
 use Rattle.khe_told.specs.declared.slots.Slot.{Slot}
 use Rattle.khe_told.proofs.FrameLaws.{IsFrame, frames}
-use Rattle.resource_monitors.specs.Posts.{AreLists, AreReported, is_served_at, post, posts_of}
+use Rattle.resource_monitors.specs.Posts.{AreAdded, AreLists, is_served_at, post, posts_of}
 use Rattle.resource_monitors.specs.declared.posts.Post.{Post}
-use Rattle.resource_monitors.proofs.PostLaws.{posts_all, posts_each, posts_sum}
+use Rattle.resource_monitors.proofs.PlaceLaws.{are_posts, list_at}
+use Rattle.resource_monitors.proofs.PostLaws.{posts_sum}
 use Rattle.resource_monitors.proofs.StateLaws.{given_of, no_duties, told_opened}
+use Rattle.resource_monitors.proofs.WaitLaws.{own_post, posted}
 use Rattle.workload_monitors.specs.Loads.{AreKept, HasLoads, is_on_workload, named_by, value_in, worth_in}
 use Rattle.workload_monitors.proofs.BoundLaws.{load_small}
 use Rattle.workload_monitors.proofs.LoadLaws.{gained, loads_turned, lost, lowered, raised}
@@ -214,20 +216,29 @@ module _ (p : Parts) (made : AreWellMade p) (s : List Slot) (told : AreTold p s)
   elsewhere (PlaceAt m t) r e f q n = absurd (none-some r e)
   elsewhere (Lift m t) r e f q n = absurd (none-some r e)
 
-  pub agrees_kept : (c : Change) (loads : List ℕ) → HasLoads p s loads → HasLoads p (after s c) loads → (ds : List ℕ)
-      → Agrees p is_on_workload s ds → Agrees p is_on_workload (after s c) ds
-  agrees_kept c loads before now ds agrees i m there serves =
+  -- the list of the resource that a change names
+  pub list_then : (c : Change) → Fits p s c → (r : ResourceId) → named_by c ≡ Some r → (lists : List (List Post))
+      (item list : List Post) → AreLists is_on_workload (length p.resources) p.monitors lists
+      → item ≡ get_or lists r.0 item → list ≡ item → list ≡ posts_of is_on_workload p.monitors r.0
+  list_then c f r e lists item list all is same = list_at is_on_workload (length p.resources) p.monitors lists r.0 item
+      list all (known c f r e) is same
+
+  -- where no workload turned
+  pub unmoved_kept : (c : Change) (loads : List ℕ) → HasLoads p s loads → HasLoads p (after s c) loads
+      → (waits : ℕ → Bool) → AreUnmoved p is_on_workload waits s (after s c)
+  unmoved_kept c loads before now waits i m there serves idle =
       let is = monitor_made p made i m there in
-      agrees i m there serves ∙ ap Some (value_is p s loads m is serves before)
-      ∙ ap Some (sym (value_is p (after s c) loads m is serves now))
+      value_is p (after s c) loads m is serves now ∙ sym (value_is p s loads m is serves before)
 
   module _ (c : Change) (fits : Fits p s c) (r : ResourceId) (named : named_by c ≡ Some r) (list : List Post)
       (is_list : list ≡ posts_of is_on_workload p.monitors r.0) where
-    pub agrees_then : (old new : List ℕ) → HasLoads p s old → HasLoads p (after s c) new → (ds0 ds : List ℕ)
-        → AreReported p (value_in p new) (λ m. true) list (length list) ds0 ds → Agrees p is_on_workload s ds0
-        → Agrees p is_on_workload (after s c) ds
-    agrees_then old new before now ds0 ds reported agrees i m there serves =
-        by (cases_eq r.0 on.resource.0) ∙ ap Some (sym (value_is p (after s c) new m is serves now))
+    -- a monitor that does not wait has the same deviation
+    pub unmoved_then : (old new : List ℕ) → HasLoads p s old → HasLoads p (after s c) new → (hears : Bool)
+        → (old_waits waits : ℕ → Bool) → AreAdded (λ m. hears) list (length list) old_waits waits → hears ≡ true
+        → AreUnmoved p is_on_workload waits s (after s c)
+    unmoved_then old new before now hears old_waits waits added heard i m there serves idle =
+        value_is p (after s c) new m is serves now ∙ by (cases_eq on.resource.0 r.0)
+        ∙ sym (value_is p s old m is serves before)
       where
         is : IsMonitor p m
         is = monitor_made p made i m there
@@ -235,31 +246,25 @@ module _ (p : Parts) (made : AreWellMade p) (s : List Slot) (told : AreTold p s)
         on : IsOnWorkload p m
         on = on_workload p m is serves
 
-        by : (r.0 ≡ on.resource.0) ⊎ (r.0 ≡ on.resource.0 → ⊥) → slice_get ds i ≡ Some (value_in p new m)
+        by : (on.resource.0 ≡ r.0) ⊎ (on.resource.0 ≡ r.0 → ⊥) → value_in p new m ≡ value_in p old m
         by (inl e) =
-            let served : is_served_at is_on_workload r.0 m ≡ true =
-            ap (λ b. b && is_at m.point r.0) serves ∙ ap (λ x. is_at x r.0) on.point
-            ∙ eq-eqb on.resource.0 r.0 (sym e) in
-            let f = posts_all (is_served_at is_on_workload r.0) 0 p.monitors i m there served in
-            let g : slice_get list f.0 ≡ Some (post i m) =
-            ap (λ xs. slice_get xs f.0) is_list ∙ f.1 ∙ ap (λ n. Some (post n m)) (zero-add i) in
-            reported.each f.0 (post i m) (slice_get_within list f.0 (post i m) g) g refl
-        by (inr n) = reported.kept i m there
-            (agrees i m there serves ∙ ap Some (value_is p s old m is serves before)
-            ∙ ap Some (sym (value_same p old new m on.resource is on.point
-            (now.each on.resource.0 ∙ elsewhere c r named fits on.resource.0 n ∙ sym (before.each on.resource.0)))))
+            let f = posted p is_on_workload r.0 on.resource i m there serves on.point e in
+            let g : slice_get list f.0 ≡ Some (post i m) = ap (λ xs. slice_get xs f.0) is_list ∙ f.1 in
+            absurd (true≢false (sym (added.each f.0 (post i m) (slice_get_within list f.0 (post i m) g) g heard)
+            ∙ idle))
+        by (inr n) = value_same p old new m on.resource is on.point
+            (now.each on.resource.0 ∙ elsewhere c r named fits on.resource.0 (λ e. n (sym e))
+            ∙ sym (before.each on.resource.0))
 
-    pub others_then : (new ds0 ds : List ℕ) → AreReported p (value_in p new) (λ m. true) list (length list) ds0 ds
-        → KeepsOthers p is_on_workload ds0 ds
-    others_then new ds0 ds reported i m there serves = reported.others i own
-      where
-        own : (j : ℕ) (a : Post) → slice_get list j ≡ Some a → a.number.0 ≡ i → ⊥
-        own j a g e =
-            let f = posts_each (is_served_at is_on_workload r.0) p.monitors 0 p.monitors
-            (λ n. ap (slice_get p.monitors) (zero-add n)) j a (ap (λ xs. slice_get xs j) (sym is_list) ∙ g) in
-            let same : a.monitor ≡ m = same_Some a.monitor m (sym f.0 ∙ ap (slice_get p.monitors) e ∙ there) in
-            true≢false (sym (and_parts (is_on_workload a.monitor.kind) (is_at a.monitor.point r.0) f.1).0
-            ∙ ap (λ (x : Monitor). is_on_workload x.kind) same ∙ serves)
+    pub others_then : (test : Monitor → Bool) (old_waits waits : ℕ → Bool)
+        → AreAdded test list (length list) old_waits waits → WaitAsBefore p is_on_workload old_waits waits
+    others_then test old_waits waits added i m there serves = added.others i
+        (λ j a g e. own_post p is_on_workload r.0 j a (ap (λ xs. slice_get xs j) (sym is_list) ∙ g) i m e there serves)
+
+    -- its posts have the numbers of monitors
+    pub posts_known : (j : ℕ) (a : Post) → slice_get list j ≡ Some a → a.number.0 < length p.monitors
+    posts_known j a g = slice_get_within p.monitors a.number.0 a.monitor
+        (are_posts p is_on_workload r.0 list is_list j a g)
 
     loaded : (c : Change) → named_by c ≡ Some r → loaded_resources c ≡ r.0 ∷ []
     loaded (Give k x) e = ap (λ (y : ResourceId). y.0 ∷ []) (same_Some x r e)
@@ -294,9 +299,9 @@ module _ (p : Parts) (made : AreWellMade p) (s : List Slot) (told : AreTold p s)
         by true e = counted (on_workload p m is e)
         by false e = omega arith
 
-    pub steps_then : length list ≤ served_watchers p is_on_workload s c
+    pub amount_then : length list ≤ served_watchers p is_on_workload s c
     unfolding served_watchers
-    steps_then =
+    amount_then =
         let a = ap length is_list ∙ sym (ones (posts_of is_on_workload p.monitors r.0))
         ∙ posts_sum (is_served_at is_on_workload r.0) (λ m. 1) 0 p.monitors in
         let b = sum_less (λ (m : Monitor). cond {A = ℕ} (is_on_workload m.kind && is_at m.point r.0) 1 0)

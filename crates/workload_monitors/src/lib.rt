@@ -7,8 +7,8 @@ mod keepers;
 mod limit_workload;
 mod loads;
 mod posts;
-mod reports;
 mod values;
+mod waits;
 
 pub use keepers::ResourceKeepers;
 pub use limit_workload::{LimitWorkload, Workloads};

@@ -4,7 +4,7 @@ use Rattle.std.proofs.lemmas.Option.{slice_get_within}
 use Rattle.std.proofs.lemmas.Result.{on_ok_weaker}
 use Rattle.event_monitors.specs.Lists.{HasPair}
 use Rattle.event_monitors.specs.Posts.{names}
-use Rattle.event_monitors.specs.Reports.{has}
+use Rattle.event_monitors.specs.Turns.{has}
 use Rattle.event_monitors.proofs.Listing.{added_as, members_named, members_once, members_within, pair_there}
 use Rattle.event_monitors.proofs.lists.add.Goals as goal
 

@@ -1,7 +1,7 @@
 use Rattle.std.proofs.Common.{◌≡◌, get_or, length, subst, arith}
 use Rattle.std.proofs.lemmas.Option.{slice_get-get_or}
 use Rattle.event_monitors.proofs.Listing.{AreListedTo, all_listed, one_listed}
-use Rattle.event_monitors.proofs.Reporting.{no_post}
+use Rattle.event_monitors.proofs.TurnLaws.{no_post}
 use Rattle.event_monitors.proofs.lists.lists_of.Goals as goal
 use Rattle.khe_instance.proofs.MadeLemmas.{monitor_made}
 

@@ -3,8 +3,8 @@ use Rattle.std.proofs.lemmas.List.{length-append}
 use Rattle.khe_told.specs.Slots.{no_meets}
 use Rattle.event_monitors.specs.Posts.{AreKept}
 use Rattle.std.proofs.lemmas.Option.{slice_get-get_or}
-use Rattle.event_monitors.proofs.Noting.{kept_more}
-use Rattle.event_monitors.proofs.Reporting.{no_post}
+use Rattle.event_monitors.proofs.KeeperLaws.{kept_more}
+use Rattle.event_monitors.proofs.TurnLaws.{no_post}
 use Rattle.event_monitors.proofs.posts.gauges_of.Goals as goal
 use Rattle.khe_instance.proofs.MadeLemmas.{monitor_made}
 

@@ -32,6 +32,7 @@ loop-back-preserved g c =
       of = r.of;
       told = r.told;
       values = r.values;
+      idle = r.idle;
       marked = r.marked ∙ v.marked;
       seats = let a = v.seats in let f = r.seats in omega (arith, a, f);
       steps =

@@ -1,6 +1,7 @@
 use Rattle.std.proofs.Common.{◌≡◌, ◌≤◌, ◌+◌, length}
 use Rattle.undo_paths.specs.Stack.{inner, outer}
 use Rattle.khe_engine.specs.States.{state_of}
+use Rattle.khe_engine.specs.Settled.{IsIdle}
 use Rattle.khe_engine.specs.Values.{HasValues}
 use Rattle.khe_engine.specs.Records.{undone_all, MarksLead, records, undo_cost}
 use Rattle.khe_engine.proofs.undoing.unwind.Given as goal
@@ -20,6 +21,7 @@ invariant-loop-back g l =
       of : g.F.Family.IsOf l.listeners.families p;
       told : g.F.Family.told l.listeners.families ≡ l.solution.slots;
       values : HasValues p l.solution.slots l.listeners.graph;
+      idle : IsIdle p l.listeners.waiting;
       marked : l.listeners.graph.marked ≡ l.fn.listeners.graph.marked;
       seats : l.fn.listeners.graph.seats ≤ l.listeners.graph.seats;
       steps : l.steps + undo_cost p now (inner l.journal.since) ≤ l.fn.steps + undo_cost p then

@@ -1,5 +1,6 @@
 use Rattle.std.proofs.Common.{◌≡◌, ◌≤◌, ◌+◌, ◌-◌, length}
 use Rattle.khe_engine.specs.States.{state_of}
+use Rattle.khe_engine.specs.Settled.{IsIdle}
 use Rattle.khe_engine.specs.Values.{HasValues}
 use Rattle.khe_engine.specs.Worlds.{from_mark, trails_cost}
 use Rattle.khe_engine.specs.Records.{saved_of, MarksLead, records}
@@ -18,6 +19,7 @@ invariant-loop-solution g l =
       of : g.F.Family.IsOf l.listeners.families p;
       told : g.F.Family.told l.listeners.families ≡ l.solution.slots;
       values : HasValues p l.solution.slots l.listeners.graph;
+      idle : IsIdle p l.listeners.waiting;
       marked : l.listeners.graph.marked ≡ l.fn.listeners.graph.marked;
       seats : l.fn.listeners.graph.seats ≤ l.listeners.graph.seats;
       spare : l.fn.journal.spare + records l.fn.journal.since ≤ l.journal.spare + records l.journal.since;

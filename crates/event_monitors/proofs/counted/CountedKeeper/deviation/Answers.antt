@@ -3,7 +3,7 @@ use Rattle.std.specs.Option.{option_map}
 use Rattle.std.proofs.lemmas.Option.{slice_get-get_or, slice_get_within, get_or_from_slice_get}
 use Rattle.khe_told.specs.Agreement.{deviation_in}
 use Rattle.event_monitors.specs.declared.posts.Post.{Post}
-use Rattle.event_monitors.proofs.Reporting.{no_post}
+use Rattle.event_monitors.proofs.TurnLaws.{no_post}
 use Rattle.event_monitors.proofs.counted.CountedKeeper.deviation.Goals as goal
 
 pub value-requires : goal.value-requires

@@ -7,5 +7,5 @@ pub returns : goal.returns
 returns g c =
     let i = c.self.inside in
     let h = c.self.invariant.4 in
-    rw (← c.self.view_is) (c.totals.ensures i.inst.now h.rates
+    rw (← c.self.view_is) (c.totals.ensures.value i.inst.now h.rates
     ∙ ap (totals_of i.inst.now) (costs_same i.inst.now i.solution.slots i.listeners.graph h))

@@ -3,7 +3,7 @@ use Rattle.std.specs.Option.{option_map}
 use Rattle.khe_instance.specs.declared.points.Monitor.{Monitor}
 use Rattle.khe_told.specs.Agreement.{deviation_in}
 use Rattle.order_monitors.specs.Pairs.{is_order, value_of}
-use Rattle.order_monitors.proofs.ReportLaws.{value_is}
+use Rattle.order_monitors.proofs.WaitLaws.{value_is}
 use Rattle.order_monitors.proofs.order_events.OrderEdgesKeeper.deviation.Goals as goal
 use Rattle.khe_instance.proofs.MadeLemmas.{monitor_made}
 

@@ -1,0 +1,141 @@
+ghost use Rattle.std.specs.Prelude.{◌≡◌, ◌<◌, ◌≤◌, ◌+◌, ◌++◌, ◌∷◌, [], ◌||◌, ◌&&◌, Bool, ℕ, true, false, length, nat_eq, replicate, slice_set, vec_capacity, vec_len, IfOk, MatchOption};
+ghost use Rattle.khe_told.specs.Waits.{waits_in};
+
+use khe_base::{MonitorId, NoMemory};
+use std::alloc::Global;
+use std::marker::Model;
+
+/// Is told of monitors whose deviations may be others after a change.
+pub trait Waits {
+    /// Whether it keeps what it is told.
+    ghost hears: { Bool };
+
+    /// How many monitors there are.
+    ghost monitors: { Self → ℕ };
+
+    /// Whether the monitor with a number waits to be measured anew.
+    ghost waits: { Self → ℕ → Bool };
+
+    /// How many wait.
+    ghost amount: { Self → ℕ };
+
+    /// Whether it keeps what it is told. It takes constant time.
+    fn hears() -> bool
+        ensures { result ≡ hears };
+
+    /// Lets a monitor wait, in constant time and without memory. One that waits already waits on.
+    fn add(&mut self, monitor: MonitorId)
+        requires known { monitor.0 < monitors self.old }
+        ensures monitors { monitors self.new ≡ monitors self.old }
+        ensures waits { (k : ℕ) → waits self.new k ≡ (waits self.old k || (hears && nat_eq k monitor.0)) }
+        ensures amount { amount self.new ≤ amount self.old + 1 };
+}
+
+/// Monitors that wait to be measured anew, each once. Contracts see for each monitor whether it
+/// waits, and how many do.
+#[derive(Drop)]
+pub struct Waiting {
+    list: Vec<MonitorId>,
+    /// For each monitor whether it is in the list.
+    flags: Vec<bool>,
+}
+
+impl Model for Waiting {
+    ghost use Rattle.std.specs.Prelude.{◌≤◌, length, vec_capacity};
+    ghost use Rattle.khe_told.specs.Waits.{AreListedOnce, Waiters};
+
+    ghost Value = { Waiters };
+
+    ghost view = { λ w. record { flags = w.flags.items; amount = length w.list.items } };
+
+    ghost invariant = { λ w. AreListedOnce w.list.items w.flags.items × (length w.flags.items ≤ vec_capacity w.list) };
+}
+
+impl Waiting {
+    /// None of so many monitors. It takes time and memory in proportion to them; no other call takes
+    /// memory.
+    pub fn open(alloc: Global, monitors: u32) -> Result<Waiting, NoMemory>
+        ensures flags { IfOk result (λ w. w.flags ≡ replicate monitors false) }
+        ensures amount { IfOk result (λ w. w.amount ≡ 0) }
+    {
+        let list = Vec::with_capacity(alloc, monitors as usize)?;
+        let flags = vec![in alloc; false; monitors as usize]?;
+        Ok(Waiting { list, flags })
+    }
+
+    /// Takes the monitor that came last, which then waits no longer, or answers `None` where none
+    /// waits. It takes constant time.
+    pub fn pop(&mut self) -> Option<MonitorId>
+        ensures { MatchOption result
+            ((self.new ≡ self.old) × (self.old.amount ≡ 0) × ((k : ℕ) → waits_in self.old k ≡ false))
+            (λ m. (m.0 < length self.old.flags) × (waits_in self.old m.0 ≡ true) × (self.new.flags ≡ slice_set self.old.flags m.0 false) × (self.old.amount ≡ self.new.amount + 1)) }
+    {
+        let monitor = self.list.pop()?;
+        self.flags[monitor.0 as usize] = false;
+        Some(monitor)
+    }
+}
+
+/// Adds a monitor at the end of a list that has room for it.
+fn push(list: &mut Vec<MonitorId>, monitor: MonitorId)
+    requires { vec_len list.old < vec_capacity list.old }
+    ensures items { list.new.items ≡ list.old.items ++ monitor ∷ [] }
+    ensures room { vec_capacity list.old ≤ vec_capacity list.new }
+{
+    let Ok(()) = list.push(monitor) else {
+        unreachable!()
+    };
+}
+
+impl Waits for Waiting {
+    ghost use Rattle.std.specs.Prelude.{true, length};
+    ghost use Rattle.khe_told.specs.Waits.{waits_in};
+
+    ghost hears = { true };
+
+    ghost monitors = { λ w. length w.flags };
+
+    ghost waits = { waits_in };
+
+    ghost amount = { λ w. w.amount };
+
+    fn hears() -> bool {
+        true
+    }
+
+    fn add(&mut self, monitor: MonitorId) {
+        let place = monitor.0 as usize;
+        if self.flags[place] {
+            return;
+        }
+        self.flags[place] = true;
+        push(&mut self.list, monitor);
+    }
+}
+
+/// Keeps nothing of what it is told: for changes that take others back.
+#[derive(Drop)]
+pub struct Unheard {
+    /// How many monitors there are.
+    pub monitors: u32,
+}
+
+impl Waits for Unheard {
+    ghost use Rattle.std.specs.Prelude.{false};
+
+    ghost hears = { false };
+
+    ghost monitors = { λ w. w.monitors };
+
+    ghost waits = { λ w k. false };
+
+    ghost amount = { λ w. 0 };
+
+    fn hears() -> bool {
+        false
+    }
+
+    fn add(&mut self, monitor: MonitorId) {
+        let _ = monitor;
+    }
+}

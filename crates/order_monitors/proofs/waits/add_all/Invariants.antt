@@ -1,0 +1,16 @@
+use Rattle.std.proofs.Common.{◌≡◌, ◌≤◌, ◌+◌, true, drop}
+use Rattle.event_monitors.specs.Turns.{AreOthers}
+use Rattle.khe_told.specs.Waits.{WaitOn}
+use Rattle.order_monitors.specs.Waits.{NamedWait}
+use Rattle.order_monitors.proofs.waits.add_all.Given as goal
+
+abbrev pub invariant-loop-place : goal.invariant-loop-place
+invariant-loop-place g l =
+    record {
+      monitors : g.W.Waits.monitors l.waits ≡ g.W.Waits.monitors l.fn.waits;
+      named : g.W.Waits.hears ≡ true
+          → NamedWait l.inst l.posts l.fn.event.0 (g.W.Waits.waits l.waits) (drop l.place-index l.list);
+      kept : WaitOn (g.W.Waits.waits l.fn.waits) (g.W.Waits.waits l.waits);
+      others : AreOthers l.posts (g.W.Waits.waits l.fn.waits) (g.W.Waits.waits l.waits);
+      amount : g.W.Waits.amount l.waits ≤ g.W.Waits.amount l.fn.waits + l.place-index;
+    }
