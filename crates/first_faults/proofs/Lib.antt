@@ -1,0 +1,10 @@
+pub mod BadMarkup
+pub mod Forth
+pub mod FrontFaults
+pub mod Known
+pub mod Live
+pub mod LiveParts
+pub mod NestedFaults
+pub mod OneForest
+pub mod OneTree
+pub mod OtherMarkup
