@@ -13,14 +13,13 @@ use Rattle.khe_instance.specs.declared.points.Point.TheVariants.{Resource}
 use Rattle.khe_instance.specs.declared.rules.Kind.TheVariants as kind
 use Rattle.khe_instance.specs.declared.rules.Rule.{Rule}
 use Rattle.khe_instance.specs.declared.rules.Rule.TheVariants.{AssignResource}
-use Rattle.khe_told.specs.Changes.{given_after, span_after}
 use Rattle.khe_told.specs.Lists.{meets_in, duties_in}
-use Rattle.khe_told.specs.declared.changes.Change.{Change}
+use Rattle.khe_told.specs.Turns.{SlotTurn}
 use Rattle.khe_told.specs.declared.slots.Slot.{Slot}
 use Rattle.khe_told.specs.declared.slots.Span.{Span}
 use Rattle.event_monitors.specs.DutySums.{sum_over_duties}
 use Rattle.event_monitors.specs.ShareLaws.{part_bounded, rule_of_kind, task_bounded, tasks_kept}
-use Rattle.event_monitors.specs.Shares.{changes_tasks, given_at, most_of, task_share, total_at}
+use Rattle.event_monitors.specs.Shares.{KeepsTasks, given_at, most_of, task_share, total_at}
 
 abbrev pub unfilled : Rule → Option Span → Option (Option ResourceId) → ℕ
 unfilled rule span given = task_share unfilled_duration span given
@@ -30,11 +29,9 @@ pub unfilled_bounded : (rule : Rule) (span : Option Span) (given : Option (Optio
 unfilled_bounded rule span given = task_bounded unfilled_duration
     (λ (r : Option ResourceId) n. part_bounded (is_none r) n) span given
 
-pub unfilled_unheard : (rule : Rule) (span : Option Span) (given : List (Option ResourceId)) (point : Point)
-    (c : Change) → changes_tasks c ≡ false
-    → unfilled rule (span_after span c) (given_at point (given_after given c))
-    ≡ unfilled rule span (given_at point given)
-unfilled_unheard rule span given point c e = tasks_kept unfilled_duration span given point c e
+pub unfilled_unheard : (rule : Rule) (point : Point) (t : SlotTurn) → KeepsTasks t
+    → unfilled rule t.after.span (given_at point t.after.given) ≡ unfilled rule t.before.span (given_at point t.before.given)
+unfilled_unheard rule point t e = tasks_kept unfilled_duration point t e
 
 pub unfilled_exact : (p : Parts) (s : List Slot) (r : Rule) (point : Point)
     → is_kind (kind_of r) kind.AssignResource ≡ true → IsPointOf p r point

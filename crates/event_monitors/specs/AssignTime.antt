@@ -14,14 +14,13 @@ use Rattle.khe_instance.specs.declared.points.Point.TheVariants.{Resource}
 use Rattle.khe_instance.specs.declared.rules.Kind.TheVariants as kind
 use Rattle.khe_instance.specs.declared.rules.Rule.{Rule}
 use Rattle.khe_instance.specs.declared.rules.Rule.TheVariants.{AssignTime}
-use Rattle.khe_told.specs.Changes.{given_after, span_after}
 use Rattle.khe_told.specs.Lists.{meets_in, duties_in}
-use Rattle.khe_told.specs.declared.changes.Change.{Change}
+use Rattle.khe_told.specs.Turns.{SlotTurn}
 use Rattle.khe_told.specs.declared.slots.Slot.{Slot}
 use Rattle.khe_told.specs.declared.slots.Span.{Span}
 use Rattle.event_monitors.specs.MeetSums.{sum_over_meets}
 use Rattle.event_monitors.specs.ShareLaws.{meets_kept, part_bounded, rule_of_kind, span_bounded}
-use Rattle.event_monitors.specs.Shares.{changes_meets, given_at, most_of, span_share, total_at}
+use Rattle.event_monitors.specs.Shares.{KeepsMeet, given_at, most_of, span_share, total_at}
 
 abbrev pub unplaced : Rule → Option Span → Option (Option ResourceId) → ℕ
 unplaced rule span given = span_share unplaced_duration span
@@ -31,11 +30,9 @@ pub unplaced_bounded : (rule : Rule) (span : Option Span) (given : Option (Optio
 unplaced_bounded rule span given = span_bounded unplaced_duration
     (λ (start : Option TimeId) n. part_bounded (is_none start) n) span
 
-pub unplaced_unheard : (rule : Rule) (span : Option Span) (given : List (Option ResourceId)) (point : Point)
-    (c : Change) → changes_meets c ≡ false
-    → unplaced rule (span_after span c) (given_at point (given_after given c))
-    ≡ unplaced rule span (given_at point given)
-unplaced_unheard rule span given point c e = meets_kept unplaced_duration span c e
+pub unplaced_unheard : (rule : Rule) (point : Point) (t : SlotTurn) → KeepsMeet t
+    → unplaced rule t.after.span (given_at point t.after.given) ≡ unplaced rule t.before.span (given_at point t.before.given)
+unplaced_unheard rule point t e = meets_kept unplaced_duration t e
 
 pub unplaced_exact : (p : Parts) (s : List Slot) (r : Rule) (point : Point) → is_kind (kind_of r) kind.AssignTime ≡ true
     → IsPointOf p r point

@@ -14,14 +14,13 @@ use Rattle.khe_instance.specs.declared.points.Point.TheVariants.{Resource}
 use Rattle.khe_instance.specs.declared.rules.Kind.TheVariants as kind
 use Rattle.khe_instance.specs.declared.rules.Rule.{Rule}
 use Rattle.khe_instance.specs.declared.rules.Rule.TheVariants.{DistributeSplitEvents}
-use Rattle.khe_told.specs.Changes.{given_after, span_after}
 use Rattle.khe_told.specs.Lists.{meets_in, duties_in}
-use Rattle.khe_told.specs.declared.changes.Change.{Change}
+use Rattle.khe_told.specs.Turns.{SlotTurn}
 use Rattle.khe_told.specs.declared.slots.Slot.{Slot}
 use Rattle.khe_told.specs.declared.slots.Span.{Span}
 use Rattle.event_monitors.specs.MeetSums.{sum_over_meets}
 use Rattle.event_monitors.specs.ShareLaws.{durations_kept, one_bounded, rule_of_kind, span_bounded}
-use Rattle.event_monitors.specs.Shares.{changes_durations, given_at, most_of, span_share, total_at}
+use Rattle.event_monitors.specs.Shares.{KeepsDuration, given_at, most_of, span_share, total_at}
 
 -- one for a meet of the duration
 abbrev pub one_of : ℕ → Option TimeId → ℕ → ℕ
@@ -42,13 +41,11 @@ of_duration_bounded (DistributeSplitEvents only least greatest) span given =
     span_bounded (one_of only) (λ (start : Option TimeId) n. one_bounded (n == only) n) span
 of_duration_bounded _ span given = omega arith
 
-pub of_duration_unheard : (rule : Rule) (span : Option Span) (given : List (Option ResourceId)) (point : Point)
-    (c : Change) → changes_durations c ≡ false
-    → of_duration rule (span_after span c) (given_at point (given_after given c))
-    ≡ of_duration rule span (given_at point given)
-of_duration_unheard (DistributeSplitEvents only least greatest) span given point c e =
-    durations_kept (one_of only) (λ a b n. refl) span c e
-of_duration_unheard _ span given point c e = refl
+pub of_duration_unheard : (rule : Rule) (point : Point) (t : SlotTurn) → KeepsDuration t
+    → of_duration rule t.after.span (given_at point t.after.given) ≡ of_duration rule t.before.span (given_at point t.before.given)
+of_duration_unheard (DistributeSplitEvents only least greatest) point t e =
+    durations_kept (one_of only) (λ a b n. refl) t e
+of_duration_unheard _ point t e = refl
 
 pub of_duration_exact : (p : Parts) (s : List Slot) (r : Rule) (point : Point)
     → is_kind (kind_of r) kind.DistributeSplitEvents ≡ true → IsPointOf p r point

@@ -1,14 +1,11 @@
 -- A gauge of one of two sorts: what it keeps and what is read from it, and its laws.
-use Rattle.std.proofs.Common.{ℕ, ◌≡◌, ◌<◌, Bool, true, false, List, length, refl}
-use Rattle.std.specs.Prelude.{◌||◌, slice_set}
-use Rattle.std.proofs.lemmas.Bool.{true≢false}
+use Rattle.std.proofs.Common.{ℕ, ◌≡◌, ◌<◌, List, length}
+use Rattle.std.specs.Prelude.{slice_set}
 use Rattle.khe_instance.specs.declared.parts.Parts.{Parts}
 use Rattle.khe_instance.specs.declared.points.Monitor.{Monitor}
 use Rattle.khe_told.specs.Agreement.{deviation_in}
-use Rattle.khe_told.specs.Changes.{after}
-use Rattle.khe_told.specs.Fits.{Fits}
 use Rattle.khe_told.specs.Slots.{emptied, slot_at}
-use Rattle.khe_told.specs.declared.changes.Change.{Change}
+use Rattle.khe_told.specs.Turns.{IsTurn, SlotTurn, turned}
 use Rattle.khe_told.specs.declared.slots.Slot.{Slot}
 use Rattle.event_monitors.specs.Posts.{names}
 use Rattle.event_monitors.specs.declared.one_of.OneOf.{OneOf}
@@ -37,25 +34,15 @@ module _ {A B : Type 0} (keeps_a : A → Parts → Monitor → List Slot → Typ
   exact_one value_a value_b a b (First g) p m s kept = a g p m s kept
   exact_one value_a value_b a b (Second g) p m s kept = b g p m s kept
 
-  pub deaf_one : (hears_a hears_b : Change → Bool)
-      → ((g : A) (p : Parts) (m : Monitor) (s : List Slot) (c : Change) → hears_a c ≡ false → Fits p s c
-      → keeps_a g p m s → keeps_a g p m (after s c))
-      → ((g : B) (p : Parts) (m : Monitor) (s : List Slot) (c : Change) → hears_b c ≡ false → Fits p s c
-      → keeps_b g p m s → keeps_b g p m (after s c))
-      → (g : OneOf A B) (p : Parts) (m : Monitor) (s : List Slot) (c : Change) → (hears_a c || hears_b c) ≡ false
-      → Fits p s c → keeps_one keeps_a keeps_b g p m s → keeps_one keeps_a keeps_b g p m (after s c)
-  deaf_one hears_a hears_b a b (First g) p m s c h fits kept =
-      a g p m s c (first_false (hears_a c) (hears_b c) h) fits kept
-    where
-      first_false : (x y : Bool) → (x || y) ≡ false → x ≡ false
-      first_false false y h = refl
-      first_false true y h = absurd (true≢false h)
-  deaf_one hears_a hears_b a b (Second g) p m s c h fits kept =
-      b g p m s c (second_false (hears_a c) (hears_b c) h) fits kept
-    where
-      second_false : (x y : Bool) → (x || y) ≡ false → y ≡ false
-      second_false false y h = h
-      second_false true y h = absurd (true≢false h)
+  pub deaf_one : (unheard_a unheard_b : SlotTurn → Type 0)
+      → ((g : A) (p : Parts) (m : Monitor) (s : List Slot) (t : SlotTurn) → unheard_a t → IsTurn p s t
+      → keeps_a g p m s → keeps_a g p m (turned s t))
+      → ((g : B) (p : Parts) (m : Monitor) (s : List Slot) (t : SlotTurn) → unheard_b t → IsTurn p s t
+      → keeps_b g p m s → keeps_b g p m (turned s t))
+      → (g : OneOf A B) (p : Parts) (m : Monitor) (s : List Slot) (t : SlotTurn) → unheard_a t × unheard_b t
+      → IsTurn p s t → keeps_one keeps_a keeps_b g p m s → keeps_one keeps_a keeps_b g p m (turned s t)
+  deaf_one unheard_a unheard_b a b (First g) p m s t h turns kept = a g p m s t h.0 turns kept
+  deaf_one unheard_a unheard_b a b (Second g) p m s t h turns kept = b g p m s t h.1 turns kept
 
   pub elsewhere_one : ((g : A) (p : Parts) (m : Monitor) (s : List Slot) (k : ℕ) (x : Slot) → k < length s
       → emptied x ≡ emptied (slot_at s k) → names p (slot_at s k).event.0 m ≡ false → keeps_a g p m s

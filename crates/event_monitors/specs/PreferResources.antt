@@ -13,14 +13,13 @@ use Rattle.khe_instance.specs.declared.points.Point.TheVariants.{Resource}
 use Rattle.khe_instance.specs.declared.rules.Kind.TheVariants as kind
 use Rattle.khe_instance.specs.declared.rules.Rule.{Rule}
 use Rattle.khe_instance.specs.declared.rules.Rule.TheVariants.{PreferResources}
-use Rattle.khe_told.specs.Changes.{given_after, span_after}
 use Rattle.khe_told.specs.Lists.{meets_in, duties_in}
-use Rattle.khe_told.specs.declared.changes.Change.{Change}
+use Rattle.khe_told.specs.Turns.{SlotTurn}
 use Rattle.khe_told.specs.declared.slots.Slot.{Slot}
 use Rattle.khe_told.specs.declared.slots.Span.{Span}
 use Rattle.event_monitors.specs.DutySums.{sum_over_duties}
 use Rattle.event_monitors.specs.ShareLaws.{part_bounded, rule_of_kind, task_bounded, tasks_kept}
-use Rattle.event_monitors.specs.Shares.{changes_tasks, given_at, most_of, task_share, total_at}
+use Rattle.event_monitors.specs.Shares.{KeepsTasks, given_at, most_of, task_share, total_at}
 
 abbrev pub misfilled : Rule → Option Span → Option (Option ResourceId) → ℕ
 misfilled (PreferResources resources role) span given = task_share (misfilled_duration resources) span given
@@ -33,13 +32,11 @@ misfilled_bounded (PreferResources resources role) span given =
     n) span given
 misfilled_bounded _ span given = omega arith
 
-pub misfilled_unheard : (rule : Rule) (span : Option Span) (given : List (Option ResourceId)) (point : Point)
-    (c : Change) → changes_tasks c ≡ false
-    → misfilled rule (span_after span c) (given_at point (given_after given c))
-    ≡ misfilled rule span (given_at point given)
-misfilled_unheard (PreferResources resources role) span given point c e =
-    tasks_kept (misfilled_duration resources) span given point c e
-misfilled_unheard _ span given point c e = refl
+pub misfilled_unheard : (rule : Rule) (point : Point) (t : SlotTurn) → KeepsTasks t
+    → misfilled rule t.after.span (given_at point t.after.given) ≡ misfilled rule t.before.span (given_at point t.before.given)
+misfilled_unheard (PreferResources resources role) point t e =
+    tasks_kept (misfilled_duration resources) point t e
+misfilled_unheard _ point t e = refl
 
 pub misfilled_exact : (p : Parts) (s : List Slot) (r : Rule) (point : Point)
     → is_kind (kind_of r) kind.PreferResources ≡ true → IsPointOf p r point

@@ -15,14 +15,13 @@ use Rattle.khe_instance.specs.declared.points.Point.TheVariants.{Resource}
 use Rattle.khe_instance.specs.declared.rules.Kind.TheVariants as kind
 use Rattle.khe_instance.specs.declared.rules.Rule.{Rule}
 use Rattle.khe_instance.specs.declared.rules.Rule.TheVariants.{PreferTimes}
-use Rattle.khe_told.specs.Changes.{given_after, span_after}
 use Rattle.khe_told.specs.Lists.{meets_in, duties_in}
-use Rattle.khe_told.specs.declared.changes.Change.{Change}
+use Rattle.khe_told.specs.Turns.{SlotTurn}
 use Rattle.khe_told.specs.declared.slots.Slot.{Slot}
 use Rattle.khe_told.specs.declared.slots.Span.{Span}
 use Rattle.event_monitors.specs.MeetSums.{sum_over_meets}
 use Rattle.event_monitors.specs.ShareLaws.{meets_kept, part_bounded, rule_of_kind, span_bounded}
-use Rattle.event_monitors.specs.Shares.{changes_meets, given_at, most_of, span_share, total_at}
+use Rattle.event_monitors.specs.Shares.{KeepsMeet, given_at, most_of, span_share, total_at}
 
 abbrev pub misplaced : Rule → Option Span → Option (Option ResourceId) → ℕ
 misplaced (PreferTimes times only) span given = span_share (misplaced_duration times only) span
@@ -35,12 +34,10 @@ misplaced_bounded (PreferTimes times only) span given =
     (starts_outside times start && allows only n) n) span
 misplaced_bounded _ span given = omega arith
 
-pub misplaced_unheard : (rule : Rule) (span : Option Span) (given : List (Option ResourceId)) (point : Point)
-    (c : Change) → changes_meets c ≡ false
-    → misplaced rule (span_after span c) (given_at point (given_after given c))
-    ≡ misplaced rule span (given_at point given)
-misplaced_unheard (PreferTimes times only) span given point c e = meets_kept (misplaced_duration times only) span c e
-misplaced_unheard _ span given point c e = refl
+pub misplaced_unheard : (rule : Rule) (point : Point) (t : SlotTurn) → KeepsMeet t
+    → misplaced rule t.after.span (given_at point t.after.given) ≡ misplaced rule t.before.span (given_at point t.before.given)
+misplaced_unheard (PreferTimes times only) point t e = meets_kept (misplaced_duration times only) t e
+misplaced_unheard _ point t e = refl
 
 pub misplaced_exact : (p : Parts) (s : List Slot) (r : Rule) (point : Point)
     → is_kind (kind_of r) kind.PreferTimes ≡ true → IsPointOf p r point

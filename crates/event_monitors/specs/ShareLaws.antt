@@ -2,7 +2,7 @@
 use Rattle.std.proofs.Common.{ℕ, ◌≡◌, ◌≤◌, ◌<◌, ◌+◌, ◌∙◌, Bool, true, false, cond, Option, Some, None, List, set}
 use Rattle.std.proofs.Common.{slice_get, length, refl, sym, ap, subst, arith, sum_by}
 use Rattle.std.specs.Option.{option_map, option_map_or}
-use Rattle.std.proofs.lemmas.Bool.{true≢false}
+use Rattle.std.proofs.lemmas.Option.{none-some, same_Some}
 use Rattle.std.proofs.lemmas.List.Sums.{sum_by-set}
 use Rattle.khe_base.specs.declared.numbers.ResourceId.{ResourceId}
 use Rattle.khe_base.specs.declared.numbers.TimeId.{TimeId}
@@ -18,15 +18,13 @@ use Rattle.khe_instance.specs.declared.rules.Constraint.{Constraint}
 use Rattle.khe_instance.specs.declared.rules.Kind.{Kind}
 use Rattle.khe_instance.specs.declared.rules.Rule.{Rule}
 use Rattle.khe_told.specs.Agreement.{deviation_in}
-use Rattle.khe_told.specs.Changes.{after, changed, given_after, meet_of, span_after}
 use Rattle.khe_told.specs.Lists.{meets_in, duties_in}
 use Rattle.khe_told.specs.Slots.{emptied, slot_at, no_slot}
-use Rattle.khe_told.specs.declared.changes.Change.{Change}
-use Rattle.khe_told.specs.declared.changes.Change.TheVariants.{Add, Drop, Place as PlaceAt, Lift, Give, Take}
+use Rattle.khe_told.specs.Turns.{IsTurn, SlotTurn, duration_of, turned}
 use Rattle.khe_told.specs.declared.slots.Slot.{Slot}
 use Rattle.khe_told.specs.declared.slots.Span.{Span}
 use Rattle.event_monitors.specs.Posts.{names}
-use Rattle.event_monitors.specs.Shares.{changes_durations, changes_meets, changes_tasks, given_at, measured_by, most_of}
+use Rattle.event_monitors.specs.Shares.{KeepsDuration, KeepsMeet, KeepsTasks, given_at, measured_by, most_of}
 use Rattle.event_monitors.specs.Shares.{share_of, span_share, task_share, total_at, total_of}
 
 -- a rule of a kind's number is one of the kind
@@ -54,75 +52,63 @@ pub one_bounded : (b : Bool) (n : ℕ) → cond b 1 0 ≤ n + 1
 one_bounded true n = omega arith
 one_bounded false n = omega arith
 
--- what a change leaves
-pub meets_kept : (f : Option TimeId → ℕ → ℕ) (span : Option Span) (c : Change) → changes_meets c ≡ false
-    → span_share f (span_after span c) ≡ span_share f span
-meets_kept f span (Give t r) e = refl
-meets_kept f span (Take t r) e = refl
-meets_kept f span (Add m d) e = absurd (true≢false e)
-meets_kept f span (Drop m d) e = absurd (true≢false e)
-meets_kept f span (PlaceAt m t) e = absurd (true≢false e)
-meets_kept f span (Lift m t) e = absurd (true≢false e)
+-- what a turn leaves
+pub meets_kept : (f : Option TimeId → ℕ → ℕ) (t : SlotTurn) → KeepsMeet t
+    → span_share f t.after.span ≡ span_share f t.before.span
+meets_kept f t h = ap (span_share f) (sym h)
 
 pub durations_kept : (f : Option TimeId → ℕ → ℕ) → ((a b : Option TimeId) (n : ℕ) → f a n ≡ f b n)
-    → (span : Option Span) (c : Change) → changes_durations c ≡ false
-    → span_share f (span_after span c) ≡ span_share f span
-durations_kept f same span (Give t r) e = refl
-durations_kept f same span (Take t r) e = refl
-durations_kept f same None (PlaceAt m t) e = refl
-durations_kept f same (Some y) (PlaceAt m t) e = same (Some t) y.start y.duration
-durations_kept f same None (Lift m t) e = refl
-durations_kept f same (Some y) (Lift m t) e = same None y.start y.duration
-durations_kept f same span (Add m d) e = absurd (true≢false e)
-durations_kept f same span (Drop m d) e = absurd (true≢false e)
+    → (t : SlotTurn) → KeepsDuration t → span_share f t.after.span ≡ span_share f t.before.span
+durations_kept f same t h = by t.before.span t.after.span h
+  where
+    by : (x y : Option Span) → option_map (λ (z : Span). z.duration) x ≡ option_map (λ (z : Span). z.duration) y
+        → span_share f y ≡ span_share f x
+    by None None h = refl
+    by (Some x) None h = absurd (none-some _ (sym h))
+    by None (Some y) h = absurd (none-some _ h)
+    by (Some x) (Some y) h = same y.start x.start y.duration ∙ ap (f x.start) (sym (same_Some x.duration y.duration h))
 
-task_same : (f : Option ResourceId → ℕ → ℕ) (start : Option TimeId) (span : Option Span)
-    (o : Option (Option ResourceId)) → task_share f (option_map (λ (z : Span). record z { start = start }) span) o
-    ≡ task_share f span o
-task_same f start None o = refl
-task_same f start (Some y) None = refl
-task_same f start (Some y) (Some r) = refl
-
-pub tasks_kept : (f : Option ResourceId → ℕ → ℕ) (span : Option Span) (given : List (Option ResourceId)) (point : Point)
-    (c : Change) → changes_tasks c ≡ false
-    → task_share f (span_after span c) (given_at point (given_after given c)) ≡ task_share f span (given_at point given)
-tasks_kept f span given point (PlaceAt m t) e = task_same f (Some t) span (given_at point given)
-tasks_kept f span given point (Lift m t) e = task_same f None span (given_at point given)
-tasks_kept f span given point (Add m d) e = absurd (true≢false e)
-tasks_kept f span given point (Drop m d) e = absurd (true≢false e)
-tasks_kept f span given point (Give t r) e = absurd (true≢false e)
-tasks_kept f span given point (Take t r) e = absurd (true≢false e)
-
--- a gauge that hears each change is never passed over
-pub hears_all : (P : Type 0) → true ≡ false → P
-hears_all P e = absurd (true≢false e)
+pub tasks_kept : (f : Option ResourceId → ℕ → ℕ) (point : Point) (t : SlotTurn) → KeepsTasks t
+    → task_share f t.after.span (given_at point t.after.given) ≡ task_share f t.before.span (given_at point t.before.given)
+tasks_kept f point t h =
+    ap (λ g. task_share f t.after.span (given_at point g)) (sym h.0)
+    ∙ by t.before.span t.after.span (given_at point t.before.given) h.1
+  where
+    by : (x y : Option Span) (o : Option (Option ResourceId))
+        → option_map (λ (z : Span). z.duration) x ≡ option_map (λ (z : Span). z.duration) y
+        → task_share f y o ≡ task_share f x o
+    by None None o h = refl
+    by (Some x) None o h = absurd (none-some _ (sym h))
+    by None (Some y) o h = absurd (none-some _ h)
+    by (Some x) (Some y) None h = refl
+    by (Some x) (Some y) (Some r) h = ap (f r) (sym (same_Some x.duration y.duration h))
 
 module _ (share : Rule → Option Span → Option (Option ResourceId) → ℕ) where
-  -- a change that leaves what its slot counts for leaves a monitor's sum
-  sum_unheard : (p : Parts) (rule : Rule) (point : Point) (s : List Slot) (c : Change) → meet_of c < length s
-      → share rule (span_after (slot_at s (meet_of c)).span c)
-      (given_at point (given_after (slot_at s (meet_of c)).given c))
-      ≡ share rule (slot_at s (meet_of c)).span (given_at point (slot_at s (meet_of c)).given)
-      → total_at share p rule point (after s c) ≡ total_at share p rule point s
-  sum_unheard p rule point s c l same =
-      let x = slot_at s (meet_of c) in
-      let a = sum_by-set (share_of share p rule point) s (meet_of c) (changed x c) no_slot l in
-      let e : share_of share p rule point (changed x c) ≡ share_of share p rule point x =
-      ap (λ v. cond {A = ℕ} (names_event p rule point x.event.0) v 0) same in
+  -- a turn that leaves what its slot counts for leaves a monitor's sum
+  sum_unheard : (p : Parts) (rule : Rule) (point : Point) (s : List Slot) (t : SlotTurn) → IsTurn p s t
+      → share rule t.after.span (given_at point t.after.given) ≡ share rule t.before.span (given_at point t.before.given)
+      → total_at share p rule point (turned s t) ≡ total_at share p rule point s
+  sum_unheard p rule point s t turns same =
+      let k = t.before.meet.0 in
+      let a = sum_by-set (share_of share p rule point) s k t.after no_slot turns.there in
+      let e : share_of share p rule point t.after ≡ share_of share p rule point (slot_at s k) =
+      ap (λ e. cond {A = ℕ} (names_event p rule point e) (share rule t.after.span (given_at point t.after.given)) 0)
+      (ap (λ (y : Slot). y.event.0) turns.same)
+      ∙ ap (λ v. cond {A = ℕ} (names_event p rule point t.before.event.0) v 0) same
+      ∙ ap (share_of share p rule point) (sym turns.slot) in
       omega (arith, a, e)
 
-  pub total_unheard : (p : Parts) (m : Monitor) (s : List Slot) (c : Change) (total : ℕ) → meet_of c < length s
-      → ((rule : Rule) (span : Option Span) (given : List (Option ResourceId)) (point : Point)
-      → share rule (span_after span c) (given_at point (given_after given c))
-      ≡ share rule span (given_at point given))
-      → total ≡ total_of share p m s → total ≡ total_of share p m (after s c)
-  total_unheard p m s c total l same h = h ∙ sym (by (slice_get p.constraints m.constraint))
+  pub total_unheard : (p : Parts) (m : Monitor) (s : List Slot) (t : SlotTurn) (total : ℕ) → IsTurn p s t
+      → ((rule : Rule) (point : Point)
+      → share rule t.after.span (given_at point t.after.given)
+      ≡ share rule t.before.span (given_at point t.before.given))
+      → total ≡ total_of share p m s → total ≡ total_of share p m (turned s t)
+  total_unheard p m s t total turns same h = h ∙ sym (by (slice_get p.constraints m.constraint))
     where
-      by : (o : Option Constraint) → option_map_or (λ (k : Constraint). total_at share p k.rule m.point (after s c)) o 0
+      by : (o : Option Constraint) → option_map_or (λ (k : Constraint). total_at share p k.rule m.point (turned s t)) o 0
           ≡ option_map_or (λ (k : Constraint). total_at share p k.rule m.point s) o 0
       by None = refl
-      by (Some k) = let x = slot_at s (meet_of c) in
-          sum_unheard p k.rule m.point s c l (same k.rule x.span x.given m.point)
+      by (Some k) = sum_unheard p k.rule m.point s t turns (same k.rule m.point)
 
   share_none : (p : Parts) (rule : Rule) (point : Point) (x : Slot) → names_event p rule point x.event.0 ≡ false
       → share_of share p rule point x ≡ 0

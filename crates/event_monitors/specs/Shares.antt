@@ -1,5 +1,5 @@
 -- Sums over the slots of the event that a monitor names, of what each slot counts for.
-use Rattle.std.specs.Prelude.{ℕ, ◌+◌, ◌*◌, Bool, true, false, if◌then◌else◌, Option, Some, None, List, slice_get}
+use Rattle.std.specs.Prelude.{ℕ, ◌≡◌, ◌+◌, ◌*◌, Bool, if◌then◌else◌, Option, Some, None, List, slice_get}
 use Rattle.std.specs.List.{sum_by}
 use Rattle.std.specs.Option.{option_map_or}
 use Rattle.khe_base.specs.declared.limits.TheConstants.{DURATION, NUMBER}
@@ -11,8 +11,7 @@ use Rattle.khe_instance.specs.declared.points.Monitor.{Monitor}
 use Rattle.khe_instance.specs.declared.points.Point.{Point}
 use Rattle.khe_instance.specs.declared.points.Point.TheVariants.{EventResource}
 use Rattle.khe_instance.specs.declared.rules.Rule.{Rule}
-use Rattle.khe_told.specs.declared.changes.Change.{Change}
-use Rattle.khe_told.specs.declared.changes.Change.TheVariants.{Add, Drop, Place as PlaceAt, Lift, Give, Take}
+use Rattle.khe_told.specs.Turns.{SlotTurn, duration_of}
 use Rattle.khe_told.specs.declared.slots.Slot.{Slot}
 use Rattle.khe_told.specs.declared.slots.Span.{Span}
 
@@ -32,22 +31,15 @@ task_share f None given = 0
 task_share f (Some y) None = 0
 task_share f (Some y) (Some r) = f r y.duration
 
--- whether a change may change what a meet counts for by its start and duration, by what its places are
--- given and its duration, and by its duration alone
-abbrev pub changes_meets : Change → Bool
-changes_meets (Give t r) = false
-changes_meets (Take t r) = false
-changes_meets _ = true
+-- a turn of a slot keeps its meet, how long that is and what its places are given, and how long it is
+abbrev pub KeepsMeet : SlotTurn → Type 0
+KeepsMeet t = t.before.span ≡ t.after.span
 
-abbrev pub changes_tasks : Change → Bool
-changes_tasks (PlaceAt m t) = false
-changes_tasks (Lift m t) = false
-changes_tasks _ = true
+abbrev pub KeepsTasks : SlotTurn → Type 0
+KeepsTasks t = (t.before.given ≡ t.after.given) × (duration_of t.before ≡ duration_of t.after)
 
-abbrev pub changes_durations : Change → Bool
-changes_durations (Add m d) = true
-changes_durations (Drop m d) = true
-changes_durations _ = false
+abbrev pub KeepsDuration : SlotTurn → Type 0
+KeepsDuration t = duration_of t.before ≡ duration_of t.after
 
 -- the most that a slot may count for, and all slots together
 abbrev pub most_of : Option Span → ℕ

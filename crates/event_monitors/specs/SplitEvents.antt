@@ -21,14 +21,13 @@ use Rattle.khe_instance.specs.declared.rules.Kind.TheVariants as kind
 use Rattle.khe_instance.specs.declared.rules.Rule.{Rule}
 use Rattle.khe_instance.specs.declared.rules.Rule.TheVariants.{SplitEvents}
 use Rattle.khe_told.specs.Agreement.{deviation_in}
-use Rattle.khe_told.specs.Changes.{given_after, span_after}
 use Rattle.khe_told.specs.Lists.{meets_in, duties_in}
-use Rattle.khe_told.specs.declared.changes.Change.{Change}
+use Rattle.khe_told.specs.Turns.{SlotTurn}
 use Rattle.khe_told.specs.declared.slots.Slot.{Slot}
 use Rattle.khe_told.specs.declared.slots.Span.{Span}
 use Rattle.event_monitors.specs.MeetSums.{sum_over_meets}
 use Rattle.event_monitors.specs.ShareLaws.{durations_kept, one_bounded, rule_of_kind, span_bounded}
-use Rattle.event_monitors.specs.Shares.{changes_durations, given_at, most_of, span_share, total_at, total_of}
+use Rattle.event_monitors.specs.Shares.{KeepsDuration, given_at, most_of, span_share, total_at, total_of}
 
 -- one for a meet that is too short or too long
 abbrev pub one_unfit : ℕ → ℕ → Option TimeId → ℕ → ℕ
@@ -63,17 +62,15 @@ pub meets_bounded : (rule : Rule) (span : Option Span) (given : Option (Option R
     → meets rule span given ≤ most_of span
 meets_bounded rule span given = span_bounded one_each (λ (start : Option TimeId) n. omega arith) span
 
-pub unfit_unheard : (rule : Rule) (span : Option Span) (given : List (Option ResourceId)) (point : Point) (c : Change)
-    → changes_durations c ≡ false
-    → unfit rule (span_after span c) (given_at point (given_after given c)) ≡ unfit rule span (given_at point given)
-unfit_unheard (SplitEvents a b least greatest) span given point c e =
-    durations_kept (one_unfit a b) (λ x y n. refl) span c e
-unfit_unheard _ span given point c e = refl
+pub unfit_unheard : (rule : Rule) (point : Point) (t : SlotTurn) → KeepsDuration t
+    → unfit rule t.after.span (given_at point t.after.given) ≡ unfit rule t.before.span (given_at point t.before.given)
+unfit_unheard (SplitEvents a b least greatest) point t e =
+    durations_kept (one_unfit a b) (λ x y n. refl) t e
+unfit_unheard _ point t e = refl
 
-pub meets_unheard : (rule : Rule) (span : Option Span) (given : List (Option ResourceId)) (point : Point) (c : Change)
-    → changes_durations c ≡ false
-    → meets rule (span_after span c) (given_at point (given_after given c)) ≡ meets rule span (given_at point given)
-meets_unheard rule span given point c e = durations_kept one_each (λ x y n. refl) span c e
+pub meets_unheard : (rule : Rule) (point : Point) (t : SlotTurn) → KeepsDuration t
+    → meets rule t.after.span (given_at point t.after.given) ≡ meets rule t.before.span (given_at point t.before.given)
+meets_unheard rule point t e = durations_kept one_each (λ x y n. refl) t e
 
 split_at : (p : Parts) (s : List Slot) (r : Rule) (point : Point) → is_kind (kind_of r) kind.SplitEvents ≡ true
     → IsPointOf p r point

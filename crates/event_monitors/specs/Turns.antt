@@ -1,5 +1,5 @@
 -- Gauges that are turned one by one, and the monitors that wait since.
-use Rattle.std.specs.Prelude.{ℕ, ◌≡◌, ◌≢◌, ◌==◌, Bool, true, false, Some, List, length, slice_get}
+use Rattle.std.specs.Prelude.{ℕ, ◌≡◌, ◌⊎◌, ◌==◌, Bool, true, false, Some, List, length, slice_get}
 use Rattle.std.specs.List.{list_any}
 use Rattle.khe_instance.specs.declared.parts.Parts.{Parts}
 use Rattle.khe_instance.specs.declared.points.Monitor.{Monitor}
@@ -25,6 +25,7 @@ AreSameOrWait {G} value p posts old new waits = (k : ℕ) (a : Post) (g0 g : G) 
     → slice_get old k ≡ Some g0 → slice_get new k ≡ Some g → waits a.number.0 ≡ false
     → value g p a.monitor ≡ value g0 p a.monitor
 
--- the monitors that have no post wait as before
-abbrev pub AreOthers : List Post → (ℕ → Bool) → (ℕ → Bool) → Type 0
-AreOthers posts old new = (i : ℕ) → ((k : ℕ) (a : Post) → slice_get posts k ≡ Some a → a.number.0 ≢ i) → new i ≡ old i
+-- who waits and did not before has a post at one of these places
+abbrev pub AreListedSince : List Post → List ℕ → (ℕ → Bool) → (ℕ → Bool) → Type 0
+AreListedSince posts list old new = (i : ℕ) → new i ≡ true → (old i ≡ true)
+    ⊎ ((k : ℕ) × (a : Post) × (has list k ≡ true) × (slice_get posts k ≡ Some a) × (a.number.0 ≡ i))

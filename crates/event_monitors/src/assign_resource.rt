@@ -1,10 +1,10 @@
 use crate::counted::Counted;
-use crate::shares::{Share, changes_tasks};
+use crate::shares::{Share, moves_tasks};
 use crate::sums::{Sum, Summed};
 use family_keepers::Keeping;
 use khe_base::ResourceId;
 use khe_instance::{Instance, Kind, Rule};
-use khe_told::{Change, Span};
+use khe_told::{Span, Turn};
 
 /// The family of Assign Resource: a monitor's deviation is the duration of the tasks at its place
 /// without a resource.
@@ -16,14 +16,14 @@ pub struct Unfilled;
 
 impl Share for Unfilled {
     ghost use Rattle.event_monitors.specs.AssignResource.{unfilled, unfilled_bounded, unfilled_unheard};
-    ghost use Rattle.event_monitors.specs.Shares.{changes_tasks};
+    ghost use Rattle.event_monitors.specs.Shares.{KeepsTasks};
 
     ghost share = { unfilled };
 
-    ghost hears = { changes_tasks };
+    ghost IsUnheard = { KeepsTasks };
 
-    fn hears(change: Change) -> bool {
-        changes_tasks(change)
+    fn hears(turn: &Turn<'_>) -> bool {
+        moves_tasks(turn)
     }
 
     ghost unheard = { unfilled_unheard };

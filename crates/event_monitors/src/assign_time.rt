@@ -1,10 +1,10 @@
 use crate::counted::Counted;
-use crate::shares::{Share, changes_meets};
+use crate::shares::{Share, moves_meet};
 use crate::sums::{Sum, Summed};
 use family_keepers::Keeping;
 use khe_base::ResourceId;
 use khe_instance::{Instance, Kind, Rule};
-use khe_told::{Change, Span};
+use khe_told::{Span, Turn};
 
 /// The family of Assign Time: a monitor's deviation is the duration of its event's meets without a
 /// start.
@@ -16,14 +16,14 @@ pub struct Unplaced;
 
 impl Share for Unplaced {
     ghost use Rattle.event_monitors.specs.AssignTime.{unplaced, unplaced_bounded, unplaced_unheard};
-    ghost use Rattle.event_monitors.specs.Shares.{changes_meets};
+    ghost use Rattle.event_monitors.specs.Shares.{KeepsMeet};
 
     ghost share = { unplaced };
 
-    ghost hears = { changes_meets };
+    ghost IsUnheard = { KeepsMeet };
 
-    fn hears(change: Change) -> bool {
-        changes_meets(change)
+    fn hears(turn: &Turn<'_>) -> bool {
+        moves_meet(turn)
     }
 
     ghost unheard = { unplaced_unheard };

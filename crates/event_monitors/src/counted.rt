@@ -5,13 +5,13 @@ use crate::turns::turn_all;
 use family_keepers::Keeper;
 use khe_base::{MonitorId, NoMemory, beside};
 use khe_instance::{Instance, Kind};
-use khe_told::{Change, Told, Waits};
+use khe_told::{Told, Turn, Waits};
 use std::alloc::Global;
 
 /// A keeper that has a gauge for each monitor that it serves. What was told is lent to it.
 ///
-/// A change turns the gauges of the monitors that name its event, and no other; where there are
-/// none, or where they hear no such change, it takes constant time.
+/// A slot that becomes another turns the gauges of the monitors that name its event, and no other; where
+/// there are none, or where they hear no such turn, it takes constant time.
 #[derive(Drop)]
 pub struct Counted<G> {
     index: Index,
@@ -41,14 +41,13 @@ impl<G: Gauge + Drop> Keeper for Counted<G> {
         G::serves(kind)
     }
 
-    fn turn<W: Waits>(&mut self, inst: &Instance, told: &Told, change: Change, waits: &mut W) {
-        if !G::hears(change) {
+    fn turn<W: Waits>(&mut self, inst: &Instance, told: &Told, turn: &Turn<'_>, waits: &mut W) {
+        if !G::hears(turn) {
             return;
         }
-        let event = told.event(change.meet());
-        let list = self.index.lists.as_slice()[event.0 as usize].as_slice();
+        let list = self.index.lists.as_slice()[turn.event().0 as usize].as_slice();
         let posts = self.index.posts.as_slice();
-        turn_all(inst, told, change, posts, list, &mut self.gauges, waits);
+        turn_all(inst, told, turn, posts, list, &mut self.gauges, waits);
     }
 
     fn deviation(&self, inst: &Instance, monitor: MonitorId) -> u64 {

@@ -1,10 +1,10 @@
 use crate::counted::Counted;
-use crate::shares::{Share, changes_durations};
+use crate::shares::{Share, resizes};
 use crate::sums::{Sum, Summed};
 use family_keepers::Keeping;
 use khe_base::{ResourceId, count_out};
 use khe_instance::{Instance, Kind, Rule};
-use khe_told::{Change, Span};
+use khe_told::{Span, Turn};
 
 /// The family of Distribute Split Events: a monitor's deviation is by how many its event has too few
 /// or too many meets of the rule's duration.
@@ -16,14 +16,14 @@ pub struct OfDuration;
 
 impl Share for OfDuration {
     ghost use Rattle.event_monitors.specs.DistributeSplitEvents.{of_duration, of_duration_bounded, of_duration_unheard};
-    ghost use Rattle.event_monitors.specs.Shares.{changes_durations};
+    ghost use Rattle.event_monitors.specs.Shares.{KeepsDuration};
 
     ghost share = { of_duration };
 
-    ghost hears = { changes_durations };
+    ghost IsUnheard = { KeepsDuration };
 
-    fn hears(change: Change) -> bool {
-        changes_durations(change)
+    fn hears(turn: &Turn<'_>) -> bool {
+        resizes(turn)
     }
 
     ghost unheard = { of_duration_unheard };

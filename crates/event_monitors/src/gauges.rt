@@ -5,20 +5,18 @@ ghost use Rattle.khe_instance.specs.declared.parts.Parts.{Parts};
 ghost use Rattle.khe_instance.specs.declared.points.Monitor.{Monitor};
 ghost use Rattle.khe_instance.specs.declared.rules.Kind.{Kind};
 ghost use Rattle.khe_told.specs.Agreement.{deviation_in};
-ghost use Rattle.khe_told.specs.Changes.{after, meet_of};
-ghost use Rattle.khe_told.specs.Fits.{Fits};
-ghost use Rattle.khe_told.specs.declared.changes.Change.{Change};
 ghost use Rattle.khe_told.specs.Slots.{emptied, no_meets, slot_at};
+ghost use Rattle.khe_told.specs.Turns.{IsTurn, SlotTurn, turned};
 ghost use Rattle.khe_told.specs.declared.slots.Slot.{Slot};
 ghost use Rattle.event_monitors.specs.Posts.{names};
 
 use khe_base::NoMemory;
 use khe_instance::{Instance, Kind, Monitor};
-use khe_told::{Change, Told};
+use khe_told::{Told, Turn};
 use std::alloc::Global;
 
-/// What is kept for one monitor of some kinds, from which its deviation is read. It is turned at
-/// each change of a meet or a task of an event that the monitor names.
+/// What is kept for one monitor of some kinds, from which its deviation is read. It is turned where a meet
+/// slot of an event that the monitor names becomes another.
 pub trait Gauge {
     /// The kinds whose monitors have such a gauge.
     ghost serves_kind: { Kind → Bool };
@@ -33,12 +31,12 @@ pub trait Gauge {
     fn serves(kind: Kind) -> bool
         ensures { result ≡ serves_kind kind };
 
-    /// Whether a change may change what a gauge keeps or reads.
-    ghost hears: { Change → Bool };
+    /// That a turn of a slot changes nothing that a gauge keeps or reads.
+    ghost IsUnheard: { SlotTurn → Type 0 };
 
-    /// It takes constant time.
-    fn hears(change: Change) -> bool
-        ensures { result ≡ hears change };
+    /// Whether a turn may change what a gauge keeps or reads. It takes constant time.
+    fn hears(turn: &Turn<'_>) -> bool
+        ensures { result ≡ false → IsUnheard turn.now };
 
     /// The gauge of a monitor while there are no meets. It takes all the memory that it will need.
     fn open(alloc: Global, inst: &Instance, monitor: Monitor) -> Result<Self, NoMemory>
@@ -46,14 +44,13 @@ pub trait Gauge {
         requires served { serves_kind monitor.kind ≡ true }
         ensures { IfOk result (λ g. Keeps g inst.now monitor (no_meets inst.now)) };
 
-    /// Follows a change of an event that the monitor names, and answers `false` only where the
-    /// deviation that is read from it is still the same. What was told is the state before the
-    /// change. It takes no memory.
-    fn turn(&mut self, inst: &Instance, monitor: Monitor, told: &Told, change: Change) -> bool
+    /// Follows a turn of a slot of an event that the monitor names, and answers `false` only where the
+    /// deviation that is read from it is still the same. It takes no memory.
+    fn turn(&mut self, inst: &Instance, monitor: Monitor, told: &Told, turn: &Turn<'_>) -> bool
         requires keeps { Keeps self.old inst.now monitor told.now }
-        requires fits { Fits inst.now told.now change }
-        requires named { names inst.now (slot_at told.now (meet_of change)).event.0 monitor ≡ true }
-        ensures keeps { Keeps self.new inst.now monitor (after told.now change) }
+        requires turns { IsTurn inst.now told.now turn.now }
+        requires named { names inst.now turn.now.before.event.0 monitor ≡ true }
+        ensures keeps { Keeps self.new inst.now monitor (turned told.now turn.now) }
         ensures same { result ≡ false → value self.new inst.now monitor ≡ value self.old inst.now monitor };
 
     /// The monitor's deviation. It takes no memory.
@@ -65,10 +62,10 @@ pub trait Gauge {
     /// What is read is the definition's deviation.
     ghost exact: { (g : Self) (p : Parts) (m : Monitor) (s : List Slot) → Keeps g p m s → deviation_in p s m ≡ value g p m };
 
-    /// A change that it does not hear leaves it right as it is.
-    ghost deaf: { (g : Self) (p : Parts) (m : Monitor) (s : List Slot) (c : Change) → hears c ≡ false → Fits p s c → Keeps g p m s → Keeps g p m (after s c) };
+    /// A turn that it does not hear leaves it right as it is.
+    ghost deaf: { (g : Self) (p : Parts) (m : Monitor) (s : List Slot) (t : SlotTurn) → IsUnheard t → IsTurn p s t → Keeps g p m s → Keeps g p m (turned s t) };
 
-    /// A change of an event that the monitor does not name leaves it right as it is.
+    /// A turn of a slot of an event that the monitor does not name leaves it right as it is.
     ghost elsewhere: { (g : Self) (p : Parts) (m : Monitor) (s : List Slot) (k : ℕ) (x : Slot) → k < length s → emptied x ≡ emptied (slot_at s k)
         → names p (slot_at s k).event.0 m ≡ false → Keeps g p m s → Keeps g p m (slice_set s k x) };
 }

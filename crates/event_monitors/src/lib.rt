@@ -28,6 +28,6 @@ pub use one_of::OneOf;
 pub use posts::Post;
 pub use prefer_resources::{Misfilled, PreferResources};
 pub use prefer_times::{Misplaced, PreferTimes};
-pub use shares::{Share, changes_meets, changes_tasks};
+pub use shares::{Share, moves_meet, moves_tasks};
 pub use split_events::{Meets, Split, SplitEvents, Unfit};
 pub use sums::{Sum, Summed};

@@ -1,12 +1,12 @@
 use crate::gauges::Gauge;
 use khe_base::NoMemory;
 use khe_instance::{Instance, Kind, Monitor};
-use khe_told::{Change, Told};
+use khe_told::{Told, Turn};
 use std::alloc::Global;
 
 /// A gauge of one of two sorts, by the monitor's kind; where both sorts serve a kind it is the first.
 ///
-/// A keeper of such gauges has one list of monitors for each event, and follows each change once,
+/// A keeper of such gauges has one list of monitors for each event, and follows each turn once,
 /// where two keepers would each follow it.
 #[derive(Drop)]
 pub enum OneOf<A, B> {
@@ -28,10 +28,10 @@ impl<A: Gauge + Drop, B: Gauge + Drop> Gauge for OneOf<A, B> {
         A::serves(kind) || B::serves(kind)
     }
 
-    ghost hears = { λ c. A.hears c || B.hears c };
+    ghost IsUnheard = { λ t. A.IsUnheard t × B.IsUnheard t };
 
-    fn hears(change: Change) -> bool {
-        A::hears(change) || B::hears(change)
+    fn hears(turn: &Turn<'_>) -> bool {
+        A::hears(turn) || B::hears(turn)
     }
 
     fn open(alloc: Global, inst: &Instance, monitor: Monitor) -> Result<OneOf<A, B>, NoMemory> {
@@ -43,12 +43,12 @@ impl<A: Gauge + Drop, B: Gauge + Drop> Gauge for OneOf<A, B> {
         Ok(OneOf::Second(second))
     }
 
-    // Inlined, since the list of an event's monitors is gone through at each change.
+    // Inlined, since the list of an event's monitors is gone through at each turn.
     #[inline(always)]
-    fn turn(&mut self, inst: &Instance, monitor: Monitor, told: &Told, change: Change) -> bool {
+    fn turn(&mut self, inst: &Instance, monitor: Monitor, told: &Told, turn: &Turn<'_>) -> bool {
         match self {
-            OneOf::First(gauge) => A::hears(change) && gauge.turn(inst, monitor, told, change),
-            OneOf::Second(gauge) => B::hears(change) && gauge.turn(inst, monitor, told, change),
+            OneOf::First(gauge) => A::hears(turn) && gauge.turn(inst, monitor, told, turn),
+            OneOf::Second(gauge) => B::hears(turn) && gauge.turn(inst, monitor, told, turn),
         }
     }
 
@@ -61,7 +61,7 @@ impl<A: Gauge + Drop, B: Gauge + Drop> Gauge for OneOf<A, B> {
 
     ghost exact = { exact_one A.Keeps B.Keeps A.value B.value A.exact B.exact };
 
-    ghost deaf = { deaf_one A.Keeps B.Keeps A.hears B.hears A.deaf B.deaf };
+    ghost deaf = { deaf_one A.Keeps B.Keeps A.IsUnheard B.IsUnheard A.deaf B.deaf };
 
     ghost elsewhere = { elsewhere_one A.Keeps B.Keeps A.elsewhere B.elsewhere };
 }

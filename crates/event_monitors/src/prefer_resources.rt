@@ -2,12 +2,12 @@ ghost use Rattle.std.specs.Prelude.{◌≡◌};
 ghost use Rattle.khe_instance.specs.EventDeviation.{misfilled_duration};
 
 use crate::counted::Counted;
-use crate::shares::{Share, changes_tasks};
+use crate::shares::{Share, moves_tasks};
 use crate::sums::{Sum, Summed};
 use family_keepers::Keeping;
 use khe_base::{IdSet, ResourceId};
 use khe_instance::{Instance, Kind, Rule};
-use khe_told::{Change, Span};
+use khe_told::{Span, Turn};
 
 /// The family of Prefer Resources: a monitor's deviation is the duration of the tasks at its place
 /// with a resource outside the preferred ones.
@@ -20,14 +20,14 @@ pub struct Misfilled;
 
 impl Share for Misfilled {
     ghost use Rattle.event_monitors.specs.PreferResources.{misfilled, misfilled_bounded, misfilled_unheard};
-    ghost use Rattle.event_monitors.specs.Shares.{changes_tasks};
+    ghost use Rattle.event_monitors.specs.Shares.{KeepsTasks};
 
     ghost share = { misfilled };
 
-    ghost hears = { changes_tasks };
+    ghost IsUnheard = { KeepsTasks };
 
-    fn hears(change: Change) -> bool {
-        changes_tasks(change)
+    fn hears(turn: &Turn<'_>) -> bool {
+        moves_tasks(turn)
     }
 
     ghost unheard = { misfilled_unheard };

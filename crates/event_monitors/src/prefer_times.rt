@@ -2,12 +2,12 @@ ghost use Rattle.std.specs.Prelude.{◌≡◌};
 ghost use Rattle.khe_instance.specs.EventDeviation.{misplaced_duration};
 
 use crate::counted::Counted;
-use crate::shares::{Share, changes_meets};
+use crate::shares::{Share, moves_meet};
 use crate::sums::{Sum, Summed};
 use family_keepers::Keeping;
 use khe_base::{IdSet, ResourceId};
 use khe_instance::{Instance, Kind, Rule};
-use khe_told::{Change, Span};
+use khe_told::{Span, Turn};
 
 /// The family of Prefer Times: a monitor's deviation is the duration of its event's meets with a
 /// start outside the preferred times, or of those alone of one duration, where the rule has one.
@@ -19,14 +19,14 @@ pub struct Misplaced;
 
 impl Share for Misplaced {
     ghost use Rattle.event_monitors.specs.PreferTimes.{misplaced, misplaced_bounded, misplaced_unheard};
-    ghost use Rattle.event_monitors.specs.Shares.{changes_meets};
+    ghost use Rattle.event_monitors.specs.Shares.{KeepsMeet};
 
     ghost share = { misplaced };
 
-    ghost hears = { changes_meets };
+    ghost IsUnheard = { KeepsMeet };
 
-    fn hears(change: Change) -> bool {
-        changes_meets(change)
+    fn hears(turn: &Turn<'_>) -> bool {
+        moves_meet(turn)
     }
 
     ghost unheard = { misplaced_unheard };

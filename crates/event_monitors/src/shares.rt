@@ -1,19 +1,16 @@
-ghost use Rattle.std.specs.Prelude.{◌≡◌, ◌≤◌, Bool, true, false, ℕ, List, Option};
+ghost use Rattle.std.specs.Prelude.{◌≡◌, ◌≤◌, true, false, ℕ, Option};
 ghost use Rattle.khe_base.specs.declared.numbers.ResourceId.{ResourceId as Resource};
 ghost use Rattle.khe_instance.specs.WellMade.{IsMonitor};
 ghost use Rattle.khe_instance.specs.declared.rules.Rule.{Rule};
 ghost use Rattle.khe_instance.specs.declared.points.Point.{Point};
-ghost use Rattle.khe_told.specs.Changes.{after, given_after, meet_of, span_after};
-ghost use Rattle.khe_told.specs.Fits.{Fits};
-ghost use Rattle.khe_told.specs.Slots.{slot_at};
-ghost use Rattle.khe_told.specs.declared.changes.Change.{Change};
+ghost use Rattle.khe_told.specs.Turns.{IsTurn, SlotTurn, turned};
 ghost use Rattle.khe_told.specs.declared.slots.Span.{Span};
 ghost use Rattle.event_monitors.specs.Posts.{names};
-ghost use Rattle.event_monitors.specs.Shares.{changes_durations, changes_meets, changes_tasks, given_at, greatest_total, most_of, total_of};
+ghost use Rattle.event_monitors.specs.Shares.{KeepsDuration, KeepsMeet, KeepsTasks, given_at, greatest_total, most_of, total_of};
 
 use khe_base::ResourceId;
 use khe_instance::{Instance, Monitor, Point, Rule};
-use khe_told::{Change, Span, Told};
+use khe_told::{Span, Told, Turn};
 
 /// What a slot counts for in the sum of a monitor that names its event.
 pub trait Share {
@@ -25,82 +22,65 @@ pub trait Share {
     fn share(rule: &Rule, span: Option<Span>, given: Option<Option<ResourceId>>) -> u64
         ensures { result ≡ share rule.now span given };
 
-    /// Whether a change may change what a slot counts for.
-    ghost hears: { Change → Bool };
+    /// That a turn of a slot changes nothing of what the slot counts for.
+    ghost IsUnheard: { SlotTurn → Type 0 };
 
-    /// It takes constant time.
-    fn hears(change: Change) -> bool
-        ensures { result ≡ hears change };
+    /// Whether a turn may change what a slot counts for. It takes constant time.
+    fn hears(turn: &Turn<'_>) -> bool
+        ensures { result ≡ false → IsUnheard turn.now };
 
     /// One that it does not hear leaves what the slot counts for.
-    ghost unheard: { (rule : Rule) (span : Option Span) (given : List (Option Resource)) (point : Point) (c : Change) → hears c ≡ false
-        → share rule (span_after span c) (given_at point (given_after given c)) ≡ share rule span (given_at point given) };
+    ghost unheard: { (rule : Rule) (point : Point) (t : SlotTurn) → IsUnheard t
+        → share rule t.after.span (given_at point t.after.given) ≡ share rule t.before.span (given_at point t.before.given) };
 
     /// A slot without a meet counts for nothing, and one with a meet for at most 1 more than its
     /// duration.
     ghost bounded: { (rule : Rule) (span : Option Span) (given : Option (Option Resource)) → share rule span given ≤ most_of span };
 }
 
-/// Whether a change may change a meet: all but those of tasks. It takes constant time.
-pub fn changes_meets(change: Change) -> bool
-    ensures { result ≡ changes_meets change }
+/// Whether a turn may change a meet. It takes constant time.
+pub fn moves_meet(turn: &Turn<'_>) -> bool
+    ensures { result ≡ false → KeepsMeet turn.now }
 {
-    match change {
-        Change::Give { .. } => false,
-        Change::Take { .. } => false,
-        _ => true,
-    }
+    turn.moves()
 }
 
-/// Whether a change may change what a meet's places are given, or how long it lasts: all but those of
-/// starts. It takes constant time.
-pub fn changes_tasks(change: Change) -> bool
-    ensures { result ≡ changes_tasks change }
+/// Whether a turn may change what a meet's places are given, or how long it lasts. It takes constant time.
+pub fn moves_tasks(turn: &Turn<'_>) -> bool
+    ensures { result ≡ false → KeepsTasks turn.now }
 {
-    match change {
-        Change::Place { .. } => false,
-        Change::Lift { .. } => false,
-        _ => true,
-    }
+    turn.gives_other() || turn.resizes()
 }
 
-/// Whether a change may change how long a meet lasts.
-pub(crate) fn changes_durations(change: Change) -> bool
-    ensures { result ≡ changes_durations change }
+/// Whether a turn may change how long a meet lasts.
+pub(crate) fn resizes(turn: &Turn<'_>) -> bool
+    ensures { result ≡ false → KeepsDuration turn.now }
 {
-    match change {
-        Change::Add { .. } => true,
-        Change::Drop { .. } => true,
-        _ => false,
-    }
+    turn.resizes()
 }
 
-/// A monitor's sum after a change of an event that it names, by the sum before and what was told
-/// before. It takes constant time and no memory.
+/// A monitor's sum after a turn of a slot of an event that it names, by the sum before. It takes constant
+/// time and no memory.
 pub(crate) fn turned<S: Share>(
     total: u64,
     inst: &Instance,
     monitor: Monitor,
     told: &Told,
-    change: Change,
+    turn: &Turn<'_>,
 ) -> u64
     requires monitor { IsMonitor inst.now monitor }
     requires total { total ≡ total_of S.share inst.now monitor told.now }
-    requires fits { Fits inst.now told.now change }
-    requires named { names inst.now (slot_at told.now (meet_of change)).event.0 monitor ≡ true }
-    ensures total { result ≡ total_of S.share inst.now monitor (after told.now change) }
+    requires turns { IsTurn inst.now told.now turn.now }
+    requires named { names inst.now turn.now.before.event.0 monitor ≡ true }
+    ensures total { result ≡ total_of S.share inst.now monitor (turned told.now turn.now) }
     ensures small { result ≤ greatest_total }
 {
+    let _ = told;
     inst.facts();
     let rule = &inst.constraint(monitor.constraint).rule;
-    let span = told.span(change.meet());
-    let given = told.given(change.meet());
-    let before = S::share(rule, span, given_of(given, monitor.point));
-    let later = S::share(
-        rule,
-        change.span_after(span),
-        given_later(given, monitor.point, change),
-    );
+    let point = monitor.point;
+    let before = S::share(rule, turn.before(), given_of(turn.given_before(), point));
+    let later = S::share(rule, turn.after(), given_of(turn.given_after(), point));
     total - before + later
 }
 
@@ -111,34 +91,5 @@ fn given_of(given: &[Option<ResourceId>], point: Point) -> Option<Option<Resourc
     match point {
         Point::EventResource { place, .. } => given.get(place as usize).copied(),
         _ => None,
-    }
-}
-
-/// The same after a change of the slot.
-fn given_later(
-    given: &[Option<ResourceId>],
-    point: Point,
-    change: Change,
-) -> Option<Option<ResourceId>>
-    ensures { result ≡ given_at point (given_after given.now change) }
-{
-    let Point::EventResource { place, .. } = point else {
-        return None;
-    };
-    let now = *given.get(place as usize)?;
-    match change {
-        Change::Give { task, resource } => {
-            if task.place == place {
-                return Some(Some(resource));
-            }
-            Some(now)
-        }
-        Change::Take { task, .. } => {
-            if task.place == place {
-                return Some(None);
-            }
-            Some(now)
-        }
-        _ => Some(now),
     }
 }

@@ -6,11 +6,11 @@ ghost use Rattle.event_monitors.specs.SplitEvents.{split_by};
 
 use crate::counted::Counted;
 use crate::gauges::Gauge;
-use crate::shares::{Share, changes_durations, turned};
+use crate::shares::{Share, resizes, turned};
 use family_keepers::Keeping;
 use khe_base::{NoMemory, ResourceId, count_out};
 use khe_instance::{Instance, Kind, Monitor, Rule};
-use khe_told::{Change, Span, Told};
+use khe_told::{Span, Told, Turn};
 use std::alloc::Global;
 
 /// The family of Split Events: a monitor's deviation is how many of its event's meets are too short
@@ -32,7 +32,7 @@ impl Gauge for Split {
     ghost use Rattle.khe_instance.specs.WellMade.{IsMonitor};
     ghost use Rattle.khe_instance.specs.declared.rules.Kind.TheVariants as kind;
     ghost use Rattle.event_monitors.specs.ShareLaws.{total_elsewhere, total_unheard};
-    ghost use Rattle.event_monitors.specs.Shares.{changes_durations, greatest_total, total_of};
+    ghost use Rattle.event_monitors.specs.Shares.{KeepsDuration, greatest_total, total_of};
     ghost use Rattle.event_monitors.specs.SplitEvents.{meets, meets_unheard, split_exact, split_value, unfit, unfit_unheard};
 
     ghost serves_kind = { λ k. is_kind k kind.SplitEvents };
@@ -46,10 +46,10 @@ impl Gauge for Split {
         kind == Kind::SplitEvents
     }
 
-    ghost hears = { changes_durations };
+    ghost IsUnheard = { KeepsDuration };
 
-    fn hears(change: Change) -> bool {
-        changes_durations(change)
+    fn hears(turn: &Turn<'_>) -> bool {
+        resizes(turn)
     }
 
     fn open(alloc: Global, inst: &Instance, monitor: Monitor) -> Result<Split, NoMemory> {
@@ -59,9 +59,9 @@ impl Gauge for Split {
         Ok(Split { unfit: 0, meets: 0 })
     }
 
-    fn turn(&mut self, inst: &Instance, monitor: Monitor, told: &Told, change: Change) -> bool {
-        self.unfit = turned::<Unfit>(self.unfit, inst, monitor, told, change);
-        self.meets = turned::<Meets>(self.meets, inst, monitor, told, change);
+    fn turn(&mut self, inst: &Instance, monitor: Monitor, told: &Told, turn: &Turn<'_>) -> bool {
+        self.unfit = turned::<Unfit>(self.unfit, inst, monitor, told, turn);
+        self.meets = turned::<Meets>(self.meets, inst, monitor, told, turn);
         true
     }
 
@@ -73,12 +73,12 @@ impl Gauge for Split {
 
     ghost exact = { λ g p m s k. split_exact p m s g.unfit g.meets k.0 k.1 k.2 k.4 };
 
-    ghost deaf = { λ g p m s c h fits kept. (
+    ghost deaf = { λ g p m s t h turns kept. (
       kept.0,
       kept.1,
-      total_unheard unfit p m s c g.unfit fits.there (λ r x y q. unfit_unheard r x y q c h) kept.2,
+      total_unheard unfit p m s t g.unfit turns (λ r q. unfit_unheard r q t h) kept.2,
       kept.3,
-      total_unheard meets p m s c g.meets fits.there (λ r x y q. meets_unheard r x y q c h) kept.4,
+      total_unheard meets p m s t g.meets turns (λ r q. meets_unheard r q t h) kept.4,
       kept.5,
     ) };
 
@@ -116,15 +116,15 @@ fn measure(inst: &Instance, rule: &Rule, unfit: u64, meets: u64) -> u64
 pub struct Unfit;
 
 impl Share for Unfit {
-    ghost use Rattle.event_monitors.specs.Shares.{changes_durations};
+    ghost use Rattle.event_monitors.specs.Shares.{KeepsDuration};
     ghost use Rattle.event_monitors.specs.SplitEvents.{unfit, unfit_bounded, unfit_unheard};
 
     ghost share = { unfit };
 
-    ghost hears = { changes_durations };
+    ghost IsUnheard = { KeepsDuration };
 
-    fn hears(change: Change) -> bool {
-        changes_durations(change)
+    fn hears(turn: &Turn<'_>) -> bool {
+        resizes(turn)
     }
 
     ghost unheard = { unfit_unheard };
@@ -152,15 +152,15 @@ impl Share for Unfit {
 pub struct Meets;
 
 impl Share for Meets {
-    ghost use Rattle.event_monitors.specs.Shares.{changes_durations};
+    ghost use Rattle.event_monitors.specs.Shares.{KeepsDuration};
     ghost use Rattle.event_monitors.specs.SplitEvents.{meets, meets_bounded, meets_unheard};
 
     ghost share = { meets };
 
-    ghost hears = { changes_durations };
+    ghost IsUnheard = { KeepsDuration };
 
-    fn hears(change: Change) -> bool {
-        changes_durations(change)
+    fn hears(turn: &Turn<'_>) -> bool {
+        resizes(turn)
     }
 
     ghost unheard = { meets_unheard };

@@ -15,7 +15,7 @@ use crate::gauges::Gauge;
 use crate::shares::{Share, turned};
 use khe_base::NoMemory;
 use khe_instance::{Instance, Kind, Monitor, Rule};
-use khe_told::{Change, Told};
+use khe_told::{Told, Turn};
 use std::alloc::Global;
 use std::marker::PhantomData;
 
@@ -65,10 +65,10 @@ impl<S: Summed> Gauge for Sum<S> {
         S::serves(kind)
     }
 
-    ghost hears = { S.hears };
+    ghost IsUnheard = { S.IsUnheard };
 
-    fn hears(change: Change) -> bool {
-        S::hears(change)
+    fn hears(turn: &Turn<'_>) -> bool {
+        S::hears(turn)
     }
 
     fn open(alloc: Global, inst: &Instance, monitor: Monitor) -> Result<Sum<S>, NoMemory> {
@@ -81,9 +81,9 @@ impl<S: Summed> Gauge for Sum<S> {
         })
     }
 
-    fn turn(&mut self, inst: &Instance, monitor: Monitor, told: &Told, change: Change) -> bool {
+    fn turn(&mut self, inst: &Instance, monitor: Monitor, told: &Told, turn: &Turn<'_>) -> bool {
         let before = self.total;
-        self.total = turned::<S>(before, inst, monitor, told, change);
+        self.total = turned::<S>(before, inst, monitor, told, turn);
         self.total != before
     }
 
@@ -95,7 +95,7 @@ impl<S: Summed> Gauge for Sum<S> {
 
     ghost exact = { λ g p m s k. measured_total S.share S.serves_kind S.measured S.exact p m s g.total k.0 k.1 k.2 };
 
-    ghost deaf = { λ g p m s c h fits kept. (kept.0, kept.1, total_unheard S.share p m s c g.total fits.there (λ r x y q. S.unheard r x y q c h) kept.2, kept.3) };
+    ghost deaf = { λ g p m s t h turns kept. (kept.0, kept.1, total_unheard S.share p m s t g.total turns (λ r q. S.unheard r q t h) kept.2, kept.3) };
 
     ghost elsewhere = { λ g p m s k x l same named kept. (kept.0, kept.1, total_elsewhere S.share p m s k x g.total l same named kept.0 kept.2, kept.3) };
 }

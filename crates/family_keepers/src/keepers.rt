@@ -1,23 +1,22 @@
-ghost use Rattle.std.specs.Prelude.{◌≡◌, ◌<◌, ◌≤◌, ◌+◌, Bool, true, List, length, slice_get, Some, IfOk, IfSome};
+ghost use Rattle.std.specs.Prelude.{◌≡◌, ◌<◌, ◌≤◌, Bool, true, List, length, slice_get, Some, IfOk, IfSome};
 ghost use Rattle.std.specs.Option.{option_map};
 ghost use Rattle.khe_base.specs.declared.limits.TheConstants.{GREATEST_DEVIATION};
 ghost use Rattle.khe_instance.specs.declared.parts.Parts.{Parts};
 ghost use Rattle.khe_instance.specs.declared.rules.Kind.{Kind};
 ghost use Rattle.khe_told.specs.declared.slots.Slot.{Slot};
 ghost use Rattle.khe_told.specs.Slots.{no_meets};
-ghost use Rattle.khe_told.specs.Changes.{after};
-ghost use Rattle.khe_told.specs.Fits.{Fits};
 ghost use Rattle.khe_told.specs.Agreement.{deviation_in};
-ghost use Rattle.khe_told.specs.Waits.{AreUnmoved, WaitAsBefore, WaitOn};
-ghost use Rattle.khe_told.specs.Watchers.{served_watchers};
+ghost use Rattle.khe_told.specs.Turns.{AreWatchers, IsTurn, turned};
+ghost use Rattle.khe_told.specs.Waits.{AreUnmoved, WaitOn};
 
 use khe_base::{MonitorId, NoMemory};
 use khe_instance::{Instance, Kind};
-use khe_told::{Change, Told, Waits};
+use khe_told::{Told, Turn, Waits};
 use std::alloc::Global;
 
-/// Keeps what the deviations of the monitors of some kinds are read from, change by change. The meets and tasks themselves are told in one place for several keepers, and each is lent them as
-/// they stand before a change.
+/// Keeps what the deviations of the monitors of some kinds are read from, while slot by slot becomes another.
+/// The meets and tasks themselves are told in one place for several keepers, and each is lent them as they stand
+/// before.
 pub trait Keeper {
     /// The kinds that it serves.
     ghost serves_kind: { Kind → Bool };
@@ -37,19 +36,17 @@ pub trait Keeper {
     fn serves(&self, kind: Kind) -> bool
         ensures { result ≡ serves_kind kind };
 
-    /// Follows a change that fits what was told, which is the state before it. Each monitor that it serves whose
-    /// deviation may be another after the change waits then; it lets at most one wait for each watcher of the
-    /// change that it serves.
-    fn turn<W: Waits>(&mut self, inst: &Instance, told: &Told, change: Change, waits: &mut W)
+    /// Follows a meet slot of the told state that becomes another. Each monitor that it serves whose deviation
+    /// may be another then waits, and nobody waits who does not watch that.
+    fn turn<W: Waits>(&mut self, inst: &Instance, told: &Told, turn: &Turn<'_>, waits: &mut W)
         requires keeps { Keeps self.old inst.now told.now }
-        requires fits { Fits inst.now told.now change }
+        requires turns { IsTurn inst.now told.now turn.now }
         requires monitors { W.monitors waits.old ≡ length inst.now.monitors }
-        ensures keeps { Keeps self.new inst.now (after told.now change) }
+        ensures keeps { Keeps self.new inst.now (turned told.now turn.now) }
         ensures monitors { W.monitors waits.new ≡ W.monitors waits.old }
-        ensures unmoved { W.hears ≡ true → AreUnmoved inst.now serves_kind (W.waits waits.new) told.now (after told.now change) }
+        ensures unmoved { W.hears ≡ true → AreUnmoved inst.now serves_kind (W.waits waits.new) told.now (turned told.now turn.now) }
         ensures kept { WaitOn (W.waits waits.old) (W.waits waits.new) }
-        ensures others { WaitAsBefore inst.now serves_kind (W.waits waits.old) (W.waits waits.new) }
-        ensures amount { W.amount waits.new ≤ W.amount waits.old + served_watchers inst.now serves_kind told.now change };
+        ensures watchers { AreWatchers inst.now turn.now (W.waits waits.old) (W.waits waits.new) };
 
     /// The deviation, in the state of which it keeps what it should, of a monitor of a kind that it serves: at
     /// most `GREATEST_DEVIATION`.

@@ -1,7 +1,7 @@
 use crate::keepers::Keeper;
-use khe_base::{MonitorId, NoMemory, both};
+use khe_base::{MeetId, MonitorId, NoMemory, both};
 use khe_instance::{Instance, Kind};
-use khe_told::{Change, Family, Told, Waits};
+use khe_told::{Family, Told, Waits};
 use std::alloc::Global;
 
 /// The family of a keeper: what was told, in one place for all that the keeper is made of.
@@ -31,9 +31,17 @@ impl<K: Keeper + Drop> Family for Keeping<K> {
         self.keeper.serves(kind)
     }
 
-    fn turn<W: Waits>(&mut self, inst: &Instance, change: Change, waits: &mut W) {
-        self.keeper.turn(inst, &self.told, change, waits);
-        self.told.note(inst, change);
+    fn told(&self) -> &Told {
+        &self.told
+    }
+
+    fn turn<W: Waits>(&mut self, inst: &Instance, next: &Told, meet: MeetId, waits: &mut W) {
+        let turn = self.told.turn_to(next, meet);
+        if turn.is_still() {
+            return;
+        }
+        self.keeper.turn(inst, &self.told, &turn, waits);
+        self.told.follow(next, meet);
     }
 
     fn deviation(&self, inst: &Instance, monitor: MonitorId) -> u64 {

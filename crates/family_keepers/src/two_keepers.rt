@@ -1,7 +1,7 @@
 use crate::keepers::Keeper;
 use khe_base::{MonitorId, NoMemory};
 use khe_instance::{Instance, Kind};
-use khe_told::{Change, Told, Waits};
+use khe_told::{Told, Turn, Waits};
 use std::alloc::Global;
 
 /// Two keepers as one, which serves the kinds of both. It is well joined where both are and no kind is
@@ -32,9 +32,9 @@ impl<A: Keeper + Drop, B: Keeper + Drop> Keeper for TwoKeepers<A, B> {
         self.first.serves(kind) || self.second.serves(kind)
     }
 
-    fn turn<W: Waits>(&mut self, inst: &Instance, told: &Told, change: Change, waits: &mut W) {
-        self.first.turn(inst, told, change, waits);
-        self.second.turn(inst, told, change, waits);
+    fn turn<W: Waits>(&mut self, inst: &Instance, told: &Told, turn: &Turn<'_>, waits: &mut W) {
+        self.first.turn(inst, told, turn, waits);
+        self.second.turn(inst, told, turn, waits);
     }
 
     fn deviation(&self, inst: &Instance, monitor: MonitorId) -> u64 {

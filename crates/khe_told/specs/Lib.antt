@@ -9,3 +9,4 @@ pub mod Stored
 pub mod Valid
 pub mod Watchers
 pub mod Waits
+pub mod Turns

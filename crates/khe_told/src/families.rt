@@ -1,25 +1,21 @@
-ghost use Rattle.std.specs.Prelude.{◌≡◌, ◌<◌, ◌≤◌, ◌+◌, Bool, true, List, length, slice_get, Some, IfOk, IfSome};
+ghost use Rattle.std.specs.Prelude.{◌≡◌, ◌<◌, ◌≤◌, Bool, true, List, length, slice_get, slice_set, Some, IfOk, IfSome};
 ghost use Rattle.std.specs.Option.{option_map};
 ghost use Rattle.khe_base.specs.declared.limits.TheConstants.{GREATEST_DEVIATION};
 ghost use Rattle.khe_instance.specs.declared.parts.Parts.{Parts};
 ghost use Rattle.khe_instance.specs.declared.rules.Kind.{Kind};
 ghost use Rattle.khe_told.specs.declared.slots.Slot.{Slot};
-ghost use Rattle.khe_told.specs.Slots.{no_meets};
-ghost use Rattle.khe_told.specs.Changes.{after};
-ghost use Rattle.khe_told.specs.Fits.{Fits};
+ghost use Rattle.khe_told.specs.Slots.{no_meets, slot_at};
 ghost use Rattle.khe_told.specs.Agreement.{deviation_in};
-ghost use Rattle.khe_told.specs.Waits.{AreUnmoved, WaitAsBefore, WaitOn};
-ghost use Rattle.khe_told.specs.Watchers.{served_watchers};
+ghost use Rattle.khe_told.specs.Turns.{AreWatchers, IsTurn, turn_to};
+ghost use Rattle.khe_told.specs.Waits.{AreUnmoved, WaitOn};
 
-use crate::changes::Change;
+use crate::told::Told;
 use crate::waiting::Waits;
-use khe_base::{MonitorId, NoMemory};
+use khe_base::{MeetId, MonitorId, NoMemory};
 use khe_instance::{Instance, Kind};
 use std::alloc::Global;
 
-/// Keeps what the deviations of the monitors of some kinds are read from, change by change.
-///
-/// A change and then its inverse leave the told state as it was, since `turn` gives `after`.
+/// Keeps what the deviations of the monitors of some kinds are read from, while slot by slot becomes another.
 pub trait Family {
     /// The kinds that it serves.
     ghost serves_kind: { Kind → Bool };
@@ -44,20 +40,24 @@ pub trait Family {
     fn serves(&self, kind: Kind) -> bool
         ensures { result ≡ serves_kind kind };
 
-    /// Follows a change that fits what it was told, and measures nothing: each monitor that it serves
-    /// whose deviation may be another after the change waits then. It lets at most one wait for each
-    /// watcher of the change that it serves.
-    fn turn<W: Waits>(&mut self, inst: &Instance, change: Change, waits: &mut W)
+    /// The meets and tasks that it was told. It takes constant time.
+    fn told(&self) -> &Told
+        ensures { result.now ≡ told self.now };
+
+    /// Takes over one meet slot of another state, and measures nothing: each monitor that it serves whose
+    /// deviation may be another then waits, and nobody waits who does not watch what becomes of the slot.
+    /// Where the slot is the same it takes the time of comparing it.
+    fn turn<W: Waits>(&mut self, inst: &Instance, next: &Told, meet: MeetId, waits: &mut W)
         requires of { IsOf self.old inst.now }
-        requires fits { Fits inst.now (told self.old) change }
+        requires there { meet.0 < length (told self.old) }
+        requires turns { IsTurn inst.now (told self.old) (turn_to (told self.old) next.now meet.0) }
         requires monitors { W.monitors waits.old ≡ length inst.now.monitors }
         ensures of { IsOf self.new inst.now }
-        ensures told { told self.new ≡ after (told self.old) change }
+        ensures told { told self.new ≡ slice_set (told self.old) meet.0 (slot_at next.now meet.0) }
         ensures monitors { W.monitors waits.new ≡ W.monitors waits.old }
         ensures unmoved { W.hears ≡ true → AreUnmoved inst.now serves_kind (W.waits waits.new) (told self.old) (told self.new) }
         ensures kept { WaitOn (W.waits waits.old) (W.waits waits.new) }
-        ensures others { WaitAsBefore inst.now serves_kind (W.waits waits.old) (W.waits waits.new) }
-        ensures amount { W.amount waits.new ≤ W.amount waits.old + served_watchers inst.now serves_kind (told self.old) change };
+        ensures watchers { AreWatchers inst.now (turn_to (told self.old) next.now meet.0) (W.waits waits.old) (W.waits waits.new) };
 
     /// The deviation, in the told state, of a monitor of a kind that it serves: at most
     /// `GREATEST_DEVIATION`.

@@ -8,7 +8,7 @@ ghost use Rattle.khe_told.specs.Stored.{slots_in, AreInOrder};
 
 use crate::rows::Row;
 use crate::slots::Span;
-use khe_base::ResourceId;
+use khe_base::{MeetId, ResourceId};
 use khe_instance::{Instance, Meet, Plain, Task};
 
 /// Puts the meets and tasks of a state into rows without meets. It takes time in proportion to the
@@ -54,5 +54,22 @@ fn put(rows: &mut Vec<Row>, given: &mut Vec<Option<ResourceId>>, meet: &Meet, ta
     };
     for (place, task) in tasks.iter().enumerate() {
         given[row.first_task as usize + place] = task.resource;
+    }
+}
+
+/// Puts a meet, or none, and what its places are given into a slot.
+pub(crate) fn refill(
+    rows: &mut Vec<Row>,
+    given: &mut Vec<Option<ResourceId>>,
+    meet: MeetId,
+    span: Option<Span>,
+    resources: &[Option<ResourceId>],
+)
+{
+    let at = meet.0 as usize;
+    let row = rows[at];
+    rows[at] = Row { span, ..row };
+    for (place, resource) in resources.iter().enumerate() {
+        given[row.first_task as usize + place] = *resource;
     }
 }

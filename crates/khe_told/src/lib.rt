@@ -14,6 +14,7 @@ mod rows;
 mod slots;
 mod steps;
 mod told;
+mod turns;
 mod waiting;
 mod watchers;
 
@@ -24,5 +25,6 @@ pub use refusals::Refusal;
 pub use slots::{Slot, Span};
 pub use steps::{Blank, Steps};
 pub use told::Told;
+pub use turns::Turn;
 pub use waiting::{Unheard, Waiting, Waits};
 pub use watchers::Watcher;

@@ -1,16 +1,18 @@
-ghost use Rattle.std.specs.Prelude.{◌≡◌, ◌<◌, ◌≤◌, length, slice_get, IfOk, MatchOption, Some};
+ghost use Rattle.std.specs.Prelude.{◌≡◌, ◌<◌, ◌≤◌, length, slice_get, slice_set, IfOk, MatchOption, Some};
 ghost use Rattle.khe_instance.specs.States.{IsTold};
-ghost use Rattle.khe_told.specs.Slots.{no_meets, no_slot, slot_at};
+ghost use Rattle.khe_told.specs.Slots.{emptied, no_meets, no_slot, slot_at};
+ghost use Rattle.khe_told.specs.Turns.{turn_to};
 ghost use Rattle.khe_told.specs.Lists.{meet_in, meets_in, tasks_in};
 ghost use Rattle.khe_told.specs.Changes.{after};
 ghost use Rattle.khe_told.specs.Fits.{AreTold, Fits};
 ghost use Rattle.khe_told.specs.Stored.{IsRowOf};
 
 use crate::changes::Change;
-use crate::filling::put_all;
+use crate::filling::{put_all, refill};
 use crate::opening::{no_tasks, rows_of};
 use crate::rows::{Row, row_at, turn};
 use crate::slots::Span;
+use crate::turns::{Turn, is_same};
 use khe_base::{EventId, MeetId, NoMemory, ResourceId, TaskId};
 use khe_instance::{Instance, Meet, Plain};
 use std::alloc::Global;
@@ -130,6 +132,37 @@ impl Told {
         ensures { slice_get (slot_at self.now task.meet.0).given task.place ≡ Some result }
     {
         self.given(task.meet)[task.place as usize]
+    }
+
+    /// What becomes of a meet slot where it is taken over from another state. It takes the time of comparing
+    /// what its places are given.
+    pub fn turn_to<'a>(&'a self, next: &'a Told, meet: MeetId) -> Turn<'a>
+        requires there { meet.0 < length self.now }
+        requires same { emptied (slot_at next.now meet.0) ≡ emptied (slot_at self.now meet.0) }
+        ensures turn { result ≡ turn_to self.now next.now meet.0 }
+        ensures number { result.before.meet ≡ meet }
+    {
+        let given_before = self.given(meet);
+        let given_after = next.given(meet);
+        Turn {
+            meet,
+            event: self.event(meet),
+            before: self.span(meet),
+            after: next.span(meet),
+            given_before,
+            given_after,
+            gives_other: !is_same(given_before, given_after),
+        }
+    }
+
+    /// Takes over a meet slot from another state. It takes time in proportion to its places.
+    pub fn follow(&mut self, next: &Told, meet: MeetId)
+        requires there { meet.0 < length self.old }
+        requires same { emptied (slot_at next.now meet.0) ≡ emptied (slot_at self.old meet.0) }
+        ensures { self.new ≡ slice_set self.old meet.0 (slot_at next.now meet.0) }
+    {
+        let given = next.given(meet);
+        refill(&mut self.rows, &mut self.given, meet, next.span(meet), given);
     }
 
     /// The state after a change that fits.

@@ -16,9 +16,6 @@ pub trait Waits {
     /// Whether the monitor with a number waits to be measured anew.
     ghost waits: { Self → ℕ → Bool };
 
-    /// How many wait.
-    ghost amount: { Self → ℕ };
-
     /// Whether it keeps what it is told. It takes constant time.
     fn hears() -> bool
         ensures { result ≡ hears };
@@ -27,8 +24,7 @@ pub trait Waits {
     fn add(&mut self, monitor: MonitorId)
         requires known { monitor.0 < monitors self.old }
         ensures monitors { monitors self.new ≡ monitors self.old }
-        ensures waits { (k : ℕ) → waits self.new k ≡ (waits self.old k || (hears && nat_eq k monitor.0)) }
-        ensures amount { amount self.new ≤ amount self.old + 1 };
+        ensures waits { (k : ℕ) → waits self.new k ≡ (waits self.old k || (hears && nat_eq k monitor.0)) };
 }
 
 /// Monitors that wait to be measured anew, each once. Contracts see for each monitor whether it
@@ -97,8 +93,6 @@ impl Waits for Waiting {
 
     ghost waits = { waits_in };
 
-    ghost amount = { λ w. w.amount };
-
     fn hears() -> bool {
         true
     }
@@ -128,8 +122,6 @@ impl Waits for Unheard {
     ghost monitors = { λ w. w.monitors };
 
     ghost waits = { λ w k. false };
-
-    ghost amount = { λ w. 0 };
 
     fn hears() -> bool {
         false

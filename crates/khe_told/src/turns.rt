@@ -1,0 +1,132 @@
+ghost use Rattle.std.specs.Prelude.{◌≡◌, true, false, length};
+ghost use Rattle.khe_told.specs.Turns.{duration_of};
+
+use crate::slots::Span;
+use khe_base::{EventId, MeetId, ResourceId};
+use std::marker::Model;
+
+/// A meet slot that becomes another at once, whatever changes lead there. Contracts see both slots. Each
+/// call takes constant time.
+#[derive(Drop)]
+pub struct Turn<'a> {
+    pub(crate) meet: MeetId,
+    pub(crate) event: EventId,
+    pub(crate) before: Option<Span>,
+    pub(crate) after: Option<Span>,
+    pub(crate) given_before: &'a [Option<ResourceId>],
+    pub(crate) given_after: &'a [Option<ResourceId>],
+    /// Whether a place is given something else.
+    pub(crate) gives_other: bool,
+}
+
+impl<'a> Model for Turn<'a> {
+    ghost use Rattle.std.specs.Prelude.{◌≡◌, false};
+    ghost use Rattle.khe_told.specs.Turns.{SlotTurn};
+
+    ghost Value = { SlotTurn };
+
+    ghost view = { λ t. record {
+      before = record { meet = t.meet; event = t.event; span = t.before; given = t.given_before.now };
+      after = record { meet = t.meet; event = t.event; span = t.after; given = t.given_after.now };
+    } };
+
+    ghost invariant = { λ t. t.gives_other ≡ false → t.given_before.now ≡ t.given_after.now };
+}
+
+impl<'a> Turn<'a> {
+    /// The slot's number.
+    pub fn meet(&self) -> MeetId
+        ensures { result ≡ self.now.before.meet }
+    {
+        self.meet
+    }
+
+    /// The slot's event.
+    pub fn event(&self) -> EventId
+        ensures { result ≡ self.now.before.event }
+    {
+        self.event
+    }
+
+    /// The meet before.
+    pub fn before(&self) -> Option<Span>
+        ensures { result ≡ self.now.before.span }
+    {
+        self.before
+    }
+
+    /// The meet after.
+    pub fn after(&self) -> Option<Span>
+        ensures { result ≡ self.now.after.span }
+    {
+        self.after
+    }
+
+    /// What each place is given before.
+    pub fn given_before(&self) -> &'a [Option<ResourceId>]
+        ensures { result.now ≡ self.now.before.given }
+    {
+        self.given_before
+    }
+
+    /// What each place is given after.
+    pub fn given_after(&self) -> &'a [Option<ResourceId>]
+        ensures { result.now ≡ self.now.after.given }
+    {
+        self.given_after
+    }
+
+    /// Whether the meet comes, goes, lasts longer or shorter, or starts at another time.
+    pub fn moves(&self) -> bool
+        ensures { result ≡ false → self.now.before.span ≡ self.now.after.span }
+    {
+        self.before != self.after
+    }
+
+    /// Whether the meet comes or goes, or lasts longer or shorter.
+    pub fn resizes(&self) -> bool
+        ensures { result ≡ false → duration_of self.now.before ≡ duration_of self.now.after }
+    {
+        match (self.before, self.after) {
+            (Some(before), Some(after)) => before.duration != after.duration,
+            (None, None) => false,
+            _ => true,
+        }
+    }
+
+    /// Whether a place is given something else.
+    pub fn gives_other(&self) -> bool
+        ensures { result ≡ false → self.now.before.given ≡ self.now.after.given }
+    {
+        self.gives_other
+    }
+
+    /// Whether the slot becomes another at all.
+    pub fn is_still(&self) -> bool
+        ensures { result ≡ true → self.now.before ≡ self.now.after }
+    {
+        !self.gives_other && !self.moves()
+    }
+
+    /// Whether the meet goes, or lasts shorter.
+    pub fn shrinks(&self) -> bool
+        ensures { true ≡ true }
+    {
+        duration_in(self.after) < duration_in(self.before)
+    }
+}
+
+fn duration_in(span: Option<Span>) -> u32
+{
+    match span {
+        Some(span) => span.duration,
+        None => 0,
+    }
+}
+
+/// Whether two lists are the same.
+pub(crate) fn is_same(old: &[Option<ResourceId>], new: &[Option<ResourceId>]) -> bool
+    ensures { result ≡ true → old.now ≡ new.now }
+{
+    old == new
+}
