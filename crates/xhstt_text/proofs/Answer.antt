@@ -45,12 +45,12 @@ alone bytes (Ok t) nodes attributes e = λ d h. same_rows bytes (record { nodes 
 alone bytes (Err f) nodes attributes e = tt
 
 -- bytes with a fault spell no document
-faulty : (bytes : List ℕ) (f : TextFault) → outcome_of bytes ≡ Err f → (d : Document) → IsDocument d
+pub faulty : (bytes : List ℕ) (f : TextFault) → outcome_of bytes ≡ Err f → (d : Document) → IsDocument d
     → bytes ≡ spelling d → ⊥
 faulty bytes f e d h same =
     let k : Ok (table d) ≡ outcome_of bytes = sym (run_document d h) ∙ ap outcome_of (sym same) in cc
 
-not_text : (bytes : List ℕ) (at : ℕ) → IsValidUpTo bytes at → IsUtf8 bytes → ⊥
+pub not_text : (bytes : List ℕ) (at : ℕ) → IsValidUpTo bytes at → IsUtf8 bytes → ⊥
 not_text bytes at v u =
     let short : at < length bytes = v.short in
     let whole : at ≡ length bytes = sym (utf8_valid_len-IsValidUpTo bytes at v) ∙ utf8_valid_len-IsUtf8 bytes u in
@@ -60,7 +60,7 @@ pub unspelled : (bytes : List ℕ) (kind at : ℕ) → IsFirstFault bytes kind a
 unspelled bytes kind at (inl h) d s = not_text bytes at h.1 s.0
 unspelled bytes kind at (inr h) d s = faulty bytes (Bad kind at) h.1 d s.1 s.2
 
-same_fault : (o : Outcome) (f g : TextFault) → o ≡ Err f → o ≡ Err g → f ≡ g
+pub same_fault : (o : Outcome) (f g : TextFault) → o ≡ Err f → o ≡ Err g → f ≡ g
 same_fault o f g e d = cc
 
 no_both : {G : Type 0} (o : Outcome) (rows : Rows) (f : TextFault) → o ≡ Ok rows → o ≡ Err f → G
@@ -69,7 +69,7 @@ no_both o rows f e d = cc
 fault_in : {T : Type 0} (f g : TextFault) (r : Result T TextFault) → r ≡ Err f → r ≡ Err g → f ≡ g
 fault_in f g r e d = cc
 
-same_parts : (k a kind at : ℕ) → Bad k a ≡ Bad kind at → (k ≡ kind) × (a ≡ at)
+pub same_parts : (k a kind at : ℕ) → Bad k a ≡ Bad kind at → (k ≡ kind) × (a ≡ at)
 same_parts k a kind at e = (cc, cc)
 
 abbrev failing : {T : Type 0} → TextFault → Result T TextFault

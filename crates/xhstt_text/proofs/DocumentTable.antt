@@ -103,10 +103,10 @@ count-attributes (attribute gap name before after quote value more) at = ap suc 
 
 -- content stands in a table: its text from a place on, its rows from a number on, and the rows of
 -- its attributes from a number on
-record StandsAt (t : FlatTable) (parent : Option ℕ) (number first at : ℕ) (c : Content) : Type 0 where
-  text_at : Holds t.bytes at (text c)
-  nodes_at : Holds t.nodes number (rows parent number first at c)
-  attributes_at : Holds t.attributes first (attribute_rows at c)
+pub record StandsAt (t : FlatTable) (parent : Option ℕ) (number first at : ℕ) (c : Content) : Type 0 where
+  pub text_at : Holds t.bytes at (text c)
+  pub nodes_at : Holds t.nodes number (rows parent number first at c)
+  pub attributes_at : Holds t.attributes first (attribute_rows at c)
 
 -- where the parts of a start tag stand
 start-name : (bytes : List ℕ) (at : ℕ) (s : Start) → Holds bytes at (start_text s) → Holds bytes (at + 1) s.name
@@ -289,7 +289,7 @@ Stands-node t a n info kids others b e i k o = (
 )
 
 -- the rows of content stand for its elements
-content-stands : (c : Content) (t : FlatTable) (parent : Option ℕ) (number first at : ℕ)
+pub content-stands : (c : Content) (t : FlatTable) (parent : Option ℕ) (number first at : ℕ)
     → StandsAt t parent number first at c
     → Stands t number (forest_at at c) (number + length (rows parent number first at c))
 content-stands nothing t parent number first at h = omega arith

@@ -10,7 +10,7 @@ use Rattle.xhstt_text.specs.Machine.{Read, Phase, Within, after_piece, wide_1, w
 use Rattle.xhstt_text.specs.Machine.{in_decimal, in_hexadecimal, state, step, run}
 use Rattle.xhstt_text.proofs.Runs.{by_step}
 
-run_named : (e : Entity) (place : ℕ) (w : Within) (r : Read) (at : ℕ) (rest : List ℕ)
+pub run_named : (e : Entity) (place : ℕ) (w : Within) (r : Read) (at : ℕ) (rest : List ℕ)
     → run (reference place w) r at (entity_name e ++ (59 ∷ rest))
     ≡ run (after_piece w) r (at + length (entity_name e) + 1) rest
 run_named less place w r at rest = ap (λ n. run (after_piece w) r n rest)
@@ -24,7 +24,7 @@ run_named apostrophe place w r at rest = ap (λ n. run (after_piece w) r n rest)
 run_named quotation place w r at rest = ap (λ n. run (after_piece w) r n rest)
     (let e : at + 1 + 1 + 1 + 1 + 1 ≡ at + 4 + 1 = omega arith in e)
 
-run_decimal : (ds : List ℕ) (place n : ℕ) (w : Within) (r : Read) (at : ℕ) (rest : List ℕ) → AllAre is_decimal ds
+pub run_decimal : (ds : List ℕ) (place n : ℕ) (w : Within) (r : Read) (at : ℕ) (rest : List ℕ) → AllAre is_decimal ds
     → run (in_decimal place n w) r at (ds ++ rest)
     ≡ run (in_decimal place (number_from 10 n ds) w) r (at + length ds) rest
 run_decimal [] place n w r at rest h = ap (λ i. run (in_decimal place n w) r i rest) (sym (add-zero at))
@@ -33,7 +33,7 @@ run_decimal (d ∷ ds) place n w r at rest h =
     ∙ run_decimal ds place (n * 10 + digit d) w r (at + 1) rest h.1
     ∙ ap (λ i. run (in_decimal place (number_from 10 n (d ∷ ds)) w) r i rest) (omega arith)
 
-run_hexadecimal : (ds : List ℕ) (place n : ℕ) (w : Within) (r : Read) (at : ℕ) (rest : List ℕ)
+pub run_hexadecimal : (ds : List ℕ) (place n : ℕ) (w : Within) (r : Read) (at : ℕ) (rest : List ℕ)
     → AllAre is_hexadecimal ds → run (in_hexadecimal place n w) r at (ds ++ rest)
     ≡ run (in_hexadecimal place (number_from 16 n ds) w) r (at + length ds) rest
 run_hexadecimal [] place n w r at rest h = ap (λ i. run (in_hexadecimal place n w) r i rest) (sym (add-zero at))
@@ -45,7 +45,7 @@ run_hexadecimal (d ∷ ds) place n w r at rest h =
 pub decimal_isnt_x : (b : ℕ) → is_decimal b ≡ true → eqb b 120 ≡ false
 decimal_isnt_x b h = grind (arith, nat_tests)
 
-run_decimals : (ds : List ℕ) (place : ℕ) (w : Within) (r : Read) (at : ℕ) (rest : List ℕ) → AreDigits is_decimal ds
+pub run_decimals : (ds : List ℕ) (place : ℕ) (w : Within) (r : Read) (at : ℕ) (rest : List ℕ) → AreDigits is_decimal ds
     → is_character (number_from 10 0 ds) ≡ true → run (hash place w) r at (ds ++ (59 ∷ rest))
     ≡ run (after_piece w) r (at + length ds + 1) rest
 run_decimals [] place w r at rest h k = absurd h
@@ -59,7 +59,7 @@ run_decimals (d ∷ ds) place w r at rest h k =
     ∙ by_step (in_decimal place n w) r (at + 1 + length ds) 59 rest (after_piece w) r (rw is refl)
     ∙ ap (λ i. run (after_piece w) r i rest) (omega arith)
 
-run_hexadecimals : (ds : List ℕ) (place : ℕ) (w : Within) (r : Read) (at : ℕ) (rest : List ℕ)
+pub run_hexadecimals : (ds : List ℕ) (place : ℕ) (w : Within) (r : Read) (at : ℕ) (rest : List ℕ)
     → AreDigits is_hexadecimal ds → is_character (number_from 16 0 ds) ≡ true
     → run (hash_x place w) r at (ds ++ (59 ∷ rest)) ≡ run (after_piece w) r (at + length ds + 1) rest
 run_hexadecimals [] place w r at rest h k = absurd h

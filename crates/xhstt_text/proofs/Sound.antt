@@ -128,11 +128,11 @@ white_gap : (w : List ℕ) → IsGap w → IsWhite w
 white_gap [] h = absurd h
 white_gap (b ∷ w) h = h
 
-all_push : (test : ℕ → Bool) (w : List ℕ) (b : ℕ) → AllAre test w → test b ≡ true → AllAre test (w ++ b ∷ [])
+pub all_push : (test : ℕ → Bool) (w : List ℕ) (b : ℕ) → AllAre test w → test b ≡ true → AllAre test (w ++ b ∷ [])
 all_push test [] b h e = (e, tt)
 all_push test (c ∷ w) b h e = (h.0, all_push test w b h.1 e)
 
-name_push : (name : List ℕ) (b : ℕ) → IsName name → is_name b ≡ true → IsName (name ++ b ∷ [])
+pub name_push : (name : List ℕ) (b : ℕ) → IsName name → is_name b ≡ true → IsName (name ++ b ∷ [])
 name_push [] b h e = absurd h
 name_push (c ∷ name) b h e = (h.0, all_push is_name name b h.1 e)
 
@@ -228,22 +228,22 @@ element (n ∷ ns) name bs hn d (
     )
 
 -- steps, backwards
-choose : {G : Type 0} (c : Bool) (x y : Step) (s : State) → (c ≡ true → x ≡ Ok s → G) → (c ≡ false → y ≡ Ok s → G)
+pub choose : {G : Type 0} (c : Bool) (x y : Step) (s : State) → (c ≡ true → x ≡ Ok s → G) → (c ≡ false → y ≡ Ok s → G)
     → cond c x y ≡ Ok s → G
 choose true x y s f g e = f refl e
 choose false x y s f g e = g refl e
 
-no : {G : Type 0} {f : TextFault} (s : State) → refused f ≡ Ok s → G
+pub no : {G : Type 0} {f : TextFault} (s : State) → refused f ≡ Ok s → G
 no s e = cc
 
 arrives : (P : State → Type 0) (q : Phase) (r : Read) (s : State) → state q r ≡ Ok s → P s
     → P (record { phase = q; read = r })
 arrives P q r s e h = let d : s ≡ record { phase = q; read = r } = cc in subst P d h
 
-same_byte : (b k : ℕ) → eqb b k ≡ true → b ≡ k
+pub same_byte : (b k : ℕ) → eqb b k ≡ true → b ≡ k
 same_byte b k e = grind (arith, nat_tests)
 
-abbrev names_of : List Frame → List (List ℕ)
+abbrev pub names_of : List Frame → List (List ℕ)
 names_of [] = []
 names_of (f ∷ fs) = f.name ∷ names_of fs
 
@@ -504,7 +504,7 @@ number_push : (base : ℕ) (ds : List ℕ) (n b : ℕ)
 number_push base [] n b = refl
 number_push base (d ∷ ds) n b = number_push base ds (n * base + digit d) b
 
-digits_push : (test : ℕ → Bool) (ds : List ℕ) (b : ℕ) → AreDigits test ds → test b ≡ true
+pub digits_push : (test : ℕ → Bool) (ds : List ℕ) (b : ℕ) → AreDigits test ds → test b ≡ true
     → AreDigits test (ds ++ b ∷ [])
 digits_push test [] b h e = absurd h
 digits_push test (d ∷ ds) b h e = (h.0, all_push test ds b h.1 e)
