@@ -1,4 +1,3 @@
-pub mod ApartLaws
 pub mod DutyLaws
 pub mod FillingLaws
 pub mod FrameLaws
@@ -8,6 +7,7 @@ pub mod PlainLaws
 pub mod PuttingLaws
 pub mod SlotLaws
 pub mod StoredLaws
+pub mod TurnLaws
 pub mod ValidLaws
 pub mod WaitingLaws
 pub mod WatcherLaws
