@@ -2,7 +2,7 @@
 -- monitors that name its event. Where it fills or empties cells, pairs of a resource and a time,
 -- each is watched by the monitors of the resource that list the time. A Give or a Take is watched
 -- besides by those that limit the resource's workload.
-use Rattle.std.specs.Prelude.{ℕ, ◌+◌, ◌*◌, if◌then◌else◌, Some, None, List, [], ◌∷◌, slice_get}
+use Rattle.std.specs.Prelude.{ℕ, ◌≡◌, ◌≤◌, ◌⊎◌, ◌+◌, ◌*◌, Bool, true, if◌then◌else◌, Some, None, List, [], ◌∷◌, slice_get}
 use Rattle.std.specs.List.{sum_by, count_by, filter_map, range_with_len}
 use Rattle.std.specs.Option.{option_map_or}
 use Rattle.khe_base.specs.declared.numbers.ResourceId.{ResourceId}
@@ -70,3 +70,13 @@ watcher_count p s c = sum_by (watch_count p (slot_at s (meet_of c)) c) p.monitor
 abbrev pub watcher_counts : Parts → List Slot → List Change → ℕ
 watcher_counts p s [] = 0
 watcher_counts p s (c ∷ cs) = watcher_count p s c + watcher_counts p (after s c) cs
+
+-- how often a monitor watches them
+abbrev pub watch_counts : Parts → List Slot → List Change → Monitor → ℕ
+watch_counts p s [] m = 0
+watch_counts p s (c ∷ cs) m = watch_count p (slot_at s (meet_of c)) c m + watch_counts p (after s c) cs m
+
+-- who waits and did not before watches one of the changes
+abbrev pub AreWatchersOf : Parts → List Slot → List Change → (ℕ → Bool) → (ℕ → Bool) → Type 0
+AreWatchersOf p s cs old new = (i : ℕ) → new i ≡ true → (old i ≡ true)
+    ⊎ ((m : Monitor) × (slice_get p.monitors i ≡ Some m) × (1 ≤ watch_counts p s cs m))
