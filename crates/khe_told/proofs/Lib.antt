@@ -1,6 +1,7 @@
 pub mod DutyLaws
 pub mod FillingLaws
 pub mod FrameLaws
+pub mod FreeSlots
 pub mod ListingLaws
 pub mod OpeningLaws
 pub mod PlainLaws
