@@ -1,13 +1,13 @@
-ghost use Rattle.std.specs.Prelude.{◌≡◌, ◌<◌, length, slice_set, true};
-ghost use Rattle.khe_told.specs.Slots.{length_of, slot_at};
-ghost use Rattle.khe_told.specs.Turns.{AreWatchers, IsTurn, turn_to};
-ghost use Rattle.khe_told.specs.Waits.{AreUnmoved, WaitOn};
+ghost use Rattle.std.specs.Prelude.{ℕ, ◌≡◌, ◌<◌, ◌≤◌, length, slice_set, true};
 ghost use Rattle.khe_told.specs.Changes.{after_all};
 ghost use Rattle.khe_told.specs.Fits.{AllFit, AreTold};
-ghost use Rattle.family_keepers.specs.Takes.{AreTaken, IsMix};
+ghost use Rattle.khe_told.specs.Slots.{emptied, length_of, slot_at};
+ghost use Rattle.khe_told.specs.Turns.{AreWatchers, turn_to};
+ghost use Rattle.khe_told.specs.Waits.{AreUnmoved, WaitOn};
+ghost use Rattle.family_keepers.specs.Takes.{AreWatchersAt, IsMix, Mentions};
 
 use crate::keepers::Keeper;
-use khe_base::{MeetId, MonitorId, NoMemory, both};
+use khe_base::{MeetId, MonitorId, NoMemory};
 use khe_instance::{Instance, Kind};
 use khe_told::{Change, Family, Told, Waits};
 use std::alloc::Global;
@@ -36,7 +36,9 @@ fn take<K: Keeper, W: Waits>(
 )
     requires keeps { K.Keeps keeper.old inst.now told.old }
     requires there { meet.0 < length told.old }
-    requires turns { IsTurn inst.now told.old (turn_to told.old ahead.now meet.0) }
+    requires told { AreTold inst.now told.old }
+    requires same { emptied (slot_at ahead.now meet.0) ≡ emptied (slot_at told.old meet.0) }
+    requires later { AreTold inst.now (slice_set told.old meet.0 (slot_at ahead.now meet.0)) }
     requires monitors { W.monitors waits.old ≡ length inst.now.monitors }
     ensures keeps { K.Keeps keeper.new inst.now told.new }
     ensures told { told.new ≡ slice_set told.old meet.0 (slot_at ahead.now meet.0) }
@@ -53,7 +55,7 @@ fn take<K: Keeper, W: Waits>(
     told.follow(ahead, meet);
 }
 
-/// Takes over the slots of changes whose meets go or are shorter then: no event's meets are ever longer
+/// Takes over the slots of changes whose meets go or are shorter then: so no event's meets are ever longer
 /// together than the event.
 fn take_shorter<K: Keeper, W: Waits>(
     inst: &Instance,
@@ -63,6 +65,18 @@ fn take_shorter<K: Keeper, W: Waits>(
     changes: &[Change],
     waits: &mut W,
 )
+    requires keeps { K.Keeps keeper.old inst.now told.old }
+    requires told { AreTold inst.now told.old }
+    requires ahead { AreTold inst.now ahead.now }
+    requires there { (k : ℕ) → Mentions changes.now k → k < length told.old }
+    requires monitors { W.monitors waits.old ≡ length inst.now.monitors }
+    ensures keeps { K.Keeps keeper.new inst.now told.new }
+    ensures mix { IsMix inst.now told.old ahead.now told.new }
+    ensures shorter { (k : ℕ) → Mentions changes.now k → length_of (slot_at told.new k) ≤ length_of (slot_at ahead.now k) }
+    ensures monitors { W.monitors waits.new ≡ W.monitors waits.old }
+    ensures unmoved { W.hears ≡ true → AreUnmoved inst.now K.serves_kind (W.waits waits.new) told.old told.new }
+    ensures kept { WaitOn (W.waits waits.old) (W.waits waits.new) }
+    ensures watchers { AreWatchersAt inst.now told.old ahead.now changes.now (W.waits waits.old) (W.waits waits.new) }
 {
     for change in changes {
         let meet = change.meet();
@@ -81,6 +95,19 @@ fn take_all<K: Keeper, W: Waits>(
     changes: &[Change],
     waits: &mut W,
 )
+    requires keeps { K.Keeps keeper.old inst.now told.old }
+    requires told { AreTold inst.now told.old }
+    requires ahead { AreTold inst.now ahead.now }
+    requires there { (k : ℕ) → Mentions changes.now k → k < length told.old }
+    requires shorter { (k : ℕ) → length_of (slot_at told.old k) ≤ length_of (slot_at ahead.now k) }
+    requires monitors { W.monitors waits.old ≡ length inst.now.monitors }
+    ensures keeps { K.Keeps keeper.new inst.now told.new }
+    ensures mix { IsMix inst.now told.old ahead.now told.new }
+    ensures taken { (k : ℕ) → Mentions changes.now k → slot_at told.new k ≡ slot_at ahead.now k }
+    ensures monitors { W.monitors waits.new ≡ W.monitors waits.old }
+    ensures unmoved { W.hears ≡ true → AreUnmoved inst.now K.serves_kind (W.waits waits.new) told.old told.new }
+    ensures kept { WaitOn (W.waits waits.old) (W.waits waits.new) }
+    ensures watchers { AreWatchersAt inst.now told.old ahead.now changes.now (W.waits waits.old) (W.waits waits.new) }
 {
     for change in changes {
         take(inst, keeper, told, ahead, change.meet(), waits);
@@ -110,10 +137,9 @@ impl<K: Keeper + Drop> Family for Keeping<K> {
     ghost IsOf = { λ f p. K.Keeps f.keeper p f.told × (f.ahead ≡ f.told) × AreTold p f.told };
 
     fn open(alloc: Global, inst: &Instance) -> Result<Keeping<K>, NoMemory> {
-        let told = Told::open(alloc, inst);
-        let ahead = Told::open(alloc, inst);
-        let keeper = K::open(alloc, inst);
-        let ((told, ahead), keeper) = both(both(told, ahead), keeper)?;
+        let told = Told::open(alloc, inst)?;
+        let ahead = Told::open(alloc, inst)?;
+        let keeper = K::open(alloc, inst)?;
         Ok(Keeping {
             told,
             ahead,

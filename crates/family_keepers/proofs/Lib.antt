@@ -1,0 +1,2 @@
+pub mod TakeLaws
+pub mod WatchLaws
