@@ -1,5 +1,6 @@
 -- Gauges while those at the places of a list are turned, and monitors that wait.
-use Rattle.std.proofs.Common.{ℕ, ◌≡◌, ◌≤◌, ◌<◌, ◌+◌, ◌∙◌, ◌||◌, ◌&&◌, nat_eq, zero, suc, Bool, true, false, cond, Some, List, ◌∷◌}
+use Rattle.std.proofs.Common.{ℕ, ◌≡◌, ◌≤◌, ◌<◌, ◌+◌, ◌∙◌, ◌||◌, ◌&&◌, nat_eq, zero, suc, Bool, true, false, cond, Some}
+use Rattle.std.proofs.Common.{List, ◌∷◌}
 use Rattle.std.proofs.Common.{drop, set, get_or, length, slice_get, refl, sym, ap, subst, arith, filter, ◌⊎◌, inl, inr}
 use Rattle.std.specs.Option.{option_map_or}
 use Rattle.std.specs.List.{range_with_len}

@@ -1,4 +1,5 @@
-use Rattle.std.proofs.Common.{◌≡◌, ◌∙◌, ◌<◌, ◌+◌, inl, Some, length, get_or, drop, slice_get, refl, sym, ap, subst, arith}
+use Rattle.std.proofs.Common.{◌≡◌, ◌∙◌, ◌<◌, ◌+◌, inl, Some, length, get_or, drop, slice_get, refl, sym, ap, subst}
+use Rattle.std.proofs.Common.{arith}
 use Rattle.std.proofs.lemmas.Option.{slice_get-get_or, slice_get_within}
 use Rattle.khe_told.specs.Slots.{emptied}
 use Rattle.khe_told.specs.Turns.{turned}
@@ -7,7 +8,8 @@ use Rattle.event_monitors.specs.Posts.{names}
 use Rattle.event_monitors.specs.Turns.{AreTurned}
 use Rattle.event_monitors.specs.declared.posts.Post.{Post}
 use Rattle.event_monitors.proofs.TurnLaws.{listed_step, no_post, same_start, same_step, turned_start, turned_step}
-use Rattle.event_monitors.proofs.TurnLaws.{spot_drop, spot_fresh, spot_has, spot_listed, spot_named, spot_post, spot_within}
+use Rattle.event_monitors.proofs.TurnLaws.{spot_drop, spot_fresh, spot_has, spot_listed, spot_named, spot_post}
+use Rattle.event_monitors.proofs.TurnLaws.{spot_within}
 use Rattle.event_monitors.proofs.turns.turn_all.Goals as goal
 
 pub loop-place-init : goal.loop-place-init
@@ -99,7 +101,8 @@ loop-place-preserved g c =
     let here : slice_get now k ≡ Some c.index_mut.result.now =
     slice_get-get_or now k c.index_mut.result.now within ∙ ap Some (sym c.index_mut.ensures.value) in
     record {
-      turned = turned_step g.G.Gauge.Keeps p posts s s2 old k a c.turn_one.new.gauge now (drop (i + 1) list) there within
+      turned = turned_step g.G.Gauge.Keeps p posts s s2 old k a c.turn_one.new.gauge now (drop (i + 1) list) there
+          within
           (spot_fresh p posts e list i no_post is l) one.keeps
           (subst (λ xs. AreTurned g.G.Gauge.Keeps p posts s2 old now xs) (spot_drop p posts e list i no_post is l)
           so.turned);

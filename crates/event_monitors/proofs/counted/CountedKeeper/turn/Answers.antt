@@ -77,7 +77,8 @@ returns-then-not-hears-clause-unmoved g c = λ hears.
     let gauges = c.args.self.now.gauges.items in
     let posts = c.args.self.now.index.posts in
     let waits = g.W.Waits.waits c.args.waits.now in
-    unmoved_on g.G.Gauge.Keeps g.G.Gauge.value g.met.G.Gauge.exact p g.G.Gauge.serves_kind posts s (turned s t) f.0 gauges
+    unmoved_on g.G.Gauge.Keeps g.G.Gauge.value g.met.G.Gauge.exact p g.G.Gauge.serves_kind posts s (turned s t) f.0
+    gauges
     gauges waits f.2 f.2 f.3
     (λ k a h there here. g.met.G.Gauge.deaf h p a.monitor s t (c.hears.ensures c.if-not-hears.true) c.requires.turns
     (f.3 k a h there here))
