@@ -1,5 +1,5 @@
 -- Distribute Split Events: by how many the event has too few or too many meets of a duration.
-use Rattle.std.proofs.Common.{ℕ, ◌≡◌, ◌≤◌, ◌==◌, true, cond, Option, List, sym, ap, subst, arith, false, refl}
+use Rattle.std.proofs.Common.{ℕ, ◌≡◌, ◌≤◌, ◌==◌, true, cond, Option, List, sym, ap, subst, arith, refl}
 use Rattle.khe_base.specs.Bounds.{count_outside}
 use Rattle.khe_base.specs.declared.numbers.ResourceId.{ResourceId}
 use Rattle.khe_base.specs.declared.numbers.TimeId.{TimeId}
@@ -42,7 +42,8 @@ of_duration_bounded (DistributeSplitEvents only least greatest) span given =
 of_duration_bounded _ span given = omega arith
 
 pub of_duration_unheard : (rule : Rule) (point : Point) (t : SlotTurn) → KeepsDuration t
-    → of_duration rule t.after.span (given_at point t.after.given) ≡ of_duration rule t.before.span (given_at point t.before.given)
+    → of_duration rule t.after.span (given_at point t.after.given)
+    ≡ of_duration rule t.before.span (given_at point t.before.given)
 of_duration_unheard (DistributeSplitEvents only least greatest) point t e =
     durations_kept (one_of only) (λ a b n. refl) t e
 of_duration_unheard _ point t e = refl

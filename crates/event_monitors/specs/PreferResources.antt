@@ -1,5 +1,5 @@
 -- Prefer Resources: the duration of the tasks at a place with a resource outside the preferred ones.
-use Rattle.std.proofs.Common.{ℕ, ◌≡◌, ◌≤◌, Bool, true, Option, List, sym, subst, arith, false, refl}
+use Rattle.std.proofs.Common.{ℕ, ◌≡◌, ◌≤◌, Bool, true, Option, List, sym, subst, arith, refl}
 use Rattle.khe_base.specs.declared.numbers.ResourceId.{ResourceId}
 use Rattle.khe_instance.specs.Deviation.{deviation_at}
 use Rattle.khe_instance.specs.EventDeviation.{given_outside, misfilled_duration}
@@ -33,7 +33,8 @@ misfilled_bounded (PreferResources resources role) span given =
 misfilled_bounded _ span given = omega arith
 
 pub misfilled_unheard : (rule : Rule) (point : Point) (t : SlotTurn) → KeepsTasks t
-    → misfilled rule t.after.span (given_at point t.after.given) ≡ misfilled rule t.before.span (given_at point t.before.given)
+    → misfilled rule t.after.span (given_at point t.after.given)
+    ≡ misfilled rule t.before.span (given_at point t.before.given)
 misfilled_unheard (PreferResources resources role) point t e =
     tasks_kept (misfilled_duration resources) point t e
 misfilled_unheard _ point t e = refl
