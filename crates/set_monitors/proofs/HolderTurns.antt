@@ -30,7 +30,7 @@ use Rattle.khe_told.specs.Turns.{IsTurn, SlotTurn, turned}
 use Rattle.khe_told.specs.declared.slots.Slot.{Slot}
 use Rattle.event_monitors.specs.Posts.{names}
 use Rattle.event_monitors.specs.ShareLaws.{rule_of_kind}
-use Rattle.event_monitors.proofs.SlotFacts.{slot_event}
+use Rattle.event_monitors.proofs.SlotFacts.{turn_event}
 use Rattle.set_monitors.specs.AvoidSplitAssignments.{AreCandidates, AreHeld, AreWithin, IsListed, IsShared, given_from}
 use Rattle.set_monitors.specs.AvoidSplitAssignments.{given_in, held, holders, in_role, is_first, is_last, loose_none, wants}
 use Rattle.set_monitors.specs.AvoidSplitAssignments.{with_one, without_one}
@@ -281,16 +281,12 @@ is_place p s t before later k turns old new l = record {
 -- what a turned slot gives at a place in the role, before and after
 module _ (p : Parts) (m : Monitor) (s : List Slot) (t : SlotTurn) (numbers counts : List ℕ) (above : ℕ)
     (kept : IsShared p m s numbers counts above) (turns : IsTurn p s t) (named : names p t.before.event.0 m ≡ true) where
-  pub turn_known : t.before.event.0 < length p.events
-  turn_known = let a = slot_event p s t.before.meet.0 turns.told.whose turns.there in
-      let b = ap (λ (y : Slot). y.event.0) turns.slot in omega (arith, a, b)
-
   pub listed_before : (k : ℕ) (o : Option ResourceId) → in_role p m t.before.event.0 k ≡ true
       → slice_get t.before.given k ≡ Some o → IfSome o (λ r. IsListed numbers r.0)
   listed_before k o role at =
       given_listed p m s numbers counts above kept t.before k o
       (subst (IsSlot p) turns.slot (All-get_or (IsSlot p) s t.before.meet.0 no_slot turns.there turns.told.slots)) named
-      turn_known role at
+      (turn_event p s t turns) role at
 
   pub listed_after : (k : ℕ) (o : Option ResourceId) → in_role p m t.before.event.0 k ≡ true
       → slice_get t.after.given k ≡ Some o → IfSome o (λ r. IsListed numbers r.0)
@@ -301,7 +297,7 @@ module _ (p : Parts) (m : Monitor) (s : List Slot) (t : SlotTurn) (numbers count
       given_listed p m s numbers counts above kept t.after k o
       (subst (IsSlot p) (get_or-set_same s t.before.meet.0 t.after no_slot turns.there)
       (All-get_or (IsSlot p) (turned s t) t.before.meet.0 no_slot l turns.later.slots))
-      (ap (λ n. names p n m) e ∙ named) (let known = turn_known in omega (arith, known, e))
+      (ap (λ n. names p n m) e ∙ named) (let known = turn_event p s t turns in omega (arith, known, e))
       (ap (λ n. in_role p m n k) e ∙ role) at
 
 -- no count is more than all tasks

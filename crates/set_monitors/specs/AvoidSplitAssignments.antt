@@ -308,7 +308,7 @@ shared_elsewhere p m s k x numbers counts above l same named kept =
 
 -- slots without a meet have none where the state is told
 module _ (has : ℕ → Bool) (r : ℕ) where
-  pub part_none : (place : ℕ) → cond {A = ℕ} (has place && is_resource r None) 1 0 ≡ 0
+  part_none : (place : ℕ) → cond {A = ℕ} (has place && is_resource r None) 1 0 ≡ 0
   part_none place = by (has place)
     where
       by : (b : Bool) → cond {A = ℕ} (b && false) 1 0 ≡ 0

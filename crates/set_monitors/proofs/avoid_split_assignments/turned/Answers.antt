@@ -1,9 +1,10 @@
 use Rattle.std.proofs.Common.{◌≡◌, ◌+◌, ◌∙◌, ◌⊎◌, inl, inr, true, false, None, length, get_or, sym, ap, subst, arith}
+use Rattle.event_monitors.proofs.SlotFacts.{turn_event}
 use Rattle.set_monitors.specs.AvoidSplitAssignments.{held, in_role}
 use Rattle.set_monitors.proofs.HolderLaws.{holders_few}
 use Rattle.set_monitors.proofs.HolderTurns.{AreMidway, IsPlace, held_mixed_few, held_within, is_place, listed_after}
 use Rattle.set_monitors.proofs.HolderTurns.{listed_before, listed_within, midway, midway_begun, midway_done, midway_kept}
-use Rattle.set_monitors.proofs.HolderTurns.{midway_turned, turn_known}
+use Rattle.set_monitors.proofs.HolderTurns.{midway_turned}
 use Rattle.set_monitors.proofs.avoid_split_assignments.turned.Goals as goal
 use Rattle.set_monitors.proofs.avoid_split_assignments.turned.Goals.{then-is_other+then-has_role, else-is_other}
 use Rattle.set_monitors.proofs.avoid_split_assignments.turned.Goals.{else-is_other-via-then-is_other+else-has_role}
@@ -25,8 +26,7 @@ bounds-before-k-then-has_role c = (is_place c.args.inst.now c.args.told.now c.ar
 
 pub has_role-requires-clause-event : goal.has_role-requires-clause-event
 has_role-requires-clause-event c =
-    let known = turn_known c.args.inst.now c.args.monitor c.args.told.now c.args.turn.now c.args.candidates.now
-    c.args.counts.now.items c.args.above c.requires.keeps c.requires.turns c.requires.named in
+    let known = turn_event c.args.inst.now c.args.told.now c.args.turn.now c.requires.turns in
     let e = ap (λ n. n.0) c.event-event.ensures in
     omega (arith, known, e)
 
