@@ -1,6 +1,8 @@
 -- What is kept for a monitor on split assignments, while the places of a turned slot are followed.
-use Rattle.std.proofs.Common.{ℕ, ◌≡◌, ◌≤◌, ◌<◌, ◌+◌, ◌-◌, ◌==◌, ◌∙◌, ◌&&◌, ◌⊎◌, inl, inr, zero, suc, ltb, count_by, true}
-use Rattle.std.proofs.Common.{false, cond, Option, Some, None, List, length, set, get_or, slice_get, refl, sym, ap, subst}
+use Rattle.std.proofs.Common.{ℕ, ◌≡◌, ◌≤◌, ◌<◌, ◌+◌, ◌-◌, ◌==◌, ◌∙◌, ◌&&◌, ◌⊎◌, inl, inr, zero, suc, ltb, count_by}
+use Rattle.std.proofs.Common.{true}
+use Rattle.std.proofs.Common.{false, cond, Option, Some, None, List, length, set, get_or, slice_get, refl, sym, ap}
+use Rattle.std.proofs.Common.{subst}
 use Rattle.std.proofs.Common.{add-one, arith, get_or-set_same}
 use Rattle.std.specs.Prelude.{IfSome, replicate}
 use Rattle.std.specs.List.{range_with_len}
@@ -32,7 +34,8 @@ use Rattle.event_monitors.specs.Posts.{names}
 use Rattle.event_monitors.specs.ShareLaws.{rule_of_kind}
 use Rattle.event_monitors.proofs.SlotFacts.{turn_event}
 use Rattle.set_monitors.specs.AvoidSplitAssignments.{AreCandidates, AreHeld, AreWithin, IsListed, IsShared, given_from}
-use Rattle.set_monitors.specs.AvoidSplitAssignments.{given_in, held, holders, in_role, is_first, is_last, loose_none, wants}
+use Rattle.set_monitors.specs.AvoidSplitAssignments.{given_in, held, holders, in_role, is_first, is_last, loose_none}
+use Rattle.set_monitors.specs.AvoidSplitAssignments.{wants}
 use Rattle.set_monitors.specs.AvoidSplitAssignments.{with_one, without_one}
 use Rattle.set_monitors.specs.NamedSums.{sum_turned}
 use Rattle.set_monitors.proofs.HolderLaws.{free_none, given_next, held_few, held_none, holders_more, length-mixed}
@@ -221,19 +224,19 @@ module _ (p : Parts) (m : Monitor) (s : List Slot) (t : SlotTurn) (turns : IsTur
       → AreMidway p m s t numbers row n k → AreMidway p m s t numbers later less (k + 1)
   midway_turned numbers row mid later n more less k o new was is role there_old there_new amount risen more_is fallen
       less_is so =
-    record {
-      amount = amount;
-      counts = λ i r h. fallen (with_one f new) (risen f so.counts) i r h ∙ ap Some (fall_is r);
-      above =
-          let a = less_is (with_one f new) (risen f so.counts) in
-          let b = more_is f so.counts in
-          let c = holders_more p f new there_new in
-          let d : holders p (with_one f new) ≡ holders p (with_one g o) = λ j. holders p (λ q. same q j) in
-          let e = holders_more p g o there_old in
-          let l = last_is o same in
-          let h = so.above in
-          omega (arith, a, b, c, d, e, l, h);
-    }
+      record {
+        amount = amount;
+        counts = λ i r h. fallen (with_one f new) (risen f so.counts) i r h ∙ ap Some (fall_is r);
+        above =
+            let a = less_is (with_one f new) (risen f so.counts) in
+            let b = more_is f so.counts in
+            let c = holders_more p f new there_new in
+            let d : holders p (with_one f new) ≡ holders p (with_one g o) = λ j. holders p (λ q. same q j) in
+            let e = holders_more p g o there_old in
+            let l = last_is o same in
+            let h = so.above in
+            omega (arith, a, b, c, d, e, l, h);
+      }
     where
       f : ℕ → ℕ
       f = held p m (midway s t k)
@@ -280,7 +283,8 @@ is_place p s t before later k turns old new l = record {
 
 -- what a turned slot gives at a place in the role, before and after
 module _ (p : Parts) (m : Monitor) (s : List Slot) (t : SlotTurn) (numbers counts : List ℕ) (above : ℕ)
-    (kept : IsShared p m s numbers counts above) (turns : IsTurn p s t) (named : names p t.before.event.0 m ≡ true) where
+    (kept : IsShared p m s numbers counts above) (turns : IsTurn p s t)
+    (named : names p t.before.event.0 m ≡ true) where
   pub listed_before : (k : ℕ) (o : Option ResourceId) → in_role p m t.before.event.0 k ≡ true
       → slice_get t.before.given k ≡ Some o → IfSome o (λ r. IsListed numbers r.0)
   listed_before k o role at =

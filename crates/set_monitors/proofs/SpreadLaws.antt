@@ -1,6 +1,8 @@
 -- Counts of starts and one more turn.
-use Rattle.std.proofs.Common.{ℕ, ◌≡◌, ◌≤◌, ◌<◌, ◌+◌, ◌*◌, ◌∙◌, ◌⊎◌, inl, inr, zero, suc, Bool, true, false, cond, Option}
-use Rattle.std.proofs.Common.{Some, None, List, [], ◌∷◌, length, set, take, drop, slice_get, refl, sym, ap, subst, arith}
+use Rattle.std.proofs.Common.{ℕ, ◌≡◌, ◌≤◌, ◌<◌, ◌+◌, ◌*◌, ◌∙◌, ◌⊎◌, inl, inr, zero, suc, Bool, true, false, cond}
+use Rattle.std.proofs.Common.{Option}
+use Rattle.std.proofs.Common.{Some, None, List, [], ◌∷◌, length, set, take, drop, slice_get, refl, sym, ap, subst}
+use Rattle.std.proofs.Common.{arith}
 use Rattle.std.proofs.Common.{sum_by}
 use Rattle.std.specs.Prelude.{All, replicate}
 use Rattle.std.proofs.lemmas.Bool.{cases_eq}
@@ -194,16 +196,16 @@ pub spread_turned : (p : Parts) (m : Monitor) (s : List Slot) (t : SlotTurn) (sp
     → total ≡ spread_by (λ g. counted_then (f g) g (start_in t.before.span) (start_in t.after.span)) spreads)
     → IsSpread p m s old outside → IsSpread p m (turned s t) row total
 spread_turned p m s t spreads old row total_old total made turns named same least listed amount counts summed kept =
-  record {
-    monitor = kept.monitor;
-    serves = kept.serves;
-    amount = amount ∙ ap length same;
-    counts = subst (λ qs. AreCounts later qs row) same
-        (λ k q h. counts now are k q h ∙ ap Some (sym (then q.group)));
-    few = few;
-    outside = is ∙ ap (spread_by later) same;
-    small = let a = spread_small later spreads least listed few in omega (arith, a, is);
-  }
+    record {
+      monitor = kept.monitor;
+      serves = kept.serves;
+      amount = amount ∙ ap length same;
+      counts = subst (λ qs. AreCounts later qs row) same
+          (λ k q h. counts now are k q h ∙ ap Some (sym (then q.group)));
+      few = few;
+      outside = is ∙ ap (spread_by later) same;
+      small = let a = spread_small later spreads least listed few in omega (arith, a, is);
+    }
   where
     now : List Bool → ℕ
     now = started p m s

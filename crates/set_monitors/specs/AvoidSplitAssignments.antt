@@ -1,6 +1,7 @@
 -- Avoid Split Assignments: how many tasks in the role each resource has among a monitor's events, and
 -- how many resources have some.
-use Rattle.std.proofs.Common.{ℕ, ◌≡◌, ◌≤◌, ◌<◌, ◌+◌, ◌-◌, ◌==◌, ◌∙◌, ◌&&◌, ◌||◌, zero, suc, Bool, true, false, cond, Option, Some}
+use Rattle.std.proofs.Common.{ℕ, ◌≡◌, ◌≤◌, ◌<◌, ◌+◌, ◌-◌, ◌==◌, ◌∙◌, ◌&&◌, ◌||◌, zero, suc, Bool, true, false, cond}
+use Rattle.std.proofs.Common.{Option, Some}
 use Rattle.std.proofs.Common.{None, is_some, is_none, List, [], ◌∷◌, set, length, slice_get, refl, sym, ap, subst}
 use Rattle.std.proofs.Common.{arith, sum_by, count_by, filter, zero-add, ltb}
 use Rattle.std.specs.List.{list_any, range_with_len}

@@ -67,7 +67,15 @@ impl Gauge for Holders {
     fn turn(&mut self, inst: &Instance, monitor: Monitor, told: &Told, turn: &Turn<'_>) -> bool {
         let before = self.above;
         let candidates = self.candidates.as_slice();
-        self.above = turned(inst, monitor, told, turn, candidates, &mut self.counts, before);
+        self.above = turned(
+            inst,
+            monitor,
+            told,
+            turn,
+            candidates,
+            &mut self.counts,
+            before,
+        );
         self.above != before
     }
 
@@ -130,12 +138,7 @@ fn is_other(before: Option<ResourceId>, after: Option<ResourceId>) -> bool
 }
 
 // One more task of a resource, where one is given.
-fn rise(
-    candidates: &[u32],
-    counts: &mut Vec<u32>,
-    above: u32,
-    given: Option<ResourceId>,
-) -> u32
+fn rise(candidates: &[u32], counts: &mut Vec<u32>, above: u32, given: Option<ResourceId>) -> u32
     requires ascending { AreAscending candidates.now }
     requires listed { IfSome given (λ r. IsListed candidates.now r.0) }
     requires amount { length counts.old.items ≡ length candidates.now }
@@ -155,12 +158,7 @@ fn rise(
 }
 
 // One less.
-fn fall(
-    candidates: &[u32],
-    counts: &mut Vec<u32>,
-    above: u32,
-    given: Option<ResourceId>,
-) -> u32
+fn fall(candidates: &[u32], counts: &mut Vec<u32>, above: u32, given: Option<ResourceId>) -> u32
     requires ascending { AreAscending candidates.now }
     requires listed { IfSome given (λ r. IsListed candidates.now r.0) }
     requires amount { length counts.old.items ≡ length candidates.now }

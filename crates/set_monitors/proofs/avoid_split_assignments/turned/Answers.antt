@@ -2,8 +2,9 @@ use Rattle.std.proofs.Common.{◌≡◌, ◌+◌, ◌∙◌, ◌⊎◌, inl, inr
 use Rattle.event_monitors.proofs.SlotFacts.{turn_event}
 use Rattle.set_monitors.specs.AvoidSplitAssignments.{held, in_role}
 use Rattle.set_monitors.proofs.HolderLaws.{holders_few}
-use Rattle.set_monitors.proofs.HolderTurns.{AreMidway, IsPlace, held_mixed_few, held_within, is_place, listed_after}
-use Rattle.set_monitors.proofs.HolderTurns.{listed_before, listed_within, midway, midway_begun, midway_done, midway_kept}
+use Rattle.set_monitors.proofs.HolderTurns.{AreMidway, held_mixed_few, held_within, is_place, listed_after}
+use Rattle.set_monitors.proofs.HolderTurns.{listed_before, listed_within, midway, midway_begun, midway_done}
+use Rattle.set_monitors.proofs.HolderTurns.{midway_kept}
 use Rattle.set_monitors.proofs.HolderTurns.{midway_turned}
 use Rattle.set_monitors.proofs.avoid_split_assignments.turned.Goals as goal
 use Rattle.set_monitors.proofs.avoid_split_assignments.turned.Goals.{then-is_other+then-has_role, else-is_other}
@@ -92,23 +93,24 @@ loop-k-preserved c =
     c.given_before-before.ensures c.given_after-after.ensures c.loop-k-test.true in
     let e = c.event-event.ensures in
     elim c.if-is_other.branch [
-      then-is_other+then-has_role w ↦
+      | then-is_other+then-has_role w ↦
           let role : in_role p m t.before.event.0 k ≡ true = ap (λ a. in_role p m a.0 k) (sym e)
           ∙ sym w.has_role.ensures ∙ w.if-has_role.true in
           let was = listed_before p m s t numbers old c.args.above kept turns named k o role place.was in
           let is = listed_after p m s t numbers old c.args.above kept turns named k new role place.is in
           let within = listed_within p m s numbers old c.args.above kept in
           let done = midway_turned p m s t turns named numbers row w.rise-above.new.counts.items
-          w.fall-above.new.counts.items c.loop-k.above w.rise-above.result w.fall-above.result k o new place.was place.is
+          w.fall-above.new.counts.items c.loop-k.above w.rise-above.result w.fall-above.result k o new place.was
+          place.is
           role (within o was) (within new is) w.fall-above.ensures.amount w.rise-above.ensures.counts
           w.rise-above.ensures.above w.fall-above.ensures.counts w.fall-above.ensures.above c.loop-k.invariant in
           subst (λ v. AreMidway p m s t numbers v.items c.if-is_other.above (k + 1)) (sym w.counts-is)
           (subst (λ n. AreMidway p m s t numbers w.fall-above.new.counts.items n (k + 1)) (sym w.above-is) done)
-    | else-is_other w ↦
+      | else-is_other w ↦
           let still : (o ≡ new) ⊎ (in_role p m t.before.event.0 k ≡ false) = elim w.else-is_other.branch [
-            else-is_other-via-then-is_other+else-has_role v ↦ inr (ap (λ a. in_role p m a.0 k) (sym e)
+            | else-is_other-via-then-is_other+else-has_role v ↦ inr (ap (λ a. in_role p m a.0 k) (sym e)
                 ∙ sym v.has_role.ensures ∙ v.if-has_role.false)
-          | else-is_other-via-else-is_other v ↦ inl (c.is_other.ensures v.if-is_other.false)
+            | else-is_other-via-else-is_other v ↦ inl (c.is_other.ensures v.if-is_other.false)
           ] in
           subst (λ v. AreMidway p m s t numbers v.items c.if-is_other.above (k + 1)) (sym w.counts-is)
           (subst (λ n. AreMidway p m s t numbers row n (k + 1)) (sym w.above-is)
@@ -117,8 +119,10 @@ loop-k-preserved c =
     ]
 
 pub returns : goal.returns
-returns c = record { keeps =
-    midway_done c.args.inst.now c.args.monitor c.args.told.now c.args.turn.now c.requires.turns c.requires.named
-    c.args.candidates.now c.args.counts.now.items c.loop-k.counts.items c.args.above c.loop-k.above c.loop-k.k
-    (let a = ap length c.given_after-after.ensures in let b = c.loop-k-test.false in omega (arith, a, b))
-    c.requires.keeps c.loop-k.invariant }
+returns c = record {
+  keeps =
+      midway_done c.args.inst.now c.args.monitor c.args.told.now c.args.turn.now c.requires.turns c.requires.named
+      c.args.candidates.now c.args.counts.now.items c.loop-k.counts.items c.args.above c.loop-k.above c.loop-k.k
+      (let a = ap length c.given_after-after.ensures in let b = c.loop-k-test.false in omega (arith, a, b))
+      c.requires.keeps c.loop-k.invariant;
+}

@@ -1,6 +1,5 @@
-use Rattle.std.proofs.Common.{◌≡◌, ◌∙◌, List, Bool, ℕ, sym, ap, subst}
+use Rattle.std.proofs.Common.{◌≡◌, ◌∙◌, Option, sym, ap, subst}
 use Rattle.khe_base.specs.declared.numbers.TimeId.{TimeId}
-use Rattle.std.proofs.Common.{Option}
 use Rattle.set_monitors.specs.SpreadEvents.{AreCounts, counted_then, spread_by, spreads_of, start_in, started}
 use Rattle.set_monitors.proofs.SpreadLaws.{counts_few, spread_kept, spread_turned}
 use Rattle.set_monitors.proofs.spread_events.StartsGauge.turn.Goals as goal
