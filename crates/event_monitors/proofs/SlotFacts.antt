@@ -41,7 +41,7 @@ slots_events e (event ∷ events) = All-append (λ (x : Slot). x.event.0 < e + s
     (λ x h. omega (arith, h)) (slots_from (e + 1) events) (slots_events (e + 1) events))
 
 -- the event of a slot is one of the instance
-slot_event : (p : Parts) (s : List Slot) (m : ℕ) → map emptied s ≡ no_meets p → m < length s
+pub slot_event : (p : Parts) (s : List Slot) (m : ℕ) → map emptied s ≡ no_meets p → m < length s
     → (slot_at s m).event.0 < length p.events
 slot_event p s m h l =
     let a : get_or (map emptied s) m (emptied no_slot) ≡ emptied (slot_at s m) =

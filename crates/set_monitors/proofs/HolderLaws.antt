@@ -1,65 +1,73 @@
--- Counts of tasks in a role by resources, and one more change.
+-- Counts of tasks in a role by resources, and one place that is given something else.
 use Rattle.std.proofs.Common.{ℕ, ◌≡◌, ◌≤◌, ◌<◌, ◌+◌, ◌*◌, ◌==◌, ◌∙◌, ◌&&◌, ◌⊎◌, inl, inr, zero, suc, Bool, true, false}
-use Rattle.std.proofs.Common.{cond, Option, Some, None, is_none, List, [], ◌∷◌, map, set, length, slice_get, refl, sym}
+use Rattle.std.proofs.Common.{cond, Option, Some, None, is_none, List, [], ◌∷◌, map, length, slice_get, refl, sym}
 use Rattle.std.proofs.Common.{ap, subst, arith, sum_by, ltb}
-use Rattle.std.specs.Prelude.{replicate}
+use Rattle.std.specs.Prelude.{IfSome}
 use Rattle.std.specs.List.{range_with_len}
 use Rattle.std.proofs.lemmas.Bool.{cases_eq, eq-eqb, lt-ltb, ne_eqb}
 use Rattle.std.proofs.lemmas.List.{length-map, length-replicate}
-use Rattle.std.proofs.lemmas.List.Elements.{All-map, All-weaker}
+use Rattle.std.proofs.lemmas.List.Elements.{All-map}
 use Rattle.std.proofs.lemmas.List.FromFn.{length-range_with_len}
 use Rattle.std.proofs.lemmas.List.Sums.{count_by-le-length, sum_by-append, sum_by-cons, sum_by-le}
 use Rattle.std.proofs.lemmas.Option.{none-some, same_Some}
 use Rattle.khe_base.specs.declared.limits.TheConstants.{RESOURCES, TASKS}
 use Rattle.khe_base.specs.declared.numbers.ResourceId.{ResourceId}
-use Rattle.khe_base.specs.declared.numbers.TaskId.{TaskId}
-use Rattle.khe_base.proofs.ListLemmas.{there}
 use Rattle.khe_instance.specs.Running.{is_resource}
 use Rattle.khe_instance.specs.WellMade.{AreWellMade}
 use Rattle.khe_instance.specs.declared.parts.EventInfo.{EventInfo}
 use Rattle.khe_instance.specs.declared.parts.Parts.{Parts}
 use Rattle.khe_instance.specs.declared.points.Monitor.{Monitor}
-use Rattle.khe_told.specs.Changes.{after, changed, meet_of}
-use Rattle.khe_told.specs.Fits.{AreTold, Fits, IsSlot}
-use Rattle.khe_told.specs.Slots.{emptied, empty_slot, no_meets, slot_at, slots_from, slots_of_event}
-use Rattle.khe_told.specs.declared.changes.Change.{Change}
-use Rattle.khe_told.specs.declared.changes.Change.TheVariants.{Add, Drop, Place as PlaceAt, Lift, Give, Take}
+use Rattle.khe_told.specs.Slots.{emptied, empty_slot, no_meets, slots_from, slots_of_event}
 use Rattle.khe_told.specs.declared.slots.Slot.{Slot}
-use Rattle.khe_told.specs.declared.slots.Span.{Span}
 use Rattle.event_monitors.specs.Posts.{names}
-use Rattle.set_monitors.specs.AvoidSplitAssignments.{given_from, given_in, held, holders, in_role, is_in_role, loose}
-use Rattle.set_monitors.specs.AvoidSplitAssignments.{with_one}
-use Rattle.set_monitors.specs.NamedSums.{named_part, sum_of_none, sum_turned}
+use Rattle.set_monitors.specs.AvoidSplitAssignments.{given_from, given_in, given_none, held, holders, in_role, is_first}
+use Rattle.set_monitors.specs.AvoidSplitAssignments.{loose, with_one}
+use Rattle.set_monitors.specs.NamedSums.{named_part, sum_of_none}
 use Rattle.event_monitors.proofs.Turning.{sum_le}
 
--- what places are given, with one of them changed
+-- what places are given, where the first of them are given what they are in another list
+abbrev pub mixed : {A : Type 0} → ℕ → List A → List A → List A
+mixed zero old new = old
+mixed (suc k) [] new = []
+mixed (suc k) (o ∷ old) [] = o ∷ old
+mixed (suc k) (o ∷ old) (n ∷ new) = n ∷ mixed k old new
+
+pub length-mixed : {A : Type 0} (k : ℕ) (old new : List A) → length (mixed k old new) ≡ length old
+length-mixed zero old new = refl
+length-mixed (suc k) [] new = refl
+length-mixed (suc k) (o ∷ old) [] = refl
+length-mixed (suc k) (o ∷ old) (n ∷ new) = ap suc (length-mixed k old new)
+
+pub mixed_all : {A : Type 0} (k : ℕ) (old new : List A) → length old ≡ length new → length old ≤ k
+    → mixed k old new ≡ new
+mixed_all zero [] [] same l = refl
+mixed_all zero [] (n ∷ new) same l = absurd (omega (arith, same))
+mixed_all zero (o ∷ old) new same l = absurd (omega (arith, l))
+mixed_all (suc k) [] [] same l = refl
+mixed_all (suc k) [] (n ∷ new) same l = absurd (omega (arith, same))
+mixed_all (suc k) (o ∷ old) [] same l = absurd (omega (arith, same))
+mixed_all (suc k) (o ∷ old) (n ∷ new) same l =
+    ap (λ xs. n ∷ xs) (mixed_all k old new (omega (arith, same)) (omega (arith, l)))
+
 module _ (has : ℕ → Bool) (r : ℕ) where
   abbrev pub part : ℕ → Option ResourceId → ℕ
   part place o = cond (has place && is_resource r o) 1 0
 
-  pub given_set : (start k place : ℕ) (given : List (Option ResourceId)) (new old : Option ResourceId)
-      → place ≡ start + k → slice_get given k ≡ Some old
-      → given_from has r start (set given k new) + part place old ≡ given_from has r start given + part place new
-  given_set start k place [] new old h there = absurd (none-some old there)
-  given_set start zero place (o ∷ given) new old h there =
-      let n : start ≡ place = omega (arith, h) in
-      let a : part place old ≡ part start o = sym (λ j. part (n j) (same_Some o old there j)) in
-      let b : part start new ≡ part place new = ap (λ q. part q new) n in
-      omega (arith, a, b)
-  given_set start (suc k) place (o ∷ given) new old h there =
-      let a = given_set (start + 1) k place given new old (omega (arith, h)) there in
-      omega (arith, a)
-
-  pub part_none : (place : ℕ) → part place None ≡ 0
-  part_none place = by (has place)
-    where
-      by : (b : Bool) → cond {A = ℕ} (b && false) 1 0 ≡ 0
-      by true = refl
-      by false = refl
-
-  pub given_none : (start n : ℕ) → given_from has r start (replicate n None) ≡ 0
-  given_none start zero = refl
-  given_none start (suc n) = let a = part_none start in let b = given_none (start + 1) n in omega (arith, a, b)
+  -- one more of them takes the part of what the place was given for that of what it is given
+  pub given_next : (start k place : ℕ) (old new : List (Option ResourceId)) (o n : Option ResourceId)
+      → place ≡ start + k → slice_get old k ≡ Some o → slice_get new k ≡ Some n
+      → given_from has r start (mixed (suc k) old new) + part place o
+      ≡ given_from has r start (mixed k old new) + part place n
+  given_next start k place [] new o n h was is = absurd (none-some o was)
+  given_next start k place (a ∷ old) [] o n h was is = absurd (none-some n is)
+  given_next start zero place (a ∷ old) (b ∷ new) o n h was is =
+      let e : start ≡ place = omega (arith, h) in
+      let one : part place o ≡ part start a = sym (λ j. part (e j) (same_Some a o was j)) in
+      let two : part place n ≡ part start b = sym (λ j. part (e j) (same_Some b n is j)) in
+      omega (arith, one, two)
+  given_next start (suc k) place (a ∷ old) (b ∷ new) o n h was is =
+      let rest = given_next (start + 1) k place old new o n (omega (arith, h)) was is in
+      omega (arith, rest)
 
   pub given_few : (start : ℕ) (given : List (Option ResourceId)) → given_from has r start given ≤ length given
   given_few start [] = omega arith
@@ -70,66 +78,13 @@ module _ (has : ℕ → Bool) (r : ℕ) where
       one true = omega arith
       one false = omega arith
 
--- what a change does to what each resource has
-module _ (p : Parts) (m : Monitor) (s : List Slot) (q : ℕ) where
-  abbrev turned : (c : Change) → Fits p s c → names p (slot_at s (meet_of c)).event.0 m ≡ true
-      → held p m (after s c) q + given_in p m q (slot_at s (meet_of c))
-      ≡ held p m s q + given_in p m q (changed (slot_at s (meet_of c)) c)
-  turned c fits named = sum_turned p m (given_in p m q) s (meet_of c) (changed (slot_at s (meet_of c)) c) fits.there
-      refl named
-
-  pub held_given : (t : TaskId) (r : ResourceId) → Fits p s (Give t r) → names p (slot_at s t.meet.0).event.0 m ≡ true
-      → in_role p m (slot_at s t.meet.0).event.0 t.place ≡ true
-      → held p m (after s (Give t r)) q ≡ held p m s q + cond (r.0 == q) 1 0
-  held_given t r fits named role =
-      let x = slot_at s t.meet.0 in
-      let a = turned (Give t r) fits named in
-      let b = given_set (in_role p m x.event.0) q 0 t.place t.place x.given (Some r) None (omega arith) fits.suits.2 in
-      let c = part_none (in_role p m x.event.0) q t.place in
-      let d : part (in_role p m x.event.0) q t.place (Some r) ≡ cond (r.0 == q) 1 0 =
-      ap (λ b. cond (b && (r.0 == q)) 1 0) role in
-      omega (arith, a, b, c, d)
-
-  pub held_taken : (t : TaskId) (r : ResourceId) → Fits p s (Take t r) → names p (slot_at s t.meet.0).event.0 m ≡ true
-      → in_role p m (slot_at s t.meet.0).event.0 t.place ≡ true
-      → held p m s q ≡ held p m (after s (Take t r)) q + cond (r.0 == q) 1 0
-  held_taken t r fits named role =
-      let x = slot_at s t.meet.0 in
-      let a = turned (Take t r) fits named in
-      let b = given_set (in_role p m x.event.0) q 0 t.place t.place x.given None (Some r) (omega arith) fits.suits.2 in
-      let c = part_none (in_role p m x.event.0) q t.place in
-      let d : part (in_role p m x.event.0) q t.place (Some r) ≡ cond (r.0 == q) 1 0 =
-      ap (λ b. cond (b && (r.0 == q)) 1 0) role in
-      omega (arith, a, b, c, d)
-
-  pub held_kept : (c : Change) → Fits p s c → names p (slot_at s (meet_of c)).event.0 m ≡ true
-      → is_in_role p m s c ≡ false → held p m (after s c) q ≡ held p m s q
-  held_kept (Add k d) fits named role = let a = turned (Add k d) fits named in omega (arith, a)
-  held_kept (Drop k d) fits named role = let a = turned (Drop k d) fits named in omega (arith, a)
-  held_kept (PlaceAt k d) fits named role = let a = turned (PlaceAt k d) fits named in omega (arith, a)
-  held_kept (Lift k d) fits named role = let a = turned (Lift k d) fits named in omega (arith, a)
-  held_kept (Give t r) fits named role =
-      let x = slot_at s t.meet.0 in
-      let a = turned (Give t r) fits named in
-      let b = given_set (in_role p m x.event.0) q 0 t.place t.place x.given (Some r) None (omega arith) fits.suits.2 in
-      let c = part_none (in_role p m x.event.0) q t.place in
-      let d : part (in_role p m x.event.0) q t.place (Some r) ≡ 0 = ap (λ b. cond (b && (r.0 == q)) 1 0) role in
-      omega (arith, a, b, c, d)
-  held_kept (Take t r) fits named role =
-      let x = slot_at s t.meet.0 in
-      let a = turned (Take t r) fits named in
-      let b = given_set (in_role p m x.event.0) q 0 t.place t.place x.given None (Some r) (omega arith) fits.suits.2 in
-      let c = part_none (in_role p m x.event.0) q t.place in
-      let d : part (in_role p m x.event.0) q t.place (Some r) ≡ 0 = ap (λ b. cond (b && (r.0 == q)) 1 0) role in
-      omega (arith, a, b, c, d)
-
 -- how many numbers of a range have some, with one more at one of them
 module _ (f : ℕ → ℕ) (r : ℕ) where
   abbrev counts_once : ℕ → ℕ
   counts_once q = cond (ltb 0 (f q)) 1 0
 
   abbrev counts_more : ℕ → ℕ
-  counts_more q = cond (ltb 0 (with_one f r q)) 1 0
+  counts_more q = cond (ltb 0 (f q + cond (r == q) 1 0)) 1 0
 
   same_at : (q : ℕ) → (r ≡ q → ⊥) → counts_more q ≡ counts_once q
   same_at q n = ap (λ b. cond (ltb 0 (f q + cond b 1 0)) 1 0) (ne_eqb r q n)
@@ -180,9 +135,13 @@ module _ (f : ℕ → ℕ) (r : ℕ) where
           let d = rest (omega (arith, low, e)) (omega (arith, high)) in
           omega (arith, a, b, c, d)
 
-pub holders_more : (p : Parts) (f : ℕ → ℕ) (r : ℕ) → r < length p.resources
-    → holders p (with_one f r) ≡ holders p f + cond (f r == 0) 1 0
-holders_more p f r l = one_of f r 0 (length p.resources) (omega arith) (omega (arith, l))
+pub holders_more : (p : Parts) (f : ℕ → ℕ) (o : Option ResourceId) → IfSome o (λ r. r.0 < length p.resources)
+    → holders p (with_one f o) ≡ holders p f + is_first f o
+holders_more p f None l = (λ j. holders p (λ q. none (f q) j)) ∙ sym (none (holders p f))
+  where
+    none : (n : ℕ) → n + 0 ≡ n
+    none n = omega arith
+holders_more p f (Some r) l = one_of f r.0 0 (length p.resources) (omega arith) (omega (arith, l))
 
 pub holders_few : (p : Parts) (f : ℕ → ℕ) → AreWellMade p → holders p f ≤ RESOURCES
 holders_few p f made =
@@ -228,13 +187,14 @@ places_total e (event ∷ events) =
         ap (λ n. n * length event.places) (length-map ks (λ k. empty_slot k e event)) in
         omega (arith, a, b)
 
-pub held_few : (p : Parts) (m : Monitor) (s : List Slot) (q : ℕ) → AreWellMade p → AreTold p s → held p m s q ≤ TASKS
-held_few p m s q made told =
+pub held_few : (p : Parts) (m : Monitor) (s : List Slot) (q : ℕ) → AreWellMade p → map emptied s ≡ no_meets p
+    → held p m s q ≤ TASKS
+held_few p m s q made whose =
     let a = sum_le (named_part p m (given_in p m q)) (λ (x : Slot). length x.given) s
     (λ x. named (names p x.event.0 m) (given_in p m q x) (length x.given)
     (given_few (in_role p m x.event.0) q 0 x.given)) in
     let b = given_total s in
-    let c = ap (sum_by (λ (x : Slot). length x.given)) told.whose in
+    let c = ap (sum_by (λ (x : Slot). length x.given)) whose in
     let d = places_total 0 p.events in
     let e = made.limits.tasks in
     omega (arith, a, b, c, d, e)
@@ -242,27 +202,6 @@ held_few p m s q made told =
     named : (b : Bool) (n k : ℕ) → n ≤ k → cond b n 0 ≤ k
     named true n k h = h
     named false n k h = omega arith
-
--- slots without a meet have none
-abbrev of_free : Parts → Monitor → ℕ → Slot → ℕ
-of_free p m q x = cond (is_none x.span) (given_in p m q x) 0
-
-pub loose_none : (p : Parts) (m : Monitor) (s : List Slot) (q : ℕ) → AreTold p s → loose p m s q ≡ 0
-loose_none p m s q told =
-    let a = sum_by-le (named_part p m (of_free p m q)) 0 s
-    (All-weaker (IsSlot p) (λ (x : Slot). named_part p m (of_free p m q) x ≤ 0)
-    (λ x is. named (names p x.event.0 m) (of_free p m q x) (free x x.span is.empty)) s told.slots) in
-    omega (arith, a)
-  where
-    free : (x : Slot) (o : Option Span) → (o ≡ None → x.given ≡ replicate (length x.given) None)
-        → cond (is_none o) (given_in p m q x) 0 ≡ 0
-    free x None h = ap (given_from (in_role p m x.event.0) q 0) (h refl)
-        ∙ given_none (in_role p m x.event.0) q 0 (length x.given)
-    free x (Some y) h = refl
-
-    named : (b : Bool) (n : ℕ) → n ≡ 0 → cond b n 0 ≤ 0
-    named true n h = omega (arith, h)
-    named false n h = omega arith
 
 -- without meets there are none
 pub held_none : (p : Parts) (m : Monitor) (q : ℕ) → held p m (no_meets p) q ≡ 0

@@ -1,21 +1,24 @@
--- What is kept for a monitor on split assignments, after one more change.
-use Rattle.std.proofs.Common.{ℕ, ◌≡◌, ◌≤◌, ◌<◌, ◌+◌, ◌==◌, ◌∙◌, ◌⊎◌, inl, inr, zero, suc, ltb, count_by, true, false}
-use Rattle.std.proofs.Common.{cond, Some, None, List, length, get_or, slice_get, refl, sym, ap, subst, arith}
-use Rattle.std.proofs.Common.{get_or-set_same}
-use Rattle.std.specs.Prelude.{replicate}
+-- What is kept for a monitor on split assignments, while the places of a turned slot are followed.
+use Rattle.std.proofs.Common.{ℕ, ◌≡◌, ◌≤◌, ◌<◌, ◌+◌, ◌-◌, ◌==◌, ◌∙◌, ◌&&◌, ◌⊎◌, inl, inr, zero, suc, ltb, count_by}
+use Rattle.std.proofs.Common.{true}
+use Rattle.std.proofs.Common.{false, cond, Option, Some, None, List, length, set, get_or, slice_get, refl, sym, ap}
+use Rattle.std.proofs.Common.{subst}
+use Rattle.std.proofs.Common.{add-one, arith, get_or-set_same}
+use Rattle.std.specs.Prelude.{IfSome, replicate}
 use Rattle.std.specs.List.{range_with_len}
 use Rattle.std.specs.Option.{option_and_then, option_map_or}
+use Rattle.std.proofs.Math.Seq.{map-set_same}
 use Rattle.std.proofs.lemmas.Bool.{cases_eq, eq-eqb, ne_eqb, true≢false}
 use Rattle.std.proofs.lemmas.List.{length-replicate, length-set}
-use Rattle.std.proofs.lemmas.List.Sums.{sum_by-cons}
 use Rattle.std.proofs.lemmas.List.Elements.{All-get_or}
-use Rattle.std.proofs.lemmas.Option.{same_Some, slice_get_cases, slice_get_within}
+use Rattle.std.proofs.lemmas.List.Sums.{sum_by-cons}
+use Rattle.std.proofs.lemmas.Option.{same_Some, slice_get-get_or, slice_get_cases, slice_get_within}
 use Rattle.khe_base.specs.declared.limits.TheConstants.{TASKS}
 use Rattle.khe_base.specs.declared.numbers.ResourceId.{ResourceId}
-use Rattle.khe_base.specs.declared.numbers.TaskId.{TaskId}
 use Rattle.khe_base.proofs.ListLemmas.{there}
 use Rattle.khe_instance.specs.KindLaws.{is_kind}
 use Rattle.khe_instance.specs.Lookups.{role_at}
+use Rattle.khe_instance.specs.Running.{is_resource}
 use Rattle.khe_instance.specs.WellMade.{AreWellMade, IsMonitor}
 use Rattle.khe_instance.specs.declared.parts.EventInfo.{EventInfo}
 use Rattle.khe_instance.specs.declared.parts.Parts.{Parts}
@@ -23,20 +26,20 @@ use Rattle.khe_instance.specs.declared.parts.Place.{Place}
 use Rattle.khe_instance.specs.declared.points.Monitor.{Monitor}
 use Rattle.khe_instance.specs.declared.rules.Constraint.{Constraint}
 use Rattle.khe_instance.specs.declared.rules.Kind.TheVariants as kind
-use Rattle.khe_told.specs.Changes.{after, changed, meet_of}
-use Rattle.khe_told.specs.Fits.{Fits, IsSlot}
-use Rattle.khe_told.specs.Slots.{no_meets, no_slot, slot_at}
-use Rattle.khe_told.specs.declared.changes.Change.{Change}
-use Rattle.khe_told.specs.declared.changes.Change.TheVariants.{Add, Drop, Place as PlaceAt, Lift, Give, Take}
+use Rattle.khe_told.specs.Fits.{IsSlot}
+use Rattle.khe_told.specs.Slots.{emptied, no_meets, no_slot}
+use Rattle.khe_told.specs.Turns.{IsTurn, SlotTurn, turned}
 use Rattle.khe_told.specs.declared.slots.Slot.{Slot}
 use Rattle.event_monitors.specs.Posts.{names}
 use Rattle.event_monitors.specs.ShareLaws.{rule_of_kind}
-use Rattle.event_monitors.proofs.SlotFacts.{fits_event}
-use Rattle.set_monitors.specs.AvoidSplitAssignments.{AreCandidates, AreHeld, AreWithin, IsListed, IsShared, NamesListed}
-use Rattle.set_monitors.specs.AvoidSplitAssignments.{above_after, held, held_after, holders, in_role, is_in_role, wants}
-use Rattle.set_monitors.proofs.HolderLaws.{free_none, held_few, held_given, held_kept, held_none, held_taken}
-use Rattle.set_monitors.proofs.HolderLaws.{holders_more, loose_none}
-use Rattle.khe_told.proofs.SlotLaws.{set-there}
+use Rattle.event_monitors.proofs.SlotFacts.{turn_event}
+use Rattle.set_monitors.specs.AvoidSplitAssignments.{AreCandidates, AreHeld, AreWithin, IsListed, IsShared, given_from}
+use Rattle.set_monitors.specs.AvoidSplitAssignments.{given_in, held, holders, in_role, is_first, is_last, loose_none}
+use Rattle.set_monitors.specs.AvoidSplitAssignments.{wants}
+use Rattle.set_monitors.specs.AvoidSplitAssignments.{with_one, without_one}
+use Rattle.set_monitors.specs.NamedSums.{sum_turned}
+use Rattle.set_monitors.proofs.HolderLaws.{free_none, given_next, held_few, held_none, holders_more, length-mixed}
+use Rattle.set_monitors.proofs.HolderLaws.{mixed, mixed_all, part}
 use Rattle.set_monitors.proofs.SpreadLaws.{nothing_at}
 
 -- a place in the role is there
@@ -66,134 +69,240 @@ module _ (p : Parts) (m : Monitor) (s : List Slot) (numbers counts : List ℕ) (
           ∙ ap (option_and_then (λ (q : Place). q.role)) h.1 in
           absurd (true≢false (sym (in_role_of e k role) ∙ ap (wants kept.monitor.0.rule) none ∙ wants_none))
 
-  -- so the resource that is given or taken there is a candidate
-  pub named_listed : (c : Change) → Fits p s c → names p (slot_at s (meet_of c)).event.0 m ≡ true
-      → is_in_role p m s c ≡ true → NamesListed numbers c
-  named_listed (Add k d) fits named role = tt
-  named_listed (Drop k d) fits named role = tt
-  named_listed (PlaceAt k d) fits named role = tt
-  named_listed (Lift k d) fits named role = tt
-  named_listed (Give t r) fits named role =
-      let x = slot_at s t.meet.0 in
-      let y = changed x (Give t r) in
-      let event = there p.events x.event.0 (fits_event p s (Give t r) fits) in
-      let place = placed x.event.0 t.place event.value event.found role in
-      let l : t.meet.0 < length (after s (Give t r)) = let a = length-set s t.meet.0 y in let b = fits.there in
-      omega (arith, a, b) in
-      let is : IsSlot p y = subst (IsSlot p) (get_or-set_same s t.meet.0 y no_slot fits.there)
-      (All-get_or (IsSlot p) (after s (Give t r)) t.meet.0 no_slot l fits.told.slots) in
-      let given : slice_get y.given t.place ≡ Some (Some r) = set-there x.given t.place (Some r) None fits.suits.2 in
+  -- so the resource that a told slot gives there is a candidate
+  pub given_listed : (x : Slot) (k : ℕ) (o : Option ResourceId) → IsSlot p x → names p x.event.0 m ≡ true
+      → x.event.0 < length p.events → in_role p m x.event.0 k ≡ true → slice_get x.given k ≡ Some o
+      → IfSome o (λ r. IsListed numbers r.0)
+  given_listed x k None is named known role at = tt
+  given_listed x k (Some r) is named known role at =
+      let event = there p.events x.event.0 known in
+      let place = placed x.event.0 k event.value event.found role in
       kept.candidates.known r.0 (record {
         e = x.event.0;
         event = event.value;
-        k = t.place;
+        k = k;
         place = place.0;
         named = named;
         there = event.found;
         placed = place.1;
         role = role;
-        typed = is.given event.value t.place place.0 r event.found place.1 given;
+        typed = is.given event.value k place.0 r event.found place.1 at;
       })
-  named_listed (Take t r) fits named role =
-      kept.others r.0 (let a = held_taken p m s r.0 t r fits named role in let b : cond {A = ℕ} (r.0 == r.0) 1 0 ≡ 1 =
-      ap (λ b. cond b 1 0) (eq-eqb r.0 r.0 refl) in omega (arith, a, b))
 
-  within : (r : ℕ) → IsListed numbers r → r < length p.resources
-  within r is = kept.candidates.within is.0 r is.1
+  pub listed_within : (o : Option ResourceId) → IfSome o (λ r. IsListed numbers r.0)
+      → IfSome o (λ r. r.0 < length p.resources)
+  listed_within None is = tt
+  listed_within (Some r) is = kept.candidates.within is.0 r.0 is.1
 
-  -- what each resource has after a change in the role, how many have some, and that these are candidates
-  pub held_is : (c : Change) (q : ℕ) → Fits p s c → names p (slot_at s (meet_of c)).event.0 m ≡ true
-      → is_in_role p m s c ≡ true → held p m (after s c) q ≡ held_after (held p m s) c q
-  held_is (Add k d) q fits named role = absurd (true≢false (sym role))
-  held_is (Drop k d) q fits named role = absurd (true≢false (sym role))
-  held_is (PlaceAt k d) q fits named role = absurd (true≢false (sym role))
-  held_is (Lift k d) q fits named role = absurd (true≢false (sym role))
-  held_is (Give t r) q fits named role = held_given p m s q t r fits named role
-  held_is (Take t r) q fits named role = let a = held_taken p m s q t r fits named role in omega (arith, a)
+-- a count that is one more is 1 where it was 0
+last_first : (n k : ℕ) → n ≡ k + 1 → (n == 1) ≡ (k == 0)
+last_first n k h = by (cases_eq k 0)
+  where
+    by : (k ≡ 0) ⊎ (k ≡ 0 → ⊥) → (n == 1) ≡ (k == 0)
+    by (inl e) = eq-eqb n 1 (omega (arith, h, e)) ∙ sym (eq-eqb k 0 e)
+    by (inr e) = ne_eqb n 1 (λ z. e (omega (arith, h, z))) ∙ sym (ne_eqb k 0 e)
 
-  pub above_is : (c : Change) → Fits p s c → names p (slot_at s (meet_of c)).event.0 m ≡ true
-      → is_in_role p m s c ≡ true → holders p (held p m (after s c)) ≡ above_after above (held p m s) c
-  above_is (Add k d) fits named role = absurd (true≢false (sym role))
-  above_is (Drop k d) fits named role = absurd (true≢false (sym role))
-  above_is (PlaceAt k d) fits named role = absurd (true≢false (sym role))
-  above_is (Lift k d) fits named role = absurd (true≢false (sym role))
-  above_is (Give t r) fits named role =
-      (λ j. holders p (λ q. held_given p m s q t r fits named role j))
-      ∙ holders_more p (held p m s) r.0 (within r.0 (named_listed (Give t r) fits named role))
-      ∙ ap (λ n. n + cond (held p m s r.0 == 0) 1 0) (sym kept.above)
-  above_is (Take t r) fits named role =
-      let s2 = after s (Take t r) in
-      let a : holders p (held p m s) ≡ holders p (held p m s2) + cond (held p m s2 r.0 == 0) 1 0 =
-      (λ j. holders p (λ q. held_taken p m s q t r fits named role j))
-      ∙ holders_more p (held p m s2) r.0 (within r.0 (named_listed (Take t r) fits named role)) in
-      let b = held_taken p m s r.0 t r fits named role in
-      let c : cond {A = ℕ} (r.0 == r.0) 1 0 ≡ 1 = ap (λ b. cond b 1 0) (eq-eqb r.0 r.0 refl) in
-      let d : cond {A = ℕ} (held p m s r.0 == 1) 1 0 ≡ cond (held p m s2 r.0 == 0) 1 0 =
-      ap (λ b. cond b 1 0) (tests (held p m s r.0) (held p m s2 r.0) (omega (arith, b, c))) in
-      let e = kept.above in
-      omega (arith, a, d, e)
-    where
-      tests : (n k : ℕ) → n ≡ k + 1 → (n == 1) ≡ (k == 0)
-      tests n k h = by (cases_eq k 0)
-        where
-          by : (k ≡ 0) ⊎ (k ≡ 0 → ⊥) → (n == 1) ≡ (k == 0)
-          by (inl e) = eq-eqb n 1 (omega (arith, h, e)) ∙ sym (eq-eqb k 0 e)
-          by (inr e) = ne_eqb n 1 (λ z. e (omega (arith, h, z))) ∙ sym (ne_eqb k 0 e)
+-- a turned slot keeps its event, and how many places it has
+module _ (p : Parts) (s : List Slot) (t : SlotTurn) (turns : IsTurn p s t) where
+  same_event : t.after.event.0 ≡ t.before.event.0
+  same_event = ap (λ (y : Slot). y.event.0) turns.same
 
-  others_after : (c : Change) (q : ℕ) → Fits p s c → names p (slot_at s (meet_of c)).event.0 m ≡ true
-      → is_in_role p m s c ≡ true → 1 ≤ held p m (after s c) q → IsListed numbers q
-  others_after (Add k d) q fits named role l = absurd (true≢false (sym role))
-  others_after (Drop k d) q fits named role l = absurd (true≢false (sym role))
-  others_after (PlaceAt k d) q fits named role l = absurd (true≢false (sym role))
-  others_after (Lift k d) q fits named role l = absurd (true≢false (sym role))
-  others_after (Give t r) q fits named role l = by (cases_eq r.0 q)
-    where
-      by : (r.0 ≡ q) ⊎ (r.0 ≡ q → ⊥) → IsListed numbers q
-      by (inl e) = subst (IsListed numbers) e (named_listed (Give t r) fits named role)
-      by (inr n) =
-          kept.others q
-          (let a = held_given p m s q t r fits named role in
-          let b : cond {A = ℕ} (r.0 == q) 1 0 ≡ 0 = ap (λ b. cond b 1 0) (ne_eqb r.0 q n) in
-          omega (arith, a, b, l))
-  others_after (Take t r) q fits named role l =
-      kept.others q (let a = held_taken p m s q t r fits named role in omega (arith, a, l))
+  same_places : length t.before.given ≡ length t.after.given
+  same_places =
+      let a : length (emptied t.after).given ≡ length (emptied t.before).given = ap (λ (y : Slot). length y.given)
+      turns.same in
+      let b : length (emptied t.after).given ≡ length t.after.given = length-replicate (length t.after.given) None in
+      let c : length (emptied t.before).given ≡ length t.before.given = length-replicate (length t.before.given) None
+      in omega (arith, a, b, c)
 
-  -- all that is kept, where the counts were turned
-  pub shared_turned : (c : Change) (counts2 : List ℕ) (above2 : ℕ) → AreWellMade p → Fits p s c
-      → names p (slot_at s (meet_of c)).event.0 m ≡ true → is_in_role p m s c ≡ true
-      → length counts2 ≡ length numbers
-      → ((f : ℕ → ℕ) → AreHeld f numbers counts → AreHeld (held_after f c) numbers counts2)
-      → ((f : ℕ → ℕ) → AreHeld f numbers counts → above2 ≡ above_after above f c)
-      → IsShared p m (after s c) numbers counts2 above2
-  shared_turned c counts2 above2 made fits named role many turned counted = record {
-    monitor = kept.monitor;
-    serves = kept.serves;
-    candidates = kept.candidates;
-    amount = many;
-    counts = λ k r h. turned (held p m s) kept.counts k r h ∙ ap Some (sym (held_is c r fits named role));
-    others = λ q l. others_after c q fits named role l;
-    free = λ q. loose_none p m (after s c) q fits.told;
-    few = λ q. held_few p m (after s c) q made fits.told;
-    above = counted (held p m s) kept.counts ∙ sym (above_is c fits named role);
-  }
+-- the slots while the places are turned, one after the other
+abbrev pub midway : List Slot → SlotTurn → ℕ → List Slot
+midway s t k = set s t.before.meet.0 (record t.before { given = mixed k t.before.given t.after.given })
 
-  -- and where the change is not of the role
-  pub shared_kept : (c : Change) → AreWellMade p → Fits p s c → names p (slot_at s (meet_of c)).event.0 m ≡ true
-      → is_in_role p m s c ≡ false → IsShared p m (after s c) numbers counts above
-  shared_kept c made fits named role = record {
-    monitor = kept.monitor;
-    serves = kept.serves;
-    candidates = kept.candidates;
+-- what is kept then
+pub record AreMidway (p : Parts) (m : Monitor) (s : List Slot) (t : SlotTurn) (numbers row : List ℕ) (n k : ℕ)
+    : Type 0 where
+  pub amount : length row ≡ length numbers
+  pub counts : AreHeld (held p m (midway s t k)) numbers row
+  pub above : n ≡ holders p (held p m (midway s t k))
+
+module _ (p : Parts) (m : Monitor) (s : List Slot) (t : SlotTurn) (turns : IsTurn p s t)
+    (named : names p t.before.event.0 m ≡ true) where
+  abbrev mixed_slot : ℕ → Slot
+  mixed_slot k = record t.before { given = mixed k t.before.given t.after.given }
+
+  emptied_mixed : (k : ℕ) → emptied (mixed_slot k) ≡ emptied t.before
+  emptied_mixed k = ap (λ n. record t.before { span = None; given = replicate n None })
+      (length-mixed k t.before.given t.after.given)
+
+  mixed_sum : (k q : ℕ) → held p m (midway s t k) q + given_in p m q t.before
+      ≡ held p m s q + given_in p m q (mixed_slot k)
+  mixed_sum k q = sum_turned p m (given_in p m q) s t (mixed_slot k) turns (emptied_mixed k) named
+
+  pub held_mixed_few : (k q : ℕ) → AreWellMade p → held p m (midway s t k) q ≤ TASKS
+  held_mixed_few k q made = held_few p m (midway s t k) q made
+      (map-set_same emptied s t.before.meet.0 (mixed_slot k) no_slot
+      (emptied_mixed k ∙ ap emptied (sym turns.slot)) ∙ turns.told.whose)
+
+  -- one more place: what it was given goes, what it is given comes
+  held_next : (k q : ℕ) (o n : Option ResourceId) → slice_get t.before.given k ≡ Some o
+      → slice_get t.after.given k ≡ Some n
+      → held p m (midway s t (k + 1)) q + part (in_role p m t.before.event.0) q k o
+      ≡ held p m (midway s t k) q + part (in_role p m t.before.event.0) q k n
+  held_next k q o n was is =
+      let a = mixed_sum (k + 1) q in
+      let b = mixed_sum k q in
+      let c = given_next (in_role p m t.before.event.0) q 0 k k t.before.given t.after.given o n (omega arith) was is in
+      let d : given_in p m q (mixed_slot (suc k)) ≡ given_in p m q (mixed_slot (k + 1)) =
+      ap (λ i. given_in p m q (mixed_slot i)) (sym (add-one k)) in
+      omega (arith, a, b, c, d)
+
+  -- where no place is turned yet, and where all are
+  pub midway_begun : (numbers row : List ℕ) (n : ℕ) → IsShared p m s numbers row n
+      → AreMidway p m s t numbers row n 0
+  midway_begun numbers row n kept = record {
     amount = kept.amount;
     counts = λ k r h. kept.counts k r h ∙ ap Some (sym (same r));
-    others = λ q l. kept.others q (let a = same q in omega (arith, a, l));
-    free = λ q. loose_none p m (after s c) q fits.told;
-    few = λ q. held_few p m (after s c) q made fits.told;
     above = kept.above ∙ sym (λ j. holders p (λ q. same q j));
   }
     where
-      same : (q : ℕ) → held p m (after s c) q ≡ held p m s q
-      same q = held_kept p m s q c fits named role
+      same : (q : ℕ) → held p m (midway s t 0) q ≡ held p m s q
+      same q = let a = mixed_sum 0 q in omega (arith, a)
+
+  pub midway_done : (numbers old row : List ℕ) (n_old n k : ℕ) → length t.after.given ≤ k
+      → IsShared p m s numbers old n_old → AreMidway p m s t numbers row n k
+      → IsShared p m (turned s t) numbers row n
+  midway_done numbers old row n_old n k past kept so = record {
+    monitor = kept.monitor;
+    serves = kept.serves;
+    candidates = kept.candidates;
+    amount = so.amount;
+    counts = λ i r h. so.counts i r h ∙ ap Some (same r);
+    free = λ q. loose_none p m (turned s t) q turns.later;
+    above = so.above ∙ (λ j. holders p (λ q. same q j));
+  }
+    where
+      same : (q : ℕ) → held p m (midway s t k) q ≡ held p m (turned s t) q
+      same q =
+          let a = mixed_sum k q in
+          let b = sum_turned p m (given_in p m q) s t t.after turns turns.same named in
+          let all = mixed_all k t.before.given t.after.given (same_places p s t turns)
+          (let l = same_places p s t turns in omega (arith, l, past)) in
+          let c : given_in p m q (mixed_slot k) ≡ given_in p m q t.after =
+          (λ j. given_from (in_role p m (sym (same_event p s t turns) j)) q 0 (all j)) in
+          omega (arith, a, b, c)
+
+  -- one more place that is given the same, or is not in the role
+  pub midway_kept : (numbers row : List ℕ) (n k : ℕ) (o new : Option ResourceId) → slice_get t.before.given k ≡ Some o
+      → slice_get t.after.given k ≡ Some new → (o ≡ new) ⊎ (in_role p m t.before.event.0 k ≡ false)
+      → AreMidway p m s t numbers row n k → AreMidway p m s t numbers row n (k + 1)
+  midway_kept numbers row n k o new was is still so = record {
+    amount = so.amount;
+    counts = λ i r h. so.counts i r h ∙ ap Some (sym (same r));
+    above = so.above ∙ sym (λ j. holders p (λ q. same q j));
+  }
+    where
+      parts : (q : ℕ) → (o ≡ new) ⊎ (in_role p m t.before.event.0 k ≡ false)
+          → part (in_role p m t.before.event.0) q k o ≡ part (in_role p m t.before.event.0) q k new
+      parts q (inl e) = ap (part (in_role p m t.before.event.0) q k) e
+      parts q (inr e) = ap (λ b. cond {A = ℕ} (b && is_resource q o) 1 0) e
+          ∙ sym (ap (λ b. cond {A = ℕ} (b && is_resource q new) 1 0) e)
+
+      same : (q : ℕ) → held p m (midway s t (k + 1)) q ≡ held p m (midway s t k) q
+      same q = let a = held_next k q o new was is in let b = parts q still in omega (arith, a, b)
+
+  -- one more place in the role that is given something else
+  pub midway_turned : (numbers row mid later : List ℕ) (n more less k : ℕ) (o new : Option ResourceId)
+      → slice_get t.before.given k ≡ Some o → slice_get t.after.given k ≡ Some new
+      → in_role p m t.before.event.0 k ≡ true
+      → IfSome o (λ r. r.0 < length p.resources) → IfSome new (λ r. r.0 < length p.resources)
+      → length later ≡ length numbers
+      → ((f : ℕ → ℕ) → AreHeld f numbers row → AreHeld (with_one f new) numbers mid)
+      → ((f : ℕ → ℕ) → AreHeld f numbers row → more ≡ n + is_first f new)
+      → ((f : ℕ → ℕ) → AreHeld f numbers mid → AreHeld (without_one f o) numbers later)
+      → ((f : ℕ → ℕ) → AreHeld f numbers mid → less ≡ more - is_last f o)
+      → AreMidway p m s t numbers row n k → AreMidway p m s t numbers later less (k + 1)
+  midway_turned numbers row mid later n more less k o new was is role there_old there_new amount risen more_is fallen
+      less_is so =
+      record {
+        amount = amount;
+        counts = λ i r h. fallen (with_one f new) (risen f so.counts) i r h ∙ ap Some (fall_is r);
+        above =
+            let a = less_is (with_one f new) (risen f so.counts) in
+            let b = more_is f so.counts in
+            let c = holders_more p f new there_new in
+            let d : holders p (with_one f new) ≡ holders p (with_one g o) = λ j. holders p (λ q. same q j) in
+            let e = holders_more p g o there_old in
+            let l = last_is o same in
+            let h = so.above in
+            omega (arith, a, b, c, d, e, l, h);
+      }
+    where
+      f : ℕ → ℕ
+      f = held p m (midway s t k)
+
+      g : ℕ → ℕ
+      g = held p m (midway s t (k + 1))
+
+      role_part : (q : ℕ) (a : Option ResourceId) → part (in_role p m t.before.event.0) q k a
+          ≡ cond (is_resource q a) 1 0
+      role_part q a = ap (λ b. cond {A = ℕ} (b && is_resource q a) 1 0) role
+
+      same : (q : ℕ) → with_one f new q ≡ with_one g o q
+      same q = let a = held_next k q o new was is in let b = role_part q o in let c = role_part q new in
+          omega (arith, a, b, c)
+
+      fall_is : (q : ℕ) → without_one (with_one f new) o q ≡ g q
+      fall_is q = let a = same q in omega (arith, a)
+
+      last_is : (a : Option ResourceId) → ((q : ℕ) → with_one f new q ≡ with_one g a q)
+          → is_last (with_one f new) a ≡ is_first g a
+      last_is None h = refl
+      last_is (Some r) h =
+          let a = h r.0 in
+          let b : cond {A = ℕ} (r.0 == r.0) 1 0 ≡ 1 = ap (λ b. cond b 1 0) (eq-eqb r.0 r.0 refl) in
+          ap (λ b. cond b 1 0) (last_first (with_one f new r.0) (g r.0) (omega (arith, a, b)))
+
+-- at a place of the lists that are gone through
+pub record IsPlace (t : SlotTurn) (before later : List (Option ResourceId)) (k : ℕ) : Type 0 where
+  pub within : k < length before
+  pub was : slice_get t.before.given k ≡ Some (get_or before k None)
+  pub is : slice_get t.after.given k ≡ Some (get_or later k None)
+
+pub is_place : (p : Parts) (s : List Slot) (t : SlotTurn) (before later : List (Option ResourceId)) (k : ℕ)
+    → IsTurn p s t → before ≡ t.before.given → later ≡ t.after.given → k < length later → IsPlace t before later k
+is_place p s t before later k turns old new l = record {
+  within = within;
+  was = ap (λ xs. slice_get xs k) (sym old) ∙ slice_get-get_or before k None within;
+  is = ap (λ xs. slice_get xs k) (sym new) ∙ slice_get-get_or later k None l;
+}
+  where
+    within : k < length before
+    within = let a = same_places p s t turns in let b = ap length old in let d = ap length new in
+        omega (arith, a, b, d, l)
+
+-- what a turned slot gives at a place in the role, before and after
+module _ (p : Parts) (m : Monitor) (s : List Slot) (t : SlotTurn) (numbers counts : List ℕ) (above : ℕ)
+    (kept : IsShared p m s numbers counts above) (turns : IsTurn p s t)
+    (named : names p t.before.event.0 m ≡ true) where
+  pub listed_before : (k : ℕ) (o : Option ResourceId) → in_role p m t.before.event.0 k ≡ true
+      → slice_get t.before.given k ≡ Some o → IfSome o (λ r. IsListed numbers r.0)
+  listed_before k o role at =
+      given_listed p m s numbers counts above kept t.before k o
+      (subst (IsSlot p) turns.slot (All-get_or (IsSlot p) s t.before.meet.0 no_slot turns.there turns.told.slots)) named
+      (turn_event p s t turns) role at
+
+  pub listed_after : (k : ℕ) (o : Option ResourceId) → in_role p m t.before.event.0 k ≡ true
+      → slice_get t.after.given k ≡ Some o → IfSome o (λ r. IsListed numbers r.0)
+  listed_after k o role at =
+      let e = same_event p s t turns in
+      let l : t.before.meet.0 < length (turned s t) = let a = length-set s t.before.meet.0 t.after in
+      let b = turns.there in omega (arith, a, b) in
+      given_listed p m s numbers counts above kept t.after k o
+      (subst (IsSlot p) (get_or-set_same s t.before.meet.0 t.after no_slot turns.there)
+      (All-get_or (IsSlot p) (turned s t) t.before.meet.0 no_slot l turns.later.slots))
+      (ap (λ n. names p n m) e ∙ named) (let known = turn_event p s t turns in omega (arith, known, e))
+      (ap (λ n. in_role p m n k) e ∙ role) at
 
 -- no count is more than all tasks
 pub held_within : (f : ℕ → ℕ) (numbers row : List ℕ) → length row ≡ length numbers → AreHeld f numbers row
@@ -223,28 +332,7 @@ shared_none p m numbers row monitor serves are zeros = record {
   amount = ap length zeros ∙ length-replicate (length numbers) 0;
   counts = λ k r h. ap (λ xs. slice_get xs k) zeros ∙ nothing_at (length numbers) k (slice_get_within numbers k r h)
       ∙ ap Some (sym (held_none p m r));
-  others = λ r l. absurd (let e = held_none p m r in omega (arith, e, l));
   free = λ r. free_none p m r;
-  few = λ r. (let e = held_none p m r in omega (arith, e));
   above = sym ((λ j. count_by (λ (r : ℕ). ltb 0 (held_none p m r j)) (range_with_len 0 (length p.resources)))
       ∙ no_holders 0 (length p.resources));
 }
-
--- other changes leave the counts
-pub counts_kept : (f : ℕ → ℕ) (c : Change) → ((t : TaskId) (r : ResourceId) → c ≡ Give t r → ⊥)
-    → ((t : TaskId) (r : ResourceId) → c ≡ Take t r → ⊥) → held_after f c ≡ f
-counts_kept f (Add k d) give take = refl
-counts_kept f (Drop k d) give take = refl
-counts_kept f (PlaceAt k d) give take = refl
-counts_kept f (Lift k d) give take = refl
-counts_kept f (Give t r) give take = absurd (give t r refl)
-counts_kept f (Take t r) give take = absurd (take t r refl)
-
-pub above_kept : (n : ℕ) (f : ℕ → ℕ) (c : Change) → ((t : TaskId) (r : ResourceId) → c ≡ Give t r → ⊥)
-    → ((t : TaskId) (r : ResourceId) → c ≡ Take t r → ⊥) → above_after n f c ≡ n
-above_kept n f (Add k d) give take = refl
-above_kept n f (Drop k d) give take = refl
-above_kept n f (PlaceAt k d) give take = refl
-above_kept n f (Lift k d) give take = refl
-above_kept n f (Give t r) give take = absurd (give t r refl)
-above_kept n f (Take t r) give take = absurd (take t r refl)

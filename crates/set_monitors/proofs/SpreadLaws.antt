@@ -1,68 +1,66 @@
--- Counts of starts and one more change.
-use Rattle.std.proofs.Common.{ℕ, ◌≡◌, ◌≤◌, ◌<◌, ◌+◌, ◌∙◌, zero, suc, Bool, true, false, cond, Option, Some, None, List}
-use Rattle.std.proofs.Common.{[], ◌∷◌, length, slice_get, refl, sym, ap, subst, arith, sum_by}
-use Rattle.std.proofs.lemmas.List.{length-map}
-use Rattle.std.proofs.lemmas.List.Sums.{sum_by-cons}
-use Rattle.std.proofs.lemmas.Option.{same_Some, slice_get_within}
-use Rattle.khe_base.specs.declared.limits.TheConstants.{DURATION}
-use Rattle.khe_base.proofs.ListLemmas.{there}
+-- Counts of starts and one more turn.
+use Rattle.std.proofs.Common.{ℕ, ◌≡◌, ◌≤◌, ◌<◌, ◌+◌, ◌*◌, ◌∙◌, ◌⊎◌, inl, inr, zero, suc, Bool, true, false, cond}
+use Rattle.std.proofs.Common.{Option}
+use Rattle.std.proofs.Common.{Some, None, List, [], ◌∷◌, length, set, take, drop, slice_get, refl, sym, ap, subst}
+use Rattle.std.proofs.Common.{arith}
+use Rattle.std.proofs.Common.{sum_by}
+use Rattle.std.specs.Prelude.{All, replicate}
+use Rattle.std.proofs.lemmas.Bool.{cases_eq}
+use Rattle.std.proofs.lemmas.List.{length-map, length-set}
+use Rattle.std.proofs.lemmas.List.Elements.{All-weaker}
+use Rattle.std.proofs.lemmas.List.Sums.{sum_by-cons, sum_by-le, sum_by_more}
+use Rattle.std.proofs.lemmas.Option.{get_or_from_slice_get, same_Some, slice_get_within}
+use Rattle.khe_base.specs.Bounds.{count_outside}
+use Rattle.khe_base.specs.BoundsLaws.{count_outside_small}
+use Rattle.khe_base.specs.declared.limits.TheConstants.{DURATION, GREATEST_DEVIATION, LISTED, NUMBER}
+use Rattle.khe_base.specs.declared.numbers.TimeId.{TimeId}
+use Rattle.khe_base.proofs.ListLemmas.{drop-there, get-other, get-set, there}
+use Rattle.khe_instance.specs.EventDeviation.{starts_in}
 use Rattle.khe_instance.specs.WellMade.{AreWellMade}
 use Rattle.khe_instance.specs.declared.parts.EventInfo.{EventInfo}
 use Rattle.khe_instance.specs.declared.parts.Parts.{Parts}
 use Rattle.khe_instance.specs.declared.points.Monitor.{Monitor}
 use Rattle.khe_instance.specs.declared.rules.Spread.{Spread}
-use Rattle.khe_told.specs.Changes.{after, changed, meet_of}
-use Rattle.khe_told.specs.Fits.{AreTold, Fits, Suits}
-use Rattle.khe_told.specs.Slots.{emptied, no_meets, slot_at}
-use Rattle.std.specs.Prelude.{replicate}
-use Rattle.khe_told.specs.declared.changes.Change.{Change}
-use Rattle.khe_told.specs.declared.changes.Change.TheVariants.{Add, Drop, Place as PlaceAt, Lift, Give, Take}
+use Rattle.khe_told.specs.Fits.{AreTold}
+use Rattle.khe_told.specs.Slots.{emptied, no_meets}
+use Rattle.khe_told.specs.Turns.{IsTurn, SlotTurn, turned}
 use Rattle.khe_told.specs.declared.slots.Slot.{Slot}
 use Rattle.khe_told.specs.declared.slots.Span.{Span}
 use Rattle.event_monitors.specs.Posts.{names}
 use Rattle.event_monitors.specs.Shares.{span_share}
 use Rattle.set_monitors.specs.NamedSums.{named_part, sum_of_none, sum_turned}
-use Rattle.set_monitors.specs.SpreadEvents.{AreCounts, AreFew, IsSpread, count_after, moves_start, one_in, spread_same}
-use Rattle.set_monitors.specs.SpreadEvents.{spreads_of, started}
+use Rattle.set_monitors.specs.SpreadEvents.{AreCounts, AreFew, IsSpread, counted_then, one_in, spread_by, spread_same}
+use Rattle.set_monitors.specs.SpreadEvents.{spreads_of, start_in, started}
 use Rattle.khe_told.proofs.OpeningLaws.{slots_amount}
 
--- what a change does to one slot's part is what it does to a count
-slot_turned : (times : List Bool) (x : Slot) (c : Change) (n later : ℕ) → Suits x c
-    → later + span_share (one_in times) x.span ≡ n + span_share (one_in times) (changed x c).span
-    → later ≡ count_after n times c
-slot_turned times x (Add m d) n later h e = let a : span_share (one_in times) x.span ≡ 0 =
-    ap (span_share (one_in times)) h in omega (arith, e, a)
-slot_turned times x (Drop m d) n later h e = let a : span_share (one_in times) x.span ≡ 0 =
-    ap (span_share (one_in times)) h.0 in omega (arith, e, a)
-slot_turned times x (PlaceAt m t) n later h e =
-    let a : span_share (one_in times) x.span ≡ 0 = ap (span_share (one_in times)) h.1 in
-    let b : span_share (one_in times) (changed x (PlaceAt m t)).span ≡ one_in times (Some t) h.0 =
-    ap (λ o. span_share (one_in times) (changed (record x { span = o }) (PlaceAt m t)).span) h.1 in
-    omega (arith, e, a, b)
-slot_turned times x (Lift m t) n later h e =
-    let a : span_share (one_in times) x.span ≡ one_in times (Some t) h.0 = ap (span_share (one_in times)) h.1 in
-    let b : span_share (one_in times) (changed x (Lift m t)).span ≡ 0 =
-    ap (λ o. span_share (one_in times) (changed (record x { span = o }) (Lift m t)).span) h.1 in
-    omega (arith, e, a, b)
-slot_turned times x (Give t r) n later h e = omega (arith, e)
-slot_turned times x (Take t r) n later h e = omega (arith, e)
+-- what a slot counts for, by its start
+one_of_start : (times : List Bool) (o : Option Span)
+    → span_share (one_in times) o ≡ cond (starts_in times (start_in o)) 1 0
+one_of_start times None = refl
+one_of_start times (Some y) = refl
 
-pub started_after : (p : Parts) (m : Monitor) (s : List Slot) (c : Change) (times : List Bool) → Fits p s c
-    → names p (slot_at s (meet_of c)).event.0 m ≡ true
-    → started p m (after s c) times ≡ count_after (started p m s times) times c
-started_after p m s c times fits named =
-    let x = slot_at s (meet_of c) in
-    slot_turned times x c (started p m s times) (started p m (after s c) times) fits.suits
-    (sum_turned p m (λ (y : Slot). span_share (one_in times) y.span) s (meet_of c) (changed x c) fits.there refl named)
+-- a turn does to one slot's part what it does to a count
+pub started_then : (p : Parts) (m : Monitor) (s : List Slot) (t : SlotTurn) (times : List Bool) → IsTurn p s t
+    → names p t.before.event.0 m ≡ true
+    → started p m (turned s t) times
+    ≡ counted_then (started p m s times) times (start_in t.before.span) (start_in t.after.span)
+started_then p m s t times turns named =
+    let a = sum_turned p m (λ (y : Slot). span_share (one_in times) y.span) s t t.after turns turns.same named in
+    let b = one_of_start times t.before.span in
+    let c = one_of_start times t.after.span in
+    omega (arith, a, b, c)
 
--- a change that moves no start leaves them
-pub started_kept : (n : ℕ) (times : List Bool) (c : Change) → moves_start c ≡ false → count_after n times c ≡ n
-started_kept n times (Add m d) h = refl
-started_kept n times (Drop m d) h = refl
-started_kept n times (PlaceAt m t) h = absurd (let g : ⊥ = cc in g)
-started_kept n times (Lift m t) h = absurd (let g : ⊥ = cc in g)
-started_kept n times (Give t r) h = refl
-started_kept n times (Take t r) h = refl
+-- one that keeps the start leaves all that is kept
+pub spread_kept : (p : Parts) (m : Monitor) (s : List Slot) (t : SlotTurn) (row : List ℕ) (total : ℕ) → IsTurn p s t
+    → names p t.before.event.0 m ≡ true → start_in t.before.span ≡ start_in t.after.span → IsSpread p m s row total
+    → IsSpread p m (turned s t) row total
+spread_kept p m s t row total turns named still kept =
+    spread_same p m s (turned s t) row total
+    (λ times. let a = started_then p m s t times turns named in
+    let b : cond {A = ℕ} (starts_in times (start_in t.before.span)) 1 0
+    ≡ cond (starts_in times (start_in t.after.span)) 1 0 = ap (λ o. cond (starts_in times o) 1 0) still in
+    omega (arith, a, b))
+    kept
 
 -- no more meets start than there are slots
 one_each : (f : Slot → ℕ) (s : List Slot) → ((x : Slot) → f x ≤ 1) → sum_by f s ≤ length s
@@ -101,12 +99,80 @@ counts_few f spreads counts same are few k n h =
     let b = few q.value.group in
     omega (arith, e, b)
 
+-- nor are they outside of the bounds by much
+pub spread_small : (f : List Bool → ℕ) (spreads : List Spread) → All (λ (q : Spread). q.min ≤ NUMBER) spreads
+    → length spreads ≤ LISTED → ((times : List Bool) → f times ≤ DURATION) → spread_by f spreads ≤ GREATEST_DEVIATION
+spread_small f spreads least listed few =
+    let a = sum_by-le part (DURATION + NUMBER) spreads
+    (All-weaker (λ (q : Spread). q.min ≤ NUMBER) (λ q. part q ≤ DURATION + NUMBER) one spreads least) in
+    omega (arith, a, listed)
+  where
+    part : Spread → ℕ
+    part q = count_outside (f q.group) q.min q.max
+
+    one : (q : Spread) → q.min ≤ NUMBER → part q ≤ DURATION + NUMBER
+    one q l = let a = count_outside_small (f q.group) q.min q.max in let b = few q.group in omega (arith, a, b, l)
+
 -- while counts are turned, one group after the other
-pub record AreTurned (change : Change) (spreads : List Spread) (old counts : List ℕ) (i : ℕ) : Type 0 where
+pub record AreTurned (before later : Option TimeId) (spreads : List Spread) (old counts : List ℕ)
+    (outside total i : ℕ) : Type 0 where
   pub amount : length counts ≡ length old
   pub done : (k n : ℕ) (q : Spread) → k < i → slice_get old k ≡ Some n → slice_get spreads k ≡ Some q
-      → slice_get counts k ≡ Some (count_after n q.group change)
+      → slice_get counts k ≡ Some (counted_then n q.group before later)
   pub rest : (k : ℕ) → i ≤ k → slice_get counts k ≡ slice_get old k
+  pub follows : (f : List Bool → ℕ) → AreCounts f spreads old → outside ≡ spread_by f spreads
+      → total ≡ spread_by (λ g. counted_then (f g) g before later) (take i spreads) + spread_by f (drop i spreads)
+  pub bound : total ≤ GREATEST_DEVIATION + i * (DURATION + NUMBER + 1)
+
+-- one more is turned
+pub turned_next : (before later : Option TimeId) (spreads : List Spread) (old counts : List ℕ) (outside total i : ℕ)
+    (q : Spread) (n new sum : ℕ) → slice_get spreads i ≡ Some q → slice_get counts i ≡ Some n
+    → new ≡ counted_then n q.group before later
+    → ((rest : ℕ) → total ≡ rest + count_outside n q.min q.max → sum ≡ rest + count_outside new q.min q.max)
+    → sum ≤ total + (DURATION + NUMBER + 1) → AreTurned before later spreads old counts outside total i
+    → AreTurned before later spreads old (set counts i new) outside sum (i + 1)
+turned_next before later spreads old counts outside total i q n new sum at here is counted small so = record {
+  amount = length-set counts i new ∙ so.amount;
+  done = λ k a b l h g. done_by k a b l h g (cases_eq i k);
+  rest = λ k l. get-other counts i k new (λ e. omega (arith, e, l)) ∙ so.rest k (omega (arith, l));
+  follows = λ f are whole. sum_by_then f are whole;
+  bound = let a = so.bound in omega (arith, a, small);
+}
+  where
+    old_here : slice_get old i ≡ Some n
+    old_here = sym (so.rest i (omega arith)) ∙ here
+
+    done_by : (k a : ℕ) (b : Spread) → k < i + 1 → slice_get old k ≡ Some a → slice_get spreads k ≡ Some b
+        → (i ≡ k) ⊎ (i ≡ k → ⊥) → slice_get (set counts i new) k ≡ Some (counted_then a b.group before later)
+    done_by k a b l h g (inl e) =
+        let same : q ≡ b = same_Some q b (sym at ∙ ap (slice_get spreads) e ∙ g) in
+        let as_is : n ≡ a = same_Some n a (sym old_here ∙ ap (slice_get old) e ∙ h) in
+        ap (slice_get (set counts i new)) (sym e) ∙ get-set counts i new (slice_get_within counts i n here)
+        ∙ ap Some (is ∙ (λ j. counted_then (as_is j) (same j).group before later))
+    done_by k a b l h g (inr e) = get-other counts i k new e ∙ so.done k a b (omega (arith, l, e)) h g
+
+    sum_by_then : (f : List Bool → ℕ) → AreCounts f spreads old → outside ≡ spread_by f spreads
+        → sum ≡ spread_by (λ g. counted_then (f g) g before later) (take (i + 1) spreads)
+        + spread_by f (drop (i + 1) spreads)
+    sum_by_then f are whole =
+        let then = λ (g : List Bool). counted_then (f g) g before later in
+        let part = λ (a : Spread). count_outside (f a.group) a.min a.max in
+        let part_then = λ (a : Spread). count_outside (then a.group) a.min a.max in
+        let l = slice_get_within spreads i q at in
+        let fq : f q.group ≡ n = same_Some (f q.group) n (sym (are i q at) ∙ old_here) in
+        let left : sum_by part (drop i spreads) ≡ count_outside n q.min q.max + sum_by part (drop (i + 1) spreads) =
+        ap (sum_by part) (drop-there spreads i q at) ∙ sum_by-cons part q (drop (i + 1) spreads)
+        ∙ ap (λ k. count_outside k q.min q.max + sum_by part (drop (i + 1) spreads)) fq in
+        let made : sum_by part_then (take (i + 1) spreads)
+        ≡ sum_by part_then (take i spreads) + count_outside new q.min q.max =
+        sum_by_more part_then spreads i q l
+        ∙ ap (λ a. sum_by part_then (take i spreads) + part_then a) (get_or_from_slice_get spreads i q q at)
+        ∙ ap (λ k. sum_by part_then (take i spreads) + count_outside k q.min q.max)
+        (ap (λ k. counted_then k q.group before later) fq ∙ sym is) in
+        let before_it = so.follows f are whole in
+        let sum_is = counted (sum_by part_then (take i spreads) + sum_by part (drop (i + 1) spreads))
+        (omega (arith, before_it, left)) in
+        omega (arith, sum_is, made)
 
 -- counts of nothing
 pub nothing_at : (n k : ℕ) → k < n → ◌≡◌ {A = Option ℕ} (slice_get {X = ℕ} (replicate n 0) k) (Some 0)
@@ -119,20 +185,44 @@ pub counts_none : (f : List Bool → ℕ) (spreads : List Spread) → ((times : 
 counts_none f spreads none k q h = nothing_at (length spreads) k (slice_get_within spreads k q h)
     ∙ ap Some (sym (none q.group))
 
--- the counts after a change, where they were turned
-pub spread_counts : (p : Parts) (m : Monitor) (s : List Slot) (c : Change) (spreads : List Spread) (old row : List ℕ)
-    → Fits p s c → names p (slot_at s (meet_of c)).event.0 m ≡ true → spreads ≡ spreads_of p m
-    → AreCounts (started p m s) (spreads_of p m) old
-    → ((f : List Bool → ℕ) → AreCounts f spreads old → AreCounts (λ g. count_after (f g) g c) spreads row)
-    → AreCounts (started p m (after s c)) spreads row
-spread_counts p m s c spreads old row fits named same kept turned k q h =
-    turned (started p m s) (subst (λ qs. AreCounts (started p m s) qs old) (sym same) kept) k q h
-    ∙ ap Some (sym (started_after p m s c q.group fits named))
+-- all that is kept after a turn, where the counts were turned
+pub spread_turned : (p : Parts) (m : Monitor) (s : List Slot) (t : SlotTurn) (spreads : List Spread)
+    (old row : List ℕ) (outside total : ℕ) → AreWellMade p → IsTurn p s t → names p t.before.event.0 m ≡ true
+    → spreads ≡ spreads_of p m → All (λ (q : Spread). q.min ≤ NUMBER) spreads → length spreads ≤ LISTED
+    → length row ≡ length spreads
+    → ((f : List Bool → ℕ) → AreCounts f spreads old
+    → AreCounts (λ g. counted_then (f g) g (start_in t.before.span) (start_in t.after.span)) spreads row)
+    → ((f : List Bool → ℕ) → AreCounts f spreads old → outside ≡ spread_by f spreads
+    → total ≡ spread_by (λ g. counted_then (f g) g (start_in t.before.span) (start_in t.after.span)) spreads)
+    → IsSpread p m s old outside → IsSpread p m (turned s t) row total
+spread_turned p m s t spreads old row total_old total made turns named same least listed amount counts summed kept =
+    record {
+      monitor = kept.monitor;
+      serves = kept.serves;
+      amount = amount ∙ ap length same;
+      counts = subst (λ qs. AreCounts later qs row) same
+          (λ k q h. counts now are k q h ∙ ap Some (sym (then q.group)));
+      few = few;
+      outside = is ∙ ap (spread_by later) same;
+      small = let a = spread_small later spreads least listed few in omega (arith, a, is);
+    }
+  where
+    now : List Bool → ℕ
+    now = started p m s
 
--- and all that is kept, where none moves
-pub spread_kept : (p : Parts) (m : Monitor) (s : List Slot) (c : Change) (row : List ℕ) (total : ℕ) → Fits p s c
-    → names p (slot_at s (meet_of c)).event.0 m ≡ true → moves_start c ≡ false → IsSpread p m s row total
-    → IsSpread p m (after s c) row total
-spread_kept p m s c row total fits named still kept =
-    spread_same p m s (after s c) row total
-    (λ times. started_after p m s c times fits named ∙ started_kept (started p m s times) times c still) kept
+    later : List Bool → ℕ
+    later = started p m (turned s t)
+
+    then : (times : List Bool) → later times
+        ≡ counted_then (now times) times (start_in t.before.span) (start_in t.after.span)
+    then times = started_then p m s t times turns named
+
+    are : AreCounts now spreads old
+    are = subst (λ qs. AreCounts now qs old) (sym same) kept.counts
+
+    few : (times : List Bool) → later times ≤ DURATION
+    few times = started_few p m (turned s t) times made turns.later
+
+    is : total ≡ spread_by later spreads
+    is = summed now are (kept.outside ∙ ap (spread_by now) (sym same))
+        ∙ sym (λ j. spread_by (λ times. then times j) spreads)

@@ -1,16 +1,18 @@
 -- Avoid Split Assignments: how many tasks in the role each resource has among a monitor's events, and
 -- how many resources have some.
-use Rattle.std.proofs.Common.{ℕ, ◌≡◌, ◌≤◌, ◌<◌, ◌+◌, ◌-◌, ◌==◌, ◌∙◌, ◌&&◌, ◌||◌, Bool, true, false, cond, Option, Some}
+use Rattle.std.proofs.Common.{ℕ, ◌≡◌, ◌≤◌, ◌<◌, ◌+◌, ◌-◌, ◌==◌, ◌∙◌, ◌&&◌, ◌||◌, zero, suc, Bool, true, false, cond}
+use Rattle.std.proofs.Common.{Option, Some}
 use Rattle.std.proofs.Common.{None, is_some, is_none, List, [], ◌∷◌, set, length, slice_get, refl, sym, ap, subst}
 use Rattle.std.proofs.Common.{arith, sum_by, count_by, filter, zero-add, ltb}
 use Rattle.std.specs.List.{list_any, range_with_len}
-use Rattle.std.specs.Option.{option_map, option_map_or}
-use Rattle.std.proofs.lemmas.Bool.{lt-ltb, true≢false}
-use Rattle.std.proofs.lemmas.List.Sums.{sum_by-append, sum_by-cons}
+use Rattle.std.specs.Option.{option_map_or}
+use Rattle.std.specs.Prelude.{replicate}
+use Rattle.std.proofs.lemmas.Bool.{lt-ltb}
+use Rattle.std.proofs.lemmas.List.Elements.{All-weaker}
+use Rattle.std.proofs.lemmas.List.Sums.{sum_by-append, sum_by-cons, sum_by-le}
 use Rattle.khe_base.specs.IdSet.{has_member}
 use Rattle.khe_base.specs.declared.limits.TheConstants.{TASKS}
 use Rattle.khe_base.specs.declared.numbers.ResourceId.{ResourceId}
-use Rattle.khe_base.specs.declared.numbers.TimeId.{TimeId}
 use Rattle.khe_base.proofs.ListLemmas.{there}
 use Rattle.khe_instance.specs.Deviation.{deviation_at}
 use Rattle.khe_instance.specs.KindLaws.{is_kind}
@@ -34,17 +36,15 @@ use Rattle.khe_instance.specs.declared.rules.Rule.TheVariants.{AvoidSplitAssignm
 use Rattle.khe_instance.specs.declared.states.Duty.{Duty}
 use Rattle.khe_instance.specs.declared.states.Meet.{Meet}
 use Rattle.khe_told.specs.Agreement.{deviation_in}
-use Rattle.khe_told.specs.Changes.{after, changed, given_after, meet_of, span_after}
+use Rattle.khe_told.specs.Fits.{AreTold, IsSlot}
 use Rattle.khe_told.specs.Lists.{duties_in, duties_of, duties_with, meets_in}
 use Rattle.khe_told.specs.Slots.{emptied, slot_at}
-use Rattle.khe_told.specs.declared.changes.Change.{Change}
-use Rattle.khe_told.specs.declared.changes.Change.TheVariants.{Add, Drop, Place as PlaceAt, Lift, Give, Take}
+use Rattle.khe_told.specs.Turns.{IsTurn, SlotTurn, turned}
 use Rattle.khe_told.specs.declared.slots.Slot.{Slot}
 use Rattle.khe_told.specs.declared.slots.Span.{Span}
 use Rattle.event_monitors.specs.Posts.{names}
 use Rattle.event_monitors.specs.ShareLaws.{rule_of_kind}
-use Rattle.event_monitors.specs.Shares.{changes_tasks}
-use Rattle.set_monitors.specs.NamedSums.{named_sum, sum_elsewhere, sum_kept}
+use Rattle.set_monitors.specs.NamedSums.{named_part, named_sum, sum_elsewhere, turn_kept}
 
 -- whether a rule is on the places of a role
 abbrev pub wants : Rule → Option (List ℕ) → Bool
@@ -106,35 +106,21 @@ pub record AreCandidates (p : Parts) (m : Monitor) (numbers : List ℕ) : Type 0
   pub known : (r : ℕ) → CanHold p m r → IsListed numbers r
   pub within : (k r : ℕ) → slice_get numbers k ≡ Some r → r < length p.resources
 
--- whether a change gives or takes a task in the role
-abbrev pub is_in_role : Parts → Monitor → List Slot → Change → Bool
-is_in_role p m s (Give t r) = in_role p m (slot_at s t.meet.0).event.0 t.place
-is_in_role p m s (Take t r) = in_role p m (slot_at s t.meet.0).event.0 t.place
-is_in_role p m s _ = false
+-- how many tasks each has with one more or one less of a resource, where one is given
+abbrev pub with_one : (ℕ → ℕ) → Option ResourceId → ℕ → ℕ
+with_one f o q = f q + cond (is_resource q o) 1 0
 
--- how many tasks each has with one more or one less of a resource
-abbrev pub with_one : (ℕ → ℕ) → ℕ → ℕ → ℕ
-with_one f r q = f q + cond (r == q) 1 0
+abbrev pub without_one : (ℕ → ℕ) → Option ResourceId → ℕ → ℕ
+without_one f o q = f q - cond (is_resource q o) 1 0
 
-abbrev pub without_one : (ℕ → ℕ) → ℕ → ℕ → ℕ
-without_one f r q = f q - cond (r == q) 1 0
+-- whether the one more is a resource's first, and the one less its last
+abbrev pub is_first : (ℕ → ℕ) → Option ResourceId → ℕ
+is_first f None = 0
+is_first f (Some r) = cond (f r.0 == 0) 1 0
 
--- how many each has after such a change, and how many resources have some, by what it was before
-abbrev pub held_after : (ℕ → ℕ) → Change → ℕ → ℕ
-held_after f (Give t r) = with_one f r.0
-held_after f (Take t r) = without_one f r.0
-held_after f _ = f
-
-abbrev pub above_after : ℕ → (ℕ → ℕ) → Change → ℕ
-above_after n f (Give t r) = n + cond (f r.0 == 0) 1 0
-above_after n f (Take t r) = n - cond (f r.0 == 1) 1 0
-above_after n f _ = n
-
--- the resource that a change gives or takes is one of these
-abbrev pub NamesListed : List ℕ → Change → Type 0
-NamesListed numbers (Give t r) = IsListed numbers r.0
-NamesListed numbers (Take t r) = IsListed numbers r.0
-NamesListed numbers _ = Unit {0}
+abbrev pub is_last : (ℕ → ℕ) → Option ResourceId → ℕ
+is_last f None = 0
+is_last f (Some r) = cond (f r.0 == 1) 1 0
 
 -- what is kept for a monitor
 pub record IsShared (p : Parts) (m : Monitor) (s : List Slot) (numbers row : List ℕ) (n : ℕ) : Type 0 where
@@ -143,9 +129,7 @@ pub record IsShared (p : Parts) (m : Monitor) (s : List Slot) (numbers row : Lis
   pub candidates : AreCandidates p m numbers
   pub amount : length row ≡ length numbers
   pub counts : AreHeld (held p m s) numbers row
-  pub others : (r : ℕ) → 1 ≤ held p m s r → IsListed numbers r
   pub free : (r : ℕ) → loose p m s r ≡ 0
-  pub few : (r : ℕ) → held p m s r ≤ TASKS
   pub above : n ≡ holders p (held p m s)
 
 -- some pass where their count is not 0
@@ -309,13 +293,11 @@ shared_same p m s later numbers counts above is free kept = record {
   candidates = kept.candidates;
   amount = kept.amount;
   counts = λ i r h. kept.counts i r h ∙ ap Some (sym (is r));
-  others = λ r h. kept.others r (let a = is r in omega (arith, a, h));
   free = λ r. free r ∙ kept.free r;
-  few = λ r. let a = kept.few r in let b = is r in omega (arith, a, b);
   above = kept.above ∙ sym (λ j. holders p (λ r. is r j));
 }
 
--- so it does after a change of a slot of another event
+-- so it does after a turn of a slot of another event
 pub shared_elsewhere : (p : Parts) (m : Monitor) (s : List Slot) (k : ℕ) (x : Slot) (numbers counts : List ℕ)
     (above : ℕ) → k < length s → emptied x ≡ emptied (slot_at s k)
     → names p (slot_at s k).event.0 m ≡ false → IsShared p m s numbers counts above
@@ -325,37 +307,45 @@ shared_elsewhere p m s k x numbers counts above l same named kept =
     (λ r. sum_elsewhere p m (given_in p m r) s k x l same named)
     (λ r. sum_elsewhere p m (λ (y : Slot). cond (is_none y.span) (given_in p m r y) 0) s k x l same named) kept
 
--- a change of a start leaves what a slot's places are given, and whether it has a meet
-slot_unheard : (f : Option Span → List (Option ResourceId) → ℕ) → ((o : Option Span) (start : Option TimeId)
-    (given : List (Option ResourceId)) → f (option_map (λ (y : Span). record y { start = start }) o) given ≡ f o given)
-    → (x : Slot) (c : Change) → changes_tasks c ≡ false
-    → f (span_after x.span c) (given_after x.given c) ≡ f x.span x.given
-slot_unheard f same x (PlaceAt k t) h = same x.span (Some t) x.given
-slot_unheard f same x (Lift k t) h = same x.span None x.given
-slot_unheard f same x (Add k d) h = absurd (true≢false h)
-slot_unheard f same x (Drop k d) h = absurd (true≢false h)
-slot_unheard f same x (Give t r) h = absurd (true≢false h)
-slot_unheard f same x (Take t r) h = absurd (true≢false h)
+-- slots without a meet have none where the state is told
+module _ (has : ℕ → Bool) (r : ℕ) where
+  part_none : (place : ℕ) → cond {A = ℕ} (has place && is_resource r None) 1 0 ≡ 0
+  part_none place = by (has place)
+    where
+      by : (b : Bool) → cond {A = ℕ} (b && false) 1 0 ≡ 0
+      by true = refl
+      by false = refl
 
--- so all that is kept stays after it too
-pub shared_unheard : (p : Parts) (m : Monitor) (s : List Slot) (c : Change) (numbers counts : List ℕ) (above : ℕ)
-    → changes_tasks c ≡ false → meet_of c < length s → IsShared p m s numbers counts above
-    → IsShared p m (after s c) numbers counts above
-shared_unheard p m s c numbers counts above h l kept =
-    shared_same p m s (after s c) numbers counts above
-    (λ r. sum_kept p m (given_in p m r) s (meet_of c) (changed x c) l refl
-    (slot_unheard (λ o given. given_from has r 0 given) (λ o start given. refl) x c h))
-    (λ r. sum_kept p m (λ (y : Slot). cond (is_none y.span) (given_in p m r y) 0) s (meet_of c) (changed x c) l refl
-    (slot_unheard (λ o given. cond (is_none o) (given_from has r 0 given) 0) (free r) x c h)) kept
+  pub given_none : (start n : ℕ) → given_from has r start (replicate n None) ≡ 0
+  given_none start zero = refl
+  given_none start (suc n) = let a = part_none start in let b = given_none (start + 1) n in omega (arith, a, b)
+
+pub loose_none : (p : Parts) (m : Monitor) (s : List Slot) (q : ℕ) → AreTold p s → loose p m s q ≡ 0
+loose_none p m s q told =
+    let a = sum_by-le (named_part p m of_free) 0 s
+    (All-weaker (IsSlot p) (λ (x : Slot). named_part p m of_free x ≤ 0)
+    (λ x is. named (names p x.event.0 m) (of_free x) (free x x.span is.empty)) s told.slots) in
+    omega (arith, a)
   where
-    x : Slot
-    x = slot_at s (meet_of c)
+    of_free : Slot → ℕ
+    of_free x = cond (is_none x.span) (given_in p m q x) 0
 
-    has : ℕ → Bool
-    has = in_role p m x.event.0
+    free : (x : Slot) (o : Option Span) → (o ≡ None → x.given ≡ replicate (length x.given) None)
+        → cond (is_none o) (given_in p m q x) 0 ≡ 0
+    free x None h = ap (given_from (in_role p m x.event.0) q 0) (h refl)
+        ∙ given_none (in_role p m x.event.0) q 0 (length x.given)
+    free x (Some y) h = refl
 
-    free : (r : ℕ) (o : Option Span) (start : Option TimeId) (given : List (Option ResourceId))
-        → cond (is_none (option_map (λ (y : Span). record y { start = start }) o)) (given_from has r 0 given) 0
-        ≡ cond (is_none o) (given_from has r 0 given) 0
-    free r None start given = refl
-    free r (Some y) start given = refl
+    named : (b : Bool) (n : ℕ) → n ≡ 0 → cond b n 0 ≤ 0
+    named true n h = omega (arith, h)
+    named false n h = omega (arith, h)
+
+-- so all that is kept stays after a turn that gives nothing else
+pub shared_unheard : (p : Parts) (m : Monitor) (s : List Slot) (t : SlotTurn) (numbers counts : List ℕ) (above : ℕ)
+    → t.before.given ≡ t.after.given → IsTurn p s t → IsShared p m s numbers counts above
+    → IsShared p m (turned s t) numbers counts above
+shared_unheard p m s t numbers counts above h turns kept =
+    shared_same p m s (turned s t) numbers counts above
+    (λ r. turn_kept p m (given_in p m r) s t turns
+    (λ j. given_from (in_role p m (ap (λ (y : Slot). y.event.0) turns.same j)) r 0 (sym h j)))
+    (λ r. loose_none p m (turned s t) r turns.later ∙ sym (kept.free r)) kept

@@ -1,12 +1,14 @@
 -- Sums over the slots of the events that a monitor names.
-use Rattle.std.proofs.Common.{ℕ, ◌≡◌, ◌<◌, ◌+◌, ◌∙◌, Bool, true, false, cond, List, [], ◌∷◌, map, set, length, refl, ap}
-use Rattle.std.proofs.Common.{arith, sum_by}
+use Rattle.std.proofs.Common.{ℕ, ◌≡◌, ◌<◌, ◌+◌, ◌∙◌, Bool, true, false, cond, List, [], ◌∷◌, map, set, length, refl}
+use Rattle.std.proofs.Common.{sym}
+use Rattle.std.proofs.Common.{ap, arith, sum_by}
 use Rattle.std.specs.List.{range_with_len}
 use Rattle.std.proofs.lemmas.List.Sums.{sum_by-append, sum_by-cons, sum_by-set}
 use Rattle.khe_instance.specs.declared.parts.EventInfo.{EventInfo}
 use Rattle.khe_instance.specs.declared.parts.Parts.{Parts}
 use Rattle.khe_instance.specs.declared.points.Monitor.{Monitor}
 use Rattle.khe_told.specs.Slots.{emptied, empty_slot, no_meets, no_slot, slot_at, slots_from, slots_of_event}
+use Rattle.khe_told.specs.Turns.{IsTurn, SlotTurn, turned}
 use Rattle.khe_told.specs.declared.slots.Slot.{Slot}
 use Rattle.event_monitors.specs.Posts.{names}
 
@@ -18,7 +20,7 @@ abbrev pub named_sum : Parts → Monitor → (Slot → ℕ) → List Slot → �
 named_sum p m f s = sum_by (named_part p m f) s
 
 module _ (p : Parts) (m : Monitor) (f : Slot → ℕ) where
-  -- a change of another event's slot leaves the sum
+  -- a turn of another event's slot leaves the sum
   pub sum_elsewhere : (s : List Slot) (k : ℕ) (x : Slot) → k < length s → emptied x ≡ emptied (slot_at s k)
       → names p (slot_at s k).event.0 m ≡ false
       → named_sum p m f (set s k x) ≡ named_sum p m f s
@@ -29,24 +31,27 @@ module _ (p : Parts) (m : Monitor) (f : Slot → ℕ) where
       let new : named_part p m f x ≡ 0 = ap (λ b. cond b (f x) 0) (ap (λ n. names p n m) e ∙ named) in
       omega (arith, a, old, new)
 
-  -- and so does one that leaves what its slot counts for
-  pub sum_kept : (s : List Slot) (k : ℕ) (x : Slot) → k < length s → x.event.0 ≡ (slot_at s k).event.0
-      → f x ≡ f (slot_at s k)
-      → named_sum p m f (set s k x) ≡ named_sum p m f s
-  sum_kept s k x l e same =
-      let a = sum_by-set (named_part p m f) s k x no_slot l in
-      let part : named_part p m f x ≡ named_part p m f (slot_at s k) = λ j. cond (names p (e j) m) (same j) 0 in
-      omega (arith, a, part)
-
-  -- one of its own changes the sum by the slot's part
-  pub sum_turned : (s : List Slot) (k : ℕ) (x : Slot) → k < length s → x.event.0 ≡ (slot_at s k).event.0
-      → names p (slot_at s k).event.0 m ≡ true
-      → named_sum p m f (set s k x) + f (slot_at s k) ≡ named_sum p m f s + f x
-  sum_turned s k x l e named =
-      let a = sum_by-set (named_part p m f) s k x no_slot l in
-      let old : named_part p m f (slot_at s k) ≡ f (slot_at s k) = ap (λ b. cond b (f (slot_at s k)) 0) named in
+  -- a slot of one of its events in place of another of the event changes the sum by their parts
+  pub sum_turned : (s : List Slot) (t : SlotTurn) (x : Slot) → IsTurn p s t → emptied x ≡ emptied t.before
+      → names p t.before.event.0 m ≡ true
+      → named_sum p m f (set s t.before.meet.0 x) + f t.before ≡ named_sum p m f s + f x
+  sum_turned s t x turns same named =
+      let a = sum_by-set (named_part p m f) s t.before.meet.0 x no_slot turns.there in
+      let old : named_part p m f (slot_at s t.before.meet.0) ≡ f t.before = ap (named_part p m f) turns.slot
+      ∙ ap (λ b. cond b (f t.before) 0) named in
+      let e : x.event.0 ≡ t.before.event.0 = ap (λ (y : Slot). y.event.0) same in
       let new : named_part p m f x ≡ f x = ap (λ b. cond b (f x) 0) (ap (λ n. names p n m) e ∙ named) in
       omega (arith, a, old, new)
+
+  -- a turn that leaves what its slot counts for leaves the sum
+  pub turn_kept : (s : List Slot) (t : SlotTurn) → IsTurn p s t → f t.after ≡ f t.before
+      → named_sum p m f (turned s t) ≡ named_sum p m f s
+  turn_kept s t turns same =
+      let a = sum_by-set (named_part p m f) s t.before.meet.0 t.after no_slot turns.there in
+      let e : t.after.event.0 ≡ t.before.event.0 = ap (λ (y : Slot). y.event.0) turns.same in
+      let part : named_part p m f t.after ≡ named_part p m f (slot_at s t.before.meet.0) =
+      (λ j. cond (names p (e j) m) (same j) 0) ∙ ap (named_part p m f) (sym turns.slot) in
+      omega (arith, a, part)
 
   -- where free slots count for nothing, there is none without meets
   pub sum_of_none : ((k e : ℕ) (event : EventInfo) → f (empty_slot k e event) ≡ 0) → named_sum p m f (no_meets p) ≡ 0

@@ -2,7 +2,7 @@
 -- many these are too few or too many.
 use Rattle.std.proofs.Common.{ℕ, ◌≡◌, ◌≤◌, ◌<◌, ◌+◌, ◌-◌, ◌∙◌, ◌&&◌, Bool, true, false, cond, Option, Some, None, List}
 use Rattle.std.proofs.Common.{[], ◌∷◌, set, length, slice_get, refl, sym, ap, subst, arith, sum_by, count_by}
-use Rattle.std.specs.Option.{option_map_or}
+use Rattle.std.specs.Option.{option_and_then, option_map_or}
 use Rattle.std.proofs.lemmas.List.Sums.{sum_by-cons}
 use Rattle.std.proofs.Common.{zero-add}
 use Rattle.khe_base.specs.Bounds.{count_outside}
@@ -29,17 +29,15 @@ use Rattle.khe_instance.specs.declared.rules.Rule.TheVariants.{SpreadEvents}
 use Rattle.khe_instance.specs.declared.rules.Spread.{Spread}
 use Rattle.khe_instance.specs.declared.states.Meet.{Meet}
 use Rattle.khe_told.specs.Agreement.{deviation_in}
-use Rattle.khe_told.specs.Changes.{after, changed, meet_of}
 use Rattle.khe_told.specs.Lists.{duties_in, meets_in}
 use Rattle.khe_told.specs.Slots.{emptied, slot_at}
-use Rattle.khe_told.specs.declared.changes.Change.{Change}
-use Rattle.khe_told.specs.declared.changes.Change.TheVariants.{Place as PlaceAt, Lift}
+use Rattle.khe_told.specs.Turns.{IsTurn, SlotTurn, turned}
 use Rattle.khe_told.specs.declared.slots.Slot.{Slot}
 use Rattle.khe_told.specs.declared.slots.Span.{Span}
 use Rattle.event_monitors.specs.Posts.{names}
 use Rattle.event_monitors.specs.ShareLaws.{meets_kept, rule_of_kind}
-use Rattle.event_monitors.specs.Shares.{changes_meets, span_share}
-use Rattle.set_monitors.specs.NamedSums.{named_sum, sum_elsewhere, sum_kept}
+use Rattle.event_monitors.specs.Shares.{KeepsMeet, span_share}
+use Rattle.set_monitors.specs.NamedSums.{named_sum, sum_elsewhere, turn_kept}
 
 -- one for a meet that starts in a set of times
 abbrev pub one_in : List Bool → Option TimeId → ℕ → ℕ
@@ -49,17 +47,13 @@ one_in times start duration = cond (starts_in times start) 1 0
 abbrev pub started : Parts → Monitor → List Slot → List Bool → ℕ
 started p m s times = named_sum p m (λ x. span_share (one_in times) x.span) s
 
--- that number after a change of a meet of one of its events, by what it was before
-abbrev pub count_after : ℕ → List Bool → Change → ℕ
-count_after n times (PlaceAt m t) = n + cond (has_member times t.0) 1 0
-count_after n times (Lift m t) = n - cond (has_member times t.0) 1 0
-count_after n times _ = n
+-- the start of a meet, if it has one
+abbrev pub start_in : Option Span → Option TimeId
+start_in span = option_and_then (λ (y : Span). y.start) span
 
--- whether a change gives a meet a start or takes it away
-abbrev pub moves_start : Change → Bool
-moves_start (PlaceAt m t) = true
-moves_start (Lift m t) = true
-moves_start _ = false
+-- that number after a turn of a slot of one of its events from one start to another, by what it was before
+abbrev pub counted_then : ℕ → List Bool → Option TimeId → Option TimeId → ℕ
+counted_then n times before later = n + cond (starts_in times later) 1 0 - cond (starts_in times before) 1 0
 
 -- the time groups that a monitor's constraint lists
 abbrev pub spreads_in : Rule → List Spread
@@ -186,7 +180,7 @@ spread_same p m s later counts outside is kept = record {
   small = kept.small;
 }
 
--- so it does after a change of a slot of another event
+-- so it does after a turn of a slot of another event
 pub spread_elsewhere : (p : Parts) (m : Monitor) (s : List Slot) (k : ℕ) (x : Slot) (counts : List ℕ) (outside : ℕ)
     → k < length s → emptied x ≡ emptied (slot_at s k)
     → names p (slot_at s k).event.0 m ≡ false → IsSpread p m s counts outside → IsSpread p m (set s k x) counts outside
@@ -194,12 +188,10 @@ spread_elsewhere p m s k x counts outside l same named kept =
     spread_same p m s (set s k x) counts outside
     (λ times. sum_elsewhere p m (λ (y : Slot). span_share (one_in times) y.span) s k x l same named) kept
 
--- and after a change of a task
-pub spread_unheard : (p : Parts) (m : Monitor) (s : List Slot) (c : Change) (counts : List ℕ) (outside : ℕ)
-    → changes_meets c ≡ false → meet_of c < length s → IsSpread p m s counts outside
-    → IsSpread p m (after s c) counts outside
-spread_unheard p m s c counts outside h l kept =
-    let x = slot_at s (meet_of c) in
-    spread_same p m s (after s c) counts outside
-    (λ times. sum_kept p m (λ (y : Slot). span_share (one_in times) y.span) s (meet_of c) (changed x c) l refl
-    (meets_kept (one_in times) x.span c h)) kept
+-- and after a turn that keeps the meet
+pub spread_unheard : (p : Parts) (m : Monitor) (s : List Slot) (t : SlotTurn) (counts : List ℕ) (outside : ℕ)
+    → KeepsMeet t → IsTurn p s t → IsSpread p m s counts outside → IsSpread p m (turned s t) counts outside
+spread_unheard p m s t counts outside h turns kept =
+    spread_same p m s (turned s t) counts outside
+    (λ times. turn_kept p m (λ (y : Slot). span_share (one_in times) y.span) s t turns (meets_kept (one_in times) t h))
+    kept

@@ -1,23 +1,23 @@
-ghost use Rattle.std.specs.Prelude.{◌≡◌, ◌≤◌, ◌<◌, ◌+◌, ◌-◌, ◌==◌, ℕ, if◌then◌else◌, Some, length, replicate, IfOk, slice_get};
+ghost use Rattle.std.specs.Prelude.{◌≡◌, ◌≤◌, ◌+◌, ◌-◌, ℕ, true, false, Some, length, replicate, IfOk, IfSome, slice_get};
 ghost use Rattle.khe_base.specs.declared.limits.TheConstants.{RESOURCES};
-ghost use Rattle.khe_instance.specs.WellMade.{IsMonitor};
-ghost use Rattle.khe_told.specs.Changes.{meet_of};
-ghost use Rattle.khe_told.specs.Slots.{slot_at};
-ghost use Rattle.set_monitors.specs.AvoidSplitAssignments.{AreAscending, AreHeld, AreWithin, IsListed, NamesListed, above_after, held_after, in_role, is_in_role, with_one, without_one};
+ghost use Rattle.khe_told.specs.Turns.{IsTurn, turned};
+ghost use Rattle.event_monitors.specs.Posts.{names};
+ghost use Rattle.set_monitors.specs.AvoidSplitAssignments.{AreAscending, AreHeld, AreWithin, IsListed, IsShared, is_first, is_last, with_one, without_one};
 
 use crate::candidates::{candidates, has_role};
-use event_monitors::{Counted, Gauge, changes_tasks};
+use event_monitors::{Counted, Gauge};
 use family_keepers::Keeping;
-use khe_base::{NoMemory, ResourceId, Seq, TaskId, beside};
+use khe_base::{NoMemory, ResourceId, Seq, beside};
 use khe_instance::{Instance, Kind, Monitor};
-use khe_told::{Change, Told};
+use khe_told::{Told, Turn};
 use std::alloc::Global;
 
 /// The family of Avoid Split Assignments: a monitor's deviation is how many resources have a task
 /// in the role among its events, less one.
 ///
-/// A monitor keeps a count for each resource with the type of such a task, 8 bytes each. A change
-/// of one of these tasks looks for its resource by halves; any other change takes constant time.
+/// A monitor keeps a count for each resource with the type of such a task, 8 bytes each. Where one of these
+/// tasks is given something else, a turn looks for the resources before and after by halves. It looks at the
+/// role of no other task, and at nothing where no task is given something else.
 pub type AvoidSplitAssignments = Keeping<Counted<Holders>>;
 
 /// The gauge of Avoid Split Assignments.
@@ -35,7 +35,6 @@ impl Gauge for Holders {
     ghost use Rattle.std.specs.Prelude.{◌≡◌, ◌-◌, true};
     ghost use Rattle.khe_instance.specs.KindLaws.{is_kind};
     ghost use Rattle.khe_instance.specs.declared.rules.Kind.TheVariants as kind;
-    ghost use Rattle.event_monitors.specs.Shares.{changes_tasks};
     ghost use Rattle.set_monitors.specs.AvoidSplitAssignments.{IsShared, shared_elsewhere, shared_exact, shared_unheard};
 
     ghost serves_kind = { λ k. is_kind k kind.AvoidSplitAssignments };
@@ -48,10 +47,10 @@ impl Gauge for Holders {
         kind == Kind::AvoidSplitAssignments
     }
 
-    ghost hears = { changes_tasks };
+    ghost IsUnheard = { λ t. t.before.given ≡ t.after.given };
 
-    fn hears(change: Change) -> bool {
-        changes_tasks(change)
+    fn hears(turn: &Turn<'_>) -> bool {
+        turn.gives_other()
     }
 
     fn open(alloc: Global, inst: &Instance, monitor: Monitor) -> Result<Holders, NoMemory> {
@@ -65,14 +64,18 @@ impl Gauge for Holders {
         })
     }
 
-    fn turn(&mut self, inst: &Instance, monitor: Monitor, told: &Told, change: Change) -> bool {
-        inst.facts();
-        if !touches(inst, monitor, told, change) {
-            return false;
-        }
+    fn turn(&mut self, inst: &Instance, monitor: Monitor, told: &Told, turn: &Turn<'_>) -> bool {
         let before = self.above;
         let candidates = self.candidates.as_slice();
-        self.above = turned(candidates, &mut self.counts, before, change);
+        self.above = turned(
+            inst,
+            monitor,
+            told,
+            turn,
+            candidates,
+            &mut self.counts,
+            before,
+        );
         self.above != before
     }
 
@@ -84,7 +87,7 @@ impl Gauge for Holders {
 
     ghost exact = { λ g p m s k. shared_exact p m s g.candidates g.counts.items g.above k };
 
-    ghost deaf = { λ g p m s c h fits kept. shared_unheard p m s c g.candidates g.counts.items g.above h fits.there kept };
+    ghost deaf = { λ g p m s t h turns kept. shared_unheard p m s t g.candidates g.counts.items g.above h turns kept };
 
     ghost elsewhere = { λ g p m s k x l same named kept. shared_elsewhere p m s k x g.candidates g.counts.items g.above l same named kept };
 }
@@ -96,59 +99,58 @@ fn no_tasks(alloc: Global, size: usize) -> Result<Vec<u32>, NoMemory>
     Ok(vec![in alloc; 0; size]?)
 }
 
-// Whether a change gives or takes a task in the role of a monitor's constraint.
-fn touches(inst: &Instance, monitor: Monitor, told: &Told, change: Change) -> bool
-    requires monitor { IsMonitor inst.now monitor }
-    requires there { meet_of change < length told.now }
-    requires event { (slot_at told.now (meet_of change)).event.0 < length inst.now.events }
-    ensures { result ≡ is_in_role inst.now monitor told.now change }
+// Turns the counts of the resources before and after of each place in the role that is given something else.
+// What is returned is how many counts are above 0 then.
+fn turned(
+    inst: &Instance,
+    monitor: Monitor,
+    told: &Told,
+    turn: &Turn<'_>,
+    candidates: &[u32],
+    counts: &mut Vec<u32>,
+    above: u32,
+) -> u32
+    requires keeps { IsShared inst.now monitor told.now candidates.now counts.old.items above }
+    requires turns { IsTurn inst.now told.now turn.now }
+    requires named { names inst.now turn.now.before.event.0 monitor ≡ true }
+    ensures keeps { IsShared inst.now monitor (turned told.now turn.now) candidates.now counts.new.items result }
 {
-    match change {
-        Change::Give { task, .. } => has_role_at(inst, monitor, told, task),
-        Change::Take { task, .. } => has_role_at(inst, monitor, told, task),
-        _ => false,
+    let _ = told;
+    inst.facts();
+    let event = turn.event();
+    let before = turn.given_before();
+    let after = turn.given_after();
+    let mut above = above;
+    for (k, given) in after.iter().enumerate() {
+        if is_other(before[k], *given) && has_role(inst, monitor, event, k) {
+            above = rise(candidates, counts, above, *given);
+            above = fall(candidates, counts, above, before[k]);
+        }
     }
+    above
 }
 
-// Whether a task is in that role.
-fn has_role_at(inst: &Instance, monitor: Monitor, told: &Told, task: TaskId) -> bool
-    requires monitor { IsMonitor inst.now monitor }
-    requires there { task.meet.0 < length told.now }
-    requires event { (slot_at told.now task.meet.0).event.0 < length inst.now.events }
-    ensures { result ≡ in_role inst.now monitor (slot_at told.now task.meet.0).event.0 task.place }
+// Whether a place is given something else.
+fn is_other(before: Option<ResourceId>, after: Option<ResourceId>) -> bool
+    ensures { result ≡ false → before ≡ after }
 {
-    has_role(inst, monitor, told.event(task.meet), task.place)
+    before != after
 }
 
-// Turns the count of the resource that a change gives or takes, and gives how many are above 0 then.
-fn turned(candidates: &[u32], counts: &mut Vec<u32>, above: u32, change: Change) -> u32
+// One more task of a resource, where one is given.
+fn rise(candidates: &[u32], counts: &mut Vec<u32>, above: u32, given: Option<ResourceId>) -> u32
     requires ascending { AreAscending candidates.now }
-    requires listed { NamesListed candidates.now change }
+    requires listed { IfSome given (λ r. IsListed candidates.now r.0) }
     requires amount { length counts.old.items ≡ length candidates.now }
     requires within { AreWithin counts.old.items }
     requires above { above ≤ RESOURCES }
     ensures amount { length counts.new.items ≡ length candidates.now }
-    ensures counts { (f : ℕ → ℕ) → AreHeld f candidates.now counts.old.items → AreHeld (held_after f change) candidates.now counts.new.items }
-    ensures above { (f : ℕ → ℕ) → AreHeld f candidates.now counts.old.items → result ≡ above_after above f change }
+    ensures counts { (f : ℕ → ℕ) → AreHeld f candidates.now counts.old.items → AreHeld (with_one f given) candidates.now counts.new.items }
+    ensures above { (f : ℕ → ℕ) → AreHeld f candidates.now counts.old.items → result ≡ above + is_first f given }
 {
-    match change {
-        Change::Give { resource, .. } => rise(candidates, counts, above, resource),
-        Change::Take { resource, .. } => fall(candidates, counts, above, resource),
-        _ => above,
-    }
-}
-
-// One more task of a resource.
-fn rise(candidates: &[u32], counts: &mut Vec<u32>, above: u32, resource: ResourceId) -> u32
-    requires ascending { AreAscending candidates.now }
-    requires listed { IsListed candidates.now resource.0 }
-    requires amount { length counts.old.items ≡ length candidates.now }
-    requires within { AreWithin counts.old.items }
-    requires above { above ≤ RESOURCES }
-    ensures amount { length counts.new.items ≡ length candidates.now }
-    ensures counts { (f : ℕ → ℕ) → AreHeld f candidates.now counts.old.items → AreHeld (with_one f resource.0) candidates.now counts.new.items }
-    ensures above { (f : ℕ → ℕ) → AreHeld f candidates.now counts.old.items → result ≡ above + (if f resource.0 == 0 then 1 else 0) }
-{
+    let Some(resource) = given else {
+        return above;
+    };
     let k = place_among(candidates, resource.0);
     let before = counts[k];
     counts[k] = before + 1;
@@ -156,14 +158,17 @@ fn rise(candidates: &[u32], counts: &mut Vec<u32>, above: u32, resource: Resourc
 }
 
 // One less.
-fn fall(candidates: &[u32], counts: &mut Vec<u32>, above: u32, resource: ResourceId) -> u32
+fn fall(candidates: &[u32], counts: &mut Vec<u32>, above: u32, given: Option<ResourceId>) -> u32
     requires ascending { AreAscending candidates.now }
-    requires listed { IsListed candidates.now resource.0 }
+    requires listed { IfSome given (λ r. IsListed candidates.now r.0) }
     requires amount { length counts.old.items ≡ length candidates.now }
     ensures amount { length counts.new.items ≡ length candidates.now }
-    ensures counts { (f : ℕ → ℕ) → AreHeld f candidates.now counts.old.items → AreHeld (without_one f resource.0) candidates.now counts.new.items }
-    ensures above { (f : ℕ → ℕ) → AreHeld f candidates.now counts.old.items → result ≡ above - (if f resource.0 == 1 then 1 else 0) }
+    ensures counts { (f : ℕ → ℕ) → AreHeld f candidates.now counts.old.items → AreHeld (without_one f given) candidates.now counts.new.items }
+    ensures above { (f : ℕ → ℕ) → AreHeld f candidates.now counts.old.items → result ≡ above - is_last f given }
 {
+    let Some(resource) = given else {
+        return above;
+    };
     let k = place_among(candidates, resource.0);
     let before = counts[k];
     counts[k] = before.saturating_sub(1);

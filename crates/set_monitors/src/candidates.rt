@@ -100,14 +100,14 @@ fn members(inst: &Instance, monitor: Monitor) -> &[u32]
 
 /// Whether a place of an event has the role of a monitor's constraint. It takes the time of
 /// comparing two roles.
-pub(crate) fn has_role(inst: &Instance, monitor: Monitor, event: EventId, place: u32) -> bool
+pub(crate) fn has_role(inst: &Instance, monitor: Monitor, event: EventId, place: usize) -> bool
     requires monitor { IsMonitor inst.now monitor }
     requires event { event.0 < length inst.now.events }
     ensures { result ≡ in_role inst.now monitor event.0 place }
 {
     let rule = &inst.constraint(monitor.constraint).rule;
     let places = inst.event(event).places.as_slice();
-    match places.get(place as usize) {
+    match places.get(place) {
         Some(place) => is_wanted(rule, &place.role),
         None => false,
     }

@@ -1,19 +1,21 @@
-ghost use Rattle.std.specs.Prelude.{◌≡◌, ◌≤◌, ◌+◌, ◌*◌, ℕ, All, Bool, List, length};
-ghost use Rattle.khe_base.specs.declared.limits.TheConstants.{DURATION, LISTED, NUMBER};
+ghost use Rattle.std.specs.Prelude.{◌≡◌, ◌≤◌, ◌+◌, ◌*◌, ℕ, All, Bool, true, List, length};
+ghost use Rattle.khe_base.specs.Bounds.{count_outside};
+ghost use Rattle.khe_base.specs.declared.limits.TheConstants.{DURATION, GREATEST_DEVIATION, LISTED, NUMBER};
+ghost use Rattle.khe_instance.specs.EventDeviation.{starts_in};
 ghost use Rattle.khe_instance.specs.WellMade.{IsMonitor};
-ghost use Rattle.set_monitors.specs.SpreadEvents.{AreCounts, AreFew, count_after, moves_start, spread_by, spreads_of};
+ghost use Rattle.set_monitors.specs.SpreadEvents.{AreCounts, AreFew, counted_then, spread_by, spreads_of, start_in};
 
-use event_monitors::{Counted, Gauge, changes_meets};
+use event_monitors::{Counted, Gauge, moves_meet};
 use family_keepers::Keeping;
-use khe_base::{NoMemory, count_out};
+use khe_base::{IdSet, NoMemory, TimeId, count_out};
 use khe_instance::{Instance, Kind, Monitor, Rule, Spread};
-use khe_told::{Change, Told};
+use khe_told::{Span, Told, Turn};
 use std::alloc::Global;
 
 /// The family of Spread Events: a monitor's deviation is, over the time groups that its constraint
 /// lists, by how many too few or too many meets of its events start in them.
 ///
-/// A change of a start looks at each listed group once, and any other change at none.
+/// A turn of a meet's start looks at each listed group once, and any other turn at none.
 pub type SpreadEvents = Keeping<Counted<Starts>>;
 
 /// The gauge of Spread Events.
@@ -29,7 +31,7 @@ impl Gauge for Starts {
     ghost use Rattle.std.specs.Prelude.{◌≡◌, true};
     ghost use Rattle.khe_instance.specs.KindLaws.{is_kind};
     ghost use Rattle.khe_instance.specs.declared.rules.Kind.TheVariants as kind;
-    ghost use Rattle.event_monitors.specs.Shares.{changes_meets};
+    ghost use Rattle.event_monitors.specs.Shares.{KeepsMeet};
     ghost use Rattle.set_monitors.specs.SpreadEvents.{IsSpread, spread_elsewhere, spread_exact, spread_unheard};
 
     ghost serves_kind = { λ k. is_kind k kind.SpreadEvents };
@@ -42,10 +44,10 @@ impl Gauge for Starts {
         kind == Kind::SpreadEvents
     }
 
-    ghost hears = { changes_meets };
+    ghost IsUnheard = { KeepsMeet };
 
-    fn hears(change: Change) -> bool {
-        changes_meets(change)
+    fn hears(turn: &Turn<'_>) -> bool {
+        moves_meet(turn)
     }
 
     fn open(alloc: Global, inst: &Instance, monitor: Monitor) -> Result<Starts, NoMemory> {
@@ -57,17 +59,18 @@ impl Gauge for Starts {
         })
     }
 
-    fn turn(&mut self, inst: &Instance, monitor: Monitor, told: &Told, change: Change) -> bool {
-        inst.facts();
+    fn turn(&mut self, inst: &Instance, monitor: Monitor, told: &Told, turn: &Turn<'_>) -> bool {
         let _ = told;
-        if !is_of_start(change) {
+        let before = start_in(turn.before());
+        let after = start_in(turn.after());
+        if is_same(before, after) {
             return false;
         }
-        let before = self.outside;
+        inst.facts();
+        let outside = self.outside;
         let spreads = listed(inst, monitor);
-        turn_counts(spreads, &mut self.counts, change);
-        self.outside = out_of(spreads, &self.counts);
-        self.outside != before
+        self.outside = turn_counts(spreads, &mut self.counts, outside, before, after);
+        self.outside != outside
     }
 
     fn value(&self, inst: &Instance, monitor: Monitor) -> u64 {
@@ -78,7 +81,7 @@ impl Gauge for Starts {
 
     ghost exact = { λ g p m s k. spread_exact p m s g.counts.items g.outside k };
 
-    ghost deaf = { λ g p m s c h fits kept. spread_unheard p m s c g.counts.items g.outside h fits.there kept };
+    ghost deaf = { λ g p m s t h turns kept. spread_unheard p m s t g.counts.items g.outside h turns kept };
 
     ghost elsewhere = { λ g p m s k x l same named kept. spread_elsewhere p m s k x g.counts.items g.outside l same named kept };
 }
@@ -97,35 +100,83 @@ fn listed(inst: &Instance, monitor: Monitor) -> &[Spread]
     }
 }
 
-// Whether a change gives a meet a start or takes it away.
-fn is_of_start(change: Change) -> bool
-    ensures { result ≡ moves_start change }
+// When a meet starts, if it has a start.
+fn start_in(span: Option<Span>) -> Option<TimeId>
+    ensures { result ≡ start_in span }
 {
-    matches!(change, Change::Place { .. } | Change::Lift { .. })
-}
-
-// How many meets start in a listed group after a change of one of them.
-fn turned(count: u32, spread: &Spread, change: Change) -> u32
-    requires { count ≤ DURATION }
-    ensures { result ≡ count_after count spread.now.group change }
-{
-    match change {
-        Change::Place { start, .. } => count + u32::from(spread.group.has(start.0)),
-        Change::Lift { start, .. } => count.saturating_sub(u32::from(spread.group.has(start.0))),
-        _ => count,
+    match span {
+        Some(span) => span.start,
+        None => None,
     }
 }
 
-// Turns the counts of all listed groups.
-fn turn_counts(spreads: &[Spread], counts: &mut Vec<u32>, change: Change)
+// Whether two starts are the same.
+fn is_same(before: Option<TimeId>, after: Option<TimeId>) -> bool
+    ensures { result ≡ true → before ≡ after }
+{
+    before == after
+}
+
+// Whether a start is given and is in a set of times.
+fn starts_in(times: &IdSet, start: Option<TimeId>) -> bool
+    ensures { result ≡ starts_in times.now start }
+{
+    match start {
+        Some(start) => times.has(start.0),
+        None => false,
+    }
+}
+
+// Turns the counts of all listed groups where a meet's start is another. What is returned is by how many too
+// few or too many start in them then, by how many it was before.
+fn turn_counts(
+    spreads: &[Spread],
+    counts: &mut Vec<u32>,
+    outside: u64,
+    before: Option<TimeId>,
+    after: Option<TimeId>,
+) -> u64
     requires amount { length counts.old.items ≡ length spreads.now }
     requires few { AreFew counts.old.items }
+    requires least { All (λ q. q.min ≤ NUMBER) spreads.now }
+    requires listed { length spreads.now ≤ LISTED }
+    requires small { outside ≤ GREATEST_DEVIATION }
     ensures amount { length counts.new.items ≡ length spreads.now }
-    ensures counts { (f : List Bool → ℕ) → AreCounts f spreads.now counts.old.items → AreCounts (λ g. count_after (f g) g change) spreads.now counts.new.items }
+    ensures counts { (f : List Bool → ℕ) → AreCounts f spreads.now counts.old.items → AreCounts (λ g. counted_then (f g) g before after) spreads.now counts.new.items }
+    ensures outside { (f : List Bool → ℕ) → AreCounts f spreads.now counts.old.items → outside ≡ spread_by f spreads.now → result ≡ spread_by (λ g. counted_then (f g) g before after) spreads.now }
 {
+    let mut total = outside;
     for (i, spread) in spreads.iter().enumerate() {
-        counts[i] = turned(counts[i], spread, change);
+        total = turn_count(spread, &mut counts[i], total, before, after);
     }
+    total
+}
+
+// The same for one of them.
+fn turn_count(
+    spread: &Spread,
+    count: &mut u32,
+    outside: u64,
+    before: Option<TimeId>,
+    after: Option<TimeId>,
+) -> u64
+    requires few { count.old ≤ DURATION }
+    requires least { spread.now.min ≤ NUMBER }
+    requires small { outside ≤ GREATEST_DEVIATION + LISTED * (DURATION + NUMBER + 1) }
+    ensures count { count.new ≡ counted_then count.old spread.now.group before after }
+    ensures outside { (rest : ℕ) → outside ≡ rest + count_outside count.old spread.now.min spread.now.max → result ≡ rest + count_outside count.new spread.now.min spread.now.max }
+    ensures bound { result ≤ outside + (DURATION + NUMBER + 1) }
+{
+    let goes = starts_in(&spread.group, before);
+    let comes = starts_in(&spread.group, after);
+    if goes == comes {
+        return outside;
+    }
+    let old = *count;
+    let new = (old + u32::from(comes)).saturating_sub(u32::from(goes));
+    *count = new;
+    let rest = outside.saturating_sub(count_out(u64::from(old), spread.min, spread.max));
+    rest + count_out(u64::from(new), spread.min, spread.max)
 }
 
 // By how many too few or too many start in the listed groups, by their counts.

@@ -1,55 +1,40 @@
-use Rattle.std.proofs.Common.{◌≤◌, ◌∙◌, length, sym, ap, subst, arith}
-use Rattle.khe_base.specs.declared.limits.TheConstants.{GREATEST_DEVIATION}
-use Rattle.khe_told.specs.Changes.{after}
-use Rattle.set_monitors.specs.SpreadEvents.{AreCounts, AreFew, spread_by, spreads_of, started}
-use Rattle.set_monitors.proofs.SpreadLaws.{counts_few, spread_counts, spread_kept, started_few}
+use Rattle.std.proofs.Common.{◌≡◌, ◌∙◌, Option, sym, ap, subst}
+use Rattle.khe_base.specs.declared.numbers.TimeId.{TimeId}
+use Rattle.set_monitors.specs.SpreadEvents.{AreCounts, counted_then, spread_by, spreads_of, start_in, started}
+use Rattle.set_monitors.proofs.SpreadLaws.{counts_few, spread_kept, spread_turned}
 use Rattle.set_monitors.proofs.spread_events.StartsGauge.turn.Goals as goal
 
-pub turn_counts-requires-clause-few : goal.turn_counts-requires-clause-few
-turn_counts-requires-clause-few c =
+pub turn_counts-self-requires-clause-few : goal.turn_counts-self-requires-clause-few
+turn_counts-self-requires-clause-few c =
     let kept = c.requires.keeps in
     counts_few (started c.args.inst.now c.args.monitor c.args.told.now) (spreads_of c.args.inst.now c.args.monitor)
     c.args.self.now.counts.items kept.amount kept.counts kept.few
 
-pub out_of-self-requires-clause-few : goal.out_of-self-requires-clause-few
-out_of-self-requires-clause-few c =
-    let p = c.args.inst.now in
-    let m = c.args.monitor in
-    let s = c.args.told.now in
-    let spreads = c.listed-spreads.result.now in
-    let row = c.turn_counts.new.counts.items in
-    let are = spread_counts p m s c.args.change spreads c.args.self.now.counts.items row c.requires.fits
-    c.requires.named c.listed-spreads.ensures.spreads c.requires.keeps.counts c.turn_counts.ensures.counts in
-    subst AreFew (sym c.deref.ensures.value)
-    (counts_few (started p m (after s c.args.change)) spreads row c.turn_counts.ensures.amount are
-    (λ times. started_few p m (after s c.args.change) times c.facts.ensures c.requires.fits.told))
-
 pub returns-clause-keeps : goal.returns-clause-keeps
 returns-clause-keeps c =
-    let p = c.args.inst.now in
-    let m = c.args.monitor in
-    let s = c.args.told.now in
-    let f = started p m (after s c.args.change) in
+    let t = c.args.turn.now in
     let spreads = c.listed-spreads.result.now in
-    let same = c.listed-spreads.ensures.spreads in
-    let row = c.turn_counts.new.counts.items in
-    let are = spread_counts p m s c.args.change spreads c.args.self.now.counts.items row c.requires.fits
-    c.requires.named same c.requires.keeps.counts c.turn_counts.ensures.counts in
-    let small : c.out_of-self.result ≤ GREATEST_DEVIATION =
-    omega (arith, c.out_of-self.ensures.bound, c.listed-spreads.ensures.listed) in
-    record {
-      monitor = c.requires.keeps.monitor;
-      serves = c.requires.keeps.serves;
-      amount = c.turn_counts.ensures.amount ∙ ap length same;
-      counts = subst (λ qs. AreCounts f qs row) same are;
-      few = λ times. started_few p m (after s c.args.change) times c.facts.ensures c.requires.fits.told;
-      outside = c.out_of-self.ensures.outside f (subst (AreCounts f spreads) (sym c.deref.ensures.value) are)
-          ∙ ap (spread_by f) same;
-      small = small;
-    }
+    let old = c.args.self.now.counts.items in
+    let row = c.turn_counts-self.new.counts.items in
+    let before : c.start_in-before.result ≡ start_in t.before.span = c.start_in-before.ensures
+    ∙ ap start_in c.before-2.ensures in
+    let later : c.start_in-after.result ≡ start_in t.after.span = c.start_in-after.ensures
+    ∙ ap start_in c.after.ensures in
+    spread_turned c.args.inst.now c.args.monitor c.args.told.now t spreads old row c.args.self.now.outside
+    c.turn_counts-self.result c.facts.ensures c.requires.turns c.requires.named c.listed-spreads.ensures.spreads
+    c.listed-spreads.ensures.least c.listed-spreads.ensures.listed c.turn_counts-self.ensures.amount
+    (λ f are. subst (λ (a : Option TimeId). AreCounts (λ g. counted_then (f g) g a (start_in t.after.span)) spreads row)
+    before (subst (λ (a : Option TimeId). AreCounts (λ g. counted_then (f g) g c.start_in-before.result a) spreads row)
+    later (c.turn_counts-self.ensures.counts f are)))
+    (λ f are whole. c.turn_counts-self.ensures.outside f are whole
+    ∙ (λ j. spread_by (λ g. counted_then (f g) g (before j) (later j)) spreads))
+    c.requires.keeps
 
-pub returns-then-not-is_of_start-clause-keeps : goal.returns-then-not-is_of_start-clause-keeps
-returns-then-not-is_of_start-clause-keeps c =
-    spread_kept c.args.inst.now c.args.monitor c.args.told.now c.args.change c.args.self.now.counts.items
-    c.args.self.now.outside c.requires.fits c.requires.named
-    (sym c.is_of_start.ensures ∙ c.if-not-is_of_start.true) c.requires.keeps
+pub returns-then-is_same-clause-keeps : goal.returns-then-is_same-clause-keeps
+returns-then-is_same-clause-keeps c =
+    let t = c.args.turn.now in
+    spread_kept c.args.inst.now c.args.monitor c.args.told.now t c.args.self.now.counts.items c.args.self.now.outside
+    c.requires.turns c.requires.named
+    (sym (c.start_in-before.ensures ∙ ap start_in c.before-2.ensures) ∙ c.is_same.ensures c.if-is_same.true
+    ∙ c.start_in-after.ensures ∙ ap start_in c.after.ensures)
+    c.requires.keeps
