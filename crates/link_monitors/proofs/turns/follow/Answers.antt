@@ -1,4 +1,4 @@
-use Rattle.std.proofs.Common.{◌∙◌, Some, length, slice_get, sym, ap, subst, arith}
+use Rattle.std.proofs.Common.{◌∙◌, Some, length, sym, ap, subst, arith}
 use Rattle.std.proofs.lemmas.Option.{slice_get_within}
 use Rattle.khe_told.specs.Turns.{turned}
 use Rattle.timetables.specs.Counts.{count_at}
