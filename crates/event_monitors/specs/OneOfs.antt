@@ -1,5 +1,5 @@
 -- A gauge of one of two sorts: what it keeps and what is read from it, and its laws.
-use Rattle.std.proofs.Common.{ℕ, ◌≡◌, ◌<◌, List, length}
+use Rattle.std.proofs.Common.{ℕ, ◌≡◌, ◌<◌, false, List, length}
 use Rattle.std.specs.Prelude.{slice_set}
 use Rattle.khe_instance.specs.declared.parts.Parts.{Parts}
 use Rattle.khe_instance.specs.declared.points.Monitor.{Monitor}
