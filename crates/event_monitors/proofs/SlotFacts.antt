@@ -1,11 +1,11 @@
 -- The slots of a told state: each is one of an event, and they are short.
 use Rattle.std.proofs.Common.{ℕ, ◌≡◌, ◌≤◌, ◌<◌, ◌+◌, ◌∙◌, ◌⊎◌, inl, inr, zero, suc, cond, Option, Some, None, List, []}
-use Rattle.std.proofs.Common.{◌∷◌, map, get_or, get_or-set_same, length, slice_get, refl, sym, ap, subst, arith, sum_by}
-use Rattle.std.specs.Prelude.{All, replicate}
+use Rattle.std.proofs.Common.{◌∷◌, map, get_or, length, slice_get, refl, sym, ap, subst, arith, sum_by}
+use Rattle.std.specs.Prelude.{All}
 use Rattle.std.specs.List.{range_with_len}
 use Rattle.std.specs.Option.{option_map_or}
 use Rattle.std.proofs.lemmas.Bool.{eq-eqb}
-use Rattle.std.proofs.lemmas.List.{get_or-map, length-map, length-set}
+use Rattle.std.proofs.lemmas.List.{get_or-map, length-map}
 use Rattle.std.proofs.lemmas.List.Elements.{All-append, All-from_get_or, All-map, All-weaker}
 use Rattle.std.proofs.lemmas.List.Sums.{sum_by-append, sum_by-cons, sum_by-le}
 use Rattle.std.proofs.lemmas.Option.{slice_get_cases}
@@ -13,12 +13,10 @@ use Rattle.khe_base.specs.declared.limits.TheConstants.{NUMBER}
 use Rattle.khe_instance.specs.WellMade.{AreWellMade, IsEvent}
 use Rattle.khe_instance.specs.declared.parts.EventInfo.{EventInfo}
 use Rattle.khe_instance.specs.declared.parts.Parts.{Parts}
-use Rattle.khe_told.specs.Changes.{after, changed, meet_of}
-use Rattle.khe_told.specs.Fits.{AreTold, Fits, Suits}
+use Rattle.khe_told.specs.Fits.{AreTold}
 use Rattle.khe_told.specs.Slots.{emptied, empty_slot, held_by, length_of, no_meets, no_slot, slot_at, slots_from}
 use Rattle.khe_told.specs.Slots.{slots_of_event}
-use Rattle.khe_told.specs.declared.changes.Change.{Change}
-use Rattle.khe_told.specs.declared.changes.Change.TheVariants.{Add, Drop, Place as PlaceAt, Lift, Give, Take}
+use Rattle.khe_told.specs.Turns.{IsTurn, SlotTurn}
 use Rattle.khe_told.specs.declared.slots.Slot.{Slot}
 use Rattle.khe_told.specs.declared.slots.Span.{Span}
 use Rattle.event_monitors.specs.Shares.{greatest_total, most_of}
@@ -109,26 +107,9 @@ none_of_no_meets p = all 0 p.events
         let c = all (e + 1) events in
         omega (arith, a, b, c)
 
--- a change leaves all but a slot's meet and what is given
-pub emptied_changed : (x : Slot) (c : Change) → Suits x c → emptied (changed x c) ≡ emptied x
-emptied_changed x (Add m d) h = refl
-emptied_changed x (Drop m d) h = refl
-emptied_changed x (PlaceAt m d) h = refl
-emptied_changed x (Lift m d) h = refl
-emptied_changed x (Give t r) h = ap (λ n. record x { span = None; given = replicate n None })
-    (length-set x.given t.place (Some r))
-emptied_changed x (Take t r) h = ap (λ n. record x { span = None; given = replicate n None })
-    (length-set x.given t.place None)
-
--- the event of a change is one of the instance
-pub fits_event : (p : Parts) (s : List Slot) (c : Change) → Fits p s c
-    → (slot_at s (meet_of c)).event.0 < length p.events
-fits_event p s c fits =
-    let m = meet_of c in
-    let x = slot_at s m in
-    let l : m < length (after s c) = let a = length-set s m (changed x c) in let b = fits.there in
-    omega (arith, a, b) in
-    let h = slot_event p (after s c) m fits.told.whose l in
-    let e : (slot_at (after s c) m).event.0 ≡ x.event.0 =
-    ap (λ (y : Slot). y.event.0) (get_or-set_same s m (changed x c) no_slot fits.there) in
-    omega (arith, h, e)
+-- the event of a turn is one of the instance
+pub turn_event : (p : Parts) (s : List Slot) (t : SlotTurn) → IsTurn p s t → t.before.event.0 < length p.events
+turn_event p s t turns =
+    let a = slot_event p s t.before.meet.0 turns.told.whose turns.there in
+    let e : (slot_at s t.before.meet.0).event.0 ≡ t.before.event.0 = ap (λ (x : Slot). x.event.0) turns.slot in
+    omega (arith, a, e)

@@ -1,9 +1,10 @@
 -- Gauges while those at the places of a list are turned, and monitors that wait.
-use Rattle.std.proofs.Common.{ℕ, ◌≡◌, ◌≤◌, ◌<◌, ◌+◌, ◌∙◌, ◌||◌, ◌&&◌, nat_eq, zero, suc, Bool, true, false, cond, Some, List, ◌∷◌}
+use Rattle.std.proofs.Common.{ℕ, ◌≡◌, ◌≤◌, ◌<◌, ◌+◌, ◌∙◌, ◌||◌, ◌&&◌, nat_eq, zero, suc, Bool, true, false, cond, Some}
+use Rattle.std.proofs.Common.{List, ◌∷◌}
 use Rattle.std.proofs.Common.{drop, set, get_or, length, slice_get, refl, sym, ap, subst, arith, filter, ◌⊎◌, inl, inr}
 use Rattle.std.specs.Option.{option_map_or}
 use Rattle.std.specs.List.{range_with_len}
-use Rattle.std.proofs.lemmas.Bool.{cases_eq, cases_lt, eq-eqb, ne_eqb, true≢false}
+use Rattle.std.proofs.lemmas.Bool.{cases_eq, eq-eqb, ne_eqb, true≢false}
 use Rattle.std.proofs.lemmas.List.{length-set}
 use Rattle.std.proofs.lemmas.Option.{slice_get_within, slice_get-get_or, same_Some, none-some}
 use Rattle.khe_base.proofs.ListLemmas.{drop-there, get-other, get-set}
@@ -11,11 +12,10 @@ use Rattle.khe_instance.specs.declared.parts.Parts.{Parts}
 use Rattle.khe_instance.specs.declared.points.Monitor.{Monitor}
 use Rattle.khe_told.specs.Waits.{WaitOn}
 use Rattle.khe_told.specs.declared.slots.Slot.{Slot}
-use Rattle.khe_instance.specs.declared.rules.Kind.{Kind}
 use Rattle.khe_instance.specs.declared.rules.Kind.TheVariants as kind
 use Rattle.khe_instance.specs.declared.points.Point.TheVariants as point
-use Rattle.event_monitors.specs.Posts.{names, names_at, posts_at, ArePosts, AreKept}
-use Rattle.event_monitors.specs.Turns.{has, AreSameOrWait, AreTurned}
+use Rattle.event_monitors.specs.Posts.{names, names_at, posts_at, AreKept}
+use Rattle.event_monitors.specs.Turns.{has, AreListedSince, AreSameOrWait, AreTurned}
 use Rattle.event_monitors.specs.declared.posts.Post.{Post}
 
 -- what stands for a post beyond the last
@@ -76,15 +76,12 @@ module _ (f : ℕ → Bool) where
       by r (inr e) true g = ap (λ c. c || has rest k) (ne_eqb from k e) ∙ r (omega (arith, a, e))
       by r (inr e) false g = r (omega (arith, a, e))
 
--- no two posts have one number
-pub posts_once : (p : Parts) (served : Kind → Bool) (posts : List Post) → ArePosts p served posts
-    → (j k : ℕ) (a b : Post) → slice_get posts j ≡ Some a → slice_get posts k ≡ Some b → a.number.0 ≡ b.number.0 → j ≡ k
-posts_once p served posts all j k a b at there same = by (cases_lt j k) (cases_lt k j)
-  where
-    by : (j < k) ⊎ (k ≤ j) → (k < j) ⊎ (j ≤ k) → j ≡ k
-    by (inl l) o = absurd (let x = all.ascending j k a b l at there in omega (arith, x, same))
-    by (inr m) (inl l) = absurd (let x = all.ascending k j b a l there at in omega (arith, x, same))
-    by (inr m) (inr l) = omega (arith, m, l)
+-- whether a post's place is listed, by the monitor
+pub listed_as : (p : Parts) (posts : List Post) (e k : ℕ) (a : Post) → slice_get posts k ≡ Some a
+    → has (posts_at p posts e) k ≡ names p e a.monitor
+listed_as p posts e k a there =
+    has_range (names_at p posts e) 0 (length posts) k (omega arith) (omega (arith, slice_get_within posts k a there))
+    ∙ ap (λ o. option_map_or (λ (b : Post). names p e b.monitor) o false) there
 
 -- one of a list where one was set
 get-same : {X : Type 0} (xs : List X) (i : ℕ) (x y : X) → i < length xs → slice_get (set xs i x) i ≡ Some y → x ≡ y
@@ -109,15 +106,8 @@ module _ {G : Type 0} (keeps : G → Parts → Monitor → List Slot → Type 0)
   turned_start e kept law = record {
     amount = refl;
     later = λ k h. refl;
-    kept = λ k a g h there here. law g a.monitor (not_named k a h there) (kept k a g there here);
+    kept = λ k a g h there here. law g a.monitor (sym (listed_as p posts e k a there) ∙ h) (kept k a g there here);
   }
-    where
-      not_named : (k : ℕ) (a : Post) → has (posts_at p posts e) k ≡ false → slice_get posts k ≡ Some a
-          → names p e a.monitor ≡ false
-      not_named k a h there =
-          sym (ap (λ o. option_map_or (λ (b : Post). names p e b.monitor) o false) there)
-          ∙ sym (has_range (names_at p posts e) 0 (length posts) k (omega arith)
-          (omega (arith, slice_get_within posts k a there))) ∙ h
 
   -- one more
   pub turned_step : (k : ℕ) (a : Post) (g : G) (now : List G) (rest : List ℕ) → slice_get posts k ≡ Some a
@@ -173,6 +163,17 @@ pub same_start : {G : Type 0} (value : G → Parts → Monitor → ℕ) (p : Par
 same_start value p posts old waits k a g0 g there first new not = ap (λ x. value x p a.monitor)
     (same_Some g g0 (sym new ∙ first))
 
+-- who waits since has a post at a listed place, also after one more of these that may wait
+pub listed_step : (posts : List Post) (list : List ℕ) (k : ℕ) (a : Post) (old waits more : ℕ → Bool)
+    → has list k ≡ true → slice_get posts k ≡ Some a → ((i : ℕ) → (i ≡ a.number.0 → ⊥) → more i ≡ waits i)
+    → AreListedSince posts list old waits → AreListedSince posts list old more
+listed_step posts list k a old waits more listed there others since i new = by (cases_eq i a.number.0)
+  where
+    by : (i ≡ a.number.0) ⊎ (i ≡ a.number.0 → ⊥) → (old i ≡ true)
+        ⊎ ((k : ℕ) × (a : Post) × (has list k ≡ true) × (slice_get posts k ≡ Some a) × (a.number.0 ≡ i))
+    by (inl e) = inr (k, a, listed, there, sym e)
+    by (inr n) = since i (sym (others i n) ∙ new)
+
 -- one more monitor that may wait
 module _ (hears : Bool) (number : ℕ) (old new : ℕ → Bool)
     (is : (i : ℕ) → new i ≡ (old i || (hears && nat_eq i number))) where
@@ -213,6 +214,9 @@ module _ (p : Parts) (posts : List Post) (e : ℕ) (list : List ℕ) (i : ℕ) (
 
   pub spot_named : names p e (get_or posts (get_or list i 0) d).monitor ≡ true
   spot_named = sym (ap (λ o. option_map_or (λ (b : Post). names p e b.monitor) o false) spot_post) ∙ spot.0
+
+  pub spot_listed : has list (get_or list i 0) ≡ true
+  spot_listed = ap (λ xs. has xs k) is ∙ listed_as p posts e k (get_or posts k d) spot_post ∙ spot_named
 
   pub spot_fresh : has (drop (i + 1) list) (get_or list i 0) ≡ false
   spot_fresh = let n : i + 1 ≡ suc i = omega arith in ap (λ n. has (drop n list) k) n ∙ spot.3

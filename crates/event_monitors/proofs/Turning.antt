@@ -1,4 +1,4 @@
--- A monitor's sum and one more change.
+-- A monitor's sum and one more turn of a slot.
 use Rattle.std.proofs.Common.{ℕ, ◌≡◌, ◌≤◌, ◌<◌, ◌+◌, ◌-◌, ◌∙◌, Bool, true, false, cond, Option, Some, None, List, []}
 use Rattle.std.proofs.Common.{◌∷◌, length, slice_get, refl, sym, ap, arith, sum_by}
 use Rattle.std.specs.Option.{option_map_or}
@@ -11,24 +11,24 @@ use Rattle.khe_instance.specs.declared.points.Monitor.{Monitor}
 use Rattle.khe_instance.specs.declared.points.Point.{Point}
 use Rattle.khe_instance.specs.declared.rules.Constraint.{Constraint}
 use Rattle.khe_instance.specs.declared.rules.Rule.{Rule}
-use Rattle.khe_told.specs.Changes.{after, changed, given_after, meet_of, span_after}
-use Rattle.khe_told.specs.Fits.{Fits}
 use Rattle.khe_told.specs.Slots.{no_meets, no_slot, slot_at}
-use Rattle.khe_told.specs.declared.changes.Change.{Change}
+use Rattle.khe_told.specs.Turns.{IsTurn, SlotTurn, turned}
 use Rattle.khe_told.specs.declared.slots.Slot.{Slot}
 use Rattle.khe_told.specs.declared.slots.Span.{Span}
 use Rattle.event_monitors.specs.Posts.{names}
 use Rattle.event_monitors.specs.Shares.{given_at, greatest_total, most_of, share_of, total_at, total_of}
 use Rattle.event_monitors.proofs.SlotFacts.{none_of_no_meets, part_of_sum, totals_small}
 
--- the sum with one slot changed
-turned_sum : (f : Slot → ℕ) (s : List Slot) (c : Change) (amount before later : ℕ) → meet_of c < length s
-    → amount ≡ sum_by f s → before ≡ f (slot_at s (meet_of c)) → later ≡ f (changed (slot_at s (meet_of c)) c)
-    → (before ≤ amount) × (amount - before + later ≡ sum_by f (after s c))
-turned_sum f s c amount before later l h b a =
-    let e = sum_by-set f s (meet_of c) (changed (slot_at s (meet_of c)) c) no_slot l in
-    let part = part_of_sum f s (meet_of c) no_slot l in
-    (omega (arith, part, h, b), omega (arith, e, part, h, b, a))
+-- the sum with one slot become another
+turned_sum : (f : Slot → ℕ) (s : List Slot) (t : SlotTurn) (amount before later : ℕ) → t.before.meet.0 < length s
+    → slot_at s t.before.meet.0 ≡ t.before → amount ≡ sum_by f s → before ≡ f t.before → later ≡ f t.after
+    → (before ≤ amount) × (amount - before + later ≡ sum_by f (turned s t))
+turned_sum f s t amount before later l slot h b a =
+    let k = t.before.meet.0 in
+    let e = sum_by-set f s k t.after no_slot l in
+    let part = part_of_sum f s k no_slot l in
+    let is : f (slot_at s k) ≡ f t.before = ap f slot in
+    (omega (arith, part, h, b, is), omega (arith, e, part, h, b, a, is))
 
 -- sums grow with their parts
 pub sum_le : (f g : Slot → ℕ) (s : List Slot) → ((x : Slot) → f x ≤ g x) → sum_by f s ≤ sum_by g s
@@ -47,38 +47,38 @@ module _ (share : Rule → Option Span → Option (Option ResourceId) → ℕ)
       by true n h = h
       by false n h = omega arith
 
-  -- what the code computes is the sum after the change
-  pub record IsTurned (p : Parts) (m : Monitor) (s : List Slot) (c : Change) (total before later : ℕ) : Type 0 where
+  -- what the code computes is the sum after the turn
+  pub record IsTurned (p : Parts) (m : Monitor) (s : List Slot) (t : SlotTurn) (total before later : ℕ) : Type 0 where
     pub part : before ≤ total
-    pub is : total - before + later ≡ total_of share p m (after s c)
+    pub is : total - before + later ≡ total_of share p m (turned s t)
     pub small : total - before + later ≤ greatest_total
 
-  pub turned_total : (p : Parts) (m : Monitor) (k : Constraint) (s : List Slot) (c : Change) (total before later : ℕ)
-      → AreWellMade p → Fits p s c → IsMonitor p m
-      → slice_get p.constraints m.constraint ≡ Some k
-      → names p (slot_at s (meet_of c)).event.0 m ≡ true → total ≡ total_of share p m s
-      → before ≡ share k.rule (slot_at s (meet_of c)).span (given_at m.point (slot_at s (meet_of c)).given)
-      → later ≡ share k.rule (span_after (slot_at s (meet_of c)).span c)
-      (given_at m.point (given_after (slot_at s (meet_of c)).given c))
-      → IsTurned p m s c total before later
-  turned_total p m k s c total before later made fits monitor there named h b a =
-      let x = slot_at s (meet_of c) in
-      let y = changed x c in
+  pub turned_total : (p : Parts) (m : Monitor) (k : Constraint) (s : List Slot) (t : SlotTurn) (total before later : ℕ)
+      → AreWellMade p → IsTurn p s t → IsMonitor p m → slice_get p.constraints m.constraint ≡ Some k
+      → names p t.before.event.0 m ≡ true → total ≡ total_of share p m s
+      → before ≡ share k.rule t.before.span (given_at m.point t.before.given)
+      → later ≡ share k.rule t.after.span (given_at m.point t.after.given)
+      → IsTurned p m s t total before later
+  turned_total p m k s t total before later made turns monitor there named h b a =
+      let x = t.before in
+      let y = t.after in
       let f = share_of share p k.rule m.point in
       let n : names_event p k.rule m.point x.event.0 ≡ true =
       sym (ap (λ o. option_map_or (λ (c : Constraint). names_event p c.rule m.point x.event.0) o false) there)
       ∙ named in
+      let n2 : names_event p k.rule m.point y.event.0 ≡ true =
+      ap (λ (z : Slot). names_event p k.rule m.point z.event.0) turns.same ∙ n in
       let e : total_of share p m s ≡ sum_by f s = ap (λ o. option_map_or
       (λ (c : Constraint). total_at share p c.rule m.point s) o 0) there in
-      let e2 : total_of share p m (after s c) ≡ sum_by f (after s c) =
-      ap (λ o. option_map_or (λ (q : Constraint). total_at share p q.rule m.point (after s c)) o 0) there in
+      let e2 : total_of share p m (turned s t) ≡ sum_by f (turned s t) =
+      ap (λ o. option_map_or (λ (q : Constraint). total_at share p q.rule m.point (turned s t)) o 0) there in
       let one : before ≡ f x = b ∙ sym (ap (λ b. cond b (share k.rule x.span (given_at m.point x.given)) 0) n) in
-      let two : later ≡ f y = a ∙ sym (ap (λ b. cond b (share k.rule y.span (given_at m.point y.given)) 0) n) in
-      let t = turned_sum f s c total before later fits.there (h ∙ e) one two in
-      let q = sum_le f (λ (z : Slot). most_of z.span) (after s c) (part p k.rule m.point) in
-      let r = totals_small p (after s c) made fits.told in
-      let t1 = t.1 in
-      record { part = t.0; is = t.1 ∙ sym e2; small = omega (arith, t1, q, r) }
+      let two : later ≡ f y = a ∙ sym (ap (λ b. cond b (share k.rule y.span (given_at m.point y.given)) 0) n2) in
+      let r = turned_sum f s t total before later turns.there turns.slot (h ∙ e) one two in
+      let q = sum_le f (λ (z : Slot). most_of z.span) (turned s t) (part p k.rule m.point) in
+      let w = totals_small p (turned s t) made turns.later in
+      let r1 = r.1 in
+      record { part = r.0; is = r.1 ∙ sym e2; small = omega (arith, r1, q, w) }
 
   -- without meets it is 0
   pub nothing_yet : (p : Parts) (m : Monitor) → total_of share p m (no_meets p) ≡ 0

@@ -30,7 +30,8 @@ unfilled_bounded rule span given = task_bounded unfilled_duration
     (λ (r : Option ResourceId) n. part_bounded (is_none r) n) span given
 
 pub unfilled_unheard : (rule : Rule) (point : Point) (t : SlotTurn) → KeepsTasks t
-    → unfilled rule t.after.span (given_at point t.after.given) ≡ unfilled rule t.before.span (given_at point t.before.given)
+    → unfilled rule t.after.span (given_at point t.after.given)
+    ≡ unfilled rule t.before.span (given_at point t.before.given)
 unfilled_unheard rule point t e = tasks_kept unfilled_duration point t e
 
 pub unfilled_exact : (p : Parts) (s : List Slot) (r : Rule) (point : Point)

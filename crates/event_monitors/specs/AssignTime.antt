@@ -31,7 +31,8 @@ unplaced_bounded rule span given = span_bounded unplaced_duration
     (λ (start : Option TimeId) n. part_bounded (is_none start) n) span
 
 pub unplaced_unheard : (rule : Rule) (point : Point) (t : SlotTurn) → KeepsMeet t
-    → unplaced rule t.after.span (given_at point t.after.given) ≡ unplaced rule t.before.span (given_at point t.before.given)
+    → unplaced rule t.after.span (given_at point t.after.given)
+    ≡ unplaced rule t.before.span (given_at point t.before.given)
 unplaced_unheard rule point t e = meets_kept unplaced_duration t e
 
 pub unplaced_exact : (p : Parts) (s : List Slot) (r : Rule) (point : Point) → is_kind (kind_of r) kind.AssignTime ≡ true

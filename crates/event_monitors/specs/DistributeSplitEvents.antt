@@ -42,7 +42,8 @@ of_duration_bounded (DistributeSplitEvents only least greatest) span given =
 of_duration_bounded _ span given = omega arith
 
 pub of_duration_unheard : (rule : Rule) (point : Point) (t : SlotTurn) → KeepsDuration t
-    → of_duration rule t.after.span (given_at point t.after.given) ≡ of_duration rule t.before.span (given_at point t.before.given)
+    → of_duration rule t.after.span (given_at point t.after.given)
+    ≡ of_duration rule t.before.span (given_at point t.before.given)
 of_duration_unheard (DistributeSplitEvents only least greatest) point t e =
     durations_kept (one_of only) (λ a b n. refl) t e
 of_duration_unheard _ point t e = refl

@@ -33,7 +33,8 @@ misfilled_bounded (PreferResources resources role) span given =
 misfilled_bounded _ span given = omega arith
 
 pub misfilled_unheard : (rule : Rule) (point : Point) (t : SlotTurn) → KeepsTasks t
-    → misfilled rule t.after.span (given_at point t.after.given) ≡ misfilled rule t.before.span (given_at point t.before.given)
+    → misfilled rule t.after.span (given_at point t.after.given)
+    ≡ misfilled rule t.before.span (given_at point t.before.given)
 misfilled_unheard (PreferResources resources role) point t e =
     tasks_kept (misfilled_duration resources) point t e
 misfilled_unheard _ point t e = refl

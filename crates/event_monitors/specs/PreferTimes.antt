@@ -35,7 +35,8 @@ misplaced_bounded (PreferTimes times only) span given =
 misplaced_bounded _ span given = omega arith
 
 pub misplaced_unheard : (rule : Rule) (point : Point) (t : SlotTurn) → KeepsMeet t
-    → misplaced rule t.after.span (given_at point t.after.given) ≡ misplaced rule t.before.span (given_at point t.before.given)
+    → misplaced rule t.after.span (given_at point t.after.given)
+    ≡ misplaced rule t.before.span (given_at point t.before.given)
 misplaced_unheard (PreferTimes times only) point t e = meets_kept (misplaced_duration times only) t e
 misplaced_unheard _ point t e = refl
 

@@ -69,7 +69,8 @@ durations_kept f same t h = by t.before.span t.after.span h
     by (Some x) (Some y) h = same y.start x.start y.duration ∙ ap (f x.start) (sym (same_Some x.duration y.duration h))
 
 pub tasks_kept : (f : Option ResourceId → ℕ → ℕ) (point : Point) (t : SlotTurn) → KeepsTasks t
-    → task_share f t.after.span (given_at point t.after.given) ≡ task_share f t.before.span (given_at point t.before.given)
+    → task_share f t.after.span (given_at point t.after.given)
+    ≡ task_share f t.before.span (given_at point t.before.given)
 tasks_kept f point t h =
     ap (λ g. task_share f t.after.span (given_at point g)) (sym h.0)
     ∙ by t.before.span t.after.span (given_at point t.before.given) h.1
@@ -86,7 +87,8 @@ tasks_kept f point t h =
 module _ (share : Rule → Option Span → Option (Option ResourceId) → ℕ) where
   -- a turn that leaves what its slot counts for leaves a monitor's sum
   sum_unheard : (p : Parts) (rule : Rule) (point : Point) (s : List Slot) (t : SlotTurn) → IsTurn p s t
-      → share rule t.after.span (given_at point t.after.given) ≡ share rule t.before.span (given_at point t.before.given)
+      → share rule t.after.span (given_at point t.after.given)
+      ≡ share rule t.before.span (given_at point t.before.given)
       → total_at share p rule point (turned s t) ≡ total_at share p rule point s
   sum_unheard p rule point s t turns same =
       let k = t.before.meet.0 in
@@ -105,7 +107,8 @@ module _ (share : Rule → Option Span → Option (Option ResourceId) → ℕ) w
       → total ≡ total_of share p m s → total ≡ total_of share p m (turned s t)
   total_unheard p m s t total turns same h = h ∙ sym (by (slice_get p.constraints m.constraint))
     where
-      by : (o : Option Constraint) → option_map_or (λ (k : Constraint). total_at share p k.rule m.point (turned s t)) o 0
+      by : (o : Option Constraint) → option_map_or (λ (k : Constraint). total_at share p k.rule m.point (turned s t)) o
+          0
           ≡ option_map_or (λ (k : Constraint). total_at share p k.rule m.point s) o 0
       by None = refl
       by (Some k) = sum_unheard p k.rule m.point s t turns (same k.rule m.point)
@@ -125,7 +128,7 @@ module _ (share : Rule → Option Span → Option (Option ResourceId) → ℕ) w
       let new = share_none p rule point x (ap (names_event p rule point) e ∙ named) in
       omega (arith, a, old, new)
 
-  -- a change of a slot of another event leaves a monitor's sum
+  -- another slot in place of one of another event leaves a monitor's sum
   pub total_elsewhere : (p : Parts) (m : Monitor) (s : List Slot) (k : ℕ) (x : Slot) (total : ℕ) → k < length s
       → emptied x ≡ emptied (slot_at s k)
       → names p (slot_at s k).event.0 m ≡ false → IsMonitor p m → total ≡ total_of share p m s
