@@ -1,8 +1,8 @@
 use Rattle.std.proofs.Common.{◌+◌, inl, get_or, drop, refl, sym, subst, arith, ◌∙◌}
 use Rattle.std.proofs.lemmas.Option.{slice_get_within}
 use Rattle.event_monitors.specs.declared.posts.Post.{Post}
-use Rattle.event_monitors.proofs.TurnLaws.{added_on, added_other, added_own, listed_step, no_post, spot_drop, spot_listed}
-use Rattle.event_monitors.proofs.TurnLaws.{spot_post, spot_within}
+use Rattle.event_monitors.proofs.TurnLaws.{added_on, added_other, added_own, listed_step, no_post, spot_drop}
+use Rattle.event_monitors.proofs.TurnLaws.{spot_listed, spot_post, spot_within}
 use Rattle.order_monitors.specs.Waits.{NamedWait}
 use Rattle.order_monitors.proofs.WaitLaws.{named_start, named_step}
 use Rattle.order_monitors.proofs.waits.add_all.Goals as goal
