@@ -1,5 +1,5 @@
 -- Assign Resource: the duration of the tasks at a place without a resource.
-use Rattle.std.proofs.Common.{ℕ, ◌≡◌, ◌≤◌, true, Option, List, is_none, sym, subst, false}
+use Rattle.std.proofs.Common.{ℕ, ◌≡◌, ◌≤◌, true, Option, List, is_none, sym, subst}
 use Rattle.khe_base.specs.declared.numbers.ResourceId.{ResourceId}
 use Rattle.khe_instance.specs.Deviation.{deviation_at}
 use Rattle.khe_instance.specs.EventDeviation.{unfilled_duration}

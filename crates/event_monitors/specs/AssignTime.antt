@@ -1,5 +1,5 @@
 -- Assign Time: the duration of the event's meets without a start.
-use Rattle.std.proofs.Common.{ℕ, ◌≡◌, ◌≤◌, true, Option, List, is_none, sym, subst, false}
+use Rattle.std.proofs.Common.{ℕ, ◌≡◌, ◌≤◌, true, Option, List, is_none, sym, subst}
 use Rattle.khe_base.specs.declared.numbers.ResourceId.{ResourceId}
 use Rattle.khe_base.specs.declared.numbers.TimeId.{TimeId}
 use Rattle.khe_instance.specs.Deviation.{deviation_at}

@@ -1,5 +1,5 @@
 -- Distribute Split Events: by how many the event has too few or too many meets of a duration.
-use Rattle.std.proofs.Common.{ℕ, ◌≡◌, ◌≤◌, ◌==◌, true, cond, Option, List, sym, ap, subst, arith, false, refl}
+use Rattle.std.proofs.Common.{ℕ, ◌≡◌, ◌≤◌, ◌==◌, true, cond, Option, List, sym, ap, subst, arith, refl}
 use Rattle.khe_base.specs.Bounds.{count_outside}
 use Rattle.khe_base.specs.declared.numbers.ResourceId.{ResourceId}
 use Rattle.khe_base.specs.declared.numbers.TimeId.{TimeId}

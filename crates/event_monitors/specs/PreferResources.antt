@@ -1,5 +1,5 @@
 -- Prefer Resources: the duration of the tasks at a place with a resource outside the preferred ones.
-use Rattle.std.proofs.Common.{ℕ, ◌≡◌, ◌≤◌, Bool, true, Option, List, sym, subst, arith, false, refl}
+use Rattle.std.proofs.Common.{ℕ, ◌≡◌, ◌≤◌, Bool, true, Option, List, sym, subst, arith, refl}
 use Rattle.khe_base.specs.declared.numbers.ResourceId.{ResourceId}
 use Rattle.khe_instance.specs.Deviation.{deviation_at}
 use Rattle.khe_instance.specs.EventDeviation.{given_outside, misfilled_duration}

@@ -1,6 +1,6 @@
 -- Prefer Times: the duration of the event's meets with a start outside the preferred times, or of
 -- those alone of one duration.
-use Rattle.std.proofs.Common.{ℕ, ◌≡◌, ◌≤◌, ◌&&◌, Bool, true, Option, List, sym, subst, arith, false, refl}
+use Rattle.std.proofs.Common.{ℕ, ◌≡◌, ◌≤◌, ◌&&◌, Bool, true, Option, List, sym, subst, arith, refl}
 use Rattle.khe_base.specs.declared.numbers.ResourceId.{ResourceId}
 use Rattle.khe_base.specs.declared.numbers.TimeId.{TimeId}
 use Rattle.khe_instance.specs.Deviation.{deviation_at}

@@ -20,7 +20,7 @@ use Rattle.khe_instance.specs.declared.rules.Rule.{Rule}
 use Rattle.khe_told.specs.Agreement.{deviation_in}
 use Rattle.khe_told.specs.Lists.{meets_in, duties_in}
 use Rattle.khe_told.specs.Slots.{emptied, slot_at, no_slot}
-use Rattle.khe_told.specs.Turns.{IsTurn, SlotTurn, duration_of, turned}
+use Rattle.khe_told.specs.Turns.{IsTurn, SlotTurn, turned}
 use Rattle.khe_told.specs.declared.slots.Slot.{Slot}
 use Rattle.khe_told.specs.declared.slots.Span.{Span}
 use Rattle.event_monitors.specs.Posts.{names}

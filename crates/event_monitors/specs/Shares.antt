@@ -1,5 +1,5 @@
 -- Sums over the slots of the event that a monitor names, of what each slot counts for.
-use Rattle.std.specs.Prelude.{ℕ, ◌≡◌, ◌+◌, ◌*◌, Bool, if◌then◌else◌, Option, Some, None, List, slice_get}
+use Rattle.std.specs.Prelude.{ℕ, ◌≡◌, ◌+◌, ◌*◌, if◌then◌else◌, Option, Some, None, List, slice_get}
 use Rattle.std.specs.List.{sum_by}
 use Rattle.std.specs.Option.{option_map_or}
 use Rattle.khe_base.specs.declared.limits.TheConstants.{DURATION, NUMBER}

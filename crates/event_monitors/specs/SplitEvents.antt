@@ -1,6 +1,6 @@
 -- Split Events: how many of the event's meets are too short or too long, and by how many it has too
 -- few or too many.
-use Rattle.std.proofs.Common.{ℕ, ◌≡◌, ◌≤◌, ◌+◌, ◌∙◌, true, false, refl, cond, Option, List, slice_get, sym, ap, subst}
+use Rattle.std.proofs.Common.{ℕ, ◌≡◌, ◌≤◌, ◌+◌, ◌∙◌, true, refl, cond, Option, List, slice_get, sym, ap, subst}
 use Rattle.std.proofs.Common.{arith}
 use Rattle.std.specs.Option.{option_map_or}
 use Rattle.khe_base.specs.Bounds.{count_outside}
