@@ -1,17 +1,15 @@
--- The counts of a group's events and one more change.
-use Rattle.std.proofs.Common.{ℕ, ◌≡◌, ◌≤◌, ◌<◌, ◌+◌, ◌-◌, ◌==◌, ◌&&◌, ◌∙◌, zero, suc, Bool, true, false, Option, Some}
-use Rattle.std.proofs.Common.{None, List, [], ◌∷◌, get_or, length, slice_get, refl, sym, ap, subst, arith, sum_by}
-use Rattle.std.proofs.Common.{IfSome, IfOk, Result, Ok, Err, replicate, slice_index, get_or-set_same}
-use Rattle.std.specs.Prelude.{nat_le, nat_lt}
+-- The counts of a group's events and a turn of one of their slots.
+use Rattle.std.proofs.Common.{ℕ, ◌≡◌, ◌≤◌, ◌<◌, ◌+◌, ◌==◌, ◌&&◌, ◌∙◌, zero, suc, Bool, true, false, Option, Some}
+use Rattle.std.proofs.Common.{None, List, [], get_or, length, slice_get, refl, sym, ap, subst, arith, sum_by}
+use Rattle.std.proofs.Common.{IfOk, Result, Ok, Err, replicate, get_or-set_same}
 use Rattle.std.specs.List.{range_with_len}
 use Rattle.std.specs.Option.{option_map_or}
-use Rattle.std.proofs.lemmas.Bool.{eq-eqb, lt-ltb, le-leb, and_from}
+use Rattle.std.proofs.lemmas.Bool.{eq-eqb, and_from}
 use Rattle.std.proofs.lemmas.List.{length-map, length-replicate, length-set}
 use Rattle.std.proofs.lemmas.List.Elements.{All-get_or}
 use Rattle.std.proofs.lemmas.List.FromFn.{length-range_with_len}
 use Rattle.std.proofs.lemmas.List.Sums.{sum_by-le-sum_by, count_by-le-length, get_or-le-sum_by, length-filter}
 use Rattle.khe_base.specs.declared.limits.TheConstants.{EVENTS, GREATEST_COUNT}
-use Rattle.khe_base.specs.declared.numbers.MeetId.{MeetId}
 use Rattle.khe_base.specs.IdSet.{has_member, members_of}
 use Rattle.khe_base.proofs.ListLemmas.{all-there}
 use Rattle.khe_instance.specs.declared.parts.GroupInfo.{GroupInfo}
@@ -27,35 +25,30 @@ use Rattle.khe_instance.specs.declared.points.Point.TheVariants.{Event, EventRes
 use Rattle.khe_instance.specs.declared.points.Point.TheVariants.{Resource}
 use Rattle.khe_instance.specs.declared.rules.Kind.TheVariants as kind
 use Rattle.khe_instance.specs.declared.rules.Rule.TheVariants.{LinkEvents}
-use Rattle.khe_base.specs.declared.numbers.TimeId.{TimeId}
-use Rattle.khe_told.specs.Changes.{after, changed, meet_of, span_after}
-use Rattle.khe_told.specs.Fits.{Fits, IsSlot}
-use Rattle.khe_told.specs.Slots.{emptied, length_of, no_meets, no_slot, slot_at}
-use Rattle.khe_told.specs.declared.changes.Change.{Change}
-use Rattle.khe_told.specs.declared.changes.Change.TheVariants.{Add, Drop, Place as PlaceAt, Lift, Give, Take}
+use Rattle.khe_told.specs.Fits.{AreTold, IsSlot}
+use Rattle.khe_told.specs.Slots.{emptied, no_meets, no_slot}
+use Rattle.khe_told.specs.Turns.{IsTurn, SlotTurn, turned}
 use Rattle.khe_told.specs.declared.slots.Slot.{Slot}
 use Rattle.khe_told.specs.declared.slots.Span.{Span}
-use Rattle.timetables.specs.Counts.{count_at, no_counts, row_of}
+use Rattle.timetables.specs.Counts.{count_at, no_counts}
 use Rattle.event_monitors.specs.Posts.{names}
 use Rattle.event_monitors.specs.Shares.{most_of}
 use Rattle.event_monitors.proofs.SlotFacts.{none_of_no_meets}
 use Rattle.link_monitors.specs.Counts.{one_if}
-use Rattle.link_monitors.specs.Links.{AreOfGroup, members_at, meets_at, slot_runs}
-use Rattle.link_monitors.specs.Runs.{AreRaised, in_run}
-use Rattle.link_monitors.specs.ElsewhereLaws.{meets_set, named_by, test}
+use Rattle.link_monitors.specs.Links.{AreOfGroup, members_at, meets_at, runs_in}
+use Rattle.link_monitors.specs.Runs.{AreRaised, EndsBy}
+use Rattle.link_monitors.specs.ElsewhereLaws.{meets_turned, named_by, test}
 use Rattle.link_monitors.specs.ExactLaws.{point_is}
 use Rattle.link_monitors.specs.MemberLaws.{members_ascend, named_member, same_place}
 use Rattle.khe_told.proofs.OpeningLaws.{slots_amount}
 
-pub meets_few : (p : Parts) (s : List Slot) (c : Change) (e t : ℕ) → AreWellMade p → Fits p s c
-    → meets_at s e t < GREATEST_COUNT
-meets_few p s c e t made fits =
+pub meets_few : (p : Parts) (s : List Slot) (e t : ℕ) → AreWellMade p → AreTold p s → meets_at s e t < GREATEST_COUNT
+meets_few p s e t made told =
     let a = count_by-le-length (test e t) s in
-    let b : length (after s c) ≡ sum_by (λ (x : EventInfo). x.duration) p.events =
-    sym (length-map (after s c) emptied) ∙ ap length fits.told.whose ∙ slots_amount 0 p.events in
-    let d = length-set s (meet_of c) (changed (slot_at s (meet_of c)) c) in
+    let b : length s ≡ sum_by (λ (x : EventInfo). x.duration) p.events =
+    sym (length-map s emptied) ∙ ap length told.whose ∙ slots_amount 0 p.events in
     let f = made.limits.duration in
-    omega (arith, a, b, d, f)
+    omega (arith, a, b, f)
 
 -- free slots run at no time
 runs_most : (e t : ℕ) (x : Slot) → one_if (test e t x) ≤ most_of x.span
@@ -96,70 +89,6 @@ none_of_group p point n times many all = record {
   cells = λ i e t h. no_count n times i t ∙ sym (none_run p e t);
 }
 
--- where the slot's meet ran nowhere and runs in a run after, the event's counts rise in it
-pub group_raised : (p : Parts) (point : Point) (s : List Slot) (c : Change) (rows new : List (List ℕ))
-    (times rank start end : ℕ) → meet_of c < length s
-    → ((t : ℕ) → slot_runs (slot_at s (meet_of c)) t ≡ false)
-    → ((t : ℕ) → slot_runs (changed (slot_at s (meet_of c)) c) t ≡ in_run start end t)
-    → slice_get (members_at p point) rank ≡ Some (slot_at s (meet_of c)).event.0 → length new ≡ length rows
-    → AreRaised rank start end (count_at rows) (count_at new)
-    → AreOfGroup p point s rows times → AreOfGroup p point (after s c) new times
-group_raised p point s c rows new times rank start end l before later at amount raised of = record {
-  amount = amount ∙ of.amount;
-  all = of.all;
-  cells = each;
-}
-  where
-    x : Slot
-    x = slot_at s (meet_of c)
-
-    none : (b : Bool) → one_if (b && false) ≡ 0
-    none true = refl
-    none false = refl
-
-    each : (i e t : ℕ) → slice_get (members_at p point) i ≡ Some e → count_at new i t ≡ meets_at (after s c) e t
-    each i e t h =
-        let a = meets_set s (meet_of c) (changed x c) e t l in
-        let b = ap (λ r. one_if ((x.event.0 == e) && r)) (before t) ∙ none (x.event.0 == e) in
-        let d = ap (λ r. one_if ((x.event.0 == e) && r)) (later t) in
-        let r = raised i t in
-        let f = ap (λ b. one_if (b && in_run start end t))
-        (same_place (members_at p point) (members_ascend p point) rank i x.event.0 e at h) in
-        let g = of.cells i e t h in
-        omega (arith, a, b, d, r, f, g)
-
--- and the other way round they fall
-pub group_lowered : (p : Parts) (point : Point) (s : List Slot) (c : Change) (rows new : List (List ℕ))
-    (times rank start end : ℕ) → meet_of c < length s
-    → ((t : ℕ) → slot_runs (slot_at s (meet_of c)) t ≡ in_run start end t)
-    → ((t : ℕ) → slot_runs (changed (slot_at s (meet_of c)) c) t ≡ false)
-    → slice_get (members_at p point) rank ≡ Some (slot_at s (meet_of c)).event.0 → length new ≡ length rows
-    → AreRaised rank start end (count_at new) (count_at rows)
-    → AreOfGroup p point s rows times → AreOfGroup p point (after s c) new times
-group_lowered p point s c rows new times rank start end l before later at amount raised of = record {
-  amount = amount ∙ of.amount;
-  all = of.all;
-  cells = each;
-}
-  where
-    x : Slot
-    x = slot_at s (meet_of c)
-
-    none : (b : Bool) → one_if (b && false) ≡ 0
-    none true = refl
-    none false = refl
-
-    each : (i e t : ℕ) → slice_get (members_at p point) i ≡ Some e → count_at new i t ≡ meets_at (after s c) e t
-    each i e t h =
-        let a = meets_set s (meet_of c) (changed x c) e t l in
-        let b = ap (λ r. one_if ((x.event.0 == e) && r)) (later t) ∙ none (x.event.0 == e) in
-        let d = ap (λ r. one_if ((x.event.0 == e) && r)) (before t) in
-        let r = raised i t in
-        let f = ap (λ b. one_if (b && in_run start end t))
-        (same_place (members_at p point) (members_ascend p point) rank i x.event.0 e at h) in
-        let g = of.cells i e t h in
-        omega (arith, a, b, d, r, f, g)
-
 -- a group has no more members than there are events
 pub members_few : (p : Parts) (point : Point) → AreWellMade p → length (members_at p point) ≤ EVENTS
 members_few p (EventGroup g) made = by (slice_get p.groups g) refl
@@ -193,94 +122,64 @@ member_there p m e monitor serves named = by m.point (point_is p m monitor serve
     by (Pair q) i h = absurd i
     by (Resource r) i h = absurd i
 
--- what stands in a list stands below its end
-index_within : (xs : List ℕ) (t : ℕ) → 0 < slice_index xs t → t < length xs
-index_within [] t h = absurd (omega (arith, h))
-index_within (x ∷ xs) zero h = omega arith
-index_within (x ∷ xs) (suc t) h = let r = index_within xs t h in omega (arith, r)
+module _ (p : Parts) (s : List Slot) (t : SlotTurn) (turns : IsTurn p s t) where
+  abbrev k : ℕ
+  k = t.before.meet.0
 
-module _ (p : Parts) (s : List Slot) (m : MeetId) (at : TimeId) where
-  abbrev x : Slot
-  x = slot_at s m.0
+  -- the meet before and the meet after end with the last time or before
+  pub before_ends : EndsBy t.before.span (length p.times)
+  before_ends = (subst (IsSlot p) turns.slot
+      (All-get_or (IsSlot p) s k no_slot turns.there turns.told.slots)).ends
 
-  abbrev end : ℕ
-  end = at.0 + length_of x
+  pub after_ends : EndsBy t.after.span (length p.times)
+  after_ends = (subst (IsSlot p) (get_or-set_same s k t.after no_slot turns.there)
+      (All-get_or (IsSlot p) (turned s t) k no_slot (let a = length-set s k t.after in let l = turns.there in
+      omega (arith, a, l)) turns.later.slots)).ends
 
-  later : (c : Change) → meet_of c ≡ m.0 → Fits p s c → IsSlot p (changed (slot_at s (meet_of c)) c)
-  later c is fits =
-      let k = meet_of c in
-      let y = changed (slot_at s k) c in
-      subst (IsSlot p) (get_or-set_same s k y no_slot fits.there)
-      (All-get_or (IsSlot p) (after s c) k no_slot (let a = length-set s k y in let l = fits.there in
-      omega (arith, a, l)) fits.told.slots)
+  module _ (point : Point) (rows : List (List ℕ)) (times rank : ℕ) (of : AreOfGroup p point s rows times)
+      (at : slice_get (members_at p point) rank ≡ Some t.before.event.0) where
+    -- where the meet before runs, its event's count is not 0
+    pub some_before : (u : ℕ) → runs_in t.before.span u ≡ true → 0 < count_at rows rank u
+    some_before u run =
+        let e = t.before.event.0 in
+        let a = of.cells rank e u at in
+        let b = get_or-le-sum_by (λ y. one_if (test e u y)) s k no_slot turns.there in
+        let d = ap (λ y. one_if (test e u y)) turns.slot
+        ∙ ap one_if (and_from (e == e) (runs_in t.before.span u) (eq-eqb e e refl) run) in
+        omega (arith, a, b, d)
 
-  -- a meet that gets a start runs from it on
-  module _ (fits : Fits p s (PlaceAt m at)) where
-    abbrev placed : Option Span → Option Span
-    placed o = span_after o (PlaceAt m at)
+    -- once that is freed, there is room for one more
+    pub room_after : (mid : List (List ℕ)) → AreWellMade p
+        → AreRaised rank (runs_in t.before.span) (count_at mid) (count_at rows)
+        → (u : ℕ) → count_at mid rank u < GREATEST_COUNT
+    room_after mid made freed u =
+        let e = t.before.event.0 in
+        let a = of.cells rank e u at in
+        let b = meets_few p s e u made turns.told in
+        let d = freed rank u in
+        omega (arith, a, b, d)
 
-    pub place_end : end ≤ length p.times
-    place_end = subst (λ o. IfSome (placed o) (λ y. IfSome y.start (λ t. t.0 + y.duration ≤ length p.times))
-        → at.0 + option_map_or (λ (y : Span). y.duration) o 0 ≤ length p.times) (sym fits.suits.1) (λ h. h)
-        (later (PlaceAt m at) refl fits).ends
-
-    pub place_before : (t : ℕ) → slot_runs x t ≡ false
-    place_before t = ap (λ o. option_map_or (λ (y : Span). covers y.duration y.start t) o false) fits.suits.1
-
-    pub place_after : (t : ℕ) → slot_runs (changed x (PlaceAt m at)) t ≡ in_run at.0 end t
-    place_after t =
-        ap (λ o. option_map_or (λ (y : Span). covers y.duration y.start t) (placed o) false) fits.suits.1
-        ∙ sym (ap (λ o. in_run at.0 (at.0 + option_map_or (λ (y : Span). y.duration) o 0) t) fits.suits.1)
-
-  -- one that loses it ran from it on
-  module _ (fits : Fits p s (Lift m at)) where
-    abbrev lifted : Option Span → Option Span
-    lifted o = span_after o (Lift m at)
-
-    pub lift_before : (t : ℕ) → slot_runs x t ≡ in_run at.0 end t
-    lift_before t =
-        ap (λ o. option_map_or (λ (y : Span). covers y.duration y.start t) o false) fits.suits.1
-        ∙ sym (ap (λ o. in_run at.0 (at.0 + option_map_or (λ (y : Span). y.duration) o 0) t) fits.suits.1)
-
-    pub lift_after : (t : ℕ) → slot_runs (changed x (Lift m at)) t ≡ false
-    lift_after t = ap (λ o. option_map_or (λ (y : Span). covers y.duration y.start t) (lifted o) false) fits.suits.1
-
-    some_long : 1 ≤ length_of x
-    some_long = subst (λ o. IfSome (lifted o) (λ y. 1 ≤ y.duration) → 1 ≤ option_map_or (λ (y : Span). y.duration) o 0)
-        (sym fits.suits.1) (λ h. h) (later (Lift m at) refl fits).duration
-
-    module _ (point : Point) (rows : List (List ℕ)) (times r : ℕ) (of : AreOfGroup p point s rows times)
-        (there : slice_get (members_at p point) r ≡ Some x.event.0) where
-      pub lift_some : (t : ℕ) → in_run at.0 end t ≡ true → 0 < count_at rows r t
-      lift_some t run =
-          let a = of.cells r x.event.0 t there in
-          let b = get_or-le-sum_by (λ y. one_if (test x.event.0 t y)) s m.0 no_slot fits.there in
-          let d = ap one_if (and_from (x.event.0 == x.event.0) (slot_runs x t) (eq-eqb x.event.0 x.event.0 refl)
-          (lift_before t ∙ run)) in
-          omega (arith, a, b, d)
-
-      pub lift_end : (n : ℕ) → n ≡ length (row_of rows r) → end ≤ n
-      lift_end n long =
-          let one = some_long in
-          let last : at.0 ≤ end - 1 = omega (arith, one) in
-          let below : end - 1 < end = omega (arith, one) in
-          let b = index_within (row_of rows r) (end - 1)
-          (lift_some (end - 1) (and_from (nat_le at.0 (end - 1)) (nat_lt (end - 1) end) (le-leb at.0 (end - 1) last)
-          (lt-ltb (end - 1) end below))) in
-          omega (arith, b, long)
-
--- after all other changes a slot's meet runs as before
-pub runs_still : (p : Parts) (s : List Slot) (c : Change) → Fits p s c
-    → ((m : MeetId) (at : TimeId) → c ≡ PlaceAt m at → ⊥) → ((m : MeetId) (at : TimeId) → c ≡ Lift m at → ⊥)
-    → (t : ℕ) → slot_runs (changed (slot_at s (meet_of c)) c) t ≡ slot_runs (slot_at s (meet_of c)) t
-runs_still p s (Add m d) fits place lift t = sym
-    (ap (λ o. option_map_or (λ (y : Span). covers y.duration y.start t) o false) fits.suits)
-runs_still p s (Drop m d) fits place lift t =
-    sym (ap (λ o. option_map_or (λ (y : Span). covers y.duration y.start t) o false) fits.suits.0)
-runs_still p s (PlaceAt m at) fits place lift t = absurd (place m at refl)
-runs_still p s (Lift m at) fits place lift t = absurd (lift m at refl)
-runs_still p s (Give k r) fits place lift t = refl
-runs_still p s (Take k r) fits place lift t = refl
+    -- where the meet before is freed and then the meet after is filled, the counts are those after the turn
+    pub group_turned : (mid new : List (List ℕ)) → length mid ≡ length rows → length new ≡ length mid
+        → AreRaised rank (runs_in t.before.span) (count_at mid) (count_at rows)
+        → AreRaised rank (runs_in t.after.span) (count_at mid) (count_at new)
+        → AreOfGroup p point (turned s t) new times
+    group_turned mid new same again freed filled = record {
+      amount = again ∙ same ∙ of.amount;
+      all = of.all;
+      cells = each;
+    }
+      where
+        each : (i e u : ℕ) → slice_get (members_at p point) i ≡ Some e → count_at new i u ≡ meets_at (turned s t) e u
+        each i e u h =
+            let own = same_place (members_at p point) (members_ascend p point) rank i t.before.event.0 e at h in
+            let a = meets_turned p s t e u turns in
+            let b = freed i u in
+            let d = filled i u in
+            let f = ap (λ c. one_if (c && runs_in t.before.span u)) own in
+            let g = ap (λ c. one_if (c && runs_in t.after.span u)) own in
+            let q = of.cells i e u h in
+            omega (arith, a, b, d, f, g, q)
 
 -- three clauses on what a call makes
 pub all_ok : {T E : Type 0} (r : Result T E) (P Q R S : T → Type 0) → ((x : T) → P x → Q x → R x → S x) → IfOk r P

@@ -1,5 +1,5 @@
 -- How many meets of each event of a monitor's group run at each time.
-use Rattle.std.specs.Prelude.{ℕ, ◌≡◌, ◌<◌, ◌==◌, ◌&&◌, Bool, false, Some, List, [], length, slice_get, count_by}
+use Rattle.std.specs.Prelude.{ℕ, ◌≡◌, ◌<◌, ◌==◌, ◌&&◌, Bool, false, Option, Some, List, [], length, slice_get, count_by}
 use Rattle.std.specs.Option.{option_map_or}
 use Rattle.khe_base.specs.IdSet.{members_of}
 use Rattle.khe_instance.specs.Running.{covers}
@@ -16,9 +16,12 @@ abbrev pub members_at : Parts → Point → List ℕ
 members_at p (EventGroup g) = option_map_or (λ (x : GroupInfo). members_of x.events) (slice_get p.groups g) []
 members_at p _ = []
 
--- whether a slot's meet runs at a time
+-- whether a meet runs at a time, and whether a slot's does
+abbrev pub runs_in : Option Span → ℕ → Bool
+runs_in span t = option_map_or (λ (y : Span). covers y.duration y.start t) span false
+
 abbrev pub slot_runs : Slot → ℕ → Bool
-slot_runs x t = option_map_or (λ (y : Span). covers y.duration y.start t) x.span false
+slot_runs x t = runs_in x.span t
 
 -- how many meets of an event run at a time
 abbrev pub meets_at : List Slot → ℕ → ℕ → ℕ

@@ -1,10 +1,10 @@
 use crate::links::{Links, no_links};
 use crate::turns::{follow, members};
-use event_monitors::{Counted, Gauge, changes_meets};
+use event_monitors::{Counted, Gauge, moves_meet};
 use family_keepers::Keeping;
 use khe_base::NoMemory;
 use khe_instance::{Instance, Kind, Monitor};
-use khe_told::{Change, Told};
+use khe_told::{Told, Turn};
 use std::alloc::Global;
 
 /// The family of Link Events: a monitor's deviation is the number of times at which some of its
@@ -18,7 +18,7 @@ impl Gauge for Links {
     ghost use Rattle.khe_instance.specs.KindLaws.{is_kind};
     ghost use Rattle.khe_instance.specs.WellMade.{IsMonitor};
     ghost use Rattle.khe_instance.specs.declared.rules.Kind.TheVariants as kind;
-    ghost use Rattle.event_monitors.specs.Shares.{changes_meets};
+    ghost use Rattle.event_monitors.specs.Shares.{KeepsMeet};
     ghost use Rattle.link_monitors.specs.Counts.{AreLinked};
     ghost use Rattle.link_monitors.specs.ElsewhereLaws.{group_elsewhere, group_unheard};
     ghost use Rattle.link_monitors.specs.ExactLaws.{linked_exact};
@@ -34,10 +34,10 @@ impl Gauge for Links {
         kind == Kind::LinkEvents
     }
 
-    ghost hears = { changes_meets };
+    ghost IsUnheard = { KeepsMeet };
 
-    fn hears(change: Change) -> bool {
-        changes_meets(change)
+    fn hears(turn: &Turn<'_>) -> bool {
+        moves_meet(turn)
     }
 
     fn open(alloc: Global, inst: &Instance, monitor: Monitor) -> Result<Links, NoMemory> {
@@ -46,9 +46,9 @@ impl Gauge for Links {
         no_links(alloc, events.len() as u32, inst.times())
     }
 
-    fn turn(&mut self, inst: &Instance, monitor: Monitor, told: &Told, change: Change) -> bool {
+    fn turn(&mut self, inst: &Instance, monitor: Monitor, told: &Told, turn: &Turn<'_>) -> bool {
         let before = self.apart;
-        follow(self, inst, monitor, told, change);
+        follow(self, inst, monitor, told, turn);
         self.apart != before
     }
 
@@ -60,7 +60,7 @@ impl Gauge for Links {
 
     ghost exact = { λ g p m s k. linked_exact p m s g.table g.events g.running.items g.apart k.0 k.1 k.2 k.3 };
 
-    ghost deaf = { λ g p m s c h fits kept. (kept.0, kept.1, group_unheard p m.point s c g.table (length g.running.items) h fits.there kept.2, kept.3) };
+    ghost deaf = { λ g p m s t h turns kept. (kept.0, kept.1, group_unheard p m.point s t g.table (length g.running.items) h turns kept.2, kept.3) };
 
     ghost elsewhere = { λ g p m s k x l same named kept. (kept.0, kept.1, group_elsewhere p m s g.table (length g.running.items) k x kept.0 l same named kept.2, kept.3) };
 }

@@ -1,23 +1,20 @@
-ghost use Rattle.std.specs.Prelude.{◌≡◌, ◌<◌, ◌≤◌, ◌+◌, ◌^◌, ℕ, true, Some, length, slice_get};
+ghost use Rattle.std.specs.Prelude.{◌≡◌, ◌<◌, ◌≤◌, ℕ, true, Some, length, slice_get};
 ghost use Rattle.khe_base.specs.declared.limits.TheConstants.{EVENTS};
 ghost use Rattle.khe_instance.specs.KindLaws.{is_kind};
 ghost use Rattle.khe_instance.specs.WellMade.{IsMonitor};
 ghost use Rattle.khe_instance.specs.declared.points.Point.TheVariants.{EventGroup};
 ghost use Rattle.khe_instance.specs.declared.rules.Kind.TheVariants as kind;
-ghost use Rattle.khe_told.specs.Changes.{after, meet_of};
-ghost use Rattle.khe_told.specs.Fits.{Fits};
-ghost use Rattle.khe_told.specs.Slots.{length_of, slot_at};
-ghost use Rattle.khe_told.specs.declared.changes.Change.TheVariants.{Place as PlaceAt, Lift};
+ghost use Rattle.khe_told.specs.Turns.{IsTurn, turned};
 ghost use Rattle.event_monitors.specs.Posts.{names};
 ghost use Rattle.link_monitors.specs.Counts.{AreLinked};
 ghost use Rattle.link_monitors.specs.Links.{AreAscending, AreOfGroup, members_at};
 
 use crate::links::Links;
 use crate::ranks::rank_of;
-use crate::runs::{fill, free};
-use khe_base::{EventId, MeetId, ResourceId, TimeId};
+use crate::runs::{fill_meet, free_meet};
+use khe_base::{EventId, ResourceId};
 use khe_instance::{Instance, Monitor, Point};
-use khe_told::{Change, Told};
+use khe_told::{Told, Turn};
 
 /// The events of the group that a point is, ascending.
 pub(crate) fn members(inst: &Instance, point: Point) -> &[u32]
@@ -40,17 +37,6 @@ fn row_of_event(events: &[u32], event: EventId) -> ResourceId
     ResourceId(rank_of(events, event) as u32)
 }
 
-/// The number after the last time at which a meet with this start runs.
-fn end_of(told: &Told, meet: MeetId, start: TimeId) -> u32
-    requires { start.0 + length_of (slot_at told.now meet.0) < 2 ^ 32 }
-    ensures { result ≡ start.0 + length_of (slot_at told.now meet.0) }
-{
-    match told.span(meet) {
-        Some(span) => start.0 + span.duration,
-        None => start.0,
-    }
-}
-
 /// The row of an event that a monitor names in the counts of the monitor's group.
 fn row_in(inst: &Instance, monitor: Monitor, event: EventId) -> ResourceId
     requires monitor { IsMonitor inst.now monitor }
@@ -62,74 +48,29 @@ fn row_in(inst: &Instance, monitor: Monitor, event: EventId) -> ResourceId
     row_of_event(members(inst, monitor.point), event)
 }
 
-/// Follows a meet that gets a start, by the state before.
-fn place(
-    links: &mut Links,
-    inst: &Instance,
-    monitor: Monitor,
-    told: &Told,
-    meet: MeetId,
-    start: TimeId,
-)
-    requires monitor { IsMonitor inst.now monitor }
-    requires served { is_kind monitor.kind kind.LinkEvents ≡ true }
-    requires of { AreOfGroup inst.now monitor.point told.now links.old.table (length links.old.running.items) }
-    requires linked { AreLinked links.old.table links.old.events links.old.running.items links.old.apart }
-    requires fits { Fits inst.now told.now (PlaceAt meet start) }
-    requires named { names inst.now (slot_at told.now meet.0).event.0 monitor ≡ true }
-    ensures of { AreOfGroup inst.now monitor.point (after told.now (PlaceAt meet start)) links.new.table (length links.new.running.items) }
-    ensures linked { AreLinked links.new.table links.new.events links.new.running.items links.new.apart }
-{
-    inst.facts();
-    let row = row_in(inst, monitor, told.event(meet));
-    let end = end_of(told, meet, start);
-    fill(links, row, start.0, end);
-}
-
-/// Follows a meet that loses its start, by the state before.
-fn lift(
-    links: &mut Links,
-    inst: &Instance,
-    monitor: Monitor,
-    told: &Told,
-    meet: MeetId,
-    start: TimeId,
-)
-    requires monitor { IsMonitor inst.now monitor }
-    requires served { is_kind monitor.kind kind.LinkEvents ≡ true }
-    requires of { AreOfGroup inst.now monitor.point told.now links.old.table (length links.old.running.items) }
-    requires linked { AreLinked links.old.table links.old.events links.old.running.items links.old.apart }
-    requires fits { Fits inst.now told.now (Lift meet start) }
-    requires named { names inst.now (slot_at told.now meet.0).event.0 monitor ≡ true }
-    ensures of { AreOfGroup inst.now monitor.point (after told.now (Lift meet start)) links.new.table (length links.new.running.items) }
-    ensures linked { AreLinked links.new.table links.new.events links.new.running.items links.new.apart }
-{
-    let row = row_in(inst, monitor, told.event(meet));
-    let end = end_of(told, meet, start);
-    free(links, row, start.0, end);
-}
-
-/// Follows a change of an event of a monitor's group, by the state before it. It takes the time of
-/// the meet's times and of the logarithm of the group's events, and no memory.
+/// Follows a turn of a slot of an event of a monitor's group, by the state before it. It takes the time of the
+/// meet's times before and after and of the logarithm of the group's events, and no memory.
 pub(crate) fn follow(
     links: &mut Links,
     inst: &Instance,
     monitor: Monitor,
     told: &Told,
-    change: Change,
+    turn: &Turn<'_>,
 )
     requires monitor { IsMonitor inst.now monitor }
     requires served { is_kind monitor.kind kind.LinkEvents ≡ true }
     requires of { AreOfGroup inst.now monitor.point told.now links.old.table (length links.old.running.items) }
     requires linked { AreLinked links.old.table links.old.events links.old.running.items links.old.apart }
-    requires fits { Fits inst.now told.now change }
-    requires named { names inst.now (slot_at told.now (meet_of change)).event.0 monitor ≡ true }
-    ensures of { AreOfGroup inst.now monitor.point (after told.now change) links.new.table (length links.new.running.items) }
+    requires turns { IsTurn inst.now told.now turn.now }
+    requires named { names inst.now turn.now.before.event.0 monitor ≡ true }
+    ensures of { AreOfGroup inst.now monitor.point (turned told.now turn.now) links.new.table (length links.new.running.items) }
     ensures linked { AreLinked links.new.table links.new.events links.new.running.items links.new.apart }
 {
-    match change {
-        Change::Place { meet, start } => place(links, inst, monitor, told, meet, start),
-        Change::Lift { meet, start } => lift(links, inst, monitor, told, meet, start),
-        _ => {}
-    }
+    let _ = told;
+    inst.facts();
+    let row = row_in(inst, monitor, turn.event());
+    let old = turn.before();
+    let new = turn.after();
+    free_meet(links, row, old);
+    fill_meet(links, row, new);
 }

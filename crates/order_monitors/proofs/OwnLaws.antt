@@ -1,4 +1,4 @@
--- The slots of an event, and one of them after a change.
+-- The slots of an event, and another in place of one of them.
 use Rattle.std.proofs.Common.{ℕ, ◌≡◌, ◌≤◌, ◌<◌, ◌+◌, ◌-◌, ◌==◌, ◌∙◌, zero, suc, Bool, true, false, cond, Option, Some}
 use Rattle.std.proofs.Common.{None, List, [], ◌∷◌, ◌++◌, filter, map, set, take, get_or, length, slice_get, refl, sym}
 use Rattle.std.proofs.Common.{ap, subst, arith, count_by}
@@ -161,7 +161,7 @@ module _ (p : Parts) (s : List Slot) (first : AreFirstMeets 0 p.events) (whose :
     own_within m l w = let a = place_within of no_slot s m l (eq-eqb _ e w) in let b = place_of m l w in
         omega (arith, a, b)
 
--- a change of another event's slot leaves them
+-- a slot that takes the place of another event's leaves them
 pub own_other : (s : List Slot) (e m : ℕ) (y : Slot) → m < length s → ((slot_at s m).event.0 ≡ e → ⊥)
     → y.event.0 ≡ (slot_at s m).event.0 → own_slots e (set s m y) ≡ own_slots e s
 own_other s e m y l n v = filter_out (λ (x : Slot). x.event.0 == e) no_slot s m y l (ne_eqb _ e n)

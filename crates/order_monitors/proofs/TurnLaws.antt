@@ -1,25 +1,19 @@
--- When the meets of events start and end, before and after a change.
-use Rattle.std.proofs.Common.{ℕ, ◌≡◌, ◌≤◌, ◌<◌, ◌+◌, ◌-◌, ◌==◌, ◌∙◌, false, Option, Some, List, [], ◌∷◌, ◌++◌, map, set}
+-- When the meets of events start and end, before and after a turn of a slot.
+use Rattle.std.proofs.Common.{ℕ, ◌≡◌, ◌≤◌, ◌<◌, ◌+◌, ◌-◌, ◌==◌, ◌∙◌, Option, Some, List, [], ◌∷◌, ◌++◌, map, set}
 use Rattle.std.proofs.Common.{get_or, get_or-set_same, length, slice_get, refl, sym, ap, subst, arith, ◌⊎◌, inl, inr}
 use Rattle.std.specs.Prelude.{replicate}
-use Rattle.std.proofs.Math.Seq.{map-set_same}
-use Rattle.std.proofs.lemmas.Bool.{cases_eq, true≢false}
+use Rattle.std.proofs.lemmas.Bool.{cases_eq}
 use Rattle.std.proofs.lemmas.List.{length-append, length-set}
 use Rattle.std.proofs.lemmas.List.Elements.{All-get_or}
 use Rattle.std.proofs.lemmas.Option.{get_or_from_slice_get, none-some, same_Some, slice_get-get_or}
 use Rattle.khe_instance.specs.WellMade.{AreWellMade}
 use Rattle.khe_instance.specs.declared.parts.EventInfo.{EventInfo}
 use Rattle.khe_instance.specs.declared.parts.Parts.{Parts}
-use Rattle.khe_told.specs.Changes.{after, changed, meet_of, span_after}
-use Rattle.khe_told.specs.Fits.{Fits}
 use Rattle.khe_told.specs.Slots.{emptied, no_meets, no_slot, slot_at}
-use Rattle.khe_told.specs.declared.changes.Change.{Change}
-use Rattle.khe_told.specs.declared.changes.Change.TheVariants.{Add, Drop, Place as PlaceAt, Lift, Give, Take}
+use Rattle.khe_told.specs.Turns.{IsTurn, SlotTurn, turned}
 use Rattle.khe_told.specs.declared.slots.Slot.{Slot}
 use Rattle.khe_told.specs.declared.slots.Span.{Span}
 use Rattle.event_monitors.proofs.PostLaws.{last_of}
-use Rattle.event_monitors.proofs.SlotFacts.{emptied_changed}
-use Rattle.event_monitors.specs.Shares.{changes_meets}
 use Rattle.order_monitors.specs.Edges.{AreEdges, AreShort, IsEdges, IsShort, IsWatched, end_key, own_slots, start_key}
 use Rattle.order_monitors.specs.declared.edges.Edges.{Edges}
 use Rattle.order_monitors.specs.declared.trees.TheConstants.{NOTHING}
@@ -27,56 +21,56 @@ use Rattle.order_monitors.proofs.OwnLaws.{free_keys, in_range, map_set, own_free
 use Rattle.order_monitors.proofs.OwnLaws.{read_same, told_short}
 use Rattle.khe_base.proofs.ListLemmas.{get-other, get-set}
 
-module _ (p : Parts) (s : List Slot) (c : Change) (made : AreWellMade p) (fits : Fits p s c) where
+module _ (p : Parts) (s : List Slot) (t : SlotTurn) (made : AreWellMade p) (turns : IsTurn p s t) where
   abbrev m : ℕ
-  m = meet_of c
-
-  abbrev x : Slot
-  x = slot_at s m
+  m = t.before.meet.0
 
   abbrev e : ℕ
-  e = x.event.0
+  e = t.before.event.0
 
-  whose : map emptied s ≡ no_meets p
-  whose = sym (map-set_same emptied s m (changed x c) no_slot (emptied_changed x c fits.suits)) ∙ fits.told.whose
+  own : (slot_at s m).event.0 ≡ e
+  own = ap (λ (y : Slot). y.event.0) turns.slot
 
-  pub short_after : AreShort (after s c)
-  short_after = told_short p (after s c) made.limits.times fits.told
+  own_after : t.after.event.0 ≡ e
+  own_after = ap (λ (y : Slot). y.event.0) turns.same
 
-  -- the change at the slot's place among its event's
-  pub record IsTurn (event : EventInfo) : Type 0 where
+  pub short_after : AreShort (turned s t)
+  short_after = told_short p (turned s t) made.limits.times turns.later
+
+  -- the slot's place among its event's, and the meet that comes there
+  pub record HasPlace (event : EventInfo) : Type 0 where
     pub from : event.first_meet ≤ m
     pub within : m - event.first_meet < length (own_slots e s)
-    pub short : IsShort (span_after x.span c)
+    pub short : IsShort t.after.span
 
-  pub is_turn : (event : EventInfo) → slice_get p.events e ≡ Some event → IsTurn event
-  is_turn event at = record {
-    from = (in_range p s made.first_meets whose e event at m fits.there refl).0;
-    within = own_within p s made.first_meets whose e event at m fits.there refl;
-    short = subst (λ (y : Slot). IsShort y.span) (get_or-set_same s m (changed x c) no_slot fits.there)
-        (All-get_or (λ (y : Slot). IsShort y.span) (after s c) m no_slot
-        (let k = length-set s m (changed x c) in let l = fits.there in omega (arith, k, l)) short_after);
+  pub has_place : (event : EventInfo) → slice_get p.events e ≡ Some event → HasPlace event
+  has_place event at = record {
+    from = (in_range p s made.first_meets turns.told.whose e event at m turns.there own).0;
+    within = own_within p s made.first_meets turns.told.whose e event at m turns.there own;
+    short = subst (λ (y : Slot). IsShort y.span) (get_or-set_same s m t.after no_slot turns.there)
+        (All-get_or (λ (y : Slot). IsShort y.span) (turned s t) m no_slot
+        (let k = length-set s m t.after in let l = turns.there in omega (arith, k, l)) short_after);
   }
 
-  pub turned : (event : EventInfo) (a b : Edges) → slice_get p.events e ≡ Some event → IsEdges e s a
-      → b.starts ≡ set a.starts (m - event.first_meet) (start_key (span_after x.span c))
-      → b.ends ≡ set a.ends (m - event.first_meet) (end_key (span_after x.span c)) → IsEdges e (after s c) b
-  turned event a b at is starts ends =
-      let y = changed x c in
-      let own = own_set p s made.first_meets whose e event at m y fits.there refl refl in
+  pub edges_set : (event : EventInfo) (a b : Edges) → slice_get p.events e ≡ Some event → IsEdges e s a
+      → b.starts ≡ set a.starts (m - event.first_meet) (start_key t.after.span)
+      → b.ends ≡ set a.ends (m - event.first_meet) (end_key t.after.span) → IsEdges e (turned s t) b
+  edges_set event a b at is starts ends =
+      let y = t.after in
+      let mine = own_set p s made.first_meets turns.told.whose e event at m y turns.there own own_after in
       record {
         starts = starts ∙ ap (λ ns. set ns (m - event.first_meet) (start_key y.span)) is.starts
             ∙ map_set (λ (z : Slot). start_key z.span) (own_slots e s) (m - event.first_meet) y
-            ∙ ap (map (λ (z : Slot). start_key z.span)) (sym own);
+            ∙ ap (map (λ (z : Slot). start_key z.span)) (sym mine);
         ends = ends ∙ ap (λ ns. set ns (m - event.first_meet) (end_key y.span)) is.ends
             ∙ map_set (λ (z : Slot). end_key z.span) (own_slots e s) (m - event.first_meet) y
-            ∙ ap (map (λ (z : Slot). end_key z.span)) (sym own);
+            ∙ ap (map (λ (z : Slot). end_key z.span)) (sym mine);
       }
 
-  pub own_same : (f : ℕ) → (e ≡ f → ⊥) → own_slots f (after s c) ≡ own_slots f s
-  own_same f n = own_other s f m (changed x c) fits.there n refl
+  pub own_same : (f : ℕ) → (e ≡ f → ⊥) → own_slots f (turned s t) ≡ own_slots f s
+  own_same f n = own_other s f m t.after turns.there (λ h. n (sym own ∙ h)) (own_after ∙ sym own)
 
-  edges_same : (f : ℕ) (a : Edges) → (e ≡ f → ⊥) → IsEdges f s a → IsEdges f (after s c) a
+  edges_same : (f : ℕ) (a : Edges) → (e ≡ f → ⊥) → IsEdges f s a → IsEdges f (turned s t) a
   edges_same f a n is = record {
     starts = is.starts ∙ ap (map (λ (z : Slot). start_key z.span)) (sym (own_same f n));
     ends = is.ends ∙ ap (map (λ (z : Slot). end_key z.span)) (sym (own_same f n));
@@ -84,17 +78,17 @@ module _ (p : Parts) (s : List Slot) (c : Change) (made : AreWellMade p) (fits :
 
   -- where the event has no list
   pub edges_kept : (lists : List (List ℕ)) (edges : List Edges) → get_or lists e [] ≡ [] → AreEdges p lists s edges
-      → AreEdges p lists (after s c) edges
+      → AreEdges p lists (turned s t) edges
   edges_kept lists edges none are = record { rows = are.rows; each = λ f a at w. by f a at w (cases_eq e f) }
     where
       by : (f : ℕ) (a : Edges) → slice_get edges f ≡ Some a → IsWatched lists f → (e ≡ f) ⊎ (e ≡ f → ⊥)
-          → IsEdges f (after s c) a
+          → IsEdges f (turned s t) a
       by f a at w (inl same) = absurd (w (ap (λ k. get_or lists k []) (sym same) ∙ none))
       by f a at w (inr n) = edges_same f a n (are.each f a at w)
 
   -- where it has one
   pub edges_turned : (lists : List (List ℕ)) (edges : List Edges) (b : Edges) → e < length edges
-      → IsEdges e (after s c) b → AreEdges p lists s edges → AreEdges p lists (after s c) (set edges e b)
+      → IsEdges e (turned s t) b → AreEdges p lists s edges → AreEdges p lists (turned s t) (set edges e b)
   edges_turned lists edges b l is are = record {
     rows = length-set edges e b ∙ are.rows;
     each =
@@ -102,10 +96,10 @@ module _ (p : Parts) (s : List Slot) (c : Change) (made : AreWellMade p) (fits :
   }
     where
       by : (f : ℕ) (a : Edges) → slice_get (set edges e b) f ≡ Some a → IsWatched lists f → (e ≡ f) ⊎ (e ≡ f → ⊥)
-          → IsEdges f (after s c) a
+          → IsEdges f (turned s t) a
       by f a at w (inl same) =
           let new : b ≡ a = same_Some b a (sym (get-set edges e b l) ∙ ap (slice_get (set edges e b)) same ∙ at) in
-          subst (λ k. IsEdges k (after s c) a) same (subst (IsEdges e (after s c)) new is)
+          subst (λ k. IsEdges k (turned s t) a) same (subst (IsEdges e (turned s t)) new is)
       by f a at w (inr n) = edges_same f a n (are.each f a (sym (get-other edges e f b n) ∙ at) w)
 
 -- the list that is read at an event's place is the event's
@@ -114,29 +108,21 @@ pub list_here : (lists : List (List ℕ)) (e : ℕ) (list : List ℕ) → e < le
 list_here lists e list l is = get_or_from_slice_get lists e list []
     (slice_get-get_or lists e list l ∙ ap Some (sym is))
 
--- a change of a task leaves when a meet starts and ends
-span_still : (span : Option Span) (c : Change) → changes_meets c ≡ false → span_after span c ≡ span
-span_still span (Give t r) h = refl
-span_still span (Take t r) h = refl
-span_still span (Add k d) h = absurd (true≢false h)
-span_still span (Drop k d) h = absurd (true≢false h)
-span_still span (PlaceAt k t) h = absurd (true≢false h)
-span_still span (Lift k t) h = absurd (true≢false h)
-
--- so it leaves those of all events
-pub edges_still : (p : Parts) (s : List Slot) (c : Change) (lists : List (List ℕ)) (edges : List Edges)
-    → changes_meets c ≡ false → AreEdges p lists s edges → AreEdges p lists (after s c) edges
-edges_still p s c lists edges h are = record { rows = are.rows; each = λ e a at w. still e a (are.each e a at w) }
+-- a turn that keeps the meet leaves when the meets of all events start and end
+pub edges_still : (p : Parts) (s : List Slot) (t : SlotTurn) (lists : List (List ℕ)) (edges : List Edges)
+    → IsTurn p s t → t.before.span ≡ t.after.span → AreEdges p lists s edges → AreEdges p lists (turned s t) edges
+edges_still p s t lists edges turns kept are = record {
+  rows = are.rows;
+  each = λ e a at w. still e a (are.each e a at w);
+}
   where
-    x : Slot
-    x = slot_at s (meet_of c)
-
-    same : (f : Option Span → ℕ) (e : ℕ) → map (λ (y : Slot). f y.span) (own_slots e (after s c))
+    same : (f : Option Span → ℕ) (e : ℕ) → map (λ (y : Slot). f y.span) (own_slots e (turned s t))
         ≡ map (λ (y : Slot). f y.span) (own_slots e s)
-    same f e = read_same (λ (y : Slot). y.event.0 == e) no_slot (λ (y : Slot). f y.span) s (meet_of c) (changed x c)
-        refl (ap f (span_still x.span c h))
+    same f e = read_same (λ (y : Slot). y.event.0 == e) no_slot (λ (y : Slot). f y.span) s t.before.meet.0 t.after
+        (ap (λ (y : Slot). y.event.0 == e) (turns.same ∙ sym (ap emptied turns.slot)))
+        (ap f (sym kept) ∙ ap (λ (y : Slot). f y.span) (sym turns.slot))
 
-    still : (e : ℕ) (a : Edges) → IsEdges e s a → IsEdges e (after s c) a
+    still : (e : ℕ) (a : Edges) → IsEdges e s a → IsEdges e (turned s t) a
     still e a is = record { starts = is.starts ∙ sym (same start_key e); ends = is.ends ∙ sym (same end_key e) }
 
 -- without meets, those of the events so far

@@ -3,7 +3,7 @@ use Rattle.std.proofs.Common.{ℕ, ◌≡◌, ◌<◌, ◌==◌, ◌||◌, ◌�
 use Rattle.std.proofs.Common.{slice_get, refl, sym, ap, arith, ◌⊎◌, inl, inr}
 use Rattle.std.specs.Option.{option_map_or}
 use Rattle.std.proofs.lemmas.Bool.{cases_eq, eq-eqb, ne_eqb, true≢false}
-use Rattle.std.proofs.lemmas.Option.{same_Some, slice_get-get_or, slice_get_within}
+use Rattle.std.proofs.lemmas.Option.{same_Some, slice_get-get_or}
 use Rattle.khe_base.proofs.ListLemmas.{there}
 use Rattle.khe_instance.specs.WellMade.{AreWellMade, IsMonitor}
 use Rattle.khe_instance.specs.declared.parts.Parts.{Parts}
@@ -13,8 +13,8 @@ use Rattle.khe_told.specs.Agreement.{deviation_in}
 use Rattle.khe_told.specs.Lists.{duties_in, meets_in}
 use Rattle.khe_told.specs.Waits.{AreUnmoved, WaitOn}
 use Rattle.khe_told.specs.declared.slots.Slot.{Slot}
-use Rattle.event_monitors.proofs.TurnLaws.{has_range}
-use Rattle.event_monitors.specs.Posts.{AreListed, ArePosts, names, names_at, posts_at}
+use Rattle.event_monitors.proofs.TurnLaws.{listed_as}
+use Rattle.event_monitors.specs.Posts.{AreListed, ArePosts, names, posts_at}
 use Rattle.event_monitors.specs.Turns.{has}
 use Rattle.event_monitors.specs.declared.posts.Post.{Post}
 use Rattle.order_monitors.specs.Edges.{AreEdges, AreShort, IsEdges, IsWatched, own_slots}
@@ -27,10 +27,7 @@ use Rattle.khe_instance.proofs.MadeLemmas.{monitor_made}
 
 named_there : (p : Parts) (posts : List Post) (e k : ℕ) (a : Post) → slice_get posts k ≡ Some a
     → names p e a.monitor ≡ true → has (posts_at p posts e) k ≡ true
-named_there p posts e k a at named =
-    has_range (names_at p posts e) 0 (length posts) k (omega arith)
-    (let l = slice_get_within posts k a at in omega (arith, l))
-    ∙ ap (λ o. option_map_or (λ (b : Post). names p e b.monitor) o false) at ∙ named
+named_there p posts e k a at named = listed_as p posts e k a at ∙ named
 
 -- an event that a post names has a list
 watched : (p : Parts) (posts : List Post) (lists : List (List ℕ)) (e k : ℕ) (a : Post) → AreListed p posts lists
@@ -88,7 +85,7 @@ module _ (p : Parts) (posts : List Post) (lists : List (List ℕ)) (s : List Slo
       or_true true = refl
       or_true false = refl
 
--- a change of an event that a monitor does not name leaves its deviation
+-- a turn of a slot of an event that a monitor does not name leaves its deviation
 value_stays : (p : Parts) (s s2 : List Slot) (e : ℕ) (m : Monitor) → AreWellMade p → IsMonitor p m
     → is_order m.kind ≡ true → ((f : ℕ) → (e ≡ f → ⊥) → own_slots f s2 ≡ own_slots f s)
     → names p e m ≡ false → deviation_in p s m ≡ deviation_in p s2 m
@@ -108,7 +105,7 @@ value_stays p s s2 e m made monitor serves same none =
     or_true true = refl
     or_true false = refl
 
--- a monitor that does not wait names no event of the change
+-- a monitor that does not wait does not name the event of the turn
 pub unmoved_on : (p : Parts) (posts : List Post) (s s2 : List Slot) (e : ℕ) (waits : ℕ → Bool)
     → AreWellMade p → ArePosts p is_order posts → ((f : ℕ) → (e ≡ f → ⊥) → own_slots f s2 ≡ own_slots f s)
     → NamedWait p posts e waits [] → AreUnmoved p is_order waits s s2
@@ -121,7 +118,7 @@ unmoved_on p posts s s2 e waits made all same told i m there serves not =
     by k at true h = absurd (true≢false (sym (told k (record { number = record { 0 = i }; monitor = m }) at h refl) ∙ not))
     by k at false h = sym (value_stays p s s2 e m made (monitor_made p made i m there) serves same h)
 
--- where the starts and ends are the same after a change, so are all deviations
+-- where the starts and ends are the same after a turn, so are all deviations
 pub unmoved_still : (p : Parts) (posts : List Post) (lists : List (List ℕ)) (s s2 : List Slot) (edges : List Edges)
     (waits : ℕ → Bool) → AreWellMade p → ArePosts p is_order posts → AreListed p posts lists
     → AreEdges p lists s edges → AreShort s → AreEdges p lists s2 edges → AreShort s2

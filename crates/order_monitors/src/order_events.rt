@@ -1,7 +1,6 @@
 ghost use Rattle.std.specs.Prelude.{◌≡◌, ◌≢◌, [], length, IfOk};
-ghost use Rattle.khe_told.specs.Changes.{after, meet_of};
-ghost use Rattle.khe_told.specs.Fits.{Fits};
-ghost use Rattle.khe_told.specs.Slots.{no_meets, slot_at};
+ghost use Rattle.khe_told.specs.Slots.{no_meets};
+ghost use Rattle.khe_told.specs.Turns.{IsTurn, turned};
 ghost use Rattle.order_monitors.specs.Edges.{AreEdges, IsEdges};
 
 use crate::edges::Edges;
@@ -9,11 +8,11 @@ use crate::lists::lists_of;
 use crate::pairs::value;
 use crate::posts::posts_of;
 use crate::waits::add_all;
-use event_monitors::{Post, changes_meets};
+use event_monitors::Post;
 use family_keepers::{Keeper, Keeping};
 use khe_base::{EventId, MonitorId, NoMemory, Seq, beside};
 use khe_instance::{EventInfo, Instance, Kind};
-use khe_told::{Change, Told, Waits};
+use khe_told::{Told, Turn, Waits};
 use std::alloc::Global;
 
 /// The family of Order Events: a monitor's deviation is how far the times from the end of its first
@@ -23,9 +22,9 @@ pub type OrderEvents = Keeping<OrderEdges>;
 /// The keeper of Order Events. What was told is lent to it.
 ///
 /// It keeps, for each event that a served monitor names, when the meet of each meet slot starts and
-/// ends, four numbers a slot. A change of a meet takes time of the logarithm of its event's meet
-/// slots, and then that of the monitors that name the event. Where there are none, and at a change of
-/// a task, it takes constant time.
+/// ends, four numbers a slot. A turn that moves a meet takes time of the logarithm of its event's meet
+/// slots, and then that of the monitors that name the event. Where there are none, and where the meet
+/// does not move, it takes constant time.
 #[derive(Drop)]
 pub struct OrderEdges {
     posts: Seq<Post>,
@@ -64,17 +63,17 @@ impl Keeper for OrderEdges {
         kind == Kind::OrderEvents
     }
 
-    fn turn<W: Waits>(&mut self, inst: &Instance, told: &Told, change: Change, waits: &mut W) {
+    fn turn<W: Waits>(&mut self, inst: &Instance, told: &Told, turn: &Turn<'_>, waits: &mut W) {
         inst.facts();
-        if !changes_meets(change) {
+        if !turn.moves() {
             return;
         }
-        let event = told.event(change.meet());
+        let event = turn.event();
         let list = self.lists.as_slice()[event.0 as usize].as_slice();
         if list.is_empty() {
             return;
         }
-        turn(inst, told, change, event, &mut self.edges[event.0 as usize]);
+        follow(inst, told, turn, &mut self.edges[event.0 as usize]);
         let posts = self.posts.as_slice();
         add_all(inst, posts, event, list, waits);
     }
@@ -106,16 +105,16 @@ fn slots_for(list: &Seq<u32>, event: &EventInfo) -> u32
     if list.is_empty() { 0 } else { event.duration }
 }
 
-/// Follows a change of one of an event's meet slots. What was told is the state before the change.
-fn turn(inst: &Instance, told: &Told, change: Change, event: EventId, edges: &mut Edges)
-    requires fits { Fits inst.now told.now change }
-    requires own { event ≡ (slot_at told.now (meet_of change)).event }
-    requires of { IsEdges event.0 told.now edges.old }
-    ensures { IsEdges event.0 (after told.now change) edges.new }
+/// Follows a turn of one of an event's meet slots. What was told is the state before it.
+fn follow(inst: &Instance, told: &Told, turn: &Turn<'_>, edges: &mut Edges)
+    requires turns { IsTurn inst.now told.now turn.now }
+    requires of { IsEdges turn.now.before.event.0 told.now edges.old }
+    ensures { IsEdges turn.now.before.event.0 (turned told.now turn.now) edges.new }
 {
+    let _ = told;
     inst.facts();
-    let meet = change.meet();
-    let first = inst.event(event).first_meet;
-    let span = change.span_after(told.span(meet));
-    edges.set((meet.0 - first) as usize, span);
+    let event = inst.event(turn.event());
+    let place = turn.meet().0 - event.first_meet;
+    let meet = turn.after();
+    edges.set(place as usize, meet);
 }

@@ -1,6 +1,6 @@
-ghost use Rattle.std.specs.Prelude.{◌≡◌, ◌≤◌, ◌+◌, [], true, length};
+ghost use Rattle.std.specs.Prelude.{◌≡◌, [], true, length};
 ghost use Rattle.event_monitors.specs.Posts.{ArePosts, posts_at};
-ghost use Rattle.event_monitors.specs.Turns.{AreOthers};
+ghost use Rattle.event_monitors.specs.Turns.{AreListedSince};
 ghost use Rattle.khe_told.specs.Waits.{WaitOn};
 ghost use Rattle.order_monitors.specs.Pairs.{is_order};
 ghost use Rattle.order_monitors.specs.Waits.{NamedWait};
@@ -24,11 +24,13 @@ pub(crate) fn add_all<W: Waits>(
     ensures monitors { W.monitors waits.new ≡ W.monitors waits.old }
     ensures named { W.hears ≡ true → NamedWait inst.now posts.now event.0 (W.waits waits.new) [] }
     ensures kept { WaitOn (W.waits waits.old) (W.waits waits.new) }
-    ensures others { AreOthers posts.now (W.waits waits.old) (W.waits waits.new) }
-    ensures amount { W.amount waits.new ≤ W.amount waits.old + length list.now }
+    ensures listed { AreListedSince posts.now list.now (W.waits waits.old) (W.waits waits.new) }
 {
     let _ = inst;
     let _ = event;
+    if !W::hears() {
+        return;
+    }
     for place in list {
         waits.add(posts[*place as usize].number);
     }

@@ -1,7 +1,8 @@
-use Rattle.std.proofs.Common.{◌+◌, get_or, drop, refl, sym, subst, arith, ◌∙◌}
+use Rattle.std.proofs.Common.{◌+◌, inl, get_or, drop, refl, sym, subst, arith, ◌∙◌}
 use Rattle.std.proofs.lemmas.Option.{slice_get_within}
 use Rattle.event_monitors.specs.declared.posts.Post.{Post}
-use Rattle.event_monitors.proofs.TurnLaws.{added_on, added_other, added_own, no_post, spot_drop, spot_post, spot_within}
+use Rattle.event_monitors.proofs.TurnLaws.{added_on, added_other, added_own, listed_step, no_post, spot_drop}
+use Rattle.event_monitors.proofs.TurnLaws.{spot_listed, spot_post, spot_within}
 use Rattle.order_monitors.specs.Waits.{NamedWait}
 use Rattle.order_monitors.proofs.WaitLaws.{named_start, named_step}
 use Rattle.order_monitors.proofs.waits.add_all.Goals as goal
@@ -16,8 +17,7 @@ loop-place-init g c =
       monitors = refl;
       named = λ hears. subst (λ xs. NamedWait p posts e waits xs) (sym c.requires.list) (named_start p posts e waits);
       kept = λ i h. h;
-      others = λ i h. refl;
-      amount = omega arith;
+      listed = λ i h. inl h;
     }
 
 pub bounds-posts-place : goal.bounds-posts-place
@@ -59,6 +59,6 @@ loop-place-preserved g c =
           (added_own hear a.number.0 now new added hears) on
           (subst (λ xs. NamedWait p posts e now xs) (spot_drop p posts e list i no_post is l) (so.named hears));
       kept = λ j h. on j (so.kept j h);
-      others = λ j h. added_other hear a.number.0 now new added j (λ n. h k a at (sym n)) ∙ so.others j h;
-      amount = let x = c.add.ensures.amount in let y = so.amount in omega (arith, x, y);
+      listed = listed_step posts list k a (g.W.Waits.waits c.args.waits.now) now new
+          (spot_listed p posts e list i no_post is l) at (added_other hear a.number.0 now new added) so.listed;
     }

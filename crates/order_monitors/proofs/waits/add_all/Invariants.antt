@@ -1,5 +1,5 @@
-use Rattle.std.proofs.Common.{◌≡◌, ◌≤◌, ◌+◌, true, drop}
-use Rattle.event_monitors.specs.Turns.{AreOthers}
+use Rattle.std.proofs.Common.{◌≡◌, true, drop}
+use Rattle.event_monitors.specs.Turns.{AreListedSince}
 use Rattle.khe_told.specs.Waits.{WaitOn}
 use Rattle.order_monitors.specs.Waits.{NamedWait}
 use Rattle.order_monitors.proofs.waits.add_all.Given as goal
@@ -11,6 +11,5 @@ invariant-loop-place g l =
       named : g.W.Waits.hears ≡ true
           → NamedWait l.inst l.posts l.fn.event.0 (g.W.Waits.waits l.waits) (drop l.place-index l.list);
       kept : WaitOn (g.W.Waits.waits l.fn.waits) (g.W.Waits.waits l.waits);
-      others : AreOthers l.posts (g.W.Waits.waits l.fn.waits) (g.W.Waits.waits l.waits);
-      amount : g.W.Waits.amount l.waits ≤ g.W.Waits.amount l.fn.waits + l.place-index;
+      listed : AreListedSince l.posts l.list (g.W.Waits.waits l.fn.waits) (g.W.Waits.waits l.waits);
     }
