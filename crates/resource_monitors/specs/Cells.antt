@@ -1,7 +1,7 @@
 -- The kinds that are measured by how many tasks of a resource run at each time, and the counts that
 -- they read: a row for each resource, with a count for each time.
 use Rattle.std.specs.Prelude.{ℕ, ◌≡◌, ◌<◌, ◌+◌, ◌-◌, ◌==◌, ◌&&◌, ◌||◌, not, nat_le, nat_lt, Bool, true, false}
-use Rattle.std.specs.Prelude.{if◌then◌else◌, Option, List, length, slice_get, slice_index, count_by}
+use Rattle.std.specs.Prelude.{if◌then◌else◌, Option, Some, List, length, slice_get, slice_index, count_by}
 use Rattle.std.specs.List.{range_with_len, list_any}
 use Rattle.std.specs.Option.{option_map_or}
 use Rattle.khe_base.specs.declared.numbers.ResourceId.{ResourceId}
@@ -62,10 +62,10 @@ lists p m t = option_map_or (λ c. lists_time c.rule t) (slice_get p.constraints
 abbrev pub lists_any : Parts → ℕ → ℕ → Monitor → Bool
 lists_any p start end m = list_any (λ t. lists p m t) (range_with_len start (end - start))
 
--- a count above this was and is above 0, when it rises for each of so many places or falls
-abbrev pub limit_for : Bool → ℕ → ℕ
-limit_for true places = places
-limit_for false places = 0
+-- a count above this was and is above 0, when it rises for one place or falls
+abbrev pub limit_for : Bool → ℕ
+limit_for true = 1
+limit_for false = 0
 
 -- whether one of a resource's counts in a run is no more than a limit
 abbrev pub is_low : List (List ℕ) → ℕ → ℕ → ℕ → ℕ → Bool
@@ -97,6 +97,11 @@ pub record AreRaised (r start end : ℕ) (low high : List (List ℕ)) : Type 0 w
   pub resources : length high ≡ length low
   pub times : (q : ℕ) → length (row_of high q) ≡ length (row_of low q)
   pub counts : (q t : ℕ) → count_at high q t ≡ count_at low q t + (if (r == q) && in_run start end t then 1 else 0)
+
+-- a served monitor that does not wait measures the same by both
+abbrev pub AreMeasuredSame : Parts → (Kind → Bool) → (ℕ → Bool) → List (List ℕ) → List (List ℕ) → Type 0
+AreMeasuredSame p served waits old new = (i : ℕ) (m : Monitor) → slice_get p.monitors i ≡ Some m
+    → served m.kind ≡ true → waits i ≡ false → value_in p new m ≡ value_in p old m
 
 -- each count is above another by as many places as are given the resource, in a run
 abbrev pub AreAbove : List (Option ResourceId) → ℕ → ℕ → (ℕ → ℕ → ℕ) → (ℕ → ℕ → ℕ) → Type 0
