@@ -61,19 +61,19 @@ listed_times rule (Some y) run e h x is = by y.duration y.start e is
         ∙ h
 
 module _ (p : Parts) (made : AreWellMade p) (s : List Slot) (t : SlotTurn) (turns : IsTurn p s t) where
-  abbrev k : ℕ
+  abbrev pub k : ℕ
   k = t.before.meet.0
 
-  here : slot_at (turned s t) k ≡ t.after
+  pub here : slot_at (turned s t) k ≡ t.after
   here = get_or-set_same s k t.after no_slot turns.there
 
-  there : k < length (turned s t)
+  pub there : k < length (turned s t)
   there = let z = length-set s k t.after in let w = turns.there in omega (arith, z, w)
 
-  slot_before : IsSlot p t.before
+  pub slot_before : IsSlot p t.before
   slot_before = subst (IsSlot p) turns.slot (All-get_or (IsSlot p) s k no_slot turns.there turns.told.slots)
 
-  slot_after : IsSlot p t.after
+  pub slot_after : IsSlot p t.after
   slot_after = subst (IsSlot p) here (All-get_or (IsSlot p) (turned s t) k no_slot there turns.later.slots)
 
   pub below_before : (span : Option Span) → span ≡ t.before.span → (y : Span) (q : TimeId) → span ≡ Some y
@@ -104,9 +104,17 @@ module _ (p : Parts) (made : AreWellMade p) (s : List Slot) (t : SlotTurn) (turn
       none None given h = refl
       none (Some y) given h = absurd (true≢false h)
 
-  same_places : length t.after.given ≡ length t.before.given
+  pub same_places : length t.after.given ≡ length t.before.given
   same_places = sym (length-replicate (length t.after.given) None) ∙ ap (λ (y : Slot). length y.given) turns.same
       ∙ length-replicate (length t.before.given) None
+
+  pub of_before : AreOf t.before.given (length p.resources)
+  of_before = subst (λ (y : Slot). AreOf y.given (length p.resources)) turns.slot
+      (at_slot p made s turns.told k turns.there)
+
+  pub of_after : AreOf t.after.given (length p.resources)
+  of_after = subst (λ (y : Slot). AreOf y.given (length p.resources)) here
+      (at_slot p made (turned s t) turns.later k there)
 
   module _ (x : Inputs) (is : x ≡ inputs_of t) (rows : List (List ℕ))
       (counts : (q r : ℕ) → count_at rows q r ≡ running_tasks (duties_in s) q r) where
@@ -135,10 +143,8 @@ module _ (p : Parts) (made : AreWellMade p) (s : List Slot) (t : SlotTurn) (turn
         (record {
           emptied_within = λ y e. run_within p t.before slot_before y e;
           filled_within = λ y e. run_within p t.after slot_after y e;
-          before_of = subst (λ (y : Slot). AreOf y.given (length p.resources)) turns.slot
-              (at_slot p made s turns.told k turns.there);
-          later_of = subst (λ (y : Slot). AreOf y.given (length p.resources)) here
-              (at_slot p made (turned s t) turns.later k there);
+          before_of = of_before;
+          later_of = of_after;
           places = same_places;
           some = some;
           few = λ q r. (let a = counts q r in let b = tasks_few p made s turns.told q r in omega (arith, a, b));
