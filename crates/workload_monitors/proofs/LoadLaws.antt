@@ -122,7 +122,7 @@ worth_is p e d k event places w rate unit there same a u c =
     by (Some q) n m = refl
 
 -- one workload turned
-raised : (loads : List ℕ) (r w q : ℕ) → r < length loads
+pub raised : (loads : List ℕ) (r w q : ℕ) → r < length loads
     → slice_index (set loads r (slice_index loads r + w)) q ≡ slice_index loads q + cond (r == q) w 0
 raised loads r w q l = by (cases_eq r q)
   where
@@ -137,7 +137,7 @@ raised loads r w q l = by (cases_eq r q)
         let b : cond (r == q) w 0 ≡ 0 = ap (λ b. cond b w 0) (ne_eqb r q n) in
         omega (arith, a, b)
 
-lowered : (loads : List ℕ) (r w q : ℕ) → r < length loads → w ≤ slice_index loads r
+pub lowered : (loads : List ℕ) (r w q : ℕ) → r < length loads → w ≤ slice_index loads r
     → slice_index (set loads r (slice_index loads r - w)) q + cond (r == q) w 0 ≡ slice_index loads q
 lowered loads r w q l m = by (cases_eq r q)
   where
