@@ -1,47 +1,136 @@
+ghost use Rattle.std.specs.Prelude.{◌≡◌, ◌<◌, length, slice_set, true};
+ghost use Rattle.khe_told.specs.Slots.{length_of, slot_at};
+ghost use Rattle.khe_told.specs.Turns.{AreWatchers, IsTurn, turn_to};
+ghost use Rattle.khe_told.specs.Waits.{AreUnmoved, WaitOn};
+ghost use Rattle.khe_told.specs.Changes.{after_all};
+ghost use Rattle.khe_told.specs.Fits.{AllFit, AreTold};
+ghost use Rattle.family_keepers.specs.Takes.{AreTaken, IsMix};
+
 use crate::keepers::Keeper;
 use khe_base::{MeetId, MonitorId, NoMemory, both};
 use khe_instance::{Instance, Kind};
-use khe_told::{Family, Told, Waits};
+use khe_told::{Change, Family, Told, Waits};
 use std::alloc::Global;
 
 /// The family of a keeper: what was told, in one place for all that the keeper is made of.
+///
+/// The changes of an edit are told to a second state first, which is then taken over slot by slot: so the
+/// keeper follows each slot once, whatever the number of changes of it.
 #[derive(Drop)]
 pub struct Keeping<K> {
+    /// What the keeper follows.
     told: Told,
+    /// What was told; the same between calls.
+    ahead: Told,
     keeper: K,
 }
 
+/// Takes a slot over from the state that was told, where it is another there.
+fn take<K: Keeper, W: Waits>(
+    inst: &Instance,
+    keeper: &mut K,
+    told: &mut Told,
+    ahead: &Told,
+    meet: MeetId,
+    waits: &mut W,
+)
+    requires keeps { K.Keeps keeper.old inst.now told.old }
+    requires there { meet.0 < length told.old }
+    requires turns { IsTurn inst.now told.old (turn_to told.old ahead.now meet.0) }
+    requires monitors { W.monitors waits.old ≡ length inst.now.monitors }
+    ensures keeps { K.Keeps keeper.new inst.now told.new }
+    ensures told { told.new ≡ slice_set told.old meet.0 (slot_at ahead.now meet.0) }
+    ensures monitors { W.monitors waits.new ≡ W.monitors waits.old }
+    ensures unmoved { W.hears ≡ true → AreUnmoved inst.now K.serves_kind (W.waits waits.new) told.old told.new }
+    ensures kept { WaitOn (W.waits waits.old) (W.waits waits.new) }
+    ensures watchers { AreWatchers inst.now (turn_to told.old ahead.now meet.0) (W.waits waits.old) (W.waits waits.new) }
+{
+    let turn = told.turn_to(ahead, meet);
+    if turn.is_still() {
+        return;
+    }
+    keeper.turn(inst, told, &turn, waits);
+    told.follow(ahead, meet);
+}
+
+/// Takes over the slots of changes whose meets go or are shorter then: no event's meets are ever longer
+/// together than the event.
+fn take_shorter<K: Keeper, W: Waits>(
+    inst: &Instance,
+    keeper: &mut K,
+    told: &mut Told,
+    ahead: &Told,
+    changes: &[Change],
+    waits: &mut W,
+)
+{
+    for change in changes {
+        let meet = change.meet();
+        if ahead.duration(meet) < told.duration(meet) {
+            take(inst, keeper, told, ahead, meet, waits);
+        }
+    }
+}
+
+/// Takes over the slots of changes, where none is shorter then.
+fn take_all<K: Keeper, W: Waits>(
+    inst: &Instance,
+    keeper: &mut K,
+    told: &mut Told,
+    ahead: &Told,
+    changes: &[Change],
+    waits: &mut W,
+)
+{
+    for change in changes {
+        take(inst, keeper, told, ahead, change.meet(), waits);
+    }
+}
+
+/// Follows changes that fit one after the other.
+fn note_all(inst: &Instance, told: &mut Told, changes: &[Change])
+    requires { AllFit inst.now told.old changes.now }
+    ensures { told.new ≡ after_all told.old changes.now }
+{
+    for change in changes {
+        told.note(inst, *change);
+    }
+}
+
 impl<K: Keeper + Drop> Family for Keeping<K> {
+    ghost use Rattle.std.specs.Prelude.{◌≡◌};
+    ghost use Rattle.khe_told.specs.Fits.{AreTold};
+
     ghost serves_kind = { K.serves_kind };
 
     ghost IsWellJoined = { K.IsWellJoined };
 
     ghost told = { λ f. f.told };
 
-    ghost IsOf = { λ f p. K.Keeps f.keeper p f.told };
+    ghost IsOf = { λ f p. K.Keeps f.keeper p f.told × (f.ahead ≡ f.told) × AreTold p f.told };
 
     fn open(alloc: Global, inst: &Instance) -> Result<Keeping<K>, NoMemory> {
         let told = Told::open(alloc, inst);
+        let ahead = Told::open(alloc, inst);
         let keeper = K::open(alloc, inst);
-        let (told, keeper) = both(told, keeper)?;
-        Ok(Keeping { told, keeper })
+        let ((told, ahead), keeper) = both(both(told, ahead), keeper)?;
+        Ok(Keeping {
+            told,
+            ahead,
+            keeper,
+        })
     }
 
     fn serves(&self, kind: Kind) -> bool {
         self.keeper.serves(kind)
     }
 
-    fn told(&self) -> &Told {
-        &self.told
-    }
-
-    fn turn<W: Waits>(&mut self, inst: &Instance, next: &Told, meet: MeetId, waits: &mut W) {
-        let turn = self.told.turn_to(next, meet);
-        if turn.is_still() {
-            return;
-        }
-        self.keeper.turn(inst, &self.told, &turn, waits);
-        self.told.follow(next, meet);
+    fn turn_all<W: Waits>(&mut self, inst: &Instance, changes: &[Change], waits: &mut W) {
+        note_all(inst, &mut self.ahead, changes);
+        let keeper = &mut self.keeper;
+        let told = &mut self.told;
+        take_shorter(inst, keeper, told, &self.ahead, changes, waits);
+        take_all(inst, keeper, told, &self.ahead, changes, waits);
     }
 
     fn deviation(&self, inst: &Instance, monitor: MonitorId) -> u64 {

@@ -12,7 +12,7 @@ use Rattle.demand_matching.specs.declared.domains.Domain.{Domain}
 use Rattle.khe_instance.specs.WellMade.{AreWellMade}
 use Rattle.khe_instance.specs.declared.parts.Parts.{Parts}
 use Rattle.khe_told.specs.Slots.{no_meets}
-use Rattle.hall_report.proofs.FreeSlots.{none_long, told_opened}
+use Rattle.khe_told.proofs.FreeSlots.{none_long, told_opened}
 use Rattle.hall_report.proofs.Renewals.{both_sets, same_sets}
 use Rattle.hall_report.specs.Kept.{AreOf}
 use Rattle.hall_report.specs.Opening.{AreCells, AreWanted}

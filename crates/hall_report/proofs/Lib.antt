@@ -2,7 +2,6 @@ pub mod CellsOpened
 pub mod Changed
 pub mod DemandsOpened
 pub mod Following
-pub mod FreeSlots
 pub mod Halls
 pub mod ListingLaws
 pub mod NarrowLaws

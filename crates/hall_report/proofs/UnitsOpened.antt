@@ -10,7 +10,7 @@ use Rattle.khe_instance.specs.WellMade.{AreWellMade}
 use Rattle.khe_instance.specs.declared.parts.EventInfo.{EventInfo}
 use Rattle.khe_instance.specs.declared.parts.Parts.{Parts}
 use Rattle.khe_told.specs.Slots.{no_meets}
-use Rattle.hall_report.proofs.FreeSlots.{none_held, none_long}
+use Rattle.khe_told.proofs.FreeSlots.{none_held, none_long}
 use Rattle.hall_report.proofs.UnitLaws.{units_below, walk_suc, walk_zero}
 use Rattle.hall_report.specs.Units.{AreUnits, IsFree, IsOffset, unit_at, units_of, walk}
 use Rattle.hall_report.proofs.Places.{mapped_there}

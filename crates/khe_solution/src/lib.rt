@@ -16,5 +16,6 @@ mod slots;
 mod solution;
 mod tasks;
 
+pub use notes::invert;
 pub use room::room_for;
 pub use solution::Solution;

@@ -38,7 +38,7 @@ pub(crate) fn note_all<V: Watcher, L: Ledger>(
 }
 
 /// Puts the inverse of each change in its place.
-fn turn_each(list: &mut Vec<Change>)
+fn invert_each(list: &mut Vec<Change>)
     ensures items { list.new.items ≡ map inverse list.old.items }
     ensures room { vec_capacity list.old ≤ vec_capacity list.new }
 {
@@ -47,14 +47,15 @@ fn turn_each(list: &mut Vec<Change>)
     }
 }
 
-/// Puts the inverses of changes in their place, the last one first, in time in proportion to them.
+/// Puts the inverses of changes in their place, the last one first, so that they lead back. It takes time in
+/// proportion to them, and no memory.
 #[tactic(auto, using(crate::proofs::NoteLaws::inverses_reversed))]
-fn turn_round(list: &mut Vec<Change>)
+pub fn invert(list: &mut Vec<Change>)
     ensures items { list.new.items ≡ inverses list.old.items }
     ensures room { vec_capacity list.old ≤ vec_capacity list.new }
 {
     list.reverse();
-    turn_each(list);
+    invert_each(list);
 }
 
 /// Notes the inverses of a list of changes, the last one first, and leaves them in the list.
@@ -77,6 +78,6 @@ pub(crate) fn note_back<V: Watcher, L: Ledger>(
     ensures silent { V.is_silent ≡ true → steps.new ≡ steps.old }
     ensures room { vec_capacity list.old ≤ vec_capacity list.new }
 {
-    turn_round(list);
+    invert(list);
     note_all(inst, list.as_slice(), slots, watcher, steps);
 }

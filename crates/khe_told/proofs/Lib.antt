@@ -1,13 +1,14 @@
-pub mod ApartLaws
 pub mod DutyLaws
 pub mod FillingLaws
 pub mod FrameLaws
+pub mod FreeSlots
 pub mod ListingLaws
 pub mod OpeningLaws
 pub mod PlainLaws
 pub mod PuttingLaws
 pub mod SlotLaws
 pub mod StoredLaws
+pub mod TurnLaws
 pub mod ValidLaws
 pub mod WaitingLaws
 pub mod WatcherLaws

@@ -1,5 +1,4 @@
--- What a family promises of a tally: the deviations of the monitors that it serves are those of the
--- told state, and all others stay.
+-- Deviations in a told state.
 use Rattle.std.specs.Prelude.{ℕ, ◌≡◌, Bool, true, false, Some, List, slice_get}
 use Rattle.khe_instance.specs.Deviation.{deviation}
 use Rattle.khe_instance.specs.declared.parts.Parts.{Parts}
@@ -12,15 +11,10 @@ use Rattle.khe_told.specs.declared.slots.Slot.{Slot}
 abbrev pub deviation_in : Parts → List Slot → Monitor → ℕ
 deviation_in p s m = deviation p (meets_in s) (duties_in s) m
 
--- the tally has the deviations of the monitors of the served kinds
+-- the list has the deviations of the monitors of the served kinds
 abbrev pub Agrees : Parts → (Kind → Bool) → List Slot → List ℕ → Type 0
 Agrees p served s ds = (i : ℕ) (m : Monitor) → slice_get p.monitors i ≡ Some m → served m.kind ≡ true
     → slice_get ds i ≡ Some (deviation_in p s m)
-
--- the tally's deviations of the monitors of all other kinds are as they were
-abbrev pub KeepsOthers : Parts → (Kind → Bool) → List ℕ → List ℕ → Type 0
-KeepsOthers p served old new = (i : ℕ) (m : Monitor) → slice_get p.monitors i ≡ Some m → served m.kind ≡ false
-    → slice_get new i ≡ slice_get old i
 
 -- no kind is served by both
 abbrev pub AreApart : (Kind → Bool) → (Kind → Bool) → Type 0

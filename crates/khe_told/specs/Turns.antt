@@ -1,5 +1,5 @@
 -- Slots of a told state that become others at once, and who watches that.
-use Rattle.std.specs.Prelude.{ℕ, ◌≡◌, ◌⊎◌, ◌<◌, Bool, true, Option, Some, None, List, length, slice_get, slice_set}
+use Rattle.std.specs.Prelude.{ℕ, ◌≡◌, ◌⊎◌, ◌<◌, Bool, true, Option, Some, List, length, slice_get, slice_set}
 use Rattle.std.specs.List.{list_any}
 use Rattle.std.specs.Option.{option_map}
 use Rattle.khe_base.specs.declared.numbers.ResourceId.{ResourceId}

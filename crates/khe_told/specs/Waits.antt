@@ -31,8 +31,3 @@ AreUnmoved p served waits old new = (i : ℕ) (m : Monitor) → slice_get p.moni
 -- those that waited still wait
 abbrev pub WaitOn : (ℕ → Bool) → (ℕ → Bool) → Type 0
 WaitOn old new = (k : ℕ) → old k ≡ true → new k ≡ true
-
--- of the monitors of all other kinds those wait that did before
-abbrev pub WaitAsBefore : Parts → (Kind → Bool) → (ℕ → Bool) → (ℕ → Bool) → Type 0
-WaitAsBefore p served old new = (i : ℕ) (m : Monitor) → slice_get p.monitors i ≡ Some m → served m.kind ≡ false
-    → new i ≡ old i

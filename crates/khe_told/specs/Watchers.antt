@@ -2,7 +2,7 @@
 -- monitors that name its event. Where it fills or empties cells, pairs of a resource and a time,
 -- each is watched by the monitors of the resource that list the time. A Give or a Take is watched
 -- besides by those that limit the resource's workload.
-use Rattle.std.specs.Prelude.{ℕ, ◌+◌, ◌*◌, Bool, if◌then◌else◌, Some, None, List, [], ◌∷◌, slice_get}
+use Rattle.std.specs.Prelude.{ℕ, ◌≡◌, ◌≤◌, ◌⊎◌, ◌+◌, ◌*◌, Bool, true, if◌then◌else◌, Some, None, List, [], ◌∷◌, slice_get}
 use Rattle.std.specs.List.{sum_by, count_by, filter_map, range_with_len}
 use Rattle.std.specs.Option.{option_map_or}
 use Rattle.khe_base.specs.declared.numbers.ResourceId.{ResourceId}
@@ -11,7 +11,6 @@ use Rattle.khe_instance.specs.Watching.{is_at, is_workload, lists_time, names_ev
 use Rattle.khe_instance.specs.declared.parts.Parts.{Parts}
 use Rattle.khe_instance.specs.declared.points.Monitor.{Monitor}
 use Rattle.khe_instance.specs.declared.points.Point.{Point}
-use Rattle.khe_instance.specs.declared.rules.Kind.{Kind}
 use Rattle.khe_instance.specs.declared.rules.Rule.{Rule}
 use Rattle.khe_told.specs.Slots.{slot_at}
 use Rattle.khe_told.specs.Changes.{after, meet_of}
@@ -67,12 +66,17 @@ watch_count p x c m = option_map_or (λ k. watches_with p x c k.rule m.point) (s
 unfoldable pub watcher_count : Parts → List Slot → Change → ℕ
 watcher_count p s c = sum_by (watch_count p (slot_at s (meet_of c)) c) p.monitors
 
--- of these, those of the served kinds
-unfoldable pub served_watchers : Parts → (Kind → Bool) → List Slot → Change → ℕ
-served_watchers p served s c = sum_by (λ m. if served m.kind then watch_count p (slot_at s (meet_of c)) c m else 0)
-    p.monitors
-
 -- how many watchers a list of changes has, each in the state that those before it leave
 abbrev pub watcher_counts : Parts → List Slot → List Change → ℕ
 watcher_counts p s [] = 0
 watcher_counts p s (c ∷ cs) = watcher_count p s c + watcher_counts p (after s c) cs
+
+-- how often a monitor watches them
+abbrev pub watch_counts : Parts → List Slot → List Change → Monitor → ℕ
+watch_counts p s [] m = 0
+watch_counts p s (c ∷ cs) m = watch_count p (slot_at s (meet_of c)) c m + watch_counts p (after s c) cs m
+
+-- who waits and did not before watches one of the changes
+abbrev pub AreWatchersOf : Parts → List Slot → List Change → (ℕ → Bool) → (ℕ → Bool) → Type 0
+AreWatchersOf p s cs old new = (i : ℕ) → new i ≡ true → (old i ≡ true)
+    ⊎ ((m : Monitor) × (slice_get p.monitors i ≡ Some m) × (1 ≤ watch_counts p s cs m))

@@ -1,21 +1,25 @@
-ghost use Rattle.std.specs.Prelude.{◌≡◌, ◌<◌, ◌≤◌, Bool, true, List, length, slice_get, slice_set, Some, IfOk, IfSome};
+ghost use Rattle.std.specs.Prelude.{◌≡◌, ◌<◌, ◌≤◌, Bool, true, List, length, slice_get, Some, IfOk, IfSome};
 ghost use Rattle.std.specs.Option.{option_map};
 ghost use Rattle.khe_base.specs.declared.limits.TheConstants.{GREATEST_DEVIATION};
 ghost use Rattle.khe_instance.specs.declared.parts.Parts.{Parts};
 ghost use Rattle.khe_instance.specs.declared.rules.Kind.{Kind};
 ghost use Rattle.khe_told.specs.declared.slots.Slot.{Slot};
-ghost use Rattle.khe_told.specs.Slots.{no_meets, slot_at};
+ghost use Rattle.khe_told.specs.Slots.{no_meets};
+ghost use Rattle.khe_told.specs.Changes.{after_all};
+ghost use Rattle.khe_told.specs.Fits.{AllFit};
 ghost use Rattle.khe_told.specs.Agreement.{deviation_in};
-ghost use Rattle.khe_told.specs.Turns.{AreWatchers, IsTurn, turn_to};
 ghost use Rattle.khe_told.specs.Waits.{AreUnmoved, WaitOn};
+ghost use Rattle.khe_told.specs.Watchers.{AreWatchersOf};
 
-use crate::told::Told;
+use crate::changes::Change;
 use crate::waiting::Waits;
-use khe_base::{MeetId, MonitorId, NoMemory};
+use khe_base::{MonitorId, NoMemory};
 use khe_instance::{Instance, Kind};
 use std::alloc::Global;
 
-/// Keeps what the deviations of the monitors of some kinds are read from, while slot by slot becomes another.
+/// Keeps what the deviations of the monitors of some kinds are read from, edit by edit.
+///
+/// Changes and then their inverses leave the told state as it was, since `turn_all` gives `after_all`.
 pub trait Family {
     /// The kinds that it serves.
     ghost serves_kind: { Kind → Bool };
@@ -40,24 +44,19 @@ pub trait Family {
     fn serves(&self, kind: Kind) -> bool
         ensures { result ≡ serves_kind kind };
 
-    /// The meets and tasks that it was told. It takes constant time.
-    fn told(&self) -> &Told
-        ensures { result.now ≡ told self.now };
-
-    /// Takes over one meet slot of another state, and measures nothing: each monitor that it serves whose
-    /// deviation may be another then waits, and nobody waits who does not watch what becomes of the slot.
-    /// Where the slot is the same it takes the time of comparing it.
-    fn turn<W: Waits>(&mut self, inst: &Instance, next: &Told, meet: MeetId, waits: &mut W)
+    /// Follows changes that fit one after the other, as an edit makes them, and measures nothing: each monitor
+    /// that it serves whose deviation may be another after them waits then, and nobody waits who watches none of
+    /// them. It takes no memory, and time in proportion to the changes and to what is kept for who watches them.
+    fn turn_all<W: Waits>(&mut self, inst: &Instance, changes: &[Change], waits: &mut W)
         requires of { IsOf self.old inst.now }
-        requires there { meet.0 < length (told self.old) }
-        requires turns { IsTurn inst.now (told self.old) (turn_to (told self.old) next.now meet.0) }
+        requires fit { AllFit inst.now (told self.old) changes.now }
         requires monitors { W.monitors waits.old ≡ length inst.now.monitors }
         ensures of { IsOf self.new inst.now }
-        ensures told { told self.new ≡ slice_set (told self.old) meet.0 (slot_at next.now meet.0) }
+        ensures told { told self.new ≡ after_all (told self.old) changes.now }
         ensures monitors { W.monitors waits.new ≡ W.monitors waits.old }
         ensures unmoved { W.hears ≡ true → AreUnmoved inst.now serves_kind (W.waits waits.new) (told self.old) (told self.new) }
         ensures kept { WaitOn (W.waits waits.old) (W.waits waits.new) }
-        ensures watchers { AreWatchers inst.now (turn_to (told self.old) next.now meet.0) (W.waits waits.old) (W.waits waits.new) };
+        ensures watchers { AreWatchersOf inst.now (told self.old) changes.now (W.waits waits.old) (W.waits waits.new) };
 
     /// The deviation, in the told state, of a monitor of a kind that it serves: at most
     /// `GREATEST_DEVIATION`.

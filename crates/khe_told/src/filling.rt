@@ -65,6 +65,11 @@ pub(crate) fn refill(
     span: Option<Span>,
     resources: &[Option<ResourceId>],
 )
+    requires order { AreInOrder 0 (length given.old.items) rows.old.items }
+    requires there { meet.0 < length rows.old.items }
+    requires many { length resources.now ≡ length (slot_at (slots_in 0 rows.old.items given.old.items) meet.0).given }
+    ensures order { AreInOrder 0 (length given.new.items) rows.new.items }
+    ensures slots { slots_in 0 rows.new.items given.new.items ≡ slice_set (slots_in 0 rows.old.items given.old.items) meet.0 (record (slot_at (slots_in 0 rows.old.items given.old.items) meet.0) { span = span; given = resources.now }) }
 {
     let at = meet.0 as usize;
     let row = rows[at];

@@ -1,6 +1,6 @@
 ghost use Rattle.std.specs.Prelude.{◌≡◌, ◌<◌, ◌≤◌, length, slice_get, slice_set, IfOk, MatchOption, Some};
 ghost use Rattle.khe_instance.specs.States.{IsTold};
-ghost use Rattle.khe_told.specs.Slots.{emptied, no_meets, no_slot, slot_at};
+ghost use Rattle.khe_told.specs.Slots.{emptied, length_of, no_meets, no_slot, slot_at};
 ghost use Rattle.khe_told.specs.Turns.{turn_to};
 ghost use Rattle.khe_told.specs.Lists.{meet_in, meets_in, tasks_in};
 ghost use Rattle.khe_told.specs.Changes.{after};
@@ -99,6 +99,16 @@ impl Told {
         self.row(meet)?.span
     }
 
+    /// How long a told meet is, and 0 where no told meet has the number.
+    pub fn duration(&self, meet: MeetId) -> u32
+        ensures { result ≡ length_of (slot_at self.now meet.0) }
+    {
+        match self.span(meet) {
+            Some(span) => span.duration,
+            None => 0,
+        }
+    }
+
     /// What each place of a meet slot is given, in order: nothing at all where the slot is free,
     /// and the empty list where no slot has the number.
     pub fn given(&self, meet: MeetId) -> &[Option<ResourceId>]
@@ -142,12 +152,15 @@ impl Told {
         ensures turn { result ≡ turn_to self.now next.now meet.0 }
         ensures number { result.before.meet ≡ meet }
     {
+        let Some(row) = self.row(meet) else {
+            unreachable!()
+        };
         let given_before = self.given(meet);
         let given_after = next.given(meet);
         Turn {
             meet,
-            event: self.event(meet),
-            before: self.span(meet),
+            event: row.event,
+            before: row.span,
             after: next.span(meet),
             given_before,
             given_after,
@@ -162,7 +175,13 @@ impl Told {
         ensures { self.new ≡ slice_set self.old meet.0 (slot_at next.now meet.0) }
     {
         let given = next.given(meet);
-        refill(&mut self.rows, &mut self.given, meet, next.span(meet), given);
+        refill(
+            &mut self.rows,
+            &mut self.given,
+            meet,
+            next.span(meet),
+            given,
+        );
     }
 
     /// The state after a change that fits.

@@ -1,4 +1,4 @@
-ghost use Rattle.std.specs.Prelude.{◌≡◌, true, false, length};
+ghost use Rattle.std.specs.Prelude.{◌≡◌, true, false};
 ghost use Rattle.khe_told.specs.Turns.{duration_of};
 
 use crate::slots::Span;
@@ -106,21 +106,6 @@ impl<'a> Turn<'a> {
         ensures { result ≡ true → self.now.before ≡ self.now.after }
     {
         !self.gives_other && !self.moves()
-    }
-
-    /// Whether the meet goes, or lasts shorter.
-    pub fn shrinks(&self) -> bool
-        ensures { true ≡ true }
-    {
-        duration_in(self.after) < duration_in(self.before)
-    }
-}
-
-fn duration_in(span: Option<Span>) -> u32
-{
-    match span {
-        Some(span) => span.duration,
-        None => 0,
     }
 }
 

@@ -1,4 +1,5 @@
 ghost use Rattle.std.specs.Prelude.{◌≡◌, ◌<◌, ◌≤◌, ◌+◌, ◌++◌, ◌∷◌, [], ◌||◌, ◌&&◌, Bool, ℕ, true, false, length, nat_eq, replicate, slice_set, vec_capacity, vec_len, IfOk, MatchOption};
+ghost use Rattle.std.specs.List.{count_by};
 ghost use Rattle.khe_told.specs.Waits.{waits_in};
 
 use khe_base::{MonitorId, NoMemory};
@@ -57,6 +58,13 @@ impl Waiting {
         let list = Vec::with_capacity(alloc, monitors as usize)?;
         let flags = vec![in alloc; false; monitors as usize]?;
         Ok(Waiting { list, flags })
+    }
+
+    /// What is true of all such lists: those wait that have a flag.
+    pub fn facts(&self)
+        ensures { self.now.amount ≡ count_by (λ (b : Bool). b) self.now.flags }
+    {
+        let _ = &self.list;
     }
 
     /// Takes the monitor that came last, which then waits no longer, or answers `None` where none

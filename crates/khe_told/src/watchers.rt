@@ -31,8 +31,8 @@ pub trait Watcher {
     /// That all else is the same in both.
     ghost HasSameRest: { Self → Self → Type 0 };
 
-    /// Follows a change that fits what it was told. It takes no memory, and sets a tally at most
-    /// once for each watcher of the change.
+    /// Follows a change that fits what it was told. It takes no memory, and at most one step for each
+    /// watcher of the change.
     fn note<L: Ledger>(&mut self, inst: &Instance, change: Change, steps: &mut Steps<L>)
         requires of { IsOf self.old inst.now }
         requires fits { Fits inst.now (told self.old) change }

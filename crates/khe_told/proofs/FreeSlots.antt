@@ -18,11 +18,11 @@ use Rattle.khe_told.specs.declared.slots.Slot.{Slot}
 use Rattle.khe_told.specs.declared.slots.Span.{Span}
 
 -- a slot with nothing in it
-record IsFree (x : Slot) : Type 0 where
+pub record IsFree (x : Slot) : Type 0 where
   pub span : x.span ≡ None
   pub given : x.given ≡ replicate (length x.given) None
 
-abbrev AreFree : List Slot → Type 0
+abbrev pub AreFree : List Slot → Type 0
 AreFree [] = Unit {0}
 AreFree (x ∷ s) = IsFree x × AreFree s
 
@@ -41,7 +41,7 @@ free_event e event (m ∷ ms) = (
   free_event e event ms,
 )
 
-free_from : (e : ℕ) (events : List EventInfo) → AreFree (slots_from e events)
+pub free_from : (e : ℕ) (events : List EventInfo) → AreFree (slots_from e events)
 free_from e [] = tt
 free_from e (event ∷ events) = free_both (slots_of_event e event) (slots_from (e + 1) events)
     (free_event e event (range_with_len event.first_meet event.duration)) (free_from (e + 1) events)

@@ -1,7 +1,7 @@
 use Rattle.std.proofs.Common.{◌≡◌, ◌≤◌, ◌++◌, drop, map, take, length}
 use Rattle.std.specs.Prelude.{vec_capacity}
 use Rattle.khe_told.specs.Changes.{inverse}
-use Rattle.khe_solution.proofs.notes.turn_each.Given as goal
+use Rattle.khe_solution.proofs.notes.invert_each.Given as goal
 
 abbrev pub invariant-loop-k : goal.invariant-loop-k
 invariant-loop-k l =

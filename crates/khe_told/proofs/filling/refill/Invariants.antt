@@ -1,0 +1,8 @@
+-- So many of the places are given what they are to be given.
+use Rattle.khe_told.specs.Stored.{slots_in}
+use Rattle.khe_told.proofs.PuttingLaws.{IsPut}
+use Rattle.khe_told.proofs.filling.refill.Given as goal
+
+abbrev pub invariant-loop-place : goal.invariant-loop-place
+invariant-loop-place l = IsPut l.rows.items l.given.items (slots_in 0 l.fn.rows.items l.fn.given.items) l.fn.meet.0 l.fn.span
+    l.resources l.row l.place
