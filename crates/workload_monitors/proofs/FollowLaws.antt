@@ -60,8 +60,8 @@ small_then p made s loads t h r = subst (λ n. n ≤ GREATEST_DEVIATION * p.unit
 lengths_of : (a b : Option Span) → option_map (λ (y : Span). y.duration) a ≡ option_map (λ (y : Span). y.duration) b
     → option_map_or (λ (y : Span). y.duration) a 0 ≡ option_map_or (λ (y : Span). y.duration) b 0
 lengths_of None None e = refl
-lengths_of None (Some y) e = absurd (none-some y.duration (sym e))
-lengths_of (Some x) None e = absurd (none-some x.duration e)
+lengths_of None (Some y) e = absurd (none-some y.duration e)
+lengths_of (Some x) None e = absurd (none-some x.duration (sym e))
 lengths_of (Some x) (Some y) e = same_Some x.duration y.duration e
 
 module _ (p : Parts) (made : AreWellMade p) (s : List Slot) (t : SlotTurn) (turns : IsTurn p s t) where
