@@ -1,5 +1,6 @@
 -- Places that are given something else, one after the other.
-use Rattle.std.proofs.Common.{ℕ, ◌≡◌, ◌≤◌, ◌<◌, ◌+◌, ◌-◌, ◌∙◌, ◌⊎◌, inl, inr, zero, suc, Bool, true, false, cond, Option}
+use Rattle.std.proofs.Common.{ℕ, ◌≡◌, ◌≤◌, ◌<◌, ◌+◌, ◌-◌, ◌∙◌, ◌⊎◌, inl, inr, zero, suc, Bool, true, false, cond}
+use Rattle.std.proofs.Common.{Option}
 use Rattle.std.proofs.Common.{Some, None, List, [], ◌∷◌, take, get_or, length, slice_get, refl, sym, ap, subst, arith}
 use Rattle.std.proofs.Common.{sum_by, zero-add}
 use Rattle.std.proofs.lemmas.List.{take_all}
@@ -44,14 +45,6 @@ given_rest q (o ∷ given) (suc i) =
     let b = sum_by-cons (λ (x : Option ResourceId). cond {A = ℕ} (is_resource q x) 1 0) o given in
     let r = given_rest q given i in
     omega (arith, a, b, r)
-
-cells_none : (run : Option Run) (q t : ℕ) → cells_of run [] q t ≡ 0
-cells_none None q t = refl
-cells_none (Some run) q t = by (in_run run.start run.end t)
-  where
-    by : (b : Bool) → cond {A = ℕ} b 0 0 ≡ 0
-    by true = refl
-    by false = refl
 
 cells_more : (run : Option Run) (given : List (Option ResourceId)) (i q t : ℕ) → i < length given
     → cells_of run (take (i + 1) given) q t ≡ cells_of run (take i given) q t
@@ -127,9 +120,6 @@ at_either p before later emptied filled old mid new moved first second i e = by 
 
 -- all places
 module _ (emptied filled : Option Run) (before later : List (Option ResourceId)) where
-  pub exchanged_first : (f : ℕ → ℕ → ℕ) → AreExchanged emptied filled (take 0 before) (take 0 later) f f
-  exchanged_first f q t = ap (λ n. f q t + n) (cells_none emptied q t ∙ sym (cells_none filled q t))
-
   pub exchanged_last : (n : ℕ) (old new : ℕ → ℕ → ℕ) → length before ≤ n → length later ≡ length before
       → AreExchanged emptied filled (take n before) (take n later) old new
       → AreExchanged emptied filled before later old new

@@ -19,10 +19,11 @@ use Rattle.khe_instance.specs.declared.rules.Constraint.{Constraint}
 use Rattle.khe_instance.specs.declared.rules.Kind.{Kind}
 use Rattle.khe_instance.proofs.MadeLemmas.{monitor_made}
 use Rattle.khe_told.specs.Lists.{duties_in}
-use Rattle.khe_told.specs.Waits.{AreUnmoved, WaitOn}
+use Rattle.khe_told.specs.Waits.{AreUnmoved}
 use Rattle.khe_told.specs.declared.slots.Slot.{Slot}
 use Rattle.timetables.specs.Counts.{count_at}
-use Rattle.resource_monitors.specs.Cells.{AreMeasuredSame, differs_at, given_to, in_run, is_at_cells, is_by_busy, is_due}
+use Rattle.resource_monitors.specs.Cells.{AreMeasuredSame, differs_at, given_to, in_run, is_at_cells, is_by_busy}
+use Rattle.resource_monitors.specs.Cells.{is_due}
 use Rattle.resource_monitors.specs.Cells.{is_low, limit_for, lists, lists_any, value_in}
 use Rattle.resource_monitors.specs.Posts.{AreAdded, IsDueIn, is_served_at, list_for, post, posts_of}
 use Rattle.resource_monitors.specs.Runs.{AreAtRun, IsAtRun, Turned, cells_of}
@@ -144,7 +145,8 @@ module _ (p : Parts) (served : Kind → Bool) (made : AreWellMade p)
       test : Monitor → Bool
       test = is_due p rows run.start run.end limit
 
-      found : (o : Option ResourceId) → place ≡ o → (j : ℕ) (a : Post) → slice_get (list_for served p.monitors o) j ≡ Some a
+      found : (o : Option ResourceId) → place ≡ o → (j : ℕ) (a : Post)
+          → slice_get (list_for served p.monitors o) j ≡ Some a
           → a.number.0 ≡ i → test a.monitor ≡ true → IsAtRun p place (Some run) i
       found None here j a g n t = absurd (none-some a g)
       found (Some r) here j a g n t =
@@ -182,14 +184,3 @@ module _ (p : Parts) (served : Kind → Bool) (made : AreWellMade p)
       let is = monitor_made p made i m there in
       value_is p s2 new m is (cells m.kind serves) now ∙ same i m there serves idle
       ∙ sym (value_is p s old m is (cells m.kind serves) before)
-
--- one step after the other
-pub measured_on : (p : Parts) (served : Kind → Bool) (old mid new : List (List ℕ)) (mid_waits waits : ℕ → Bool)
-    → AreMeasuredSame p served mid_waits old mid → WaitOn mid_waits waits → AreMeasuredSame p served waits mid new
-    → AreMeasuredSame p served waits old new
-measured_on p served old mid new mid_waits waits first on second i m there serves idle =
-    second i m there serves idle ∙ first i m there serves (by (mid_waits i) refl)
-  where
-    by : (b : Bool) → mid_waits i ≡ b → mid_waits i ≡ false
-    by false e = e
-    by true e = absurd (true≢false (sym (on i e) ∙ idle))

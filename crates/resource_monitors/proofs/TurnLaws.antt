@@ -145,7 +145,8 @@ with_cells m place r t (o ∷ given) =
 pub cell_is : (x : Slot) (r t : ℕ) → running_tasks (duties_of x) r t ≡ cell_in x r t
 cell_is x r t = by x.span
   where
-    from : (d : ℕ) (o : Option TimeId) → running_tasks (duties_of (record x { span = Some (record { duration = d; start = o }) }))
+    from : (d : ℕ) (o : Option TimeId) → running_tasks
+        (duties_of (record x { span = Some (record { duration = d; start = o }) }))
         r t ≡ cell_in (record x { span = Some (record { duration = d; start = o }) }) r t
     from d None = with_cells (record { meet = x.meet; event = x.event; duration = d; start = None }) 0 r t x.given
     from d (Some a) = with_cells (record { meet = x.meet; event = x.event; duration = d; start = Some a }) 0 r t x.given

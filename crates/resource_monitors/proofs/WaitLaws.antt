@@ -3,7 +3,7 @@ use Rattle.std.proofs.Common.{ℕ, ◌≡◌, ◌<◌, ◌+◌, ◌-◌, ◌∙�
 use Rattle.std.proofs.Common.{List, slice_get, refl, sym, ap, subst, arith, zero-add, ◌⊎◌, inl, inr}
 use Rattle.std.specs.Prelude.{nat_eq}
 use Rattle.std.specs.List.{range_with_len, list_any}
-use Rattle.std.proofs.lemmas.Bool.{and_parts, eq-eqb, eqb-true}
+use Rattle.std.proofs.lemmas.Bool.{and_parts, eq-eqb, eqb-true, true≢false}
 use Rattle.std.proofs.lemmas.Option.{same_Some}
 use Rattle.khe_base.specs.declared.numbers.ResourceId.{ResourceId}
 use Rattle.khe_instance.specs.Watching.{is_at}
@@ -11,7 +11,8 @@ use Rattle.khe_instance.specs.declared.parts.Parts.{Parts}
 use Rattle.khe_instance.specs.declared.points.Monitor.{Monitor}
 use Rattle.khe_instance.specs.declared.points.Point.TheVariants.{Resource}
 use Rattle.khe_instance.specs.declared.rules.Kind.{Kind}
-use Rattle.resource_monitors.specs.Posts.{AreAdded, IsDueIn, post, is_served_at, posts_of}
+use Rattle.khe_told.specs.Waits.{WaitOn}
+use Rattle.resource_monitors.specs.Posts.{AreAdded, AreSame, IsDueIn, post, is_served_at, posts_of}
 use Rattle.resource_monitors.specs.declared.posts.Post.{Post}
 use Rattle.resource_monitors.proofs.PostLaws.{posts_all}
 
@@ -77,3 +78,14 @@ posted p served r q i m t s at e =
     ap (λ b. b && is_at m.point r) s ∙ ap (λ x. is_at x r) at ∙ eq-eqb q.0 r e in
     let f = posts_all (is_served_at served r) 0 p.monitors i m t both in
     (f.0, f.1 ∙ ap (λ n. Some (post n m)) (zero-add i))
+
+-- one step after the other
+pub same_on : (p : Parts) (served : Kind → Bool) (old mid new : Monitor → ℕ) (mid_waits waits : ℕ → Bool)
+    → AreSame p served mid_waits old mid → WaitOn mid_waits waits → AreSame p served waits mid new
+    → AreSame p served waits old new
+same_on p served old mid new mid_waits waits first on second i m there serves idle =
+    second i m there serves idle ∙ first i m there serves (by (mid_waits i) refl)
+  where
+    by : (b : Bool) → mid_waits i ≡ b → mid_waits i ≡ false
+    by false e = e
+    by true e = absurd (true≢false (sym (on i e) ∙ idle))

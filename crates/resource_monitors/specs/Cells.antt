@@ -1,7 +1,7 @@
 -- The kinds that are measured by how many tasks of a resource run at each time, and the counts that
 -- they read: a row for each resource, with a count for each time.
 use Rattle.std.specs.Prelude.{ℕ, ◌≡◌, ◌<◌, ◌+◌, ◌-◌, ◌==◌, ◌&&◌, ◌||◌, not, nat_le, nat_lt, Bool, true, false}
-use Rattle.std.specs.Prelude.{if◌then◌else◌, Option, Some, List, length, slice_get, slice_index, count_by}
+use Rattle.std.specs.Prelude.{if◌then◌else◌, Option, List, length, slice_get, slice_index, count_by}
 use Rattle.std.specs.List.{range_with_len, list_any}
 use Rattle.std.specs.Option.{option_map_or}
 use Rattle.khe_base.specs.declared.numbers.ResourceId.{ResourceId}
@@ -17,6 +17,7 @@ use Rattle.khe_instance.specs.declared.rules.Kind.{Kind}
 use Rattle.khe_instance.specs.declared.rules.Kind.TheVariants as kind
 use Rattle.khe_instance.specs.declared.rules.Rule.{Rule}
 use Rattle.timetables.specs.Counts.{row_of, count_at}
+use Rattle.resource_monitors.specs.Posts.{AreSame}
 
 abbrev pub is_at_cells : Kind → Bool
 is_at_cells kind.AvoidClashes = true
@@ -100,8 +101,7 @@ pub record AreRaised (r start end : ℕ) (low high : List (List ℕ)) : Type 0 w
 
 -- a served monitor that does not wait measures the same by both
 abbrev pub AreMeasuredSame : Parts → (Kind → Bool) → (ℕ → Bool) → List (List ℕ) → List (List ℕ) → Type 0
-AreMeasuredSame p served waits old new = (i : ℕ) (m : Monitor) → slice_get p.monitors i ≡ Some m
-    → served m.kind ≡ true → waits i ≡ false → value_in p new m ≡ value_in p old m
+AreMeasuredSame p served waits old new = AreSame p served waits (value_in p old) (value_in p new)
 
 -- each count is above another by as many places as are given the resource, in a run
 abbrev pub AreAbove : List (Option ResourceId) → ℕ → ℕ → (ℕ → ℕ → ℕ) → (ℕ → ℕ → ℕ) → Type 0

@@ -1,5 +1,6 @@
 -- The monitors that a keeper serves, for each resource.
-use Rattle.std.specs.Prelude.{ℕ, ◌≡◌, ◌<◌, ◌+◌, ◌&&◌, ◌⊎◌, Bool, true, if◌then◌else◌, Option, Some, List, [], ◌∷◌, length}
+use Rattle.std.specs.Prelude.{ℕ, ◌≡◌, ◌<◌, ◌+◌, ◌&&◌, ◌⊎◌, Bool, true, false, if◌then◌else◌, Option, Some, List, []}
+use Rattle.std.specs.Prelude.{◌∷◌, length}
 use Rattle.std.specs.Prelude.{slice_get, slice_index_or}
 use Rattle.std.specs.Option.{option_map_or}
 use Rattle.khe_base.specs.declared.numbers.ResourceId.{ResourceId}
@@ -49,3 +50,8 @@ pub record AreAdded (test : Monitor → Bool) (list : List Post) (k : ℕ) (old 
   pub each : (j : ℕ) (a : Post) → j < k → slice_get list j ≡ Some a → test a.monitor ≡ true → new a.number.0 ≡ true
   pub kept : WaitOn old new
   pub only : (i : ℕ) → new i ≡ true → (old i ≡ true) ⊎ IsDueIn test list i
+
+-- a served monitor that does not wait has the same by two measures
+abbrev pub AreSame : Parts → (Kind → Bool) → (ℕ → Bool) → (Monitor → ℕ) → (Monitor → ℕ) → Type 0
+AreSame p served waits old new = (i : ℕ) (m : Monitor) → slice_get p.monitors i ≡ Some m → served m.kind ≡ true
+    → waits i ≡ false → new m ≡ old m

@@ -71,7 +71,9 @@ fn turn_cells<K: CellKinds, W: Waits>(
     }
     let before = turn.given_before();
     let later = turn.given_after();
-    follow_all::<K, W>(inst, sets, lists, before, later, emptied, filled, table, waits);
+    follow_all::<K, W>(
+        inst, sets, lists, before, later, emptied, filled, table, waits,
+    );
 }
 
 impl<K: CellKinds> Keeper for Cells<K> {

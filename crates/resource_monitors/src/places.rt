@@ -53,7 +53,9 @@ fn follow_place<K: CellKinds, W: Waits>(
     turn_place(table, place, run, rises);
     if W::hears() {
         let limit = limit_for(rises);
-        add_place::<K, W>(inst, sets, table, run.start, run.end, limit, place, lists, waits);
+        add_place::<K, W>(
+            inst, sets, table, run.start, run.end, limit, place, lists, waits,
+        );
     }
 }
 

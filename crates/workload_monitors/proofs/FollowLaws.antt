@@ -1,6 +1,7 @@
 -- What a slot that becomes another does to the workloads that are kept and to the monitors on them.
 use Rattle.std.proofs.Common.{ℕ, ◌≡◌, ◌≤◌, ◌<◌, ◌+◌, ◌*◌, ◌^◌, ◌∙◌, ◌⊎◌, inl, inr, zero, suc, Bool, true, false, Option}
-use Rattle.std.proofs.Common.{Some, None, List, [], ◌∷◌, replicate, set, length, get_or, slice_get, slice_index, refl, sym}
+use Rattle.std.proofs.Common.{Some, None, List, [], ◌∷◌, replicate, set, length, get_or, slice_get, slice_index, refl}
+use Rattle.std.proofs.Common.{sym}
 use Rattle.std.proofs.Common.{ap, subst, arith}
 use Rattle.std.specs.Option.{option_map, option_map_or}
 use Rattle.std.proofs.lemmas.List.{length-replicate}
@@ -28,7 +29,8 @@ use Rattle.resource_monitors.specs.Posts.{AreLists}
 use Rattle.resource_monitors.specs.declared.posts.Post.{Post}
 use Rattle.resource_monitors.proofs.FollowLaws.{of_after, of_before, same_places, slot_after, slot_before}
 use Rattle.resource_monitors.proofs.StateLaws.{no_duties, told_opened}
-use Rattle.workload_monitors.specs.Loads.{AreAllExchanged, AreKept, AreOnMoved, CanExchange, HasLoads, IsOnLoad, IsOnMoved}
+use Rattle.workload_monitors.specs.Loads.{AreAllExchanged, AreKept, AreOnMoved, CanExchange, HasLoads, IsOnLoad}
+use Rattle.workload_monitors.specs.Loads.{IsOnMoved}
 use Rattle.workload_monitors.specs.Loads.{is_on_workload, worths_of}
 use Rattle.workload_monitors.proofs.BoundLaws.{load_small}
 use Rattle.workload_monitors.proofs.LoadLaws.{load_is, load_of, loads_exchanged}
@@ -54,7 +56,8 @@ inputs_of t = record {
 -- no workload is great
 pub small_then : (p : Parts) → AreWellMade p → (s : List Slot) (loads : List ℕ) → AreTold p s → HasLoads p s loads
     → (r : ℕ) → slice_index loads r ≤ GREATEST_DEVIATION * p.unit
-small_then p made s loads t h r = subst (λ n. n ≤ GREATEST_DEVIATION * p.unit) (sym (h.each r)) (load_small p made s t r)
+small_then p made s loads t h r = subst (λ n. n ≤ GREATEST_DEVIATION * p.unit) (sym (h.each r))
+    (load_small p made s t r)
 
 -- how long a meet is, where it has the same duration
 lengths_of : (a b : Option Span) → option_map (λ (y : Span). y.duration) a ≡ option_map (λ (y : Span). y.duration) b

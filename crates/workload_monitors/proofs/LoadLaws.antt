@@ -1,6 +1,8 @@
 -- What tasks are worth, and what one task more or less does to workloads.
-use Rattle.std.proofs.Common.{ℕ, ◌≡◌, ◌≤◌, ◌<◌, ◌+◌, ◌-◌, ◌*◌, ◌/◌, ◌^◌, ◌==◌, ◌∙◌, ◌⊎◌, inl, inr, zero, suc, cond, Option}
-use Rattle.std.proofs.Common.{Bool, true, false, Some, None, List, [], ◌∷◌, get_or, set, take, replicate, length, slice_get}
+use Rattle.std.proofs.Common.{ℕ, ◌≡◌, ◌≤◌, ◌<◌, ◌+◌, ◌-◌, ◌*◌, ◌/◌, ◌^◌, ◌==◌, ◌∙◌, ◌⊎◌, inl, inr, zero, suc, cond}
+use Rattle.std.proofs.Common.{Option}
+use Rattle.std.proofs.Common.{Bool, true, false, Some, None, List, [], ◌∷◌, get_or, set, take, replicate, length}
+use Rattle.std.proofs.Common.{slice_get}
 use Rattle.std.proofs.Common.{slice_index, refl, sym, ap, subst, arith, sum_by, zero-add}
 use Rattle.std.specs.Option.{option_map_or}
 use Rattle.std.proofs.Math.Nat.{zero-mul}

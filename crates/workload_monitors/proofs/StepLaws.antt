@@ -1,5 +1,6 @@
 -- One workload after the other, and who then waits.
-use Rattle.std.proofs.Common.{ℕ, ◌≡◌, ◌≤◌, ◌<◌, ◌+◌, ◌^◌, ◌∙◌, ◌⊎◌, inl, inr, Bool, true, false, cond, Option, Some, None}
+use Rattle.std.proofs.Common.{ℕ, ◌≡◌, ◌≤◌, ◌<◌, ◌+◌, ◌^◌, ◌∙◌, ◌⊎◌, inl, inr, Bool, true, false, cond, Option, Some}
+use Rattle.std.proofs.Common.{None}
 use Rattle.std.proofs.Common.{List, take, get_or, length, slice_get, slice_index, refl, sym, ap, subst, arith, zero-add}
 use Rattle.std.proofs.lemmas.Bool.{and_parts, cases_eq, eq-eqb, eqb-true, ne_eqb, true≢false}
 use Rattle.std.proofs.lemmas.List.{take_all}
@@ -13,13 +14,14 @@ use Rattle.khe_instance.specs.declared.parts.Parts.{Parts}
 use Rattle.khe_instance.specs.declared.points.Monitor.{Monitor}
 use Rattle.khe_instance.proofs.MadeLemmas.{monitor_made}
 use Rattle.khe_told.specs.Lists.{duties_in}
-use Rattle.khe_told.specs.Waits.{AreUnmoved, WaitOn}
+use Rattle.khe_told.specs.Waits.{AreUnmoved}
 use Rattle.khe_told.specs.declared.slots.Slot.{Slot}
 use Rattle.resource_monitors.specs.Posts.{AreAdded, IsDueIn, is_served_at, post, posts_of}
 use Rattle.resource_monitors.specs.declared.posts.Post.{Post}
 use Rattle.resource_monitors.proofs.PostLaws.{posts_each}
 use Rattle.resource_monitors.proofs.WaitLaws.{posted}
-use Rattle.workload_monitors.specs.Loads.{AreAllExchanged, AreExchanged, AreMeasuredSame, AreOnEither, AreOnLoad, AreOnMoved}
+use Rattle.workload_monitors.specs.Loads.{AreAllExchanged, AreExchanged, AreMeasuredSame, AreOnEither, AreOnLoad}
+use Rattle.workload_monitors.specs.Loads.{AreOnMoved}
 use Rattle.workload_monitors.specs.Loads.{CanTurn, HasLoads, IsOnLoad, IsOnMoved, Turned, is_on_workload, part_of}
 use Rattle.workload_monitors.specs.Loads.{value_in, worth_at, worths_of}
 use Rattle.workload_monitors.proofs.LoadLaws.{worths_less, worths_more}
@@ -96,17 +98,6 @@ turned_none b place w loads e = subst (λ o. Turned b o w loads loads) (sym e) (
     by : (c : Bool) → Turned c None w loads loads
     by true = λ q. (let z : slice_index loads q ≡ slice_index loads q + 0 = omega arith in z)
     by false = λ q. (let z : slice_index loads q ≡ slice_index loads q + 0 = omega arith in z)
-
--- one step after the other
-pub measured_on : (p : Parts) (old mid new : List ℕ) (mid_waits waits : ℕ → Bool)
-    → AreMeasuredSame p mid_waits old mid → WaitOn mid_waits waits → AreMeasuredSame p waits mid new
-    → AreMeasuredSame p waits old new
-measured_on p old mid new mid_waits waits first on second i m there serves idle =
-    second i m there serves idle ∙ first i m there serves (by (mid_waits i) refl)
-  where
-    by : (b : Bool) → mid_waits i ≡ b → mid_waits i ≡ false
-    by false e = e
-    by true e = absurd (true≢false (sym (on i e) ∙ idle))
 
 -- what is measured is the deviation
 pub unmoved_by : (p : Parts) → AreWellMade p → (s s2 : List Slot) (old new : List ℕ) (waits : ℕ → Bool)

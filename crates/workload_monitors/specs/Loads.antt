@@ -1,5 +1,6 @@
 -- Workloads by resource, and the monitors on them.
-use Rattle.std.specs.Prelude.{ℕ, ◌≡◌, ◌≤◌, ◌<◌, ◌+◌, ◌^◌, ◌⊎◌, Bool, true, false, if◌then◌else◌, Option, Some, None, List, []}
+use Rattle.std.specs.Prelude.{ℕ, ◌≡◌, ◌≤◌, ◌<◌, ◌+◌, ◌^◌, ◌⊎◌, Bool, true, false, if◌then◌else◌, Option, Some, None}
+use Rattle.std.specs.Prelude.{List, []}
 use Rattle.std.specs.Prelude.{◌∷◌, length, slice_get, slice_index}
 use Rattle.std.specs.Option.{option_map_or}
 use Rattle.khe_base.specs.declared.numbers.EventId.{EventId}
@@ -20,7 +21,7 @@ use Rattle.khe_told.specs.Fits.{AreTold}
 use Rattle.khe_told.specs.Lists.{duties_in}
 use Rattle.khe_told.specs.declared.slots.Slot.{Slot}
 use Rattle.khe_instance.specs.declared.states.Meet.{Meet}
-use Rattle.resource_monitors.specs.Posts.{AreLists}
+use Rattle.resource_monitors.specs.Posts.{AreLists, AreSame}
 use Rattle.resource_monitors.specs.Runs.{AreOf}
 use Rattle.resource_monitors.specs.declared.posts.Post.{Post}
 
@@ -95,8 +96,7 @@ AreAllExchanged p e less more before later old new = (q : ℕ)
 
 -- a monitor on a workload that does not wait measures the same by both
 abbrev pub AreMeasuredSame : Parts → (ℕ → Bool) → List ℕ → List ℕ → Type 0
-AreMeasuredSame p waits old new = (i : ℕ) (m : Monitor) → slice_get p.monitors i ≡ Some m
-    → is_on_workload m.kind ≡ true → waits i ≡ false → value_in p new m ≡ value_in p old m
+AreMeasuredSame p waits old new = AreSame p is_on_workload waits (value_in p old) (value_in p new)
 
 -- the monitor with a number is on the workload of what a place is given
 pub record IsOnLoad (p : Parts) (place : Option ResourceId) (i : ℕ) : Type 0 where

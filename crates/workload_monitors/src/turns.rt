@@ -87,7 +87,9 @@ fn follow_both<W: Waits>(
     if is_same(before, later, less, more) {
         return;
     }
-    follow_place(inst, lists, event, less, number, before, false, loads, waits);
+    follow_place(
+        inst, lists, event, less, number, before, false, loads, waits,
+    );
     follow_place(inst, lists, event, more, number, later, true, loads, waits);
 }
 
@@ -116,7 +118,9 @@ fn follow_all<W: Waits>(
     for number in 0..before.len() {
         let old = before[number];
         let new = later[number];
-        follow_both(inst, lists, event, less, more, number, old, new, loads, waits);
+        follow_both(
+            inst, lists, event, less, more, number, old, new, loads, waits,
+        );
     }
 }
 

@@ -8,11 +8,13 @@ use Rattle.resource_monitors.proofs.FollowLaws.{watchers_then}
 use Rattle.resource_monitors.proofs.cells.turn_cells.Goals as goal
 
 pub run_of-emptied-requires : goal.run_of-emptied-requires
-run_of-emptied-requires g c = below_before c.args.inst.now c.facts.ensures c.args.told.now c.args.turn.now c.requires.turns
+run_of-emptied-requires g c = below_before c.args.inst.now c.facts.ensures c.args.told.now c.args.turn.now
+    c.requires.turns
     c.before-2.result c.before-2.ensures
 
 pub run_of-filled-requires : goal.run_of-filled-requires
-run_of-filled-requires g c = below_after c.args.inst.now c.facts.ensures c.args.told.now c.args.turn.now c.requires.turns
+run_of-filled-requires g c = below_after c.args.inst.now c.facts.ensures c.args.told.now c.args.turn.now
+    c.requires.turns
     c.after.result c.after.ensures
 
 pub returns-then-is_none-2-clause-counts : goal.returns-then-is_none-2-clause-counts
@@ -56,7 +58,8 @@ returns-clause-counts g c = counts_then c.args.inst.now c.facts.ensures c.args.t
 
 pub returns-clause-unmoved : goal.returns-clause-unmoved
 returns-clause-unmoved g c = λ hears. unmoved_by c.args.inst.now g.K.CellKinds.serves_kind c.facts.ensures
-    g.met.K.CellKinds.at_cells c.args.told.now (turned c.args.told.now c.args.turn.now) c.args.table.now c.follow_all.new.table
+    g.met.K.CellKinds.at_cells c.args.told.now (turned c.args.told.now c.args.turn.now) c.args.table.now
+    c.follow_all.new.table
     (g.W.Waits.waits c.follow_all.new.waits) c.requires.counts
     (counts_then c.args.inst.now c.facts.ensures c.args.told.now c.args.turn.now
     c.requires.turns _ (λ i. record {

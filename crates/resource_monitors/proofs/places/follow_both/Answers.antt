@@ -1,8 +1,9 @@
 -- One task less and one more.
 use Rattle.std.proofs.Common.{inl, refl}
 use Rattle.timetables.specs.Counts.{count_at}
+use Rattle.resource_monitors.specs.Cells.{value_in}
 use Rattle.resource_monitors.proofs.ExchangeLaws.{at_either, exchanged_both, passed_over, room_then}
-use Rattle.resource_monitors.proofs.FamilyLaws.{measured_on}
+use Rattle.resource_monitors.proofs.WaitLaws.{same_on}
 use Rattle.resource_monitors.proofs.places.follow_both.Goals as goal
 
 pub returns-then-is_same-clause-counts : goal.returns-then-is_same-clause-counts
@@ -26,8 +27,9 @@ returns-clause-counts g c = exchanged_both c.args.before c.args.later c.args.emp
     c.follow_place.ensures.counts c.follow_place-2.ensures.counts
 
 pub returns-clause-unmoved : goal.returns-clause-unmoved
-returns-clause-unmoved g c = λ hears. measured_on c.args.inst.now g.K.CellKinds.serves_kind c.args.table.now
-    c.follow_place.new.table c.follow_place-2.new.table (g.W.Waits.waits c.follow_place.new.waits)
+returns-clause-unmoved g c = λ hears. same_on c.args.inst.now g.K.CellKinds.serves_kind
+    (value_in c.args.inst.now c.args.table.now) (value_in c.args.inst.now c.follow_place.new.table)
+    (value_in c.args.inst.now c.follow_place-2.new.table) (g.W.Waits.waits c.follow_place.new.waits)
     (g.W.Waits.waits c.follow_place-2.new.waits) (c.follow_place.ensures.unmoved hears)
     c.follow_place-2.ensures.kept (c.follow_place-2.ensures.unmoved hears)
 

@@ -14,7 +14,8 @@ returns-then-hears-clause-unmoved g c = λ hears.
     measured_after p served c.facts.ensures g.met.K.CellKinds.at_cells c.args.table.now c.turn_place.new.table
     c.args.place c.args.rises run (g.W.Waits.waits c.args.waits.now) (g.W.Waits.waits c.add_place.new.waits)
     c.turn_place.ensures.counts
-    (subst (λ n. AreAdded (is_due p c.turn_place.new.table run.start run.end n) (list_for served p.monitors c.args.place)
+    (subst (λ n. AreAdded (is_due p c.turn_place.new.table run.start run.end n)
+    (list_for served p.monitors c.args.place)
     (length (list_for served p.monitors c.args.place)) (g.W.Waits.waits c.args.waits.now)
     (g.W.Waits.waits c.add_place.new.waits)) c.limit_for-limit.ensures c.add_place.ensures.added))
 

@@ -10,7 +10,8 @@ invariant-loop-number g l =
       exchanged : AreAllExchanged l.inst l.event l.less l.more (take l.number l.before) (take l.number l.later)
           l.fn.loads.items l.loads.items;
       same : g.W.Waits.monitors l.waits ≡ g.W.Waits.monitors l.fn.waits;
-      unmoved : g.W.Waits.hears ≡ true → AreMeasuredSame l.inst (g.W.Waits.waits l.waits) l.fn.loads.items l.loads.items;
+      unmoved : g.W.Waits.hears ≡ true → AreMeasuredSame l.inst (g.W.Waits.waits l.waits) l.fn.loads.items
+          l.loads.items;
       kept : WaitOn (g.W.Waits.waits l.fn.waits) (g.W.Waits.waits l.waits);
       listed : AreOnMoved l.inst l.less l.more l.before l.later (g.W.Waits.waits l.fn.waits) (g.W.Waits.waits l.waits);
     }

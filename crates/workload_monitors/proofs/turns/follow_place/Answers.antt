@@ -15,8 +15,8 @@ pub add_all-requires : goal.add_all-requires
 add_all-requires g c = record {
   known = λ k a h. (let l = posts_known c.args.inst.now c.facts.ensures c.in-Some.r c.as_slice-list.result.now
       (list_at is_on_workload (length c.args.inst.now.resources) c.args.inst.now.monitors c.args.lists.now
-          c.in-Some.r.0 c.index-lists-r.result c.as_slice-list.result.now c.requires.lists
-          (c.requires.resource c.in-Some.r c.in-Some.is) c.index-lists-r.is c.as_slice-list.ensures) k a h in
+      c.in-Some.r.0 c.index-lists-r.result c.as_slice-list.result.now c.requires.lists
+      (c.requires.resource c.in-Some.r c.in-Some.is) c.index-lists-r.is c.as_slice-list.ensures) k a h in
       let b = c.requires.monitors in omega (arith, l, b));
 }
 

@@ -8,7 +8,8 @@ use Rattle.workload_monitors.proofs.StepLaws.{unmoved_by}
 use Rattle.workload_monitors.proofs.turns.turn_loads.Goals as goal
 
 pub follow_all-requires-clause-can : goal.follow_all-requires-clause-can
-follow_all-requires-clause-can g c = can_exchange c.args.inst.now c.facts.ensures c.args.told.now c.args.turn.now c.requires.turns
+follow_all-requires-clause-can g c = can_exchange c.args.inst.now c.facts.ensures c.args.told.now c.args.turn.now
+    c.requires.turns
     _ (λ i. record {
       event = c.event-event.ensures i;
       less = (c.length_of-less.ensures ∙ ap (λ o. option_map_or (λ (y : Span). y.duration) o 0) c.before-2.ensures) i;
@@ -46,7 +47,8 @@ returns-clause-unmoved g c = λ hears. unmoved_by c.args.inst.now c.facts.ensure
     (c.follow_all.ensures.unmoved hears)
 
 pub returns-clause-watchers : goal.returns-clause-watchers
-returns-clause-watchers g c = watchers_then c.args.inst.now c.facts.ensures c.args.told.now c.args.turn.now c.requires.turns
+returns-clause-watchers g c = watchers_then c.args.inst.now c.facts.ensures c.args.told.now c.args.turn.now
+    c.requires.turns
     _ (λ i. record {
       event = c.event-event.ensures i;
       less = (c.length_of-less.ensures ∙ ap (λ o. option_map_or (λ (y : Span). y.duration) o 0) c.before-2.ensures) i;
