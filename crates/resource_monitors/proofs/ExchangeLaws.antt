@@ -1,8 +1,8 @@
 -- Places that are given something else, one after the other.
 use Rattle.std.proofs.Common.{ℕ, ◌≡◌, ◌≤◌, ◌<◌, ◌+◌, ◌-◌, ◌∙◌, ◌⊎◌, inl, inr, zero, suc, Bool, true, false, cond}
 use Rattle.std.proofs.Common.{Option}
-use Rattle.std.proofs.Common.{Some, None, List, [], ◌∷◌, take, get_or, length, slice_get, refl, sym, ap, subst, arith}
-use Rattle.std.proofs.Common.{sum_by, zero-add}
+use Rattle.std.proofs.Common.{Some, None, List, [], ◌∷◌, take, get_or, length, refl, sym, ap, subst, arith}
+use Rattle.std.proofs.Common.{zero-add}
 use Rattle.std.proofs.lemmas.List.{take_all}
 use Rattle.std.proofs.lemmas.List.Sums.{count_by-le-length, sum_by-cons, sum_by-take-le, sum_by_more}
 use Rattle.std.proofs.lemmas.Option.{same_Some, slice_get-get_or}
@@ -12,7 +12,7 @@ use Rattle.khe_instance.specs.Running.{is_resource}
 use Rattle.khe_instance.specs.declared.parts.Parts.{Parts}
 use Rattle.resource_monitors.specs.Cells.{given_to, in_run}
 use Rattle.resource_monitors.specs.Runs.{AreAtEither, AreAtMoved, AreAtRun, AreExchanged, CanTurn, IsAtMoved, IsAtRun}
-use Rattle.resource_monitors.specs.Runs.{IsMoved, Turned, cells_of}
+use Rattle.resource_monitors.specs.Runs.{Turned, cells_of}
 use Rattle.resource_monitors.specs.declared.runs.Run.{Run}
 
 -- one place more

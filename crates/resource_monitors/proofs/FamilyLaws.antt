@@ -1,6 +1,6 @@
 -- From the cells of one place and the lists to what a keeper promises.
 use Rattle.std.proofs.Common.{ℕ, ◌≡◌, ◌<◌, ◌+◌, ◌-◌, ◌∙◌, ◌⊎◌, inl, inr, Bool, true, false, cond, Option, Some, None}
-use Rattle.std.proofs.Common.{List, [], ◌∷◌, length, get_or, slice_get, refl, sym, ap, subst, arith, zero-add, nat_le}
+use Rattle.std.proofs.Common.{List, [], ◌∷◌, length, get_or, slice_get, refl, sym, ap, arith, zero-add, nat_le}
 use Rattle.std.proofs.Common.{nat_lt, not}
 use Rattle.std.specs.List.{range_with_len, list_any}
 use Rattle.std.specs.Option.{option_map_or}
@@ -25,7 +25,7 @@ use Rattle.timetables.specs.Counts.{count_at}
 use Rattle.resource_monitors.specs.Cells.{AreMeasuredSame, differs_at, given_to, in_run, is_at_cells, is_by_busy}
 use Rattle.resource_monitors.specs.Cells.{is_due}
 use Rattle.resource_monitors.specs.Cells.{is_low, limit_for, lists, lists_any, value_in}
-use Rattle.resource_monitors.specs.Posts.{AreAdded, IsDueIn, is_served_at, list_for, post, posts_of}
+use Rattle.resource_monitors.specs.Posts.{AreAdded, IsDueIn, is_served_at, list_for, post}
 use Rattle.resource_monitors.specs.Runs.{AreAtRun, IsAtRun, Turned, cells_of}
 use Rattle.resource_monitors.specs.declared.posts.Post.{Post}
 use Rattle.resource_monitors.specs.declared.runs.Run.{Run}

@@ -1,7 +1,7 @@
 -- What a slot that becomes another does to the counts and the monitors.
 use Rattle.std.proofs.Common.{ℕ, ◌≡◌, ◌≤◌, ◌<◌, ◌+◌, ◌-◌, ◌^◌, ◌∙◌, ◌⊎◌, inl, inr, Bool, true, false, Option, Some}
 use Rattle.std.proofs.Common.{None}
-use Rattle.std.proofs.Common.{List, length, is_some, replicate, set, slice_get, refl, sym, ap, subst, arith}
+use Rattle.std.proofs.Common.{List, length, is_some, set, slice_get, refl, sym, ap, subst, arith}
 use Rattle.std.proofs.Common.{get_or-set_same}
 use Rattle.std.specs.List.{list_any, range_with_len}
 use Rattle.std.proofs.lemmas.Bool.{true≢false}

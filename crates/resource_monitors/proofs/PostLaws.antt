@@ -1,6 +1,6 @@
 -- Posts of monitors.
 use Rattle.std.proofs.Common.{ℕ, ◌≡◌, ◌+◌, ◌∙◌, zero, suc, Bool, true, false, cond, Some, List, [], ◌∷◌, ◌++◌, length}
-use Rattle.std.proofs.Common.{slice_get, refl, sym, ap, subst, arith}
+use Rattle.std.proofs.Common.{slice_get, refl, ap, subst, arith}
 use Rattle.std.proofs.lemmas.Option.{same_Some, none-some}
 use Rattle.khe_instance.specs.declared.points.Monitor.{Monitor}
 use Rattle.resource_monitors.specs.Posts.{post, posts_from}

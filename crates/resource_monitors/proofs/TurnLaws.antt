@@ -1,6 +1,6 @@
 -- What a task more or less does to cells, and what a slot that becomes another does.
 use Rattle.std.proofs.Common.{ℕ, ◌≡◌, ◌≤◌, ◌<◌, ◌+◌, ◌==◌, ◌∙◌, ◌&&◌, Bool, true, false, cond, Option, Some, None, List}
-use Rattle.std.proofs.Common.{[], ◌∷◌, set, length, slice_get, refl, sym, ap, subst, arith, sum_by, zero-add, nat_le}
+use Rattle.std.proofs.Common.{[], ◌∷◌, set, length, refl, sym, ap, subst, arith, sum_by, nat_le}
 use Rattle.std.proofs.Common.{nat_lt, lt-ltb}
 use Rattle.std.proofs.lemmas.Bool.{eq-eqb, leb-false, true≢false}
 use Rattle.std.proofs.lemmas.List.Sums.{sum_by-cons, sum_by-set, sum_by-append, count_by-le-length}

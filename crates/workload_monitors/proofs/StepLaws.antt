@@ -2,18 +2,16 @@
 use Rattle.std.proofs.Common.{ℕ, ◌≡◌, ◌≤◌, ◌<◌, ◌+◌, ◌^◌, ◌∙◌, ◌⊎◌, inl, inr, Bool, true, false, cond, Option, Some}
 use Rattle.std.proofs.Common.{None}
 use Rattle.std.proofs.Common.{List, take, get_or, length, slice_get, slice_index, refl, sym, ap, subst, arith, zero-add}
-use Rattle.std.proofs.lemmas.Bool.{and_parts, cases_eq, eq-eqb, eqb-true, ne_eqb, true≢false}
+use Rattle.std.proofs.lemmas.Bool.{and_parts, cases_eq, eq-eqb, ne_eqb, true≢false}
 use Rattle.std.proofs.lemmas.List.{take_all}
-use Rattle.std.proofs.lemmas.Option.{same_Some, slice_get-get_or, slice_get_within}
+use Rattle.std.proofs.lemmas.Option.{slice_get-get_or, slice_get_within}
 use Rattle.khe_base.specs.declared.numbers.EventId.{EventId}
 use Rattle.khe_base.specs.declared.numbers.ResourceId.{ResourceId}
-use Rattle.khe_instance.specs.Running.{is_resource}
 use Rattle.khe_instance.specs.Watching.{is_at}
 use Rattle.khe_instance.specs.WellMade.{AreWellMade, IsMonitor}
 use Rattle.khe_instance.specs.declared.parts.Parts.{Parts}
 use Rattle.khe_instance.specs.declared.points.Monitor.{Monitor}
 use Rattle.khe_instance.proofs.MadeLemmas.{monitor_made}
-use Rattle.khe_told.specs.Lists.{duties_in}
 use Rattle.khe_told.specs.Waits.{AreUnmoved}
 use Rattle.khe_told.specs.declared.slots.Slot.{Slot}
 use Rattle.resource_monitors.specs.Posts.{AreAdded, IsDueIn, is_served_at, post, posts_of}

@@ -1,5 +1,5 @@
 -- One task less and one more.
-use Rattle.std.proofs.Common.{inl, refl}
+use Rattle.std.proofs.Common.{inl}
 use Rattle.timetables.specs.Counts.{count_at}
 use Rattle.resource_monitors.specs.Cells.{value_in}
 use Rattle.resource_monitors.proofs.ExchangeLaws.{at_either, exchanged_both, passed_over, room_then}

@@ -1,6 +1,5 @@
-use Rattle.std.proofs.Common.{◌≡◌}
 use Rattle.timetables.specs.Counts.{count_at}
-use Rattle.resource_monitors.proofs.TurnLaws.{fallen, risen, room_one, some_one}
+use Rattle.resource_monitors.proofs.TurnLaws.{room_one, some_one}
 use Rattle.resource_monitors.proofs.turns.turn_place.Goals as goal
 
 pub fill_place-requires-clause-room : goal.fill_place-requires-clause-room

@@ -1,5 +1,5 @@
 -- One task more or less, and who then waits.
-use Rattle.std.proofs.Common.{◌∙◌, Some, length, sym, ap, subst, arith}
+use Rattle.std.proofs.Common.{Some, length, sym, subst, arith}
 use Rattle.resource_monitors.proofs.PlaceLaws.{list_at}
 use Rattle.workload_monitors.specs.Loads.{CanTurn, Turned, is_on_workload, worth_at}
 use Rattle.workload_monitors.proofs.StepLaws.{measured_after, on_load, posts_known, turned_none}
