@@ -1,74 +1,47 @@
--- From cells and lists to what a keeper promises.
-use Rattle.std.proofs.Common.{ℕ, ◌≡◌, ◌≤◌, ◌<◌, ◌+◌, ◌*◌, ◌-◌, ◌∙◌, ◌&&◌, ◌||◌, suc, Bool, true, false, cond, Option}
-use Rattle.std.proofs.Common.{Some, None, List, [], ◌∷◌, ◌⊎◌, inl, inr, length, get_or, slice_get, refl, sym, ap, subst}
-use Rattle.std.proofs.Common.{arith, sum_by, count_by, zero-add, nat_le, nat_lt, not}
+-- From the cells of one place and the lists to what a keeper promises.
+use Rattle.std.proofs.Common.{ℕ, ◌≡◌, ◌<◌, ◌+◌, ◌-◌, ◌∙◌, ◌⊎◌, inl, inr, Bool, true, false, cond, Option, Some, None}
+use Rattle.std.proofs.Common.{List, [], ◌∷◌, length, get_or, slice_get, refl, sym, ap, arith, zero-add, nat_le}
+use Rattle.std.proofs.Common.{nat_lt, not}
+use Rattle.std.specs.List.{range_with_len, list_any}
 use Rattle.std.specs.Option.{option_map_or}
-use Rattle.std.specs.List.{range_with_len, list_any, filter_map}
-use Rattle.std.proofs.lemmas.Bool.{true≢false, eqb-true}
-use Rattle.std.proofs.lemmas.List.Sums.{sum_by-cons}
-use Rattle.std.proofs.lemmas.Option.{same_Some, none-some}
+use Rattle.std.proofs.lemmas.Bool.{and_from, and_parts, eqb-true, leb-true, ltb-true, or_parts, true≢false}
+use Rattle.std.proofs.lemmas.List.Folds.{list_any_at}
+use Rattle.std.proofs.lemmas.List.FromFn.{get_or-range_with_len, length-range_with_len}
+use Rattle.std.proofs.lemmas.Option.{slice_get_within, none-some}
 use Rattle.khe_base.specs.declared.numbers.ResourceId.{ResourceId}
 use Rattle.khe_instance.specs.Running.{is_resource, running_tasks}
 use Rattle.khe_instance.specs.Watching.{is_at, lists_time}
 use Rattle.khe_instance.specs.WellMade.{AreWellMade, IsMonitor}
 use Rattle.khe_instance.specs.declared.parts.Parts.{Parts}
 use Rattle.khe_instance.specs.declared.points.Monitor.{Monitor}
-use Rattle.khe_instance.specs.declared.points.Point.{Point}
 use Rattle.khe_instance.specs.declared.points.Point.TheVariants.{Resource}
 use Rattle.khe_instance.specs.declared.rules.Constraint.{Constraint}
 use Rattle.khe_instance.specs.declared.rules.Kind.{Kind}
-use Rattle.khe_told.specs.Changes.{meet_of}
+use Rattle.khe_instance.proofs.MadeLemmas.{monitor_made}
 use Rattle.khe_told.specs.Lists.{duties_in}
-use Rattle.khe_told.specs.Slots.{slot_at}
 use Rattle.khe_told.specs.Waits.{AreUnmoved}
-use Rattle.khe_told.specs.Watchers.{served_watchers, watch_count, watches_with, touched_resources, touched_times}
-use Rattle.khe_told.specs.declared.changes.Change.{Change}
-use Rattle.khe_told.specs.declared.changes.Change.TheVariants.{Add, Drop, Place as PlaceAt, Lift, Give, Take}
 use Rattle.khe_told.specs.declared.slots.Slot.{Slot}
-use Rattle.khe_told.specs.declared.slots.Span.{Span}
 use Rattle.timetables.specs.Counts.{count_at}
-use Rattle.resource_monitors.specs.Cells.{is_at_cells, is_by_busy, value_in, lists, lists_any, in_run, given_to}
-use Rattle.resource_monitors.specs.Cells.{differs_at, is_due, is_low, limit_for}
-use Rattle.resource_monitors.specs.Posts.{AreAllAdded, is_served_at, due_all, due_for}
-use Rattle.resource_monitors.specs.Runs.{Turned, run_of, given_by}
+use Rattle.resource_monitors.specs.Cells.{AreMeasuredSame, differs_at, given_to, in_run, is_at_cells, is_by_busy}
+use Rattle.resource_monitors.specs.Cells.{is_due}
+use Rattle.resource_monitors.specs.Cells.{is_low, limit_for, lists, lists_any, value_in}
+use Rattle.resource_monitors.specs.Posts.{AreAdded, IsDueIn, is_served_at, list_for, post}
+use Rattle.resource_monitors.specs.Runs.{AreAtRun, IsAtRun, Turned, cells_of}
+use Rattle.resource_monitors.specs.declared.posts.Post.{Post}
 use Rattle.resource_monitors.specs.declared.runs.Run.{Run}
 use Rattle.resource_monitors.proofs.MeasureLaws.{at_resource, value_busy, value_is, value_same}
-use Rattle.resource_monitors.proofs.PostLaws.{posts_sum}
+use Rattle.resource_monitors.proofs.PostLaws.{posts_each}
 use Rattle.resource_monitors.proofs.TurnLaws.{turned_busy, turned_same}
-use Rattle.khe_base.specs.declared.numbers.TimeId.{TimeId}
-use Rattle.std.proofs.lemmas.List.FromFn.{get_or-range_with_len, length-range_with_len}
-use Rattle.std.proofs.lemmas.List.Folds.{list_any_at}
-use Rattle.std.proofs.lemmas.Bool.{and_from, and_parts, leb-true, ltb-true, or_parts}
-use Rattle.std.proofs.lemmas.Nat.{mul-le}
-use Rattle.khe_instance.proofs.MadeLemmas.{monitor_made}
+use Rattle.resource_monitors.proofs.WaitLaws.{posted}
 
--- a resource is given to a place, or to none
-abbrev IsGiven : List (Option ResourceId) → ResourceId → Type 0
-IsGiven given q = (j : ℕ) × (j < length given) × (slice_get given j ≡ Some (Some q))
-
-given_or_not : (given : List (Option ResourceId)) (q : ResourceId) → IsGiven given q ⊎ (given_to q.0 given ≡ 0)
-given_or_not [] q = inr refl
-given_or_not (o ∷ given) q = by o (is_resource q.0 o) refl (given_or_not given q)
+-- a place is given a resource, or not
+given_or_not : (o : Option ResourceId) (q : ResourceId) → (o ≡ Some q) ⊎ (given_to q.0 (o ∷ []) ≡ 0)
+given_or_not None q = inr refl
+given_or_not (Some x) q = by (is_resource q.0 (Some x)) refl
   where
-    count : (o : Option ResourceId) → given_to q.0 (o ∷ given)
-        ≡ cond {A = ℕ} (is_resource q.0 o) 1 0 + given_to q.0 given
-    count o = sum_by-cons (λ (x : Option ResourceId). cond {A = ℕ} (is_resource q.0 x) 1 0) o given
-
-    next : (o : Option ResourceId) → is_resource q.0 o ≡ false → IsGiven given q ⊎ (given_to q.0 given ≡ 0)
-        → IsGiven (o ∷ given) q ⊎ (given_to q.0 (o ∷ given) ≡ 0)
-    next o e (inl g) = inl (suc g.0, let l = g.1 in omega (arith, l), g.2)
-    next o e (inr z) = inr (count o ∙ ap (λ b. cond {A = ℕ} b 1 0 + given_to q.0 given) e
-        ∙ zero-add (given_to q.0 given) ∙ z)
-
-    by : (o : Option ResourceId) (b : Bool) → is_resource q.0 o ≡ b → IsGiven given q ⊎ (given_to q.0 given ≡ 0)
-        → IsGiven (o ∷ given) q ⊎ (given_to q.0 (o ∷ given) ≡ 0)
-    by None b e r = next None refl r
-    by (Some x) true e r = inl (
-      0,
-      (let z : 0 < suc (length given) = omega arith in z),
-      (λ i. Some (Some (record { 0 = eqb-true x.0 q.0 e i }))),
-    )
-    by (Some x) false e r = next (Some x) e r
+    by : (b : Bool) → is_resource q.0 (Some x) ≡ b → (Some x ≡ Some q) ⊎ (given_to q.0 (Some x ∷ []) ≡ 0)
+    by true e = inl (λ i. Some (record { 0 = eqb-true x.0 q.0 e i }))
+    by false e = inr (ap (λ b. 0 + cond {A = ℕ} b 1 0) e)
 
 -- a time of a run is among its times
 pub none_in_run : (f : ℕ → Bool) (start end t : ℕ) → list_any f (range_with_len start (end - start)) ≡ false
@@ -88,278 +61,126 @@ none_in_run f start end t none e = by (f t) refl
         absurd (true≢false (sym (list_any_at f (range_with_len start (end - start)) (t - start) 0
         (let z = length-range_with_len start (end - start) in omega (arith, z, i)) (ap f value ∙ h)) ∙ none))
 
--- a monitor that does not wait has the same deviation
-pub unmoved_after : (p : Parts) (served : Kind → Bool) (made : AreWellMade p)
-    (cells : (k : Kind) → served k ≡ true → is_at_cells k ≡ true) (s s2 : List Slot) (old new : List (List ℕ))
-    (given : List (Option ResourceId)) (b : Bool) (start end : ℕ) (old_waits waits : ℕ → Bool)
-    → ((r t : ℕ) → count_at old r t ≡ running_tasks (duties_in s) r t)
-    → ((r t : ℕ) → count_at new r t ≡ running_tasks (duties_in s2) r t)
-    → Turned b given start end (count_at old) (count_at new)
-    → AreAllAdded p served (is_due p new start end (limit_for b (length given))) given (length given) old_waits waits
-    → AreUnmoved p served waits s s2
-unmoved_after p served made cells s s2 old new given b start end old_waits waits before now turned all i m there serves
-    idle =
-    value_is p s2 new m is kind now
-    ∙ by (given_or_not given at.0) (lists_any p start end m) refl (differs_at m.kind new start end limit m.point) refl
-    ∙ sym (value_is p s old m is kind before)
-  where
-    is : IsMonitor p m
-    is = monitor_made p made i m there
+-- a monitor that does not wait measures the same as before
+module _ (p : Parts) (served : Kind → Bool) (made : AreWellMade p)
+    (cells : (k : Kind) → served k ≡ true → is_at_cells k ≡ true) where
+  pub measured_after : (old new : List (List ℕ)) (place : Option ResourceId) (b : Bool) (run : Run)
+      (old_waits waits : ℕ → Bool) → Turned b place (Some run) (count_at old) (count_at new)
+      → AreAdded (is_due p new run.start run.end (limit_for b)) (list_for served p.monitors place)
+      (length (list_for served p.monitors place)) old_waits waits
+      → AreMeasuredSame p served waits old new
+  measured_after old new place b run old_waits waits turned all i m there serves idle =
+      by (given_or_not place at.0) (lists_any p start end m) refl
+      (differs_at m.kind new start end limit m.point) refl
+    where
+      start : ℕ
+      start = run.start
 
-    kind : is_at_cells m.kind ≡ true
-    kind = cells m.kind serves
+      end : ℕ
+      end = run.end
 
-    at : (r : ResourceId) × (m.point ≡ Resource r) × (r.0 < length p.resources)
-    at = at_resource p m is kind
+      limit : ℕ
+      limit = limit_for b
 
-    limit : ℕ
-    limit = limit_for b (length given)
+      is : IsMonitor p m
+      is = monitor_made p made i m there
 
-    kept : ((t : ℕ) → lists p m t ≡ true → cond (in_run start end t) (given_to at.0.0 given) 0 ≡ 0)
-        → value_in p new m ≡ value_in p old m
-    kept h = value_same p old new m at.0 is kind at.1
-        (λ t e. turned_same b given start end (count_at old) (count_at new) turned at.0.0 t (h t e))
+      kind : is_at_cells m.kind ≡ true
+      kind = cells m.kind serves
 
-    busy : differs_at m.kind new start end limit m.point ≡ false → value_in p new m ≡ value_in p old m
-    busy e =
-        let parts = or_parts (not (is_by_busy m.kind)) (is_low new start end limit at.0.0)
-        (sym (ap (differs_at m.kind new start end limit) at.1) ∙ e) in
-        value_busy p old new m at.0 is (on (is_by_busy m.kind) parts.0) at.1
-        (turned_busy b given start end (count_at old) (count_at new) at.0.0 turned
-        (λ t e. none_in_run (λ x. nat_le (count_at new at.0.0 x) limit) start end t parts.1 e))
-      where
-        on : (c : Bool) → not c ≡ false → c ≡ true
-        on true h = refl
-        on false h = absurd (true≢false h)
+      at : (r : ResourceId) × (m.point ≡ Resource r) × (r.0 < length p.resources)
+      at = at_resource p m is kind
 
-    none : (c : Bool) (n : ℕ) → n ≡ 0 → cond c n 0 ≡ 0
-    none true n e = e
-    none false n e = refl
+      kept : ((t : ℕ) → lists p m t ≡ true → cells_of (Some run) (place ∷ []) at.0.0 t ≡ 0)
+          → value_in p new m ≡ value_in p old m
+      kept h = value_same p old new m at.0 is kind at.1
+          (λ t e. turned_same b place (Some run) (count_at old) (count_at new) turned at.0.0 t (h t e))
 
-    outside : lists_any p start end m ≡ false → (t : ℕ) → lists p m t ≡ true → in_run start end t ≡ false
-    outside l t h = by (in_run start end t) refl
-      where
-        by : (b : Bool) → in_run start end t ≡ b → b ≡ false
-        by false e = refl
-        by true e = absurd (true≢false (sym h ∙ none_in_run (λ x. lists p m x) start end t l e))
+      busy : differs_at m.kind new start end limit m.point ≡ false → value_in p new m ≡ value_in p old m
+      busy e =
+          let parts = or_parts (not (is_by_busy m.kind)) (is_low new start end limit at.0.0)
+          (sym (ap (differs_at m.kind new start end limit) at.1) ∙ e) in
+          value_busy p old new m at.0 is (on (is_by_busy m.kind) parts.0) at.1
+          (turned_busy b place run (count_at old) (count_at new) at.0.0 turned
+          (λ t e. none_in_run (λ x. nat_le (count_at new at.0.0 x) limit) start end t parts.1 e))
+        where
+          on : (c : Bool) → not c ≡ false → c ≡ true
+          on true h = refl
+          on false h = absurd (true≢false h)
 
-    by : IsGiven given at.0 ⊎ (given_to at.0.0 given ≡ 0) → (c : Bool) → lists_any p start end m ≡ c → (d : Bool)
-        → differs_at m.kind new start end limit m.point ≡ d → value_in p new m ≡ value_in p old m
-    by (inl g) true e true f = absurd (true≢false (sym (all.each i m at.0 g.0 g.1 g.2 there serves at.1
-        (and_from (lists_any p start end m) (differs_at m.kind new start end limit m.point) e f)) ∙ idle))
-    by (inl g) true e false f = busy f
-    by (inl g) false e d f = kept (λ t h. ap (λ c. cond {A = ℕ} c (given_to at.0.0 given) 0) (outside e t h))
-    by (inr z) c e d f = kept (λ t h. none (in_run start end t) (given_to at.0.0 given) z)
+      none : (c : Bool) (n : ℕ) → n ≡ 0 → cond c n 0 ≡ 0
+      none true n e = e
+      none false n e = refl
 
--- where no count turned
-pub unmoved_same : (p : Parts) (served : Kind → Bool) (made : AreWellMade p)
-    (cells : (k : Kind) → served k ≡ true → is_at_cells k ≡ true) (s s2 : List Slot) (rows : List (List ℕ))
-    (waits : ℕ → Bool)
-    → ((r t : ℕ) → count_at rows r t ≡ running_tasks (duties_in s) r t)
-    → ((r t : ℕ) → count_at rows r t ≡ running_tasks (duties_in s2) r t) → AreUnmoved p served waits s s2
-unmoved_same p served made cells s s2 rows waits before now i m there serves idle =
-    let is = monitor_made p made i m there in
-    value_is p s2 rows m is (cells m.kind serves) now ∙ sym (value_is p s rows m is (cells m.kind serves) before)
+      outside : lists_any p start end m ≡ false → (t : ℕ) → lists p m t ≡ true → in_run start end t ≡ false
+      outside l t h = by (in_run start end t) refl
+        where
+          by : (b : Bool) → in_run start end t ≡ b → b ≡ false
+          by false e = refl
+          by true e = absurd (true≢false (sym h ∙ none_in_run (λ x. lists p m x) start end t l e))
 
--- sums
-sum_both : {X : Type 0} (f g h : X → ℕ) → ((x : X) → h x ≡ f x + g x) → (xs : List X)
-    → sum_by h xs ≡ sum_by f xs + sum_by g xs
-sum_both f g h e [] = refl
-sum_both f g h e (x ∷ xs) = let a = sum_by-cons f x xs in let b = sum_by-cons g x xs in let c = sum_by-cons h x xs in
-    let k = e x in let r = sum_both f g h e xs in omega (arith, a, b, c, k, r)
+      waiting : place ≡ Some at.0 → is_due p new start end limit m ≡ true → waits i ≡ true
+      waiting here due =
+          let f = posted p served at.0.0 at.0 i m there serves at.1 refl in
+          let g : slice_get (list_for served p.monitors place) f.0 ≡ Some (post i m) =
+          ap (λ x. slice_get (list_for served p.monitors x) f.0) here ∙ f.1 in
+          all.each f.0 (post i m) (slice_get_within (list_for served p.monitors place) f.0 (post i m) g) g due
 
-sum_none : {X : Type 0} (f : X → ℕ) → ((x : X) → f x ≡ 0) → (xs : List X) → sum_by f xs ≡ 0
-sum_none f e [] = refl
-sum_none f e (x ∷ xs) = sum_by-cons f x xs ∙ (λ i. e x i + sum_none f e xs i)
+      by : (place ≡ Some at.0) ⊎ (given_to at.0.0 (place ∷ []) ≡ 0) → (c : Bool) → lists_any p start end m ≡ c
+          → (d : Bool) → differs_at m.kind new start end limit m.point ≡ d → value_in p new m ≡ value_in p old m
+      by (inl g) true e true f = absurd (true≢false (sym (waiting g
+          (and_from (lists_any p start end m) (differs_at m.kind new start end limit m.point) e f)) ∙ idle))
+      by (inl g) true e false f = busy f
+      by (inl g) false e d f = kept
+          (λ t h. ap (λ c. cond {A = ℕ} c (given_to at.0.0 (place ∷ [])) 0) (outside e t h))
+      by (inr z) c e d f = kept (λ t h. none (in_run start end t) (given_to at.0.0 (place ∷ [])) z)
 
-sum_less : {X : Type 0} (f g : X → ℕ) → ((x : X) → f x ≤ g x) → (xs : List X) → sum_by f xs ≤ sum_by g xs
-sum_less f g e [] = omega arith
-sum_less f g e (x ∷ xs) = let a = sum_by-cons f x xs in let b = sum_by-cons g x xs in let k = e x in let r =
-    sum_less f g e xs in omega (arith, a, b, k, r)
+  -- who waits anew is at the place's resource and lists one of the times
+  pub at_run : (rows : List (List ℕ)) (limit : ℕ) (place : Option ResourceId) (run : Run) (old new : ℕ → Bool)
+      → AreAdded (is_due p rows run.start run.end limit) (list_for served p.monitors place)
+      (length (list_for served p.monitors place)) old new
+      → AreAtRun p place (Some run) old new
+  at_run rows limit place run old new u i e = by (u.only i e)
+    where
+      test : Monitor → Bool
+      test = is_due p rows run.start run.end limit
 
--- how often a point is given
-abbrev is_given_at : Point → Option ResourceId → Bool
-is_given_at point o = option_map_or (λ (r : ResourceId). is_at point r.0) o false
+      found : (o : Option ResourceId) → place ≡ o → (j : ℕ) (a : Post)
+          → slice_get (list_for served p.monitors o) j ≡ Some a
+          → a.number.0 ≡ i → test a.monitor ≡ true → IsAtRun p place (Some run) i
+      found None here j a g n t = absurd (none-some a g)
+      found (Some r) here j a g n t =
+          let f = posts_each (is_served_at served r.0) p.monitors 0 p.monitors
+          (λ n. ap (slice_get p.monitors) (zero-add n)) j a g in
+          let is : IsMonitor p a.monitor = monitor_made p made a.number.0 a.monitor f.0 in
+          let k : Constraint = is.0 in
+          record {
+            monitor = a.monitor;
+            constraint = k;
+            resource = r;
+            times = run;
+            there = ap (slice_get p.monitors) (sym n) ∙ f.0;
+            ruled = is.1;
+            given = here;
+            runs = refl;
+            own = (and_parts (served a.monitor.kind) (is_at a.monitor.point r.0) f.1).1;
+            lists = sym (ap (λ o. list_any (λ t. option_map_or (λ (c : Constraint). lists_time c.rule t) o false)
+                (range_with_len run.start (run.end - run.start))) is.1)
+                ∙ (and_parts (lists_any p run.start run.end a.monitor)
+                (differs_at a.monitor.kind rows run.start run.end limit a.monitor.point) t).0;
+          }
 
-abbrev given_at_point : Point → List (Option ResourceId) → ℕ
-given_at_point point given = count_by (is_given_at point) given
+      by : (old i ≡ true) ⊎ IsDueIn test (list_for served p.monitors place) i
+          → (old i ≡ true) ⊎ IsAtRun p place (Some run) i
+      by (inl w) = inl w
+      by (inr (j, a, g, n, t)) = inr (found place refl j a g n t)
 
-due_sum : (served : Kind → Bool) (monitors : List Monitor) (test : Monitor → Bool) (given : List (Option ResourceId))
-    → due_all served monitors test given ≡ sum_by
-    (λ (m : Monitor). cond (served m.kind) (cond (test m) (given_at_point m.point given) 0) 0) monitors
-due_sum served monitors test [] = sym (sum_none (λ (m : Monitor). cond (served m.kind) (cond {A = ℕ} (test m) 0 0) 0)
-    (λ m. none (served m.kind) (test m)) monitors)
-  where
-    none : (a b : Bool) → cond a (cond {A = ℕ} b 0 0) 0 ≡ 0
-    none true true = refl
-    none true false = refl
-    none false b = refl
-due_sum served monitors test (o ∷ given) =
-    sum_by-cons (due_for served monitors test) o given
-    ∙ ap (λ n. n + due_all served monitors test given) (one o)
-    ∙ ap (λ n. sum_by (λ (m : Monitor). cond (served m.kind && is_given_at m.point o) (cond {A = ℕ} (test m) 1 0) 0)
-    monitors + n) (due_sum served monitors test given)
-    ∙ sym (sum_both (λ (m : Monitor). cond (served m.kind && is_given_at m.point o) (cond {A = ℕ} (test m) 1 0) 0)
-    (λ (m : Monitor). cond (served m.kind) (cond (test m) (given_at_point m.point given) 0) 0)
-    (λ (m : Monitor). cond (served m.kind) (cond (test m) (given_at_point m.point (o ∷ given)) 0) 0)
-    (λ m. ap (λ n. cond (served m.kind) (cond (test m) n 0) 0)
-    (sum_by-cons (λ (x : Option ResourceId). cond {A = ℕ} (is_given_at m.point x) 1 0) o given)
-    ∙ each (served m.kind) (test m) (is_given_at m.point o) (given_at_point m.point given)) monitors)
-  where
-    each : (a b c : Bool) (n : ℕ) → cond a (cond b (cond {A = ℕ} c 1 0 + n) 0) 0
-        ≡ cond (a && c) (cond {A = ℕ} b 1 0) 0 + cond a (cond b n 0) 0
-    each true true true n = refl
-    each true true false n = refl
-    each true false true n = refl
-    each true false false n = refl
-    each false b c n = refl
-
-    one : (o : Option ResourceId) → due_for served monitors test o
-        ≡ sum_by (λ (m : Monitor). cond (served m.kind && is_given_at m.point o) (cond {A = ℕ} (test m) 1 0) 0) monitors
-    one None = sym (sum_none (λ (m : Monitor). cond (served m.kind && false) (cond {A = ℕ} (test m) 1 0) 0)
-        (λ m. and_none (served m.kind) (cond {A = ℕ} (test m) 1 0)) monitors)
-      where
-        and_none : (a : Bool) (n : ℕ) → cond (a && false) n 0 ≡ 0
-        and_none true n = refl
-        and_none false n = refl
-    one (Some r) = posts_sum (is_served_at served r.0) (λ m. cond {A = ℕ} (test m) 1 0) 0 monitors
-
--- what is touched
-given_listed : (point : Point) (given : List (Option ResourceId))
-    → given_at_point point given ≡ count_by (is_at point)
-    (filter_map (λ o. option_map_or (λ (r : ResourceId). Some r.0) o None) given)
-given_listed point [] = refl
-given_listed point (None ∷ given) = sum_by-cons (λ (x : Option ResourceId). cond {A = ℕ} (is_given_at point x) 1 0) None
-    given ∙ zero-add (given_at_point point given) ∙ given_listed point given
-given_listed point (Some r ∷ given) =
-    sum_by-cons (λ (x : Option ResourceId). cond {A = ℕ} (is_given_at point x) 1 0) (Some r) given
-    ∙ ap (λ n. cond {A = ℕ} (is_at point r.0) 1 0 + n) (given_listed point given)
-    ∙ sym (sum_by-cons (λ (x : ℕ). cond {A = ℕ} (is_at point x) 1 0) r.0
-    (filter_map (λ o. option_map_or (λ (r : ResourceId). Some r.0) o None) given))
-
-abbrev IsTouched : Slot → Change → Run → Type 0
-IsTouched x c run = (touched_times x c ≡ range_with_len run.start (run.end - run.start))
-    × ((point : Point) → given_at_point point (given_by x c) ≡ count_by (is_at point) (touched_resources x c))
-
-length_back : (s d : ℕ) → range_with_len s d ≡ range_with_len s (s + d - s)
-length_back s d = ap (range_with_len s) (let z : d ≡ s + d - s = omega arith in z)
-
-touched : (x : Slot) (c : Change) (run : Run) → run_of x c ≡ Some run → IsTouched x c run
-touched x (Add m d) run e = absurd (none-some run e)
-touched x (Drop m d) run e = absurd (none-some run e)
-touched x (PlaceAt m s) run e = by x.span e
-  where
-    by : (o : Option Span) → run_of (record x { span = o }) (PlaceAt m s) ≡ Some run
-        → IsTouched (record x { span = o }) (PlaceAt m s) run
-    by None e = absurd (none-some run e)
-    by (Some y) e = (
-      length_back s.0 y.duration ∙ ap (λ (q : Run). range_with_len q.start (q.end - q.start))
-          (same_Some _ run e),
-      λ point. given_listed point x.given,
-    )
-touched x (Lift m s) run e = by x.span e
-  where
-    by : (o : Option Span) → run_of (record x { span = o }) (Lift m s) ≡ Some run
-        → IsTouched (record x { span = o }) (Lift m s) run
-    by None e = absurd (none-some run e)
-    by (Some y) e = (
-      length_back s.0 y.duration ∙ ap (λ (q : Run). range_with_len q.start (q.end - q.start))
-          (same_Some _ run e),
-      λ point. given_listed point x.given,
-    )
-touched x (Give k r) run e = by x.span e
-  where
-    by : (o : Option Span) → run_of (record x { span = o }) (Give k r) ≡ Some run
-        → IsTouched (record x { span = o }) (Give k r) run
-    by None e = absurd (none-some run e)
-    by (Some y) e = from y.duration y.start e
-      where
-        from : (d : ℕ) (o : Option TimeId) → run_of (record x { span = Some (record { duration = d; start = o }) })
-            (Give k r) ≡ Some run → IsTouched (record x { span = Some (record { duration = d; start = o }) }) (Give k r)
-            run
-        from d None e = absurd (none-some run e)
-        from d (Some s) e = (
-          length_back s.0 d ∙ ap (λ (q : Run). range_with_len q.start (q.end - q.start))
-              (same_Some _ run e),
-          λ point. given_listed point (Some r ∷ []),
-        )
-touched x (Take k r) run e = by x.span e
-  where
-    by : (o : Option Span) → run_of (record x { span = o }) (Take k r) ≡ Some run
-        → IsTouched (record x { span = o }) (Take k r) run
-    by None e = absurd (none-some run e)
-    by (Some y) e = from y.duration y.start e
-      where
-        from : (d : ℕ) (o : Option TimeId) → run_of (record x { span = Some (record { duration = d; start = o }) })
-            (Take k r) ≡ Some run → IsTouched (record x { span = Some (record { duration = d; start = o }) }) (Take k r)
-            run
-        from d None e = absurd (none-some run e)
-        from d (Some s) e = (
-          length_back s.0 d ∙ ap (λ (q : Run). range_with_len q.start (q.end - q.start))
-              (same_Some _ run e),
-          λ point. given_listed point (Some r ∷ []),
-        )
-
-any_counted : (f : ℕ → Bool) (xs : List ℕ) → cond {A = ℕ} (list_any f xs) 1 0 ≤ count_by f xs
-any_counted f [] = omega arith
-any_counted f (x ∷ xs) = let a = sum_by-cons (λ (t : ℕ). cond {A = ℕ} (f t) 1 0) x xs in let r = any_counted f xs in
-    by (f x) (list_any f xs) (count_by f xs) (count_by f (x ∷ xs)) a r
-  where
-    by : (b c : Bool) (n m : ℕ) → m ≡ cond {A = ℕ} b 1 0 + n → cond {A = ℕ} c 1 0 ≤ n → cond {A = ℕ} (b || c) 1 0 ≤ m
-    by true c n m e l = omega (arith, e)
-    by false c n m e l = omega (arith, e, l)
-
-any_none : (xs : List ℕ) → list_any (λ (t : ℕ). false) xs ≡ false
-any_none [] = refl
-any_none (x ∷ xs) = any_none xs
-
-pub due_watchers : (p : Parts) (served : Kind → Bool) (s : List Slot) (c : Change) (run : Run)
-    → run_of (slot_at s (meet_of c)) c ≡ Some run
-    → due_all served p.monitors (lists_any p run.start run.end) (given_by (slot_at s (meet_of c)) c) ≤ served_watchers p
-    served s c
-unfolding served_watchers
-due_watchers p served s c run e =
-    let a = due_sum served p.monitors (lists_any p run.start run.end) (given_by x c) in
-    let b = sum_less (λ (m : Monitor). cond (served m.kind)
-    (cond (lists_any p run.start run.end m) (given_at_point m.point (given_by x c)) 0) 0)
-    (λ (m : Monitor). cond (served m.kind) (watch_count p x c m) 0) (λ m. part m (served m.kind)) p.monitors in
-    subst (λ n. n ≤ served_watchers p served s c) (sym a) b
-  where
-    middle : (a b c d e : ℕ) → a ≤ b → b ≡ d → a ≤ c + d + e
-    middle a b c d e l g = omega (arith, l, g)
-
-    x : Slot
-    x = slot_at s (meet_of c)
-
-    t : IsTouched x c run
-    t = touched x c run e
-
-    times : (n : ℕ) (f : ℕ → Bool) (b : Bool) (k : ℕ) → cond {A = ℕ} b 1 0 ≤ k → cond b n 0 ≤ n * k
-    times n f true k l = let z = mul-le n 1 n k (omega arith) l in omega (arith, z)
-    times n f false k l = omega arith
-
-    watched : (m : Monitor) → cond (lists_any p run.start run.end m) (given_at_point m.point (given_by x c))
-        0 ≤ watch_count p x c m
-    watched m = by (slice_get p.constraints m.constraint)
-      where
-        by : (o : Option Constraint) → cond (list_any
-            (λ t. option_map_or (λ (k : Constraint). lists_time k.rule t) o false)
-            (range_with_len run.start (run.end - run.start))) (given_at_point m.point (given_by x c)) 0 ≤ option_map_or
-            (λ (k : Constraint). watches_with p x c k.rule m.point) o 0
-        by None = subst (λ b. cond b (given_at_point m.point (given_by x c)) 0 ≤ 0)
-            (sym (any_none (range_with_len run.start (run.end - run.start)))) (omega arith)
-        by (Some k) =
-            let xs = range_with_len run.start (run.end - run.start) in
-            let l = times (given_at_point m.point (given_by x c)) (lists_time k.rule) (list_any (lists_time k.rule) xs)
-            (count_by (lists_time k.rule) xs) (any_counted (lists_time k.rule) xs) in
-            let g : given_at_point m.point (given_by x c) * count_by (lists_time k.rule) xs
-            ≡ count_by (is_at m.point) (touched_resources x c) * count_by (lists_time k.rule) (touched_times x c) =
-            ap (λ n. n * count_by (lists_time k.rule) xs) (t.1 m.point)
-            ∙ ap (λ (ys : List ℕ). count_by (is_at m.point) (touched_resources x c) * count_by (lists_time k.rule)
-            ys) (sym t.0) in
-            middle _ _ _ _ _ l g
-
-    part : (m : Monitor) (b : Bool) → cond b (cond (lists_any p run.start run.end m)
-        (given_at_point m.point (given_by x c)) 0) 0 ≤ cond b (watch_count p x c m) 0
-    part m true = watched m
-    part m false = omega arith
+  -- what is measured is the deviation
+  pub unmoved_by : (s s2 : List Slot) (old new : List (List ℕ)) (waits : ℕ → Bool)
+      → ((r t : ℕ) → count_at old r t ≡ running_tasks (duties_in s) r t)
+      → ((r t : ℕ) → count_at new r t ≡ running_tasks (duties_in s2) r t)
+      → AreMeasuredSame p served waits old new → AreUnmoved p served waits s s2
+  unmoved_by s s2 old new waits before now same i m there serves idle =
+      let is = monitor_made p made i m there in
+      value_is p s2 new m is (cells m.kind serves) now ∙ same i m there serves idle
+      ∙ sym (value_is p s old m is (cells m.kind serves) before)

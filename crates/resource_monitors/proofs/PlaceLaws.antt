@@ -1,7 +1,8 @@
 -- The list of one resource.
-use Rattle.std.proofs.Common.{ℕ, ◌≡◌, ◌<◌, ◌∙◌, Bool, true, Option, Some, None, List, [], length, get_or, slice_get}
+use Rattle.std.proofs.Common.{ℕ, ◌≡◌, ◌<◌, ◌∙◌, ◌&&◌, ◌⊎◌, inl, inr, Bool, true, false, Option, Some, None, List, []}
+use Rattle.std.proofs.Common.{length, get_or, slice_get}
 use Rattle.std.proofs.Common.{refl, sym, ap, subst, arith, zero-add}
-use Rattle.std.proofs.lemmas.Bool.{and_from, and_parts, eqb-true, false≢true}
+use Rattle.std.proofs.lemmas.Bool.{and_parts, eqb-true, false≢true}
 use Rattle.std.proofs.lemmas.Option.{slice_get-get_or, get_or_from_slice_get}
 use Rattle.khe_base.specs.declared.numbers.ResourceId.{ResourceId}
 use Rattle.khe_instance.specs.Watching.{is_at}
@@ -11,7 +12,7 @@ use Rattle.khe_instance.specs.declared.points.Point.{Point}
 use Rattle.khe_instance.specs.declared.points.Point.TheVariants.{Resource}
 use Rattle.khe_instance.specs.declared.rules.Kind.{Kind}
 use Rattle.resource_monitors.specs.Cells.{differs_at, is_due, is_due_if, is_low, lists_any, may_differ}
-use Rattle.resource_monitors.specs.Posts.{AreLists, ArePosts, AreAdded, due, due_for, is_served_at, list_for}
+use Rattle.resource_monitors.specs.Posts.{AreAdded, AreLists, ArePosts, IsDueIn, is_served_at, list_for}
 use Rattle.resource_monitors.specs.Posts.{posts_of}
 use Rattle.resource_monitors.specs.declared.posts.Post.{Post}
 use Rattle.resource_monitors.proofs.PostLaws.{posts_each}
@@ -36,40 +37,46 @@ pub added_for : (ms : List Monitor) (test : Monitor → Bool) (served : Kind →
 added_for ms test served place r list old new at is u =
     subst (λ (xs : List Post). AreAdded test xs (length xs) old new) (is ∙ sym (ap (list_for served ms) at)) u
 
-pub due_for_is : (p : Parts) (test : Monitor → Bool) (served : Kind → Bool) (place : Option ResourceId) (r : ResourceId)
-    (list : List Post) → place ≡ Some r → list ≡ posts_of served p.monitors r.0
-    → due_for served p.monitors test place ≡ due test list
-due_for_is p test served place r list at is = ap (due_for served p.monitors test) at ∙ sym (ap (due test) is)
-
 pub added_none : (ms : List Monitor) (test : Monitor → Bool) (served : Kind → Bool) (place : Option ResourceId)
     (old : ℕ → Bool) → place ≡ None
     → AreAdded test (list_for served ms place) (length (list_for served ms place)) old old
 added_none ms test served place old at =
     subst (λ (xs : List Post). AreAdded test xs (length xs) old old) (sym (ap (list_for served ms) at))
-    (record { each = λ j a l h t. absurd (omega (arith, l)); kept = λ i e. e; others = λ i n. refl })
+    (record { each = λ j a l h t. absurd (omega (arith, l)); kept = λ i e. e; only = λ i e. inl e })
 
--- fewer of them
-pub added_fewer : (test few : Monitor → Bool) (list : List Post) (k : ℕ) (old new : ℕ → Bool)
-    → ((j : ℕ) (a : Post) → slice_get list j ≡ Some a → few a.monitor ≡ true → test a.monitor ≡ true)
-    → AreAdded test list k old new → AreAdded few list k old new
-added_fewer test few list k old new less u =
-    record { each = λ j a l h t. u.each j a l h (less j a h t); kept = u.kept; others = u.others }
+-- the same by another test of the posts
+pub added_alike : (one other : Monitor → Bool) (list : List Post) (k : ℕ) (old new : ℕ → Bool)
+    → ((j : ℕ) (a : Post) → slice_get list j ≡ Some a → other a.monitor ≡ one a.monitor)
+    → AreAdded one list k old new → AreAdded other list k old new
+added_alike one other list k old new same u = record {
+  each = λ j a l h t. u.each j a l h (sym (same j a h) ∙ t);
+  kept = u.kept;
+  only = λ i e. by i (u.only i e);
+}
+  where
+    by : (i : ℕ) → (old i ≡ true) ⊎ IsDueIn one list i → (old i ≡ true) ⊎ IsDueIn other list i
+    by i (inl e) = inl e
+    by i (inr (j, a, h, n, t)) = inr (j, a, h, n, same j a h ∙ t)
 
 -- at one resource it is known whether one of the counts is low
 pub due_at : (p : Parts) (served : Kind → Bool) (rows : List (List ℕ)) (start end limit : ℕ) (r : ResourceId)
     (list : List Post) → list ≡ posts_of served p.monitors r.0
-    → (j : ℕ) (a : Post) → slice_get list j ≡ Some a → is_due p rows start end limit a.monitor ≡ true
-    → is_due_if p start end (is_low rows start end limit r.0) a.monitor ≡ true
-due_at p served rows start end limit r list is j a h t =
+    → (j : ℕ) (a : Post) → slice_get list j ≡ Some a
+    → is_due p rows start end limit a.monitor ≡ is_due_if p start end (is_low rows start end limit r.0) a.monitor
+due_at p served rows start end limit r list is j a h =
     let f = posts_each (is_served_at served r.0) p.monitors 0 p.monitors (λ n. ap (slice_get p.monitors) (zero-add n)) j
     a (ap (λ xs. slice_get xs j) (sym is) ∙ h) in
-    let parts = and_parts (lists_any p start end a.monitor)
-    (differs_at a.monitor.kind rows start end limit a.monitor.point) t in
-    and_from (may_differ a.monitor.kind (is_low rows start end limit r.0)) (lists_any p start end a.monitor)
-    (differs a.monitor.point (and_parts (served a.monitor.kind) (is_at a.monitor.point r.0) f.1).1 parts.1) parts.0
+    ap (λ b. lists_any p start end a.monitor && b)
+    (differs a.monitor.point (and_parts (served a.monitor.kind) (is_at a.monitor.point r.0) f.1).1)
+    ∙ turn (lists_any p start end a.monitor) (may_differ a.monitor.kind (is_low rows start end limit r.0))
   where
-    differs : (point : Point) → is_at point r.0 ≡ true → differs_at a.monitor.kind rows start end limit point ≡ true
-        → may_differ a.monitor.kind (is_low rows start end limit r.0) ≡ true
-    differs (Resource q) e d = ap (λ n. may_differ a.monitor.kind (is_low rows start end limit n))
-        (sym (eqb-true q.0 r.0 e)) ∙ d
-    differs _ e d = absurd (false≢true e)
+    turn : (b c : Bool) → b && c ≡ c && b
+    turn true true = refl
+    turn true false = refl
+    turn false true = refl
+    turn false false = refl
+
+    differs : (point : Point) → is_at point r.0 ≡ true → differs_at a.monitor.kind rows start end limit point
+        ≡ may_differ a.monitor.kind (is_low rows start end limit r.0)
+    differs (Resource q) e = ap (λ n. may_differ a.monitor.kind (is_low rows start end limit n)) (eqb-true q.0 r.0 e)
+    differs _ e = absurd (false≢true e)

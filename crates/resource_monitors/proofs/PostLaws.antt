@@ -1,7 +1,6 @@
 -- Posts of monitors.
 use Rattle.std.proofs.Common.{ℕ, ◌≡◌, ◌+◌, ◌∙◌, zero, suc, Bool, true, false, cond, Some, List, [], ◌∷◌, ◌++◌, length}
-use Rattle.std.proofs.Common.{slice_get, refl, sym, ap, subst, arith, sum_by, zero-add}
-use Rattle.std.proofs.lemmas.List.Sums.{sum_by-cons}
+use Rattle.std.proofs.Common.{slice_get, refl, ap, subst, arith}
 use Rattle.std.proofs.lemmas.Option.{same_Some, none-some}
 use Rattle.khe_instance.specs.declared.points.Monitor.{Monitor}
 use Rattle.resource_monitors.specs.Posts.{post, posts_from}
@@ -22,19 +21,6 @@ module _ (test : Monitor → Bool) where
           ++ cond (test m) (post (k + suc (length ms)) m ∷ []) []
       by true e = ap (λ xs. post k x ∷ xs) e
       by false e = e
-
-  pub posts_sum : (g : Monitor → ℕ) (k : ℕ) (ms : List Monitor)
-      → sum_by (λ (a : Post). g a.monitor) (posts_from test k ms) ≡ sum_by (λ (m : Monitor). cond (test m) (g m) 0) ms
-  posts_sum g k [] = refl
-  posts_sum g k (m ∷ ms) = by (test m) (posts_sum g (k + 1) ms)
-      ∙ sym (sum_by-cons (λ (m : Monitor). cond (test m) (g m) 0) m ms)
-    where
-      by : (b : Bool) → sum_by (λ (a : Post). g a.monitor) (posts_from test (k + 1) ms)
-          ≡ sum_by (λ (m : Monitor). cond (test m) (g m) 0) ms
-          → sum_by (λ (a : Post). g a.monitor) (cond b (post k m ∷ posts_from test (k + 1) ms)
-          (posts_from test (k + 1) ms)) ≡ cond b (g m) 0 + sum_by (λ (m : Monitor). cond (test m) (g m) 0) ms
-      by true e = sum_by-cons (λ (a : Post). g a.monitor) (post k m) (posts_from test (k + 1) ms) ∙ ap (λ n. g m + n) e
-      by false e = e ∙ sym (zero-add (sum_by (λ (x : Monitor). cond (test x) (g x) 0) ms))
 
   abbrev pub IsFound : List Monitor → Post → Type 0
   IsFound all a = (slice_get all a.number.0 ≡ Some a.monitor) × (test a.monitor ≡ true)

@@ -1,13 +1,13 @@
 -- Told states: the one without meets, what the slots of others are given, and how many tasks run.
 use Rattle.std.proofs.Common.{ℕ, ◌≡◌, ◌≤◌, ◌<◌, ◌+◌, ◌∙◌, zero, suc, cond, Bool, true, false, Option, Some, None, List}
 use Rattle.std.proofs.Common.{[], ◌∷◌, ◌++◌, map, replicate, length, get_or, slice_get, refl, sym, ap, subst, arith}
-use Rattle.std.proofs.Common.{IfSome, get_or-set_same}
+use Rattle.std.proofs.Common.{IfSome, length-append, set, sum_by}
 use Rattle.std.specs.Prelude.{◌==◌, ◌&&◌}
 use Rattle.std.specs.Option.{option_map_or}
 use Rattle.std.specs.List.{range_with_len}
-use Rattle.std.proofs.lemmas.List.{length-replicate, length-set}
+use Rattle.std.proofs.lemmas.List.{length-replicate}
 use Rattle.std.proofs.lemmas.List.Elements.{All-get_or}
-use Rattle.std.proofs.lemmas.List.Sums.{sum_by-cons, count_by-le-length}
+use Rattle.std.proofs.lemmas.List.Sums.{sum_by-cons, sum_by-set, count_by-le-length}
 use Rattle.std.proofs.lemmas.Option.{slice_get_within, same_Some, none-some}
 use Rattle.khe_base.specs.declared.limits.TheConstants.{TASKS}
 use Rattle.khe_base.specs.declared.numbers.ResourceId.{ResourceId}
@@ -18,21 +18,19 @@ use Rattle.khe_instance.specs.declared.parts.EventInfo.{EventInfo}
 use Rattle.khe_instance.specs.declared.parts.Parts.{Parts}
 use Rattle.khe_instance.specs.declared.parts.Place.{Place}
 use Rattle.khe_instance.specs.declared.states.Duty.{Duty}
+use Rattle.khe_instance.specs.declared.states.Meet.{Meet}
 use Rattle.khe_instance.proofs.DutiesLemmas.{are-duties, typed}
-use Rattle.khe_told.specs.Changes.{after, changed, meet_of}
-use Rattle.khe_told.specs.Fits.{AreTold, IsSlot, Fits}
-use Rattle.khe_told.specs.Lists.{meets_in, tasks_in, duties_in}
+use Rattle.khe_told.specs.Fits.{AreTold, IsSlot}
+use Rattle.khe_told.specs.Lists.{duties_in, duties_of, duties_with, meets_in, tasks_in}
 use Rattle.khe_told.specs.Slots.{no_meets, slots_from, slots_of_event, empty_slot, emptied, slot_at, no_slot, held}
 use Rattle.khe_told.specs.Slots.{held_by}
-use Rattle.khe_told.specs.declared.changes.Change.{Change}
-use Rattle.khe_told.specs.declared.changes.Change.TheVariants.{Add, Drop, Place as PlaceAt, Lift, Give, Take}
 use Rattle.khe_told.specs.declared.slots.Slot.{Slot}
 use Rattle.khe_told.specs.declared.slots.Span.{Span}
 use Rattle.khe_told.proofs.DutyLaws.{duties_listed}
 use Rattle.khe_told.proofs.FrameLaws.{frames, told_from, IsFrame}
-use Rattle.khe_told.proofs.SlotLaws.{set-there}
 use Rattle.khe_told.proofs.ValidLaws.{listed_told}
-use Rattle.resource_monitors.specs.Runs.{AreOf, given_by}
+use Rattle.resource_monitors.specs.Runs.{AreOf}
+use Rattle.resource_monitors.proofs.TurnLaws.{cell_in, cell_is, cell_of, cells_are}
 
 -- a slot with nothing in it
 record IsFree (x : Slot) : Type 0 where
@@ -112,10 +110,9 @@ free_duties (x ∷ s) h = by x.span h.0.span (free_duties s h.1)
 pub no_duties : (p : Parts) → duties_in (no_meets p) ≡ []
 no_duties p = free_duties (no_meets p) (free_from 0 p.events)
 
--- no more tasks run than an instance may have
-pub tasks_few : (p : Parts) → AreWellMade p → (s : List Slot) → AreTold p s → (r t : ℕ)
-    → running_tasks (duties_in s) r t ≤ TASKS
-tasks_few p made s told r t =
+-- there are no more tasks than an instance may have
+duties_few : (p : Parts) → AreWellMade p → (s : List Slot) → AreTold p s → length (duties_in s) ≤ TASKS
+duties_few p made s told =
     let of : AreOfState p (meets_in s) (duties_in s) =
     record {
       tasks = tasks_in s;
@@ -123,9 +120,58 @@ tasks_few p made s told r t =
       same =
           sym (duties_listed 0 s (told_from p s made.first_meets told.whose));
     } in
-    let few = (are-duties p (meets_in s) (duties_in s) made of).few in
+    (are-duties p (meets_in s) (duties_in s) made of).few
+
+-- and no more run
+pub tasks_few : (p : Parts) → AreWellMade p → (s : List Slot) → AreTold p s → (r t : ℕ)
+    → running_tasks (duties_in s) r t ≤ TASKS
+tasks_few p made s told r t =
+    let few = duties_few p made s told in
     let l = count_by-le-length (λ (d : Duty). is_resource r d.resource && runs d.meet t) (duties_in s) in
     omega (arith, few, l)
+
+-- beside those of all other slots there is room for one for each place of a slot with a meet
+duties_listed_by : (m : Meet) (place : ℕ) (given : List (Option ResourceId))
+    → length (duties_with m place given) ≡ length given
+duties_listed_by m place [] = refl
+duties_listed_by m place (o ∷ given) = ap suc (duties_listed_by m (place + 1) given)
+
+duties_by : (s : List Slot) → length (duties_in s) ≡ sum_by (λ (x : Slot). length (duties_of x)) s
+duties_by [] = refl
+duties_by (x ∷ s) = length-append (duties_of x) (duties_in s) ∙ ap (λ n. length (duties_of x) + n) (duties_by s)
+    ∙ sym (sum_by-cons (λ (y : Slot). length (duties_of y)) x s)
+
+sum_less : {X : Type 0} (f g : X → ℕ) → ((x : X) → f x ≤ g x) → (xs : List X) → sum_by f xs ≤ sum_by g xs
+sum_less f g e [] = omega arith
+sum_less f g e (x ∷ xs) = let a = sum_by-cons f x xs in let b = sum_by-cons g x xs in let k = e x in let r =
+    sum_less f g e xs in omega (arith, a, b, k, r)
+
+pub others_few : (p : Parts) → AreWellMade p → (s : List Slot) → AreTold p s → (k : ℕ) → k < length s
+    → (y : Span) → (slot_at s k).span ≡ Some y → (q t : ℕ)
+    → running_tasks (duties_in s) q t + length (slot_at s k).given ≤ TASKS + cell_in (slot_at s k) q t
+others_few p made s told k l y live q t =
+    let a = cells_are s q t in
+    let b : cell_of (set s k no_slot) q t + cell_in (slot_at s k) q t ≡ cell_of s q t + 0 =
+    sum_by-set (λ (x : Slot). cell_in x q t) s k no_slot no_slot l in
+    let c : sum_by size (set s k no_slot) + size (slot_at s k) ≡ sum_by size s + 0 =
+    sum_by-set size s k no_slot no_slot l in
+    let d : size (slot_at s k) ≡ length (slot_at s k).given = own (slot_at s k) live in
+    let e : cell_of (set s k no_slot) q t ≤ sum_by size (set s k no_slot) =
+    sum_less (λ (x : Slot). cell_in x q t) size each (set s k no_slot) in
+    let f = duties_by s in
+    let few = duties_few p made s told in
+    omega (arith, a, b, c, d, e, f, few)
+  where
+    size : Slot → ℕ
+    size x = length (duties_of x)
+
+    each : (x : Slot) → cell_in x q t ≤ size x
+    each x = subst (λ n. n ≤ size x) (cell_is x q t)
+        (count_by-le-length (λ (d : Duty). is_resource q d.resource && runs d.meet t) (duties_of x))
+
+    own : (x : Slot) → x.span ≡ Some y → size x ≡ length x.given
+    own x e = ap (λ o. size (record x { span = o })) e
+        ∙ duties_listed_by (record { meet = x.meet; event = x.event; duration = y.duration; start = y.start }) 0 x.given
 
 slot_of : (p : Parts) (x : Slot) → IsFrame p.events x → IsSlot p x → AreOf x.given (length p.resources)
 slot_of p x frame is j r h =
@@ -152,36 +198,3 @@ pub at_slot : (p : Parts) → AreWellMade p → (s : List Slot) → AreTold p s 
 at_slot p made s told m l = slot_of p (slot_at s m)
     (All-get_or (IsFrame p.events) s m no_slot l (frames p s made.first_meets told.whose))
     (All-get_or (IsSlot p) s m no_slot l told.slots)
-
-pub given_of : (p : Parts) → AreWellMade p → (s : List Slot) (c : Change) → AreTold p s → Fits p s c
-    → AreOf (given_by (slot_at s (meet_of c)) c) (length p.resources)
-given_of p made s (Add m d) told f = at_slot p made s told m.0 f.there
-given_of p made s (Drop m d) told f = at_slot p made s told m.0 f.there
-given_of p made s (PlaceAt m t) told f = at_slot p made s told m.0 f.there
-given_of p made s (Lift m t) told f = at_slot p made s told m.0 f.there
-given_of p made s (Give k r) told f = single
-  where
-    x : Slot
-    x = slot_at s k.meet.0
-
-    own : r.0 < length p.resources
-    own =
-        let a = at_slot p made (after s (Give k r)) f.told k.meet.0
-        (let z = length-set s k.meet.0 (changed x (Give k r)) in omega (arith, z, f.there)) in
-        a k.place r (ap (λ (y : Slot). slice_get y.given k.place)
-        (get_or-set_same s k.meet.0 (changed x (Give k r)) no_slot f.there)
-        ∙ set-there x.given k.place (Some r) None f.suits.2)
-
-    single : AreOf (Some r ∷ []) (length p.resources)
-    single zero q e = subst (λ (y : ResourceId). y.0 < length p.resources)
-        (same_Some r q (same_Some (Some r) (Some q) e)) own
-    single (suc j) q e = absurd (none-some (Some q) e)
-given_of p made s (Take k r) told f = single
-  where
-    own : r.0 < length p.resources
-    own = at_slot p made s told k.meet.0 f.there k.place r f.suits.2
-
-    single : AreOf (Some r ∷ []) (length p.resources)
-    single zero q e = subst (λ (y : ResourceId). y.0 < length p.resources)
-        (same_Some r q (same_Some (Some r) (Some q) e)) own
-    single (suc j) q e = absurd (none-some (Some q) e)

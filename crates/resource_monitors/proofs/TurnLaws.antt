@@ -1,27 +1,22 @@
--- What a change does to cells.
+-- What a task more or less does to cells, and what a slot that becomes another does.
 use Rattle.std.proofs.Common.{ℕ, ◌≡◌, ◌≤◌, ◌<◌, ◌+◌, ◌==◌, ◌∙◌, ◌&&◌, Bool, true, false, cond, Option, Some, None, List}
-use Rattle.std.proofs.Common.{[], ◌∷◌, set, take, get_or, length, slice_get, refl, sym, ap, subst, arith, sum_by}
-use Rattle.std.proofs.Common.{zero-add, nat_le, nat_lt, lt-ltb}
-use Rattle.std.proofs.lemmas.Bool.{eq-eqb, leb-false}
-use Rattle.std.proofs.lemmas.List.Sums.{sum_by-cons, sum_by-set, sum_by-append, sum_by_more, sum_by-take-le}
-use Rattle.std.proofs.lemmas.List.Sums.{count_by-le-length}
-use Rattle.std.proofs.lemmas.Option.{get_or_from_slice_get, slice_get_within}
+use Rattle.std.proofs.Common.{[], ◌∷◌, set, length, refl, sym, ap, subst, arith, sum_by, nat_le}
+use Rattle.std.proofs.Common.{nat_lt, lt-ltb}
+use Rattle.std.proofs.lemmas.Bool.{eq-eqb, leb-false, true≢false}
+use Rattle.std.proofs.lemmas.List.Sums.{sum_by-cons, sum_by-set, sum_by-append, count_by-le-length}
+use Rattle.khe_base.specs.declared.limits.TheConstants.{GREATEST_COUNT}
 use Rattle.khe_base.specs.declared.numbers.ResourceId.{ResourceId}
 use Rattle.khe_base.specs.declared.numbers.TimeId.{TimeId}
-use Rattle.khe_instance.specs.Running.{is_resource, runs, covers, running_tasks}
+use Rattle.khe_instance.specs.Running.{is_resource, runs, running_tasks}
 use Rattle.khe_instance.specs.declared.states.Duty.{Duty}
 use Rattle.khe_instance.specs.declared.states.Meet.{Meet}
-use Rattle.khe_told.specs.Changes.{after, changed, meet_of}
-use Rattle.khe_told.specs.Fits.{Suits}
 use Rattle.khe_told.specs.Lists.{duties_in, duties_of, duties_with}
 use Rattle.khe_told.specs.Slots.{slot_at, no_slot}
-use Rattle.khe_told.specs.declared.changes.Change.{Change}
-use Rattle.khe_told.specs.declared.changes.Change.TheVariants.{Add, Drop, Place as PlaceAt, Lift, Give, Take}
 use Rattle.khe_told.specs.declared.slots.Slot.{Slot}
 use Rattle.khe_told.specs.declared.slots.Span.{Span}
 use Rattle.timetables.specs.Counts.{count_at}
 use Rattle.resource_monitors.specs.Cells.{AreAbove, AreRaised, given_to, in_run, limit_for}
-use Rattle.resource_monitors.specs.Runs.{run_of, given_by, Turned, IsTurn}
+use Rattle.resource_monitors.specs.Runs.{CanTurn, Turned, cells_of, run_of}
 use Rattle.resource_monitors.specs.declared.runs.Run.{Run}
 
 -- one resource's cells as those of one place
@@ -43,92 +38,84 @@ nothing_above start end f = λ q t. by (in_run start end t) (f q t)
     by true n = omega arith
     by false n = omega arith
 
--- one place more
-pub given_more : (given : List (Option ResourceId)) (i : ℕ) (o : Option ResourceId) (q : ℕ) → i < length given
-    → o ≡ get_or given i o → given_to q (take (i + 1) given) ≡ given_to q (take i given) + given_to q (o ∷ [])
-given_more given i o q l is = sum_by_more (λ (x : Option ResourceId). cond {A = ℕ} (is_resource q x) 1 0) given i o l
-    ∙ ap (λ x. given_to q (take i given) + cond {A = ℕ} (is_resource q x) 1 0) (sym is)
-    ∙ ap (λ n. given_to q (take i given) + n) (sym (zero-add (cond {A = ℕ} (is_resource q o) 1 0)))
+-- the cells of a place
+own_cell : (place : Option ResourceId) (run : Run) (r : ResourceId) (t : ℕ) → place ≡ Some r
+    → in_run run.start run.end t ≡ true → cells_of (Some run) (place ∷ []) r.0 t ≡ 1
+own_cell place run r t at e =
+    ap (λ b. cond b (given_to r.0 (place ∷ [])) 0) e ∙ ap (λ o. given_to r.0 (o ∷ [])) at
+    ∙ ap (λ b. 0 + cond {A = ℕ} b 1 0) (eq-eqb r.0 r.0 refl)
 
-pub above_more : (given : List (Option ResourceId)) (i : ℕ) (o : Option ResourceId) (start end : ℕ)
-    (low mid high : ℕ → ℕ → ℕ) → i < length given → o ≡ get_or given i o
-    → AreAbove (take i given) start end low mid → AreAbove (o ∷ []) start end mid high
-    → AreAbove (take (i + 1) given) start end low high
-above_more given i o start end low mid high l is a b =
-    λ q t. by (in_run start end t) (low q t) (mid q t) (high q t) (given_to q (take i given)) (given_to q (o ∷ []))
-    (given_to q (take (i + 1) given)) (given_more given i o q l is) (a q t) (b q t)
-  where
-    by : (c : Bool) (n m k x y z : ℕ) → z ≡ x + y → m ≡ n + cond c x 0 → k ≡ m + cond c y 0 → k ≡ n + cond c z 0
-    by true n m k x y z e f g = omega (arith, e, f, g)
-    by false n m k x y z e f g = omega (arith, e, f, g)
+pub room_one : (b : Bool) (place : Option ResourceId) (run : Run) (old : ℕ → ℕ → ℕ) → b ≡ true
+    → CanTurn b place (Some run) old → (r : ResourceId) (t : ℕ) → place ≡ Some r
+    → in_run run.start run.end t ≡ true → old r.0 t < GREATEST_COUNT
+room_one true place run old h can r t at e =
+    let a : old r.0 t + cells_of (Some run) (place ∷ []) r.0 t ≤ GREATEST_COUNT = can r.0 t in
+    let b = own_cell place run r t at e in
+    omega (arith, a, b)
+room_one false place run old h can r t at e = absurd (true≢false (sym h))
 
--- the same from the top
-pub below_more : (given : List (Option ResourceId)) (i : ℕ) (o : Option ResourceId) (start end : ℕ)
-    (low mid high : ℕ → ℕ → ℕ) → i < length given → o ≡ get_or given i o
-    → AreAbove (take i given) start end mid high → AreAbove (o ∷ []) start end low mid
-    → AreAbove (take (i + 1) given) start end low high
-below_more given i o start end low mid high l is a b =
-    λ q t. by (in_run start end t) (low q t) (mid q t) (high q t) (given_to q (take i given)) (given_to q (o ∷ []))
-    (given_to q (take (i + 1) given)) (given_more given i o q l is) (a q t) (b q t)
-  where
-    by : (c : Bool) (n m k x y z : ℕ) → z ≡ x + y → k ≡ m + cond c x 0 → m ≡ n + cond c y 0 → k ≡ n + cond c z 0
-    by true n m k x y z e f g = omega (arith, e, f, g)
-    by false n m k x y z e f g = omega (arith, e, f, g)
+pub some_one : (b : Bool) (place : Option ResourceId) (run : Run) (old : ℕ → ℕ → ℕ) → b ≡ false
+    → CanTurn b place (Some run) old → (r : ResourceId) (t : ℕ) → place ≡ Some r
+    → in_run run.start run.end t ≡ true → 0 < old r.0 t
+some_one false place run old h can r t at e =
+    let a : cells_of (Some run) (place ∷ []) r.0 t ≤ old r.0 t = can r.0 t in
+    let b = own_cell place run r t at e in
+    omega (arith, a, b)
+some_one true place run old h can r t at e = absurd (true≢false h)
 
-pub turned_once : (b : Bool) (given : List (Option ResourceId)) (start end : ℕ) (old new other : ℕ → ℕ → ℕ)
-    → Turned b given start end old new → Turned b given start end old other → (q t : ℕ) → new q t ≡ other q t
-turned_once true given start end old new other h k q t = h q t ∙ sym (k q t)
-turned_once false given start end old new other h k q t = let a = h q t in let b = k q t in omega (arith, a, b)
+pub risen : (b : Bool) (place : Option ResourceId) (run : Run) (old new : ℕ → ℕ → ℕ) → b ≡ true
+    → AreAbove (place ∷ []) run.start run.end old new → Turned b place (Some run) old new
+risen b place run old new h u = subst (λ c. Turned c place (Some run) old new) (sym h) u
 
--- where no place is given a resource, or beyond the run
-pub turned_same : (b : Bool) (given : List (Option ResourceId)) (start end : ℕ) (old new : ℕ → ℕ → ℕ)
-    → Turned b given start end old new → (q t : ℕ) → cond (in_run start end t) (given_to q given) 0 ≡ 0
-    → new q t ≡ old q t
-turned_same true given start end old new h q t e =
-    let a : new q t ≡ old q t + cond (in_run start end t) (given_to q given) 0 = h q t in omega (arith, a, e)
-turned_same false given start end old new h q t e =
-    let a : old q t ≡ new q t + cond (in_run start end t) (given_to q given) 0 = h q t in omega (arith, a, e)
+pub fallen : (b : Bool) (place : Option ResourceId) (run : Run) (old new : ℕ → ℕ → ℕ) → b ≡ false
+    → AreAbove (place ∷ []) run.start run.end new old → Turned b place (Some run) old new
+fallen b place run old new h u = subst (λ c. Turned c place (Some run) old new) (sym h) u
+
+-- without a run, where the place is not given a resource, or beyond the run
+pub turned_same : (b : Bool) (place : Option ResourceId) (run : Option Run) (old new : ℕ → ℕ → ℕ)
+    → Turned b place run old new → (q t : ℕ) → cells_of run (place ∷ []) q t ≡ 0 → new q t ≡ old q t
+turned_same true place run old new h q t e =
+    let a : new q t ≡ old q t + cells_of run (place ∷ []) q t = h q t in omega (arith, a, e)
+turned_same false place run old new h q t e =
+    let a : old q t ≡ new q t + cells_of run (place ∷ []) q t = h q t in omega (arith, a, e)
 
 -- where no count of the run is low, each time is busy as it was
-pub turned_busy : (b : Bool) (given : List (Option ResourceId)) (start end : ℕ) (old new : ℕ → ℕ → ℕ) (q : ℕ)
-    → Turned b given start end old new
-    → ((t : ℕ) → in_run start end t ≡ true → nat_le (new q t) (limit_for b (length given)) ≡ false) → (t : ℕ)
+pub turned_busy : (b : Bool) (place : Option ResourceId) (run : Run) (old new : ℕ → ℕ → ℕ) (q : ℕ)
+    → Turned b place (Some run) old new
+    → ((t : ℕ) → in_run run.start run.end t ≡ true → nat_le (new q t) (limit_for b) ≡ false) → (t : ℕ)
     → nat_lt 0 (new q t) ≡ nat_lt 0 (old q t)
-turned_busy b given start end old new q h high t = by (in_run start end t) refl
+turned_busy b place run old new q h high t = by (in_run run.start run.end t) refl
   where
-    few : given_to q given ≤ length given
-    few = count_by-le-length (is_resource q) given
+    few : given_to q (place ∷ []) ≤ 1
+    few = let l = count_by-le-length (is_resource q) (place ∷ []) in omega (arith, l)
 
     both : (n m : ℕ) → 0 < n → 0 < m → nat_lt 0 n ≡ nat_lt 0 m
     both n m k l = lt-ltb 0 n k ∙ sym (lt-ltb 0 m l)
 
-    above : (d : Bool) → Turned d given start end old new → nat_le (new q t) (limit_for d (length given)) ≡ false
+    part : (c : Bool) → cond c (given_to q (place ∷ [])) 0 ≤ 1
+    part true = few
+    part false = omega arith
+
+    above : (d : Bool) → Turned d place (Some run) old new → nat_le (new q t) (limit_for d) ≡ false
         → (0 < new q t) × (0 < old q t)
     above true u e =
-        let a : new q t ≡ old q t + cond (in_run start end t) (given_to q given) 0 = u q t in
-        let l = leb-false (new q t) (length given) e in
-        let z = part (in_run start end t) in
-        (omega (arith, l), omega (arith, a, l, z, few))
-      where
-        part : (c : Bool) → cond c (given_to q given) 0 ≤ given_to q given
-        part true = omega arith
-        part false = omega arith
+        let a : new q t ≡ old q t + cells_of (Some run) (place ∷ []) q t = u q t in
+        let l = leb-false (new q t) 1 e in
+        let z : cells_of (Some run) (place ∷ []) q t ≤ 1 = part (in_run run.start run.end t) in
+        (omega (arith, l), omega (arith, a, l, z))
     above false u e =
-        let a : old q t ≡ new q t + cond (in_run start end t) (given_to q given) 0 = u q t in
+        let a : old q t ≡ new q t + cells_of (Some run) (place ∷ []) q t = u q t in
         let l = leb-false (new q t) 0 e in
         (l, omega (arith, a, l))
 
-    by : (c : Bool) → in_run start end t ≡ c → nat_lt 0 (new q t) ≡ nat_lt 0 (old q t)
+    by : (c : Bool) → in_run run.start run.end t ≡ c → nat_lt 0 (new q t) ≡ nat_lt 0 (old q t)
     by true e = let a = above b h (high t e) in both (new q t) (old q t) a.0 a.1
-    by false e = ap (nat_lt 0) (turned_same b given start end old new h q t (ap (λ c. cond c (given_to q given) 0) e))
+    by false e = ap (nat_lt 0) (turned_same b place (Some run) old new h q t
+        (ap (λ c. cond c (given_to q (place ∷ [])) 0) e))
 
 -- cells by slots
-abbrev pub runs_at : ℕ → Option Span → Bool
-runs_at t None = false
-runs_at t (Some y) = covers y.duration y.start t
-
 abbrev pub cell_in : Slot → ℕ → ℕ → ℕ
-cell_in x r t = cond (runs_at t x.span) (given_to r x.given) 0
+cell_in x r t = cells_of (run_of x.span) x.given r t
 
 abbrev pub cell_of : List Slot → ℕ → ℕ → ℕ
 cell_of s r t = sum_by (λ (x : Slot). cell_in x r t) s
@@ -155,134 +142,34 @@ with_cells m place r t (o ∷ given) =
     by false true = refl
     by false false = refl
 
+pub cell_is : (x : Slot) (r t : ℕ) → running_tasks (duties_of x) r t ≡ cell_in x r t
+cell_is x r t = by x.span
+  where
+    from : (d : ℕ) (o : Option TimeId) → running_tasks
+        (duties_of (record x { span = Some (record { duration = d; start = o }) }))
+        r t ≡ cell_in (record x { span = Some (record { duration = d; start = o }) }) r t
+    from d None = with_cells (record { meet = x.meet; event = x.event; duration = d; start = None }) 0 r t x.given
+    from d (Some a) = with_cells (record { meet = x.meet; event = x.event; duration = d; start = Some a }) 0 r t x.given
+
+    by : (o : Option Span) → running_tasks (duties_of (record x { span = o })) r t ≡ cell_in (record x { span = o }) r t
+    by None = refl
+    by (Some y) = from y.duration y.start
+
 pub cells_are : (s : List Slot) (r t : ℕ) → running_tasks (duties_in s) r t ≡ cell_of s r t
 cells_are [] r t = refl
 cells_are (x ∷ s) r t =
     sum_by-append (λ (d : Duty). cond {A = ℕ} (is_resource r d.resource && runs d.meet t) 1 0) (duties_of x)
     (duties_in s)
-    ∙ ap (λ n. running_tasks (duties_of x) r t + n) (cells_are s r t) ∙ ap (λ n. n + cell_of s r t) (by x.span)
+    ∙ ap (λ n. running_tasks (duties_of x) r t + n) (cells_are s r t) ∙ ap (λ n. n + cell_of s r t) (cell_is x r t)
     ∙ sym (sum_by-cons (λ (y : Slot). cell_in y r t) x s)
-  where
-    by : (o : Option Span) → running_tasks (duties_of (record x { span = o })) r t ≡ cell_in (record x { span = o }) r t
-    by None = refl
-    by (Some y) = with_cells (record { meet = x.meet; event = x.event; duration = y.duration; start = y.start }) 0 r t
-        x.given
 
-given_set : (given : List (Option ResourceId)) (k q : ℕ) (a b : Option ResourceId) → slice_get given k ≡ Some b
-    → given_to q (set given k a) + given_to q (b ∷ []) ≡ given_to q given + given_to q (a ∷ [])
-given_set given k q a b h =
-    let f : Option ResourceId → ℕ = λ x. cond {A = ℕ} (is_resource q x) 1 0 in
-    let e : given_to q (set given k a) + f (get_or given k b) ≡ given_to q given + f a =
-    sum_by-set f given k a b (slice_get_within given k b h) in
-    let z : f (get_or given k b) ≡ f b = ap f (get_or_from_slice_get given k b b h) in
-    let x : given_to q (a ∷ []) ≡ f a = zero-add (f a) in
-    let y : given_to q (b ∷ []) ≡ f b = zero-add (f b) in
-    omega (arith, e, z, x, y)
-
-plus_none : (n : ℕ) (b : Bool) → cond b n 0 ≡ 0 + cond b n 0
-plus_none n b = sym (zero-add (cond b n 0))
-
-grown : (b : Bool) (n m k : ℕ) → m ≡ n + k → cond b m 0 ≡ cond b n 0 + cond b k 0
-grown true n m k e = e
-grown false n m k e = refl
-
--- what a change does to its slot's cells
-slot_turned : (x : Slot) (c : Change) → Suits x c
-    → IsTurn (run_of x c) (given_by x c) (cell_in x) (cell_in (changed x c))
-slot_turned x (Add m d) h = λ q t. sym (ap (λ o. cond (runs_at t o) (given_to q x.given) 0) h)
-slot_turned x (Drop m d) h = λ q t. sym (ap (λ o. cond (runs_at t o) (given_to q x.given) 0) h.0)
-slot_turned x (PlaceAt m s) h =
-    subst (λ o. IsTurn (run_of (record x { span = o }) (PlaceAt m s)) x.given (cell_in (record x { span = o }))
-    (cell_in (changed (record x { span = o }) (PlaceAt m s)))) (sym h.1)
-    (λ q t. plus_none (given_to q x.given) (in_run s.0 (s.0 + h.0) t))
-slot_turned x (Lift m s) h =
-    subst (λ o. IsTurn (run_of (record x { span = o }) (Lift m s)) x.given (cell_in (record x { span = o }))
-    (cell_in (changed (record x { span = o }) (Lift m s)))) (sym h.1)
-    (λ q t. plus_none (given_to q x.given) (in_run s.0 (s.0 + h.0) t))
-slot_turned x (Give k r) h = subst (λ o. IsTurn (run_of (record x { span = o }) (Give k r)) (Some r ∷ [])
-    (cell_in (record x { span = o })) (cell_in (changed (record x { span = o }) (Give k r)))) (sym h.1)
-    (by h.0.duration h.0.start)
-  where
-    more : (q : ℕ) → given_to q (set x.given k.place (Some r)) ≡ given_to q x.given + given_to q (Some r ∷ [])
-    more q = let e = given_set x.given k.place q (Some r) None h.2 in let z : given_to q (None ∷ []) ≡ 0 = refl in
-        omega (arith, e, z)
-
-    by : (d : ℕ) (o : Option TimeId) → IsTurn (run_of (record x { span = Some (record { duration = d; start = o }) })
-        (Give k r)) (Some r ∷ []) (cell_in (record x { span = Some (record { duration = d; start = o }) }))
-        (cell_in (record x { span = Some (record { duration = d; start = o }); given = set x.given k.place (Some r) }))
-    by d None = λ q t. refl
-    by d (Some s) = λ q t. grown (in_run s.0 (s.0 + d) t) (given_to q x.given)
-        (given_to q (set x.given k.place (Some r))) (given_to q (Some r ∷ [])) (more q)
-slot_turned x (Take k r) h = subst (λ o. IsTurn (run_of (record x { span = o }) (Take k r)) (Some r ∷ [])
-    (cell_in (record x { span = o })) (cell_in (changed (record x { span = o }) (Take k r)))) (sym h.1)
-    (by h.0.duration h.0.start)
-  where
-    more : (q : ℕ) → given_to q x.given ≡ given_to q (set x.given k.place None) + given_to q (Some r ∷ [])
-    more q = let e = given_set x.given k.place q None (Some r) h.2 in let z : given_to q (None ∷ []) ≡ 0 = refl in
-        omega (arith, e, z)
-
-    by : (d : ℕ) (o : Option TimeId) → IsTurn (run_of (record x { span = Some (record { duration = d; start = o }) })
-        (Take k r)) (Some r ∷ []) (cell_in (record x { span = Some (record { duration = d; start = o }) }))
-        (cell_in (record x { span = Some (record { duration = d; start = o }); given = set x.given k.place None }))
-    by d None = λ q t. refl
-    by d (Some s) = λ q t. grown (in_run s.0 (s.0 + d) t) (given_to q (set x.given k.place None)) (given_to q x.given)
-        (given_to q (Some r ∷ [])) (more q)
-
-lifted : (o : Option Run) (given : List (Option ResourceId)) (f g old new : ℕ → ℕ → ℕ)
-    → ((q t : ℕ) → new q t + f q t ≡ old q t + g q t) → IsTurn o given f g → IsTurn o given old new
-lifted None given f g old new h i = λ q t. (let a = h q t in let b = i q t in omega (arith, a, b))
-lifted (Some run) given f g old new h i = by run.rises i
-  where
-    by : (b : Bool) → Turned b given run.start run.end f g → Turned b given run.start run.end old new
-    by true k = λ q t. (let a = h q t in let b = k q t in omega (arith, a, b))
-    by false k = λ q t. (let a = h q t in let b = k q t in omega (arith, a, b))
-
--- and to the counts of the tasks
-pub tasks_turned : (s : List Slot) (c : Change) → meet_of c < length s → Suits (slot_at s (meet_of c)) c
-    → IsTurn (run_of (slot_at s (meet_of c)) c) (given_by (slot_at s (meet_of c)) c) (running_tasks (duties_in s))
-    (running_tasks (duties_in (after s c)))
-tasks_turned s c l h =
-    lifted (run_of (slot_at s (meet_of c)) c) (given_by (slot_at s (meet_of c)) c) (cell_in (slot_at s (meet_of c)))
-    (cell_in (changed (slot_at s (meet_of c)) c)) (running_tasks (duties_in s))
-    (running_tasks (duties_in (after s c)))
-    (λ q t. (let a = cells_are s q t in let b = cells_are (after s c) q t in
-    let e : cell_of (after s c) q t + cell_in (slot_at s (meet_of c)) q t
-    ≡ cell_of s q t + cell_in (changed (slot_at s (meet_of c)) c) q t =
-    sum_by-set (λ (x : Slot). cell_in x q t) s (meet_of c) (changed (slot_at s (meet_of c)) c) no_slot l in
-    omega (arith, a, b, e)))
-    (slot_turned (slot_at s (meet_of c)) c h)
-
--- a place that is still to come
-one_more : (given : List (Option ResourceId)) (i : ℕ) (r : ResourceId) → i < length given → get_or given i None ≡ Some r
-    → given_to r.0 (take i given) < given_to r.0 given
-one_more given i r l is =
-    let a : given_to r.0 (take (i + 1) given) ≡ given_to r.0 (take i given) + cond {A = ℕ}
-    (is_resource r.0 (get_or given i None)) 1 0 =
-    sum_by_more (λ (x : Option ResourceId). cond {A = ℕ} (is_resource r.0 x) 1 0) given i None l in
-    let b : cond {A = ℕ} (is_resource r.0 (get_or given i None)) 1 0 ≡ 1 =
-    ap (λ x. cond {A = ℕ} (is_resource r.0 x) 1 0) is ∙ ap (λ b. cond {A = ℕ} b 1 0) (eq-eqb r.0 r.0 refl) in
-    let d : given_to r.0 (take (i + 1) given) ≤ given_to r.0 given =
-    sum_by-take-le (λ (x : Option ResourceId). cond {A = ℕ} (is_resource r.0 x) 1 0) given (i + 1) in
-    omega (arith, a, b, d)
-
-pub room_at : (n : ℕ) (given : List (Option ResourceId)) (i : ℕ) (r : ResourceId) (t start end : ℕ)
-    (low now : ℕ → ℕ → ℕ) → i < length given → get_or given i None ≡ Some r
-    → AreAbove (take i given) start end low now → in_run start end t ≡ true → low r.0 t + given_to r.0 given ≤ n
-    → now r.0 t < n
-room_at n given i r t start end low now l is above run room =
-    let a : now r.0 t ≡ low r.0 t + cond (in_run start end t) (given_to r.0 (take i given)) 0 = above r.0 t in
-    let b : cond (in_run start end t) (given_to r.0 (take i given)) 0 ≡ given_to r.0 (take i given) =
-    ap (λ b. cond b (given_to r.0 (take i given)) 0) run in
-    let d = one_more given i r l is in
-    omega (arith, a, b, d, room)
-
-pub some_at : (given : List (Option ResourceId)) (i : ℕ) (r : ResourceId) (t start end : ℕ) (now high : ℕ → ℕ → ℕ)
-    → i < length given → get_or given i None ≡ Some r
-    → AreAbove (take i given) start end now high → in_run start end t ≡ true → given_to r.0 given ≤ high r.0 t
-    → 0 < now r.0 t
-some_at given i r t start end now high l is above run some =
-    let a : high r.0 t ≡ now r.0 t + cond (in_run start end t) (given_to r.0 (take i given)) 0 = above r.0 t in
-    let b : cond (in_run start end t) (given_to r.0 (take i given)) 0 ≡ given_to r.0 (take i given) =
-    ap (λ b. cond b (given_to r.0 (take i given)) 0) run in
-    let d = one_more given i r l is in
-    omega (arith, a, b, d, some)
+-- one slot in place of another
+pub tasks_exchanged : (s : List Slot) (k : ℕ) (y : Slot) → k < length s → (q t : ℕ)
+    → running_tasks (duties_in (set s k y)) q t + cell_in (slot_at s k) q t
+    ≡ running_tasks (duties_in s) q t + cell_in y q t
+tasks_exchanged s k y l q t =
+    let a = cells_are s q t in
+    let b = cells_are (set s k y) q t in
+    let e : cell_of (set s k y) q t + cell_in (slot_at s k) q t ≡ cell_of s q t + cell_in y q t =
+    sum_by-set (λ (x : Slot). cell_in x q t) s k y no_slot l in
+    omega (arith, a, b, e)

@@ -17,6 +17,7 @@ use Rattle.khe_instance.specs.declared.rules.Kind.{Kind}
 use Rattle.khe_instance.specs.declared.rules.Kind.TheVariants as kind
 use Rattle.khe_instance.specs.declared.rules.Rule.{Rule}
 use Rattle.timetables.specs.Counts.{row_of, count_at}
+use Rattle.resource_monitors.specs.Posts.{AreSame}
 
 abbrev pub is_at_cells : Kind → Bool
 is_at_cells kind.AvoidClashes = true
@@ -62,10 +63,10 @@ lists p m t = option_map_or (λ c. lists_time c.rule t) (slice_get p.constraints
 abbrev pub lists_any : Parts → ℕ → ℕ → Monitor → Bool
 lists_any p start end m = list_any (λ t. lists p m t) (range_with_len start (end - start))
 
--- a count above this was and is above 0, when it rises for each of so many places or falls
-abbrev pub limit_for : Bool → ℕ → ℕ
-limit_for true places = places
-limit_for false places = 0
+-- a count above this was and is above 0, when it rises for one place or falls
+abbrev pub limit_for : Bool → ℕ
+limit_for true = 1
+limit_for false = 0
 
 -- whether one of a resource's counts in a run is no more than a limit
 abbrev pub is_low : List (List ℕ) → ℕ → ℕ → ℕ → ℕ → Bool
@@ -97,6 +98,10 @@ pub record AreRaised (r start end : ℕ) (low high : List (List ℕ)) : Type 0 w
   pub resources : length high ≡ length low
   pub times : (q : ℕ) → length (row_of high q) ≡ length (row_of low q)
   pub counts : (q t : ℕ) → count_at high q t ≡ count_at low q t + (if (r == q) && in_run start end t then 1 else 0)
+
+-- a served monitor that does not wait measures the same by both
+abbrev pub AreMeasuredSame : Parts → (Kind → Bool) → (ℕ → Bool) → List (List ℕ) → List (List ℕ) → Type 0
+AreMeasuredSame p served waits old new = AreSame p served waits (value_in p old) (value_in p new)
 
 -- each count is above another by as many places as are given the resource, in a run
 abbrev pub AreAbove : List (Option ResourceId) → ℕ → ℕ → (ℕ → ℕ → ℕ) → (ℕ → ℕ → ℕ) → Type 0

@@ -1,15 +1,14 @@
 -- The monitors that a keeper serves, for each resource.
-use Rattle.std.specs.Prelude.{ℕ, ◌≡◌, ◌<◌, ◌+◌, ◌&&◌, Bool, true, if◌then◌else◌, Option, Some, List, [], ◌∷◌, length}
-use Rattle.std.specs.Prelude.{slice_get, slice_index_or, count_by}
-use Rattle.std.specs.List.{sum_by}
+use Rattle.std.specs.Prelude.{ℕ, ◌≡◌, ◌<◌, ◌+◌, ◌&&◌, ◌⊎◌, Bool, true, false, if◌then◌else◌, Option, Some, List, []}
+use Rattle.std.specs.Prelude.{◌∷◌, length}
+use Rattle.std.specs.Prelude.{slice_get, slice_index_or}
 use Rattle.std.specs.Option.{option_map_or}
 use Rattle.khe_base.specs.declared.numbers.ResourceId.{ResourceId}
 use Rattle.khe_instance.specs.Watching.{is_at}
 use Rattle.khe_instance.specs.declared.parts.Parts.{Parts}
 use Rattle.khe_instance.specs.declared.points.Monitor.{Monitor}
-use Rattle.khe_instance.specs.declared.points.Point.TheVariants.{Resource}
 use Rattle.khe_instance.specs.declared.rules.Kind.{Kind}
-use Rattle.khe_told.specs.Waits.{WaitAsBefore, WaitOn}
+use Rattle.khe_told.specs.Waits.{WaitOn}
 use Rattle.resource_monitors.specs.declared.posts.Post.{Post}
 
 -- a monitor with its number
@@ -42,27 +41,17 @@ list_for served monitors place = option_map_or (λ r. posts_of served monitors r
 abbrev pub ArePosts : Parts → List Post → Type 0
 ArePosts p list = (k : ℕ) (a : Post) → slice_get list k ≡ Some a → slice_get p.monitors a.number.0 ≡ Some a.monitor
 
--- the first posts of a list that pass a test wait, those that waited wait on, and nobody else comes
+-- a post of a list that passes a test has this number
+abbrev pub IsDueIn : (Monitor → Bool) → List Post → ℕ → Type 0
+IsDueIn test list i = (j : ℕ) × (a : Post) × (slice_get list j ≡ Some a) × (a.number.0 ≡ i) × (test a.monitor ≡ true)
+
+-- the first posts of a list that pass a test wait, those that waited wait on, and no other comes
 pub record AreAdded (test : Monitor → Bool) (list : List Post) (k : ℕ) (old new : ℕ → Bool) : Type 0 where
   pub each : (j : ℕ) (a : Post) → j < k → slice_get list j ≡ Some a → test a.monitor ≡ true → new a.number.0 ≡ true
   pub kept : WaitOn old new
-  pub others : (i : ℕ) → ((j : ℕ) (a : Post) → slice_get list j ≡ Some a → a.number.0 ≡ i → ⊥) → new i ≡ old i
+  pub only : (i : ℕ) → new i ≡ true → (old i ≡ true) ⊎ IsDueIn test list i
 
--- so do all that are at what the first places are given
-pub record AreAllAdded (p : Parts) (served : Kind → Bool) (test : Monitor → Bool) (given : List (Option ResourceId))
-    (k : ℕ) (old new : ℕ → Bool) : Type 0 where
-  pub each : (i : ℕ) (m : Monitor) (q : ResourceId) (j : ℕ) → j < k → slice_get given j ≡ Some (Some q)
-      → slice_get p.monitors i ≡ Some m → served m.kind ≡ true → m.point ≡ Resource q → test m ≡ true
-      → new i ≡ true
-  pub kept : WaitOn old new
-  pub others : WaitAsBefore p served old new
-
--- how many posts pass a test, and those of what a place is given
-abbrev pub due : (Monitor → Bool) → List Post → ℕ
-due test list = count_by (λ a. test a.monitor) list
-
-abbrev pub due_for : (Kind → Bool) → List Monitor → (Monitor → Bool) → Option ResourceId → ℕ
-due_for served monitors test place = due test (list_for served monitors place)
-
-abbrev pub due_all : (Kind → Bool) → List Monitor → (Monitor → Bool) → List (Option ResourceId) → ℕ
-due_all served monitors test given = sum_by (due_for served monitors test) given
+-- a served monitor that does not wait has the same by two measures
+abbrev pub AreSame : Parts → (Kind → Bool) → (ℕ → Bool) → (Monitor → ℕ) → (Monitor → ℕ) → Type 0
+AreSame p served waits old new = (i : ℕ) (m : Monitor) → slice_get p.monitors i ≡ Some m → served m.kind ≡ true
+    → waits i ≡ false → new m ≡ old m

@@ -1,35 +1,32 @@
-ghost use Rattle.std.specs.Prelude.{◌≡◌, ◌≤◌, ◌+◌, ℕ, true, length};
+ghost use Rattle.std.specs.Prelude.{◌≡◌, ℕ, true, length};
 ghost use Rattle.khe_instance.specs.Running.{running_tasks};
-ghost use Rattle.khe_told.specs.Changes.{after};
-ghost use Rattle.khe_told.specs.Fits.{AreTold, Fits};
 ghost use Rattle.khe_told.specs.Lists.{duties_in};
-ghost use Rattle.khe_told.specs.Waits.{AreUnmoved, WaitAsBefore, WaitOn};
-ghost use Rattle.khe_told.specs.Watchers.{served_watchers};
+ghost use Rattle.khe_told.specs.Turns.{AreWatchers, IsTurn, turned};
+ghost use Rattle.khe_told.specs.Waits.{AreUnmoved, WaitOn};
 ghost use Rattle.timetables.specs.Counts.{count_at};
 ghost use Rattle.resource_monitors.specs.Cells.{HasRows};
 ghost use Rattle.resource_monitors.specs.Posts.{AreLists};
 ghost use Rattle.resource_monitors.specs.Sets.{room_for};
 
 use crate::kinds::CellKinds;
+use crate::places::follow_all;
 use crate::posts::{Post, lists_of};
 use crate::rooms::TimeSets;
-use crate::runs::{given_by, limit_for, named_by, run_of};
+use crate::runs::run_of;
 use crate::tables::CellTable;
-use crate::turns::turn_all;
 use crate::values::value;
-use crate::waits::add_all;
 use family_keepers::Keeper;
 use khe_base::{MonitorId, NoMemory, Seq};
 use khe_instance::{Instance, Kind};
-use khe_told::{Change, Told, Waits};
+use khe_told::{Told, Turn, Waits};
 use std::alloc::Global;
 use std::marker::PhantomData;
 
 /// A keeper of kinds that are measured by how many tasks of a resource run at each time.
 ///
 /// It keeps a timetable, the masks of the constraints' sets of times and for each resource the
-/// monitors at it. A change turns the counts of the cells that it fills or empties, and then the
-/// monitors at their resources wait that list one of the times. Monitors that are measured by busy
+/// monitors at it. A slot that becomes another turns the counts of the cells that are emptied or filled, and
+/// then the monitors at their resources wait that list one of the times. Monitors that are measured by busy
 /// times alone are passed over where no resource may have become busy or free.
 #[derive(Drop)]
 pub struct Cells<K> {
@@ -39,53 +36,44 @@ pub struct Cells<K> {
     kinds: PhantomData<K>,
 }
 
-/// Turns the counts by a change, and lets the monitors wait that list one of its times. What was told is the
-/// state before the change. It takes time in proportion to the places times the run, and for each monitor at
-/// what a place is given time in proportion to the run at most.
+/// Turns the counts where a slot becomes another, and lets the monitors wait that list one of the times. What
+/// was told is the state before. It takes time in proportion to the places times the times, and for each monitor
+/// at what a place is given time in proportion to the times at most; where the meet has no start before and none
+/// after it takes constant time.
 fn turn_cells<K: CellKinds, W: Waits>(
     inst: &Instance,
     told: &Told,
-    change: Change,
+    turn: &Turn<'_>,
     sets: &TimeSets,
     lists: &[Seq<Post>],
     table: &mut CellTable,
     waits: &mut W,
 )
-    requires told { AreTold inst.now told.now }
-    requires fits { Fits inst.now told.now change }
+    requires turns { IsTurn inst.now told.now turn.now }
     requires sets { sets.now ≡ room_for inst.now }
     requires lists { AreLists K.serves_kind (length inst.now.resources) inst.now.monitors lists.now }
     requires rows { HasRows inst.now table.old }
     requires counts { (r t : ℕ) → count_at table.old r t ≡ running_tasks (duties_in told.now) r t }
     requires monitors { W.monitors waits.old ≡ length inst.now.monitors }
     ensures rows { HasRows inst.now table.new }
-    ensures counts { (r t : ℕ) → count_at table.new r t ≡ running_tasks (duties_in (after told.now change)) r t }
+    ensures counts { (r t : ℕ) → count_at table.new r t ≡ running_tasks (duties_in (turned told.now turn.now)) r t }
     ensures monitors { W.monitors waits.new ≡ W.monitors waits.old }
-    ensures unmoved { W.hears ≡ true → AreUnmoved inst.now K.serves_kind (W.waits waits.new) told.now (after told.now change) }
+    ensures unmoved { W.hears ≡ true → AreUnmoved inst.now K.serves_kind (W.waits waits.new) told.now (turned told.now turn.now) }
     ensures kept { WaitOn (W.waits waits.old) (W.waits waits.new) }
-    ensures others { WaitAsBefore inst.now K.serves_kind (W.waits waits.old) (W.waits waits.new) }
-    ensures amount { W.amount waits.new ≤ W.amount waits.old + served_watchers inst.now K.serves_kind told.now change }
+    ensures watchers { AreWatchers inst.now turn.now (W.waits waits.old) (W.waits waits.new) }
 {
+    let _ = told;
     inst.facts();
-    let one = [named_by(change)];
-    let given = given_by(told, change, &one);
-    let Some(run) = run_of(inst, told, change) else {
+    let emptied = run_of(turn.before());
+    let filled = run_of(turn.after());
+    if emptied.is_none() && filled.is_none() {
         return;
-    };
-    turn_all(table, given, run);
-    if W::hears() {
-        add_all::<K, W>(
-            inst,
-            sets,
-            table,
-            run.start,
-            run.end,
-            limit_for(run, given),
-            given,
-            lists,
-            waits,
-        );
     }
+    let before = turn.given_before();
+    let later = turn.given_after();
+    follow_all::<K, W>(
+        inst, sets, lists, before, later, emptied, filled, table, waits,
+    );
 }
 
 impl<K: CellKinds> Keeper for Cells<K> {
@@ -115,17 +103,9 @@ impl<K: CellKinds> Keeper for Cells<K> {
         K::serves(kind)
     }
 
-    fn turn<W: Waits>(&mut self, inst: &Instance, told: &Told, change: Change, waits: &mut W) {
+    fn turn<W: Waits>(&mut self, inst: &Instance, told: &Told, turn: &Turn<'_>, waits: &mut W) {
         let lists = self.lists.as_slice();
-        turn_cells::<K, W>(
-            inst,
-            told,
-            change,
-            &self.sets,
-            lists,
-            &mut self.table,
-            waits,
-        );
+        turn_cells::<K, W>(inst, told, turn, &self.sets, lists, &mut self.table, waits);
     }
 
     fn deviation(&self, inst: &Instance, monitor: MonitorId) -> u64 {

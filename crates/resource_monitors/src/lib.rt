@@ -6,6 +6,7 @@ mod cells;
 mod kinds;
 mod masks;
 mod measures;
+mod places;
 mod posts;
 mod rooms;
 mod runs;

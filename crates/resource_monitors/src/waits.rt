@@ -1,9 +1,9 @@
-ghost use Rattle.std.specs.Prelude.{◌≡◌, ◌≤◌, ◌<◌, ◌+◌, ◌&&◌, ◌||◌, ℕ, true, if◌then◌else◌, length, nat_eq, slice_get, Some};
+ghost use Rattle.std.specs.Prelude.{◌≡◌, ◌≤◌, ◌<◌, ◌&&◌, ◌||◌, ℕ, true, length, nat_eq, Some};
 ghost use Rattle.khe_base.specs.declared.numbers.ResourceId.{ResourceId};
 ghost use Rattle.khe_instance.specs.WellMade.{IsMonitor};
 ghost use Rattle.timetables.specs.Counts.{row_of};
 ghost use Rattle.resource_monitors.specs.Cells.{HasRows, is_due, is_due_if, is_low, lists, lists_all, lists_any, may_differ};
-ghost use Rattle.resource_monitors.specs.Posts.{ArePosts, AreLists, AreAdded, AreAllAdded, due, due_for, due_all, list_for};
+ghost use Rattle.resource_monitors.specs.Posts.{ArePosts, AreLists, AreAdded, list_for};
 ghost use Rattle.resource_monitors.specs.Sets.{room_for};
 
 use crate::kinds::{CellKinds, is_by_busy};
@@ -84,7 +84,6 @@ fn add_one<W: Waits>(
     requires known { post.number.0 < W.monitors waits.old }
     ensures monitors { W.monitors waits.new ≡ W.monitors waits.old }
     ensures waits { (k : ℕ) → W.waits waits.new k ≡ (W.waits waits.old k || (is_due_if inst.now start end low post.monitor && nat_eq k post.number.0)) }
-    ensures amount { W.amount waits.new ≤ W.amount waits.old + (if lists_any inst.now start end post.monitor then 1 else 0) }
 {
     if is_due(inst, sets, post.monitor, start, end, low) {
         waits.add(post.number);
@@ -107,7 +106,6 @@ fn add_due<W: Waits>(
     requires monitors { W.monitors waits.old ≡ length inst.now.monitors }
     ensures monitors { W.monitors waits.new ≡ W.monitors waits.old }
     ensures added { AreAdded (is_due_if inst.now start end low) list.now (length list.now) (W.waits waits.old) (W.waits waits.new) }
-    ensures amount { W.amount waits.new ≤ W.amount waits.old + due (lists_any inst.now start end) list.now }
 {
     inst.facts();
     for post in list {
@@ -116,27 +114,28 @@ fn add_due<W: Waits>(
 }
 
 /// Whether one of a resource's counts at the times of a run is no more than a limit.
-fn is_low(table: &CellTable, r: ResourceId, start: u32, end: u32, limit: usize) -> bool
+fn is_low(table: &CellTable, r: ResourceId, start: u32, end: u32, limit: u32) -> bool
     requires resource { r.0 < length table.now }
     requires times { end ≤ length (row_of table.now r.0) }
     ensures { result ≡ is_low table.now start end limit r.0 }
 {
     for t in start..end {
-        if table.count(r, TimeId(t)) as usize <= limit {
+        if table.count(r, TimeId(t)) <= limit {
             return true;
         }
     }
     false
 }
 
-/// Lets those at what a place is given wait that may measure another value.
-fn add_place<K: CellKinds, W: Waits>(
+/// Lets those at what a place is given wait that list one of the times. Where the resource's counts are all above a
+/// limit, those that are measured by busy times alone are passed over.
+pub(crate) fn add_place<K: CellKinds, W: Waits>(
     inst: &Instance,
     sets: &TimeSets,
     table: &CellTable,
     start: u32,
     end: u32,
-    limit: usize,
+    limit: u32,
     place: Option<ResourceId>,
     lists: &[Seq<Post>],
     waits: &mut W,
@@ -150,7 +149,6 @@ fn add_place<K: CellKinds, W: Waits>(
     requires monitors { W.monitors waits.old ≡ length inst.now.monitors }
     ensures monitors { W.monitors waits.new ≡ W.monitors waits.old }
     ensures added { AreAdded (is_due inst.now table.now start end limit) (list_for K.serves_kind inst.now.monitors place) (length (list_for K.serves_kind inst.now.monitors place)) (W.waits waits.old) (W.waits waits.new) }
-    ensures amount { W.amount waits.new ≤ W.amount waits.old + due_for K.serves_kind inst.now.monitors (lists_any inst.now start end) place }
 {
     let Some(r) = place else {
         return;
@@ -158,33 +156,4 @@ fn add_place<K: CellKinds, W: Waits>(
     let low = is_low(table, r, start, end, limit);
     let list = lists[r.0 as usize].as_slice();
     add_due(inst, sets, start, end, low, list, waits);
-}
-
-/// Lets those at what each place is given wait. Where a resource's counts are all above a limit, those that
-/// are measured by busy times alone are passed over.
-pub(crate) fn add_all<K: CellKinds, W: Waits>(
-    inst: &Instance,
-    sets: &TimeSets,
-    table: &CellTable,
-    start: u32,
-    end: u32,
-    limit: usize,
-    given: &[Option<ResourceId>],
-    lists: &[Seq<Post>],
-    waits: &mut W,
-)
-    requires hears { W.hears ≡ true }
-    requires sets { sets.now ≡ room_for inst.now }
-    requires rows { HasRows inst.now table.now }
-    requires times { end ≤ length inst.now.times }
-    requires lists { AreLists K.serves_kind (length inst.now.resources) inst.now.monitors lists.now }
-    requires resources { (j : ℕ) (r : ResourceId) → slice_get given.now j ≡ Some (Some r) → r.0 < length inst.now.resources }
-    requires monitors { W.monitors waits.old ≡ length inst.now.monitors }
-    ensures monitors { W.monitors waits.new ≡ W.monitors waits.old }
-    ensures added { AreAllAdded inst.now K.serves_kind (is_due inst.now table.now start end limit) given.now (length given.now) (W.waits waits.old) (W.waits waits.new) }
-    ensures amount { W.amount waits.new ≤ W.amount waits.old + due_all K.serves_kind inst.now.monitors (lists_any inst.now start end) given.now }
-{
-    for place in given {
-        add_place::<K, W>(inst, sets, table, start, end, limit, *place, lists, waits);
-    }
 }

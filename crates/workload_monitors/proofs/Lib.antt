@@ -1,4 +1,5 @@
 pub mod BoundLaws
 pub mod FollowLaws
 pub mod LoadLaws
+pub mod StepLaws
 pub mod ValueLaws

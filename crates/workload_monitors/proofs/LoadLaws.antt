@@ -1,17 +1,16 @@
--- What a change does to workloads.
-use Rattle.std.proofs.Common.{ℕ, ◌≡◌, ◌≤◌, ◌<◌, ◌+◌, ◌-◌, ◌*◌, ◌/◌, ◌==◌, ◌∙◌, ◌⊎◌, inl, inr, zero, suc, cond, Option}
-use Rattle.std.proofs.Common.{Some, None, List, [], ◌∷◌, set, replicate, length, slice_get, slice_index, refl, sym, ap}
-use Rattle.std.proofs.Common.{subst, arith, sum_by, zero-add}
+-- What tasks are worth, and what one task more or less does to workloads.
+use Rattle.std.proofs.Common.{ℕ, ◌≡◌, ◌≤◌, ◌<◌, ◌+◌, ◌-◌, ◌*◌, ◌/◌, ◌^◌, ◌==◌, ◌∙◌, ◌⊎◌, inl, inr, zero, suc, cond}
+use Rattle.std.proofs.Common.{Option}
+use Rattle.std.proofs.Common.{Bool, true, false, Some, None, List, [], ◌∷◌, get_or, set, take, replicate, length}
+use Rattle.std.proofs.Common.{slice_get}
+use Rattle.std.proofs.Common.{slice_index, refl, sym, ap, subst, arith, sum_by, zero-add}
 use Rattle.std.specs.Option.{option_map_or}
 use Rattle.std.proofs.Math.Nat.{zero-mul}
-use Rattle.std.proofs.lemmas.Bool.{cases_eq, eq-eqb, ne_eqb}
+use Rattle.std.proofs.lemmas.Bool.{cases_eq, eq-eqb, ne_eqb, true≢false}
 use Rattle.std.proofs.lemmas.List.{get_or-set_same, get_or-set_other}
 use Rattle.std.proofs.lemmas.List.Sums.{sum_by-append, sum_by-cons, sum_by-set}
-use Rattle.std.proofs.lemmas.Option.{none-some, same_Some}
 use Rattle.khe_base.specs.declared.numbers.EventId.{EventId}
-use Rattle.khe_base.specs.declared.numbers.MeetId.{MeetId}
 use Rattle.khe_base.specs.declared.numbers.ResourceId.{ResourceId}
-use Rattle.khe_base.specs.declared.numbers.TimeId.{TimeId}
 use Rattle.khe_instance.specs.ResourceDeviation.{workload_in, workload_of}
 use Rattle.khe_instance.specs.Running.{is_resource}
 use Rattle.khe_instance.specs.declared.parts.EventInfo.{EventInfo}
@@ -19,28 +18,18 @@ use Rattle.khe_instance.specs.declared.parts.Parts.{Parts}
 use Rattle.khe_instance.specs.declared.parts.Place.{Place}
 use Rattle.khe_instance.specs.declared.states.Duty.{Duty}
 use Rattle.khe_instance.specs.declared.states.Meet.{Meet}
-use Rattle.khe_told.specs.Changes.{after, changed, meet_of}
-use Rattle.khe_told.specs.Fits.{Suits}
 use Rattle.khe_told.specs.Lists.{duties_in, duties_of, duties_with}
 use Rattle.khe_told.specs.Slots.{IsBareIfFree, length_of, no_slot, slot_at}
-use Rattle.khe_told.specs.declared.changes.Change.{Change}
-use Rattle.khe_told.specs.declared.changes.Change.TheVariants.{Add, Drop, Place as PlaceAt, Lift, Give, Take}
 use Rattle.khe_told.specs.declared.slots.Slot.{Slot}
-use Rattle.workload_monitors.specs.Loads.{worth_in}
+use Rattle.khe_told.specs.declared.slots.Span.{Span}
+use Rattle.workload_monitors.specs.Loads.{CanTurn, Turned, part_of, worth_at, worths_of}
 
 module _ (p : Parts) (q : ℕ) where
-  -- what a task, the tasks of a slot and those of all slots are worth to the resource
+  -- what a task, and the tasks of a slot are worth to the resource
   abbrev share : Duty → ℕ
   share d = cond (is_resource q d.resource) (workload_of p.events p.unit d) 0
 
-  abbrev share_at : Meet → ℕ → Option ResourceId → ℕ
-  share_at m place o = cond (is_resource q o) (workload_of p.events p.unit
-      (record { meet = m; place = place; resource = None })) 0
-
-  abbrev shares : Meet → ℕ → List (Option ResourceId) → ℕ
-  shares m place given = sum_by share (duties_with m place given)
-
-  abbrev load_of : Slot → ℕ
+  abbrev pub load_of : Slot → ℕ
   load_of x = sum_by share (duties_of x)
 
   loads_are : (s : List Slot) → workload_in p.events p.unit (duties_in s) q ≡ sum_by load_of s
@@ -49,162 +38,85 @@ module _ (p : Parts) (q : ℕ) where
       sum_by-append share (duties_of x) (duties_in s) ∙ ap (λ n. load_of x + n) (loads_are s)
       ∙ sym (sum_by-cons load_of x s)
 
+  shares : (m : Meet) (place : ℕ) (given : List (Option ResourceId))
+      → sum_by share (duties_with m place given) ≡ worths_of p m.event m.duration place given q
+  shares m place [] = refl
+  shares m place (o ∷ given) =
+      sum_by-cons share (record { meet = m; place = place; resource = o }) (duties_with m (place + 1) given)
+      ∙ ap (λ n. share (record { meet = m; place = place; resource = o }) + n) (shares m (place + 1) given)
+
   -- where nothing is given
-  nothing_given : (m : Meet) (place n : ℕ) → shares m place (replicate n None) ≡ 0
-  nothing_given m place zero = refl
-  nothing_given m place (suc n) =
-      sum_by-cons share (record { meet = m; place = place; resource = None })
-      (duties_with m (place + 1) (replicate n None))
-      ∙ zero-add (shares m (place + 1) (replicate n None)) ∙ nothing_given m (place + 1) n
+  nothing : (e : EventId) (d place n : ℕ) → worths_of p e d place (replicate n None) q ≡ 0
+  nothing e d place zero = refl
+  nothing e d place (suc n) = zero-add (worths_of p e d (place + 1) (replicate n None) q) ∙ nothing e d (place + 1) n
 
-  bare : (m : Meet) (given : List (Option ResourceId)) → given ≡ replicate (length given) None → shares m 0 given ≡ 0
-  bare m given h = ap (shares m 0) h ∙ nothing_given m 0 (length given)
-
-  -- a start is worth nothing
-  started : (meet : MeetId) (event : EventId) (d : ℕ) (a b : Option TimeId) (place : ℕ)
-      (given : List (Option ResourceId))
-      → shares (record { meet = meet; event = event; duration = d; start = a }) place given
-      ≡ shares (record { meet = meet; event = event; duration = d; start = b }) place given
-  started meet event d a b place [] = refl
-  started meet event d a b place (o ∷ given) =
-      sum_by-cons share (record {
-        meet = record { meet = meet; event = event; duration = d; start = a };
-        place = place;
-        resource = o;
-      }) (duties_with (record { meet = meet; event = event; duration = d; start = a }) (place + 1)
-      given)
-      ∙ ap (λ n. share (record {
-        meet = record { meet = meet; event = event; duration = d; start = a };
-        place = place;
-        resource = o;
-      }) + n) (started meet event d a b (place + 1) given)
-      ∙ sym (sum_by-cons share (record {
-        meet = record { meet = meet; event = event; duration = d; start = b };
-        place =
-            place;
-        resource = o;
-      }) (duties_with (record { meet = meet; event = event; duration = d; start = b })
-      (place + 1) given))
-
-  -- what one place is given
-  given_set : (m : Meet) (place : ℕ) (given : List (Option ResourceId)) (k : ℕ) (a b : Option ResourceId)
-      → slice_get given k ≡ Some b
-      → shares m place (set given k a) + share_at m (place + k) b ≡ shares m place given + share_at m (place + k) a
-  given_set m place [] k a b h = absurd (none-some b h)
-  given_set m place (o ∷ given) zero a b h =
-      first (shares m (place + 1) given) (share_at m place a) (share_at m place o) (shares m place (a ∷ given))
-      (shares m place (o ∷ given)) (share_at m (place + 0) a) (share_at m (place + 0) b)
-      (sum_by-cons share (record { meet = m; place = place; resource = a }) (duties_with m (place + 1) given))
-      (sum_by-cons share (record { meet = m; place = place; resource = o }) (duties_with m (place + 1) given))
-      (ap (λ n. share_at m n a) same) (ap (λ n. share_at m n b) same ∙ ap (share_at m place) (sym (same_Some o b h)))
+  pub load_is : (x : Slot) → IsBareIfFree x → load_of x ≡ worths_of p x.event (length_of x) 0 x.given q
+  load_is x free = by x.span refl
     where
-      same : place + 0 ≡ place
-      same = omega arith
+      by : (o : Option Span) → x.span ≡ o → load_of (record x { span = o })
+          ≡ worths_of p x.event (length_of (record x { span = o })) 0 x.given q
+      by None e = sym (ap (λ g. worths_of p x.event 0 0 g q) (free e) ∙ nothing x.event 0 0 (length x.given))
+      by (Some y) e =
+          shares (record { meet = x.meet; event = x.event; duration = y.duration; start = y.start }) 0 x.given
 
-      first : (n a o x y c d : ℕ) → x ≡ a + n → y ≡ o + n → c ≡ a → d ≡ o → x + d ≡ y + c
-      first n a o x y c d e f g h = omega (arith, e, f, g, h)
-  given_set m place (o ∷ given) (suc k) a b h =
-      later (share_at m place o) (shares m (place + 1) (set given k a)) (shares m (place + 1) given)
-      (shares m place (o ∷ set given k a)) (shares m place (o ∷ given))
-      (share_at m (place + 1 + k) a) (share_at m (place + 1 + k) b) (share_at m (place + suc k) a)
-      (share_at m (place + suc k) b)
-      (sum_by-cons share (record { meet = m; place = place; resource = o }) (duties_with m (place + 1) (set given k a)))
-      (sum_by-cons share (record { meet = m; place = place; resource = o }) (duties_with m (place + 1) given))
-      (ap (λ n. share_at m n a) same) (ap (λ n. share_at m n b) same) (given_set m (place + 1) given k a b h)
-    where
-      same : place + suc k ≡ place + 1 + k
-      same = omega arith
-
-      later : (o n m x y a b c d : ℕ) → x ≡ o + n → y ≡ o + m → c ≡ a → d ≡ b → n + b ≡ m + a → x + d ≡ y + c
-      later o n m x y a b c d e f g h i = omega (arith, e, f, g, h, i)
-
-  -- what a change gives the resource, and takes from it
-  abbrev pub gained : Slot → Change → ℕ
-  gained x (Give k r) = cond (r.0 == q) (worth_in p x k.place) 0
-  gained x _ = 0
-
-  abbrev pub lost : Slot → Change → ℕ
-  lost x (Take k r) = cond (r.0 == q) (worth_in p x k.place) 0
-  lost x _ = 0
-
-  slot_turned : (x : Slot) (c : Change) → Suits x c → IsBareIfFree x
-      → load_of (changed x c) + lost x c ≡ load_of x + gained x c
-  slot_turned x (Add m d) h free =
-      let a : load_of x ≡ 0 = ap (λ o. load_of (record x { span = o })) h in
-      let b : load_of (changed x (Add m d)) ≡ 0 = bare
-      (record { meet = x.meet; event = x.event; duration = d; start = None }) x.given (free h) in
-      omega (arith, a, b)
-  slot_turned x (Drop m d) h free =
-      let a : load_of x ≡ 0 = ap (λ o. load_of (record x { span = o })) h.0
-      ∙ bare (record { meet = x.meet; event = x.event; duration = d; start = None }) x.given h.1 in
-      let b : load_of (changed x (Drop m d)) ≡ 0 = refl in
-      omega (arith, a, b)
-  slot_turned x (PlaceAt m t) h free =
-      let a : load_of x ≡ shares (record { meet = x.meet; event = x.event; duration = h.0; start = None }) 0 x.given =
-      ap (λ o. load_of (record x { span = o })) h.1 in
-      let b : load_of (changed x (PlaceAt m t)) ≡ shares
-      (record { meet = x.meet; event = x.event; duration = h.0; start = Some t }) 0 x.given =
-      ap (λ o. load_of (changed (record x { span = o }) (PlaceAt m t))) h.1 in
-      let e = started x.meet x.event h.0 None (Some t) 0 x.given in
+  -- one slot in place of another
+  pub loads_exchanged : (s : List Slot) (k : ℕ) (y : Slot) → k < length s
+      → workload_in p.events p.unit (duties_in (set s k y)) q + load_of (slot_at s k)
+      ≡ workload_in p.events p.unit (duties_in s) q + load_of y
+  loads_exchanged s k y l =
+      let a = loads_are s in
+      let b = loads_are (set s k y) in
+      let e : sum_by load_of (set s k y) + load_of (slot_at s k) ≡ sum_by load_of s + load_of y =
+      sum_by-set load_of s k y no_slot l in
       omega (arith, a, b, e)
-  slot_turned x (Lift m t) h free =
-      let a : load_of x ≡ shares (record { meet = x.meet; event = x.event; duration = h.0; start = Some t }) 0 x.given =
-      ap (λ o. load_of (record x { span = o })) h.1 in
-      let b : load_of (changed x (Lift m t)) ≡ shares
-      (record { meet = x.meet; event = x.event; duration = h.0; start = None }) 0 x.given =
-      ap (λ o. load_of (changed (record x { span = o }) (Lift m t))) h.1 in
-      let e = started x.meet x.event h.0 None (Some t) 0 x.given in
-      omega (arith, a, b, e)
-  slot_turned x (Give k r) h free =
-      subst (λ o. load_of (changed (record x { span = o }) (Give k r)) + 0
-      ≡ load_of (record x { span = o }) + gained (record x { span = o }) (Give k r)) (sym h.1)
-      (by (record { meet = x.meet; event = x.event; duration = h.0.duration; start = h.0.start })
-      (given_set (record { meet = x.meet; event = x.event; duration = h.0.duration; start = h.0.start }) 0 x.given
-      k.place (Some r) None h.2))
-    where
-      by : (m : Meet) → shares m 0 (set x.given k.place (Some r)) + 0
-          ≡ shares m 0 x.given + share_at m (0 + k.place) (Some r)
-          → shares m 0 (set x.given k.place (Some r)) + 0 ≡ shares m 0 x.given + share_at m k.place (Some r)
-      by m e = e ∙ ap (λ n. shares m 0 x.given + share_at m n (Some r)) (zero-add k.place)
-  slot_turned x (Take k r) h free =
-      subst (λ o. load_of (changed (record x { span = o }) (Take k r)) + lost (record x { span = o }) (Take k r)
-      ≡ load_of (record x { span = o }) + 0) (sym h.1)
-      (by (record { meet = x.meet; event = x.event; duration = h.0.duration; start = h.0.start })
-      (given_set (record { meet = x.meet; event = x.event; duration = h.0.duration; start = h.0.start }) 0 x.given
-      k.place None (Some r) h.2))
-    where
-      by : (m : Meet) → shares m 0 (set x.given k.place None) + share_at m (0 + k.place) (Some r)
-          ≡ shares m 0 x.given + 0
-          → shares m 0 (set x.given k.place None) + share_at m k.place (Some r) ≡ shares m 0 x.given + 0
-      by m e = sym (ap (λ n. shares m 0 (set x.given k.place None) + share_at m n (Some r)) (zero-add k.place)) ∙ e
 
-  pub loads_turned : (s : List Slot) (c : Change) → meet_of c < length s → Suits (slot_at s (meet_of c)) c
-      → IsBareIfFree (slot_at s (meet_of c))
-      → workload_in p.events p.unit (duties_in (after s c)) q + lost (slot_at s (meet_of c)) c
-      ≡ workload_in p.events p.unit (duties_in s) q + gained (slot_at s (meet_of c)) c
-  loads_turned s c l h free =
-      by (workload_in p.events p.unit (duties_in (after s c)) q) (workload_in p.events p.unit (duties_in s) q)
-      (sum_by load_of (after s c)) (sum_by load_of s) (load_of (slot_at s (meet_of c)))
-      (load_of (changed (slot_at s (meet_of c)) c)) (lost (slot_at s (meet_of c)) c)
-      (gained (slot_at s (meet_of c)) c)
-      (loads_are (after s c)) (loads_are s) (sum_by-set load_of s (meet_of c) (changed (slot_at s (meet_of c)) c)
-      no_slot l) (slot_turned (slot_at s (meet_of c)) c h free)
-    where
-      by : (a b c d x y m n : ℕ) → a ≡ c → b ≡ d → c + x ≡ d + y → y + m ≡ x + n → a + m ≡ b + n
-      by a b c d x y m n e f g h = omega (arith, e, f, g, h)
+  -- the first places
+  module _ (e : EventId) (d : ℕ) where
+    more_by : (place : ℕ) (given : List (Option ResourceId)) (i : ℕ) → i < length given
+        → worths_of p e d place (take (suc i) given) q ≡ worths_of p e d place (take i given) q
+        + part_of (get_or given i None) (worth_at p e d (place + i)) q
+    more_by place [] i l = absurd (omega (arith, l))
+    more_by place (o ∷ given) zero l =
+        let a : part_of o (worth_at p e d (place + 0)) q ≡ part_of o (worth_at p e d place) q =
+        ap (λ n. part_of o (worth_at p e d n) q) (let z : place + 0 ≡ place = omega arith in z) in
+        omega (arith, a)
+    more_by place (o ∷ given) (suc i) l =
+        let r = more_by (place + 1) given i (omega (arith, l)) in
+        let a : part_of (get_or given i None) (worth_at p e d (place + suc i)) q
+        ≡ part_of (get_or given i None) (worth_at p e d (place + 1 + i)) q =
+        ap (λ n. part_of (get_or given i None) (worth_at p e d n) q)
+        (let z : place + suc i ≡ place + 1 + i = omega arith in z) in
+        omega (arith, r, a)
+
+    pub worths_more : (given : List (Option ResourceId)) (i : ℕ) → i < length given
+        → worths_of p e d 0 (take (i + 1) given) q ≡ worths_of p e d 0 (take i given) q
+        + part_of (get_or given i None) (worth_at p e d i) q
+    worths_more given i l =
+        ap (λ n. worths_of p e d 0 (take n given) q) (let z : i + 1 ≡ suc i = omega arith in z) ∙ more_by 0 given i l
+        ∙ ap (λ n. worths_of p e d 0 (take i given) q + part_of (get_or given i None) (worth_at p e d n) q) (zero-add i)
+
+    less_by : (place : ℕ) (given : List (Option ResourceId)) (i : ℕ)
+        → worths_of p e d place (take i given) q ≤ worths_of p e d place given q
+    less_by place [] zero = omega arith
+    less_by place [] (suc i) = omega arith
+    less_by place (o ∷ given) zero = omega arith
+    less_by place (o ∷ given) (suc i) = let r = less_by (place + 1) given i in omega (arith, r)
+
+    pub worths_less : (given : List (Option ResourceId)) (i : ℕ)
+        → worths_of p e d 0 (take i given) q ≤ worths_of p e d 0 given q
+    worths_less given i = less_by 0 given i
 
 -- what a task is worth, by the parts of its place and its event
-pub worth_is : (p : Parts) (x : Slot) (k : ℕ) (e : EventId) (event : EventInfo) (places : List Place)
-    (w d rate unit : ℕ) → e ≡ x.event → slice_get p.events e.0 ≡ Some event → places ≡ event.places
-    → w ≡ option_map_or (λ (q : Place). q.workload) (slice_get places k) 0 → d ≡ length_of x → unit ≡ p.unit
-    → rate ≡ unit / event.duration → w * d * rate ≡ worth_in p x k
-worth_is p x k e event places w d rate unit is there same a b u c =
-    (λ i. (a ∙ ap (λ (qs : List Place). option_map_or (λ (q : Place). q.workload) (slice_get qs k) 0) same) i * b
-    i * (c ∙ ap (λ n. n / event.duration) u) i)
-    ∙ by (slice_get event.places k) (length_of x) (p.unit / event.duration)
+pub worth_is : (p : Parts) (e : EventId) (d k : ℕ) (event : EventInfo) (places : List Place) (w rate unit : ℕ)
+    → slice_get p.events e.0 ≡ Some event → places ≡ event.places
+    → w ≡ option_map_or (λ (q : Place). q.workload) (slice_get places k) 0 → unit ≡ p.unit
+    → rate ≡ unit / event.duration → w * d * rate ≡ worth_at p e d k
+worth_is p e d k event places w rate unit there same a u c =
+    (λ i. (a ∙ ap (λ (qs : List Place). option_map_or (λ (q : Place). q.workload) (slice_get qs k) 0) same) i * d
+    * (c ∙ ap (λ n. n / event.duration) u) i)
+    ∙ by (slice_get event.places k) d (p.unit / event.duration)
     ∙ sym (ap (λ o. option_map_or (λ (y : EventInfo). option_map_or
-    (λ (q : Place). q.workload * length_of x * (p.unit / y.duration)) (slice_get y.places k) 0) o 0)
-    (ap (λ (y : EventId). slice_get p.events y.0) (sym is) ∙ there))
+    (λ (q : Place). q.workload * d * (p.unit / y.duration)) (slice_get y.places k) 0) o 0) there)
   where
     by : (o : Option Place) (n m : ℕ) → option_map_or (λ (q : Place). q.workload) o 0 * n * m
         ≡ option_map_or (λ (q : Place). q.workload * n * m) o 0
@@ -245,3 +157,23 @@ lowered loads r w q l m = by (cases_eq r q)
         get_or-set_other loads r q (slice_index loads r - w) 0 (λ h. n (sym h)) in
         let b : cond (r == q) w 0 ≡ 0 = ap (λ b. cond b w 0) (ne_eqb r q n) in
         omega (arith, a, b)
+
+pub risen : (b : Bool) (r : ResourceId) (w : ℕ) (old new : List ℕ) → b ≡ true → r.0 < length old
+    → new ≡ set old r.0 (slice_index old r.0 + w) → Turned b (Some r) w old new
+risen b r w old new h l is = subst (λ c. Turned c (Some r) w old new) (sym h)
+    (λ q. ap (λ xs. slice_index xs q) is ∙ raised old r.0 w q l)
+
+pub fallen : (b : Bool) (r : ResourceId) (w : ℕ) (old new : List ℕ) → b ≡ false → r.0 < length old
+    → w ≤ slice_index old r.0 → new ≡ set old r.0 (slice_index old r.0 - w) → Turned b (Some r) w old new
+fallen b r w old new h l enough is = subst (λ c. Turned c (Some r) w old new) (sym h)
+    (λ q. sym (ap (λ xs. slice_index xs q + part_of (Some r) w q) is ∙ lowered old r.0 w q l enough))
+
+pub room_one : (b : Bool) (r : ResourceId) (w : ℕ) (old : List ℕ) → b ≡ true → CanTurn b (Some r) w old
+    → slice_index old r.0 + w < 2 ^ 128
+room_one true r w old h can = can r refl
+room_one false r w old h can = absurd (true≢false (sym h))
+
+pub enough_one : (b : Bool) (r : ResourceId) (w : ℕ) (old : List ℕ) → b ≡ false → CanTurn b (Some r) w old
+    → w ≤ slice_index old r.0
+enough_one false r w old h can = can r refl
+enough_one true r w old h can = absurd (true≢false h)

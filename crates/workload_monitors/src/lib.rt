@@ -7,6 +7,7 @@ mod keepers;
 mod limit_workload;
 mod loads;
 mod posts;
+mod turns;
 mod values;
 mod waits;
 

@@ -1,11 +1,11 @@
-use crate::loads::{named_by, no_loads, turn};
+use crate::loads::no_loads;
 use crate::posts::lists_of;
+use crate::turns::turn_loads;
 use crate::values::value;
-use crate::waits::add_all;
 use family_keepers::{Keeper, Keeping};
 use khe_base::{MonitorId, NoMemory, Seq};
 use khe_instance::{Instance, Kind};
-use khe_told::{Change, Told, Waits};
+use khe_told::{Told, Turn, Waits};
 use resource_monitors::Post;
 use std::alloc::Global;
 
@@ -15,8 +15,8 @@ pub type LimitWorkload = Keeping<Workloads>;
 /// The keeper of Limit Workload.
 ///
 /// It keeps the workload of each resource in whole parts of one over the instance's unit, so that
-/// a deviation is rounded once. Only a change that gives or takes a resource alters a workload, and
-/// then the monitors on it wait; every other change takes constant time.
+/// a deviation is rounded once. Only a turn that gives a place something else, or another duration, alters a
+/// workload, and then the monitors on it wait; every other turn takes constant time.
 #[derive(Drop)]
 pub struct Workloads {
     loads: Vec<u128>,
@@ -43,13 +43,13 @@ impl Keeper for Workloads {
         kind == Kind::LimitWorkload
     }
 
-    fn turn<W: Waits>(&mut self, inst: &Instance, told: &Told, change: Change, waits: &mut W) {
+    fn turn<W: Waits>(&mut self, inst: &Instance, told: &Told, turn: &Turn<'_>, waits: &mut W) {
         inst.facts();
-        let Some(r) = named_by(change) else {
+        if !turn.gives_other() && !turn.resizes() {
             return;
-        };
-        turn(inst, told, change, &mut self.loads);
-        add_all(self.lists[r.0 as usize].as_slice(), waits);
+        }
+        let lists = self.lists.as_slice();
+        turn_loads(inst, told, turn, lists, &mut self.loads, waits);
     }
 
     fn deviation(&self, inst: &Instance, monitor: MonitorId) -> u64 {

@@ -1,4 +1,4 @@
-ghost use Rattle.std.specs.Prelude.{◌≡◌, ◌≤◌, ◌<◌, ◌+◌, ℕ, length, slice_get, Some};
+ghost use Rattle.std.specs.Prelude.{◌≡◌, ◌<◌, ℕ, length, slice_get, Some};
 ghost use Rattle.resource_monitors.specs.Posts.{AreAdded};
 ghost use Rattle.resource_monitors.specs.declared.posts.Post.{Post};
 
@@ -10,7 +10,6 @@ pub(crate) fn add_all<W: Waits>(list: &[Post], waits: &mut W)
     requires known { (k : ℕ) (a : Post) → slice_get list.now k ≡ Some a → a.number.0 < W.monitors waits.old }
     ensures monitors { W.monitors waits.new ≡ W.monitors waits.old }
     ensures added { AreAdded (λ m. W.hears) list.now (length list.now) (W.waits waits.old) (W.waits waits.new) }
-    ensures amount { W.amount waits.new ≤ W.amount waits.old + length list.now }
 {
     for post in list {
         waits.add(post.number);

@@ -1,12 +1,11 @@
 -- One more post.
-use Rattle.std.proofs.Common.{◌∙◌, ℕ, Bool, cond, get_or, arith}
-use Rattle.std.proofs.lemmas.List.Sums.{sum_by_more}
+use Rattle.std.proofs.Common.{◌∙◌, Bool, get_or, arith}
 use Rattle.std.proofs.lemmas.Option.{slice_get-get_or, slice_get_within}
 use Rattle.khe_instance.proofs.MadeLemmas.{monitor_made}
 use Rattle.khe_instance.specs.declared.points.Monitor.{Monitor}
 use Rattle.khe_instance.specs.declared.points.Point.TheVariants as point
 use Rattle.khe_instance.specs.declared.rules.Kind.TheVariants as kind
-use Rattle.resource_monitors.specs.Cells.{is_due_if, lists_any}
+use Rattle.resource_monitors.specs.Cells.{is_due_if}
 use Rattle.resource_monitors.specs.declared.posts.Post.{Post}
 use Rattle.resource_monitors.proofs.WaitLaws.{added_step}
 use Rattle.resource_monitors.proofs.waits.add_due.Goals as goal
@@ -38,15 +37,9 @@ loop-post-preserved g c =
     let i = c.loop-post.post-index in
     let a : Post = get_or list i no_post in
     let there = slice_get-get_or list i no_post c.loop-post-test.true in
-    let test : Monitor → Bool = lists_any p c.args.start c.args.end in
     let due : Monitor → Bool = is_due_if p c.args.start c.args.end c.args.low in
     record {
       same = c.add_one.ensures.monitors ∙ c.loop-post.invariant.same;
       added = added_step due list i a (g.W.Waits.waits c.args.waits.now) (g.W.Waits.waits c.loop-post.waits)
           (g.W.Waits.waits c.add_one.new.waits) there c.add_one.ensures.waits c.loop-post.invariant.added;
-      amount =
-          let x = c.add_one.ensures.amount in
-          let y = c.loop-post.invariant.amount in
-          let z = sum_by_more (λ (b : Post). cond {A = ℕ} (test b.monitor) 1 0) list i no_post c.loop-post-test.true in
-          omega (arith, x, y, z);
     }

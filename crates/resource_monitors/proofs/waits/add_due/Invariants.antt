@@ -1,6 +1,6 @@
-use Rattle.std.proofs.Common.{◌≡◌, ◌≤◌, ◌+◌, take}
-use Rattle.resource_monitors.specs.Cells.{is_due_if, lists_any}
-use Rattle.resource_monitors.specs.Posts.{AreAdded, due}
+use Rattle.std.proofs.Common.{◌≡◌}
+use Rattle.resource_monitors.specs.Cells.{is_due_if}
+use Rattle.resource_monitors.specs.Posts.{AreAdded}
 use Rattle.resource_monitors.proofs.waits.add_due.Given as goal
 
 abbrev pub invariant-loop-post : goal.invariant-loop-post
@@ -9,6 +9,4 @@ invariant-loop-post g l =
       same : g.W.Waits.monitors l.waits ≡ g.W.Waits.monitors l.fn.waits;
       added : AreAdded (is_due_if l.inst l.start l.end l.low) l.list l.post-index (g.W.Waits.waits l.fn.waits)
           (g.W.Waits.waits l.waits);
-      amount : g.W.Waits.amount l.waits ≤ g.W.Waits.amount l.fn.waits + due (lists_any l.inst l.start l.end)
-          (take l.post-index l.list);
     }

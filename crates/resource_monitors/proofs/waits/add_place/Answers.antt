@@ -1,8 +1,8 @@
 -- The list of a place's resource.
 use Rattle.std.proofs.Common.{◌≡◌, ◌∙◌, length, sym, ap, arith}
-use Rattle.resource_monitors.specs.Cells.{is_due, is_due_if, is_low, lists_any}
-use Rattle.resource_monitors.specs.Posts.{due_for, posts_of}
-use Rattle.resource_monitors.proofs.PlaceLaws.{added_fewer, added_for, added_none, are_posts, due_at, due_for_is, list_at}
+use Rattle.resource_monitors.specs.Cells.{is_due, is_due_if, is_low}
+use Rattle.resource_monitors.specs.Posts.{posts_of}
+use Rattle.resource_monitors.proofs.PlaceLaws.{added_alike, added_for, added_none, are_posts, due_at, list_at}
 use Rattle.resource_monitors.proofs.waits.add_place.Goals as goal
 
 pub bounds-lists-r : goal.bounds-lists-r
@@ -28,26 +28,13 @@ returns-clause-added g c =
     sym c.is_low-low.ensures in
     added_for p.monitors (is_due p c.args.table.now c.args.start c.args.end c.args.limit) served c.args.place r list
     (g.W.Waits.waits c.args.waits.now) (g.W.Waits.waits c.add_due.new.waits) c.in-Some.is is
-    (added_fewer (is_due_if p c.args.start c.args.end c.is_low-low.result)
+    (added_alike (is_due_if p c.args.start c.args.end c.is_low-low.result)
     (is_due p c.args.table.now c.args.start c.args.end c.args.limit) list (length list) _ _
-    (λ j a h t. ap (λ b. is_due_if p c.args.start c.args.end b a.monitor) (sym low)
-    ∙ due_at p served c.args.table.now c.args.start c.args.end c.args.limit r list is j a h t)
+    (λ j a h. due_at p served c.args.table.now c.args.start c.args.end c.args.limit r list is j a h
+    ∙ ap (λ b. is_due_if p c.args.start c.args.end b a.monitor) low)
     c.add_due.ensures.added)
-
-pub returns-clause-amount : goal.returns-clause-amount
-returns-clause-amount g c = let a = due_for_is c.args.inst.now (lists_any c.args.inst.now c.args.start c.args.end)
-    g.K.CellKinds.serves_kind c.args.place c.in-Some.r c.as_slice-list.result.now c.in-Some.is
-    (list_at g.K.CellKinds.serves_kind (length c.args.inst.now.resources) c.args.inst.now.monitors c.args.lists.now
-    c.in-Some.r.0 c.index-lists-r.result c.as_slice-list.result.now c.requires.lists
-    (c.requires.resource c.in-Some.r c.in-Some.is) c.index-lists-r.is c.as_slice-list.ensures) in let b =
-    c.add_due.ensures.amount in omega (arith, a, b)
 
 pub returns-in_default-clause-added : goal.returns-in_default-clause-added
 returns-in_default-clause-added g c = added_none c.args.inst.now.monitors
     (is_due c.args.inst.now c.args.table.now c.args.start c.args.end c.args.limit) g.K.CellKinds.serves_kind
     c.args.place (g.W.Waits.waits c.args.waits.now) c.in_default.is
-
-pub returns-in_default-clause-amount : goal.returns-in_default-clause-amount
-returns-in_default-clause-amount g c = let a =
-    ap (due_for g.K.CellKinds.serves_kind c.args.inst.now.monitors (lists_any c.args.inst.now c.args.start c.args.end))
-    c.in_default.is in omega (arith, a)

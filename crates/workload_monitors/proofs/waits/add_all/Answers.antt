@@ -34,8 +34,4 @@ loop-post-preserved g c =
       added = added_step (λ m. g.W.Waits.hears) list i a (g.W.Waits.waits c.args.waits.now)
           (g.W.Waits.waits c.loop-post.waits) (g.W.Waits.waits c.add.new.self) there c.add.ensures.waits
           c.loop-post.invariant.added;
-      amount =
-          let x = c.add.ensures.amount in
-          let y = c.loop-post.invariant.amount in
-          omega (arith, x, y);
     }

@@ -1,4 +1,4 @@
-use Rattle.std.proofs.Common.{◌≡◌, ◌≤◌, ◌+◌}
+use Rattle.std.proofs.Common.{◌≡◌}
 use Rattle.resource_monitors.specs.Posts.{AreAdded}
 use Rattle.workload_monitors.proofs.waits.add_all.Given as goal
 
@@ -6,6 +6,6 @@ abbrev pub invariant-loop-post : goal.invariant-loop-post
 invariant-loop-post g l =
     record {
       same : g.W.Waits.monitors l.waits ≡ g.W.Waits.monitors l.fn.waits;
-      added : AreAdded (λ m. g.W.Waits.hears) l.list l.post-index (g.W.Waits.waits l.fn.waits) (g.W.Waits.waits l.waits);
-      amount : g.W.Waits.amount l.waits ≤ g.W.Waits.amount l.fn.waits + l.post-index;
+      added : AreAdded (λ m. g.W.Waits.hears) l.list l.post-index (g.W.Waits.waits l.fn.waits)
+          (g.W.Waits.waits l.waits);
     }

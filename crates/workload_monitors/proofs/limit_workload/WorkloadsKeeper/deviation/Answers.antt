@@ -17,8 +17,8 @@ value-requires-clause-monitor c = monitor_made c.args.inst.now c.facts.ensures _
 pub value-requires-clause-small : goal.value-requires-clause-small
 value-requires-clause-small c =
     subst (λ xs. (r : ℕ) → slice_index xs r ≤ GREATEST_DEVIATION * c.args.inst.now.unit) (sym c.as_slice.ensures.value)
-    (small_then c.args.inst.now c.facts.ensures c.requires.keeps.0 c.requires.keeps.1.told c.requires.keeps.0
-    c.args.self.now.loads.items c.requires.keeps.1.told c.requires.keeps.1.loads_all)
+    (small_then c.args.inst.now c.facts.ensures c.requires.keeps.0 c.args.self.now.loads.items
+    c.requires.keeps.1.told c.requires.keeps.1.loads_all)
 
 pub returns-clause-value : goal.returns-clause-value
 returns-clause-value c = λ s keeps.
@@ -39,6 +39,6 @@ returns-clause-small c =
     let m = c.monitor-of.result in
     let is : IsMonitor p m = monitor_made p c.facts.ensures _ _ c.monitor-of.ensures in
     let l = value_small p c.facts.ensures c.args.self.now.loads.items
-    (small_then p c.facts.ensures s kept.told s c.args.self.now.loads.items kept.told kept.loads_all) m is in
+    (small_then p c.facts.ensures s c.args.self.now.loads.items kept.told kept.loads_all) m is in
     let e = c.value.ensures ∙ ap (λ xs. value_in p xs m) c.as_slice.ensures.value in
     omega (arith, l, e)

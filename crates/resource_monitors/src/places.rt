@@ -1,0 +1,142 @@
+ghost use Rattle.std.specs.Prelude.{◌≡◌, ◌≤◌, ◌+◌, ◌<◌, ◌∷◌, [], ℕ, true, false, length, Some};
+ghost use Rattle.khe_base.specs.declared.limits.TheConstants.{GREATEST_COUNT};
+ghost use Rattle.khe_base.specs.declared.numbers.ResourceId.{ResourceId};
+ghost use Rattle.khe_told.specs.Waits.{WaitOn};
+ghost use Rattle.timetables.specs.Counts.{count_at};
+ghost use Rattle.resource_monitors.specs.Cells.{AreMeasuredSame, HasRows};
+ghost use Rattle.resource_monitors.specs.Posts.{AreLists};
+ghost use Rattle.resource_monitors.specs.Runs.{AreAtEither, AreAtMoved, AreAtRun, AreExchanged, CanExchange, CanTurn, IsWithin, Turned, cells_of};
+ghost use Rattle.resource_monitors.specs.Sets.{room_for};
+ghost use Rattle.resource_monitors.specs.declared.runs.Run.{Run};
+
+use crate::kinds::CellKinds;
+use crate::posts::Post;
+use crate::rooms::TimeSets;
+use crate::runs::{Run, limit_for};
+use crate::tables::CellTable;
+use crate::turns::turn_place;
+use crate::waits::add_place;
+use khe_base::{ResourceId, Seq};
+use khe_instance::Instance;
+use khe_told::Waits;
+
+/// Fills or empties the cells of the resource that a place is given, and lets the monitors at it wait that list one
+/// of the times.
+fn follow_place<K: CellKinds, W: Waits>(
+    inst: &Instance,
+    sets: &TimeSets,
+    lists: &[Seq<Post>],
+    place: Option<ResourceId>,
+    run: Option<Run>,
+    rises: bool,
+    table: &mut CellTable,
+    waits: &mut W,
+)
+    requires sets { sets.now ≡ room_for inst.now }
+    requires lists { AreLists K.serves_kind (length inst.now.resources) inst.now.monitors lists.now }
+    requires rows { HasRows inst.now table.old }
+    requires run { (y : Run) → run ≡ Some y → IsWithin inst.now y }
+    requires resource { (r : ResourceId) → place ≡ Some r → r.0 < length inst.now.resources }
+    requires counts { CanTurn rises place run (count_at table.old) }
+    requires monitors { W.monitors waits.old ≡ length inst.now.monitors }
+    ensures rows { HasRows inst.now table.new }
+    ensures counts { Turned rises place run (count_at table.old) (count_at table.new) }
+    ensures monitors { W.monitors waits.new ≡ W.monitors waits.old }
+    ensures unmoved { W.hears ≡ true → AreMeasuredSame inst.now K.serves_kind (W.waits waits.new) table.old table.new }
+    ensures kept { WaitOn (W.waits waits.old) (W.waits waits.new) }
+    ensures listed { AreAtRun inst.now place run (W.waits waits.old) (W.waits waits.new) }
+{
+    inst.facts();
+    let Some(run) = run else {
+        return;
+    };
+    turn_place(table, place, run, rises);
+    if W::hears() {
+        let limit = limit_for(rises);
+        add_place::<K, W>(
+            inst, sets, table, run.start, run.end, limit, place, lists, waits,
+        );
+    }
+}
+
+/// Whether a place is given the same at the same times.
+fn is_same(
+    before: Option<ResourceId>,
+    later: Option<ResourceId>,
+    emptied: Option<Run>,
+    filled: Option<Run>,
+) -> bool
+    ensures same { result ≡ true → (emptied ≡ filled) × (before ≡ later) }
+    ensures differ { result ≡ false → before ≡ later → emptied ≡ filled → ⊥ }
+{
+    before == later && emptied == filled
+}
+
+/// Empties the cells of what a place is given before, and fills those of what it is given after. Where that is the
+/// same at the same times there is nothing to do.
+fn follow_both<K: CellKinds, W: Waits>(
+    inst: &Instance,
+    sets: &TimeSets,
+    lists: &[Seq<Post>],
+    before: Option<ResourceId>,
+    later: Option<ResourceId>,
+    emptied: Option<Run>,
+    filled: Option<Run>,
+    table: &mut CellTable,
+    waits: &mut W,
+)
+    requires sets { sets.now ≡ room_for inst.now }
+    requires lists { AreLists K.serves_kind (length inst.now.resources) inst.now.monitors lists.now }
+    requires rows { HasRows inst.now table.old }
+    requires emptied { (y : Run) → emptied ≡ Some y → IsWithin inst.now y }
+    requires filled { (y : Run) → filled ≡ Some y → IsWithin inst.now y }
+    requires before { (r : ResourceId) → before ≡ Some r → r.0 < length inst.now.resources }
+    requires later { (r : ResourceId) → later ≡ Some r → r.0 < length inst.now.resources }
+    requires some { (q t : ℕ) → cells_of emptied (before ∷ []) q t ≤ count_at table.old q t }
+    requires room { (q t : ℕ) → count_at table.old q t + cells_of filled (later ∷ []) q t ≤ GREATEST_COUNT + cells_of emptied (before ∷ []) q t }
+    requires monitors { W.monitors waits.old ≡ length inst.now.monitors }
+    ensures rows { HasRows inst.now table.new }
+    ensures counts { AreExchanged emptied filled (before ∷ []) (later ∷ []) (count_at table.old) (count_at table.new) }
+    ensures monitors { W.monitors waits.new ≡ W.monitors waits.old }
+    ensures unmoved { W.hears ≡ true → AreMeasuredSame inst.now K.serves_kind (W.waits waits.new) table.old table.new }
+    ensures kept { WaitOn (W.waits waits.old) (W.waits waits.new) }
+    ensures listed { AreAtEither inst.now before later emptied filled (W.waits waits.old) (W.waits waits.new) }
+{
+    if is_same(before, later, emptied, filled) {
+        return;
+    }
+    follow_place::<K, W>(inst, sets, lists, before, emptied, false, table, waits);
+    follow_place::<K, W>(inst, sets, lists, later, filled, true, table, waits);
+}
+
+/// Empties the cells of what the places are given before, and fills those of what they are given after, and lets the
+/// monitors at them wait that list one of the times.
+pub(crate) fn follow_all<K: CellKinds, W: Waits>(
+    inst: &Instance,
+    sets: &TimeSets,
+    lists: &[Seq<Post>],
+    before: &[Option<ResourceId>],
+    later: &[Option<ResourceId>],
+    emptied: Option<Run>,
+    filled: Option<Run>,
+    table: &mut CellTable,
+    waits: &mut W,
+)
+    requires sets { sets.now ≡ room_for inst.now }
+    requires lists { AreLists K.serves_kind (length inst.now.resources) inst.now.monitors lists.now }
+    requires rows { HasRows inst.now table.old }
+    requires can { CanExchange inst.now emptied filled before.now later.now (count_at table.old) }
+    requires monitors { W.monitors waits.old ≡ length inst.now.monitors }
+    ensures rows { HasRows inst.now table.new }
+    ensures counts { AreExchanged emptied filled before.now later.now (count_at table.old) (count_at table.new) }
+    ensures monitors { W.monitors waits.new ≡ W.monitors waits.old }
+    ensures unmoved { W.hears ≡ true → AreMeasuredSame inst.now K.serves_kind (W.waits waits.new) table.old table.new }
+    ensures kept { WaitOn (W.waits waits.old) (W.waits waits.new) }
+    ensures listed { AreAtMoved inst.now emptied filled before.now later.now (W.waits waits.old) (W.waits waits.new) }
+{
+    for place in 0..before.len() {
+        let old = before[place];
+        let new = later[place];
+        follow_both::<K, W>(inst, sets, lists, old, new, emptied, filled, table, waits);
+    }
+}
