@@ -1,40 +1,32 @@
 -- Monitors that wait, and the deviations of all others: after the families turned, when one that waits is
 -- measured, and when none waits.
-use Rattle.std.proofs.Common.{ℕ, ◌≡◌, ◌<◌, ◌≤◌, ◌⊎◌, ◌≢◌, inl, inr, Bool, true, false, Some, List, length, get_or, set}
-use Rattle.std.proofs.Common.{slice_get, refl, sym, ap, ◌∙◌, arith, ◌+◌, ◌∷◌, add-one, drop, drop-cons, zero, suc}
+use Rattle.std.proofs.Common.{ℕ, ◌≡◌, ◌<◌, ◌≤◌, ◌⊎◌, ◌≢◌, inl, inr, Bool, true, false, cond, Some, List, [], ◌∷◌}
+use Rattle.std.proofs.Common.{length, get_or, set, slice_get, refl, sym, ap, ◌∙◌, subst, arith, ◌+◌, zero, suc}
+use Rattle.std.specs.List.{count_by, sum_by}
 use Rattle.std.specs.Option.{option_map}
 use Rattle.std.specs.Prelude.{IfOk, Result, Ok, Err, replicate}
 use Rattle.std.proofs.Math.Dec.{eqb}
+use Rattle.std.proofs.Math.Option.{some-injective}
 use Rattle.std.proofs.lemmas.Bool.{both_ways}
 use Rattle.std.proofs.lemmas.Bool.Decides.{eqb_tells}
 use Rattle.std.proofs.lemmas.List.{get_or-set_same, get_or-set_other, length-replicate}
+use Rattle.std.proofs.lemmas.List.Sums.{sum_by-cons}
 use Rattle.khe_base.proofs.ListLemmas.{get-set, get-other}
 use Rattle.khe_instance.specs.declared.parts.Parts.{Parts}
 use Rattle.khe_instance.specs.declared.points.Monitor.{Monitor}
 use Rattle.khe_instance.specs.declared.rules.Kind.{Kind}
+use Rattle.khe_instance.proofs.DutiesLemmas.{sum_by-plus}
 use Rattle.khe_told.specs.Agreement.{deviation_in}
-use Rattle.khe_told.specs.Changes.{after}
-use Rattle.khe_told.specs.Waits.{AreUnmoved, WaitOn, Waiters}
-use Rattle.khe_told.specs.Watchers.{served_watchers, watcher_count, watcher_counts}
+use Rattle.khe_told.specs.Changes.{after, meet_of}
+use Rattle.khe_told.specs.Slots.{slot_at}
+use Rattle.khe_told.specs.Waits.{AreUnmoved, Waiters, waits_in}
+use Rattle.khe_told.specs.Watchers.{AreWatchersOf, watch_count, watch_counts, watcher_count, watcher_counts}
 use Rattle.khe_told.specs.declared.changes.Change.{Change}
 use Rattle.khe_told.specs.declared.slots.Slot.{Slot}
 use Rattle.monitor_graph.specs.Boards.{Board, deviations_of}
 use Rattle.khe_engine.specs.Settled.{AreMeasured, IsIdle}
 use Rattle.khe_engine.specs.Values.{HasValues, ServesAll}
-use Rattle.khe_engine.proofs.ValueLaws.{served_few, value_at}
-
--- after one change more, where those that waited wait on
-still_waits : (old new : ℕ → Bool) (i : ℕ) → WaitOn old new → new i ≡ false → old i ≡ false
-still_waits old new i on w = go (old i) refl
-  where
-    go : (t : Bool) → old i ≡ t → old i ≡ false
-    go true e = absurd (both_ways (new i) w (on i e))
-    go false e = e
-
-pub unmoved_more : (p : Parts) (served : Kind → Bool) (old new : ℕ → Bool) (s t u : List Slot) → WaitOn old new
-    → AreUnmoved p served old s t → AreUnmoved p served new t u → AreUnmoved p served new s u
-unmoved_more p served old new s t u on a b i m at kind w = b i m at kind w
-    ∙ a i m at kind (still_waits old new i on w)
+use Rattle.khe_engine.proofs.ValueLaws.{value_at}
 
 -- a graph that had the values still has those of who does not wait
 pub left_measured : (p : Parts) (served : Kind → Bool) (waits : ℕ → Bool) (s t : List Slot) (b : Board)
@@ -75,18 +67,59 @@ another_waits flags k i l w = go (eqb_tells k i)
       sym (get_or-set_other flags k i false false (λ q. b.1 (sym q))) ∙ w,
     )
 
--- one change more lets no more wait than it has watchers
-pub amount_more : (p : Parts) (served : Kind → Bool) (s t : List Slot) (cs : List Change) (i a b n : ℕ) (d : Change)
-    → i < length cs → t ≡ after s (get_or cs i d) → b ≤ a + served_watchers p served s (get_or cs i d)
-    → a + watcher_counts p s (drop i cs) ≤ n
-    → b + watcher_counts p t (drop (i + 1) cs) ≤ n
-amount_more p served s t cs i a b n d l e more before =
-    let c = get_or cs i d in
-    let few = served_few p served s c in
-    let step : watcher_counts p s (drop i cs) ≡ watcher_count p s c + watcher_counts p t (drop (i + 1) cs) =
-    ap (watcher_counts p s) (drop-cons cs i d l ∙ ap (λ n. c ∷ drop n cs) (sym (add-one i)))
-    ∙ ap (λ x. watcher_count p s c + watcher_counts p x (drop (i + 1) cs)) (sym e) in
-    omega (arith, few, step, more, before)
+-- how often all monitors watch changes, together
+counts_sum : (p : Parts) (s : List Slot) (cs : List Change)
+    → sum_by (watch_counts p s cs) p.monitors ≡ watcher_counts p s cs
+unfolding watcher_count
+counts_sum p s [] = none p.monitors
+  where
+    none : (ms : List Monitor) → sum_by (λ m. 0) ms ≡ 0
+    none [] = refl
+    none (m ∷ ms) =
+        let a = sum_by-cons (λ (x : Monitor). 0) m ms in
+        let b = none ms in
+        omega (arith, a, b)
+counts_sum p s (c ∷ cs) =
+    let first = watch_count p (slot_at s (meet_of c)) c in
+    sum_by-plus first (watch_counts p (after s c) cs) p.monitors
+    ∙ ap (λ n. sum_by first p.monitors + n) (counts_sum p (after s c) cs)
+
+-- 1 for true, and 0 for false
+abbrev one_if : Bool → ℕ
+one_if b = cond {A = ℕ} b 1 0
+
+-- where each flag is of something that counts, there are no more flags than the counts together
+flags_few : {A : Type 0} (f : A → ℕ) (flags : List Bool) (xs : List A) → length flags ≡ length xs
+    → ((i : ℕ) → get_or flags i false ≡ true → (x : A) × (slice_get xs i ≡ Some x) × (1 ≤ f x))
+    → count_by (λ (b : Bool). b) flags ≤ sum_by f xs
+flags_few {A} f [] xs long h = omega arith
+flags_few {A} f (b ∷ bs) [] long h = absurd (omega (arith, long))
+flags_few {A} f (b ∷ bs) (x ∷ xs) long h =
+    let a = sum_by-cons one_if b bs in
+    let d = sum_by-cons f x xs in
+    let rest = flags_few f bs xs (omega (arith, long)) (λ i w. h (suc i) w) in
+    let first : one_if b ≤ f x = one b (h 0) in
+    omega (arith, a, d, rest, first)
+  where
+    one : (t : Bool) → (t ≡ true → (y : A) × (slice_get (x ∷ xs) 0 ≡ Some y) × (1 ≤ f y)) → one_if t ≤ f x
+    one false g = omega arith
+    one true g = let y = g refl in subst (λ (z : A). 1 ≤ f z) (sym (some-injective x y.0 y.1)) y.2
+
+-- where nobody waited, no more wait after changes than these have watchers
+pub watchers_few : (p : Parts) (s : List Slot) (cs : List Change) (old new : Waiters) → IsIdle p old
+    → length new.flags ≡ length p.monitors → AreWatchersOf p s cs (waits_in old) (waits_in new)
+    → new.amount ≡ count_by (λ (b : Bool). b) new.flags → new.amount ≤ watcher_counts p s cs
+watchers_few p s cs old new idle long h amount =
+    let a = flags_few (watch_counts p s cs) new.flags p.monitors long (λ i w. watcher i (h i w)) in
+    let b = counts_sum p s cs in
+    omega (arith, a, b, amount)
+  where
+    IsWatcher : ℕ → Type 0
+    IsWatcher i = (m : Monitor) × (slice_get p.monitors i ≡ Some m) × (1 ≤ watch_counts p s cs m)
+
+    watcher : (i : ℕ) → (waits_in old i ≡ true) ⊎ IsWatcher i → IsWatcher i
+    watcher i (inl w) = absurd (both_ways (waits_in old i) (idle.none i) w)
+    watcher i (inr t) = t
 
 -- a list of those that wait is opened
 pub opened_idle : {E : Type 0} (p : Parts) (r : Result Waiters E) (n : ℕ) → n ≡ length p.monitors

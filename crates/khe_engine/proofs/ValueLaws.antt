@@ -1,12 +1,10 @@
 -- A graph whose families serve every kind has the values of the slots that these were told.
-use Rattle.std.proofs.Common.{ℕ, ◌≡◌, ◌<◌, ◌≤◌, Bool, true, false, cond, Some, List, [], ◌∷◌, length, map, get_or}
+use Rattle.std.proofs.Common.{ℕ, ◌≡◌, ◌<◌, Some, List, length, map, get_or}
 use Rattle.std.proofs.Common.{slice_get, sym, ap, ◌∙◌, arith}
-use Rattle.std.specs.List.{sum_by}
 use Rattle.std.specs.Prelude.{not}
 use Rattle.std.specs.Option.{option_map}
 use Rattle.std.proofs.lemmas.Grind.{same_number_lists}
 use Rattle.std.proofs.lemmas.List.{length-map}
-use Rattle.std.proofs.lemmas.List.Sums.{sum_by-cons}
 use Rattle.std.proofs.lemmas.Option.{get_or_from_slice_get, slice_get-map}
 use Rattle.std.proofs.lemmas.Simd.{map-map}
 use Rattle.khe_base.proofs.ListLemmas.{there}
@@ -15,10 +13,6 @@ use Rattle.khe_instance.specs.declared.parts.Parts.{Parts}
 use Rattle.khe_instance.specs.declared.points.Monitor.{Monitor}
 use Rattle.khe_instance.specs.declared.rules.Kind.{Kind}
 use Rattle.khe_told.specs.Agreement.{deviation_in}
-use Rattle.khe_told.specs.Changes.{meet_of}
-use Rattle.khe_told.specs.Slots.{slot_at}
-use Rattle.khe_told.specs.Watchers.{watch_count, watcher_count, served_watchers}
-use Rattle.khe_told.specs.declared.changes.Change.{Change}
 use Rattle.khe_told.specs.declared.slots.Slot.{Slot}
 use Rattle.monitor_graph.specs.Boards.{Board, HaveSameRest, KeepsValues, deviations_of, fixed_of, grouping_of, rate_of}
 use Rattle.monitor_graph.specs.Edits.{is_attached}
@@ -87,26 +81,6 @@ same_groups a b h = record {
   marked = h.marked;
   seats = h.seats;
 }
-
--- no more watchers are served than there are
-sum_part : (served : Monitor → Bool) (f : Monitor → ℕ) (ms : List Monitor)
-    → sum_by (λ m. cond (served m) (f m) 0) ms ≤ sum_by f ms
-sum_part served f [] = omega arith
-sum_part served f (m ∷ ms) =
-    let a = sum_by-cons (λ x. cond (served x) (f x) 0) m ms in
-    let b = sum_by-cons f m ms in
-    let c = sum_part served f ms in
-    let d = part (served m) (f m) in
-    omega (arith, a, b, c, d)
-  where
-    part : (t : Bool) (n : ℕ) → cond t n 0 ≤ n
-    part true n = omega arith
-    part false n = omega arith
-
-pub served_few : (p : Parts) (served : Kind → Bool) (s : List Slot) (c : Change)
-    → served_watchers p served s c ≤ watcher_count p s c
-unfolding served_watchers watcher_count
-served_few p served s c = sum_part (λ m. served m.kind) (watch_count p (slot_at s (meet_of c)) c) p.monitors
 
 -- what the graph answers, of the state
 pub value_is : (p : Parts) (s : List Slot) (b : Board) (m r : ℕ) → HasValues p s b → m < length p.monitors

@@ -1,4 +1,4 @@
-use crate::settling::{settle, turn_all};
+use crate::settling::settle;
 use khe_instance::Instance;
 use khe_told::{Change, Family, Steps, Waiting, Watcher};
 use monitor_graph::Graph;
@@ -31,21 +31,14 @@ impl<F: Family> Watcher for Listeners<F> {
 
     ghost HasSameRest = { λ x y. HaveSameGroups x.graph y.graph };
 
-    #[tactic(auto, using(crate::proofs::ValueLaws::same_groups, crate::proofs::ValueLaws::served_few))]
     fn note<L: Ledger>(&mut self, inst: &Instance, change: Change, steps: &mut Steps<L>) {
-        self.families.turn(inst, change, &mut self.waiting);
-        settle(
-            inst,
-            &self.families,
-            &mut self.graph,
-            &mut self.waiting,
-            steps,
-        );
+        self.note_all(inst, &[change], steps);
     }
 
     #[tactic(auto, using(crate::proofs::ValueLaws::same_groups))]
     fn note_all<L: Ledger>(&mut self, inst: &Instance, changes: &[Change], steps: &mut Steps<L>) {
-        turn_all(inst, changes, &mut self.families, &mut self.waiting);
+        self.families.turn_all(inst, changes, &mut self.waiting);
+        self.waiting.facts();
         settle(
             inst,
             &self.families,

@@ -1,6 +1,6 @@
 //! What the timetable would cost after an edit.
 
-ghost use Rattle.std.specs.Prelude.{◌≡◌, true, None, length, vec_capacity};
+ghost use Rattle.std.specs.Prelude.{◌≡◌, ◌≤◌, true, None, length, vec_capacity};
 ghost use Rattle.khe_solution.specs.Refusing.{is_of_meets, refusal};
 ghost use Rattle.khe_solution.specs.Timetables.{HasRoom};
 ghost use Rattle.khe_told.specs.Changes.{after_all, inverses};
@@ -13,27 +13,26 @@ ghost use Rattle.khe_engine.specs.Settled.{AreMeasured, IsIdle};
 ghost use Rattle.khe_engine.specs.Values.{HasValues, ServesAll, totals};
 
 use crate::listeners::Listeners;
-use crate::settling::turn_all;
 use khe_base::Totals;
 use khe_instance::Instance;
-use khe_solution::Solution;
+use khe_solution::{Solution, invert};
 use khe_told::{Change, Edit, Family, Unheard, Waiting};
 use monitor_graph::Graph;
 
-/// Turns them back, the last change first, and empties the list. Nobody is told who would wait.
+/// Turns the families back, the last change first, and empties the list. Nobody is told who would wait.
 fn turn_back<F: Family>(inst: &Instance, list: &mut Vec<Change>, families: &mut F)
     requires of { F.IsOf families.old inst.now }
     requires fit { AllFit inst.now (F.told families.old) (inverses list.old.items) }
     ensures of { F.IsOf families.new inst.now }
     ensures told { F.told families.new ≡ after_all (F.told families.old) (inverses list.old.items) }
-    ensures room { vec_capacity list.new ≡ vec_capacity list.old }
+    ensures room { vec_capacity list.old ≤ vec_capacity list.new }
 {
     let mut unheard = Unheard {
         monitors: inst.monitors(),
     };
-    while let Some(change) = list.pop() {
-        families.turn(inst, change.inverse(), &mut unheard);
-    }
+    invert(list);
+    families.turn_all(inst, list.as_slice(), &mut unheard);
+    list.clear();
 }
 
 /// The totals with the deviations of those that wait as the families have them. It takes constant time
@@ -86,12 +85,9 @@ pub(crate) fn totals_after<F: Family>(
     ensures room { HasRoom inst.now (vec_capacity list.new) }
 {
     solution.list_changes(edit, list);
-    turn_all(
-        inst,
-        list.as_slice(),
-        &mut listeners.families,
-        &mut listeners.waiting,
-    );
+    listeners
+        .families
+        .turn_all(inst, list.as_slice(), &mut listeners.waiting);
     let totals = measured(
         inst,
         &listeners.families,

@@ -1,5 +1,5 @@
 -- The families are told the changes and then their inverses.
-use Rattle.std.proofs.Common.{◌≡◌, List, sym, ap, ◌∙◌, subst}
+use Rattle.std.proofs.Common.{◌≡◌, List, refl, sym, ap, ◌∙◌, subst}
 use Rattle.khe_instance.specs.declared.parts.Parts.{Parts}
 use Rattle.khe_told.specs.Changes.{after_all, inverses}
 use Rattle.khe_told.specs.Fits.{AllFit, AreTold}
@@ -18,9 +18,9 @@ pub measured-totals-requires-clause-others : goal.measured-totals-requires-claus
 measured-totals-requires-clause-others g c =
     let p = c.args.inst.now in
     let b = c.args.listeners.now.graph in
-    left_measured p g.F.Family.serves_kind (waits_in c.turn_all.new.waiting)
-    (g.F.Family.told c.args.listeners.now.families) (g.F.Family.told c.turn_all.new.families) b c.requires.serves
-    (subst (λ (s : List Slot). HasValues p s b) (sym c.requires.told) c.requires.values) c.turn_all.ensures.unmoved
+    left_measured p g.F.Family.serves_kind (waits_in c.turn_all.new.waits)
+    (g.F.Family.told c.args.listeners.now.families) (g.F.Family.told c.turn_all.new.self) b c.requires.serves
+    (subst (λ (s : List Slot). HasValues p s b) (sym c.requires.told) c.requires.values) (c.turn_all.ensures.unmoved refl)
 
 pub turn_back-requires-clause-fit : goal.turn_back-requires-clause-fit
 turn_back-requires-clause-fit g c =
@@ -28,7 +28,7 @@ turn_back-requires-clause-fit g c =
     let s = c.args.solution.now.slots in
     let e = c.list_changes.ensures in
     let cs = changes s c.args.edit.now in
-    let turned : g.F.Family.told c.turn_all.new.families ≡ after_all s cs =
+    let turned : g.F.Family.told c.turn_all.new.self ≡ after_all s cs =
     c.turn_all.ensures.told ∙ (λ i. after_all (c.requires.told i) ((c.as_slice.ensures.value ∙ e.items) i)) in
     let back = all_fit_inverses p s cs (subst (λ (q : Parts). AreTold q s) c.requires.parts e.told)
     (subst (λ (q : Parts). AllFit q s cs) c.requires.parts e.fit) in
@@ -41,7 +41,7 @@ returns-clause-totals g c =
     let s = c.args.solution.now.slots in
     let b = c.args.listeners.now.graph in
     let e = c.list_changes.ensures in
-    let turned : g.F.Family.told c.turn_all.new.families ≡ after_all s (changes s c.args.edit.now) =
+    let turned : g.F.Family.told c.turn_all.new.self ≡ after_all s (changes s c.args.edit.now) =
     c.turn_all.ensures.told ∙ (λ i. after_all (c.requires.told i) ((c.as_slice.ensures.value ∙ e.items) i)) in
     c.measured-totals.ensures.totals ∙ ap (λ (x : List Slot). totals p (state_of x b)) (turned ∙ e.leads)
     ∙ ap (totals p) (sym (edited_meets (state_of s b) c.args.edit.now (one_sort c.args.edit.now c.requires.ours)))
@@ -52,7 +52,7 @@ returns-clause-told g c =
     let s = c.args.solution.now.slots in
     let e = c.list_changes.ensures in
     let cs = changes s c.args.edit.now in
-    let turned : g.F.Family.told c.turn_all.new.families ≡ after_all s cs =
+    let turned : g.F.Family.told c.turn_all.new.self ≡ after_all s cs =
     c.turn_all.ensures.told ∙ (λ i. after_all (c.requires.told i) ((c.as_slice.ensures.value ∙ e.items) i)) in
     c.turn_back.ensures.told ∙ (λ i. after_all (turned i) (inverses (e.items i)))
     ∙ after_inverses p s cs (subst (λ (q : Parts). AreTold q s) c.requires.parts e.told)
