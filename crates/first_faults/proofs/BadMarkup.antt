@@ -19,12 +19,10 @@ use Rattle.first_faults.proofs.Live.{AreNamed, live_ended, live_content}
 use Rattle.std.proofs.Common.{◌⊎◌, inl, inr}
 use Rattle.xhstt_text.specs.Bytes.{is_text}
 use Rattle.xhstt_text.specs.Units.{is_decimal, is_hexadecimal, is_last}
-use Rattle.xhstt_text.specs.Document.{Document, IsDocument, spelling}
 use Rattle.xhstt_text.specs.declared.faults.TextFault.{TextFault}
 use Rattle.first_faults.specs.Fronts.{IsFront, EndsInEndTag, EndsInNumber, IsBegun}
 use Rattle.first_faults.proofs.LiveParts.{live_hash, live_hash_x}
-use Rattle.xhstt_text.specs.Document.{table}
-use Rattle.xhstt_text.proofs.Complete.{run_document}
+use Rattle.xhstt_text.proofs.Answer.{faulty}
 use Rattle.first_faults.proofs.LiveParts.{live_bang}
 use Rattle.first_faults.proofs.Known.{Past, Numbered, Shutting, Reads, alive, reads_on}
 use Rattle.first_faults.proofs.Known.{front_of, length_push}
@@ -330,11 +328,6 @@ bad_step (attribute_name t place name) r q b bs to reads h k e (inr x) =
     repeats t place name r q (b ∷ bs) to reads h k x.there x.again x.after
 bad_step p r q b bs to reads h k e is = stops p r q b bs to reads h k tt e is
 
-no_text : (x : List ℕ) (f : TextFault) → outcome_of x ≡ Err f → (d : Document) → IsDocument d → x ≡ spelling d → ⊥
-no_text x f e d h same =
-    let whole : Outcome = Ok (table d) in let k : whole ≡ Err f = sym (run_document d h) ∙ ap outcome_of (sym same) ∙ e in
-    cc
-
 abbrev Ended : ℕ → Outcome → Type 0
 Ended to x = x ≡ Err (Bad BAD_MARKUP to)
 
@@ -345,7 +338,7 @@ early_end p r q to reads h k u e is =
     inr (inl (
       is ∙ ap length (sym nil),
       subst IsBegun (sym nil) (begun p r q reads h k u),
-      no_text (q ++ []) (Bad BAD_MARKUP to) (reads [] ∙ e),
+      faulty (q ++ []) (Bad BAD_MARKUP to) (reads [] ∙ e),
     ))
 
 at_length : (at to : ℕ) → Ended to (Err (bad_markup at)) → to ≡ at

@@ -27,9 +27,10 @@ use Rattle.xhstt_text.specs.Document.{table}
 use Rattle.xhstt_text.proofs.Complete.{run_document}
 use Rattle.first_faults.proofs.Live.{live_resume}
 use Rattle.first_faults.proofs.LiveParts.{live_bang}
-use Rattle.first_faults.proofs.Known.{OtherWord, same_byte, Past, At, Held, IsOpen, Naming, Shutting, Reads, alive, reads_on}
-use Rattle.first_faults.proofs.Known.{length_push, choose, no, Next, lands, begin, grow, all_push}
-use Rattle.first_faults.proofs.Known.{name_push, tail_push, more_digits, first_digit, decimal_end, hexadecimal_end}
+use Rattle.first_faults.proofs.Known.{OtherWord, Past, At, Held, IsOpen, Naming, Shutting, Reads, alive, reads_on}
+use Rattle.first_faults.proofs.Known.{length_push, Next, lands, begin, grow}
+use Rattle.xhstt_text.proofs.Sound.{all_push, choose, name_push, no, same_byte}
+use Rattle.first_faults.proofs.Known.{tail_push, more_digits, first_digit, decimal_end, hexadecimal_end}
 use Rattle.first_faults.proofs.Known.{after_held}
 
 -- bytes whose reading can't end in rows begin no text

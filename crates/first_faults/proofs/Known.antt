@@ -19,7 +19,7 @@ use Rattle.std.proofs.Common.{inl, inr}
 use Rattle.xhstt_text.specs.Bytes.{IsWhite}
 use Rattle.xhstt_text.specs.Units.{AreDigits, is_decimal, is_hexadecimal}
 use Rattle.xhstt_text.specs.declared.faults.TextFault.{TextFault}
-use Rattle.xhstt_text.proofs.Sound.{document_from}
+use Rattle.xhstt_text.proofs.Sound.{all_push, digits_push, document_from, same_byte}
 use Rattle.first_faults.specs.Fronts.{IsFront, EndsInNumber, IsOtherWord}
 
 -- these bytes stand last, from this place on
@@ -111,15 +111,6 @@ reads_on q p r b s reads e rest =
     ∙ ap (λ (x : Step). and_then x (λ s. run s.phase s.read (length q + 1) rest)) e
     ∙ ap (λ n. run s.phase s.read n rest) (sym (length_push q b))
 
--- steps
-pub choose : {G : Type 0} (c : Bool) (x y : Step) (s : State) → (c ≡ true → x ≡ Ok s → G)
-    → (c ≡ false → y ≡ Ok s → G) → cond c x y ≡ Ok s → G
-choose true x y s f g e = f refl e
-choose false x y s f g e = g refl e
-
-pub no : {G : Type 0} {f : TextFault} (s : State) → refused f ≡ Ok s → G
-no s e = cc
-
 -- what is known after one byte more
 abbrev pub Next : List ℕ → ℕ → State → Type 0
 Next q b s = AreNamed s.read.frames × Past s.phase s.read.frames (q ++ b ∷ [])
@@ -128,9 +119,6 @@ pub lands : (q : List ℕ) (b : ℕ) (p : Phase) (r : Read) (s : State) → AreN
     → state p r ≡ Ok s → Next q b s
 lands q b p r s h k e =
     let d : record { phase = p; read = r } ≡ s = cc in subst (Next q b) d (h, k)
-
-pub same_byte : (b k : ℕ) → eqb b k ≡ true → b ≡ k
-same_byte b k e = grind (arith, nat_tests)
 
 pub begin : (q : List ℕ) (b k : ℕ) → eqb b k ≡ true → At (length q) (q ++ b ∷ []) (k ∷ [])
 begin q b k e = (q, refl, ap (λ k. q ++ k ∷ []) (same_byte b k e))
@@ -141,19 +129,6 @@ grow at q t b k e (p, is, same) = (
   is,
   ap (λ x. x ++ b ∷ []) same ∙ append_assoc p t (b ∷ []) ∙ ap (λ k. p ++ (t ++ k ∷ [])) (same_byte b k e),
 )
-
-pub all_push : (test : ℕ → Bool) (w : List ℕ) (b : ℕ) → AllAre test w → test b ≡ true → AllAre test (w ++ b ∷ [])
-all_push test [] b h e = (e, tt)
-all_push test (c ∷ w) b h e = (h.0, all_push test w b h.1 e)
-
-pub name_push : (name : List ℕ) (b : ℕ) → IsName name → is_name b ≡ true → IsName (name ++ b ∷ [])
-name_push [] b h e = absurd h
-name_push (c ∷ name) b h e = (h.0, all_push is_name name b h.1 e)
-
-pub digits_push : (test : ℕ → Bool) (ds : List ℕ) (b : ℕ) → AreDigits test ds → test b ≡ true
-    → AreDigits test (ds ++ b ∷ [])
-digits_push test [] b h e = absurd h
-digits_push test (d ∷ ds) b h e = (h.0, all_push test ds b h.1 e)
 
 -- bytes before, these, and one more
 pub tail_push : (q p t : List ℕ) (b : ℕ) → q ≡ p ++ t → q ++ b ∷ [] ≡ p ++ (t ++ b ∷ [])

@@ -1,6 +1,7 @@
 -- Where the machine says that an end tag has another name, or that an element is too deep.
 use Rattle.first_faults.proofs.Forth.{forth, live_begin, naming_shuts, stopped}
-use Rattle.first_faults.proofs.Known.{At, IsOpen, Past, Reads, Shutting, alive, length_push, reads_on, same_byte}
+use Rattle.first_faults.proofs.Known.{At, IsOpen, Past, Reads, Shutting, alive, length_push, reads_on}
+use Rattle.xhstt_text.proofs.Sound.{same_byte}
 use Rattle.first_faults.proofs.Live.{AreNamed}
 use Rattle.first_faults.specs.Fronts.{DeepAt, IsFront, MismatchesAt}
 use Rattle.std.proofs.Common.{Bool, Err, List, Ok, [], ap, append_assoc, arith, cond, eqb, false, inl, inr, leb, length, ltb, refl, subst, sym, true, ℕ, ◌&&◌, ◌++◌, ◌+◌, ◌∙◌, ◌∷◌, ◌≡◌, ◌⊎◌}

@@ -1,7 +1,8 @@
 -- Where the machine says that markup is not supported.
 use Rattle.first_faults.proofs.BadMarkup.{Usual, begun}
 use Rattle.first_faults.proofs.Forth.{forth, never_front, other_lost, stopped}
-use Rattle.first_faults.proofs.Known.{At, Past, Reads, alive, length_push, reads_on, same_byte}
+use Rattle.first_faults.proofs.Known.{At, Past, Reads, alive, length_push, reads_on}
+use Rattle.xhstt_text.proofs.Sound.{same_byte}
 use Rattle.first_faults.proofs.Live.{AreNamed, Live}
 use Rattle.first_faults.proofs.LiveParts.{live_declared_open, live_ended_open, live_opened}
 use Rattle.first_faults.specs.Fronts.{ColonAt, InstructionAt, IsBegun, IsFront, IsOtherWord, OtherMarkupAt}
