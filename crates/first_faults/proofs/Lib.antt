@@ -1,10 +1,13 @@
-pub mod BadMarkup
+pub mod Begun
+pub mod FirstRow
 pub mod Forth
 pub mod FrontFaults
+pub mod Inside
 pub mod Known
 pub mod Live
 pub mod LiveParts
-pub mod NestedFaults
 pub mod OneForest
 pub mod OneTree
-pub mod OtherMarkup
+pub mod Reach
+pub mod Refusals
+pub mod Stands
