@@ -128,7 +128,7 @@ front_arrives q front =
     }
 
 -- over bytes that keep the machine in a phase
-reached_loop : (test : ℕ → Bool) (p : List ℕ → Phase) (r : Read)
+pub reached_loop : (test : ℕ → Bool) (p : List ℕ → Phase) (r : Read)
     → ((done : List ℕ) (at b : ℕ) → test b ≡ true → step (p done) r at b ≡ state (p (done ++ b ∷ [])) r)
     → (w done : List ℕ) (at : ℕ) → AllAre test w → reached (p done) r at w ≡ state (p (done ++ w)) r
 reached_loop test p r go [] done at h = ap (λ x. state (p x) r) (sym (append-nil done))
@@ -216,8 +216,8 @@ takes at p r s k e = let same : record { phase = p; read = r } ≡ s = cc in ap_
     ap_taken at p r s same k = subst (λ (x : State). Taken at x.phase) same k
 
 -- no step goes on so
-refuses : {G : Type 0} (x : Step) (f : TextFault) (s : State) → x ≡ refused f → x ≡ Ok s → G
-refuses x f s e d = cc
+pub blocked : {G : Type 0} (x : Step) (f : TextFault) (s : State) → x ≡ refused f → x ≡ Ok s → G
+blocked x f s e d = cc
 
 opened_38 : (fs : List Frame) (place : ℕ) (r : Read) (at : ℕ) → step_opened fs place r at 38 ≡ refused (bad_markup at)
 opened_38 [] place r at = refl
@@ -233,7 +233,7 @@ content_38 [] r at s e = no s e
 content_38 (f ∷ fs) r at s e =
     takes at (reference at in_text) (record r { frames = noted f at 38 ∷ fs }) s refl e
 
-either_refused : {G : Type 0} (c : Bool) (f g : TextFault) (s : State) → cond c (refused f) (refused g) ≡ Ok s → G
+pub either_refused : {G : Type 0} (c : Bool) (f g : TextFault) (s : State) → cond c (refused f) (refused g) ≡ Ok s → G
 either_refused true f g s e = no s e
 either_refused false f g s e = no s e
 
@@ -243,36 +243,36 @@ quote_38 quote h = grind (arith, nat_tests)
 key_38 : (k : ℕ) → is_key k ≡ true → eqb 38 k ≡ false
 key_38 k h = grind (arith, nat_tests)
 
-dash_38 : (c : Bool) (x y : Step) (s : State) → cond (c && false) x y ≡ Ok s → y ≡ Ok s
-dash_38 true x y s e = e
-dash_38 false x y s e = e
+pub past_dash : (c : Bool) (x y : Step) (s : State) → cond (c && false) x y ≡ Ok s → y ≡ Ok s
+past_dash true x y s e = e
+past_dash false x y s e = e
 
 taken : (p : Phase) (r : Read) (q : List ℕ) (at : ℕ) (s : State) → Past p r.frames q → Usual p → step p r at 38 ≡ Ok s
     → Taken at s.phase
 taken content r q at s k u e = content_38 r.frames r at s e
 taken (in_comment place count) r q at s k u e =
-    takes at (in_comment place 0) r s tt (dash_38 (leb 2 count) (state (phase_of place) r) (state (in_comment place 0) r) s e)
+    takes at (in_comment place 0) r s tt (past_dash (leb 2 count) (state (phase_of place) r) (state (in_comment place 0) r) s e)
 taken (in_declaration seen) r q at s k u e =
-    takes at (in_declaration false) r s tt (dash_38 seen (state content (closed r)) (state (in_declaration false) r) s e)
+    takes at (in_declaration false) r s tt (past_dash seen (state content (closed r)) (state (in_declaration false) r) s e)
 taken (in_value t place name quote from) r q at s k u e =
     takes at (reference at (in_quotes t place name quote from)) r s refl
     (sym (let d : step (in_value t place name quote from) r at 38
     ≡ state (reference at (in_quotes t place name quote from)) r = rw (quote_38 quote k.1) refl in d) ∙ e)
-taken (opened place) r q at s k u e = refuses (step (opened place) r at 38) (bad_markup at) s (opened_38 r.frames place r at) e
+taken (opened place) r q at s k u e = blocked (step (opened place) r at 38) (bad_markup at) s (opened_38 r.frames place r at) e
 taken (shut place name) r q at s k u e =
-    refuses (step (shut place name) r at 38) (bad_markup at) s (shut_38 r.frames place name r at) e
+    blocked (step (shut place name) r at 38) (bad_markup at) s (shut_38 r.frames place name r at) e
 taken (shut_gap place name) r q at s k u e =
-    refuses (step (shut_gap place name) r at 38) (bad_markup at) s (shut_38 r.frames place name r at) e
+    blocked (step (shut_gap place name) r at 38) (bad_markup at) s (shut_38 r.frames place name r at) e
 taken (attribute_name t place name) r q at s k u e =
     either_refused (has_name name t.names) (bad_markup place) (bad_markup at) s e
 taken (word place [] w) r q at s k u e = no s e
 taken (word place (l ∷ []) w) r q at s k u e =
-    refuses (step (word place (l ∷ []) w) r at 38) (bad_reference place) s (rw (key_38 l k.2.0) refl) e
+    blocked (step (word place (l ∷ []) w) r at 38) (bad_reference place) s (rw (key_38 l k.2.0) refl) e
 taken (word place (l ∷ m ∷ ks) w) r q at s k u e =
-    refuses (step (word place (l ∷ m ∷ ks) w) r at 38) (bad_reference place) s (rw (key_38 l k.2.0) refl) e
+    blocked (step (word place (l ∷ m ∷ ks) w) r at 38) (bad_reference place) s (rw (key_38 l k.2.0) refl) e
 taken (question []) r q at s k u e = no s e
 taken (question (l ∷ ks)) r q at s k u e =
-    refuses (step (question (l ∷ ks)) r at 38) (bad_markup at) s (rw (key_38 l k.0) refl) e
+    blocked (step (question (l ∷ ks)) r at 38) (bad_markup at) s (rw (key_38 l k.0) refl) e
 taken (other_word place first ks) r q at s k u e = absurd u
 taken p r q at s k u e = no s e
 
@@ -409,7 +409,7 @@ other_stays (b ∷ y) place first (l ∷ ks) r at t u e k =
     other_stays y place first ks r (at + 1) t u
     (subst (λ (s : State). reached s.phase s.read (at + 1) y ≡ state t u) (sym same) g.2) k
 
-usual_before : (p : Phase) (r : Read) (at : ℕ) (y : List ℕ) (t : Phase) (u : Read) → reached p r at y ≡ state t u
+pub usual_before : (p : Phase) (r : Read) (at : ℕ) (y : List ℕ) (t : Phase) (u : Read) → reached p r at y ≡ state t u
     → Usual t → Usual p
 usual_before (other_word place first ks) r at y t u e k = other_stays y place first ks r at t u e k
 usual_before _ r at y t u e k = tt

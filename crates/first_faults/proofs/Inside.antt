@@ -35,11 +35,11 @@ pub moved : (p : Phase) (r : Read) (at b : ℕ) (bs : List ℕ) (q : Phase) (s :
     → step p r at b ≡ state q s → run p r at (b ∷ bs) ≡ Ok rows → run q s (at + 1) bs ≡ Ok rows
 moved p r at b bs q s rows d e = sym (by_step p r at b bs q s d) ∙ e
 
-opened_60 : (fs : List Frame) (place : ℕ) (r : Read) (at : ℕ) → step_opened fs place r at 60 ≡ refused (bad_markup at)
+pub opened_60 : (fs : List Frame) (place : ℕ) (r : Read) (at : ℕ) → step_opened fs place r at 60 ≡ refused (bad_markup at)
 opened_60 [] place r at = refl
 opened_60 (f ∷ fs) place r at = refl
 
-shut_60 : (fs : List Frame) (place : ℕ) (name : List ℕ) (r : Read) (at : ℕ)
+pub shut_60 : (fs : List Frame) (place : ℕ) (name : List ℕ) (r : Read) (at : ℕ)
     → step_shut fs place name r at 60 ≡ refused (bad_markup at)
 shut_60 [] place name r at = refl
 shut_60 (f ∷ fs) place name r at = refl
@@ -49,13 +49,13 @@ attribute_60 : {G : Type 0} (c : Bool) (place : ℕ) (more : State → Outcome) 
 attribute_60 true place more at rows e = cc
 attribute_60 false place more at rows e = cc
 
-quote_60 : (quote : ℕ) → is_quote quote ≡ true → eqb 60 quote ≡ false
+pub quote_60 : (quote : ℕ) → is_quote quote ≡ true → eqb 60 quote ≡ false
 quote_60 quote h = grind (arith, nat_tests)
 
-key_60 : (k : ℕ) → is_key k ≡ true → eqb 60 k ≡ false
+pub key_60 : (k : ℕ) → is_key k ≡ true → eqb 60 k ≡ false
 key_60 k h = grind (arith, nat_tests)
 
-name_62 : (b : ℕ) → is_name b ≡ true → eqb b 62 ≡ false
+pub name_62 : (b : ℕ) → is_name b ≡ true → eqb b 62 ≡ false
 name_62 b h = grind (arith, nat_tests)
 
 -- a comment goes on over these end tags

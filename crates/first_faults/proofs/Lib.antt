@@ -1,4 +1,5 @@
 pub mod Begun
+pub mod Endings
 pub mod FirstRow
 pub mod Forth
 pub mod FrontFaults
@@ -6,8 +7,12 @@ pub mod Inside
 pub mod Known
 pub mod Live
 pub mod LiveParts
+pub mod Naming
 pub mod OneForest
 pub mod OneTree
+pub mod Openings
 pub mod Reach
 pub mod Refusals
+pub mod Repeating
 pub mod Stands
+pub mod Stopping
