@@ -1,11 +1,12 @@
 -- In bytes that the machine reads nothing is wrong by itself, and it reads those in which nothing is.
-use Rattle.std.proofs.Common.{◌≡◌, ◌⊎◌, ℕ, ◌+◌, ◌*◌, Bool, true, false, cond, ◌&&◌, leb, eqb, List, [], ◌∷◌, ◌++◌, length}
-use Rattle.std.proofs.Common.{Ok, Err, refl, sym, ◌∙◌, ap, subst, inl, inr, arith, append_assoc, append-nil}
+use Rattle.std.proofs.Common.{◌≡◌, ◌⊎◌, ℕ, ◌+◌, ◌*◌, Bool, true, false, cond, ◌&&◌, leb, eqb, List, [], ◌∷◌, ◌++◌}
+use Rattle.std.proofs.Common.{length}
+use Rattle.std.proofs.Common.{Ok, refl, sym, ◌∙◌, ap, subst, inl, inr, arith, append_assoc, append-nil}
 use Rattle.std.proofs.lemmas.Bool.Decides.{nat_tests}
 use Rattle.xhstt_text.specs.Bytes.{is_name, is_white, is_quote, AllAre, IsName, IsWhite}
-use Rattle.xhstt_text.specs.Units.{Entity, less, greater, ampersand, apostrophe, quotation, entity_name, Piece, wide}
+use Rattle.xhstt_text.specs.Units.{less, greater, ampersand, apostrophe, quotation, Piece, wide}
 use Rattle.xhstt_text.specs.Units.{named as named_entity, decimal, hexadecimal, piece_text, is_decimal, is_hexadecimal}
-use Rattle.xhstt_text.specs.Units.{AreDigits, digit, is_character, number_from}
+use Rattle.xhstt_text.specs.Units.{digit, is_character, number_from}
 use Rattle.xhstt_text.specs.Document.{has_name, table}
 use Rattle.xhstt_text.proofs.Complete.{run_document}
 use Rattle.xhstt_text.specs.Machine.{outcome_of}
@@ -14,7 +15,7 @@ use Rattle.xhstt_text.specs.Machine.{closed, phase_of}
 use Rattle.xhstt_text.specs.Machine.{Within, in_text, in_quotes, after_piece, after_number, wide_1, wide_2, reference}
 use Rattle.xhstt_text.specs.Machine.{reference_a, word, hash, hash_x, in_decimal, in_hexadecimal, beginning, mark_1}
 use Rattle.xhstt_text.specs.Machine.{mark_2, at_declaration, declared_open, question, in_declaration, other_word}
-use Rattle.xhstt_text.specs.Machine.{no_character, Frame, Read, Phase, content, ended, ended_open, Place, bang, bang_dash}
+use Rattle.xhstt_text.specs.Machine.{no_character, Frame, Read, Phase, content, ended, ended_open, bang, bang_dash}
 use Rattle.xhstt_text.specs.Machine.{in_comment, opened, start_name, valued, in_tag, slash, attribute_name, named}
 use Rattle.xhstt_text.specs.Machine.{equals, in_value, shut_begin, shut, shut_gap, State, Step, refused, state, noted}
 use Rattle.xhstt_text.specs.Machine.{step, step_content, step_opened, step_shut}
@@ -22,19 +23,22 @@ use Rattle.xhstt_text.specs.declared.faults.TextFault.{TextFault}
 use Rattle.xhstt_text.proofs.Pieces.{decimal_isnt_x}
 use Rattle.xhstt_text.proofs.Runs.{white_isnt_name, white_isnt_colon}
 use Rattle.xhstt_text.proofs.Sound.{names_of, no}
-use Rattle.first_faults.specs.Fronts.{IsFront, MayRefer, BeginsReference, HasReferenceForm, EndsInReference}
+use Rattle.first_faults.specs.Fronts.{IsFront, MayRefer, HasReferenceForm, EndsInReference}
 use Rattle.first_faults.specs.Fronts.{EndsInEndTag, IsBegun}
 use Rattle.first_faults.proofs.Live.{AreNamed, Live, live_ended, live_content, live_shut}
 use Rattle.first_faults.proofs.LiveParts.{live_comment, live_bang, live_bang_dash, live_ended_open, live_opened}
-use Rattle.first_faults.proofs.LiveParts.{live_slash, live_valued, live_in_tag, live_start_name, live_value, live_equals}
+use Rattle.first_faults.proofs.LiveParts.{live_slash, live_valued, live_in_tag, live_start_name, live_value}
+use Rattle.first_faults.proofs.LiveParts.{live_equals}
 use Rattle.first_faults.proofs.LiveParts.{live_named, live_attribute_name, live_wide_1, live_wide_2, live_word}
 use Rattle.first_faults.proofs.LiveParts.{live_reference, live_reference_a, live_hash, live_hash_x, live_in_declaration}
 use Rattle.first_faults.proofs.LiveParts.{live_question, live_declared_open, live_at_declaration, live_beginning}
 use Rattle.first_faults.proofs.LiveParts.{live_mark_1, live_mark_2}
 use Rattle.first_faults.proofs.Forth.{history, other_lost}
-use Rattle.first_faults.proofs.Inside.{inside_reaches, over_dash}
+use Rattle.first_faults.proofs.Inside.{inside_reaches}
+use Rattle.first_faults.proofs.LiveParts.{over_dash}
 use Rattle.first_faults.proofs.Known.{Inner, Past, Shutting, alive, front_of, is_key}
-use Rattle.first_faults.proofs.Reach.{Reaches, comes, front_reaches, over, reached, reached_append, reached_prefix, reads}
+use Rattle.first_faults.proofs.Reach.{Reaches, comes, front_reaches, over, reached, reached_append, reached_prefix}
+use Rattle.first_faults.proofs.Reach.{reads}
 use Rattle.first_faults.proofs.Reach.{push, start, then}
 
 -- the phases but the one that no text leads through
@@ -44,7 +48,8 @@ Usual _ = Unit {0}
 
 shutting_ends : (fs : List Frame) (place : ℕ) (name w q : List ℕ) → Shutting place name w fs q → EndsInEndTag q
 shutting_ends [] place name w q k = absurd k.1
-shutting_ends (f ∷ fs) place name w q (p, inside, is, hn, hw, same) = (f.name, names_of fs, p, name, w, inside, hn, hw, same)
+shutting_ends (f ∷ fs) place name w q (p, inside, is, hn, hw, same) =
+    (f.name, names_of fs, p, name, w, inside, hn, hw, same)
 
 live_begin : (fs : List Frame) (place : ℕ) (r : Read) (p : List ℕ) → r.frames ≡ fs → Inner fs p → AreNamed fs
     → Live (shut_begin place) r
@@ -251,14 +256,17 @@ taken : (p : Phase) (r : Read) (q : List ℕ) (at : ℕ) (s : State) → Past p 
     → Taken at s.phase
 taken content r q at s k u e = content_38 r.frames r at s e
 taken (in_comment place count) r q at s k u e =
-    takes at (in_comment place 0) r s tt (past_dash (leb 2 count) (state (phase_of place) r) (state (in_comment place 0) r) s e)
+    takes at (in_comment place 0) r s tt (past_dash (leb 2 count) (state (phase_of place) r)
+    (state (in_comment place 0) r) s e)
 taken (in_declaration seen) r q at s k u e =
-    takes at (in_declaration false) r s tt (past_dash seen (state content (closed r)) (state (in_declaration false) r) s e)
+    takes at (in_declaration false) r s tt (past_dash seen (state content (closed r)) (state (in_declaration false) r) s
+    e)
 taken (in_value t place name quote from) r q at s k u e =
     takes at (reference at (in_quotes t place name quote from)) r s refl
     (sym (let d : step (in_value t place name quote from) r at 38
     ≡ state (reference at (in_quotes t place name quote from)) r = rw (quote_38 quote k.1) refl in d) ∙ e)
-taken (opened place) r q at s k u e = blocked (step (opened place) r at 38) (bad_markup at) s (opened_38 r.frames place r at) e
+taken (opened place) r q at s k u e = blocked (step (opened place) r at 38) (bad_markup at) s
+    (opened_38 r.frames place r at) e
 taken (shut place name) r q at s k u e =
     blocked (step (shut place name) r at 38) (bad_markup at) s (shut_38 r.frames place name r at) e
 taken (shut_gap place name) r q at s k u e =
@@ -308,15 +316,12 @@ pub record Before (q : List ℕ) (b : ℕ) (t : Phase) (u : Read) : Type 0 where
 -- where the machine stood one byte before
 pub one_back : (q : List ℕ) (b : ℕ) (t : Phase) (u : Read) → Reaches (q ++ b ∷ []) t u → Before q b t u
 one_back q b t u here =
-    let s = reached_prefix q (b ∷ []) beginning start 0 (record { phase = t; read = u }) here in
-    record {
-      phase = s.0.phase;
-      read = s.0.read;
-      here = s.1;
-      goes = (let e = sym (over q (b ∷ []) s.0.phase s.0.read s.1) ∙ here in
-      let g = comes (step s.0.phase s.0.read (length q) b) (λ x. state x.phase x.read) (record { phase = t; read = u }) e in
-      g.1 ∙ g.2);
-    }
+    let end : State = record { phase = t; read = u } in
+    let s = reached_prefix q (b ∷ []) beginning start 0 end here in
+    let p : Phase = s.0.phase in
+    let r : Read = s.0.read in
+    let g = comes (step p r (length q) b) (λ x. state x.phase x.read) end (sym (over q (b ∷ []) p r s.1) ∙ here) in
+    record { phase = p; read = r; here = s.1; goes = g.1 ∙ g.2 }
 
 pub refers : (q : List ℕ) → MayRefer q → Refers q
 refers q (front, never) =

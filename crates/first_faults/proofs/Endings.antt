@@ -1,6 +1,7 @@
 -- What the machine says of end tags with another name, of elements too deep and of bytes that spell no reference.
-use Rattle.std.proofs.Common.{◌≡◌, ◌⊎◌, ◌≤◌, ℕ, ◌+◌, ◌*◌, Bool, true, false, cond, eqb, ltb, List, [], ◌∷◌, ◌++◌, length}
-use Rattle.std.proofs.Common.{suc, Ok, Err, refl, sym, ◌∙◌, ap, subst, inl, inr, arith, append_assoc, append-nil}
+use Rattle.std.proofs.Common.{◌≡◌, ◌⊎◌, ◌≤◌, ℕ, ◌+◌, ◌*◌, Bool, true, false, cond, eqb, ltb, List, [], ◌∷◌, ◌++◌}
+use Rattle.std.proofs.Common.{length}
+use Rattle.std.proofs.Common.{Err, refl, sym, ◌∙◌, ap, subst, inl, inr, arith, append_assoc, append-nil}
 use Rattle.std.proofs.lemmas.Bool.Decides.{nat_tests}
 use Rattle.std.proofs.lemmas.Bool.{false_from_ne_true}
 use Rattle.std.proofs.lemmas.Slice.Eq.{bytes_eq-Decides}
@@ -11,16 +12,16 @@ use Rattle.xhstt_text.specs.Units.{apostrophe, quotation, piece_text, IsPiece, A
 use Rattle.xhstt_text.specs.Units.{digit, number_from, is_character}
 use Rattle.xhstt_text.specs.Faults.{mismatched_end, bad_reference, too_deep}
 use Rattle.xhstt_text.specs.Machine.{Within, after_piece, after_number, content, opened, reference, reference_a, word}
-use Rattle.xhstt_text.specs.Machine.{hash, hash_x, in_decimal, in_hexadecimal, no_character, Phase, Read, Frame, State}
-use Rattle.xhstt_text.specs.Machine.{Step, refused, state, step, step_opened, step_shut, and_then, run, outcome_of}
+use Rattle.xhstt_text.specs.Machine.{hash, hash_x, in_decimal, in_hexadecimal, no_character, Phase, Read, Frame}
+use Rattle.xhstt_text.specs.Machine.{Step, refused, state, step, step_shut, and_then, run, outcome_of}
 use Rattle.xhstt_text.specs.declared.faults.TextFault.{TextFault}
-use Rattle.xhstt_text.proofs.Pieces.{decimal_isnt_x}
 use Rattle.xhstt_text.proofs.Runs.{by_step}
 use Rattle.xhstt_text.proofs.Sound.{digits_push, names_of, same_byte}
 use Rattle.first_faults.specs.Fronts.{BeginsReference, DeepAt, HasReferenceForm, IsReference, MismatchesAt, MisrefersAt}
 use Rattle.first_faults.specs.Fronts.{SpellsReference}
 use Rattle.first_faults.proofs.Begun.{refers, shut_over}
 use Rattle.first_faults.proofs.Inside.{inside_reaches}
+use Rattle.first_faults.proofs.Known.{length_names}
 use Rattle.first_faults.proofs.Reach.{Reaches, over, reads, refuses}
 
 -- an end tag with another name
@@ -50,10 +51,6 @@ mismatch_ends bytes at (inner, outer, before, name, w, rest, same, is, inside, h
     ∙ ap (λ n. Err (mismatched_end n)) (sym is)
 
 -- an element inside as many as may be open
-count_names : (fs : List Frame) → length (names_of fs) ≡ length fs
-count_names [] = refl
-count_names (f ∷ fs) = ap suc (count_names fs)
-
 full : (n : ℕ) → 32 ≤ n → ltb n 32 ≡ false
 full n e = grind (arith, nat_tests)
 
@@ -62,7 +59,7 @@ deep_run : (fs : List Frame) (n : List ℕ) (ns : List (List ℕ)) (r : Read) (a
     → run content r at (60 ∷ first ∷ rest) ≡ Err (too_deep at)
 deep_run [] n ns r at first rest is e many h = cc
 deep_run (f ∷ fs) n ns r at first rest is e many h =
-    let size : length (n ∷ ns) ≡ length (f ∷ fs) = ap length (sym e) ∙ count_names (f ∷ fs) in
+    let size : length (n ∷ ns) ≡ length (f ∷ fs) = ap length (sym e) ∙ length_names (f ∷ fs) in
     let deep : ltb (length (f ∷ fs)) 32 ≡ false = full (length (f ∷ fs)) (subst (λ k. 32 ≤ k) size many) in
     by_step content r at 60 (first ∷ rest) (opened at) r (rw is refl)
     ∙ ap (λ (c : Step). and_then c (λ s. run s.phase s.read (at + 1 + 1) rest))
@@ -131,8 +128,12 @@ number_ends : (test : ℕ → Bool) (base : ℕ) (make : List ℕ → Piece) (be
     → (SpellsReference (begin ++ (ds ++ rest)) → ⊥) → (BeginsReference (begin ++ (ds ++ rest)) → ⊥)
     → run (p n) r at rest ≡ Err (bad_reference place)
 number_ends test base make begin p place w r f [] ds n at are value spells begins =
-    absurd (begins (make ds, 59 ∷ [], f.form ds are,
-    append_assoc begin (ds ++ []) (59 ∷ []) ∙ ap (λ y. begin ++ (y ++ 59 ∷ [])) (append-nil ds) ∙ sym (f.spelled ds)))
+    absurd (begins (
+      make ds,
+      59 ∷ [],
+      f.form ds are,
+      append_assoc begin (ds ++ []) (59 ∷ []) ∙ ap (λ y. begin ++ (y ++ 59 ∷ [])) (append-nil ds) ∙ sym (f.spelled ds),
+    ))
 number_ends test base make begin p place w r f (b ∷ bs) ds n at are value spells begins = elim (truth (test b)) [
   | inl is ↦
       let more : (ds ++ b ∷ []) ++ bs ≡ ds ++ (b ∷ bs) = append_assoc ds (b ∷ []) bs in
@@ -143,20 +144,25 @@ number_ends test base make begin p place w r f (b ∷ bs) ds n at are value spel
       (λ s. spells (subst (λ y. SpellsReference (begin ++ y)) more s))
       (λ s. begins (subst (λ y. BeginsReference (begin ++ y)) more s))
   | inr isnt ↦ elim (truth (eqb b 59)) [
-      | inl is ↦
-          let whole : begin ++ (ds ++ (b ∷ bs)) ≡ piece_text (make ds) ++ bs =
-          ap (λ k. begin ++ (ds ++ (k ∷ bs))) (same_byte b 59 is)
-          ∙ ap (λ y. begin ++ y) (sym (append_assoc ds (59 ∷ []) bs))
-          ∙ sym (append_assoc begin (ds ++ 59 ∷ []) bs) ∙ ap (λ y. y ++ bs) (sym (f.spelled ds)) in
-          let number : n ≡ number_from base 0 ds = value [] ∙ ap (number_from base 0) (append-nil ds) in
-          by_step (p n) r at b bs (after_number place n w) r
-          (subst (λ k. step (p n) r at k ≡ state (after_number place n w) r) (sym (same_byte b 59 is)) (f.last n at))
-          ∙ number_last (is_character n) place w r (at + 1) bs
-          (λ c. spells (make ds, bs, f.refers_so ds, f.piece ds are (ap is_character (sym number) ∙ c), whole))
-          (λ e. begins (make ds, [], f.form ds are, append-nil (begin ++ (ds ++ (b ∷ bs))) ∙ whole
-          ∙ ap (λ y. piece_text (make ds) ++ y) e ∙ append-nil (piece_text (make ds))))
-      | inr other ↦ fails (p n) r at b bs (bad_reference place) (f.off n at b isnt other)
-    ]
+    | inl is ↦
+        let whole : begin ++ (ds ++ (b ∷ bs)) ≡ piece_text (make ds) ++ bs =
+        ap (λ k. begin ++ (ds ++ (k ∷ bs))) (same_byte b 59 is)
+        ∙ ap (λ y. begin ++ y) (sym (append_assoc ds (59 ∷ []) bs))
+        ∙ sym (append_assoc begin (ds ++ 59 ∷ []) bs) ∙ ap (λ y. y ++ bs) (sym (f.spelled ds)) in
+        let number : n ≡ number_from base 0 ds = value [] ∙ ap (number_from base 0) (append-nil ds) in
+        by_step (p n) r at b bs (after_number place n w) r
+        (subst (λ k. step (p n) r at k ≡ state (after_number place n w) r) (sym (same_byte b 59 is)) (f.last n at))
+        ∙ number_last (is_character n) place w r (at + 1) bs
+        (λ c. spells (make ds, bs, f.refers_so ds, f.piece ds are (ap is_character (sym number) ∙ c), whole))
+        (λ e. begins (
+          make ds,
+          [],
+          f.form ds are,
+          append-nil (begin ++ (ds ++ (b ∷ bs))) ∙ whole
+              ∙ ap (λ y. piece_text (make ds) ++ y) e ∙ append-nil (piece_text (make ds)),
+        ))
+    | inr other ↦ fails (p n) r at b bs (bad_reference place) (f.off n at b isnt other)
+  ]
 ]
 
 decimals : (place : ℕ) (w : Within) (r : Read)
@@ -212,12 +218,12 @@ hash_ends (b ∷ bs) place w r at spells begins = elim (truth (eqb b 120)) [
       (λ s. spells (subst (λ k. SpellsReference (38 ∷ 35 ∷ k ∷ bs)) (sym same) s))
       (λ s. begins (subst (λ k. BeginsReference (38 ∷ 35 ∷ k ∷ bs)) (sym same) s))
   | inr isnt ↦ elim (truth (is_decimal b)) [
-      | inl is ↦
-          by_step (hash place w) r at b bs (in_decimal place (digit b) w) r (rw (isnt, is) refl)
-          ∙ number_ends is_decimal 10 decimal (38 ∷ 35 ∷ []) (λ n. in_decimal place n w) place w r
-          (decimals place w r) bs (b ∷ []) (digit b) (at + 1) (is, tt) (first_value 10 (digit b)) spells begins
-      | inr other ↦ fails (hash place w) r at b bs (bad_reference place) (rw (isnt, other) refl)
-    ]
+    | inl is ↦
+        by_step (hash place w) r at b bs (in_decimal place (digit b) w) r (rw (isnt, is) refl)
+        ∙ number_ends is_decimal 10 decimal (38 ∷ 35 ∷ []) (λ n. in_decimal place n w) place w r
+        (decimals place w r) bs (b ∷ []) (digit b) (at + 1) (is, tt) (first_value 10 (digit b)) spells begins
+    | inr other ↦ fails (hash place w) r at b bs (bad_reference place) (rw (isnt, other) refl)
+  ]
 ]
 
 -- the name of an entity, of which these letters stand there
@@ -226,10 +232,21 @@ entity_ends : (e : Entity) (part : List ℕ) (k : ℕ) (ks rest : List ℕ) (pla
     → (BeginsReference (38 ∷ (part ++ rest)) → ⊥) → run (word place (k ∷ ks) w) r at rest ≡ Err (bad_reference place)
 entity_ends e part k ks rest place w r at whole spells begins =
     word_ends k ks rest place w r at
-    (λ more d. spells (named_entity e, more, tt, tt, ap (λ y. 38 ∷ (part ++ y)) d
-    ∙ sym (append_assoc (38 ∷ part) (k ∷ ks) more) ∙ ap (λ y. y ++ more) whole))
-    (λ more d. begins (named_entity e, more, tt, append_assoc (38 ∷ part) rest more
-    ∙ ap (λ y. (38 ∷ part) ++ y) d ∙ whole))
+    (λ more d. spells (
+      named_entity e,
+      more,
+      tt,
+      tt,
+      ap (λ y. 38 ∷ (part ++ y)) d
+          ∙ sym (append_assoc (38 ∷ part) (k ∷ ks) more) ∙ ap (λ y. y ++ more) whole,
+    ))
+    (λ more d. begins (
+      named_entity e,
+      more,
+      tt,
+      append_assoc (38 ∷ part) rest more
+          ∙ ap (λ y. (38 ∷ part) ++ y) d ∙ whole,
+    ))
 
 -- the byte after these is this one
 abbrev Not : (List ℕ → Type 0) → List ℕ → ℕ → List ℕ → Type 0
@@ -250,13 +267,13 @@ reference_a_ends (b ∷ bs) place w r at spells begins = elim (truth (eqb b 109)
       ∙ entity_ends ampersand (97 ∷ 109 ∷ []) 112 (59 ∷ []) bs place w r (at + 1) refl
       (with_byte SpellsReference (97 ∷ []) b 109 bs is spells) (with_byte BeginsReference (97 ∷ []) b 109 bs is begins)
   | inr n1 ↦ elim (truth (eqb b 112)) [
-      | inl is ↦
-          by_step (reference_a place w) r at b bs (word place (111 ∷ 115 ∷ 59 ∷ []) w) r (rw (n1, is) refl)
-          ∙ entity_ends apostrophe (97 ∷ 112 ∷ []) 111 (115 ∷ 59 ∷ []) bs place w r (at + 1) refl
-          (with_byte SpellsReference (97 ∷ []) b 112 bs is spells)
-          (with_byte BeginsReference (97 ∷ []) b 112 bs is begins)
-      | inr n2 ↦ fails (reference_a place w) r at b bs (bad_reference place) (rw (n1, n2) refl)
-    ]
+    | inl is ↦
+        by_step (reference_a place w) r at b bs (word place (111 ∷ 115 ∷ 59 ∷ []) w) r (rw (n1, is) refl)
+        ∙ entity_ends apostrophe (97 ∷ 112 ∷ []) 111 (115 ∷ 59 ∷ []) bs place w r (at + 1) refl
+        (with_byte SpellsReference (97 ∷ []) b 112 bs is spells)
+        (with_byte BeginsReference (97 ∷ []) b 112 bs is begins)
+    | inr n2 ↦ fails (reference_a place w) r at b bs (bad_reference place) (rw (n1, n2) refl)
+  ]
 ]
 
 -- after `&`
@@ -269,30 +286,30 @@ reference_ends (b ∷ bs) place w r at spells begins = elim (truth (eqb b 108)) 
       ∙ entity_ends less (108 ∷ []) 116 (59 ∷ []) bs place w r (at + 1) refl
       (with_byte SpellsReference [] b 108 bs is spells) (with_byte BeginsReference [] b 108 bs is begins)
   | inr n1 ↦ elim (truth (eqb b 103)) [
+    | inl is ↦
+        by_step (reference place w) r at b bs (word place (116 ∷ 59 ∷ []) w) r (rw (n1, is) refl)
+        ∙ entity_ends greater (103 ∷ []) 116 (59 ∷ []) bs place w r (at + 1) refl
+        (with_byte SpellsReference [] b 103 bs is spells) (with_byte BeginsReference [] b 103 bs is begins)
+    | inr n2 ↦ elim (truth (eqb b 113)) [
       | inl is ↦
-          by_step (reference place w) r at b bs (word place (116 ∷ 59 ∷ []) w) r (rw (n1, is) refl)
-          ∙ entity_ends greater (103 ∷ []) 116 (59 ∷ []) bs place w r (at + 1) refl
-          (with_byte SpellsReference [] b 103 bs is spells) (with_byte BeginsReference [] b 103 bs is begins)
-      | inr n2 ↦ elim (truth (eqb b 113)) [
+          by_step (reference place w) r at b bs (word place (117 ∷ 111 ∷ 116 ∷ 59 ∷ []) w) r (rw (n1, n2, is) refl)
+          ∙ entity_ends quotation (113 ∷ []) 117 (111 ∷ 116 ∷ 59 ∷ []) bs place w r (at + 1) refl
+          (with_byte SpellsReference [] b 113 bs is spells) (with_byte BeginsReference [] b 113 bs is begins)
+      | inr n3 ↦ elim (truth (eqb b 97)) [
+        | inl is ↦
+            by_step (reference place w) r at b bs (reference_a place w) r (rw (n1, n2, n3, is) refl)
+            ∙ reference_a_ends bs place w r (at + 1)
+            (with_byte SpellsReference [] b 97 bs is spells) (with_byte BeginsReference [] b 97 bs is begins)
+        | inr n4 ↦ elim (truth (eqb b 35)) [
           | inl is ↦
-              by_step (reference place w) r at b bs (word place (117 ∷ 111 ∷ 116 ∷ 59 ∷ []) w) r (rw (n1, n2, is) refl)
-              ∙ entity_ends quotation (113 ∷ []) 117 (111 ∷ 116 ∷ 59 ∷ []) bs place w r (at + 1) refl
-              (with_byte SpellsReference [] b 113 bs is spells) (with_byte BeginsReference [] b 113 bs is begins)
-          | inr n3 ↦ elim (truth (eqb b 97)) [
-              | inl is ↦
-                  by_step (reference place w) r at b bs (reference_a place w) r (rw (n1, n2, n3, is) refl)
-                  ∙ reference_a_ends bs place w r (at + 1)
-                  (with_byte SpellsReference [] b 97 bs is spells) (with_byte BeginsReference [] b 97 bs is begins)
-              | inr n4 ↦ elim (truth (eqb b 35)) [
-                  | inl is ↦
-                      by_step (reference place w) r at b bs (hash place w) r (rw (n1, n2, n3, n4, is) refl)
-                      ∙ hash_ends bs place w r (at + 1)
-                      (with_byte SpellsReference [] b 35 bs is spells) (with_byte BeginsReference [] b 35 bs is begins)
-                  | inr n5 ↦ fails (reference place w) r at b bs (bad_reference place) (rw (n1, n2, n3, n4, n5) refl)
-                ]
-            ]
+              by_step (reference place w) r at b bs (hash place w) r (rw (n1, n2, n3, n4, is) refl)
+              ∙ hash_ends bs place w r (at + 1)
+              (with_byte SpellsReference [] b 35 bs is spells) (with_byte BeginsReference [] b 35 bs is begins)
+          | inr n5 ↦ fails (reference place w) r at b bs (bad_reference place) (rw (n1, n2, n3, n4, n5) refl)
         ]
+      ]
     ]
+  ]
 ]
 
 pub misrefer_ends : (bytes : List ℕ) (at : ℕ) → MisrefersAt bytes at → outcome_of bytes ≡ Err (bad_reference at)

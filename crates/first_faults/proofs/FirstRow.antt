@@ -1,5 +1,5 @@
 -- The first fault is the row at the least place.
-use Rattle.std.proofs.Common.{◌≡◌, ◌⊎◌, ◌<◌, ◌≤◌, ℕ, List, Err, inl, inr, sym, ◌∙◌, ap, subst, arith}
+use Rattle.std.proofs.Common.{◌≡◌, ◌⊎◌, ◌<◌, ◌≤◌, ℕ, List, Err, inl, inr, sym, ◌∙◌, subst, arith}
 use Rattle.std.specs.Str.{IsUtf8}
 use Rattle.xhstt_text.specs.Machine.{outcome_of}
 use Rattle.xhstt_text.specs.declared.faults.TextFault.{TextFault}
@@ -57,7 +57,10 @@ abbrev Later : ℕ → ℕ → ℕ → ℕ → Type 0
 Later kind at other place = (at ≤ place) × (place ≡ at → ComesBefore other kind → ⊥)
 
 not_before : (kind at other place : ℕ) → Earlier (Bad kind at) other place → Later kind at other place
-not_before kind at other place (inl less) = (omega (arith, less), (λ same c. let e : place ≡ at = same in omega (arith, e, less)))
+not_before kind at other place (inl less) = (
+  omega (arith, less),
+  (λ same c. let e : place ≡ at = same in omega (arith, e, less)),
+)
 not_before kind at other place (inr (same, inl is)) = (omega (arith, same), (λ _ c. markup_apart kind other is c))
 not_before kind at other place (inr (same, inr c)) = (omega (arith, same), (λ _ d. not_both kind other c d))
 
@@ -90,7 +93,8 @@ least_here bytes kind at (Bad found place) u e k least =
     let none : Later kind at found place = least found place (first_row bytes found place first) in
     elim k [
       | inl less ↦ absurd (let n : at ≤ place = none.0 in omega (arith, less, n))
-      | inr (same, inl is) ↦ subst (λ n. IsFirstFault bytes kind n) same (subst (λ k. IsFirstFault bytes k place) is first)
+      | inr (same, inl is) ↦ subst (λ n. IsFirstFault bytes kind n) same
+          (subst (λ k. IsFirstFault bytes k place) is first)
       | inr (same, inr c) ↦ absurd (none.1 same c)
     ]
 

@@ -1,6 +1,6 @@
 -- What is known after each step of the machine.
 use Rattle.std.proofs.Common.{inl, inr, ◌≡◌, ℕ, ◌+◌, ◌*◌, Bool, true, false, cond, ◌&&◌, leb, eqb, List, [], ◌∷◌, ◌++◌}
-use Rattle.std.proofs.Common.{length, Ok, Err, refl, sym, ◌∙◌, ap, subst, append_assoc, append-nil, ltb, arith}
+use Rattle.std.proofs.Common.{length, Ok, Err, refl, sym, ◌∙◌, ap, subst, append_assoc, append-nil, ltb}
 use Rattle.std.specs.Str.{bytes_eq}
 use Rattle.xhstt_text.specs.Bytes.{is_white, is_first, is_name, is_text, is_quoted, is_quote, dashes, AllAre, IsName}
 use Rattle.xhstt_text.specs.Units.{is_decimal, is_hexadecimal, digit, is_character, is_last, decimal, hexadecimal}
@@ -13,7 +13,7 @@ use Rattle.xhstt_text.specs.Machine.{step_declaration, step_question, other_word
 use Rattle.xhstt_text.specs.Machine.{Frame, Read, Tag, Phase, content, ended, ended_open, Place, early}
 use Rattle.xhstt_text.specs.Machine.{late, phase_of, bang, bang_dash, in_comment, opened, start_name, valued, in_tag}
 use Rattle.xhstt_text.specs.Machine.{slash, attribute_name, named, equals, in_value, shut_begin, shut, shut_gap, State}
-use Rattle.xhstt_text.specs.Machine.{Step, refused, state, noted, resume, open_element, add_node, opened_row}
+use Rattle.xhstt_text.specs.Machine.{refused, state, noted, resume, open_element, add_node, opened_row}
 use Rattle.xhstt_text.specs.Machine.{close_element, attribute_row, with_name, start_of, step, step_content, step_opened}
 use Rattle.xhstt_text.specs.Machine.{step_valued, step_named, step_shut, and_then, run}
 use Rattle.xhstt_text.specs.declared.faults.TextFault.{TextFault}
@@ -23,9 +23,11 @@ use Rattle.xhstt_text.proofs.Sound.{all_push, choose, digits_push, document_from
 use Rattle.first_faults.specs.Fronts.{AreNames, BeginsReference, IsFront, IsOtherWord, MayRefer, end_tags}
 use Rattle.first_faults.proofs.Live.{AreNamed, run_tags}
 use Rattle.first_faults.proofs.LiveParts.{live_bang, live_reference}
-use Rattle.first_faults.proofs.Known.{Around, At, Held, Inner, Next, OtherWord, Past, Referring, Shutting, after_held, alive}
+use Rattle.first_faults.proofs.Known.{Around, Held, Inner, Next, OtherWord, Past, Referring, Shutting, after_held}
+use Rattle.first_faults.proofs.Known.{alive}
 use Rattle.first_faults.proofs.Known.{IsSome, begin, grow, is_key, lands, refer_by, refer_on, tail_key, tail_push}
-use Rattle.first_faults.proofs.Reach.{Reaches, comes, front_reaches, length_push, push, reads, reached, refused_reach, start}
+use Rattle.first_faults.proofs.Reach.{Reaches, comes, front_reaches, length_push, push, reads, reached, refused_reach}
+use Rattle.first_faults.proofs.Reach.{start}
 
 -- no text begins with a byte that is refused
 pub stopped : (q : List ℕ) (p : Phase) (r : Read) (b : ℕ) (f : TextFault) → Reaches q p r
@@ -38,7 +40,8 @@ names_are [] h = tt
 names_are (f ∷ fs) h = (h.0, names_are fs h.1)
 
 -- in content
-inside_here : (fs : List Frame) (r : Read) (q : List ℕ) → r.frames ≡ fs → AreNamed fs → Reaches q content r → Around fs q
+inside_here : (fs : List Frame) (r : Read) (q : List ℕ) → r.frames ≡ fs → AreNamed fs → Reaches q content r
+    → Around fs q
 inside_here [] r q is h here = tt
 inside_here (f ∷ fs) r q is h here =
     let l = run_tags f fs r is h (length q) in
@@ -114,9 +117,12 @@ forth_content (f ∷ fs) r q b s same hf h here e =
     let d : Read = record r { frames = noted f (length q) b ∷ fs } in
     let whole : step content r (length q) b ≡ Ok s = ap (λ x. step_content x r (length q) b) same ∙ e in
     choose (eqb b 60) (state (opened (length q)) r) _ s
-    (λ is there. lands q b (opened (length q)) r s h
-    (q, subst (λ x. Around x q) (sym same) (inside_here (f ∷ fs) r q same hf here), refl,
-    ap (λ k. q ++ k ∷ []) (same_byte b 60 is)) there)
+    (λ is there. lands q b (opened (length q)) r s h (
+      q,
+      subst (λ x. Around x q) (sym same) (inside_here (f ∷ fs) r q same hf here),
+      refl,
+      ap (λ k. q ++ k ∷ []) (same_byte b 60 is),
+    ) there)
     (λ _ e1. choose (is_text b) (state content d) _ s
     (λ _ there. lands q b content d s hf tt there)
     (λ _ e2. choose (eqb b 38) (state (reference (length q) in_text) d) _ s
@@ -171,11 +177,16 @@ forth_word place (l ∷ []) w r q b s h k e =
     (λ _ here. lands q b (after_piece w) r s h (after_held w (q ++ b ∷ []) r.frames k.0) here) (λ _ here. no s here) e
 forth_word place (l ∷ m ∷ ks) w r q b s h k e =
     choose (eqb b l) (state (word place (m ∷ ks) w) r) _ s
-    (λ is here. lands q b (word place (m ∷ ks) w) r s h (k.0, tt, k.2.1, (
-      k.3.0 ++ l ∷ [],
-      refer_by place (λ x v. word x (l ∷ m ∷ ks) v) (λ x v. word x (m ∷ ks) v) k.3.0 q b l is k.3.1
-          (λ x v u at. rw (same_number l) refl),
-    )) here) (λ _ here. no s here) e
+    (λ is here. lands q b (word place (m ∷ ks) w) r s h (
+      k.0,
+      tt,
+      k.2.1,
+      (
+        k.3.0 ++ l ∷ [],
+        refer_by place (λ x v. word x (l ∷ m ∷ ks) v) (λ x v. word x (m ∷ ks) v) k.3.0 q b l is k.3.1
+            (λ x v u at. rw (same_number l) refl),
+      ),
+    ) here) (λ _ here. no s here) e
 
 -- the end of a number
 forth_number : (c : Bool) (place : ℕ) (p : ℕ → Within → Phase) (part : List ℕ) (w : Within) (r : Read) (q : List ℕ)
@@ -243,9 +254,21 @@ forth (ended_open place) r q b s there h k e =
 forth (bang place p) r q b s there h k e =
     let front : IsFront q = alive q (bang place p) r there (live_bang place p r h) in
     let kept : (ks : List ℕ) → IsOtherWord (b ∷ ks) → state (other_word place (length q) ks) r ≡ Ok s → Next q b s =
-    λ ks o here. lands q b (other_word place (length q) ks) r s h
-    (q, b, [], refl, front, refl, (k.0, k.1, k.2, o), (ks, r, push q (bang place p) r b
-    (record { phase = other_word place (length q) ks; read = r }) there (e ∙ sym here))) here in
+    λ ks o here. lands q b (other_word place (length q) ks) r s h (
+      q,
+      b,
+      [],
+      refl,
+      front,
+      refl,
+      (k.0, k.1, k.2, o),
+      (
+        ks,
+        r,
+        push q (bang place p) r b
+            (record { phase = other_word place (length q) ks; read = r }) there (e ∙ sym here),
+      ),
+    ) here in
     choose (eqb b 45) (state (bang_dash p) r) _ s (λ _ here. lands q b (bang_dash p) r s h tt here)
     (λ _ e1. choose (eqb b 68) (state (other_word place (length q) (79 ∷ 67 ∷ 84 ∷ 89 ∷ 80 ∷ 69 ∷ [])) r) _ s
     (λ is here. kept (79 ∷ 67 ∷ 84 ∷ 89 ∷ 80 ∷ 69 ∷ [])
@@ -314,8 +337,11 @@ forth (in_value t place name quote from) r q b s there h k e =
     (λ _ e1. choose (eqb b quote) (state (valued (with_name t name)) d) _ s
     (λ _ here. lands q b (valued (with_name t name)) d s h k.0 here)
     (λ _ e2. choose (eqb b 38) (state (reference (length q) w) r) _ s
-    (λ is here. lands q b (reference (length q) w) r s h (k, refer_start q b is
-    (may_refer q (in_value t place name quote from) r b w r there is (e ∙ sym here) h)) here)
+    (λ is here. lands q b (reference (length q) w) r s h (
+      k,
+      refer_start q b is
+          (may_refer q (in_value t place name quote from) r b w r there is (e ∙ sym here) h),
+    ) here)
     (λ _ e3. choose (eqb b 239) (state (wide_1 w) r) _ s
     (λ _ here. lands q b (wide_1 w) r s h k here)
     (λ _ here. no s here) e3) e2) e1) e
@@ -327,10 +353,14 @@ forth (wide_2 greatest w) r q b s there h k e =
     (λ _ here. lands q b (after_piece w) r s h (after_held w (q ++ b ∷ []) r.frames k) here) (λ _ here. no s here) e
 forth (reference place w) r q b s there h k e =
     let next : (l : ℕ) (ks : List ℕ) → eqb b l ≡ true → IsSome ks → AllAre is_key ks
-        → ((x : ℕ) (v : Within) (u : Read) (at : ℕ) → step (reference x v) u at l ≡ state (word x ks v) u)
-        → state (word place ks w) r ≡ Ok s → Next q b s =
-    λ l ks is some keys steps here. lands q b (word place ks w) r s h (k.0, some, keys,
-    (l ∷ [], refer_by place reference (λ x v. word x ks v) [] q b l is k.1 steps)) here in
+    → ((x : ℕ) (v : Within) (u : Read) (at : ℕ) → step (reference x v) u at l ≡ state (word x ks v) u)
+    → state (word place ks w) r ≡ Ok s → Next q b s =
+    λ l ks is some keys steps here. lands q b (word place ks w) r s h (
+      k.0,
+      some,
+      keys,
+      (l ∷ [], refer_by place reference (λ x v. word x ks v) [] q b l is k.1 steps),
+    ) here in
     choose (eqb b 108) (state (word place (116 ∷ 59 ∷ []) w) r) _ s
     (λ is here. next 108 (116 ∷ 59 ∷ []) is tt (refl, (refl, tt)) (λ x v u at. refl) here)
     (λ _ e1. choose (eqb b 103) (state (word place (116 ∷ 59 ∷ []) w) r) _ s
@@ -346,12 +376,26 @@ forth (reference place w) r q b s there h k e =
     (λ _ here. no s here) e4) e3) e2) e1) e
 forth (reference_a place w) r q b s there h k e =
     choose (eqb b 109) (state (word place (112 ∷ 59 ∷ []) w) r) _ s
-    (λ is here. lands q b (word place (112 ∷ 59 ∷ []) w) r s h (k.0, tt, (refl, (refl, tt)), (97 ∷ 109 ∷ [],
-    refer_by place reference_a (λ x v. word x (112 ∷ 59 ∷ []) v) (97 ∷ []) q b 109 is k.1 (λ x v u at. refl))) here)
+    (λ is here. lands q b (word place (112 ∷ 59 ∷ []) w) r s h (
+      k.0,
+      tt,
+      (refl, (refl, tt)),
+      (
+        97 ∷ 109 ∷ [],
+        refer_by place reference_a (λ x v. word x (112 ∷ 59 ∷ []) v) (97 ∷ []) q b 109 is k.1 (λ x v u at. refl),
+      ),
+    ) here)
     (λ _ e1. choose (eqb b 112) (state (word place (111 ∷ 115 ∷ 59 ∷ []) w) r) _ s
-    (λ is here. lands q b (word place (111 ∷ 115 ∷ 59 ∷ []) w) r s h (k.0, tt, (refl, (refl, (refl, tt))), (97 ∷ 112 ∷ [],
-    refer_by place reference_a (λ x v. word x (111 ∷ 115 ∷ 59 ∷ []) v) (97 ∷ []) q b 112 is k.1
-    (λ x v u at. refl))) here)
+    (λ is here. lands q b (word place (111 ∷ 115 ∷ 59 ∷ []) w) r s h (
+      k.0,
+      tt,
+      (refl, (refl, (refl, tt))),
+      (
+        97 ∷ 112 ∷ [],
+        refer_by place reference_a (λ x v. word x (111 ∷ 115 ∷ 59 ∷ []) v) (97 ∷ []) q b 112 is k.1
+            (λ x v u at. refl),
+      ),
+    ) here)
     (λ _ here. no s here) e1) e
 forth (word place ks w) r q b s there h k e = forth_word place ks w r q b s h k e
 forth (hash place w) r q b s there h k e =
@@ -359,20 +403,34 @@ forth (hash place w) r q b s there h k e =
     (λ is here. lands q b (hash_x place w) r s h
     (k.0, refer_by place hash hash_x (35 ∷ []) q b 120 is k.1 (λ x v u at. refl)) here)
     (λ _ e1. choose (is_decimal b) (state (in_decimal place (digit b) w) r) _ s
-    (λ is here. lands q b (in_decimal place (digit b) w) r s h (k.0, b ∷ [], (is, tt), refer_on place hash
-    (λ x v. in_decimal x (digit b) v) (35 ∷ []) q b k.1 (λ x v u at. rw (decimal_isnt_x b is, is) refl)) here)
+    (λ is here. lands q b (in_decimal place (digit b) w) r s h (
+      k.0,
+      b ∷ [],
+      (is, tt),
+      refer_on place hash
+          (λ x v. in_decimal x (digit b) v) (35 ∷ []) q b k.1 (λ x v u at. rw (decimal_isnt_x b is, is) refl),
+    ) here)
     (λ _ here. no s here) e1) e
 forth (hash_x place w) r q b s there h k e =
     choose (is_hexadecimal b) (state (in_hexadecimal place (digit b) w) r) _ s
-    (λ is here. lands q b (in_hexadecimal place (digit b) w) r s h (k.0, b ∷ [], (is, tt), refer_on place hash_x
-    (λ x v. in_hexadecimal x (digit b) v) (35 ∷ 120 ∷ []) q b k.1 (λ x v u at. rw is refl)) here)
+    (λ is here. lands q b (in_hexadecimal place (digit b) w) r s h (
+      k.0,
+      b ∷ [],
+      (is, tt),
+      refer_on place hash_x
+          (λ x v. in_hexadecimal x (digit b) v) (35 ∷ 120 ∷ []) q b k.1 (λ x v u at. rw is refl),
+    ) here)
     (λ _ here. no s here) e
 forth (in_decimal place n w) r q b s there h (held, ds, are, known) e =
     let p : ℕ → Within → Phase = λ x v. in_decimal x n v in
     choose (is_decimal b) (state (in_decimal place (n * 10 + digit b) w) r) _ s
-    (λ is here. lands q b (in_decimal place (n * 10 + digit b) w) r s h (held, ds ++ b ∷ [],
-    digits_push is_decimal ds b are is, refer_on place p (λ x v. in_decimal x (n * 10 + digit b) v) (35 ∷ ds) q b known
-    (λ x v u at. rw is refl)) here)
+    (λ is here. lands q b (in_decimal place (n * 10 + digit b) w) r s h (
+      held,
+      ds ++ b ∷ [],
+      digits_push is_decimal ds b are is,
+      refer_on place p (λ x v. in_decimal x (n * 10 + digit b) v) (35 ∷ ds) q b known
+          (λ x v u at. rw is refl),
+    ) here)
     (λ _ e1. choose (eqb b 59) (state (after_number place n w) r) _ s
     (λ is here. forth_number (is_character n) place p (35 ∷ ds) w r q b s h held
     (decimal ds, [], are, append-nil (38 ∷ 35 ∷ (ds ++ 59 ∷ []))) known is
@@ -381,9 +439,13 @@ forth (in_decimal place n w) r q b s there h (held, ds, are, known) e =
 forth (in_hexadecimal place n w) r q b s there h (held, ds, are, known) e =
     let p : ℕ → Within → Phase = λ x v. in_hexadecimal x n v in
     choose (is_hexadecimal b) (state (in_hexadecimal place (n * 16 + digit b) w) r) _ s
-    (λ is here. lands q b (in_hexadecimal place (n * 16 + digit b) w) r s h (held, ds ++ b ∷ [],
-    digits_push is_hexadecimal ds b are is, refer_on place p (λ x v. in_hexadecimal x (n * 16 + digit b) v)
-    (35 ∷ 120 ∷ ds) q b known (λ x v u at. rw is refl)) here)
+    (λ is here. lands q b (in_hexadecimal place (n * 16 + digit b) w) r s h (
+      held,
+      ds ++ b ∷ [],
+      digits_push is_hexadecimal ds b are is,
+      refer_on place p (λ x v. in_hexadecimal x (n * 16 + digit b) v)
+          (35 ∷ 120 ∷ ds) q b known (λ x v u at. rw is refl),
+    ) here)
     (λ _ e1. choose (eqb b 59) (state (after_number place n w) r) _ s
     (λ is here. forth_number (is_character n) place p (35 ∷ 120 ∷ ds) w r q b s h held
     (hexadecimal ds, [], are, append-nil (38 ∷ 35 ∷ 120 ∷ (ds ++ 59 ∷ []))) known is
@@ -397,9 +459,15 @@ forth (shut_begin place) r q b s there h (p, inside, is, bytes) e =
     (λ _ here. no s here) e
 forth (shut place name) r q b s there h (p, inside, is, hn, hw, bytes) e =
     choose (is_name b) (state (shut place (name ++ b ∷ [])) r) _ s
-    (λ more here. lands q b (shut place (name ++ b ∷ [])) r s h (p, inside, is, name_push name b hn more, tt,
-    tail_push q p (60 ∷ 47 ∷ (name ++ [])) b bytes
-    ∙ ap (λ x. p ++ (60 ∷ 47 ∷ x)) (append_assoc name [] (b ∷ []) ∙ sym (append-nil (name ++ b ∷ [])))) here)
+    (λ more here. lands q b (shut place (name ++ b ∷ [])) r s h (
+      p,
+      inside,
+      is,
+      name_push name b hn more,
+      tt,
+      tail_push q p (60 ∷ 47 ∷ (name ++ [])) b bytes
+          ∙ ap (λ x. p ++ (60 ∷ 47 ∷ x)) (append_assoc name [] (b ∷ []) ∙ sym (append-nil (name ++ b ∷ []))),
+    ) here)
     (λ _ e1. choose (eqb b 58) _ (step_shut r.frames place name r (length q) b) s (λ _ here. no s here)
     (λ _ on. forth_shut r.frames place name [] r q b s refl h h (p, inside, is, hn, hw, bytes) on) e1) e
 forth (shut_gap place name) r q b s there h k e =

@@ -7,18 +7,19 @@ use Rattle.std.specs.Str.{bytes_eq}
 use Rattle.xhstt_text.specs.Bytes.{is_quote, is_name, dashes, IsName, AllAre}
 use Rattle.xhstt_text.specs.Document.{Rows, table, has_name}
 use Rattle.xhstt_text.specs.Faults.{bad_markup, mismatched_end, bad_reference}
-use Rattle.xhstt_text.specs.Machine.{content, in_comment, in_declaration, opened, shut, shut_gap, shut_begin}
+use Rattle.xhstt_text.specs.Machine.{content, in_comment, in_declaration, opened, shut, shut_gap}
 use Rattle.xhstt_text.specs.Machine.{attribute_name, in_value, word, question, other_word, Phase, Place, Read, Frame}
 use Rattle.xhstt_text.specs.Machine.{State, Step, Outcome, refused, state, resume, close_element, and_then, run, step}
-use Rattle.xhstt_text.specs.Machine.{step_opened, step_shut, outcome_of, beginning, Tag}
+use Rattle.xhstt_text.specs.Machine.{step_opened, step_shut, outcome_of, beginning}
 use Rattle.xhstt_text.specs.declared.faults.TextFault.{TextFault}
 use Rattle.xhstt_text.proofs.Complete.{run_document}
-use Rattle.xhstt_text.proofs.Runs.{by_step, run_loop}
+use Rattle.xhstt_text.proofs.Runs.{by_step}
 use Rattle.xhstt_text.proofs.Sound.{names_of}
 use Rattle.first_faults.specs.Fronts.{AreNames, IsInside, end_tags}
 use Rattle.first_faults.proofs.Forth.{history, other_lost}
 use Rattle.first_faults.proofs.Known.{Past, is_key}
 use Rattle.first_faults.proofs.Live.{open_tag, over_name}
+use Rattle.first_faults.proofs.LiveParts.{over_dash}
 use Rattle.first_faults.proofs.Reach.{Reaches, reached_first, reads, start}
 
 -- a run that a step ends
@@ -35,7 +36,8 @@ pub moved : (p : Phase) (r : Read) (at b : ℕ) (bs : List ℕ) (q : Phase) (s :
     → step p r at b ≡ state q s → run p r at (b ∷ bs) ≡ Ok rows → run q s (at + 1) bs ≡ Ok rows
 moved p r at b bs q s rows d e = sym (by_step p r at b bs q s d) ∙ e
 
-pub opened_60 : (fs : List Frame) (place : ℕ) (r : Read) (at : ℕ) → step_opened fs place r at 60 ≡ refused (bad_markup at)
+pub opened_60 : (fs : List Frame) (place : ℕ) (r : Read) (at : ℕ)
+    → step_opened fs place r at 60 ≡ refused (bad_markup at)
 opened_60 [] place r at = refl
 opened_60 (f ∷ fs) place r at = refl
 
@@ -59,17 +61,16 @@ pub name_62 : (b : ℕ) → is_name b ≡ true → eqb b 62 ≡ false
 name_62 b h = grind (arith, nat_tests)
 
 -- a comment goes on over these end tags
-pub over_dash : (c : Bool) (x y : Step) → cond (c && false) x y ≡ y
-over_dash true x y = refl
-over_dash false x y = refl
-
 comment_name : (w : List ℕ) (place : Place) (count : ℕ) (r : Read) (at : ℕ) (rest : List ℕ) → AllAre is_name w
     → (n : ℕ) × (i : ℕ) × (run (in_comment place count) r at (w ++ rest) ≡ run (in_comment place n) r i rest)
 comment_name [] place count r at rest h = (count, at, refl)
 comment_name (b ∷ w) place count r at rest h =
-    let l = comment_name w place (dashes count b) r (at + 1) rest h.1 in
-    (l.0, l.1, by_step (in_comment place count) r at b (w ++ rest) (in_comment place (dashes count b)) r
-    (rw (name_62 b h.0) (over_dash (leb 2 count) _ _)) ∙ l.2)
+    let l = comment_name w place (dashes count b) r (at + 1) rest h.1 in (
+      l.0,
+      l.1,
+      by_step (in_comment place count) r at b (w ++ rest) (in_comment place (dashes count b)) r
+          (rw (name_62 b h.0) (over_dash (leb 2 count) _ _)) ∙ l.2,
+    )
 
 named_bytes : (name : List ℕ) → IsName name → AllAre is_name name
 named_bytes [] h = absurd h
@@ -94,9 +95,12 @@ declared_name : (w : List ℕ) (seen : Bool) (r : Read) (at : ℕ) (rest : List 
     → (c : Bool) × (i : ℕ) × (run (in_declaration seen) r at (w ++ rest) ≡ run (in_declaration c) r i rest)
 declared_name [] seen r at rest h = (seen, at, refl)
 declared_name (b ∷ w) seen r at rest h =
-    let l = declared_name w (eqb b 63) r (at + 1) rest h.1 in
-    (l.0, l.1, by_step (in_declaration seen) r at b (w ++ rest) (in_declaration (eqb b 63)) r
-    (rw (name_62 b h.0) (over_dash seen _ _)) ∙ l.2)
+    let l = declared_name w (eqb b 63) r (at + 1) rest h.1 in (
+      l.0,
+      l.1,
+      by_step (in_declaration seen) r at b (w ++ rest) (in_declaration (eqb b 63)) r
+          (rw (name_62 b h.0) (over_dash seen _ _)) ∙ l.2,
+    )
 
 declaration_over : (names : List (List ℕ)) (seen : Bool) (r : Read) (at : ℕ) (rows : Rows) → AreNames names
     → run (in_declaration seen) r at (end_tags names) ≡ Ok rows → ⊥
@@ -145,7 +149,8 @@ open_names [] n (f ∷ fs) r at rows is h e =
     ap (λ x. x ∷ names_of fs) (sym s.0)
     ∙ ap (λ x. n ∷ x) (last_tag fs (close_element f fs r at) (at + 1 + 1 + length n + 1 + 1) rows s.1)
 open_names (m ∷ ms) n (f ∷ []) r at rows is h e =
-    let s = shuts (end_tags (m ∷ ms)) n f [] r at rows is h.0 e in ends_it (bad_markup (at + 1 + 1 + length n + 1 + 1 + 1)) rows s.1
+    let s = shuts (end_tags (m ∷ ms)) n f [] r at rows is h.0 e in
+    ends_it (bad_markup (at + 1 + 1 + length n + 1 + 1 + 1)) rows s.1
 open_names (m ∷ ms) n (f ∷ g ∷ gs) r at rows is h e =
     let s = shuts (end_tags (m ∷ ms)) n f (g ∷ gs) r at rows is h.0 e in
     ap (λ x. x ∷ names_of (g ∷ gs)) (sym s.0) ∙ ap (λ x. n ∷ x)
@@ -174,7 +179,8 @@ closes (shut_gap place name) r q at n ns rows h k e =
 closes (attribute_name t place name) r q at n ns rows h k e =
     attribute_60 (has_name name t.names) place _ at rows e
 closes (in_value t place name quote from) r q at n ns rows h k e =
-    stuck (in_value t place name quote from) r at 60 (tag_rest n ns) (bad_markup at) rows (rw (quote_60 quote k.1) refl) e
+    stuck (in_value t place name quote from) r at 60 (tag_rest n ns) (bad_markup at) rows (rw (quote_60 quote k.1) refl)
+    e
 closes (word place [] w) r q at n ns rows h k e = absurd k.1
 closes (word place (l ∷ []) w) r q at n ns rows h k e =
     stuck (word place (l ∷ []) w) r at 60 (tag_rest n ns) (bad_reference place) rows (rw (key_60 l k.2.0) refl) e

@@ -1,6 +1,6 @@
 -- What is known of the bytes that the machine has read, in each of its phases.
-use Rattle.std.proofs.Common.{◌≡◌, ℕ, ◌+◌, Bool, true, false, ◌&&◌, ◌||◌, leb, eqb, List, [], ◌∷◌}
-use Rattle.std.proofs.Common.{◌++◌, length, Ok, refl, sym, ◌∙◌, ap, subst, append_assoc}
+use Rattle.std.proofs.Common.{◌≡◌, ℕ, ◌+◌, Bool, true, ◌&&◌, ◌||◌, leb, eqb, List, [], ◌∷◌}
+use Rattle.std.proofs.Common.{suc, ◌++◌, length, Ok, refl, sym, ◌∙◌, ap, subst, append_assoc}
 use Rattle.xhstt_text.specs.Bytes.{is_white, is_quote, AllAre, IsName, IsWhite}
 use Rattle.xhstt_text.specs.Units.{AreDigits, is_decimal, is_hexadecimal}
 use Rattle.xhstt_text.specs.Machine.{Within, in_text, in_quotes, after_piece, reference, reference_a}
@@ -90,6 +90,10 @@ Past (shut_begin place) fs q = (p : List ℕ) × Inner fs p × (place ≡ length
 Past (shut place name) fs q = Shutting place name [] fs q
 Past (shut_gap place name) fs q = (w : List ℕ) × Shutting place name w fs q
 Past _ fs q = Unit {0}
+
+pub length_names : (fs : List Frame) → length (names_of fs) ≡ length fs
+length_names [] = refl
+length_names (f ∷ fs) = ap suc (length_names fs)
 
 -- some text begins with what was read, where the machine can go on from there
 pub alive : (q : List ℕ) (p : Phase) (r : Read) → Reaches q p r → Live p r → IsFront q

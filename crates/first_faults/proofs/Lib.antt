@@ -1,3 +1,4 @@
+pub mod AsciiTexts
 pub mod Begun
 pub mod Endings
 pub mod FirstRow

@@ -4,7 +4,7 @@ use Rattle.std.proofs.Common.{◌≡◌, ℕ, ◌+◌, true, List, [], ◌∷◌
 use Rattle.std.proofs.Common.{◌++◌, length, Ok, refl, sym, ◌∙◌, subst, arith}
 use Rattle.std.proofs.lemmas.Slice.Eq.{bytes_eq-Decides}
 use Rattle.std.specs.Str.{bytes_eq}
-use Rattle.xhstt_text.specs.Bytes.{is_name, AllAre, IsName}
+use Rattle.xhstt_text.specs.Bytes.{IsName}
 use Rattle.xhstt_text.specs.Document.{Rows}
 use Rattle.xhstt_text.specs.Machine.{Frame, Read, Tag, Phase, content, ended}
 use Rattle.xhstt_text.specs.Machine.{opened, start_name}

@@ -1,31 +1,27 @@
 -- What the machine says of a `:` after a name, and of the repeated name of an attribute.
-use Rattle.std.proofs.Common.{◌≡◌, ◌⊎◌, ◌<◌, ℕ, ◌+◌, Bool, true, false, cond, ◌&&◌, ◌||◌, leb, eqb, List, [], ◌∷◌, ◌++◌}
-use Rattle.std.proofs.Common.{length, Ok, Err, refl, sym, ◌∙◌, ap, subst, inl, inr, arith, append_assoc, length-append}
-use Rattle.std.proofs.Common.{append-nil}
+use Rattle.std.proofs.Common.{◌≡◌, ◌⊎◌, ◌<◌, ℕ, ◌+◌, true, false, ◌&&◌, ◌||◌, leb, eqb, List, [], ◌∷◌, ◌++◌}
+use Rattle.std.proofs.Common.{length, Ok, refl, sym, ◌∙◌, ap, subst, inl, inr, arith, append_assoc}
 use Rattle.std.proofs.lemmas.Bool.Decides.{nat_tests}
-use Rattle.xhstt_text.specs.Bytes.{is_first, is_name, is_quote, is_quoted, is_text, is_white, dashes, AllAre, IsName}
+use Rattle.xhstt_text.specs.Bytes.{is_name, is_quote, is_quoted, AllAre, IsName}
 use Rattle.xhstt_text.specs.Document.{has_name}
 use Rattle.xhstt_text.specs.Faults.{bad_markup, bad_reference, unsupported}
-use Rattle.xhstt_text.specs.Machine.{content, ended, in_comment, in_declaration, in_tag, named, equals, in_value, valued}
+use Rattle.xhstt_text.specs.Machine.{content, in_comment, in_declaration, in_tag, in_value}
 use Rattle.xhstt_text.specs.Machine.{start_name, attribute_name, shut, shut_begin, shut_gap, opened, declared_open}
-use Rattle.xhstt_text.specs.Machine.{beginning, at_declaration, word, question, other_word, phase_of, closed, noted}
-use Rattle.xhstt_text.specs.Machine.{Frame, Phase, Read, State, Step, Tag, Outcome, refused, state, step, step_content}
-use Rattle.xhstt_text.specs.Machine.{step_opened, step_shut, finish, run, and_then, outcome_of, start_of, resume}
-use Rattle.xhstt_text.specs.declared.faults.TextFault.{TextFault}
+use Rattle.xhstt_text.specs.Machine.{word, question, other_word, noted}
+use Rattle.xhstt_text.specs.Machine.{Frame, Phase, Read, State, Step, refused, state, step, step_content}
+use Rattle.xhstt_text.specs.Machine.{step_shut}
 use Rattle.xhstt_text.specs.declared.faults.TheConstants.{UNSUPPORTED}
-use Rattle.xhstt_text.proofs.Runs.{name_from_first, white_isnt_colon, white_isnt_name}
-use Rattle.xhstt_text.proofs.Sound.{no, same_byte}
-use Rattle.first_faults.specs.Fronts.{ColonAt, EndsName, IsBegun, IsFront, RepeatsName}
-use Rattle.first_faults.proofs.Begun.{Usual, arrives, blocked, either_refused, front_arrives, one_back, past_dash, read_begun}
-use Rattle.first_faults.proofs.Begun.{reached_loop, usual_before, usual_phase}
+use Rattle.xhstt_text.proofs.Runs.{name_from_first, white_isnt_name}
+use Rattle.xhstt_text.proofs.Sound.{no}
+use Rattle.first_faults.specs.Fronts.{ColonAt, IsBegun}
+use Rattle.first_faults.proofs.Begun.{Usual, arrives, blocked, one_back, read_begun}
+use Rattle.first_faults.proofs.Begun.{usual_before}
 use Rattle.first_faults.proofs.Endings.{truth}
 use Rattle.first_faults.proofs.Forth.{history}
-use Rattle.first_faults.proofs.Inside.{over_dash}
-use Rattle.first_faults.proofs.Known.{Past, alive, front_of, is_key}
-use Rattle.first_faults.proofs.Live.{AreNamed, Live, live_content}
-use Rattle.first_faults.proofs.LiveParts.{live_comment, live_equals, live_in_declaration, live_value}
-use Rattle.first_faults.proofs.Reach.{Reaches, comes, over, push, reached, reached_append, reached_prefix, reads, refuses}
-use Rattle.first_faults.proofs.Reach.{start, then}
+use Rattle.first_faults.proofs.LiveParts.{over_dash}
+use Rattle.first_faults.proofs.Known.{Past, is_key}
+use Rattle.first_faults.proofs.Reach.{Reaches, push, refuses}
+use Rattle.first_faults.proofs.Reach.{then}
 use Rattle.first_faults.proofs.Stopping.{Leads, leads_to, name_within}
 
 -- bytes that end in a name end in no other byte
@@ -98,12 +94,15 @@ colon_there (shut place n) r q rest before name s here k u hn same e never =
     colon_fault q rest (shut place n) r here refl
 colon_there (attribute_name t place n) r q rest before name s here k u hn same e never =
     elim (truth (has_name n t.names)) [
-      | inl has ↦
-          (bad_markup place, refuses q (attribute_name t place n) r 58 rest (bad_markup place) here (rw has refl),
-          inl (name_within q k.2 n k.3 place k.1 k.5 k.6))
+      | inl has ↦ (
+        bad_markup place,
+        refuses q (attribute_name t place n) r 58 rest (bad_markup place) here (rw has refl),
+        inl (name_within q k.2 n k.3 place k.1 k.5 k.6),
+      )
       | inr hasnt ↦ colon_fault q rest (attribute_name t place n) r here (rw hasnt refl)
     ]
-colon_there (opened place) r q rest before name s here k u hn same e never = no_end q k.0 before name 60 hn same k.3 refl
+colon_there (opened place) r q rest before name s here k u hn same e never =
+    no_end q k.0 before name 60 hn same k.3 refl
 colon_there (declared_open place) r q rest before name s here k u hn same e never =
     no_end q k.0 before name 60 hn same k.2 refl
 colon_there (shut_begin place) r q rest before name s here k u hn same e never =
@@ -111,7 +110,8 @@ colon_there (shut_begin place) r q rest before name s here k u hn same e never =
 colon_there (in_tag t) r q rest before name s here k u hn same e never =
     no_end q k.1 before name k.2 hn same k.4 (white_isnt_name k.2 k.3)
 colon_there (shut_gap place n) r q rest before name s here k u hn same e never =
-    blocked (step (shut_gap place n) r (length q) 95) (bad_markup (length q)) s (shut_95 r.frames place n r (length q)) e
+    blocked (step (shut_gap place n) r (length q) 95) (bad_markup (length q)) s (shut_95 r.frames place n r (length q))
+    e
 colon_there (word place [] w) r q rest before name s here k u hn same e never = no s e
 colon_there (word place (l ∷ []) w) r q rest before name s here k u hn same e never =
     blocked (step (word place (l ∷ []) w) r (length q) 95) (bad_reference place) s (rw (key_95 l k.2.0) refl) e
@@ -131,6 +131,7 @@ colon_leads bytes at (before, name, rest, same, is, hn, begun, never) =
     let s : State = record { phase = a.phase; read = a.read } in
     let usual = usual_before b.phase b.read (length q) (95 ∷ []) a.phase a.read
     (ap (λ (c : Step). then c (λ s. state s.phase s.read)) b.goes) a.usual in
-    let l = colon_there b.phase b.read q rest before name s b.here (history q b.phase b.read b.here).1 usual hn refl b.goes
+    let l = colon_there b.phase b.read q rest before name s b.here (history q b.phase b.read b.here).1 usual hn refl
+    b.goes
     never in
     subst (λ n. Leads bytes UNSUPPORTED n) (sym is) (subst (λ x. Leads x UNSUPPORTED (length q)) (sym same) l)

@@ -6,7 +6,7 @@ use Rattle.xhstt_text.specs.FlatTable.{FlatTable, Stands}
 use Rattle.xhstt_text.specs.Document.{Content, Document, text, mark_text, declaration_text, spelling, root_at}
 use Rattle.xhstt_text.specs.Document.{attribute_rows, rows, table, forest_at, forest_of, Spelled}
 use Rattle.first_faults.proofs.OneTree.{same_table}
-use Rattle.xhstt_text.proofs.DocumentTable.{StandsAt, content-stands}
+use Rattle.xhstt_text.proofs.DocumentTable.{content-stands}
 use Rattle.xhstt_text.proofs.ForestOfTable.{forest-stands}
 use Rattle.xhstt_text.proofs.Parts.{Holds-first, Holds-rest, Holds-whole}
 

@@ -1,19 +1,19 @@
 -- Where a `<` is read, and what the machine says of other markup.
-use Rattle.std.proofs.Common.{◌≡◌, ℕ, ◌+◌, Bool, true, false, cond, ◌&&◌, leb, eqb, List, [], ◌∷◌, ◌++◌, length}
+use Rattle.std.proofs.Common.{◌≡◌, ℕ, ◌+◌, true, false, ◌&&◌, leb, List, [], ◌∷◌, ◌++◌, length}
 use Rattle.std.proofs.Common.{Ok, Err, refl, sym, ◌∙◌, ap, subst, inl, inr, append_assoc}
 use Rattle.xhstt_text.specs.Document.{has_name}
 use Rattle.xhstt_text.specs.Faults.{bad_markup, bad_reference, unsupported}
 use Rattle.xhstt_text.specs.Machine.{content, ended, beginning, at_declaration, declared_open, opened, ended_open}
 use Rattle.xhstt_text.specs.Machine.{in_comment, in_declaration, in_value, word, question, other_word, shut, shut_gap}
-use Rattle.xhstt_text.specs.Machine.{attribute_name, bang, early, late, Place, Phase, Read, State, Step, Frame, phase_of}
+use Rattle.xhstt_text.specs.Machine.{attribute_name, bang, early, late, Place, Phase, Read, State, Frame, phase_of}
 use Rattle.xhstt_text.specs.Machine.{closed, refused, state, step, step_opened, step_content, run, outcome_of}
-use Rattle.xhstt_text.specs.declared.faults.TextFault.{TextFault}
 use Rattle.xhstt_text.proofs.Runs.{by_step}
 use Rattle.xhstt_text.proofs.Sound.{no}
 use Rattle.first_faults.specs.Fronts.{InstructionAt, IsFront, IsOtherWord, OtherMarkupAt}
 use Rattle.first_faults.proofs.Begun.{Usual, blocked, either_refused, front_arrives, one_back, past_dash, usual_phase}
 use Rattle.first_faults.proofs.Forth.{history}
-use Rattle.first_faults.proofs.Inside.{key_60, opened_60, over_dash, quote_60, shut_60}
+use Rattle.first_faults.proofs.Inside.{key_60, opened_60, quote_60, shut_60}
+use Rattle.first_faults.proofs.LiveParts.{opened_bang, over_dash}
 use Rattle.first_faults.proofs.Known.{Past, alive, front_of}
 use Rattle.first_faults.proofs.Live.{AreNamed}
 use Rattle.first_faults.proofs.LiveParts.{live_comment, live_in_declaration, live_question}
@@ -43,12 +43,15 @@ opens at_declaration r q at s k u e = opening at (declared_open at) r s refl e
 opens content r q at s k u e = content_60 r.frames r at s e
 opens ended r q at s k u e = opening at (ended_open at) r s refl e
 opens (in_comment place count) r q at s k u e =
-    opening at (in_comment place 0) r s tt (past_dash (leb 2 count) (state (phase_of place) r) (state (in_comment place 0) r) s e)
+    opening at (in_comment place 0) r s tt (past_dash (leb 2 count) (state (phase_of place) r)
+    (state (in_comment place 0) r) s e)
 opens (in_declaration seen) r q at s k u e =
-    opening at (in_declaration false) r s tt (past_dash seen (state content (closed r)) (state (in_declaration false) r) s e)
+    opening at (in_declaration false) r s tt (past_dash seen (state content (closed r)) (state (in_declaration false) r)
+    s e)
 opens (in_value t place name quote from) r q at s k u e =
     blocked (step (in_value t place name quote from) r at 60) (bad_markup at) s (rw (quote_60 quote k.1) refl) e
-opens (opened place) r q at s k u e = blocked (step (opened place) r at 60) (bad_markup at) s (opened_60 r.frames place r at) e
+opens (opened place) r q at s k u e = blocked (step (opened place) r at 60) (bad_markup at) s
+    (opened_60 r.frames place r at) e
 opens (shut place name) r q at s k u e =
     blocked (step (shut place name) r at 60) (bad_markup at) s (shut_60 r.frames place name r at) e
 opens (shut_gap place name) r q at s k u e =
@@ -87,7 +90,8 @@ opened_front x front =
     }
 
 -- no instruction stands there
-opened_63 : (fs : List Frame) (place : ℕ) (r : Read) (at : ℕ) → step_opened fs place r at 63 ≡ refused (unsupported place)
+opened_63 : (fs : List Frame) (place : ℕ) (r : Read) (at : ℕ)
+    → step_opened fs place r at 63 ≡ refused (unsupported place)
 opened_63 [] place r at = refl
 opened_63 (f ∷ fs) place r at = refl
 
@@ -95,7 +99,8 @@ instruction : (p : Phase) (r : Read) (q : List ℕ) (at : ℕ) → Reaches q p r
     → (IsFront (q ++ 63 ∷ []) → ⊥) → step p r (length q) 63 ≡ refused (unsupported at)
 instruction (declared_open place) r q at here h k never =
     let t : Phase = question (120 ∷ 109 ∷ 108 ∷ []) in
-    absurd (never (alive (q ++ 63 ∷ []) t r (push q (declared_open place) r 63 (record { phase = t; read = r }) here refl)
+    absurd (never (alive (q ++ 63 ∷ []) t r (push q (declared_open place) r 63 (record { phase = t; read = r }) here
+    refl)
     (live_question (120 ∷ 109 ∷ 108 ∷ []) r)))
 instruction (opened place) r q at here h k never =
     opened_63 r.frames place r (length q) ∙ ap (λ n. refused (unsupported n)) k
@@ -145,10 +150,6 @@ declared_word : (mark : List ℕ) (r : Read) (at : ℕ) → IsOtherWord mark
 declared_word mark r at (inl e) = ap (reached (in_declaration false) r at) e
 declared_word mark r at (inr e) = ap (reached (in_declaration false) r at) e
 
-opened_33 : (fs : List Frame) (place : ℕ) (r : Read) (at : ℕ) → step_opened fs place r at 33 ≡ state (bang place early) r
-opened_33 [] place r at = refl
-opened_33 (f ∷ fs) place r at = refl
-
 other_markup : (p : Phase) (r : Read) (q mark rest : List ℕ) (at : ℕ) → Reaches q p r → AreNamed r.frames → Opens at p
     → IsOtherWord mark → (IsFront ((q ++ 33 ∷ []) ++ mark) → ⊥)
     → run p r (length q) (33 ∷ (mark ++ rest)) ≡ Err (unsupported at)
@@ -156,14 +157,15 @@ other_markup (declared_open place) r q mark rest at here h k is never =
     by_step (declared_open place) r (length q) 33 (mark ++ rest) (bang place early) (closed r) refl
     ∙ word_run mark rest place early (closed r) (length q + 1) is ∙ ap (λ n. Err (unsupported n)) k
 other_markup (opened place) r q mark rest at here h k is never =
-    by_step (opened place) r (length q) 33 (mark ++ rest) (bang place early) r (opened_33 r.frames place r (length q))
+    by_step (opened place) r (length q) 33 (mark ++ rest) (bang place early) r (opened_bang r.frames place r (length q))
     ∙ word_run mark rest place early r (length q + 1) is ∙ ap (λ n. Err (unsupported n)) k
 other_markup (ended_open place) r q mark rest at here h k is never =
     by_step (ended_open place) r (length q) 33 (mark ++ rest) (bang place late) r refl
     ∙ word_run mark rest place late r (length q + 1) is ∙ ap (λ n. Err (unsupported n)) k
 other_markup (in_comment place count) r q mark rest at here h k is never =
     let t : Phase = in_comment place 0 in
-    let next = push q (in_comment place count) r 33 (record { phase = t; read = r }) here (over_dash (leb 2 count) _ _) in
+    let next = push q (in_comment place count) r 33 (record { phase = t; read = r }) here
+    (over_dash (leb 2 count) _ _) in
     absurd (never (alive ((q ++ 33 ∷ []) ++ mark) t r (over (q ++ 33 ∷ []) mark t r next
     ∙ comment_word mark place r (length (q ++ 33 ∷ [])) is) (live_comment place 0 r h)))
 other_markup (in_declaration seen) r q mark rest at here h k is never =

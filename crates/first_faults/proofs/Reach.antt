@@ -3,7 +3,8 @@ use Rattle.std.proofs.Common.{◌≡◌, ℕ, ◌+◌, List, [], ◌∷◌, ◌+
 use Rattle.std.proofs.Common.{add-zero, length-append}
 use Rattle.xhstt_text.proofs.Complete.{run_document}
 use Rattle.xhstt_text.specs.Document.{Rows, table}
-use Rattle.xhstt_text.specs.Machine.{Outcome, Phase, Read, State, Step, and_then, beginning, outcome_of, run, state, step}
+use Rattle.xhstt_text.specs.Machine.{Outcome, Phase, Read, State, Step, and_then, beginning, outcome_of, run, state}
+use Rattle.xhstt_text.specs.Machine.{step}
 use Rattle.xhstt_text.specs.declared.faults.TextFault.{TextFault}
 use Rattle.first_faults.specs.Fronts.{IsFront}
 

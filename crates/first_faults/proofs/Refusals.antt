@@ -11,7 +11,7 @@ use Rattle.xhstt_text.specs.Faults.{bad_markup, mismatched_end, bad_reference, u
 use Rattle.xhstt_text.specs.Machine.{Within, wide_1, wide_2, reference, reference_a, word, hash, hash_x, in_decimal}
 use Rattle.xhstt_text.specs.Machine.{in_hexadecimal, step_word, beginning, mark_1, mark_2, at_declaration}
 use Rattle.xhstt_text.specs.Machine.{declared_open, question, in_declaration, closed, step_declaration, step_question}
-use Rattle.xhstt_text.specs.Machine.{other_word, no_character, step_other_word, Frame, Read, Tag, Phase, content, ended}
+use Rattle.xhstt_text.specs.Machine.{other_word, no_character, Frame, Read, Tag, Phase, content, ended}
 use Rattle.xhstt_text.specs.Machine.{ended_open, bang, bang_dash, in_comment, opened, start_name, valued, in_tag, slash}
 use Rattle.xhstt_text.specs.Machine.{attribute_name, named, equals, in_value, shut_begin, shut, shut_gap, State, Step}
 use Rattle.xhstt_text.specs.Machine.{refused, start_of, step, step_content, step_opened, step_valued, step_named}

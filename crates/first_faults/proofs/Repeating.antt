@@ -1,39 +1,40 @@
 -- What the machine says of the repeated name of an attribute.
 use Rattle.std.proofs.Common.{◌≡◌, ◌⊎◌, ℕ, ◌+◌, Bool, true, false, cond, ◌&&◌, ◌||◌, leb, eqb, List, [], ◌∷◌, ◌++◌}
-use Rattle.std.proofs.Common.{length, Ok, Err, refl, sym, ◌∙◌, ap, subst, inl, inr, arith, append_assoc, append-nil}
+use Rattle.std.proofs.Common.{length, Ok, Err, refl, sym, ◌∙◌, ap, subst, inl, inr, arith, append_assoc}
 use Rattle.std.proofs.lemmas.Bool.Decides.{nat_tests}
 use Rattle.xhstt_text.specs.Bytes.{is_first, is_name, is_quote, is_quoted, is_text, is_white, dashes, AllAre, IsName}
 use Rattle.xhstt_text.specs.Document.{has_name}
 use Rattle.xhstt_text.specs.Faults.{bad_markup, bad_reference}
-use Rattle.xhstt_text.specs.Machine.{content, ended, in_comment, in_declaration, in_tag, named, equals, in_value, valued}
+use Rattle.xhstt_text.specs.Machine.{content, ended, in_comment, in_declaration, in_tag, named, equals, in_value}
+use Rattle.xhstt_text.specs.Machine.{valued}
 use Rattle.xhstt_text.specs.Machine.{start_name, attribute_name, shut, shut_gap, opened, beginning, at_declaration}
 use Rattle.xhstt_text.specs.Machine.{word, question, other_word, closed, noted, Frame, Phase, Read, State, Step, Tag}
 use Rattle.xhstt_text.specs.Machine.{refused, state, step, step_content, step_opened, step_shut, run, and_then}
 use Rattle.xhstt_text.specs.Machine.{outcome_of, start_of}
-use Rattle.xhstt_text.specs.declared.faults.TextFault.{TextFault}
 use Rattle.xhstt_text.proofs.Runs.{name_from_first, white_isnt_colon, white_isnt_name}
-use Rattle.xhstt_text.proofs.Sound.{all_push, no, same_byte}
+use Rattle.xhstt_text.proofs.Sound.{no, same_byte}
 use Rattle.first_faults.specs.Fronts.{EndsName, IsFront, RepeatsName}
-use Rattle.first_faults.proofs.Begun.{Usual, blocked, front_arrives, one_back, reached_loop, usual_phase}
+use Rattle.first_faults.proofs.Begun.{Arrived, Usual, blocked, front_arrives, one_back, reached_loop, usual_phase}
 use Rattle.first_faults.proofs.Endings.{truth}
 use Rattle.first_faults.proofs.Forth.{history}
-use Rattle.first_faults.proofs.Inside.{name_62, over_dash}
+use Rattle.first_faults.proofs.LiveParts.{over_dash}
 use Rattle.first_faults.proofs.Known.{Past, alive, front_of, is_key}
 use Rattle.first_faults.proofs.Live.{AreNamed, Live, live_content}
 use Rattle.first_faults.proofs.LiveParts.{live_comment, live_equals, live_in_declaration, live_value}
-use Rattle.first_faults.proofs.Reach.{Reaches, comes, over, push, reached, length_push, reached_prefix, reads, start, then}
+use Rattle.first_faults.proofs.Reach.{Reaches, comes, over, push, reached, length_push, reached_prefix, reads, start}
+use Rattle.first_faults.proofs.Reach.{then}
 
 -- white, which is one of four bytes
 white_cases : (P : ℕ → Type 0) (w : ℕ) → is_white w ≡ true → P 32 → P 9 → P 10 → P 13 → P w
 white_cases P w h a b c d = elim (truth (eqb w 32)) [
   | inl is ↦ subst P (sym (same_byte w 32 is)) a
   | inr n1 ↦ elim (truth (eqb w 9)) [
-      | inl is ↦ subst P (sym (same_byte w 9 is)) b
-      | inr n2 ↦ elim (truth (eqb w 10)) [
-          | inl is ↦ subst P (sym (same_byte w 10 is)) c
-          | inr n3 ↦ let e : w ≡ 13 = grind (arith, nat_tests) in subst P (sym e) d
-        ]
+    | inl is ↦ subst P (sym (same_byte w 9 is)) b
+    | inr n2 ↦ elim (truth (eqb w 10)) [
+      | inl is ↦ subst P (sym (same_byte w 10 is)) c
+      | inr n3 ↦ let e : w ≡ 13 = grind (arith, nat_tests) in subst P (sym e) d
     ]
+  ]
 ]
 
 -- after a white
@@ -176,7 +177,13 @@ free_content : (fs : List Frame) (r : Read) (at b : ℕ) → r.frames ≡ fs →
     → (t : Phase) × (u : Read) × (step content r at b ≡ state t u) × Free t u.frames
 free_content [] r at b is k h = absurd k
 free_content (f ∷ fs) r at b is k h =
-    let n = plain_isnt b h in (content, record r { frames = noted f at b ∷ fs }, rw is (second (eqb b 60) (is_text b) _ _ _ n.0 n.2), tt)
+    let n = plain_isnt b h in (
+      content,
+      record r { frames = noted f at b ∷ fs },
+      rw is
+          (second (eqb b 60) (is_text b) _ _ _ n.0 n.2),
+      tt,
+    )
 
 free_step : (p : Phase) (r : Read) (at b : ℕ) → Free p r.frames → is_plain b ≡ true
     → (t : Phase) × (u : Read) × (step p r at b ≡ state t u) × Free t u.frames
@@ -290,32 +297,45 @@ repeated_there (in_tag t) r q b w s here k past known h e never =
 repeated_there _ r q b w s here k past known h e never = absurd k
 
 repeated_run : (t : Tag) (place : ℕ) (name : List ℕ) (r : Read) (at : ℕ) (rest : List ℕ)
-    → has_name name t.names ≡ true → EndsName rest → run (attribute_name t place name) r at rest ≡ Err (bad_markup place)
+    → has_name name t.names ≡ true → EndsName rest
+    → run (attribute_name t place name) r at rest ≡ Err (bad_markup place)
 repeated_run t place name r at [] has none = rw has refl
 repeated_run t place name r at (b ∷ bs) has none =
     ap (λ (c : Step). and_then c (λ s. run s.phase s.read (at + 1) bs))
     (let d : step (attribute_name t place name) r at b ≡ refused (bad_markup place) = rw (none, has) refl in d)
+
+-- the fault stands at the name
+repeated_ends : (q name rest : List ℕ) → Repeated q name → EndsName rest
+    → outcome_of ((q ++ name) ++ rest) ≡ Err (bad_markup (length q))
+repeated_ends q name rest found none =
+    reads (q ++ name) (attribute_name found.tag (length q) name) found.read found.here rest
+    ∙ repeated_run found.tag (length q) name found.read (length (q ++ name)) rest found.again none
+
+repeated : (before : List ℕ) (w b : ℕ) (name : List ℕ) → is_white w ≡ true → IsName (b ∷ name)
+    → IsFront before → (a : Arrived ((before ++ w ∷ []) ++ (b ∷ name)))
+    → (IsFront (((before ++ w ∷ []) ++ (b ∷ name)) ++ 61 ∷ []) → ⊥) → Repeated (before ++ w ∷ []) (b ∷ name)
+repeated before w b name hw hn front a never =
+    let q : List ℕ = before ++ w ∷ [] in
+    let end : State = record { phase = a.phase; read = a.read } in
+    let s = reached_prefix q (b ∷ name) beginning start 0 end a.here in
+    let p : Phase = s.0.phase in
+    let r : Read = s.0.read in
+    let back = one_back before w p r s.1 in
+    let usual = usual_phase back.phase back.read before back.here front in
+    let white = after_white back.phase back.read before (length before) w s.0 hw
+    (history before back.phase back.read back.here).1 usual back.goes in
+    let known = history q p r s.1 in
+    let goes = comes (step p r (length q) b) (λ x. reached x.phase x.read (length q + 1) name) end
+    (sym (over q (b ∷ name) p r s.1) ∙ a.here) in
+    repeated_there p r q b name goes.0 s.1 white known.1 known.0 hn goes.1 never
 
 pub repeat_ends : (bytes : List ℕ) (at : ℕ) → RepeatsName bytes at → outcome_of bytes ≡ Err (bad_markup at)
 repeat_ends bytes at (before, w, [], rest, same, is, hw, hn, none, front, never) = absurd hn
 repeat_ends bytes at (before, w, b ∷ name, rest, same, is, hw, hn, none, front, never) =
     let q : List ℕ = before ++ w ∷ [] in
     let split : q ++ (b ∷ name) ≡ before ++ (w ∷ b ∷ name) = append_assoc before (w ∷ []) (b ∷ name) in
-    let a = front_arrives (q ++ (b ∷ name)) (subst IsFront (sym split) front) in
-    let s = reached_prefix q (b ∷ name) beginning start 0 (record { phase = a.phase; read = a.read }) a.here in
-    let p : Phase = s.0.phase in
-    let r : Read = s.0.read in
-    let back = one_back before w p r s.1 in
-    let usual = usual_phase back.phase back.read before back.here (front_of before (w ∷ b ∷ name) front) in
-    let white = after_white back.phase back.read before (length before) w s.0 hw
-    (history before back.phase back.read back.here).1 usual back.goes in
-    let known = history q p r s.1 in
-    let goes = comes (step p r (length q) b) (λ x. reached x.phase x.read (length q + 1) name)
-    (record { phase = a.phase; read = a.read }) (sym (over q (b ∷ name) p r s.1) ∙ a.here) in
-    let found = repeated_there p r q b name goes.0 s.1 white known.1 known.0 hn goes.1
-    (λ f. never (subst (λ x. IsFront (x ++ 61 ∷ [])) split f)) in
-    let t : Phase = attribute_name found.tag (length q) (b ∷ name) in
     ap outcome_of (same ∙ ap (λ x. x ++ rest) (sym split))
-    ∙ reads (q ++ (b ∷ name)) t found.read found.here rest
-    ∙ repeated_run found.tag (length q) (b ∷ name) found.read (length (q ++ (b ∷ name))) rest found.again none
+    ∙ repeated_ends q (b ∷ name) rest (repeated before w b name hw hn (front_of before (w ∷ b ∷ name) front)
+    (front_arrives (q ++ (b ∷ name)) (subst IsFront (sym split) front))
+    (λ f. never (subst (λ x. IsFront (x ++ 61 ∷ [])) split f))) none
     ∙ ap (λ n. Err (bad_markup n)) (length_push before w ∙ sym is)

@@ -1,24 +1,25 @@
 -- No first fault stands after a byte that cannot go on, nor after bytes that end too early.
-use Rattle.std.proofs.Common.{◌≡◌, ◌⊎◌, ◌<◌, ◌≤◌, ℕ, ◌+◌, Bool, true, false, cond, leb, eqb, List, [], ◌∷◌, ◌++◌, length, Ok, Err}
+use Rattle.std.proofs.Common.{◌≡◌, ◌⊎◌, ◌<◌, ◌≤◌, ℕ, ◌+◌, Bool, true, false, cond, leb, eqb, List, [], ◌∷◌, ◌++◌}
+use Rattle.std.proofs.Common.{length, Ok, Err}
 use Rattle.std.proofs.Common.{refl, sym, ◌∙◌, ap, subst, inl, inr, arith, append-nil, length-append}
 use Rattle.std.proofs.lemmas.Bool.Decides.{nat_tests}
 use Rattle.xhstt_text.specs.Bytes.{IsName}
-use Rattle.xhstt_text.specs.Document.{Document, IsDocument, Rows, spelling, has_name}
+use Rattle.xhstt_text.specs.Document.{Rows, has_name}
 use Rattle.xhstt_text.specs.Faults.{bad_markup, no_comment, unsupported}
 use Rattle.xhstt_text.specs.Machine.{Within, reference, reference_a, word, hash, hash_x, in_decimal, in_hexadecimal}
 use Rattle.xhstt_text.specs.Machine.{no_character, declared_open, ended, ended_open, opened, other_word, start_name}
-use Rattle.xhstt_text.specs.Machine.{attribute_name, shut, shut_gap, Phase, Read, Frame, State, Step, refused, state}
+use Rattle.xhstt_text.specs.Machine.{attribute_name, shut, shut_gap, Phase, Read, State, Step, refused, state}
 use Rattle.xhstt_text.specs.Machine.{step, finish, and_then, run, Outcome, outcome_of}
 use Rattle.xhstt_text.specs.declared.faults.TextFault.{TextFault}
 use Rattle.xhstt_text.specs.declared.faults.TextFault.TheVariants.{Bad, NoMemory}
-use Rattle.xhstt_text.specs.declared.faults.TheConstants.{BAD_MARKUP, UNSUPPORTED}
+use Rattle.xhstt_text.specs.declared.faults.TheConstants.{BAD_MARKUP}
 use Rattle.xhstt_text.proofs.Sound.{document_from}
 use Rattle.first_faults.specs.Fronts.{EndsEarly, IsBegun, StopsAt}
 use Rattle.first_faults.specs.Rows.{ComesBefore}
 use Rattle.first_faults.proofs.Begun.{Usual, arrives, read_begun}
 use Rattle.first_faults.proofs.Forth.{history}
 use Rattle.first_faults.proofs.Known.{Past, Referring}
-use Rattle.first_faults.proofs.Reach.{Reaches, length_push, push, reads, refuses}
+use Rattle.first_faults.proofs.Reach.{Reaches, push, reads, refuses}
 use Rattle.first_faults.proofs.Refusals.{Why, why}
 
 -- a fault at an earlier place, or at this one, of this kind or of one that comes before it
@@ -65,7 +66,8 @@ placed (opened place) r q b f u k (inr (inr e)) = earlier f (bad_markup (length 
 placed (other_word place first ks) r q b f u k e = absurd u
 placed (start_name place name) r q b f u k (inl i) =
     earlier f (unsupported (length q)) (length q) i.fault (inr (refl, inr (refl, refl)))
-placed (start_name place name) r q b f u k (inr e) = earlier f (bad_markup (length q)) (length q) e (inr (refl, inl refl))
+placed (start_name place name) r q b f u k (inr e) =
+    earlier f (bad_markup (length q)) (length q) e (inr (refl, inl refl))
 placed (attribute_name t place name) r q b f u k (inl i) =
     earlier f (bad_markup place) (length q) i.fault (inl (name_within q k.2 name k.3 place k.1 k.5 k.6))
 placed (attribute_name t place name) r q b f u k (inr (inl i)) =
@@ -110,15 +112,15 @@ word_byte : (c : Bool) (place first k : ℕ) (ks : List ℕ) (r : Read) (more : 
 word_byte true place first k ks r more h = h
 word_byte false place first k ks r more h = (bad_markup first, refl, inr refl)
 
-word_ends : (rest : List ℕ) (place first : ℕ) (ks : List ℕ) (r : Read) (at : ℕ)
+other_word_ends : (rest : List ℕ) (place first : ℕ) (ks : List ℕ) (r : Read) (at : ℕ)
     → (f : TextFault) × (run (other_word place first ks) r at rest ≡ Err f)
     × ((f ≡ unsupported place) ⊎ (f ≡ bad_markup first))
-word_ends [] place first [] r at = (unsupported place, refl, inl refl)
-word_ends [] place first (k ∷ ks) r at = (bad_markup first, refl, inr refl)
-word_ends (b ∷ bs) place first [] r at = (unsupported place, refl, inl refl)
-word_ends (b ∷ bs) place first (k ∷ ks) r at =
+other_word_ends [] place first [] r at = (unsupported place, refl, inl refl)
+other_word_ends [] place first (k ∷ ks) r at = (bad_markup first, refl, inr refl)
+other_word_ends (b ∷ bs) place first [] r at = (unsupported place, refl, inl refl)
+other_word_ends (b ∷ bs) place first (k ∷ ks) r at =
     word_byte (eqb b k) place first k ks r (λ s. run s.phase s.read (at + 1) bs)
-    (word_ends bs place first ks r (at + 1))
+    (other_word_ends bs place first ks r (at + 1))
 
 up_to : (place at : ℕ) → place ≤ at → (place < at) ⊎ (place ≡ at)
 up_to place at e = order (leb (place + 1) at) refl
@@ -141,7 +143,7 @@ after_stop : (p : Phase) (r : Read) (q : List ℕ) (b : ℕ) (rest : List ℕ) �
     × Earlier f BAD_MARKUP (length q)
 after_stop (other_word place first ks) r q b rest here never =
     let k = (history (q ++ b ∷ []) (other_word place first ks) r here).1 in
-    let w = word_ends rest place first ks r (length q + 1) in
+    let w = other_word_ends rest place first ks r (length q + 1) in
     let o = k.6 in
     let size : length q + 1 ≡ length k.0 + 1 + length k.2 =
     omega (arith, ap length k.5, length-append q (b ∷ []), length-append k.0 (k.1 ∷ k.2)) in
@@ -161,13 +163,17 @@ stop_leads bytes at (q, b, rest, same, is, begun, never) =
     let there = ap outcome_of same ∙ reads q a.phase a.read a.here (b ∷ rest) in
     elim (step_is (step a.phase a.read (length q) b)) [
       | inl (s, e) ↦
-          let l = after_stop s.phase s.read q b rest (push q a.phase a.read b s a.here e) never in
-          (l.0, there ∙ ap (λ (x : Step). and_then x (λ s. run s.phase s.read (length q + 1) rest)) e ∙ l.1,
-          subst (Earlier l.0 BAD_MARKUP) (sym is) l.2)
-      | inr (f, e) ↦
-          (f, ap outcome_of same ∙ refuses q a.phase a.read b rest f a.here e,
-          subst (Earlier f BAD_MARKUP) (sym is) (placed a.phase a.read q b f a.usual (history q a.phase a.read a.here).1
-          (why f a.phase a.read (length q) b e)))
+          let l = after_stop s.phase s.read q b rest (push q a.phase a.read b s a.here e) never in (
+            l.0,
+            there ∙ ap (λ (x : Step). and_then x (λ s. run s.phase s.read (length q + 1) rest)) e ∙ l.1,
+            subst (Earlier l.0 BAD_MARKUP) (sym is) l.2,
+          )
+      | inr (f, e) ↦ (
+        f,
+        ap outcome_of same ∙ refuses q a.phase a.read b rest f a.here e,
+        subst (Earlier f BAD_MARKUP) (sym is) (placed a.phase a.read q b f a.usual (history q a.phase a.read a.here).1
+            (why f a.phase a.read (length q) b e)),
+      )
     ]
 
 -- at the end of the bytes

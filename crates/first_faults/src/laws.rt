@@ -31,5 +31,6 @@ fn the_least_row_is_the_first_fault()
 
 // Bytes that some text begins with have no first fault of another kind than bad markup, once they are UTF-8.
 fn the_beginning_of_a_text_has_no_other_fault()
-    ensures { (bytes : List ℕ) (kind at : ℕ) → IsFront bytes → IsFirstFault bytes kind at → (kind ≡ NOT_UTF8 → ⊥) → (kind ≡ BAD_MARKUP → ⊥) → ⊥ }
+    ensures { (bytes : List ℕ) (kind at : ℕ) → IsFront bytes → IsFirstFault bytes kind at → (kind ≡ NOT_UTF8 → ⊥)
+        → (kind ≡ BAD_MARKUP → ⊥) → ⊥ }
 {}
