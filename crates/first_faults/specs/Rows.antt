@@ -22,7 +22,7 @@ IsMarkupFault bytes kind at = ((kind ≡ BAD_MARKUP) × IsBad bytes at)
     ⊎ (((kind ≡ UNSUPPORTED) × IsUnsupported bytes at)
     ⊎ ((kind ≡ TOO_DEEP) × DeepAt bytes at))))
 
--- the bytes have a fault of this kind at this place; the others are looked for only where all bytes are UTF-8
+-- the bytes have a fault of this kind at this place; the rows but the first are asked only of bytes that are UTF-8
 abbrev pub IsFaultAt : List ℕ → ℕ → ℕ → Type 0
 IsFaultAt bytes kind at =
     ((kind ≡ NOT_UTF8) × IsValidUpTo bytes at) ⊎ (IsUtf8 bytes × IsMarkupFault bytes kind at)
