@@ -4,15 +4,18 @@ use Rattle.std.proofs.Common.{◌≡◌, ℕ, ◌+◌, true, List, [], ◌∷◌
 use Rattle.std.proofs.Common.{◌++◌, length, Ok, refl, sym, ◌∙◌, subst, arith}
 use Rattle.std.proofs.lemmas.Slice.Eq.{bytes_eq-Decides}
 use Rattle.std.specs.Str.{bytes_eq}
-use Rattle.xhstt_text.specs.Bytes.{is_name, AllAre, IsName}
+use Rattle.xhstt_text.specs.Bytes.{IsName}
 use Rattle.xhstt_text.specs.Document.{Rows}
 use Rattle.xhstt_text.specs.Machine.{Frame, Read, Tag, Phase, content, ended}
 use Rattle.xhstt_text.specs.Machine.{opened, start_name}
-use Rattle.xhstt_text.specs.Machine.{slash, shut_begin, shut}
+use Rattle.xhstt_text.specs.Machine.{slash, shut_begin, shut, shut_gap}
 use Rattle.xhstt_text.specs.Machine.{state, resume, add_node, opened_row}
 use Rattle.xhstt_text.specs.Machine.{close_element, start_of, step}
 use Rattle.xhstt_text.specs.Machine.{run}
-use Rattle.xhstt_text.proofs.Runs.{by_step, run_loop}
+use Rattle.xhstt_text.proofs.Runs.{by_step}
+use Rattle.xhstt_text.proofs.Complete.{run_shut_name}
+use Rattle.xhstt_text.proofs.Sound.{names_of}
+use Rattle.first_faults.specs.Fronts.{end_tags}
 
 -- some bytes lead from here to the end of a text
 abbrev pub Live : Phase → Read → Type 0
@@ -49,43 +52,57 @@ live_outside r none =
 same_name : (n : List ℕ) → bytes_eq n n ≡ true
 same_name n = grind (arith, bytes_eq-Decides)
 
--- over the name of an end tag
-over_name : (place : ℕ) (r : Read) (w done : List ℕ) → AllAre is_name w → Live (shut place (done ++ w)) r
-    → Live (shut place done) r
-over_name place r w done h live at =
-    let l = live (at + length w) in (
-      w ++ l.0,
-      l.1,
-      run_loop is_name (shut place) r (λ d i c q. rw q refl) w done at l.0 h ∙ l.2,
-    )
+-- over the name of an end tag and a white
+pub over_name : (place : ℕ) (name : List ℕ) (f : Frame) (fs : List Frame) (r : Read) → r.frames ≡ f ∷ fs → IsName name
+    → (at : ℕ) (rest : List ℕ) → run (shut_begin place) r at (name ++ (32 ∷ rest))
+    ≡ run (shut_gap place name) r (at + length name + 1) rest
+over_name place name f fs r is h at rest =
+    run_shut_name r place at name (32 ∷ rest) h
+    ∙ by_step (shut place name) r (at + length name) 32 rest (shut_gap place name) r (rw is refl)
 
--- after the `</` of an end tag
-pub live_shut : (place : ℕ) (f : Frame) (fs : List Frame) (r : Read) → r.frames ≡ f ∷ fs → IsName f.name
-    → ((s : Read) → s.frames ≡ fs → Live (resume fs) s) → Live (shut_begin place) r
-live_shut place f fs r is hn on =
-    named_end place f.name r f fs is refl hn on
-  where
-    named_end : (place : ℕ) (name : List ℕ) (r : Read) (f : Frame) (fs : List Frame) → r.frames ≡ f ∷ fs
-        → name ≡ f.name → IsName name → ((s : Read) → s.frames ≡ fs → Live (resume fs) s) → Live (shut_begin place) r
-    named_end place [] r f fs is same hn on = absurd hn
-    named_end place (b ∷ w) r f fs is same hn on =
-        goes_on (shut_begin place) r b (λ at. shut place (b ∷ [])) (λ at. r) (λ at. rw (hn.0) refl)
-        (λ at. over_name place r w (b ∷ []) hn.1
-        (goes_on (shut place (b ∷ w)) r 62 (λ i. resume fs) (λ i. close_element f fs r place)
-        (λ i. rw (is, same, same_name f.name) refl)
-        (λ i. on (close_element f fs r place) refl)))
+over_shut : (place : ℕ) (f : Frame) (fs : List Frame) (r : Read) → r.frames ≡ f ∷ fs → IsName f.name → (at : ℕ)
+    (rest : List ℕ) → run (shut_begin place) r at (f.name ++ (32 ∷ 62 ∷ rest))
+    ≡ run (resume fs) (close_element f fs r place) (at + length f.name + 1 + 1) rest
+over_shut place f fs r is h at rest =
+    over_name place f.name f fs r is h at (62 ∷ rest)
+    ∙ by_step (shut_gap place f.name) r (at + length f.name + 1) 62 rest (resume fs) (close_element f fs r place)
+    (rw (is, same_name f.name) refl)
+
+pub open_tag : (f : Frame) (fs : List Frame) (r : Read) → r.frames ≡ f ∷ fs → (at : ℕ) (rest : List ℕ)
+    → run content r at (60 ∷ 47 ∷ rest) ≡ run (shut_begin at) r (at + 1 + 1) rest
+open_tag f fs r is at rest =
+    by_step content r at 60 (47 ∷ rest) (opened at) r (rw is refl)
+    ∙ by_step (opened at) r (at + 1) 47 rest (shut_begin at) r (rw is refl)
+
+-- over the end tags of these open elements
+pub run_shut : (fs : List Frame) (place : ℕ) (f : Frame) (r : Read) → r.frames ≡ f ∷ fs → AreNamed (f ∷ fs) → (at : ℕ)
+    → (rows : Rows) × (run (shut_begin place) r at (f.name ++ (32 ∷ 62 ∷ end_tags (names_of fs))) ≡ Ok rows)
+run_shut [] place f r is h at =
+    let s : Read = close_element f [] r place in
+    (record { nodes = s.nodes; attributes = s.attributes }, over_shut place f [] r is h.0 at [])
+run_shut (g ∷ gs) place f r is h at =
+    let s : Read = close_element f (g ∷ gs) r place in
+    let to : ℕ = at + length f.name + 1 + 1 in
+    let rest : List ℕ = g.name ++ (32 ∷ 62 ∷ end_tags (names_of gs)) in
+    let l = run_shut gs to g s refl h.1 (to + 1 + 1) in
+    (l.0, over_shut place f (g ∷ gs) r is h.0 at (60 ∷ 47 ∷ rest) ∙ open_tag g gs s refl to rest ∙ l.1)
+
+pub run_tags : (f : Frame) (fs : List Frame) (r : Read) → r.frames ≡ f ∷ fs → AreNamed (f ∷ fs) → (at : ℕ)
+    → (rows : Rows) × (run content r at (end_tags (names_of (f ∷ fs))) ≡ Ok rows)
+run_tags f fs r is h at =
+    let l = run_shut fs at f r is h (at + 1 + 1) in
+    (l.0, open_tag f fs r is at (f.name ++ (32 ∷ 62 ∷ end_tags (names_of fs))) ∙ l.1)
+
+pub live_shut : (place : ℕ) (f : Frame) (fs : List Frame) (r : Read) → r.frames ≡ f ∷ fs → AreNamed (f ∷ fs)
+    → Live (shut_begin place) r
+live_shut place f fs r is h at =
+    let l = run_shut fs place f r is h at in (f.name ++ (32 ∷ 62 ∷ end_tags (names_of fs)), l.0, l.1)
 
 -- inside these open elements, and after a tag inside of them
 pub live_content : (fs : List Frame) (r : Read) → r.frames ≡ fs → AreNamed fs → Live content r
 live_content [] r is h = live_outside r is
-live_content (f ∷ []) r is h =
-    goes_on content r 60 (λ at. opened at) (λ at. r) (λ at. rw is refl)
-    (λ at. goes_on (opened at) r 47 (λ i. shut_begin at) (λ i. r) (λ i. rw is refl)
-    (λ i. live_shut at f [] r is h.0 (λ s e. live_ended s)))
-live_content (f ∷ g ∷ fs) r is h =
-    goes_on content r 60 (λ at. opened at) (λ at. r) (λ at. rw is refl)
-    (λ at. goes_on (opened at) r 47 (λ i. shut_begin at) (λ i. r) (λ i. rw is refl)
-    (λ i. live_shut at f (g ∷ fs) r is h.0 (λ s e. live_content (g ∷ fs) s e h.1)))
+live_content (f ∷ fs) r is h =
+    λ at. let l = run_tags f fs r is h at in (end_tags (names_of (f ∷ fs)), l.0, l.1)
 
 pub live_resume : (fs : List Frame) (r : Read) → r.frames ≡ fs → AreNamed fs → Live (resume fs) r
 live_resume [] r is h = live_ended r

@@ -27,7 +27,7 @@ live_place late r h = live_ended r
 two_dashes : (count : ℕ) → leb 2 (suc (suc count)) ≡ true
 two_dashes count = grind (arith, nat_tests)
 
-over_dash : (c : Bool) (x y : Step) → cond (c && false) x y ≡ y
+pub over_dash : (c : Bool) (x y : Step) → cond (c && false) x y ≡ y
 over_dash true x y = refl
 over_dash false x y = refl
 
@@ -52,7 +52,8 @@ pub live_ended_open : (place : ℕ) (r : Read) → AreNamed r.frames → Live (e
 live_ended_open place r h =
     goes_on (ended_open place) r 33 (λ at. bang place late) (λ at. r) (λ at. refl) (λ at. live_bang place late r h)
 
-opened_bang : (fs : List Frame) (place : ℕ) (r : Read) (at : ℕ) → step_opened fs place r at 33 ≡ state (bang place early) r
+pub opened_bang : (fs : List Frame) (place : ℕ) (r : Read) (at : ℕ)
+    → step_opened fs place r at 33 ≡ state (bang place early) r
 opened_bang [] place r at = refl
 opened_bang (f ∷ fs) place r at = refl
 

@@ -5,4 +5,6 @@
 #![tactic(auto)]
 
 #[allow(dead_code)]
+mod examples;
+#[allow(dead_code)]
 mod laws;
