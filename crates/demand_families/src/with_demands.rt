@@ -36,9 +36,9 @@ impl<F: Family + Drop> Family for WithDemands<F> {
         self.families.serves(kind)
     }
 
-    fn turn<W: Waits>(&mut self, inst: &Instance, change: Change, waits: &mut W) {
-        self.demands.tell(inst, change);
-        self.families.turn(inst, change, waits);
+    fn turn_all<W: Waits>(&mut self, inst: &Instance, changes: &[Change], waits: &mut W) {
+        self.demands.tell_all(inst, changes);
+        self.families.turn_all(inst, changes, waits);
     }
 
     fn deviation(&self, inst: &Instance, monitor: MonitorId) -> u64 {

@@ -23,7 +23,7 @@ use Rattle.khe_told.specs.declared.changes.Change.{Change}
 use Rattle.khe_told.specs.declared.changes.Change.TheVariants.{Add, Drop, Place as PlaceAt, Lift, Give, Take}
 use Rattle.khe_told.specs.declared.slots.Slot.{Slot}
 use Rattle.khe_told.proofs.FrameLaws.{IsFrame, frames}
-use Rattle.resource_monitors.proofs.StateLaws.{told_opened}
+use Rattle.khe_told.proofs.FreeSlots.{none_held, told_opened}
 use Rattle.workload_monitors.proofs.LoadLaws.{lowered, raised}
 use Rattle.family_tests.specs.Benches.{AreHeld, IsBench, IsSetFor}
 use Rattle.resource_monitors.proofs.OpenLaws.{none_row}
@@ -189,23 +189,6 @@ set_done p served s k ds u l i m there serves =
     u.each i m (let a = slice_get_within p.monitors i m there in omega (arith, a, l)) there serves
 
 -- a bench of a family that was told of no meets
-none_held : (e k : ℕ) (event : EventInfo) (ms : List ℕ) → sum_by (held_by e) (map (λ m. empty_slot m k event) ms) ≡ 0
-none_held e k event [] = refl
-none_held e k event (m ∷ ms) = sum_by-cons (held_by e) (empty_slot m k event) (map (λ m. empty_slot m k event) ms)
-    ∙ by (k == e) _ (none_held e k event ms)
-  where
-    by : (b : Bool) (n : ℕ) → n ≡ 0 → cond {A = ℕ} b 0 0 + n ≡ 0
-    by true n q = omega (arith, q)
-    by false n q = omega (arith, q)
-
-held_none : (e k : ℕ) (events : List EventInfo) → held e (slots_from k events) ≡ 0
-held_none e k [] = refl
-held_none e k (event ∷ events) =
-    let a = sum_by-append (held_by e) (slots_of_event k event) (slots_from (k + 1) events) in
-    let b = none_held e k event (range_with_len event.first_meet event.duration) in
-    let c = held_none e (k + 1) events in
-    omega (arith, a, b, c)
-
 pub bench_opened : (p : Parts) (served : Kind → Bool) (s f : List Slot) (amounts ds : List ℕ) → s ≡ no_meets p
     → f ≡ no_meets p → amounts ≡ replicate (length p.events) 0 → length ds ≡ length p.monitors → Agrees p served f ds
     → IsBench p served s amounts ds
@@ -214,7 +197,7 @@ bench_opened p served s f amounts ds is family counts many agrees = record {
   held_all = record {
     events = ap length counts ∙ length-replicate (length p.events) 0;
     each = λ e l. (ap (λ xs. slice_index xs e) counts ∙ none_row (length p.events) e
-        ∙ sym (ap (held e) is ∙ held_none e 0 p.events));
+        ∙ sym (ap (held e) is ∙ none_held e p));
   };
   monitors = many;
   agrees = subst (λ x. Agrees p served x ds) (family ∙ sym is) agrees;

@@ -64,7 +64,7 @@ fn note_fitting<F: Family>(
     ensures monitors { length waits.new.flags ≡ length inst.now.monitors }
     ensures bench { IsBench inst.now F.serves_kind told.new held.new.items marks.new.values.items }
 {
-    family.turn(inst, change, waits);
+    family.turn_all(inst, &[change], waits);
     settle(inst, family, waits, marks);
     hold(inst, told, held, change);
     told.note(inst, change);

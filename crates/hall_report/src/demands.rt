@@ -4,8 +4,8 @@ ghost use Rattle.khe_base.specs.IdSet.{has_member};
 ghost use Rattle.hall_report.specs.Listing.{AreMarks, is_marked};
 ghost use Rattle.khe_instance.specs.declared.parts.Parts.{Parts};
 ghost use Rattle.khe_told.specs.Slots.{no_meets, slot_at, length_of};
-ghost use Rattle.khe_told.specs.Changes.{after};
-ghost use Rattle.khe_told.specs.Fits.{Fits};
+ghost use Rattle.khe_told.specs.Changes.{after, after_all};
+ghost use Rattle.khe_told.specs.Fits.{AllFit, Fits};
 ghost use Rattle.khe_told.specs.declared.changes.Change.TheVariants.{Add, Drop};
 ghost use Rattle.hall_report.specs.Kept.{AreOf, AreOfSome, cell_demand};
 ghost use Rattle.hall_report.specs.Opening.{AreWanted};
@@ -259,9 +259,7 @@ impl Watcher for Demands {
 
     fn note_all<L: Ledger>(&mut self, inst: &Instance, changes: &[Change], steps: &mut Steps<L>) {
         let _ = steps;
-        for change in changes {
-            self.tell(inst, *change);
-        }
+        self.tell_all(inst, changes);
     }
 
     ghost same_rest_refl = { λ x. tt };
@@ -270,6 +268,18 @@ impl Watcher for Demands {
 }
 
 impl Demands {
+    /// Follows changes that fit one after the other, and the matching stays a maximum. It takes no memory.
+    pub fn tell_all(&mut self, inst: &Instance, changes: &[Change])
+        requires of { AreOf inst.now self.old.told self.old.units self.old.picks self.old.matching self.old.cells self.old.tasks self.old.times }
+        requires fit { AllFit inst.now self.old.told changes.now }
+        ensures of { AreOf inst.now self.new.told self.new.units self.new.picks self.new.matching self.new.cells self.new.tasks self.new.times }
+        ensures told { self.new.told ≡ after_all self.old.told changes.now }
+    {
+        for change in changes {
+            self.tell(inst, *change);
+        }
+    }
+
     /// Follows a change that fits what was told, and the matching stays a maximum. It takes no memory.
     pub fn tell(&mut self, inst: &Instance, change: Change)
         requires of { AreOf inst.now self.old.told self.old.units self.old.picks self.old.matching self.old.cells self.old.tasks self.old.times }

@@ -13,7 +13,8 @@ use Rattle.resource_monitors.specs.Kept.{AreKept}
 use Rattle.resource_monitors.specs.Posts.{AreLists}
 use Rattle.resource_monitors.specs.Sets.{room_for}
 use Rattle.resource_monitors.specs.declared.posts.Post.{Post}
-use Rattle.resource_monitors.proofs.StateLaws.{told_opened, no_duties}
+use Rattle.khe_told.proofs.FreeSlots.{told_opened}
+use Rattle.resource_monitors.proofs.StateLaws.{no_duties}
 
 pub none_row : (n t : ℕ) → slice_index (replicate n 0) t ≡ 0
 none_row zero t = refl

@@ -27,79 +27,13 @@ use Rattle.khe_told.specs.Slots.{held_by}
 use Rattle.khe_told.specs.declared.slots.Slot.{Slot}
 use Rattle.khe_told.specs.declared.slots.Span.{Span}
 use Rattle.khe_told.proofs.DutyLaws.{duties_listed}
+use Rattle.khe_told.proofs.FreeSlots.{AreFree, free_from}
 use Rattle.khe_told.proofs.FrameLaws.{frames, told_from, IsFrame}
 use Rattle.khe_told.proofs.ValidLaws.{listed_told}
 use Rattle.resource_monitors.specs.Runs.{AreOf}
 use Rattle.resource_monitors.proofs.TurnLaws.{cell_in, cell_is, cell_of, cells_are}
 
--- a slot with nothing in it
-record IsFree (x : Slot) : Type 0 where
-  pub span : x.span ≡ None
-  pub given : x.given ≡ replicate (length x.given) None
-
-abbrev AreFree : List Slot → Type 0
-AreFree [] = Unit {0}
-AreFree (x ∷ s) = IsFree x × AreFree s
-
-free_both : (s t : List Slot) → AreFree s → AreFree t → AreFree (s ++ t)
-free_both [] t a b = b
-free_both (x ∷ s) t a b = (a.0, free_both s t a.1 b)
-
-free_event : (e : ℕ) (event : EventInfo) (ms : List ℕ) → AreFree (map (λ m. empty_slot m e event) ms)
-free_event e event [] = tt
-free_event e event (m ∷ ms) = (
-  record {
-    span = refl;
-    given =
-        ap (λ n. replicate n None) (sym (length-replicate (length event.places) None));
-  },
-  free_event e event ms,
-)
-
-free_from : (e : ℕ) (events : List EventInfo) → AreFree (slots_from e events)
-free_from e [] = tt
-free_from e (event ∷ events) = free_both (slots_of_event e event) (slots_from (e + 1) events)
-    (free_event e event (range_with_len event.first_meet event.duration)) (free_from (e + 1) events)
-
-free_emptied : (s : List Slot) → AreFree s → map emptied s ≡ s
-free_emptied [] h = refl
-free_emptied (x ∷ s) h = (λ j. record x { span = sym h.0.span j; given = sym h.0.given j } ∷ free_emptied s h.1 j)
-
-free_slots : (p : Parts) (s : List Slot) → AreFree s → (k : ℕ) (d : Slot) → k < length s → IsSlot p (get_or s k d)
-free_slots p [] h k d l = absurd (omega (arith, l))
-free_slots p (x ∷ s) h zero d l = record {
-  duration = subst (λ o. IfSome o (λ (y : Span). 1 ≤ y.duration)) (sym h.0.span) tt;
-  ends = subst (λ o. IfSome o (λ (y : Span). IfSome y.start (λ t. t.0 + y.duration ≤ length p.times))) (sym h.0.span)
-      tt;
-  given = λ e k place r a b c. absurd (nothing (length x.given) k r
-      (ap (λ (g : List (Option ResourceId)). slice_get g k) (sym h.0.given) ∙ c));
-  empty = λ e. h.0.given;
-}
-  where
-    nothing : (n k : ℕ) (r : ResourceId) → slice_get (replicate n None) k ≡ Some (Some r) → ⊥
-    nothing zero k r e = none-some (Some r) e
-    nothing (suc n) zero r e = none-some r (same_Some None (Some r) e)
-    nothing (suc n) (suc k) r e = nothing n k r e
-free_slots p (x ∷ s) h (suc k) d l = free_slots p s h.1 k d (omega (arith, l))
-
-free_held : (e : ℕ) (s : List Slot) → AreFree s → held e s ≡ 0
-free_held e [] h = refl
-free_held e (x ∷ s) h = sum_by-cons (held_by e) x s ∙ (λ i. one x.span h.0.span i + free_held e s h.1 i)
-  where
-    none : (b : Bool) → cond {A = ℕ} b 0 0 ≡ 0
-    none true = refl
-    none false = refl
-
-    one : (o : Option Span) → o ≡ None → cond (x.event.0 == e) (option_map_or (λ (y : Span). y.duration) o 0) 0 ≡ 0
-    one o n = ap (λ q. cond (x.event.0 == e) (option_map_or (λ (y : Span). y.duration) q 0) 0) n ∙ none (x.event.0 == e)
-
-pub told_opened : (p : Parts) → AreTold p (no_meets p)
-told_opened p = record {
-  whose = free_emptied (no_meets p) (free_from 0 p.events);
-  slots = λ k d l. free_slots p (no_meets p) (free_from 0 p.events) k d l;
-  durations = λ e event g. (let z = free_held e (no_meets p) (free_from 0 p.events) in omega (arith, z));
-}
-
+-- nothing runs in the state without meets
 free_duties : (s : List Slot) → AreFree s → duties_in s ≡ []
 free_duties [] h = refl
 free_duties (x ∷ s) h = by x.span h.0.span (free_duties s h.1)

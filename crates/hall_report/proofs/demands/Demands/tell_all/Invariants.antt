@@ -2,10 +2,10 @@ use Rattle.std.proofs.Common.{◌≡◌, drop}
 use Rattle.khe_told.specs.Fits.{AllFit}
 use Rattle.khe_told.specs.Changes.{after_all}
 use Rattle.hall_report.specs.Kept.{AreOf}
-use Rattle.hall_report.proofs.demands.DemandsWatcher.note_all.Given as goal
+use Rattle.hall_report.proofs.demands.Demands.tell_all.Given as goal
 
 abbrev pub invariant-loop-change : goal.invariant-loop-change
-invariant-loop-change g l =
+invariant-loop-change l =
     let d = l.self in
     let rest = drop l.change-index l.changes in
     record {
