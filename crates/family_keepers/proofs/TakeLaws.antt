@@ -133,7 +133,7 @@ taken_at now t k l there = by (eqb_tells l k)
     by (inl e) = inl (
       e.1,
       ap (slot_at (slice_set now k (slot_at t k))) e.1 ∙ get_or-set_same now k (slot_at t k) no_slot there
-      ∙ ap (slot_at t) (sym e.1),
+          ∙ ap (slot_at t) (sym e.1),
     )
     by (inr e) = inr (e.1, get_or-set_other now k l (slot_at t k) no_slot e.1)
 

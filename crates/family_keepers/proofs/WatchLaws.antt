@@ -223,10 +223,16 @@ load_step p x (Drop m d) rule point j bare h = inr by
         → 1 ≤ watches_with p x (Drop m d) rule point
     by (inl a) = nothing_given x.given j a.0 h.1 a.1
     by (inr a) = nothing_given x.given j a.0 h.1 a.1
-load_step p x (PlaceAt m t) rule point j bare h = inl (refl, ap (option_map (λ (y : Span). y.duration)) h.1
-    ∙ sym (ap (option_map (λ (y : Span). y.duration)) (ap (option_map (λ (z : Span). record z { start = Some t })) h.1)))
-load_step p x (Lift m t) rule point j bare h = inl (refl, ap (option_map (λ (y : Span). y.duration)) h.1
-    ∙ sym (ap (option_map (λ (y : Span). y.duration)) (ap (option_map (λ (z : Span). record z { start = None })) h.1)))
+load_step p x (PlaceAt m t) rule point j bare h = inl (
+  refl,
+  ap (option_map (λ (y : Span). y.duration)) h.1
+      ∙ sym (ap (option_map (λ (y : Span). y.duration)) (ap (option_map (λ (z : Span). record z { start = Some t })) h.1)),
+)
+load_step p x (Lift m t) rule point j bare h = inl (
+  refl,
+  ap (option_map (λ (y : Span). y.duration)) h.1
+      ∙ sym (ap (option_map (λ (y : Span). y.duration)) (ap (option_map (λ (z : Span). record z { start = None })) h.1)),
+)
 load_step p x (Give t r) rule point j bare h = by (eqb_tells t.place j)
   where
     given_there : t.place ≡ j → slice_get (slice_set x.given t.place (Some r)) j ≡ Some (Some r)
@@ -283,7 +289,7 @@ slot_after s c k l = by (eqb_tells (meet_of c) k)
     by (inl e) = inl (
       e.1,
       ap (slot_at (after s c)) (sym e.1) ∙ get_or-set_same s (meet_of c) (changed (slot_at s (meet_of c)) c) no_slot l
-      ∙ ap (λ n. changed (slot_at s n) c) e.1,
+          ∙ ap (λ n. changed (slot_at s n) c) e.1,
     )
     by (inr e) = inr (e.1, get_or-set_other s (meet_of c) k (changed (slot_at s (meet_of c)) c) no_slot (λ q. e.1 (sym q)))
 
@@ -447,7 +453,11 @@ watchers_of p s t cs old new told fit leads there same h i waits = by (h i waits
     by (inl w) = inl w
     by (inr (k, x, mentioned, either, w)) =
         let l = there k mentioned in
-        inr (w.0, w.2, watched p w.0 w.1 w.3 s cs k x l told fit mentioned
-        (subst (λ u. IsEither s u k x) leads either)
-        (emptied_either s t k x l same either)
-        (subst (λ u. IsWatched p (record { before = x; after = slot_at u k }) w.1.rule w.0.point) leads w.4))
+        inr (
+          w.0,
+          w.2,
+          watched p w.0 w.1 w.3 s cs k x l told fit mentioned
+              (subst (λ u. IsEither s u k x) leads either)
+              (emptied_either s t k x l same either)
+              (subst (λ u. IsWatched p (record { before = x; after = slot_at u k }) w.1.rule w.0.point) leads w.4),
+        )

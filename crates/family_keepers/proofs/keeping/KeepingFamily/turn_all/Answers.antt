@@ -49,8 +49,7 @@ returns-clause-of g c =
     let s = c.args.self.now.told in
     let cs = c.args.changes.now in
     let leads = c.note_all.ensures ∙ ap (λ (x : List Slot). after_all x cs) c.requires.of.1 in
-    let told = subst (AreTold p) (sym leads) (told_after p s cs c.requires.of.2 c.requires.fit) in
-    (
+    let told = subst (AreTold p) (sym leads) (told_after p s cs c.requires.of.2 c.requires.fit) in (
       c.take_all.ensures.keeps,
       sym (taken_over p s c.note_all.new.told c.take_shorter.new.told c.take_all.new.told cs c.requires.fit leads told
           c.take_shorter.ensures.mix c.take_all.ensures.mix c.take_all.ensures.taken),
