@@ -6,11 +6,11 @@ use Rattle.std.specs.List.{count_by, sum_by}
 use Rattle.std.specs.Option.{option_map}
 use Rattle.std.specs.Prelude.{IfOk, Result, Ok, Err, replicate}
 use Rattle.std.proofs.Math.Dec.{eqb}
-use Rattle.std.proofs.Math.Option.{some-injective}
 use Rattle.std.proofs.lemmas.Bool.{both_ways}
 use Rattle.std.proofs.lemmas.Bool.Decides.{eqb_tells}
 use Rattle.std.proofs.lemmas.List.{get_or-set_same, get_or-set_other, length-replicate}
 use Rattle.std.proofs.lemmas.List.Sums.{sum_by-cons}
+use Rattle.std.proofs.lemmas.Option.{get_or_from_slice_get}
 use Rattle.khe_base.proofs.ListLemmas.{get-set, get-other}
 use Rattle.khe_instance.specs.declared.parts.Parts.{Parts}
 use Rattle.khe_instance.specs.declared.points.Monitor.{Monitor}
@@ -103,7 +103,9 @@ flags_few {A} f (b ∷ bs) (x ∷ xs) long h =
   where
     one : (t : Bool) → (t ≡ true → (y : A) × (slice_get (x ∷ xs) 0 ≡ Some y) × (1 ≤ f y)) → one_if t ≤ f x
     one false g = omega arith
-    one true g = let y = g refl in subst (λ (z : A). 1 ≤ f z) (sym (some-injective x y.0 y.1)) y.2
+    one true g =
+        let y = g refl in
+        subst (λ (z : A). 1 ≤ f z) (sym (get_or_from_slice_get (x ∷ xs) 0 y.0 x y.1)) y.2
 
 -- where nobody waited, no more wait after changes than these have watchers
 pub watchers_few : (p : Parts) (s : List Slot) (cs : List Change) (old new : Waiters) → IsIdle p old
