@@ -25,10 +25,11 @@ use Rattle.khe_told.specs.Turns.{AreWatchers, HasLoad, IsTurn, MovesLoad, SlotTu
 use Rattle.khe_told.specs.declared.slots.Slot.{Slot}
 use Rattle.khe_told.specs.declared.slots.Span.{Span}
 use Rattle.khe_told.proofs.FrameLaws.{IsFrame, frames}
+use Rattle.khe_told.proofs.FreeSlots.{told_opened}
 use Rattle.resource_monitors.specs.Posts.{AreLists}
 use Rattle.resource_monitors.specs.declared.posts.Post.{Post}
 use Rattle.resource_monitors.proofs.FollowLaws.{of_after, of_before, same_places, slot_after, slot_before}
-use Rattle.resource_monitors.proofs.StateLaws.{no_duties, told_opened}
+use Rattle.resource_monitors.proofs.StateLaws.{no_duties}
 use Rattle.workload_monitors.specs.Loads.{AreAllExchanged, AreKept, AreOnMoved, CanExchange, HasLoads, IsOnLoad}
 use Rattle.workload_monitors.specs.Loads.{IsOnMoved}
 use Rattle.workload_monitors.specs.Loads.{is_on_workload, worths_of}
