@@ -1,5 +1,6 @@
 -- A told state whose slots are taken over, one by one, from another that changes lead to.
-use Rattle.std.specs.Prelude.{ℕ, ◌≡◌, ◌≤◌, ◌⊎◌, Bool, true, List, [], ◌∷◌}
+use Rattle.std.specs.Prelude.{ℕ, ◌≡◌, ◌≤◌, ◌⊎◌, Bool, true, List, [], ◌∷◌, Some}
+use Rattle.khe_base.specs.declared.numbers.MeetId.{MeetId}
 use Rattle.khe_instance.specs.declared.parts.Parts.{Parts}
 use Rattle.khe_told.specs.Changes.{meet_of}
 use Rattle.khe_told.specs.Fits.{AreTold}
@@ -7,6 +8,7 @@ use Rattle.khe_told.specs.Slots.{emptied, slot_at}
 use Rattle.khe_told.specs.Turns.{Watches}
 use Rattle.khe_told.specs.declared.changes.Change.{Change}
 use Rattle.khe_told.specs.declared.slots.Slot.{Slot}
+use Rattle.family_keepers.specs.declared.keeping.Taken.{Taken}
 
 -- a change of the slot with this number is among them
 abbrev pub Mentions : List Change → ℕ → Type 0
@@ -27,3 +29,8 @@ abbrev pub AreWatchersAt : Parts → List Slot → List Slot → List Change →
 AreWatchersAt p s t cs old new = (i : ℕ) → new i ≡ true → (old i ≡ true)
     ⊎ ((k : ℕ) × (x : Slot) × Mentions cs k × IsEither s t k x
     × Watches p (record { before = x; after = slot_at t k }) i)
+
+-- the slots of the last two meets that were taken over are alike in both states
+pub record AreTaken (now t : List Slot) (taken : Taken) : Type 0 where
+  pub last : (m : MeetId) → taken.last ≡ Some m → slot_at now m.0 ≡ slot_at t m.0
+  pub earlier : (m : MeetId) → taken.earlier ≡ Some m → slot_at now m.0 ≡ slot_at t m.0

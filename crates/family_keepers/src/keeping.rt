@@ -1,10 +1,10 @@
-ghost use Rattle.std.specs.Prelude.{ℕ, ◌≡◌, ◌<◌, ◌≤◌, length, slice_set, true};
+ghost use Rattle.std.specs.Prelude.{ℕ, ◌≡◌, ◌<◌, ◌≤◌, ◌⊎◌, length, slice_set, true, None, Some};
 ghost use Rattle.khe_told.specs.Changes.{after_all};
 ghost use Rattle.khe_told.specs.Fits.{AllFit, AreTold};
 ghost use Rattle.khe_told.specs.Slots.{emptied, length_of, slot_at};
 ghost use Rattle.khe_told.specs.Turns.{AreWatchers, turn_to};
 ghost use Rattle.khe_told.specs.Waits.{AreUnmoved, WaitOn};
-ghost use Rattle.family_keepers.specs.Takes.{AreWatchersAt, IsMix, Mentions};
+ghost use Rattle.family_keepers.specs.Takes.{AreTaken, AreWatchersAt, IsMix, Mentions};
 
 use crate::keepers::Keeper;
 use khe_base::{MeetId, MonitorId, NoMemory};
@@ -53,6 +53,74 @@ fn take<K: Keeper, W: Waits>(
     }
     keeper.turn(inst, told, &turn, waits);
     told.follow(ahead, meet);
+}
+
+/// The last two meets whose slots were taken over: of most edits, all.
+#[derive(Clone, Copy)]
+struct Taken {
+    last: Option<MeetId>,
+    earlier: Option<MeetId>,
+}
+
+impl Taken {
+    /// None yet.
+    fn none() -> Taken
+        ensures { result ≡ record { last = None; earlier = None } }
+    {
+        Taken {
+            last: None,
+            earlier: None,
+        }
+    }
+
+    /// Whether a meet is one of the two.
+    fn has(&self, meet: MeetId) -> bool
+        ensures { result ≡ true → (self.now.last ≡ Some meet) ⊎ (self.now.earlier ≡ Some meet) }
+    {
+        self.last == Some(meet) || self.earlier == Some(meet)
+    }
+
+    /// The two, where this meet is taken over.
+    fn with(self, meet: MeetId) -> Taken
+        ensures { result ≡ record { last = Some meet; earlier = self.last } }
+    {
+        Taken {
+            last: Some(meet),
+            earlier: self.last,
+        }
+    }
+}
+
+/// Takes a slot over as `take` does, where it is none of the last two: these are alike in both states.
+fn take_new<K: Keeper, W: Waits>(
+    inst: &Instance,
+    keeper: &mut K,
+    told: &mut Told,
+    ahead: &Told,
+    meet: MeetId,
+    taken: &mut Taken,
+    waits: &mut W,
+)
+    requires keeps { K.Keeps keeper.old inst.now told.old }
+    requires there { meet.0 < length told.old }
+    requires told { AreTold inst.now told.old }
+    requires same { emptied (slot_at ahead.now meet.0) ≡ emptied (slot_at told.old meet.0) }
+    requires later { AreTold inst.now (slice_set told.old meet.0 (slot_at ahead.now meet.0)) }
+    requires monitors { W.monitors waits.old ≡ length inst.now.monitors }
+    requires taken { AreTaken told.old ahead.now taken.old }
+    ensures keeps { K.Keeps keeper.new inst.now told.new }
+    ensures told { told.new ≡ slice_set told.old meet.0 (slot_at ahead.now meet.0) }
+    ensures monitors { W.monitors waits.new ≡ W.monitors waits.old }
+    ensures unmoved { W.hears ≡ true → AreUnmoved inst.now K.serves_kind (W.waits waits.new) told.old told.new }
+    ensures kept { WaitOn (W.waits waits.old) (W.waits waits.new) }
+    ensures watchers { AreWatchers inst.now (turn_to told.old ahead.now meet.0) (W.waits waits.old) (W.waits waits.new) }
+    ensures taken { AreTaken told.new ahead.now taken.new }
+{
+    if taken.has(meet) {
+        return;
+    }
+    take(inst, keeper, told, ahead, meet, waits);
+    *taken = taken.with(meet);
 }
 
 /// Takes over the slots of changes whose meets go or are shorter then: so no event's meets are ever longer
@@ -109,8 +177,9 @@ fn take_all<K: Keeper, W: Waits>(
     ensures kept { WaitOn (W.waits waits.old) (W.waits waits.new) }
     ensures watchers { AreWatchersAt inst.now told.old ahead.now changes.now (W.waits waits.old) (W.waits waits.new) }
 {
+    let mut taken = Taken::none();
     for change in changes {
-        take(inst, keeper, told, ahead, change.meet(), waits);
+        take_new(inst, keeper, told, ahead, change.meet(), &mut taken, waits);
     }
 }
 

@@ -1,6 +1,6 @@
 use Rattle.std.proofs.Common.{ℕ, ◌≡◌, ◌≤◌, length, take}
 use Rattle.khe_told.specs.Slots.{length_of, slot_at}
-use Rattle.family_keepers.specs.Takes.{Mentions}
+use Rattle.family_keepers.specs.Takes.{AreTaken, Mentions}
 use Rattle.family_keepers.proofs.TakeLaws.{IsTaking}
 use Rattle.family_keepers.proofs.keeping.take_all.Given as goal
 
@@ -12,5 +12,6 @@ invariant-loop-change g l = record {
   amount : length l.told ≡ length l.fn.told;
   short : (k : ℕ) → length_of (slot_at l.told k) ≤ length_of (slot_at l.ahead k);
   done : (k : ℕ) → Mentions (take l.change-index l.changes) k → slot_at l.told k ≡ slot_at l.ahead k;
+  taken : AreTaken l.told l.ahead l.taken;
   monitors : g.W.Waits.monitors l.waits ≡ g.W.Waits.monitors l.fn.waits;
 }
