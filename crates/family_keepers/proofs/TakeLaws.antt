@@ -22,11 +22,6 @@ use Rattle.khe_told.specs.declared.slots.Slot.{Slot}
 use Rattle.family_keepers.specs.Takes.{AreWatchersAt, IsEither, IsMix, Mentions}
 use Rattle.family_keepers.proofs.WatchLaws.{emptied_at, slot_after}
 
--- changes lead to a told state
-pub told_after : (p : Parts) (s : List Slot) (cs : List Change) → AreTold p s → AllFit p s cs → AreTold p (after_all s cs)
-told_after p s [] told fit = told
-told_after p s (c ∷ cs) told fit = told_after p (after s c) cs fit.0.told fit.1
-
 -- each slot is of one of the changes, or stays as it is
 pub elsewhere : (p : Parts) (s : List Slot) (cs : List Change) (k : ℕ) → AllFit p s cs
     → Mentions cs k ⊎ (slot_at (after_all s cs) k ≡ slot_at s k)

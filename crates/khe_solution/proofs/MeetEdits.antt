@@ -32,13 +32,9 @@ use Rattle.khe_solution.proofs.Basics.{true-false, not-false, passed, live_there
 use Rattle.khe_solution.proofs.EditingLaws.{span_of}
 use Rattle.khe_solution.proofs.Stages.{Goes, not_fixed}
 use Rattle.khe_solution.proofs.CutJoin.{ArePair, both_set, with_none, row, cutting_leads, joining_leads}
+use Rattle.khe_told.proofs.SlotLaws.{told_after}
 use Rattle.khe_solution.proofs.Owners.{equal_places, free_there, one_held}
 use Rattle.khe_solution.proofs.Works.{Works}
-
--- the state that a list of fitting changes leads to is told
-told_after : (p : Parts) (s : List Slot) (cs : List Change) → AreTold p s → AllFit p s cs → AreTold p (after_all s cs)
-told_after p s [] t f = t
-told_after p s (c ∷ cs) t f = told_after p (after s c) cs f.0.told f.1
 
 -- two of the slots in which something else stands
 set_first : (s : List Slot) (m n : ℕ) (u v : Slot) → m < length s → slot_at (both_set s m n u v) m ≡ u

@@ -124,3 +124,8 @@ all_fit_inverses p s (c ∷ cs) t f =
     (all_fit_inverses p (after s c) cs f.0.told f.1)
     (subst (λ x. AllFit p x (inverse c ∷ [])) (sym (after_inverses p (after s c) cs f.0.told f.1))
     (fits_back p s c t f.0, tt))
+
+-- changes lead to a told state
+pub told_after : (p : Parts) (s : List Slot) (cs : List Change) → AreTold p s → AllFit p s cs → AreTold p (after_all s cs)
+told_after p s [] told fit = told
+told_after p s (c ∷ cs) told fit = told_after p (after s c) cs fit.0.told fit.1

@@ -1,6 +1,6 @@
 ghost use Rattle.std.specs.Prelude.{◌≡◌, ◌<◌, ◌≤◌, ◌+◌, ◌++◌, ◌∷◌, [], ◌||◌, ◌&&◌, Bool, ℕ, true, false, length, nat_eq, replicate, slice_set, vec_capacity, vec_len, IfOk, MatchOption};
 ghost use Rattle.std.specs.List.{count_by};
-ghost use Rattle.khe_told.specs.Waits.{waits_in};
+ghost use Rattle.khe_told.specs.Waits.{AreListedOnce, waits_in};
 
 use khe_base::{MonitorId, NoMemory};
 use std::alloc::Global;
@@ -65,6 +65,13 @@ impl Waiting {
         ensures { self.now.amount ≡ count_by (λ (b : Bool). b) self.now.flags }
     {
         let _ = &self.list;
+    }
+
+    /// Those that wait, each once, in the order in which they came. It takes constant time.
+    pub fn as_slice(&self) -> &[MonitorId]
+        ensures { AreListedOnce result.now self.now.flags }
+    {
+        self.list.as_slice()
     }
 
     /// Takes the monitor that came last, which then waits no longer, or answers `None` where none

@@ -3,7 +3,8 @@ use Rattle.std.proofs.Common.{◌≡◌, ◌∙◌, ◌+◌, ◌<◌, List, ap, 
 use Rattle.khe_told.specs.Changes.{after_all}
 use Rattle.khe_told.specs.Fits.{AreTold}
 use Rattle.khe_told.specs.declared.slots.Slot.{Slot}
-use Rattle.family_keepers.proofs.TakeLaws.{all_short, mentioned_there, same_length, taken_over, told_after}
+use Rattle.khe_told.proofs.SlotLaws.{told_after}
+use Rattle.family_keepers.proofs.TakeLaws.{all_short, mentioned_there, same_length, taken_over}
 use Rattle.family_keepers.proofs.TakeLaws.{watchers_joined}
 use Rattle.family_keepers.proofs.WatchLaws.{watchers_of}
 use Rattle.family_keepers.proofs.keeping.KeepingFamily.turn_all.Goals as goal
