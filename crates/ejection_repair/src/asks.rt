@@ -28,14 +28,18 @@ pub(crate) fn totals_of<F: Family>(engine: &Engine<'_, F>) -> Totals
     engine.totals()
 }
 
-/// The totals that a move of the engine's state would leave.
-#[tactic(auto, unfolding(crate::specs::Values::totals_at))]
-pub(crate) fn totals_after<F: Family>(engine: &mut Engine<'_, F>, edit: Edit) -> Totals
+/// Whether a move of the engine's state would leave lower totals.
+#[tactic(auto, unfolding(crate::specs::Values::totals_at, crate::specs::Values::are_lower))]
+pub(crate) fn is_lower_after<F: Family>(
+    engine: &mut Engine<'_, F>,
+    edit: Edit,
+    lowest: Totals,
+) -> bool
     requires { IsMove engine.old.parts engine.old.state.slots edit }
-    ensures totals { result ≡ totals_at engine.old.parts (edited engine.old.state edit) }
+    ensures lower { result ≡ are_lower (totals_at engine.old.parts (edited engine.old.state edit)) lowest }
     ensures same { engine.new ≡ engine.old }
 {
-    engine.totals_after(&edit)
+    engine.is_lower_after(&edit, lowest)
 }
 
 /// Marks the costs of the engine's state.

@@ -11,7 +11,7 @@ ghost use Rattle.ejection_repair.specs.Looks.{look, Looks, chain_at};
 ghost use Rattle.ejection_repair.specs.Rounds.{IsRound};
 ghost use Rattle.ejection_repair.specs.Trails.{moved_of};
 
-use crate::asks::{are_lower, totals_after};
+use crate::asks::is_lower_after;
 use crate::lifting::{lift_of, put_of, run_of};
 use crate::looked::{Aim, Looked};
 use crate::marking::{keep, make, take_back};
@@ -220,8 +220,7 @@ fn put_each<F: Family, L: Ledger>(
     Looked::Through
 }
 
-/// Looks at the state that an edit leaves: its totals are asked for, and it is made only where they
-/// are lower.
+/// Looks at the state that an edit leaves: it is made only where its totals are lower.
 fn try_one<F: Family, L: Ledger>(
     engine: &mut Engine<'_, F>,
     aim: &Aim,
@@ -240,7 +239,7 @@ fn try_one<F: Family, L: Ledger>(
         return Looked::Spent;
     }
     *left -= 1;
-    if are_lower(totals_after(engine, edit), aim.lowest) {
+    if is_lower_after(engine, edit, aim.lowest) {
         make(engine, edit, steps);
         keep(engine);
         return Looked::Found;

@@ -1,5 +1,6 @@
 pub mod CostLaws
 pub mod ListedLaws
+pub mod LowerLaws
 pub mod MarkLaws
 pub mod OpeningLaws
 pub mod RecordLaws

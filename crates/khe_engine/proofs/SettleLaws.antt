@@ -36,7 +36,7 @@ left_measured p served waits s t b all h unmoved i m at w = value_at p s b i m h
     ∙ ap Some (sym (unmoved i m at (all m.kind) w))
 
 -- one that waits is measured
-value_of : (p : Parts) (s : List Slot) (m : Monitor) (k r : ℕ) → slice_get p.monitors k ≡ Some m
+pub value_of : (p : Parts) (s : List Slot) (m : Monitor) (k r : ℕ) → slice_get p.monitors k ≡ Some m
     → option_map (deviation_in p s) (slice_get p.monitors k) ≡ Some r → Some r ≡ Some (deviation_in p s m)
 value_of p s m k r at e = sym e ∙ ap (option_map (deviation_in p s)) at
 

@@ -1,4 +1,5 @@
 ghost use Rattle.std.specs.Prelude.{ℕ, ◌≡◌, ◌↔◌, ◌<◌, ◌≤◌, ◌+◌, ◌-◌, ◌⊎◌, ◌∷◌, [], false, true, None, Err, List, length, IfErr, IfOk, IsOk, OnErr, OnOk};
+ghost use Rattle.khe_base.specs.Totals.{is_lower};
 ghost use Rattle.khe_base.specs.declared.limits.TheConstants.{MARKS};
 ghost use Rattle.khe_solution.specs.Refusing.{is_of_meets, refusal as meets_refusal};
 ghost use Rattle.khe_told.specs.Watchers.{watcher_counts};
@@ -11,7 +12,7 @@ ghost use Rattle.khe_engine.specs.Worlds.{Saved, IsFaultOf, around, closed, fres
 use crate::editing::edit_any;
 use crate::faults::EditFault;
 use crate::listeners::Listeners;
-use crate::trials::totals_after;
+use crate::trials::{is_lower_after, totals_after};
 use crate::undoing::{close, marks_of, unwind, unwind_to};
 use khe_base::{NoMemory, Totals};
 use khe_instance::Instance;
@@ -147,6 +148,25 @@ impl<'i, F: Family> Engine<'i, F> {
             &mut self.listeners,
             &mut self.list,
             edit,
+        )
+    }
+
+    /// Whether an accepted edit of meets and tasks would leave lower totals than these: by the hard total, and by the
+    /// soft one where the hard totals are equal. The engine stays as it is. It takes no memory, and at most as long
+    /// as `totals_after`: what deviates now is measured first, and nothing more once the totals can't be lower.
+    pub fn is_lower_after(&mut self, edit: &Edit, lowest: Totals) -> bool
+        requires ours { is_of_meets edit.now ≡ true }
+        requires accepted { meets_refusal self.old.parts self.old.state.slots edit.now ≡ None }
+        ensures lower { result ≡ is_lower (totals self.old.parts (edited self.old.state edit.now)) lowest }
+        ensures same { self.new ≡ self.old }
+    {
+        is_lower_after(
+            self.inst,
+            &self.solution,
+            &mut self.listeners,
+            &mut self.list,
+            edit,
+            lowest,
         )
     }
 
