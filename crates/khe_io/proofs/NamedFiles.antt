@@ -47,6 +47,14 @@ drop-copied bytes front buf from count copied fits =
     take-append-drop count (drop from bytes) in
     rw same (rw first (rw copied (rw (← rest) (sym parts))))
 
+-- and the rest of the buffer is as it was
+pub filled-copied : (bytes front buf : List ℕ) (from count : ℕ) → front ≡ take count (drop from bytes)
+    → front ++ drop count buf
+    ≡ take (from + count - from) (drop from bytes) ++ drop (from + count - from) buf
+filled-copied bytes front buf from count copied =
+    let same : from + count - from ≡ count = omega arith in
+    rw same (ap (λ (xs : List ℕ). xs ++ drop count buf) copied)
+
 -- how many bytes a copy takes: what is left, what fits, and what may be given at once
 pub record IsCount (bytes : List ℕ) (from room most count : ℕ) : Type 0 where
   pub fitting : ℕ
@@ -62,6 +70,11 @@ pub IsCount-from : (bytes : List ℕ) (from room most count : ℕ) → IsCount b
     → from ≤ length bytes → from + count ≤ length bytes
 IsCount-from bytes from room most count counted placed =
     omega (arith, IsCount-left bytes from room most count counted, length-drop from bytes)
+
+pub IsCount-exact : (bytes : List ℕ) (from room most count : ℕ) → IsCount bytes from room most count
+    → from + count ≡ from + min (min (length (drop from bytes)) room) most
+IsCount-exact bytes from room most count counted =
+    omega (arith, counted.left, counted.least, ap length (take_rest bytes from))
 
 -- none are taken exactly where none are left
 pub IsCount-end : (bytes : List ℕ) (from room most count : ℕ) → IsCount bytes from room most count → 0 < room → 1 ≤ most

@@ -1,6 +1,6 @@
 ghost use Rattle.std.specs.Prelude.{◌≡◌, ◌+◌, ◌-◌, ◌^◌, ◌≤◌, min, is_err, IsTrue, IsOk, OnOk, OnErr};
 ghost use Rattle.khe_io.specs.Faults.{Rose};
-ghost use Rattle.khe_io.specs.Calls.{fails_next, none_to_come};
+ghost use Rattle.khe_io.specs.Calls.{fails_next, faults_after, none_to_come, one_more};
 
 use crate::Failed;
 use crate::faults::count_fault;
@@ -35,6 +35,7 @@ impl Calls {
         ensures ok { OnOk result (self.new.faults ≡ self.old.faults) }
         ensures failed { OnErr result (Rose self.old.faults self.new.faults) }
         ensures counted { self.old.faults ≤ self.new.faults }
+        ensures faults { self.new.faults ≡ faults_after (fails_next self.old.failing self.old.made) self.old.faults }
         ensures sound { IsTrue (none_to_come self.old.failing self.old.made) → IsOk result }
         ensures stays_sound { IsTrue (none_to_come self.old.failing self.old.made) → IsTrue (none_to_come self.new.failing self.new.made) }
     {
@@ -53,6 +54,7 @@ impl Calls {
         ensures failing { self.new.failing ≡ self.old.failing }
         ensures made { self.new.made ≡ self.old.made }
         ensures rose { Rose self.old.faults self.new.faults }
+        ensures one_more { self.new.faults ≡ one_more self.old.faults }
         ensures counted { self.old.faults ≤ self.new.faults }
     {
         count_fault(&mut self.faults)

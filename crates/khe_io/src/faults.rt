@@ -1,4 +1,5 @@
-ghost use Rattle.std.specs.Prelude.{◌≤◌};
+ghost use Rattle.std.specs.Prelude.{◌≡◌, ◌≤◌};
+ghost use Rattle.khe_io.specs.Calls.{one_more};
 ghost use Rattle.khe_io.specs.Faults.{Rose};
 
 use thiserror::Error;
@@ -11,6 +12,7 @@ pub struct Failed;
 /// Counts a fault, and answers what the caller is told. The count stops at the greatest value.
 pub(crate) fn count_fault(faults: &mut u64) -> Failed
     ensures rose { Rose faults.old faults.new }
+    ensures one_more { faults.new ≡ one_more faults.old }
     ensures counted { faults.old ≤ faults.new }
 {
     *faults = faults.saturating_add(1);

@@ -20,8 +20,9 @@ pub struct MemoryShelf {
 }
 
 impl MemoryShelf {
-    ghost use Rattle.std.specs.Prelude.{◌≡◌, ◌≤◌, Some, false};
+    ghost use Rattle.std.specs.Prelude.{◌≡◌, ◌≤◌, None, Some, false};
     ghost use Rattle.khe_io.specs.Calls.{none_to_come};
+    ghost use Rattle.khe_io.specs.MemoryShelf.{state_of};
     ghost use Rattle.khe_io.specs.Named.{bytes_under};
 
     /// A shelf with these files, of which the first counts where two have one name. No source is
@@ -36,6 +37,7 @@ impl MemoryShelf {
         ensures closed { ⟦<MemoryShelf as Shelf>⟧.is_open result ≡ false }
         ensures faults { ⟦<MemoryShelf as Shelf>⟧.faults result ≡ 0 }
         ensures sound { ⟦<MemoryShelf as Shelf>⟧.is_sound result ≡ none_to_come failing 0 }
+        ensures state { state_of result ≡ record { files = files; piece = piece; failing = failing; made = 0; faults = 0; left = None } }
     {
         MemoryShelf {
             files,
@@ -47,11 +49,13 @@ impl MemoryShelf {
 }
 
 impl Shelf for MemoryShelf {
-    ghost use Rattle.std.specs.Prelude.{Some, is_some, refl};
+    ghost use Rattle.std.specs.Prelude.{◌≡◌, ◌<◌, ◌≤◌, ◌↔◌, Some, is_err, is_ok, is_some, length, refl, take, IsTrue, IsOk, IsErr, IfOk, OnOk, OnErr};
     ghost use Rattle.std.specs.Option.{option_map};
     ghost use Rattle.khe_io.specs.Calls.{none_to_come};
+    ghost use Rattle.khe_io.specs.Faults.{Rose};
     ghost use Rattle.khe_io.specs.Named.{bytes_under, bytes_from};
-    ghost use Rattle.khe_io.specs.MemoryShelf.{open_source_tells};
+    ghost use Rattle.khe_io.specs.MemoryShelf.{after_open, after_read, fails_to_open, filled, given, is_listed, open_source_tells, state_of};
+    ghost use Rattle.khe_io.specs.Shelf.{IsMissing, Opened, Gave, EndsWhereNoneIsLeft};
 
     ghost holdings = { λ s. Some (bytes_under s.files) };
 
@@ -63,7 +67,16 @@ impl Shelf for MemoryShelf {
 
     ghost is_sound = { λ s. none_to_come s.calls.failing s.calls.made };
 
-    fn open(&mut self, name: &str) -> Result<(), Failed> {
+    /// It fails where its call is listed and where nothing stands under the name. The shelf is then as
+    /// its definition says: one call more, the source of the name open from its first byte or none.
+    fn open(&mut self, name: &str) -> Result<(), Failed>
+        ensures fails { is_err result ≡ fails_to_open (state_of self.old) name.now }
+        ensures after { state_of self.new ≡ after_open (state_of self.old) name.now }
+        ensures failed { OnErr result (Rose self.old.calls.faults self.new.calls.faults) }
+        ensures missing { IsTrue (none_to_come self.old.calls.failing self.old.calls.made) → (IsErr result ↔ IsMissing (Some (bytes_under self.old.files)) name.now) }
+        ensures counted { self.old.calls.faults ≤ self.new.calls.faults }
+        ensures stays_sound { IsTrue (none_to_come self.old.calls.failing self.old.calls.made) → IsTrue (none_to_come self.new.calls.failing self.new.calls.made) }
+    {
         self.source = None;
         self.calls.make()?;
         let Some(file) = number_of(self.files.as_slice(), name) else {
@@ -73,7 +86,21 @@ impl Shelf for MemoryShelf {
         Ok(())
     }
 
-    fn read(&mut self, buf: &mut [u8]) -> Result<usize, Failed> {
+    /// It fails exactly where its call is listed, and then the buffer is as it was. Else it gives as
+    /// many bytes as are left, as the buffer takes and as a read gives at most.
+    fn read(&mut self, buf: &mut [u8]) -> Result<usize, Failed>
+        requires buffer { 0 < length buf.old }
+        requires open { IsTrue (is_some self.old.source) }
+        ensures fails { is_err result ≡ is_listed (state_of self.old) }
+        ensures count { IfOk result (λ n. n ≡ given (state_of self.old) (length buf.old)) }
+        ensures filled { OnOk result (buf.new ≡ filled (state_of self.old) buf.old) }
+        ensures untouched { OnErr result (buf.new ≡ buf.old) }
+        ensures after { state_of self.new ≡ after_read (state_of self.old) (length buf.old) }
+        ensures failed { OnErr result (Rose self.old.calls.faults self.new.calls.faults) }
+        ensures never_failed { IsTrue (none_to_come self.old.calls.failing self.old.calls.made) → IsOk result }
+        ensures counted { self.old.calls.faults ≤ self.new.calls.faults }
+        ensures stays_sound { IsTrue (none_to_come self.old.calls.failing self.old.calls.made) → IsTrue (none_to_come self.new.calls.failing self.new.calls.made) }
+    {
         self.calls.make()?;
         let place = self.source.unwrap();
         let next = copy_from(self.files.as_slice(), place, self.piece as usize, buf);

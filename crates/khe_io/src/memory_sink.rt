@@ -1,4 +1,4 @@
-ghost use Rattle.std.specs.Prelude.{◌≤◌};
+ghost use Rattle.std.specs.Prelude.{◌≡◌, ◌+◌, ◌≤◌, ◌++◌, length, take, vec_len, vec_capacity};
 
 use crate::calls::Calls;
 use crate::{Failed, Sink};
@@ -9,15 +9,17 @@ use std::alloc::Global;
 /// a write, and fails at the calls that it is told to fail at. It tells everything.
 #[derive(Drop)]
 pub struct MemorySink {
-    taken: Seq<u8>,
+    taken: Vec<u8>,
     room: usize,
     piece: u32,
     calls: Calls,
     ghost some: { 1 ≤ piece },
+    ghost ample: { room ≤ vec_capacity taken },
 }
 
 impl MemorySink {
-    ghost use Rattle.std.specs.Prelude.{◌≡◌, ◌≤◌, [], Some, IfOk};
+    ghost use Rattle.std.specs.Prelude.{[], Some, IfOk};
+    ghost use Rattle.khe_io.specs.MemorySink.{state_of};
 
     /// A sink with room for so many bytes, all of which is taken from memory here. It took nothing,
     /// and no fault is counted. A write takes at most `piece` bytes. `failing` has the numbers of
@@ -34,12 +36,11 @@ impl MemorySink {
         requires { 1 ≤ piece }
         ensures taken { IfOk result (λ sink. ⟦<MemorySink as Sink>⟧.taken sink ≡ Some []) }
         ensures faults { IfOk result (λ sink. ⟦<MemorySink as Sink>⟧.faults sink ≡ 0) }
+        ensures state { IfOk result (λ sink. state_of sink ≡ record { taken = []; room = room; piece = piece; failing = failing; made = 0; faults = 0 }) }
     {
         let room = room as usize;
         Ok(MemorySink {
-            taken: Seq {
-                items: Vec::with_capacity(alloc, room)?,
-            },
+            taken: Vec::with_capacity(alloc, room)?,
             room,
             piece,
             calls: Calls::new(failing),
@@ -47,21 +48,44 @@ impl MemorySink {
     }
 
     /// All bytes that the sink took, in order.
-    pub fn taken(&self) -> &Seq<u8>
+    pub fn taken(&self) -> &[u8]
         ensures { ⟦<MemorySink as Sink>⟧.taken self.now ≡ Some result.now }
     {
-        &self.taken
+        self.taken.as_slice()
     }
 }
 
-impl Sink for MemorySink {
-    ghost use Rattle.std.specs.Prelude.{Some};
+/// Adds the first bytes of a piece to what was taken, for which there is room.
+fn take_front(taken: &mut Vec<u8>, piece: &[u8], count: usize)
+    requires within { count ≤ length piece.now }
+    requires room { vec_len taken.old + count ≤ vec_capacity taken.old }
+    ensures taken { taken.new.items ≡ taken.old.items ++ take count piece.now }
+    ensures room { vec_capacity taken.old ≤ vec_capacity taken.new }
+{
+    let Ok(()) = taken.extend_from_slice(&piece[..count]) else {
+        unreachable!()
+    };
+}
 
-    ghost taken = { λ s. Some s.taken };
+impl Sink for MemorySink {
+    ghost use Rattle.std.specs.Prelude.{◌<◌, Some, is_err, IfOk, OnErr};
+    ghost use Rattle.khe_io.specs.Faults.{Rose};
+    ghost use Rattle.khe_io.specs.MemorySink.{after_write, fails_to_take, fitting, state_of};
+
+    ghost taken = { λ s. Some s.taken.items };
 
     ghost faults = { λ s. s.calls.faults };
 
-    fn write(&mut self, piece: &[u8]) -> Result<usize, Failed> {
+    /// It fails where its call is listed and where no byte fits. Else it takes as many bytes as there
+    /// are, as a write takes at most and as still fit. The sink is then as its definition says.
+    fn write(&mut self, piece: &[u8]) -> Result<usize, Failed>
+        requires piece { 0 < length piece.now }
+        ensures fails { is_err result ≡ fails_to_take (state_of self.old) (length piece.now) }
+        ensures count { IfOk result (λ n. n ≡ fitting (state_of self.old) (length piece.now)) }
+        ensures after { state_of self.new ≡ after_write (state_of self.old) piece.now }
+        ensures failed { OnErr result (Rose self.old.calls.faults self.new.calls.faults) }
+        ensures counted { self.old.calls.faults ≤ self.new.calls.faults }
+    {
         self.calls.make()?;
         let left = self.room.saturating_sub(self.taken.len());
         let count = piece.len().min(self.piece as usize).min(left);
@@ -69,9 +93,7 @@ impl Sink for MemorySink {
             return Err(self.calls.fault());
         }
         // The room was taken when the sink was made, so this takes no memory.
-        match self.taken.items.extend_from_slice(&piece[..count]) {
-            Ok(()) => Ok(count),
-            Err(_) => Err(self.calls.fault()),
-        }
+        take_front(&mut self.taken, piece, count);
+        Ok(count)
     }
 }

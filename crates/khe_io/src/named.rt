@@ -1,6 +1,6 @@
 ghost use Rattle.std.specs.Option.{option_map};
 ghost use Rattle.khe_io.specs.Named.{bytes_at, bytes_from, bytes_under, IsPlaceIn};
-ghost use Rattle.std.specs.Prelude.{◌≡◌, ◌-◌, ◌<◌, ◌≤◌, ◌↔◌, [], ◌++◌, length, take, IfSome};
+ghost use Rattle.std.specs.Prelude.{◌≡◌, ◌-◌, ◌<◌, ◌≤◌, ◌↔◌, [], ◌++◌, ◌+◌, length, take, drop, min, IfSome};
 
 use khe_base::{Seq, Text};
 
@@ -39,6 +39,9 @@ pub(crate) fn copy_from(files: &[Named], place: Place, most: usize, buf: &mut [u
     requires buffer { 0 < length buf.old }
 
     ensures placed { IsPlaceIn files.now result }
+    ensures file { result.file ≡ place.file }
+    ensures from { result.from ≡ place.from + min (min (length (bytes_from files.now place)) (length buf.old)) most }
+    ensures filled { buf.new ≡ take (result.from - place.from) (bytes_from files.now place) ++ drop (result.from - place.from) buf.old }
     ensures forward { place.from ≤ result.from }
     ensures within { result.from - place.from ≤ length buf.new }
     ensures copied { bytes_from files.now place ≡ take (result.from - place.from) buf.new ++ bytes_from files.now result }

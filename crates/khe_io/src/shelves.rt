@@ -8,7 +8,7 @@ use crate::Failed;
 ///
 /// A shelf may tell what it holds or keep it to itself. A sound shelf tells everything, fails at no
 /// read, and at an opening only where the name is missing. No call changes what stands under a
-/// name, and the count of faults never falls.
+/// name, and the count of faults grows only by a call that fails.
 pub trait Shelf {
     /// What stands under each name, where the shelf tells it: the bytes of a name to the bytes
     /// under it.
@@ -28,12 +28,13 @@ pub trait Shelf {
 
     /// Opens the source under a name, from its first byte, in place of the one that was open.
     ///
-    /// After `Ok` all that stands under the name is left. After `Failed`, which comes only with a
-    /// counted fault, no source is open. A missing name is a fault.
+    /// After `Ok` all that stands under the name is left, and no fault was counted. After `Failed`,
+    /// which comes only with a counted fault, no source is open. A missing name is a fault.
     fn open(&mut self, name: &str) -> Result<(), Failed>
         ensures opened { OnOk result (Opened (holdings self.old) name.now (left self.new)) }
         ensures source { is_open self.new ≡ is_ok result }
         ensures failed { OnErr result (Rose (faults self.old) (faults self.new)) }
+        ensures faultless { OnOk result (faults self.new ≡ faults self.old) }
         ensures missing { IsTrue (is_sound self.old) → (IsErr result ↔ IsMissing (holdings self.old) name.now) }
 
         ensures unchanged { holdings self.new ≡ holdings self.old }
@@ -44,7 +45,7 @@ pub trait Shelf {
     /// at most the buffer's length, and 0 only at the end of the source.
     ///
     /// The source stays open. `Failed` comes only with a counted fault, and then what is left is
-    /// as before; what the buffer holds is not promised.
+    /// as before; what the buffer holds is not promised. With `Ok` no fault was counted.
     fn read(&mut self, buf: &mut [u8]) -> Result<usize, Failed>
         requires buffer { 0 < length buf.old }
         requires open { IsTrue (is_open self.old) }
@@ -53,6 +54,7 @@ pub trait Shelf {
         ensures gave { IfOk result (λ n. Gave (left self.old) (left self.new) (take n buf.new)) }
         ensures end { IfOk result (EndsWhereNoneIsLeft (left self.old)) }
         ensures failed { OnErr result (Rose (faults self.old) (faults self.new)) }
+        ensures faultless { OnOk result (faults self.new ≡ faults self.old) }
         ensures kept { OnErr result (left self.new ≡ left self.old) }
         ensures never_failed { IsTrue (is_sound self.old) → IsOk result }
 

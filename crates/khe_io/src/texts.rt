@@ -49,7 +49,8 @@ impl From<AllocError> for TakeFault {
 /// Takes all bytes under a name of a shelf.
 ///
 /// `ReadFault` comes only with a fault that the shelf counted, and on a sound shelf exactly where
-/// the name is missing. `TooLarge` comes only where more than `limit` bytes stand under the name,
+/// the name is missing; with every other answer the shelf counted none, so no call is made again
+/// after a fault. `TooLarge` comes only where more than `limit` bytes stand under the name,
 /// and then no bytes are answered; reading stops with the first piece beyond the limit.
 /// `NoMemory` comes where memory is refused. After any answer the shelf holds what it held.
 ///
@@ -65,6 +66,9 @@ pub fn take_all<S: Shelf>(
     ensures within { IfOk result (λ bytes. length bytes ≤ limit) }
     ensures too_large { IsErrOf result TakeFault.TooLarge → StandsAbove (S.holdings shelf.old) name.now limit }
     ensures fault { IsErrOf result TakeFault.ReadFault → Rose (S.faults shelf.old) (S.faults shelf.new) }
+    ensures faultless { OnOk result (S.faults shelf.new ≡ S.faults shelf.old) }
+    ensures faultless_above { IsErrOf result TakeFault.TooLarge → S.faults shelf.new ≡ S.faults shelf.old }
+    ensures faultless_starved { IsErrOf result TakeFault.NoMemory → S.faults shelf.new ≡ S.faults shelf.old }
     ensures missing { IsTrue (S.is_sound shelf.old) → (IsErrOf result TakeFault.ReadFault ↔ IsMissing (S.holdings shelf.old) name.now) }
 
     ensures unchanged { S.holdings shelf.new ≡ S.holdings shelf.old }
@@ -89,11 +93,13 @@ pub fn take_all<S: Shelf>(
 
 /// Gives a sink all these bytes, piece by piece. It takes no memory.
 ///
-/// After `Ok` the sink took them all. `Failed` comes only with a fault that the sink counted, and
-/// then the sink took some first bytes of these. Where there are none, the sink is not called.
+/// After `Ok` the sink took them all and counted no fault, so no call is made again after one.
+/// `Failed` comes only with a fault that the sink counted, and then the sink took some first bytes
+/// of these. Where there are none, the sink is not called.
 pub fn put_all<K: Sink>(out: &mut K, bytes: &[u8]) -> Result<(), Failed>
     ensures ok { OnOk result (Took (K.taken out.old) (K.taken out.new) bytes.now) }
     ensures failed { OnErr result (Rose (K.faults out.old) (K.faults out.new)) }
+    ensures faultless { OnOk result (K.faults out.new ≡ K.faults out.old) }
     ensures front { OnErr result (TookFront (K.taken out.old) (K.taken out.new) bytes.now) }
     ensures counted { K.faults out.old ≤ K.faults out.new }
     ensures empty { bytes.now ≡ [] → IsOk result × (out.new ≡ out.old) }

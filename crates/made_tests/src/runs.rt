@@ -61,7 +61,7 @@ fn copy(alloc: Global, bytes: &[u8]) -> Result<Seq<u8>, NoMemory> {
 pub(crate) fn made<R: Threads + Sync>(rt: &R, alloc: Global) -> Result<MemoryShelf, NoMemory> {
     let mut empty = MemoryShelf::new(Seq::new(alloc), 1, Seq::new(alloc));
     let sink = sink_of(rt, alloc, "make 7 300", &mut empty, &OpenGate)?;
-    shelf_of(alloc, sink.taken().as_slice())
+    shelf_of(alloc, sink.taken())
 }
 
 /// What a command writes on the made archive.

@@ -16,8 +16,8 @@ fn is_same<R: Threads + Sync>(
 ) -> Result<bool, NoMemory> {
     let one = written(rt, alloc, one, &OpenGate)?;
     let other = written(rt, alloc, other, &OpenGate)?;
-    let bytes = one.taken().as_slice();
-    Ok(bytes.starts_with(first) && bytes == other.taken().as_slice())
+    let bytes = one.taken();
+    Ok(bytes.starts_with(first) && bytes == other.taken())
 }
 
 /// Whether two workers of a command are at work at the same time.

@@ -77,7 +77,7 @@ fn run_step<R: Threads + Files + Sync>(
         None => (step, ""),
     };
     let (status, sink) = run(rt, alloc, command)?;
-    push_kept(came, text_of(sink.taken().as_slice()), kept)?;
+    push_kept(came, text_of(sink.taken()), kept)?;
     Ok(status)
 }
 
@@ -89,7 +89,7 @@ fn run_to_file<R: Threads + Files + Sync>(
     name: &str,
 ) -> Result<u8, Fault> {
     let (status, sink) = run(rt, alloc, command)?;
-    fs::write(rt, name, sink.taken().as_slice())?;
+    fs::write(rt, name, sink.taken())?;
     Ok(status)
 }
 
@@ -173,7 +173,7 @@ pub(crate) fn refusal_of<R: Threads + Files + Sync>(
     command.push_str(file)?;
     command.push_literal(".xml")?;
     let (_, sink) = run(rt, alloc, command.as_str())?;
-    let line = text_of(sink.taken().as_slice());
+    let line = text_of(sink.taken());
     let refusal = line.strip_prefix("khe: archive refused: ");
     came.push_str(refusal.unwrap_or(line))?;
     Ok(())

@@ -36,7 +36,7 @@ pub fn compared<R: Threads + Sync>(
 ) -> Result<Option<Difference>, NoMemory> {
     let room = (end.text.len() as u64).saturating_add(SPARE);
     let (status, sink) = run(rt, alloc, call, devices, room)?;
-    difference_of(alloc, status, sink.taken().as_slice(), end)
+    difference_of(alloc, status, sink.taken(), end)
 }
 
 fn difference_of(

@@ -48,7 +48,7 @@ fn end_on<R: Threads + Sync>(
     devices: Devices,
 ) -> Result<Ended, NoMemory> {
     let (status, sink) = run(rt, alloc, call, devices, end.text.len() as u64 + 1_000)?;
-    Ok(judged(end, status, sink.taken().as_slice()))
+    Ok(judged(end, status, sink.taken()))
 }
 
 /// The number of the first call of the shelf that a run on reads of at most so many bytes does not make, where each

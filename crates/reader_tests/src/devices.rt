@@ -141,7 +141,7 @@ fn gives_whole_texts_or_a_front(rt: HostRuntime) -> Result<(), Fail> {
         assert!(rt; *piece > 0);
         let mut sink = MemorySink::new(rt.alloc(), *room, *piece, failing)?;
         assert_eq!(rt; put_all(&mut sink, b"abcdef").is_ok(), *given);
-        assert_eq!(rt; sink.taken().as_slice(), *taken);
+        assert_eq!(rt; sink.taken(), *taken);
     }
     Ok(())
 }

@@ -1,8 +1,8 @@
 -- Each piece moves bytes from what is left to what was read; every answer's clauses follow from the
 -- invariant and from the clauses of the last call.
-use Rattle.std.proofs.Common.{◌≡◌, ◌∙◌, arith, ◌+◌, ◌-◌, ◌≤◌, length, take, vec_len}
+use Rattle.std.proofs.Common.{◌≡◌, ◌∙◌, subst, arith, ◌+◌, ◌-◌, ◌≤◌, length, take, vec_len}
 use Rattle.std.proofs.lemmas.List.{length-take-le}
-use Rattle.khe_io.proofs.Counts.{Rose-after}
+use Rattle.khe_io.specs.Faults.{Rose}
 use Rattle.khe_io.proofs.Reading.{RestUnder-opened, RestUnder-gave, StandsUnder-at_end, StandsAbove-gave}
 use Rattle.khe_io.proofs.texts.take_all.Goals as goal
 
@@ -16,13 +16,14 @@ loop-bytes-init g c = record {
   is_open = c.in_ok-open.ensures.source;
   present = λ sound missing. cc ((c.in_ok-open.ensures.missing sound).1 missing);
   unchanged = c.open.ensures.unchanged;
-  counted = c.open.ensures.counted;
+  faultless = c.in_ok-open.ensures.faultless;
   sound = c.open.ensures.stays_sound;
 }
 
 pub returns-in_err-count-clause-fault : goal.returns-in_err-count-clause-fault
 returns-in_err-count-clause-fault g c _ =
-    Rose-after _ _ _ c.loop-bytes.invariant.counted c.read.ensures.counted c.in_err-count.ensures.failed
+    subst (λ faults. Rose faults (g.S.Shelf.faults c.read.new.self)) c.loop-bytes.invariant.faultless
+    c.in_err-count.ensures.failed
 
 pub returns-in_err-count-clause-stays_sound : goal.returns-in_err-count-clause-stays_sound
 returns-in_err-count-clause-stays_sound g c sound = c.read.ensures.stays_sound (c.loop-bytes.invariant.sound sound)
@@ -61,7 +62,7 @@ loop-bytes-preserved g c = record {
   is_open = c.read.ensures.stays_open;
   present = c.loop-bytes.invariant.present;
   unchanged = c.read.ensures.unchanged ∙ c.loop-bytes.invariant.unchanged;
-  counted = omega (arith, c.loop-bytes.invariant.counted, c.read.ensures.counted);
+  faultless = c.in_ok-count.ensures.faultless ∙ c.loop-bytes.invariant.faultless;
   sound = λ sound. c.read.ensures.stays_sound (c.loop-bytes.invariant.sound sound);
 }
 

@@ -11,7 +11,7 @@ invariant-loop-bytes g l = record {
   is_open : IsTrue (g.S.Shelf.is_open l.shelf);
   present : IsTrue (g.S.Shelf.is_sound l.fn.shelf) → ¬ (IsMissing (g.S.Shelf.holdings l.fn.shelf) l.name);
   unchanged : g.S.Shelf.holdings l.shelf ≡ g.S.Shelf.holdings l.fn.shelf;
-  counted : g.S.Shelf.faults l.fn.shelf ≤ g.S.Shelf.faults l.shelf;
+  faultless : g.S.Shelf.faults l.shelf ≡ g.S.Shelf.faults l.fn.shelf;
   sound : IsTrue (g.S.Shelf.is_sound l.fn.shelf) → IsTrue (g.S.Shelf.is_sound l.shelf);
 }
 
