@@ -20,8 +20,8 @@ use xhstt_writer::{SendFault, send};
 
 /// Gives a sink the bytes of an archive in its canonical spelling, and then those of a line.
 ///
-/// After `Ok` the sink took them all. `WriteFault` comes only with a fault that the sink counted. After
-/// each error the sink took some first bytes of them. It takes what `send` takes, and time in proportion
+/// After `Ok` the sink took them all. `WriteFault` comes only with a fault that the sink counted, and
+/// with any other answer it counted none. After each error the sink took some first bytes of them. It takes what `send` takes, and time in proportion
 /// to the line.
 pub fn send_with<K: Sink>(
     alloc: Global,
@@ -32,6 +32,8 @@ pub fn send_with<K: Sink>(
     ensures whole { OnOk result (Took (K.taken out.old) (K.taken out.new) (canonical archive.now ++ encode_utf8_all line.now)) }
     ensures front { OnErr result (TookFront (K.taken out.old) (K.taken out.new) (canonical archive.now ++ encode_utf8_all line.now)) }
     ensures failed { IsErrOf result SendFault.WriteFault → Rose (K.faults out.old) (K.faults out.new) }
+    ensures faultless { OnOk result (K.faults out.new ≡ K.faults out.old) }
+    ensures faultless_starved { IsErrOf result SendFault.NoMemory → K.faults out.new ≡ K.faults out.old }
     ensures counted { K.faults out.old ≤ K.faults out.new }
 {
     match send(alloc, archive, out) {
@@ -45,6 +47,8 @@ fn put_line<K: Sink>(out: &mut K, line: &Text) -> Result<(), SendFault>
     ensures whole { OnOk result (Took (K.taken out.old) (K.taken out.new) (encode_utf8_all line.now)) }
     ensures front { OnErr result (TookFront (K.taken out.old) (K.taken out.new) (encode_utf8_all line.now)) }
     ensures failed { OnErr result (Rose (K.faults out.old) (K.faults out.new)) }
+    ensures faultless { OnOk result (K.faults out.new ≡ K.faults out.old) }
+    ensures faultless_starved { IsErrOf result SendFault.NoMemory → K.faults out.new ≡ K.faults out.old }
     ensures counted { K.faults out.old ≤ K.faults out.new }
 {
     match put_all(out, line.as_bytes()) {
@@ -56,8 +60,8 @@ fn put_line<K: Sink>(out: &mut K, line: &Text) -> Result<(), SendFault>
 /// Puts what a repair leaves in place of the solution with this number of an archive, and gives a sink
 /// the archive with the line on the repair.
 ///
-/// After `Ok` the sink took them whole. `WriteFault` comes only with a fault that the sink counted. After
-/// each error the sink took some first bytes of them, and the archive may have the old solution or the
+/// After `Ok` the sink took them whole. `WriteFault` comes only with a fault that the sink counted, and
+/// with any other answer it counted none. After each error the sink took some first bytes of them, and the archive may have the old solution or the
 /// new one. It takes what `respell` and `send` take.
 pub fn send_repaired<K: Sink>(
     alloc: Global,
@@ -71,6 +75,8 @@ pub fn send_repaired<K: Sink>(
     ensures whole { OnOk result (Took (K.taken out.old) (K.taken out.new) (repair_bytes archive.old number inst.now mended.now)) }
     ensures front { OnErr result (TookFront (K.taken out.old) (K.taken out.new) (repair_bytes archive.old number inst.now mended.now)) }
     ensures failed { IsErrOf result SendFault.WriteFault → Rose (K.faults out.old) (K.faults out.new) }
+    ensures faultless { OnOk result (K.faults out.new ≡ K.faults out.old) }
+    ensures faultless_starved { IsErrOf result SendFault.NoMemory → K.faults out.new ≡ K.faults out.old }
     ensures counted { K.faults out.old ≤ K.faults out.new }
 {
     match prepare(alloc, archive, number, inst, mended) {

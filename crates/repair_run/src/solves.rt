@@ -21,8 +21,8 @@ use xhstt_writer::SendFault;
 /// Puts the least result of many repairs in place of the solution with this number of an archive, and
 /// gives a sink the archive with the line on its job.
 ///
-/// After `Ok` the sink took them whole. `WriteFault` comes only with a fault that the sink counted. After
-/// each error the sink took some first bytes of them, and the archive may have the old solution or the
+/// After `Ok` the sink took them whole. `WriteFault` comes only with a fault that the sink counted, and
+/// with any other answer it counted none. After each error the sink took some first bytes of them, and the archive may have the old solution or the
 /// new one. It takes what `respell` and `send` take.
 pub fn send_solved<K: Sink>(
     alloc: Global,
@@ -36,6 +36,8 @@ pub fn send_solved<K: Sink>(
     ensures whole { OnOk result (Took (K.taken out.old) (K.taken out.new) (solve_bytes archive.old number inst.now solved.now)) }
     ensures front { OnErr result (TookFront (K.taken out.old) (K.taken out.new) (solve_bytes archive.old number inst.now solved.now)) }
     ensures failed { IsErrOf result SendFault.WriteFault → Rose (K.faults out.old) (K.faults out.new) }
+    ensures faultless { OnOk result (K.faults out.new ≡ K.faults out.old) }
+    ensures faultless_starved { IsErrOf result SendFault.NoMemory → K.faults out.new ≡ K.faults out.old }
     ensures counted { K.faults out.old ≤ K.faults out.new }
 {
     match prepare_solved(alloc, archive, number, inst, solved) {

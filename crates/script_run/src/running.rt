@@ -25,7 +25,7 @@ use std::sync::ledger::Ledger;
 /// that says why.
 ///
 /// A refused edit is answered and nothing else; the script goes on. After an error the sink took some
-/// first bytes of the text. It takes time in proportion to the script, to what its edits touch and to
+/// first bytes of the text. The sink counted a fault only where the answer is `WriteFault`. It takes time in proportion to the script, to what its edits touch and to
 /// what it prints; and it keeps in memory no more of the text than a piece and what one command adds.
 pub fn run<F: Shortages, K: Sink>(
     alloc: Global,
@@ -38,6 +38,8 @@ pub fn run<F: Shortages, K: Sink>(
     ensures whole { OnOk result (Took (K.taken out.old) (K.taken out.new) (encode_utf8_all (spec.script_text engine.old.parts (play_of engine.old) script.now))) }
     ensures front { OnErr result (TookFront (K.taken out.old) (K.taken out.new) (encode_utf8_all (spec.script_text engine.old.parts (play_of engine.old) script.now))) }
     ensures fault { IsErrOf result Cut.WriteFault → Rose (K.faults out.old) (K.faults out.new) }
+    ensures faultless { OnOk result (K.faults out.new ≡ K.faults out.old) }
+    ensures faultless_starved { IsErrOf result Cut.NoMemory → K.faults out.new ≡ K.faults out.old }
     ensures counted { K.faults out.old ≤ K.faults out.new }
 {
     run_counting::<F, K, Brand>(alloc, engine, script, out, Blank::new(1))
@@ -59,6 +61,8 @@ fn run_counting<F: Shortages, K: Sink, L: Ledger>(
     ensures whole { OnOk result (Took (K.taken out.old) (K.taken out.new) (encode_utf8_all (spec.script_text engine.old.parts (play_of engine.old) script.now))) }
     ensures front { OnErr result (TookFront (K.taken out.old) (K.taken out.new) (encode_utf8_all (spec.script_text engine.old.parts (play_of engine.old) script.now))) }
     ensures fault { IsErrOf result Cut.WriteFault → Rose (K.faults out.old) (K.faults out.new) }
+    ensures faultless { OnOk result (K.faults out.new ≡ K.faults out.old) }
+    ensures faultless_starved { IsErrOf result Cut.NoMemory → K.faults out.new ≡ K.faults out.old }
     ensures counted { K.faults out.old ≤ K.faults out.new }
 {
     let mut steps = Steps::<L>::new(blank);
@@ -96,6 +100,8 @@ fn run_line<F: Shortages, K: Sink, L: Ledger>(
     ensures front { (before : Option (List ℕ)) (more : List (List ℕ)) (whole : List ℕ) → IsAmid before (K.taken out.old) text.old (spec.answers engine.old.parts (play_of engine.old) number (line.now ∷ more)) whole
         → OnErr result (TookFront before (K.taken out.new) (encode_utf8_all whole)) }
     ensures fault { IsErrOf result Cut.WriteFault → Rose (K.faults out.old) (K.faults out.new) }
+    ensures faultless { OnOk result (K.faults out.new ≡ K.faults out.old) }
+    ensures faultless_starved { IsErrOf result Cut.NoMemory → K.faults out.new ≡ K.faults out.old }
     ensures counted { K.faults out.old ≤ K.faults out.new }
 {
     match read_line(line) {

@@ -15,7 +15,7 @@ invariant-loop-line g l =
           (answers p (play_of l.engine) (l.number + 1) (lines l.rest)) (script_text p (play_of l.fn.engine) l.script);
       read : is_read (lines l.rest) ≡ is_read (lines l.script);
       few : l.number + length l.rest ≤ length l.script;
-      counted : g.K.Sink.faults l.fn.out ≤ g.K.Sink.faults l.out;
+      faultless : g.K.Sink.faults l.out ≡ g.K.Sink.faults l.fn.out;
     }
 
 abbrev pub decreases-loop-line : goal.decreases-loop-line

@@ -8,7 +8,7 @@ returns-in-Ok-clause-streams g c rest aim h =
     flushed (g.K.Sink.taken c.args.sink.now) (g.K.Sink.taken c.put_all.new.out) (g.K.Sink.faults c.args.sink.now)
     (g.K.Sink.faults c.put_all.new.out) c.args.pending.now.items c.clear.new.self.items rest aim
     c.clear.ensures.items (subst (λ x. Took (g.K.Sink.taken c.args.sink.now) (g.K.Sink.taken c.put_all.new.out) x)
-    c.as_slice.ensures.value c.in-Ok.ensures.ok) c.put_all.ensures.counted h
+    c.as_slice.ensures.value c.in-Ok.ensures.ok) c.in-Ok.ensures.faultless h
 
 pub returns-in-Err-clause-streams : goal.returns-in-Err-clause-streams
 returns-in-Err-clause-streams g c rest aim h =
