@@ -13,7 +13,7 @@ abbrev pub are_ascii : List ℕ → Bool
 are_ascii [] = true
 are_ascii (b ∷ bs) = ltb b 128 && are_ascii bs
 
-ascii : (bytes : List ℕ) → are_ascii bytes ≡ true → IsAscii bytes
+pub ascii : (bytes : List ℕ) → are_ascii bytes ≡ true → IsAscii bytes
 ascii [] e = IsAscii-nil
 ascii (b ∷ bs) e =
     let parts = and_parts (ltb b 128) (are_ascii bs) e in IsAscii-cons b bs (ltb-true b 128 parts.0) (ascii bs parts.1)

@@ -1,4 +1,5 @@
 pub mod AsciiTexts
+pub mod BrokenTexts
 pub mod Begun
 pub mod Endings
 pub mod FirstRow

@@ -1,11 +1,17 @@
 //! The rows of faults on small texts: each function's contract is an example. It is proved, and nothing calls it.
 #![allow(dead_code)]
 
-ghost use Rattle.std.specs.Prelude.{[], codes};
+ghost use Rattle.std.specs.Prelude.{[], ◌∷◌, ◌++◌, codes};
 ghost use Rattle.std.specs.List.{repeat};
 ghost use Rattle.xhstt_text.specs.declared.faults.TheConstants.{BAD_MARKUP, BAD_REFERENCE, MISMATCHED_END};
-ghost use Rattle.xhstt_text.specs.declared.faults.TheConstants.{TOO_DEEP, UNSUPPORTED};
+ghost use Rattle.xhstt_text.specs.declared.faults.TheConstants.{NOT_UTF8, TOO_DEEP, UNSUPPORTED};
 ghost use Rattle.first_faults.specs.Rows.{IsLeastFault};
+
+// A byte that begins no character, alone and after a reference that goes on.
+fn texts_that_are_not_utf8()
+    ensures alone { IsLeastFault (0xFF ∷ []) NOT_UTF8 0 }
+    ensures later { IsLeastFault (codes "<a>&x" ++ 0xFF ∷ []) NOT_UTF8 5 }
+{}
 
 // No bytes, a start tag that does not end, the name of an attribute twice, and 32 elements that do not end.
 fn texts_with_bad_markup()
