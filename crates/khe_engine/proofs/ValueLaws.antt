@@ -11,7 +11,6 @@ use Rattle.khe_base.proofs.ListLemmas.{there}
 use Rattle.khe_instance.specs.Costs.{costs_of}
 use Rattle.khe_instance.specs.declared.parts.Parts.{Parts}
 use Rattle.khe_instance.specs.declared.points.Monitor.{Monitor}
-use Rattle.khe_instance.specs.declared.rules.Kind.{Kind}
 use Rattle.khe_told.specs.Agreement.{deviation_in}
 use Rattle.khe_told.specs.declared.slots.Slot.{Slot}
 use Rattle.monitor_graph.specs.Boards.{Board, HaveSameRest, KeepsValues, deviations_of, fixed_of, grouping_of, rate_of}

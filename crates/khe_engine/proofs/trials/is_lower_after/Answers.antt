@@ -1,4 +1,4 @@
-use Rattle.std.proofs.Common.{◌≡◌, ◌∙◌, ap}
+use Rattle.std.proofs.Common.{◌∙◌, ap}
 use Rattle.khe_base.specs.Totals.{is_lower}
 use Rattle.monitor_graph.specs.declared.graph.Graph.{Graph}
 use Rattle.khe_engine.specs.States.{State, state_of}

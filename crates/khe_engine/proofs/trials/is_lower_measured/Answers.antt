@@ -1,5 +1,5 @@
 -- What waits still costs nothing now, or was measured.
-use Rattle.std.proofs.Common.{◌≡◌, ◌<◌, ◌∙◌, length, length-set, subst, sym, ap, arith}
+use Rattle.std.proofs.Common.{◌<◌, ◌∙◌, length, length-set, subst, sym, ap, arith}
 use Rattle.std.specs.Prelude.{Bool, List, false}
 use Rattle.khe_base.specs.Totals.{is_lower}
 use Rattle.khe_base.specs.declared.sums.Totals.{Totals}

@@ -1,11 +1,11 @@
 -- The list has each once, so what is at its place was not measured before.
-use Rattle.std.proofs.Common.{◌≡◌, ◌<◌, ◌+◌, List, length, take, get_or, subst, sym, inl, arith}
+use Rattle.std.proofs.Common.{◌+◌, List, take, get_or, subst, sym, inl, arith}
 use Rattle.std.proofs.lemmas.List.{take_all, take_more}
 use Rattle.khe_base.specs.declared.sums.Totals.{Totals}
 use Rattle.khe_base.specs.declared.numbers.MonitorId.{MonitorId}
 use Rattle.khe_told.proofs.WaitingLaws.{within}
 use Rattle.monitor_graph.proofs.ValueLaws.{as_many}
-use Rattle.khe_engine.specs.Lower.{AreBegun, AreOpen}
+use Rattle.khe_engine.specs.Lower.{AreBegun}
 use Rattle.khe_engine.proofs.LowerLaws.{begun_more, begun_passed, begun_start, listed_waits, not_before, open_start}
 use Rattle.khe_engine.proofs.trials.measure_defects.Goals as goal
 use Rattle.khe_engine.proofs.trials.measure_defects.Goals.{then-deviation-gt0, else-deviation-gt0}

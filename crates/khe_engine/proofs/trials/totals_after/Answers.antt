@@ -1,4 +1,4 @@
-use Rattle.std.proofs.Common.{◌≡◌, ◌∙◌, ap}
+use Rattle.std.proofs.Common.{◌∙◌, ap}
 use Rattle.monitor_graph.specs.declared.graph.Graph.{Graph}
 use Rattle.khe_engine.specs.States.{state_of}
 use Rattle.khe_engine.specs.Values.{totals}
