@@ -1,16 +1,13 @@
--- Totals with the deviations of those that were measured so far, and the room of a list.
-use Rattle.std.proofs.Common.{ℕ, ◌≡◌, ◌<◌, ◌≤◌, Bool, true, false, List, [], ◌∷◌, ◌++◌, length, get_or, set, slice_get, Some, refl}
-use Rattle.std.proofs.Common.{ap, ◌∙◌, arith}
+-- Totals with the deviations of those that were measured so far.
+use Rattle.std.proofs.Common.{ℕ, ◌≡◌, ◌<◌, Bool, true, false, List, length, get_or, set, slice_get, Some}
+use Rattle.std.proofs.Common.{ap, ◌∙◌}
 use Rattle.std.specs.Option.{option_map}
 use Rattle.std.proofs.lemmas.List.{get_or-set_other, length-map, length-set}
 use Rattle.khe_base.specs.declared.sums.Totals.{Totals}
 use Rattle.khe_instance.specs.Costs.{costs_of, totals_of}
 use Rattle.khe_instance.specs.declared.parts.Parts.{Parts}
 use Rattle.khe_told.specs.Agreement.{deviation_in}
-use Rattle.khe_told.specs.Changes.{inverse, inverses}
-use Rattle.khe_told.specs.declared.changes.Change.{Change}
 use Rattle.khe_told.specs.declared.slots.Slot.{Slot}
-use Rattle.khe_solution.specs.Timetables.{HasRoom}
 use Rattle.monitor_graph.specs.Boards.{Board, deviations_of}
 use Rattle.monitor_graph.specs.Trials.{AreTotalsWith, IsStill}
 use Rattle.monitor_graph.specs.Values.{IsOf, is_detached}
@@ -34,16 +31,6 @@ pub record AreUnderWay (p : Parts) (waits : ℕ → Bool) (s : List Slot) (b : B
 pub as_long : (p : Parts) (b : Board) → IsOf b p → length (deviations_of b) ≡ length p.monitors
 as_long p b of = length-map b.lines (λ (x : Line). x.deviation) ∙ as_many b p of
 
-pub begin_measuring : (p : Parts) (waits : ℕ → Bool) (s : List Slot) (b : Board) (t : Totals) → IsOf b p
-    → AreMeasured p waits s (deviations_of b) → AreTotalsWith b.lines (deviations_of b) t → AreUnderWay p waits s b t
-begin_measuring p waits s b t of h e = record {
-  ds = deviations_of b;
-  long = as_long p b of;
-  measured = h;
-  still = λ k w. refl;
-  totals_ = e;
-}
-
 pub measure_more : (p : Parts) (s : List Slot) (b : Board) (t u : Totals) (flags : List Bool) (k r : ℕ)
     → k < length flags → k < length p.monitors
     → option_map (deviation_in p s) (slice_get p.monitors k) ≡ Some r → get_or flags k false ≡ true
@@ -65,16 +52,3 @@ pub all_measured : (p : Parts) (waits : ℕ → Bool) (s : List Slot) (b : Board
 all_measured p waits s b t of none h = totals_with b p h.ds t of h.totals_
     ∙ ap (λ ds. totals_of p (costs_of p (is_detached b) ds))
     (values_all p s h.ds h.long (λ i m at. h.measured i m at (none i)))
-
--- more room is enough
-pub more_room : (p : Parts) (n k : ℕ) → HasRoom p n → n ≤ k → HasRoom p k
-more_room p n k h l = record {
-  least = let a = h.least in omega (arith, a, l);
-  each = λ e event at. let a = h.each e event at in omega (arith, a, l);
-  few = h.few;
-}
-
--- the inverses of a list that is read backwards
-pub inverses_more : (cs : List Change) (c : Change) → inverses (cs ++ c ∷ []) ≡ inverse c ∷ inverses cs
-inverses_more [] c = refl
-inverses_more (d ∷ cs) c = ap (λ xs. xs ++ inverse d ∷ []) (inverses_more cs c)

@@ -20,12 +20,6 @@ use Rattle.monitor_graph.specs.declared.lines.Line.{Line}
 use Rattle.khe_engine.specs.States.{HaveSameGroups, state_of}
 use Rattle.khe_engine.specs.Values.{HasValues, costs, deviations_in}
 
--- how many values there are
-pub many_values : (p : Parts) (s : List Slot) (b : Board) → HasValues p s b
-    → length (deviations_of b) ≡ length p.monitors
-unfolding deviations_in
-many_values p s b h = ap length h.deviations ∙ length-map p.monitors (deviation_in p s)
-
 -- they are those of the slots, and what are those of the slots are the values
 pub value_at : (p : Parts) (s : List Slot) (b : Board) (i : ℕ) (m : Monitor) → HasValues p s b
     → slice_get p.monitors i ≡ Some m
