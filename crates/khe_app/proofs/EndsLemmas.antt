@@ -1,13 +1,14 @@
 -- How a run ends, from what was written of an outcome's text.
-use Rattle.std.proofs.Common.{ℕ, ◌≡◌, ◌⊎◌, inl, inr, Bool, List, [], Option, Some, None, IfSome, IsTrue, sym, ap, subst}
+use Rattle.std.proofs.Common.{ℕ, ◌≡◌, ◌<◌, ◌⊎◌, inl, inr, Bool, List, [], Option, Some, None, IfSome, IsTrue, sym, ap, subst}
 use Rattle.std.proofs.Common.{◌∙◌, refl, encode_utf8_all, arith, true, false}
+use Rattle.std.specs.Prelude.{IsSomeAnd}
 use Rattle.std.proofs.lemmas.List.{append-nil}
 use Rattle.khe_io.specs.Faults.{Rose, Took, TookFront}
 use Rattle.khe_io.specs.Shelf.{IsMissing, StandsUnder}
 use Rattle.khe_app.specs.Answers.{reading_of, IsAnswerOf, IsOnlyAnswerOf}
-use Rattle.khe_app.specs.Ends.{Holdings, EndedOf, CutOffOf, LacksOf, IsDecided, IsEnd, Written}
+use Rattle.khe_app.specs.Ends.{Holdings, EndedOf, CutOffOf, LacksArchiveOf, LacksOf, IsDecided, IsEnd, Written}
 use Rattle.khe_app.specs.Outcome.{Reading, evaluable, refused, IsAnswerTo, IsOutcomeOf, IsReadingOf, status_of, text_of}
-use Rattle.khe_app.specs.Words.{Asked, asked, evaluating, is_read}
+use Rattle.khe_app.specs.Words.{Asked, archive_of, asked, evaluating, is_read}
 use Rattle.khe_app.specs.declared.program.Answer.{Answer}
 
 -- what stands under a name leads to the answer
@@ -230,3 +231,30 @@ pub by_words : (words : List (List ℕ)) (a : Option Asked) (h : Holdings) (soun
     → IsEnd (asked words) h sound shelf shelf2 before after sink sink2 result
 by_words words a h sound shelf shelf2 before after sink sink2 result e end =
     subst (λ o. IsEnd o h sound shelf shelf2 before after sink sink2 result) (sym e) end
+
+-- where the archive's name is missing
+pub archive_lacked : (words : List (List ℕ)) (a : Asked) (name : List ℕ) (h : Holdings) (status : ℕ)
+    → asked words ≡ Some a → archive_of (Some a) ≡ Some name → (IsMissing h name → status ≡ 4)
+    → LacksArchiveOf (asked words) h → status ≡ 4
+archive_lacked words a name h status e named missing lacks =
+    missing (subst (λ o. IsSomeAnd o (IsMissing h)) (ap archive_of e ∙ named) lacks)
+
+pub no_archive : {P : Type 0} (words : List (List ℕ)) (a : Option Asked) (h : Holdings)
+    → asked words ≡ a → archive_of a ≡ None → LacksArchiveOf (asked words) h → P
+no_archive words a h e none lacks = absurd (subst (λ o. IsSomeAnd o (IsMissing h)) (ap archive_of e ∙ none) lacks)
+
+-- what was written by its status
+pub written_whole : (before after : Option (List ℕ)) (sink sink2 : ℕ) (bytes : List ℕ) (status result : ℕ)
+    → Written before after sink sink2 bytes status result → status < 5 → result ≡ status → Took before after bytes
+written_whole before after sink sink2 bytes status result (inl w) low e = w.1
+written_whole before after sink sink2 bytes status result (inr (inl w)) low e =
+    let f = w.0 in absurd (omega (arith, e, f, low))
+written_whole before after sink sink2 bytes status result (inr (inr w)) low e =
+    let f = w.0 in absurd (omega (arith, e, f, low))
+
+pub written_front : (before after : Option (List ℕ)) (sink sink2 : ℕ) (bytes : List ℕ) (status result : ℕ)
+    → Written before after sink sink2 bytes status result → status < 5 → result ≡ 5 → TookFront before after bytes
+written_front before after sink sink2 bytes status result (inl w) low e =
+    let f = w.0 in absurd (omega (arith, e, f, low))
+written_front before after sink sink2 bytes status result (inr (inl w)) low e = w.2
+written_front before after sink sink2 bytes status result (inr (inr w)) low e = w.1

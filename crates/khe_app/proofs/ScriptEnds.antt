@@ -1,5 +1,5 @@
 -- What was written of a script.
-use Rattle.std.proofs.Common.{ℕ, ◌≡◌, inl, inr, Bool, if◌then◌else◌, Option, Result, Ok, Err, IfOk, OnOk, OnErr, List}
+use Rattle.std.proofs.Common.{ℕ, ◌≡◌, ◌⊎◌, inl, inr, Bool, if◌then◌else◌, Option, Result, Ok, Err, IfOk, OnOk, OnErr, List}
 use Rattle.std.proofs.Common.{[], map, ap, subst, ◌∙◌, refl, encode_utf8_all}
 use Rattle.std.specs.Prelude.{IsErrOf}
 use Rattle.khe_engine.specs.Openings.{IsStateOf}
@@ -65,3 +65,10 @@ run_written p plain w script r before after sink sink2 result parts is none read
     by_end p plain w.state script r before after sink sink2 result is read
     (subst (λ xs. OnOk r (Took before after (encode_utf8_all xs))) text whole)
     (subst (λ xs. OnErr r (TookFront before after (encode_utf8_all xs))) text front) fault same
+
+-- a fault of the sink ends it
+pub run_faultless : (r : Result Bool Cut) (sink sink2 result : ℕ) → OnOk r (sink2 ≡ sink)
+    → (IsErrOf r NoMemory → sink2 ≡ sink) → result ≡ status_after r → (result ≡ 5) ⊎ (sink2 ≡ sink)
+run_faultless (Ok read) sink sink2 result whole starved same = inr whole
+run_faultless (Err WriteFault) sink sink2 result whole starved same = inl same
+run_faultless (Err NoMemory) sink sink2 result whole starved same = inr (starved refl)

@@ -4,8 +4,9 @@ use Rattle.std.specs.Prelude.{ℕ, ◌≡◌, ◌⊎◌, Bool, IsTrue, if◌then
 use Rattle.std.specs.Prelude.{List, []}
 use Rattle.std.specs.Prelude.{encode_utf8_all}
 use Rattle.khe_io.specs.Faults.{Rose, Took, TookFront}
+use Rattle.khe_io.specs.Shelf.{IsMissing}
 use Rattle.khe_app.specs.Outcome.{IsOutcomeOf}
-use Rattle.khe_app.specs.Words.{Asked, asked}
+use Rattle.khe_app.specs.Words.{Asked, archive_of, asked}
 use Rattle.script_run.specs.declared.writing.Cut.{Cut}
 use Rattle.script_run.specs.declared.writing.Cut.TheVariants.{WriteFault, NoMemory}
 
@@ -29,6 +30,10 @@ CutOffOf asked holdings before after =
 abbrev pub LacksOf : Option Asked → Holdings → Type 0
 LacksOf asked holdings = IsSomeAnd holdings (λ under. IsOutcomeOf asked under 4 [])
 
+-- the shelf tells that nothing stands under the name of the archive that is read
+abbrev pub LacksArchiveOf : Option Asked → Holdings → Type 0
+LacksArchiveOf asked holdings = IsSomeAnd (archive_of asked) (IsMissing holdings)
+
 -- the same, by the words
 abbrev pub EndedBy : List (List ℕ) → Holdings → Option (List ℕ) → Option (List ℕ) → ℕ → Type 0
 EndedBy words = EndedOf (asked words)
@@ -38,6 +43,9 @@ CutOff words = CutOffOf (asked words)
 
 abbrev pub LacksName : List (List ℕ) → Holdings → Type 0
 LacksName words = LacksOf (asked words)
+
+abbrev pub LacksArchive : List (List ℕ) → Holdings → Type 0
+LacksArchive words = LacksArchiveOf (asked words)
 
 -- the statuses of a run that was neither cut off by a device nor for want of memory
 abbrev pub IsDecided : ℕ → Type 0

@@ -39,6 +39,17 @@ is_read (Some (solving archive number depth budget jobs)) = true
 is_read (Some (making seed size)) = false
 is_read (Some (running seed size)) = false
 
+-- the name of the archive that is read for it, if one is
+abbrev pub archive_of : Option Asked → Option (List ℕ)
+archive_of None = None
+archive_of (Some (evaluating archive all)) = Some archive
+archive_of (Some (scripting archive number script)) = Some archive
+archive_of (Some (checking archive)) = Some archive
+archive_of (Some (repairing archive number depth budget)) = Some archive
+archive_of (Some (solving archive number depth budget jobs)) = Some archive
+archive_of (Some (making seed size)) = None
+archive_of (Some (running seed size)) = None
+
 -- a number from 1 to a greatest one, by 1 to 18 digits that write it
 unfoldable pub number_to : ℕ → List ℕ → Option ℕ
 number_to greatest word = option_and_then (λ n. if nat_le 1 n && nat_le n greatest then Some n else None)

@@ -1,8 +1,9 @@
 //! Archives in their canonical spelling.
 
-ghost use Rattle.std.specs.Prelude.{◌≡◌, ◌≤◌, Some, IsTrue};
+ghost use Rattle.std.specs.Prelude.{◌≡◌, ◌≤◌, ◌⊎◌, Some, IsTrue};
 ghost use Rattle.xhstt_shape.specs.WellFormed.{IsWellFormed};
 ghost use Rattle.xhstt_writer.specs.Archives.{canonical};
+ghost use Rattle.khe_io.specs.Shelf.{IsMissing};
 ghost use Rattle.khe_app.specs.Answers.{reading_of, IsReadyAnswer};
 ghost use Rattle.khe_app.specs.Ends.{IsEnd, Written};
 ghost use Rattle.khe_app.specs.Outcome.{spelling_of, status_of};
@@ -24,9 +25,12 @@ pub(crate) fn check<S: Shelf, K: Sink>(
 ) -> Status
     ensures end { IsEnd (Some (checking name.now)) (S.holdings shelf.old) (S.is_sound shelf.old) (S.faults shelf.old) (S.faults shelf.new) (K.taken out.old) (K.taken out.new) (K.faults out.old) (K.faults out.new) result.0 }
     ensures status { result.0 ≡ 2 → ⊥ }
+    ensures absent { IsTrue (S.is_sound shelf.old) → IsMissing (S.holdings shelf.old) name.now → result.0 ≡ 4 }
     ensures holdings { S.holdings shelf.new ≡ S.holdings shelf.old }
+    ensures read_fault_ends { (result.0 ≡ 4) ⊎ (S.faults shelf.new ≡ S.faults shelf.old) }
     ensures shelf_faults { S.faults shelf.old ≤ S.faults shelf.new }
     ensures sound { IsTrue (S.is_sound shelf.old) → IsTrue (S.is_sound shelf.new) }
+    ensures write_fault_ends { (result.0 ≡ 5) ⊎ (K.faults out.new ≡ K.faults out.old) }
     ensures sink_faults { K.faults out.old ≤ K.faults out.new }
 {
     match answer_to(alloc, shelf, name) {
@@ -40,6 +44,7 @@ pub(crate) fn check<S: Shelf, K: Sink>(
 fn write_spelling<K: Sink>(alloc: Global, out: &mut K, answer: &Answer) -> Status
     requires { IsReadyAnswer answer.now }
     ensures written { Written (K.taken out.old) (K.taken out.new) (K.faults out.old) (K.faults out.new) (spelling_of (reading_of answer.now)) (status_of (reading_of answer.now)) result.0 }
+    ensures write_fault_ends { (result.0 ≡ 5) ⊎ (K.faults out.new ≡ K.faults out.old) }
     ensures sink_faults { K.faults out.old ≤ K.faults out.new }
 {
     match answer {
@@ -51,6 +56,7 @@ fn write_spelling<K: Sink>(alloc: Global, out: &mut K, answer: &Answer) -> Statu
 /// Writes an archive in its canonical spelling, in pieces.
 pub(crate) fn put_spelling<K: Sink>(alloc: Global, out: &mut K, archive: &Archive) -> Status
     ensures written { Written (K.taken out.old) (K.taken out.new) (K.faults out.old) (K.faults out.new) (canonical archive.now) 0 result.0 }
+    ensures write_fault_ends { (result.0 ≡ 5) ⊎ (K.faults out.new ≡ K.faults out.old) }
     ensures sink_faults { K.faults out.old ≤ K.faults out.new }
 {
     match send(alloc, archive, out) {

@@ -30,6 +30,7 @@ use xhstt_shape::Archive;
 pub(crate) fn make<K: Sink>(alloc: Global, out: &mut K, seed: u64, size: u32) -> Status
     ensures end { (h : Holdings) (sound : Bool) (faults : ℕ) → IsEnd (Some (making seed size)) h sound faults faults (K.taken out.old) (K.taken out.new) (K.faults out.old) (K.faults out.new) result.0 }
     ensures status { result.0 ≡ 2 → ⊥ }
+    ensures write_fault_ends { (result.0 ≡ 5) ⊎ (K.faults out.new ≡ K.faults out.old) }
     ensures sink_faults { K.faults out.old ≤ K.faults out.new }
 {
     match generate(alloc, &mut Draws::new(seed), size) {
@@ -43,6 +44,7 @@ pub(crate) fn make_run<K: Sink>(alloc: Global, out: &mut K, seed: u64, size: u32
     requires { (1 ≤ size) × (size ≤ 2000) }
     ensures end { (h : Holdings) (sound : Bool) (faults : ℕ) → IsEnd (Some (running seed size)) h sound faults faults (K.taken out.old) (K.taken out.new) (K.faults out.old) (K.faults out.new) result.0 }
     ensures status { result.0 ≡ 2 → ⊥ }
+    ensures write_fault_ends { (result.0 ≡ 5) ⊎ (K.faults out.new ≡ K.faults out.old) }
     ensures sink_faults { K.faults out.old ≤ K.faults out.new }
 {
     let mut draws = Draws::new(seed);
@@ -67,6 +69,7 @@ fn run_made<K: Sink>(
     requires drawn { draws.old.state ≡ state_after seed size }
     ensures written { ((result.0 ≡ 6) × (K.taken out.new ≡ K.taken out.old)) ⊎ ((text : List ℕ) × IsRunTo seed size 0 text
         × Written (K.taken out.old) (K.taken out.new) (K.faults out.old) (K.faults out.new) (encode_utf8_all text) 0 result.0) }
+    ensures write_fault_ends { (result.0 ≡ 5) ⊎ (K.faults out.new ≡ K.faults out.old) }
     ensures sink_faults { K.faults out.old ≤ K.faults out.new }
 {
     let job = Job {
@@ -107,6 +110,7 @@ fn run_resolved<K: Sink>(
     requires drawn { draws.old.state ≡ state_after job.seed job.size }
     ensures written { ((result.0 ≡ 6) × (K.taken out.new ≡ K.taken out.old)) ⊎ ((text : List ℕ) × IsRunTo job.seed job.size 0 text
         × Written (K.taken out.old) (K.taken out.new) (K.faults out.old) (K.faults out.new) (encode_utf8_all text) 0 result.0) }
+    ensures write_fault_ends { (result.0 ≡ 5) ⊎ (K.faults out.new ≡ K.faults out.old) }
     ensures sink_faults { K.faults out.old ≤ K.faults out.new }
 {
     match begin(alloc, archive, resolved, 0) {
@@ -143,6 +147,7 @@ fn put_run<K: Sink>(
     requires drawn { draws.old.state ≡ state_after job.seed job.size }
     ensures written { ((result.0 ≡ 6) × (K.taken out.new ≡ K.taken out.old)) ⊎ ((text : List ℕ) × IsRunLine job.seed job.size inst.now plain.now text
         × Written (K.taken out.old) (K.taken out.new) (K.faults out.old) (K.faults out.new) (encode_utf8_all text) 0 result.0) }
+    ensures write_fault_ends { (result.0 ≡ 5) ⊎ (K.faults out.new ≡ K.faults out.old) }
     ensures sink_faults { K.faults out.old ≤ K.faults out.new }
 {
     match run_line::<Families>(alloc, inst, plain, draws, job) {

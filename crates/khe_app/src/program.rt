@@ -1,9 +1,9 @@
-ghost use Rattle.std.specs.Prelude.{◌≡◌, ◌<◌, ◌≤◌, ◌⊎◌, ◌↔◌, ℕ, Bool, false, List, None, Some, map, IsTrue, IfOk, IfSome, IsErrOf, length, slice_get, string_bytes, encode_utf8_all};
+ghost use Rattle.std.specs.Prelude.{◌≡◌, ◌<◌, ◌≤◌, ◌⊎◌, ◌↔◌, ℕ, Bool, false, List, None, Some, map, IsTrue, IfOk, IfSome, IsErrOf, OnOk, length, slice_get, string_bytes, encode_utf8_all};
 ghost use Rattle.khe_base.specs.declared.limits.TheConstants.{ARCHIVE_BYTES};
-ghost use Rattle.khe_io.specs.Faults.{Rose};
+ghost use Rattle.khe_io.specs.Faults.{Rose, Took, TookFront};
 ghost use Rattle.khe_io.specs.Shelf.{IsMissing};
 ghost use Rattle.khe_app.specs.Answers.{reading_of, IsAnswerOf, IsOnlyAnswerOf, IsReadyAnswer, IsPlayAnswer, IsReadyPlay, IsScriptOf, IsTextOf, IsWith};
-ghost use Rattle.khe_app.specs.Ends.{EndedBy, CutOff, Holdings, LacksName, LacksOf, IsDecided, IsEnd, IsStatus, Written};
+ghost use Rattle.khe_app.specs.Ends.{EndedBy, CutOff, Holdings, LacksArchive, LacksName, LacksOf, IsDecided, IsEnd, IsStatus, Written};
 ghost use Rattle.khe_app.specs.Outcome.{IsReadingOf, status_of, text_of};
 ghost use Rattle.khe_app.specs.Refusals as refusals;
 ghost use Rattle.khe_app.specs.Words.{asked, evaluating, is_read, scripting};
@@ -133,15 +133,26 @@ pub fn khe<R: Threads + Sync, S: Shelf, K: Sink, G: Gate>(
     ensures no_reading { asked (map string_bytes words.now) ≡ None → ((result.0 ≡ 2) ⊎ (result.0 ≡ 5)) × (shelf.new ≡ shelf.old) }
     ensures not_understood { result.0 ≡ 2 → asked (map string_bytes words.now) ≡ None }
 
-    // Status 4 comes only by a fault of the shelf, and on a sound shelf exactly where nothing
-    // stands under a name whose reading is reached; nothing was written.
+    // Their line is the text also over a shelf that keeps its content to itself.
+    ensures line { result.0 ≡ 2 → Took (K.taken out.old) (K.taken out.new) (encode_utf8_all refusals.not_understood_line) }
+    ensures line_cut_off { asked (map string_bytes words.now) ≡ None → result.0 ≡ 5 → TookFront (K.taken out.old) (K.taken out.new) (encode_utf8_all refusals.not_understood_line) }
+
+    // Status 4 comes by a fault of the shelf and always where it counted one, so no call is made
+    // again after it. On a sound shelf it comes exactly where nothing stands under a name whose
+    // reading is reached; nothing was written.
     ensures read_fault { result.0 ≡ 4 → Rose (S.faults shelf.old) (S.faults shelf.new) }
+    ensures read_fault_ends { (result.0 ≡ 4) ⊎ (S.faults shelf.new ≡ S.faults shelf.old) }
     ensures nothing_written { result.0 ≡ 4 → K.taken out.new ≡ K.taken out.old }
     ensures missing { IsTrue (S.is_sound shelf.old) → result.0 ≡ 4 → LacksName (map string_bytes words.now) (S.holdings shelf.old) }
     ensures found { IsTrue (S.is_sound shelf.old) → LacksName (map string_bytes words.now) (S.holdings shelf.old) → (result.0 ≡ 4) ⊎ (result.0 ≡ 6) }
 
-    // Status 5 comes only by a fault of the sink, which took some first bytes of the text.
+    // Where it is the archive's name under which nothing stands, no other status comes.
+    ensures absent { IsTrue (S.is_sound shelf.old) → LacksArchive (map string_bytes words.now) (S.holdings shelf.old) → result.0 ≡ 4 }
+
+    // Status 5 comes by a fault of the sink and always where it counted one. The sink took some
+    // first bytes of the text.
     ensures write_fault { result.0 ≡ 5 → Rose (K.faults out.old) (K.faults out.new) }
+    ensures write_fault_ends { (result.0 ≡ 5) ⊎ (K.faults out.new ≡ K.faults out.old) }
     ensures cut_off { result.0 ≡ 5 → CutOff (map string_bytes words.now) (S.holdings shelf.old) (K.taken out.old) (K.taken out.new) }
 
     // Before status 6 the sink took nothing, or some first bytes of the text.
@@ -174,10 +185,15 @@ fn respond<R: Threads + Sync, S: Shelf, K: Sink, G: Gate>(
     ensures end { IsEnd (asked (map string_bytes words.now)) (S.holdings shelf.old) (S.is_sound shelf.old) (S.faults shelf.old) (S.faults shelf.new) (K.taken out.old) (K.taken out.new) (K.faults out.old) (K.faults out.new) result.0 }
     ensures no_reading { asked (map string_bytes words.now) ≡ None → ((result.0 ≡ 2) ⊎ (result.0 ≡ 5)) × (shelf.new ≡ shelf.old) }
     ensures not_understood { result.0 ≡ 2 → asked (map string_bytes words.now) ≡ None }
+    ensures line { result.0 ≡ 2 → Took (K.taken out.old) (K.taken out.new) (encode_utf8_all refusals.not_understood_line) }
+    ensures line_cut_off { asked (map string_bytes words.now) ≡ None → result.0 ≡ 5 → TookFront (K.taken out.old) (K.taken out.new) (encode_utf8_all refusals.not_understood_line) }
+    ensures absent { IsTrue (S.is_sound shelf.old) → LacksArchive (map string_bytes words.now) (S.holdings shelf.old) → result.0 ≡ 4 }
     ensures unread { is_read (asked (map string_bytes words.now)) ≡ false → shelf.new ≡ shelf.old }
     ensures holdings { S.holdings shelf.new ≡ S.holdings shelf.old }
+    ensures read_fault_ends { (result.0 ≡ 4) ⊎ (S.faults shelf.new ≡ S.faults shelf.old) }
     ensures shelf_faults { S.faults shelf.old ≤ S.faults shelf.new }
     ensures sound { IsTrue (S.is_sound shelf.old) → IsTrue (S.is_sound shelf.new) }
+    ensures write_fault_ends { (result.0 ≡ 5) ⊎ (K.faults out.new ≡ K.faults out.old) }
     ensures sink_faults { K.faults out.old ≤ K.faults out.new }
 {
     match request_of(words) {
@@ -226,6 +242,9 @@ fn respond<R: Threads + Sync, S: Shelf, K: Sink, G: Gate>(
 fn refuse_words<K: Sink>(out: &mut K) -> Status
     ensures end { (h : Holdings) (sound : Bool) (faults : ℕ) → IsEnd None h sound faults faults (K.taken out.old) (K.taken out.new) (K.faults out.old) (K.faults out.new) result.0 }
     ensures status { (result.0 ≡ 2) ⊎ (result.0 ≡ 5) }
+    ensures line { result.0 ≡ 2 → Took (K.taken out.old) (K.taken out.new) (encode_utf8_all refusals.not_understood_line) }
+    ensures line_cut_off { result.0 ≡ 5 → TookFront (K.taken out.old) (K.taken out.new) (encode_utf8_all refusals.not_understood_line) }
+    ensures write_fault_ends { (result.0 ≡ 5) ⊎ (K.faults out.new ≡ K.faults out.old) }
     ensures sink_faults { K.faults out.old ≤ K.faults out.new }
 {
     put(out, 2, not_understood())
@@ -260,9 +279,12 @@ fn evaluate<R: Threads + Sync, S: Shelf, K: Sink, G: Gate>(
     requires { (1 ≤ workers) × (workers ≤ 64) }
     ensures end { IsEnd (Some (evaluating name.now all)) (S.holdings shelf.old) (S.is_sound shelf.old) (S.faults shelf.old) (S.faults shelf.new) (K.taken out.old) (K.taken out.new) (K.faults out.old) (K.faults out.new) result.0 }
     ensures status { result.0 ≡ 2 → ⊥ }
+    ensures absent { IsTrue (S.is_sound shelf.old) → IsMissing (S.holdings shelf.old) name.now → result.0 ≡ 4 }
     ensures holdings { S.holdings shelf.new ≡ S.holdings shelf.old }
+    ensures read_fault_ends { (result.0 ≡ 4) ⊎ (S.faults shelf.new ≡ S.faults shelf.old) }
     ensures shelf_faults { S.faults shelf.old ≤ S.faults shelf.new }
     ensures sound { IsTrue (S.is_sound shelf.old) → IsTrue (S.is_sound shelf.new) }
+    ensures write_fault_ends { (result.0 ≡ 5) ⊎ (K.faults out.new ≡ K.faults out.old) }
     ensures sink_faults { K.faults out.old ≤ K.faults out.new }
 {
     match answer_to(alloc, shelf, name) {
@@ -284,9 +306,12 @@ fn run_script<S: Shelf, K: Sink>(
 ) -> Status
     ensures end { IsEnd (Some (scripting name.now number script.now)) (S.holdings shelf.old) (S.is_sound shelf.old) (S.faults shelf.old) (S.faults shelf.new) (K.taken out.old) (K.taken out.new) (K.faults out.old) (K.faults out.new) result.0 }
     ensures status { result.0 ≡ 2 → ⊥ }
+    ensures absent { IsTrue (S.is_sound shelf.old) → IsMissing (S.holdings shelf.old) name.now → result.0 ≡ 4 }
     ensures holdings { S.holdings shelf.new ≡ S.holdings shelf.old }
+    ensures read_fault_ends { (result.0 ≡ 4) ⊎ (S.faults shelf.new ≡ S.faults shelf.old) }
     ensures shelf_faults { S.faults shelf.old ≤ S.faults shelf.new }
     ensures sound { IsTrue (S.is_sound shelf.old) → IsTrue (S.is_sound shelf.new) }
+    ensures write_fault_ends { (result.0 ≡ 5) ⊎ (K.faults out.new ≡ K.faults out.old) }
     ensures sink_faults { K.faults out.old ≤ K.faults out.new }
 {
     match play_of(alloc, shelf, name, number, script) {
@@ -301,6 +326,7 @@ fn run_script<S: Shelf, K: Sink>(
 pub(crate) fn put<K: Sink>(out: &mut K, status: u8, bytes: &[u8]) -> Status
     ensures written { Written (K.taken out.old) (K.taken out.new) (K.faults out.old) (K.faults out.new) bytes.now status result.0 }
     ensures ample { (result.0 ≡ status) ⊎ (result.0 ≡ 5) }
+    ensures write_fault_ends { (result.0 ≡ 5) ⊎ (K.faults out.new ≡ K.faults out.old) }
     ensures sink_faults { K.faults out.old ≤ K.faults out.new }
 {
     match put_all(out, bytes) {
@@ -313,6 +339,7 @@ pub(crate) fn put<K: Sink>(out: &mut K, status: u8, bytes: &[u8]) -> Status
 pub(crate) fn put_refusal<K: Sink>(alloc: Global, out: &mut K, refusal: Refusal) -> Status
     requires { refusals.IsNamed refusal }
     ensures written { Written (K.taken out.old) (K.taken out.new) (K.faults out.old) (K.faults out.new) (encode_utf8_all (refusals.refusal_line refusal)) 3 result.0 }
+    ensures write_fault_ends { (result.0 ≡ 5) ⊎ (K.faults out.new ≡ K.faults out.old) }
     ensures sink_faults { K.faults out.old ≤ K.faults out.new }
 {
     match refusal_line(alloc, refusal) {
@@ -334,6 +361,7 @@ fn write<R: Threads + Sync, K: Sink, G: Gate>(
     requires ready { IsReadyAnswer answer.now }
     requires workers { (1 ≤ workers) × (workers ≤ 64) }
     ensures written { Written (K.taken out.old) (K.taken out.new) (K.faults out.old) (K.faults out.new) (encode_utf8_all (text_of all (reading_of answer.now))) (status_of (reading_of answer.now)) result.0 }
+    ensures write_fault_ends { (result.0 ≡ 5) ⊎ (K.faults out.new ≡ K.faults out.old) }
     ensures sink_faults { K.faults out.old ≤ K.faults out.new }
 {
     match answer {
@@ -362,6 +390,7 @@ fn write_play<K: Sink>(alloc: Global, out: &mut K, play: &Play) -> Status
     requires { IsReadyPlay play.now }
     ensures written { ((result.0 ≡ 6) × (K.taken out.new ≡ K.taken out.old)) ⊎ ((status : ℕ) × (text : List ℕ) × IsTextOf play.now status text
         × Written (K.taken out.old) (K.taken out.new) (K.faults out.old) (K.faults out.new) (encode_utf8_all text) status result.0) }
+    ensures write_fault_ends { (result.0 ≡ 5) ⊎ (K.faults out.new ≡ K.faults out.old) }
     ensures sink_faults { K.faults out.old ≤ K.faults out.new }
 {
     match play {
@@ -388,6 +417,8 @@ pub(crate) fn answer_to<S: Shelf>(alloc: Global, shelf: &mut S, name: &str) -> R
     ensures only { IfOk result (λ a. IfSome (S.holdings shelf.old) (λ under. IsOnlyAnswerOf (under name.now) a)) }
     ensures ready { IfOk result IsReadyAnswer }
     ensures fault { IsErrOf result Stop.ReadFault → Rose (S.faults shelf.old) (S.faults shelf.new) }
+    ensures faultless { OnOk result (S.faults shelf.new ≡ S.faults shelf.old) }
+    ensures faultless_starved { IsErrOf result Stop.NoMemory → S.faults shelf.new ≡ S.faults shelf.old }
     ensures missing { IsTrue (S.is_sound shelf.old) → (IsErrOf result Stop.ReadFault ↔ IsMissing (S.holdings shelf.old) name.now) }
     ensures unchanged { S.holdings shelf.new ≡ S.holdings shelf.old }
     ensures counted { S.faults shelf.old ≤ S.faults shelf.new }
@@ -428,7 +459,10 @@ fn play_of<S: Shelf>(
     ensures play { IfOk result (λ a. IfSome (S.holdings shelf.old) (λ under. IsPlayAnswer number (under name.now) (under script.now) a)) }
     ensures ready { IfOk result IsReadyPlay }
     ensures fault { IsErrOf result Stop.ReadFault → Rose (S.faults shelf.old) (S.faults shelf.new) }
+    ensures faultless { OnOk result (S.faults shelf.new ≡ S.faults shelf.old) }
+    ensures faultless_starved { IsErrOf result Stop.NoMemory → S.faults shelf.new ≡ S.faults shelf.old }
     ensures missing { IsTrue (S.is_sound shelf.old) → IsErrOf result Stop.ReadFault → LacksOf (Some (scripting name.now number script.now)) (S.holdings shelf.old) }
+    ensures absent { IsTrue (S.is_sound shelf.old) → IsMissing (S.holdings shelf.old) name.now → IsErrOf result Stop.ReadFault }
     ensures unchanged { S.holdings shelf.new ≡ S.holdings shelf.old }
     ensures counted { S.faults shelf.old ≤ S.faults shelf.new }
     ensures stays_sound { IsTrue (S.is_sound shelf.old) → IsTrue (S.is_sound shelf.new) }
@@ -453,6 +487,8 @@ fn script_under<S: Shelf>(
     ensures play { IfOk result (λ a. IfSome (S.holdings shelf.old) (λ under. IsScriptOf begun (under script.now) a)) }
     ensures held { IfOk result (IsWith begun) }
     ensures fault { IsErrOf result Stop.ReadFault → Rose (S.faults shelf.old) (S.faults shelf.new) }
+    ensures faultless { OnOk result (S.faults shelf.new ≡ S.faults shelf.old) }
+    ensures faultless_starved { IsErrOf result Stop.NoMemory → S.faults shelf.new ≡ S.faults shelf.old }
     ensures missing { IsTrue (S.is_sound shelf.old) → (IsErrOf result Stop.ReadFault ↔ IsMissing (S.holdings shelf.old) script.now) }
     ensures unchanged { S.holdings shelf.new ≡ S.holdings shelf.old }
     ensures counted { S.faults shelf.old ≤ S.faults shelf.new }

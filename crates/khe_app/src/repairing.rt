@@ -5,6 +5,7 @@ ghost use Rattle.khe_instance.specs.States.{IsTold, IsValid};
 ghost use Rattle.repair_run.specs.Repairs.{IsRepairText, repair_bytes};
 ghost use Rattle.repair_run.specs.Texts.{HasSpellable};
 ghost use Rattle.xhstt_shape.specs.WellFormed.{IsWellFormed};
+ghost use Rattle.khe_io.specs.Shelf.{IsMissing};
 ghost use Rattle.khe_app.specs.Answers.{reading_of, IsReadyAnswer};
 ghost use Rattle.khe_app.specs.Ends.{IsEnd, Written};
 ghost use Rattle.khe_app.specs.Outcome.{IsRepairIn, IsRepairOf, start_of};
@@ -39,9 +40,12 @@ pub(crate) fn repair<S: Shelf, K: Sink>(
     requires budget { 1 ≤ budget }
     ensures end { IsEnd (Some (repairing name.now number depth budget)) (S.holdings shelf.old) (S.is_sound shelf.old) (S.faults shelf.old) (S.faults shelf.new) (K.taken out.old) (K.taken out.new) (K.faults out.old) (K.faults out.new) result.0 }
     ensures status { result.0 ≡ 2 → ⊥ }
+    ensures absent { IsTrue (S.is_sound shelf.old) → IsMissing (S.holdings shelf.old) name.now → result.0 ≡ 4 }
     ensures holdings { S.holdings shelf.new ≡ S.holdings shelf.old }
+    ensures read_fault_ends { (result.0 ≡ 4) ⊎ (S.faults shelf.new ≡ S.faults shelf.old) }
     ensures shelf_faults { S.faults shelf.old ≤ S.faults shelf.new }
     ensures sound { IsTrue (S.is_sound shelf.old) → IsTrue (S.is_sound shelf.new) }
+    ensures write_fault_ends { (result.0 ≡ 5) ⊎ (K.faults out.new ≡ K.faults out.old) }
     ensures sink_faults { K.faults out.old ≤ K.faults out.new }
 {
     match answer_to(alloc, shelf, name) {
@@ -65,6 +69,7 @@ fn write_repair<K: Sink>(
     requires budget { 1 ≤ budget }
     ensures written { ((result.0 ≡ 6) × (K.taken out.new ≡ K.taken out.old)) ⊎ ((status : ℕ) × (text : List ℕ) × IsRepairIn number depth budget (reading_of answer) status text
         × Written (K.taken out.old) (K.taken out.new) (K.faults out.old) (K.faults out.new) (encode_utf8_all text) status result.0) }
+    ensures write_fault_ends { (result.0 ≡ 5) ⊎ (K.faults out.new ≡ K.faults out.old) }
     ensures sink_faults { K.faults out.old ≤ K.faults out.new }
 {
     match answer {
@@ -87,6 +92,7 @@ fn repair_in<K: Sink>(
     requires budget { 1 ≤ budget }
     ensures written { ((result.0 ≡ 6) × (K.taken out.new ≡ K.taken out.old)) ⊎ ((status : ℕ) × (text : List ℕ) × IsRepairOf read.old.archive number depth budget (start_of read.old.archive read.old.resolved number) status text
         × Written (K.taken out.old) (K.taken out.new) (K.faults out.old) (K.faults out.new) (encode_utf8_all text) status result.0) }
+    ensures write_fault_ends { (result.0 ≡ 5) ⊎ (K.faults out.new ≡ K.faults out.old) }
     ensures sink_faults { K.faults out.old ≤ K.faults out.new }
 {
     match begin(alloc, &read.archive, &read.resolved, number) {
@@ -126,6 +132,7 @@ fn put_repair<K: Sink>(
     requires budget { 1 ≤ budget }
     ensures written { ((result.0 ≡ 6) × (K.taken out.new ≡ K.taken out.old)) ⊎ ((text : List ℕ) × IsRepairText archive.old number inst.now plain.now depth budget text
         × Written (K.taken out.old) (K.taken out.new) (K.faults out.old) (K.faults out.new) (encode_utf8_all text) 0 result.0) }
+    ensures write_fault_ends { (result.0 ≡ 5) ⊎ (K.faults out.new ≡ K.faults out.old) }
     ensures sink_faults { K.faults out.old ≤ K.faults out.new }
 {
     inst.facts();
@@ -146,6 +153,7 @@ fn put_mended<K: Sink>(
 ) -> Status
     requires { IsTold inst.now mended.now.plain.meets mended.now.plain.tasks }
     ensures written { Written (K.taken out.old) (K.taken out.new) (K.faults out.old) (K.faults out.new) (repair_bytes archive.old number inst.now mended.now) 0 result.0 }
+    ensures write_fault_ends { (result.0 ≡ 5) ⊎ (K.faults out.new ≡ K.faults out.old) }
     ensures sink_faults { K.faults out.old ≤ K.faults out.new }
 {
     match send_repaired(alloc, archive, number, inst, mended, out) {

@@ -62,6 +62,8 @@ fn write_solution<K: Sink>(
     ensures amid { (before : Option (List ℕ)) (rest whole : List ℕ) → IsAmid before (K.taken out.old) text.old (spec.numbered_text all resolved.now group.now (number, solution.now) ++ rest) whole → OnOk result (IsAmid before (K.taken out.new) text.new rest whole) }
     ensures front { (before : Option (List ℕ)) (rest whole : List ℕ) → IsAmid before (K.taken out.old) text.old (spec.numbered_text all resolved.now group.now (number, solution.now) ++ rest) whole → OnErr result (TookFront before (K.taken out.new) (encode_utf8_all whole)) }
     ensures fault { IsErrOf result Cut.WriteFault → Rose (K.faults out.old) (K.faults out.new) }
+    ensures faultless { OnOk result (K.faults out.new ≡ K.faults out.old) }
+    ensures faultless_starved { IsErrOf result Cut.NoMemory → K.faults out.new ≡ K.faults out.old }
     ensures counted { K.faults out.old ≤ K.faults out.new }
 {
     push_numbered(alloc, text, resolved, number, group, outcome, solution, all)?;
@@ -95,6 +97,8 @@ fn write_group<R: Threads + Sync, K: Sink, G: Gate>(
     ensures amid { (before : Option (List ℕ)) (rest whole : List ℕ) → IsAmid before (K.taken out.old) text.old (spec.group_text job.now.all resolved.now first group.now ++ rest) whole → OnOk result (IsAmid before (K.taken out.new) text.new rest whole) }
     ensures front { (before : Option (List ℕ)) (rest whole : List ℕ) → IsAmid before (K.taken out.old) text.old (spec.group_text job.now.all resolved.now first group.now ++ rest) whole → OnErr result (TookFront before (K.taken out.new) (encode_utf8_all whole)) }
     ensures fault { IsErrOf result Cut.WriteFault → Rose (K.faults out.old) (K.faults out.new) }
+    ensures faultless { OnOk result (K.faults out.new ≡ K.faults out.old) }
+    ensures faultless_starved { IsErrOf result Cut.NoMemory → K.faults out.new ≡ K.faults out.old }
     ensures counted { K.faults out.old ≤ K.faults out.new }
 {
     let id = &group.id.text;
@@ -143,6 +147,8 @@ pub(crate) fn report<R: Threads + Sync, K: Sink, G: Gate>(
     ensures whole { OnOk result (Took (K.taken out.old) (K.taken out.new) (encode_utf8_all (spec.report all archive.now resolved.now))) }
     ensures front { OnErr result (TookFront (K.taken out.old) (K.taken out.new) (encode_utf8_all (spec.report all archive.now resolved.now))) }
     ensures fault { IsErrOf result Cut.WriteFault → Rose (K.faults out.old) (K.faults out.new) }
+    ensures faultless { OnOk result (K.faults out.new ≡ K.faults out.old) }
+    ensures faultless_starved { IsErrOf result Cut.NoMemory → K.faults out.new ≡ K.faults out.old }
     ensures counted { K.faults out.old ≤ K.faults out.new }
 {
     let raws = all_solutions(alloc, archive)?;

@@ -33,6 +33,7 @@ pub(crate) fn play_script<K: Sink>(
     requires small { length script.now ≤ SCRIPT_BYTES }
     ensures written { ((result.0 ≡ 6) × (K.taken out.new ≡ K.taken out.old)) ⊎ ((status : ℕ) × (text : List ℕ) × IsRunOf inst.now plain.now script.now status text
         × Written (K.taken out.old) (K.taken out.new) (K.faults out.old) (K.faults out.new) (encode_utf8_all text) status result.0) }
+    ensures write_fault_ends { (result.0 ≡ 5) ⊎ (K.faults out.new ≡ K.faults out.old) }
     ensures sink_faults { K.faults out.old ≤ K.faults out.new }
 {
     if asks_often(script) {
@@ -56,6 +57,7 @@ fn play_on<K: Sink, F: Shortages + Drop>(
     requires small { length script.now ≤ SCRIPT_BYTES }
     ensures written { ((result.0 ≡ 6) × (K.taken out.new ≡ K.taken out.old)) ⊎ ((status : ℕ) × (text : List ℕ) × IsRunOf inst.now plain.now script.now status text
         × Written (K.taken out.old) (K.taken out.new) (K.faults out.old) (K.faults out.new) (encode_utf8_all text) status result.0) }
+    ensures write_fault_ends { (result.0 ≡ 5) ⊎ (K.faults out.new ≡ K.faults out.old) }
     ensures sink_faults { K.faults out.old ≤ K.faults out.new }
 {
     match Engine::<F>::open(alloc, inst, plain) {

@@ -7,6 +7,7 @@ ghost use Rattle.repair_pool.specs.Solved.{IsSolved};
 ghost use Rattle.repair_run.specs.Solves.{IsSolveText, solve_bytes};
 ghost use Rattle.repair_run.specs.Texts.{HasSpellable};
 ghost use Rattle.xhstt_shape.specs.WellFormed.{IsWellFormed};
+ghost use Rattle.khe_io.specs.Shelf.{IsMissing};
 ghost use Rattle.khe_app.specs.Answers.{reading_of, IsBarredBy, IsReadyAnswer};
 ghost use Rattle.khe_app.specs.Ends.{IsEnd, Written};
 ghost use Rattle.khe_app.specs.Outcome.{IsSolveIn, IsSolveOf, Start, barred, start_of};
@@ -51,9 +52,12 @@ pub(crate) fn solve<R: Threads + Sync, S: Shelf, K: Sink, G: Gate>(
     requires workers { (1 ≤ workers) × (workers ≤ 64) }
     ensures end { IsEnd (Some (solving name.now number depth budget jobs)) (S.holdings shelf.old) (S.is_sound shelf.old) (S.faults shelf.old) (S.faults shelf.new) (K.taken out.old) (K.taken out.new) (K.faults out.old) (K.faults out.new) result.0 }
     ensures status { result.0 ≡ 2 → ⊥ }
+    ensures absent { IsTrue (S.is_sound shelf.old) → IsMissing (S.holdings shelf.old) name.now → result.0 ≡ 4 }
     ensures holdings { S.holdings shelf.new ≡ S.holdings shelf.old }
+    ensures read_fault_ends { (result.0 ≡ 4) ⊎ (S.faults shelf.new ≡ S.faults shelf.old) }
     ensures shelf_faults { S.faults shelf.old ≤ S.faults shelf.new }
     ensures sound { IsTrue (S.is_sound shelf.old) → IsTrue (S.is_sound shelf.new) }
+    ensures write_fault_ends { (result.0 ≡ 5) ⊎ (K.faults out.new ≡ K.faults out.old) }
     ensures sink_faults { K.faults out.old ≤ K.faults out.new }
 {
     match answer_to(alloc, shelf, name) {
@@ -85,6 +89,7 @@ fn write_solve<R: Threads + Sync, K: Sink, G: Gate>(
     requires workers { (1 ≤ workers) × (workers ≤ 64) }
     ensures written { ((result.0 ≡ 6) × (K.taken out.new ≡ K.taken out.old)) ⊎ ((status : ℕ) × (text : List ℕ) × IsSolveIn number depth budget jobs (reading_of answer) status text
         × Written (K.taken out.old) (K.taken out.new) (K.faults out.old) (K.faults out.new) (encode_utf8_all text) status result.0) }
+    ensures write_fault_ends { (result.0 ≡ 5) ⊎ (K.faults out.new ≡ K.faults out.old) }
     ensures sink_faults { K.faults out.old ≤ K.faults out.new }
 {
     match answer {
@@ -115,6 +120,7 @@ fn solve_in<R: Threads + Sync, K: Sink, G: Gate>(
     requires workers { (1 ≤ workers) × (workers ≤ 64) }
     ensures written { ((result.0 ≡ 6) × (K.taken out.new ≡ K.taken out.old)) ⊎ ((status : ℕ) × (text : List ℕ) × IsSolveOf read.old.archive number depth budget jobs (start_of read.old.archive read.old.resolved number) status text
         × Written (K.taken out.old) (K.taken out.new) (K.faults out.old) (K.faults out.new) (encode_utf8_all text) status result.0) }
+    ensures write_fault_ends { (result.0 ≡ 5) ⊎ (K.faults out.new ≡ K.faults out.old) }
     ensures sink_faults { K.faults out.old ≤ K.faults out.new }
 {
     match begin(alloc, &read.archive, &read.resolved, number) {
@@ -144,6 +150,7 @@ fn put_unread<K: Sink>(alloc: Global, out: &mut K, unread: Unread) -> Status
     requires { (s : Start) × IsBarredBy s unread }
     ensures written { (s : Start) → IsBarredBy s unread → ((result.0 ≡ 6) × (K.taken out.new ≡ K.taken out.old)) ⊎ ((why : Why) × (s ≡ barred why)
         × Written (K.taken out.old) (K.taken out.new) (K.faults out.old) (K.faults out.new) (encode_utf8_all (refusals.refusal_line why)) 3 result.0) }
+    ensures write_fault_ends { (result.0 ≡ 5) ⊎ (K.faults out.new ≡ K.faults out.old) }
     ensures sink_faults { K.faults out.old ≤ K.faults out.new }
 {
     match unread {
@@ -177,6 +184,7 @@ fn put_solve<R: Threads + Sync, K: Sink, G: Gate>(
     requires workers { (1 ≤ workers) × (workers ≤ 64) }
     ensures written { ((result.0 ≡ 6) × (K.taken out.new ≡ K.taken out.old)) ⊎ ((text : List ℕ) × IsSolveText archive.old number inst.now plain.now depth budget jobs text
         × Written (K.taken out.old) (K.taken out.new) (K.faults out.old) (K.faults out.new) (encode_utf8_all text) 0 result.0) }
+    ensures write_fault_ends { (result.0 ≡ 5) ⊎ (K.faults out.new ≡ K.faults out.old) }
     ensures sink_faults { K.faults out.old ≤ K.faults out.new }
 {
     inst.facts();
@@ -231,6 +239,7 @@ fn put_solved<K: Sink>(
 ) -> Status
     requires { IsTold inst.now solved.now.plain.meets solved.now.plain.tasks }
     ensures written { Written (K.taken out.old) (K.taken out.new) (K.faults out.old) (K.faults out.new) (solve_bytes archive.old number inst.now solved.now) 0 result.0 }
+    ensures write_fault_ends { (result.0 ≡ 5) ⊎ (K.faults out.new ≡ K.faults out.old) }
     ensures sink_faults { K.faults out.old ≤ K.faults out.new }
 {
     match send_solved(alloc, archive, number, inst, solved, out) {

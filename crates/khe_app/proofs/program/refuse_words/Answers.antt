@@ -1,8 +1,9 @@
 -- The line is the whole text.
-use Rattle.std.proofs.Common.{None, inl, inr, refl, subst}
+use Rattle.std.proofs.Common.{None, arith, encode_utf8_all, inl, inr, refl, subst}
+use Rattle.khe_io.specs.Faults.{Took, TookFront}
 use Rattle.khe_app.specs.Ends.{Written}
 use Rattle.khe_app.specs.Refusals.{not_understood_line}
-use Rattle.khe_app.proofs.EndsLemmas.{end_written, unread, unread-there}
+use Rattle.khe_app.proofs.EndsLemmas.{end_written, unread, unread-there, written_front, written_whole}
 use Rattle.khe_app.proofs.program.refuse_words.Goals as goal
 
 pub returns-clause-end : goal.returns-clause-end
@@ -14,3 +15,15 @@ returns-clause-end g c = λ h sound faults.
     (g.K.Sink.faults c.args.out.now) (g.K.Sink.faults c.put.new.out) bytes 2 c.put.result.0)
     c.not_understood.ensures c.put.ensures.written)
     (λ s l. unread-there h l)
+
+pub returns-clause-line : goal.returns-clause-line
+returns-clause-line g c two =
+    subst (λ bytes. Took (g.K.Sink.taken c.args.out.now) (g.K.Sink.taken c.put.new.out) bytes)
+    c.not_understood.ensures
+    (written_whole _ _ _ _ _ 2 c.put.result.0 c.put.ensures.written (omega arith) two)
+
+pub returns-clause-line_cut_off : goal.returns-clause-line_cut_off
+returns-clause-line_cut_off g c five =
+    subst (λ bytes. TookFront (g.K.Sink.taken c.args.out.now) (g.K.Sink.taken c.put.new.out) bytes)
+    c.not_understood.ensures
+    (written_front _ _ _ _ _ 2 c.put.result.0 c.put.ensures.written (omega arith) five)

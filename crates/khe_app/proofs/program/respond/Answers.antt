@@ -3,7 +3,7 @@ use Rattle.std.proofs.Common.{None, Some, map, string_bytes, ap, ◌∙◌, refl
 use Rattle.khe_app.specs.Requests.{asked_of}
 use Rattle.khe_app.specs.Words.{asked, making, running}
 use Rattle.khe_app.specs.declared.words.Request.{Request}
-use Rattle.khe_app.proofs.EndsLemmas.{by_words, not_unread}
+use Rattle.khe_app.proofs.EndsLemmas.{archive_lacked, by_words, no_archive, not_unread}
 use Rattle.khe_app.proofs.program.respond.Goals as goal
 
 pub returns-in-None-clause-end : goal.returns-in-None-clause-end
@@ -57,3 +57,53 @@ returns-in-Some-Repair-clause-unread g c = not_unread (asked (map string_bytes c
 pub returns-in-Some-Solve-clause-unread : goal.returns-in-Some-Solve-clause-unread
 returns-in-Some-Solve-clause-unread g c = not_unread (asked (map string_bytes c.args.words.now)) _
     (c.in-Some-Solve.ensures.asked ∙ ap (λ (r : Request). Some (asked_of r)) c.in-Some-Solve.field-0-is) refl
+
+pub returns-in-Some-Evaluate-clause-absent : goal.returns-in-Some-Evaluate-clause-absent
+returns-in-Some-Evaluate-clause-absent g c sound =
+    archive_lacked (map string_bytes c.args.words.now) _ c.in-Some-Evaluate.archive.now
+    (g.S.Shelf.holdings c.args.shelf.now) c.evaluate.result.0
+    (c.in-Some-Evaluate.ensures.asked ∙ ap (λ (r : Request). Some (asked_of r)) c.in-Some-Evaluate.field-0-is) refl
+    (c.evaluate.ensures.absent sound)
+
+pub returns-in-Some-Script-clause-absent : goal.returns-in-Some-Script-clause-absent
+returns-in-Some-Script-clause-absent g c sound =
+    archive_lacked (map string_bytes c.args.words.now) _ c.in-Some-Script.archive.now
+    (g.S.Shelf.holdings c.args.shelf.now) c.run_script.result.0
+    (c.in-Some-Script.ensures.asked ∙ ap (λ (r : Request). Some (asked_of r)) c.in-Some-Script.field-0-is) refl
+    (c.run_script.ensures.absent sound)
+
+pub returns-in-Some-Check-clause-absent : goal.returns-in-Some-Check-clause-absent
+returns-in-Some-Check-clause-absent g c sound =
+    archive_lacked (map string_bytes c.args.words.now) _ c.in-Some-Check.archive.now
+    (g.S.Shelf.holdings c.args.shelf.now) c.check.result.0
+    (c.in-Some-Check.ensures.asked ∙ ap (λ (r : Request). Some (asked_of r)) c.in-Some-Check.field-0-is) refl
+    (c.check.ensures.absent sound)
+
+pub returns-in-Some-Repair-clause-absent : goal.returns-in-Some-Repair-clause-absent
+returns-in-Some-Repair-clause-absent g c sound =
+    archive_lacked (map string_bytes c.args.words.now) _ c.in-Some-Repair.archive.now
+    (g.S.Shelf.holdings c.args.shelf.now) c.repair.result.0
+    (c.in-Some-Repair.ensures.asked ∙ ap (λ (r : Request). Some (asked_of r)) c.in-Some-Repair.field-0-is) refl
+    (c.repair.ensures.absent sound)
+
+pub returns-in-Some-Solve-clause-absent : goal.returns-in-Some-Solve-clause-absent
+returns-in-Some-Solve-clause-absent g c sound =
+    archive_lacked (map string_bytes c.args.words.now) _ c.in-Some-Solve.archive.now
+    (g.S.Shelf.holdings c.args.shelf.now) c.solve.result.0
+    (c.in-Some-Solve.ensures.asked ∙ ap (λ (r : Request). Some (asked_of r)) c.in-Some-Solve.field-0-is) refl
+    (c.solve.ensures.absent sound)
+
+pub returns-in-Some-Make-clause-absent : goal.returns-in-Some-Make-clause-absent
+returns-in-Some-Make-clause-absent g c sound =
+    no_archive (map string_bytes c.args.words.now) _ (g.S.Shelf.holdings c.args.shelf.now)
+    (c.in-Some-Make.ensures.asked ∙ ap (λ (r : Request). Some (asked_of r)) c.in-Some-Make.field-0-is) refl
+
+pub returns-in-Some-Run-clause-absent : goal.returns-in-Some-Run-clause-absent
+returns-in-Some-Run-clause-absent g c sound =
+    no_archive (map string_bytes c.args.words.now) _ (g.S.Shelf.holdings c.args.shelf.now)
+    (c.in-Some-Run.ensures.asked ∙ ap (λ (r : Request). Some (asked_of r)) c.in-Some-Run.field-0-is) refl
+
+pub returns-in-None-clause-absent : goal.returns-in-None-clause-absent
+returns-in-None-clause-absent g c sound =
+    no_archive (map string_bytes c.args.words.now) None (g.S.Shelf.holdings c.args.shelf.now) c.in-None.ensures.asked
+    refl

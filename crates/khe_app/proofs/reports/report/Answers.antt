@@ -55,7 +55,7 @@ loop-group-init g c =
       size = omega arith;
       ahead = c.new-ahead.ensures (outcome_at all r) (map (λ (y : Bor RawSolution). y.now) c.in_ok-raws.raws.items);
       small = omega (arith, ready.few);
-      counted = omega arith;
+      faultless = refl;
     }
 
 pub write_group-requires-clause-ones : goal.write_group-requires-clause-ones
@@ -119,7 +119,7 @@ loop-group-preserved g c =
       ones = subst (λ m. AreOnes r (n + m) later) (sym count)
           (ones-right r n x.solutions later (subst (AreOnes r n) sols c.loop-group.invariant.ones));
       small = omega (arith, c.loop-group.invariant.small, ap length sols, length-append x.solutions later, count);
-      counted = omega (arith, c.loop-group.invariant.counted, c.write_group.ensures.counted);
+      faultless = c.in_ok-write_group.ensures.faultless ∙ c.loop-group.invariant.faultless;
     }
 
 pub returns-clause-whole : goal.returns-clause-whole

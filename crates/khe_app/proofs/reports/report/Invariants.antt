@@ -1,5 +1,5 @@
 -- What was written and what waits, with the groups that are left, make up the report.
-use Rattle.std.proofs.Common.{map, ◌≡◌, ◌≤◌, ◌<◌, ◌+◌, ◌^◌, length, drop}
+use Rattle.std.proofs.Common.{map, ◌≡◌, ◌<◌, ◌+◌, ◌^◌, length, drop}
 use Rattle.std.specs.List.{flat_map}
 use Rattle.parallel_solve.specs.Ready.{AreOnes}
 use Rattle.parallel_solve.specs.Windows.{IsAhead}
@@ -19,5 +19,5 @@ invariant-loop-group g l =
       size : l.number + length (flat_map (λ x. x.solutions) left) ≡ length (solutions l.fn.archive);
       ahead : IsAhead (outcome_at l.fn.all l.fn.resolved) (map (λ x. x.now) l.raws.items) l.ahead;
       small : l.number + length (flat_map (λ x. x.solutions) left) < 2 ^ 32;
-      counted : g.K.Sink.faults l.fn.out ≤ g.K.Sink.faults l.out;
+      faultless : g.K.Sink.faults l.out ≡ g.K.Sink.faults l.fn.out;
     }

@@ -66,7 +66,7 @@ loop-k-preserved g c =
           subst (λ n. IsAmid before later c.write_solution.new.text
           (flat_map f (enumerate_from n (drop (k + 1) sols)) ++ rest) whole) on
           (c.in_ok-write_solution.ensures.amid before (tail ++ rest) whole split);
-      counted = omega (arith, c.loop-k.invariant.counted, c.write_solution.ensures.counted);
+      faultless = c.in_ok-write_solution.ensures.faultless ∙ c.loop-k.invariant.faultless;
     }
 
 pub write_solution-requires-clause-one : goal.write_solution-requires-clause-one

@@ -1,5 +1,5 @@
 -- What was written and what waits, with the solutions that are left, and the window.
-use Rattle.std.proofs.Common.{ℕ, ◌≤◌, ◌+◌, ◌++◌, List, Option, drop, map}
+use Rattle.std.proofs.Common.{ℕ, ◌≡◌, ◌+◌, ◌++◌, List, Option, drop, map}
 use Rattle.std.specs.List.{enumerate_from, flat_map}
 use Rattle.parallel_solve.specs.Windows.{IsAhead}
 use Rattle.script_run.specs.Amid.{IsAmid}
@@ -15,5 +15,5 @@ invariant-loop-k g l = record {
       → IsAmid before (g.K.Sink.taken l.out) l.text
       (flat_map (numbered_text l.fn.job.all l.fn.resolved l.fn.group.id.text)
       (enumerate_from (l.fn.first + l.k) (drop l.k l.fn.group.solutions)) ++ rest) whole;
-  counted : g.K.Sink.faults l.fn.out ≤ g.K.Sink.faults l.out;
+  faultless : g.K.Sink.faults l.out ≡ g.K.Sink.faults l.fn.out;
 }

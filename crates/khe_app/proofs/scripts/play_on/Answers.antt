@@ -1,6 +1,6 @@
 -- What a run on the engine that was opened wrote.
 use Rattle.std.proofs.Common.{inr}
-use Rattle.khe_app.proofs.ScriptEnds.{run_written}
+use Rattle.khe_app.proofs.ScriptEnds.{run_faultless, run_written}
 use Rattle.khe_app.proofs.scripts.play_on.Goals as goal
 
 pub returns-in-Ok-clause-written : goal.returns-in-Ok-clause-written
@@ -10,3 +10,8 @@ returns-in-Ok-clause-written g c =
     (g.K.Sink.faults c.run.new.out) c.status_after.result.0 c.in-Ok.ensures.parts c.in-Ok.ensures.state
     c.in-Ok.ensures.saved c.run.ensures.read c.run.ensures.whole c.run.ensures.front c.run.ensures.fault
     c.status_after.ensures)
+
+pub returns-in-Ok-clause-write_fault_ends : goal.returns-in-Ok-clause-write_fault_ends
+returns-in-Ok-clause-write_fault_ends g c =
+    run_faultless c.run.result (g.K.Sink.faults c.args.out.now) (g.K.Sink.faults c.run.new.out)
+    c.status_after.result.0 c.run.ensures.faultless c.run.ensures.faultless_starved c.status_after.ensures
