@@ -13,6 +13,8 @@ mod listed;
 #[cfg(test)]
 mod monitors;
 #[cfg(test)]
+mod sizes;
+#[cfg(test)]
 mod solutions;
 #[cfg(test)]
 mod sums;
