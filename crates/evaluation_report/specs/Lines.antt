@@ -1,5 +1,5 @@
 -- The lines of a report, as characters. Each ends with a line feed.
-use Rattle.std.specs.Prelude.{ℕ, Bool, true, false, List, [], ◌++◌, slice_get, codes}
+use Rattle.std.specs.Prelude.{ℕ, Bool, true, false, unwrap_or, List, [], ◌++◌, slice_get, codes}
 use Rattle.std.specs.Fmt.{decimal}
 use Rattle.std.specs.Option.{option_map_or}
 use Rattle.khe_base.specs.declared.sums.Totals.{Totals}
@@ -7,7 +7,8 @@ use Rattle.khe_instance.specs.declared.parts.Parts.{Parts}
 use Rattle.khe_instance.specs.declared.points.Monitor.{Monitor}
 use Rattle.khe_instance.specs.declared.rules.Constraint.{Constraint}
 use Rattle.evaluation_report.specs.Points.{point_text}
-use Rattle.evaluation_report.specs.Words.{quoted, kind_name, cause_name}
+use Rattle.evaluation_report.specs.Words.{quoted, kind_name}
+use Rattle.fault_tables.specs.Causes.{cause_name}
 
 -- the first line: how many instances and solutions the archive has
 abbrev pub header_line : ℕ → ℕ → List ℕ
@@ -57,9 +58,10 @@ monitor_line parts number deviation cost attached =
 abbrev pub total_line : Totals → List ℕ
 total_line t = codes "total hard " ++ decimal t.hard ++ codes " soft " ++ decimal t.soft ++ codes "\n"
 
--- why and at which entry a solution is invalid
+-- why and at which entry a solution is invalid: the cause's number, its name, and the entry
 abbrev pub cause_at : ℕ → ℕ → List ℕ
-cause_at cause entry = decimal cause ++ codes " " ++ cause_name cause ++ codes " entry " ++ decimal entry ++ codes "\n"
+cause_at cause entry =
+    decimal cause ++ codes " " ++ unwrap_or (cause_name cause) [] ++ codes " entry " ++ decimal entry ++ codes "\n"
 
 -- what an invalid solution has in place of monitors and a total
 abbrev pub invalid_line : ℕ → ℕ → List ℕ

@@ -1,5 +1,5 @@
--- Ids, the names of kinds and the names of causes, as the lines of a report write them.
-use Rattle.std.specs.Prelude.{ℕ, ◌≤◌, ◌==◌, List, [], ◌++◌, codes, if◌then◌else◌}
+-- Ids and the names of kinds, as the lines of a report write them.
+use Rattle.std.specs.Prelude.{ℕ, List, ◌++◌, codes}
 use Rattle.khe_instance.specs.declared.rules.Kind.{Kind}
 use Rattle.khe_instance.specs.declared.rules.Kind.TheVariants.{AssignTime, AssignResource, SplitEvents}
 use Rattle.khe_instance.specs.declared.rules.Kind.TheVariants.{DistributeSplitEvents, PreferTimes, PreferResources}
@@ -31,21 +31,3 @@ kind_name LimitIdleTimes = codes "LimitIdleTimes"
 kind_name ClusterBusyTimes = codes "ClusterBusyTimes"
 kind_name LimitBusyTimes = codes "LimitBusyTimes"
 kind_name LimitWorkload = codes "LimitWorkload"
-
--- the number of a cause for which a solution is invalid
-abbrev pub IsCause : ℕ → Type 0
-IsCause cause = (1 ≤ cause) × (cause ≤ 7)
-
--- its name: the durations of an event's entries exceed it, an event with a given start is split or
--- stands at another time, a meet ends after the last time, a resource has no place in the event, is
--- not the preassigned one, or has another type
-abbrev pub cause_name : ℕ → List ℕ
-cause_name cause =
-    if cause == 1 then codes "TooLong"
-    else if cause == 2 then codes "SplitFixed"
-    else if cause == 3 then codes "FixedTime"
-    else if cause == 4 then codes "OffEnd"
-    else if cause == 5 then codes "BadRole"
-    else if cause == 6 then codes "FixedResource"
-    else if cause == 7 then codes "WrongType"
-    else []

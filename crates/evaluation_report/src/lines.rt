@@ -1,9 +1,9 @@
 ghost use Rattle.std.specs.Prelude.{◌≡◌, ◌++◌, ◌<◌, length, OnOk, IfOk};
 ghost use Rattle.evaluation_report.specs.Lines.{header_line, solution_line, monitor_line, measured_line, monitor_head, monitor_tail, total_line, cause_at, invalid_line};
-ghost use Rattle.evaluation_report.specs.Words.{IsCause};
 
 use crate::points::push_point;
-use crate::words::{cause_name, kind_name, push_quoted};
+use crate::words::{kind_name, push_quoted};
+use fault_tables::cause_name;
 use khe_base::{MonitorId, NoMemory, Text, Totals};
 use khe_instance::{Constraint, Instance, Monitor};
 use std::alloc::Global;
@@ -149,7 +149,6 @@ pub fn total_line(alloc: Global, totals: Totals) -> Result<Text, NoMemory>
 ///
 /// Its only error is want of memory. It takes constant time and memory.
 pub fn invalid_line(alloc: Global, cause: u32, entry: u32) -> Result<Text, NoMemory>
-    requires { IsCause cause }
     ensures { IfOk result (λ t. t ≡ invalid_line cause entry) }
 {
     let mut line = Text::new(alloc);
@@ -162,12 +161,11 @@ pub fn invalid_line(alloc: Global, cause: u32, entry: u32) -> Result<Text, NoMem
 ///
 /// Its only error is want of memory. It takes constant time and memory.
 pub fn push_cause(line: &mut Text, cause: u32, entry: u32) -> Result<(), NoMemory>
-    requires { IsCause cause }
     ensures { OnOk result (line.new ≡ line.old ++ cause_at cause entry) }
 {
     line.push_number(u128::from(cause))?;
     line.push_literal(" ")?;
-    line.push_literal(cause_name(cause))?;
+    line.push_literal(cause_name(cause).unwrap_or(""))?;
     line.push_literal(" entry ")?;
     line.push_number(u128::from(entry))?;
     line.push_literal("\n")

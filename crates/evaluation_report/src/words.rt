@@ -1,6 +1,6 @@
 ghost use Rattle.std.specs.Prelude.{◌≡◌, ◌++◌, OnOk, IsTrue};
 ghost use Rattle.khe_base.specs.Text.{is_ascii};
-ghost use Rattle.evaluation_report.specs.Words.{quoted, kind_name, cause_name, IsCause};
+ghost use Rattle.evaluation_report.specs.Words.{quoted, kind_name};
 
 use khe_base::{NoMemory, Text};
 use khe_instance::Kind;
@@ -39,22 +39,5 @@ pub(crate) fn kind_name(kind: Kind) -> &'static str
         Kind::ClusterBusyTimes => "ClusterBusyTimes",
         Kind::LimitBusyTimes => "LimitBusyTimes",
         Kind::LimitWorkload => "LimitWorkload",
-    }
-}
-
-/// The name of the cause with this number.
-pub(crate) fn cause_name(cause: u32) -> &'static str
-    requires { IsCause cause }
-    ensures name { result.now ≡ cause_name cause }
-    ensures ascii { IsTrue (is_ascii result.now) }
-{
-    match cause {
-        1 => "TooLong",
-        2 => "SplitFixed",
-        3 => "FixedTime",
-        4 => "OffEnd",
-        5 => "BadRole",
-        6 => "FixedResource",
-        _ => "WrongType",
     }
 }

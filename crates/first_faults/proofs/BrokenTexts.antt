@@ -3,7 +3,7 @@ use Rattle.std.proofs.Common.{◌≡◌, ◌+◌, ℕ, Bool, List, length, take,
 use Rattle.std.proofs.lemmas.Bool.{both_ways}
 use Rattle.std.proofs.lemmas.Str.{is_utf8-from_IsUtf8}
 use Rattle.std.specs.Str.{IsUtf8, is_utf8}
-use Rattle.xhstt_text.specs.declared.faults.TheConstants.{NOT_UTF8}
+use Rattle.fault_tables.specs.declared.faults.TheConstants.{NOT_UTF8}
 use Rattle.first_faults.specs.Rows.{IsLeastFault}
 use Rattle.first_faults.proofs.FirstRow.{first_least}
 

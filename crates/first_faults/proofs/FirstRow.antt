@@ -4,8 +4,8 @@ use Rattle.std.specs.Str.{IsUtf8}
 use Rattle.xhstt_text.specs.Machine.{outcome_of}
 use Rattle.xhstt_text.specs.declared.faults.TextFault.{TextFault}
 use Rattle.xhstt_text.specs.declared.faults.TextFault.TheVariants.{Bad, NoMemory}
-use Rattle.xhstt_text.specs.declared.faults.TheConstants.{BAD_MARKUP, BAD_REFERENCE, MISMATCHED_END, NOT_UTF8}
-use Rattle.xhstt_text.specs.declared.faults.TheConstants.{TOO_DEEP, UNSUPPORTED}
+use Rattle.fault_tables.specs.declared.faults.TheConstants.{BAD_MARKUP, BAD_REFERENCE, MISMATCHED_END, NOT_UTF8}
+use Rattle.fault_tables.specs.declared.faults.TheConstants.{TOO_DEEP, UNSUPPORTED}
 use Rattle.xhstt_text.specs.FirstFault.{IsFirstFault}
 use Rattle.xhstt_text.proofs.Answer.{not_text, one_first, same_fault}
 use Rattle.first_faults.specs.Rows.{ComesBefore, IsBad, IsFaultAt, IsLeastFault, IsMarkupFault, IsUnsupported}

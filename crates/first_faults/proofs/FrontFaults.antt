@@ -1,7 +1,7 @@
 -- What some text begins with has no fault that lasts.
 use Rattle.std.proofs.Common.{◌≡◌, ℕ, List, [], ◌++◌, Ok, Err, sym, ◌∙◌, ap, inl, inr}
 use Rattle.xhstt_text.specs.declared.faults.TextFault.TheVariants.{Bad}
-use Rattle.xhstt_text.specs.declared.faults.TheConstants.{NOT_UTF8, BAD_MARKUP}
+use Rattle.fault_tables.specs.declared.faults.TheConstants.{NOT_UTF8, BAD_MARKUP}
 use Rattle.xhstt_text.specs.Document.{table}
 use Rattle.xhstt_text.specs.Machine.{beginning, outcome_of, Outcome}
 use Rattle.xhstt_text.specs.FirstFault.{IsFirstFault}

@@ -10,7 +10,7 @@ use Rattle.xhstt_text.specs.Machine.{start_name, attribute_name, shut, shut_begi
 use Rattle.xhstt_text.specs.Machine.{word, question, other_word, noted}
 use Rattle.xhstt_text.specs.Machine.{Frame, Phase, Read, State, Step, refused, state, step, step_content}
 use Rattle.xhstt_text.specs.Machine.{step_shut}
-use Rattle.xhstt_text.specs.declared.faults.TheConstants.{UNSUPPORTED}
+use Rattle.fault_tables.specs.declared.faults.TheConstants.{UNSUPPORTED}
 use Rattle.xhstt_text.proofs.Runs.{name_from_first, white_isnt_name}
 use Rattle.xhstt_text.proofs.Sound.{no}
 use Rattle.first_faults.specs.Fronts.{ColonAt, IsBegun}

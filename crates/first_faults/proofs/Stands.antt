@@ -14,7 +14,7 @@ use Rattle.xhstt_text.specs.Machine.{ended, ended_open, opened, start_name, attr
 use Rattle.xhstt_text.specs.Machine.{Outcome, state, step, finish, and_then, run, outcome_of, beginning}
 use Rattle.xhstt_text.specs.declared.faults.TextFault.{TextFault}
 use Rattle.xhstt_text.specs.declared.faults.TextFault.TheVariants.{Bad, NoMemory}
-use Rattle.xhstt_text.specs.declared.faults.TheConstants.{BAD_REFERENCE}
+use Rattle.fault_tables.specs.declared.faults.TheConstants.{BAD_REFERENCE}
 use Rattle.xhstt_text.proofs.Answer.{faulty, same_fault, same_parts}
 use Rattle.xhstt_text.proofs.Pieces.{run_named, run_decimals, run_hexadecimals}
 use Rattle.xhstt_text.proofs.Sound.{names_of}

@@ -12,7 +12,7 @@ use Rattle.xhstt_text.specs.Machine.{attribute_name, shut, shut_gap, Phase, Read
 use Rattle.xhstt_text.specs.Machine.{step, finish, and_then, run, Outcome, outcome_of}
 use Rattle.xhstt_text.specs.declared.faults.TextFault.{TextFault}
 use Rattle.xhstt_text.specs.declared.faults.TextFault.TheVariants.{Bad, NoMemory}
-use Rattle.xhstt_text.specs.declared.faults.TheConstants.{BAD_MARKUP}
+use Rattle.fault_tables.specs.declared.faults.TheConstants.{BAD_MARKUP}
 use Rattle.xhstt_text.proofs.Sound.{document_from}
 use Rattle.first_faults.specs.Fronts.{EndsEarly, IsBegun, StopsAt}
 use Rattle.first_faults.specs.Rows.{ComesBefore}

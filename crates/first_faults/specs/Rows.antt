@@ -1,8 +1,8 @@
 -- The faults of bytes, a row for each kind, and which of them is the first.
 use Rattle.std.specs.Prelude.{ℕ, List, ◌≡◌, ◌⊎◌, ◌≤◌}
 use Rattle.std.specs.Str.{IsUtf8, IsValidUpTo}
-use Rattle.xhstt_text.specs.declared.faults.TheConstants.{NOT_UTF8, BAD_MARKUP, MISMATCHED_END, BAD_REFERENCE}
-use Rattle.xhstt_text.specs.declared.faults.TheConstants.{UNSUPPORTED, TOO_DEEP}
+use Rattle.fault_tables.specs.declared.faults.TheConstants.{NOT_UTF8, BAD_MARKUP, MISMATCHED_END, BAD_REFERENCE}
+use Rattle.fault_tables.specs.declared.faults.TheConstants.{UNSUPPORTED, TOO_DEEP}
 use Rattle.first_faults.specs.Fronts.{StopsAt, EndsEarly, RepeatsName, MismatchesAt, MisrefersAt, DeepAt, ColonAt}
 use Rattle.first_faults.specs.Fronts.{InstructionAt, OtherMarkupAt}
 

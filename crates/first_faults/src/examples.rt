@@ -3,8 +3,8 @@
 
 ghost use Rattle.std.specs.Prelude.{[], ◌∷◌, ◌++◌, codes};
 ghost use Rattle.std.specs.List.{repeat};
-ghost use Rattle.xhstt_text.specs.declared.faults.TheConstants.{BAD_MARKUP, BAD_REFERENCE, MISMATCHED_END};
-ghost use Rattle.xhstt_text.specs.declared.faults.TheConstants.{NOT_UTF8, TOO_DEEP, UNSUPPORTED};
+ghost use Rattle.fault_tables.specs.declared.faults.TheConstants.{BAD_MARKUP, BAD_REFERENCE, MISMATCHED_END};
+ghost use Rattle.fault_tables.specs.declared.faults.TheConstants.{NOT_UTF8, TOO_DEEP, UNSUPPORTED};
 ghost use Rattle.first_faults.specs.Rows.{IsLeastFault};
 
 // A byte that begins no character, alone and after a reference that goes on.

@@ -4,7 +4,7 @@ ghost use Rattle.std.specs.Prelude.{ℕ, ◌≡◌, List};
 ghost use Rattle.xhstt_text.specs.Document.{Rows, Spelled, Spells};
 ghost use Rattle.xhstt_text.specs.FirstFault.{IsFirstFault};
 ghost use Rattle.xhstt_text.specs.Forest.{Forest};
-ghost use Rattle.xhstt_text.specs.declared.faults.TheConstants.{BAD_MARKUP, NOT_UTF8};
+ghost use Rattle.fault_tables.specs.declared.faults.TheConstants.{BAD_MARKUP, NOT_UTF8};
 ghost use Rattle.first_faults.specs.Fronts.{IsFront};
 ghost use Rattle.first_faults.specs.Rows.{IsLeastFault};
 

@@ -14,8 +14,8 @@ use Rattle.xhstt_completion.specs.Causes.{first_given_cause, cause_in, used_by, 
 use Rattle.xhstt_completion.specs.Completed.{completed, unless, state_of}
 use Rattle.xhstt_completion.specs.Entries.{resource_of}
 use Rattle.xhstt_completion.specs.declared.faults.Cause.{Cause}
-use Rattle.xhstt_completion.specs.declared.faults.TheConstants.{TOO_LONG, SPLIT_FIXED, FIXED_TIME, OFF_END, BAD_ROLE}
-use Rattle.xhstt_completion.specs.declared.faults.TheConstants.{FIXED_RESOURCE, WRONG_TYPE}
+use Rattle.fault_tables.specs.declared.causes.TheConstants.{TOO_LONG, SPLIT_FIXED, FIXED_TIME, OFF_END, BAD_ROLE}
+use Rattle.fault_tables.specs.declared.causes.TheConstants.{FIXED_RESOURCE, WRONG_TYPE}
 use Rattle.xhstt_shape.specs.declared.records.RawEntry.{RawEntry}
 use Rattle.xhstt_shape.specs.declared.records.RawGiven.{RawGiven}
 use Rattle.xhstt_shape.specs.declared.records.RawSolution.{RawSolution}

@@ -11,7 +11,7 @@ use Rattle.xhstt_shape.specs.Values.{archive, elements, every, instance, kids_of
 use Rattle.xhstt_shape.specs.Walk.{child, fault_of}
 use Rattle.xhstt_shape.specs.Words.{word}
 use Rattle.xhstt_shape.specs.declared.faults.ShapeFault.TheVariants.{Bad}
-use Rattle.xhstt_shape.specs.declared.faults.TheConstants.{UNKNOWN_ELEMENT}
+use Rattle.fault_tables.specs.declared.faults.TheConstants.{UNKNOWN_ELEMENT}
 use Rattle.xhstt_shape.specs.declared.records.Archive.{Archive}
 use Rattle.xhstt_shape.specs.declared.schema.Row.TheVariants as row
 use Rattle.xhstt_shape.specs.declared.words.Tag.{Tag}

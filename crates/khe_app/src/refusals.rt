@@ -1,8 +1,8 @@
-ghost use Rattle.std.specs.Prelude.{◌≡◌, ◌++◌, IfOk, OnOk, IsTrue, encode_utf8_all};
-ghost use Rattle.khe_base.specs.Text.{is_ascii};
+ghost use Rattle.std.specs.Prelude.{◌≡◌, ◌++◌, IfOk, OnOk, codes};
 ghost use Rattle.khe_app.specs.Refusals as spec;
 
 use evaluation_report::push_cause;
+use fault_tables::{INVALID, LIMIT, NO_SUCH_SOLUTION, TOO_LARGE, fault_name, limit_name};
 use khe_base::{NoMemory, Text};
 use std::alloc::Global;
 
@@ -24,7 +24,6 @@ pub enum Refusal {
 
 /// The line that refuses an archive.
 pub(crate) fn refusal_line(alloc: Global, refusal: Refusal) -> Result<Text, NoMemory>
-    requires { spec.IsNamed refusal }
     ensures { IfOk result (λ t. t ≡ spec.refusal_line refusal) }
 {
     let mut line = Text::new(alloc);
@@ -34,27 +33,42 @@ pub(crate) fn refusal_line(alloc: Global, refusal: Refusal) -> Result<Text, NoMe
 }
 
 fn push_refusal(line: &mut Text, refusal: Refusal) -> Result<(), NoMemory>
-    requires { spec.IsNamed refusal }
     ensures { OnOk result (line.new ≡ line.old ++ spec.refusal_words refusal) }
 {
     match refusal {
         Refusal::Fault { kind, at } => push_fault(line, kind, at),
         Refusal::Limit { which, value } => push_limit(line, which, value),
-        Refusal::TooLarge => line.push_literal("17 TooLarge\n"),
-        Refusal::NoSuchSolution => line.push_literal("18 NoSuchSolution\n"),
+        Refusal::TooLarge => push_alone(line, TOO_LARGE),
+        Refusal::NoSuchSolution => push_alone(line, NO_SUCH_SOLUTION),
         Refusal::Invalid { cause, entry } => {
-            line.push_literal("19 Invalid ")?;
+            push_kind(line, INVALID)?;
+            line.push_literal(" ")?;
             push_cause(line, cause, entry)
         }
     }
 }
 
-fn push_fault(line: &mut Text, kind: u32, at: u64) -> Result<(), NoMemory>
-    ensures { OnOk result (line.new ≡ line.old ++ spec.fault_words kind at) }
+/// Adds the number of a kind of fault and its name.
+fn push_kind(line: &mut Text, kind: u32) -> Result<(), NoMemory>
+    ensures { OnOk result (line.new ≡ line.old ++ spec.kind_words kind) }
 {
     line.push_number(u128::from(kind))?;
     line.push_literal(" ")?;
-    line.push_literal(kind_name(kind))?;
+    line.push_literal(fault_name(kind).unwrap_or(""))
+}
+
+/// Adds a kind of which no more is said.
+fn push_alone(line: &mut Text, kind: u32) -> Result<(), NoMemory>
+    ensures { OnOk result (line.new ≡ line.old ++ (spec.kind_words kind ++ codes "\n")) }
+{
+    push_kind(line, kind)?;
+    line.push_literal("\n")
+}
+
+fn push_fault(line: &mut Text, kind: u32, at: u64) -> Result<(), NoMemory>
+    ensures { OnOk result (line.new ≡ line.old ++ spec.fault_words kind at) }
+{
+    push_kind(line, kind)?;
     line.push_literal(" at ")?;
     line.push_number(u128::from(at))?;
     line.push_literal("\n")
@@ -63,58 +77,10 @@ fn push_fault(line: &mut Text, kind: u32, at: u64) -> Result<(), NoMemory>
 fn push_limit(line: &mut Text, which: u32, value: u128) -> Result<(), NoMemory>
     ensures { OnOk result (line.new ≡ line.old ++ spec.limit_words which value) }
 {
-    line.push_literal("16 Limit ")?;
-    line.push_literal(limit_name(which))?;
+    push_kind(line, LIMIT)?;
+    line.push_literal(" ")?;
+    line.push_literal(limit_name(which).unwrap_or(""))?;
     line.push_literal(" ")?;
     line.push_number(value)?;
     line.push_literal("\n")
-}
-
-/// The name of a kind of fault.
-fn kind_name(kind: u32) -> &'static str
-    ensures name { result.now ≡ spec.kind_name kind }
-    ensures ascii { IsTrue (is_ascii result.now) }
-{
-    match kind {
-        1 => "NotUtf8",
-        2 => "BadMarkup",
-        3 => "MismatchedEnd",
-        4 => "BadReference",
-        5 => "Unsupported",
-        6 => "TooDeep",
-        7 => "UnknownElement",
-        8 => "MissingChild",
-        9 => "RepeatedChild",
-        10 => "BadNumber",
-        11 => "BadWord",
-        12 => "DuplicateId",
-        13 => "UnknownReference",
-        14 => "DuplicateRole",
-        _ => "EventOffEnd",
-    }
-}
-
-/// The name of a limit.
-fn limit_name(which: u32) -> &'static str
-    ensures name { result.now ≡ spec.limit_name which }
-    ensures ascii { IsTrue (is_ascii result.now) }
-{
-    match which {
-        1 => "times",
-        2 => "time_groups",
-        3 => "resource_types",
-        4 => "resources",
-        5 => "resource_groups",
-        6 => "events",
-        7 => "event_groups",
-        8 => "constraints",
-        9 => "duration",
-        10 => "tasks",
-        11 => "cells",
-        12 => "listed",
-        13 => "monitors",
-        14 => "watches",
-        15 => "unit",
-        _ => "solutions",
-    }
 }

@@ -16,8 +16,8 @@ use Rattle.xhstt_resolve.specs.Parts.{event_of, fixed_time, parts_of, place_of, 
 use Rattle.xhstt_completion.specs.Causes.{came_before, cause_after, cause_in, differ_in_resource, differ_in_time}
 use Rattle.xhstt_completion.specs.Causes.{first_given_cause, given_cause, place_cause, used_by}
 use Rattle.xhstt_completion.specs.Entries.{duration_of, is_event}
-use Rattle.xhstt_completion.specs.declared.faults.TheConstants.{TOO_LONG, SPLIT_FIXED, FIXED_TIME, OFF_END, BAD_ROLE}
-use Rattle.xhstt_completion.specs.declared.faults.TheConstants.{FIXED_RESOURCE, WRONG_TYPE}
+use Rattle.fault_tables.specs.declared.causes.TheConstants.{TOO_LONG, SPLIT_FIXED, FIXED_TIME, OFF_END, BAD_ROLE}
+use Rattle.fault_tables.specs.declared.causes.TheConstants.{FIXED_RESOURCE, WRONG_TYPE}
 use Rattle.xhstt_completion.proofs.CausesLemmas.{cause_after-in, used_by-other, used_by-own}
 use Rattle.job_generator.specs.declared.drawing.DrawnEntry.{DrawnEntry}
 use Rattle.job_generator.specs.declared.drawing.DrawnEvent.{DrawnEvent}

@@ -8,8 +8,8 @@ use Rattle.xhstt_references.specs.Ids.{instance_ids}
 use Rattle.xhstt_references.specs.References.{repeated_ids, repeated_roles, unknown_references, events_off_end}
 use Rattle.xhstt_references.specs.References.{solutions_of, unknown_in_solutions, unknown_in_solution}
 use Rattle.xhstt_references.specs.declared.faults.ReferenceFault.{ReferenceFault}
-use Rattle.xhstt_references.specs.declared.faults.TheConstants.{DUPLICATE_ID, UNKNOWN_REFERENCE, DUPLICATE_ROLE}
-use Rattle.xhstt_references.specs.declared.faults.TheConstants.{EVENT_OFF_END}
+use Rattle.fault_tables.specs.declared.faults.TheConstants.{DUPLICATE_ID, UNKNOWN_REFERENCE, DUPLICATE_ROLE}
+use Rattle.fault_tables.specs.declared.faults.TheConstants.{EVENT_OFF_END}
 use Rattle.job_generator.specs.declared.drawing.DrawnEvent.{DrawnEvent}
 use Rattle.job_generator.specs.Job as job
 use Rattle.job_generator.specs.Made as made

@@ -1,8 +1,7 @@
 use crate::mutations;
+use fault_tables::{BAD_MARKUP, BAD_REFERENCE, MISMATCHED_END, NOT_UTF8, TOO_DEEP, UNSUPPORTED};
 use std::alloc::Global;
-use xhstt_text::{
-    BAD_MARKUP, BAD_REFERENCE, MISMATCHED_END, NOT_UTF8, TOO_DEEP, TextFault, UNSUPPORTED, elements,
-};
+use xhstt_text::{TextFault, elements};
 
 /// Texts that are refused, each with the kind and the place of its first fault.
 const REFUSED: &[(&[u8], u32, u64)] = &[

@@ -19,7 +19,7 @@ use Rattle.xhstt_completion.specs.Causes.{place_cause, given_cause, first_given_
 use Rattle.xhstt_completion.specs.Causes.{is_too_long, splits_fixed, moves_fixed, ends_late, cause_in, cause_after}
 use Rattle.xhstt_completion.specs.Causes.{first_cause, used_by}
 use Rattle.xhstt_completion.specs.Entries.{duration_of, entries_of, is_event, resource_of}
-use Rattle.xhstt_completion.specs.declared.faults.TheConstants.{BAD_ROLE, TOO_LONG, SPLIT_FIXED, FIXED_TIME, OFF_END}
+use Rattle.fault_tables.specs.declared.causes.TheConstants.{BAD_ROLE, TOO_LONG, SPLIT_FIXED, FIXED_TIME, OFF_END}
 use Rattle.xhstt_shape.specs.declared.records.RawEntry.{RawEntry}
 use Rattle.xhstt_shape.specs.declared.records.RawGiven.{RawGiven}
 

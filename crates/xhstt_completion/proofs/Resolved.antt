@@ -23,7 +23,7 @@ use Rattle.xhstt_references.specs.References.{unknown_in_solution, unknown_in_so
 use Rattle.xhstt_references.specs.Directories.{directory_of}
 use Rattle.xhstt_references.specs.Faults.{fault_of_solutions}
 use Rattle.xhstt_references.specs.declared.directories.Directory.{Directory}
-use Rattle.xhstt_references.specs.declared.faults.TheConstants.{UNKNOWN_REFERENCE}
+use Rattle.fault_tables.specs.declared.faults.TheConstants.{UNKNOWN_REFERENCE}
 use Rattle.xhstt_resolve.proofs.WellMadeFaults.{not-above}
 use Rattle.xhstt_resolve.proofs.WellMadeIds.{event-ids, resource-ids}
 use Rattle.xhstt_resolve.proofs.WellMadeLists.{known, among}
@@ -32,7 +32,7 @@ use Rattle.xhstt_resolve.specs.Limits.{above}
 use Rattle.xhstt_resolve.specs.Parts.{parts_of, events_from, resource_of}
 use Rattle.xhstt_resolve.specs.Resolved.{resolved, archive_fault, instances_of, solutions_fault}
 use Rattle.xhstt_resolve.specs.declared.faults.ResolveFault.{ResolveFault}
-use Rattle.xhstt_resolve.specs.declared.faults.TheConstants.{TOO_MANY_SOLUTIONS}
+use Rattle.fault_tables.specs.declared.limits.TheConstants.{TOO_MANY_SOLUTIONS}
 use Rattle.xhstt_resolve.specs.declared.resolving.Resolved.{Resolved}
 use Rattle.xhstt_shape.specs.WellFormed as formed
 use Rattle.xhstt_shape.specs.declared.records.Archive.{Archive}

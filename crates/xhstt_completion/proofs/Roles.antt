@@ -25,7 +25,7 @@ use Rattle.xhstt_completion.specs.Causes.{place_for, is_place_for, came_before, 
 use Rattle.xhstt_completion.specs.Causes.{place_cause, given_cause, first_given_cause}
 use Rattle.xhstt_completion.specs.Completed.{given_for, resource_at}
 use Rattle.xhstt_completion.specs.Entries.{resource_of, role_of}
-use Rattle.xhstt_completion.specs.declared.faults.TheConstants.{BAD_ROLE, FIXED_RESOURCE, WRONG_TYPE}
+use Rattle.fault_tables.specs.declared.causes.TheConstants.{BAD_ROLE, FIXED_RESOURCE, WRONG_TYPE}
 use Rattle.xhstt_completion.proofs.CausesLemmas.{unless-first}
 use Rattle.xhstt_completion.proofs.PartsLemmas.{element-there}
 use Rattle.xhstt_completion.proofs.Pieces.{found}

@@ -13,8 +13,8 @@ use Rattle.khe_instance.specs.declared.parts.Parts.{Parts}
 use Rattle.khe_instance.specs.declared.parts.Place.{Place}
 use Rattle.xhstt_completion.specs.Entries.{entries_of, duration_of, time_of, start_of, resource_of, role_of}
 use Rattle.xhstt_completion.specs.declared.faults.Cause.{Cause}
-use Rattle.xhstt_completion.specs.declared.faults.TheConstants.{TOO_LONG, SPLIT_FIXED, FIXED_TIME, OFF_END, BAD_ROLE}
-use Rattle.xhstt_completion.specs.declared.faults.TheConstants.{FIXED_RESOURCE, WRONG_TYPE}
+use Rattle.fault_tables.specs.declared.causes.TheConstants.{TOO_LONG, SPLIT_FIXED, FIXED_TIME, OFF_END, BAD_ROLE}
+use Rattle.fault_tables.specs.declared.causes.TheConstants.{FIXED_RESOURCE, WRONG_TYPE}
 use Rattle.xhstt_shape.specs.declared.records.RawEntry.{RawEntry}
 use Rattle.xhstt_shape.specs.declared.records.RawGiven.{RawGiven}
 

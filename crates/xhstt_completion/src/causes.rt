@@ -9,7 +9,7 @@ ghost use Rattle.xhstt_completion.specs.Causes.{is_too_long, splits_fixed, moves
 ghost use Rattle.xhstt_completion.specs.Entries.{resource_of, role_of, time_of};
 
 use crate::entries::{duration_of, is_given_for, start_of};
-use crate::faults::{
+use fault_tables::{
     BAD_ROLE, FIXED_RESOURCE, FIXED_TIME, OFF_END, SPLIT_FIXED, TOO_LONG, WRONG_TYPE,
 };
 use khe_base::{ResourceId, Text, TimeId};

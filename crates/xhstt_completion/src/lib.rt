@@ -14,7 +14,4 @@ mod lookups;
 mod states;
 
 pub use completion::{completed, numbered_solution, solution};
-pub use faults::{
-    BAD_ROLE, Cause, FIXED_RESOURCE, FIXED_TIME, OFF_END, SPLIT_FIXED, SolutionFault, TOO_LONG,
-    WRONG_TYPE,
-};
+pub use faults::{Cause, SolutionFault};

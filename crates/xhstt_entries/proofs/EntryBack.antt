@@ -27,7 +27,7 @@ use Rattle.xhstt_completion.specs.Causes.{cause_in, differ_in_time, ends_late, f
 use Rattle.xhstt_completion.specs.Causes.{moves_fixed, splits_fixed}
 use Rattle.xhstt_completion.specs.Completed.{task_of}
 use Rattle.xhstt_completion.specs.Entries.{start_of, time_of}
-use Rattle.xhstt_completion.specs.declared.faults.TheConstants.{TOO_LONG, SPLIT_FIXED, FIXED_TIME, OFF_END}
+use Rattle.fault_tables.specs.declared.causes.TheConstants.{TOO_LONG, SPLIT_FIXED, FIXED_TIME, OFF_END}
 use Rattle.xhstt_completion.proofs.WellMadeLemmas.{event-made}
 use Rattle.xhstt_shape.specs.declared.records.RawEntry.{RawEntry}
 use Rattle.xhstt_shape.specs.declared.records.RawGiven.{RawGiven}

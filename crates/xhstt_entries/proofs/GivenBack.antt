@@ -28,7 +28,7 @@ use Rattle.xhstt_completion.specs.Causes.{differ_in_resource, first_given_cause,
 use Rattle.xhstt_completion.specs.Causes.{is_place_for, place_cause, place_for}
 use Rattle.xhstt_completion.specs.Completed.{resource_at, task_of}
 use Rattle.xhstt_completion.specs.Entries.{resource_of, role_of}
-use Rattle.xhstt_completion.specs.declared.faults.TheConstants.{FIXED_RESOURCE, WRONG_TYPE}
+use Rattle.fault_tables.specs.declared.causes.TheConstants.{FIXED_RESOURCE, WRONG_TYPE}
 use Rattle.xhstt_completion.proofs.CausesLemmas.{given_cause-place}
 use Rattle.xhstt_completion.proofs.Roles.{find-by-role}
 use Rattle.xhstt_shape.specs.declared.records.RawGiven.{RawGiven}

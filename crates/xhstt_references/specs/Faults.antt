@@ -6,8 +6,8 @@ use Rattle.xhstt_references.specs.References.{repeated, repeated_ids, repeated_r
 use Rattle.xhstt_references.specs.References.{events_off_end, unknown_in_solutions}
 use Rattle.xhstt_references.specs.declared.faults.ReferenceFault.{ReferenceFault}
 use Rattle.xhstt_references.specs.declared.faults.ReferenceFault.TheVariants.{Bad, NoMemory}
-use Rattle.xhstt_references.specs.declared.faults.TheConstants.{DUPLICATE_ID, UNKNOWN_REFERENCE, DUPLICATE_ROLE}
-use Rattle.xhstt_references.specs.declared.faults.TheConstants.{EVENT_OFF_END}
+use Rattle.fault_tables.specs.declared.faults.TheConstants.{DUPLICATE_ID, UNKNOWN_REFERENCE, DUPLICATE_ROLE}
+use Rattle.fault_tables.specs.declared.faults.TheConstants.{EVENT_OFF_END}
 use Rattle.xhstt_shape.specs.declared.records.Archive.{Archive}
 use Rattle.xhstt_shape.specs.declared.records.RawInstance.{RawInstance}
 

@@ -9,13 +9,12 @@ ghost use Rattle.xhstt_references.specs.Ids.{instance_ids};
 ghost use Rattle.xhstt_references.specs.References as spec;
 
 use crate::directories::Directory;
-use crate::faults::{
-    DUPLICATE_ID, DUPLICATE_ROLE, EVENT_OFF_END, ReferenceFault, UNKNOWN_REFERENCE,
-};
+use crate::faults::ReferenceFault;
 use crate::first::First;
 use crate::looking_up::unknown_reference;
 use crate::numbering::{event_names, resource_names, time_names};
 use crate::repeats::{names_of, repeated_roles};
+use fault_tables::{DUPLICATE_ID, DUPLICATE_ROLE, EVENT_OFF_END, UNKNOWN_REFERENCE};
 use khe_base::{Names, NoMemory, Text, both};
 use std::alloc::Global;
 use xhstt_shape::{Archive, RawEvent, RawInstance, Ref};

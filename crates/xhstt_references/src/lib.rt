@@ -13,6 +13,6 @@ mod repeats;
 mod solutions;
 
 pub use directories::Directory;
-pub use faults::{DUPLICATE_ID, DUPLICATE_ROLE, EVENT_OFF_END, ReferenceFault, UNKNOWN_REFERENCE};
+pub use faults::ReferenceFault;
 pub use instances::{directory, instance_names};
 pub use solutions::instances_of_solutions;

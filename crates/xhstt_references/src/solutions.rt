@@ -9,9 +9,10 @@ ghost use Rattle.xhstt_references.specs.Ids.{instance_ids};
 ghost use Rattle.xhstt_references.specs.References as spec;
 
 use crate::directories::Directory;
-use crate::faults::{ReferenceFault, UNKNOWN_REFERENCE};
+use crate::faults::ReferenceFault;
 use crate::first::First;
 use crate::looking_up::note_unknown_in;
+use fault_tables::UNKNOWN_REFERENCE;
 use khe_base::{Names, NoMemory, Seq};
 use std::alloc::Global;
 use xhstt_shape::{Archive, RawSolution, SolutionGroup};

@@ -14,21 +14,21 @@ use Rattle.xhstt_references.specs.References.{repeated, repeated_ids, repeated_r
 use Rattle.xhstt_references.specs.References.{unknown_in_group, unknown_in_resource, unknown_in_event}
 use Rattle.xhstt_references.specs.References.{unknown_in_constraint, unknown_references, off_end, events_off_end}
 use Rattle.xhstt_references.specs.declared.faults.ReferenceFault.{ReferenceFault}
-use Rattle.xhstt_references.specs.declared.faults.TheConstants.{DUPLICATE_ID, UNKNOWN_REFERENCE, DUPLICATE_ROLE}
-use Rattle.xhstt_references.specs.declared.faults.TheConstants.{EVENT_OFF_END}
+use Rattle.fault_tables.specs.declared.faults.TheConstants.{DUPLICATE_ID, UNKNOWN_REFERENCE, DUPLICATE_ROLE}
+use Rattle.fault_tables.specs.declared.faults.TheConstants.{EVENT_OFF_END}
 use Rattle.xhstt_resolve.specs.Limits.{first_above, above, count_fault, total_duration, task_count, listed_groups}
 use Rattle.xhstt_resolve.specs.Limits.{watch_count, size_fault, monitor_fault, limit_fault}
 use Rattle.xhstt_resolve.specs.Points.{monitors_of}
 use Rattle.xhstt_resolve.specs.Units.{running_units}
 use Rattle.xhstt_resolve.specs.declared.faults.ResolveFault.{ResolveFault}
 use Rattle.xhstt_resolve.specs.declared.faults.ResolveFault.TheVariants.{Limit}
-use Rattle.xhstt_resolve.specs.declared.faults.TheConstants.{TOO_MANY_TIMES, TOO_MANY_TIME_GROUPS}
-use Rattle.xhstt_resolve.specs.declared.faults.TheConstants.{TOO_MANY_RESOURCE_TYPES, TOO_MANY_RESOURCES}
-use Rattle.xhstt_resolve.specs.declared.faults.TheConstants.{TOO_MANY_RESOURCE_GROUPS, TOO_MANY_EVENTS}
-use Rattle.xhstt_resolve.specs.declared.faults.TheConstants.{TOO_MANY_EVENT_GROUPS, TOO_MANY_CONSTRAINTS}
-use Rattle.xhstt_resolve.specs.declared.faults.TheConstants.{TOO_LONG_DURATION, TOO_MANY_TASKS, TOO_MANY_CELLS}
-use Rattle.xhstt_resolve.specs.declared.faults.TheConstants.{TOO_MANY_LISTED, TOO_MANY_MONITORS, TOO_MANY_WATCHES}
-use Rattle.xhstt_resolve.specs.declared.faults.TheConstants.{TOO_GREAT_UNIT}
+use Rattle.fault_tables.specs.declared.limits.TheConstants.{TOO_MANY_TIMES, TOO_MANY_TIME_GROUPS}
+use Rattle.fault_tables.specs.declared.limits.TheConstants.{TOO_MANY_RESOURCE_TYPES, TOO_MANY_RESOURCES}
+use Rattle.fault_tables.specs.declared.limits.TheConstants.{TOO_MANY_RESOURCE_GROUPS, TOO_MANY_EVENTS}
+use Rattle.fault_tables.specs.declared.limits.TheConstants.{TOO_MANY_EVENT_GROUPS, TOO_MANY_CONSTRAINTS}
+use Rattle.fault_tables.specs.declared.limits.TheConstants.{TOO_LONG_DURATION, TOO_MANY_TASKS, TOO_MANY_CELLS}
+use Rattle.fault_tables.specs.declared.limits.TheConstants.{TOO_MANY_LISTED, TOO_MANY_MONITORS, TOO_MANY_WATCHES}
+use Rattle.fault_tables.specs.declared.limits.TheConstants.{TOO_GREAT_UNIT}
 use Rattle.xhstt_shape.specs.declared.records.RawInstance.{RawInstance}
 use Rattle.xhstt_references.specs.Directories.{directory_of}
 

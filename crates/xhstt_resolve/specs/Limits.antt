@@ -16,13 +16,13 @@ use Rattle.xhstt_resolve.specs.Rules.{pairs_of}
 use Rattle.xhstt_resolve.specs.Units.{running_units}
 use Rattle.xhstt_resolve.specs.declared.faults.ResolveFault.{ResolveFault}
 use Rattle.xhstt_resolve.specs.declared.faults.ResolveFault.TheVariants.{Limit}
-use Rattle.xhstt_resolve.specs.declared.faults.TheConstants.{TOO_MANY_TIMES, TOO_MANY_TIME_GROUPS}
-use Rattle.xhstt_resolve.specs.declared.faults.TheConstants.{TOO_MANY_RESOURCE_TYPES, TOO_MANY_RESOURCES}
-use Rattle.xhstt_resolve.specs.declared.faults.TheConstants.{TOO_MANY_RESOURCE_GROUPS, TOO_MANY_EVENTS}
-use Rattle.xhstt_resolve.specs.declared.faults.TheConstants.{TOO_MANY_EVENT_GROUPS, TOO_MANY_CONSTRAINTS}
-use Rattle.xhstt_resolve.specs.declared.faults.TheConstants.{TOO_LONG_DURATION, TOO_MANY_TASKS, TOO_MANY_CELLS}
-use Rattle.xhstt_resolve.specs.declared.faults.TheConstants.{TOO_MANY_LISTED, TOO_MANY_MONITORS, TOO_MANY_WATCHES}
-use Rattle.xhstt_resolve.specs.declared.faults.TheConstants.{TOO_GREAT_UNIT}
+use Rattle.fault_tables.specs.declared.limits.TheConstants.{TOO_MANY_TIMES, TOO_MANY_TIME_GROUPS}
+use Rattle.fault_tables.specs.declared.limits.TheConstants.{TOO_MANY_RESOURCE_TYPES, TOO_MANY_RESOURCES}
+use Rattle.fault_tables.specs.declared.limits.TheConstants.{TOO_MANY_RESOURCE_GROUPS, TOO_MANY_EVENTS}
+use Rattle.fault_tables.specs.declared.limits.TheConstants.{TOO_MANY_EVENT_GROUPS, TOO_MANY_CONSTRAINTS}
+use Rattle.fault_tables.specs.declared.limits.TheConstants.{TOO_LONG_DURATION, TOO_MANY_TASKS, TOO_MANY_CELLS}
+use Rattle.fault_tables.specs.declared.limits.TheConstants.{TOO_MANY_LISTED, TOO_MANY_MONITORS, TOO_MANY_WATCHES}
+use Rattle.fault_tables.specs.declared.limits.TheConstants.{TOO_GREAT_UNIT}
 use Rattle.xhstt_shape.specs.declared.constraints.RawConstraint.{RawConstraint}
 use Rattle.xhstt_shape.specs.declared.constraints.RawRule.{RawRule}
 use Rattle.xhstt_shape.specs.declared.constraints.RawRule.TheVariants as ruled

@@ -3,10 +3,10 @@ ghost use Rattle.xhstt_resolve.specs.Counts.{first_fault_of};
 ghost use Rattle.xhstt_resolve.specs.Limits.{count_fault};
 ghost use Rattle.xhstt_resolve.specs.Tables.{HasKeptCounts};
 
-use crate::faults::{
-    ResolveFault, TOO_MANY_CONSTRAINTS, TOO_MANY_EVENT_GROUPS, TOO_MANY_EVENTS,
-    TOO_MANY_RESOURCE_GROUPS, TOO_MANY_RESOURCE_TYPES, TOO_MANY_RESOURCES, TOO_MANY_TIME_GROUPS,
-    TOO_MANY_TIMES,
+use crate::faults::ResolveFault;
+use fault_tables::{
+    TOO_MANY_CONSTRAINTS, TOO_MANY_EVENT_GROUPS, TOO_MANY_EVENTS, TOO_MANY_RESOURCE_GROUPS,
+    TOO_MANY_RESOURCE_TYPES, TOO_MANY_RESOURCES, TOO_MANY_TIME_GROUPS, TOO_MANY_TIMES,
 };
 use khe_base::limits;
 use xhstt_shape::RawInstance;

@@ -12,14 +12,15 @@ ghost use Rattle.xhstt_resolve.specs.WellFormed.{IsFormedInstance};
 use crate::building::parts_of;
 use crate::counting::monitor_count;
 use crate::counts::count_fault;
-use crate::faults::{
-    ResolveFault, TOO_GREAT_UNIT, TOO_LONG_DURATION, TOO_MANY_CELLS, TOO_MANY_LISTED,
-    TOO_MANY_MONITORS, TOO_MANY_TASKS, TOO_MANY_WATCHES,
-};
+use crate::faults::ResolveFault;
 use crate::sizes::{listed_above, task_count, total_duration};
 use crate::tables::{Lookup, lookup_of};
 use crate::units::unit_of;
 use crate::watching::watch_count;
+use fault_tables::{
+    TOO_GREAT_UNIT, TOO_LONG_DURATION, TOO_MANY_CELLS, TOO_MANY_LISTED, TOO_MANY_MONITORS,
+    TOO_MANY_TASKS, TOO_MANY_WATCHES,
+};
 use khe_base::limits;
 use khe_instance::Instance;
 use std::alloc::Global;

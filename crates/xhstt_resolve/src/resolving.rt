@@ -10,11 +10,12 @@ ghost use Rattle.xhstt_resolve.specs.Parts.{parts_of};
 ghost use Rattle.xhstt_resolve.specs.Resolved as spec;
 ghost use Rattle.xhstt_resolve.specs.WellFormed.{IsFormedInstance};
 ghost use Rattle.khe_base.specs.declared.limits.TheConstants.{SOLUTIONS};
-ghost use Rattle.xhstt_resolve.specs.declared.faults.TheConstants.{TOO_MANY_SOLUTIONS};
+ghost use Rattle.fault_tables.specs.declared.limits.TheConstants.{TOO_MANY_SOLUTIONS};
 ghost use Rattle.xhstt_shape.specs.WellFormed.{IsInForm};
 
-use crate::faults::{ResolveFault, TOO_MANY_SOLUTIONS};
+use crate::faults::ResolveFault;
 use crate::instances::{instance_of, within};
+use fault_tables::TOO_MANY_SOLUTIONS;
 use khe_base::{Names, NoMemory, Seq, beside, lends_to_threads, limits};
 use khe_instance::Instance;
 use std::alloc::Global;

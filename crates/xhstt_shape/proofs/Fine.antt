@@ -7,7 +7,7 @@ use Rattle.std.proofs.lemmas.List.Elements.{All-nil, All-cons}
 use Rattle.std.proofs.lemmas.Slice.Eq.{bytes_eq-Decides}
 use Rattle.xhstt_text.specs.Forest.{Info, Forest, empty, node}
 use Rattle.xhstt_text.specs.Handles.{Standing}
-use Rattle.xhstt_shape.specs.declared.faults.TheConstants.{MISSING_CHILD, REPEATED_CHILD, BAD_WORD}
+use Rattle.fault_tables.specs.declared.faults.TheConstants.{MISSING_CHILD, REPEATED_CHILD, BAD_WORD}
 use Rattle.xhstt_shape.specs.declared.faults.ShapeFault.TheVariants.{Bad}
 use Rattle.xhstt_shape.specs.declared.schema.Child.{Child}
 use Rattle.xhstt_shape.specs.declared.schema.Content.{Content}

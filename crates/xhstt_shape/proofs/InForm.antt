@@ -15,7 +15,7 @@ use Rattle.xhstt_text.specs.Bytes.{is_white}
 use Rattle.xhstt_text.specs.Unescape.{unescaped}
 use Rattle.xhstt_text.specs.Forest.{AttributeInfo, Info, Forest}
 use Rattle.xhstt_text.specs.Handles.{Standing}
-use Rattle.xhstt_shape.specs.declared.faults.TheConstants.{UNKNOWN_ELEMENT}
+use Rattle.fault_tables.specs.declared.faults.TheConstants.{UNKNOWN_ELEMENT}
 use Rattle.xhstt_shape.specs.declared.faults.ShapeFault.{ShapeFault}
 use Rattle.xhstt_shape.specs.declared.faults.ShapeFault.TheVariants.{Bad}
 use Rattle.xhstt_shape.specs.declared.records.Archive.{Archive}

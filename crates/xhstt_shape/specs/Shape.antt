@@ -5,7 +5,7 @@ use Rattle.xhstt_text.specs.Forest.{Forest, empty, node}
 use Rattle.xhstt_text.specs.FlatTable.{root_forest}
 use Rattle.xhstt_text.specs.Handles.{Standing}
 use Rattle.xhstt_text.specs.declared.tree.Tree.{Tree}
-use Rattle.xhstt_shape.specs.declared.faults.TheConstants.{UNKNOWN_ELEMENT, MISSING_CHILD}
+use Rattle.fault_tables.specs.declared.faults.TheConstants.{UNKNOWN_ELEMENT, MISSING_CHILD}
 use Rattle.xhstt_shape.specs.declared.faults.ShapeFault.{ShapeFault}
 use Rattle.xhstt_shape.specs.declared.faults.ShapeFault.TheVariants.{Bad}
 use Rattle.xhstt_shape.specs.declared.records.Archive.{Archive}

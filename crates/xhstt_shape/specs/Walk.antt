@@ -8,8 +8,8 @@ use Rattle.std.specs.List.{list_all, list_any}
 use Rattle.std.specs.Str.{bytes_eq}
 use Rattle.xhstt_text.specs.Forest.{AttributeInfo, Info, Forest, empty, node}
 use Rattle.xhstt_text.specs.Handles.{Standing}
-use Rattle.xhstt_shape.specs.declared.faults.TheConstants.{UNKNOWN_ELEMENT, MISSING_CHILD, REPEATED_CHILD, BAD_NUMBER}
-use Rattle.xhstt_shape.specs.declared.faults.TheConstants.{BAD_WORD}
+use Rattle.fault_tables.specs.declared.faults.TheConstants.{UNKNOWN_ELEMENT, MISSING_CHILD, REPEATED_CHILD, BAD_NUMBER}
+use Rattle.fault_tables.specs.declared.faults.TheConstants.{BAD_WORD}
 use Rattle.xhstt_shape.specs.declared.faults.ShapeFault.{ShapeFault}
 use Rattle.xhstt_shape.specs.declared.faults.ShapeFault.TheVariants.{Bad}
 use Rattle.xhstt_shape.specs.declared.schema.Child.{Child}

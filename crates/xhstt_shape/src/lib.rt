@@ -18,9 +18,7 @@ mod walk;
 mod words;
 
 pub use constraints::{RawApplies, RawConstraint, RawPair, RawRule, RawSpread};
-pub use faults::{
-    BAD_NUMBER, BAD_WORD, MISSING_CHILD, REPEATED_CHILD, ShapeFault, UNKNOWN_ELEMENT,
-};
+pub use faults::ShapeFault;
 pub use records::{
     Archive, EventGroup, GroupSort, MetaData, Name, RawEntry, RawEvent, RawEventResource, RawGiven,
     RawInstance, RawResource, RawSolution, Ref, ResourceGroup, ResourceType, SolutionGroup, Time,

@@ -8,11 +8,12 @@ ghost use Rattle.xhstt_shape.specs.Shape as spec;
 ghost use Rattle.xhstt_shape.specs.WellFormed.{IsInForm, IsWellFormed};
 
 use crate::building::Build;
-use crate::faults::{ShapeFault, UNKNOWN_ELEMENT};
+use crate::faults::ShapeFault;
 use crate::records::Archive;
 use crate::schema::Row;
 use crate::walk::look_at;
 use crate::words::Tag;
+use fault_tables::UNKNOWN_ELEMENT;
 use std::alloc::Global;
 use xhstt_text::{Element, Tree};
 

@@ -4,12 +4,11 @@ ghost use Rattle.xhstt_shape.specs.Schema.{children};
 ghost use Rattle.xhstt_shape.specs.Walk as spec;
 
 use crate::contents::{function_text, number_text, role_text, truth_text};
-use crate::faults::{
-    BAD_NUMBER, BAD_WORD, MISSING_CHILD, REPEATED_CHILD, ShapeFault, UNKNOWN_ELEMENT, unless,
-};
+use crate::faults::{ShapeFault, unless};
 use crate::finding::{attribute, child};
 use crate::schema::{Child, Content, Given, Mark, Row};
 use crate::words::{Label, Tag};
+use fault_tables::{BAD_NUMBER, BAD_WORD, MISSING_CHILD, REPEATED_CHILD, UNKNOWN_ELEMENT};
 use khe_base::{NoMemory, Seq};
 use std::alloc::Global;
 use xhstt_text::Element;

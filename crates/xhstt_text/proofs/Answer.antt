@@ -11,7 +11,7 @@ use Rattle.xhstt_text.specs.Reading.{Leads}
 use Rattle.std.specs.Str.{IsUtf8, IsValidUpTo}
 use Rattle.std.proofs.lemmas.Str.{utf8_valid_len-IsValidUpTo, utf8_valid_len-IsUtf8}
 use Rattle.xhstt_text.specs.FirstFault.{IsFirstFault, IsText, HasFault, HasLastingFaults}
-use Rattle.xhstt_text.specs.declared.faults.TheConstants.{NOT_UTF8}
+use Rattle.fault_tables.specs.declared.faults.TheConstants.{NOT_UTF8}
 use Rattle.xhstt_text.proofs.Complete.{run_document}
 use Rattle.xhstt_text.proofs.Sound.{document_from}
 use Rattle.xhstt_text.proofs.Lasting.{lasts}

@@ -1,7 +1,7 @@
 -- A fault other than bad markup stays the first, whatever bytes follow.
 use Rattle.std.proofs.Common.{◌≡◌, ℕ, ◌+◌, Bool, true, false, cond, List, [], ◌∷◌, ◌++◌, Ok, Err}
 use Rattle.xhstt_text.specs.declared.faults.TextFault.TheVariants.{Bad}
-use Rattle.xhstt_text.specs.declared.faults.TheConstants.{BAD_MARKUP}
+use Rattle.fault_tables.specs.declared.faults.TheConstants.{BAD_MARKUP}
 use Rattle.xhstt_text.specs.Document.{has_name}
 use Rattle.xhstt_text.specs.Machine.{ended, other_word, attribute_name, Phase, Read, State, Step, Outcome, step, finish}
 use Rattle.xhstt_text.specs.Machine.{and_then, run}

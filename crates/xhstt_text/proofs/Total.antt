@@ -5,7 +5,7 @@ use Rattle.xhstt_text.specs.declared.faults.TextFault.{TextFault}
 use Rattle.xhstt_text.specs.declared.faults.TextFault.TheVariants.{Bad, NoMemory}
 use Rattle.xhstt_text.specs.Document.{Document, IsDocument, spelling, has_name}
 use Rattle.std.specs.Str.{bytes_eq}
-use Rattle.xhstt_text.specs.declared.faults.TheConstants.{BAD_MARKUP, UNSUPPORTED}
+use Rattle.fault_tables.specs.declared.faults.TheConstants.{BAD_MARKUP, UNSUPPORTED}
 use Rattle.xhstt_text.specs.Bytes.{is_white, is_first, is_name, is_text, is_quote, is_quoted}
 use Rattle.xhstt_text.specs.Units.{is_decimal, is_hexadecimal, is_last}
 use Rattle.xhstt_text.specs.Faults.{no_comment, no_tag}

@@ -2,8 +2,8 @@
 use Rattle.std.specs.Prelude.{ℕ, ◌==◌, if◌then◌else◌, List, [], ◌∷◌}
 use Rattle.xhstt_text.specs.declared.faults.TextFault.{TextFault}
 use Rattle.xhstt_text.specs.declared.faults.TextFault.TheVariants.{Bad}
-use Rattle.xhstt_text.specs.declared.faults.TheConstants.{BAD_MARKUP, MISMATCHED_END, BAD_REFERENCE, UNSUPPORTED}
-use Rattle.xhstt_text.specs.declared.faults.TheConstants.{TOO_DEEP}
+use Rattle.fault_tables.specs.declared.faults.TheConstants.{BAD_MARKUP, MISMATCHED_END, BAD_REFERENCE, UNSUPPORTED}
+use Rattle.fault_tables.specs.declared.faults.TheConstants.{TOO_DEEP}
 
 -- the byte at this place cannot go on, or the bytes end there too early
 abbrev pub bad_markup : ℕ → TextFault

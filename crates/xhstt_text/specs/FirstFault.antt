@@ -4,7 +4,7 @@ use Rattle.std.specs.Str.{IsUtf8, IsValidUpTo}
 use Rattle.xhstt_text.specs.Document.{Document, IsSpellingOf}
 use Rattle.xhstt_text.specs.Machine.{outcome_of}
 use Rattle.xhstt_text.specs.declared.faults.TextFault.TheVariants.{Bad}
-use Rattle.xhstt_text.specs.declared.faults.TheConstants.{NOT_UTF8, BAD_MARKUP}
+use Rattle.fault_tables.specs.declared.faults.TheConstants.{NOT_UTF8, BAD_MARKUP}
 
 -- the bytes have a fault, and this is the kind and the place of the first: the place of the first byte
 -- that is no part of a well-formed character, wherever it stands; where all are UTF-8, the fault that

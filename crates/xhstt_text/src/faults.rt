@@ -1,31 +1,10 @@
 ghost use Rattle.std.specs.Prelude.{◌≡◌};
 ghost use Rattle.xhstt_text.specs.Faults as spec;
 
+use fault_tables::{BAD_MARKUP, BAD_REFERENCE, MISMATCHED_END, TOO_DEEP, UNSUPPORTED};
 use khe_base::NoMemory;
 use std::alloc::AllocFailed;
 use thiserror::Error;
-
-/// Bytes that are not UTF-8, at the first byte that is no part of a well-formed character.
-pub const NOT_UTF8: u32 = 1;
-
-/// A byte that cannot continue the text at its place, or bytes that end too early, at their length; or
-/// the second of two equal attribute names of one element, at its first byte.
-pub const BAD_MARKUP: u32 = 2;
-
-/// A whole end tag that has another name than the innermost open element, at its `<`.
-pub const MISMATCHED_END: u32 = 3;
-
-/// An `&` in content or in a value from which the bytes spell no reference, at the `&`. Where all bytes
-/// from it on are the beginning of one, or the whole of one that gives no character, the fault is
-/// `BAD_MARKUP` at the length.
-pub const BAD_REFERENCE: u32 = 4;
-
-/// `<!DOCTYPE`, `<![CDATA[`, or `<?` after the place of the declaration, at the `<`; or a `:` straight
-/// after a name, at the `:`.
-pub const UNSUPPORTED: u32 = 5;
-
-/// An element inside 32 open elements, at its `<`.
-pub const TOO_DEEP: u32 = 6;
 
 /// Why bytes are not read as a tree of elements.
 #[derive(Clone, Copy, Debug, PartialEq, Eq, Error)]

@@ -19,9 +19,7 @@ mod unescaping;
 
 pub use attributes::{AttributeText, Attributes};
 pub use escaping::escape;
-pub use faults::{
-    BAD_MARKUP, BAD_REFERENCE, MISMATCHED_END, NOT_UTF8, TOO_DEEP, TextFault, UNSUPPORTED,
-};
+pub use faults::TextFault;
 pub use handles::{Children, Element};
 pub use reader::elements;
 pub use tree::{Attribute, Node, Span, Tree};

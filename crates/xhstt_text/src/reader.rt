@@ -11,11 +11,11 @@ ghost use Rattle.xhstt_text.specs.declared.faults.TextFault.TheVariants.{Bad, No
 use crate::TextFault;
 use crate::comments::space;
 use crate::cursor::Cursor;
-use crate::faults::NOT_UTF8;
 use crate::prolog::prolog;
 use crate::table::Table;
 use crate::tags::{next_tag, root, trailing};
 use crate::tree::Tree;
+use fault_tables::NOT_UTF8;
 use khe_base::Seq;
 use std::alloc::Global;
 

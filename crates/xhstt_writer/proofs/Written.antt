@@ -2,7 +2,7 @@
 use Rattle.std.proofs.Common.{◌≡◌, if◌then◌else◌, Ok, Err, sym, ap, ◌∙◌, arith}
 use Rattle.std.specs.Str.{bytes_eq}
 use Rattle.xhstt_text.specs.Handles.{Standing}
-use Rattle.xhstt_shape.specs.declared.faults.TheConstants.{UNKNOWN_ELEMENT}
+use Rattle.fault_tables.specs.declared.faults.TheConstants.{UNKNOWN_ELEMENT}
 use Rattle.xhstt_shape.specs.declared.faults.ShapeFault.TheVariants.{Bad}
 use Rattle.xhstt_shape.specs.declared.records.Archive.{Archive}
 use Rattle.xhstt_shape.specs.declared.schema.Row.TheVariants as row_of

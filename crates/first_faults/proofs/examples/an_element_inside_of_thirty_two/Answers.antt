@@ -1,6 +1,6 @@
 use Rattle.std.proofs.Common.{codes, refl}
 use Rattle.std.specs.List.{repeat}
-use Rattle.xhstt_text.specs.declared.faults.TheConstants.{TOO_DEEP}
+use Rattle.fault_tables.specs.declared.faults.TheConstants.{TOO_DEEP}
 use Rattle.first_faults.proofs.AsciiTexts.{by_machine}
 use Rattle.first_faults.proofs.examples.an_element_inside_of_thirty_two.Goals as goal
 

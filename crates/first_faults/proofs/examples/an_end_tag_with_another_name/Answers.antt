@@ -1,5 +1,5 @@
 use Rattle.std.proofs.Common.{codes, refl}
-use Rattle.xhstt_text.specs.declared.faults.TheConstants.{MISMATCHED_END}
+use Rattle.fault_tables.specs.declared.faults.TheConstants.{MISMATCHED_END}
 use Rattle.first_faults.proofs.AsciiTexts.{by_machine}
 use Rattle.first_faults.proofs.examples.an_end_tag_with_another_name.Goals as goal
 

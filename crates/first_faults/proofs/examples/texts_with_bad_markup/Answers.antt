@@ -1,6 +1,6 @@
 use Rattle.std.proofs.Common.{[], codes, refl}
 use Rattle.std.specs.List.{repeat}
-use Rattle.xhstt_text.specs.declared.faults.TheConstants.{BAD_MARKUP}
+use Rattle.fault_tables.specs.declared.faults.TheConstants.{BAD_MARKUP}
 use Rattle.first_faults.proofs.AsciiTexts.{by_machine}
 use Rattle.first_faults.proofs.examples.texts_with_bad_markup.Goals as goal
 

@@ -1,5 +1,5 @@
 use Rattle.std.proofs.Common.{codes, refl}
-use Rattle.xhstt_text.specs.declared.faults.TheConstants.{BAD_REFERENCE}
+use Rattle.fault_tables.specs.declared.faults.TheConstants.{BAD_REFERENCE}
 use Rattle.first_faults.proofs.AsciiTexts.{by_machine}
 use Rattle.first_faults.proofs.examples.texts_with_bad_references.Goals as goal
 

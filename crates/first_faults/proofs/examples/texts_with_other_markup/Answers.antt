@@ -1,5 +1,5 @@
 use Rattle.std.proofs.Common.{codes, refl}
-use Rattle.xhstt_text.specs.declared.faults.TheConstants.{UNSUPPORTED}
+use Rattle.fault_tables.specs.declared.faults.TheConstants.{UNSUPPORTED}
 use Rattle.first_faults.proofs.AsciiTexts.{by_machine}
 use Rattle.first_faults.proofs.examples.texts_with_other_markup.Goals as goal
 

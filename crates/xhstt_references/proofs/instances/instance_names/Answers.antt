@@ -3,7 +3,7 @@ use Rattle.std.proofs.Common.{◌≡◌, ◌∙◌, ap, map, None, []}
 use Rattle.xhstt_references.specs.Faults.{at_first}
 use Rattle.xhstt_references.specs.First.{first_of}
 use Rattle.xhstt_references.specs.References.{repeated}
-use Rattle.xhstt_references.specs.declared.faults.TheConstants.{DUPLICATE_ID}
+use Rattle.fault_tables.specs.declared.faults.TheConstants.{DUPLICATE_ID}
 use Rattle.xhstt_references.proofs.RepeatsLemmas.{ids_along, noted_along}
 use Rattle.xhstt_references.proofs.ToldLemmas.{passed, passed_on, refused, told_later}
 use Rattle.xhstt_references.proofs.instances.instance_names.Goals as goal

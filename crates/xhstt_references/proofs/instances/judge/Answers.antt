@@ -6,8 +6,8 @@ use Rattle.xhstt_references.specs.First.{first_of}
 use Rattle.xhstt_references.specs.References.{repeated, repeated_ids, repeated_roles, roles_of, unknown_in}
 use Rattle.xhstt_references.specs.References.{unknown_references, off_end, events_off_end}
 use Rattle.xhstt_references.specs.declared.faults.ReferenceFault.TheVariants.{NoMemory}
-use Rattle.xhstt_references.specs.declared.faults.TheConstants.{DUPLICATE_ID, UNKNOWN_REFERENCE, DUPLICATE_ROLE}
-use Rattle.xhstt_references.specs.declared.faults.TheConstants.{EVENT_OFF_END}
+use Rattle.fault_tables.specs.declared.faults.TheConstants.{DUPLICATE_ID, UNKNOWN_REFERENCE, DUPLICATE_ROLE}
+use Rattle.fault_tables.specs.declared.faults.TheConstants.{EVENT_OFF_END}
 use Rattle.xhstt_references.proofs.ToldLemmas.{passed, passed_on, refused, told_later}
 use Rattle.xhstt_references.proofs.instances.judge.Goals as goal
 

@@ -9,7 +9,7 @@ use Rattle.xhstt_references.specs.First.{first_of}
 use Rattle.xhstt_references.specs.Ids.{instance_ids}
 use Rattle.xhstt_references.specs.References.{unknown_in_solution, unknown_in_solutions, solutions_of}
 use Rattle.xhstt_references.specs.declared.directories.Directory.{Directory}
-use Rattle.xhstt_references.specs.declared.faults.TheConstants.{UNKNOWN_REFERENCE}
+use Rattle.fault_tables.specs.declared.faults.TheConstants.{UNKNOWN_REFERENCE}
 use Rattle.xhstt_shape.specs.declared.records.Archive.{Archive}
 use Rattle.xhstt_references.proofs.SolutionsLemmas.{groups_numbers_step, groups_numbers_end, groups_places_step}
 use Rattle.xhstt_references.proofs.SolutionsLemmas.{groups_places_end}

@@ -1,5 +1,5 @@
 use Rattle.std.proofs.Common.{refl, sym, subst, inl, inr}
-use Rattle.xhstt_text.specs.declared.faults.TheConstants.{NOT_UTF8}
+use Rattle.fault_tables.specs.declared.faults.TheConstants.{NOT_UTF8}
 use Rattle.std.specs.Str.{IsValidUpTo}
 use Rattle.xhstt_text.proofs.Answer.{spelled, alone, unspelled, first_fault, fault_answered, utf8_answered, utf8_fault}
 use Rattle.xhstt_text.proofs.Answer.{one_first, decides, lasting}
