@@ -39,6 +39,8 @@ fn limits_are_numbered()
 fn causes_are_numbered()
     ensures none { cause_name 0 ≡ None }
     ensures first { cause_name 1 ≡ Some (codes "TooLong") }
+    ensures time { cause_name 3 ≡ Some (codes "FixedTime") }
+    ensures end { cause_name 4 ≡ Some (codes "OffEnd") }
     ensures last { cause_name 7 ≡ Some (codes "WrongType") }
     ensures beyond { cause_name 8 ≡ None }
 {}

@@ -1,4 +1,3 @@
-pub mod CauseLemmas
 pub mod CheckEnds
 pub mod EndsLemmas
 pub mod FewLemmas

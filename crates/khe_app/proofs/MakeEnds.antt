@@ -136,7 +136,7 @@ start_made seed size a r some few e is =
 pub only_starved : (s : Start) (u : Unread) → ((p : Parts) × (plain : Plain) × (s ≡ begins p plain)) → IsBarredBy s u
     → u ≡ unread.NoMemory
 only_starved s unread.NoMemory start barred_is = refl
-only_starved s (unread.Refused refusal) (p, plain, e) barred_is = absurd (let b = barred_is.0 in let g : ⊥ = cc in g)
+only_starved s (unread.Refused refusal) (p, plain, e) barred_is = absurd (let b = barred_is in let g : ⊥ = cc in g)
 
 pub run_of_start : (seed size : ℕ) (a : Archive) (r : Resolved) (k : ℕ) (p q : Parts) (plain : Plain)
     (before after : Option (List ℕ)) (sink sink2 result : ℕ) → a ≡ made seed size → resolved a ≡ Ok r

@@ -19,14 +19,6 @@ abbrev values_in : Values → Verdict → Values
 values_in d (Valid v) = v
 values_in d (Invalid cause entry) = d
 
-abbrev cause_in : Verdict → ℕ
-cause_in (Valid v) = 0
-cause_in (Invalid cause entry) = cause
-
-abbrev entry_in : Verdict → ℕ
-entry_in (Valid v) = 0
-entry_in (Invalid cause entry) = entry
-
 -- the state of a valid solution: all monitors are attached
 pub record IsValued (p : Parts) (raw : RawSolution) (v : Values) : Type 0 where
   pub state : Plain
@@ -48,11 +40,6 @@ valid-is p raw v is = by (first_cause p [] raw.events) refl is
       attached = refl;
     }
     by (Some cause) some e = absurd (cc)
-
-pub invalid-is : (p : Parts) (o : Result Plain Cause) (cause entry : ℕ) → Invalid cause entry ≡ verdict_of p o
-    → o ≡ Err (record { cause = cause; entry = entry })
-invalid-is p (Ok s) cause entry e = absurd (cc)
-invalid-is p (Err x) cause entry e = λ i. Err (record { cause = ap cause_in (sym e) i; entry = ap entry_in (sym e) i })
 
 -- as many rows as monitors
 pub valued-long : (p : Parts) (s : Plain) (v : Values) → v ≡ values_of p s

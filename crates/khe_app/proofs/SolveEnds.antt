@@ -10,7 +10,7 @@ use Rattle.khe_app.specs.Answers.{reading_of, IsAnswerOf, IsBarredBy}
 use Rattle.khe_app.specs.Ends.{Holdings, IsEnd, LacksOf, Written}
 use Rattle.khe_app.specs.Outcome.{Reading, evaluable, refused, Start, begins, barred, start_of, IsOutcomeOf}
 use Rattle.khe_app.specs.Outcome.{IsSolveIn, IsSolveOf, IsSolveTo}
-use Rattle.khe_app.specs.Refusals.{IsNamed, refusal_line}
+use Rattle.khe_app.specs.Refusals.{refusal_line}
 use Rattle.khe_app.specs.Words.{solving}
 use Rattle.khe_app.specs.declared.program.Answer.{Answer}
 use Rattle.khe_app.specs.declared.reading.Unread.{Unread}
@@ -130,6 +130,6 @@ barred_solve a number depth budget jobs s before after sink sink2 result (inr (w
     )
 
 -- a refusal that stands for a start
-pub named_by : (s : Start) (unread : Unread) (why : Refusal) → unread ≡ Refused why → IsBarredBy s unread
-    → (s ≡ barred why) × IsNamed why
-named_by s unread why e is = subst (IsBarredBy s) e is
+pub barred_by : (s : Start) (unread : Unread) (why : Refusal) → unread ≡ Refused why → IsBarredBy s unread
+    → s ≡ barred why
+barred_by s unread why e is = subst (IsBarredBy s) e is

@@ -6,7 +6,7 @@ use Rattle.khe_app.specs.Ends.{Written}
 use Rattle.khe_app.specs.Outcome.{Reading, evaluable, refused, IsReadingOf, IsRunOf, IsScripted, Start, begins, barred}
 use Rattle.khe_app.specs.Outcome.{start_in}
 use Rattle.khe_app.specs.Ready.{IsReady}
-use Rattle.khe_app.specs.Refusals.{IsNamed, refusal_line, script_too_large_line}
+use Rattle.khe_app.specs.Refusals.{refusal_line, script_too_large_line}
 use Rattle.khe_app.specs.declared.program.Answer.{Answer}
 use Rattle.khe_app.specs.declared.program.Answer.TheVariants.{Read, Refused}
 use Rattle.khe_app.specs.declared.program.Play.{Play}
@@ -35,7 +35,7 @@ IsOnlyAnswerOf (Some bytes) (Refused refusal) = (a : Archive) (r : Resolved) →
 -- where there is a report to write, its solutions have their instances
 abbrev pub IsReadyAnswer : Answer → Type 0
 IsReadyAnswer (Read r) = IsReady r.archive r.resolved
-IsReadyAnswer (Refused refusal) = IsNamed refusal
+IsReadyAnswer (Refused refusal) = Unit {0}
 
 -- a start that is held: the instance stands among those of the archive, and the timetable is valid
 pub record IsBegun (s : Start) (b : Begun) : Type 0 where
@@ -46,13 +46,8 @@ pub record IsBegun (s : Start) (b : Begun) : Type 0 where
 
 -- there is none, for this reason, or memory ran out
 abbrev pub IsBarredBy : Start → Unread → Type 0
-IsBarredBy s (unread.Refused refusal) = (s ≡ barred refusal) × IsNamed refusal
+IsBarredBy s (unread.Refused refusal) = s ≡ barred refusal
 IsBarredBy s unread.NoMemory = Unit {0}
-
--- a reason not to read that has a name
-abbrev pub IsNamedUnread : Unread → Type 0
-IsNamedUnread (unread.Refused refusal) = IsNamed refusal
-IsNamedUnread unread.NoMemory = Unit {0}
 
 -- what came of writing the line of a refusal, or nothing where memory ran out
 abbrev pub IsUnreadEnd : Option (List ℕ) → Option (List ℕ) → ℕ → ℕ → ℕ → Unread → Type 0
@@ -101,7 +96,7 @@ pub record IsHeld (b : Begun) (script : List ℕ) : Type 0 where
   pub small : length script ≤ SCRIPT_BYTES
 
 abbrev pub IsReadyPlay : Play → Type 0
-IsReadyPlay (play.Refused refusal) = IsNamed refusal
+IsReadyPlay (play.Refused refusal) = Unit {0}
 IsReadyPlay play.TooLarge = Unit {0}
 IsReadyPlay (play.Run b script) = IsHeld b script
 

@@ -337,7 +337,6 @@ pub(crate) fn put<K: Sink>(out: &mut K, status: u8, bytes: &[u8]) -> Status
 
 /// Writes the line that refuses an archive or a solution.
 pub(crate) fn put_refusal<K: Sink>(alloc: Global, out: &mut K, refusal: Refusal) -> Status
-    requires { refusals.IsNamed refusal }
     ensures written { Written (K.taken out.old) (K.taken out.new) (K.faults out.old) (K.faults out.new) (encode_utf8_all (refusals.refusal_line refusal)) 3 result.0 }
     ensures write_fault_ends { (result.0 ≡ 5) ⊎ (K.faults out.new ≡ K.faults out.old) }
     ensures sink_faults { K.faults out.old ≤ K.faults out.new }

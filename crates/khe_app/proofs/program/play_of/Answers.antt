@@ -49,4 +49,4 @@ returns-in-Err-Refused-clause-play g c =
     c.in_ok-refusal.ensures.only in
     let bar = subst (IsBarredBy (start_of read.archive read.resolved c.args.number)) c.in-Err-Refused.field-0-is
     c.in-Err-Refused.ensures.barred in
-    barred_as h name c.args.number c.args.script.now read c.in-Err-Refused.refusal _ is only bar.0 (let e : _ = cc in e)
+    barred_as h name c.args.number c.args.script.now read c.in-Err-Refused.refusal _ is only bar (let e : _ = cc in e)

@@ -29,7 +29,7 @@ returns-in-Err-Refused-clause-written g c =
     inr (
       3,
       line,
-      subst (λ (x : Start). IsRepairOf read.archive c.args.number c.args.depth c.args.budget x 3 line) (sym bar.0)
+      subst (λ (x : Start). IsRepairOf read.archive c.args.number c.args.depth c.args.budget x 3 line) (sym bar)
           (refl, refl),
       c.put_refusal.ensures.written,
     )

@@ -5,7 +5,6 @@ use Rattle.xhstt_completion.specs.Completed.{completed, IsFaultOf}
 use Rattle.xhstt_completion.specs.declared.faults.Cause.{Cause}
 use Rattle.xhstt_shape.specs.declared.records.RawSolution.{RawSolution}
 use Rattle.xhstt_references.specs.References.{solutions_of}
-use Rattle.khe_app.proofs.CauseLemmas.{invalid-known}
 use Rattle.khe_app.proofs.StartLemmas.{at_number, barred_at, begun_at, chosen}
 use Rattle.khe_app.proofs.starting.begin.Goals as goal
 
@@ -60,4 +59,4 @@ returns-in-Err-Invalid-clause-barred c =
     → completed p raw ≡ Err cause =
     λ raw found. subst (IsFaultOf (completed p raw)) c.in-Err-Invalid.field-0-is
     (c.in-Err-Invalid.ensures.invalid raw found) in
-    (barred_at c.args.archive.now r n s p cause at is, invalid-known p s.raw cause (is s.raw s.found))
+    barred_at c.args.archive.now r n s p cause at is
