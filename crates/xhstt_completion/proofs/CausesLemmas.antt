@@ -32,7 +32,7 @@ option_or-none None q h = refl
 option_or-none (Some x) q h = absurd (let e : true ≡ false = h in cc)
 
 -- a resource whose role did not come before has the cause that its place has
-at_place : (o : Option Place) (b : Bool) (f : Place → Option ℕ) (place : Place) → o ≡ Some place → b ≡ false
+pub at_place : (o : Option Place) (b : Bool) (f : Place → Option ℕ) (place : Place) → o ≡ Some place → b ≡ false
     → (if is_none o || b then Some BAD_ROLE else option_and_then f o) ≡ f place
 at_place o b f place e h = λ i. if is_none (e i) || h i then Some BAD_ROLE else option_and_then f (e i)
 

@@ -3,10 +3,12 @@ pub mod ChainLemmas
 pub mod EventLemmas
 pub mod FitLemmas
 pub mod FoundLemmas
+pub mod ManyLemmas
 pub mod PartFacts
 pub mod PartsLemmas
 pub mod Pieces
 pub mod Resolved
 pub mod Roles
+pub mod TableLemmas
 pub mod Valid
 pub mod WellMadeLemmas

@@ -5,3 +5,4 @@ pub mod Entries
 pub mod Examples
 pub mod Found
 pub mod Numbered
+pub mod Tables

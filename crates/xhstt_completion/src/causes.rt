@@ -1,10 +1,11 @@
 //! The causes for which an entry is invalid.
 
-ghost use Rattle.std.specs.Prelude.{◌≡◌, ◌<◌, [], length, map, Some, find};
+ghost use Rattle.std.specs.Prelude.{◌≡◌, ◌<◌, [], length, map, Some, find, IfOk};
 ghost use Rattle.std.specs.List.{list_any};
 ghost use Rattle.std.specs.Option.{option_copied};
 ghost use Rattle.khe_instance.specs.Lookups.{is_role};
 ghost use Rattle.khe_instance.specs.Running.{is_resource};
+ghost use Rattle.khe_instance.specs.WellMade.{IsEvent};
 ghost use Rattle.xhstt_completion.specs.Causes.{is_too_long, splits_fixed, moves_fixed, ends_late, is_place_for, place_for, came_before, place_cause, given_cause, first_given_cause, cause_in, differ_in_time, differ_in_resource};
 ghost use Rattle.xhstt_completion.specs.Entries.{resource_of, role_of, time_of};
 
@@ -12,38 +13,62 @@ use crate::entries::{duration_of, is_given_for, start_of};
 use fault_tables::{
     BAD_ROLE, FIXED_RESOURCE, FIXED_TIME, OFF_END, SPLIT_FIXED, TOO_LONG, WRONG_TYPE,
 };
-use khe_base::{ResourceId, Text, TimeId};
+use crate::many::first_of_many;
+use crate::tables::are_few;
+use khe_base::{NoMemory, ResourceId, Text, TimeId};
 use khe_instance::{EventInfo, Instance, Place};
+use std::alloc::Global;
 use xhstt_shape::{RawEntry, RawGiven};
 
 /// The first cause at an entry of an event, of which earlier entries used so much, by the time and the
-/// resources that it names. It takes time in proportion to the resources of the entry times the places
-/// of the event.
+/// resources that it names. It takes time in proportion to the resources of the entry and the places
+/// of the event, on average, and memory in that proportion only where both are many.
 pub(crate) fn cause_in(
+    alloc: Global,
     inst: &Instance,
     event: &EventInfo,
     used: u32,
     entry: &RawEntry,
     time: Option<TimeId>,
     resources: &[ResourceId],
-) -> Option<u32>
+) -> Result<Option<u32>, NoMemory>
+    requires event { IsEvent inst.now event.now }
     requires time { time_of inst.now entry.now ≡ time }
     requires resources { map (resource_of inst.now) entry.now.resources ≡ map Some resources.now }
-    ensures { result ≡ cause_in inst.now event.now used entry.now }
+    ensures { IfOk result (λ cause. cause ≡ cause_in inst.now event.now used entry.now) }
 {
     if is_too_long(event, used, entry) {
-        return Some(TOO_LONG);
+        return Ok(Some(TOO_LONG));
     }
     if splits_fixed(event, entry) {
-        return Some(SPLIT_FIXED);
+        return Ok(Some(SPLIT_FIXED));
     }
     if differ_in_time(time, event.fixed) {
-        return Some(FIXED_TIME);
+        return Ok(Some(FIXED_TIME));
     }
     if ends_late(inst, event, entry, time) {
-        return Some(OFF_END);
+        return Ok(Some(OFF_END));
     }
-    first_given_cause(inst, event, entry.resources.as_slice(), resources)
+    cause_in_given(alloc, inst, event, entry.resources.as_slice(), resources)
+}
+
+/// The first cause at the resources that an entry gives, which have these numbers.
+fn cause_in_given(
+    alloc: Global,
+    inst: &Instance,
+    event: &EventInfo,
+    given: &[RawGiven],
+    resources: &[ResourceId],
+) -> Result<Option<u32>, NoMemory>
+    requires event { IsEvent inst.now event.now }
+    requires resources { map (resource_of inst.now) given.now ≡ map Some resources.now }
+    ensures { IfOk result (λ cause. cause ≡ first_given_cause inst.now event.now [] given.now) }
+{
+    if are_few(given.len(), event.places.len()) {
+        Ok(first_given_cause(inst, event, given, resources))
+    } else {
+        first_of_many(alloc, inst, event, given, resources)
+    }
 }
 
 /// Whether an entry, with those of its event before it, lasts longer than the event.
@@ -85,7 +110,8 @@ fn ends_late(inst: &Instance, event: &EventInfo, entry: &RawEntry, time: Option<
     }
 }
 
-/// The first cause at the resources that an entry gives, which have these numbers.
+/// The first cause at the resources that an entry gives, which have these numbers: each is looked for
+/// among all places of the event, and its role among those that came before.
 fn first_given_cause(
     inst: &Instance,
     event: &EventInfo,
@@ -127,7 +153,7 @@ fn given_cause(
 }
 
 /// The cause at a resource and its place.
-fn place_cause(inst: &Instance, resource: ResourceId, place: &Place) -> Option<u32>
+pub(crate) fn place_cause(inst: &Instance, resource: ResourceId, place: &Place) -> Option<u32>
     requires { resource.0 < length inst.now.resources }
     ensures { result ≡ place_cause inst.now (Some resource) place.now }
 {

@@ -17,8 +17,8 @@ use xhstt_shape::RawEntry;
 /// The first cause of the first entry that has one, by what the entries name, or `None` where each
 /// entry can stand.
 ///
-/// It takes time in proportion to the events and the entries, and for each entry its resources
-/// times the places of its event, on average; and memory in proportion to the events.
+/// It takes time in proportion to the events, and for each entry to what it gives and the places of
+/// its event, on average; and memory in proportion to the events and to what one entry gives.
 pub(crate) fn first_cause(
     alloc: Global,
     inst: &Instance,
@@ -39,7 +39,8 @@ pub(crate) fn first_cause(
         let resources = resources_at(found.given.as_slice(), named, entry);
         let rest = left[named.event.0 as usize];
         let used = event.duration - rest;
-        if let Some(cause) = cause_in(inst, event, used, entry, named.time, resources) {
+        let cause = cause_in(alloc, inst, event, used, entry, named.time, resources)?;
+        if let Some(cause) = cause {
             let entry = number as u32;
             return Ok(Some(Cause { cause, entry }));
         }

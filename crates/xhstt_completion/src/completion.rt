@@ -28,8 +28,8 @@ use xhstt_shape::{Archive, RawSolution};
 /// `Invalid` where an entry cannot stand: the first such entry, with its first cause. Else
 /// `NoMemory` where memory is refused.
 ///
-/// It takes time and memory in proportion to the events, the entries and the state, on average; and
-/// for each entry its resources times the places of its event.
+/// It takes time and memory in proportion to the events, the entries, what they give and the state, on
+/// average.
 pub fn completed(alloc: Global, inst: &Instance, raw: &RawSolution) -> Result<Plain, SolutionFault>
     requires { IsSolution inst.now raw.now }
     ensures exact { IfOk result (λ plain. completed inst.now raw.now ≡ Ok plain) }

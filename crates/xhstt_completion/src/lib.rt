@@ -11,7 +11,9 @@ mod entries;
 mod examples;
 mod faults;
 mod lookups;
+mod many;
 mod states;
+mod tables;
 
 pub use completion::{completed, numbered_solution, solution};
 pub use faults::{Cause, SolutionFault};

@@ -1,18 +1,21 @@
 //! The state that the entries of a solution say, where none of them has a cause.
 
-ghost use Rattle.std.specs.Prelude.{◌≡◌, ◌<◌, ◌≤◌, ◌++◌, ◌∷◌, [], ℕ, length, map, All, IfOk, OnOk, Some, get_or, slice_get};
+ghost use Rattle.std.specs.Prelude.{◌≡◌, ◌<◌, ◌≤◌, ◌++◌, ◌∷◌, [], ℕ, length, map, All, IfOk, IfSome, OnOk, Some, get_or, slice_get};
 ghost use Rattle.std.specs.List.{enumerate_from, flat_map};
+ghost use Rattle.std.specs.Option.{option_copied};
 ghost use Rattle.khe_base.specs.declared.limits.TheConstants.{TASKS};
 ghost use Rattle.khe_instance.specs.declared.parts.EventInfo.{EventInfo};
 ghost use Rattle.xhstt_completion.specs.Causes.{used_by};
 ghost use Rattle.xhstt_completion.specs.Completed.{state_of, meets_at, tasks_at, meet_of, tasks_of, task_of, missing_parts, resource_at, given_for};
 ghost use Rattle.xhstt_completion.specs.Chains.{IsChain};
-ghost use Rattle.xhstt_completion.specs.Entries.{IsEntry, entries_of, resource_of};
+ghost use Rattle.xhstt_completion.specs.Entries.{IsEntry, entries_of, resource_of, role_of};
 ghost use Rattle.xhstt_completion.specs.Found.{AreFound};
+ghost use Rattle.xhstt_completion.specs.Tables.{Finds};
 
 use crate::chains::{Chains, chained};
 use crate::entries::{duration_of, is_given_for, start_of};
 use crate::lookups::{Found, resources_at};
+use crate::tables::{RoleTable, are_few, roles_given};
 use khe_base::{EventId, MeetId, NoMemory, ResourceId, Seq, TaskId, Text};
 use khe_instance::{EventInfo, Instance, Meet, Place, Plain, Task};
 use std::alloc::Global;
@@ -26,7 +29,7 @@ struct Timetable {
 }
 
 /// The state that entries say, by what they name. It takes time and memory in proportion to the
-/// events, the entries and the state, and for each entry its resources times the places of its event.
+/// events, the entries, what they give and the state, on average.
 pub(crate) fn state_of(
     alloc: Global,
     inst: &Instance,
@@ -42,14 +45,8 @@ pub(crate) fn state_of(
     let chains = chained(alloc, inst, entries, found.named.as_slice())?;
     let mut timetable = room(alloc, inst, entries.len())?;
     for event in 0..inst.events() {
-        push_event(
-            &mut timetable,
-            inst,
-            EventId(event),
-            entries,
-            found,
-            &chains,
-        )?;
+        let event = EventId(event);
+        push_event(alloc, &mut timetable, inst, event, entries, found, &chains)?;
     }
     let Timetable { meets, tasks } = timetable;
     Ok(Plain {
@@ -77,6 +74,7 @@ fn room(alloc: Global, inst: &Instance, entries: usize) -> Result<Timetable, NoM
 /// Adds the meets and the tasks of an event: one meet for each of its entries, and one for what they
 /// miss.
 fn push_event(
+    alloc: Global,
     timetable: &mut Timetable,
     inst: &Instance,
     number: EventId,
@@ -110,24 +108,19 @@ fn push_event(
             start: start_of(event, named.time),
         };
         let given = resources_at(found.given.as_slice(), named, entry);
-        push_meet(
-            timetable,
-            inst,
-            event,
-            meet,
-            entry.resources.as_slice(),
-            given,
-        )?;
+        let resources = entry.resources.as_slice();
+        push_meet(alloc, timetable, inst, event, meet, resources, given)?;
         slot += 1;
         left -= meet.duration;
         at = chains.nexts[at];
     }
-    push_rest(timetable, inst, event, number, slot, left)?;
+    push_rest(alloc, timetable, inst, event, number, slot, left)?;
     Ok(())
 }
 
 /// Adds the meet of what the entries of an event miss, if they miss anything, and its tasks.
 fn push_rest(
+    alloc: Global,
     timetable: &mut Timetable,
     inst: &Instance,
     event: &EventInfo,
@@ -148,11 +141,12 @@ fn push_rest(
         duration: left,
         start: event.fixed,
     };
-    push_meet(timetable, inst, event, meet, &[], &[])
+    push_meet(alloc, timetable, inst, event, meet, &[], &[])
 }
 
 /// Adds a meet of an event, for which these resources with these numbers are given, and its tasks.
 fn push_meet(
+    alloc: Global,
     timetable: &mut Timetable,
     inst: &Instance,
     event: &EventInfo,
@@ -166,14 +160,46 @@ fn push_meet(
     ensures tasks { OnOk result (timetable.new.tasks ≡ timetable.old.tasks ++ map (task_of inst.now meet.meet.0 given.now) (enumerate_from 0 event.now.places)) }
 {
     timetable.meets.push(meet)?;
+    let tasks = &mut timetable.tasks;
     let places = event.places.as_slice();
+    if are_few(given.len(), places.len()) {
+        return push_tasks(tasks, inst, places, meet.meet, given, resources, None);
+    }
+    let roles = roles_given(alloc, given)?;
+    push_tasks(
+        tasks,
+        inst,
+        places,
+        meet.meet,
+        given,
+        resources,
+        Some(&roles),
+    )
+}
+
+/// Adds the tasks of a meet of an event with these places, by the roles that resources are given for
+/// where these were numbered.
+fn push_tasks(
+    tasks: &mut Seq<Task>,
+    inst: &Instance,
+    places: &[Place],
+    meet: MeetId,
+    given: &[RawGiven],
+    resources: &[ResourceId],
+    roles: Option<&RoleTable>,
+) -> Result<(), NoMemory>
+    requires few { length places.now ≤ TASKS }
+    requires resources { map (resource_of inst.now) given.now ≡ map Some resources.now }
+    requires roles { IfSome (option_copied roles) (λ table. Finds table (map role_of given.now)) }
+    ensures { OnOk result (tasks.new ≡ tasks.old ++ map (task_of inst.now meet.0 given.now) (enumerate_from 0 places.now)) }
+{
     for (number, place) in places.iter().enumerate() {
         let task = TaskId {
-            meet: meet.meet,
+            meet,
             place: number as u32,
         };
-        let resource = resource_at(inst, given, resources, place);
-        timetable.tasks.push(Task { task, resource })?;
+        let resource = resource_at(inst, given, resources, roles, place);
+        tasks.push(Task { task, resource })?;
     }
     Ok(())
 }
@@ -183,19 +209,39 @@ fn resource_at(
     inst: &Instance,
     given: &[RawGiven],
     resources: &[ResourceId],
+    roles: Option<&RoleTable>,
     place: &Place,
 ) -> Option<ResourceId>
-    requires { map (resource_of inst.now) given.now ≡ map Some resources.now }
+    requires resources { map (resource_of inst.now) given.now ≡ map Some resources.now }
+    requires roles { IfSome (option_copied roles) (λ table. Finds table (map role_of given.now)) }
     ensures { result ≡ resource_at inst.now given.now place.now }
 {
     match (place.fixed, &place.role) {
-        (None, Some(role)) => given_for(inst, given, resources, role),
+        (None, Some(role)) => given_for(inst, given, resources, roles, role),
         _ => place.fixed,
     }
 }
 
 /// The resource that is given for a role.
 fn given_for(
+    inst: &Instance,
+    given: &[RawGiven],
+    resources: &[ResourceId],
+    roles: Option<&RoleTable>,
+    role: &Text,
+) -> Option<ResourceId>
+    requires resources { map (resource_of inst.now) given.now ≡ map Some resources.now }
+    requires roles { IfSome (option_copied roles) (λ table. Finds table (map role_of given.now)) }
+    ensures { result ≡ given_for inst.now given.now role.now }
+{
+    match roles {
+        None => given_among(inst, given, resources, role),
+        Some(roles) => given_by(inst, given, resources, roles, role),
+    }
+}
+
+/// The resource that is given for a role, looked for among all.
+fn given_among(
     _inst: &Instance,
     given: &[RawGiven],
     resources: &[ResourceId],
@@ -210,4 +256,22 @@ fn given_for(
         }
     }
     None
+}
+
+/// The resource that is given for a role, by the table of all roles that resources are given for.
+fn given_by(
+    _inst: &Instance,
+    _given: &[RawGiven],
+    resources: &[ResourceId],
+    roles: &RoleTable,
+    role: &Text,
+) -> Option<ResourceId>
+    requires resources { map (resource_of _inst.now) _given.now ≡ map Some resources.now }
+    requires roles { Finds roles.now (map role_of _given.now) }
+    ensures { result ≡ given_for _inst.now _given.now role.now }
+{
+    match roles.find(role) {
+        Some(number) => Some(resources[number]),
+        None => None,
+    }
 }

@@ -81,7 +81,7 @@ returns-in-Some c =
     let at : ℕ → ℕ → Cause = λ k cause. record { cause = cause; entry = k } in
     let here : cause_after p before entry ≡ Some c.in-Some.cause =
     cause_after-in p before entry e event is.event c.event-event.ensures
-    ∙ ap (λ k. cause_in p event k entry) (sym used) ∙ sym c.cause_in.ensures ∙ c.in-Some.is
+    ∙ ap (λ k. cause_in p event k entry) (sym used) ∙ sym c.in_ok-cause.ensures ∙ c.in-Some.is
     in
     let low : n ≤ length entries = omega (arith, c.loop-number-test.true) in
     let long : length before ≡ n = length-take-le n entries low in
@@ -107,6 +107,14 @@ resources_at-resources-requires c =
     (slice_get_read c.args.entries.now _ c.loop-number.number entry refl c.loop-number-test.true
     c.index-entries-number.is) in
     omega (arith, is.within, ap length c.as_slice.ensures.value)
+
+pub cause_in-requires-clause-event : goal.cause_in-requires-clause-event
+cause_in-requires-clause-event c =
+    let events = c.args.inst.now.events in
+    let event = c.event-event.result.now in
+    let e = c.named_at-named.result.event.0 in
+    subst (IsEvent c.args.inst.now) (get_or_from_slice_get events e event event c.event-event.ensures)
+    (c.facts.ensures.events e event c.named_at-named.ensures.there)
 
 pub cause_in-requires-clause-time : goal.cause_in-requires-clause-time
 cause_in-requires-clause-time c =
@@ -148,9 +156,9 @@ loop-number-preserved c =
     let balance : get_or old e0.0 0 + used_by p e0.0 event0 before ≡ event0.duration =
     c.loop-number.invariant.left e0.0 event0 there0 in
     let used_is : event0.duration - rest ≡ used_by p e0.0 event0 before = omega arith in
-    let none : c.cause_in.result ≡ None = c.in_default.is in
+    let none : c.in_ok-cause.cause ≡ None = c.in_default.is in
     let no_cause : cause_in p event0 (used_by p e0.0 event0 before) entry ≡ None =
-    ap (λ used. cause_in p event0 used entry) (sym used_is) ∙ sym c.cause_in.ensures ∙ none
+    ap (λ used. cause_in p event0 used entry) (sym used_is) ∙ sym c.in_ok-cause.ensures ∙ none
     in
     let within : used_by p e0.0 event0 before + duration_of event0 entry ≤ event0.duration =
     not_too_long p event0 _ entry no_cause in

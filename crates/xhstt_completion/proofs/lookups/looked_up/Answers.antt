@@ -1,5 +1,5 @@
 -- One more entry.
-use Rattle.std.proofs.Common.{◌≡◌, ◌∙◌, ◌+◌, ◌∷◌, ◌++◌, [], Some, ap, sym, subst, arith, length, slice_get, refl}
+use Rattle.std.proofs.Common.{◌≡◌, ◌∙◌, ◌∷◌, ◌++◌, [], Some, ap, sym, subst, arith, length, slice_get, refl}
 use Rattle.std.proofs.Common.{length-append, filter_map}
 use Rattle.std.proofs.lemmas.Option.{slice_get_read}
 use Rattle.xhstt_completion.specs.Entries.{resource_of}

@@ -60,7 +60,7 @@ push_meet-requires-clause-resources c =
     let is = found-there p c.args.entries.now c.args.found.now.named.items c.args.found.now.given.items c.loop-at.at
     entry
     n c.requires.each c.requires.many c.loop-at-test.true c.index-entries-at.is c.index-named.ensures in
-    ap (map (resource_of p)) c.as_slice-in-loop-at.ensures ∙ is.resources
+    ap (map (resource_of p)) c.as_slice-resources.ensures ∙ is.resources
     ∙ ap (map (λ x. Some x)) (sym (c.resources_at-given.ensures
     ∙ ap (λ xs. take (length entry.resources) (drop n.first xs)) c.as_slice.ensures.value))
 
@@ -113,8 +113,8 @@ loop-at-preserved c =
     let meet_is : meet_of e (slot, part_of p event is.next.entry) ≡ meet =
     λ k. record { meet = record { 0 = slot }; event = record { 0 = e }; duration = lasts k; start = starts k }
     in
-    let given : c.as_slice-in-loop-at.result.now ≡ is.next.entry.resources =
-    c.as_slice-in-loop-at.ensures ∙ ap (λ (x : RawEntry). x.resources) (sym is.same) in
+    let given : c.as_slice-resources.result.now ≡ is.next.entry.resources =
+    c.as_slice-resources.ensures ∙ ap (λ (x : RawEntry). x.resources) (sym is.same) in
     let room : at < length nexts = omega (arith, c.loop-at-test.true, c.requires.nexts) in
     let next : c.index-at-in-loop-at.result.now ≡ get_or nexts at 0 =
     c.index-at-in-loop-at.ensures ∙ get_or_default nexts at c.index-at-in-loop-at.result.now 0 room in

@@ -5,7 +5,7 @@ use Rattle.khe_instance.specs.Lookups.{is_role}
 use Rattle.xhstt_completion.specs.Completed.{given_for}
 use Rattle.xhstt_completion.specs.Entries.{role_of}
 use Rattle.xhstt_completion.proofs.FoundLemmas.{given-first, given-taken}
-use Rattle.xhstt_completion.proofs.states.given_for.Goals as goal
+use Rattle.xhstt_completion.proofs.states.given_among.Goals as goal
 
 pub returns-then-is_given_for : goal.returns-then-is_given_for
 returns-then-is_given_for c =

@@ -1,0 +1,114 @@
+//! Tables of roles, for an entry that gives many resources for an event with many places.
+
+ghost use Rattle.std.specs.Prelude.{◌≡◌, ◌++◌, ◌∷◌, [], ℕ, List, Option, Some, None, length, map, min, nat_le, position, IfOk, OnOk, slice_get};
+ghost use Rattle.std.specs.Option.{option_and_then, option_copied};
+ghost use Rattle.khe_base.specs.Names.{number_of};
+ghost use Rattle.khe_instance.specs.Lookups.{is_role};
+ghost use Rattle.xhstt_completion.specs.Entries.{role_of};
+ghost use Rattle.xhstt_completion.specs.Tables.{Finds};
+
+use khe_base::{Names, NoMemory, Text};
+use std::alloc::Global;
+use xhstt_shape::RawGiven;
+
+/// Up to so many resources of an entry, or places of its event, are few: each of the ones is then
+/// looked for among all the others, which takes time in proportion to both together, and neither
+/// memory nor a hash. (Whether a role came before is asked for a resource only that has its place, so
+/// at most once for each place, and once more.)
+const FEW: usize = 16;
+
+/// Whether these resources, or these places, are few. It takes constant time.
+pub(crate) fn are_few(given: usize, places: usize) -> bool
+    ensures { result ≡ nat_le (min given places) FEW }
+{
+    given.min(places) <= FEW
+}
+
+/// The first place of each role, among roles that came one after the other.
+#[derive(Drop)]
+pub(crate) struct RoleTable {
+    names: Names,
+    /// The first place of each name.
+    firsts: Vec<usize>,
+    /// The length of the longest name, in bytes.
+    longest: usize,
+}
+
+impl RoleTable {
+    /// The table of no roles. It takes no memory.
+    pub fn new(alloc: Global) -> RoleTable
+        ensures { Finds result [] }
+    {
+        RoleTable {
+            names: Names::new(alloc),
+            firsts: Vec::new(alloc),
+            longest: 0,
+        }
+    }
+
+    /// Adds what stands at the next place: a role, or none. It takes the time of a copy and of a hash
+    /// of the role, on average.
+    pub fn push(&mut self, role: Option<&Text>, place: usize) -> Result<(), NoMemory>
+        ensures { OnOk result ((roles : List (Option (List ℕ))) → length roles ≡ place → Finds self.old roles → Finds self.new (roles ++ option_copied role.entry ∷ [])) }
+    {
+        match role {
+            Some(role) => self.add(role, place),
+            None => Ok(()),
+        }
+    }
+
+    /// Adds a role that stands at the next place.
+    fn add(&mut self, role: &Text, place: usize) -> Result<(), NoMemory>
+        ensures { OnOk result ((roles : List (Option (List ℕ))) → length roles ≡ place → Finds self.old roles → Finds self.new (roles ++ Some role.now ∷ [])) }
+    {
+        self.longest = self.longest.max(role.as_bytes().len());
+        if !self.names.insert(role)? {
+            return Ok(());
+        }
+        self.firsts.push(place)?;
+        Ok(())
+    }
+
+    /// The first place of a role, if it has one. It takes the time of a hash of the role on average,
+    /// and constant time where the role is longer than all of the table.
+    pub fn find(&self, role: &Text) -> Option<usize>
+        ensures { (roles : List (Option (List ℕ))) → Finds self.now roles → result ≡ position (is_role role.now) roles }
+    {
+        if self.longest < role.as_bytes().len() {
+            return None;
+        }
+        self.first(role)
+    }
+
+    /// The first place of a role, if it has one, by a hash.
+    fn first(&self, role: &Text) -> Option<usize>
+        ensures { result ≡ option_and_then (λ n. slice_get self.now.firsts.items n) (number_of role.now self.now.names) }
+    {
+        match self.names.number(role) {
+            Some(number) => self.firsts.as_slice().get(number).copied(),
+            None => None,
+        }
+    }
+}
+
+/// The roles for which resources are given, each at the place of the resource. It takes time and memory
+/// in proportion to the resources and their roles, on average.
+pub(crate) fn roles_given(alloc: Global, given: &[RawGiven]) -> Result<RoleTable, NoMemory>
+    ensures { IfOk result (λ table. Finds table (map role_of given.now)) }
+{
+    let mut table = RoleTable::new(alloc);
+    for (number, one) in given.iter().enumerate() {
+        table.push(role_of(one), number)?;
+    }
+    Ok(table)
+}
+
+/// The role that a resource is given for.
+fn role_of(one: &RawGiven) -> Option<&Text>
+    ensures { option_copied result ≡ role_of one.now }
+{
+    match &one.role {
+        Some(name) => Some(&name.text),
+        None => None,
+    }
+}
