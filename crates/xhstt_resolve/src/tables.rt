@@ -2,7 +2,7 @@ ghost use Rattle.std.specs.Prelude.{◌≡◌, ◌<◌, ◌≤◌, ◌^◌, leng
 ghost use Rattle.std.specs.List.{fold, flat_map};
 ghost use Rattle.khe_base.specs.Names.{number_of};
 ghost use Rattle.xhstt_resolve.specs.Members.{set_of, first_mentions, numbers_of, members_in};
-ghost use Rattle.xhstt_resolve.specs.Tables.{IsTable, IsTableOf, IsLookup, HasNames, HasKeptCounts, members_at, listed_at};
+ghost use Rattle.xhstt_resolve.specs.Tables.{IsTable, IsTableOf, IsLookup, HasNames, HasKeptCounts, members_numbered, members_at, listed_at, listed_once};
 
 use crate::collecting::{Collect, Mentions};
 use crate::members::{Grouped, members_of};
@@ -87,6 +87,7 @@ fn table_of<'a, T: Grouped>(
     group_names: &'a Names,
 ) -> Result<Table<'a>, NoMemory>
     requires few { length items.now < 2 ^ 32 }
+    requires few_groups { length group_names.now < 2 ^ 32 }
     requires same { length names.now ≡ length items.now }
     ensures { IfOk result (IsTableOf names.now (members_in group_names.now T.groups items.now)) }
 {
@@ -123,7 +124,18 @@ impl<'a> Table<'a> {
         ensures { result.now ≡ members_at self.now group.now }
     {
         match self.group_names.number(group) {
-            Some(number) => self.members.as_slice()[number].as_slice(),
+            Some(number) => self.members_numbered(number as u32),
+            None => &[],
+        }
+    }
+
+    /// The members of the group with a number, and none where there is no such group, in constant
+    /// time.
+    fn members_numbered(&self, group: u32) -> &[u32]
+        ensures { result.now ≡ members_numbered self.now group }
+    {
+        match self.members.as_slice().get(group as usize) {
+            Some(members) => members.as_slice(),
             None => &[],
         }
     }
@@ -138,19 +150,19 @@ impl<'a> Table<'a> {
         Ok(set)
     }
 
-    /// The set of what is listed. It takes time in proportion to the items and to the list with its
-    /// groups followed out, and memory in proportion to the items.
+    /// The set of what is listed. It takes time in proportion to the list, on average, to the members
+    /// of the groups in it, each group once however often it is listed, and to a 64th of the items
+    /// and groups; and memory in proportion to the items and groups.
     pub fn set(&self, alloc: Global, groups: &[Ref], singles: &[Ref]) -> Result<IdSet, NoMemory>
         requires { IsTable self.now }
         ensures { IfOk result (λ s. s ≡ set_of (length self.now.names.now) (listed_at self.now groups.now singles.now)) }
     {
         let mut set = IdSet::new(alloc, self.size())?;
-        self.collect(groups, singles, &mut set)?;
+        self.collect(alloc, groups, singles, &mut set)?;
         Ok(set)
     }
 
-    /// What is listed, each item at its first mention. It takes time in proportion to the items and
-    /// to the list with its groups followed out, and memory in proportion to the items.
+    /// What is listed, each item at its first mention. It takes the time and memory of the set.
     pub fn first_mentions(
         &self,
         alloc: Global,
@@ -162,32 +174,34 @@ impl<'a> Table<'a> {
         ensures few { IfOk result (λ ns. length ns ≤ length self.now.names.now) }
     {
         let mut mentions = Mentions::new(alloc, self.size())?;
-        self.collect(groups, singles, &mut mentions)?;
+        self.collect(alloc, groups, singles, &mut mentions)?;
         let Mentions { seen: _, numbers } = mentions;
         Ok(numbers)
     }
 
-    /// Collects what is listed: the members of each group, and then what is listed singly.
+    /// Collects what is listed: the members of each group, at the group's first mention alone, and
+    /// then what is listed singly.
     fn collect<C: Collect>(
         &self,
+        alloc: Global,
         groups: &[Ref],
         singles: &[Ref],
         into: &mut C,
     ) -> Result<(), NoMemory>
         requires { IsTable self.now }
-        ensures { OnOk result (into.new ≡ fold C.added into.old (listed_at self.now groups.now singles.now)) }
+        ensures { OnOk result (into.new ≡ fold C.added into.old (listed_once self.now groups.now singles.now)) }
     {
-        self.collect_members(groups, into)?;
+        let groups = first_named(alloc, self.group_names, groups)?;
+        self.collect_members(groups.as_slice(), into)?;
         collect_named(self.names, singles, into)
     }
 
     /// Collects the members of groups, group by group.
-    fn collect_members<C: Collect>(&self, groups: &[Ref], into: &mut C) -> Result<(), NoMemory>
-        requires { IsTable self.now }
-        ensures { OnOk result (into.new ≡ fold C.added into.old (flat_map (λ g. members_at self.now g.id) groups.now)) }
+    fn collect_members<C: Collect>(&self, groups: &[u32], into: &mut C) -> Result<(), NoMemory>
+        ensures { OnOk result (into.new ≡ fold C.added into.old (flat_map (members_numbered self.now) groups.now)) }
     {
         for group in groups {
-            add_all(self.members(&group.id), into)?;
+            add_all(self.members_numbered(*group), into)?;
         }
         Ok(())
     }
