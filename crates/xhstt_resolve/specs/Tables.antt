@@ -1,5 +1,5 @@
 -- A table of one sort of items with the groups of them, and when tables are those of an instance.
-use Rattle.std.specs.Prelude.{ℕ, ◌≡◌, ◌<◌, ◌≤◌, ◌^◌, List, [], ◌++◌, length, slice_index_or, All}
+use Rattle.std.specs.Prelude.{ℕ, ◌≡◌, ◌<◌, ◌≤◌, ◌^◌, List, [], ◌++◌, length, map, slice_index_or, All}
 use Rattle.std.specs.List.{flat_map}
 use Rattle.std.specs.Option.{option_map_or}
 use Rattle.khe_base.specs.Names.{number_of}
@@ -9,6 +9,7 @@ use Rattle.xhstt_references.specs.Ids.{time_group_ids, time_ids, resource_type_i
 use Rattle.xhstt_references.specs.Ids.{event_group_ids, event_ids}
 use Rattle.xhstt_references.specs.declared.directories.Directory.{Directory}
 use Rattle.xhstt_resolve.specs.Members.{times_in, resources_in, events_in, listed, numbers_of, first_mentions}
+use Rattle.xhstt_resolve.specs.Parts.{type_named}
 use Rattle.xhstt_resolve.specs.declared.tables.Lookup.{Lookup}
 use Rattle.xhstt_resolve.specs.declared.tables.Table.{Table}
 use Rattle.xhstt_resolve.specs.declared.tables.Tables.{Tables}
@@ -75,8 +76,10 @@ pub record HasNames (i : RawInstance) (d : Directory) : Type 0 where
   pub event_groups : d.event_groups ≡ event_group_ids i
   pub events : d.events ≡ event_ids i
 
--- a lookup leads by the names and the groups of its own instance, whose counts are within limits
+-- a lookup leads by the names, the types and the groups of its own instance, whose counts are within
+-- limits
 pub record IsLookup (l : Lookup) : Type 0 where
   pub names : HasNames l.instance.now l.names.now
+  pub types : l.types ≡ map (λ r. type_named l.instance.now r.resource_type) l.instance.now.resources
   pub tables : AreTablesOf l.instance.now l.tables
   pub counts : HasKeptCounts l.instance.now

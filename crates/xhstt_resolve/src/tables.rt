@@ -6,6 +6,7 @@ ghost use Rattle.xhstt_resolve.specs.Tables.{IsTable, IsTableOf, IsLookup, HasNa
 
 use crate::collecting::{Collect, Mentions};
 use crate::members::{Grouped, members_of};
+use crate::resources::types_of;
 use khe_base::{IdSet, Names, NoMemory, Seq, Text, both};
 use std::alloc::Global;
 use xhstt_references::Directory;
@@ -33,11 +34,15 @@ pub(crate) struct Tables<'a> {
 pub(crate) struct Lookup<'a> {
     pub instance: &'a RawInstance,
     pub names: &'a Directory,
+    /// The numbers of the types of the resources: a type's Id may be long, and is followed once for
+    /// each resource, not at each place that the resource takes.
+    pub types: Seq<u32>,
     pub tables: Tables<'a>,
 }
 
 /// The lookup of an instance. It takes time and memory in proportion to the references to groups of
-/// its times, resources and events, and to the groups, on average.
+/// its times, resources and events, to those to types of its resources, and to the groups, on
+/// average.
 pub(crate) fn lookup_of<'a>(
     alloc: Global,
     instance: &'a RawInstance,
@@ -48,6 +53,7 @@ pub(crate) fn lookup_of<'a>(
     ensures lookup { IfOk result IsLookup }
     ensures instance { IfOk result (λ l. l.instance.now ≡ instance.now) }
 {
+    let types = types_of(alloc, instance.resources.as_slice(), &names.resource_types);
     let times = table_of(
         alloc,
         instance.times.as_slice(),
@@ -66,7 +72,7 @@ pub(crate) fn lookup_of<'a>(
         &names.events,
         &names.event_groups,
     );
-    let (times, (resources, events)) = both(times, both(resources, events))?;
+    let (types, (times, (resources, events))) = both(types, both(times, both(resources, events)))?;
     let tables = Tables {
         times,
         resources,
@@ -75,6 +81,7 @@ pub(crate) fn lookup_of<'a>(
     Ok(Lookup {
         instance,
         names,
+        types,
         tables,
     })
 }
