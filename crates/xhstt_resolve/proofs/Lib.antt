@@ -5,6 +5,7 @@ pub mod AnswersLemmas
 pub mod JoinedLemmas
 pub mod MentionsLemmas
 pub mod MonitorsLemmas
+pub mod OnceLemmas
 pub mod SizesLemmas
 pub mod StepsLemmas
 pub mod TablesLemmas

@@ -74,12 +74,13 @@ read_at f ids id = by (number_of id ids) refl
         ∙ sym (ap (λ b. if b then f id else []) (is_among_at id ids g place.0 place.1))
 
 pub IsTableOf-made : {X : Type 0} (groups : X → List (List ℕ)) (xs : List X) (t : Table) → length xs < 2 ^ 32
-    → length t.names.now ≡ length xs
+    → length t.group_names.now < 2 ^ 32 → length t.names.now ≡ length xs
     → t.members ≡ map (members groups xs) t.group_names.now
     → IsTableOf t.names.now (members_in t.group_names.now groups xs) t
-IsTableOf-made groups xs t few same made = record {
+IsTableOf-made groups xs t few few_groups same made = record {
   table = record {
     small = omega (arith, few, same);
+    few_groups = few_groups;
     whole = sym (ap length made ∙ length-map t.group_names.now (members groups xs));
     within = λ id. subst (λ ns. All (λ n. n < length t.names.now) ns) (sym (at id))
         (All-weaker (λ n. n < length xs) (λ n. n < length t.names.now) (λ n l. omega (arith, l, same))

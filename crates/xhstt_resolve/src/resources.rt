@@ -1,36 +1,63 @@
-ghost use Rattle.std.specs.Prelude.{◌≡◌, map, IfOk};
+ghost use Rattle.std.specs.Prelude.{◌≡◌, ◌<◌, ◌^◌, length, map, unwrap_or, IfOk};
+ghost use Rattle.khe_base.specs.Names.{number_of};
 ghost use Rattle.xhstt_resolve.specs.Parts.{type_named, type_at, type_of_resource, resource_of, group_of};
 ghost use Rattle.xhstt_resolve.specs.Tables.{IsLookup};
 
 use crate::tables::Lookup;
-use khe_base::{NoMemory, Seq};
+use khe_base::{Names, NoMemory, Seq};
 use khe_instance::{GroupInfo, ResourceInfo};
 use std::alloc::Global;
-use xhstt_shape::Ref;
+use xhstt_shape::{RawResource, Ref};
 
-/// The number of the resource type that is named, and 0 where none is, in constant time on average.
-pub(crate) fn type_named(lookup: &Lookup<'_>, reference: &Ref) -> u32
-    requires { IsLookup lookup.now }
-    ensures { result ≡ type_named lookup.now.instance.now reference.now }
+/// The numbers of the types of resources, 0 where no type is named. It takes time in proportion to
+/// the references to types, on average, and memory in proportion to the resources.
+pub(crate) fn types_of(
+    alloc: Global,
+    resources: &[RawResource],
+    types: &Names,
+) -> Result<Seq<u32>, NoMemory>
+    requires { length types.now < 2 ^ 32 }
+    ensures { IfOk result (λ ts. ts ≡ map (λ r. unwrap_or (number_of r.resource_type.id types.now) 0) resources.now) }
 {
-    match lookup.names.resource_types.number(&reference.id) {
+    let mut numbers = Seq::new(alloc);
+    for resource in resources {
+        numbers.push(type_number(types, &resource.resource_type))?;
+    }
+    Ok(numbers)
+}
+
+/// The number of the type that is named, and 0 where none is, in the time of a hash of the Id.
+fn type_number(types: &Names, reference: &Ref) -> u32
+    requires { length types.now < 2 ^ 32 }
+    ensures { result ≡ unwrap_or (number_of reference.now.id types.now) 0 }
+{
+    match types.number(&reference.id) {
         Some(number) => number as u32,
         None => 0,
     }
 }
 
-/// The type of the resource with a number, in constant time on average.
+/// The number of the resource type that is named, and 0 where none is, in the time of a hash of the
+/// Id.
+pub(crate) fn type_named(lookup: &Lookup<'_>, reference: &Ref) -> u32
+    requires { IsLookup lookup.now }
+    ensures { result ≡ type_named lookup.now.instance.now reference.now }
+{
+    type_number(&lookup.names.resource_types, reference)
+}
+
+/// The type of the resource with a number, in constant time.
 pub(crate) fn type_at(lookup: &Lookup<'_>, number: u32) -> u32
     requires { IsLookup lookup.now }
     ensures { result ≡ type_at lookup.now.instance.now number }
 {
-    match lookup.instance.resources.as_slice().get(number as usize) {
-        Some(resource) => type_named(lookup, &resource.resource_type),
+    match lookup.types.as_slice().get(number as usize) {
+        Some(rtype) => *rtype,
         None => 0,
     }
 }
 
-/// The type of the resource that is named, in constant time on average.
+/// The type of the resource that is named, in the time of a hash of the Id.
 pub(crate) fn type_of_resource(lookup: &Lookup<'_>, reference: &Ref) -> u32
     requires { IsLookup lookup.now }
     ensures { result ≡ type_of_resource lookup.now.instance.now reference.now }

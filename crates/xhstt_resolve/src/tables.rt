@@ -2,10 +2,11 @@ ghost use Rattle.std.specs.Prelude.{◌≡◌, ◌<◌, ◌≤◌, ◌^◌, leng
 ghost use Rattle.std.specs.List.{fold, flat_map};
 ghost use Rattle.khe_base.specs.Names.{number_of};
 ghost use Rattle.xhstt_resolve.specs.Members.{set_of, first_mentions, numbers_of, members_in};
-ghost use Rattle.xhstt_resolve.specs.Tables.{IsTable, IsTableOf, IsLookup, HasNames, HasKeptCounts, members_at, listed_at};
+ghost use Rattle.xhstt_resolve.specs.Tables.{IsTable, IsTableOf, IsLookup, HasNames, HasKeptCounts, members_numbered, members_at, listed_at, listed_once};
 
 use crate::collecting::{Collect, Mentions};
 use crate::members::{Grouped, members_of};
+use crate::resources::types_of;
 use khe_base::{IdSet, Names, NoMemory, Seq, Text, both};
 use std::alloc::Global;
 use xhstt_references::Directory;
@@ -33,11 +34,15 @@ pub(crate) struct Tables<'a> {
 pub(crate) struct Lookup<'a> {
     pub instance: &'a RawInstance,
     pub names: &'a Directory,
+    /// The numbers of the types of the resources: a type's Id may be long, and is followed once for
+    /// each resource, not at each place that the resource takes.
+    pub types: Seq<u32>,
     pub tables: Tables<'a>,
 }
 
 /// The lookup of an instance. It takes time and memory in proportion to the references to groups of
-/// its times, resources and events, and to the groups, on average.
+/// its times, resources and events, to those to types of its resources, and to the groups, on
+/// average.
 pub(crate) fn lookup_of<'a>(
     alloc: Global,
     instance: &'a RawInstance,
@@ -48,6 +53,7 @@ pub(crate) fn lookup_of<'a>(
     ensures lookup { IfOk result IsLookup }
     ensures instance { IfOk result (λ l. l.instance.now ≡ instance.now) }
 {
+    let types = types_of(alloc, instance.resources.as_slice(), &names.resource_types);
     let times = table_of(
         alloc,
         instance.times.as_slice(),
@@ -66,7 +72,7 @@ pub(crate) fn lookup_of<'a>(
         &names.events,
         &names.event_groups,
     );
-    let (times, (resources, events)) = both(times, both(resources, events))?;
+    let (types, (times, (resources, events))) = both(types, both(times, both(resources, events)))?;
     let tables = Tables {
         times,
         resources,
@@ -75,6 +81,7 @@ pub(crate) fn lookup_of<'a>(
     Ok(Lookup {
         instance,
         names,
+        types,
         tables,
     })
 }
@@ -87,6 +94,7 @@ fn table_of<'a, T: Grouped>(
     group_names: &'a Names,
 ) -> Result<Table<'a>, NoMemory>
     requires few { length items.now < 2 ^ 32 }
+    requires few_groups { length group_names.now < 2 ^ 32 }
     requires same { length names.now ≡ length items.now }
     ensures { IfOk result (IsTableOf names.now (members_in group_names.now T.groups items.now)) }
 {
@@ -123,7 +131,18 @@ impl<'a> Table<'a> {
         ensures { result.now ≡ members_at self.now group.now }
     {
         match self.group_names.number(group) {
-            Some(number) => self.members.as_slice()[number].as_slice(),
+            Some(number) => self.members_numbered(number as u32),
+            None => &[],
+        }
+    }
+
+    /// The members of the group with a number, and none where there is no such group, in constant
+    /// time.
+    fn members_numbered(&self, group: u32) -> &[u32]
+        ensures { result.now ≡ members_numbered self.now group }
+    {
+        match self.members.as_slice().get(group as usize) {
+            Some(members) => members.as_slice(),
             None => &[],
         }
     }
@@ -138,19 +157,19 @@ impl<'a> Table<'a> {
         Ok(set)
     }
 
-    /// The set of what is listed. It takes time in proportion to the items and to the list with its
-    /// groups followed out, and memory in proportion to the items.
+    /// The set of what is listed. It takes time in proportion to the list, on average, to the members
+    /// of the groups in it, each group once however often it is listed, and to a 64th of the items
+    /// and groups; and memory in proportion to the items and groups.
     pub fn set(&self, alloc: Global, groups: &[Ref], singles: &[Ref]) -> Result<IdSet, NoMemory>
         requires { IsTable self.now }
         ensures { IfOk result (λ s. s ≡ set_of (length self.now.names.now) (listed_at self.now groups.now singles.now)) }
     {
         let mut set = IdSet::new(alloc, self.size())?;
-        self.collect(groups, singles, &mut set)?;
+        self.collect(alloc, groups, singles, &mut set)?;
         Ok(set)
     }
 
-    /// What is listed, each item at its first mention. It takes time in proportion to the items and
-    /// to the list with its groups followed out, and memory in proportion to the items.
+    /// What is listed, each item at its first mention. It takes the time and memory of the set.
     pub fn first_mentions(
         &self,
         alloc: Global,
@@ -162,32 +181,34 @@ impl<'a> Table<'a> {
         ensures few { IfOk result (λ ns. length ns ≤ length self.now.names.now) }
     {
         let mut mentions = Mentions::new(alloc, self.size())?;
-        self.collect(groups, singles, &mut mentions)?;
+        self.collect(alloc, groups, singles, &mut mentions)?;
         let Mentions { seen: _, numbers } = mentions;
         Ok(numbers)
     }
 
-    /// Collects what is listed: the members of each group, and then what is listed singly.
+    /// Collects what is listed: the members of each group, at the group's first mention alone, and
+    /// then what is listed singly.
     fn collect<C: Collect>(
         &self,
+        alloc: Global,
         groups: &[Ref],
         singles: &[Ref],
         into: &mut C,
     ) -> Result<(), NoMemory>
         requires { IsTable self.now }
-        ensures { OnOk result (into.new ≡ fold C.added into.old (listed_at self.now groups.now singles.now)) }
+        ensures { OnOk result (into.new ≡ fold C.added into.old (listed_once self.now groups.now singles.now)) }
     {
-        self.collect_members(groups, into)?;
+        let groups = first_named(alloc, self.group_names, groups)?;
+        self.collect_members(groups.as_slice(), into)?;
         collect_named(self.names, singles, into)
     }
 
     /// Collects the members of groups, group by group.
-    fn collect_members<C: Collect>(&self, groups: &[Ref], into: &mut C) -> Result<(), NoMemory>
-        requires { IsTable self.now }
-        ensures { OnOk result (into.new ≡ fold C.added into.old (flat_map (λ g. members_at self.now g.id) groups.now)) }
+    fn collect_members<C: Collect>(&self, groups: &[u32], into: &mut C) -> Result<(), NoMemory>
+        ensures { OnOk result (into.new ≡ fold C.added into.old (flat_map (members_numbered self.now) groups.now)) }
     {
         for group in groups {
-            add_all(self.members(&group.id), into)?;
+            add_all(self.members_numbered(*group), into)?;
         }
         Ok(())
     }

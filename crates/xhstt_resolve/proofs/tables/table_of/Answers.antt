@@ -6,4 +6,4 @@ pub returns : goal.returns
 returns g c =
     IsTableOf-made g.T.Grouped.groups c.args.items.now
     (record { names = c.args.names; group_names = c.args.group_names; members = c.in_ok-members.members })
-    c.requires.few c.requires.same c.in_ok-members.ensures
+    c.requires.few c.requires.few_groups c.requires.same c.in_ok-members.ensures
