@@ -394,14 +394,14 @@ unfolding constraint_of
 constraint_in k e h = record { weight = lower_in tag.Weight e; rule = rule_in k e h; applies = applies_in k e }
 
 -- the child of the table for constraints of a kind
-abbrev kind_rule : Kind → Child
+abbrev pub kind_rule : Kind → Child
 kind_rule k = many (tag.Constraint k) (row.Constraint k)
 
-rules_of_kinds : children row.Constraints ≡ map kind_rule kinds
+pub rules_of_kinds : children row.Constraints ≡ map kind_rule kinds
 unfolding children
 rules_of_kinds = refl
 
-rule_for-kinds : (ks : List Kind) (name : List ℕ)
+pub rule_for-kinds : (ks : List Kind) (name : List ℕ)
     → rule_for (map kind_rule ks) name ≡ option_map kind_rule (kind_among ks name)
 unfolding word
 rule_for-kinds [] name = refl

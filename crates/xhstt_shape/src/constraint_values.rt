@@ -78,10 +78,7 @@ fn constraints_among(
 
 /// The constraint of an element, where a kind has its name.
 #[tactic(auto, unfolding(crate::specs::Values::constraint))]
-fn constraint(
-    alloc: Global,
-    element: &Element<'_, '_>,
-) -> Result<Option<RawConstraint>, NoMemory>
+fn constraint(alloc: Global, element: &Element<'_, '_>) -> Result<Option<RawConstraint>, NoMemory>
     ensures { IfOk result (λ c. c ≡ spec.constraint element.now) }
 {
     match kind_of(element.name()) {
