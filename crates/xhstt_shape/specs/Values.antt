@@ -1,5 +1,6 @@
 -- What an element says, for each sort of element, as total functions: where an element lacks what it
--- must have, or that is not in form, a value stands in which no archive without a fault has.
+-- must have, or that is not in form, a value stands in. In an element without a fault none does, as
+-- `Present` says.
 use Rattle.std.specs.Prelude.{ℕ, Bool, false, if◌then◌else◌, Option, Some, None, unwrap_or, List, [], ◌∷◌, map, find}
 use Rattle.std.specs.List.{filter_map}
 use Rattle.std.specs.Option.{option_map, option_and_then}
