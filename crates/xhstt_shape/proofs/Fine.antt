@@ -29,11 +29,11 @@ abbrev pub IsFine : Outcome → Type 0
 IsFine (Ok u) = Unit {0}
 IsFine (Err fault) = ⊥
 
-fine_both : (a b : Outcome) → IsFine (followed_by a b) → IsFine a × IsFine b
+pub fine_both : (a b : Outcome) → IsFine (followed_by a b) → IsFine a × IsFine b
 fine_both (Ok u) b h = (tt, h)
 fine_both (Err f) b h = absurd h
 
-fine_unless : (b : Bool) (kind at : ℕ) → IsFine (unless b (bad kind at)) → b ≡ true
+pub fine_unless : (b : Bool) (kind at : ℕ) → IsFine (unless b (bad kind at)) → b ≡ true
 fine_unless true kind at h = refl
 fine_unless false kind at h = absurd h
 
@@ -55,7 +55,7 @@ by_test true c seen i kids others h = absurd h
 by_test false c seen i kids others h =
     fine_both (fault_of (settled c.row i) (record { info = i; kids = kids })) (others (with_seen c seen)) h
 
-by_found : (found : Option Child) (seen : List Tag) (i : Info) (kids : Forest) (others : List Tag → Outcome)
+pub by_found : (found : Option Child) (seen : List Tag) (i : Info) (kids : Forest) (others : List Tag → Outcome)
     → IsFine (by_rule (rule_or_fault found seen i) seen i kids (λ own. children_fault own [] kids) others)
     → (c : Child) × (found ≡ Some c) × IsFine (fault_of (settled c.row i) (record { info = i; kids = kids }))
     × IsFine (others (with_seen c seen))

@@ -4,10 +4,10 @@ use Rattle.std.proofs.Common.{Ok, Err, List, [], ◌∷◌, map, All, IfSome, If
 use Rattle.std.proofs.Common.{sym, ap, subst, ◌∙◌, arith, encode_utf8_all}
 use Rattle.std.specs.Prelude.{unwrap_or}
 use Rattle.std.specs.Option.{option_map, option_and_then}
-use Rattle.std.specs.List.{list_all}
+use Rattle.std.specs.List.{list_all, filter_map, cons_option}
 use Rattle.std.specs.Str.{bytes_eq, is_utf8}
 use Rattle.std.proofs.lemmas.Bool.{and_parts, cases_Bool, cond_both, leb-true}
-use Rattle.std.proofs.lemmas.List.Elements.{All-nil, All-cons, All-map, All-weaker}
+use Rattle.std.proofs.lemmas.List.Elements.{All-nil, All-cons, All-head, All-tail, All-map, All-weaker}
 use Rattle.std.proofs.lemmas.Str.{IsUtf8-from_is_utf8, encodes-chars}
 use Rattle.khe_base.specs.Text.{text_of, characters}
 use Rattle.khe_base.specs.declared.limits.TheConstants.{NUMBER}
@@ -58,6 +58,18 @@ all_made P Q f go xs h = All-map P f xs (All-weaker Q (λ x. P (f x)) go xs h)
 each_made : {X Y : Type 0} (P : Y → Type 0) (f : X → Y) → ((x : X) → P (f x)) → (xs : List X) → All P (map f xs)
 each_made P f go [] = All-nil P
 each_made P f go (x ∷ xs) = All-cons P (f x) (map f xs) (go x) (each_made P f go xs)
+
+-- each element of a list that is made of some of another
+with_found : {Y : Type 0} (P : Y → Type 0) (o : Option Y) (ys : List Y) → IfSome o P → All P ys
+    → All P (cons_option o ys)
+with_found P None ys h k = k
+with_found P (Some y) ys h k = All-cons P y ys h k
+
+pub all_found : {X Y : Type 0} (P : Y → Type 0) (Q : X → Type 0) (f : X → Option Y) → ((x : X) → Q x → IfSome (f x) P)
+    → (xs : List X) → All Q xs → All P (filter_map f xs)
+all_found P Q f go [] h = All-nil P
+all_found P Q f go (x ∷ xs) h =
+    with_found P (f x) (filter_map f xs) (go x (All-head Q x xs h)) (all_found P Q f go xs (All-tail Q x xs h))
 
 -- numbers
 
@@ -382,14 +394,14 @@ unfolding constraint_of
 constraint_in k e h = record { weight = lower_in tag.Weight e; rule = rule_in k e h; applies = applies_in k e }
 
 -- the child of the table for constraints of a kind
-abbrev kind_rule : Kind → Child
+abbrev pub kind_rule : Kind → Child
 kind_rule k = many (tag.Constraint k) (row.Constraint k)
 
-rules_of_kinds : children row.Constraints ≡ map kind_rule kinds
+pub rules_of_kinds : children row.Constraints ≡ map kind_rule kinds
 unfolding children
 rules_of_kinds = refl
 
-rule_for-kinds : (ks : List Kind) (name : List ℕ)
+pub rule_for-kinds : (ks : List Kind) (name : List ℕ)
     → rule_for (map kind_rule ks) name ≡ option_map kind_rule (kind_among ks name)
 unfolding word
 rule_for-kinds [] name = refl
@@ -399,20 +411,21 @@ rule_for-kinds (k ∷ ks) name =
       | inr e ↦ rw e (rule_for-kinds ks name)
     ]
 
-kind_from : (o : Option Kind) (c : Child) → option_map kind_rule o ≡ Some c
-    → c ≡ kind_rule (unwrap_or o kind.LinkEvents)
-kind_from None c e = cc
-kind_from (Some k) c e = cc
+made_of_kind : (o : Option Kind) (c : Child) (e : Standing) → option_map kind_rule o ≡ Some c
+    → IsFine (fault_of (settled c.row e.info) e) → IfSome (option_map (λ k. constraint_of k e) o) IsConstraint
+unfolding settled
+made_of_kind None c e is h = tt
+made_of_kind (Some k) c e is h =
+    let same : c ≡ kind_rule k = cc in
+    let P : Child → Type 0 = λ x. IsFine (fault_of (settled x.row e.info) e) in
+    constraint_in k e (subst P same h)
 
-constraint_child_in : (e : Standing) → FineChild row.Constraints e → IsConstraint (constraint e)
-unfolding constraint kind_of settled
+constraint_child_in : (e : Standing) → FineChild row.Constraints e → IfSome (constraint e) IsConstraint
+unfolding constraint
 constraint_child_in e h =
-    let k : Kind = kind_of e.info.name in
-    let found : option_map kind_rule (kind_among kinds e.info.name) ≡ Some h.rule =
+    let found : option_map kind_rule (kind_of e.info.name) ≡ Some h.rule =
     sym (rule_for-kinds kinds e.info.name) ∙ sym (ap (λ rules. rule_for rules e.info.name) rules_of_kinds) ∙ h.found in
-    let is : h.rule ≡ kind_rule k = kind_from (kind_among kinds e.info.name) h.rule found in
-    let P : Child → Type 0 = λ c. IsFine (fault_of (settled c.row e.info) e) in
-    constraint_in k e (subst P is h.own)
+    made_of_kind (kind_of e.info.name) h.rule e found h.own
 
 -- instances
 
@@ -452,7 +465,7 @@ instance_in e h =
       events = all_made IsEvent (FineNamed row.Events tag.Event) event
           (λ x f. event_in x (named_inside row.Events tag.Event row.Event x events_event f))
           (named tag.Event events) (named_fine row.Events tag.Event events fine_events);
-      constraints = all_made IsConstraint (FineChild row.Constraints) constraint constraint_child_in
+      constraints = all_found IsConstraint (FineChild row.Constraints) constraint constraint_child_in
           (elements constraints) (elements_fine row.Constraints constraints fine_constraints);
     }
 

@@ -1,5 +1,6 @@
 pub mod Fine
 pub mod InForm
+pub mod Present
 pub mod Spellable
 pub mod Trimming
 pub mod WellFormed

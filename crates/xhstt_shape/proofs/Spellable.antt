@@ -37,7 +37,7 @@ use Rattle.xhstt_shape.specs.Values as value
 use Rattle.xhstt_shape.specs.Values.{elements, named, kids_of}
 use Rattle.xhstt_shape.specs.Walk.{attribute, child}
 use Rattle.xhstt_shape.specs.Words.{word, label_word}
-use Rattle.xhstt_shape.proofs.InForm.{shape-told}
+use Rattle.xhstt_shape.proofs.InForm.{all_found, shape-told}
 
 -- white may be cut off at the ends
 
@@ -400,16 +400,22 @@ rule-spellable kind.ClusterBusyTimes e h = references-spellable tag.TimeGroups e
 rule-spellable kind.LimitBusyTimes e h = references-spellable tag.TimeGroups e h
 rule-spellable kind.LimitWorkload e h = tt
 
-constraint-spellable : (e : Standing) → IsCleanElement e → IsSpellableConstraint (value.constraint e)
-unfolding value.constraint value.constraint_of
+constraint_of-spellable : (k : Kind) (e : Standing) → IsCleanElement e → IsSpellableConstraint (value.constraint_of k e)
+unfolding value.constraint_of
+constraint_of-spellable k e h = record {
+  id = id-spellable e h;
+  name = name-spellable e h;
+  applies = applies-spellable k e h;
+  rule = rule-spellable k e h;
+}
+
+constraint-spellable : (e : Standing) → IsCleanElement e → IfSome (value.constraint e) IsSpellableConstraint
+unfolding value.constraint
 constraint-spellable e h =
-    let k : Kind = value.kind_of e.info.name in
-    record {
-      id = id-spellable e h;
-      name = name-spellable e h;
-      applies = applies-spellable k e h;
-      rule = rule-spellable k e h;
-    }
+    let go : (o : Option Kind) → IfSome (option_map (λ k. value.constraint_of k e) o) IsSpellableConstraint =
+    λ o. elim o as (λ x. IfSome (option_map (λ k. value.constraint_of k e) x) IsSpellableConstraint)
+    [ None ↦ tt | Some k ↦ constraint_of-spellable k e h ] in
+    go (value.kind_of e.info.name)
 
 instance-spellable : (e : Standing) → IsCleanElement e → IsSpellableInstance (value.instance e)
 unfolding value.instance
@@ -430,8 +436,8 @@ instance-spellable e h = record {
       (value.every_inside tag.Events tag.EventGroups e) (every_inside_clean tag.Events tag.EventGroups e h);
   events = each IsSpellableEvent value.event event-spellable (value.all_inside tag.Events tag.Event e)
       (all_inside_clean tag.Events tag.Event e h);
-  constraints = each IsSpellableConstraint value.constraint constraint-spellable (value.every tag.Constraints e)
-      (every_clean tag.Constraints e h);
+  constraints = all_found IsSpellableConstraint IsCleanElement value.constraint constraint-spellable
+      (value.every tag.Constraints e) (every_clean tag.Constraints e h);
 }
 
 given-spellable : (e : Standing) → IsCleanElement e → IsSpellableGiven (value.given e)

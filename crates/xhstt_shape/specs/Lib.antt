@@ -1,7 +1,9 @@
 pub mod Characters
 pub mod Contents
+pub mod Examples
 pub mod Faults
 pub mod Places
+pub mod Present
 pub mod Schema
 pub mod Shape
 pub mod Values

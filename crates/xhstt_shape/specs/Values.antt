@@ -1,6 +1,8 @@
 -- What an element says, for each sort of element, as total functions: where an element lacks what it
--- must have, or that is not in form, a value stands in which no archive without a fault has.
+-- must have, or that is not in form, a value stands in. In an element without a fault none does, as
+-- `Present` says.
 use Rattle.std.specs.Prelude.{ℕ, Bool, false, if◌then◌else◌, Option, Some, None, unwrap_or, List, [], ◌∷◌, map, find}
+use Rattle.std.specs.List.{filter_map}
 use Rattle.std.specs.Option.{option_map, option_and_then}
 use Rattle.std.specs.Str.{bytes_eq}
 use Rattle.khe_base.specs.declared.costs.CostFn.{CostFn}
@@ -336,9 +338,9 @@ kinds = kind.AssignTime ∷ (kind.AssignResource ∷ (kind.SplitEvents ∷ (kind
 abbrev pub kind_among : List Kind → List ℕ → Option Kind
 kind_among kinds name = find (λ k. bytes_eq (kind_word k) name) kinds
 
--- the kind of a constraint, by its element's name
-unfoldable pub kind_of : List ℕ → Kind
-kind_of name = unwrap_or (kind_among kinds name) kind.LinkEvents
+-- the kind of a constraint, by its element's name; another name has none
+abbrev pub kind_of : List ℕ → Option Kind
+kind_of name = kind_among kinds name
 
 -- a constraint of a kind
 unfoldable pub constraint_of : Kind → Standing → RawConstraint
@@ -352,8 +354,9 @@ constraint_of k e = record {
   rule = rule k e;
 }
 
-unfoldable pub constraint : Standing → RawConstraint
-constraint e = constraint_of (kind_of e.info.name) e
+-- the constraint of an element; where no kind has its name, it is none
+unfoldable pub constraint : Standing → Option RawConstraint
+constraint e = option_map (λ k. constraint_of k e) (kind_of e.info.name)
 
 unfoldable pub instance : Standing → RawInstance
 instance e = record {
@@ -366,7 +369,7 @@ instance e = record {
   resources = map resource (all_inside tag.Resources tag.Resource e);
   event_groups = map event_group (every_inside tag.Events tag.EventGroups e);
   events = map event (all_inside tag.Events tag.Event e);
-  constraints = map constraint (every tag.Constraints e);
+  constraints = filter_map constraint (every tag.Constraints e);
 }
 
 unfoldable pub given : Standing → RawGiven

@@ -1,9 +1,11 @@
-ghost use Rattle.std.specs.Prelude.{◌≡◌, IfOk, map};
+ghost use Rattle.std.specs.Prelude.{◌≡◌, IfOk};
+ghost use Rattle.std.specs.List.{filter_map};
 ghost use Rattle.xhstt_shape.specs.Values as spec;
 ghost use Rattle.xhstt_shape.specs.declared.words.Tag.TheVariants as tag;
 
 use crate::building::{Build, every, every_inside};
 use crate::constraints::{RawApplies, RawConstraint, RawPair, RawRule, RawSpread};
+use crate::finding::child;
 use crate::leaves::{
     cost_function, duration, id, lower, name, optional_duration, required, the_reference, the_role,
     upper,
@@ -41,12 +43,47 @@ impl Build for RawSpread {
     }
 }
 
-impl Build for RawConstraint {
-    ghost value = { spec.constraint };
+/// The constraints of an instance, in the order of the text. A child whose name no kind has is none:
+/// in an archive without a fault there is no such child. It takes time and memory linear in the
+/// element.
+#[tactic(auto, unfolding(crate::specs::Values::every))]
+pub(crate) fn constraints(
+    alloc: Global,
+    instance: &Element<'_, '_>,
+) -> Result<Seq<RawConstraint>, NoMemory>
+    ensures { IfOk result (λ list. list ≡ filter_map spec.constraint (spec.every tag.Constraints instance.now)) }
+{
+    match child(Tag::Constraints, instance) {
+        Some(found) => constraints_among(alloc, &found),
+        None => Ok(Seq::new(alloc)),
+    }
+}
 
-    #[tactic(auto, unfolding(crate::specs::Values::constraint))]
-    fn build(alloc: Global, element: &Element<'_, '_>) -> Result<RawConstraint, NoMemory> {
-        constraint_of(alloc, kind_of(element.name()), element)
+/// The constraints among the children of an element.
+fn constraints_among(
+    alloc: Global,
+    element: &Element<'_, '_>,
+) -> Result<Seq<RawConstraint>, NoMemory>
+    ensures { IfOk result (λ list. list ≡ filter_map spec.constraint (spec.elements element.now.kids)) }
+{
+    let mut rest = element.children();
+    let mut list = Seq::new(alloc);
+    while let Some(next) = rest.next() {
+        if let Some(made) = constraint(alloc, &next)? {
+            list.push(made)?;
+        }
+    }
+    Ok(list)
+}
+
+/// The constraint of an element, where a kind has its name.
+#[tactic(auto, unfolding(crate::specs::Values::constraint))]
+fn constraint(alloc: Global, element: &Element<'_, '_>) -> Result<Option<RawConstraint>, NoMemory>
+    ensures { IfOk result (λ c. c ≡ spec.constraint element.now) }
+{
+    match kind_of(element.name()) {
+        Some(kind) => Ok(Some(constraint_of(alloc, kind, element)?)),
+        None => Ok(None),
     }
 }
 
@@ -70,15 +107,11 @@ const KINDS: [Kind; 16] = [
     Kind::LimitWorkload,
 ];
 
-/// The kind of a constraint, by its element's name.
-#[tactic(auto, unfolding(crate::specs::Values::kind_of))]
-fn kind_of(name: &[u8]) -> Kind
+/// The kind of a constraint, by its element's name; another name has none.
+fn kind_of(name: &[u8]) -> Option<Kind>
     ensures { result ≡ spec.kind_of name.now }
 {
-    match kind_among(&KINDS, name) {
-        Some(kind) => kind,
-        None => Kind::LinkEvents,
-    }
+    kind_among(&KINDS, name)
 }
 
 /// The kind among these whose constraint has this name.

@@ -2,6 +2,7 @@ ghost use Rattle.std.specs.Prelude.{◌≡◌, IfOk};
 ghost use Rattle.xhstt_shape.specs.Values as spec;
 
 use crate::building::{Build, all_inside, every, every_inside, optional};
+use crate::constraint_values::constraints;
 use crate::leaves::{
     attribute_text, duration, id, name, optional_reference, the_reference, workload,
 };
@@ -234,7 +235,7 @@ impl Build for RawInstance {
             every_inside(alloc, Tag::Events, Tag::EventGroups, element),
             all_inside(alloc, Tag::Events, Tag::Event, element),
         );
-        let constraints = every(alloc, Tag::Constraints, element);
+        let constraints = constraints(alloc, element);
         let (
             ((id, meta_data), (time_groups, times)),
             ((resource_types, (resource_groups, resources)), ((event_groups, events), constraints)),

@@ -1,5 +1,6 @@
 -- Instances, read back.
 use Rattle.std.proofs.Common.{◌≡◌, ℕ, true, Option, Some, None, List, [], map, All, IfSome, refl, ap, ◌∙◌}
+use Rattle.std.specs.List.{filter_map}
 use Rattle.std.specs.Option.{option_map}
 use Rattle.xhstt_text.specs.Forest.{Forest}
 use Rattle.xhstt_text.specs.Handles.{Standing}
@@ -31,14 +32,15 @@ use Rattle.xhstt_shape.specs.Values as value
 use Rattle.xhstt_shape.specs.Walk.{child}
 use Rattle.xhstt_shape.specs.Words.{word}
 use Rattle.xhstt_writer.specs.Standing.{Stands}
-use Rattle.xhstt_writer.specs.Parts.{reference, bodies_if, row}
+use Rattle.xhstt_writer.specs.Parts.{reference, each, around, bodies_if, row}
 use Rattle.xhstt_writer.specs.Canonical.{meta_data, event, constraint_tag, constraint}
 use Rattle.xhstt_writer.specs.Archives.{named_parts, named, time_sort_tag, time_group_tag, time_group, time_parts, time}
 use Rattle.xhstt_writer.specs.Archives.{times_parts, resource_type, resource_group_parts, resource_group}
 use Rattle.xhstt_writer.specs.Archives.{resource_parts, resource, resources_parts, group_sort_tag, event_group_tag}
 use Rattle.xhstt_writer.specs.Archives.{event_group, events_parts, instance_parts, instance}
 use Rattle.xhstt_writer.specs.Lookups.{StandsAs, bodies_of, are_apart, IsFirst}
-use Rattle.xhstt_writer.proofs.Found.{child-found, named-found, around-stands, list-read, many-read, optional-read}
+use Rattle.xhstt_writer.proofs.Found.{child-found, named-found, around-stands, list-read, all_kept, many-read}
+use Rattle.xhstt_writer.proofs.Found.{optional-read}
 use Rattle.xhstt_writer.proofs.Fields.{name-text, reference-read, id-read}
 use Rattle.xhstt_writer.proofs.ListLemmas.{All-both}
 use Rattle.xhstt_writer.proofs.MetaDataLaw.{meta_data-read}
@@ -260,6 +262,16 @@ pub good_constraints : (x : RawInstance) → IsInstance x → IsSpellableInstanc
 good_constraints x f s = All-both IsConstraint IsSpellableConstraint IsGoodConstraint
     (λ c a b. record { in_form = a; spellable = b }) x.constraints f.constraints s.constraints
 
+constraints-read : (x : RawInstance) (found : Option Standing) → All IsGoodConstraint x.constraints
+    → IsFirst tag.Constraints (around (each constraint_tag constraint x.constraints)) found
+    → map place.constraint (filter_map value.constraint (value.elements (value.kids_of found)))
+    ≡ map place.constraint x.constraints
+constraints-read x found g h =
+    all_kept place.constraint value.constraint place.constraint (value.elements (value.kids_of found)) x.constraints
+    (list-read tag.Constraints constraint_tag constraint value.constraint (λ c. Some (place.constraint c))
+    (option_map place.constraint) IsGoodConstraint (λ c d p q. constraint-read c d p.in_form p.spellable q)
+    x.constraints found g h)
+
 -- what is said of an instance as a whole
 pub meta_data_if : (m : Option MetaData) (found : Option Standing) → IfSome m IsSpellableMetaData
     → IsFirst tag.MetaData (bodies_if meta_data m) found → option_map value.meta_data found ≡ m
@@ -297,9 +309,8 @@ instance-read t x e g h =
     let resources = resources-read x (value.kids_of (child tag.Resources e.kids)) s.resources resources_here in
     let sets = event_groups-read x (value.kids_of (child tag.Events e.kids)) s.event_groups events_here in
     let events = events-read x (value.kids_of (child tag.Events e.kids)) (good_events x g.in_form s) events_here in
-    let constraints = list-read tag.Constraints constraint_tag constraint value.constraint place.constraint
-    place.constraint IsGoodConstraint (λ c d p q. constraint-read c d p.in_form p.spellable q) x.constraints
-    (child tag.Constraints e.kids) (good_constraints x g.in_form s) (found tag.Constraints) in
+    let constraints = constraints-read x (child tag.Constraints e.kids) (good_constraints x g.in_form s)
+    (found tag.Constraints) in
     λ i. record {
       id = id i;
       meta_data = about i;
