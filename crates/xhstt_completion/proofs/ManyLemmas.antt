@@ -26,7 +26,7 @@ use Rattle.xhstt_completion.specs.Causes.{is_place_for, place_cause, given_cause
 use Rattle.xhstt_completion.specs.Completed.{given_for}
 use Rattle.xhstt_completion.specs.Entries.{resource_of, role_of}
 use Rattle.xhstt_completion.specs.Tables.{is_given, wanted_role, wanted_roles, named_cause, unnamed_cause}
-use Rattle.xhstt_completion.specs.declared.faults.TheConstants.{BAD_ROLE, FIXED_RESOURCE, WRONG_TYPE}
+use Rattle.fault_tables.specs.declared.causes.TheConstants.{BAD_ROLE, FIXED_RESOURCE, WRONG_TYPE}
 use Rattle.xhstt_completion.proofs.Pieces.{found}
 use Rattle.xhstt_completion.proofs.TableLemmas.{place-map, place-same, any-place, find-place}
 use Rattle.xhstt_completion.proofs.CausesLemmas.{at_place}

@@ -12,7 +12,7 @@ use Rattle.khe_instance.specs.declared.parts.Parts.{Parts}
 use Rattle.khe_instance.specs.declared.parts.Place.{Place}
 use Rattle.xhstt_completion.specs.Causes.{is_place_for, place_cause}
 use Rattle.xhstt_completion.specs.Entries.{role_of}
-use Rattle.xhstt_completion.specs.declared.faults.TheConstants.{BAD_ROLE}
+use Rattle.fault_tables.specs.declared.causes.TheConstants.{BAD_ROLE}
 use Rattle.xhstt_completion.specs.declared.many.Wanted.{Wanted}
 use Rattle.xhstt_completion.specs.declared.tables.RoleTable.{RoleTable}
 use Rattle.xhstt_shape.specs.declared.records.RawGiven.{RawGiven}

@@ -10,8 +10,8 @@ ghost use Rattle.xhstt_completion.specs.Entries.{resource_of, role_of};
 ghost use Rattle.xhstt_completion.specs.Tables.{Finds, HasUnnamed, IsWanted, is_given, named_cause, unnamed_cause, wanted_role, wanted_roles};
 
 use crate::causes::place_cause;
-use crate::faults::BAD_ROLE;
 use crate::tables::{RoleTable, roles_given};
+use fault_tables::BAD_ROLE;
 use khe_base::{IdSet, NoMemory, ResourceId, Text, beside, both};
 use khe_instance::{EventInfo, Instance, Place};
 use std::alloc::Global;

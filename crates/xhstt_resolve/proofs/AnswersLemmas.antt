@@ -1,6 +1,6 @@
 -- The first fault of looks for one, in their order.
 use Rattle.std.proofs.Common.{◌≡◌, ◌∙◌, ap, refl, sym, Option, Some, None, Result, Ok, Err, map, option_map, subst}
-use Rattle.std.proofs.Common.{IsErrAnd, IfErr, ℕ, ◌+◌, List, [], ◌∷◌, ◌++◌, append_assoc}
+use Rattle.std.proofs.Common.{IsErrAnd, IfErr, ℕ, List, [], ◌∷◌, ◌++◌, append_assoc}
 use Rattle.std.specs.Prelude.{unwrap_or}
 use Rattle.std.specs.Option.{option_map_or, option_or}
 use Rattle.xhstt_references.specs.Faults.{IsTold}
@@ -86,7 +86,7 @@ some-unwrapped : (ns : List ℕ) → map (λ o. unwrap_or o 0) (map (λ n. Some 
 some-unwrapped [] = refl
 some-unwrapped (n ∷ ns) = ap (λ xs. n ∷ xs) (some-unwrapped ns)
 
-map-twice : {A B C : Type 0} (f : B → C) (g : A → B) (xs : List A) → map f (map g xs) ≡ map (λ x. f (g x)) xs
+pub map-twice : {A B C : Type 0} (f : B → C) (g : A → B) (xs : List A) → map f (map g xs) ≡ map (λ x. f (g x)) xs
 map-twice f g [] = refl
 map-twice f g (x ∷ xs) = ap (λ ys. f (g x) ∷ ys) (map-twice f g xs)
 

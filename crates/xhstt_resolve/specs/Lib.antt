@@ -2,6 +2,7 @@ pub mod Answers
 pub mod Collected
 pub mod Counts
 pub mod Faults
+pub mod Followed
 pub mod Joined
 pub mod Limits
 pub mod Members

@@ -9,6 +9,7 @@ use Rattle.khe_base.specs.declared.limits.TheConstants.{EVENTS, EVENT_GROUPS, CO
 use Rattle.khe_base.specs.declared.limits.TheConstants.{LISTED, MONITORS, WATCHES, UNIT}
 use Rattle.khe_instance.specs.declared.points.Point.{Point}
 use Rattle.khe_instance.specs.declared.points.Point.TheVariants as point
+use Rattle.khe_instance.specs.declared.rules.EventPair.{EventPair}
 use Rattle.xhstt_resolve.specs.Members.{times_in, events_in, listed_times}
 use Rattle.xhstt_resolve.specs.Parts.{places_of}
 use Rattle.xhstt_resolve.specs.Points.{points_of, monitors_of}
@@ -71,9 +72,12 @@ watched_times i _ = 1
 abbrev pub group_size : RawInstance → ℕ → ℕ
 group_size i g = option_map_or (λ group. length (events_in i group.id.text)) (slice_get i.event_groups g) 0
 
--- how many events the pair with a number names
+-- how many events a pair names, and the pair with a number
+abbrev pub named_in : EventPair → ℕ
+named_in q = if q.first.0 == q.second.0 then 1 else 2
+
 abbrev pub pair_size : RawInstance → RawConstraint → ℕ → ℕ
-pair_size i c k = option_map_or (λ q. if q.first.0 == q.second.0 then 1 else 2) (slice_get (pairs_of i c.applies) k) 0
+pair_size i c k = option_map_or named_in (slice_get (pairs_of i c.applies) k) 0
 
 -- what a constraint watches at a point
 abbrev pub watches_at : RawInstance → RawConstraint → Point → ℕ

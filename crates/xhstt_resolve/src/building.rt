@@ -1,9 +1,8 @@
-ghost use Rattle.std.specs.Prelude.{◌≡◌, ◌≤◌, map, length, IfOk};
-ghost use Rattle.khe_base.specs.declared.limits.TheConstants.{DURATION, MONITORS};
+ghost use Rattle.std.specs.Prelude.{◌≡◌, ◌≤◌, map, IfOk};
+ghost use Rattle.khe_base.specs.declared.limits.TheConstants.{DURATION};
 ghost use Rattle.xhstt_references.specs.Ids.{time_ids};
 ghost use Rattle.xhstt_resolve.specs.Limits.{total_duration};
 ghost use Rattle.xhstt_resolve.specs.Parts.{parts_of};
-ghost use Rattle.xhstt_resolve.specs.Points.{monitors_of};
 ghost use Rattle.xhstt_resolve.specs.Tables.{IsLookup, HasFewPlaces};
 ghost use Rattle.xhstt_resolve.specs.Units.{unit_of};
 
@@ -26,7 +25,6 @@ pub(crate) fn parts_of(alloc: Global, lookup: &Lookup<'_>, unit: u64) -> Result<
     requires lookup { IsLookup lookup.now }
     requires places { HasFewPlaces lookup.now.instance.now }
     requires duration { total_duration lookup.now.instance.now ≤ DURATION }
-    requires monitors { length (monitors_of lookup.now.instance.now) ≤ MONITORS }
     requires unit { unit ≡ unit_of (map (λ e. e.duration) lookup.now.instance.now.events) }
     ensures { IfOk result (λ p. p ≡ parts_of lookup.now.instance.now) }
 {

@@ -5,18 +5,17 @@ ghost use Rattle.xhstt_references.specs.Faults.{fault_of_instance};
 ghost use Rattle.xhstt_resolve.specs.Answers.{IsFirst};
 ghost use Rattle.xhstt_resolve.specs.Limits as spec;
 ghost use Rattle.xhstt_resolve.specs.Parts as parts;
-ghost use Rattle.xhstt_resolve.specs.Tables.{IsLookup};
+ghost use Rattle.xhstt_resolve.specs.Tables.{HasFewPlaces, IsLookup};
 ghost use Rattle.xhstt_resolve.specs.Units.{unit_of};
 ghost use Rattle.xhstt_resolve.specs.WellFormed.{IsFormedInstance};
 
 use crate::building::parts_of;
-use crate::counting::monitor_count;
+use crate::counting::counts_of;
 use crate::counts::count_fault;
 use crate::faults::ResolveFault;
 use crate::sizes::{listed_above, task_count, total_duration};
 use crate::tables::{Lookup, lookup_of};
 use crate::units::unit_of;
-use crate::watching::watch_count;
 use fault_tables::{
     TOO_GREAT_UNIT, TOO_LONG_DURATION, TOO_MANY_CELLS, TOO_MANY_LISTED, TOO_MANY_MONITORS,
     TOO_MANY_TASKS, TOO_MANY_WATCHES,
@@ -92,15 +91,19 @@ fn size_limits(alloc: Global, lookup: &Lookup<'_>) -> Result<u64, ResolveFault>
 /// above.
 fn monitor_limits(alloc: Global, lookup: &Lookup<'_>) -> Result<u64, ResolveFault>
     requires lookup { IsLookup lookup.now }
+    requires places { HasFewPlaces lookup.now.instance.now }
     requires formed { IsFormedInstance lookup.now.instance.now }
     ensures unit { IfOk result (λ u. u ≡ unit_of (map (λ e. e.duration) lookup.now.instance.now.events)) }
     ensures within { IfOk result (λ u. spec.monitor_fault lookup.now.instance.now ≡ None) }
     ensures fault { IfErr result (IsFirst (spec.monitor_fault lookup.now.instance.now)) }
 {
-    let monitors = monitor_count(alloc, lookup)?;
-    within(TOO_MANY_MONITORS, u64::from(limits::MONITORS), monitors)?;
-    let watches = watch_count(alloc, lookup)?;
-    within(TOO_MANY_WATCHES, u64::from(limits::WATCHES), watches)?;
+    let counts = counts_of(alloc, lookup)?;
+    within(
+        TOO_MANY_MONITORS,
+        u64::from(limits::MONITORS),
+        counts.monitors,
+    )?;
+    within(TOO_MANY_WATCHES, u64::from(limits::WATCHES), counts.watches)?;
     unit_within(lookup.instance)
 }
 

@@ -1,18 +1,39 @@
-ghost use Rattle.std.specs.Prelude.{◌≡◌, ◌≤◌, ◌++◌, map, length, IfOk, OnOk};
-ghost use Rattle.khe_base.specs.declared.limits.TheConstants.{MONITORS};
+ghost use Rattle.std.specs.Prelude.{◌≡◌, ◌++◌, IfOk};
 ghost use Rattle.khe_instance.specs.Kinds.{kind_of};
-ghost use Rattle.xhstt_resolve.specs.Points.{points_of, monitor_of, monitors_at, monitors_of};
+ghost use Rattle.xhstt_resolve.specs.Followed.{with_monitor};
+ghost use Rattle.xhstt_resolve.specs.Points.{monitors_at, monitors_of};
 ghost use Rattle.xhstt_resolve.specs.Rules.{rule_of};
 ghost use Rattle.xhstt_resolve.specs.Tables.{IsLookup, HasFewPlaces};
 ghost use Rattle.xhstt_shape.specs.declared.constraints.RawApplies.{RawApplies};
 ghost use Rattle.xhstt_shape.specs.declared.records.RawInstance.{RawInstance};
 
-use crate::points::points_of;
+use crate::points::{Follow, Visit, follow_out};
 use crate::tables::Lookup;
 use khe_base::{NoMemory, Seq};
-use khe_instance::{Kind, Monitor, Point};
+use khe_instance::{Kind, Monitor};
 use std::alloc::Global;
 use xhstt_shape::{RawConstraint, RawRule};
+
+/// Monitors, with the kind and the constraint of the next ones.
+#[derive(Drop)]
+pub(crate) struct Monitors {
+    pub kind: Kind,
+    pub constraint: u32,
+    pub made: Seq<Monitor>,
+}
+
+/// Each point becomes a monitor.
+impl Follow for Monitors {
+    ghost met = { with_monitor };
+
+    fn meet(&mut self, visit: Visit) -> Result<(), NoMemory> {
+        self.made.push(Monitor {
+            kind: self.kind,
+            constraint: self.constraint,
+            point: visit.point,
+        })
+    }
+}
 
 /// The monitors: the constraints in order, each followed out into its points.
 ///
@@ -22,51 +43,35 @@ use xhstt_shape::{RawConstraint, RawRule};
 pub(crate) fn monitors_of(alloc: Global, lookup: &Lookup<'_>) -> Result<Seq<Monitor>, NoMemory>
     requires lookup { IsLookup lookup.now }
     requires places { HasFewPlaces lookup.now.instance.now }
-    requires few { length (monitors_of lookup.now.instance.now) ≤ MONITORS }
     ensures { IfOk result (λ ms. ms ≡ monitors_of lookup.now.instance.now) }
 {
     let mut monitors = Seq::new(alloc);
     for (number, constraint) in lookup.instance.constraints.as_slice().iter().enumerate() {
-        push_monitors(alloc, lookup, number as u32, constraint, &mut monitors)?;
+        monitors = with_monitors(alloc, lookup, number as u32, constraint, monitors)?;
     }
     Ok(monitors)
 }
 
-/// Adds the monitors of the constraint with a number.
-fn push_monitors(
+/// The monitors so far with those of the constraint with a number.
+fn with_monitors(
     alloc: Global,
     lookup: &Lookup<'_>,
     number: u32,
     constraint: &RawConstraint,
-    monitors: &mut Seq<Monitor>,
-) -> Result<(), NoMemory>
+    made: Seq<Monitor>,
+) -> Result<Seq<Monitor>, NoMemory>
     requires lookup { IsLookup lookup.now }
     requires places { HasFewPlaces lookup.now.instance.now }
-    requires few { length (points_of lookup.now.instance.now constraint.now) ≤ MONITORS }
-    ensures { OnOk result (monitors.new ≡ monitors.old ++ monitors_at lookup.now.instance.now (number, constraint.now)) }
+    ensures { IfOk result (λ ms. ms ≡ made ++ monitors_at lookup.now.instance.now (number, constraint.now)) }
 {
-    let kind = kind_of(&constraint.rule);
-    let points = points_of(alloc, lookup, constraint)?;
-    push_points(kind, number, points.as_slice(), monitors)
-}
-
-/// Adds a monitor of one kind and constraint for each point.
-fn push_points(
-    kind: Kind,
-    number: u32,
-    points: &[Point],
-    monitors: &mut Seq<Monitor>,
-) -> Result<(), NoMemory>
-    ensures { OnOk result (monitors.new ≡ monitors.old ++ map (monitor_of kind number) points.now) }
-{
-    for point in points {
-        monitors.push(Monitor {
-            kind,
-            constraint: number,
-            point: *point,
-        })?;
-    }
-    Ok(())
+    let mut monitors = Monitors {
+        kind: kind_of(&constraint.rule),
+        constraint: number,
+        made,
+    };
+    follow_out(alloc, lookup, constraint, &mut monitors)?;
+    let Monitors { made, .. } = monitors;
+    Ok(made)
 }
 
 /// The kind of a rule.

@@ -1,33 +1,58 @@
-ghost use Rattle.std.specs.Prelude.{◌≡◌, ◌≤◌, ◌<◌, ◌^◌, ◌∷◌, [], ◌++◌, if◌then◌else◌, map, length, IfOk, OnOk};
-ghost use Rattle.std.specs.List.{flat_map, range_with_len};
+ghost use Rattle.std.specs.Prelude.{◌≡◌, ◌≤◌, ◌<◌, ◌^◌, ◌∷◌, [], if◌then◌else◌, map, length, IfOk, OnOk};
+ghost use Rattle.std.specs.List.{fold, flat_map};
 ghost use Rattle.std.specs.Option.{option_copied};
-ghost use Rattle.khe_base.specs.declared.limits.TheConstants.{EVENTS, MONITORS};
-ghost use Rattle.khe_instance.specs.declared.points.Point.TheVariants as point;
+ghost use Rattle.khe_base.specs.declared.limits.TheConstants.{EVENTS, RESOURCES};
 ghost use Rattle.xhstt_references.specs.Ids.{event_group_ids};
+ghost use Rattle.xhstt_resolve.specs.Followed.{followed, event_visit, place_visit, role_visits, event_visits, group_visit, pair_visits, resource_visit};
+ghost use Rattle.xhstt_resolve.specs.Limits.{watches_of};
 ghost use Rattle.xhstt_resolve.specs.Members.{first_mentions, numbers_of, numbers_where, listed_events, listed_resources};
-ghost use Rattle.xhstt_resolve.specs.Points.{role_of, has_role, event_point, resource_point, place_point, role_points, points_of_events, points_in, points_of};
+ghost use Rattle.xhstt_resolve.specs.Points.{role_of, has_role, points_of};
 ghost use Rattle.xhstt_resolve.specs.Tables.{IsLookup, HasFewPlaces};
 
 use crate::tables::{Lookup, first_named};
+use crate::watching::{group_size, pair_size, watched_times};
 use khe_base::{EventId, NoMemory, ResourceId, Seq, Text};
 use khe_instance::Point;
 use std::alloc::Global;
-use xhstt_shape::{RawApplies, RawConstraint, RawEventResource, RawRule, Ref};
+use xhstt_shape::{RawApplies, RawConstraint, RawEventResource, RawPair, RawRule, Ref};
 
-/// The points of a constraint, each at its first mention.
+/// A point of a constraint, with how much is watched there.
+#[derive(Clone, Copy)]
+pub(crate) struct Visit {
+    pub point: Point,
+    pub watches: u128,
+}
+
+/// What meets the points of constraints, one after another.
+pub(crate) trait Follow {
+    ghost use Rattle.xhstt_resolve.specs.declared.points.Visit.{Visit};
+
+    ghost met: { Self → Visit → Self };
+
+    /// Meets one more point, in constant time on average.
+    fn meet(&mut self, visit: Visit) -> Result<(), NoMemory>
+        ensures { OnOk result (self.new ≡ met self.old visit) };
+}
+
+/// Follows a constraint out: its points are met in their order, each at its first mention, with how
+/// much each watches.
 ///
-/// It takes time in proportion to what it applies to with its groups followed out, for a role to
-/// the event resources of those events too, and to all items of the sort that it applies to; and
-/// memory in proportion to those items and the points.
-pub(crate) fn points_of(
+/// It takes time in proportion to what the constraint applies to with its groups followed out, for a
+/// role to the event resources of those events too, to the times that it lists with its groups
+/// followed out, and to all items of the sort that it applies to; and memory in proportion to those
+/// items, besides what meeting takes. Where memory is refused some points may have been met; more
+/// than 2 ^ 32 pairs are refused alike, since no point has such a number.
+pub(crate) fn follow_out<F: Follow>(
     alloc: Global,
     lookup: &Lookup<'_>,
     constraint: &RawConstraint,
-) -> Result<Seq<Point>, NoMemory>
+    into: &mut F,
+) -> Result<(), NoMemory>
     requires lookup { IsLookup lookup.now }
     requires places { HasFewPlaces lookup.now.instance.now }
-    requires few { length (points_of lookup.now.instance.now constraint.now) ≤ MONITORS }
-    ensures { IfOk result (λ ps. ps ≡ points_of lookup.now.instance.now constraint.now) }
+    ensures met { OnOk result (into.new ≡ fold F.met into.old (followed lookup.now.instance.now constraint.now)) }
+    ensures few { OnOk result (length (points_of lookup.now.instance.now constraint.now) ≤ 2 ^ 64) }
+    ensures small { OnOk result (watches_of lookup.now.instance.now constraint.now ≤ 2 ^ 112) }
 {
     match &constraint.applies {
         RawApplies::Events {
@@ -35,13 +60,13 @@ pub(crate) fn points_of(
             events,
         } => {
             let events = events_of(alloc, lookup, event_groups.as_slice(), events.as_slice())?;
-            points_of_events(alloc, lookup, role_of(&constraint.rule), events.as_slice())
+            follow_events(lookup, role_of(&constraint.rule), events.as_slice(), into)
         }
         RawApplies::Groups { event_groups } => {
             let groups = groups_of(alloc, lookup, event_groups.as_slice())?;
-            group_points(alloc, groups.as_slice())
+            follow_groups(lookup, groups.as_slice(), into)
         }
-        RawApplies::Pairs { pairs } => pair_points(alloc, pairs.len()),
+        RawApplies::Pairs { pairs } => follow_pairs(lookup, pairs.as_slice(), into),
         RawApplies::Resources {
             resource_groups,
             resources,
@@ -52,13 +77,14 @@ pub(crate) fn points_of(
                 resource_groups.as_slice(),
                 resources.as_slice(),
             )?;
-            resource_points(alloc, resources.as_slice())
+            let watches = watched_times(lookup, &constraint.rule);
+            follow_resources(resources.as_slice(), watches, into)
         }
     }
 }
 
 /// The events that are listed, each at its first mention.
-pub(crate) fn events_of(
+fn events_of(
     alloc: Global,
     lookup: &Lookup<'_>,
     groups: &[Ref],
@@ -72,14 +98,15 @@ pub(crate) fn events_of(
 }
 
 /// The resources that are listed, each at its first mention.
-pub(crate) fn resources_of(
+fn resources_of(
     alloc: Global,
     lookup: &Lookup<'_>,
     groups: &[Ref],
     resources: &[Ref],
 ) -> Result<Seq<u32>, NoMemory>
     requires { IsLookup lookup.now }
-    ensures { IfOk result (λ ns. ns ≡ first_mentions (listed_resources lookup.now.instance.now groups.now resources.now)) }
+    ensures numbers { IfOk result (λ ns. ns ≡ first_mentions (listed_resources lookup.now.instance.now groups.now resources.now)) }
+    ensures few { IfOk result (λ ns. length ns ≤ RESOURCES) }
 {
     lookup
         .tables
@@ -87,8 +114,16 @@ pub(crate) fn resources_of(
         .first_mentions(alloc, groups, resources)
 }
 
+/// The event groups that are listed, each at its first mention.
+fn groups_of(alloc: Global, lookup: &Lookup<'_>, groups: &[Ref]) -> Result<Seq<u32>, NoMemory>
+    requires { IsLookup lookup.now }
+    ensures { IfOk result (λ ns. ns ≡ first_mentions (numbers_of (event_group_ids lookup.now.instance.now) groups.now)) }
+{
+    first_named(alloc, &lookup.names.event_groups, groups)
+}
+
 /// The role of a constraint whose points are the event resources of one role.
-pub(crate) fn role_of(rule: &RawRule) -> Option<&Text>
+fn role_of(rule: &RawRule) -> Option<&Text>
     ensures { option_copied result ≡ role_of rule.now }
 {
     match rule {
@@ -98,138 +133,105 @@ pub(crate) fn role_of(rule: &RawRule) -> Option<&Text>
     }
 }
 
-/// The points of events: themselves, or their event resources of a role.
-fn points_of_events(
-    alloc: Global,
+/// Meets events: themselves, or their event resources of a role.
+fn follow_events<F: Follow>(
     lookup: &Lookup<'_>,
     role: Option<&Text>,
     events: &[u32],
-) -> Result<Seq<Point>, NoMemory>
-    requires lookup { IsLookup lookup.now }
-    requires places { HasFewPlaces lookup.now.instance.now }
-    ensures { IfOk result (λ ps. ps ≡ points_of_events lookup.now.instance.now (option_copied role.entry) events.now) }
+    into: &mut F,
+) -> Result<(), NoMemory>
+    requires { HasFewPlaces lookup.now.instance.now }
+    ensures { OnOk result (into.new ≡ fold F.met into.old (event_visits lookup.now.instance.now (option_copied role.entry) events.now)) }
 {
     match role {
-        Some(role) => points_of_role(alloc, lookup, role, events),
-        None => event_points(alloc, events),
+        Some(role) => follow_role(lookup, role, events, into),
+        None => follow_singly(events, into),
     }
 }
 
-/// Events as points.
-fn event_points(alloc: Global, events: &[u32]) -> Result<Seq<Point>, NoMemory>
-    ensures { IfOk result (λ ps. ps ≡ map event_point events.now) }
+/// Meets events by themselves.
+fn follow_singly<F: Follow>(events: &[u32], into: &mut F) -> Result<(), NoMemory>
+    ensures { OnOk result (into.new ≡ fold F.met into.old (map event_visit events.now)) }
 {
-    let mut points = Seq::new(alloc);
     for event in events {
-        points.push(Point::Event(EventId(*event)))?;
-    }
-    Ok(points)
-}
-
-/// Event groups as points.
-fn group_points(alloc: Global, groups: &[u32]) -> Result<Seq<Point>, NoMemory>
-    ensures { IfOk result (λ ps. ps ≡ map point.EventGroup groups.now) }
-{
-    let mut points = Seq::new(alloc);
-    for group in groups {
-        points.push(Point::EventGroup(*group))?;
-    }
-    Ok(points)
-}
-
-/// Resources as points.
-fn resource_points(alloc: Global, resources: &[u32]) -> Result<Seq<Point>, NoMemory>
-    ensures { IfOk result (λ ps. ps ≡ map resource_point resources.now) }
-{
-    let mut points = Seq::new(alloc);
-    for resource in resources {
-        points.push(Point::Resource(ResourceId(*resource)))?;
-    }
-    Ok(points)
-}
-
-/// So many pairs as points.
-fn pair_points(alloc: Global, count: usize) -> Result<Seq<Point>, NoMemory>
-    requires { count < 2 ^ 32 }
-    ensures { IfOk result (λ ps. ps ≡ map point.EventPair (range_with_len 0 count)) }
-{
-    let mut points = Seq::new(alloc);
-    for pair in 0..count as u32 {
-        points.push(Point::EventPair(pair))?;
-    }
-    Ok(points)
-}
-
-/// The event resources of a role, event by event.
-fn points_of_role(
-    alloc: Global,
-    lookup: &Lookup<'_>,
-    role: &Text,
-    events: &[u32],
-) -> Result<Seq<Point>, NoMemory>
-    requires lookup { IsLookup lookup.now }
-    requires places { HasFewPlaces lookup.now.instance.now }
-    ensures { IfOk result (λ ps. ps ≡ flat_map (role_points lookup.now.instance.now role.now) events.now) }
-{
-    let mut points = Seq::new(alloc);
-    for event in events {
-        push_role_points(lookup, role, *event, &mut points)?;
-    }
-    Ok(points)
-}
-
-/// Adds the event resources of a role of one event.
-fn push_role_points(
-    lookup: &Lookup<'_>,
-    role: &Text,
-    event: u32,
-    points: &mut Seq<Point>,
-) -> Result<(), NoMemory>
-    requires lookup { IsLookup lookup.now }
-    requires places { HasFewPlaces lookup.now.instance.now }
-    ensures { OnOk result (points.new ≡ points.old ++ role_points lookup.now.instance.now role.now event) }
-{
-    match lookup.instance.events.as_slice().get(event as usize) {
-        Some(raw) => push_places(role, event, raw.resources.as_slice(), points),
-        None => Ok(()),
-    }
-}
-
-/// Adds those of the resources of an event that have a role.
-fn push_places(
-    role: &Text,
-    event: u32,
-    resources: &[RawEventResource],
-    points: &mut Seq<Point>,
-) -> Result<(), NoMemory>
-    requires { length resources.now < 2 ^ 32 }
-    ensures { OnOk result (points.new ≡ points.old ++ map (place_point event) (numbers_where (has_role role.now) resources.now)) }
-{
-    for (place, resource) in resources.iter().enumerate() {
-        push_place(role, event, place as u32, resource, points)?;
+        into.meet(Visit {
+            point: Point::Event(EventId(*event)),
+            watches: 1,
+        })?;
     }
     Ok(())
 }
 
-/// Adds an event resource where it has a role.
-fn push_place(
+/// Meets the event resources of a role, event by event.
+fn follow_role<F: Follow>(
+    lookup: &Lookup<'_>,
+    role: &Text,
+    events: &[u32],
+    into: &mut F,
+) -> Result<(), NoMemory>
+    requires { HasFewPlaces lookup.now.instance.now }
+    ensures { OnOk result (into.new ≡ fold F.met into.old (flat_map (role_visits lookup.now.instance.now role.now) events.now)) }
+{
+    for event in events {
+        follow_role_at(lookup, role, *event, into)?;
+    }
+    Ok(())
+}
+
+/// Meets the event resources of a role of one event.
+fn follow_role_at<F: Follow>(
+    lookup: &Lookup<'_>,
+    role: &Text,
+    event: u32,
+    into: &mut F,
+) -> Result<(), NoMemory>
+    requires { HasFewPlaces lookup.now.instance.now }
+    ensures { OnOk result (into.new ≡ fold F.met into.old (role_visits lookup.now.instance.now role.now event)) }
+{
+    match lookup.instance.events.as_slice().get(event as usize) {
+        Some(raw) => follow_places(role, event, raw.resources.as_slice(), into),
+        None => Ok(()),
+    }
+}
+
+/// Meets those of the resources of an event that have a role.
+fn follow_places<F: Follow>(
+    role: &Text,
+    event: u32,
+    resources: &[RawEventResource],
+    into: &mut F,
+) -> Result<(), NoMemory>
+    requires { length resources.now < 2 ^ 32 }
+    ensures { OnOk result (into.new ≡ fold F.met into.old (map (place_visit event) (numbers_where (has_role role.now) resources.now))) }
+{
+    for (place, resource) in resources.iter().enumerate() {
+        follow_place(role, event, place as u32, resource, into)?;
+    }
+    Ok(())
+}
+
+/// Meets an event resource where it has a role.
+fn follow_place<F: Follow>(
     role: &Text,
     event: u32,
     place: u32,
     resource: &RawEventResource,
-    points: &mut Seq<Point>,
+    into: &mut F,
 ) -> Result<(), NoMemory>
-    ensures { OnOk result (points.new ≡ points.old ++ map (place_point event) (if has_role role.now resource.now then place ∷ [] else [])) }
+    ensures { OnOk result (into.new ≡ fold F.met into.old (map (place_visit event) (if has_role role.now resource.now then place ∷ [] else []))) }
 {
     if has_role(role, resource) {
         let event = EventId(event);
-        points.push(Point::EventResource { event, place })?;
+        into.meet(Visit {
+            point: Point::EventResource { event, place },
+            watches: 1,
+        })?;
     }
     Ok(())
 }
 
 /// Whether an event resource has a role.
-pub(crate) fn has_role(role: &Text, resource: &RawEventResource) -> bool
+fn has_role(role: &Text, resource: &RawEventResource) -> bool
     ensures { result ≡ has_role role.now resource.now }
 {
     match &resource.role {
@@ -238,14 +240,66 @@ pub(crate) fn has_role(role: &Text, resource: &RawEventResource) -> bool
     }
 }
 
-/// The event groups that are listed, each at its first mention.
-pub(crate) fn groups_of(
-    alloc: Global,
+/// Meets event groups.
+fn follow_groups<F: Follow>(
     lookup: &Lookup<'_>,
-    groups: &[Ref],
-) -> Result<Seq<u32>, NoMemory>
+    groups: &[u32],
+    into: &mut F,
+) -> Result<(), NoMemory>
     requires { IsLookup lookup.now }
-    ensures { IfOk result (λ ns. ns ≡ first_mentions (numbers_of (event_group_ids lookup.now.instance.now) groups.now)) }
+    ensures { OnOk result (into.new ≡ fold F.met into.old (map (group_visit lookup.now.instance.now) groups.now)) }
 {
-    first_named(alloc, &lookup.names.event_groups, groups)
+    for group in groups {
+        into.meet(Visit {
+            point: Point::EventGroup(*group),
+            watches: group_size(lookup, *group),
+        })?;
+    }
+    Ok(())
+}
+
+/// Meets pairs, or refuses more than there are numbers for.
+fn follow_pairs<F: Follow>(
+    lookup: &Lookup<'_>,
+    pairs: &[RawPair],
+    into: &mut F,
+) -> Result<(), NoMemory>
+    requires { IsLookup lookup.now }
+    ensures { OnOk result (into.new ≡ fold F.met into.old (pair_visits lookup.now.instance.now pairs.now)) }
+{
+    for (number, pair) in pairs.iter().enumerate() {
+        let number = pair_number(number)?;
+        into.meet(Visit {
+            point: Point::EventPair(number),
+            watches: pair_size(lookup, pair),
+        })?;
+    }
+    Ok(())
+}
+
+/// The number of a pair as a point has it.
+fn pair_number(number: usize) -> Result<u32, NoMemory>
+    ensures { IfOk result (λ n. n ≡ number) }
+{
+    if number > u32::MAX as usize {
+        return Err(NoMemory);
+    }
+    Ok(number as u32)
+}
+
+/// Meets resources at each of which as much is watched.
+fn follow_resources<F: Follow>(
+    resources: &[u32],
+    watches: u128,
+    into: &mut F,
+) -> Result<(), NoMemory>
+    ensures { OnOk result (into.new ≡ fold F.met into.old (map (resource_visit watches) resources.now)) }
+{
+    for resource in resources {
+        into.meet(Visit {
+            point: Point::Resource(ResourceId(*resource)),
+            watches,
+        })?;
+    }
+    Ok(())
 }

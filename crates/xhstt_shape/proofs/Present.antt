@@ -11,7 +11,7 @@ use Rattle.khe_base.specs.Text.{text_of}
 use Rattle.khe_base.specs.declared.limits.TheConstants.{NUMBER}
 use Rattle.xhstt_text.specs.Forest.{Info, Forest, empty, node}
 use Rattle.xhstt_text.specs.Handles.{Standing}
-use Rattle.xhstt_shape.specs.declared.faults.TheConstants.{MISSING_CHILD, BAD_NUMBER, BAD_WORD}
+use Rattle.fault_tables.specs.declared.faults.TheConstants.{MISSING_CHILD, BAD_NUMBER, BAD_WORD}
 use Rattle.xhstt_shape.specs.declared.schema.Child.{Child}
 use Rattle.xhstt_shape.specs.declared.schema.Content.{Content}
 use Rattle.xhstt_shape.specs.declared.schema.Content.TheVariants as content_of

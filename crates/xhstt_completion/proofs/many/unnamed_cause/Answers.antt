@@ -2,7 +2,7 @@
 use Rattle.std.proofs.Common.{◌≡◌, ◌∙◌, ap, sym, Some, None, true, false, if◌then◌else◌}
 use Rattle.std.specs.List.{list_any}
 use Rattle.xhstt_completion.specs.Causes.{is_place_for}
-use Rattle.xhstt_completion.specs.declared.faults.TheConstants.{BAD_ROLE}
+use Rattle.fault_tables.specs.declared.causes.TheConstants.{BAD_ROLE}
 use Rattle.xhstt_completion.proofs.ManyLemmas.{unnamed-known}
 use Rattle.xhstt_completion.proofs.many.unnamed_cause.Goals as goal
 
