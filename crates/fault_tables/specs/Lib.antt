@@ -2,3 +2,4 @@ pub mod Causes
 pub mod Faults
 pub mod Limits
 pub mod Tables
+pub mod Told

@@ -3,6 +3,7 @@ use Rattle.std.specs.Prelude.{ℕ, ◌≡◌, ◌-◌, ◌==◌, if◌then◌els
 use Rattle.std.specs.Prelude.{Result, Ok, Err}
 use Rattle.std.specs.List.{flat_map, enumerate_from}
 use Rattle.std.specs.Option.{option_or, option_and_then}
+use Rattle.fault_tables.specs.Told.{Tells}
 use Rattle.khe_base.specs.declared.numbers.ResourceId.{ResourceId}
 use Rattle.khe_base.specs.declared.numbers.TimeId.{TimeId}
 use Rattle.khe_instance.specs.Lookups.{is_role}
@@ -106,7 +107,11 @@ unless (Some cause) state = Err cause
 abbrev pub completed : Parts → RawSolution → Result Plain Cause
 completed p raw = unless (first_cause p [] raw.events) (state_of p raw.events)
 
--- a fault is a cause, or want of memory
+-- the cause that an error tells, unless memory was refused
+abbrev pub told : SolutionFault → Option Cause
+told (Invalid cause entry) = Some (record { cause = cause; entry = entry })
+told NoMemory = None
+
+-- an error tells the cause of the definition
 abbrev pub IsFaultOf : Result Plain Cause → SolutionFault → Type 0
-IsFaultOf answer (Invalid cause entry) = answer ≡ Err (record { cause = cause; entry = entry })
-IsFaultOf answer NoMemory = Unit {0}
+IsFaultOf answer error = Tells told (λ cause. answer ≡ Err cause) error

@@ -2,6 +2,7 @@
 -- the first place in the text.
 use Rattle.std.specs.Prelude.{ℕ, ◌≡◌, min, Option, Some, None, Result, Ok, Err, List, [], ◌∷◌, map}
 use Rattle.std.specs.List.{fold}
+use Rattle.fault_tables.specs.Told.{Tells}
 use Rattle.xhstt_references.specs.References.{repeated, repeated_ids, repeated_roles, unknown_references}
 use Rattle.xhstt_references.specs.References.{events_off_end, unknown_in_solutions}
 use Rattle.xhstt_references.specs.declared.faults.ReferenceFault.{ReferenceFault}
@@ -34,8 +35,12 @@ fault_of_ids a =
 abbrev pub fault_of_solutions : Archive → Option ReferenceFault
 fault_of_solutions a = at_first UNKNOWN_REFERENCE (unknown_in_solutions a) None
 
--- an answer comes where there is no fault, and else the fault is told, unless memory was refused
+-- the fault that an error tells, unless memory was refused
+abbrev pub told : ReferenceFault → Option ReferenceFault
+told (Bad kind at) = Some (Bad kind at)
+told NoMemory = None
+
+-- an answer comes where there is no fault, and else the first one is told, unless memory was refused
 abbrev pub IsTold : {A : Type 0} → Result A ReferenceFault → Option ReferenceFault → Type 0
-IsTold (Ok _) fault = fault ≡ None
-IsTold (Err NoMemory) fault = Unit {0}
-IsTold (Err (Bad kind at)) fault = fault ≡ Some (Bad kind at)
+IsTold (Ok _) first = first ≡ None
+IsTold (Err error) first = Tells told (λ fault. first ≡ Some fault) error

@@ -1,17 +1,20 @@
 -- What an answer tells of the first fault.
-use Rattle.std.specs.Prelude.{◌≡◌, Option, Some, Result, Err}
+use Rattle.std.specs.Prelude.{◌≡◌, Option, Some, None, Result, Err}
+use Rattle.fault_tables.specs.Told.{Tells}
 use Rattle.xhstt_resolve.specs.declared.faults.ResolveFault.{ResolveFault}
 use Rattle.xhstt_resolve.specs.declared.faults.ResolveFault.TheVariants.{Bad, Limit, NoMemory}
 use Rattle.xhstt_resolve.specs.declared.resolving.Resolved.{Resolved}
 
--- the fault is the first one, unless memory was refused
-abbrev pub IsFirst : Option ResolveFault → ResolveFault → Type 0
-IsFirst first (Bad kind at) = first ≡ Some (Bad kind at)
-IsFirst first (Limit which value) = first ≡ Some (Limit which value)
-IsFirst first NoMemory = Unit {0}
+-- the fault that an error tells, unless memory was refused
+abbrev pub told : ResolveFault → Option ResolveFault
+told (Bad kind at) = Some (Bad kind at)
+told (Limit which value) = Some (Limit which value)
+told NoMemory = None
 
--- the fault is that of the definition, unless memory was refused
+-- an error tells the first fault
+abbrev pub IsFirst : Option ResolveFault → ResolveFault → Type 0
+IsFirst first error = Tells told (λ fault. first ≡ Some fault) error
+
+-- an error tells the fault of the definition
 abbrev pub IsFaultOf : Result Resolved ResolveFault → ResolveFault → Type 0
-IsFaultOf answer (Bad kind at) = answer ≡ Err (Bad kind at)
-IsFaultOf answer (Limit which value) = answer ≡ Err (Limit which value)
-IsFaultOf answer NoMemory = Unit {0}
+IsFaultOf answer error = Tells told (λ fault. answer ≡ Err fault) error

@@ -1,5 +1,6 @@
 -- What a look at a part of a tree ends in.
-use Rattle.std.specs.Prelude.{ℕ, ◌≡◌, Bool, true, false, Result, Ok, Err}
+use Rattle.std.specs.Prelude.{ℕ, ◌≡◌, Bool, true, false, Option, Some, None, Result, Ok, Err}
+use Rattle.fault_tables.specs.Told.{Tells}
 use Rattle.xhstt_shape.specs.declared.faults.ShapeFault.{ShapeFault}
 use Rattle.xhstt_shape.specs.declared.faults.ShapeFault.TheVariants.{Bad, NoMemory}
 
@@ -23,8 +24,12 @@ abbrev pub followed_by : Outcome → Outcome → Outcome
 followed_by (Ok _) later = later
 followed_by (Err fault) later = Err fault
 
--- an answer is the one that was told, unless memory was refused
+-- the fault that an error tells, unless memory was refused
+abbrev pub told : ShapeFault → Option ShapeFault
+told (Bad kind at) = Some (Bad kind at)
+told NoMemory = None
+
+-- an answer is what a look ends in, unless memory was refused
 abbrev pub IsTold : {A : Type 0} → Result A ShapeFault → Result A ShapeFault → Type 0
-IsTold (Ok a) told = told ≡ Ok a
-IsTold (Err NoMemory) told = Unit {0}
-IsTold (Err (Bad kind at)) told = told ≡ Err (Bad kind at)
+IsTold (Ok a) end = end ≡ Ok a
+IsTold (Err error) end = Tells told (λ fault. end ≡ Err fault) error

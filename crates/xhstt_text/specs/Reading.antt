@@ -1,11 +1,12 @@
 -- How the parts of the reader follow the machine.
 use Rattle.std.specs.Prelude.{ℕ, ◌≡◌, ◌<◌, ◌+◌, Bool, true, false, ◌==◌, ◌&&◌, ◌||◌, nat_eq, if◌then◌else◌, List, []}
-use Rattle.std.specs.Prelude.{◌∷◌, ◌++◌, length, map, reverse, Option, None, Result, Ok, Err}
+use Rattle.std.specs.Prelude.{◌∷◌, ◌++◌, length, map, reverse, Option, Some, None, Result, Ok, Err}
 use Rattle.std.specs.Borrow.{Bor}
 use Rattle.std.specs.List.{starts_with}
 use Rattle.std.specs.BTreeSet.{BTreeSet, contains_by}
 use Rattle.std.specs.Cmp.Lexicographic.{slice_cmp}
 use Rattle.std.specs.Ordering.{nat_cmp}
+use Rattle.fault_tables.specs.Told.{Tells}
 use Rattle.xhstt_text.specs.Bytes.{is_text, AllAre, IsName, is_name}
 use Rattle.xhstt_text.specs.Document.{has_name}
 use Rattle.xhstt_text.specs.Units.{digit}
@@ -55,10 +56,14 @@ NoPiece bs = (begins (is_byte 38) bs ≡ false) × (begins (is_byte 239) bs ≡ 
 abbrev pub Enters : Phase → Within → Read → Read → ℕ → Type 0
 Enters p w r s at = (step p r at 38 ≡ state (reference at w) s) × (step p r at 239 ≡ state (wide_1 w) s)
 
--- the machine ends in this fault; nothing is said where memory ran out
+-- the fault that an error tells, unless memory was refused
+abbrev pub told : TextFault → Option TextFault
+told (Bad kind at) = Some (Bad kind at)
+told NoMemory = None
+
+-- the machine ends in the fault that is told
 abbrev pub Fails : TextFault → Outcome → Type 0
-Fails (Bad kind at) whole = whole ≡ Err (Bad kind at)
-Fails NoMemory whole = Unit {0}
+Fails error whole = Tells told (λ fault. whole ≡ Err fault) error
 
 -- what was read leads the machine from `whole` to `rest`, or the fault is what the machine ends in
 abbrev pub Leads : {X : Type 0} → Result X TextFault → Outcome → (X → Outcome) → Type 0

@@ -1,0 +1,6 @@
+-- What an error tells where memory may be refused.
+use Rattle.std.specs.Prelude.{Option, IfSome}
+
+-- exact unless memory ran out: what an error tells stands, and it tells nothing where memory was refused
+abbrev pub Tells : {E F : Type 0} → (E → Option F) → (F → Type 0) → E → Type 0
+Tells told Stands error = IfSome (told error) Stands
