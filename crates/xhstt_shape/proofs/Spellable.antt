@@ -18,8 +18,8 @@ use Rattle.xhstt_text.proofs.CleanForest.{AreClean, IsCleanForest, IsCleanForest
 use Rattle.xhstt_text.proofs.MeaningTexts.{Spot, before_character, after_first, after_second, passes, other_passes}
 use Rattle.xhstt_text.proofs.MeaningTexts.{characters_pass, IsClean}
 use Rattle.xhstt_shape.specs.declared.records.Archive.{Archive}
-use Rattle.xhstt_shape.specs.declared.words.Kind.{Kind}
-use Rattle.xhstt_shape.specs.declared.words.Kind.TheVariants as kind
+use Rattle.khe_instance.specs.declared.rules.Kind.{Kind}
+use Rattle.khe_instance.specs.declared.rules.Kind.TheVariants as kind
 use Rattle.xhstt_shape.specs.declared.words.Label.{Label}
 use Rattle.xhstt_shape.specs.declared.words.Label.TheVariants as label
 use Rattle.xhstt_shape.specs.declared.words.Tag.{Tag}

@@ -9,8 +9,8 @@ use Rattle.xhstt_text.specs.Handles.{Standing}
 use Rattle.xhstt_shape.specs.declared.schema.TheConstants.{BOUND}
 use Rattle.xhstt_shape.specs.declared.schema.Row.{Row}
 use Rattle.xhstt_shape.specs.declared.schema.Row.TheVariants as row
-use Rattle.xhstt_shape.specs.declared.words.Kind.{Kind}
-use Rattle.xhstt_shape.specs.declared.words.Kind.TheVariants as kind
+use Rattle.khe_instance.specs.declared.rules.Kind.{Kind}
+use Rattle.khe_instance.specs.declared.rules.Kind.TheVariants as kind
 use Rattle.xhstt_shape.specs.declared.words.Label.TheVariants as label
 use Rattle.xhstt_shape.specs.declared.words.Tag.{Tag}
 use Rattle.xhstt_shape.specs.declared.words.Tag.TheVariants as tag

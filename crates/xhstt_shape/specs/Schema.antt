@@ -2,8 +2,8 @@
 -- stand there, and what stands in an element.
 use Rattle.std.specs.Prelude.{true, false, List, [], ◌∷◌}
 use Rattle.khe_base.specs.declared.limits.TheConstants.{NUMBER}
-use Rattle.xhstt_shape.specs.declared.words.Kind.{Kind}
-use Rattle.xhstt_shape.specs.declared.words.Kind.TheVariants as kind
+use Rattle.khe_instance.specs.declared.rules.Kind.{Kind}
+use Rattle.khe_instance.specs.declared.rules.Kind.TheVariants as kind
 use Rattle.xhstt_shape.specs.declared.words.Label.{Label}
 use Rattle.xhstt_shape.specs.declared.words.Label.TheVariants as label
 use Rattle.xhstt_shape.specs.declared.words.Tag.{Tag}

@@ -40,8 +40,8 @@ use Rattle.xhstt_shape.specs.declared.records.TimeGroup.{TimeGroup}
 use Rattle.xhstt_shape.specs.declared.records.TimeSort.{TimeSort}
 use Rattle.xhstt_shape.specs.declared.records.TimeSort.TheVariants as time_sort
 use Rattle.xhstt_shape.specs.declared.schema.TheConstants.{BOUND}
-use Rattle.xhstt_shape.specs.declared.words.Kind.{Kind}
-use Rattle.xhstt_shape.specs.declared.words.Kind.TheVariants as kind
+use Rattle.khe_instance.specs.declared.rules.Kind.{Kind}
+use Rattle.khe_instance.specs.declared.rules.Kind.TheVariants as kind
 use Rattle.xhstt_shape.specs.declared.words.Label.{Label}
 use Rattle.xhstt_shape.specs.declared.words.Label.TheVariants as label
 use Rattle.xhstt_shape.specs.declared.words.Tag.{Tag}

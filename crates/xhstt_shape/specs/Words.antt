@@ -1,7 +1,7 @@
 -- How the names of elements and attributes are spelled.
 use Rattle.std.specs.Prelude.{ℕ, List, codes}
-use Rattle.xhstt_shape.specs.declared.words.Kind.{Kind}
-use Rattle.xhstt_shape.specs.declared.words.Kind.TheVariants as kind
+use Rattle.khe_instance.specs.declared.rules.Kind.{Kind}
+use Rattle.khe_instance.specs.declared.rules.Kind.TheVariants as kind
 use Rattle.xhstt_shape.specs.declared.words.Label.{Label}
 use Rattle.xhstt_shape.specs.declared.words.Label.TheVariants as label
 use Rattle.xhstt_shape.specs.declared.words.Tag.{Tag}

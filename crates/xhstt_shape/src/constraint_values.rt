@@ -11,8 +11,9 @@ use crate::leaves::{
     upper,
 };
 use crate::records::Ref;
-use crate::words::{Kind, Tag};
+use crate::words::{Tag, kind_word};
 use khe_base::{NoMemory, Seq, both};
+use khe_instance::Kind;
 use std::alloc::Global;
 use xhstt_text::Element;
 
@@ -119,7 +120,7 @@ fn kind_among(kinds: &[Kind], name: &[u8]) -> Option<Kind>
     ensures { result ≡ spec.kind_among kinds.now name.now }
 {
     for kind in kinds {
-        if kind.word() == name {
+        if kind_word(*kind) == name {
             return Some(*kind);
         }
     }

@@ -13,7 +13,7 @@ ghost use Rattle.xhstt_shape.specs.declared.constraints.RawApplies.TheVariants a
 ghost use Rattle.xhstt_shape.specs.declared.constraints.RawRule.TheVariants as ruled;
 ghost use Rattle.xhstt_shape.specs.declared.records.GroupSort.TheVariants as group_sort;
 ghost use Rattle.xhstt_shape.specs.declared.records.TimeSort.TheVariants as time_sort;
-ghost use Rattle.xhstt_shape.specs.declared.words.Kind.TheVariants as kind;
+ghost use Rattle.khe_instance.specs.declared.rules.Kind.TheVariants as kind;
 ghost use Rattle.xhstt_shape.specs.declared.words.Tag.TheVariants as tag;
 
 // Constraints.

@@ -27,4 +27,4 @@ pub use records::{
     TimeGroup, TimeSort,
 };
 pub use schema::{BOUND, Child, Content, Given, Mark, Row};
-pub use words::{Kind, Label, Tag};
+pub use words::{Label, Tag};

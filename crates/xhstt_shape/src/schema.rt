@@ -1,8 +1,9 @@
 ghost use Rattle.std.specs.Prelude.{◌≡◌};
 ghost use Rattle.xhstt_shape.specs.Schema as schema;
 
-use crate::words::{Kind, Label, Tag};
+use crate::words::{Label, Tag};
 use khe_base::limits::NUMBER;
+use khe_instance::Kind;
 
 /// How often a child may stand in its element.
 #[derive(Clone, Copy)]
@@ -429,7 +430,7 @@ impl Row {
                     Row::Constraint(Kind::LimitWorkload)
                 ),
             ],
-            Row::Constraint(kind) => kind.children(),
+            Row::Constraint(kind) => constraint_children(kind),
             Row::EventApplies => &[
                 at_most_once!(Tag::EventGroups, Row::EventGroupReferences),
                 at_most_once!(Tag::Events, Row::EventReferences),
@@ -517,154 +518,152 @@ impl Row {
     }
 }
 
-impl Kind {
-    /// The children of a constraint of this kind, in the order of the table.
-    #[tactic(auto, unfolding(crate::specs::Schema::constraint_children))]
-    pub fn children(self) -> &'static [Child]
-        ensures { result.now ≡ schema.constraint_children self }
-    {
-        match self {
-            Kind::AssignTime => &[
-                at_most_once!(Tag::Name, Row::Text),
-                once!(Tag::Required, Row::Truth),
-                once!(Tag::Weight, Row::Number),
-                once!(Tag::CostFunction, Row::Function),
-                once!(Tag::AppliesTo, Row::EventApplies),
-            ],
-            Kind::AssignResource => &[
-                at_most_once!(Tag::Name, Row::Text),
-                once!(Tag::Required, Row::Truth),
-                once!(Tag::Weight, Row::Number),
-                once!(Tag::CostFunction, Row::Function),
-                once!(Tag::AppliesTo, Row::EventApplies),
-                once!(Tag::Role, Row::Role),
-            ],
-            Kind::SplitEvents => &[
-                at_most_once!(Tag::Name, Row::Text),
-                once!(Tag::Required, Row::Truth),
-                once!(Tag::Weight, Row::Number),
-                once!(Tag::CostFunction, Row::Function),
-                once!(Tag::AppliesTo, Row::EventApplies),
-                at_most_once!(Tag::MinimumDuration, Row::Number),
-                at_most_once!(Tag::MaximumDuration, Row::Bound),
-                at_most_once!(Tag::MinimumAmount, Row::Number),
-                at_most_once!(Tag::MaximumAmount, Row::Bound),
-            ],
-            Kind::DistributeSplitEvents => &[
-                at_most_once!(Tag::Name, Row::Text),
-                once!(Tag::Required, Row::Truth),
-                once!(Tag::Weight, Row::Number),
-                once!(Tag::CostFunction, Row::Function),
-                once!(Tag::AppliesTo, Row::EventApplies),
-                once!(Tag::Duration, Row::Duration),
-                at_most_once!(Tag::Minimum, Row::Number),
-                at_most_once!(Tag::Maximum, Row::Bound),
-            ],
-            Kind::PreferTimes => &[
-                at_most_once!(Tag::Name, Row::Text),
-                once!(Tag::Required, Row::Truth),
-                once!(Tag::Weight, Row::Number),
-                once!(Tag::CostFunction, Row::Function),
-                once!(Tag::AppliesTo, Row::EventApplies),
-                at_most_once!(Tag::TimeGroups, Row::TimeGroupReferences),
-                at_most_once!(Tag::Times, Row::TimeReferences),
-                at_most_once!(Tag::Duration, Row::Duration),
-            ],
-            Kind::PreferResources => &[
-                at_most_once!(Tag::Name, Row::Text),
-                once!(Tag::Required, Row::Truth),
-                once!(Tag::Weight, Row::Number),
-                once!(Tag::CostFunction, Row::Function),
-                once!(Tag::AppliesTo, Row::EventApplies),
-                at_most_once!(Tag::ResourceGroups, Row::ResourceGroupReferences),
-                at_most_once!(Tag::Resources, Row::ResourceReferences),
-                once!(Tag::Role, Row::Role),
-            ],
-            Kind::AvoidSplitAssignments => &[
-                at_most_once!(Tag::Name, Row::Text),
-                once!(Tag::Required, Row::Truth),
-                once!(Tag::Weight, Row::Number),
-                once!(Tag::CostFunction, Row::Function),
-                once!(Tag::AppliesTo, Row::GroupApplies),
-                once!(Tag::Role, Row::Role),
-            ],
-            Kind::SpreadEvents => &[
-                at_most_once!(Tag::Name, Row::Text),
-                once!(Tag::Required, Row::Truth),
-                once!(Tag::Weight, Row::Number),
-                once!(Tag::CostFunction, Row::Function),
-                once!(Tag::AppliesTo, Row::GroupApplies),
-                at_most_once!(Tag::TimeGroups, Row::Spreads),
-            ],
-            Kind::LinkEvents => &[
-                at_most_once!(Tag::Name, Row::Text),
-                once!(Tag::Required, Row::Truth),
-                once!(Tag::Weight, Row::Number),
-                once!(Tag::CostFunction, Row::Function),
-                once!(Tag::AppliesTo, Row::GroupApplies),
-            ],
-            Kind::OrderEvents => &[
-                at_most_once!(Tag::Name, Row::Text),
-                once!(Tag::Required, Row::Truth),
-                once!(Tag::Weight, Row::Number),
-                once!(Tag::CostFunction, Row::Function),
-                once!(Tag::AppliesTo, Row::PairApplies),
-            ],
-            Kind::AvoidClashes => &[
-                at_most_once!(Tag::Name, Row::Text),
-                once!(Tag::Required, Row::Truth),
-                once!(Tag::Weight, Row::Number),
-                once!(Tag::CostFunction, Row::Function),
-                once!(Tag::AppliesTo, Row::ResourceApplies),
-            ],
-            Kind::AvoidUnavailableTimes => &[
-                at_most_once!(Tag::Name, Row::Text),
-                once!(Tag::Required, Row::Truth),
-                once!(Tag::Weight, Row::Number),
-                once!(Tag::CostFunction, Row::Function),
-                once!(Tag::AppliesTo, Row::ResourceApplies),
-                at_most_once!(Tag::TimeGroups, Row::TimeGroupReferences),
-                at_most_once!(Tag::Times, Row::TimeReferences),
-            ],
-            Kind::LimitIdleTimes => &[
-                at_most_once!(Tag::Name, Row::Text),
-                once!(Tag::Required, Row::Truth),
-                once!(Tag::Weight, Row::Number),
-                once!(Tag::CostFunction, Row::Function),
-                once!(Tag::AppliesTo, Row::ResourceApplies),
-                at_most_once!(Tag::TimeGroups, Row::TimeGroupReferences),
-                at_most_once!(Tag::Minimum, Row::Number),
-                at_most_once!(Tag::Maximum, Row::Bound),
-            ],
-            Kind::ClusterBusyTimes => &[
-                at_most_once!(Tag::Name, Row::Text),
-                once!(Tag::Required, Row::Truth),
-                once!(Tag::Weight, Row::Number),
-                once!(Tag::CostFunction, Row::Function),
-                once!(Tag::AppliesTo, Row::ResourceApplies),
-                at_most_once!(Tag::TimeGroups, Row::TimeGroupReferences),
-                at_most_once!(Tag::Minimum, Row::Number),
-                at_most_once!(Tag::Maximum, Row::Bound),
-            ],
-            Kind::LimitBusyTimes => &[
-                at_most_once!(Tag::Name, Row::Text),
-                once!(Tag::Required, Row::Truth),
-                once!(Tag::Weight, Row::Number),
-                once!(Tag::CostFunction, Row::Function),
-                once!(Tag::AppliesTo, Row::ResourceApplies),
-                at_most_once!(Tag::TimeGroups, Row::TimeGroupReferences),
-                at_most_once!(Tag::Minimum, Row::Number),
-                at_most_once!(Tag::Maximum, Row::Bound),
-            ],
-            Kind::LimitWorkload => &[
-                at_most_once!(Tag::Name, Row::Text),
-                once!(Tag::Required, Row::Truth),
-                once!(Tag::Weight, Row::Number),
-                once!(Tag::CostFunction, Row::Function),
-                once!(Tag::AppliesTo, Row::ResourceApplies),
-                at_most_once!(Tag::Minimum, Row::Number),
-                at_most_once!(Tag::Maximum, Row::Bound),
-            ],
-        }
+/// The children of a constraint of this kind, in the order of the table.
+#[tactic(auto, unfolding(crate::specs::Schema::constraint_children))]
+fn constraint_children(kind: Kind) -> &'static [Child]
+    ensures { result.now ≡ schema.constraint_children kind }
+{
+    match kind {
+        Kind::AssignTime => &[
+            at_most_once!(Tag::Name, Row::Text),
+            once!(Tag::Required, Row::Truth),
+            once!(Tag::Weight, Row::Number),
+            once!(Tag::CostFunction, Row::Function),
+            once!(Tag::AppliesTo, Row::EventApplies),
+        ],
+        Kind::AssignResource => &[
+            at_most_once!(Tag::Name, Row::Text),
+            once!(Tag::Required, Row::Truth),
+            once!(Tag::Weight, Row::Number),
+            once!(Tag::CostFunction, Row::Function),
+            once!(Tag::AppliesTo, Row::EventApplies),
+            once!(Tag::Role, Row::Role),
+        ],
+        Kind::SplitEvents => &[
+            at_most_once!(Tag::Name, Row::Text),
+            once!(Tag::Required, Row::Truth),
+            once!(Tag::Weight, Row::Number),
+            once!(Tag::CostFunction, Row::Function),
+            once!(Tag::AppliesTo, Row::EventApplies),
+            at_most_once!(Tag::MinimumDuration, Row::Number),
+            at_most_once!(Tag::MaximumDuration, Row::Bound),
+            at_most_once!(Tag::MinimumAmount, Row::Number),
+            at_most_once!(Tag::MaximumAmount, Row::Bound),
+        ],
+        Kind::DistributeSplitEvents => &[
+            at_most_once!(Tag::Name, Row::Text),
+            once!(Tag::Required, Row::Truth),
+            once!(Tag::Weight, Row::Number),
+            once!(Tag::CostFunction, Row::Function),
+            once!(Tag::AppliesTo, Row::EventApplies),
+            once!(Tag::Duration, Row::Duration),
+            at_most_once!(Tag::Minimum, Row::Number),
+            at_most_once!(Tag::Maximum, Row::Bound),
+        ],
+        Kind::PreferTimes => &[
+            at_most_once!(Tag::Name, Row::Text),
+            once!(Tag::Required, Row::Truth),
+            once!(Tag::Weight, Row::Number),
+            once!(Tag::CostFunction, Row::Function),
+            once!(Tag::AppliesTo, Row::EventApplies),
+            at_most_once!(Tag::TimeGroups, Row::TimeGroupReferences),
+            at_most_once!(Tag::Times, Row::TimeReferences),
+            at_most_once!(Tag::Duration, Row::Duration),
+        ],
+        Kind::PreferResources => &[
+            at_most_once!(Tag::Name, Row::Text),
+            once!(Tag::Required, Row::Truth),
+            once!(Tag::Weight, Row::Number),
+            once!(Tag::CostFunction, Row::Function),
+            once!(Tag::AppliesTo, Row::EventApplies),
+            at_most_once!(Tag::ResourceGroups, Row::ResourceGroupReferences),
+            at_most_once!(Tag::Resources, Row::ResourceReferences),
+            once!(Tag::Role, Row::Role),
+        ],
+        Kind::AvoidSplitAssignments => &[
+            at_most_once!(Tag::Name, Row::Text),
+            once!(Tag::Required, Row::Truth),
+            once!(Tag::Weight, Row::Number),
+            once!(Tag::CostFunction, Row::Function),
+            once!(Tag::AppliesTo, Row::GroupApplies),
+            once!(Tag::Role, Row::Role),
+        ],
+        Kind::SpreadEvents => &[
+            at_most_once!(Tag::Name, Row::Text),
+            once!(Tag::Required, Row::Truth),
+            once!(Tag::Weight, Row::Number),
+            once!(Tag::CostFunction, Row::Function),
+            once!(Tag::AppliesTo, Row::GroupApplies),
+            at_most_once!(Tag::TimeGroups, Row::Spreads),
+        ],
+        Kind::LinkEvents => &[
+            at_most_once!(Tag::Name, Row::Text),
+            once!(Tag::Required, Row::Truth),
+            once!(Tag::Weight, Row::Number),
+            once!(Tag::CostFunction, Row::Function),
+            once!(Tag::AppliesTo, Row::GroupApplies),
+        ],
+        Kind::OrderEvents => &[
+            at_most_once!(Tag::Name, Row::Text),
+            once!(Tag::Required, Row::Truth),
+            once!(Tag::Weight, Row::Number),
+            once!(Tag::CostFunction, Row::Function),
+            once!(Tag::AppliesTo, Row::PairApplies),
+        ],
+        Kind::AvoidClashes => &[
+            at_most_once!(Tag::Name, Row::Text),
+            once!(Tag::Required, Row::Truth),
+            once!(Tag::Weight, Row::Number),
+            once!(Tag::CostFunction, Row::Function),
+            once!(Tag::AppliesTo, Row::ResourceApplies),
+        ],
+        Kind::AvoidUnavailableTimes => &[
+            at_most_once!(Tag::Name, Row::Text),
+            once!(Tag::Required, Row::Truth),
+            once!(Tag::Weight, Row::Number),
+            once!(Tag::CostFunction, Row::Function),
+            once!(Tag::AppliesTo, Row::ResourceApplies),
+            at_most_once!(Tag::TimeGroups, Row::TimeGroupReferences),
+            at_most_once!(Tag::Times, Row::TimeReferences),
+        ],
+        Kind::LimitIdleTimes => &[
+            at_most_once!(Tag::Name, Row::Text),
+            once!(Tag::Required, Row::Truth),
+            once!(Tag::Weight, Row::Number),
+            once!(Tag::CostFunction, Row::Function),
+            once!(Tag::AppliesTo, Row::ResourceApplies),
+            at_most_once!(Tag::TimeGroups, Row::TimeGroupReferences),
+            at_most_once!(Tag::Minimum, Row::Number),
+            at_most_once!(Tag::Maximum, Row::Bound),
+        ],
+        Kind::ClusterBusyTimes => &[
+            at_most_once!(Tag::Name, Row::Text),
+            once!(Tag::Required, Row::Truth),
+            once!(Tag::Weight, Row::Number),
+            once!(Tag::CostFunction, Row::Function),
+            once!(Tag::AppliesTo, Row::ResourceApplies),
+            at_most_once!(Tag::TimeGroups, Row::TimeGroupReferences),
+            at_most_once!(Tag::Minimum, Row::Number),
+            at_most_once!(Tag::Maximum, Row::Bound),
+        ],
+        Kind::LimitBusyTimes => &[
+            at_most_once!(Tag::Name, Row::Text),
+            once!(Tag::Required, Row::Truth),
+            once!(Tag::Weight, Row::Number),
+            once!(Tag::CostFunction, Row::Function),
+            once!(Tag::AppliesTo, Row::ResourceApplies),
+            at_most_once!(Tag::TimeGroups, Row::TimeGroupReferences),
+            at_most_once!(Tag::Minimum, Row::Number),
+            at_most_once!(Tag::Maximum, Row::Bound),
+        ],
+        Kind::LimitWorkload => &[
+            at_most_once!(Tag::Name, Row::Text),
+            once!(Tag::Required, Row::Truth),
+            once!(Tag::Weight, Row::Number),
+            once!(Tag::CostFunction, Row::Function),
+            once!(Tag::AppliesTo, Row::ResourceApplies),
+            at_most_once!(Tag::Minimum, Row::Number),
+            at_most_once!(Tag::Maximum, Row::Bound),
+        ],
     }
 }

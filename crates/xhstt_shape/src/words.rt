@@ -1,67 +1,30 @@
 ghost use Rattle.std.specs.Prelude.{◌≡◌};
 ghost use Rattle.xhstt_shape.specs.Words as words;
 
-/// The sixteen kinds of constraints.
-#[derive(Clone, Copy)]
-pub enum Kind {
-    /// Events have times.
-    AssignTime,
-    /// Event resources have resources.
-    AssignResource,
-    /// Events are split into parts of given sizes.
-    SplitEvents,
-    /// Events have given numbers of parts of one size.
-    DistributeSplitEvents,
-    /// Events are at preferred times.
-    PreferTimes,
-    /// Event resources have preferred resources.
-    PreferResources,
-    /// The parts of events have one resource.
-    AvoidSplitAssignments,
-    /// Events are spread over time groups.
-    SpreadEvents,
-    /// Events run together.
-    LinkEvents,
-    /// Events follow others.
-    OrderEvents,
-    /// Resources are in one place at a time.
-    AvoidClashes,
-    /// Resources are free at given times.
-    AvoidUnavailableTimes,
-    /// Resources have few idle times.
-    LimitIdleTimes,
-    /// Resources are busy in few time groups.
-    ClusterBusyTimes,
-    /// Resources have few busy times in a time group.
-    LimitBusyTimes,
-    /// Resources have given workloads.
-    LimitWorkload,
-}
+use khe_instance::Kind;
 
-impl Kind {
-    /// Its element's name.
-    #[tactic(auto, unfolding(crate::specs::Words::kind_word))]
-    pub fn word(self) -> &'static [u8]
-        ensures { result.now ≡ words.kind_word self }
-    {
-        match self {
-            Kind::AssignTime => b"AssignTimeConstraint",
-            Kind::AssignResource => b"AssignResourceConstraint",
-            Kind::SplitEvents => b"SplitEventsConstraint",
-            Kind::DistributeSplitEvents => b"DistributeSplitEventsConstraint",
-            Kind::PreferTimes => b"PreferTimesConstraint",
-            Kind::PreferResources => b"PreferResourcesConstraint",
-            Kind::AvoidSplitAssignments => b"AvoidSplitAssignmentsConstraint",
-            Kind::SpreadEvents => b"SpreadEventsConstraint",
-            Kind::LinkEvents => b"LinkEventsConstraint",
-            Kind::OrderEvents => b"OrderEventsConstraint",
-            Kind::AvoidClashes => b"AvoidClashesConstraint",
-            Kind::AvoidUnavailableTimes => b"AvoidUnavailableTimesConstraint",
-            Kind::LimitIdleTimes => b"LimitIdleTimesConstraint",
-            Kind::ClusterBusyTimes => b"ClusterBusyTimesConstraint",
-            Kind::LimitBusyTimes => b"LimitBusyTimesConstraint",
-            Kind::LimitWorkload => b"LimitWorkloadConstraint",
-        }
+/// The name of the element of a constraint of this kind.
+#[tactic(auto, unfolding(crate::specs::Words::kind_word))]
+pub(crate) fn kind_word(kind: Kind) -> &'static [u8]
+    ensures { result.now ≡ words.kind_word kind }
+{
+    match kind {
+        Kind::AssignTime => b"AssignTimeConstraint",
+        Kind::AssignResource => b"AssignResourceConstraint",
+        Kind::SplitEvents => b"SplitEventsConstraint",
+        Kind::DistributeSplitEvents => b"DistributeSplitEventsConstraint",
+        Kind::PreferTimes => b"PreferTimesConstraint",
+        Kind::PreferResources => b"PreferResourcesConstraint",
+        Kind::AvoidSplitAssignments => b"AvoidSplitAssignmentsConstraint",
+        Kind::SpreadEvents => b"SpreadEventsConstraint",
+        Kind::LinkEvents => b"LinkEventsConstraint",
+        Kind::OrderEvents => b"OrderEventsConstraint",
+        Kind::AvoidClashes => b"AvoidClashesConstraint",
+        Kind::AvoidUnavailableTimes => b"AvoidUnavailableTimesConstraint",
+        Kind::LimitIdleTimes => b"LimitIdleTimesConstraint",
+        Kind::ClusterBusyTimes => b"ClusterBusyTimesConstraint",
+        Kind::LimitBusyTimes => b"LimitBusyTimesConstraint",
+        Kind::LimitWorkload => b"LimitWorkloadConstraint",
     }
 }
 
@@ -184,7 +147,7 @@ impl Tag {
             Tag::Solution => b"Solution",
             Tag::RunningTime => b"RunningTime",
             Tag::Report => b"Report",
-            Tag::Constraint(kind) => kind.word(),
+            Tag::Constraint(kind) => kind_word(kind),
         }
     }
 }

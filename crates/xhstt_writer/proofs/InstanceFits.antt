@@ -15,8 +15,8 @@ use Rattle.xhstt_shape.specs.declared.records.TimeSort.{TimeSort}
 use Rattle.xhstt_shape.specs.declared.records.TimeSort.TheVariants as time_sort
 use Rattle.xhstt_shape.specs.declared.schema.Mark.TheVariants.{Once, AtMostOnce, Many}
 use Rattle.xhstt_shape.specs.declared.schema.Row.TheVariants as row_of
-use Rattle.xhstt_shape.specs.declared.words.Kind.{Kind}
-use Rattle.xhstt_shape.specs.declared.words.Kind.TheVariants as kind
+use Rattle.khe_instance.specs.declared.rules.Kind.{Kind}
+use Rattle.khe_instance.specs.declared.rules.Kind.TheVariants as kind
 use Rattle.xhstt_shape.specs.declared.words.Tag.TheVariants as tag
 use Rattle.xhstt_shape.specs.Characters.{IsSpellable, IsSpellableName, IsSpellableRef, IsSpellableMetaData}
 use Rattle.xhstt_shape.specs.Characters.{IsSpellableTimeGroup, IsSpellableTime, IsSpellableResourceType}

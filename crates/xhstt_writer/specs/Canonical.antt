@@ -13,8 +13,8 @@ use Rattle.xhstt_shape.specs.declared.constraints.RawSpread.{RawSpread}
 use Rattle.xhstt_shape.specs.declared.records.MetaData.{MetaData}
 use Rattle.xhstt_shape.specs.declared.records.RawEvent.{RawEvent}
 use Rattle.xhstt_shape.specs.declared.records.RawEventResource.{RawEventResource}
-use Rattle.xhstt_shape.specs.declared.words.Kind.{Kind}
-use Rattle.xhstt_shape.specs.declared.words.Kind.TheVariants as kind
+use Rattle.khe_instance.specs.declared.rules.Kind.{Kind}
+use Rattle.khe_instance.specs.declared.rules.Kind.TheVariants as kind
 use Rattle.xhstt_shape.specs.declared.words.Label.TheVariants as label
 use Rattle.xhstt_shape.specs.declared.words.Tag.{Tag}
 use Rattle.xhstt_shape.specs.declared.words.Tag.TheVariants as tag

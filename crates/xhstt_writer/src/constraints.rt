@@ -10,7 +10,8 @@ use crate::lists::{Tagged, Write, list};
 use crate::output::Output;
 use crate::parts::{attribute, begin, end, name, number, number_if, plain, reference, role};
 use khe_base::{CostFn, Seq};
-use xhstt_shape::{Kind, Label, RawApplies, RawConstraint, RawPair, RawRule, RawSpread, Ref, Tag};
+use khe_instance::Kind;
+use xhstt_shape::{Label, RawApplies, RawConstraint, RawPair, RawRule, RawSpread, Ref, Tag};
 
 impl Write for RawPair {
     ghost use Rattle.xhstt_writer.specs.Canonical as spec;
