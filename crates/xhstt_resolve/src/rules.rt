@@ -10,9 +10,10 @@ use khe_instance::{Constraint, EventPair, Rule, Spread};
 use std::alloc::Global;
 use xhstt_shape::{RawApplies, RawConstraint, RawPair, RawRule, RawSpread, Ref};
 
-/// The constraints with their rules. It takes time in proportion to what they list with its groups
-/// followed out, and for each set of times or resources to their number, which is what it takes in
-/// memory.
+/// The constraints with their rules. It takes time in proportion to what they list, on average, and
+/// for each set that it makes to a 64th of the times or resources, which is what it takes in memory,
+/// and to the members of the groups in the set, each group once. A time group that is to have a set
+/// of its own gets one at each mention, so there its members count each time.
 pub(crate) fn constraints_of(
     alloc: Global,
     lookup: &Lookup<'_>,

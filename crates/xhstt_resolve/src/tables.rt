@@ -147,7 +147,8 @@ impl<'a> Table<'a> {
         }
     }
 
-    /// The set of the members of a group.
+    /// The set of the members of a group. It takes time in proportion to them, on average, and time
+    /// and memory in proportion to a 64th of the items.
     pub fn group_set(&self, alloc: Global, group: &Text) -> Result<IdSet, NoMemory>
         requires { IsTable self.now }
         ensures { IfOk result (λ s. s ≡ set_of (length self.now.names.now) (members_at self.now group.now)) }
@@ -159,7 +160,7 @@ impl<'a> Table<'a> {
 
     /// The set of what is listed. It takes time in proportion to the list, on average, to the members
     /// of the groups in it, each group once however often it is listed, and to a 64th of the items
-    /// and groups; and memory in proportion to the items and groups.
+    /// and groups; and memory in proportion to those two 64ths and to the groups in the list.
     pub fn set(&self, alloc: Global, groups: &[Ref], singles: &[Ref]) -> Result<IdSet, NoMemory>
         requires { IsTable self.now }
         ensures { IfOk result (λ s. s ≡ set_of (length self.now.names.now) (listed_at self.now groups.now singles.now)) }
@@ -169,7 +170,8 @@ impl<'a> Table<'a> {
         Ok(set)
     }
 
-    /// What is listed, each item at its first mention. It takes the time and memory of the set.
+    /// What is listed, each item at its first mention. It takes the time of the set, and its memory
+    /// and that of the items.
     pub fn first_mentions(
         &self,
         alloc: Global,
