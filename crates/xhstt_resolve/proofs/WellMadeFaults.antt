@@ -16,8 +16,8 @@ use Rattle.xhstt_references.specs.References.{unknown_in_constraint, unknown_ref
 use Rattle.xhstt_references.specs.declared.faults.ReferenceFault.{ReferenceFault}
 use Rattle.fault_tables.specs.declared.faults.TheConstants.{DUPLICATE_ID, UNKNOWN_REFERENCE, DUPLICATE_ROLE}
 use Rattle.fault_tables.specs.declared.faults.TheConstants.{EVENT_OFF_END}
-use Rattle.xhstt_resolve.specs.Limits.{first_above, above, count_fault, total_duration, task_count, listed_groups}
-use Rattle.xhstt_resolve.specs.Limits.{watch_count, size_fault, monitor_fault, limit_fault}
+use Rattle.xhstt_resolve.specs.Limits.{first_above, above, total_duration, task_count, listings, units}
+use Rattle.xhstt_resolve.specs.Limits.{watch_count, limit_fault}
 use Rattle.xhstt_resolve.specs.Points.{monitors_of}
 use Rattle.xhstt_resolve.specs.Units.{running_units}
 use Rattle.xhstt_resolve.specs.declared.faults.ResolveFault.{ResolveFault}
@@ -114,26 +114,14 @@ pub record IsWithin (i : RawInstance) : Type 0 where
   pub duration : total_duration i ≤ DURATION
   pub tasks : task_count i ≤ TASKS
   pub cells : length i.resources * length i.times ≤ CELLS
-  pub listed : All (λ n. n ≤ LISTED) (map (λ c. listed_groups c.rule) i.constraints)
+  pub listed : All (λ n. n ≤ LISTED) (listings i)
   pub monitors : length (monitors_of i) ≤ MONITORS
   pub watches : watch_count i ≤ WATCHES
   pub units : All (λ n. n ≤ UNIT) (running_units 1 (map (λ e. e.duration) i.events))
 
 pub within : (i : RawInstance) → limit_fault i ≡ None → IsWithin i
 within i e =
-    let counts = neither (count_fault i) _ e in
-    let sizes = neither (size_fault i) None counts.1 in
-    let duration = neither (above TOO_LONG_DURATION DURATION (total_duration i)) _ sizes.0 in
-    let tasks = neither (above TOO_MANY_TASKS TASKS (task_count i)) _ duration.1 in
-    let cells = neither (above TOO_MANY_CELLS CELLS (length i.resources * length i.times)) _ tasks.1 in
-    let listed = neither (first_above TOO_MANY_LISTED LISTED (map (λ c. listed_groups c.rule) i.constraints)) _
-    cells.1 in
-    let last = neither (monitor_fault i) None listed.1 in
-    let monitors = neither (above TOO_MANY_MONITORS MONITORS (length (monitors_of i))) _ last.0 in
-    let watches = neither (above TOO_MANY_WATCHES WATCHES (watch_count i)) _ monitors.1 in
-    let units = neither (first_above TOO_GREAT_UNIT UNIT (running_units 1 (map (λ x. x.duration) i.events))) None
-    watches.1 in
-    let times = neither (above TOO_MANY_TIMES TIMES (length i.times)) _ counts.0 in
+    let times = neither (above TOO_MANY_TIMES TIMES (length i.times)) _ e in
     let time_groups = neither (above TOO_MANY_TIME_GROUPS TIME_GROUPS (length i.time_groups)) _ times.1 in
     let types = neither (above TOO_MANY_RESOURCE_TYPES RESOURCE_TYPES (length i.resource_types)) _ time_groups.1 in
     let resources = neither (above TOO_MANY_RESOURCES RESOURCES (length i.resources)) _ types.1 in
@@ -141,7 +129,14 @@ within i e =
     resources.1 in
     let events = neither (above TOO_MANY_EVENTS EVENTS (length i.events)) _ resource_groups.1 in
     let groups = neither (above TOO_MANY_EVENT_GROUPS EVENT_GROUPS (length i.event_groups)) _ events.1 in
-    let constraints = neither (above TOO_MANY_CONSTRAINTS CONSTRAINTS (length i.constraints)) None groups.1 in
+    let constraints = neither (above TOO_MANY_CONSTRAINTS CONSTRAINTS (length i.constraints)) _ groups.1 in
+    let duration = neither (above TOO_LONG_DURATION DURATION (total_duration i)) _ constraints.1 in
+    let tasks = neither (above TOO_MANY_TASKS TASKS (task_count i)) _ duration.1 in
+    let cells = neither (above TOO_MANY_CELLS CELLS (length i.resources * length i.times)) _ tasks.1 in
+    let listed = neither (first_above TOO_MANY_LISTED LISTED (listings i)) _ cells.1 in
+    let monitors = neither (above TOO_MANY_MONITORS MONITORS (length (monitors_of i))) _ listed.1 in
+    let watches = neither (above TOO_MANY_WATCHES WATCHES (watch_count i)) _ monitors.1 in
+    let last = neither (first_above TOO_GREAT_UNIT UNIT (units i)) None watches.1 in
     record {
       times = not-above TOO_MANY_TIMES TIMES (length i.times) times.0;
       types = not-above TOO_MANY_RESOURCE_TYPES RESOURCE_TYPES (length i.resource_types) types.0;
@@ -152,8 +147,8 @@ within i e =
       duration = not-above TOO_LONG_DURATION DURATION (total_duration i) duration.0;
       tasks = not-above TOO_MANY_TASKS TASKS (task_count i) tasks.0;
       cells = not-above TOO_MANY_CELLS CELLS (length i.resources * length i.times) cells.0;
-      listed = none-above TOO_MANY_LISTED LISTED (map (λ c. listed_groups c.rule) i.constraints) listed.0;
+      listed = none-above TOO_MANY_LISTED LISTED (listings i) listed.0;
       monitors = not-above TOO_MANY_MONITORS MONITORS (length (monitors_of i)) monitors.0;
       watches = not-above TOO_MANY_WATCHES WATCHES (watch_count i) watches.0;
-      units = none-above TOO_GREAT_UNIT UNIT (running_units 1 (map (λ x. x.duration) i.events)) units.0;
+      units = none-above TOO_GREAT_UNIT UNIT (units i) last.0;
     }

@@ -1,6 +1,5 @@
 pub mod Answers
 pub mod Collected
-pub mod Counts
 pub mod Faults
 pub mod Followed
 pub mod Joined

@@ -94,9 +94,17 @@ watches_of i c = sum_by (watches_at i c) (points_of i c)
 abbrev pub watch_count : RawInstance → ℕ
 watch_count i = sum_by (watches_of i) i.constraints
 
--- the first count of an instance that is above its limit
-abbrev pub count_fault : RawInstance → Option ResolveFault
-count_fault i = earliest
+-- how many time groups each constraint lists
+abbrev pub listings : RawInstance → List ℕ
+listings i = map (λ c. listed_groups c.rule) i.constraints
+
+-- the running multiples of the durations of events
+abbrev pub units : RawInstance → List ℕ
+units i = running_units 1 (map (λ e. e.duration) i.events)
+
+-- the first limit that an instance is above
+abbrev pub limit_fault : RawInstance → Option ResolveFault
+limit_fault i = earliest
     (above TOO_MANY_TIMES TIMES (length i.times)
     ∷ above TOO_MANY_TIME_GROUPS TIME_GROUPS (length i.time_groups)
     ∷ above TOO_MANY_RESOURCE_TYPES RESOURCE_TYPES (length i.resource_types)
@@ -105,34 +113,11 @@ count_fault i = earliest
     ∷ above TOO_MANY_EVENTS EVENTS (length i.events)
     ∷ above TOO_MANY_EVENT_GROUPS EVENT_GROUPS (length i.event_groups)
     ∷ above TOO_MANY_CONSTRAINTS CONSTRAINTS (length i.constraints)
-    ∷ [])
-
--- the first constraint that lists more time groups than it may
-abbrev pub listed_fault : RawInstance → Option ResolveFault
-listed_fault i = first_above TOO_MANY_LISTED LISTED (map (λ c. listed_groups c.rule) i.constraints)
-
--- the first running multiple of the durations that is above the greatest unit
-abbrev pub unit_fault : RawInstance → Option ResolveFault
-unit_fault i = first_above TOO_GREAT_UNIT UNIT (running_units 1 (map (λ e. e.duration) i.events))
-
--- monitors, watches and the unit
-abbrev pub monitor_fault : RawInstance → Option ResolveFault
-monitor_fault i = earliest
-    (above TOO_MANY_MONITORS MONITORS (length (monitors_of i))
-    ∷ above TOO_MANY_WATCHES WATCHES (watch_count i)
-    ∷ unit_fault i
-    ∷ [])
-
--- the sizes of an instance
-abbrev pub size_fault : RawInstance → Option ResolveFault
-size_fault i = earliest
-    (above TOO_LONG_DURATION DURATION (total_duration i)
+    ∷ above TOO_LONG_DURATION DURATION (total_duration i)
     ∷ above TOO_MANY_TASKS TASKS (task_count i)
     ∷ above TOO_MANY_CELLS CELLS (length i.resources * length i.times)
-    ∷ listed_fault i
-    ∷ monitor_fault i
+    ∷ first_above TOO_MANY_LISTED LISTED (listings i)
+    ∷ above TOO_MANY_MONITORS MONITORS (length (monitors_of i))
+    ∷ above TOO_MANY_WATCHES WATCHES (watch_count i)
+    ∷ first_above TOO_GREAT_UNIT UNIT (units i)
     ∷ [])
-
--- the first limit that an instance is above
-abbrev pub limit_fault : RawInstance → Option ResolveFault
-limit_fault i = earliest (count_fault i ∷ size_fault i ∷ [])

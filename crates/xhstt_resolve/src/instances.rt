@@ -1,24 +1,26 @@
 ghost use Rattle.std.specs.Prelude.{◌≡◌, ◌≤◌, ◌*◌, ◌^◌, ◌<◌, None, length, map, IfOk, IfErr};
-ghost use Rattle.khe_base.specs.declared.limits.TheConstants.{CELLS, EVENTS, RESOURCES, TIMES};
+ghost use Rattle.khe_base.specs.declared.limits.TheConstants.{LISTED, RESOURCES, TIMES, UNIT};
 ghost use Rattle.xhstt_references.specs.Directories.{IsDirectoryOf};
 ghost use Rattle.xhstt_references.specs.Faults.{fault_of_instance};
 ghost use Rattle.xhstt_resolve.specs.Answers.{IsFirst};
 ghost use Rattle.xhstt_resolve.specs.Limits as spec;
 ghost use Rattle.xhstt_resolve.specs.Parts as parts;
-ghost use Rattle.xhstt_resolve.specs.Tables.{HasFewPlaces, IsLookup};
+ghost use Rattle.xhstt_resolve.specs.Tables.{IsLookup};
 ghost use Rattle.xhstt_resolve.specs.Units.{unit_of};
 ghost use Rattle.xhstt_resolve.specs.WellFormed.{IsFormedInstance};
+ghost use Rattle.fault_tables.specs.declared.limits.TheConstants.{TOO_GREAT_UNIT, TOO_MANY_LISTED};
 
 use crate::building::parts_of;
 use crate::counting::counts_of;
-use crate::counts::count_fault;
 use crate::faults::ResolveFault;
 use crate::sizes::{listed_above, task_count, total_duration};
 use crate::tables::{Lookup, lookup_of};
 use crate::units::unit_of;
 use fault_tables::{
-    TOO_GREAT_UNIT, TOO_LONG_DURATION, TOO_MANY_CELLS, TOO_MANY_LISTED, TOO_MANY_MONITORS,
-    TOO_MANY_TASKS, TOO_MANY_WATCHES,
+    TOO_GREAT_UNIT, TOO_LONG_DURATION, TOO_MANY_CELLS, TOO_MANY_CONSTRAINTS, TOO_MANY_EVENT_GROUPS,
+    TOO_MANY_EVENTS, TOO_MANY_LISTED, TOO_MANY_MONITORS, TOO_MANY_RESOURCE_GROUPS,
+    TOO_MANY_RESOURCE_TYPES, TOO_MANY_RESOURCES, TOO_MANY_TASKS, TOO_MANY_TIME_GROUPS,
+    TOO_MANY_TIMES, TOO_MANY_WATCHES,
 };
 use khe_base::limits;
 use khe_instance::Instance;
@@ -44,75 +46,87 @@ pub(crate) fn instance_of(
     ensures within { IfOk result (λ i. spec.limit_fault raw.now ≡ None) }
     ensures fault { IfErr result (IsFirst (spec.limit_fault raw.now)) }
 {
-    if let Some(fault) = count_fault(raw) {
-        return Err(fault);
-    }
-    let lookup = lookup_of(alloc, raw, names)?;
-    sized_instance(alloc, &lookup)
-}
-
-/// The instance with this lookup, whose counts keep their limits, or the first of its sizes that is
-/// above its limit.
-fn sized_instance(alloc: Global, lookup: &Lookup<'_>) -> Result<Instance, ResolveFault>
-    requires lookup { IsLookup lookup.now }
-    requires counts { spec.count_fault lookup.now.instance.now ≡ None }
-    requires sound { fault_of_instance lookup.now.instance.now ≡ None }
-    requires formed { IsFormedInstance lookup.now.instance.now }
-    ensures made { IfOk result (λ i. i ≡ parts.parts_of lookup.now.instance.now) }
-    ensures within { IfOk result (λ i. spec.size_fault lookup.now.instance.now ≡ None) }
-    ensures fault { IfErr result (IsFirst (spec.size_fault lookup.now.instance.now)) }
-{
-    let unit = size_limits(alloc, lookup)?;
-    let parts = parts_of(alloc, lookup, unit)?;
+    let Kept { lookup, unit } = kept_limits(alloc, raw, names)?;
+    let parts = parts_of(alloc, &lookup, unit)?;
     Ok(Instance::new(alloc, parts)?)
 }
 
-/// The unit of an instance, or the first of its sizes that is above its limit.
-fn size_limits(alloc: Global, lookup: &Lookup<'_>) -> Result<u64, ResolveFault>
-    requires lookup { IsLookup lookup.now }
-    requires formed { IsFormedInstance lookup.now.instance.now }
-    ensures unit { IfOk result (λ u. u ≡ unit_of (map (λ e. e.duration) lookup.now.instance.now.events)) }
-    ensures within { IfOk result (λ u. spec.size_fault lookup.now.instance.now ≡ None) }
-    ensures fault { IfErr result (IsFirst (spec.size_fault lookup.now.instance.now)) }
-{
-    let duration = u128::from(total_duration(lookup.instance));
-    within(TOO_LONG_DURATION, u64::from(limits::DURATION), duration)?;
-    within(TOO_MANY_TASKS, u64::from(limits::TASKS), task_count(lookup))?;
-    within(
-        TOO_MANY_CELLS,
-        u64::from(limits::CELLS),
-        cells(lookup.instance),
-    )?;
-    listed_within(lookup.instance)?;
-    monitor_limits(alloc, lookup)
+/// An instance that keeps its limits, with its unit.
+#[derive(Drop)]
+struct Kept<'a> {
+    lookup: Lookup<'a>,
+    unit: u64,
 }
 
-/// The unit of an instance, or the first of its limits on monitors, watches and the unit that it is
-/// above.
-fn monitor_limits(alloc: Global, lookup: &Lookup<'_>) -> Result<u64, ResolveFault>
-    requires lookup { IsLookup lookup.now }
-    requires places { HasFewPlaces lookup.now.instance.now }
-    requires formed { IsFormedInstance lookup.now.instance.now }
-    ensures unit { IfOk result (λ u. u ≡ unit_of (map (λ e. e.duration) lookup.now.instance.now.events)) }
-    ensures within { IfOk result (λ u. spec.monitor_fault lookup.now.instance.now ≡ None) }
-    ensures fault { IfErr result (IsFirst (spec.monitor_fault lookup.now.instance.now)) }
+/// The lookup and the unit of an instance that keeps its limits, or the first of them, in the order
+/// of their numbers, that it is above.
+fn kept_limits<'a>(
+    alloc: Global,
+    raw: &'a RawInstance,
+    names: &'a Directory,
+) -> Result<Kept<'a>, ResolveFault>
+    requires names { IsDirectoryOf raw.now names.now }
+    requires formed { IsFormedInstance raw.now }
+    ensures lookup { IfOk result (λ k. IsLookup k.lookup) }
+    ensures instance { IfOk result (λ k. k.lookup.instance.now ≡ raw.now) }
+    ensures unit { IfOk result (λ k. k.unit ≡ unit_of (map (λ e. e.duration) raw.now.events)) }
+    ensures within { IfOk result (λ k. spec.limit_fault raw.now ≡ None) }
+    ensures fault { IfErr result (IsFirst (spec.limit_fault raw.now)) }
 {
-    let counts = counts_of(alloc, lookup)?;
+    within(TOO_MANY_TIMES, limits::TIMES, raw.times.len() as u128)?;
     within(
-        TOO_MANY_MONITORS,
-        u64::from(limits::MONITORS),
-        counts.monitors,
+        TOO_MANY_TIME_GROUPS,
+        limits::TIME_GROUPS,
+        raw.time_groups.len() as u128,
     )?;
-    within(TOO_MANY_WATCHES, u64::from(limits::WATCHES), counts.watches)?;
-    unit_within(lookup.instance)
+    within(
+        TOO_MANY_RESOURCE_TYPES,
+        limits::RESOURCE_TYPES,
+        raw.resource_types.len() as u128,
+    )?;
+    within(
+        TOO_MANY_RESOURCES,
+        limits::RESOURCES,
+        raw.resources.len() as u128,
+    )?;
+    within(
+        TOO_MANY_RESOURCE_GROUPS,
+        limits::RESOURCE_GROUPS,
+        raw.resource_groups.len() as u128,
+    )?;
+    within(TOO_MANY_EVENTS, limits::EVENTS, raw.events.len() as u128)?;
+    within(
+        TOO_MANY_EVENT_GROUPS,
+        limits::EVENT_GROUPS,
+        raw.event_groups.len() as u128,
+    )?;
+    within(
+        TOO_MANY_CONSTRAINTS,
+        limits::CONSTRAINTS,
+        raw.constraints.len() as u128,
+    )?;
+    let lookup = lookup_of(alloc, raw, names)?;
+    within(
+        TOO_LONG_DURATION,
+        limits::DURATION,
+        u128::from(total_duration(raw)),
+    )?;
+    within(TOO_MANY_TASKS, limits::TASKS, task_count(&lookup))?;
+    within(TOO_MANY_CELLS, limits::CELLS, cells(raw))?;
+    listed_within(raw)?;
+    let counts = counts_of(alloc, &lookup)?;
+    within(TOO_MANY_MONITORS, limits::MONITORS, counts.monitors)?;
+    within(TOO_MANY_WATCHES, limits::WATCHES, counts.watches)?;
+    let unit = unit_within(raw)?;
+    Ok(Kept { lookup, unit })
 }
 
 /// The unit of an instance, or the fault that it is too great.
 fn unit_within(instance: &RawInstance) -> Result<u64, ResolveFault>
     requires { IsFormedInstance instance.now }
     ensures unit { IfOk result (λ u. u ≡ unit_of (map (λ e. e.duration) instance.now.events)) }
-    ensures within { IfOk result (λ u. spec.unit_fault instance.now ≡ None) }
-    ensures fault { IfErr result (IsFirst (spec.unit_fault instance.now)) }
+    ensures within { IfOk result (λ u. spec.first_above TOO_GREAT_UNIT UNIT (spec.units instance.now) ≡ None) }
+    ensures fault { IfErr result (IsFirst (spec.first_above TOO_GREAT_UNIT UNIT (spec.units instance.now))) }
 {
     match unit_of(instance) {
         Ok(unit) => Ok(unit),
@@ -125,8 +139,8 @@ fn unit_within(instance: &RawInstance) -> Result<u64, ResolveFault>
 
 /// A constraint that lists too many time groups is a fault.
 fn listed_within(instance: &RawInstance) -> Result<(), ResolveFault>
-    ensures within { IfOk result (λ u. spec.listed_fault instance.now ≡ None) }
-    ensures fault { IfErr result (IsFirst (spec.listed_fault instance.now)) }
+    ensures within { IfOk result (λ u. spec.first_above TOO_MANY_LISTED LISTED (spec.listings instance.now) ≡ None) }
+    ensures fault { IfErr result (IsFirst (spec.first_above TOO_MANY_LISTED LISTED (spec.listings instance.now))) }
 {
     match listed_above(instance) {
         None => Ok(()),
@@ -147,7 +161,7 @@ fn cells(instance: &RawInstance) -> u128
 }
 
 /// A value above the greatest is a fault.
-pub(crate) fn within(which: u32, greatest: u64, value: u128) -> Result<(), ResolveFault>
+pub(crate) fn within(which: u32, greatest: u32, value: u128) -> Result<(), ResolveFault>
     ensures within { IfOk result (λ u. spec.above which greatest value ≡ None) }
     ensures fault { IfErr result (IsFirst (spec.above which greatest value)) }
 {

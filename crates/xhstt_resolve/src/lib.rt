@@ -5,7 +5,6 @@
 mod building;
 mod collecting;
 mod counting;
-mod counts;
 mod events;
 mod faults;
 mod instances;

@@ -123,7 +123,7 @@ fn solution_instances(
     ensures fault { IfErr result (IsFirst (spec.solutions_fault archive.now)) }
 {
     let count = solution_count(archive);
-    within(TOO_MANY_SOLUTIONS, u64::from(limits::SOLUTIONS), count)?;
+    within(TOO_MANY_SOLUTIONS, limits::SOLUTIONS, count)?;
     Ok(instances_of_solutions(alloc, archive, names, directories)?)
 }
 

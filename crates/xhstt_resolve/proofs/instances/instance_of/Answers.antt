@@ -1,47 +1,22 @@
--- The counts are within their limits; then the sizes are looked at.
-use Rattle.std.proofs.Common.{◌≡◌, ◌∙◌, refl, subst, sym, IfErr, IfOk, None}
-use Rattle.std.specs.Option.{option_or}
-use Rattle.std.proofs.lemmas.Result.{IfErr-weaker, IfOk-weaker}
-use Rattle.xhstt_references.specs.Faults.{fault_of_instance}
-use Rattle.xhstt_resolve.specs.Answers.{IsFirst}
-use Rattle.xhstt_resolve.specs.Limits.{count_fault, limit_fault, size_fault}
+-- An instance that keeps its limits has few places in each event, and is well made.
+use Rattle.std.proofs.Common.{subst, sym, ◌∙◌, ap}
+use Rattle.khe_instance.specs.WellMade.{AreWellMade}
 use Rattle.xhstt_resolve.specs.Parts.{parts_of}
-use Rattle.xhstt_resolve.specs.WellFormed.{IsFormedInstance}
-use Rattle.xhstt_resolve.proofs.AnswersLemmas.{both-none, next-first, this-first}
+use Rattle.xhstt_resolve.specs.Tables.{HasFewPlaces}
+use Rattle.xhstt_resolve.proofs.FewLemmas.{few-places}
+use Rattle.xhstt_resolve.proofs.WellMade.{parts-well-made}
+use Rattle.xhstt_resolve.proofs.WellMadeFaults.{within}
 use Rattle.xhstt_resolve.proofs.instances.instance_of.Goals as goal
 
-pub sized_instance-requires-clause-counts : goal.sized_instance-requires-clause-counts
-sized_instance-requires-clause-counts c =
-    let none : count_fault c.args.raw.now ≡ None = sym c.count_fault.ensures.fault ∙ c.in_default.is in
-    subst (λ x. count_fault x ≡ None) (sym c.in_ok-lookup.ensures.instance) none
-
-pub sized_instance-requires-clause-sound : goal.sized_instance-requires-clause-sound
-sized_instance-requires-clause-sound c =
-    subst (λ x. fault_of_instance x ≡ None) (sym c.in_ok-lookup.ensures.instance) c.requires.sound
-
-pub sized_instance-requires-clause-formed : goal.sized_instance-requires-clause-formed
-sized_instance-requires-clause-formed c = subst IsFormedInstance (sym c.in_ok-lookup.ensures.instance) c.requires.formed
-
-pub returns-clause-made : goal.returns-clause-made
-returns-clause-made c =
-    let made = c.sized_instance.result in
-    subst (λ x. IfOk made (λ m. m ≡ parts_of x)) c.in_ok-lookup.ensures.instance c.sized_instance.ensures.made
-
-pub returns-clause-within : goal.returns-clause-within
-returns-clause-within c =
+pub parts_of-requires-clause-places : goal.parts_of-requires-clause-places
+parts_of-requires-clause-places c =
     let i = c.args.raw.now in
-    let made = c.sized_instance.result in
-    let none : count_fault i ≡ None = sym c.count_fault.ensures.fault ∙ c.in_default.is in
-    IfOk-weaker made (λ _. size_fault i ≡ None) (λ _. limit_fault i ≡ None)
-    (λ _ sizes. both-none (count_fault i) (option_or (size_fault i) None) none
-    (both-none (size_fault i) None sizes refl))
-    (subst (λ x. IfOk made (λ _. size_fault x ≡ None)) c.in_ok-lookup.ensures.instance c.sized_instance.ensures.within)
+    let kept = within i c.in_ok-lookup.ensures.within in
+    subst HasFewPlaces (sym c.in_ok-lookup.ensures.instance) (few-places i c.requires.formed kept.tasks)
 
-pub returns-clause-fault : goal.returns-clause-fault
-returns-clause-fault c =
+pub new-requires : goal.new-requires
+new-requires c =
     let i = c.args.raw.now in
-    let made = c.sized_instance.result in
-    let none : count_fault i ≡ None = sym c.count_fault.ensures.fault ∙ c.in_default.is in
-    IfErr-weaker made (IsFirst (size_fault i)) (IsFirst (limit_fault i))
-    (λ e is. next-first (count_fault i) (option_or (size_fault i) None) e none (this-first (size_fault i) None e is))
-    (subst (λ x. IfErr made (IsFirst (size_fault x))) c.in_ok-lookup.ensures.instance c.sized_instance.ensures.fault)
+    let made = c.in_ok-parts.ensures ∙ ap parts_of c.in_ok-lookup.ensures.instance in
+    subst AreWellMade (sym made)
+    (parts-well-made i c.requires.sound c.in_ok-lookup.ensures.within c.requires.formed)
