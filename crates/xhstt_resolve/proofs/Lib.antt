@@ -1,4 +1,3 @@
-pub mod FormedLemmas
 pub mod FewLemmas
 pub mod WatchesLemmas
 pub mod AnswersLemmas

@@ -7,7 +7,7 @@ ghost use Rattle.xhstt_resolve.specs.Limits as spec;
 ghost use Rattle.xhstt_resolve.specs.Parts as parts;
 ghost use Rattle.xhstt_resolve.specs.Tables.{IsLookup};
 ghost use Rattle.xhstt_resolve.specs.Units.{unit_of};
-ghost use Rattle.xhstt_resolve.specs.WellFormed.{IsFormedInstance};
+ghost use Rattle.xhstt_shape.specs.WellFormed.{IsInstance};
 
 use crate::building::parts_of;
 use crate::counting::monitor_count;
@@ -39,7 +39,7 @@ pub(crate) fn instance_of(
 ) -> Result<Instance, ResolveFault>
     requires names { IsDirectoryOf raw.now names.now }
     requires sound { fault_of_instance raw.now ≡ None }
-    requires formed { IsFormedInstance raw.now }
+    requires formed { IsInstance raw.now }
     ensures made { IfOk result (λ i. i ≡ parts.parts_of raw.now) }
     ensures within { IfOk result (λ i. spec.limit_fault raw.now ≡ None) }
     ensures fault { IfErr result (IsFirst (spec.limit_fault raw.now)) }
@@ -57,7 +57,7 @@ fn sized_instance(alloc: Global, lookup: &Lookup<'_>) -> Result<Instance, Resolv
     requires lookup { IsLookup lookup.now }
     requires counts { spec.count_fault lookup.now.instance.now ≡ None }
     requires sound { fault_of_instance lookup.now.instance.now ≡ None }
-    requires formed { IsFormedInstance lookup.now.instance.now }
+    requires formed { IsInstance lookup.now.instance.now }
     ensures made { IfOk result (λ i. i ≡ parts.parts_of lookup.now.instance.now) }
     ensures within { IfOk result (λ i. spec.size_fault lookup.now.instance.now ≡ None) }
     ensures fault { IfErr result (IsFirst (spec.size_fault lookup.now.instance.now)) }
@@ -70,7 +70,7 @@ fn sized_instance(alloc: Global, lookup: &Lookup<'_>) -> Result<Instance, Resolv
 /// The unit of an instance, or the first of its sizes that is above its limit.
 fn size_limits(alloc: Global, lookup: &Lookup<'_>) -> Result<u64, ResolveFault>
     requires lookup { IsLookup lookup.now }
-    requires formed { IsFormedInstance lookup.now.instance.now }
+    requires formed { IsInstance lookup.now.instance.now }
     ensures unit { IfOk result (λ u. u ≡ unit_of (map (λ e. e.duration) lookup.now.instance.now.events)) }
     ensures within { IfOk result (λ u. spec.size_fault lookup.now.instance.now ≡ None) }
     ensures fault { IfErr result (IsFirst (spec.size_fault lookup.now.instance.now)) }
@@ -91,7 +91,7 @@ fn size_limits(alloc: Global, lookup: &Lookup<'_>) -> Result<u64, ResolveFault>
 /// above.
 fn monitor_limits(alloc: Global, lookup: &Lookup<'_>) -> Result<u64, ResolveFault>
     requires lookup { IsLookup lookup.now }
-    requires formed { IsFormedInstance lookup.now.instance.now }
+    requires formed { IsInstance lookup.now.instance.now }
     ensures unit { IfOk result (λ u. u ≡ unit_of (map (λ e. e.duration) lookup.now.instance.now.events)) }
     ensures within { IfOk result (λ u. spec.monitor_fault lookup.now.instance.now ≡ None) }
     ensures fault { IfErr result (IsFirst (spec.monitor_fault lookup.now.instance.now)) }
@@ -105,7 +105,7 @@ fn monitor_limits(alloc: Global, lookup: &Lookup<'_>) -> Result<u64, ResolveFaul
 
 /// The unit of an instance, or the fault that it is too great.
 fn unit_within(instance: &RawInstance) -> Result<u64, ResolveFault>
-    requires { IsFormedInstance instance.now }
+    requires { IsInstance instance.now }
     ensures unit { IfOk result (λ u. u ≡ unit_of (map (λ e. e.duration) instance.now.events)) }
     ensures within { IfOk result (λ u. spec.unit_fault instance.now ≡ None) }
     ensures fault { IfErr result (IsFirst (spec.unit_fault instance.now)) }

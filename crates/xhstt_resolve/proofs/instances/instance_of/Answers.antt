@@ -6,7 +6,7 @@ use Rattle.xhstt_references.specs.Faults.{fault_of_instance}
 use Rattle.xhstt_resolve.specs.Answers.{IsFirst}
 use Rattle.xhstt_resolve.specs.Limits.{count_fault, limit_fault, size_fault}
 use Rattle.xhstt_resolve.specs.Parts.{parts_of}
-use Rattle.xhstt_resolve.specs.WellFormed.{IsFormedInstance}
+use Rattle.xhstt_shape.specs.WellFormed.{IsInstance}
 use Rattle.xhstt_resolve.proofs.AnswersLemmas.{both-none, next-first, this-first}
 use Rattle.xhstt_resolve.proofs.instances.instance_of.Goals as goal
 
@@ -20,7 +20,7 @@ sized_instance-requires-clause-sound c =
     subst (λ x. fault_of_instance x ≡ None) (sym c.in_ok-lookup.ensures.instance) c.requires.sound
 
 pub sized_instance-requires-clause-formed : goal.sized_instance-requires-clause-formed
-sized_instance-requires-clause-formed c = subst IsFormedInstance (sym c.in_ok-lookup.ensures.instance) c.requires.formed
+sized_instance-requires-clause-formed c = subst IsInstance (sym c.in_ok-lookup.ensures.instance) c.requires.formed
 
 pub returns-clause-made : goal.returns-clause-made
 returns-clause-made c =
