@@ -1,7 +1,6 @@
 pub mod BoundsLemmas
 pub mod CountsLemmas
 pub mod FollowedLemmas
-pub mod FormedLemmas
 pub mod FewLemmas
 pub mod WatchesLemmas
 pub mod AnswersLemmas

@@ -4,7 +4,7 @@ use Rattle.khe_instance.specs.WellMade.{AreWellMade}
 use Rattle.xhstt_references.specs.Faults.{fault_of_instance}
 use Rattle.xhstt_resolve.specs.Limits.{limit_fault}
 use Rattle.xhstt_resolve.specs.Parts.{parts_of}
-use Rattle.xhstt_resolve.specs.WellFormed.{IsFormedInstance}
+use Rattle.xhstt_shape.specs.WellFormed.{IsInstance}
 use Rattle.xhstt_resolve.proofs.WellMadeConstraints.{constraints_made}
 use Rattle.xhstt_resolve.proofs.WellMadeEvents.{events_made}
 use Rattle.xhstt_resolve.proofs.WellMadeFaults.{faultless, within}
@@ -14,7 +14,7 @@ use Rattle.xhstt_resolve.proofs.WellMadeMonitors.{monitors_made}
 use Rattle.xhstt_resolve.proofs.WellMadeParts.{resources_made, groups_made, first_meets_made, unit_made}
 use Rattle.xhstt_shape.specs.declared.records.RawInstance.{RawInstance}
 
-pub parts-well-made : (i : RawInstance) → fault_of_instance i ≡ None → limit_fault i ≡ None → IsFormedInstance i
+pub parts-well-made : (i : RawInstance) → fault_of_instance i ≡ None → limit_fault i ≡ None → IsInstance i
     → AreWellMade (parts_of i)
 parts-well-made i none few formed =
     let sound = faultless i none in

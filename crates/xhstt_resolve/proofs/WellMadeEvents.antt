@@ -23,7 +23,7 @@ use Rattle.xhstt_references.specs.References.{unknown_in_event, unknown_in_place
 use Rattle.xhstt_resolve.specs.Members.{groups_of_resource, resources_in}
 use Rattle.xhstt_resolve.specs.Parts.{event_of, events_from, fixed_resource, fixed_time, group_places, member_place}
 use Rattle.xhstt_resolve.specs.Parts.{parts_of, place_of, place_type, places_of, role_text, type_at, workload_of}
-use Rattle.xhstt_resolve.specs.WellFormed.{IsFormedEvent, IsFormedInstance, IsFormedPlace}
+use Rattle.xhstt_shape.specs.WellFormed as shape
 use Rattle.xhstt_resolve.proofs.WellMadeFaults.{IsFaultless}
 use Rattle.xhstt_resolve.proofs.WellMadeIds.{distinct_names}
 use Rattle.xhstt_resolve.proofs.WellMadeLists.{IsKnown, among, known, members_in-within, All-flat_map}
@@ -97,22 +97,27 @@ within_number : (o : Option ℕ) (d : ℕ) → IfSome o (λ w. w ≤ NUMBER) →
 within_number None d h l = l
 within_number (Some w) d h l = h
 
-workload_within : (e : RawEvent) → IsFormedEvent e → workload_of e ≤ NUMBER
+workload_within : (e : RawEvent) → shape.IsEvent e → workload_of e ≤ NUMBER
 workload_within e form = within_number e.workload e.duration form.workload form.duration.1
 
-place_made : (i : RawInstance) (e : RawEvent) (r : RawEventResource) → IsFaultless i → IsFormedEvent e → IsFormedPlace r
+-- there is a reference, or what there must be without one
+referred : (B : Type 0) (o : Option Ref) → (o ≡ None → B) → IsSome o ⊎ B
+referred B None f = inr (f refl)
+referred B (Some r) f = inl refl
+
+place_made : (i : RawInstance) (e : RawEvent) (r : RawEventResource) → IsFaultless i → shape.IsEvent e → shape.IsEventResource r
     → unknown_in_place (directory_of i) r ≡ [] → IsPlace (parts_of i) (place_of i e r)
 place_made i e r sound form own none =
     let parts = none_of (unknown_one (resource_ids i) r.reference) (unknown_one (resource_type_ids i) r.resource_type)
     none in
     record {
-      typed = place_typed i r.reference r.resource_type sound parts.0 parts.1 own.typed;
+      typed = place_typed i r.reference r.resource_type sound parts.0 parts.1 (referred (IsSome r.resource_type) r.reference (λ none. (own.closed none).1));
       fixed = place_fixed i r.reference r.resource_type parts.0;
-      wanted = place_wanted i r.reference r.role parts.0 own.role;
+      wanted = place_wanted i r.reference r.role parts.0 (referred (IsSome r.role) r.reference (λ none. (own.closed none).0));
       workload = within_number r.workload (workload_of e) own.workload (workload_within e form);
     }
 
-member_made : (i : RawInstance) (e : RawEvent) (n : ℕ) → IsFaultless i → IsFormedEvent e → n < length i.resources
+member_made : (i : RawInstance) (e : RawEvent) (n : ℕ) → IsFaultless i → shape.IsEvent e → n < length i.resources
     → IsPlace (parts_of i) (member_place i e n)
 member_made i e n sound form l = record {
   typed = type_at-within i n sound l;
@@ -121,13 +126,13 @@ member_made i e n sound form l = record {
   workload = workload_within e form;
 }
 
-places_made : (i : RawInstance) (e : RawEvent) → IsFaultless i → IsFormedEvent e
+places_made : (i : RawInstance) (e : RawEvent) → IsFaultless i → shape.IsEvent e
     → flat_map (unknown_in_place (directory_of i)) e.resources ≡ [] → All (IsPlace (parts_of i)) (places_of i e)
 places_made i e sound form none =
     let each = none-each (unknown_in_place (directory_of i)) e.resources none in
     All-append (IsPlace (parts_of i)) (map (place_of i e) e.resources) (flat_map (group_places i e) e.resource_groups)
     (All-map (IsPlace (parts_of i)) (place_of i e) e.resources
-    (λ k d l. place_made i e _ sound form (form.places k d l) (each k d l)))
+    (λ k d l. place_made i e _ sound form (form.resources k d l) (each k d l)))
     (All-flat_map (IsPlace (parts_of i)) (group_places i e) e.resource_groups
     (λ g. All-map (IsPlace (parts_of i)) (member_place i e) (resources_in i g.id)
     (All-weaker (λ n. n < length i.resources) (λ n. IsPlace (parts_of i) (member_place i e n))
@@ -170,7 +175,7 @@ place_roles i e =
 
 -- what an event without a fault has
 record IsSound (i : RawInstance) (e : RawEvent) : Type 0 where
-  form : IsFormedEvent e
+  form : shape.IsEvent e
   known : unknown_in_event (directory_of i) e ≡ []
   roles : repeated (roles_of e) ≡ []
   ends : off_end (directory_of i) e ≡ []
@@ -196,7 +201,7 @@ each_made i next (e ∷ es) sound all =
     (event_made i next e sound (All-head (IsSound i) e es all))
     (each_made i (next + e.duration) es sound (All-tail (IsSound i) e es all))
 
-pub events_made : (i : RawInstance) → IsFaultless i → IsFormedInstance i
+pub events_made : (i : RawInstance) → IsFaultless i → shape.IsInstance i
     → All (IsEvent (parts_of i)) (events_from i 0 i.events)
 events_made i sound formed =
     each_made i 0 i.events sound (λ k d l. record {

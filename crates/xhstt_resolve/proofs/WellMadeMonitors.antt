@@ -20,7 +20,7 @@ use Rattle.khe_instance.specs.declared.rules.Constraint.{Constraint}
 use Rattle.xhstt_resolve.specs.Parts.{constraint_of, parts_of}
 use Rattle.xhstt_resolve.specs.Points.{monitors_at, monitors_of, points_in, points_of, role_of}
 use Rattle.xhstt_resolve.specs.Rules.{pair_of, rule_of}
-use Rattle.xhstt_resolve.specs.WellFormed.{IsFormedConstraint, IsFormedInstance, IsFormedRule}
+use Rattle.xhstt_shape.specs.WellFormed.{FitsRule, IsConstraint, IsInstance}
 use Rattle.xhstt_resolve.proofs.WellMadePairwise.{Pairwise, Pairwise-append, Pairwise-map, all_pairs, non_decreasing}
 use Rattle.xhstt_resolve.proofs.WellMadeParts.{monitor_at}
 use Rattle.xhstt_resolve.proofs.WellMadePoints.{points_distinct, points_fit}
@@ -44,17 +44,17 @@ constraint_there : (i : RawInstance) (k : ℕ) (c : RawConstraint) → slice_get
     → slice_get (map (constraint_of i) i.constraints) k ≡ Some (constraint_of i c)
 constraint_there i k c at = slice_get-map (constraint_of i) i.constraints k ∙ ap (option_map (constraint_of i)) at
 
-own_monitors : (i : RawInstance) (k : ℕ) (c : RawConstraint) → slice_get i.constraints k ≡ Some c → IsFormedConstraint c
+own_monitors : (i : RawInstance) (k : ℕ) (c : RawConstraint) → slice_get i.constraints k ≡ Some c → IsConstraint c
     → All (made.IsMonitor (parts_of i)) (map (monitor_at i k c) (points_of i c))
 own_monitors i k c at form =
     All-map (made.IsMonitor (parts_of i)) (monitor_at i k c) (points_of i c)
     (All-weaker (made.IsPointOf (parts_of i) (rule_of i c.applies c.rule))
     (λ p. made.IsMonitor (parts_of i) (monitor_at i k c p))
     (λ p fits. (constraint_of i c, constraint_there i k c at, refl, fits)) (points_of i c)
-    (points_fit i c.applies c.rule form.rule))
+    (points_fit i c.applies c.rule form.applies))
 
 each_monitor : (i : RawInstance) (k : ℕ) (cs : List RawConstraint)
-    → ((j : ℕ) → slice_get cs j ≡ slice_get i.constraints (k + j)) → All IsFormedConstraint cs
+    → ((j : ℕ) → slice_get cs j ≡ slice_get i.constraints (k + j)) → All IsConstraint cs
     → All (made.IsMonitor (parts_of i)) (from i k cs)
 each_monitor i k [] at form = All-nil (made.IsMonitor (parts_of i))
 each_monitor i k (c ∷ cs) at form =
@@ -64,8 +64,8 @@ each_monitor i k (c ∷ cs) at form =
     λ j. (let z : k + suc j ≡ k + 1 + j = omega arith in at (suc j) ∙ ap (slice_get i.constraints) z) in
     subst (All (made.IsMonitor (parts_of i))) (sym (from-cons i k c cs))
     (All-append (made.IsMonitor (parts_of i)) (map (monitor_at i k c) (points_of i c)) (from i (k + 1) cs)
-    (own_monitors i k c here (All-head IsFormedConstraint c cs form))
-    (each_monitor i (k + 1) cs next (All-tail IsFormedConstraint c cs form)))
+    (own_monitors i k c here (All-head IsConstraint c cs form))
+    (each_monitor i (k + 1) cs next (All-tail IsConstraint c cs form)))
 
 -- in the order of constraints
 own_number : (i : RawInstance) (k : ℕ) (c : RawConstraint) (ps : List Point)
@@ -159,7 +159,7 @@ once i n = subst (AllPairs (λ x y. x ≢ y)) (sym (points_are i n)) (by (slice_
     by (Some c) = all_pairs (λ x y. x ≢ y) (points_of i c) (points_distinct i (role_of c.rule) c.applies)
 
 -- a constraint on pairs has its pairs
-order_pairs : (i : RawInstance) (applies : RawApplies) → IsFormedRule applies OrderEvents
+order_pairs : (i : RawInstance) (applies : RawApplies) → FitsRule OrderEvents applies
     → made.HasItsPairs (points_in i None applies) (rule_of i applies OrderEvents)
 order_pairs i (Events groups events) form = absurd form
 order_pairs i (Groups groups) form = absurd form
@@ -167,12 +167,12 @@ order_pairs i (Resources groups resources) form = absurd form
 order_pairs i (Pairs pairs) form = ap (λ n. map point.EventPair (range_with_len 0 n))
     (sym (length-map pairs (pair_of i)))
 
-has_pairs : (i : RawInstance) (applies : RawApplies) (rule : RawRule) → IsFormedRule applies rule
+has_pairs : (i : RawInstance) (applies : RawApplies) (rule : RawRule) → FitsRule rule applies
     → made.HasItsPairs (points_in i (role_of rule) applies) (rule_of i applies rule)
 has_pairs i applies OrderEvents form = order_pairs i applies form
 has_pairs i applies other form = tt
 
-pairs : (i : RawInstance) → IsFormedInstance i → (k : ℕ) (c : Constraint)
+pairs : (i : RawInstance) → IsInstance i → (k : ℕ) (c : Constraint)
     → slice_get (map (constraint_of i) i.constraints) k ≡ Some c
     → made.HasItsPairs (made.points_of (parts_of i) k) c.rule
 pairs i formed k c at = by (slice_get i.constraints k) refl (sym (slice_get-map (constraint_of i) i.constraints k) ∙ at)
@@ -181,14 +181,14 @@ pairs i formed k c at = by (slice_get i.constraints k) refl (sym (slice_get-map 
         → made.HasItsPairs (made.points_of (parts_of i) k) c.rule
     by None is e = absurd (none-some c e)
     by (Some raw) is e =
-        let form = all-there IsFormedConstraint i.constraints k raw formed.constraints is in
+        let form = all-there IsConstraint i.constraints k raw formed.constraints is in
         let same : constraint_of i raw ≡ c = same_Some (constraint_of i raw) c e in
         let points = points_are i k ∙ ap (λ o. option_map_or (points_of i) o []) is in
         subst (λ x. made.HasItsPairs (made.points_of (parts_of i) k) x.rule) same
         (subst (λ ps. made.HasItsPairs ps (rule_of i raw.applies raw.rule)) (sym points)
-        (has_pairs i raw.applies raw.rule form.rule))
+        (has_pairs i raw.applies raw.rule form.applies))
 
-pub monitors_made : (i : RawInstance) → IsFormedInstance i → made.AreMonitors (parts_of i)
+pub monitors_made : (i : RawInstance) → IsInstance i → made.AreMonitors (parts_of i)
 monitors_made i formed = record {
   each = each_monitor i 0 i.constraints (λ j. (let z : j ≡ 0 + j = omega arith in ap (slice_get i.constraints) z))
       formed.constraints;

@@ -22,7 +22,7 @@ use Rattle.xhstt_resolve.specs.Parts.{type_named, type_at, resource_of, group_of
 use Rattle.xhstt_resolve.specs.Points.{monitor_of}
 use Rattle.xhstt_resolve.specs.Rules.{event_named, rule_of}
 use Rattle.xhstt_resolve.specs.Units.{unit_of}
-use Rattle.xhstt_resolve.specs.WellFormed.{IsFormedEvent, IsFormedInstance}
+use Rattle.xhstt_shape.specs.WellFormed as shape
 use Rattle.xhstt_resolve.proofs.WellMadeFaults.{IsFaultless}
 use Rattle.xhstt_resolve.proofs.WellMadeLists.{known, among, length-set_of}
 use Rattle.xhstt_resolve.proofs.WellMadeUnits.{unit_is}
@@ -108,10 +108,10 @@ pub durations : (i : RawInstance) (next : ℕ) (es : List RawEvent)
 durations i next [] = refl
 durations i next (e ∷ es) = ap (λ ds. e.duration ∷ ds) (durations i (next + e.duration) es)
 
-pub unit_made : (i : RawInstance) → IsFormedInstance i
+pub unit_made : (i : RawInstance) → shape.IsInstance i
     → IsUnit (map (λ (e : EventInfo). e.duration) (events_from i 0 i.events)) (unit_of (map (λ e. e.duration) i.events))
 unit_made i formed =
     subst (λ ds. IsUnit ds (unit_of (map (λ e. e.duration) i.events))) (sym (durations i 0 i.events))
     (unit_is (map (λ e. e.duration) i.events)
     (All-map (λ d. 0 < d) (λ (e : RawEvent). e.duration) i.events
-    (All-weaker IsFormedEvent (λ e. 0 < e.duration) (λ e f. omega (arith, f.duration.0)) i.events formed.events)))
+    (All-weaker shape.IsEvent (λ e. 0 < e.duration) (λ e f. omega (arith, f.duration.0)) i.events formed.events)))

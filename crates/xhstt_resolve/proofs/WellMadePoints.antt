@@ -24,7 +24,7 @@ use Rattle.xhstt_resolve.specs.Parts.{role_text}
 use Rattle.xhstt_resolve.specs.Points.{event_point, has_role, place_point, places_at, points_in, resource_point}
 use Rattle.xhstt_resolve.specs.Points.{role_of, role_points}
 use Rattle.xhstt_resolve.specs.Rules.{pair_of, pairs_of, rule_of}
-use Rattle.xhstt_resolve.specs.WellFormed.{AreEvents, AreGroups, ArePairs, AreResources, IsFormedRule}
+use Rattle.xhstt_shape.specs.WellFormed.{AreEvents, AreGroups, ArePairs, AreResources, FitsRule}
 use Rattle.xhstt_resolve.proofs.WellMadeLists.{All-first_mentions, listed-within, members_in-within, numbers_of-within}
 use Rattle.xhstt_resolve.proofs.WellMadeLists.{All-flat_map}
 use Rattle.xhstt_resolve.proofs.WellMadePairwise.{Pairwise, Pairwise-flat_map, Pairwise-map, Pairwise-weaker}
@@ -181,24 +181,24 @@ place_points i role (Events groups events) form =
     All-flat_map (IsPlacePoint (parts_of i) role) (role_points i role) (first_mentions (listed_events i groups events))
     (event_places i role)
 
-pub points_fit : (i : RawInstance) (applies : RawApplies) (rule : RawRule) → IsFormedRule applies rule
+pub points_fit : (i : RawInstance) (applies : RawApplies) (rule : RawRule) → FitsRule rule applies
     → All (IsPointOf (parts_of i) (rule_of i applies rule)) (points_in i (role_of rule) applies)
 points_fit i applies AssignTime form = single_points i applies form
 points_fit i applies (AssignResource role) form = place_points i role.text applies form
-points_fit i applies (SplitEvents a b c d) form = single_points i applies form.0
-points_fit i applies (DistributeSplitEvents d least greatest) form = single_points i applies form.0
-points_fit i applies (PreferTimes groups times duration) form = single_points i applies form.0
+points_fit i applies (SplitEvents a b c d) form = single_points i applies form
+points_fit i applies (DistributeSplitEvents d least greatest) form = single_points i applies form
+points_fit i applies (PreferTimes groups times duration) form = single_points i applies form
 points_fit i applies (PreferResources groups resources role) form = place_points i role.text applies form
 points_fit i applies (AvoidSplitAssignments role) form = group_points i None applies form
-points_fit i applies (SpreadEvents groups) form = group_points i None applies form.0
+points_fit i applies (SpreadEvents groups) form = group_points i None applies form
 points_fit i applies LinkEvents form = group_points i None applies form
 points_fit i applies OrderEvents form = pair_points i None applies form
 points_fit i applies AvoidClashes form = resource_points i None applies form
 points_fit i applies (AvoidUnavailableTimes groups times) form = resource_points i None applies form
-points_fit i applies (LimitIdleTimes groups least greatest) form = resource_points i None applies form.0
-points_fit i applies (ClusterBusyTimes groups least greatest) form = resource_points i None applies form.0
-points_fit i applies (LimitBusyTimes groups least greatest) form = resource_points i None applies form.0
-points_fit i applies (LimitWorkload least greatest) form = resource_points i None applies form.0
+points_fit i applies (LimitIdleTimes groups least greatest) form = resource_points i None applies form
+points_fit i applies (ClusterBusyTimes groups least greatest) form = resource_points i None applies form
+points_fit i applies (LimitBusyTimes groups least greatest) form = resource_points i None applies form
+points_fit i applies (LimitWorkload least greatest) form = resource_points i None applies form
 
 -- the number of a point, and of a place in its event
 number_at : Point → ℕ

@@ -11,4 +11,3 @@ pub mod Resolved
 pub mod Rules
 pub mod Tables
 pub mod Units
-pub mod WellFormed

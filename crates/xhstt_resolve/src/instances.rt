@@ -7,7 +7,7 @@ ghost use Rattle.xhstt_resolve.specs.Limits as spec;
 ghost use Rattle.xhstt_resolve.specs.Parts as parts;
 ghost use Rattle.xhstt_resolve.specs.Tables.{IsLookup};
 ghost use Rattle.xhstt_resolve.specs.Units.{unit_of};
-ghost use Rattle.xhstt_resolve.specs.WellFormed.{IsFormedInstance};
+ghost use Rattle.xhstt_shape.specs.WellFormed.{IsInstance};
 ghost use Rattle.fault_tables.specs.declared.limits.TheConstants.{TOO_GREAT_UNIT, TOO_MANY_LISTED};
 
 use crate::building::parts_of;
@@ -41,7 +41,7 @@ pub(crate) fn instance_of(
 ) -> Result<Instance, ResolveFault>
     requires names { IsDirectoryOf raw.now names.now }
     requires sound { fault_of_instance raw.now ≡ None }
-    requires formed { IsFormedInstance raw.now }
+    requires formed { IsInstance raw.now }
     ensures made { IfOk result (λ i. i ≡ parts.parts_of raw.now) }
     ensures within { IfOk result (λ i. spec.limit_fault raw.now ≡ None) }
     ensures fault { IfErr result (IsFirst (spec.limit_fault raw.now)) }
@@ -66,7 +66,7 @@ fn kept_limits<'a>(
     names: &'a Directory,
 ) -> Result<Kept<'a>, ResolveFault>
     requires names { IsDirectoryOf raw.now names.now }
-    requires formed { IsFormedInstance raw.now }
+    requires formed { IsInstance raw.now }
     ensures lookup { IfOk result (λ k. IsLookup k.lookup) }
     ensures instance { IfOk result (λ k. k.lookup.instance.now ≡ raw.now) }
     ensures unit { IfOk result (λ k. k.unit ≡ unit_of (map (λ e. e.duration) raw.now.events)) }
@@ -123,7 +123,7 @@ fn kept_limits<'a>(
 
 /// The unit of an instance, or the fault that it is too great.
 fn unit_within(instance: &RawInstance) -> Result<u64, ResolveFault>
-    requires { IsFormedInstance instance.now }
+    requires { IsInstance instance.now }
     ensures unit { IfOk result (λ u. u ≡ unit_of (map (λ e. e.duration) instance.now.events)) }
     ensures within { IfOk result (λ u. spec.first_above TOO_GREAT_UNIT UNIT (spec.units instance.now) ≡ None) }
     ensures fault { IfErr result (IsFirst (spec.first_above TOO_GREAT_UNIT UNIT (spec.units instance.now))) }

@@ -8,10 +8,9 @@ ghost use Rattle.xhstt_resolve.specs.Answers.{IsFirst, IsFaultOf};
 ghost use Rattle.xhstt_resolve.specs.Limits.{above, earliest};
 ghost use Rattle.xhstt_resolve.specs.Parts.{parts_of};
 ghost use Rattle.xhstt_resolve.specs.Resolved as spec;
-ghost use Rattle.xhstt_resolve.specs.WellFormed.{IsFormedInstance};
 ghost use Rattle.khe_base.specs.declared.limits.TheConstants.{SOLUTIONS};
 ghost use Rattle.fault_tables.specs.declared.limits.TheConstants.{TOO_MANY_SOLUTIONS};
-ghost use Rattle.xhstt_shape.specs.WellFormed.{IsInForm};
+ghost use Rattle.xhstt_shape.specs.WellFormed.{IsInForm, IsInstance};
 
 use crate::faults::ResolveFault;
 use crate::instances::{instance_of, within};
@@ -68,7 +67,7 @@ struct Made {
 
 /// Some instances, or the first fault of the first of them that has one.
 fn made_instances(alloc: Global, raws: &[RawInstance]) -> Result<Made, ResolveFault>
-    requires { All IsFormedInstance raws.now }
+    requires { All IsInstance raws.now }
     ensures instances { IfOk result (λ m. m.instances ≡ map parts_of raws.now) }
     ensures directories { IfOk result (λ m. m.directories ≡ map directory_of raws.now) }
     ensures sound { IfOk result (λ m. earliest (map spec.instance_fault raws.now) ≡ None) }
@@ -97,7 +96,7 @@ fn keep(made: &mut Made, instance: Instance, directory: Directory) -> Result<(),
 
 /// One instance with the names of its parts, or its first fault.
 fn made_instance(alloc: Global, raw: &RawInstance) -> Result<(Instance, Directory), ResolveFault>
-    requires { IsFormedInstance raw.now }
+    requires { IsInstance raw.now }
     ensures instance { IfOk result (λ m. m.0 ≡ parts_of raw.now) }
     ensures directory { IfOk result (λ m. m.1 ≡ directory_of raw.now) }
     ensures sound { IfOk result (λ m. spec.instance_fault raw.now ≡ None) }

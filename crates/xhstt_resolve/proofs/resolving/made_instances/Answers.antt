@@ -7,14 +7,14 @@ use Rattle.xhstt_resolve.specs.Answers.{IsFirst}
 use Rattle.xhstt_resolve.specs.Limits.{earliest}
 use Rattle.xhstt_resolve.specs.Parts.{parts_of}
 use Rattle.xhstt_resolve.specs.Resolved.{instance_fault}
-use Rattle.xhstt_resolve.specs.WellFormed.{IsFormedInstance}
+use Rattle.xhstt_shape.specs.WellFormed.{IsInstance}
 use Rattle.xhstt_resolve.proofs.AnswersLemmas.{passed-first, pushed, this-first}
 use Rattle.xhstt_resolve.proofs.resolving.made_instances.Goals as goal
 use Rattle.khe_base.proofs.ListLemmas.{drop-next}
 
 pub made_instance-requires : goal.made_instance-requires
 made_instance-requires c =
-    subst IsFormedInstance (sym c.raw-item.is) (All-get_or IsFormedInstance c.args.raws.now c.loop-raw.raw-index
+    subst IsInstance (sym c.raw-item.is) (All-get_or IsInstance c.args.raws.now c.loop-raw.raw-index
     c.raw-item.result c.loop-raw-test.true c.requires)
 
 pub returns-in_err-instance-clause-fault : goal.returns-in_err-instance-clause-fault
