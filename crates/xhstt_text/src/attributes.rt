@@ -65,9 +65,9 @@ impl<'t, 'a> Attributes<'t, 'a> {
             [] => None,
             [first, rest @ ..] => {
                 let attribute = AttributeText {
-                    name_at: first.at,
+                    name_at: u64::from(first.at),
                     name: piece_of(self.bytes, first.name),
-                    value_at: first.value.from,
+                    value_at: u64::from(first.value.from),
                     value: piece_of(self.bytes, first.value),
                 };
                 self.rest = rest;

@@ -70,7 +70,7 @@ pub fn skip<'a>(here: Cursor<'a>, count: usize) -> Cursor<'a>
     ensures rest { result.rest.now ≡ drop count here.entry.rest.now }
 {
     Cursor {
-        at: here.at + count as u64,
+        at: here.at + count as u32,
         rest: &here.rest[count..],
     }
 }

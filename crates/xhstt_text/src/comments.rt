@@ -29,7 +29,7 @@ fn comment_end<'a>(from: Cursor<'a>) -> Result<Cursor<'a>, TextFault>
 }
 
 // The fault of markup that begins with `<!` at a place, and then with bytes that begin no comment.
-fn other_markup(at: u64, from: Cursor) -> TextFault
+fn other_markup(at: u32, from: Cursor) -> TextFault
     ensures { result ≡ other_markup at from.entry.at from.entry.rest.now }
 {
     if from.rest.starts_with(b"DOCTYPE") || from.rest.starts_with(b"[CDATA[") {
@@ -40,7 +40,7 @@ fn other_markup(at: u64, from: Cursor) -> TextFault
 }
 
 /// Over a comment, from after the `<!` at a place.
-pub fn comment<'a>(at: u64, from: Cursor<'a>) -> Result<Cursor<'a>, TextFault>
+pub fn comment<'a>(at: u32, from: Cursor<'a>) -> Result<Cursor<'a>, TextFault>
     ensures leads { (place : Place) (r : Read) → Leads result (run (bang at place) r from.entry.at from.entry.rest.now) (λ q. run (phase_of place) r q.at q.rest.now) }
     ensures onward { IfOk result (λ q. (length q.rest.now < length from.entry.rest.now) × (from.entry.at ≤ q.at)) }
 {

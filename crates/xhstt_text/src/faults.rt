@@ -20,49 +20,52 @@ pub enum TextFault {
 }
 
 /// The byte at a place cannot stand there, or the bytes end there too early.
-pub(crate) fn bad_markup(at: u64) -> TextFault
+pub(crate) fn bad_markup(at: u32) -> TextFault
     ensures { result ≡ spec.bad_markup at }
 {
     TextFault::Bad {
         kind: BAD_MARKUP,
-        at,
+        at: u64::from(at),
     }
 }
 
 /// The end tag at a place has another name than the innermost open element.
-pub(crate) fn mismatched_end(at: u64) -> TextFault
+pub(crate) fn mismatched_end(at: u32) -> TextFault
     ensures { result ≡ spec.mismatched_end at }
 {
     TextFault::Bad {
         kind: MISMATCHED_END,
-        at,
+        at: u64::from(at),
     }
 }
 
 /// The element at a place stands inside as many open elements as may be open at once.
-pub(crate) fn too_deep(at: u64) -> TextFault
+pub(crate) fn too_deep(at: u32) -> TextFault
     ensures { result ≡ spec.too_deep at }
 {
-    TextFault::Bad { kind: TOO_DEEP, at }
+    TextFault::Bad {
+        kind: TOO_DEEP,
+        at: u64::from(at),
+    }
 }
 
 /// Markup that is not read begins at a place.
-pub(crate) fn unsupported(at: u64) -> TextFault
+pub(crate) fn unsupported(at: u32) -> TextFault
     ensures { result ≡ spec.unsupported at }
 {
     TextFault::Bad {
         kind: UNSUPPORTED,
-        at,
+        at: u64::from(at),
     }
 }
 
 /// No reference begins at a place.
-pub(crate) fn bad_reference(at: u64) -> TextFault
+pub(crate) fn bad_reference(at: u32) -> TextFault
     ensures { result ≡ spec.bad_reference at }
 {
     TextFault::Bad {
         kind: BAD_REFERENCE,
-        at,
+        at: u64::from(at),
     }
 }
 

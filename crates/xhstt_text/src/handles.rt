@@ -88,7 +88,7 @@ impl<'t, 'a> Element<'t, 'a> {
     pub fn at(&self) -> u64
         ensures { result ≡ self.now.info.at }
     {
-        node_of(self.tree, self.number).at
+        u64::from(node_of(self.tree, self.number).at)
     }
 
     /// The bytes of its name. It takes constant time.
@@ -124,7 +124,7 @@ impl<'t, 'a> Element<'t, 'a> {
     pub fn value_at(&self) -> u64
         ensures { result ≡ self.now.info.value_at }
     {
-        node_of(self.tree, self.number).value.from
+        u64::from(node_of(self.tree, self.number).value.from)
     }
 
     /// The place of the first byte of its direct text that is not white; `None` where all of it
@@ -132,7 +132,8 @@ impl<'t, 'a> Element<'t, 'a> {
     pub fn loose(&self) -> Option<u64>
         ensures { result ≡ self.now.info.loose }
     {
-        node_of(self.tree, self.number).loose
+        let place = node_of(self.tree, self.number).loose?;
+        Some(u64::from(place))
     }
 
     /// Its children. It takes constant time.

@@ -50,7 +50,7 @@ fn is_character(number: u32) -> bool
 }
 
 // The fault of a reference that begins at a place, and cannot go on from here.
-fn broken(place: u64, here: Cursor) -> TextFault
+fn broken(place: u32, here: Cursor) -> TextFault
     ensures { result ≡ broken place here.entry.at here.entry.rest.now }
 {
     if here.rest.is_empty() {
@@ -61,7 +61,7 @@ fn broken(place: u64, here: Cursor) -> TextFault
 }
 
 // Over a last letter and `;`.
-fn last_letter<'a>(place: u64, from: Cursor<'a>, letter: u8) -> Result<Cursor<'a>, TextFault>
+fn last_letter<'a>(place: u32, from: Cursor<'a>, letter: u8) -> Result<Cursor<'a>, TextFault>
     ensures leads { (w : Within) (r : Read) → Leads result (run (word place (letter ∷ 59 ∷ []) w) r from.entry.at from.entry.rest.now) (λ q. run (after_piece w) r q.at q.rest.now) }
     ensures onward { IfOk result (λ q. (length q.rest.now ≤ length from.entry.rest.now) × (from.entry.at ≤ q.at)) }
 {
@@ -114,7 +114,7 @@ fn next_decimal<'a>(from: Cursor<'a>) -> Option<(u32, Cursor<'a>)>
 }
 
 // The place after the digits and the `;` of a decimal number.
-fn decimal<'a>(place: u64, from: Cursor<'a>) -> Result<Cursor<'a>, TextFault>
+fn decimal<'a>(place: u32, from: Cursor<'a>) -> Result<Cursor<'a>, TextFault>
     requires { begins (is_byte 120) from.rest.now ≡ false }
     ensures leads { (w : Within) (r : Read) → Leads result (run (hash place w) r from.entry.at from.entry.rest.now) (λ q. run (after_piece w) r q.at q.rest.now) }
     ensures onward { IfOk result (λ q. (length q.rest.now ≤ length from.entry.rest.now) × (from.entry.at ≤ q.at)) }
@@ -151,7 +151,7 @@ fn next_hexadecimal<'a>(from: Cursor<'a>) -> Option<(u32, Cursor<'a>)>
 }
 
 // The place after the digits and the `;` of a hexadecimal number.
-fn hexadecimal<'a>(place: u64, from: Cursor<'a>) -> Result<Cursor<'a>, TextFault>
+fn hexadecimal<'a>(place: u32, from: Cursor<'a>) -> Result<Cursor<'a>, TextFault>
     ensures leads { (w : Within) (r : Read) → Leads result (run (hash_x place w) r from.entry.at from.entry.rest.now) (λ q. run (after_piece w) r q.at q.rest.now) }
     ensures onward { IfOk result (λ q. (length q.rest.now ≤ length from.entry.rest.now) × (from.entry.at ≤ q.at)) }
 {
@@ -176,7 +176,7 @@ fn hexadecimal<'a>(place: u64, from: Cursor<'a>) -> Result<Cursor<'a>, TextFault
 }
 
 // Over the rest of `apos` or `amp`, from after its first letter.
-fn reference_a<'a>(place: u64, from: Cursor<'a>) -> Result<Cursor<'a>, TextFault>
+fn reference_a<'a>(place: u32, from: Cursor<'a>) -> Result<Cursor<'a>, TextFault>
     ensures leads { (w : Within) (r : Read) → Leads result (run (reference_a place w) r from.entry.at from.entry.rest.now) (λ q. run (after_piece w) r q.at q.rest.now) }
     ensures onward { IfOk result (λ q. (length q.rest.now ≤ length from.entry.rest.now) × (from.entry.at ≤ q.at)) }
 {
@@ -193,7 +193,7 @@ fn reference_a<'a>(place: u64, from: Cursor<'a>) -> Result<Cursor<'a>, TextFault
 }
 
 // Over the rest of a reference, from after the `&` at a place.
-fn reference<'a>(place: u64, from: Cursor<'a>) -> Result<Cursor<'a>, TextFault>
+fn reference<'a>(place: u32, from: Cursor<'a>) -> Result<Cursor<'a>, TextFault>
     ensures leads { (w : Within) (r : Read) → Leads result (run (reference place w) r from.entry.at from.entry.rest.now) (λ q. run (after_piece w) r q.at q.rest.now) }
     ensures onward { IfOk result (λ q. (length q.rest.now ≤ length from.entry.rest.now) × (from.entry.at ≤ q.at)) }
 {
@@ -216,7 +216,7 @@ fn reference<'a>(place: u64, from: Cursor<'a>) -> Result<Cursor<'a>, TextFault>
 }
 
 // Over the rest of `quot`, from after its first letter.
-fn quotation<'a>(place: u64, from: Cursor<'a>) -> Result<Cursor<'a>, TextFault>
+fn quotation<'a>(place: u32, from: Cursor<'a>) -> Result<Cursor<'a>, TextFault>
     ensures leads { (w : Within) (r : Read) → Leads result (run (word place (117 ∷ 111 ∷ 116 ∷ 59 ∷ []) w) r from.entry.at from.entry.rest.now) (λ q. run (after_piece w) r q.at q.rest.now) }
     ensures onward { IfOk result (λ q. (length q.rest.now ≤ length from.entry.rest.now) × (from.entry.at ≤ q.at)) }
 {
@@ -230,7 +230,7 @@ fn quotation<'a>(place: u64, from: Cursor<'a>) -> Result<Cursor<'a>, TextFault>
 }
 
 // Over the rest of a number, from after its `#`.
-fn number<'a>(place: u64, from: Cursor<'a>) -> Result<Cursor<'a>, TextFault>
+fn number<'a>(place: u32, from: Cursor<'a>) -> Result<Cursor<'a>, TextFault>
     ensures leads { (w : Within) (r : Read) → Leads result (run (hash place w) r from.entry.at from.entry.rest.now) (λ q. run (after_piece w) r q.at q.rest.now) }
     ensures onward { IfOk result (λ q. (length q.rest.now ≤ length from.entry.rest.now) × (from.entry.at ≤ q.at)) }
 {

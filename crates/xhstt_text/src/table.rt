@@ -18,12 +18,12 @@ pub struct OpenElement<'a> {
 #[derive(Clone, Copy)]
 pub struct StartTag<'a> {
     /// The place of its `<`.
-    pub at: u64,
+    pub at: u32,
     pub name: &'a [u8],
     /// The place after its name.
-    pub name_to: u64,
+    pub name_to: u32,
     /// The number of its first attribute.
-    pub first: u64,
+    pub first: u32,
     /// The number of the element around it.
     pub parent: Option<u32>,
 }
@@ -38,8 +38,9 @@ pub struct Table<'a> {
 
 impl<'a> Table<'a> {
     /// Adds the row of an element whose content begins at a place, and is empty so far.
-    pub fn add(&mut self, tag: StartTag<'a>, from: u64) -> Result<Node, NoMemory>
+    pub fn add(&mut self, tag: StartTag<'a>, from: u32) -> Result<Node, NoMemory>
         requires number { length self.old.nodes.items + 1 < 2 ^ 32 }
+        requires few { length self.old.attributes.items < 2 ^ 32 }
         requires name { tag.name_to ≡ tag.at + 1 + length tag.name.now }
         ensures row { IfOk result (λ node. node ≡ row_from tag.entry (length self.old.nodes.items) (length self.old.attributes.items) from) }
         ensures nodes { IfOk result (λ node. self.new.nodes.items ≡ self.old.nodes.items ++ node ∷ []) }
@@ -56,7 +57,7 @@ impl<'a> Table<'a> {
             end: self.nodes.len() as u32 + 1,
             attributes: Span {
                 from: tag.first,
-                to: self.attributes.len() as u64,
+                to: self.attributes.len() as u32,
             },
             value: Span { from, to: from },
             loose: None,
@@ -66,8 +67,9 @@ impl<'a> Table<'a> {
     }
 
     /// Adds an element with content, which is open from now on.
-    pub fn open(&mut self, tag: StartTag<'a>, from: u64) -> Result<(), NoMemory>
+    pub fn open(&mut self, tag: StartTag<'a>, from: u32) -> Result<(), NoMemory>
         requires number { length self.old.nodes.items + 1 < 2 ^ 32 }
+        requires few { length self.old.attributes.items < 2 ^ 32 }
         requires name { tag.name_to ≡ tag.at + 1 + length tag.name.now }
         ensures nodes { OnOk result (self.new.nodes.items ≡ self.old.nodes.items ++ row_from tag.entry (length self.old.nodes.items) (length self.old.attributes.items) from ∷ []) }
         ensures attributes { self.new.attributes.items ≡ self.old.attributes.items }
@@ -88,7 +90,7 @@ impl<'a> Table<'a> {
     }
 
     /// Completes the row of an element whose end tag begins at a place.
-    pub fn close(&mut self, element: OpenElement<'a>, at: u64)
+    pub fn close(&mut self, element: OpenElement<'a>, at: u32)
         requires { length self.old.nodes.items < 2 ^ 32 }
         ensures nodes { self.new.nodes.items ≡ set self.old.nodes.items element.entry.number (closed_row element.entry.node at (length self.old.nodes.items)) }
         ensures attributes { self.new.attributes.items ≡ self.old.attributes.items }

@@ -88,10 +88,12 @@ fn attributes<'a>(
     from: Cursor<'a>,
     rows: &mut Vec<Attribute>,
 ) -> Result<Cursor<'a>, TextFault>
+    requires { length rows.old.items ≤ from.at }
     ensures leads { (frames : List Frame) (nodes : List Node) (place : ℕ) (tag : List ℕ) (first : ℕ) →
         Leads result (run (valued (bare place tag first)) (read_of frames nodes rows.old.items) from.entry.at from.entry.rest.now)
         (λ q. run (valued (bare place tag first)) (read_of frames nodes rows.new.items) q.at q.rest.now) }
     ensures ends { IfOk result (λ q. (begins is_first q.rest.now ≡ false) × (begins is_white q.rest.now ≡ false)) }
+    ensures few { IfOk result (λ q. length rows.new.items ≤ q.at) }
     ensures onward { IfOk result (λ q. (length q.rest.now ≤ length from.entry.rest.now) × (from.entry.at ≤ q.at)) }
 {
     let mut names = no_names(alloc);
@@ -154,8 +156,8 @@ fn begins_text(here: Cursor) -> bool
 // the loose text begins now.
 fn content_text<'a>(
     here: Cursor<'a>,
-    loose: Option<u64>,
-) -> Result<(Cursor<'a>, Option<u64>), TextFault>
+    loose: Option<u32>,
+) -> Result<(Cursor<'a>, Option<u32>), TextFault>
     ensures leads { (f : Frame) (fs : List Frame) (nodes : List Node) (rows : List Attribute) → f.node.loose ≡ loose →
         Leads result (run content (read_of (f ∷ fs) nodes rows) here.entry.at here.entry.rest.now)
         (λ found. run content (read_of (with_loose_text f found.1 ∷ fs) nodes rows) found.0.at found.0.rest.now) }
@@ -172,7 +174,7 @@ fn content_text<'a>(
 
 // Over an end tag, from after its `</`: it must have the name of the innermost element.
 fn end_tag<'a>(
-    at: u64,
+    at: u32,
     shut: Cursor<'a>,
     inner: OpenElement<'a>,
     table: &mut Table<'a>,
@@ -182,6 +184,7 @@ fn end_tag<'a>(
         (run (shut_begin at) (read_of (frame_of inner.entry ∷ frames_of table.old.stack.items) table.old.nodes.items table.old.attributes.items) shut.entry.at shut.entry.rest.now)
         (λ q. run (resume (frames_of table.new.stack.items)) (read_of (frames_of table.new.stack.items) table.new.nodes.items table.new.attributes.items) q.at q.rest.now) }
     ensures count { IfOk result (λ q. length table.new.nodes.items ≡ length table.old.nodes.items) }
+    ensures attributes { IfOk result (λ q. table.new.attributes.items ≡ table.old.attributes.items) }
     ensures onward { IfOk result (λ q. (length q.rest.now < length shut.entry.rest.now) × (shut.entry.at ≤ q.at)) }
 {
     let Some((found, after)) = name(shut) else {
@@ -202,7 +205,7 @@ fn end_tag<'a>(
 }
 
 // The fault of a `<` at a place, and then of bytes that begin no tag and no comment.
-fn unopened(at: u64, inside: Cursor) -> TextFault
+fn unopened(at: u32, inside: Cursor) -> TextFault
     ensures { result ≡ unopened at inside.entry.at inside.entry.rest.now }
 {
     if next_is(inside, b'?') {
@@ -215,7 +218,7 @@ fn unopened(at: u64, inside: Cursor) -> TextFault
 // Over a start tag, from after its `<`.
 fn start_tag<'a>(
     alloc: Global,
-    at: u64,
+    at: u32,
     inside: Cursor<'a>,
     parent: Option<u32>,
     table: &mut Table<'a>,
@@ -224,10 +227,12 @@ fn start_tag<'a>(
     requires parent { parent ≡ parent_of (frames_of table.old.stack.items) }
     requires start { NoOtherTag (frames_of table.old.stack.items) inside.rest.now }
     requires count { length table.old.nodes.items ≤ at }
+    requires few { length table.old.attributes.items ≤ at }
     ensures leads { Leads result
         (run (opened at) (read_of (frames_of table.old.stack.items) table.old.nodes.items table.old.attributes.items) inside.entry.at inside.entry.rest.now)
         (λ q. run (resume (frames_of table.new.stack.items)) (read_of (frames_of table.new.stack.items) table.new.nodes.items table.new.attributes.items) q.at q.rest.now) }
     ensures count { IfOk result (λ q. length table.new.nodes.items ≤ q.at) }
+    ensures few { IfOk result (λ q. length table.new.attributes.items ≤ q.at) }
     ensures onward { IfOk result (λ q. length q.rest.now < length inside.entry.rest.now) }
 {
     let Some((found, after)) = name(inside) else {
@@ -244,7 +249,7 @@ fn start_tag<'a>(
         at,
         name: found,
         name_to: after.at,
-        first: first as u64,
+        first: first as u32,
         parent,
     };
     let last = attributes(alloc, after, &mut table.attributes)?;
@@ -260,11 +265,13 @@ fn end_of_start<'a>(
     requires name { tag.name_to ≡ tag.at + 1 + length tag.name.now }
     requires parent { tag.parent ≡ parent_of (frames_of table.old.stack.items) }
     requires count { length table.old.nodes.items + 1 < 2 ^ 32 }
+    requires few { length table.old.attributes.items < 2 ^ 32 }
     requires ends { (begins is_first here.rest.now ≡ false) × (begins is_white here.rest.now ≡ false) }
     ensures leads { Leads result
         (run (valued (bare tag.entry.at tag.entry.name.now tag.entry.first)) (read_of (frames_of table.old.stack.items) table.old.nodes.items table.old.attributes.items) here.entry.at here.entry.rest.now)
         (λ q. run (resume (frames_of table.new.stack.items)) (read_of (frames_of table.new.stack.items) table.new.nodes.items table.new.attributes.items) q.at q.rest.now) }
     ensures count { IfOk result (λ q. length table.new.nodes.items ≡ length table.old.nodes.items + 1) }
+    ensures attributes { IfOk result (λ q. table.new.attributes.items ≡ table.old.attributes.items) }
     ensures onward { IfOk result (λ q. (length q.rest.now ≤ length here.entry.rest.now) × (here.entry.at ≤ q.at)) }
 {
     let Some(slash) = past(here, b'/') else {
@@ -289,11 +296,13 @@ pub fn next_tag<'a>(
     inner: OpenElement<'a>,
     table: &mut Table<'a>,
 ) -> Result<Cursor<'a>, TextFault>
-    requires { length table.old.nodes.items ≤ here.at }
+    requires count { length table.old.nodes.items ≤ here.at }
+    requires few { length table.old.attributes.items ≤ here.at }
     ensures leads { Leads result
         (run content (read_of (frame_of inner.entry ∷ frames_of table.old.stack.items) table.old.nodes.items table.old.attributes.items) here.entry.at here.entry.rest.now)
         (λ q. run (resume (frames_of table.new.stack.items)) (read_of (frames_of table.new.stack.items) table.new.nodes.items table.new.attributes.items) q.at q.rest.now) }
     ensures count { IfOk result (λ q. length table.new.nodes.items ≤ q.at) }
+    ensures few { IfOk result (λ q. length table.new.attributes.items ≤ q.at) }
     ensures onward { IfOk result (λ q. length q.rest.now < length here.entry.rest.now) }
 {
     let (tag, loose) = content_text(here, inner.node.loose)?;
@@ -332,6 +341,7 @@ pub fn root<'a>(
         (run content (read_of [] [] []) here.entry.at here.entry.rest.now)
         (λ q. run (resume (frames_of table.new.stack.items)) (read_of (frames_of table.new.stack.items) table.new.nodes.items table.new.attributes.items) q.at q.rest.now) }
     ensures count { IfOk result (λ q. length table.new.nodes.items ≤ q.at) }
+    ensures few { IfOk result (λ q. length table.new.attributes.items ≤ q.at) }
 {
     let tag = space(here)?;
     let Some(inside) = past(tag, b'<') else {

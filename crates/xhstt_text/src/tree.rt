@@ -3,15 +3,15 @@ use khe_base::Seq;
 /// A range of places: from the first up to, and without, the last.
 #[derive(Clone, Copy)]
 pub struct Span {
-    pub from: u64,
-    pub to: u64,
+    pub from: u32,
+    pub to: u32,
 }
 
 /// One element of a text.
 #[derive(Clone, Copy)]
 pub struct Node {
     /// The place of its `<`.
-    pub at: u64,
+    pub at: u32,
     /// The bytes of its name.
     pub name: Span,
     /// The number of the element around it; none for the outermost.
@@ -23,14 +23,14 @@ pub struct Node {
     /// The bytes between its tags; empty, at the byte after the tag, for `<name/>`.
     pub value: Span,
     /// The place of the first byte of its direct text that is not white.
-    pub loose: Option<u64>,
+    pub loose: Option<u32>,
 }
 
 /// One attribute of an element.
 #[derive(Clone, Copy)]
 pub struct Attribute {
     /// The place of the first byte of its name.
-    pub at: u64,
+    pub at: u32,
     /// The bytes of its name.
     pub name: Span,
     /// The bytes between its quotes.

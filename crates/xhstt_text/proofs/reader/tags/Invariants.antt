@@ -8,6 +8,7 @@ invariant-tags l = record {
   follows : outcome_of l.fn.bytes ≡ run (resume (frames_of l.table.stack.items))
       (read_of (frames_of l.table.stack.items) l.table.nodes.items l.table.attributes.items) l.here.at l.here.rest.now;
   count : length l.table.nodes.items ≤ l.here.at;
+  few : length l.table.attributes.items ≤ l.here.at;
 }
 
 abbrev pub decreases-tags : goal.decreases-tags

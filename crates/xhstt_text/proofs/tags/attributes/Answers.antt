@@ -1,4 +1,5 @@
-use Rattle.std.proofs.Common.{◌≡◌, ◌<◌, ◌∷◌, false, length, [], refl, sym, ◌∙◌, arith}
+use Rattle.std.proofs.Common.{◌≡◌, ◌<◌, ◌∷◌, false, length, [], refl, sym, ap, ◌∙◌, arith}
+use Rattle.std.proofs.lemmas.List.{length-append}
 use Rattle.xhstt_text.specs.Bytes.{is_white}
 use Rattle.xhstt_text.specs.Document.{has_name}
 use Rattle.xhstt_text.specs.Machine.{Tag, Read}
@@ -13,6 +14,7 @@ attributes-init c = record {
   follows = ([], c.no_names-names.ensures, λ frames nodes place tag first. refl);
   onward = omega arith;
   place = omega arith;
+  few = c.requires;
 }
 
 pub returns-in_default-clause-leads : goal.returns-in_default-clause-leads
@@ -131,6 +133,16 @@ attributes-preserved c =
       place = omega (
         arith,
         c.attributes.invariant.place,
+        c.in_ok-value.ensures.onward,
+        skip_length is_white h.at
+            h.rest.now a.at a.rest.now c.white-start.ensures,
+        take_length a.at a.rest.now found d.at d.rest.now
+            c.in-Some.ensures,
+      );
+      few = omega (
+        arith,
+        c.attributes.invariant.few,
+        ap length c.in_ok-push.ensures.items ∙ length-append c.attributes.rows.items (_ ∷ []),
         c.in_ok-value.ensures.onward,
         skip_length is_white h.at
             h.rest.now a.at a.rest.now c.white-start.ensures,

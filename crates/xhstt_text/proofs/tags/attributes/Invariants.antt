@@ -13,6 +13,7 @@ invariant-attributes l = record {
       ≡ run (valued (named_tag place tag first known)) (read_of frames nodes l.rows.items) l.here.at l.here.rest.now);
   onward : length l.here.rest.now ≤ length l.fn.from.rest.now;
   place : l.fn.from.at ≤ l.here.at;
+  few : length l.rows.items ≤ l.here.at;
 }
 
 abbrev pub decreases-attributes : goal.decreases-attributes
