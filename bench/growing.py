@@ -2,18 +2,18 @@
 
     python3 bench/growing.py SHAPE SIZE > archive.xml
 
-SIZE is a number, and the length of an archive grows in proportion with it. Each archive keeps all limits of
-the engine at the sizes that are given. SHAPE is one of these.
+SIZE is 250 to 200,000, and the length of an archive grows in proportion with it. Each archive keeps all limits
+of the engine. SHAPE is one of these.
 
-    roles       an event of SIZE roles, and an entry that gives a resource for each, in reverse (to 200,000)
+    roles       an event of SIZE roles, and an entry that gives a resource for each, in reverse
     unnamed     an event of SIZE places without a role, and an entry that gives the resource of the last one
-                SIZE times (to 200,000)
-    entries     an event of duration SIZE, and SIZE entries of it (to 100,000)
-    points      an event of SIZE roles, and SIZE / 20 constraints, each on another one of them (to 200,000)
-    events      SIZE / 20 events in one group, and a constraint that names the group SIZE times (to 200,000)
-    resources   SIZE / 20 resources in one group, and a constraint that names the group SIZE times (to 200,000)
-    times       SIZE / 250 times in one group, and a constraint that lists it SIZE / 20 times (to 200,000)
-    solutions   SIZE / 20 solutions of 100 events, each with entries of two of them (to 200,000)
+                SIZE times
+    entries     an event of duration SIZE / 2, and as many entries of it
+    points      an event of SIZE roles, and SIZE / 20 constraints, each on another one of them
+    events      SIZE / 20 events in one group, and a constraint that names the group SIZE times
+    resources   SIZE / 20 resources in one group, and a constraint that names the group SIZE times
+    times       SIZE / 250 times in one group, and a constraint that lists the group SIZE / 20 times
+    solutions   SIZE / 20 solutions of 100 events, each with entries of two of them
 
 The archive is written as it is made, so memory does not grow with its length.
 """
@@ -57,7 +57,7 @@ def times_of(count):
 
 
 def resources_of(count):
-    """The resources a and b, and so many more, of one type and in one group."""
+    """The resources a and b, and so many more, of one type; all are in one group."""
     yield ('<Resources>\n<ResourceTypes>\n<ResourceType Id="k"/>\n</ResourceTypes>\n<ResourceGroups>\n'
            '<ResourceGroup Id="g">\n<ResourceType Reference="k"/>\n</ResourceGroup>\n</ResourceGroups>\n')
     for name in ["a", "b"] + ["s%d" % r for r in range(count)]:
@@ -123,8 +123,8 @@ def unnamed(size):
 
 
 def entries(size):
-    made = ('<Event Reference="e">\n<Duration>1</Duration>\n</Event>\n' for _ in range(size))
-    return Shape(events=[event("e", size, [])], solutions=[solution(made)])
+    made = ('<Event Reference="e">\n<Duration>1</Duration>\n</Event>\n' for _ in range(size // 2))
+    return Shape(events=[event("e", size // 2, [])], solutions=[solution(made)])
 
 
 def points(size):
@@ -182,6 +182,8 @@ def main():
     parser.add_argument("shape", choices=table)
     parser.add_argument("size", type=int)
     words = parser.parse_args()
+    if not 250 <= words.size <= 200_000:
+        parser.error("SIZE is 250 to 200,000")
     for piece in table[words.shape](words.size).pieces():
         sys.stdout.write(piece)
 

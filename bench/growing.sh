@@ -7,16 +7,14 @@
 #
 #     bench/growing.sh KHE [SHAPE..]
 #
-# KHE is a proved program, say ~/.cache/khe/khe. SIZES (25000 50000 100000 200000, and for the shape `entries`
-# half of each) and RUNS (3) are taken from the environment. Run it by hand, on a quiet machine: it is no part
-# of the gate.
+# KHE is a proved program, say ~/.cache/khe/khe. SIZES (25000 50000 100000 200000) and RUNS (3) are taken from the
+# environment. Run it by hand, on a quiet machine: it is no part of the gate.
 . "$(dirname "$0")/setup.sh"
 shift
 [ $# -gt 0 ] || set -- roles unnamed entries points events resources times solutions
 for shape; do
   before=
   for size in ${SIZES:-25000 50000 100000 200000}; do
-    [ "$shape" != entries ] || size=$((size / 2))
     python3 "$top/bench/growing.py" "$shape" "$size" > "$archive"
     took=$(python3 "$top/bench/measure.py" "${RUNS:-3}" "$khe" evaluate "$archive")
     awk -v took="$took" -v before="$before" -v shape="$shape" -v size="$size" -v bytes="$(stat -c %s "$archive")" 'BEGIN {

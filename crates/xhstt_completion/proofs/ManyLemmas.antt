@@ -1,19 +1,18 @@
 -- The causes at many resources, by tables of roles.
 use Rattle.std.proofs.Common.{ℕ, ◌≡◌, ◌∙◌, ◌<◌, Bool, true, false, not, ◌||◌, if◌then◌else◌, Option, Some, None}
 use Rattle.std.proofs.Common.{List, [], ◌∷◌, length, map, slice_get, get_or, refl, sym, ap, arith}
-use Rattle.std.proofs.Common.{position, inl, inr}
+use Rattle.std.proofs.Common.{position}
 use Rattle.std.specs.Prelude.{IfSome, find, is_none, is_some, ◌==◌}
 use Rattle.std.specs.List.{list_any}
 use Rattle.std.specs.Option.{option_and_then, option_map, option_map_or}
 use Rattle.std.specs.Str.{bytes_eq}
-use Rattle.std.proofs.lemmas.Bool.{true≢false, and_parts, cases_eq, eq-eqb, eqb-true, ne_eqb, or_right, false_from_ne_true}
-use Rattle.std.proofs.lemmas.List.{get_or-set_same, get_or-set_other, length-map}
+use Rattle.std.proofs.lemmas.Bool.{true≢false, and_parts, eq-eqb, eqb-true, false_from_ne_true}
+use Rattle.std.proofs.lemmas.List.{length-map}
 use Rattle.std.proofs.lemmas.List.Quantifiers.{position-Some}
 use Rattle.std.proofs.lemmas.List.Folds.{list_any_at}
 use Rattle.std.proofs.lemmas.Option.{get_or_from_slice_get, slice_get_read, slice_get_within}
 use Rattle.std.proofs.lemmas.Slice.Eq.{bytes_eq-Decides}
 use Rattle.khe_base.proofs.ListLemmas.{there}
-use Rattle.khe_base.specs.IdSet.{has_member, with_member}
 use Rattle.khe_base.specs.declared.numbers.ResourceId.{ResourceId}
 use Rattle.khe_instance.specs.Lookups.{is_role}
 use Rattle.khe_instance.specs.Running.{is_resource}
@@ -104,22 +103,6 @@ place-none places role none =
     sym (find-place (λ x. is_role role x.role) places ∙ ap (option_and_then (λ n. slice_get places n)) none)
 
 -- ---- resources without a role
-
--- one more place
-pub unnamed-more : (set : List Bool) (fixed : ResourceId) (r : ℕ) → fixed.0 < length set
-    → has_member (with_member set fixed.0) r ≡ (has_member set r || (fixed.0 == r))
-unnamed-more set fixed r l = elim (cases_eq r fixed.0) [
-  | inl own ↦
-      ap (has_member (with_member set fixed.0)) own ∙ get_or-set_same set fixed.0 true false l
-      ∙ sym (or_right (has_member set r) (fixed.0 == r) (eq-eqb fixed.0 r (sym own)))
-  | inr other ↦
-      get_or-set_other set fixed.0 r true false other
-      ∙ sym (ap (λ b. has_member set r || b) (ne_eqb fixed.0 r (λ h. other (sym h))) ∙ or-false (has_member set r))
-]
-  where
-    or-false : (b : Bool) → (b || false) ≡ b
-    or-false true = refl
-    or-false false = refl
 
 is_some-find : {X : Type 0} (test : X → Bool) (xs : List X) → is_some (find test xs) ≡ list_any test xs
 is_some-find test [] = refl

@@ -28,8 +28,10 @@ use xhstt_shape::{Archive, RawSolution};
 /// `Invalid` where an entry cannot stand: the first such entry, with its first cause. Else
 /// `NoMemory` where memory is refused.
 ///
-/// It takes time and memory in proportion to the events, the entries, what they give and the state, on
-/// average.
+/// It takes time and memory in proportion to the events, to what the entries give and to the state (of
+/// an invalid solution, to the places of the events of its entries), on average, where roles are of
+/// bounded length: one that is given is compared with those of all places of its event, or a hash of
+/// each is taken.
 pub fn completed(alloc: Global, inst: &Instance, raw: &RawSolution) -> Result<Plain, SolutionFault>
     requires { IsSolution inst.now raw.now }
     ensures exact { IfOk result (λ plain. completed inst.now raw.now ≡ Ok plain) }

@@ -11,10 +11,10 @@ use khe_base::{Names, NoMemory, Text};
 use std::alloc::Global;
 use xhstt_shape::RawGiven;
 
-/// Up to so many resources of an entry, or places of its event, are few: each of the ones is then
-/// looked for among all the others, which takes time in proportion to both together, and neither
-/// memory nor a hash. (Whether a role came before is asked for a resource only that has its place, so
-/// at most once for each place, and once more.)
+/// Up to so many resources of an entry, or places of its event, are few: each resource is then looked
+/// for among all places, and each place among all resources, which takes time in proportion to both
+/// together, and neither memory nor a hash. Whether a role came before is asked only for a resource
+/// that has its place, so no more than once for each place, and once again.
 const FEW: usize = 16;
 
 /// Whether these resources, or these places, are few. It takes constant time.
@@ -30,7 +30,8 @@ pub(crate) struct RoleTable {
     names: Names,
     /// The first place of each name.
     firsts: Vec<usize>,
-    /// The length of the longest name, in bytes.
+    /// The length of the longest name, in bytes: a role that is longer is none of them, and needs no
+    /// hash. So no role of an event takes more time than the longest one that an entry gives.
     longest: usize,
 }
 
@@ -46,8 +47,8 @@ impl RoleTable {
         }
     }
 
-    /// Adds what stands at the next place: a role, or none. It takes the time of a copy and of a hash
-    /// of the role, on average.
+    /// Adds what stands at the next place: a role, or none. Where memory is refused, the table is of
+    /// no use any more. It takes the time of a copy and of a hash of the role, on average.
     pub fn push(&mut self, role: Option<&Text>, place: usize) -> Result<(), NoMemory>
         ensures { OnOk result ((roles : List (Option (List ℕ))) → length roles ≡ place → Finds self.old roles → Finds self.new (roles ++ option_copied role.entry ∷ [])) }
     {
