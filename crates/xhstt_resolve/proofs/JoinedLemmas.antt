@@ -17,7 +17,7 @@ use Rattle.xhstt_resolve.specs.Joined.{ends_with, with_last, joined}
 use Rattle.xhstt_resolve.specs.Members.{numbers_from, numbers_where, members}
 
 -- a test of names goes both ways
-bytes_eq_comm : (a b : List ℕ) → bytes_eq a b ≡ false → bytes_eq b a ≡ false
+pub bytes_eq_comm : (a b : List ℕ) → bytes_eq a b ≡ false → bytes_eq b a ≡ false
 bytes_eq_comm a b h = false_from_ne_true (bytes_eq b a)
     (λ e. false≢true (sym h ∙ (bytes_eq-Decides a b).1 (sym ((bytes_eq-Decides b a).0 e))))
 

@@ -8,6 +8,7 @@ pub mod JoinedLemmas
 pub mod MentionsLemmas
 pub mod MonitorsLemmas
 pub mod OnceLemmas
+pub mod RolesLemmas
 pub mod SizesLemmas
 pub mod StepsLemmas
 pub mod TablesLemmas

@@ -8,6 +8,7 @@ pub mod Members
 pub mod Parts
 pub mod Points
 pub mod Resolved
+pub mod Roles
 pub mod Rules
 pub mod Tables
 pub mod Units

@@ -2,9 +2,11 @@ ghost use Rattle.std.specs.Prelude.{◌≡◌, length, IfOk};
 ghost use Rattle.xhstt_resolve.specs.Followed.{with_count};
 ghost use Rattle.xhstt_resolve.specs.Limits.{watch_count};
 ghost use Rattle.xhstt_resolve.specs.Points.{monitors_of};
+ghost use Rattle.xhstt_resolve.specs.Roles.{roles_of};
 ghost use Rattle.xhstt_resolve.specs.Tables.{IsLookup, HasFewPlaces};
 
 use crate::points::{Follow, Visit, follow_out};
+use crate::roles::Roles;
 use crate::tables::Lookup;
 use khe_base::NoMemory;
 use std::alloc::Global;
@@ -30,9 +32,14 @@ impl Follow for Counts {
 
 /// How many monitors and watches an instance has. It takes the time of making the monitors, and
 /// memory in proportion to the items of the sort that a constraint applies to.
-pub(crate) fn counts_of(alloc: Global, lookup: &Lookup<'_>) -> Result<Counts, NoMemory>
+pub(crate) fn counts_of(
+    alloc: Global,
+    lookup: &Lookup<'_>,
+    roles: &Roles,
+) -> Result<Counts, NoMemory>
     requires lookup { IsLookup lookup.now }
     requires places { HasFewPlaces lookup.now.instance.now }
+    requires roles { roles.now ≡ roles_of lookup.now.instance.now }
     ensures monitors { IfOk result (λ n. n.monitors ≡ length (monitors_of lookup.now.instance.now)) }
     ensures watches { IfOk result (λ n. n.watches ≡ watch_count lookup.now.instance.now) }
 {
@@ -41,7 +48,7 @@ pub(crate) fn counts_of(alloc: Global, lookup: &Lookup<'_>) -> Result<Counts, No
         watches: 0,
     };
     for constraint in lookup.instance.constraints.as_slice() {
-        follow_out(alloc, lookup, constraint, &mut counts)?;
+        follow_out(alloc, lookup, roles, constraint, &mut counts)?;
     }
     Ok(counts)
 }

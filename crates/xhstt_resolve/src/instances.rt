@@ -5,6 +5,7 @@ ghost use Rattle.xhstt_references.specs.Faults.{fault_of_instance};
 ghost use Rattle.xhstt_resolve.specs.Answers.{IsFirst};
 ghost use Rattle.xhstt_resolve.specs.Limits as spec;
 ghost use Rattle.xhstt_resolve.specs.Parts as parts;
+ghost use Rattle.xhstt_resolve.specs.Roles.{roles_of};
 ghost use Rattle.xhstt_resolve.specs.Tables.{IsLookup};
 ghost use Rattle.xhstt_resolve.specs.Units.{unit_of};
 ghost use Rattle.xhstt_shape.specs.WellFormed.{IsInstance};
@@ -13,6 +14,7 @@ ghost use Rattle.fault_tables.specs.declared.limits.TheConstants.{TOO_GREAT_UNIT
 use crate::building::parts_of;
 use crate::counting::counts_of;
 use crate::faults::ResolveFault;
+use crate::roles::{Roles, roles_of};
 use crate::sizes::{listed_above, task_count, total_duration};
 use crate::tables::{Lookup, lookup_of};
 use crate::units::unit_of;
@@ -46,20 +48,25 @@ pub(crate) fn instance_of(
     ensures within { IfOk result (λ i. spec.limit_fault raw.now ≡ None) }
     ensures fault { IfErr result (IsFirst (spec.limit_fault raw.now)) }
 {
-    let Kept { lookup, unit } = kept_limits(alloc, raw, names)?;
-    let parts = parts_of(alloc, &lookup, unit)?;
+    let Kept {
+        lookup,
+        roles,
+        unit,
+    } = kept_limits(alloc, raw, names)?;
+    let parts = parts_of(alloc, &lookup, &roles, unit)?;
     Ok(Instance::new(alloc, parts)?)
 }
 
-/// An instance that keeps its limits, with its unit.
+/// An instance that keeps its limits, with the roles of its large events and its unit.
 #[derive(Drop)]
 struct Kept<'a> {
     lookup: Lookup<'a>,
+    roles: Roles,
     unit: u64,
 }
 
-/// The lookup and the unit of an instance that keeps its limits, or the first of them, in the order
-/// of their numbers, that it is above.
+/// The lookup, the roles and the unit of an instance that keeps its limits, or the first of them, in
+/// the order of their numbers, that it is above.
 fn kept_limits<'a>(
     alloc: Global,
     raw: &'a RawInstance,
@@ -69,6 +76,7 @@ fn kept_limits<'a>(
     requires formed { IsInstance raw.now }
     ensures lookup { IfOk result (λ k. IsLookup k.lookup) }
     ensures instance { IfOk result (λ k. k.lookup.instance.now ≡ raw.now) }
+    ensures roles { IfOk result (λ k. k.roles ≡ roles_of raw.now) }
     ensures unit { IfOk result (λ k. k.unit ≡ unit_of (map (λ e. e.duration) raw.now.events)) }
     ensures within { IfOk result (λ k. spec.limit_fault raw.now ≡ None) }
     ensures fault { IfErr result (IsFirst (spec.limit_fault raw.now)) }
@@ -114,11 +122,16 @@ fn kept_limits<'a>(
     within(TOO_MANY_TASKS, limits::TASKS, task_count(&lookup))?;
     within(TOO_MANY_CELLS, limits::CELLS, cells(raw))?;
     listed_within(raw)?;
-    let counts = counts_of(alloc, &lookup)?;
+    let roles = roles_of(alloc, raw)?;
+    let counts = counts_of(alloc, &lookup, &roles)?;
     within(TOO_MANY_MONITORS, limits::MONITORS, counts.monitors)?;
     within(TOO_MANY_WATCHES, limits::WATCHES, counts.watches)?;
     let unit = unit_within(raw)?;
-    Ok(Kept { lookup, unit })
+    Ok(Kept {
+        lookup,
+        roles,
+        unit,
+    })
 }
 
 /// The unit of an instance, or the fault that it is too great.

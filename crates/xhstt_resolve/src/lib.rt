@@ -14,6 +14,7 @@ mod places;
 mod points;
 mod resolving;
 mod resources;
+mod roles;
 mod rules;
 mod sizes;
 mod tables;

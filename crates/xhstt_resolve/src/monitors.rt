@@ -2,12 +2,14 @@ ghost use Rattle.std.specs.Prelude.{◌≡◌, ◌++◌, IfOk};
 ghost use Rattle.khe_instance.specs.Kinds.{kind_of};
 ghost use Rattle.xhstt_resolve.specs.Followed.{with_monitor};
 ghost use Rattle.xhstt_resolve.specs.Points.{monitors_at, monitors_of};
+ghost use Rattle.xhstt_resolve.specs.Roles.{roles_of};
 ghost use Rattle.xhstt_resolve.specs.Rules.{rule_of};
 ghost use Rattle.xhstt_resolve.specs.Tables.{IsLookup, HasFewPlaces};
 ghost use Rattle.xhstt_shape.specs.declared.constraints.RawApplies.{RawApplies};
 ghost use Rattle.xhstt_shape.specs.declared.records.RawInstance.{RawInstance};
 
 use crate::points::{Follow, Visit, follow_out};
+use crate::roles::Roles;
 use crate::tables::Lookup;
 use khe_base::{NoMemory, Seq};
 use khe_instance::{Kind, Monitor};
@@ -37,17 +39,22 @@ impl Follow for Monitors {
 
 /// The monitors: the constraints in order, each followed out into its points.
 ///
-/// It takes time in proportion to what the constraints apply to with its groups followed out, for a
-/// role to the event resources of those events too, and for each constraint to all items of the
-/// sort that it applies to; and memory in proportion to the monitors and those items.
-pub(crate) fn monitors_of(alloc: Global, lookup: &Lookup<'_>) -> Result<Seq<Monitor>, NoMemory>
+/// It takes time in proportion to what the constraints apply to and the times that they list, with
+/// their groups followed out, and for each constraint to all items of the sort that it applies to, on
+/// average; and memory in proportion to the monitors and those items.
+pub(crate) fn monitors_of(
+    alloc: Global,
+    lookup: &Lookup<'_>,
+    roles: &Roles,
+) -> Result<Seq<Monitor>, NoMemory>
     requires lookup { IsLookup lookup.now }
     requires places { HasFewPlaces lookup.now.instance.now }
+    requires roles { roles.now ≡ roles_of lookup.now.instance.now }
     ensures { IfOk result (λ ms. ms ≡ monitors_of lookup.now.instance.now) }
 {
     let mut monitors = Seq::new(alloc);
     for (number, constraint) in lookup.instance.constraints.as_slice().iter().enumerate() {
-        monitors = with_monitors(alloc, lookup, number as u32, constraint, monitors)?;
+        monitors = with_monitors(alloc, lookup, roles, number as u32, constraint, monitors)?;
     }
     Ok(monitors)
 }
@@ -56,12 +63,14 @@ pub(crate) fn monitors_of(alloc: Global, lookup: &Lookup<'_>) -> Result<Seq<Moni
 fn with_monitors(
     alloc: Global,
     lookup: &Lookup<'_>,
+    roles: &Roles,
     number: u32,
     constraint: &RawConstraint,
     made: Seq<Monitor>,
 ) -> Result<Seq<Monitor>, NoMemory>
     requires lookup { IsLookup lookup.now }
     requires places { HasFewPlaces lookup.now.instance.now }
+    requires roles { roles.now ≡ roles_of lookup.now.instance.now }
     ensures { IfOk result (λ ms. ms ≡ made ++ monitors_at lookup.now.instance.now (number, constraint.now)) }
 {
     let mut monitors = Monitors {
@@ -69,7 +78,7 @@ fn with_monitors(
         constraint: number,
         made,
     };
-    follow_out(alloc, lookup, constraint, &mut monitors)?;
+    follow_out(alloc, lookup, roles, constraint, &mut monitors)?;
     let Monitors { made, .. } = monitors;
     Ok(made)
 }

@@ -1,14 +1,16 @@
 ghost use Rattle.std.specs.Prelude.{◌≡◌, ◌≤◌, ◌<◌, ◌^◌, ◌∷◌, [], if◌then◌else◌, map, length, IfOk, OnOk};
 ghost use Rattle.std.specs.List.{fold, flat_map};
-ghost use Rattle.std.specs.Option.{option_copied};
+ghost use Rattle.std.specs.Option.{option_copied, option_to_list};
 ghost use Rattle.khe_base.specs.declared.limits.TheConstants.{EVENTS, RESOURCES};
 ghost use Rattle.xhstt_references.specs.Ids.{event_group_ids};
 ghost use Rattle.xhstt_resolve.specs.Followed.{followed, event_visit, place_visit, role_visits, event_visits, group_visit, pair_visits, resource_visit};
 ghost use Rattle.xhstt_resolve.specs.Limits.{watches_of};
 ghost use Rattle.xhstt_resolve.specs.Members.{first_mentions, numbers_of, numbers_where, listed_events, listed_resources};
 ghost use Rattle.xhstt_resolve.specs.Points.{role_of, has_role, points_of};
+ghost use Rattle.xhstt_resolve.specs.Roles.{roles_of, place_at};
 ghost use Rattle.xhstt_resolve.specs.Tables.{IsLookup, HasFewPlaces};
 
+use crate::roles::{RoleTable, Roles};
 use crate::tables::{Lookup, first_named};
 use crate::watching::{group_size, pair_size, watched_times};
 use khe_base::{EventId, NoMemory, ResourceId, Seq, Text};
@@ -37,19 +39,21 @@ pub(crate) trait Follow {
 /// Follows a constraint out: its points are met in their order, each at its first mention, with how
 /// much each watches.
 ///
-/// It takes time in proportion to what the constraint applies to with its groups followed out, for a
-/// role to the event resources of those events too, to the times that it lists with its groups
-/// followed out, and to all items of the sort that it applies to; and memory in proportion to those
-/// items, besides what meeting takes. Where memory is refused some points may have been met; more
-/// than 2 ^ 32 pairs are refused alike, since no point has such a number.
+/// It takes time in proportion to what the constraint applies to and the times that it lists, with
+/// their groups followed out, and to all items of the sort that it applies to, on average, whatever
+/// the number of event resources: of each event few are looked through for a role. It takes memory in
+/// proportion to those items, besides what meeting takes. Where memory is refused some points may
+/// have been met. More than 2 ^ 32 pairs are refused alike, since no point has such a number.
 pub(crate) fn follow_out<F: Follow>(
     alloc: Global,
     lookup: &Lookup<'_>,
+    roles: &Roles,
     constraint: &RawConstraint,
     into: &mut F,
 ) -> Result<(), NoMemory>
     requires lookup { IsLookup lookup.now }
     requires places { HasFewPlaces lookup.now.instance.now }
+    requires roles { roles.now ≡ roles_of lookup.now.instance.now }
     ensures met { OnOk result (into.new ≡ fold F.met into.old (followed lookup.now.instance.now constraint.now)) }
     ensures few { OnOk result (length (points_of lookup.now.instance.now constraint.now) ≤ 2 ^ 64) }
     ensures small { OnOk result (watches_of lookup.now.instance.now constraint.now ≤ 2 ^ 112) }
@@ -60,7 +64,13 @@ pub(crate) fn follow_out<F: Follow>(
             events,
         } => {
             let events = events_of(alloc, lookup, event_groups.as_slice(), events.as_slice())?;
-            follow_events(lookup, role_of(&constraint.rule), events.as_slice(), into)
+            follow_events(
+                lookup,
+                roles,
+                role_of(&constraint.rule),
+                events.as_slice(),
+                into,
+            )
         }
         RawApplies::Groups { event_groups } => {
             let groups = groups_of(alloc, lookup, event_groups.as_slice())?;
@@ -136,15 +146,17 @@ fn role_of(rule: &RawRule) -> Option<&Text>
 /// Meets events: themselves, or their event resources of a role.
 fn follow_events<F: Follow>(
     lookup: &Lookup<'_>,
+    roles: &Roles,
     role: Option<&Text>,
     events: &[u32],
     into: &mut F,
 ) -> Result<(), NoMemory>
-    requires { HasFewPlaces lookup.now.instance.now }
+    requires places { HasFewPlaces lookup.now.instance.now }
+    requires roles { roles.now ≡ roles_of lookup.now.instance.now }
     ensures { OnOk result (into.new ≡ fold F.met into.old (event_visits lookup.now.instance.now (option_copied role.entry) events.now)) }
 {
     match role {
-        Some(role) => follow_role(lookup, role, events, into),
+        Some(role) => follow_role(lookup, roles, role, events, into),
         None => follow_singly(events, into),
     }
 }
@@ -165,21 +177,60 @@ fn follow_singly<F: Follow>(events: &[u32], into: &mut F) -> Result<(), NoMemory
 /// Meets the event resources of a role, event by event.
 fn follow_role<F: Follow>(
     lookup: &Lookup<'_>,
+    roles: &Roles,
     role: &Text,
     events: &[u32],
     into: &mut F,
 ) -> Result<(), NoMemory>
-    requires { HasFewPlaces lookup.now.instance.now }
+    requires places { HasFewPlaces lookup.now.instance.now }
+    requires roles { roles.now ≡ roles_of lookup.now.instance.now }
     ensures { OnOk result (into.new ≡ fold F.met into.old (flat_map (role_visits lookup.now.instance.now role.now) events.now)) }
 {
     for event in events {
-        follow_role_at(lookup, role, *event, into)?;
+        follow_role_at(lookup, roles, role, *event, into)?;
     }
     Ok(())
 }
 
-/// Meets the event resources of a role of one event.
+/// Meets the event resources of a role of one event, in constant time on average.
 fn follow_role_at<F: Follow>(
+    lookup: &Lookup<'_>,
+    roles: &Roles,
+    role: &Text,
+    event: u32,
+    into: &mut F,
+) -> Result<(), NoMemory>
+    requires places { HasFewPlaces lookup.now.instance.now }
+    requires roles { roles.now ≡ roles_of lookup.now.instance.now }
+    ensures { OnOk result (into.new ≡ fold F.met into.old (role_visits lookup.now.instance.now role.now event)) }
+{
+    match roles.table(event) {
+        Some(table) => follow_named(table, role, event, into),
+        None => follow_listed(lookup, role, event, into),
+    }
+}
+
+/// Meets the event resource of a role of an event that has a table of them.
+fn follow_named<F: Follow>(
+    table: &RoleTable,
+    role: &Text,
+    event: u32,
+    into: &mut F,
+) -> Result<(), NoMemory>
+    ensures { OnOk result (into.new ≡ fold F.met into.old (map (place_visit event) (option_to_list (place_at table.now role.now)))) }
+{
+    if let Some(place) = table.place(role) {
+        let event = EventId(event);
+        into.meet(Visit {
+            point: Point::EventResource { event, place },
+            watches: 1,
+        })?;
+    }
+    Ok(())
+}
+
+/// Meets the event resources of a role of one event, which are looked through.
+fn follow_listed<F: Follow>(
     lookup: &Lookup<'_>,
     role: &Text,
     event: u32,

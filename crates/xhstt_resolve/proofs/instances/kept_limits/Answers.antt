@@ -33,6 +33,14 @@ returns-in_err-listed_within-clause-fault c =
     subst (λ n. above TOO_MANY_TASKS TASKS n ≡ None) count c.in_ok-within-10.ensures.within in
     search (rules, tasks)
 
+pub roles_of-requires : goal.roles_of-requires
+roles_of-requires c =
+    let i = c.args.raw.now in
+    let count = c.task_count.ensures ∙ ap task_count c.in_ok-lookup.ensures.instance in
+    let tasks : above TOO_MANY_TASKS TASKS (task_count i) ≡ None =
+    subst (λ n. above TOO_MANY_TASKS TASKS n ≡ None) count c.in_ok-within-10.ensures.within in
+    few-places i c.requires.formed (not-above TOO_MANY_TASKS TASKS (task_count i) tasks)
+
 pub counts_of-requires-clause-places : goal.counts_of-requires-clause-places
 counts_of-requires-clause-places c =
     let i = c.args.raw.now in
