@@ -16,9 +16,8 @@ use Rattle.khe_instance.specs.Kinds.{kind_of}
 use Rattle.xhstt_shape.specs.declared.constraints.RawConstraint.{RawConstraint}
 use Rattle.xhstt_shape.specs.declared.records.RawEvent.{RawEvent}
 use Rattle.xhstt_shape.specs.declared.records.RawInstance.{RawInstance}
-use Rattle.xhstt_resolve.specs.Limits.{above, count_fault, first_above, limit_fault, listed_fault}
-use Rattle.xhstt_resolve.specs.Limits.{listed_groups, monitor_fault, size_fault, task_count, total_duration}
-use Rattle.xhstt_resolve.specs.Limits.{unit_fault, watch_count, watches_of}
+use Rattle.xhstt_resolve.specs.Limits.{beyond, first_beyond, first_above, limit_fault, listed_groups, listings}
+use Rattle.xhstt_resolve.specs.Limits.{task_count, total_duration, units, watch_count, watches_of}
 use Rattle.xhstt_resolve.specs.Members.{listed_times}
 use Rattle.xhstt_resolve.specs.Points.{monitor_of, monitors_at, monitors_of, points_of}
 use Rattle.xhstt_resolve.specs.Rules.{rule_of}
@@ -48,11 +47,11 @@ use Rattle.made_archives.proofs.SizeLaws as count
 use Rattle.made_archives.proofs.UnitLaws.{units_small}
 
 -- a value that is not above the greatest is no fault
-pub within : (which greatest value : ℕ) → value ≤ greatest → above which greatest value ≡ None
+pub within : (which greatest value : ℕ) → value ≤ greatest → beyond which greatest value ≡ None
 within which greatest value l = ap (λ b. if b then Some (Limit which value) else None) (le-ltb greatest value l)
 
 all_within : (which greatest : ℕ) (values : List ℕ) → All (λ v. v ≤ greatest) values
-    → first_above which greatest values ≡ None
+    → first_beyond which greatest values ≡ None
 all_within which greatest values h = ap (option_map (Limit which)) (none_found values h)
   where
     none_found : (vs : List ℕ) → All (λ v. v ≤ greatest) vs → find (nat_lt greatest) vs ≡ None
@@ -119,26 +118,6 @@ module _ (size : ℕ) (es : List DrawnEvent) (s : IsSize size) (drawn : AreDrawn
     places = count.few_resources size es s drawn;
   }
 
-  count_within : count_fault (made.instance size es) ≡ None
-  count_within =
-      let i = made.instance size es in
-      let times = count.time_count size es in
-      let time_groups = count.time_group_count size es in
-      let types = count.type_count size es in
-      let resources = count.resource_count size es s in
-      let resource_groups = count.resource_group_count size es in
-      let events = count.event_count size es s drawn in
-      let event_groups = count.event_group_count size es s in
-      let constraints = count.constraint_count size es in
-      neither _ _ (within TOO_MANY_TIMES TIMES (length i.times) (omega arith))
-      (neither _ _ (within TOO_MANY_TIME_GROUPS TIME_GROUPS (length i.time_groups) (omega arith))
-      (neither _ _ (within TOO_MANY_RESOURCE_TYPES RESOURCE_TYPES (length i.resource_types) (omega arith))
-      (neither _ _ (within TOO_MANY_RESOURCES RESOURCES (length i.resources) (omega arith))
-      (neither _ _ (within TOO_MANY_RESOURCE_GROUPS RESOURCE_GROUPS (length i.resource_groups) (omega arith))
-      (neither _ _ (within TOO_MANY_EVENTS EVENTS (length i.events) (omega arith))
-      (neither _ _ (within TOO_MANY_EVENT_GROUPS EVENT_GROUPS (length i.event_groups) (omega arith))
-      (neither _ _ (within TOO_MANY_CONSTRAINTS CONSTRAINTS (length i.constraints) (omega arith)) refl)))))))
-
   -- what constraints list
 
   days_few : length times.days ≤ 5
@@ -170,7 +149,7 @@ module _ (size : ℕ) (es : List DrawnEvent) (s : IsSize size) (drawn : AreDrawn
     limit_workload = omega arith;
   }
 
-  listed_within : listed_fault (made.instance size es) ≡ None
+  listed_within : first_above TOO_MANY_LISTED (listings (made.instance size es)) ≡ None
   listed_within =
       let cs = (made.instance size es).constraints in
       let f = λ (c : RawConstraint). listed_groups c.rule in
@@ -179,7 +158,7 @@ module _ (size : ℕ) (es : List DrawnEvent) (s : IsSize size) (drawn : AreDrawn
       (All-map (λ n. n ≤ LISTED) f cs
       (All-weaker (λ (c : RawConstraint). f c ≤ 5) (λ (c : RawConstraint). f c ≤ LISTED) (λ c l. omega arith) cs each))
 
-  unit_within : unit_fault (made.instance size es) ≡ None
+  unit_within : first_above TOO_GREAT_UNIT (units (made.instance size es)) ≡ None
   unit_within =
       let ds = map (λ (e : RawEvent). e.duration) (made.instance size es).events in
       all_within TOO_GREAT_UNIT UNIT (running_units 1 ds)
@@ -284,26 +263,35 @@ module _ (size : ℕ) (es : List DrawnEvent) (s : IsSize size) (drawn : AreDrawn
       let r = m.limit_workload.watches in
       omega arith
 
-  monitor_within : monitor_fault (made.instance size es) ≡ None
-  monitor_within =
+  -- no limit is passed
+  pub limits_kept : limit_fault (made.instance size es) ≡ None
+  limits_kept =
       let i = made.instance size es in
-      let monitors = monitors_few in
-      let watches = watches_few in
-      neither _ _ (within TOO_MANY_MONITORS MONITORS (length (monitors_of i)) (omega arith))
-      (neither _ _ (within TOO_MANY_WATCHES WATCHES (watch_count i) (omega arith))
-      (neither _ _ unit_within refl))
-
-  size_within : size_fault (made.instance size es) ≡ None
-  size_within =
-      let i = made.instance size es in
+      let times = count.time_count size es in
+      let time_groups = count.time_group_count size es in
+      let types = count.type_count size es in
+      let resources = count.resource_count size es s in
+      let resource_groups = count.resource_group_count size es in
+      let events = count.event_count size es s drawn in
+      let event_groups = count.event_group_count size es s in
+      let constraints = count.constraint_count size es in
       let durations = count.duration_sum size es s drawn in
       let tasks = count.task_sum size es s drawn in
       let cells = count.cell_count size es s drawn in
-      neither _ _ (within TOO_LONG_DURATION DURATION (total_duration i) (omega arith))
+      let monitors = monitors_few in
+      let watches = watches_few in
+      neither _ _ (within TOO_MANY_TIMES TIMES (length i.times) (omega arith))
+      (neither _ _ (within TOO_MANY_TIME_GROUPS TIME_GROUPS (length i.time_groups) (omega arith))
+      (neither _ _ (within TOO_MANY_RESOURCE_TYPES RESOURCE_TYPES (length i.resource_types) (omega arith))
+      (neither _ _ (within TOO_MANY_RESOURCES RESOURCES (length i.resources) (omega arith))
+      (neither _ _ (within TOO_MANY_RESOURCE_GROUPS RESOURCE_GROUPS (length i.resource_groups) (omega arith))
+      (neither _ _ (within TOO_MANY_EVENTS EVENTS (length i.events) (omega arith))
+      (neither _ _ (within TOO_MANY_EVENT_GROUPS EVENT_GROUPS (length i.event_groups) (omega arith))
+      (neither _ _ (within TOO_MANY_CONSTRAINTS CONSTRAINTS (length i.constraints) (omega arith))
+      (neither _ _ (within TOO_LONG_DURATION DURATION (total_duration i) (omega arith))
       (neither _ _ (within TOO_MANY_TASKS TASKS (task_count i) (omega arith))
       (neither _ _ (within TOO_MANY_CELLS CELLS (length i.resources * length i.times) (omega arith))
-      (neither _ _ listed_within (neither _ _ monitor_within refl))))
-
-  -- no limit is passed
-  pub limits_kept : limit_fault (made.instance size es) ≡ None
-  limits_kept = neither _ _ count_within (neither _ _ size_within refl)
+      (neither _ _ listed_within
+      (neither _ _ (within TOO_MANY_MONITORS MONITORS (length (monitors_of i)) (omega arith))
+      (neither _ _ (within TOO_MANY_WATCHES WATCHES (watch_count i) (omega arith))
+      (neither _ _ unit_within refl))))))))))))))

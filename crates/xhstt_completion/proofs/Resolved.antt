@@ -122,12 +122,12 @@ without a r sound same =
     let first = neither _ _ sound in
     let second = neither _ _ first.1 in
     let last = neither (solutions_fault a) None second.1 in
-    let number = neither (above TOO_MANY_SOLUTIONS SOLUTIONS (length (solutions_of a))) _ last.0 in
+    let number = neither (above TOO_MANY_SOLUTIONS (length (solutions_of a))) _ last.0 in
     let references = neither (option_map as_fault (fault_of_solutions a)) None number.1 in
     record {
       instances = ap (λ x. x.instances) same;
       of = ap (λ x. x.of) same;
-      few = not-above TOO_MANY_SOLUTIONS SOLUTIONS (length (solutions_of a)) number.0;
+      few = not-above TOO_MANY_SOLUTIONS (length (solutions_of a)) number.0;
       known = none_left UNKNOWN_REFERENCE (unknown_in_solutions a)
           (none-mapped as_fault (fault_of_solutions a) references.0);
     }

@@ -16,7 +16,7 @@ use Rattle.xhstt_references.specs.References.{unknown_in_constraint, unknown_ref
 use Rattle.xhstt_references.specs.declared.faults.ReferenceFault.{ReferenceFault}
 use Rattle.fault_tables.specs.declared.faults.TheConstants.{DUPLICATE_ID, UNKNOWN_REFERENCE, DUPLICATE_ROLE}
 use Rattle.fault_tables.specs.declared.faults.TheConstants.{EVENT_OFF_END}
-use Rattle.xhstt_resolve.specs.Limits.{first_above, above, total_duration, task_count, listings, units}
+use Rattle.xhstt_resolve.specs.Limits.{first_beyond, first_above, beyond, above, total_duration, task_count, listings, units}
 use Rattle.xhstt_resolve.specs.Limits.{watch_count, limit_fault}
 use Rattle.xhstt_resolve.specs.Points.{monitors_of}
 use Rattle.xhstt_resolve.specs.Units.{running_units}
@@ -78,18 +78,18 @@ faultless i e =
     }
 
 -- no value is above the greatest
-none-above : (which greatest : ℕ) (values : List ℕ) → first_above which greatest values ≡ None
+none-above : (which greatest : ℕ) (values : List ℕ) → first_beyond which greatest values ≡ None
     → All (λ v. v ≤ greatest) values
 none-above which greatest [] e = All-nil (λ v. v ≤ greatest)
 none-above which greatest (x ∷ xs) e = by (nat_lt greatest x) refl e (none-above which greatest xs)
   where
     by : (b : Bool) → nat_lt greatest x ≡ b → option_map (Limit which) (cond b (Some x) (find (nat_lt greatest) xs))
         ≡ None
-        → (first_above which greatest xs ≡ None → All (λ v. v ≤ greatest) xs) → All (λ v. v ≤ greatest) (x ∷ xs)
+        → (first_beyond which greatest xs ≡ None → All (λ v. v ≤ greatest) xs) → All (λ v. v ≤ greatest) (x ∷ xs)
     by true is e later = absurd (let g : ⊥ = cc in g)
     by false is e later = All-cons (λ v. v ≤ greatest) x xs (ltb-false _ _ is) (later e)
 
-pub not-above : (which greatest value : ℕ) → above which greatest value ≡ None → value ≤ greatest
+pub not-above : (which greatest value : ℕ) → beyond which greatest value ≡ None → value ≤ greatest
 not-above which greatest value e = by (nat_lt greatest value) refl e
   where
     by : (b : Bool) → nat_lt greatest value ≡ b → (if b then Some (Limit which value) else None) ≡ None
@@ -121,34 +121,34 @@ pub record IsWithin (i : RawInstance) : Type 0 where
 
 pub within : (i : RawInstance) → limit_fault i ≡ None → IsWithin i
 within i e =
-    let times = neither (above TOO_MANY_TIMES TIMES (length i.times)) _ e in
-    let time_groups = neither (above TOO_MANY_TIME_GROUPS TIME_GROUPS (length i.time_groups)) _ times.1 in
-    let types = neither (above TOO_MANY_RESOURCE_TYPES RESOURCE_TYPES (length i.resource_types)) _ time_groups.1 in
-    let resources = neither (above TOO_MANY_RESOURCES RESOURCES (length i.resources)) _ types.1 in
-    let resource_groups = neither (above TOO_MANY_RESOURCE_GROUPS RESOURCE_GROUPS (length i.resource_groups)) _
+    let times = neither (above TOO_MANY_TIMES (length i.times)) _ e in
+    let time_groups = neither (above TOO_MANY_TIME_GROUPS (length i.time_groups)) _ times.1 in
+    let types = neither (above TOO_MANY_RESOURCE_TYPES (length i.resource_types)) _ time_groups.1 in
+    let resources = neither (above TOO_MANY_RESOURCES (length i.resources)) _ types.1 in
+    let resource_groups = neither (above TOO_MANY_RESOURCE_GROUPS (length i.resource_groups)) _
     resources.1 in
-    let events = neither (above TOO_MANY_EVENTS EVENTS (length i.events)) _ resource_groups.1 in
-    let groups = neither (above TOO_MANY_EVENT_GROUPS EVENT_GROUPS (length i.event_groups)) _ events.1 in
-    let constraints = neither (above TOO_MANY_CONSTRAINTS CONSTRAINTS (length i.constraints)) _ groups.1 in
-    let duration = neither (above TOO_LONG_DURATION DURATION (total_duration i)) _ constraints.1 in
-    let tasks = neither (above TOO_MANY_TASKS TASKS (task_count i)) _ duration.1 in
-    let cells = neither (above TOO_MANY_CELLS CELLS (length i.resources * length i.times)) _ tasks.1 in
-    let listed = neither (first_above TOO_MANY_LISTED LISTED (listings i)) _ cells.1 in
-    let monitors = neither (above TOO_MANY_MONITORS MONITORS (length (monitors_of i))) _ listed.1 in
-    let watches = neither (above TOO_MANY_WATCHES WATCHES (watch_count i)) _ monitors.1 in
-    let last = neither (first_above TOO_GREAT_UNIT UNIT (units i)) None watches.1 in
+    let events = neither (above TOO_MANY_EVENTS (length i.events)) _ resource_groups.1 in
+    let groups = neither (above TOO_MANY_EVENT_GROUPS (length i.event_groups)) _ events.1 in
+    let constraints = neither (above TOO_MANY_CONSTRAINTS (length i.constraints)) _ groups.1 in
+    let duration = neither (above TOO_LONG_DURATION (total_duration i)) _ constraints.1 in
+    let tasks = neither (above TOO_MANY_TASKS (task_count i)) _ duration.1 in
+    let cells = neither (above TOO_MANY_CELLS (length i.resources * length i.times)) _ tasks.1 in
+    let listed = neither (first_above TOO_MANY_LISTED (listings i)) _ cells.1 in
+    let monitors = neither (above TOO_MANY_MONITORS (length (monitors_of i))) _ listed.1 in
+    let watches = neither (above TOO_MANY_WATCHES (watch_count i)) _ monitors.1 in
+    let last = neither (first_above TOO_GREAT_UNIT (units i)) None watches.1 in
     record {
-      times = not-above TOO_MANY_TIMES TIMES (length i.times) times.0;
-      types = not-above TOO_MANY_RESOURCE_TYPES RESOURCE_TYPES (length i.resource_types) types.0;
-      resources = not-above TOO_MANY_RESOURCES RESOURCES (length i.resources) resources.0;
-      events = not-above TOO_MANY_EVENTS EVENTS (length i.events) events.0;
-      groups = not-above TOO_MANY_EVENT_GROUPS EVENT_GROUPS (length i.event_groups) groups.0;
-      constraints = not-above TOO_MANY_CONSTRAINTS CONSTRAINTS (length i.constraints) constraints.0;
-      duration = not-above TOO_LONG_DURATION DURATION (total_duration i) duration.0;
-      tasks = not-above TOO_MANY_TASKS TASKS (task_count i) tasks.0;
-      cells = not-above TOO_MANY_CELLS CELLS (length i.resources * length i.times) cells.0;
-      listed = none-above TOO_MANY_LISTED LISTED (listings i) listed.0;
-      monitors = not-above TOO_MANY_MONITORS MONITORS (length (monitors_of i)) monitors.0;
-      watches = not-above TOO_MANY_WATCHES WATCHES (watch_count i) watches.0;
-      units = none-above TOO_GREAT_UNIT UNIT (units i) last.0;
+      times = not-above TOO_MANY_TIMES (length i.times) times.0;
+      types = not-above TOO_MANY_RESOURCE_TYPES (length i.resource_types) types.0;
+      resources = not-above TOO_MANY_RESOURCES (length i.resources) resources.0;
+      events = not-above TOO_MANY_EVENTS (length i.events) events.0;
+      groups = not-above TOO_MANY_EVENT_GROUPS (length i.event_groups) groups.0;
+      constraints = not-above TOO_MANY_CONSTRAINTS (length i.constraints) constraints.0;
+      duration = not-above TOO_LONG_DURATION (total_duration i) duration.0;
+      tasks = not-above TOO_MANY_TASKS (task_count i) tasks.0;
+      cells = not-above TOO_MANY_CELLS (length i.resources * length i.times) cells.0;
+      listed = none-above TOO_MANY_LISTED (listings i) listed.0;
+      monitors = not-above TOO_MANY_MONITORS (length (monitors_of i)) monitors.0;
+      watches = not-above TOO_MANY_WATCHES (watch_count i) watches.0;
+      units = none-above TOO_GREAT_UNIT (units i) last.0;
     }

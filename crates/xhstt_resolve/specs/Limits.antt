@@ -3,10 +3,8 @@
 use Rattle.std.specs.Prelude.{ℕ, ◌*◌, ◌==◌, if◌then◌else◌, nat_lt, Option, Some, None, List, [], ◌∷◌, map, length, find}
 use Rattle.std.specs.Prelude.{slice_get}
 use Rattle.std.specs.List.{sum_by}
-use Rattle.std.specs.Option.{option_map, option_map_or, option_or}
-use Rattle.khe_base.specs.declared.limits.TheConstants.{TIMES, TIME_GROUPS, RESOURCE_TYPES, RESOURCES, RESOURCE_GROUPS}
-use Rattle.khe_base.specs.declared.limits.TheConstants.{EVENTS, EVENT_GROUPS, CONSTRAINTS, DURATION, TASKS, CELLS}
-use Rattle.khe_base.specs.declared.limits.TheConstants.{LISTED, MONITORS, WATCHES, UNIT}
+use Rattle.std.specs.Option.{option_and_then, option_map, option_map_or, option_or}
+use Rattle.fault_tables.specs.Limits.{greatest_of}
 use Rattle.khe_instance.specs.declared.points.Point.{Point}
 use Rattle.khe_instance.specs.declared.points.Point.TheVariants as point
 use Rattle.khe_instance.specs.declared.rules.EventPair.{EventPair}
@@ -29,13 +27,20 @@ use Rattle.xhstt_shape.specs.declared.constraints.RawRule.{RawRule}
 use Rattle.xhstt_shape.specs.declared.constraints.RawRule.TheVariants as ruled
 use Rattle.xhstt_shape.specs.declared.records.RawInstance.{RawInstance}
 
--- a value that is above the greatest, as a fault
-abbrev pub above : ℕ → ℕ → ℕ → Option ResolveFault
-above which greatest value = if nat_lt greatest value then Some (Limit which value) else None
-
 -- the first of some values that is above the greatest, as a fault
-abbrev pub first_above : ℕ → ℕ → List ℕ → Option ResolveFault
-first_above which greatest values = option_map (Limit which) (find (nat_lt greatest) values)
+abbrev pub first_beyond : ℕ → ℕ → List ℕ → Option ResolveFault
+first_beyond which greatest values = option_map (Limit which) (find (nat_lt greatest) values)
+
+-- a value that is above the greatest, as a fault
+abbrev pub beyond : ℕ → ℕ → ℕ → Option ResolveFault
+beyond which greatest value = if nat_lt greatest value then Some (Limit which value) else None
+
+-- a value, and the first of some values, that is above the greatest of its limit
+abbrev pub above : ℕ → ℕ → Option ResolveFault
+above which value = option_and_then (λ greatest. beyond which greatest value) (greatest_of which)
+
+abbrev pub first_above : ℕ → List ℕ → Option ResolveFault
+first_above which values = option_and_then (λ greatest. first_beyond which greatest values) (greatest_of which)
 
 -- the first fault of a list of looks for one
 abbrev pub earliest : List (Option ResolveFault) → Option ResolveFault
@@ -105,19 +110,19 @@ units i = running_units 1 (map (λ e. e.duration) i.events)
 -- the first limit that an instance is above
 abbrev pub limit_fault : RawInstance → Option ResolveFault
 limit_fault i = earliest
-    (above TOO_MANY_TIMES TIMES (length i.times)
-    ∷ above TOO_MANY_TIME_GROUPS TIME_GROUPS (length i.time_groups)
-    ∷ above TOO_MANY_RESOURCE_TYPES RESOURCE_TYPES (length i.resource_types)
-    ∷ above TOO_MANY_RESOURCES RESOURCES (length i.resources)
-    ∷ above TOO_MANY_RESOURCE_GROUPS RESOURCE_GROUPS (length i.resource_groups)
-    ∷ above TOO_MANY_EVENTS EVENTS (length i.events)
-    ∷ above TOO_MANY_EVENT_GROUPS EVENT_GROUPS (length i.event_groups)
-    ∷ above TOO_MANY_CONSTRAINTS CONSTRAINTS (length i.constraints)
-    ∷ above TOO_LONG_DURATION DURATION (total_duration i)
-    ∷ above TOO_MANY_TASKS TASKS (task_count i)
-    ∷ above TOO_MANY_CELLS CELLS (length i.resources * length i.times)
-    ∷ first_above TOO_MANY_LISTED LISTED (listings i)
-    ∷ above TOO_MANY_MONITORS MONITORS (length (monitors_of i))
-    ∷ above TOO_MANY_WATCHES WATCHES (watch_count i)
-    ∷ first_above TOO_GREAT_UNIT UNIT (units i)
+    (above TOO_MANY_TIMES (length i.times)
+    ∷ above TOO_MANY_TIME_GROUPS (length i.time_groups)
+    ∷ above TOO_MANY_RESOURCE_TYPES (length i.resource_types)
+    ∷ above TOO_MANY_RESOURCES (length i.resources)
+    ∷ above TOO_MANY_RESOURCE_GROUPS (length i.resource_groups)
+    ∷ above TOO_MANY_EVENTS (length i.events)
+    ∷ above TOO_MANY_EVENT_GROUPS (length i.event_groups)
+    ∷ above TOO_MANY_CONSTRAINTS (length i.constraints)
+    ∷ above TOO_LONG_DURATION (total_duration i)
+    ∷ above TOO_MANY_TASKS (task_count i)
+    ∷ above TOO_MANY_CELLS (length i.resources * length i.times)
+    ∷ first_above TOO_MANY_LISTED (listings i)
+    ∷ above TOO_MANY_MONITORS (length (monitors_of i))
+    ∷ above TOO_MANY_WATCHES (watch_count i)
+    ∷ first_above TOO_GREAT_UNIT (units i)
     ∷ [])

@@ -4,7 +4,6 @@
 use Rattle.std.specs.Prelude.{ℕ, Option, unwrap_or, Result, Ok, Err, List, [], ◌∷◌, map, length}
 use Rattle.std.specs.Option.{option_map, option_map_or, option_or}
 use Rattle.khe_base.specs.Names.{number_of}
-use Rattle.khe_base.specs.declared.limits.TheConstants.{SOLUTIONS}
 use Rattle.xhstt_references.specs.Faults.{fault_of_ids, fault_of_instance, fault_of_solutions}
 use Rattle.xhstt_references.specs.Ids.{instance_ids}
 use Rattle.xhstt_references.specs.References.{solutions_of}
@@ -24,7 +23,7 @@ instance_fault i = option_or (option_map as_fault (fault_of_instance i)) (limit_
 -- the number of solutions, and then their references
 abbrev pub solutions_fault : Archive → Option ResolveFault
 solutions_fault a = earliest
-    (above TOO_MANY_SOLUTIONS SOLUTIONS (length (solutions_of a))
+    (above TOO_MANY_SOLUTIONS (length (solutions_of a))
     ∷ option_map as_fault (fault_of_solutions a)
     ∷ [])
 

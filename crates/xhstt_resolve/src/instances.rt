@@ -1,5 +1,5 @@
 ghost use Rattle.std.specs.Prelude.{◌≡◌, ◌≤◌, ◌*◌, ◌^◌, ◌<◌, None, length, map, IfOk, IfErr};
-ghost use Rattle.khe_base.specs.declared.limits.TheConstants.{LISTED, RESOURCES, TIMES, UNIT};
+ghost use Rattle.khe_base.specs.declared.limits.TheConstants.{RESOURCES, TIMES};
 ghost use Rattle.xhstt_references.specs.Directories.{IsDirectoryOf};
 ghost use Rattle.xhstt_references.specs.Faults.{fault_of_instance};
 ghost use Rattle.xhstt_resolve.specs.Answers.{IsFirst};
@@ -19,12 +19,11 @@ use crate::sizes::{listed_above, task_count, total_duration};
 use crate::tables::{Lookup, lookup_of};
 use crate::units::unit_of;
 use fault_tables::{
-    TOO_GREAT_UNIT, TOO_LONG_DURATION, TOO_MANY_CELLS, TOO_MANY_CONSTRAINTS, TOO_MANY_EVENT_GROUPS,
+    Limit, TOO_GREAT_UNIT, TOO_LONG_DURATION, TOO_MANY_CELLS, TOO_MANY_CONSTRAINTS, TOO_MANY_EVENT_GROUPS,
     TOO_MANY_EVENTS, TOO_MANY_LISTED, TOO_MANY_MONITORS, TOO_MANY_RESOURCE_GROUPS,
     TOO_MANY_RESOURCE_TYPES, TOO_MANY_RESOURCES, TOO_MANY_TASKS, TOO_MANY_TIME_GROUPS,
-    TOO_MANY_TIMES, TOO_MANY_WATCHES,
+    TOO_MANY_TIMES, TOO_MANY_WATCHES, limit_numbered,
 };
-use khe_base::limits;
 use khe_instance::Instance;
 use std::alloc::Global;
 use xhstt_references::Directory;
@@ -81,51 +80,23 @@ fn kept_limits<'a>(
     ensures within { IfOk result (λ k. spec.limit_fault raw.now ≡ None) }
     ensures fault { IfErr result (IsFirst (spec.limit_fault raw.now)) }
 {
-    within(TOO_MANY_TIMES, limits::TIMES, raw.times.len() as u128)?;
-    within(
-        TOO_MANY_TIME_GROUPS,
-        limits::TIME_GROUPS,
-        raw.time_groups.len() as u128,
-    )?;
-    within(
-        TOO_MANY_RESOURCE_TYPES,
-        limits::RESOURCE_TYPES,
-        raw.resource_types.len() as u128,
-    )?;
-    within(
-        TOO_MANY_RESOURCES,
-        limits::RESOURCES,
-        raw.resources.len() as u128,
-    )?;
-    within(
-        TOO_MANY_RESOURCE_GROUPS,
-        limits::RESOURCE_GROUPS,
-        raw.resource_groups.len() as u128,
-    )?;
-    within(TOO_MANY_EVENTS, limits::EVENTS, raw.events.len() as u128)?;
-    within(
-        TOO_MANY_EVENT_GROUPS,
-        limits::EVENT_GROUPS,
-        raw.event_groups.len() as u128,
-    )?;
-    within(
-        TOO_MANY_CONSTRAINTS,
-        limits::CONSTRAINTS,
-        raw.constraints.len() as u128,
-    )?;
+    within(TOO_MANY_TIMES, raw.times.len() as u128)?;
+    within(TOO_MANY_TIME_GROUPS, raw.time_groups.len() as u128)?;
+    within(TOO_MANY_RESOURCE_TYPES, raw.resource_types.len() as u128)?;
+    within(TOO_MANY_RESOURCES, raw.resources.len() as u128)?;
+    within(TOO_MANY_RESOURCE_GROUPS, raw.resource_groups.len() as u128)?;
+    within(TOO_MANY_EVENTS, raw.events.len() as u128)?;
+    within(TOO_MANY_EVENT_GROUPS, raw.event_groups.len() as u128)?;
+    within(TOO_MANY_CONSTRAINTS, raw.constraints.len() as u128)?;
     let lookup = lookup_of(alloc, raw, names)?;
-    within(
-        TOO_LONG_DURATION,
-        limits::DURATION,
-        u128::from(total_duration(raw)),
-    )?;
-    within(TOO_MANY_TASKS, limits::TASKS, task_count(&lookup))?;
-    within(TOO_MANY_CELLS, limits::CELLS, cells(raw))?;
+    within(TOO_LONG_DURATION, u128::from(total_duration(raw)))?;
+    within(TOO_MANY_TASKS, task_count(&lookup))?;
+    within(TOO_MANY_CELLS, cells(raw))?;
     listed_within(raw)?;
     let roles = roles_of(alloc, raw)?;
     let counts = counts_of(alloc, &lookup, &roles)?;
-    within(TOO_MANY_MONITORS, limits::MONITORS, counts.monitors)?;
-    within(TOO_MANY_WATCHES, limits::WATCHES, counts.watches)?;
+    within(TOO_MANY_MONITORS, counts.monitors)?;
+    within(TOO_MANY_WATCHES, counts.watches)?;
     let unit = unit_within(raw)?;
     Ok(Kept {
         lookup,
@@ -138,8 +109,8 @@ fn kept_limits<'a>(
 fn unit_within(instance: &RawInstance) -> Result<u64, ResolveFault>
     requires { IsInstance instance.now }
     ensures unit { IfOk result (λ u. u ≡ unit_of (map (λ e. e.duration) instance.now.events)) }
-    ensures within { IfOk result (λ u. spec.first_above TOO_GREAT_UNIT UNIT (spec.units instance.now) ≡ None) }
-    ensures fault { IfErr result (IsFirst (spec.first_above TOO_GREAT_UNIT UNIT (spec.units instance.now))) }
+    ensures within { IfOk result (λ u. spec.first_above TOO_GREAT_UNIT (spec.units instance.now) ≡ None) }
+    ensures fault { IfErr result (IsFirst (spec.first_above TOO_GREAT_UNIT (spec.units instance.now))) }
 {
     match unit_of(instance) {
         Ok(unit) => Ok(unit),
@@ -152,8 +123,8 @@ fn unit_within(instance: &RawInstance) -> Result<u64, ResolveFault>
 
 /// A constraint that lists too many time groups is a fault.
 fn listed_within(instance: &RawInstance) -> Result<(), ResolveFault>
-    ensures within { IfOk result (λ u. spec.first_above TOO_MANY_LISTED LISTED (spec.listings instance.now) ≡ None) }
-    ensures fault { IfErr result (IsFirst (spec.first_above TOO_MANY_LISTED LISTED (spec.listings instance.now))) }
+    ensures within { IfOk result (λ u. spec.first_above TOO_MANY_LISTED (spec.listings instance.now) ≡ None) }
+    ensures fault { IfErr result (IsFirst (spec.first_above TOO_MANY_LISTED (spec.listings instance.now))) }
 {
     match listed_above(instance) {
         None => Ok(()),
@@ -173,12 +144,23 @@ fn cells(instance: &RawInstance) -> u128
     (instance.resources.len() * instance.times.len()) as u128
 }
 
-/// A value above the greatest is a fault.
-pub(crate) fn within(which: u32, greatest: u32, value: u128) -> Result<(), ResolveFault>
-    ensures within { IfOk result (λ u. spec.above which greatest value ≡ None) }
-    ensures fault { IfErr result (IsFirst (spec.above which greatest value)) }
+/// A value above the greatest of the limit with a number is a fault.
+pub(crate) fn within(which: u32, value: u128) -> Result<(), ResolveFault>
+    ensures within { IfOk result (λ u. spec.above which value ≡ None) }
+    ensures fault { IfErr result (IsFirst (spec.above which value)) }
 {
-    if value > u128::from(greatest) {
+    match limit_numbered(which) {
+        Some(limit) => within_limit(limit, which, value),
+        None => Ok(()),
+    }
+}
+
+/// A value above the greatest of a limit is a fault.
+fn within_limit(limit: Limit, which: u32, value: u128) -> Result<(), ResolveFault>
+    ensures within { IfOk result (λ u. spec.beyond which limit.greatest value ≡ None) }
+    ensures fault { IfErr result (IsFirst (spec.beyond which limit.greatest value)) }
+{
+    if value > u128::from(limit.greatest) {
         return Err(ResolveFault::Limit { which, value });
     }
     Ok(())

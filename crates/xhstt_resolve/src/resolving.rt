@@ -8,14 +8,13 @@ ghost use Rattle.xhstt_resolve.specs.Answers.{IsFirst, IsFaultOf};
 ghost use Rattle.xhstt_resolve.specs.Limits.{above, earliest};
 ghost use Rattle.xhstt_resolve.specs.Parts.{parts_of};
 ghost use Rattle.xhstt_resolve.specs.Resolved as spec;
-ghost use Rattle.khe_base.specs.declared.limits.TheConstants.{SOLUTIONS};
 ghost use Rattle.fault_tables.specs.declared.limits.TheConstants.{TOO_MANY_SOLUTIONS};
 ghost use Rattle.xhstt_shape.specs.WellFormed.{IsInForm, IsInstance};
 
 use crate::faults::ResolveFault;
 use crate::instances::{instance_of, within};
 use fault_tables::TOO_MANY_SOLUTIONS;
-use khe_base::{Names, NoMemory, Seq, beside, lends_to_threads, limits};
+use khe_base::{Names, NoMemory, Seq, beside, lends_to_threads};
 use khe_instance::Instance;
 use std::alloc::Global;
 use xhstt_references::{Directory, directory, instance_names, instances_of_solutions};
@@ -122,7 +121,7 @@ fn solution_instances(
     ensures fault { IfErr result (IsFirst (spec.solutions_fault archive.now)) }
 {
     let count = solution_count(archive);
-    within(TOO_MANY_SOLUTIONS, limits::SOLUTIONS, count)?;
+    within(TOO_MANY_SOLUTIONS, count)?;
     Ok(instances_of_solutions(alloc, archive, names, directories)?)
 }
 
