@@ -28,7 +28,7 @@ use Rattle.khe_instance.specs.declared.states.Duty.{Duty}
 use Rattle.khe_instance.specs.declared.states.Meet.{Meet}
 use Rattle.khe_instance.specs.declared.states.Task.{Task}
 use Rattle.xhstt_completion.specs.Causes.{first_cause}
-use Rattle.xhstt_completion.specs.Completed.{Part, parts_of, slotted_parts, meet_of, task_of, tasks_of, meets_at}
+use Rattle.xhstt_completion.specs.Completed.{Part, event_parts, slotted_parts, meet_of, task_of, tasks_of, meets_at}
 use Rattle.xhstt_completion.specs.Completed.{tasks_at, state_of, resource_at}
 use Rattle.xhstt_completion.specs.Entries.{IsEntry, entries_of}
 use Rattle.xhstt_completion.proofs.FitLemmas.{AreFit, entries-fit}
@@ -186,7 +186,7 @@ ready p entries made all none e event there =
       named = named;
       fit = fit;
       slotted = All-slotted (IsPart p event) event.first_meet event.first_meet (event.first_meet + event.duration)
-          (parts_of p entries (e, event)) (omega arith)
+          (event_parts p entries (e, event)) (omega arith)
           (let few = parts-few p event (entries_of p e entries) own named fit in omega (arith, few))
           (parts-are p event (entries_of p e entries) own named fit);
     }
@@ -239,7 +239,7 @@ module _ (p : Parts) (entries : List RawEntry) (made : AreWellMade p) (all : All
       (all-rise (meets_at p entries) 0 (0 + sum_by (λ x. x.duration) p.events) 0 p.events made.first_meets (omega arith)
       (here (λ q. Rises q.1.first_meet (map (λ m. m.meet.0) (meets_at p entries q)) (q.1.first_meet + q.1.duration))
       (λ e event there facts.
-      numbers-rise e event.first_meet (event.first_meet + event.duration) (parts_of p entries (e, event))
+      numbers-rise e event.first_meet (event.first_meet + event.duration) (event_parts p entries (e, event))
       (let few = parts-few p event (entries_of p e entries) facts.made facts.named facts.fit in omega (arith, few)))))
 
   -- the meets of an event are those of its parts
@@ -259,7 +259,7 @@ module _ (p : Parts) (entries : List RawEntry) (made : AreWellMade p) (all : All
   whole e event there =
       let facts = ready p entries made all none e event there in
       ap (sum_by (λ (m : Meet). m.duration)) (own-meets e event there)
-      ∙ durations-at e event.first_meet (parts_of p entries (e, event))
+      ∙ durations-at e event.first_meet (event_parts p entries (e, event))
       ∙ parts-last p event (entries_of p e entries) facts.fit
 
   fixed : (e : ℕ) (event : EventInfo) → slice_get p.events e ≡ Some event
@@ -272,7 +272,7 @@ module _ (p : Parts) (entries : List RawEntry) (made : AreWellMade p) (all : All
       by (Some t) is =
           let facts = ready p entries made all none e event there in
           ap (map (λ (m : Meet). m.start)) (own-meets e event there)
-          ∙ starts-at e event.first_meet (parts_of p entries (e, event))
+          ∙ starts-at e event.first_meet (event_parts p entries (e, event))
           ∙ fixed-starts p event (entries_of p e entries) t facts.made facts.named facts.fit is
 
   tasks-own : map (λ t. t.task) (state_of p entries).tasks ≡ flat_map (states.tasks_of p) (state_of p entries).meets

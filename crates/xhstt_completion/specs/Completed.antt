@@ -45,8 +45,8 @@ missing_parts event missing = if missing == 0 then [] else record
     { duration = missing; start = event.fixed; given = [] } ∷ []
 
 -- the parts of an event with a number: its entries in order, and what they miss
-abbrev pub parts_of : Parts → List RawEntry → ℕ × EventInfo → List Part
-parts_of p entries (e, event) = map (part_of p event) (entries_of p e entries)
+abbrev pub event_parts : Parts → List RawEntry → ℕ × EventInfo → List Part
+event_parts p entries (e, event) = map (part_of p event) (entries_of p e entries)
     ++ missing_parts event (event.duration - used_by p e event entries)
 
 -- the resource that is given for a role
@@ -80,7 +80,7 @@ tasks_of p event (slot, part) = map (task_of p slot part.given) (enumerate_from 
 
 -- the parts of an event in its slots, from the first on
 abbrev pub slotted_parts : Parts → List RawEntry → ℕ × EventInfo → List (ℕ × Part)
-slotted_parts p entries (e, event) = enumerate_from event.first_meet (parts_of p entries (e, event))
+slotted_parts p entries (e, event) = enumerate_from event.first_meet (event_parts p entries (e, event))
 
 -- the meets and the tasks of an event
 abbrev pub meets_at : Parts → List RawEntry → ℕ × EventInfo → List Meet

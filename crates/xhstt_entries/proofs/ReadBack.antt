@@ -21,7 +21,7 @@ use Rattle.khe_instance.specs.declared.states.Meet.{Meet}
 use Rattle.khe_instance.specs.declared.states.Plain.{Plain}
 use Rattle.khe_instance.specs.declared.states.Task.{Task}
 use Rattle.xhstt_completion.specs.Causes.{cause_after, first_cause, used_by}
-use Rattle.xhstt_completion.specs.Completed.{completed, meet_of, meets_at, missing_parts, part_of, parts_of, state_of}
+use Rattle.xhstt_completion.specs.Completed.{completed, meet_of, meets_at, missing_parts, part_of, event_parts, state_of}
 use Rattle.xhstt_completion.specs.Completed.{tasks_at, tasks_of, unless}
 use Rattle.xhstt_completion.specs.Entries.{duration_of, entries_of, is_event}
 use Rattle.xhstt_completion.specs.declared.faults.Cause.{Cause}
@@ -164,7 +164,7 @@ module _ (p : Parts) (s : Plain) (made : AreWellMade p) (valid : IsValid p s) wh
         record { event_is = same; back = reads event (ap (slice_get p.events) same ∙ there) })
         each
 
-    parts_found : parts_of p (map entry s.meets) (e, event) ≡ map (part_of p event) (map entry (meets_of e s.meets))
+    parts_found : event_parts p (map entry s.meets) (e, event) ≡ map (part_of p event) (map entry (meets_of e s.meets))
     parts_found =
         let found = entries_found e s.meets named in
         let used : used_by p e event (map entry s.meets) ≡ event.duration =

@@ -15,7 +15,7 @@ use Rattle.fault_tables.specs.declared.faults.TheConstants.{MISSING_CHILD, BAD_N
 use Rattle.xhstt_shape.specs.declared.schema.Child.{Child}
 use Rattle.xhstt_shape.specs.declared.schema.Content.{Content}
 use Rattle.xhstt_shape.specs.declared.schema.Content.TheVariants as content_of
-use Rattle.xhstt_shape.specs.declared.schema.Given.{Given}
+use Rattle.xhstt_shape.specs.declared.schema.AllowedAttribute.{AllowedAttribute}
 use Rattle.xhstt_shape.specs.declared.schema.Mark.{Mark}
 use Rattle.xhstt_shape.specs.declared.schema.Mark.TheVariants.{Once, AtMostOnce}
 use Rattle.xhstt_shape.specs.declared.schema.Row.{Row}
@@ -130,7 +130,7 @@ function_there e h = fine_unless (is_some (function_of (trimmed_text e.info.valu
 -- attributes
 
 record Needs (r : Row) (l : Label) : Type 0 where
-  rest : List Given
+  rest : List AllowedAttribute
   first : attributes r ≡ required l ∷ rest
   elements : content r ≡ content_of.Elements
 
@@ -140,7 +140,7 @@ attribute_there r l e needs h =
     let P : Content → Type 0 = λ c. IsFine (around_children r c e.info e.kids (children_fault r [] e.kids)) in
     let own = parts r content_of.Elements e.info e.kids (children_fault r [] e.kids) (subst P needs.elements h) in
     let given : has_attributes (required l ∷ needs.rest) e.info.attributes ≡ true =
-    subst (λ (gs : List Given). has_attributes gs e.info.attributes ≡ true) needs.first own.given in
+    subst (λ (gs : List AllowedAttribute). has_attributes gs e.info.attributes ≡ true) needs.first own.given in
     (and_parts (is_some (attribute l e.info.attributes)) (has_attributes needs.rest e.info.attributes) given).0
 
 id_there : (r : Row) (e : Standing) → Needs r label.Id → IsFine (fault_of r e) → HasId e

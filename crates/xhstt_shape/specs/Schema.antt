@@ -10,7 +10,7 @@ use Rattle.xhstt_shape.specs.declared.words.Tag.{Tag}
 use Rattle.xhstt_shape.specs.declared.words.Tag.TheVariants as tag
 use Rattle.xhstt_shape.specs.declared.schema.TheConstants.{BOUND}
 use Rattle.xhstt_shape.specs.declared.schema.Child.{Child}
-use Rattle.xhstt_shape.specs.declared.schema.Given.{Given}
+use Rattle.xhstt_shape.specs.declared.schema.AllowedAttribute.{AllowedAttribute}
 use Rattle.xhstt_shape.specs.declared.schema.Content.{Content}
 use Rattle.xhstt_shape.specs.declared.schema.Content.TheVariants as content_of
 use Rattle.xhstt_shape.specs.declared.schema.Mark.TheVariants.{Once, AtMostOnce, Many}
@@ -28,14 +28,14 @@ abbrev pub many : Tag → Row → Child
 many t r = record { tag = t; mark = Many; row = r }
 
 -- an attribute that has to stand, and one that may
-abbrev pub required : Label → Given
+abbrev pub required : Label → AllowedAttribute
 required l = record { label = l; required = true }
 
-abbrev pub optional : Label → Given
+abbrev pub optional : Label → AllowedAttribute
 optional l = record { label = l; required = false }
 
 -- the attributes of an element, in the order of the table
-unfoldable pub attributes : Row → List Given
+unfoldable pub attributes : Row → List AllowedAttribute
 attributes row.Archive = optional label.Id ∷ []
 attributes row.Event = required label.Id ∷ (optional label.Color ∷ [])
 attributes row.EventResource = optional label.Reference ∷ []

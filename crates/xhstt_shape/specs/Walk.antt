@@ -13,7 +13,7 @@ use Rattle.fault_tables.specs.declared.faults.TheConstants.{BAD_WORD}
 use Rattle.xhstt_shape.specs.declared.faults.ShapeFault.{ShapeFault}
 use Rattle.xhstt_shape.specs.declared.faults.ShapeFault.TheVariants.{Bad}
 use Rattle.xhstt_shape.specs.declared.schema.Child.{Child}
-use Rattle.xhstt_shape.specs.declared.schema.Given.{Given}
+use Rattle.xhstt_shape.specs.declared.schema.AllowedAttribute.{AllowedAttribute}
 use Rattle.xhstt_shape.specs.declared.schema.Content.{Content}
 use Rattle.xhstt_shape.specs.declared.schema.Content.TheVariants as content_of
 use Rattle.xhstt_shape.specs.declared.schema.Mark.{Mark}
@@ -39,27 +39,27 @@ child t (node i kids others) = if bytes_eq (word t) i.name then Some (record { i
     others
 
 -- whether the table has an attribute of this name
-abbrev pub is_label : List Given → List ℕ → Bool
-is_label givens name = list_any (λ g. bytes_eq (label_word g.label) name) givens
+abbrev pub is_label : List AllowedAttribute → List ℕ → Bool
+is_label allowed name = list_any (λ g. bytes_eq (label_word g.label) name) allowed
 
 -- the first attribute that the table does not have
-abbrev pub attributes_fault : List Given → List AttributeInfo → Outcome
-attributes_fault givens [] = fine
-attributes_fault givens (a ∷ more) = followed_by (unless (is_label givens a.name) (bad UNKNOWN_ELEMENT a.at))
-    (attributes_fault givens more)
+abbrev pub attributes_fault : List AllowedAttribute → List AttributeInfo → Outcome
+attributes_fault allowed [] = fine
+attributes_fault allowed (a ∷ more) = followed_by (unless (is_label allowed a.name) (bad UNKNOWN_ELEMENT a.at))
+    (attributes_fault allowed more)
 
 -- whether an attribute stands, or need not
-abbrev pub has_given : Given → List AttributeInfo → Bool
-has_given g given = not g.required || is_some (attribute g.label given)
+abbrev pub has_allowed : AllowedAttribute → List AttributeInfo → Bool
+has_allowed g given = not g.required || is_some (attribute g.label given)
 
 -- whether no attribute that has to stand is missing
-abbrev pub has_attributes : List Given → List AttributeInfo → Bool
-has_attributes givens given = list_all (λ g. has_given g given) givens
+abbrev pub has_attributes : List AllowedAttribute → List AttributeInfo → Bool
+has_attributes allowed given = list_all (λ g. has_allowed g given) allowed
 
 -- the first attribute that the table does not have, or else an attribute that is missing
-abbrev pub all_attributes_fault : List Given → Info → Outcome
-all_attributes_fault givens i = followed_by (attributes_fault givens i.attributes)
-    (unless (has_attributes givens i.attributes) (bad MISSING_CHILD i.at))
+abbrev pub all_attributes_fault : List AllowedAttribute → Info → Outcome
+all_attributes_fault allowed i = followed_by (attributes_fault allowed i.attributes)
+    (unless (has_attributes allowed i.attributes) (bad MISSING_CHILD i.at))
 
 -- text where elements are to stand
 abbrev pub loose_fault : Content → Option ℕ → Outcome

@@ -144,7 +144,7 @@ pub enum Content {
 
 /// An attribute that an element may have, and whether it must.
 #[derive(Clone, Copy)]
-pub struct Given {
+pub struct AllowedAttribute {
     pub label: Label,
     pub required: bool,
 }
@@ -193,12 +193,12 @@ macro_rules! many {
 /// The greatest value of an upper bound.
 pub const BOUND: u32 = 2_147_483_647;
 
-const REQUIRED_ID: &[Given] = &[Given {
+const REQUIRED_ID: &[AllowedAttribute] = &[AllowedAttribute {
     label: Label::Id,
     required: true,
 }];
 
-const REQUIRED_REFERENCE: &[Given] = &[Given {
+const REQUIRED_REFERENCE: &[AllowedAttribute] = &[AllowedAttribute {
     label: Label::Reference,
     required: true,
 }];
@@ -206,25 +206,25 @@ const REQUIRED_REFERENCE: &[Given] = &[Given {
 impl Row {
     /// The attributes of an element of this row, in the order of the table.
     #[tactic(auto, unfolding(crate::specs::Schema::attributes))]
-    pub fn attributes(self) -> &'static [Given]
+    pub fn attributes(self) -> &'static [AllowedAttribute]
         ensures { result.now ≡ schema.attributes self }
     {
         match self {
-            Row::Archive => &[Given {
+            Row::Archive => &[AllowedAttribute {
                 label: Label::Id,
                 required: false,
             }],
             Row::Event => &[
-                Given {
+                AllowedAttribute {
                     label: Label::Id,
                     required: true,
                 },
-                Given {
+                AllowedAttribute {
                     label: Label::Color,
                     required: false,
                 },
             ],
-            Row::EventResource | Row::OpenResource => &[Given {
+            Row::EventResource | Row::OpenResource => &[AllowedAttribute {
                 label: Label::Reference,
                 required: false,
             }],

@@ -6,7 +6,7 @@ ghost use Rattle.xhstt_shape.specs.Walk as spec;
 use crate::contents::{function_text, number_text, role_text, truth_text};
 use crate::faults::{ShapeFault, unless};
 use crate::finding::{attribute, child};
-use crate::schema::{Child, Content, Given, Mark, Row};
+use crate::schema::{AllowedAttribute, Child, Content, Mark, Row};
 use crate::words::{Label, Tag};
 use fault_tables::{BAD_NUMBER, BAD_WORD, MISSING_CHILD, REPEATED_CHILD, UNKNOWN_ELEMENT};
 use khe_base::{NoMemory, Seq};
@@ -115,35 +115,38 @@ fn see(seen: &mut Seq<Tag>, rule: Child) -> Result<(), NoMemory>
 
 /// Finds the first attribute that the table does not have there, or else an attribute that is
 /// missing.
-fn look_at_attributes(givens: &[Given], element: &Element<'_, '_>) -> Result<(), ShapeFault>
-    ensures { result ≡ spec.all_attributes_fault givens.now element.now.info }
+fn look_at_attributes(
+    allowed: &[AllowedAttribute],
+    element: &Element<'_, '_>,
+) -> Result<(), ShapeFault>
+    ensures { result ≡ spec.all_attributes_fault allowed.now element.now.info }
 {
     let mut rest = element.attributes();
     while let Some(next) = rest.next() {
-        unless(is_label(givens, next.name), UNKNOWN_ELEMENT, next.name_at)?;
+        unless(is_label(allowed, next.name), UNKNOWN_ELEMENT, next.name_at)?;
     }
-    unless(has_attributes(givens, element), MISSING_CHILD, element.at())
+    unless(has_attributes(allowed, element), MISSING_CHILD, element.at())
 }
 
 /// Whether the table has an attribute of this name.
-fn is_label(givens: &[Given], name: &[u8]) -> bool
-    ensures { result ≡ spec.is_label givens.now name.now }
+fn is_label(allowed: &[AllowedAttribute], name: &[u8]) -> bool
+    ensures { result ≡ spec.is_label allowed.now name.now }
 {
-    givens.iter().any(|given| given.label.word() == name)
+    allowed.iter().any(|one| one.label.word() == name)
 }
 
 /// Whether no attribute that has to stand is missing.
-fn has_attributes(givens: &[Given], element: &Element<'_, '_>) -> bool
-    ensures { result ≡ spec.has_attributes givens.now element.now.info.attributes }
+fn has_attributes(allowed: &[AllowedAttribute], element: &Element<'_, '_>) -> bool
+    ensures { result ≡ spec.has_attributes allowed.now element.now.info.attributes }
 {
-    givens.iter().all(|given| has_given(*given, element))
+    allowed.iter().all(|one| has_allowed(*one, element))
 }
 
 /// Whether an attribute stands, or need not.
-fn has_given(given: Given, element: &Element<'_, '_>) -> bool
-    ensures { result ≡ spec.has_given given element.now.info.attributes }
+fn has_allowed(allowed: AllowedAttribute, element: &Element<'_, '_>) -> bool
+    ensures { result ≡ spec.has_allowed allowed element.now.info.attributes }
 {
-    !given.required || attribute(given.label, element).is_some()
+    !allowed.required || attribute(allowed.label, element).is_some()
 }
 
 /// Whether no child that has to stand is missing.

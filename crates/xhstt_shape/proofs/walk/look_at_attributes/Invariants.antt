@@ -4,7 +4,7 @@ use Rattle.xhstt_shape.specs.Walk as spec
 use Rattle.xhstt_shape.proofs.walk.look_at_attributes.Given as goal
 
 abbrev pub invariant-loop-next : goal.invariant-loop-next
-invariant-loop-next l = spec.attributes_fault l.givens l.rest ≡ spec.attributes_fault l.givens l.element.info.attributes
+invariant-loop-next l = spec.attributes_fault l.allowed l.rest ≡ spec.attributes_fault l.allowed l.element.info.attributes
 
 abbrev pub decreases-loop-next : goal.decreases-loop-next
 decreases-loop-next l = length l.rest
