@@ -10,7 +10,7 @@ use Rattle.xhstt_text.specs.Machine.{Within, in_text, in_quotes, after_piece, wi
 use Rattle.xhstt_text.specs.Machine.{word, hash, hash_x, in_decimal, in_hexadecimal, step_word, beginning, mark_1}
 use Rattle.xhstt_text.specs.Machine.{mark_2, at_declaration, declared_open, question, in_declaration, closed}
 use Rattle.xhstt_text.specs.Machine.{step_declaration, step_question, other_word, no_character, after_number}
-use Rattle.xhstt_text.specs.Machine.{Frame, Read, Tag, Phase, content, ended, ended_open, Place, early}
+use Rattle.xhstt_text.specs.Machine.{Frame, Read, Tag, Phase, content, ended, ended_open, Region, early}
 use Rattle.xhstt_text.specs.Machine.{late, phase_of, bang, bang_dash, in_comment, opened, start_name, valued, in_tag}
 use Rattle.xhstt_text.specs.Machine.{slash, attribute_name, named, equals, in_value, shut_begin, shut, shut_gap, State}
 use Rattle.xhstt_text.specs.Machine.{refused, state, noted, resume, open_element, add_node, opened_row}
@@ -141,7 +141,7 @@ forth_question (l ∷ ks) r q b s h k e =
     choose (eqb b l) (state (question ks) r) _ s
     (λ _ here. lands q b (question ks) r s h k.1 here) (λ _ here. no s here) e
 
-place_past : (p : Place) (fs : List Frame) (q : List ℕ) → Past (phase_of p) fs q
+place_past : (p : Region) (fs : List Frame) (q : List ℕ) → Past (phase_of p) fs q
 place_past early fs q = tt
 place_past late fs q = tt
 

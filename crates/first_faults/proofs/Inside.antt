@@ -8,7 +8,7 @@ use Rattle.xhstt_text.specs.Bytes.{is_quote, is_name, dashes, IsName, AllAre}
 use Rattle.xhstt_text.specs.Document.{Rows, table, has_name}
 use Rattle.xhstt_text.specs.Faults.{bad_markup, mismatched_end, bad_reference}
 use Rattle.xhstt_text.specs.Machine.{content, in_comment, in_declaration, opened, shut, shut_gap}
-use Rattle.xhstt_text.specs.Machine.{attribute_name, in_value, word, question, other_word, Phase, Place, Read, Frame}
+use Rattle.xhstt_text.specs.Machine.{attribute_name, in_value, word, question, other_word, Phase, Region, Read, Frame}
 use Rattle.xhstt_text.specs.Machine.{State, Step, Outcome, refused, state, resume, close_element, and_then, run, step}
 use Rattle.xhstt_text.specs.Machine.{step_opened, step_shut, outcome_of, beginning}
 use Rattle.xhstt_text.specs.declared.faults.TextFault.{TextFault}
@@ -61,7 +61,7 @@ pub name_62 : (b : ℕ) → is_name b ≡ true → eqb b 62 ≡ false
 name_62 b h = grind (arith, nat_tests)
 
 -- a comment goes on over these end tags
-comment_name : (w : List ℕ) (place : Place) (count : ℕ) (r : Read) (at : ℕ) (rest : List ℕ) → AllAre is_name w
+comment_name : (w : List ℕ) (place : Region) (count : ℕ) (r : Read) (at : ℕ) (rest : List ℕ) → AllAre is_name w
     → (n : ℕ) × (i : ℕ) × (run (in_comment place count) r at (w ++ rest) ≡ run (in_comment place n) r i rest)
 comment_name [] place count r at rest h = (count, at, refl)
 comment_name (b ∷ w) place count r at rest h =
@@ -76,7 +76,7 @@ named_bytes : (name : List ℕ) → IsName name → AllAre is_name name
 named_bytes [] h = absurd h
 named_bytes (b ∷ w) h = (rw (h.0) refl, h.1)
 
-comment_over : (names : List (List ℕ)) (place : Place) (count : ℕ) (r : Read) (at : ℕ) (rows : Rows) → AreNames names
+comment_over : (names : List (List ℕ)) (place : Region) (count : ℕ) (r : Read) (at : ℕ) (rows : Rows) → AreNames names
     → run (in_comment place count) r at (end_tags names) ≡ Ok rows → ⊥
 comment_over [] place count r at rows h e = cc
 comment_over (n ∷ ns) place count r at rows h e =

@@ -10,7 +10,7 @@ use Rattle.xhstt_text.specs.Document.{has_name}
 use Rattle.xhstt_text.specs.Machine.{Within, in_text, in_quotes, after_piece, wide_1, wide_2, reference, reference_a}
 use Rattle.xhstt_text.specs.Machine.{word, hash, hash_x, in_decimal, in_hexadecimal, beginning, mark_1}
 use Rattle.xhstt_text.specs.Machine.{mark_2, at_declaration, declared_open, question, in_declaration, closed}
-use Rattle.xhstt_text.specs.Machine.{Frame, Read, Tag, content, ended_open, Place, early}
+use Rattle.xhstt_text.specs.Machine.{Frame, Read, Tag, content, ended_open, Region, early}
 use Rattle.xhstt_text.specs.Machine.{late, phase_of, bang, bang_dash, in_comment, opened, start_name, valued, in_tag}
 use Rattle.xhstt_text.specs.Machine.{slash, attribute_name, named, equals, in_value}
 use Rattle.xhstt_text.specs.Machine.{Step, state, resume, add_node, opened_row}
@@ -20,7 +20,7 @@ use Rattle.std.proofs.Common.{length-append}
 use Rattle.first_faults.proofs.Live.{Live, goes_on, AreNamed, live_ended, live_outside, live_content, live_resume}
 
 -- where a comment stands
-pub live_place : (p : Place) (r : Read) → AreNamed r.frames → Live (phase_of p) r
+pub live_place : (p : Region) (r : Read) → AreNamed r.frames → Live (phase_of p) r
 live_place early r h = live_content r.frames r refl h
 live_place late r h = live_ended r
 
@@ -31,7 +31,7 @@ pub over_dash : (c : Bool) (x y : Step) → cond (c && false) x y ≡ y
 over_dash true x y = refl
 over_dash false x y = refl
 
-pub live_comment : (p : Place) (count : ℕ) (r : Read) → AreNamed r.frames → Live (in_comment p count) r
+pub live_comment : (p : Region) (count : ℕ) (r : Read) → AreNamed r.frames → Live (in_comment p count) r
 live_comment p count r h =
     goes_on (in_comment p count) r 45 (λ at. in_comment p (suc count)) (λ at. r) (λ at. over_dash (leb 2 count) _ _)
     (λ at. goes_on (in_comment p (suc count)) r 45 (λ i. in_comment p (suc (suc count))) (λ i. r)
@@ -40,11 +40,11 @@ live_comment p count r h =
     (λ j. rw (two_dashes count) refl)
     (λ j. live_place p r h)))
 
-pub live_bang_dash : (p : Place) (r : Read) → AreNamed r.frames → Live (bang_dash p) r
+pub live_bang_dash : (p : Region) (r : Read) → AreNamed r.frames → Live (bang_dash p) r
 live_bang_dash p r h =
     goes_on (bang_dash p) r 45 (λ at. in_comment p 0) (λ at. r) (λ at. refl) (λ at. live_comment p 0 r h)
 
-pub live_bang : (place : ℕ) (p : Place) (r : Read) → AreNamed r.frames → Live (bang place p) r
+pub live_bang : (place : ℕ) (p : Region) (r : Read) → AreNamed r.frames → Live (bang place p) r
 live_bang place p r h =
     goes_on (bang place p) r 45 (λ at. bang_dash p) (λ at. r) (λ at. refl) (λ at. live_bang_dash p r h)
 

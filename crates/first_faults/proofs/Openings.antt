@@ -5,7 +5,7 @@ use Rattle.xhstt_text.specs.Document.{has_name}
 use Rattle.xhstt_text.specs.Faults.{bad_markup, bad_reference, unsupported}
 use Rattle.xhstt_text.specs.Machine.{content, ended, beginning, at_declaration, declared_open, opened, ended_open}
 use Rattle.xhstt_text.specs.Machine.{in_comment, in_declaration, in_value, word, question, other_word, shut, shut_gap}
-use Rattle.xhstt_text.specs.Machine.{attribute_name, bang, early, late, Place, Phase, Read, State, Frame, phase_of}
+use Rattle.xhstt_text.specs.Machine.{attribute_name, bang, early, late, Region, Phase, Read, State, Frame, phase_of}
 use Rattle.xhstt_text.specs.Machine.{closed, refused, state, step, step_opened, step_content, run, outcome_of}
 use Rattle.xhstt_text.proofs.Runs.{by_step}
 use Rattle.xhstt_text.proofs.Sound.{no}
@@ -125,22 +125,22 @@ instruction_ends bytes at (x, rest, same, is, front, never) =
     ∙ ap (λ n. Err (unsupported n)) (sym is)
 
 -- a word of other markup
-word_run : (mark rest : List ℕ) (place : ℕ) (p : Place) (r : Read) (at : ℕ) → IsOtherWord mark
+word_run : (mark rest : List ℕ) (place : ℕ) (p : Region) (r : Read) (at : ℕ) → IsOtherWord mark
     → run (bang place p) r at (mark ++ rest) ≡ Err (unsupported place)
 word_run mark rest place p r at (inl e) = ap (λ w. run (bang place p) r at (w ++ rest)) e ∙ letters rest place p r at
   where
-    letters : (rest : List ℕ) (place : ℕ) (p : Place) (r : Read) (at : ℕ)
+    letters : (rest : List ℕ) (place : ℕ) (p : Region) (r : Read) (at : ℕ)
         → run (bang place p) r at (68 ∷ 79 ∷ 67 ∷ 84 ∷ 89 ∷ 80 ∷ 69 ∷ rest) ≡ Err (unsupported place)
     letters [] place p r at = refl
     letters (b ∷ bs) place p r at = refl
 word_run mark rest place p r at (inr e) = ap (λ w. run (bang place p) r at (w ++ rest)) e ∙ letters rest place p r at
   where
-    letters : (rest : List ℕ) (place : ℕ) (p : Place) (r : Read) (at : ℕ)
+    letters : (rest : List ℕ) (place : ℕ) (p : Region) (r : Read) (at : ℕ)
         → run (bang place p) r at (91 ∷ 67 ∷ 68 ∷ 65 ∷ 84 ∷ 65 ∷ 91 ∷ rest) ≡ Err (unsupported place)
     letters [] place p r at = refl
     letters (b ∷ bs) place p r at = refl
 
-comment_word : (mark : List ℕ) (place : Place) (r : Read) (at : ℕ) → IsOtherWord mark
+comment_word : (mark : List ℕ) (place : Region) (r : Read) (at : ℕ) → IsOtherWord mark
     → reached (in_comment place 0) r at mark ≡ state (in_comment place 0) r
 comment_word mark place r at (inl e) = ap (reached (in_comment place 0) r at) e
 comment_word mark place r at (inr e) = ap (reached (in_comment place 0) r at) e

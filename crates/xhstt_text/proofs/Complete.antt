@@ -19,7 +19,7 @@ use Rattle.xhstt_text.specs.Document.{has_name, AreAttributes, IsStart, IsConten
 use Rattle.xhstt_text.specs.Document.{start_length, count, attributes_of, attribute_rows, loose_in, row, rows, table}
 use Rattle.xhstt_text.specs.Machine.{in_value, in_text, in_quotes, reference, wide_1, beginning, at_declaration}
 use Rattle.xhstt_text.specs.Machine.{declared_open, question, in_declaration, closed, Frame, Read, Tag, content, ended}
-use Rattle.xhstt_text.specs.Machine.{Place, early, late, phase_of, bang, bang_dash, in_comment, opened, start_name}
+use Rattle.xhstt_text.specs.Machine.{Region, early, late, phase_of, bang, bang_dash, in_comment, opened, start_name}
 use Rattle.xhstt_text.specs.Machine.{valued, in_tag, slash, shut_begin, shut, shut_gap, Step, state, first_loose, noted}
 use Rattle.xhstt_text.specs.Machine.{resume, parent_of, open_element, add_node, opened_row, closed_row, close_element}
 use Rattle.xhstt_text.specs.Machine.{attribute_row, with_name, start_of, step, step_content, step_opened, step_valued}
@@ -422,7 +422,7 @@ both true y h = cc
 both false y h = (refl, h)
 
 -- inside a comment
-run_inner : (back : Place) (r : Read) (inner : List ℕ) (count at : ℕ) (rest : List ℕ) → stays_open count inner ≡ true
+run_inner : (back : Region) (r : Read) (inner : List ℕ) (count at : ℕ) (rest : List ℕ) → stays_open count inner ≡ true
     → run (in_comment back count) r at (inner ++ rest)
     ≡ run (in_comment back (dashes_after count inner)) r (at + length inner) rest
 run_inner back r [] count at rest h = ap (λ n. run (in_comment back count) r n rest) (sym (add-zero at))
@@ -432,7 +432,7 @@ run_inner back r (b ∷ inner) count at rest h =
     ∙ run_inner back r inner (dashes count b) (at + 1) rest k.1
     ∙ ap (λ n. run (in_comment back (dashes_after count (b ∷ inner))) r n rest) (omega arith)
 
-pub run_comment : (place : ℕ) (back : Place) (r : Read) (inner : List ℕ) (at : ℕ) (rest : List ℕ) → IsComment inner
+pub run_comment : (place : ℕ) (back : Region) (r : Read) (inner : List ℕ) (at : ℕ) (rest : List ℕ) → IsComment inner
     → run (bang place back) r at (45 ∷ 45 ∷ (inner ++ (62 ∷ rest)))
     ≡ run (phase_of back) r (at + 2 + length inner + 1) rest
 run_comment place back r inner at rest h =
@@ -562,7 +562,7 @@ pub white_isnt_tag : (b : ℕ) → is_white b ≡ true → eqb b 60 ≡ false
 white_isnt_tag b h = text_isnt_tag b (text_from_white b h)
 
 -- white and comments
-run_space : (place : Place) (r : Read) → let p = phase_of place in
+run_space : (place : Region) (r : Read) → let p = phase_of place in
     ((at b : ℕ) → is_white b ≡ true → step p r at b ≡ state p r)
     → ((at : ℕ) (rest : List ℕ) → run p r at (60 ∷ 33 ∷ rest) ≡ run (bang at place) r (at + 1 + 1) rest)
     → (m : Content) (at : ℕ) (rest : List ℕ) → IsSpace m

@@ -9,7 +9,7 @@ use Rattle.std.proofs.lemmas.List.{reverse-append}
 use Rattle.xhstt_text.specs.Faults.{bad_markup, unsupported}
 use Rattle.xhstt_text.specs.declared.table.OpenElement.{OpenElement}
 use Rattle.xhstt_text.specs.Bytes.{dashes}
-use Rattle.xhstt_text.specs.Machine.{Read, Place, phase_of, bang, bang_dash, other_word, in_comment, refused, state}
+use Rattle.xhstt_text.specs.Machine.{Read, Region, phase_of, bang, bang_dash, other_word, in_comment, refused, state}
 use Rattle.xhstt_text.specs.Machine.{and_then, run, Outcome}
 use Rattle.xhstt_text.specs.Reading.{other_markup, begins_comment, NoOtherTag, begins, is_byte, frames_of, frame_of}
 use Rattle.xhstt_text.proofs.Follow.{one, refuses}
@@ -31,18 +31,18 @@ pub no_comment_tag : (bs rest : List ℕ) → bs ≡ 60 ∷ rest → begins (is_
 no_comment_tag bs rest e h = comment_is bs rest e ∙ h
 
 -- comments
-no_dash_at : (place : Place) (r : Read) (at : ℕ) (bs : List ℕ) → begins (is_byte 45) bs ≡ false
+no_dash_at : (place : Region) (r : Read) (at : ℕ) (bs : List ℕ) → begins (is_byte 45) bs ≡ false
     → run (bang_dash place) r at bs ≡ Err (bad_markup at)
 no_dash_at place r at [] e = refl
 no_dash_at place r at (b ∷ bs) e = refuses (bang_dash place) r at b bs (rw e refl)
 
-pub no_second_dash : (front : ℕ) (place : Place) (r : Read) (at : ℕ) (bs : List ℕ) (at1 : ℕ) (bs1 : List ℕ)
+pub no_second_dash : (front : ℕ) (place : Region) (r : Read) (at : ℕ) (bs : List ℕ) (at1 : ℕ) (bs1 : List ℕ)
     → (bs ≡ 45 ∷ bs1) × (at1 ≡ at + 1) → begins (is_byte 45) bs1 ≡ false
     → run (bang front place) r at bs ≡ Err (bad_markup at1)
 no_second_dash front place r at bs at1 bs1 h e =
     one (bang front place) r at bs 45 at1 bs1 (bang_dash place) r h.0 h.1 refl ∙ no_dash_at place r at1 bs1 e
 
-pub over_dashes : (front : ℕ) (place : Place) (r : Read) (at : ℕ) (bs : List ℕ) (at1 : ℕ) (bs1 : List ℕ) (at2 : ℕ)
+pub over_dashes : (front : ℕ) (place : Region) (r : Read) (at : ℕ) (bs : List ℕ) (at1 : ℕ) (bs1 : List ℕ) (at2 : ℕ)
     (bs2 : List ℕ) → (bs ≡ 45 ∷ bs1) × (at1 ≡ at + 1) → (bs1 ≡ 45 ∷ bs2) × (at2 ≡ at1 + 1)
     → run (bang front place) r at bs ≡ run (in_comment place 0) r at2 bs2
 over_dashes front place r at bs at1 bs1 at2 bs2 h k =
@@ -95,7 +95,7 @@ either true false ks ls front r at bs e =
 either false true ks ls front r at bs e = word_is front at ls r (at + 1) bs
 either false false ks ls front r at bs e = refl
 
-pub no_dash : (front : ℕ) (place : Place) (r : Read) (at : ℕ) (bs : List ℕ) → begins (is_byte 45) bs ≡ false
+pub no_dash : (front : ℕ) (place : Region) (r : Read) (at : ℕ) (bs : List ℕ) → begins (is_byte 45) bs ≡ false
     → run (bang front place) r at bs ≡ Err (other_markup front at bs)
 no_dash front place r at [] e = refl
 no_dash front place r at (b ∷ bs) e =
@@ -112,7 +112,7 @@ pub first_of : (bs : List ℕ) → 0 < length bs → bs ≡ get_or bs 0 0 ∷ dr
 first_of [] h = absurd (omega arith)
 first_of (b ∷ bs) h = refl
 
-pub comment_closes : (place : Place) (r : Read) (count b at : ℕ) (bs : List ℕ) (at1 : ℕ) (bs1 : List ℕ) → 0 < length bs
+pub comment_closes : (place : Region) (r : Read) (count b at : ℕ) (bs : List ℕ) (at1 : ℕ) (bs1 : List ℕ) → 0 < length bs
     → b ≡ get_or bs 0 0 → at1 ≡ at + 1 → bs1 ≡ drop 1 bs → 2 ≤ count → b ≡ 62
     → run (in_comment place count) r at bs ≡ run (phase_of place) r at1 bs1
 comment_closes place r count b at bs at1 bs1 n f d e least is =
@@ -120,7 +120,7 @@ comment_closes place r count b at bs at1 bs1 n f d e least is =
     one (in_comment place count) r at bs 62 at1 bs1 (phase_of place) r
     (first_of bs n ∙ ap (λ x. x ∷ drop 1 bs) (sym f ∙ is) ∙ ap (λ x. 62 ∷ x) (sym e)) d (rw l refl)
 
-pub comment_goes_on : (place : Place) (r : Read) (count b at : ℕ) (bs : List ℕ) (at1 : ℕ) (bs1 : List ℕ) → 0 < length bs
+pub comment_goes_on : (place : Region) (r : Read) (count b at : ℕ) (bs : List ℕ) (at1 : ℕ) (bs1 : List ℕ) → 0 < length bs
     → b ≡ get_or bs 0 0 → at1 ≡ at + 1 → bs1 ≡ drop 1 bs → (leb 2 count && eqb b 62) ≡ false
     → run (in_comment place count) r at bs ≡ run (in_comment place (dashes count b)) r at1 bs1
 comment_goes_on place r count b at bs at1 bs1 n f d e isnt =

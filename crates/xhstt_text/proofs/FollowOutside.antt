@@ -9,7 +9,7 @@ use Rattle.xhstt_text.proofs.Complete.{white_isnt_tag}
 use Rattle.xhstt_text.specs.declared.tree.Attribute.{Attribute}
 use Rattle.xhstt_text.specs.declared.tree.Node.{Node}
 use Rattle.xhstt_text.specs.Bytes.{is_white}
-use Rattle.xhstt_text.specs.Machine.{Read, Place, early, late, phase_of, bang, ended_open, content, ended, opened}
+use Rattle.xhstt_text.specs.Machine.{Read, Region, early, late, phase_of, bang, ended_open, content, ended, opened}
 use Rattle.xhstt_text.specs.Machine.{refused, state, and_then, run, Outcome}
 use Rattle.xhstt_text.specs.Reading.{unopened, trailing, begins_comment, Skips, begins, is_byte, read_of}
 use Rattle.xhstt_text.proofs.Follow.{over, one, refuses}
@@ -64,7 +64,7 @@ pub none_left : (n : ℕ) (v : Bool) → v ≡ eqb n 0 → v ≡ true → n ≡ 
 none_left n v e d = grind (arith, nat_tests)
 
 -- over white outside the outermost element
-pub over_space : (place : Place) (nodes : List Node) (rows : List Attribute) (at : ℕ) (bs : List ℕ) (at1 : ℕ)
+pub over_space : (place : Region) (nodes : List Node) (rows : List Attribute) (at : ℕ) (bs : List ℕ) (at1 : ℕ)
     (bs1 : List ℕ) → Skips is_white at bs at1 bs1
     → run (phase_of place) (read_of [] nodes rows) at bs ≡ run (phase_of place) (read_of [] nodes rows) at1 bs1
 over_space early nodes rows at bs at1 bs1 h =
@@ -73,7 +73,7 @@ over_space late nodes rows at bs at1 bs1 h = over is_white ended (read_of [] nod
     bs1 h
 
 -- and over `<!`
-pub over_bang : (place : Place) (nodes : List Node) (rows : List Attribute) (at : ℕ) (bs : List ℕ) (at1 : ℕ)
+pub over_bang : (place : Region) (nodes : List Node) (rows : List Attribute) (at : ℕ) (bs : List ℕ) (at1 : ℕ)
     (bs1 : List ℕ) (at2 : ℕ) (bs2 : List ℕ) (at3 : ℕ) (bs3 : List ℕ) → Skips is_white at bs at1 bs1
     → (bs1 ≡ 60 ∷ bs2) × (at2 ≡ at1 + 1) → (bs2 ≡ 33 ∷ bs3) × (at3 ≡ at2 + 1)
     → run (phase_of place) (read_of [] nodes rows) at bs ≡ run (bang at1 place) (read_of [] nodes rows) at3 bs3

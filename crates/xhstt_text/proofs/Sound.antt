@@ -20,7 +20,7 @@ use Rattle.xhstt_text.specs.Machine.{Within, in_text, in_quotes, after_piece, wi
 use Rattle.xhstt_text.specs.Machine.{word, hash, hash_x, in_decimal, in_hexadecimal, step_word, beginning, mark_1}
 use Rattle.xhstt_text.specs.Machine.{mark_2, at_declaration, declared_open, question, in_declaration, closed}
 use Rattle.xhstt_text.specs.Machine.{step_declaration, step_question, other_word, no_character, after_number}
-use Rattle.xhstt_text.specs.Machine.{step_other_word, Frame, Read, Tag, Phase, content, ended, ended_open, Place, early}
+use Rattle.xhstt_text.specs.Machine.{step_other_word, Frame, Read, Tag, Phase, content, ended, ended_open, Region, early}
 use Rattle.xhstt_text.specs.Machine.{late, phase_of, bang, bang_dash, in_comment, opened, start_name, valued, in_tag}
 use Rattle.xhstt_text.specs.Machine.{slash, attribute_name, named, equals, in_value, shut_begin, shut, shut_gap, State}
 use Rattle.xhstt_text.specs.Machine.{Step, refused, state, noted, resume, open_element, add_node, opened_row}
@@ -52,7 +52,7 @@ InTag ns name names bs = (a : Attributes) × (rest : List ℕ) × AreAttributes 
     × EndOf ns name rest
 
 -- the same at a place where a comment may stand
-abbrev AtPlace : Place → List (List ℕ) → List ℕ → Type 0
+abbrev AtPlace : Region → List (List ℕ) → List ℕ → Type 0
 AtPlace early ns bs = Inside ns bs
 AtPlace late ns bs = Later [] bs
 
@@ -425,12 +425,12 @@ back_shut (f ∷ fs) place name r at b bs s e h =
     (λ _ here. no s here) e2)
     (λ _ here. no s here) e1) e
 
-comment_at : (place : Place) (ns : List (List ℕ)) (inner bs : List ℕ) → IsComment inner → Follows (phase_of place) ns bs
+comment_at : (place : Region) (ns : List (List ℕ)) (inner bs : List ℕ) → IsComment inner → Follows (phase_of place) ns bs
     → AtPlace place ns (Commented inner bs)
 comment_at early ns inner bs h k = comment_inside ns inner bs h k
 comment_at late ns inner bs h k = comment_after inner bs h k
 
-back_comment : (place : Place) (ns : List (List ℕ)) (front : List ℕ) (b : ℕ) (bs : List ℕ) (count : ℕ)
+back_comment : (place : Region) (ns : List (List ℕ)) (front : List ℕ) (b : ℕ) (bs : List ℕ) (count : ℕ)
     → stays_open 0 front ≡ true → dashes_after 0 front ≡ count → (leb 2 count && eqb b 62) ≡ true
     → Follows (phase_of place) ns bs → AtPlace place ns (60 ∷ 33 ∷ 45 ∷ 45 ∷ (front ++ (b ∷ bs)))
 back_comment place ns front b bs count stays same is k =

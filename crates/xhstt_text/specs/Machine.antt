@@ -35,9 +35,9 @@ pub record Tag : Type 0 where
   pub names : List (List ℕ)
 
 -- where a comment stands: before the end of the outermost element, or after it
-pub data Place : Type 0 where
-  early : Place
-  late : Place
+pub data Region : Type 0 where
+  early : Region
+  late : Region
 
 -- where a piece stands: in text, or in the value of the attribute at a place with a name, a quote, and
 -- the place after it
@@ -57,12 +57,12 @@ pub data Phase : Type 0 where
   content : Phase  -- between two tags, or before the outermost element
   ended : Phase  -- after the outermost element
   ended_open : ℕ → Phase  -- after the `<` at this place, which stands after the outermost element
-  bang : ℕ → Place → Phase  -- after the `<!` at this place
+  bang : ℕ → Region → Phase  -- after the `<!` at this place
   -- after the `<!` at the first place, in a word that begins at the second and is not supported: the letters
   -- that must follow
   other_word : ℕ → ℕ → List ℕ → Phase
-  bang_dash : Place → Phase  -- after `<!-`
-  in_comment : Place → ℕ → Phase  -- in a comment, after so many dashes
+  bang_dash : Region → Phase  -- after `<!-`
+  in_comment : Region → ℕ → Phase  -- in a comment, after so many dashes
   opened : ℕ → Phase  -- after the `<` at this place
   start_name : ℕ → List ℕ → Phase  -- in the name of a start tag
   valued : Tag → Phase  -- after a value, or after the tag's name
@@ -117,7 +117,7 @@ parent_of [] = None
 parent_of (f ∷ fs) = Some f.number
 
 -- where reading goes on after a comment
-abbrev pub phase_of : Place → Phase
+abbrev pub phase_of : Region → Phase
 phase_of early = content
 phase_of late = ended
 
@@ -195,7 +195,7 @@ step_question [] r at b = if is_white b then state (in_declaration false) r else
 step_question (k ∷ ks) r at b = if b == k then state (question ks) r else refused (bad_markup at)
 
 -- a document type begins with `<!DOCTYPE`, and a character data section with `<![CDATA[`
-abbrev pub step_bang : ℕ → Place → Read → ℕ → ℕ → Step
+abbrev pub step_bang : ℕ → Region → Read → ℕ → ℕ → Step
 step_bang place p r at b =
     if b == 45 then state (bang_dash p) r
     else (if b == 68 then state (other_word place at (79 ∷ 67 ∷ 84 ∷ 89 ∷ 80 ∷ 69 ∷ [])) r

@@ -1,6 +1,6 @@
 ghost use Rattle.std.specs.Prelude.{◌≡◌, ◌<◌, ◌≤◌, false, length, IfOk, [], List};
 ghost use Rattle.xhstt_text.specs.Bytes.{is_white};
-ghost use Rattle.xhstt_text.specs.Machine.{Place, Read, bang, in_comment, phase_of, run};
+ghost use Rattle.xhstt_text.specs.Machine.{Region, Read, bang, in_comment, phase_of, run};
 ghost use Rattle.xhstt_text.specs.Reading.{Leads, begins, begins_comment, other_markup, read_of};
 ghost use Rattle.xhstt_text.specs.declared.tree.Attribute.{Attribute};
 ghost use Rattle.xhstt_text.specs.declared.tree.Node.{Node};
@@ -12,7 +12,7 @@ use crate::faults::{bad_markup, unsupported};
 
 // The place after the first `>` with two dashes before it.
 fn comment_end<'a>(from: Cursor<'a>) -> Result<Cursor<'a>, TextFault>
-    ensures leads { (place : Place) (r : Read) → Leads result (run (in_comment place 0) r from.entry.at from.entry.rest.now) (λ q. run (phase_of place) r q.at q.rest.now) }
+    ensures leads { (place : Region) (r : Read) → Leads result (run (in_comment place 0) r from.entry.at from.entry.rest.now) (λ q. run (phase_of place) r q.at q.rest.now) }
     ensures onward { IfOk result (λ q. (length q.rest.now < length from.entry.rest.now) × (from.entry.at ≤ q.at)) }
 {
     let mut here = from;
@@ -41,7 +41,7 @@ fn other_markup(at: u32, from: Cursor) -> TextFault
 
 /// Over a comment, from after the `<!` at a place.
 pub fn comment<'a>(at: u32, from: Cursor<'a>) -> Result<Cursor<'a>, TextFault>
-    ensures leads { (place : Place) (r : Read) → Leads result (run (bang at place) r from.entry.at from.entry.rest.now) (λ q. run (phase_of place) r q.at q.rest.now) }
+    ensures leads { (place : Region) (r : Read) → Leads result (run (bang at place) r from.entry.at from.entry.rest.now) (λ q. run (phase_of place) r q.at q.rest.now) }
     ensures onward { IfOk result (λ q. (length q.rest.now < length from.entry.rest.now) × (from.entry.at ≤ q.at)) }
 {
     let Some(dash) = past(from, b'-') else {
@@ -55,7 +55,7 @@ pub fn comment<'a>(at: u32, from: Cursor<'a>) -> Result<Cursor<'a>, TextFault>
 
 /// Over white and comments outside the outermost element.
 pub fn space<'a>(from: Cursor<'a>) -> Result<Cursor<'a>, TextFault>
-    ensures leads { (place : Place) (nodes : List Node) (rows : List Attribute) → Leads result
+    ensures leads { (place : Region) (nodes : List Node) (rows : List Attribute) → Leads result
         (run (phase_of place) (read_of [] nodes rows) from.entry.at from.entry.rest.now)
         (λ q. run (phase_of place) (read_of [] nodes rows) q.at q.rest.now) }
     ensures stops { IfOk result (λ q. (begins is_white q.rest.now ≡ false) × (begins_comment q.rest.now ≡ false)) }
