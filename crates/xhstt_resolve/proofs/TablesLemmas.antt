@@ -3,7 +3,6 @@ use Rattle.std.proofs.Common.{◌≡◌, ◌∙◌, sym, ap, subst, ℕ, ◌+◌
 use Rattle.std.proofs.Common.{◌∷◌, ◌++◌, map, length, get_or, Option, Some, None, refl, if◌then◌else◌}
 use Rattle.std.specs.List.{All}
 use Rattle.std.specs.Option.{option_map_or}
-use Rattle.std.proofs.lemmas.Option.{slice_get_past}
 use Rattle.std.proofs.lemmas.List.{get_or-map, length-map}
 use Rattle.std.proofs.lemmas.List.Elements.{All-nil, All-cons, All-append, All-weaker}
 use Rattle.khe_base.specs.Names.{is_among_names, number_of}
@@ -12,7 +11,6 @@ use Rattle.xhstt_references.specs.Ids.{time_ids, resource_ids, event_ids}
 use Rattle.xhstt_resolve.specs.Members.{numbers_from, members, members_in, groups_of_time, groups_of_resource}
 use Rattle.xhstt_resolve.specs.Members.{groups_of_event, times_in, resources_in, events_in, set_of, time_set}
 use Rattle.xhstt_resolve.specs.Members.{resource_set, event_set, listed, listed_times, listed_resources}
-use Rattle.xhstt_resolve.specs.Points.{places_at}
 use Rattle.xhstt_resolve.specs.Tables.{HasNames, IsTableOf, AreTablesOf, members_at, listed_at}
 use Rattle.xhstt_resolve.specs.declared.tables.Table.{Table}
 use Rattle.xhstt_resolve.proofs.JoinedLemmas.{number_of_place, is_among_at, is_among_none}
@@ -148,7 +146,3 @@ pub groups_few : (i : RawInstance) (d : Directory) → HasNames i d → length i
     → length d.event_groups < 2 ^ 32
 groups_few i d is h = let e : length d.event_groups ≡ length i.event_groups =
     ap length is.event_groups ∙ length-map i.event_groups (λ g. g.id.text) in omega (arith, h, e)
-
--- a number beyond the events has no event resources
-pub places_at-past : (i : RawInstance) (e : ℕ) → length i.events ≤ e → places_at i e ≡ []
-places_at-past i e h = ap (λ o. option_map_or (λ event. event.resources) o []) (slice_get_past i.events e h)
