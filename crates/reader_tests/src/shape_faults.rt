@@ -1,8 +1,8 @@
 use fault_tables::{BAD_NUMBER, BAD_WORD, MISSING_CHILD, REPEATED_CHILD, UNKNOWN_ELEMENT};
 use std::alloc::Global;
 use std::test::Fail;
-use xhstt_shape::reading::archive;
 use xhstt_shape::ShapeFault;
+use xhstt_shape::reading::archive;
 use xhstt_text::elements;
 
 /// Texts that are no archives, each with the kind and the place of its first fault.

@@ -127,7 +127,7 @@ without a r sound same =
     record {
       instances = ap (λ x. x.instances) same;
       of = ap (λ x. x.of) same;
-      few = not-above TOO_MANY_SOLUTIONS (length (solutions_of a)) number.0;
+      few = not-above TOO_MANY_SOLUTIONS SOLUTIONS (length (solutions_of a)) number.0;
       known = none_left UNKNOWN_REFERENCE (unknown_in_solutions a)
           (none-mapped as_fault (fault_of_solutions a) references.0);
     }

@@ -10,11 +10,11 @@ ghost use Rattle.xhstt_completion.specs.Causes.{is_too_long, splits_fixed, moves
 ghost use Rattle.xhstt_completion.specs.Entries.{resource_of, role_of, time_of};
 
 use crate::entries::{duration_of, is_given_for, start_of};
+use crate::many::first_of_many;
+use crate::tables::are_few;
 use fault_tables::{
     BAD_ROLE, FIXED_RESOURCE, FIXED_TIME, OFF_END, SPLIT_FIXED, TOO_LONG, WRONG_TYPE,
 };
-use crate::many::first_of_many;
-use crate::tables::are_few;
 use khe_base::{NoMemory, ResourceId, Text, TimeId};
 use khe_instance::{EventInfo, Instance, Place};
 use std::alloc::Global;

@@ -122,7 +122,7 @@ constraint_made i c form none few = record {
   weight = omega (arith, form.weight);
   rule =
       rule_made i c.applies c.rule form.rule form.applies
-          (none_of (unknown_in_applies (directory_of i) c.applies) _ none).0 few;
+      (none_of (unknown_in_applies (directory_of i) c.applies) _ none).0 few;
 }
 
 pub constraints_made : (i : RawInstance) → IsFaultless i → IsWithin i → shape.IsInstance i

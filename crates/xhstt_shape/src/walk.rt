@@ -125,7 +125,11 @@ fn look_at_attributes(
     while let Some(next) = rest.next() {
         unless(is_label(allowed, next.name), UNKNOWN_ELEMENT, next.name_at)?;
     }
-    unless(has_attributes(allowed, element), MISSING_CHILD, element.at())
+    unless(
+        has_attributes(allowed, element),
+        MISSING_CHILD,
+        element.at(),
+    )
 }
 
 /// Whether the table has an attribute of this name.

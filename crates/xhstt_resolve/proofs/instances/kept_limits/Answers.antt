@@ -39,7 +39,7 @@ roles_of-requires c =
     let count = c.task_count.ensures ∙ ap task_count c.in_ok-lookup.ensures.instance in
     let tasks : above TOO_MANY_TASKS (task_count i) ≡ None =
     subst (λ n. above TOO_MANY_TASKS n ≡ None) count c.in_ok-within-10.ensures.within in
-    few-places i c.requires.formed (not-above TOO_MANY_TASKS (task_count i) tasks)
+    few-places i c.requires.formed (not-above TOO_MANY_TASKS TASKS (task_count i) tasks)
 
 pub counts_of-requires-clause-places : goal.counts_of-requires-clause-places
 counts_of-requires-clause-places c =
@@ -48,7 +48,7 @@ counts_of-requires-clause-places c =
     let tasks : above TOO_MANY_TASKS (task_count i) ≡ None =
     subst (λ n. above TOO_MANY_TASKS n ≡ None) count c.in_ok-within-10.ensures.within in
     subst HasFewPlaces (sym c.in_ok-lookup.ensures.instance)
-    (few-places i c.requires.formed (not-above TOO_MANY_TASKS (task_count i) tasks))
+    (few-places i c.requires.formed (not-above TOO_MANY_TASKS TASKS (task_count i) tasks))
 
 pub returns-in_err-within-12-clause-fault : goal.returns-in_err-within-12-clause-fault
 returns-in_err-within-12-clause-fault c =
