@@ -16,10 +16,13 @@ kind_words kind = decimal kind ++ codes " " ++ unwrap_or (fault_name kind) []
 abbrev pub fault_words : ℕ → ℕ → List ℕ
 fault_words kind at = kind_words kind ++ codes " at " ++ decimal at ++ codes "\n"
 
+-- the name of a limit, between blanks
+abbrev pub limit_name_words : ℕ → List ℕ
+limit_name_words which = codes " " ++ unwrap_or (limit_name which) [] ++ codes " "
+
 -- a limit by its name, and the value above it
 abbrev pub limit_words : ℕ → ℕ → List ℕ
-limit_words which value =
-    kind_words LIMIT ++ codes " " ++ unwrap_or (limit_name which) [] ++ codes " " ++ decimal value ++ codes "\n"
+limit_words which value = kind_words LIMIT ++ limit_name_words which ++ decimal value ++ codes "\n"
 
 abbrev pub refusal_words : Refusal → List ℕ
 refusal_words (Fault kind at) = fault_words kind at

@@ -74,13 +74,20 @@ fn push_fault(line: &mut Text, kind: u32, at: u64) -> Result<(), NoMemory>
     line.push_literal("\n")
 }
 
+/// Adds the name of a limit between blanks.
+fn push_limit_name(line: &mut Text, which: u32) -> Result<(), NoMemory>
+    ensures { OnOk result (line.new ≡ line.old ++ spec.limit_name_words which) }
+{
+    line.push_literal(" ")?;
+    line.push_literal(limit_name(which).unwrap_or(""))?;
+    line.push_literal(" ")
+}
+
 fn push_limit(line: &mut Text, which: u32, value: u128) -> Result<(), NoMemory>
     ensures { OnOk result (line.new ≡ line.old ++ spec.limit_words which value) }
 {
     push_kind(line, LIMIT)?;
-    line.push_literal(" ")?;
-    line.push_literal(limit_name(which).unwrap_or(""))?;
-    line.push_literal(" ")?;
+    push_limit_name(line, which)?;
     line.push_number(value)?;
     line.push_literal("\n")
 }

@@ -1,5 +1,5 @@
 -- The line is the whole text.
-use Rattle.std.proofs.Common.{None, arith, encode_utf8_all, inl, inr, refl, subst}
+use Rattle.std.proofs.Common.{None, arith, inl, inr, refl, subst}
 use Rattle.khe_io.specs.Faults.{Took, TookFront}
 use Rattle.khe_app.specs.Ends.{Written}
 use Rattle.khe_app.specs.Refusals.{not_understood_line}

@@ -1,5 +1,5 @@
 -- What was taken is what stands under the name.
-use Rattle.khe_app.proofs.TakenScripts.{script_large, script_taken}
+use Rattle.khe_app.proofs.TakenScripts.{script_taken}
 use Rattle.khe_app.proofs.program.script_under.Goals as goal
 
 pub returns-in-Ok-clause-play : goal.returns-in-Ok-clause-play
