@@ -5,7 +5,7 @@ use mathlib.Core.Logic.{⊎_elim}
 use Rattle.std.proofs.lemmas.Bool.{cases_lt, true≢false}
 use Rattle.std.proofs.lemmas.List.{length-append, length-set}
 use Rattle.std.proofs.lemmas.Option.{none-some, same_Some, slice_get_within}
-use Rattle.khe_base.proofs.ListLemmas.{get-other, get-set}
+use Rattle.khe_base.proofs.ListLemmas.{get-last, get-other, get-set}
 use Rattle.khe_instance.specs.declared.parts.Parts.{Parts}
 use Rattle.khe_instance.specs.declared.points.Monitor.{Monitor}
 use Rattle.khe_instance.specs.declared.rules.Kind.{Kind}
@@ -25,10 +25,6 @@ kept_in : {X : Type 0} (xs ys : List X) (y : X) (k : ℕ) → slice_get xs k ≡
 kept_in [] ys y k h = absurd (none-some y h)
 kept_in (z ∷ xs) ys y zero h = h
 kept_in (z ∷ xs) ys y (suc k) h = kept_in xs ys y k h
-
-end_of : {X : Type 0} (xs : List X) (x : X) → slice_get (xs ++ x ∷ []) (length xs) ≡ Some x
-end_of [] x = refl
-end_of (z ∷ xs) x = end_of xs x
 
 -- the posts of the served monitors below a number
 pub record AreServed (p : Parts) (served : Kind → Bool) (n : ℕ) (posts : List Post) : Type 0 where
@@ -90,7 +86,7 @@ module _ (p : Parts) (served : Kind → Bool) (n : ℕ) (m : Monitor) (posts : L
           (a.0, kept_in posts (post ∷ []) (record { number = record { 0 = i }; monitor = x }) a.0 a.1)
       found i x h s (inr e) = (
         length posts,
-        end_of posts post
+        get-last posts post
             ∙ (λ j. Some (record {
               number = record { 0 = e j };
               monitor =

@@ -1,7 +1,6 @@
 -- What stands under a script's name.
-use Rattle.std.proofs.Common.{ℕ, ◌<◌, ◌≤◌, Option, Some, None, IfSome, List, length, sym, subst, refl}
-use Rattle.std.specs.Prelude.{IsSomeAnd}
-use Rattle.khe_io.specs.Shelf.{StandsAbove, StandsUnder}
+use Rattle.std.proofs.Common.{ℕ, ◌≤◌, Option, Some, None, IfSome, List, length, sym, subst, refl}
+use Rattle.khe_io.specs.Shelf.{StandsUnder}
 use Rattle.khe_app.specs.Answers.{IsScriptOf}
 use Rattle.khe_app.specs.Ends.{Holdings}
 use Rattle.khe_app.specs.declared.program.Play.TheVariants as play
@@ -13,12 +12,3 @@ pub script_taken : (h : Holdings) (name bytes : List ℕ) (b : Begun) → Stands
 script_taken None name bytes b stands small = tt
 script_taken (Some under) name bytes b stands small =
     subst (λ o. IsScriptOf b o (play.Run b bytes)) (sym stands) (refl, refl, small)
-
-pub script_large : (h : Holdings) (name : List ℕ) (b : Begun) → StandsAbove h name SCRIPT_BYTES
-    → IfSome h (λ under. IsScriptOf b (under name) play.TooLarge)
-script_large None name b above = tt
-script_large (Some under) name b above = by (under name) above
-  where
-    by : (o : Option (List ℕ)) → IsSomeAnd o (λ bytes. SCRIPT_BYTES < length bytes) → IsScriptOf b o play.TooLarge
-    by None none = none
-    by (Some bytes) large = large

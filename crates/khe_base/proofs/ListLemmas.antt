@@ -74,6 +74,11 @@ pub range_more : (n : ℕ) → range_with_len 0 (n + 1) ≡ range_with_len 0 n +
 range_more n = sym (map-id (range_with_len 0 (n + 1))) ∙ map-range_with_len_more (λ k. k) 0 n n (zero-add n)
     ∙ ap (λ r. r ++ n ∷ []) (map-id (range_with_len 0 n))
 
+-- the last element
+pub get-last : {X : Type 0} (xs : List X) (x : X) → slice_get (xs ++ x ∷ []) (length xs) ≡ Some x
+get-last [] x = refl
+get-last (y ∷ ys) x = get-last ys x
+
 -- what stands at a place that is set, and at any other
 pub get-set : {X : Type 0} (xs : List X) (i : ℕ) (x : X) → i < length xs → slice_get (set xs i x) i ≡ Some x
 get-set [] i x l = absurd (omega arith)

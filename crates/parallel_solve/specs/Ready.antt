@@ -1,6 +1,6 @@
 -- An archive whose solutions have their instances.
 use Rattle.std.specs.Prelude.{ℕ, ◌≡◌, ◌+◌, ◌<◌, ◌^◌, Some, List, length, slice_get}
-use Rattle.xhstt_completion.specs.Entries.{solutions}
+use Rattle.xhstt_references.specs.References.{solutions_of}
 pub use Rattle.xhstt_completion.specs.Numbered.{IsOne}
 use Rattle.xhstt_resolve.specs.declared.resolving.Resolved.{Resolved}
 use Rattle.xhstt_shape.specs.declared.records.Archive.{Archive}
@@ -12,6 +12,6 @@ AreOnes r number raws = (k : ℕ) (raw : RawSolution) → slice_get raws k ≡ S
 
 -- all solutions of an archive have theirs, and are not too many for their numbers
 pub record IsReady (a : Archive) (r : Resolved) : Type 0 where
-  pub ones : AreOnes r 0 (solutions a)
-  pub counted : length r.of ≡ length (solutions a)
-  pub few : length (solutions a) < 2 ^ 32
+  pub ones : AreOnes r 0 (solutions_of a)
+  pub counted : length r.of ≡ length (solutions_of a)
+  pub few : length (solutions_of a) < 2 ^ 32

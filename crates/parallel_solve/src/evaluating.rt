@@ -1,6 +1,6 @@
 ghost use Rattle.std.specs.Prelude.{◌≡◌, ◌≤◌, IfOk, Ok, map};
 ghost use Rattle.std.specs.List.{enumerate_from};
-ghost use Rattle.xhstt_completion.specs.Entries.{solutions};
+ghost use Rattle.xhstt_references.specs.References.{solutions_of};
 ghost use Rattle.xhstt_resolve.specs.Resolved as resolving;
 ghost use Rattle.xhstt_shape.specs.WellFormed.{IsInForm};
 ghost use Rattle.parallel_solve.specs.Verdicts.{numbered_verdict};
@@ -17,7 +17,7 @@ use xhstt_shape::{Archive, RawSolution};
 /// All solutions of an archive, group by group in order. The only error is want of memory. It takes
 /// time and memory in proportion to them and to the groups.
 pub fn all_solutions(alloc: Global, archive: &Archive) -> Result<Vec<&RawSolution>, NoMemory>
-    ensures { IfOk result (λ v. map (λ x. x.now) v.items ≡ solutions archive.now) }
+    ensures { IfOk result (λ v. map (λ x. x.now) v.items ≡ solutions_of archive.now) }
 {
     let mut all = Vec::new(alloc);
     for group in archive.solution_groups.as_slice() {
@@ -47,7 +47,7 @@ pub fn evaluate_all<R: Threads + Sync, G: Gate>(
     requires formed { IsInForm archive.now }
     requires resolved { resolving.resolved archive.now ≡ Ok resolved.now }
     requires workers { (1 ≤ workers) × (workers ≤ 64) }
-    ensures { IfOk result (λ v. v ≡ map (numbered_verdict resolved.now) (enumerate_from 0 (solutions archive.now))) }
+    ensures { IfOk result (λ v. v ≡ map (numbered_verdict resolved.now) (enumerate_from 0 (solutions_of archive.now))) }
 {
     let raws = all_solutions(alloc, archive)?;
     let rooms = rooms_of(alloc, resolved)?;

@@ -27,7 +27,8 @@ use Rattle.xhstt_completion.specs.Entries.{resource_of, role_of}
 use Rattle.xhstt_completion.specs.Tables.{is_given, wanted_role, wanted_roles, named_cause, unnamed_cause}
 use Rattle.fault_tables.specs.declared.causes.TheConstants.{BAD_ROLE, FIXED_RESOURCE, WRONG_TYPE}
 use Rattle.xhstt_completion.proofs.Pieces.{found}
-use Rattle.xhstt_completion.proofs.TableLemmas.{place-map, place-same, any-place, find-place}
+use Rattle.xhstt_references.proofs.UnknownLemmas.{is_some_position}
+use Rattle.xhstt_completion.proofs.TableLemmas.{place-map, place-same, find-place}
 use Rattle.xhstt_completion.proofs.CausesLemmas.{at_place}
 use Rattle.xhstt_completion.proofs.FoundLemmas.{given-taken}
 use Rattle.xhstt_shape.specs.declared.records.RawGiven.{RawGiven}
@@ -158,7 +159,7 @@ unnamed-known p event r made = by (find (is_place_for (Some r) None) event.place
 pub given-found : (given : List RawGiven) (role : List ℕ)
     → is_some (position (is_role role) (map role_of given)) ≡ is_given given role
 given-found given role =
-    ap is_some (place-map (is_role role) role_of given) ∙ any-place (λ one. is_role role (role_of one)) given
+    ap is_some (place-map (is_role role) role_of given) ∙ is_some_position (λ one. is_role role (role_of one)) given
 
 pub wanted-by : (given : List RawGiven) (role : List ℕ) (o : Option (List ℕ)) (b : Bool) → o ≡ Some role
     → is_given given role ≡ b → wanted_role given o ≡ (if b then Some role else None)

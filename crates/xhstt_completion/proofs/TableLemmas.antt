@@ -14,9 +14,10 @@ use Rattle.std.proofs.lemmas.List.Folds.{find_at, list_any-append}
 use Rattle.std.proofs.lemmas.List.Quantifiers.{position-Some}
 use Rattle.std.proofs.lemmas.Option.{slice_get_past, slice_get-get_or}
 use Rattle.std.proofs.lemmas.Slice.Eq.{bytes_eq-Decides}
-use Rattle.khe_base.proofs.ListLemmas.{below_length}
+use Rattle.khe_base.proofs.ListLemmas.{get-last}
 use Rattle.khe_base.specs.Names.{is_among_names, number_of, with_name}
 use Rattle.khe_instance.specs.Lookups.{is_role}
+use Rattle.xhstt_references.proofs.UnknownLemmas.{is_some_position}
 use Rattle.xhstt_completion.specs.Tables.{Finds}
 use Rattle.xhstt_completion.specs.declared.tables.RoleTable.{RoleTable}
 use Rattle.xhstt_completion.proofs.CausesLemmas.{take-next}
@@ -82,15 +83,7 @@ find-place {X} p xs = find_at p xs ∙ by (cases_Bool (ltb (position_or_len p xs
     by (inr e) = slice_get_past xs n (ltb-false n (length xs) e)
         ∙ sym (ap (λ b. option_and_then (λ k. slice_get xs k) (cond b (Some n) None)) e)
 
--- an element passes where there is a first place
-pub any-place : {X : Type 0} (p : X → Bool) (xs : List X) → is_some (position p xs) ≡ list_any p xs
-any-place p xs = by (ltb (position_or_len p xs) (length xs)) ∙ below_length p xs
-  where
-    by : (b : Bool) → is_some (cond b (Some (position_or_len p xs)) None) ≡ b
-    by true = refl
-    by false = refl
-
--- so it does among the first ones where the first place is one of theirs
+-- an element passes among the first ones where the first place is one of theirs
 any-before : {X : Type 0} (p : X → Bool) (xs : List X) (i : ℕ) → i ≤ length xs
     → list_any p (take i xs) ≡ ltb (position_or_len p xs) i
 any-before p [] zero l = refl
@@ -129,14 +122,15 @@ mapped-long f xs i l = length-map (take i xs) f ∙ length-take-le i xs (omega (
 
 -- a role is found where it is among the names
 number-there : (role : List ℕ) (names : List (List ℕ)) → is_some (number_of role names) ≡ is_among_names role names
-number-there role names = any-place (λ n. bytes_eq role n) names
+number-there role names = is_some_position (λ n. bytes_eq role n) names
 
 -- the firsts of names, as a table has them
 abbrev pub AreFirsts : List ℕ → List (List ℕ) → List (Option (List ℕ)) → Type 0
 AreFirsts firsts names roles = (role : List ℕ)
     → option_and_then (λ n. slice_get firsts n) (number_of role names) ≡ position (is_role role) roles
 
-or-none : {X : Type 0} (o : Option X) → option_or o None ≡ o
+-- nothing else is chosen where there is nothing else
+pub or-none : {X : Type 0} (o : Option X) → option_or o None ≡ o
 or-none None = refl
 or-none (Some x) = refl
 
@@ -177,10 +171,6 @@ firsts-old firsts names roles x many h among role =
         number-there role names ∙ ap (λ r. is_among_names r names) same ∙ among in
         some place (found (number_of role names) refl there) (Some (length roles))
 
-slice_get-last : {X : Type 0} (xs : List X) (x : X) → slice_get (xs ++ x ∷ []) (length xs) ≡ Some x
-slice_get-last [] x = refl
-slice_get-last (y ∷ ys) x = slice_get-last ys x
-
 -- a role that goes last
 pub firsts-new : (firsts : List ℕ) (names : List (List ℕ)) (roles : List (Option (List ℕ))) (x : List ℕ)
     → length firsts ≡ length names → AreFirsts firsts names roles
@@ -197,7 +187,7 @@ firsts-new firsts names roles x many h role =
     place = position (is_role role) roles
 
     last : slice_get later (length names) ≡ Some (length roles)
-    last = ap (slice_get later) (sym many) ∙ slice_get-last firsts (length roles)
+    last = ap (slice_get later) (sym many) ∙ get-last firsts (length roles)
 
     by : (o : Option ℕ) → number_of role names ≡ o → (b : Bool)
         → option_and_then (λ n. slice_get later n) (option_or o (if b then Some (length names) else None))

@@ -1,7 +1,7 @@
 -- What the entries of a solution say: of which event, for how long, from when on, with which
 -- resources.
 use Rattle.std.specs.Prelude.{ℕ, ◌==◌, Bool, false, Option, Some, None, IsSome, IfSome, unwrap_or, List, All}
-use Rattle.std.specs.List.{filter, flat_map}
+use Rattle.std.specs.List.{filter}
 use Rattle.std.specs.Option.{option_map, option_or, option_and_then}
 use Rattle.khe_base.specs.declared.numbers.EventId.{EventId}
 use Rattle.khe_base.specs.declared.numbers.ResourceId.{ResourceId}
@@ -10,14 +10,9 @@ use Rattle.khe_instance.specs.Named.{time_named, resource_named, event_named}
 use Rattle.khe_instance.specs.WellMade.{IsDuration}
 use Rattle.khe_instance.specs.declared.parts.EventInfo.{EventInfo}
 use Rattle.khe_instance.specs.declared.parts.Parts.{Parts}
-use Rattle.xhstt_shape.specs.declared.records.Archive.{Archive}
 use Rattle.xhstt_shape.specs.declared.records.RawEntry.{RawEntry}
 use Rattle.xhstt_shape.specs.declared.records.RawGiven.{RawGiven}
 use Rattle.xhstt_shape.specs.declared.records.RawSolution.{RawSolution}
-
--- the solutions of an archive, in order
-abbrev pub solutions : Archive → List RawSolution
-solutions archive = flat_map (λ group. group.solutions) archive.solution_groups
 
 -- an entry names an event, a time if it gives one, and resources of the instance; and if it gives a
 -- duration, one in range

@@ -2,7 +2,7 @@
 use Rattle.std.specs.Prelude.{ℕ, ◌≡◌, Option, Some, Ok, slice_get}
 use Rattle.std.specs.Option.{option_and_then}
 use Rattle.khe_instance.specs.declared.parts.Parts.{Parts}
-use Rattle.xhstt_completion.specs.Entries.{solutions}
+use Rattle.xhstt_references.specs.References.{solutions_of}
 use Rattle.xhstt_resolve.specs.Resolved.{resolved}
 use Rattle.xhstt_resolve.specs.declared.resolving.Resolved.{Resolved}
 use Rattle.xhstt_shape.specs.WellFormed.{IsInForm}
@@ -20,4 +20,4 @@ pub record IsOne (r : Resolved) (number : ℕ) (raw : RawSolution) : Type 0 wher
   pub archive : Archive
   pub formed : IsInForm archive
   pub resolved_is : resolved archive ≡ Ok r
-  pub found : slice_get (solutions archive) number ≡ Some raw
+  pub found : slice_get (solutions_of archive) number ≡ Some raw

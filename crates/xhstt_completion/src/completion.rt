@@ -2,7 +2,8 @@ ghost use Rattle.std.specs.Prelude.{◌≡◌, [], length, ◌<◌, IfOk, IfErr,
 ghost use Rattle.std.specs.Option.{option_copied};
 ghost use Rattle.khe_instance.specs.States.{IsValid};
 ghost use Rattle.xhstt_completion.specs.Completed.{completed, IsFaultOf};
-ghost use Rattle.xhstt_completion.specs.Entries.{IsSolution, solutions};
+ghost use Rattle.xhstt_completion.specs.Entries.{IsSolution};
+ghost use Rattle.xhstt_references.specs.References.{solutions_of};
 ghost use Rattle.xhstt_completion.specs.Found.{AreFound};
 ghost use Rattle.xhstt_completion.specs.Numbered.{IsOne, parts_at};
 ghost use Rattle.xhstt_resolve.specs.Resolved as resolving;
@@ -81,10 +82,10 @@ pub fn solution(
 ) -> Result<Plain, SolutionFault>
     requires formed { IsInForm archive.now }
     requires resolved { resolving.resolved archive.now ≡ Ok resolved.now }
-    requires there { number < length (solutions archive.now) }
+    requires there { number < length (solutions_of archive.now) }
     requires instance { parts_at resolved.now number ≡ Some inst.now }
-    ensures exact { IfOk result (λ plain. (raw : RawSolution) → slice_get (solutions archive.now) number ≡ Some raw → completed inst.now raw ≡ Ok plain) }
-    ensures invalid { IfErr result (λ fault. (raw : RawSolution) → slice_get (solutions archive.now) number ≡ Some raw → IsFaultOf (completed inst.now raw) fault) }
+    ensures exact { IfOk result (λ plain. (raw : RawSolution) → slice_get (solutions_of archive.now) number ≡ Some raw → completed inst.now raw ≡ Ok plain) }
+    ensures invalid { IfErr result (λ fault. (raw : RawSolution) → slice_get (solutions_of archive.now) number ≡ Some raw → IsFaultOf (completed inst.now raw) fault) }
     ensures valid { IfOk result (IsValid inst.now) }
 {
     let Some(raw) = solution_numbered(archive, number) else {
@@ -117,7 +118,7 @@ pub fn numbered_solution(
 /// The solution of an archive with this number, if there is one. It takes time in proportion to the
 /// solution groups.
 fn solution_numbered(archive: &Archive, number: u32) -> Option<&RawSolution>
-    ensures { option_copied result ≡ slice_get (solutions archive.now) number }
+    ensures { option_copied result ≡ slice_get (solutions_of archive.now) number }
 {
     let mut left = number as usize;
     let groups = archive.solution_groups.as_slice();

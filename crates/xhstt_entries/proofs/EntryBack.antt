@@ -28,6 +28,7 @@ use Rattle.xhstt_completion.specs.Causes.{moves_fixed, splits_fixed}
 use Rattle.xhstt_completion.specs.Completed.{task_of}
 use Rattle.xhstt_completion.specs.Entries.{start_of, time_of}
 use Rattle.fault_tables.specs.declared.causes.TheConstants.{TOO_LONG, SPLIT_FIXED, FIXED_TIME, OFF_END}
+use Rattle.xhstt_completion.proofs.TableLemmas.{or-none}
 use Rattle.xhstt_completion.proofs.WellMadeLemmas.{event-made}
 use Rattle.xhstt_shape.specs.declared.records.RawEntry.{RawEntry}
 use Rattle.xhstt_shape.specs.declared.records.RawGiven.{RawGiven}
@@ -101,10 +102,6 @@ time_read : (p : Parts) → AreWellMade p → (d : ℕ) → 1 ≤ d → (start :
     → option_and_then (λ t. time_named p t.id) (option_map (λ t. to (time_id p t)) start) ≡ start
 time_read p made d some None ends = refl
 time_read p made d some (Some t) ends = time_back p t made (omega (arith, ends, some))
-
-no_default : {A : Type 0} (o : Option A) → option_or o None ≡ o
-no_default None = refl
-no_default (Some x) = refl
 
 no_other_time : (o : Option TimeId) → differ_in_time o None ≡ false
 no_other_time None = refl
@@ -188,7 +185,7 @@ module _ (p : Parts) (s : Plain) (made : AreWellMade p) (valid : IsValid p s) (b
   start = ap (λ o. option_or o event.fixed) time ∙ by event.fixed refl
     where
       by : (f : Option TimeId) → event.fixed ≡ f → option_or m.start event.fixed ≡ m.start
-      by None e = ap (option_or m.start) e ∙ no_default m.start
+      by None e = ap (option_or m.start) e ∙ or-none m.start
       by (Some t) e = let at = (only t e).0 in ap (λ o. option_or o event.fixed) at ∙ sym at
 
   split : splits_fixed event (entry_in p s m) ≡ false

@@ -18,7 +18,7 @@ use Rattle.xhstt_shape.specs.declared.records.RawSolution.{RawSolution}
 use Rattle.xhstt_shape.specs.declared.records.Ref.{Ref}
 
 -- a test that an element passes has a first place
-is_some_position : {X : Type 0} (p : X → Bool) (xs : List X) → is_some (position p xs) ≡ list_any p xs
+pub is_some_position : {X : Type 0} (p : X → Bool) (xs : List X) → is_some (position p xs) ≡ list_any p xs
 is_some_position p xs = chosen (ltb (position_or_len p xs) (length xs)) (position_or_len p xs) ∙ below_length p xs
   where
     chosen : (b : Bool) (n : ℕ) → is_some (cond b (Some n) None) ≡ b

@@ -99,15 +99,23 @@ abbrev pub unknown_in_spread : Directory → RawSpread → List ℕ
 unknown_in_spread d s = unknown d.time_groups (s.reference ∷ [])
 
 abbrev pub unknown_in_rule : Directory → RawRule → List ℕ
+unknown_in_rule d ruled.AssignTime = []
+unknown_in_rule d (ruled.AssignResource role) = []
+unknown_in_rule d (ruled.SplitEvents min_duration max_duration min_amount max_amount) = []
+unknown_in_rule d (ruled.DistributeSplitEvents duration least greatest) = []
 unknown_in_rule d (ruled.PreferTimes groups times duration) = unknown d.time_groups groups ++ unknown d.times times
 unknown_in_rule d (ruled.PreferResources groups resources role) =
     unknown d.resource_groups groups ++ unknown d.resources resources
+unknown_in_rule d (ruled.AvoidSplitAssignments role) = []
 unknown_in_rule d (ruled.SpreadEvents groups) = flat_map (unknown_in_spread d) groups
+unknown_in_rule d ruled.LinkEvents = []
+unknown_in_rule d ruled.OrderEvents = []
+unknown_in_rule d ruled.AvoidClashes = []
 unknown_in_rule d (ruled.AvoidUnavailableTimes groups times) = unknown d.time_groups groups ++ unknown d.times times
 unknown_in_rule d (ruled.LimitIdleTimes groups least greatest) = unknown d.time_groups groups
 unknown_in_rule d (ruled.ClusterBusyTimes groups least greatest) = unknown d.time_groups groups
 unknown_in_rule d (ruled.LimitBusyTimes groups least greatest) = unknown d.time_groups groups
-unknown_in_rule d _ = []
+unknown_in_rule d (ruled.LimitWorkload least greatest) = []
 
 abbrev pub unknown_in_constraint : Directory → RawConstraint → List ℕ
 unknown_in_constraint d c = unknown_in_applies d c.applies ++ unknown_in_rule d c.rule

@@ -170,7 +170,15 @@ impl Refer for RawRule {
             | RawRule::LimitBusyTimes { time_groups, .. } => {
                 first.note_unknown_each(&directory.time_groups, time_groups);
             }
-            _ => {}
+            RawRule::AssignTime
+            | RawRule::AssignResource { .. }
+            | RawRule::SplitEvents { .. }
+            | RawRule::DistributeSplitEvents { .. }
+            | RawRule::AvoidSplitAssignments { .. }
+            | RawRule::LinkEvents
+            | RawRule::OrderEvents
+            | RawRule::AvoidClashes
+            | RawRule::LimitWorkload { .. } => {}
         }
     }
 }

@@ -56,22 +56,41 @@ task_count i = sum_by (λ e. e.duration * length (places_of i e)) i.events
 
 -- how many time groups a constraint lists
 abbrev pub listed_groups : RawRule → ℕ
+listed_groups ruled.AssignTime = 0
+listed_groups (ruled.AssignResource role) = 0
+listed_groups (ruled.SplitEvents min_duration max_duration min_amount max_amount) = 0
+listed_groups (ruled.DistributeSplitEvents duration least greatest) = 0
 listed_groups (ruled.PreferTimes groups times duration) = length groups
+listed_groups (ruled.PreferResources groups resources role) = 0
+listed_groups (ruled.AvoidSplitAssignments role) = 0
 listed_groups (ruled.SpreadEvents groups) = length groups
+listed_groups ruled.LinkEvents = 0
+listed_groups ruled.OrderEvents = 0
+listed_groups ruled.AvoidClashes = 0
 listed_groups (ruled.AvoidUnavailableTimes groups times) = length groups
 listed_groups (ruled.LimitIdleTimes groups least greatest) = length groups
 listed_groups (ruled.ClusterBusyTimes groups least greatest) = length groups
 listed_groups (ruled.LimitBusyTimes groups least greatest) = length groups
-listed_groups _ = 0
+listed_groups (ruled.LimitWorkload least greatest) = 0
 
 -- how many times a constraint on resources watches at each of them: those that it lists, with repeats
 abbrev pub watched_times : RawInstance → RawRule → ℕ
+watched_times i ruled.AssignTime = 1
+watched_times i (ruled.AssignResource role) = 1
+watched_times i (ruled.SplitEvents min_duration max_duration min_amount max_amount) = 1
+watched_times i (ruled.DistributeSplitEvents duration least greatest) = 1
+watched_times i (ruled.PreferTimes groups times duration) = 1
+watched_times i (ruled.PreferResources groups resources role) = 1
+watched_times i (ruled.AvoidSplitAssignments role) = 1
+watched_times i (ruled.SpreadEvents groups) = 1
+watched_times i ruled.LinkEvents = 1
+watched_times i ruled.OrderEvents = 1
 watched_times i ruled.AvoidClashes = length i.times
 watched_times i (ruled.AvoidUnavailableTimes groups times) = length (listed_times i groups times)
 watched_times i (ruled.LimitIdleTimes groups least greatest) = sum_by (λ g. length (times_in i g.id)) groups
 watched_times i (ruled.ClusterBusyTimes groups least greatest) = sum_by (λ g. length (times_in i g.id)) groups
 watched_times i (ruled.LimitBusyTimes groups least greatest) = sum_by (λ g. length (times_in i g.id)) groups
-watched_times i _ = 1
+watched_times i (ruled.LimitWorkload least greatest) = 1
 
 -- how many events the group with a number has
 abbrev pub group_size : RawInstance → ℕ → ℕ

@@ -22,9 +22,22 @@ use Rattle.xhstt_shape.specs.declared.records.RawInstance.{RawInstance}
 
 -- the role of a constraint whose points are the event resources of one role
 abbrev pub role_of : RawRule → Option (List ℕ)
+role_of ruled.AssignTime = None
 role_of (ruled.AssignResource role) = Some role.text
+role_of (ruled.SplitEvents min_duration max_duration min_amount max_amount) = None
+role_of (ruled.DistributeSplitEvents duration least greatest) = None
+role_of (ruled.PreferTimes groups times duration) = None
 role_of (ruled.PreferResources groups resources role) = Some role.text
-role_of _ = None
+role_of (ruled.AvoidSplitAssignments role) = None
+role_of (ruled.SpreadEvents groups) = None
+role_of ruled.LinkEvents = None
+role_of ruled.OrderEvents = None
+role_of ruled.AvoidClashes = None
+role_of (ruled.AvoidUnavailableTimes groups times) = None
+role_of (ruled.LimitIdleTimes groups least greatest) = None
+role_of (ruled.ClusterBusyTimes groups least greatest) = None
+role_of (ruled.LimitBusyTimes groups least greatest) = None
+role_of (ruled.LimitWorkload least greatest) = None
 
 -- whether an event resource has the role
 abbrev pub has_role : List ℕ → RawEventResource → Bool

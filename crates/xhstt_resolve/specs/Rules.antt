@@ -37,8 +37,10 @@ pair_of i p = record { first = event_named i p.first; second = event_named i p.s
 
 -- the pairs that a constraint applies to
 abbrev pub pairs_of : RawInstance → RawApplies → List EventPair
+pairs_of i (applied.Events groups events) = []
+pairs_of i (applied.Groups groups) = []
 pairs_of i (applied.Pairs pairs) = map (pair_of i) pairs
-pairs_of i _ = []
+pairs_of i (applied.Resources groups resources) = []
 
 abbrev pub rule_of : RawInstance → RawApplies → RawRule → Rule
 rule_of i applies ruled.AssignTime = rule.AssignTime

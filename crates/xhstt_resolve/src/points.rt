@@ -139,7 +139,20 @@ fn role_of(rule: &RawRule) -> Option<&Text>
     match rule {
         RawRule::AssignResource { role } => Some(&role.text),
         RawRule::PreferResources { role, .. } => Some(&role.text),
-        _ => None,
+        RawRule::AssignTime
+        | RawRule::SplitEvents { .. }
+        | RawRule::DistributeSplitEvents { .. }
+        | RawRule::PreferTimes { .. }
+        | RawRule::AvoidSplitAssignments { .. }
+        | RawRule::SpreadEvents { .. }
+        | RawRule::LinkEvents
+        | RawRule::OrderEvents
+        | RawRule::AvoidClashes
+        | RawRule::AvoidUnavailableTimes { .. }
+        | RawRule::LimitIdleTimes { .. }
+        | RawRule::ClusterBusyTimes { .. }
+        | RawRule::LimitBusyTimes { .. }
+        | RawRule::LimitWorkload { .. } => None,
     }
 }
 

@@ -225,7 +225,9 @@ fn pairs_of(
 {
     match applies {
         RawApplies::Pairs { pairs } => listed_pairs(alloc, lookup, pairs.as_slice()),
-        _ => Ok(Seq::new(alloc)),
+        RawApplies::Events { .. } | RawApplies::Groups { .. } | RawApplies::Resources { .. } => {
+            Ok(Seq::new(alloc))
+        }
     }
 }
 

@@ -79,6 +79,15 @@ fn listed_groups(rule: &RawRule) -> usize
         RawRule::LimitIdleTimes { time_groups, .. } => time_groups.len(),
         RawRule::ClusterBusyTimes { time_groups, .. } => time_groups.len(),
         RawRule::LimitBusyTimes { time_groups, .. } => time_groups.len(),
-        _ => 0,
+        RawRule::AssignTime
+        | RawRule::AssignResource { .. }
+        | RawRule::SplitEvents { .. }
+        | RawRule::DistributeSplitEvents { .. }
+        | RawRule::PreferResources { .. }
+        | RawRule::AvoidSplitAssignments { .. }
+        | RawRule::LinkEvents
+        | RawRule::OrderEvents
+        | RawRule::AvoidClashes
+        | RawRule::LimitWorkload { .. } => 0,
     }
 }

@@ -65,7 +65,17 @@ pub(crate) fn watched_times(lookup: &Lookup<'_>, rule: &RawRule) -> u128
             group_times(lookup, time_groups.as_slice())
         }
         RawRule::LimitBusyTimes { time_groups, .. } => group_times(lookup, time_groups.as_slice()),
-        _ => 1,
+        RawRule::AssignTime
+        | RawRule::AssignResource { .. }
+        | RawRule::SplitEvents { .. }
+        | RawRule::DistributeSplitEvents { .. }
+        | RawRule::PreferTimes { .. }
+        | RawRule::PreferResources { .. }
+        | RawRule::AvoidSplitAssignments { .. }
+        | RawRule::SpreadEvents { .. }
+        | RawRule::LinkEvents
+        | RawRule::OrderEvents
+        | RawRule::LimitWorkload { .. } => 1,
     }
 }
 

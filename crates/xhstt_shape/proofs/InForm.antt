@@ -10,7 +10,7 @@ use Rattle.std.proofs.lemmas.Bool.{and_parts, cases_Bool, cond_both, leb-true}
 use Rattle.std.proofs.lemmas.List.Elements.{All-nil, All-cons, All-head, All-tail, All-map, All-weaker}
 use Rattle.std.proofs.lemmas.Str.{IsUtf8-from_is_utf8, encodes-chars}
 use Rattle.khe_base.specs.Text.{text_of, characters}
-use Rattle.khe_base.specs.declared.limits.TheConstants.{NUMBER}
+use Rattle.khe_base.specs.declared.limits.TheConstants.{NUMBER, GREATEST_BOUND}
 use Rattle.xhstt_text.specs.Bytes.{is_white}
 use Rattle.xhstt_text.specs.Unescape.{unescaped}
 use Rattle.xhstt_text.specs.Forest.{AttributeInfo, Info, Forest}
@@ -21,7 +21,6 @@ use Rattle.xhstt_shape.specs.declared.faults.ShapeFault.TheVariants.{Bad}
 use Rattle.xhstt_shape.specs.declared.records.Archive.{Archive}
 use Rattle.xhstt_shape.specs.declared.schema.Content.TheVariants as content_of
 use Rattle.xhstt_shape.specs.declared.schema.Child.{Child}
-use Rattle.xhstt_shape.specs.declared.schema.TheConstants.{BOUND}
 use Rattle.xhstt_shape.specs.declared.schema.Row.{Row}
 use Rattle.xhstt_shape.specs.declared.schema.Row.TheVariants as row
 use Rattle.khe_instance.specs.declared.rules.Kind.{Kind}
@@ -100,7 +99,8 @@ number_in least greatest t e =
     [ None ↦ tt | Some c ↦ between least greatest (trimmed_text c.info.value) ] in
     go (child t e.kids)
 
-weaker : {X : Type 0} (o : Option X) (P Q : X → Type 0) → ((x : X) → P x → Q x) → IfSome o P → IfSome o Q
+-- a value that has one property has another
+pub weaker : {X : Type 0} (o : Option X) (P Q : X → Type 0) → ((x : X) → P x → Q x) → IfSome o P → IfSome o Q
 weaker None P Q f h = tt
 weaker (Some x) P Q f h = f x h
 
@@ -114,10 +114,10 @@ lower_in t e = or_else (optional_number 0 NUMBER t e) 0 IsNumber
     (weaker (optional_number 0 NUMBER t e) (IsWithin 0 NUMBER) IsNumber (λ n h. h.1) (number_in 0 NUMBER t e))
     (omega arith)
 
-upper_in : (t : Tag) (e : Standing) → upper t e ≤ BOUND
+upper_in : (t : Tag) (e : Standing) → upper t e ≤ GREATEST_BOUND
 unfolding upper
-upper_in t e = or_else (optional_number 0 BOUND t e) BOUND (λ n. n ≤ BOUND)
-    (weaker (optional_number 0 BOUND t e) (IsWithin 0 BOUND) (λ n. n ≤ BOUND) (λ n h. h.1) (number_in 0 BOUND t e))
+upper_in t e = or_else (optional_number 0 GREATEST_BOUND t e) GREATEST_BOUND (λ n. n ≤ GREATEST_BOUND)
+    (weaker (optional_number 0 GREATEST_BOUND t e) (IsWithin 0 GREATEST_BOUND) (λ n. n ≤ GREATEST_BOUND) (λ n h. h.1) (number_in 0 GREATEST_BOUND t e))
     (omega arith)
 
 optional_duration_in : (e : Standing) → IfSome (optional_duration e) IsDuration

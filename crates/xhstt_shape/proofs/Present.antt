@@ -8,7 +8,7 @@ use Rattle.std.proofs.lemmas.Bool.{and_parts, cases_Bool}
 use Rattle.std.proofs.lemmas.List.Elements.{All-weaker}
 use Rattle.khe_base.proofs.ResultLemmas.{some-mapped}
 use Rattle.khe_base.specs.Text.{text_of}
-use Rattle.khe_base.specs.declared.limits.TheConstants.{NUMBER}
+use Rattle.khe_base.specs.declared.limits.TheConstants.{NUMBER, GREATEST_BOUND}
 use Rattle.xhstt_text.specs.Forest.{Info, Forest, empty, node}
 use Rattle.xhstt_text.specs.Handles.{Standing}
 use Rattle.fault_tables.specs.declared.faults.TheConstants.{MISSING_CHILD, BAD_NUMBER, BAD_WORD}
@@ -20,7 +20,6 @@ use Rattle.xhstt_shape.specs.declared.schema.Mark.{Mark}
 use Rattle.xhstt_shape.specs.declared.schema.Mark.TheVariants.{Once, AtMostOnce}
 use Rattle.xhstt_shape.specs.declared.schema.Row.{Row}
 use Rattle.xhstt_shape.specs.declared.schema.Row.TheVariants as row
-use Rattle.xhstt_shape.specs.declared.schema.TheConstants.{BOUND}
 use Rattle.khe_instance.specs.declared.rules.Kind.{Kind}
 use Rattle.khe_instance.specs.declared.rules.Kind.TheVariants as kind
 use Rattle.xhstt_shape.specs.declared.words.Label.{Label}
@@ -41,13 +40,9 @@ use Rattle.xhstt_shape.specs.Walk.{settled, is_among, fault_of}
 use Rattle.xhstt_shape.specs.Words.{word}
 use Rattle.xhstt_shape.proofs.Fine.{IsFine, fine_both, fine_unless, fine_role, by_found, FineChild}
 use Rattle.xhstt_shape.proofs.Fine.{FineInside-from, FineNamed, child_fine, elements_fine, named_own, has_found}
-use Rattle.xhstt_shape.proofs.InForm.{kind_rule, rule_for-kinds, rules_of_kinds}
+use Rattle.xhstt_shape.proofs.InForm.{kind_rule, rule_for-kinds, rules_of_kinds, weaker}
 
 -- options
-
-if_there : {X : Type 0} (o : Option X) (P Q : X → Type 0) → ((x : X) → P x → Q x) → IfSome o P → IfSome o Q
-if_there None P Q go h = tt
-if_there (Some x) P Q go h = go x h
 
 there : {X : Type 0} (o : Option X) (P : X → Type 0) → IsSome o → IfSome o P → IsSomeAnd o P
 there None P some h = absurd (let g : ⊥ = cc in g)
@@ -171,7 +166,7 @@ child_where : (r : Row) (t : Tag) (m : Mark) (to : Row) (e : Standing) → Has r
     → IfSome (child t e.kids) (λ x. IsFine (fault_of to x))
 child_where r t m to e has h =
     let c : Child = record { tag = t; mark = m; row = to } in
-    if_there (child t e.kids) (FineNamed r t) (λ x. IsFine (fault_of to x))
+    weaker (child t e.kids) (FineNamed r t) (λ x. IsFine (fault_of to x))
     (λ x f. subst (λ (own : Row). IsFine (fault_of own x)) (has.settles x.info) (named_own r t c x has.found f))
     (child_fine r t e.kids (FineInside-from r e has.elements h).kids)
 
@@ -184,7 +179,7 @@ child_there r t to e has h =
 child_referring : (r : Row) (t : Tag) (m : Mark) (e : Standing) → Has r t m row.Reference → IsFine (fault_of r e)
     → MayRefer t e
 child_referring r t m e has h =
-    if_there (child t e.kids) (λ x. IsFine (fault_of row.Reference x)) HasReference
+    weaker (child t e.kids) (λ x. IsFine (fault_of row.Reference x)) HasReference
     (λ x f. reference_there row.Reference x refers_of f) (child_where r t m row.Reference e has h)
 
 refers_there : (r : Row) (t : Tag) (e : Standing) → Has r t Once row.Reference → IsFine (fault_of r e) → Refers t e
@@ -193,7 +188,7 @@ refers_there r t e has h =
 
 child_role : (r : Row) (m : Mark) (e : Standing) → Has r tag.Role m row.Role → IsFine (fault_of r e) → MayHaveRole e
 child_role r m e has h =
-    if_there (child tag.Role e.kids) (λ x. IsFine (fault_of row.Role x)) IsRoleThere role_there
+    weaker (child tag.Role e.kids) (λ x. IsFine (fault_of row.Role x)) IsRoleThere role_there
     (child_where r tag.Role m row.Role e has h)
 
 the_role_there : (r : Row) (e : Standing) → Has r tag.Role Once row.Role → IsFine (fault_of r e) → HasRole e
@@ -205,7 +200,7 @@ child_number : (r : Row) (t : Tag) (m : Mark) (to : Row) (least greatest : ℕ) 
 unfolding optional_number
 child_number r t m to least greatest e has is h =
     λ some. some_then (child t e.kids) (number least greatest) some
-    (if_there (child t e.kids) (λ x. IsFine (fault_of to x)) (λ x. IsSome (number least greatest x))
+    (weaker (child t e.kids) (λ x. IsFine (fault_of to x)) (λ x. IsSome (number least greatest x))
     (λ x f. number_there to least greatest x is f) (child_where r t m to e has h))
 
 the_number_there : (r : Row) (t : Tag) (to : Row) (least greatest : ℕ) (e : Standing) → Has r t Once to
@@ -221,7 +216,7 @@ duration_form : content row.Duration ≡ content_of.Number 1 NUMBER
 unfolding content
 duration_form = refl
 
-bound_form : content row.Bound ≡ content_of.Number 0 BOUND
+bound_form : content row.Bound ≡ content_of.Number 0 GREATEST_BOUND
 unfolding content
 bound_form = refl
 
@@ -229,7 +224,7 @@ bounds_there : (r : Row) (low high : Tag) (e : Standing) → Has r low AtMostOnc
     → Has r high AtMostOnce row.Bound → IsFine (fault_of r e) → HasBounds low high e
 bounds_there r low high e has_low has_high h = (
   child_number r low AtMostOnce row.Number 0 NUMBER e has_low number_form h,
-  child_number r high AtMostOnce row.Bound 0 BOUND e has_high bound_form h,
+  child_number r high AtMostOnce row.Bound 0 GREATEST_BOUND e has_high bound_form h,
 )
 
 -- constraints
@@ -306,12 +301,12 @@ constraint_there k e h =
     record {
       id = id_there r e (constraint_id k) h;
       required = some_then (child tag.Required e.kids) (λ c. truth_of (trimmed_text c.info.value)) needed
-          (if_there (child tag.Required e.kids) (λ x. IsFine (fault_of row.Truth x))
+          (weaker (child tag.Required e.kids) (λ x. IsFine (fault_of row.Truth x))
           (λ x. IsSome (truth_of (trimmed_text x.info.value))) truth_there
           (child_where r tag.Required Once row.Truth e (constraint_truth k) h));
       weight = the_number_there r tag.Weight row.Number 0 NUMBER e (constraint_weight k) number_form h;
       cost = some_then (child tag.CostFunction e.kids) (λ c. function_of (trimmed_text c.info.value)) costs
-          (if_there (child tag.CostFunction e.kids) (λ x. IsFine (fault_of row.Function x))
+          (weaker (child tag.CostFunction e.kids) (λ x. IsFine (fault_of row.Function x))
           (λ x. IsSome (function_of (trimmed_text x.info.value))) function_there
           (child_where r tag.CostFunction Once row.Function e (constraint_function k) h));
       rule = rule_there k e h;

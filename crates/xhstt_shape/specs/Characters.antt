@@ -104,17 +104,23 @@ IsSpellableApplies (applied.Pairs pairs) = All IsSpellablePair pairs
 IsSpellableApplies (applied.Resources groups resources) = AreSpellableRefs groups × AreSpellableRefs resources
 
 abbrev pub IsSpellableRule : RawRule → Type 0
+IsSpellableRule ruled.AssignTime = Unit {0}
 IsSpellableRule (ruled.AssignResource role) = IsSpellableName role
+IsSpellableRule (ruled.SplitEvents min_duration max_duration min_amount max_amount) = Unit {0}
+IsSpellableRule (ruled.DistributeSplitEvents duration min max) = Unit {0}
 IsSpellableRule (ruled.PreferTimes groups times duration) = AreSpellableRefs groups × AreSpellableRefs times
 IsSpellableRule (ruled.PreferResources groups resources role) =
     AreSpellableRefs groups × AreSpellableRefs resources × IsSpellableName role
 IsSpellableRule (ruled.AvoidSplitAssignments role) = IsSpellableName role
 IsSpellableRule (ruled.SpreadEvents groups) = All IsSpellableSpread groups
+IsSpellableRule ruled.LinkEvents = Unit {0}
+IsSpellableRule ruled.OrderEvents = Unit {0}
+IsSpellableRule ruled.AvoidClashes = Unit {0}
 IsSpellableRule (ruled.AvoidUnavailableTimes groups times) = AreSpellableRefs groups × AreSpellableRefs times
 IsSpellableRule (ruled.LimitIdleTimes groups min max) = AreSpellableRefs groups
 IsSpellableRule (ruled.ClusterBusyTimes groups min max) = AreSpellableRefs groups
 IsSpellableRule (ruled.LimitBusyTimes groups min max) = AreSpellableRefs groups
-IsSpellableRule _ = Unit {0}
+IsSpellableRule (ruled.LimitWorkload min max) = Unit {0}
 
 pub record IsSpellableConstraint (c : RawConstraint) : Type 0 where
   pub id : IsSpellableName c.id

@@ -3,10 +3,9 @@
 use Rattle.std.specs.Prelude.{ℕ, ◌≡◌, true, List, [], ◌∷◌, IsSome, IfSome, IsSomeAnd, All}
 use Rattle.std.specs.Option.{option_and_then}
 use Rattle.khe_base.specs.Text.{text_of}
-use Rattle.khe_base.specs.declared.limits.TheConstants.{NUMBER}
+use Rattle.khe_base.specs.declared.limits.TheConstants.{NUMBER, GREATEST_BOUND}
 use Rattle.xhstt_text.specs.Forest.{Forest, empty, node}
 use Rattle.xhstt_text.specs.Handles.{Standing}
-use Rattle.xhstt_shape.specs.declared.schema.TheConstants.{BOUND}
 use Rattle.xhstt_shape.specs.declared.schema.Row.{Row}
 use Rattle.xhstt_shape.specs.declared.schema.Row.TheVariants as row
 use Rattle.khe_instance.specs.declared.rules.Kind.{Kind}
@@ -52,7 +51,7 @@ MayHaveNumber least greatest t e = IsSome (child t e.kids) → HasNumber least g
 
 -- the bounds that two children give
 abbrev pub HasBounds : Tag → Tag → Standing → Type 0
-HasBounds low high e = MayHaveNumber 0 NUMBER low e × MayHaveNumber 0 BOUND high e
+HasBounds low high e = MayHaveNumber 0 NUMBER low e × MayHaveNumber 0 GREATEST_BOUND high e
 
 -- whether a cost is hard, and its function
 abbrev pub HasTruth : Standing → Type 0
@@ -63,6 +62,7 @@ HasFunction e = IsSome (option_and_then (λ c. function_of (trimmed_text c.info.
 
 -- what a constraint of a kind asks for
 unfoldable pub HasRule : Kind → Standing → Type 0
+HasRule kind.AssignTime e = Unit {0}
 HasRule kind.AssignResource e = HasRole e
 HasRule kind.SplitEvents e =
     HasBounds tag.MinimumDuration tag.MaximumDuration e × HasBounds tag.MinimumAmount tag.MaximumAmount e
@@ -70,11 +70,15 @@ HasRule kind.DistributeSplitEvents e = HasNumber 1 NUMBER tag.Duration e × HasB
 HasRule kind.PreferTimes e = MayHaveNumber 1 NUMBER tag.Duration e
 HasRule kind.PreferResources e = HasRole e
 HasRule kind.AvoidSplitAssignments e = HasRole e
+HasRule kind.SpreadEvents e = Unit {0}
+HasRule kind.LinkEvents e = Unit {0}
+HasRule kind.OrderEvents e = Unit {0}
+HasRule kind.AvoidClashes e = Unit {0}
+HasRule kind.AvoidUnavailableTimes e = Unit {0}
 HasRule kind.LimitIdleTimes e = HasBounds tag.Minimum tag.Maximum e
 HasRule kind.ClusterBusyTimes e = HasBounds tag.Minimum tag.Maximum e
 HasRule kind.LimitBusyTimes e = HasBounds tag.Minimum tag.Maximum e
 HasRule kind.LimitWorkload e = HasBounds tag.Minimum tag.Maximum e
-HasRule _ e = Unit {0}
 
 -- the children have names of these
 abbrev pub AreNamed : List Tag → Standing → Type 0
@@ -90,30 +94,61 @@ pub record IsConstraintPresent (k : Kind) (e : Standing) : Type 0 where
 
 -- an element of a row
 unfoldable pub IsPresent : Row → Standing → Type 0
+IsPresent row.Archive e = Unit {0}
+IsPresent row.MetaData e = Unit {0}
+IsPresent row.Instances e = Unit {0}
 IsPresent row.Instance e = HasId e
+IsPresent row.Times e = Unit {0}
 IsPresent row.TimeGroups e = AreNamed (tag.Week ∷ tag.Day ∷ tag.TimeGroup ∷ []) e
-IsPresent row.EventGroups e = AreNamed (tag.Course ∷ tag.EventGroup ∷ []) e
 IsPresent row.Named e = HasId e
 IsPresent row.Time e = HasId e × MayRefer tag.Week e × MayRefer tag.Day e
+IsPresent row.Resources e = Unit {0}
+IsPresent row.ResourceTypes e = Unit {0}
+IsPresent row.ResourceGroups e = Unit {0}
 IsPresent row.ResourceGroup e = HasId e × Refers tag.ResourceType e
 IsPresent row.Resource e = HasId e × Refers tag.ResourceType e
+IsPresent row.Events e = Unit {0}
+IsPresent row.EventGroups e = AreNamed (tag.Course ∷ tag.EventGroup ∷ []) e
 IsPresent row.Event e =
     HasId e × HasNumber 1 NUMBER tag.Duration e × MayHaveNumber 0 NUMBER tag.Workload e × MayRefer tag.Course e
     × MayRefer tag.Time e
+IsPresent row.EventResources e = Unit {0}
 IsPresent row.EventResource e =
     MayHaveRole e × MayRefer tag.ResourceType e × MayHaveNumber 0 NUMBER tag.Workload e
 IsPresent row.OpenResource e = HasRole e × Refers tag.ResourceType e × MayHaveNumber 0 NUMBER tag.Workload e
 IsPresent row.Constraints e = All (λ c. IsSome (kind_of c.info.name)) (elements e.kids)
 IsPresent (row.Constraint k) e = IsConstraintPresent k e
+IsPresent row.EventApplies e = Unit {0}
+IsPresent row.GroupApplies e = Unit {0}
+IsPresent row.ResourceApplies e = Unit {0}
+IsPresent row.PairApplies e = Unit {0}
+IsPresent row.EventPairs e = Unit {0}
 IsPresent row.EventPair e =
     Refers tag.FirstEvent e × Refers tag.SecondEvent e × HasBounds tag.MinSeparation tag.MaxSeparation e
+IsPresent row.Spreads e = Unit {0}
 IsPresent row.Spread e = HasReference e × HasBounds tag.Minimum tag.Maximum e
+IsPresent row.SolutionGroups e = Unit {0}
 IsPresent row.SolutionGroup e = HasId e
 IsPresent row.Solution e = HasReference e
+IsPresent row.Entries e = Unit {0}
 IsPresent row.Entry e = HasReference e × MayHaveNumber 1 NUMBER tag.Duration e × MayRefer tag.Time e
+IsPresent row.GivenResources e = Unit {0}
 IsPresent row.Given e = HasReference e × MayHaveRole e
+IsPresent row.TimeGroupReferences e = Unit {0}
+IsPresent row.ResourceGroupReferences e = Unit {0}
+IsPresent row.EventGroupReferences e = Unit {0}
+IsPresent row.TimeReferences e = Unit {0}
+IsPresent row.EventReferences e = Unit {0}
+IsPresent row.ResourceReferences e = Unit {0}
 IsPresent row.Reference e = HasReference e
-IsPresent _ e = Unit {0}
+IsPresent row.Text e = Unit {0}
+IsPresent row.Number e = Unit {0}
+IsPresent row.Duration e = Unit {0}
+IsPresent row.Bound e = Unit {0}
+IsPresent row.Truth e = Unit {0}
+IsPresent row.Function e = Unit {0}
+IsPresent row.Role e = Unit {0}
+IsPresent row.Anything e = Unit {0}
 
 -- the elements among the children of an element of a row, each as the row that the table gives it, and
 -- all elements inside them

@@ -1,14 +1,13 @@
 -- The table of elements of an archive: the attributes and children of each, how often a child may
 -- stand there, and what stands in an element.
 use Rattle.std.specs.Prelude.{true, false, List, [], ◌∷◌}
-use Rattle.khe_base.specs.declared.limits.TheConstants.{NUMBER}
+use Rattle.khe_base.specs.declared.limits.TheConstants.{NUMBER, GREATEST_BOUND}
 use Rattle.khe_instance.specs.declared.rules.Kind.{Kind}
 use Rattle.khe_instance.specs.declared.rules.Kind.TheVariants as kind
 use Rattle.xhstt_shape.specs.declared.words.Label.{Label}
 use Rattle.xhstt_shape.specs.declared.words.Label.TheVariants as label
 use Rattle.xhstt_shape.specs.declared.words.Tag.{Tag}
 use Rattle.xhstt_shape.specs.declared.words.Tag.TheVariants as tag
-use Rattle.xhstt_shape.specs.declared.schema.TheConstants.{BOUND}
 use Rattle.xhstt_shape.specs.declared.schema.Child.{Child}
 use Rattle.xhstt_shape.specs.declared.schema.AllowedAttribute.{AllowedAttribute}
 use Rattle.xhstt_shape.specs.declared.schema.Content.{Content}
@@ -37,22 +36,56 @@ optional l = record { label = l; required = false }
 -- the attributes of an element, in the order of the table
 unfoldable pub attributes : Row → List AllowedAttribute
 attributes row.Archive = optional label.Id ∷ []
-attributes row.Event = required label.Id ∷ (optional label.Color ∷ [])
-attributes row.EventResource = optional label.Reference ∷ []
-attributes row.OpenResource = optional label.Reference ∷ []
-attributes (row.Constraint k) = required label.Id ∷ []
+attributes row.MetaData = []
+attributes row.Instances = []
 attributes row.Instance = required label.Id ∷ []
+attributes row.Times = []
+attributes row.TimeGroups = []
 attributes row.Named = required label.Id ∷ []
 attributes row.Time = required label.Id ∷ []
+attributes row.Resources = []
+attributes row.ResourceTypes = []
+attributes row.ResourceGroups = []
 attributes row.ResourceGroup = required label.Id ∷ []
 attributes row.Resource = required label.Id ∷ []
-attributes row.SolutionGroup = required label.Id ∷ []
+attributes row.Events = []
+attributes row.EventGroups = []
+attributes row.Event = required label.Id ∷ (optional label.Color ∷ [])
+attributes row.EventResources = []
+attributes row.EventResource = optional label.Reference ∷ []
+attributes row.OpenResource = optional label.Reference ∷ []
+attributes row.Constraints = []
+attributes (row.Constraint k) = required label.Id ∷ []
+attributes row.EventApplies = []
+attributes row.GroupApplies = []
+attributes row.ResourceApplies = []
+attributes row.PairApplies = []
+attributes row.EventPairs = []
+attributes row.EventPair = []
+attributes row.Spreads = []
 attributes row.Spread = required label.Reference ∷ []
+attributes row.SolutionGroups = []
+attributes row.SolutionGroup = required label.Id ∷ []
 attributes row.Solution = required label.Reference ∷ []
+attributes row.Entries = []
 attributes row.Entry = required label.Reference ∷ []
+attributes row.GivenResources = []
 attributes row.Given = required label.Reference ∷ []
+attributes row.TimeGroupReferences = []
+attributes row.ResourceGroupReferences = []
+attributes row.EventGroupReferences = []
+attributes row.TimeReferences = []
+attributes row.EventReferences = []
+attributes row.ResourceReferences = []
 attributes row.Reference = required label.Reference ∷ []
-attributes _ = []
+attributes row.Text = []
+attributes row.Number = []
+attributes row.Duration = []
+attributes row.Bound = []
+attributes row.Truth = []
+attributes row.Function = []
+attributes row.Role = []
+attributes row.Anything = []
 
 -- the children that each constraint has, before those of its kind
 abbrev pub constraint : Row → List Child → List Child
@@ -160,6 +193,7 @@ children row.Constraints =
     (row.Constraint kind.ClusterBusyTimes) ∷ (many (tag.Constraint kind.LimitBusyTimes)
     (row.Constraint kind.LimitBusyTimes) ∷ (many (tag.Constraint kind.LimitWorkload)
     (row.Constraint kind.LimitWorkload) ∷ [])))))))))))))))
+children (row.Constraint k) = constraint_children k
 children row.EventApplies = at_most_once tag.EventGroups
     row.EventGroupReferences ∷ (at_most_once tag.Events row.EventReferences ∷ [])
 children row.GroupApplies = at_most_once tag.EventGroups row.EventGroupReferences ∷ []
@@ -189,17 +223,66 @@ children row.EventGroupReferences = many tag.EventGroup row.Reference ∷ []
 children row.TimeReferences = many tag.Time row.Reference ∷ []
 children row.EventReferences = many tag.Event row.Reference ∷ []
 children row.ResourceReferences = many tag.Resource row.Reference ∷ []
-children (row.Constraint k) = constraint_children k
-children _ = []
+children row.Reference = []
+children row.Text = []
+children row.Number = []
+children row.Duration = []
+children row.Bound = []
+children row.Truth = []
+children row.Function = []
+children row.Role = []
+children row.Anything = []
 
 -- what stands in an element
 unfoldable pub content : Row → Content
+content row.Archive = content_of.Elements
+content row.MetaData = content_of.Elements
+content row.Instances = content_of.Elements
+content row.Instance = content_of.Elements
+content row.Times = content_of.Elements
+content row.TimeGroups = content_of.Elements
+content row.Named = content_of.Elements
+content row.Time = content_of.Elements
+content row.Resources = content_of.Elements
+content row.ResourceTypes = content_of.Elements
+content row.ResourceGroups = content_of.Elements
+content row.ResourceGroup = content_of.Elements
+content row.Resource = content_of.Elements
+content row.Events = content_of.Elements
+content row.EventGroups = content_of.Elements
+content row.Event = content_of.Elements
+content row.EventResources = content_of.Elements
+content row.EventResource = content_of.Elements
+content row.OpenResource = content_of.Elements
+content row.Constraints = content_of.Elements
+content (row.Constraint k) = content_of.Elements
+content row.EventApplies = content_of.Elements
+content row.GroupApplies = content_of.Elements
+content row.ResourceApplies = content_of.Elements
+content row.PairApplies = content_of.Elements
+content row.EventPairs = content_of.Elements
+content row.EventPair = content_of.Elements
+content row.Spreads = content_of.Elements
+content row.Spread = content_of.Elements
+content row.SolutionGroups = content_of.Elements
+content row.SolutionGroup = content_of.Elements
+content row.Solution = content_of.Elements
+content row.Entries = content_of.Elements
+content row.Entry = content_of.Elements
+content row.GivenResources = content_of.Elements
+content row.Given = content_of.Elements
+content row.TimeGroupReferences = content_of.Elements
+content row.ResourceGroupReferences = content_of.Elements
+content row.EventGroupReferences = content_of.Elements
+content row.TimeReferences = content_of.Elements
+content row.EventReferences = content_of.Elements
+content row.ResourceReferences = content_of.Elements
+content row.Reference = content_of.Elements
 content row.Text = content_of.Text
 content row.Number = content_of.Number 0 NUMBER
 content row.Duration = content_of.Number 1 NUMBER
-content row.Bound = content_of.Number 0 BOUND
+content row.Bound = content_of.Number 0 GREATEST_BOUND
 content row.Truth = content_of.Truth
 content row.Function = content_of.Function
 content row.Role = content_of.Role
 content row.Anything = content_of.Anything
-content _ = content_of.Elements

@@ -7,7 +7,7 @@ use Rattle.std.specs.Option.{option_map, option_and_then}
 use Rattle.std.specs.Str.{bytes_eq}
 use Rattle.khe_base.specs.declared.costs.CostFn.{CostFn}
 use Rattle.khe_base.specs.declared.costs.CostFn.TheVariants.{Linear}
-use Rattle.khe_base.specs.declared.limits.TheConstants.{NUMBER}
+use Rattle.khe_base.specs.declared.limits.TheConstants.{NUMBER, GREATEST_BOUND}
 use Rattle.xhstt_text.specs.Forest.{AttributeInfo, Forest, empty, node}
 use Rattle.xhstt_text.specs.Handles.{Standing}
 use Rattle.xhstt_text.specs.Unescape.{unescaped}
@@ -39,7 +39,6 @@ use Rattle.xhstt_shape.specs.declared.records.Time.{Time}
 use Rattle.xhstt_shape.specs.declared.records.TimeGroup.{TimeGroup}
 use Rattle.xhstt_shape.specs.declared.records.TimeSort.{TimeSort}
 use Rattle.xhstt_shape.specs.declared.records.TimeSort.TheVariants as time_sort
-use Rattle.xhstt_shape.specs.declared.schema.TheConstants.{BOUND}
 use Rattle.khe_instance.specs.declared.rules.Kind.{Kind}
 use Rattle.khe_instance.specs.declared.rules.Kind.TheVariants as kind
 use Rattle.xhstt_shape.specs.declared.words.Label.{Label}
@@ -158,7 +157,7 @@ lower t e = unwrap_or (optional_number 0 NUMBER t e) 0
 
 -- a number up to the greatest bound, or that bound
 unfoldable pub upper : Tag → Standing → ℕ
-upper t e = unwrap_or (optional_number 0 BOUND t e) BOUND
+upper t e = unwrap_or (optional_number 0 GREATEST_BOUND t e) GREATEST_BOUND
 
 -- a duration, where it stands
 unfoldable pub optional_duration : Standing → Option ℕ

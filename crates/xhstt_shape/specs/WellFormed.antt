@@ -1,6 +1,6 @@
 -- Archives that can be written and read back.
 use Rattle.std.specs.Prelude.{ℕ, ◌≡◌, ◌≤◌, false, None, IsSome, IfSome, All, encode_utf8_all}
-use Rattle.khe_base.specs.declared.limits.TheConstants.{NUMBER}
+use Rattle.khe_base.specs.declared.limits.TheConstants.{NUMBER, GREATEST_BOUND}
 use Rattle.xhstt_shape.specs.declared.constraints.RawApplies.{RawApplies}
 use Rattle.xhstt_shape.specs.declared.constraints.RawApplies.TheVariants as applied
 use Rattle.xhstt_shape.specs.declared.constraints.RawConstraint.{RawConstraint}
@@ -17,7 +17,6 @@ use Rattle.xhstt_shape.specs.declared.records.RawGiven.{RawGiven}
 use Rattle.xhstt_shape.specs.declared.records.RawInstance.{RawInstance}
 use Rattle.xhstt_shape.specs.declared.records.RawSolution.{RawSolution}
 use Rattle.xhstt_shape.specs.declared.records.SolutionGroup.{SolutionGroup}
-use Rattle.xhstt_shape.specs.declared.schema.TheConstants.{BOUND}
 use Rattle.xhstt_shape.specs.Characters.{IsSpellableArchive}
 use Rattle.xhstt_shape.specs.Contents.{is_blank, trimmed}
 
@@ -34,7 +33,7 @@ abbrev pub IsDuration : ℕ → Type 0
 IsDuration n = (1 ≤ n) × (n ≤ NUMBER)
 
 abbrev pub AreBounds : ℕ → ℕ → Type 0
-AreBounds min max = (min ≤ NUMBER) × (max ≤ BOUND)
+AreBounds min max = (min ≤ NUMBER) × (max ≤ GREATEST_BOUND)
 
 -- an event resource; without a reference it has a role and a type
 pub record IsEventResource (r : RawEventResource) : Type 0 where
@@ -56,6 +55,7 @@ IsSpread s = AreBounds s.min s.max
 
 -- the numbers and the role of a rule
 abbrev pub IsRule : RawRule → Type 0
+IsRule ruled.AssignTime = Unit {0}
 IsRule (ruled.AssignResource role) = IsRole role
 IsRule (ruled.SplitEvents min_duration max_duration min_amount max_amount) =
     AreBounds min_duration max_duration × AreBounds min_amount max_amount
@@ -64,28 +64,39 @@ IsRule (ruled.PreferTimes groups times duration) = IfSome duration IsDuration
 IsRule (ruled.PreferResources groups resources role) = IsRole role
 IsRule (ruled.AvoidSplitAssignments role) = IsRole role
 IsRule (ruled.SpreadEvents groups) = All IsSpread groups
+IsRule ruled.LinkEvents = Unit {0}
+IsRule ruled.OrderEvents = Unit {0}
+IsRule ruled.AvoidClashes = Unit {0}
+IsRule (ruled.AvoidUnavailableTimes groups times) = Unit {0}
 IsRule (ruled.LimitIdleTimes groups min max) = AreBounds min max
 IsRule (ruled.ClusterBusyTimes groups min max) = AreBounds min max
 IsRule (ruled.LimitBusyTimes groups min max) = AreBounds min max
 IsRule (ruled.LimitWorkload min max) = AreBounds min max
-IsRule _ = Unit {0}
 
 -- what a constraint applies to has one of the four forms
 abbrev pub AreEvents : RawApplies → Type 0
 AreEvents (applied.Events groups events) = Unit {0}
-AreEvents _ = ⊥
+AreEvents (applied.Groups groups) = ⊥
+AreEvents (applied.Pairs pairs) = ⊥
+AreEvents (applied.Resources groups resources) = ⊥
 
 abbrev pub AreGroups : RawApplies → Type 0
+AreGroups (applied.Events groups events) = ⊥
 AreGroups (applied.Groups groups) = Unit {0}
-AreGroups _ = ⊥
+AreGroups (applied.Pairs pairs) = ⊥
+AreGroups (applied.Resources groups resources) = ⊥
 
 abbrev pub ArePairs : RawApplies → Type 0
+ArePairs (applied.Events groups events) = ⊥
+ArePairs (applied.Groups groups) = ⊥
 ArePairs (applied.Pairs pairs) = All IsPair pairs
-ArePairs _ = ⊥
+ArePairs (applied.Resources groups resources) = ⊥
 
 abbrev pub AreResources : RawApplies → Type 0
+AreResources (applied.Events groups events) = ⊥
+AreResources (applied.Groups groups) = ⊥
+AreResources (applied.Pairs pairs) = ⊥
 AreResources (applied.Resources groups resources) = Unit {0}
-AreResources _ = ⊥
 
 -- the form that the kind of a rule asks for
 abbrev pub FitsRule : RawRule → RawApplies → Type 0

@@ -5,9 +5,8 @@ use crate::building::{Build, optional};
 use crate::contents::{function_text, number_text, role_text, truth_text};
 use crate::finding::{attribute, child};
 use crate::records::{Name, Ref};
-use crate::schema::BOUND;
 use crate::words::{Label, Tag};
-use khe_base::limits::NUMBER;
+use khe_base::limits::{GREATEST_BOUND, NUMBER};
 use khe_base::{CostFn, NoMemory, Text};
 use std::alloc::Global;
 use xhstt_text::{Element, unescape};
@@ -192,8 +191,8 @@ pub(crate) fn lower(alloc: Global, tag: Tag, element: &Element<'_, '_>) -> Resul
 pub(crate) fn upper(alloc: Global, tag: Tag, element: &Element<'_, '_>) -> Result<u32, NoMemory>
     ensures { IfOk result (λ n. n ≡ spec.upper tag element.now) }
 {
-    let number = optional_number(alloc, 0, BOUND, tag, element)?;
-    Ok(number.unwrap_or(BOUND))
+    let number = optional_number(alloc, 0, GREATEST_BOUND, tag, element)?;
+    Ok(number.unwrap_or(GREATEST_BOUND))
 }
 
 /// A duration, where it stands.

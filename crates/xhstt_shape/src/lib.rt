@@ -26,5 +26,5 @@ pub use records::{
     RawInstance, RawResource, RawSolution, Ref, ResourceGroup, ResourceType, SolutionGroup, Time,
     TimeGroup, TimeSort,
 };
-pub use schema::{AllowedAttribute, BOUND, Child, Content, Mark, Row};
+pub use schema::{AllowedAttribute, Child, Content, Mark, Row};
 pub use words::{Label, Tag};

@@ -2,7 +2,7 @@ ghost use Rattle.std.specs.Prelude.{◌≡◌};
 ghost use Rattle.xhstt_shape.specs.Schema as schema;
 
 use crate::words::{Label, Tag};
-use khe_base::limits::NUMBER;
+use khe_base::limits::{GREATEST_BOUND, NUMBER};
 use khe_instance::Kind;
 
 /// How often a child may stand in its element.
@@ -189,9 +189,6 @@ macro_rules! many {
         }
     };
 }
-
-/// The greatest value of an upper bound.
-pub const BOUND: u32 = 2_147_483_647;
 
 const REQUIRED_ID: &[AllowedAttribute] = &[AllowedAttribute {
     label: Label::Id,
@@ -507,13 +504,55 @@ impl Row {
             },
             Row::Bound => Content::Number {
                 least: 0,
-                greatest: BOUND,
+                greatest: GREATEST_BOUND,
             },
             Row::Truth => Content::Truth,
             Row::Function => Content::Function,
             Row::Role => Content::Role,
             Row::Anything => Content::Anything,
-            _ => Content::Elements,
+            Row::Archive
+            | Row::MetaData
+            | Row::Instances
+            | Row::Instance
+            | Row::Times
+            | Row::TimeGroups
+            | Row::Named
+            | Row::Time
+            | Row::Resources
+            | Row::ResourceTypes
+            | Row::ResourceGroups
+            | Row::ResourceGroup
+            | Row::Resource
+            | Row::Events
+            | Row::EventGroups
+            | Row::Event
+            | Row::EventResources
+            | Row::EventResource
+            | Row::OpenResource
+            | Row::Constraints
+            | Row::Constraint(_)
+            | Row::EventApplies
+            | Row::GroupApplies
+            | Row::ResourceApplies
+            | Row::PairApplies
+            | Row::EventPairs
+            | Row::EventPair
+            | Row::Spreads
+            | Row::Spread
+            | Row::SolutionGroups
+            | Row::SolutionGroup
+            | Row::Solution
+            | Row::Entries
+            | Row::Entry
+            | Row::GivenResources
+            | Row::Given
+            | Row::TimeGroupReferences
+            | Row::ResourceGroupReferences
+            | Row::EventGroupReferences
+            | Row::TimeReferences
+            | Row::EventReferences
+            | Row::ResourceReferences
+            | Row::Reference => Content::Elements,
         }
     }
 }

@@ -74,6 +74,7 @@ applies_parts (applied.Resources groups resources) =
 
 -- the children of a constraint after those that each constraint has
 abbrev pub rule_parts : RawRule → List Part
+rule_parts ruled.AssignTime = []
 rule_parts (ruled.AssignResource r) = one tag.Role (role r) ∷ []
 rule_parts (ruled.SplitEvents a b c d) = one tag.MinimumDuration
     (number a) ∷ (one tag.MaximumDuration (number b) ∷ (one tag.MinimumAmount
@@ -88,6 +89,9 @@ rule_parts (ruled.PreferResources groups resources r) =
     groups ∷ (references tag.Resources tag.Resource resources ∷ (one tag.Role (role r) ∷ []))
 rule_parts (ruled.AvoidSplitAssignments r) = one tag.Role (role r) ∷ []
 rule_parts (ruled.SpreadEvents groups) = list_of tag.TimeGroups (each (λ _. tag.TimeGroup) spread groups) ∷ []
+rule_parts ruled.LinkEvents = []
+rule_parts ruled.OrderEvents = []
+rule_parts ruled.AvoidClashes = []
 rule_parts (ruled.AvoidUnavailableTimes groups times) =
     references tag.TimeGroups tag.TimeGroup groups ∷ (references tag.Times tag.Time times ∷ [])
 rule_parts (ruled.LimitIdleTimes groups min max) =
@@ -100,7 +104,6 @@ rule_parts (ruled.LimitBusyTimes groups min max) =
     references tag.TimeGroups tag.TimeGroup groups ∷ (one tag.Minimum
     (number min) ∷ (one tag.Maximum (number max) ∷ []))
 rule_parts (ruled.LimitWorkload min max) = one tag.Minimum (number min) ∷ (one tag.Maximum (number max) ∷ [])
-rule_parts _ = []
 
 abbrev pub kind_of : RawRule → Kind
 kind_of ruled.AssignTime = kind.AssignTime

@@ -16,7 +16,7 @@ use Rattle.parallel_solve.specs.Windows.{IsAhead}
 use Rattle.khe_app.specs.Report.{groups_text, outcome_at, report}
 use Rattle.script_run.proofs.AmidLemmas.{always-err, amid-cut, amid-end, amid-flush, err-of, one-err, one-ok}
 use Rattle.khe_app.proofs.GroupLemmas.{later_come, standing_at}
-use Rattle.xhstt_completion.specs.Entries.{solutions}
+use Rattle.xhstt_references.specs.References.{solutions_of}
 use Rattle.khe_app.proofs.reports.report.Goals as goal
 use Rattle.xhstt_shape.specs.declared.records.RawSolution.{RawSolution}
 use Rattle.xhstt_shape.specs.declared.records.SolutionGroup.{SolutionGroup}
@@ -110,8 +110,8 @@ loop-group-preserved g c =
           (sym count)
           (c.in_ok-write_group.ensures.amid (g.K.Sink.taken c.args.out.now) rest (report all c.args.archive.now r)
           amid);
-      to_come = ap (λ m. drop (n + m) (solutions c.args.archive.now)) count
-          ∙ later_come n (solutions c.args.archive.now) x.solutions later (c.loop-group.invariant.to_come ∙ sols);
+      to_come = ap (λ m. drop (n + m) (solutions_of c.args.archive.now)) count
+          ∙ later_come n (solutions_of c.args.archive.now) x.solutions later (c.loop-group.invariant.to_come ∙ sols);
       size = omega (arith, c.loop-group.invariant.size, ap length sols, length-append x.solutions later, count);
       ahead = subst (λ (vs : List (Bor RawSolution)). IsAhead (outcome_at all r)
           (map (λ (y : Bor RawSolution). y.now) vs) c.write_group.new.ahead) c.as_slice.ensures.value
@@ -161,7 +161,7 @@ write_group-requires-clause-small g c κs within =
     let later = flat_map (λ y. y.solutions) (drop (i + 1) gs) in
     let sols = left_solutions gs i x at in
     let now = λ (y : Bor RawSolution). y.now in
-    let raws : map now c.as_slice.result.now ≡ solutions c.args.archive.now =
+    let raws : map now c.as_slice.result.now ≡ solutions_of c.args.archive.now =
     ap (map now) c.as_slice.ensures.value ∙ c.in_ok-raws.ensures in
     omega (
       arith,
@@ -183,23 +183,23 @@ write_group-requires-clause-standing g c κs within = λ k raw there.
     let later = flat_map (λ y. y.solutions) (drop (i + 1) gs) in
     let sols = left_solutions gs i x at in
     let now = λ (y : Bor RawSolution). y.now in
-    let raws : map now c.as_slice.result.now ≡ solutions c.args.archive.now =
+    let raws : map now c.as_slice.result.now ≡ solutions_of c.args.archive.now =
     ap (map now) c.as_slice.ensures.value ∙ c.in_ok-raws.ensures in
     subst (λ (all : List RawSolution). slice_get all (n + k) ≡ Some raw) (sym raws)
-    (standing_at n (solutions c.args.archive.now) x.solutions later k raw (c.loop-group.invariant.to_come ∙ sols)
+    (standing_at n (solutions_of c.args.archive.now) x.solutions later k raw (c.loop-group.invariant.to_come ∙ sols)
     there)
 
 pub write_group-requires-clause-all_ones : goal.write_group-requires-clause-all_ones
 write_group-requires-clause-all_ones g c κs within =
     let r = c.args.resolved.now in
     let now = λ (y : Bor RawSolution). y.now in
-    let raws : map now c.as_slice.result.now ≡ solutions c.args.archive.now =
+    let raws : map now c.as_slice.result.now ≡ solutions_of c.args.archive.now =
     ap (map now) c.as_slice.ensures.value ∙ c.in_ok-raws.ensures in
     subst (AreOnes r 0) (sym raws) c.requires.ready.ready.ones
 
 pub write_group-requires-clause-few : goal.write_group-requires-clause-few
 write_group-requires-clause-few g c κs within =
     let now = λ (y : Bor RawSolution). y.now in
-    let raws : map now c.as_slice.result.now ≡ solutions c.args.archive.now =
+    let raws : map now c.as_slice.result.now ≡ solutions_of c.args.archive.now =
     ap (map now) c.as_slice.ensures.value ∙ c.in_ok-raws.ensures in
     omega (arith, ap length raws, length-map c.as_slice.result.now now, c.requires.ready.ready.few)

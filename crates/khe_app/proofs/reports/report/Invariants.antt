@@ -4,7 +4,7 @@ use Rattle.std.specs.List.{flat_map}
 use Rattle.parallel_solve.specs.Ready.{AreOnes}
 use Rattle.parallel_solve.specs.Windows.{IsAhead}
 use Rattle.script_run.specs.Amid.{IsAmid}
-use Rattle.xhstt_completion.specs.Entries.{solutions}
+use Rattle.xhstt_references.specs.References.{solutions_of}
 use Rattle.khe_app.specs.Report.{groups_text, outcome_at, report}
 use Rattle.khe_app.proofs.reports.report.Given as goal
 
@@ -15,8 +15,8 @@ invariant-loop-group g l =
       amid : IsAmid (g.K.Sink.taken l.fn.out) (g.K.Sink.taken l.out) l.text
           (groups_text l.fn.all l.fn.resolved l.number left) (report l.fn.all l.fn.archive l.fn.resolved);
       ones : AreOnes l.fn.resolved l.number (flat_map (λ x. x.solutions) left);
-      to_come : drop l.number (solutions l.fn.archive) ≡ flat_map (λ x. x.solutions) left;
-      size : l.number + length (flat_map (λ x. x.solutions) left) ≡ length (solutions l.fn.archive);
+      to_come : drop l.number (solutions_of l.fn.archive) ≡ flat_map (λ x. x.solutions) left;
+      size : l.number + length (flat_map (λ x. x.solutions) left) ≡ length (solutions_of l.fn.archive);
       ahead : IsAhead (outcome_at l.fn.all l.fn.resolved) (map (λ x. x.now) l.raws.items) l.ahead;
       small : l.number + length (flat_map (λ x. x.solutions) left) < 2 ^ 32;
       faultless : g.K.Sink.faults l.out ≡ g.K.Sink.faults l.fn.out;
