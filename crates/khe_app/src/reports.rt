@@ -14,7 +14,7 @@ ghost use Rattle.xhstt_shape.specs.declared.records.RawSolution.{RawSolution};
 use crate::outcomes::{Outcomes, instance_at};
 use evaluation_report::{header_line, solution_line};
 use khe_base::{NoMemory, Text};
-use khe_io::{Gate, Sink};
+use khe_io::{Gate, Sink, put_all};
 use parallel_solve::{Ahead, all_solutions, rooms_of};
 use resource_deviations::ResourceRoom;
 use script_run::{Cut, flush, flush_long};
@@ -23,8 +23,11 @@ use std::thread::Threads;
 use xhstt_resolve::Resolved;
 use xhstt_shape::{Archive, RawSolution, SolutionGroup};
 
-/// Adds the part of a report on the solution with a number: its line, and what comes of it.
-fn push_numbered(
+/// How many bytes a text has that goes to the sink as it stands: it isn't copied to what waits first.
+const LONG: usize = 1 << 16;
+
+/// Adds the line of the solution with a number to what waits.
+fn push_line(
     alloc: Global,
     text: &mut Text,
     resolved: &Resolved,
@@ -36,12 +39,48 @@ fn push_numbered(
 ) -> Result<(), NoMemory>
     requires one { IsOne resolved.now number _solution.now }
     requires outcome { outcome.now ≡ spec.outcome_at _all resolved.now (number, _solution.now) }
-    ensures { OnOk result (text.new ≡ text.old ++ spec.numbered_text _all resolved.now group.now (number, _solution.now)) }
+    ensures { (rest : List ℕ) → OnOk result (text.new ++ (outcome.now ++ rest) ≡ text.old ++ (spec.numbered_text _all resolved.now group.now (number, _solution.now) ++ rest)) }
 {
     let inst = instance_at(resolved, number);
     let line = solution_line(alloc, number, group, inst.id())?;
-    text.push_text(&line)?;
-    text.push_text(outcome)
+    text.push_text(&line)
+}
+
+/// Adds a text to what waits, and gives that to the sink where it is long.
+fn pass_short<K: Sink>(
+    alloc: Global,
+    out: &mut K,
+    pending: &mut Text,
+    text: &Text,
+) -> Result<(), Cut>
+    ensures amid { (before : Option (List ℕ)) (rest whole : List ℕ) → IsAmid before (K.taken out.old) pending.old (text.now ++ rest) whole → OnOk result (IsAmid before (K.taken out.new) pending.new rest whole) }
+    ensures front { (before : Option (List ℕ)) (rest whole : List ℕ) → IsAmid before (K.taken out.old) pending.old (text.now ++ rest) whole → OnErr result (TookFront before (K.taken out.new) (encode_utf8_all whole)) }
+    ensures fault { IsErrOf result Cut.WriteFault → Rose (K.faults out.old) (K.faults out.new) }
+    ensures faultless { OnOk result (K.faults out.new ≡ K.faults out.old) }
+    ensures faultless_starved { IsErrOf result Cut.NoMemory → K.faults out.new ≡ K.faults out.old }
+    ensures counted { K.faults out.old ≤ K.faults out.new }
+{
+    pending.push_text(text)?;
+    flush_long(alloc, out, pending)
+}
+
+/// Gives what waits, and then a text, to the sink.
+fn pass_long<K: Sink>(
+    alloc: Global,
+    out: &mut K,
+    pending: &mut Text,
+    text: &Text,
+) -> Result<(), Cut>
+    ensures amid { (before : Option (List ℕ)) (rest whole : List ℕ) → IsAmid before (K.taken out.old) pending.old (text.now ++ rest) whole → OnOk result (IsAmid before (K.taken out.new) pending.new rest whole) }
+    ensures front { (before : Option (List ℕ)) (rest whole : List ℕ) → IsAmid before (K.taken out.old) pending.old (text.now ++ rest) whole → OnErr result (TookFront before (K.taken out.new) (encode_utf8_all whole)) }
+    ensures fault { IsErrOf result Cut.WriteFault → Rose (K.faults out.old) (K.faults out.new) }
+    ensures faultless { OnOk result (K.faults out.new ≡ K.faults out.old) }
+    ensures faultless_starved { IsErrOf result Cut.NoMemory → K.faults out.new ≡ K.faults out.old }
+    ensures counted { K.faults out.old ≤ K.faults out.new }
+{
+    flush(alloc, out, pending)?;
+    put_all(out, text.as_bytes())?;
+    Ok(())
 }
 
 /// Adds the part of a report on one solution to what waits, and gives that to the sink where it is
@@ -66,8 +105,12 @@ fn write_solution<K: Sink>(
     ensures faultless_starved { IsErrOf result Cut.NoMemory → K.faults out.new ≡ K.faults out.old }
     ensures counted { K.faults out.old ≤ K.faults out.new }
 {
-    push_numbered(alloc, text, resolved, number, group, outcome, solution, all)?;
-    flush_long(alloc, out, text)
+    push_line(alloc, text, resolved, number, group, outcome, solution, all)?;
+    if outcome.as_bytes().len() < LONG {
+        pass_short(alloc, out, text, outcome)
+    } else {
+        pass_long(alloc, out, text, outcome)
+    }
 }
 
 /// Writes the solutions of a group, numbered on from this number among all. What comes of them was

@@ -1,6 +1,6 @@
 -- One more task is added up.
 use Rattle.std.proofs.Common.{◌≡◌, ◌∙◌, sym, ap, ℕ, ◌+◌, ◌*◌, ◌<◌, ◌≤◌, ◌&&◌, cond, Bool, List, length, get_or, take}
-use Rattle.std.proofs.Common.{arith, slice_index, length-take-le}
+use Rattle.std.proofs.Common.{arith, length-take-le}
 use Rattle.std.proofs.lemmas.List.Sums.{sum_by_more, count_by-le-length}
 use Rattle.std.specs.List.{range_with_len}
 use Rattle.std.proofs.lemmas.List.FromFn.{length-range_with_len}
@@ -16,25 +16,28 @@ use Rattle.khe_instance.specs.ResourceDeviation.{workload_of}
 use Rattle.khe_instance.specs.Running.{is_resource, runs, running_tasks}
 use Rattle.khe_instance.specs.declared.parts.Parts.{Parts}
 use Rattle.khe_instance.specs.declared.states.Duty.{Duty}
-use Rattle.timetables.specs.Counts.{count_at, row_of, is_busy, idle_times}
-use Rattle.resource_deviations.specs.Filled.{IsFilled, HasRows, AddsCounts, AddsWorkload}
+use Rattle.timetables.specs.Counts.{is_busy, idle_times}
+use Rattle.resource_deviations.specs.Filled.{IsFilled, HasRows, AddsCounts, AddsWorkload, counted, summed}
 
 -- no more tasks run than there are
-pub counts-few : (p : Parts) (ds : List Duty) (rows : List (List ℕ)) (sums : List ℕ) → IsFilled p ds rows sums
-    → (r t : ℕ) → count_at rows r t ≤ length ds
-counts-few p ds rows sums f r t =
-    let e : count_at rows r t ≡ running_tasks ds r t = f.counts r t in
+pub counts-few : (p : Parts) (ds : List Duty) (rows : List ℕ) (count : ℕ) (table : List (List ℕ)) (sums : List ℕ)
+    → IsFilled p ds rows count table sums → (r t : ℕ) → counted rows table r t ≤ length ds
+counts-few p ds rows count table sums f r t =
+    let e : counted rows table r t ≡ running_tasks ds r t = f.counts r t in
     let l : running_tasks ds r t ≤ length ds = count_by-le-length
     (λ (d : Duty). is_resource r d.resource && runs d.meet t) ds in
     omega arith
 
-pub filled-more : (p : Parts) (ds : List Duty) (rows new : List (List ℕ)) (sums more : List ℕ) (i : ℕ) (d : Duty)
-    → i < length ds → length ds ≤ TASKS → IsFilled p (take i ds) rows sums
-    → HasRows p new → AddsCounts (get_or ds i d) rows new
-    → length more ≡ length p.resources → AddsWorkload p (get_or ds i d) sums more
-    → ((r : ℕ) → slice_index more r ≤ slice_index sums r + NUMBER * p.unit)
-    → IsFilled p (take (i + 1) ds) new more
-filled-more p ds rows new sums more i d h few f room counts size worth small = record {
+pub filled-more : (p : Parts) (ds : List Duty) (rows : List ℕ) (count : ℕ) (table new : List (List ℕ))
+    (sums more : List ℕ) (i : ℕ) (d : Duty)
+    → i < length ds → length ds ≤ TASKS → IsFilled p (take i ds) rows count table sums
+    → HasRows p count new → AddsCounts (get_or ds i d) rows table new
+    → length more ≡ count → AddsWorkload p (get_or ds i d) rows sums more
+    → ((r : ℕ) → summed rows more r ≤ summed rows sums r + NUMBER * p.unit)
+    → IsFilled p (take (i + 1) ds) rows count new more
+filled-more p ds rows count table new sums more i d h few f room counts size worth small = record {
+  numbered = f.numbered;
+  resources = f.resources;
   rows_of_all = room;
   sums_of_all = size;
   few = let e : length (take (i + 1) ds) ≡ i + 1 = length-take-le (i + 1) ds (omega arith) in omega arith;
@@ -59,20 +62,21 @@ filled-more p ds rows new sums more i d h few f room counts size worth small = r
 }
 
 -- what is counted is of the tasks
-pub filled-measured : (p : Parts) (ds : List Duty) (rows : List (List ℕ)) (sums : List ℕ) → IsFilled p ds rows sums
-    → (rule : Rule) (r : ℕ)
-    → measured p rule (slice_index (row_of rows r)) (slice_index sums r) ≡ resource_deviation p ds rule r
-filled-measured p ds rows sums f rule r = λ i. measured p rule (λ t. f.counts r t i) (f.workloads r i)
+pub filled-measured : (p : Parts) (ds : List Duty) (rows : List ℕ) (count : ℕ) (table : List (List ℕ)) (sums : List ℕ)
+    → IsFilled p ds rows count table sums → (rule : Rule) (r : ℕ)
+    → measured p rule (counted rows table r) (summed rows sums r) ≡ resource_deviation p ds rule r
+filled-measured p ds rows count table sums f rule r = λ i. measured p rule (λ t. f.counts r t i) (f.workloads r i)
 
 -- so no deviation is above the greatest
-pub filled-small : (p : Parts) (ds : List Duty) (rows : List (List ℕ)) (sums : List ℕ) → IsFilled p ds rows sums
+pub filled-small : (p : Parts) (ds : List Duty) (rows : List ℕ) (count : ℕ) (table : List (List ℕ)) (sums : List ℕ)
+    → IsFilled p ds rows count table sums
     → AreWithinLimits p → 0 < p.unit → (rule : Rule) (r : ℕ) → IsRule p rule
-    → measured p rule (slice_index (row_of rows r)) (slice_index sums r) ≤ GREATEST_DEVIATION
-filled-small p ds rows sums f limits positive rule r h =
+    → measured p rule (counted rows table r) (summed rows sums r) ≤ GREATEST_DEVIATION
+filled-small p ds rows count table sums f limits positive rule r h =
     let most : length ds * (NUMBER * p.unit) ≤ TASKS * (NUMBER * p.unit) =
     mul-le (length ds) (NUMBER * p.unit) TASKS (NUMBER * p.unit) f.few (omega arith) in
-    measured-small p (slice_index (row_of rows r)) (slice_index sums r) limits positive
-    (λ t. let l = counts-few p ds rows sums f r t in omega (arith, l, f.few))
+    measured-small p (counted rows table r) (summed rows sums r) limits positive
+    (λ t. let l = counts-few p ds rows count table sums f r t in omega (arith, l, f.few))
     (let l = f.small r in omega (arith, l, most)) rule h
 
 -- no set has more idle times than times

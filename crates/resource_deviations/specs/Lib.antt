@@ -1,2 +1,3 @@
 pub mod Filled
+pub mod Rows
 pub mod Sets

@@ -2,28 +2,33 @@ ghost use Rattle.std.specs.Prelude.{◌≡◌, ◌+◌, ◌*◌, ◌^◌, ◌/�
 ghost use Rattle.khe_base.specs.declared.limits.TheConstants.{GREATEST_COUNT, NUMBER};
 ghost use Rattle.khe_instance.specs.ResourceDeviation.{workload_of};
 ghost use Rattle.khe_instance.specs.States.{IsDuty};
-ghost use Rattle.resource_deviations.specs.Filled.{HasRows, AddsCounts, AddsWorkload};
+ghost use Rattle.resource_deviations.specs.Filled.{HasRows, AddsCounts, AddsWorkload, counted, summed};
+ghost use Rattle.resource_deviations.specs.Rows.{AreRows, HasRow};
 ghost use Rattle.timetables.specs.Counts.{row_of, count_at};
 
+use crate::rows::Rows;
 use khe_base::{NoMemory, ResourceId, TimeId};
 use khe_instance::{Duty, Instance};
 use std::alloc::Global;
 use timetables::Timetable;
 
-/// A workload of 0 for each resource.
-pub(crate) fn no_workloads(alloc: Global, resources: u32) -> Result<Vec<u128>, NoMemory>
-    ensures { IfOk result (λ w. w.items ≡ replicate resources 0) }
+/// A workload of 0 for each of so many rows.
+pub(crate) fn no_workloads(alloc: Global, rows: u32) -> Result<Vec<u128>, NoMemory>
+    ensures { IfOk result (λ w. w.items ≡ replicate rows 0) }
 {
-    Ok(vec![in alloc; 0; resources as usize]?)
+    Ok(vec![in alloc; 0; rows as usize]?)
 }
 
 /// Adds a task to the counts, at each time at which its meet runs.
-pub(crate) fn add_counts(inst: &Instance, duty: &Duty, table: &mut Timetable)
+pub(crate) fn add_counts(inst: &Instance, duty: &Duty, rows: &Rows, table: &mut Timetable)
     requires duty { IsDuty inst.now duty.now }
-    requires room { HasRows inst.now table.old }
-    requires counts { (r t : ℕ) → count_at table.old r t < GREATEST_COUNT }
-    ensures room { HasRows inst.now table.new }
-    ensures counts { AddsCounts duty.now table.old table.new }
+    requires numbered { AreRows rows.now.of.items rows.now.count }
+    requires resources { length rows.now.of.items ≡ length inst.now.resources }
+    requires own { HasRow rows.now.of.items duty.now }
+    requires room { HasRows inst.now rows.now.count table.old }
+    requires counts { (r t : ℕ) → counted rows.now.of.items table.old r t < GREATEST_COUNT }
+    ensures room { HasRows inst.now rows.now.count table.new }
+    ensures counts { AddsCounts duty.now rows.now.of.items table.old table.new }
 {
     inst.facts();
     let Some(resource) = duty.resource else {
@@ -32,24 +37,27 @@ pub(crate) fn add_counts(inst: &Instance, duty: &Duty, table: &mut Timetable)
     let Some(start) = duty.meet.start else {
         return;
     };
-    occupy(table, resource, start, duty.meet.duration);
+    occupy(table, rows.row(resource), start, duty.meet.duration);
 }
 
 /// Adds a task to the workloads, whether its meet has a start or not.
-pub(crate) fn add_workload(inst: &Instance, duty: &Duty, workloads: &mut Vec<u128>)
+pub(crate) fn add_workload(inst: &Instance, duty: &Duty, rows: &Rows, workloads: &mut Vec<u128>)
     requires duty { IsDuty inst.now duty.now }
-    requires room { length workloads.old.items ≡ length inst.now.resources }
-    requires small { (r : ℕ) → slice_index workloads.old.items r + NUMBER * inst.now.unit < 2 ^ 128 }
-    ensures room { length workloads.new.items ≡ length inst.now.resources }
-    ensures sums { AddsWorkload inst.now duty.now workloads.old.items workloads.new.items }
-    ensures small { (r : ℕ) → slice_index workloads.new.items r ≤ slice_index workloads.old.items r + NUMBER * inst.now.unit }
+    requires numbered { AreRows rows.now.of.items rows.now.count }
+    requires resources { length rows.now.of.items ≡ length inst.now.resources }
+    requires own { HasRow rows.now.of.items duty.now }
+    requires room { length workloads.old.items ≡ rows.now.count }
+    requires small { (r : ℕ) → summed rows.now.of.items workloads.old.items r + NUMBER * inst.now.unit < 2 ^ 128 }
+    ensures room { length workloads.new.items ≡ rows.now.count }
+    ensures sums { AddsWorkload inst.now duty.now rows.now.of.items workloads.old.items workloads.new.items }
+    ensures small { (r : ℕ) → summed rows.now.of.items workloads.new.items r ≤ summed rows.now.of.items workloads.old.items r + NUMBER * inst.now.unit }
 {
     let Some(resource) = duty.resource else {
         return;
     };
     let worth = worth_of(inst, duty);
-    let place = resource.0 as usize;
-    workloads[place] += worth;
+    let row = rows.row(resource).0 as usize;
+    workloads[row] += worth;
 }
 
 /// What a task is worth to its resource, in parts of one over the unit.

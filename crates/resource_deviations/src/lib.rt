@@ -7,6 +7,7 @@ mod filling;
 mod masks;
 mod measures;
 mod rooms;
+mod rows;
 
 pub use deviations::ResourceDeviations;
 pub use rooms::ResourceRoom;

@@ -1,7 +1,7 @@
 -- What is measured is the deviation, and none is above the greatest.
-use Rattle.std.proofs.Common.{◌≡◌, ◌≤◌, ◌∙◌, ℕ, ap, subst, sym}
+use Rattle.std.proofs.Common.{◌≤◌, ℕ, subst, sym}
 use Rattle.khe_base.specs.declared.limits.TheConstants.{GREATEST_DEVIATION}
-use Rattle.resource_deviations.proofs.FilledLemmas.{filled-measured, filled-small}
+use Rattle.resource_deviations.proofs.FilledLemmas.{filled-small}
 use Rattle.khe_instance.proofs.MadeLemmas.{constraint_made, monitored}
 use Rattle.resource_deviations.proofs.deviations.ResourceDeviations.deviation.Goals as goal
 
@@ -13,7 +13,7 @@ returns-clause-bound c =
     let constraint = c.constraint.result.now in
     let Small : ℕ → Type 0 = λ n. n ≤ GREATEST_DEVIATION in
     subst Small (sym c.of_rule.ensures)
-    (filled-small p ds c.args.self.now.table c.args.self.now.workloads.items c.args.self.now.filled made.limits
+    (filled-small p ds c.args.self.now.rows.of.items c.args.self.now.rows.count c.args.self.now.table c.args.self.now.workloads.items c.args.self.now.filled made.limits
     made.unit.positive constraint.rule c.in-Resource.r.0
     (constraint_made p made c.args.monitor.constraint constraint c.constraint.ensures).rule)
 
