@@ -1,5 +1,5 @@
 -- What stands under a script's name.
-use Rattle.std.proofs.Common.{ℕ, ◌≤◌, Option, Some, None, IfSome, List, length, sym, subst, refl}
+use Rattle.std.proofs.Common.{ℕ, ◌≤◌, Some, None, IfSome, List, length, sym, subst, refl}
 use Rattle.khe_io.specs.Shelf.{StandsUnder}
 use Rattle.khe_app.specs.Answers.{IsScriptOf}
 use Rattle.khe_app.specs.Ends.{Holdings}

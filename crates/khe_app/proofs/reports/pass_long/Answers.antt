@@ -1,5 +1,5 @@
 -- What waits is taken, and then the text.
-use Rattle.std.proofs.Common.{ℕ, List, [], ◌++◌, Option, subst, sym}
+use Rattle.std.proofs.Common.{[], ◌++◌, subst, sym}
 use Rattle.khe_io.specs.Faults.{Took, TookFront}
 use Rattle.script_run.specs.Amid.{IsAmid}
 use Rattle.script_run.proofs.AmidLemmas.{amid-cut, amid-flush, amid-push, always-err}

@@ -1,6 +1,5 @@
 -- The solution's line joins what waits, and then comes what comes of it.
-use Rattle.std.proofs.Common.{ℕ, List, ◌++◌, ◌∙◌, ap, Option}
-use Rattle.script_run.specs.Amid.{IsAmid}
+use Rattle.std.proofs.Common.{◌++◌, ◌∙◌, ap}
 use Rattle.khe_app.specs.Report.{numbered_text}
 use Rattle.script_run.proofs.AmidLemmas.{amid-stop, always-err}
 use Rattle.khe_app.proofs.reports.write_solution.Goals as goal

@@ -1,5 +1,5 @@
 -- One set more, which has no more idle times than times.
-use Rattle.std.proofs.Common.{◌≡◌, ◌≤◌, ◌∙◌, sym, ap, ℕ, ◌+◌, Bool, List, length, get_or, arith}
+use Rattle.std.proofs.Common.{◌≡◌, ◌≤◌, ◌∙◌, sym, ap, ◌+◌, Bool, List, length, get_or, arith}
 use Rattle.std.proofs.lemmas.List.Sums.{sum_by_more}
 use Rattle.timetables.specs.Counts.{row_of, idle_times}
 use Rattle.resource_deviations.proofs.FilledLemmas.{idle_few}
