@@ -2,8 +2,8 @@
 
     python3 bench/growing.py SHAPE SIZE > archive.xml
 
-SIZE is 250 to 200,000, and the length of an archive grows in proportion with it. Each archive keeps all limits
-of the engine. SHAPE is one of these.
+SIZE is 250 to 200,000, and the length of an archive grows in proportion with it, but for the resources and the
+times with which `silent` begins. Each archive keeps all limits of the engine. SHAPE is one of these.
 
     roles       an event of SIZE roles, and an entry that gives a resource for each, in reverse
     unnamed     an event of SIZE places without a role, and an entry that gives the resource of the last one
@@ -14,6 +14,7 @@ of the engine. SHAPE is one of these.
     resources   SIZE / 20 resources in one group, and a constraint that names the group SIZE times
     times       SIZE / 250 times in one group, and a constraint that lists the group SIZE / 20 times
     solutions   SIZE / 20 solutions of 100 events, each with entries of two of them
+    silent      SIZE / 50 solutions without entries, of an instance with 10,000 resources and 400 times
 
 The archive is written as it is made, so memory does not grow with its length.
 """
@@ -172,7 +173,11 @@ def solutions(size):
                  solutions=(solution(made(number)) for number in range(size // 20)))
 
 
-SHAPES = [roles, unnamed, entries, points, events, resources, times, solutions]
+def silent(size):
+    return Shape(times=400, resources=9_998, solutions=(solution([]) for _ in range(size // 50)))
+
+
+SHAPES = [roles, unnamed, entries, points, events, resources, times, solutions, silent]
 
 
 def main():

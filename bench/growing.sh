@@ -11,7 +11,7 @@
 # environment. Run it by hand, on a quiet machine: it is no part of the gate.
 . "$(dirname "$0")/setup.sh"
 shift
-[ $# -gt 0 ] || set -- roles unnamed entries points events resources times solutions
+[ $# -gt 0 ] || set -- roles unnamed entries points events resources times solutions silent
 for shape; do
   before=
   for size in ${SIZES:-25000 50000 100000 200000}; do

@@ -23,6 +23,7 @@ use khe_instance::Instance;
 use khe_io::{Gate, Shelf, Sink, TakeFault, put_all, take_all};
 use script_run::Cut;
 use std::alloc::Global;
+use std::mem::ManuallyDrop;
 use std::thread::Threads;
 use thiserror::Error;
 
@@ -108,7 +109,8 @@ impl From<NoMemory> for Stop {
 /// each solution, in the meets, tasks, covered times, watches and monitors; the workers that run at the
 /// same time divide the solutions. It keeps in memory the archive's bytes with their tree or, after that,
 /// the archive with its instances, and what the solutions of one window cost; and of the report what one
-/// solution adds. A script takes besides what opening an engine takes, and for each edit what
+/// solution adds. An archive that was evaluated is left in memory, since a process ends with its run: who
+/// evaluates many in one process keeps them all. A script takes besides what opening an engine takes, and for each edit what
 /// watches its changes. A canonical spelling takes time linear in its bytes, and beside the archive and its
 /// instances no more memory than a piece of it. A repair takes besides an engine, and for each chain that
 /// it tries what watches the changes of its last move. Many repairs take the time of all, divided among the
@@ -264,7 +266,8 @@ fn script_too_large() -> &'static [u8]
     b"script fault 4 TooLarge\n"
 }
 
-/// Writes the report of the archive under a name, by so many workers.
+/// Writes the report of the archive under a name, by so many workers. The archive stays in memory: a run is the
+/// end of a process.
 #[tactic(auto, using(crate::proofs::EndsLemmas::end_starved, crate::proofs::EndsLemmas::end_stopped, crate::proofs::EndsLemmas::report_lacks))]
 fn evaluate<R: Threads + Sync, S: Shelf, K: Sink, G: Gate>(
     rt: &R,
@@ -288,7 +291,14 @@ fn evaluate<R: Threads + Sync, S: Shelf, K: Sink, G: Gate>(
     ensures sink_faults { K.faults out.old ≤ K.faults out.new }
 {
     match answer_to(alloc, shelf, name) {
-        Ok(answer) => write(rt, alloc, out, gate, &answer, all, workers),
+        Ok(answer) => {
+            let status = write(rt, alloc, out, gate, &answer, all, workers);
+
+            // The archive was needed up to here, where the run ends: taking it apart, text by text, would take
+            // a tenth of the time of a run.
+            let _left = ManuallyDrop::new(answer);
+            status
+        }
         Err(Stop::ReadFault) => Status(4),
         Err(Stop::NoMemory) => Status(6),
     }

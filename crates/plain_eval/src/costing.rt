@@ -1,7 +1,7 @@
 ghost use Rattle.std.specs.Prelude.{◌≡◌, ◌≤◌, ◌+◌, ◌^◌, ◌<◌, if◌then◌else◌, All, IfOk, ℕ, length};
 ghost use Rattle.khe_base.specs.IdSet.{has_member};
 ghost use Rattle.khe_base.specs.declared.limits.TheConstants.{GREATEST_COST, GREATEST_DEVIATION, GREATEST_TOTAL};
-ghost use Rattle.khe_instance.specs.Costs.{monitor_cost, is_hard, totals_of};
+ghost use Rattle.khe_instance.specs.Costs.{monitor_cost, is_hard, is_hard_at, totals_of};
 ghost use Rattle.khe_instance.specs.Evaluated as evaluated;
 ghost use Rattle.khe_instance.specs.States.{IsValid};
 ghost use Rattle.khe_instance.specs.WellMade.{IsMonitor};
@@ -48,10 +48,25 @@ pub(crate) fn totals_of(inst: &Instance, costs: &[u128]) -> Totals
     inst.facts();
     let mut totals = Totals { hard: 0, soft: 0 };
     for (number, cost) in costs.iter().enumerate() {
-        let monitor = inst.monitor(MonitorId(number as u32));
-        totals = with_cost(totals, *cost, is_hard(inst, monitor));
+        totals = with_cost_of(inst, totals, MonitorId(number as u32), *cost);
     }
     totals
+}
+
+/// The totals with the cost of one more monitor; what costs nothing is not looked up.
+fn with_cost_of(inst: &Instance, totals: Totals, monitor: MonitorId, cost: u128) -> Totals
+    requires monitor { monitor.0 < length inst.now.monitors }
+    requires hard { totals.hard + cost < 2 ^ 128 }
+    requires soft { totals.soft + cost < 2 ^ 128 }
+    ensures hard { result.hard ≡ totals.hard + (if is_hard_at inst.now monitor.0 then cost else 0) }
+    ensures soft { result.soft ≡ totals.soft + (if is_hard_at inst.now monitor.0 then 0 else cost) }
+{
+    if cost == 0 {
+        return totals;
+    }
+    inst.facts();
+    let monitor = inst.monitor(monitor);
+    with_cost(totals, cost, is_hard(inst, monitor))
 }
 
 /// The set of the detached monitors.
@@ -66,14 +81,14 @@ fn detached(alloc: Global, inst: &Instance, plain: &Plain) -> Result<IdSet, NoMe
     Ok(detached)
 }
 
-/// The cost of a monitor by its deviation: nothing where it is detached.
+/// The cost of a monitor by its deviation: nothing where it is detached, or does not deviate.
 fn cost_at(inst: &Instance, monitor: Monitor, detached: bool, deviation: u64) -> u128
     requires monitor { IsMonitor inst.now monitor }
     requires deviation { deviation ≤ GREATEST_DEVIATION }
     ensures exact { result ≡ monitor_cost inst.now detached monitor deviation }
     ensures small { result ≤ GREATEST_COST }
 {
-    if detached {
+    if detached || deviation == 0 {
         return 0;
     }
     inst.facts();

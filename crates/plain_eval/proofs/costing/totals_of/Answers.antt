@@ -1,12 +1,9 @@
 -- At each turn one cost joins the totals.
-use Rattle.std.proofs.Common.{ℕ, ◌≡◌, ◌≤◌, ◌+◌, ◌*◌, ◌∙◌, Bool, true, false, sym, ap, arith, get_or, slice_index}
+use Rattle.std.proofs.Common.{ℕ, ◌≤◌, ◌+◌, ◌∙◌, Bool, true, false, sym, arith, get_or, slice_index}
 use Rattle.std.proofs.Common.{if◌then◌else◌}
-use Rattle.std.specs.Option.{option_map_or}
-use Rattle.khe_base.proofs.ListLemmas.{all-there}
 use Rattle.khe_base.specs.declared.limits.TheConstants.{GREATEST_COST}
 use Rattle.khe_instance.proofs.SumsLemmas.{sum_by_range_more}
-use Rattle.khe_instance.specs.Costs.{is_hard, is_hard_at}
-use Rattle.khe_instance.specs.WellMade.{IsMonitor}
+use Rattle.khe_instance.specs.Costs.{is_hard_at}
 use Rattle.plain_eval.proofs.costing.totals_of.Goals as goal
 
 part : (b : Bool) (n : ℕ) → (if b then n else 0) ≤ n
@@ -17,27 +14,22 @@ other_part : (b : Bool) (n : ℕ) → (if b then 0 else n) ≤ n
 other_part true n = omega arith
 other_part false n = omega arith
 
-pub is_hard-requires : goal.is_hard-requires
-is_hard-requires c =
-    all-there (IsMonitor c.args.inst.now) c.args.inst.now.monitors c.loop-number.number c.monitor-monitor.result
-    c.facts.ensures.monitors.each c.monitor-monitor.ensures
-
 pub loop-number-preserved : goal.loop-number-preserved
 loop-number-preserved c =
     let p = c.args.inst.now in
     let costs = c.args.costs.now in
     let i = c.loop-number.number in
     let cost = get_or costs i 0 in
-    let hard : c.is_hard.result ≡ is_hard_at p i =
-    c.is_hard.ensures ∙ sym (ap (λ o. option_map_or (is_hard p) o false) c.monitor-monitor.ensures) in
     let few : cost ≤ GREATEST_COST = c.requires.small i 0 c.loop-number-test.true in
-    let a = part c.is_hard.result cost in
-    let b = other_part c.is_hard.result cost in
+    let a = part (is_hard_at p i) cost in
+    let b = other_part (is_hard_at p i) cost in
     record {
-      hard = c.with_cost-totals.ensures.hard ∙ (λ j. c.loop-number.invariant.hard j + (if hard j then cost else 0))
+      hard = c.with_cost_of-totals.ensures.hard
+          ∙ (λ j. c.loop-number.invariant.hard j + (if is_hard_at p i then cost else 0))
           ∙ sym (sum_by_range_more (λ n. if is_hard_at p n then slice_index costs n else 0) i);
-      soft = c.with_cost-totals.ensures.soft ∙ (λ j. c.loop-number.invariant.soft j + (if hard j then 0 else cost))
+      soft = c.with_cost_of-totals.ensures.soft
+          ∙ (λ j. c.loop-number.invariant.soft j + (if is_hard_at p i then 0 else cost))
           ∙ sym (sum_by_range_more (λ n. if is_hard_at p n then 0 else slice_index costs n) i);
-      small_hard = omega (arith, c.with_cost-totals.ensures.hard, a, few, c.loop-number.invariant.small_hard);
-      small_soft = omega (arith, c.with_cost-totals.ensures.soft, b, few, c.loop-number.invariant.small_soft);
+      small_hard = omega (arith, c.with_cost_of-totals.ensures.hard, a, few, c.loop-number.invariant.small_hard);
+      small_soft = omega (arith, c.with_cost_of-totals.ensures.soft, b, few, c.loop-number.invariant.small_soft);
     }
