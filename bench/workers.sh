@@ -1,9 +1,9 @@
 #!/usr/bin/env bash
 # Times the evaluation of archives by one worker and by several, and prints for each archive how many times as
-# fast the several are past the reading, which is the time of an empty script and is taken off first. The
-# archives are one of 116 solutions of 2,000 events each, and one of 10,000 solutions of 4 events each. The
-# reports of all runs are compared: they must be the same. Each is run three times in turns, and the fastest
-# run counts.
+# fast the several are past the reading. That is the time of the same archive with another role in the first entry
+# of each solution, so that none is valid and nothing is evaluated; it is taken off first. The archives are one of
+# 116 solutions of 2,000 events each, and one of 10,000 solutions of 4 events each. The reports of both are
+# compared: they must be the same. Each is run three times in turns, and the fastest run counts.
 #
 #     bench/workers.sh KHE [WORKERS]
 #
@@ -11,13 +11,19 @@
 # Run it by hand, on a quiet machine with as many processors: it is no part of the gate.
 . "$(dirname "$0")/setup.sh"
 workers=${2:-4}
-: > "$work/empty"
 compare() {
   python3 "$top/bench/archives.py" "$1" "$2" > "$archive"
   written=$(grep -c '^<Solution ' "$archive" || true)
+  python3 -c '
+import sys
+head, *solutions = sys.stdin.read().split("<Solution ")
+solutions = [one.replace("<Role>T</Role>", "<Role>X</Role>", 1) for one in solutions]
+sys.stdout.write("<Solution ".join([head] + solutions))' < "$archive" > "$work/invalid.xml"
+  invalid=$("$khe" evaluate "$work/invalid.xml" | grep -c '^invalid 5 BadRole entry 0$')
+  [ "$invalid" = "$written" ] || { echo "workers.sh: only $invalid of $written solutions are invalid" >&2; exit 1; }
   "$khe" evaluate "$archive" > "$work/one"
   "$khe" evaluate "$archive" --workers "$workers" | cmp - "$work/one"
-  python3 "$top/bench/measure.py" "${RUNS:-3}" "$khe" script "$archive" 0 "$work/empty" \
+  python3 "$top/bench/measure.py" "${RUNS:-3}" "$khe" evaluate "$work/invalid.xml" \
     -- "$khe" evaluate "$archive" -- "$khe" evaluate "$archive" --workers "$workers" > "$work/took"
   awk -v written="$written" -v events="$1" -v workers="$workers" '
     NR == 1 { reading = $1 }
