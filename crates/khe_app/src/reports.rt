@@ -46,13 +46,9 @@ fn push_line(
     text.push_text(&line)
 }
 
-/// Adds a text to what waits, and gives that to the sink where it is long.
-fn pass_short<K: Sink>(
-    alloc: Global,
-    out: &mut K,
-    pending: &mut Text,
-    text: &Text,
-) -> Result<(), Cut>
+/// Adds a text to what waits, and gives that to the sink where it is long; a text that is long by itself goes
+/// there after what waits, without being copied.
+fn pass_on<K: Sink>(alloc: Global, out: &mut K, pending: &mut Text, text: &Text) -> Result<(), Cut>
     ensures amid { (before : Option (List ℕ)) (rest whole : List ℕ) → IsAmid before (K.taken out.old) pending.old (text.now ++ rest) whole → OnOk result (IsAmid before (K.taken out.new) pending.new rest whole) }
     ensures front { (before : Option (List ℕ)) (rest whole : List ℕ) → IsAmid before (K.taken out.old) pending.old (text.now ++ rest) whole → OnErr result (TookFront before (K.taken out.new) (encode_utf8_all whole)) }
     ensures fault { IsErrOf result Cut.WriteFault → Rose (K.faults out.old) (K.faults out.new) }
@@ -60,26 +56,13 @@ fn pass_short<K: Sink>(
     ensures faultless_starved { IsErrOf result Cut.NoMemory → K.faults out.new ≡ K.faults out.old }
     ensures counted { K.faults out.old ≤ K.faults out.new }
 {
-    pending.push_text(text)?;
-    flush_long(alloc, out, pending)
-}
-
-/// Gives what waits, and then a text, to the sink.
-fn pass_long<K: Sink>(
-    alloc: Global,
-    out: &mut K,
-    pending: &mut Text,
-    text: &Text,
-) -> Result<(), Cut>
-    ensures amid { (before : Option (List ℕ)) (rest whole : List ℕ) → IsAmid before (K.taken out.old) pending.old (text.now ++ rest) whole → OnOk result (IsAmid before (K.taken out.new) pending.new rest whole) }
-    ensures front { (before : Option (List ℕ)) (rest whole : List ℕ) → IsAmid before (K.taken out.old) pending.old (text.now ++ rest) whole → OnErr result (TookFront before (K.taken out.new) (encode_utf8_all whole)) }
-    ensures fault { IsErrOf result Cut.WriteFault → Rose (K.faults out.old) (K.faults out.new) }
-    ensures faultless { OnOk result (K.faults out.new ≡ K.faults out.old) }
-    ensures faultless_starved { IsErrOf result Cut.NoMemory → K.faults out.new ≡ K.faults out.old }
-    ensures counted { K.faults out.old ≤ K.faults out.new }
-{
+    let bytes = text.as_bytes();
+    if bytes.len() < LONG {
+        pending.push_text(text)?;
+        return flush_long(alloc, out, pending);
+    }
     flush(alloc, out, pending)?;
-    put_all(out, text.as_bytes())?;
+    put_all(out, bytes)?;
     Ok(())
 }
 
@@ -106,11 +89,7 @@ fn write_solution<K: Sink>(
     ensures counted { K.faults out.old ≤ K.faults out.new }
 {
     push_line(alloc, text, resolved, number, group, outcome, solution, all)?;
-    if outcome.as_bytes().len() < LONG {
-        pass_short(alloc, out, text, outcome)
-    } else {
-        pass_long(alloc, out, text, outcome)
-    }
+    pass_on(alloc, out, text, outcome)
 }
 
 /// Writes the solutions of a group, numbered on from this number among all. What comes of them was

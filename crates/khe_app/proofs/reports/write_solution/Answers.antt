@@ -11,17 +11,9 @@ returns-in_err-push_line-clause-front g c = λ before rest whole h.
     (numbered_text c.args.all c.args.resolved.now c.args.group.now (c.args.number, c.args.solution.now) ++ rest) whole
     h)
 
-pub returns-then-as_bytes-lt-LONG-clause-front : goal.returns-then-as_bytes-lt-LONG-clause-front
-returns-then-as_bytes-lt-LONG-clause-front g c = λ before rest whole h.
-    c.pass_short.ensures.front before rest whole (record {
-      written = h.written;
-      took = h.took;
-      is = ap (λ xs. h.written ++ xs) (c.in_ok-push_line.ensures rest) ∙ h.is;
-    })
-
-pub returns-else-as_bytes-lt-LONG-clause-front : goal.returns-else-as_bytes-lt-LONG-clause-front
-returns-else-as_bytes-lt-LONG-clause-front g c = λ before rest whole h.
-    c.pass_long.ensures.front before rest whole (record {
+pub returns-clause-front : goal.returns-clause-front
+returns-clause-front g c = λ before rest whole h.
+    c.pass_on.ensures.front before rest whole (record {
       written = h.written;
       took = h.took;
       is = ap (λ xs. h.written ++ xs) (c.in_ok-push_line.ensures rest) ∙ h.is;
