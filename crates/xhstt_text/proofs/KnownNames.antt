@@ -1,5 +1,7 @@
--- A name more in a set of names.
+-- A name more among the names so far.
 use Rattle.std.proofs.Common.{◌≡◌, ℕ, Bool, true, false, ◌||◌, List, [], ◌∷◌, refl, sym, ◌∙◌, ap, nat_cmp}
+use Rattle.std.specs.Prelude.{Option, Some, None}
+use Rattle.std.specs.Option.{option_map_or}
 use Rattle.std.specs.List.{list_any}
 use Rattle.std.specs.Borrow.{Bor}
 use Rattle.std.specs.declared.cmp.Ordering.{Ordering}
@@ -18,13 +20,13 @@ compare x y = slice_cmp nat_cmp x.now y.now
 abbrev finds : List ℕ → Bor (List ℕ) → Bool
 finds bs = is_at (λ k. slice_cmp nat_cmp bs k.now)
 
-swap_or : (a b c : Bool) → (b || (a || c)) ≡ (a || (b || c))
+pub swap_or : (a b c : Bool) → (b || (a || c)) ≡ (a || (b || c))
 swap_or true true c = refl
 swap_or true false c = refl
 swap_or false true c = refl
 swap_or false false c = refl
 
-same_or : (a b c : Bool) → a ≡ b → (b || c) ≡ (a || (b || c))
+pub same_or : (a b c : Bool) → a ≡ b → (b || c) ≡ (a || (b || c))
 same_or true true c e = refl
 same_or true false c e = cc
 same_or false true c e = cc
@@ -54,3 +56,15 @@ pub holds_more : (bs : List ℕ) (key : Bor (List ℕ)) (ks new : List (Bor (Lis
 holds_more bs key ks new known e h =
     ap (list_any (finds bs)) e ∙ found_after bs key ks ∙ ap (λ v. finds bs key || v) h
     ∙ ap (λ v. v || known) (is_eq-slice_cmp bs key.now)
+
+-- whether the first name is this one, or another is
+abbrev given : List ℕ → Option (Bor (List ℕ)) → Bool → Bool
+given bs first other = option_map_or (λ k. bytes_eq bs k.now) first false || other
+
+pub with_none : (bs : List ℕ) (first : Option (Bor (List ℕ))) (other : Bool) → first ≡ None
+    → (option_map_or (λ k. bytes_eq bs k.now) first false || other) ≡ other
+with_none bs first other e = ap (λ f. given bs f other) e
+
+pub with_first : (bs : List ℕ) (first : Option (Bor (List ℕ))) (key : Bor (List ℕ)) (other : Bool) → first ≡ Some key
+    → (option_map_or (λ k. bytes_eq bs k.now) first false || other) ≡ (bytes_eq bs key.now || other)
+with_first bs first key other e = ap (λ f. given bs f other) e

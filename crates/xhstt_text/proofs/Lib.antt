@@ -21,6 +21,7 @@ pub mod Numbers
 pub mod Parts
 pub mod Pieces
 pub mod Places
+pub mod PlainTexts
 pub mod Runs
 pub mod Sound
 pub mod SpanTexts

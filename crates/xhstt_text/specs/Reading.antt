@@ -1,9 +1,10 @@
 -- How the parts of the reader follow the machine.
 use Rattle.std.specs.Prelude.{ℕ, ◌≡◌, ◌<◌, ◌+◌, Bool, true, false, ◌==◌, ◌&&◌, ◌||◌, nat_eq, if◌then◌else◌, List, []}
 use Rattle.std.specs.Prelude.{◌∷◌, ◌++◌, length, map, reverse, Option, Some, None, Result, Ok, Err}
-use Rattle.std.specs.Borrow.{Bor}
 use Rattle.std.specs.List.{starts_with}
-use Rattle.std.specs.BTreeSet.{BTreeSet, contains_by}
+use Rattle.std.specs.BTreeSet.{contains_by}
+use Rattle.std.specs.Option.{option_map_or}
+use Rattle.std.specs.Str.{bytes_eq}
 use Rattle.std.specs.Cmp.Lexicographic.{slice_cmp}
 use Rattle.std.specs.Ordering.{nat_cmp}
 use Rattle.fault_tables.specs.Told.{Tells}
@@ -11,6 +12,7 @@ use Rattle.xhstt_text.specs.Bytes.{is_text, AllAre, IsName, is_name}
 use Rattle.xhstt_text.specs.Document.{has_name}
 use Rattle.xhstt_text.specs.Units.{digit}
 use Rattle.xhstt_text.specs.Machine.{Phase, Within, step, state, reference, wide_1, Frame, Read, Tag, Outcome}
+use Rattle.xhstt_text.specs.declared.names.Names.{Names}
 use Rattle.xhstt_text.specs.declared.tree.Node.{Node}
 use Rattle.xhstt_text.specs.declared.tree.Attribute.{Attribute}
 use Rattle.xhstt_text.specs.declared.faults.TextFault.{TextFault}
@@ -106,9 +108,14 @@ frame_of e = record { number = e.number; name = e.name.now; node = e.node }
 abbrev pub frames_of : List OpenElement → List Frame
 frames_of stack = map frame_of (reverse stack)
 
--- the set has exactly these names
-abbrev pub Holds : BTreeSet (Bor (List ℕ)) → List (List ℕ) → Type 0
-Holds set names = (bs : List ℕ) → contains_by (λ k. slice_cmp nat_cmp bs k.now) set ≡ has_name bs names
+-- whether the names so far have this one
+abbrev pub is_known : Names → List ℕ → Bool
+is_known names bs = option_map_or (λ k. bytes_eq bs k.now) names.first false
+    || contains_by (λ k. slice_cmp nat_cmp bs k.now) names.others
+
+-- the names so far are exactly these
+abbrev pub Holds : Names → List (List ℕ) → Type 0
+Holds names known = (bs : List ℕ) → is_known names bs ≡ has_name bs known
 
 -- whether a comment begins
 abbrev pub begins_comment : List ℕ → Bool

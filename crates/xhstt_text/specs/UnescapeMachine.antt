@@ -1,7 +1,7 @@
 -- A machine that replaces references and leaves comments out, a byte at a time. It is a tool of the
 -- proofs: `Unescape` says what a text stands for, and the machine is shown to give that for each text
 -- of the grammar.
-use Rattle.std.specs.Prelude.{ℕ, ◌+◌, ◌-◌, ◌*◌, ◌&&◌, ◌||◌, ◌==◌, nat_lt, nat_le, nat_eq, if◌then◌else◌, Option, Some}
+use Rattle.std.specs.Prelude.{ℕ, Bool, not, ◌+◌, ◌-◌, ◌*◌, ◌&&◌, ◌||◌, ◌==◌, nat_lt, nat_le, nat_eq, if◌then◌else◌, Option, Some}
 use Rattle.std.specs.Prelude.{None, List, [], ◌∷◌, ◌++◌, drop, codes, encode_utf8}
 use Rattle.std.specs.List.{starts_with}
 use Rattle.std.specs.Option.{option_and_then, option_map_or}
@@ -51,6 +51,10 @@ referred name =
     else if starts_with nat_eq name (codes "#x") then numbered (number_after 16 0 (drop 2 name))
     else if starts_with nat_eq name (codes "#") then numbered (number_after 10 0 (drop 1 name))
     else []
+
+-- whether a byte begins neither a reference nor a comment
+abbrev pub is_plain : ℕ → Bool
+is_plain b = not (b == 38) && not (b == 60)
 
 -- the part of a text that a byte leads to: a reference ends with `;`, and a comment begins with
 -- `<!--` and ends with the first `-->`

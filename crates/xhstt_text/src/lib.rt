@@ -23,4 +23,4 @@ pub use faults::TextFault;
 pub use handles::{Children, Element};
 pub use reader::elements;
 pub use tree::{Attribute, Node, Span, Tree};
-pub use unescaping::unescape;
+pub use unescaping::{plain, unescape};

@@ -1,4 +1,5 @@
-ghost use Rattle.std.specs.Prelude.{◌≡◌, ℕ, List, Some, [], ◌++◌, ◌≤◌, OnOk, IfOk, IfSome};
+ghost use Rattle.std.specs.Prelude.{◌≡◌, ℕ, List, Some, [], ◌++◌, ◌≤◌, nat_lt, OnOk, IfOk, IfSome, unwrap_or, encode_utf8_all};
+ghost use Rattle.std.specs.List.{list_all};
 ghost use Rattle.std.specs.Option.{option_and_then};
 ghost use Rattle.khe_base.specs.Text.{text_of};
 ghost use Rattle.xhstt_text.specs.Bytes.{AllAre};
@@ -58,12 +59,64 @@ pub fn unescape(alloc: Global, span: &[u8]) -> Result<Text, NoMemory>
     plain_text(alloc, span)
 }
 
-/// The text that bytes stand for.
+/// The bytes that stand between two tags or two quotes, where each of them stands for itself: ASCII without
+/// `&` and `<`. `None` where there are others, even if these stand for themselves too. What is returned is what
+/// `unescape` would make, in UTF-8. It takes time linear in the bytes, and no memory.
+#[tactic(auto, using(crate::proofs::PlainTexts::stands_for_itself))]
+pub fn plain<'a>(span: &'a [u8]) -> Option<&'a [u8]>
+    ensures { IfSome result (λ bytes. bytes.now ≡ encode_utf8_all (unescaped span.now)) }
+{
+    if are_ascii(span) && are_plain(span) {
+        Some(span)
+    } else {
+        None
+    }
+}
+
+/// Whether a byte is a character of ASCII.
+fn is_ascii(byte: u8) -> bool
+    ensures { result ≡ nat_lt byte 128 }
+{
+    byte < 128
+}
+
+/// Whether each byte is a character of ASCII.
+fn are_ascii(span: &[u8]) -> bool
+    ensures { result ≡ list_all (λ b. nat_lt b 128) span.now }
+{
+    span.iter().all(|byte| is_ascii(*byte))
+}
+
+/// Whether a byte begins neither a reference nor a comment.
+fn is_plain(byte: u8) -> bool
+    ensures { result ≡ spec.is_plain byte }
+{
+    byte != b'&' && byte != b'<'
+}
+
+/// Whether no byte begins a reference or a comment: then each stands for itself.
+fn are_plain(span: &[u8]) -> bool
+    ensures { result ≡ list_all spec.is_plain span.now }
+{
+    span.iter().all(|byte| is_plain(*byte))
+}
+
+/// The text that bytes stand for. Bytes that stand for themselves are copied once, as they are.
 fn plain_text(alloc: Global, span: &[u8]) -> Result<Text, NoMemory>
     ensures { IfOk result (λ t. t ≡ unescaped span.now) }
 {
+    if are_plain(span) {
+        return text_or_empty(alloc, span);
+    }
     let plain = plain_of(alloc, span)?;
-    match Text::from_utf8(alloc, plain.as_slice())? {
+    text_or_empty(alloc, plain.as_slice())
+}
+
+/// The text that bytes spell in UTF-8, or the empty text.
+fn text_or_empty(alloc: Global, bytes: &[u8]) -> Result<Text, NoMemory>
+    ensures { IfOk result (λ t. t ≡ unwrap_or (text_of bytes.now) []) }
+{
+    match Text::from_utf8(alloc, bytes)? {
         Some(text) => Ok(text),
         None => Ok(Text::new(alloc)),
     }
