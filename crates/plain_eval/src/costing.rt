@@ -26,7 +26,9 @@ pub(crate) fn costs_of(
 {
     inst.facts();
     let detached = detached(alloc, inst, plain)?;
-    let mut costs = Seq::new(alloc);
+    let mut costs = Seq {
+        items: Vec::with_capacity(alloc, deviations.len())?,
+    };
     for (number, deviation) in deviations.iter().enumerate() {
         let number = number as u32;
         let monitor = inst.monitor(MonitorId(number));

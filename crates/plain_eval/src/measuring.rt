@@ -63,7 +63,9 @@ fn listed(
     ensures small { IfOk result (λ ds. All (λ d. d ≤ GREATEST_DEVIATION) ds) }
 {
     inst.facts();
-    let mut deviations = Seq::new(alloc);
+    let mut deviations = Seq {
+        items: Vec::with_capacity(alloc, inst.monitors() as usize)?,
+    };
     for number in 0..inst.monitors() {
         let monitor = inst.monitor(MonitorId(number));
         deviations.push(deviation_of(inst, events, resources, event_room, resource_room, monitor))?;
