@@ -1,1 +1,2 @@
 pub mod MonitorsLemmas
+pub mod PlainIds

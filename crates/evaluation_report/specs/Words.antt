@@ -1,5 +1,5 @@
 -- Ids and the names of kinds, as the lines of a report write them.
-use Rattle.std.specs.Prelude.{ℕ, List, ◌++◌, codes}
+use Rattle.std.specs.Prelude.{ℕ, Bool, not, ◌||◌, ◌==◌, List, ◌++◌, codes}
 use Rattle.khe_instance.specs.declared.rules.Kind.{Kind}
 use Rattle.khe_instance.specs.declared.rules.Kind.TheVariants.{AssignTime, AssignResource, SplitEvents}
 use Rattle.khe_instance.specs.declared.rules.Kind.TheVariants.{DistributeSplitEvents, PreferTimes, PreferResources}
@@ -12,6 +12,10 @@ use Rattle.xhstt_text.specs.Escape.{escaped}
 -- an Id in quotes, escaped as in an attribute
 abbrev pub quoted : List ℕ → List ℕ
 quoted id = codes "\"" ++ escaped id ++ codes "\""
+
+-- whether a byte is no character that is written as a reference
+abbrev pub stays : ℕ → Bool
+stays b = not (b == 38 || b == 60 || b == 62 || b == 34 || b == 9 || b == 10 || b == 13)
 
 -- a kind is named as its element in the XHSTT format, without the word Constraint
 abbrev pub kind_name : Kind → List ℕ

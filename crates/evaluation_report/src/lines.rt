@@ -1,8 +1,8 @@
-ghost use Rattle.std.specs.Prelude.{◌≡◌, ◌++◌, ◌<◌, length, OnOk, IfOk};
+ghost use Rattle.std.specs.Prelude.{◌≡◌, ◌++◌, ◌<◌, length, OnOk, IfOk, codes};
 ghost use Rattle.evaluation_report.specs.Lines.{header_line, solution_line, monitor_line, measured_line, monitor_head, monitor_tail, total_line, cause_at, invalid_line};
 
 use crate::points::push_point;
-use crate::words::{kind_name, push_quoted};
+use crate::words::{kind_between, push_id, push_quoted};
 use fault_tables::cause_name;
 use khe_base::{MonitorId, NoMemory, Text, Totals};
 use khe_instance::{Constraint, Instance, Monitor};
@@ -70,7 +70,6 @@ pub fn push_monitor_line(
     let monitor = inst.monitor(m);
     let constraint = inst.constraint(monitor.constraint);
     push_head(alloc, text, m, monitor, constraint)?;
-    text.push_literal(" ")?;
     push_point(alloc, text, inst, &constraint.rule, monitor.point)?;
     push_tail(text, constraint.required, deviation, cost, attached)
 }
@@ -94,7 +93,7 @@ pub fn monitor_line(
     Ok(line)
 }
 
-/// Adds what a monitor's line begins with: its number, its kind and the Id of its constraint.
+/// Adds what a monitor's line begins with, and a space: its number, its kind and the Id of its constraint.
 fn push_head(
     alloc: Global,
     line: &mut Text,
@@ -102,14 +101,11 @@ fn push_head(
     monitor: Monitor,
     constraint: &Constraint,
 ) -> Result<(), NoMemory>
-    ensures { OnOk result (line.new ≡ line.old ++ monitor_head m.0 monitor constraint.now) }
+    ensures { OnOk result (line.new ≡ line.old ++ (monitor_head m.0 monitor constraint.now ++ codes " ")) }
 {
     line.push_literal("monitor ")?;
     line.push_number(u128::from(m.0))?;
-    line.push_literal(" ")?;
-    line.push_literal(kind_name(monitor.kind))?;
-    line.push_literal(" ")?;
-    push_quoted(alloc, line, &constraint.id)
+    push_id(alloc, line, kind_between(monitor.kind), &constraint.id, "\" ")
 }
 
 /// Adds the end of a monitor's line: its deviation, and its cost by whether it is hard.

@@ -4,7 +4,7 @@ ghost use Rattle.std.specs.Option.{option_and_then};
 ghost use Rattle.khe_instance.specs.WellMade.{IsRule};
 ghost use Rattle.evaluation_report.specs.Points.{event_text, role_text, place_text, pair_text, listed_pair_text, point_text, IsNamed};
 
-use crate::words::push_quoted;
+use crate::words::push_id;
 use khe_base::{EventId, NoMemory, Text};
 use khe_instance::{EventInfo, EventPair, Instance, Point, Rule};
 use std::alloc::Global;
@@ -25,13 +25,11 @@ pub(crate) fn push_point(
         Point::Event(event) => push_event(alloc, line, inst, event),
         Point::EventResource { event, place } => push_place(alloc, line, inst, event, place),
         Point::EventGroup(group) => {
-            line.push_literal("group ")?;
-            push_quoted(alloc, line, inst.group_id(group))
+            push_id(alloc, line, "group \"", inst.group_id(group), "\"")
         }
         Point::EventPair(number) => push_listed_pair(alloc, line, inst, rule, number),
         Point::Resource(resource) => {
-            line.push_literal("resource ")?;
-            push_quoted(alloc, line, inst.resource_id(resource))
+            push_id(alloc, line, "resource \"", inst.resource_id(resource), "\"")
         }
     }
 }
@@ -46,8 +44,7 @@ pub(crate) fn push_event(
     requires { event.0 < length inst.now.events }
     ensures { OnOk result (line.new ≡ line.old ++ event_text inst.now event.0) }
 {
-    line.push_literal("event ")?;
-    push_quoted(alloc, line, &inst.event(event).id)
+    push_id(alloc, line, "event \"", &inst.event(event).id, "\"")
 }
 
 /// Adds an event and the role of one of its places.
@@ -76,8 +73,7 @@ fn push_role(alloc: Global, line: &mut Text, event: &EventInfo, place: u32) -> R
     let Some(role) = &place.role else {
         return Ok(());
     };
-    line.push_literal(" role ")?;
-    push_quoted(alloc, line, role)
+    push_id(alloc, line, " role \"", role, "\"")
 }
 
 /// Adds the pair with this number of those that a rule lists.
@@ -111,8 +107,6 @@ fn push_pair(
     requires second { pair.second.0 < length inst.now.events }
     ensures { OnOk result (line.new ≡ line.old ++ pair_text inst.now pair) }
 {
-    line.push_literal("events ")?;
-    push_quoted(alloc, line, &inst.event(pair.first).id)?;
-    line.push_literal(" ")?;
-    push_quoted(alloc, line, &inst.event(pair.second).id)
+    push_id(alloc, line, "events \"", &inst.event(pair.first).id, "\" \"")?;
+    push_id(alloc, line, "", &inst.event(pair.second).id, "\"")
 }

@@ -1,7 +1,7 @@
-ghost use Rattle.std.specs.Prelude.{◌≡◌, ◌++◌, ◌∷◌, [], false, OnOk, IsTrue};
+ghost use Rattle.std.specs.Prelude.{◌≡◌, ◌++◌, OnOk, IsTrue, codes};
 ghost use Rattle.khe_base.specs.Text.{is_ascii};
-ghost use Rattle.evaluation_report.specs.Words.{quoted, kind_name};
-ghost use Rattle.xhstt_text.specs.Escape.{escaped, escaped_character};
+ghost use Rattle.evaluation_report.specs.Words.{quoted, kind_name, stays};
+ghost use Rattle.xhstt_text.specs.Escape.{escaped};
 
 use khe_base::{NoMemory, Text};
 use khe_instance::Kind;
@@ -12,9 +12,25 @@ use xhstt_text::escape;
 pub(crate) fn push_quoted(alloc: Global, line: &mut Text, id: &Text) -> Result<(), NoMemory>
     ensures { OnOk result (line.new ≡ line.old ++ quoted id.now) }
 {
-    line.push_literal("\"")?;
+    push_id(alloc, line, "\"", id, "\"")
+}
+
+/// Adds an Id, escaped, between two texts that bring the quotes along, as `event "` and `"`: a line has fewer pieces
+/// so. It takes time linear in what is added, and no memory of its own where the Id is plain.
+pub(crate) fn push_id(
+    alloc: Global,
+    line: &mut Text,
+    before: &str,
+    id: &Text,
+    after: &str,
+) -> Result<(), NoMemory>
+    requires before { IsTrue (is_ascii before.now) }
+    requires after { IsTrue (is_ascii after.now) }
+    ensures { OnOk result (line.new ≡ line.old ++ (before.now ++ (escaped id.now ++ after.now))) }
+{
+    line.push_literal(before)?;
     push_escaped(alloc, line, id)?;
-    line.push_literal("\"")
+    line.push_literal(after)
 }
 
 /// Adds an Id, escaped.
@@ -28,46 +44,43 @@ fn push_escaped(alloc: Global, line: &mut Text, id: &Text) -> Result<(), NoMemor
     line.push_text(&escaped)
 }
 
-/// Whether an Id is plain: it is written as it is, with no reference.
+/// Whether an Id is plain: it is written as it is, with no reference. A character that is written as one is one byte,
+/// so bytes are looked at, and no characters.
+#[tactic(auto, using(crate::proofs::PlainIds::written_as_it_is))]
 fn is_plain(id: &Text) -> bool
     ensures { IsTrue result → escaped id.now ≡ id.now }
 {
-    for character in id.as_str().chars() {
-        if is_escaped(character) {
-            return false;
-        }
-    }
-    true
+    id.as_bytes().iter().all(|byte| stays(*byte))
 }
 
-/// Whether a character is written as a reference.
-fn is_escaped(character: char) -> bool
-    ensures { result ≡ false → escaped_character character ≡ character ∷ [] }
+/// Whether a byte is no character that is written as a reference.
+fn stays(byte: u8) -> bool
+    ensures { result ≡ stays byte }
 {
-    matches!(character, '&' | '<' | '>' | '"' | '\t' | '\n' | '\r')
+    !matches!(byte, b'&' | b'<' | b'>' | b'"' | b'\t' | b'\n' | b'\r')
 }
 
-/// The name of a kind.
-pub(crate) fn kind_name(kind: Kind) -> &'static str
-    ensures name { result.now ≡ kind_name kind }
+/// The name of a kind between two spaces, and the quote that opens the Id of its constraint.
+pub(crate) fn kind_between(kind: Kind) -> &'static str
+    ensures name { result.now ≡ codes " " ++ (kind_name kind ++ codes " \"") }
     ensures ascii { IsTrue (is_ascii result.now) }
 {
     match kind {
-        Kind::AssignTime => "AssignTime",
-        Kind::AssignResource => "AssignResource",
-        Kind::SplitEvents => "SplitEvents",
-        Kind::DistributeSplitEvents => "DistributeSplitEvents",
-        Kind::PreferTimes => "PreferTimes",
-        Kind::PreferResources => "PreferResources",
-        Kind::AvoidSplitAssignments => "AvoidSplitAssignments",
-        Kind::SpreadEvents => "SpreadEvents",
-        Kind::LinkEvents => "LinkEvents",
-        Kind::OrderEvents => "OrderEvents",
-        Kind::AvoidClashes => "AvoidClashes",
-        Kind::AvoidUnavailableTimes => "AvoidUnavailableTimes",
-        Kind::LimitIdleTimes => "LimitIdleTimes",
-        Kind::ClusterBusyTimes => "ClusterBusyTimes",
-        Kind::LimitBusyTimes => "LimitBusyTimes",
-        Kind::LimitWorkload => "LimitWorkload",
+        Kind::AssignTime => " AssignTime \"",
+        Kind::AssignResource => " AssignResource \"",
+        Kind::SplitEvents => " SplitEvents \"",
+        Kind::DistributeSplitEvents => " DistributeSplitEvents \"",
+        Kind::PreferTimes => " PreferTimes \"",
+        Kind::PreferResources => " PreferResources \"",
+        Kind::AvoidSplitAssignments => " AvoidSplitAssignments \"",
+        Kind::SpreadEvents => " SpreadEvents \"",
+        Kind::LinkEvents => " LinkEvents \"",
+        Kind::OrderEvents => " OrderEvents \"",
+        Kind::AvoidClashes => " AvoidClashes \"",
+        Kind::AvoidUnavailableTimes => " AvoidUnavailableTimes \"",
+        Kind::LimitIdleTimes => " LimitIdleTimes \"",
+        Kind::ClusterBusyTimes => " ClusterBusyTimes \"",
+        Kind::LimitBusyTimes => " LimitBusyTimes \"",
+        Kind::LimitWorkload => " LimitWorkload \"",
     }
 }
