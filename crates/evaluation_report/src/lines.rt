@@ -105,7 +105,13 @@ fn push_head(
 {
     line.push_literal("monitor ")?;
     line.push_number(u128::from(m.0))?;
-    push_id(alloc, line, kind_between(monitor.kind), &constraint.id, "\" ")
+    push_id(
+        alloc,
+        line,
+        kind_between(monitor.kind),
+        &constraint.id,
+        "\" ",
+    )
 }
 
 /// Adds the end of a monitor's line: its deviation, and its cost by whether it is hard.

@@ -24,9 +24,7 @@ pub(crate) fn push_point(
     match point {
         Point::Event(event) => push_event(alloc, line, inst, event),
         Point::EventResource { event, place } => push_place(alloc, line, inst, event, place),
-        Point::EventGroup(group) => {
-            push_id(alloc, line, "group \"", inst.group_id(group), "\"")
-        }
+        Point::EventGroup(group) => { push_id(alloc, line, "group \"", inst.group_id(group), "\"") }
         Point::EventPair(number) => push_listed_pair(alloc, line, inst, rule, number),
         Point::Resource(resource) => {
             push_id(alloc, line, "resource \"", inst.resource_id(resource), "\"")
@@ -107,6 +105,12 @@ fn push_pair(
     requires second { pair.second.0 < length inst.now.events }
     ensures { OnOk result (line.new ≡ line.old ++ pair_text inst.now pair) }
 {
-    push_id(alloc, line, "events \"", &inst.event(pair.first).id, "\" \"")?;
+    push_id(
+        alloc,
+        line,
+        "events \"",
+        &inst.event(pair.first).id,
+        "\" \"",
+    )?;
     push_id(alloc, line, "", &inst.event(pair.second).id, "\"")
 }

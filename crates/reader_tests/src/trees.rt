@@ -2,7 +2,7 @@ ghost use Rattle.std.specs.Prelude.{◌<◌, ◌^◌, length};
 
 use std::alloc::Global;
 use std::test::Fail;
-use xhstt_text::{Attribute, Element, Node, Span, elements};
+use xhstt_text::{Attribute, Element, Node, Row, Span, elements};
 
 const TEXT: &[u8] = b"<a b=\"c\"><d/>x<e>yy</e></a>";
 
@@ -51,9 +51,9 @@ fn is_row(found: &Node, row: &Node) -> bool {
         && found.loose == row.loose
 }
 
-fn are_rows(found: &[Node], rows: &[Node]) -> bool {
+fn are_rows(found: &[Row], rows: &[Node]) -> bool {
     for (found, row) in found.iter().zip(rows) {
-        if !is_row(found, row) {
+        if !is_row(&found.node(), row) {
             return false;
         }
     }

@@ -7,6 +7,7 @@ pub mod FlatTable
 pub mod Forest
 pub mod Handles
 pub mod Machine
+pub mod Packed
 pub mod Reading
 pub mod Spans
 pub mod Unescape

@@ -57,7 +57,7 @@ fn node_of(tree: &Tree<'_>, number: u32) -> Node
     requires { number < length tree.now.nodes }
     ensures { result ≡ node_at (flat_table tree.now) number }
 {
-    tree.nodes.as_slice()[number as usize]
+    tree.nodes.as_slice()[number as usize].node()
 }
 
 impl<'a> Tree<'a> {

@@ -33,7 +33,7 @@ fn tags<'a>(alloc: Global, bytes: &'a [u8]) -> Result<(Table<'a>, Cursor<'a>), T
     let body = prolog(start)?;
     let mut here = root(alloc, body, &mut table)?;
     'tags: while let Some(inner) = table.stack.pop() {
-        here = next_tag(alloc, here, inner, &mut table)?;
+        here = next_tag(alloc, here, &inner, &mut table)?;
     }
     Ok((table, here))
 }

@@ -12,9 +12,10 @@ use crate::comments::{comment, space};
 use crate::cursor::Cursor;
 use crate::faults::{bad_markup, mismatched_end, too_deep, unsupported};
 use crate::names::{add_name, no_names};
+use crate::packed::Place;
 use crate::references::piece;
 use crate::table::{OpenElement, StartTag, Table};
-use crate::tree::{Attribute, Node, Span};
+use crate::tree::{Attribute, Span};
 use khe_base::limits;
 use std::alloc::Global;
 
@@ -156,8 +157,8 @@ fn begins_text(here: Cursor) -> bool
 // the loose text begins now.
 fn content_text<'a>(
     here: Cursor<'a>,
-    loose: Option<u32>,
-) -> Result<(Cursor<'a>, Option<u32>), TextFault>
+    loose: Option<Place>,
+) -> Result<(Cursor<'a>, Option<Place>), TextFault>
     ensures leads { (f : Frame) (fs : List Frame) (nodes : List Node) (rows : List Attribute) → f.node.loose ≡ loose →
         Leads result (run content (read_of (f ∷ fs) nodes rows) here.entry.at here.entry.rest.now)
         (λ found. run content (read_of (with_loose_text f found.1 ∷ fs) nodes rows) found.0.at found.0.rest.now) }
@@ -169,19 +170,19 @@ fn content_text<'a>(
         return Ok((start, loose));
     }
     let end = known_text(start)?;
-    Ok((end, loose.or(Some(start.at))))
+    Ok((end, loose.or(Some(Place::of(start.at)))))
 }
 
 // Over an end tag, from after its `</`: it must have the name of the innermost element.
 fn end_tag<'a>(
     at: u32,
     shut: Cursor<'a>,
-    inner: OpenElement<'a>,
+    inner: &OpenElement<'a>,
     table: &mut Table<'a>,
 ) -> Result<Cursor<'a>, TextFault>
     requires { length table.old.nodes.items < 2 ^ 32 }
     ensures leads { Leads result
-        (run (shut_begin at) (read_of (frame_of inner.entry ∷ frames_of table.old.stack.items) table.old.nodes.items table.old.attributes.items) shut.entry.at shut.entry.rest.now)
+        (run (shut_begin at) (read_of (frame_of inner.now ∷ frames_of table.old.stack.items) table.old.nodes.items table.old.attributes.items) shut.entry.at shut.entry.rest.now)
         (λ q. run (resume (frames_of table.new.stack.items)) (read_of (frames_of table.new.stack.items) table.new.nodes.items table.new.attributes.items) q.at q.rest.now) }
     ensures count { IfOk result (λ q. length table.new.nodes.items ≡ length table.old.nodes.items) }
     ensures attributes { IfOk result (λ q. table.new.attributes.items ≡ table.old.attributes.items) }
@@ -220,7 +221,7 @@ fn start_tag<'a>(
     alloc: Global,
     at: u32,
     inside: Cursor<'a>,
-    parent: Option<u32>,
+    parent: Option<Place>,
     table: &mut Table<'a>,
 ) -> Result<Cursor<'a>, TextFault>
     requires place { inside.at ≡ at + 1 }
@@ -246,29 +247,29 @@ fn start_tag<'a>(
     }
     let first = table.attributes.len();
     let tag = StartTag {
-        at,
+        at: Place::of(at),
         name: found,
         name_to: after.at,
         first: first as u32,
         parent,
     };
     let last = attributes(alloc, after, &mut table.attributes)?;
-    end_of_start(last, tag, table)
+    end_of_start(last, &tag, table)
 }
 
 // Over the end of a start tag.
 fn end_of_start<'a>(
     here: Cursor<'a>,
-    tag: StartTag<'a>,
+    tag: &StartTag<'a>,
     table: &mut Table<'a>,
 ) -> Result<Cursor<'a>, TextFault>
-    requires name { tag.name_to ≡ tag.at + 1 + length tag.name.now }
-    requires parent { tag.parent ≡ parent_of (frames_of table.old.stack.items) }
+    requires name { tag.now.name_to ≡ tag.now.at + 1 + length tag.now.name.now }
+    requires parent { tag.now.parent ≡ parent_of (frames_of table.old.stack.items) }
     requires count { length table.old.nodes.items + 1 < 2 ^ 32 }
     requires few { length table.old.attributes.items < 2 ^ 32 }
     requires ends { (begins is_first here.rest.now ≡ false) × (begins is_white here.rest.now ≡ false) }
     ensures leads { Leads result
-        (run (valued (bare tag.entry.at tag.entry.name.now tag.entry.first)) (read_of (frames_of table.old.stack.items) table.old.nodes.items table.old.attributes.items) here.entry.at here.entry.rest.now)
+        (run (valued (bare tag.now.at tag.now.name.now tag.now.first)) (read_of (frames_of table.old.stack.items) table.old.nodes.items table.old.attributes.items) here.entry.at here.entry.rest.now)
         (λ q. run (resume (frames_of table.new.stack.items)) (read_of (frames_of table.new.stack.items) table.new.nodes.items table.new.attributes.items) q.at q.rest.now) }
     ensures count { IfOk result (λ q. length table.new.nodes.items ≡ length table.old.nodes.items + 1) }
     ensures attributes { IfOk result (λ q. table.new.attributes.items ≡ table.old.attributes.items) }
@@ -293,36 +294,38 @@ fn end_of_start<'a>(
 pub fn next_tag<'a>(
     alloc: Global,
     here: Cursor<'a>,
-    inner: OpenElement<'a>,
+    inner: &OpenElement<'a>,
     table: &mut Table<'a>,
 ) -> Result<Cursor<'a>, TextFault>
     requires count { length table.old.nodes.items ≤ here.at }
     requires few { length table.old.attributes.items ≤ here.at }
     ensures leads { Leads result
-        (run content (read_of (frame_of inner.entry ∷ frames_of table.old.stack.items) table.old.nodes.items table.old.attributes.items) here.entry.at here.entry.rest.now)
+        (run content (read_of (frame_of inner.now ∷ frames_of table.old.stack.items) table.old.nodes.items table.old.attributes.items) here.entry.at here.entry.rest.now)
         (λ q. run (resume (frames_of table.new.stack.items)) (read_of (frames_of table.new.stack.items) table.new.nodes.items table.new.attributes.items) q.at q.rest.now) }
     ensures count { IfOk result (λ q. length table.new.nodes.items ≤ q.at) }
     ensures few { IfOk result (λ q. length table.new.attributes.items ≤ q.at) }
     ensures onward { IfOk result (λ q. length q.rest.now < length here.entry.rest.now) }
 {
-    let (tag, loose) = content_text(here, inner.node.loose)?;
+    let (tag, loose) = match content_text(here, inner.node.loose()) {
+        Ok(found) => found,
+        Err(fault) => return Err(fault),
+    };
     let Some(inside) = past(tag, b'<') else {
         return Err(bad_markup(tag.at));
     };
+    let number = inner.number;
     let inner = OpenElement {
-        node: Node {
-            loose,
-            ..inner.node
-        },
-        ..inner
+        number,
+        name: inner.name,
+        node: inner.node.with_loose(loose),
     };
     match past(inside, b'/') {
-        Some(shut) => end_tag(tag.at, shut, inner, table),
+        Some(shut) => end_tag(tag.at, shut, &inner, table),
         None => {
             table.stack.push(inner)?;
             match past(inside, b'!') {
                 Some(bang) => comment(tag.at, bang),
-                None => start_tag(alloc, tag.at, inside, Some(inner.number), table),
+                None => start_tag(alloc, tag.at, inside, Some(number), table),
             }
         }
     }

@@ -1,9 +1,8 @@
-use Rattle.std.proofs.Common.{◌≡◌, ◌∙◌, refl, sym, ap, ◌||◌, true, false, not, Bool, List, ℕ, nat_cmp}
+use Rattle.std.proofs.Common.{◌∙◌, refl, sym, ap, ◌||◌, not, Bool, List, ℕ, nat_cmp}
 use Rattle.std.specs.BTreeSet.{contains_by}
 use Rattle.std.specs.Cmp.Lexicographic.{slice_cmp}
 use Rattle.std.specs.Str.{bytes_eq}
 use Rattle.std.proofs.lemmas.Slice.Eq.{bytes_eq-Decides}
-use Rattle.xhstt_text.specs.Document.{has_name}
 use Rattle.xhstt_text.proofs.KnownNames.{holds_more, swap_or, same_or, with_none, with_first}
 use Rattle.xhstt_text.specs.declared.names.Names.{Names}
 use Rattle.xhstt_text.proofs.names.add_name.Goals as goal

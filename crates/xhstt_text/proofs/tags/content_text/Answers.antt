@@ -1,4 +1,4 @@
-use Rattle.std.proofs.Common.{◌∙◌, Option, Some, ℕ, refl, sym}
+use Rattle.std.proofs.Common.{◌∙◌, Option, Some, ℕ, refl, sym, ap}
 use Rattle.std.specs.Option.{option_or}
 use Rattle.xhstt_text.specs.Reading.{with_loose_text}
 use Rattle.xhstt_text.proofs.Follow.{passes_on}
@@ -27,6 +27,7 @@ returns-clause-leads c = λ f fs nodes rows e.
     let h = c.args.here in
     let a = c.white-start.result in
     let p = noted_place c.args.loose a.at in
-    notes f fs nodes rows c.args.loose c.or.result h.at h.rest.now a.at a.rest.now e c.or.ensures c.white-start.ensures
+    let at = ap (λ place. option_or c.args.loose (Some place)) c.of.ensures in
+    notes f fs nodes rows c.args.loose c.or.result h.at h.rest.now a.at a.rest.now e (c.or.ensures ∙ at) c.white-start.ensures
     (sym c.begins_text.ensures ∙ c.if-not-begins_text.false)
-    ∙ c.in_ok-end.ensures.leads (with_loose_text f c.or.result) fs nodes rows p.0 (c.or.ensures ∙ p.1)
+    ∙ c.in_ok-end.ensures.leads (with_loose_text f c.or.result) fs nodes rows p.0 (c.or.ensures ∙ at ∙ p.1)

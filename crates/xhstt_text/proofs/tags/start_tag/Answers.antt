@@ -1,6 +1,6 @@
-use Rattle.std.proofs.Common.{◌≡◌, ◌<◌, length, arith, sym, ◌∙◌}
-use Rattle.xhstt_text.specs.Machine.{run, resume, opened}
-use Rattle.xhstt_text.specs.Reading.{read_of, frames_of}
+use Rattle.std.proofs.Common.{◌≡◌, ◌<◌, length, arith, sym, ap, ◌∙◌}
+use Rattle.xhstt_text.specs.Machine.{run, resume, opened, valued}
+use Rattle.xhstt_text.specs.Reading.{read_of, frames_of, bare}
 use Rattle.xhstt_text.proofs.Follow.{fails_with, passes_on, leads_from}
 use Rattle.xhstt_text.proofs.FollowStartTags.{not_named, start_colon, over_start_name, length_frames}
 use Rattle.xhstt_text.proofs.tags.start_tag.Goals as goal
@@ -52,5 +52,8 @@ returns-clause-leads c =
     (read_of (frames_of n.stack.items) n.nodes.items n.attributes.items) q.at q.rest.now)
     (over_start_name fs t.nodes.items t.attributes.items c.args.at h.at h.rest.now c.in-Some.found.now d.at d.rest.now
     c.len-first.result first few c.in-Some.ensures (sym c.next_is.ensures ∙ c.if-next_is.false)
-    ∙ c.in_ok-last.ensures.leads fs t.nodes.items c.args.at c.in-Some.found.now c.len-first.result)
+    ∙ c.in_ok-last.ensures.leads fs t.nodes.items c.args.at c.in-Some.found.now c.len-first.result
+    ∙ ap (λ place. run (valued (bare place c.in-Some.found.now c.len-first.result))
+    (read_of fs t.nodes.items c.attributes.new.rows.items) c.in_ok-last.last.at c.in_ok-last.last.rest.now)
+    (sym c.of.ensures))
     c.end_of_start.ensures.leads
