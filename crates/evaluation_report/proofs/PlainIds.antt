@@ -17,6 +17,7 @@ other : (c k : ℕ) → list_all stays (encode_utf8 k) ≡ false → list_all st
 other c k f h = false_from_ne_true _ (λ e. false≢true (sym f ∙ subst (λ x. list_all stays (encode_utf8 x) ≡ true) (eqb-true c k e) h))
 
 same_character : (c : ℕ) → list_all stays (encode_utf8 c) ≡ true → escaped_character c ≡ c ∷ []
+unfolding lib.Utf8.encode
 same_character c h =
     passed (c == 38) _ _ _ (other c 38 refl h)
     (passed (c == 60) _ _ _ (other c 60 refl h)

@@ -2,7 +2,7 @@ ghost use Rattle.std.specs.Prelude.{◌≡◌, ◌++◌, ◌<◌, length, OnOk, 
 ghost use Rattle.evaluation_report.specs.Lines.{header_line, solution_line, monitor_line, measured_line, monitor_head, monitor_tail, total_line, cause_at, invalid_line};
 
 use crate::points::push_point;
-use crate::words::{kind_between, push_id, push_quoted};
+use crate::words::{kind_between, push_count, push_id, push_quoted};
 use fault_tables::cause_name;
 use khe_base::{MonitorId, NoMemory, Text, Totals};
 use khe_instance::{Constraint, Instance, Monitor};
@@ -125,9 +125,9 @@ fn push_tail(
     ensures { OnOk result (line.new ≡ line.old ++ monitor_tail required deviation cost attached) }
 {
     line.push_literal(" deviation ")?;
-    line.push_number(u128::from(deviation))?;
+    push_count(line, u128::from(deviation))?;
     line.push_literal(if required { " hard " } else { " soft " })?;
-    line.push_number(cost)?;
+    push_count(line, cost)?;
     line.push_literal(if attached { "\n" } else { " detached\n" })
 }
 

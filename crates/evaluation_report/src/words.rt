@@ -1,4 +1,6 @@
 ghost use Rattle.std.specs.Prelude.{◌≡◌, ◌++◌, OnOk, IsTrue, codes};
+ghost use Rattle.std.specs.Fmt.{decimal};
+ghost use Rattle.std.specs.List.{list_all};
 ghost use Rattle.khe_base.specs.Text.{is_ascii};
 ghost use Rattle.evaluation_report.specs.Words.{quoted, kind_name, stays};
 ghost use Rattle.xhstt_text.specs.Escape.{escaped};
@@ -33,6 +35,16 @@ pub(crate) fn push_id(
     line.push_literal(after)
 }
 
+/// Adds a number in decimal digits. Most numbers of a report have one digit, which takes no division.
+pub(crate) fn push_count(line: &mut Text, number: u128) -> Result<(), NoMemory>
+    ensures { OnOk result (line.new ≡ line.old ++ decimal number) }
+{
+    if number < 10 {
+        return line.push(char::from(b'0' + number as u8));
+    }
+    line.push_number(number)
+}
+
 /// Adds an Id, escaped.
 fn push_escaped(alloc: Global, line: &mut Text, id: &Text) -> Result<(), NoMemory>
     ensures { OnOk result (line.new ≡ line.old ++ escaped id.now) }
@@ -50,7 +62,14 @@ fn push_escaped(alloc: Global, line: &mut Text, id: &Text) -> Result<(), NoMemor
 fn is_plain(id: &Text) -> bool
     ensures { IsTrue result → escaped id.now ≡ id.now }
 {
-    id.as_bytes().iter().all(|byte| stays(*byte))
+    stay(id.as_bytes())
+}
+
+/// Whether no byte is a character that is written as a reference.
+fn stay(bytes: &[u8]) -> bool
+    ensures { result ≡ list_all stays bytes.now }
+{
+    bytes.iter().all(|byte| stays(*byte))
 }
 
 /// Whether a byte is no character that is written as a reference.
