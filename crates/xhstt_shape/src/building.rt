@@ -1,4 +1,4 @@
-ghost use Rattle.std.specs.Prelude.{◌≡◌, IfOk, map};
+ghost use Rattle.std.specs.Prelude.{◌≡◌, [], IfOk, map};
 ghost use Rattle.std.specs.Option.{option_map};
 ghost use Rattle.xhstt_text.specs.Handles.{Standing};
 ghost use Rattle.xhstt_shape.specs.Walk.{child as child_of};
@@ -33,19 +33,53 @@ pub(crate) fn optional<T: Build>(
     }
 }
 
-/// What each child says.
+/// An empty list with room for so many elements. It takes memory for these alone, and none where
+/// there are none.
+pub(crate) fn with_room<T>(alloc: Global, count: usize) -> Result<Seq<T>, NoMemory>
+    ensures { IfOk result (λ list. list ≡ []) }
+{
+    Ok(Seq {
+        items: Vec::with_capacity(alloc, count)?,
+    })
+}
+
+/// How many children an element has: the room that a list of what they say wants. It takes time
+/// linear in their number.
+pub(crate) fn count(element: &Element<'_, '_>) -> usize {
+    let mut rest = element.children();
+    let mut count: usize = 0;
+    while let Some(_next) = rest.next() {
+        count = count.saturating_add(1);
+    }
+    count
+}
+
+/// How many children of a name an element has: the room that a list of what they say wants. It takes
+/// time linear in the number of children.
+fn count_named(tag: Tag, element: &Element<'_, '_>) -> usize {
+    let mut rest = element.children();
+    let mut count: usize = 0;
+    while let Some(next) = rest.next() {
+        if next.is_named(tag.word()) {
+            count = count.saturating_add(1);
+        }
+    }
+    count
+}
+
+/// What each child says, in a list without room to spare.
 fn children<T: Build>(alloc: Global, element: &Element<'_, '_>) -> Result<Seq<T>, NoMemory>
     ensures { IfOk result (λ list. list ≡ map T.value (spec.elements element.now.kids)) }
 {
+    let mut list = with_room(alloc, count(element))?;
     let mut rest = element.children();
-    let mut list = Seq::new(alloc);
     while let Some(next) = rest.next() {
         list.push(T::build(alloc, &next)?)?;
     }
     Ok(list)
 }
 
-/// What each child of a name says.
+/// What each child of a name says, in a list without room to spare.
 #[tactic(auto, unfolding(crate::specs::Values::all))]
 pub(crate) fn all<T: Build>(
     alloc: Global,
@@ -54,8 +88,8 @@ pub(crate) fn all<T: Build>(
 ) -> Result<Seq<T>, NoMemory>
     ensures { IfOk result (λ list. list ≡ map T.value (spec.all tag element.now)) }
 {
+    let mut list = with_room(alloc, count_named(tag, element))?;
     let mut rest = element.children();
-    let mut list = Seq::new(alloc);
     while let Some(next) = rest.next() {
         if next.is_named(tag.word()) {
             list.push(T::build(alloc, &next)?)?;

@@ -3,7 +3,7 @@ ghost use Rattle.std.specs.List.{filter_map};
 ghost use Rattle.xhstt_shape.specs.Values as spec;
 ghost use Rattle.xhstt_shape.specs.declared.words.Tag.TheVariants as tag;
 
-use crate::building::{Build, every, every_inside};
+use crate::building::{Build, count, every, every_inside, with_room};
 use crate::constraints::{RawApplies, RawConstraint, RawPair, RawRule, RawSpread};
 use crate::finding::child;
 use crate::leaves::{
@@ -60,15 +60,16 @@ pub(crate) fn constraints(
     }
 }
 
-/// The constraints among the children of an element.
+/// The constraints among the children of an element, in a list with room for a constraint for each
+/// child.
 fn constraints_among(
     alloc: Global,
     element: &Element<'_, '_>,
 ) -> Result<Seq<RawConstraint>, NoMemory>
     ensures { IfOk result (λ list. list ≡ filter_map spec.constraint (spec.elements element.now.kids)) }
 {
+    let mut list = with_room(alloc, count(element))?;
     let mut rest = element.children();
-    let mut list = Seq::new(alloc);
     while let Some(next) = rest.next() {
         if let Some(made) = constraint(alloc, &next)? {
             list.push(made)?;

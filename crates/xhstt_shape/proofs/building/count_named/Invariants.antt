@@ -1,0 +1,5 @@
+use Rattle.xhstt_text.specs.Handles.{size}
+use Rattle.xhstt_shape.proofs.building.count_named.Given as goal
+
+abbrev pub decreases-loop-next : goal.decreases-loop-next
+decreases-loop-next l = size l.rest
