@@ -1,6 +1,7 @@
 pub mod Fine
 pub mod InForm
 pub mod Present
+pub mod SeenLaws
 pub mod Spellable
 pub mod Trimming
 pub mod WellFormed

@@ -5,6 +5,7 @@ pub mod Faults
 pub mod Places
 pub mod Present
 pub mod Schema
+pub mod Seen
 pub mod Shape
 pub mod Values
 pub mod Walk

@@ -1,6 +1,8 @@
-ghost use Rattle.std.specs.Prelude.{◌≡◌, [], OnOk, IfOk};
+ghost use Rattle.std.specs.Prelude.{◌≡◌, ◌≤◌, ◌<◌, ℕ, List, [], true, if◌then◌else◌, length, nat_eq};
+ghost use Rattle.std.specs.List.{position};
+ghost use Rattle.khe_base.specs.Bits.{has_bit};
 ghost use Rattle.xhstt_shape.specs.Faults.{IsTold};
-ghost use Rattle.xhstt_shape.specs.Schema.{children};
+ghost use Rattle.xhstt_shape.specs.Seen.{IsRuleOf, IsSeen, is_named};
 ghost use Rattle.xhstt_shape.specs.Walk as spec;
 
 use crate::contents::{function_text, number_text, role_text, truth_text};
@@ -9,7 +11,7 @@ use crate::finding::{attribute, child};
 use crate::schema::{AllowedAttribute, Child, Content, Mark, Row};
 use crate::words::{Label, Tag};
 use fault_tables::{BAD_NUMBER, BAD_WORD, MISSING_CHILD, REPEATED_CHILD, UNKNOWN_ELEMENT};
-use khe_base::{NoMemory, Seq};
+use khe_base::bits::has_bit;
 use std::alloc::Global;
 use xhstt_text::Element;
 
@@ -36,47 +38,73 @@ pub(crate) fn look_at(alloc: Global, row: Row, element: &Element<'_, '_>) -> Res
     look_at_value(alloc, content, element)
 }
 
-/// Finds the first fault of the children of an element of a row.
+/// Finds the first fault of the children of an element of a row. Which of the table's children came
+/// and may not come again is kept as bits of one number, so it takes no memory.
 #[cycle(walk)]
+#[tactic(auto, using(crate::proofs::SeenLaws::few))]
 fn look_at_children(alloc: Global, row: Row, element: &Element<'_, '_>) -> Result<(), ShapeFault>
     ensures { IsTold result (spec.children_fault row [] element.now.kids) }
 {
     let mut rest = element.children();
-    let mut seen = Seq::new(alloc);
+    let mut seen = 0;
     while let Some(next) = rest.next() {
-        let rule = rule_of(row, &next, seen.as_slice())?;
+        let (rule, seen_now) = rule_of(row.children(), &next, seen)?;
         look_at(alloc, settled(rule.row, &next), &next)?;
-        see(&mut seen, rule)?;
+        seen = seen_now;
     }
     Ok(())
 }
 
-/// The table's child for an element by its name, after children with these names that may not come
-/// again.
-fn rule_of(row: Row, element: &Element<'_, '_>, seen: &[Tag]) -> Result<Child, ShapeFault>
-    ensures { result ≡ spec.rule_or_fault (spec.rule_for (children row) element.now.info.name) seen.now element.now.info }
+/// The table's child for an element by its name, where the bits are those of the children that came
+/// and may not come again, by their places in the table; with the bits after this element.
+fn rule_of(
+    rules: &[Child],
+    element: &Element<'_, '_>,
+    seen: u64,
+) -> Result<(Child, u64), ShapeFault>
+    requires { length rules.now ≤ 64 }
+    ensures { (tags : List Tag) → IsSeen rules.now seen tags → IsRuleOf rules.now tags element.now.info result }
 {
-    let name = element.name();
-    let Some(rule) = rule_for(row.children(), name) else {
+    let Some(place) = place_of(rules, element.name()) else {
         return Err(ShapeFault::Bad {
             kind: UNKNOWN_ELEMENT,
             at: element.at(),
         });
     };
-    unless(!is_among(name, seen), REPEATED_CHILD, element.at())?;
-    Ok(rule)
+    if has_bit(seen, place as u32) {
+        return Err(ShapeFault::Bad {
+            kind: REPEATED_CHILD,
+            at: element.at(),
+        });
+    }
+    let rule = rules[place];
+    Ok((rule, see(rule.mark, place as u32, seen)))
 }
 
-/// The table's child of this name.
-fn rule_for(rules: &[Child], name: &[u8]) -> Option<Child>
-    ensures { result ≡ spec.rule_for rules.now name.now }
+/// The place in the table of the child of this name.
+fn place_of(rules: &[Child], name: &[u8]) -> Option<usize>
+    ensures { result ≡ position (is_named name.now) rules.now }
 {
-    for rule in rules {
-        if rule.tag.word() == name {
-            return Some(*rule);
-        }
+    rules.iter().position(|rule| rule.tag.word() == name)
+}
+
+/// The bits with that of a child, unless it may come again.
+fn see(mark: Mark, place: u32, seen: u64) -> u64
+    requires { place < 64 }
+    ensures { (n : ℕ) → has_bit result n ≡ (if spec.is_many mark then has_bit seen n else if nat_eq n place then true else has_bit seen n) }
+{
+    match mark {
+        Mark::Many => seen,
+        _ => with_bit(seen, place),
     }
-    None
+}
+
+/// A word with the bit of a place.
+fn with_bit(word: u64, place: u32) -> u64
+    requires { place < 64 }
+    ensures { (n : ℕ) → has_bit result n ≡ (if nat_eq n place then true else has_bit word n) }
+{
+    word | 1 << place
 }
 
 /// The row of an element: an event resource without a reference is one of another row.
@@ -93,23 +121,6 @@ fn settled(row: Row, element: &Element<'_, '_>) -> Row
             }
         }
         other => other,
-    }
-}
-
-/// Whether a name is one of these.
-fn is_among(name: &[u8], tags: &[Tag]) -> bool
-    ensures { result ≡ spec.is_among name.now tags.now }
-{
-    tags.iter().any(|tag| tag.word() == name)
-}
-
-/// Notes a child whose name may not come again.
-fn see(seen: &mut Seq<Tag>, rule: Child) -> Result<(), NoMemory>
-    ensures { OnOk result (seen.new ≡ spec.with_seen rule seen.old) }
-{
-    match rule.mark {
-        Mark::Many => Ok(()),
-        _ => seen.push(rule.tag),
     }
 }
 
