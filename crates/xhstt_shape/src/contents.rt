@@ -1,11 +1,12 @@
-ghost use Rattle.std.specs.Prelude.{◌≡◌, ◌≤◌, IfOk, IsTrue, length};
+ghost use Rattle.std.specs.Prelude.{◌≡◌, ◌≤◌, [], IfOk, IsTrue, length, not, unwrap_or};
 ghost use Rattle.std.specs.List.{list_all};
+ghost use Rattle.khe_base.specs.Text.{text_of};
 ghost use Rattle.xhstt_text.specs.Bytes.{is_white};
 ghost use Rattle.xhstt_shape.specs.Contents as spec;
 
 use khe_base::{CostFn, NoMemory, Text};
 use std::alloc::Global;
-use xhstt_text::unescape;
+use xhstt_text::{plain, unescape};
 
 /// Whether a byte is a space, a tab, a line feed or a carriage return.
 fn is_white(byte: u8) -> bool
@@ -49,19 +50,54 @@ pub(crate) fn trimmed(bytes: &[u8]) -> &[u8]
     without_back(without_front(bytes))
 }
 
-/// A role, from the bytes between its tags.
+/// A role, from the bytes between its tags. It takes time linear in the bytes, and memory for the
+/// role alone where they are plain.
 #[tactic(auto, unfolding(crate::specs::Contents::trimmed_text, crate::specs::Contents::role_text))]
 pub(crate) fn role_text(alloc: Global, value: &[u8]) -> Result<Text, NoMemory>
     ensures { IfOk result (λ t. t ≡ spec.role_text value.now) }
 {
+    if let Some(bytes) = plain(value) {
+        return text_from(alloc, trimmed(bytes));
+    }
     let text = unescape(alloc, value)?;
-    match Text::from_utf8(alloc, trimmed(text.as_bytes()))? {
-        Some(role) => Ok(role),
+    text_from(alloc, trimmed(text.as_bytes()))
+}
+
+/// The text that bytes spell; the empty text where they are not UTF-8.
+fn text_from(alloc: Global, bytes: &[u8]) -> Result<Text, NoMemory>
+    ensures { IfOk result (λ t. t ≡ unwrap_or (text_of bytes.now) []) }
+{
+    match Text::from_utf8(alloc, bytes)? {
+        Some(text) => Ok(text),
         None => Ok(Text::new(alloc)),
     }
 }
 
-/// The number that an element's bytes write, where it is in this range.
+/// Whether the bytes between its tags give a role. It takes time linear in the bytes, and no memory
+/// where they are plain.
+#[tactic(auto, unfolding(crate::specs::Contents::trimmed_text, crate::specs::Contents::role_text))]
+pub(crate) fn is_role(alloc: Global, value: &[u8]) -> Result<bool, NoMemory>
+    ensures { IfOk result (λ b. b ≡ not (spec.is_blank (spec.role_text value.now))) }
+{
+    if let Some(bytes) = plain(value) {
+        return Ok(spells_some(trimmed(bytes)));
+    }
+    let text = unescape(alloc, value)?;
+    Ok(spells_some(trimmed(text.as_bytes())))
+}
+
+/// Whether bytes spell a text of at least one character.
+fn spells_some(bytes: &[u8]) -> bool
+    ensures { result ≡ not (spec.is_blank (unwrap_or (text_of bytes.now) [])) }
+{
+    match str::from_utf8(bytes) {
+        Ok(text) => !text.is_empty(),
+        Err(_) => false,
+    }
+}
+
+/// The number that an element's bytes write, where it is in this range. It takes time linear in the
+/// bytes, and no memory where they are plain; nor do a truth and a cost function.
 #[tactic(auto, unfolding(crate::specs::Contents::trimmed_text))]
 pub(crate) fn number_text(
     alloc: Global,
@@ -71,6 +107,9 @@ pub(crate) fn number_text(
 ) -> Result<Option<u32>, NoMemory>
     ensures { IfOk result (λ n. n ≡ spec.number_between least greatest (spec.trimmed_text value.now)) }
 {
+    if let Some(bytes) = plain(value) {
+        return Ok(number_between(least, greatest, trimmed(bytes)));
+    }
     let text = unescape(alloc, value)?;
     Ok(number_between(least, greatest, trimmed(text.as_bytes())))
 }
@@ -80,6 +119,9 @@ pub(crate) fn number_text(
 pub(crate) fn truth_text(alloc: Global, value: &[u8]) -> Result<Option<bool>, NoMemory>
     ensures { IfOk result (λ b. b ≡ spec.truth_of (spec.trimmed_text value.now)) }
 {
+    if let Some(bytes) = plain(value) {
+        return Ok(truth_of(trimmed(bytes)));
+    }
     let text = unescape(alloc, value)?;
     Ok(truth_of(trimmed(text.as_bytes())))
 }
@@ -89,6 +131,9 @@ pub(crate) fn truth_text(alloc: Global, value: &[u8]) -> Result<Option<bool>, No
 pub(crate) fn function_text(alloc: Global, value: &[u8]) -> Result<Option<CostFn>, NoMemory>
     ensures { IfOk result (λ f. f ≡ spec.function_of (spec.trimmed_text value.now)) }
 {
+    if let Some(bytes) = plain(value) {
+        return Ok(function_of(trimmed(bytes)));
+    }
     let text = unescape(alloc, value)?;
     Ok(function_of(trimmed(text.as_bytes())))
 }

@@ -5,7 +5,7 @@ ghost use Rattle.xhstt_shape.specs.Faults.{IsTold};
 ghost use Rattle.xhstt_shape.specs.Seen.{IsRuleOf, IsSeen, is_named};
 ghost use Rattle.xhstt_shape.specs.Walk as spec;
 
-use crate::contents::{function_text, number_text, role_text, truth_text};
+use crate::contents::{function_text, is_role, number_text, truth_text};
 use crate::faults::{ShapeFault, unless};
 use crate::finding::{attribute, child};
 use crate::schema::{AllowedAttribute, Child, Content, Mark, Row};
@@ -215,8 +215,8 @@ fn look_at_value(
             unless(function.is_some(), BAD_WORD, at)
         }
         Content::Role => {
-            let role = role_text(alloc, value)?;
-            unless(!role.as_bytes().is_empty(), BAD_WORD, at)
+            let has_role = is_role(alloc, value)?;
+            unless(has_role, BAD_WORD, at)
         }
         _ => Ok(()),
     }
