@@ -6,7 +6,7 @@ ghost use Rattle.xhstt_shape.specs.Contents as spec;
 
 use khe_base::{CostFn, NoMemory, Text};
 use std::alloc::Global;
-use xhstt_text::{plain, unescape};
+use xhstt_text::{plain, text_or_empty, unescape};
 
 /// Whether a byte is a space, a tab, a line feed or a carriage return.
 fn is_white(byte: u8) -> bool
@@ -57,20 +57,10 @@ pub(crate) fn role_text(alloc: Global, value: &[u8]) -> Result<Text, NoMemory>
     ensures { IfOk result (λ t. t ≡ spec.role_text value.now) }
 {
     if let Some(bytes) = plain(value) {
-        return text_from(alloc, trimmed(bytes));
+        return text_or_empty(alloc, trimmed(bytes));
     }
     let text = unescape(alloc, value)?;
-    text_from(alloc, trimmed(text.as_bytes()))
-}
-
-/// The text that bytes spell; the empty text where they are not UTF-8.
-fn text_from(alloc: Global, bytes: &[u8]) -> Result<Text, NoMemory>
-    ensures { IfOk result (λ t. t ≡ unwrap_or (text_of bytes.now) []) }
-{
-    match Text::from_utf8(alloc, bytes)? {
-        Some(text) => Ok(text),
-        None => Ok(Text::new(alloc)),
-    }
+    text_or_empty(alloc, trimmed(text.as_bytes()))
 }
 
 /// Whether the bytes between its tags give a role. It takes time linear in the bytes, and no memory

@@ -112,8 +112,9 @@ fn plain_text(alloc: Global, span: &[u8]) -> Result<Text, NoMemory>
     text_or_empty(alloc, plain.as_slice())
 }
 
-/// The text that bytes spell in UTF-8, or the empty text.
-fn text_or_empty(alloc: Global, bytes: &[u8]) -> Result<Text, NoMemory>
+/// The text that bytes spell, and the empty text where they are not UTF-8. It takes time and memory linear in the
+/// bytes.
+pub fn text_or_empty(alloc: Global, bytes: &[u8]) -> Result<Text, NoMemory>
     ensures { IfOk result (λ t. t ≡ unwrap_or (text_of bytes.now) []) }
 {
     match Text::from_utf8(alloc, bytes)? {
