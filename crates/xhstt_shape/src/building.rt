@@ -5,7 +5,7 @@ ghost use Rattle.xhstt_shape.specs.Walk.{child as child_of};
 ghost use Rattle.xhstt_shape.specs.Values as spec;
 
 use crate::finding::child;
-use crate::words::Tag;
+use crate::words::{Tag, is_word};
 use khe_base::{NoMemory, Seq};
 use std::alloc::Global;
 use xhstt_text::Element;
@@ -57,10 +57,11 @@ pub(crate) fn count(element: &Element<'_, '_>) -> usize {
 /// How many children of a name an element has: the room that a list of what they say wants. It takes
 /// time linear in the number of children.
 fn count_named(tag: Tag, element: &Element<'_, '_>) -> usize {
+    let word = tag.word();
     let mut rest = element.children();
     let mut count: usize = 0;
     while let Some(next) = rest.next() {
-        if next.is_named(tag.word()) {
+        if is_word(word, next.name()) {
             count = count.saturating_add(1);
         }
     }
@@ -88,10 +89,11 @@ pub(crate) fn all<T: Build>(
 ) -> Result<Seq<T>, NoMemory>
     ensures { IfOk result (λ list. list ≡ map T.value (spec.all tag element.now)) }
 {
+    let word = tag.word();
     let mut list = with_room(alloc, count_named(tag, element))?;
     let mut rest = element.children();
     while let Some(next) = rest.next() {
-        if next.is_named(tag.word()) {
+        if is_word(word, next.name()) {
             list.push(T::build(alloc, &next)?)?;
         }
     }

@@ -9,7 +9,7 @@ use crate::contents::{function_text, is_role, number_text, truth_text};
 use crate::faults::{ShapeFault, unless};
 use crate::finding::{attribute, child};
 use crate::schema::{AllowedAttribute, Child, Content, Mark, Row};
-use crate::words::{Label, Tag};
+use crate::words::{Label, is_word};
 use fault_tables::{BAD_NUMBER, BAD_WORD, MISSING_CHILD, REPEATED_CHILD, UNKNOWN_ELEMENT};
 use khe_base::bits::has_bit;
 use std::alloc::Global;
@@ -85,7 +85,7 @@ fn rule_of(
 fn place_of(rules: &[Child], name: &[u8]) -> Option<usize>
     ensures { result ≡ position (is_named name.now) rules.now }
 {
-    rules.iter().position(|rule| rule.tag.word() == name)
+    rules.iter().position(|rule| is_word(rule.tag.word(), name))
 }
 
 /// The bits with that of a child, unless it may come again.
@@ -147,7 +147,7 @@ fn look_at_attributes(
 fn is_label(allowed: &[AllowedAttribute], name: &[u8]) -> bool
     ensures { result ≡ spec.is_label allowed.now name.now }
 {
-    allowed.iter().any(|one| one.label.word() == name)
+    allowed.iter().any(|one| is_word(one.label.word(), name))
 }
 
 /// Whether no attribute that has to stand is missing.

@@ -1,7 +1,25 @@
 ghost use Rattle.std.specs.Prelude.{◌≡◌};
+ghost use Rattle.std.specs.Str.{bytes_eq};
 ghost use Rattle.xhstt_shape.specs.Words as words;
 
 use khe_instance::Kind;
+
+/// Whether a name is this word. Most names that are not differ in length, and the others are so short
+/// that byte by byte is quicker than a comparison of slices.
+#[inline]
+pub(crate) fn is_word(word: &[u8], name: &[u8]) -> bool
+    ensures { result ≡ bytes_eq word.now name.now }
+{
+    if word.len() != name.len() {
+        return false;
+    }
+    for place in 0..word.len() {
+        if word[place] != name[place] {
+            return false;
+        }
+    }
+    true
+}
 
 /// The name of the element of a constraint of this kind.
 #[tactic(auto, unfolding(crate::specs::Words::kind_word))]

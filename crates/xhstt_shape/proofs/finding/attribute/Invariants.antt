@@ -4,7 +4,7 @@ use Rattle.xhstt_shape.specs.Walk as spec
 use Rattle.xhstt_shape.proofs.finding.attribute.Given as goal
 
 abbrev pub invariant-loop-next : goal.invariant-loop-next
-invariant-loop-next l = spec.attribute l.label l.rest ≡ spec.attribute l.label l.element.info.attributes
+invariant-loop-next l = spec.attribute l.fn.label l.rest ≡ spec.attribute l.fn.label l.element.info.attributes
 
 abbrev pub decreases-loop-next : goal.decreases-loop-next
 decreases-loop-next l = length l.rest
