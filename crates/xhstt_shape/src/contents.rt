@@ -87,7 +87,7 @@ fn spells_some(bytes: &[u8]) -> bool
 }
 
 /// The number that an element's bytes write, where it is in this range. It takes time linear in the
-/// bytes, and no memory where they are plain; nor do a truth and a cost function.
+/// bytes, and no memory where they are plain.
 #[tactic(auto, unfolding(crate::specs::Contents::trimmed_text))]
 pub(crate) fn number_text(
     alloc: Global,
@@ -104,7 +104,8 @@ pub(crate) fn number_text(
     Ok(number_between(least, greatest, trimmed(text.as_bytes())))
 }
 
-/// What the words `true` and `false` between an element's tags say.
+/// What the words `true` and `false` between an element's tags say. It takes time linear in the
+/// bytes, and no memory where they are plain.
 #[tactic(auto, unfolding(crate::specs::Contents::trimmed_text))]
 pub(crate) fn truth_text(alloc: Global, value: &[u8]) -> Result<Option<bool>, NoMemory>
     ensures { IfOk result (λ b. b ≡ spec.truth_of (spec.trimmed_text value.now)) }
@@ -116,7 +117,8 @@ pub(crate) fn truth_text(alloc: Global, value: &[u8]) -> Result<Option<bool>, No
     Ok(truth_of(trimmed(text.as_bytes())))
 }
 
-/// The cost function that is named between an element's tags.
+/// The cost function that is named between an element's tags. It takes time linear in the bytes, and
+/// no memory where they are plain.
 #[tactic(auto, unfolding(crate::specs::Contents::trimmed_text))]
 pub(crate) fn function_text(alloc: Global, value: &[u8]) -> Result<Option<CostFn>, NoMemory>
     ensures { IfOk result (λ f. f ≡ spec.function_of (spec.trimmed_text value.now)) }

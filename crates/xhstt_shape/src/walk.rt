@@ -4,6 +4,7 @@ ghost use Rattle.khe_base.specs.Bits.{has_bit};
 ghost use Rattle.xhstt_shape.specs.Faults.{IsTold};
 ghost use Rattle.xhstt_shape.specs.Seen.{IsRuleOf, IsSeen, is_named};
 ghost use Rattle.xhstt_shape.specs.Walk as spec;
+ghost use Rattle.xhstt_shape.specs.declared.words.Tag.{Tag};
 
 use crate::contents::{function_text, is_role, number_text, truth_text};
 use crate::faults::{ShapeFault, unless};
