@@ -1,7 +1,6 @@
 pub mod CheckEnds
 pub mod EndsLemmas
 pub mod FewLemmas
-pub mod GroupLemmas
 pub mod MakeEnds
 pub mod OnlyLemmas
 pub mod OutcomeLemmas
@@ -15,3 +14,4 @@ pub mod SolveEnds
 pub mod StartLemmas
 pub mod TakenScripts
 pub mod ValueLemmas
+pub mod WindowLemmas

@@ -1,5 +1,5 @@
 -- The report of an archive.
-use Rattle.std.specs.Prelude.{ℕ, ◌==◌, Bool, not, ◌&&◌, if◌then◌else◌, Result, Ok, Err, List, [], ◌∷◌, ◌++◌, length}
+use Rattle.std.specs.Prelude.{ℕ, ◌==◌, Bool, not, ◌&&◌, if◌then◌else◌, Result, Ok, Err, List, [], ◌∷◌, ◌++◌, length, map, drop}
 use Rattle.std.specs.Prelude.{◌+◌}
 use Rattle.std.specs.List.{flat_map, enumerate_from}
 use Rattle.std.specs.Option.{option_map_or}
@@ -52,6 +52,21 @@ abbrev pub groups_text : Bool → Resolved → ℕ → List SolutionGroup → Li
 groups_text all r number [] = []
 groups_text all r number (g ∷ gs) =
     group_text all r number g ++ groups_text all r (number + length g.solutions) gs
+
+-- solutions that are numbered on from this number, each with the Id of its group
+abbrev pub solutions_text : Bool → Resolved → ℕ → List (List ℕ) → List RawSolution → List ℕ
+solutions_text all r number [] raws = []
+solutions_text all r number (g ∷ gs) [] = []
+solutions_text all r number (g ∷ gs) (x ∷ xs) =
+    numbered_text all r g (number, x) ++ solutions_text all r (number + 1) gs xs
+
+-- of all solutions, those from this number on
+abbrev pub left_text : Bool → Resolved → ℕ → List (List ℕ) → List RawSolution → List ℕ
+left_text all r number groups raws = solutions_text all r number (drop number groups) (drop number raws)
+
+-- the Id of the group of each solution
+abbrev pub group_ids : List SolutionGroup → List (List ℕ)
+group_ids = flat_map (λ g. map (λ _. g.id.text) g.solutions)
 
 -- the whole report
 abbrev pub report : Bool → Archive → Resolved → List ℕ

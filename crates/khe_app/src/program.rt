@@ -294,8 +294,8 @@ fn evaluate<R: Threads + Sync, S: Shelf, K: Sink, G: Gate>(
         Ok(answer) => {
             let status = write(rt, alloc, out, gate, &answer, all, workers);
 
-            // The archive was needed up to here, where the run ends: taking it apart, text by text, would take
-            // a tenth of the time of a run.
+            // The archive was needed up to here, where the run ends: to take it apart, text by text, would cost
+            // some hundredths of the time of a run.
             let _left = ManuallyDrop::new(answer);
             status
         }

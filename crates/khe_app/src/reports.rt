@@ -1,4 +1,4 @@
-ghost use Rattle.std.specs.Prelude.{◌≡◌, ◌≤◌, ◌<◌, ◌+◌, ◌++◌, ◌^◌, ℕ, List, [], Option, Some, IfOk, IsSome, false, length, map, slice_get, OnOk, OnErr, IsErrOf, encode_utf8_all};
+ghost use Rattle.std.specs.Prelude.{◌≡◌, ◌≤◌, ◌<◌, ◌+◌, ◌++◌, ◌^◌, ℕ, List, [], Option, IfOk, length, map, OnOk, OnErr, IsErrOf, encode_utf8_all};
 ghost use Rattle.khe_io.specs.Faults.{Rose, Took, TookFront};
 ghost use Rattle.script_run.specs.Amid.{IsAmid};
 ghost use Rattle.khe_app.specs.Report as spec;
@@ -7,21 +7,21 @@ ghost use Rattle.evaluation_report.specs.Lines as lines;
 ghost use Rattle.resource_deviations.specs.Sets.{room_for};
 ghost use Rattle.parallel_solve.specs.Ready.{IsOne, AreOnes};
 ghost use Rattle.parallel_solve.specs.Ready as solutions;
-ghost use Rattle.parallel_solve.specs.Windows.{IsAhead};
+ghost use Rattle.parallel_solve.specs.Windows.{IsWindow};
+ghost use Rattle.std.specs.Thread.{IsSync};
 ghost use Rattle.xhstt_references.specs.References.{solutions_of};
-ghost use Rattle.xhstt_shape.specs.declared.records.RawSolution.{RawSolution};
 
 use crate::outcomes::{Outcomes, instance_at};
 use evaluation_report::{header_line, solution_line};
 use khe_base::{NoMemory, Text};
 use khe_io::{Gate, Sink, put_all};
-use parallel_solve::{Ahead, all_solutions, rooms_of};
+use parallel_solve::{WindowMaker, all_solutions, rooms_of};
 use resource_deviations::ResourceRoom;
 use script_run::{Cut, flush, flush_long};
 use std::alloc::Global;
-use std::thread::Threads;
+use std::thread::{Threads, join_mut};
 use xhstt_resolve::Resolved;
-use xhstt_shape::{Archive, RawSolution, SolutionGroup};
+use xhstt_shape::{Archive, RawSolution};
 
 /// How many bytes a text has that goes to the sink as it stands: it isn't copied to what waits first.
 const LONG: usize = 1 << 16;
@@ -92,45 +92,177 @@ fn write_solution<K: Sink>(
     pass_on(alloc, out, text, outcome)
 }
 
-/// Writes the solutions of a group, numbered on from this number among all. What comes of them was
-/// written by the workers, in a window that goes ahead.
-fn write_group<R: Threads + Sync, K: Sink, G: Gate>(
+/// The Id of the group of each solution, in the order of all solutions.
+fn groups_of(alloc: Global, archive: &Archive) -> Result<Vec<&Text>, NoMemory>
+    ensures { IfOk result (λ v. map (λ x. x.now) v.items ≡ spec.group_ids archive.now.solution_groups) }
+{
+    let mut all = Vec::new(alloc);
+    for group in archive.solution_groups.as_slice() {
+        for _ in group.solutions.as_slice() {
+            all.push(&group.id.text)?;
+        }
+    }
+    Ok(all)
+}
+
+/// Writes the solutions of a window, which begins with this number among all.
+fn write_window<K: Sink>(
+    alloc: Global,
+    out: &mut K,
+    text: &mut Text,
+    resolved: &Resolved,
+    groups: &[&Text],
+    raws: &[&RawSolution],
+    first: u32,
+    made: &[Text],
+    all: bool,
+) -> Result<(), Cut>
+    requires ones { AreOnes resolved.now 0 (map (λ x. x.now) raws.now) }
+    requires few { length raws.now < 2 ^ 32 }
+    requires groups { length groups.now ≡ length raws.now }
+    requires window { IsWindow (spec.outcome_at all resolved.now) (map (λ x. x.now) raws.now) first made.now }
+    ensures amid { (before : Option (List ℕ)) (whole : List ℕ) → IsAmid before (K.taken out.old) text.old (spec.left_text all resolved.now first (map (λ x. x.now) groups.now) (map (λ x. x.now) raws.now)) whole → OnOk result (IsAmid before (K.taken out.new) text.new (spec.left_text all resolved.now (first + length made.now) (map (λ x. x.now) groups.now) (map (λ x. x.now) raws.now)) whole) }
+    ensures front { (before : Option (List ℕ)) (whole : List ℕ) → IsAmid before (K.taken out.old) text.old (spec.left_text all resolved.now first (map (λ x. x.now) groups.now) (map (λ x. x.now) raws.now)) whole → OnErr result (TookFront before (K.taken out.new) (encode_utf8_all whole)) }
+    ensures fault { IsErrOf result Cut.WriteFault → Rose (K.faults out.old) (K.faults out.new) }
+    ensures faultless { OnOk result (K.faults out.new ≡ K.faults out.old) }
+    ensures faultless_starved { IsErrOf result Cut.NoMemory → K.faults out.new ≡ K.faults out.old }
+    ensures counted { K.faults out.old ≤ K.faults out.new }
+{
+    for (k, outcome) in made.iter().enumerate() {
+        let number = first + k as u32;
+        let group = groups[number as usize];
+        let solution = raws[number as usize];
+        write_solution(
+            alloc, out, text, resolved, number, group, outcome, solution, all,
+        )?;
+    }
+    Ok(())
+}
+
+/// Writes a window and makes the next one, both at the same time: the workers have threads of their own, and
+/// this thread writes. Where no thread can be had, this one does both. Each of the two has its own outcome.
+fn write_beside<R: Threads + Sync, K: Sink, G: Gate>(
     rt: &R,
     alloc: Global,
     out: &mut K,
     text: &mut Text,
     resolved: &Resolved,
     rooms: &[ResourceRoom],
+    groups: &[&Text],
     raws: &[&RawSolution],
     gate: &G,
-    ahead: &mut Ahead<Text>,
-    first: u32,
-    group: &SolutionGroup,
+    windows: &WindowMaker,
     job: &Outcomes,
-) -> Result<(), Cut>
-    requires ones { AreOnes resolved.now first group.now.solutions }
-    requires small { first + length group.now.solutions ≤ length raws.now }
-    requires all_ones { AreOnes resolved.now 0 (map (λ x. x.now) raws.now) }
+    first: u32,
+    made: &[Text],
+) -> (Result<Vec<Text>, NoMemory>, Result<(), Cut>)
+    requires ones { AreOnes resolved.now 0 (map (λ x. x.now) raws.now) }
     requires few { length raws.now < 2 ^ 32 }
-    requires standing { (k : ℕ) (raw : RawSolution) → slice_get group.now.solutions k ≡ Some raw → slice_get (map (λ x. x.now) raws.now) (first + k) ≡ Some raw }
+    requires groups { length groups.now ≡ length raws.now }
     requires rooms { rooms.now ≡ map room_for resolved.now.instances }
-    requires ahead { IsAhead (spec.outcome_at job.now.all resolved.now) (map (λ x. x.now) raws.now) ahead.old }
-    ensures ahead { IsAhead (spec.outcome_at job.now.all resolved.now) (map (λ x. x.now) raws.now) ahead.new }
-    ensures amid { (before : Option (List ℕ)) (rest whole : List ℕ) → IsAmid before (K.taken out.old) text.old (spec.group_text job.now.all resolved.now first group.now ++ rest) whole → OnOk result (IsAmid before (K.taken out.new) text.new rest whole) }
-    ensures front { (before : Option (List ℕ)) (rest whole : List ℕ) → IsAmid before (K.taken out.old) text.old (spec.group_text job.now.all resolved.now first group.now ++ rest) whole → OnErr result (TookFront before (K.taken out.new) (encode_utf8_all whole)) }
+    requires window { IsWindow (spec.outcome_at job.now.all resolved.now) (map (λ x. x.now) raws.now) first made.now }
+    ensures next { IfOk result.0 (λ v. IsWindow (spec.outcome_at job.now.all resolved.now) (map (λ x. x.now) raws.now) (first + length made.now) v.items) }
+    ensures amid { (before : Option (List ℕ)) (whole : List ℕ) → IsAmid before (K.taken out.old) text.old (spec.left_text job.now.all resolved.now first (map (λ x. x.now) groups.now) (map (λ x. x.now) raws.now)) whole → OnOk result.1 (IsAmid before (K.taken out.new) text.new (spec.left_text job.now.all resolved.now (first + length made.now) (map (λ x. x.now) groups.now) (map (λ x. x.now) raws.now)) whole) }
+    ensures front { (before : Option (List ℕ)) (whole : List ℕ) → IsAmid before (K.taken out.old) text.old (spec.left_text job.now.all resolved.now first (map (λ x. x.now) groups.now) (map (λ x. x.now) raws.now)) whole → OnErr result.1 (TookFront before (K.taken out.new) (encode_utf8_all whole)) }
+    ensures fault { IsErrOf result.1 Cut.WriteFault → Rose (K.faults out.old) (K.faults out.new) }
+    ensures faultless { OnOk result.1 (K.faults out.new ≡ K.faults out.old) }
+    ensures faultless_starved { IsErrOf result.1 Cut.NoMemory → K.faults out.new ≡ K.faults out.old }
+    ensures counted { K.faults out.old ≤ K.faults out.new }
+{
+    let next = first + made.len() as u32;
+    let all = job.all;
+    join_mut(
+        rt,
+        &mut || -> Result<Vec<Text>, NoMemory>
+            requires { IsSync R.row × IsSync G.row × AreOnes resolved.now 0 (map (λ x. x.now) raws.now) × (length raws.now < 2 ^ 32) × (next ≤ length raws.now) × (rooms.now ≡ map room_for resolved.now.instances) }
+            ensures { IfOk result (λ v. IsWindow (spec.outcome_at job.entry.now.all resolved.entry.now) (map (λ x. x.now) raws.entry.now) next v.items) }
+        { windows.make(rt, alloc, job, resolved, rooms, raws, gate, next) },
+        &mut || write_window(alloc, out, text, resolved, groups, raws, first, made, all),
+    )
+}
+
+/// Writes a window and answers the next one, which is empty where no solution is left. Where this thread is the
+/// only worker, it makes the next window once this one is written and dropped, so that it holds one at a time.
+fn write_and_make<R: Threads + Sync, K: Sink, G: Gate>(
+    rt: &R,
+    alloc: Global,
+    out: &mut K,
+    text: &mut Text,
+    resolved: &Resolved,
+    rooms: &[ResourceRoom],
+    groups: &[&Text],
+    raws: &[&RawSolution],
+    gate: &G,
+    windows: &WindowMaker,
+    job: &Outcomes,
+    first: u32,
+    made: Vec<Text>,
+) -> Result<Vec<Text>, Cut>
+    requires ones { AreOnes resolved.now 0 (map (λ x. x.now) raws.now) }
+    requires few { length raws.now < 2 ^ 32 }
+    requires groups { length groups.now ≡ length raws.now }
+    requires rooms { rooms.now ≡ map room_for resolved.now.instances }
+    requires window { IsWindow (spec.outcome_at job.now.all resolved.now) (map (λ x. x.now) raws.now) first made.items }
+    ensures next { IfOk result (λ v. IsWindow (spec.outcome_at job.now.all resolved.now) (map (λ x. x.now) raws.now) (first + length made.items) v.items) }
+    ensures amid { (before : Option (List ℕ)) (whole : List ℕ) → IsAmid before (K.taken out.old) text.old (spec.left_text job.now.all resolved.now first (map (λ x. x.now) groups.now) (map (λ x. x.now) raws.now)) whole → OnOk result (IsAmid before (K.taken out.new) text.new (spec.left_text job.now.all resolved.now (first + length made.items) (map (λ x. x.now) groups.now) (map (λ x. x.now) raws.now)) whole) }
+    ensures front { (before : Option (List ℕ)) (whole : List ℕ) → IsAmid before (K.taken out.old) text.old (spec.left_text job.now.all resolved.now first (map (λ x. x.now) groups.now) (map (λ x. x.now) raws.now)) whole → OnErr result (TookFront before (K.taken out.new) (encode_utf8_all whole)) }
     ensures fault { IsErrOf result Cut.WriteFault → Rose (K.faults out.old) (K.faults out.new) }
     ensures faultless { OnOk result (K.faults out.new ≡ K.faults out.old) }
     ensures faultless_starved { IsErrOf result Cut.NoMemory → K.faults out.new ≡ K.faults out.old }
     ensures counted { K.faults out.old ≤ K.faults out.new }
 {
-    let id = &group.id.text;
-    for (k, solution) in group.solutions.as_slice().iter().enumerate() {
-        let number = first + k as u32;
-        ahead.reach(rt, alloc, job, resolved, rooms, raws, gate, number)?;
-        let outcome = ahead.made(number);
-        write_solution(
-            alloc, out, text, resolved, number, id, outcome, solution, job.all,
+    let next = first + made.len() as u32;
+    if windows.workers() == 1 || next as usize == raws.len() {
+        let outcomes = made.as_slice();
+        write_window(
+            alloc, out, text, resolved, groups, raws, first, outcomes, job.all,
         )?;
+        drop(made);
+        let later = windows.make(rt, alloc, job, resolved, rooms, raws, gate, next)?;
+        return Ok(later);
+    }
+    let made = made.as_slice();
+    let (later, written) = write_beside(
+        rt, alloc, out, text, resolved, rooms, groups, raws, gate, windows, job, first, made,
+    );
+    written?;
+    let later = later?;
+    Ok(later)
+}
+
+/// Writes all solutions, window by window.
+fn write_windows<R: Threads + Sync, K: Sink, G: Gate>(
+    rt: &R,
+    alloc: Global,
+    out: &mut K,
+    text: &mut Text,
+    resolved: &Resolved,
+    rooms: &[ResourceRoom],
+    groups: &[&Text],
+    raws: &[&RawSolution],
+    gate: &G,
+    windows: &WindowMaker,
+    job: &Outcomes,
+) -> Result<(), Cut>
+    requires ones { AreOnes resolved.now 0 (map (λ x. x.now) raws.now) }
+    requires few { length raws.now < 2 ^ 32 }
+    requires groups { length groups.now ≡ length raws.now }
+    requires rooms { rooms.now ≡ map room_for resolved.now.instances }
+    ensures amid { (before : Option (List ℕ)) (whole : List ℕ) → IsAmid before (K.taken out.old) text.old (spec.left_text job.now.all resolved.now 0 (map (λ x. x.now) groups.now) (map (λ x. x.now) raws.now)) whole → OnOk result (IsAmid before (K.taken out.new) text.new [] whole) }
+    ensures front { (before : Option (List ℕ)) (whole : List ℕ) → IsAmid before (K.taken out.old) text.old (spec.left_text job.now.all resolved.now 0 (map (λ x. x.now) groups.now) (map (λ x. x.now) raws.now)) whole → OnErr result (TookFront before (K.taken out.new) (encode_utf8_all whole)) }
+    ensures fault { IsErrOf result Cut.WriteFault → Rose (K.faults out.old) (K.faults out.new) }
+    ensures faultless { OnOk result (K.faults out.new ≡ K.faults out.old) }
+    ensures faultless_starved { IsErrOf result Cut.NoMemory → K.faults out.new ≡ K.faults out.old }
+    ensures counted { K.faults out.old ≤ K.faults out.new }
+{
+    let mut first = 0;
+    let mut made = windows.make(rt, alloc, job, resolved, rooms, raws, gate, first)?;
+    while !made.is_empty() {
+        let next = first + made.len() as u32;
+        made = write_and_make(
+            rt, alloc, out, text, resolved, rooms, groups, raws, gate, windows, job, first, made,
+        )?;
+        first = next;
     }
     Ok(())
 }
@@ -146,14 +278,16 @@ fn header(alloc: Global, _archive: &Archive, resolved: &Resolved) -> Result<Text
 }
 
 /// Writes the report of an archive: its header, and for each solution its line and what comes of it. The
-/// workers evaluate the solutions and make the text of what comes of them, and pass the gate before each
-/// of them with its number; this thread puts the texts together, which are the same for every number of
-/// workers.
+/// workers evaluate the solutions and make the text of what comes of them, window by window, and pass the gate
+/// before each of them with its number; this thread puts the texts together, which are the same for every
+/// number of workers. While it writes those of one window, several workers make those of the next; a single
+/// worker is this thread, which does the one after the other.
 ///
 /// It takes time about linear in the instances, the solutions and the report; that of evaluating and of
 /// making the texts is divided among the workers that run at the same time. It keeps in memory the masks
-/// of the instances, the texts of the solutions of one window, for each worker what evaluating one takes,
-/// what one solution adds to the report, and of the rest no more than a piece.
+/// of the instances, two references for each solution, the texts of two windows, or of one where there is one
+/// worker, for each worker what evaluating one solution takes, what one adds to the report, and of the rest no
+/// more than a piece.
 pub(crate) fn report<R: Threads + Sync, K: Sink, G: Gate>(
     rt: &R,
     alloc: Global,
@@ -174,28 +308,22 @@ pub(crate) fn report<R: Threads + Sync, K: Sink, G: Gate>(
     ensures counted { K.faults out.old ≤ K.faults out.new }
 {
     let raws = all_solutions(alloc, archive)?;
+    let groups = groups_of(alloc, archive)?;
     let rooms = rooms_of(alloc, resolved)?;
-    let rooms = rooms.as_slice();
     let mut text = header(alloc, archive, resolved)?;
-    let mut ahead = Ahead::new(alloc, resolved, workers);
-    let job = Outcomes { all };
-    let mut number = 0;
-    for group in archive.solution_groups.as_slice() {
-        write_group(
-            rt,
-            alloc,
-            out,
-            &mut text,
-            resolved,
-            rooms,
-            raws.as_slice(),
-            gate,
-            &mut ahead,
-            number,
-            group,
-            &job,
-        )?;
-        number += group.solutions.len() as u32;
-    }
+    let windows = WindowMaker::new(resolved, workers);
+    write_windows(
+        rt,
+        alloc,
+        out,
+        &mut text,
+        resolved,
+        rooms.as_slice(),
+        groups.as_slice(),
+        raws.as_slice(),
+        gate,
+        &windows,
+        &Outcomes { all },
+    )?;
     flush(alloc, out, &mut text)
 }

@@ -8,7 +8,7 @@ use Rattle.parallel_solve.specs.Ready.{AreOnes, IsOne}
 use Rattle.xhstt_resolve.specs.declared.resolving.Resolved.{Resolved}
 use Rattle.xhstt_shape.specs.declared.records.RawSolution.{RawSolution}
 
-pub get_front : (xs ys : List RawSolution) (k : ℕ) (x : RawSolution) → slice_get xs k ≡ Some x
+get_front : (xs ys : List RawSolution) (k : ℕ) (x : RawSolution) → slice_get xs k ≡ Some x
     → slice_get (xs ++ ys) k ≡ Some x
 get_front [] ys k x e = absurd (cc)
 get_front (y ∷ xs) ys zero x e = e
@@ -59,10 +59,10 @@ module _ {M : Type 0} (f : ℕ × RawSolution → M) where
       ∙ append_assoc done (f (n + k, x) ∷ []) (map f (enumerate_from (n + (k + 1)) (drop (k + 1) xs)))
       ∙ ap (λ l. done ++ l) (sym (rows_there n k xs x at)) ∙ h
 
-pub ones_left : (r : Resolved) (n : ℕ) (xs ys : List RawSolution) → AreOnes r n (xs ++ ys) → AreOnes r n xs
+ones_left : (r : Resolved) (n : ℕ) (xs ys : List RawSolution) → AreOnes r n (xs ++ ys) → AreOnes r n xs
 ones_left r n xs ys all k raw at = all k raw (get_front xs ys k raw at)
 
-pub ones_right : (r : Resolved) (n : ℕ) (xs ys : List RawSolution) → AreOnes r n (xs ++ ys)
+ones_right : (r : Resolved) (n : ℕ) (xs ys : List RawSolution) → AreOnes r n (xs ++ ys)
     → AreOnes r (n + length xs) ys
 ones_right r n xs ys all k raw at = subst (λ m. IsOne r m raw)
     (let e : n + (length xs + k) ≡ n + length xs + k = omega arith in e)

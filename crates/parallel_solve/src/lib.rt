@@ -11,4 +11,4 @@ mod windows;
 pub use evaluating::{all_solutions, evaluate_all};
 pub use jobs::SolutionJob;
 pub use verdicts::{Judging, Verdict, numbered, rooms_of};
-pub use windows::Ahead;
+pub use windows::WindowMaker;

@@ -1,9 +1,8 @@
-ghost use Rattle.std.specs.Prelude.{◌≡◌, ℕ, ◌+◌, ◌<◌, ◌≤◌, ◌^◌, true, IfOk, OnOk, Some, List, map, take, drop, slice_get, length};
+ghost use Rattle.std.specs.Prelude.{◌≡◌, ◌+◌, ◌<◌, ◌≤◌, ◌^◌, IfOk, map, take, drop, length};
 ghost use Rattle.std.specs.List.{enumerate_from};
 ghost use Rattle.resource_deviations.specs.Sets.{room_for};
 ghost use Rattle.parallel_solve.specs.Ready.{AreOnes};
-ghost use Rattle.parallel_solve.specs.Windows.{IsAhead, Reaches};
-ghost use Rattle.xhstt_shape.specs.declared.records.RawSolution.{RawSolution};
+ghost use Rattle.parallel_solve.specs.Windows.{IsWindow};
 
 use crate::jobs::SolutionJob;
 use crate::shares::{cut, made_by};
@@ -22,17 +21,15 @@ const MOST_MONITORS: usize = 1 << 16;
 /// How many solutions one worker evaluates at a time, at most.
 const MOST_SOLUTIONS: usize = 1_024;
 
-/// What a job makes of solutions that follow one another: a window over the solutions of an archive
-/// that goes ahead of who reads it, so that workers share the work and the memory is that of a
-/// window.
-#[derive(Drop)]
-pub struct Ahead<M> {
-    /// The number of the first solution in the window.
-    first: u32,
-    made: Vec<M>,
-    workers: u32,
+/// Makes windows over the solutions of an archive: what a job makes of so many solutions that follow one
+/// another, by workers who share them. So who reads window after window needs the memory of those that are
+/// held, and not of what all solutions come to.
+#[derive(Clone, Copy)]
+pub struct WindowMaker {
     /// How many solutions a window has, while so many are left.
     size: usize,
+    workers: u32,
+    ghost some: { 1 ≤ size },
 }
 
 /// How many solutions each of the workers takes from a window, so that a window has not much more
@@ -74,36 +71,32 @@ fn window<J: SolutionJob, R: Threads + Sync, G: Gate>(
     Ok(made)
 }
 
-impl<M: Drop> Ahead<M> {
-    /// An empty window, for 1 to 64 workers. It takes time in proportion to the instances, and no
-    /// memory.
-    pub fn new(alloc: Global, resolved: &Resolved, workers: u32) -> Ahead<M>
+impl WindowMaker {
+    /// Windows that are made by 1 to 64 workers. It takes time in proportion to the instances, and no memory.
+    pub fn new(resolved: &Resolved, workers: u32) -> WindowMaker
         requires { (1 ≤ workers) × (workers ≤ 64) }
-        ensures { (f : ℕ × RawSolution → M) (raws : List RawSolution) → IsAhead f raws result }
     {
-        Ahead {
-            first: 0,
-            made: Vec::new(alloc),
-            workers,
+        WindowMaker {
             size: share_of_window(resolved) * workers as usize,
+            workers,
         }
     }
 
-    /// Whether the solution with this number is in the window.
-    fn holds(&self, number: u32) -> bool
-        ensures { result ≡ true → Reaches self.now number }
+    /// How many workers make a window, the calling thread among them. It takes constant time.
+    pub fn workers(&self) -> u32
+        ensures { result ≡ self.now.workers }
     {
-        self.first <= number && ((number - self.first) as usize) < self.made.len()
+        self.workers
     }
 
-    /// Moves the window on to the solution with this number, unless it is there already. The
-    /// workers do the job for the solutions of a new window with the rooms of all instances, and
-    /// pass the gate before each of them, with its number.
+    /// Makes the window that begins with this number. It is empty only where no solution is left from there
+    /// on. The workers do the job with the rooms of all instances, and pass the gate before each solution,
+    /// with its number.
     ///
-    /// The only error is want of memory, after which the window is empty. It takes the time and
-    /// memory of the job for the window's solutions, divided among the workers, or constant time.
-    pub fn reach<J: SolutionJob<Made = M>, R: Threads + Sync, G: Gate>(
-        &mut self,
+    /// The only error is want of memory. It takes the time and memory of the job for the window's solutions,
+    /// divided among the workers that run at the same time.
+    pub fn make<J: SolutionJob, R: Threads + Sync, G: Gate>(
+        &self,
         rt: &R,
         alloc: Global,
         job: &J,
@@ -112,33 +105,18 @@ impl<M: Drop> Ahead<M> {
         raws: &[&RawSolution],
         gate: &G,
         number: u32,
-    ) -> Result<(), NoMemory>
+    ) -> Result<Vec<J::Made>, NoMemory>
         requires ones { AreOnes resolved.now 0 (map (λ x. x.now) raws.now) }
-        requires within { number < length raws.now }
+        requires within { number ≤ length raws.now }
         requires small { length raws.now < 2 ^ 32 }
         requires rooms { rooms.now ≡ map room_for resolved.now.instances }
-        requires ahead { IsAhead (J.made job.now resolved.now) (map (λ x. x.now) raws.now) self.old }
-        ensures ahead { IsAhead (J.made job.now resolved.now) (map (λ x. x.now) raws.now) self.new }
-        ensures there { OnOk result (Reaches self.new number) }
+        ensures { IfOk result (λ v. IsWindow (J.made job.now resolved.now) (map (λ x. x.now) raws.now) number v.items) }
     {
-        if self.holds(number) {
-            return Ok(());
-        }
-        self.first = number;
-        self.made = Vec::new(alloc);
         let size = self.size.min(raws.len() - number as usize);
         let workers = self.workers;
-        self.made = window(
+        let made = window(
             rt, alloc, job, resolved, rooms, raws, number, size, workers, gate,
         )?;
-        Ok(())
-    }
-
-    /// What was made of the solution with this number, which is in the window. It takes constant time.
-    pub fn made(&self, number: u32) -> &M
-        requires { Reaches self.now number }
-        ensures { (f : ℕ × RawSolution → M) (raws : List RawSolution) (raw : RawSolution) → IsAhead f raws self.now → slice_get raws number ≡ Some raw → result.now ≡ f (number, raw) }
-    {
-        &self.made[(number - self.first) as usize]
+        Ok(made)
     }
 }

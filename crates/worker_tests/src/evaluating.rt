@@ -5,7 +5,7 @@ use crate::archives::{ReadArchive, read_archive, text_of};
 use crate::gates::Meeting;
 use khe_base::NoMemory;
 use khe_io::{Gate, OpenGate};
-use parallel_solve::{Ahead, Judging, Verdict, all_solutions, evaluate_all, rooms_of};
+use parallel_solve::{Judging, Verdict, WindowMaker, all_solutions, evaluate_all, rooms_of};
 use std::alloc::Global;
 use std::test::Fail;
 use std::thread::Threads;
@@ -59,22 +59,19 @@ fn in_turn<R: Threads + Sync, G: Gate>(
 {
     let resolved = &read.resolved;
     let raws = all_solutions(alloc, &read.archive)?;
+    let raws = raws.as_slice();
     let rooms = rooms_of(alloc, resolved)?;
     let rooms = rooms.as_slice();
-    let mut ahead = Ahead::new(alloc, resolved, workers);
+    let windows = WindowMaker::new(resolved, workers);
     let mut all = Vec::new(alloc);
-    for number in 0..raws.len() as u32 {
-        ahead.reach(
-            rt,
-            alloc,
-            &Judging,
-            resolved,
-            rooms,
-            raws.as_slice(),
-            gate,
-            number,
-        )?;
-        all.push(told_of(ahead.made(number)))?;
+    let mut first = 0;
+    while first < raws.len() {
+        let number = first as u32;
+        let made = windows.make(rt, alloc, &Judging, resolved, rooms, raws, gate, number)?;
+        for verdict in made.as_slice() {
+            all.push(told_of(verdict))?;
+        }
+        first += made.len();
     }
     Ok(all)
 }
@@ -116,17 +113,17 @@ fn two_workers_evaluate_side_by_side(rt: HostRuntime) -> Result<(), Fail> {
     Ok(())
 }
 
-/// More solutions than a window of two workers holds are told in order.
+/// More solutions than a window of two workers holds, which are 2,048, are told in order.
 #[test]
 fn windows_follow_one_another(rt: HostRuntime) -> Result<(), Fail> {
-    let read = read_with(rt.alloc(), 300)?.ok_or("a fault")?;
+    let read = read_with(rt.alloc(), 3_000)?.ok_or("a fault")?;
     let all = in_turn(&rt, rt.alloc(), &read, 2, &OpenGate)?;
     let empty = all
         .iter()
         .take_while(|told| **told == Told::Costs(6, 0))
         .count();
-    assert!(rt; all.len() == 302 && empty == 300);
-    assert_eq!(rt; all.get(300).copied(), Some(Told::Costs(0, 0)));
-    assert_eq!(rt; all.get(301).copied(), Some(Told::Invalid(4, 0)));
+    assert!(rt; all.len() == 3_002 && empty == 3_000);
+    assert_eq!(rt; all.get(3_000).copied(), Some(Told::Costs(0, 0)));
+    assert_eq!(rt; all.get(3_001).copied(), Some(Told::Invalid(4, 0)));
     Ok(())
 }

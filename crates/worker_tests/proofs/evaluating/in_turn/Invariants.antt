@@ -1,8 +1,9 @@
--- The window has verdicts of the archive's solutions.
-use Rattle.std.proofs.Common.{map}
-use Rattle.parallel_solve.specs.Verdicts.{numbered_verdict}
-use Rattle.parallel_solve.specs.Windows.{IsAhead}
+-- The windows so far have no more solutions than there are, and each leaves fewer.
+use Rattle.std.proofs.Common.{length, ◌-◌, ◌≤◌}
 use Rattle.worker_tests.proofs.evaluating.in_turn.Given as goal
 
-abbrev pub invariant-loop-number : goal.invariant-loop-number
-invariant-loop-number g l = IsAhead (numbered_verdict l.resolved) (map (λ x. x.now) l.raws.items) l.ahead
+abbrev pub invariant-loop-first : goal.invariant-loop-first
+invariant-loop-first g l = l.first ≤ length l.raws
+
+abbrev pub decreases-loop-first : goal.decreases-loop-first
+decreases-loop-first g l = length l.raws - l.first
