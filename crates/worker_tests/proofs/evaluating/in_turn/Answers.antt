@@ -6,7 +6,7 @@ use Rattle.parallel_solve.proofs.ReadyLemmas.{ready}
 use Rattle.worker_tests.proofs.evaluating.in_turn.Goals as goal
 
 pub make-requires-clause-ones : goal.make-requires-clause-ones
-make-requires-clause-ones g c =
+make-requires-clause-ones g c κs within =
     let read = c.args.read.now in
     let now = λ (x : Bor RawSolution). x.now in
     let ones = ready read.archive read.resolved c.requires.read.resolved_is c.requires.read.formed in
