@@ -7,12 +7,14 @@
 #
 #     bench/workers.sh KHE [WORKERS]
 #
-# KHE is a proved program, say ~/.cache/khe/khe. WORKERS (4 if missing) is the number of the several.
+# KHE is a proved program, say ~/.cache/khe/khe. WORKERS (4 if missing) is the number of the several. ROUNDS (1), how
+# often each kind of constraint stands, and RUNS (3) are taken from the environment: with 12 rounds evaluating takes
+# longer than reading, so that a host whose speed varies blurs the ratio less.
 # Run it by hand, on a quiet machine with as many processors: it is no part of the gate.
 . "$(dirname "$0")/setup.sh"
 workers=${2:-4}
 compare() {
-  python3 "$top/bench/archives.py" "$1" "$2" > "$archive"
+  python3 "$top/bench/archives.py" "$1" "$2" --rounds "${ROUNDS:-1}" > "$archive"
   written=$(grep -c '^<Solution ' "$archive" || true)
   python3 -c '
 import sys
