@@ -1,6 +1,7 @@
 -- The report of an archive.
-use Rattle.std.specs.Prelude.{ℕ, ◌==◌, Bool, not, ◌&&◌, if◌then◌else◌, Result, Ok, Err, List, [], ◌∷◌, ◌++◌, length, map, drop}
-use Rattle.std.specs.Prelude.{◌+◌}
+use Rattle.std.specs.Prelude.{ℕ, ◌==◌, Bool, not, ◌&&◌, if◌then◌else◌, Result, Ok, Err, List, [], ◌∷◌, ◌++◌, length}
+use Rattle.std.specs.Prelude.{map}
+use Rattle.std.specs.Prelude.{◌+◌, slice_get}
 use Rattle.std.specs.List.{flat_map, enumerate_from}
 use Rattle.std.specs.Option.{option_map_or}
 use Rattle.evaluation_report.specs.Lines.{header_line, solution_line, monitor_line, total_line, invalid_line}
@@ -8,6 +9,7 @@ use Rattle.khe_instance.specs.Evaluated.{deviation_in, cost_in, is_detached, tot
 use Rattle.khe_instance.specs.declared.parts.Parts.{Parts}
 use Rattle.khe_instance.specs.declared.points.Monitor.{Monitor}
 use Rattle.khe_instance.specs.declared.states.Plain.{Plain}
+use Rattle.parallel_solve.specs.Batches.{rows_from}
 use Rattle.parallel_solve.specs.Verdicts.{parts_at}
 use Rattle.xhstt_completion.specs.Completed.{completed}
 use Rattle.xhstt_completion.specs.declared.faults.Cause.{Cause}
@@ -32,10 +34,6 @@ abbrev pub outcome_text : Bool → Parts → Result Plain Cause → List ℕ
 outcome_text all p (Ok s) = evaluation all p s
 outcome_text all p (Err cause) = invalid_line cause.cause cause.entry
 
--- what comes of the solution with this number
-abbrev pub outcome_at : Bool → Resolved → ℕ × RawSolution → List ℕ
-outcome_at all r (number, raw) = option_map_or (λ p. outcome_text all p (completed p raw)) (parts_at r number) []
-
 -- a solution with its number and the Id of its group, of an instance with these parts
 abbrev pub solution_text : Bool → ℕ → List ℕ → RawSolution → Parts → List ℕ
 solution_text all number group raw p = solution_line number group p.id ++ outcome_text all p (completed p raw)
@@ -53,16 +51,14 @@ groups_text all r number [] = []
 groups_text all r number (g ∷ gs) =
     group_text all r number g ++ groups_text all r (number + length g.solutions) gs
 
--- solutions that are numbered on from this number, each with the Id of its group
-abbrev pub solutions_text : Bool → Resolved → ℕ → List (List ℕ) → List RawSolution → List ℕ
-solutions_text all r number [] raws = []
-solutions_text all r number (g ∷ gs) [] = []
-solutions_text all r number (g ∷ gs) (x ∷ xs) =
-    numbered_text all r g (number, x) ++ solutions_text all r (number + 1) gs xs
+-- the part of a report on the solution with this number, with the Id of its group among those of all solutions
+abbrev pub row_text : Bool → Resolved → List (List ℕ) → ℕ × RawSolution → List ℕ
+row_text all r groups (number, raw) =
+    option_map_or (λ g. numbered_text all r g (number, raw)) (slice_get groups number) []
 
 -- of all solutions, those from this number on
-abbrev pub left_text : Bool → Resolved → ℕ → List (List ℕ) → List RawSolution → List ℕ
-left_text all r number groups raws = solutions_text all r number (drop number groups) (drop number raws)
+abbrev pub left_text : Bool → Resolved → List (List ℕ) → ℕ → List RawSolution → List ℕ
+left_text all r groups number raws = flat_map (row_text all r groups) (rows_from number raws)
 
 -- the Id of the group of each solution
 abbrev pub group_ids : List SolutionGroup → List (List ℕ)

@@ -1,16 +1,20 @@
 //! What comes of the solutions of an archive, as the text that a report has of each of them.
 
-ghost use Rattle.std.specs.Prelude.{◌≡◌, ◌<◌, ◌++◌, [], IfOk, OnOk, IsSome, Some, false, length};
+ghost use Rattle.std.specs.Prelude.{◌≡◌, ◌<◌, ◌++◌, [], OnOk, IsSome, Some, false, length, map};
+ghost use Rattle.std.specs.List.{flat_map};
 ghost use Rattle.khe_instance.specs.Evaluated.{deviation_in, cost_in, is_detached};
 ghost use Rattle.khe_instance.specs.declared.points.Monitor.{Monitor};
 ghost use Rattle.khe_instance.specs.declared.states.Plain.{Plain};
 ghost use Rattle.khe_app.specs.Report as spec;
+ghost use Rattle.resource_deviations.specs.Sets.{room_for};
+ghost use Rattle.parallel_solve.specs.Ready.{IsOne};
 ghost use Rattle.parallel_solve.specs.Verdicts.{parts_at, values_of, verdict_of};
 ghost use Rattle.xhstt_completion.specs.Completed as completion;
 
-use evaluation_report::{invalid_line, push_monitor_line, total_line};
+use evaluation_report::{invalid_line, push_monitor_line, solution_line, total_line};
 use khe_base::{MonitorId, NoMemory, Text};
 use khe_instance::{Instance, Plain};
+use khe_io::Gate;
 use parallel_solve::{SolutionJob, Verdict, numbered};
 use plain_eval::Values;
 use resource_deviations::ResourceRoom;
@@ -79,22 +83,6 @@ fn push_outcome(
     }
 }
 
-/// What comes of a solution by its verdict, as a text of its own.
-fn outcome_of(
-    alloc: Global,
-    inst: &Instance,
-    verdict: &Verdict,
-    solution: &RawSolution,
-    all: bool,
-) -> Result<Text, NoMemory>
-    requires { verdict.now ≡ verdict_of inst.now (completion.completed inst.now solution.now) }
-    ensures { IfOk result (λ text. text ≡ spec.outcome_text all inst.now (completion.completed inst.now solution.now)) }
-{
-    let mut text = Text::new(alloc);
-    let pushed = push_outcome(alloc, &mut text, inst, verdict, solution, all);
-    pushed.and(Ok(text))
-}
-
 /// The instance of the solution with this number.
 pub(crate) fn instance_at(resolved: &Resolved, number: u32) -> &Instance
     requires { IsSome (parts_at resolved.now number) }
@@ -104,28 +92,70 @@ pub(crate) fn instance_at(resolved: &Resolved, number: u32) -> &Instance
     &resolved.instances.as_slice()[instance as usize]
 }
 
-/// The job of writing what comes of each solution: its evaluation, with the lines of all monitors or of
-/// those that have a deviation, or why it is invalid.
-#[derive(Clone, Copy)]
-pub(crate) struct Outcomes {
-    pub all: bool,
+/// Adds the part of a report on the solution with a number: its line, and what comes of it.
+fn push_solution(
+    alloc: Global,
+    text: &mut Text,
+    resolved: &Resolved,
+    rooms: &[ResourceRoom],
+    number: u32,
+    group: &Text,
+    raw: &RawSolution,
+    all: bool,
+) -> Result<(), NoMemory>
+    requires one { IsOne resolved.now number raw.now }
+    requires rooms { rooms.now ≡ map room_for resolved.now.instances }
+    ensures { OnOk result (text.new ≡ text.old ++ spec.numbered_text all resolved.now group.now (number, raw.now)) }
+{
+    let verdict = numbered(alloc, resolved, rooms, number, raw)?;
+    let inst = instance_at(resolved, number);
+    let line = solution_line(alloc, number, group, inst.id())?;
+    text.push_text(&line)?;
+    push_outcome(alloc, text, inst, &verdict, raw, all)
 }
 
-impl SolutionJob for Outcomes {
+/// The job of writing the part of a report on each solution of a batch: its line with the Id of its group, and what
+/// comes of it: its evaluation, with the lines of all monitors or of those that have a deviation, or why it is
+/// invalid.
+#[derive(Clone, Copy)]
+pub(crate) struct Outcomes<'a> {
+    pub all: bool,
+    /// The Id of the group of each solution of the archive, in order.
+    pub groups: &'a [&'a Text],
+}
+
+impl<'a> SolutionJob for Outcomes<'a> {
     type Made = Text;
 
-    ghost made = { λ job r one. spec.outcome_at job.all r one };
+    ghost made = { λ job r rows. flat_map (spec.row_text job.all r (map (λ x. x.now) job.groups.now)) rows };
 
-    fn make(
+    fn make<G: Gate>(
         &self,
         alloc: Global,
         resolved: &Resolved,
         rooms: &[ResourceRoom],
-        number: u32,
-        raw: &RawSolution,
+        raws: &[&RawSolution],
+        first: usize,
+        count: usize,
+        gate: &G,
     ) -> Result<Text, NoMemory> {
-        let verdict = numbered(alloc, resolved, rooms, number, raw)?;
-        let inst = instance_at(resolved, number);
-        outcome_of(alloc, inst, &verdict, raw, self.all)
+        let mut text = Text::new(alloc);
+        for number in first..first + count {
+            gate.pass(number as u64);
+            if let Some(group) = self.groups.get(number) {
+                let raw = raws[number];
+                push_solution(
+                    alloc,
+                    &mut text,
+                    resolved,
+                    rooms,
+                    number as u32,
+                    group,
+                    raw,
+                    self.all,
+                )?;
+            }
+        }
+        Ok(text)
     }
 }

@@ -5,46 +5,26 @@ ghost use Rattle.khe_app.specs.Report as spec;
 ghost use Rattle.khe_app.specs.Ready.{IsReady};
 ghost use Rattle.evaluation_report.specs.Lines as lines;
 ghost use Rattle.resource_deviations.specs.Sets.{room_for};
-ghost use Rattle.parallel_solve.specs.Ready.{IsOne, AreOnes};
+ghost use Rattle.parallel_solve.specs.Ready.{AreOnes};
 ghost use Rattle.parallel_solve.specs.Ready as solutions;
-ghost use Rattle.parallel_solve.specs.Windows.{IsWindow};
-ghost use Rattle.std.specs.Thread.{IsSync};
+ghost use Rattle.parallel_solve.specs.Batches.{IsWindow};
+ghost use Rattle.std.specs.List.{concat, flat_map};
 ghost use Rattle.xhstt_references.specs.References.{solutions_of};
 
-use crate::outcomes::{Outcomes, instance_at};
-use evaluation_report::{header_line, solution_line};
+use crate::outcomes::Outcomes;
+use evaluation_report::header_line;
 use khe_base::{NoMemory, Text};
 use khe_io::{Gate, Sink, put_all};
-use parallel_solve::{WindowMaker, all_solutions, rooms_of};
+use parallel_solve::{Window, WindowMaker, all_solutions, rooms_of};
 use resource_deviations::ResourceRoom;
 use script_run::{Cut, flush, flush_long};
 use std::alloc::Global;
-use std::thread::{Threads, join_mut};
+use std::thread::Threads;
 use xhstt_resolve::Resolved;
 use xhstt_shape::{Archive, RawSolution};
 
 /// How many bytes a text has that goes to the sink as it stands: it isn't copied to what waits first.
 const LONG: usize = 1 << 16;
-
-/// Adds the line of the solution with a number to what waits.
-fn push_line(
-    alloc: Global,
-    text: &mut Text,
-    resolved: &Resolved,
-    number: u32,
-    group: &Text,
-    outcome: &Text,
-    _solution: &RawSolution,
-    _all: bool,
-) -> Result<(), NoMemory>
-    requires one { IsOne resolved.now number _solution.now }
-    requires outcome { outcome.now ≡ spec.outcome_at _all resolved.now (number, _solution.now) }
-    ensures { (rest : List ℕ) → OnOk result (text.new ++ (outcome.now ++ rest) ≡ text.old ++ (spec.numbered_text _all resolved.now group.now (number, _solution.now) ++ rest)) }
-{
-    let inst = instance_at(resolved, number);
-    let line = solution_line(alloc, number, group, inst.id())?;
-    text.push_text(&line)
-}
 
 /// Adds a text to what waits, and gives that to the sink where it is long; a text that is long by itself goes
 /// there after what waits, without being copied.
@@ -66,32 +46,6 @@ fn pass_on<K: Sink>(alloc: Global, out: &mut K, pending: &mut Text, text: &Text)
     Ok(())
 }
 
-/// Adds the part of a report on one solution to what waits, and gives that to the sink where it is
-/// long.
-fn write_solution<K: Sink>(
-    alloc: Global,
-    out: &mut K,
-    text: &mut Text,
-    resolved: &Resolved,
-    number: u32,
-    group: &Text,
-    outcome: &Text,
-    solution: &RawSolution,
-    all: bool,
-) -> Result<(), Cut>
-    requires one { IsOne resolved.now number solution.now }
-    requires outcome { outcome.now ≡ spec.outcome_at all resolved.now (number, solution.now) }
-    ensures amid { (before : Option (List ℕ)) (rest whole : List ℕ) → IsAmid before (K.taken out.old) text.old (spec.numbered_text all resolved.now group.now (number, solution.now) ++ rest) whole → OnOk result (IsAmid before (K.taken out.new) text.new rest whole) }
-    ensures front { (before : Option (List ℕ)) (rest whole : List ℕ) → IsAmid before (K.taken out.old) text.old (spec.numbered_text all resolved.now group.now (number, solution.now) ++ rest) whole → OnErr result (TookFront before (K.taken out.new) (encode_utf8_all whole)) }
-    ensures fault { IsErrOf result Cut.WriteFault → Rose (K.faults out.old) (K.faults out.new) }
-    ensures faultless { OnOk result (K.faults out.new ≡ K.faults out.old) }
-    ensures faultless_starved { IsErrOf result Cut.NoMemory → K.faults out.new ≡ K.faults out.old }
-    ensures counted { K.faults out.old ≤ K.faults out.new }
-{
-    push_line(alloc, text, resolved, number, group, outcome, solution, all)?;
-    pass_on(alloc, out, text, outcome)
-}
-
 /// The Id of the group of each solution, in the order of all solutions.
 fn groups_of(alloc: Global, archive: &Archive) -> Result<Vec<&Text>, NoMemory>
     ensures { IfOk result (λ v. map (λ x. x.now) v.items ≡ spec.group_ids archive.now.solution_groups) }
@@ -105,42 +59,28 @@ fn groups_of(alloc: Global, archive: &Archive) -> Result<Vec<&Text>, NoMemory>
     Ok(all)
 }
 
-/// Writes the solutions of a window, which begins with this number among all.
-fn write_window<K: Sink>(
+/// Adds texts to what waits, one after another, and gives that to the sink where it is long.
+fn write_texts<K: Sink>(
     alloc: Global,
     out: &mut K,
     text: &mut Text,
-    resolved: &Resolved,
-    groups: &[&Text],
-    raws: &[&RawSolution],
-    first: u32,
     made: &[Text],
-    all: bool,
 ) -> Result<(), Cut>
-    requires ones { AreOnes resolved.now 0 (map (λ x. x.now) raws.now) }
-    requires few { length raws.now < 2 ^ 32 }
-    requires groups { length groups.now ≡ length raws.now }
-    requires window { IsWindow (spec.outcome_at all resolved.now) (map (λ x. x.now) raws.now) first made.now }
-    ensures amid { (before : Option (List ℕ)) (whole : List ℕ) → IsAmid before (K.taken out.old) text.old (spec.left_text all resolved.now first (map (λ x. x.now) groups.now) (map (λ x. x.now) raws.now)) whole → OnOk result (IsAmid before (K.taken out.new) text.new (spec.left_text all resolved.now (first + length made.now) (map (λ x. x.now) groups.now) (map (λ x. x.now) raws.now)) whole) }
-    ensures front { (before : Option (List ℕ)) (whole : List ℕ) → IsAmid before (K.taken out.old) text.old (spec.left_text all resolved.now first (map (λ x. x.now) groups.now) (map (λ x. x.now) raws.now)) whole → OnErr result (TookFront before (K.taken out.new) (encode_utf8_all whole)) }
+    ensures amid { (before : Option (List ℕ)) (rest whole : List ℕ) → IsAmid before (K.taken out.old) text.old (concat made.now ++ rest) whole → OnOk result (IsAmid before (K.taken out.new) text.new rest whole) }
+    ensures front { (before : Option (List ℕ)) (whole : List ℕ) → ((rest : List ℕ) × IsAmid before (K.taken out.old) text.old (concat made.now ++ rest) whole) → OnErr result (TookFront before (K.taken out.new) (encode_utf8_all whole)) }
     ensures fault { IsErrOf result Cut.WriteFault → Rose (K.faults out.old) (K.faults out.new) }
     ensures faultless { OnOk result (K.faults out.new ≡ K.faults out.old) }
     ensures faultless_starved { IsErrOf result Cut.NoMemory → K.faults out.new ≡ K.faults out.old }
     ensures counted { K.faults out.old ≤ K.faults out.new }
 {
-    for (k, outcome) in made.iter().enumerate() {
-        let number = first + k as u32;
-        let group = groups[number as usize];
-        let solution = raws[number as usize];
-        write_solution(
-            alloc, out, text, resolved, number, group, outcome, solution, all,
-        )?;
+    for one in made {
+        pass_on(alloc, out, text, one)?;
     }
     Ok(())
 }
 
-/// Writes a window and makes the next one, both at the same time: the workers have threads of their own, and
-/// this thread writes. Where no thread can be had, this one does both. Each of the two has its own outcome.
+/// Writes the texts of a window while the other workers make the next one, which begins with this solution, and
+/// then helps them.
 fn write_beside<R: Threads + Sync, K: Sink, G: Gate>(
     rt: &R,
     alloc: Global,
@@ -148,41 +88,40 @@ fn write_beside<R: Threads + Sync, K: Sink, G: Gate>(
     text: &mut Text,
     resolved: &Resolved,
     rooms: &[ResourceRoom],
-    groups: &[&Text],
     raws: &[&RawSolution],
     gate: &G,
     windows: &WindowMaker,
     job: &Outcomes,
-    first: u32,
+    next: usize,
     made: &[Text],
-) -> (Result<Vec<Text>, NoMemory>, Result<(), Cut>)
+) -> (Result<Window<Text>, NoMemory>, Result<(), Cut>)
     requires ones { AreOnes resolved.now 0 (map (λ x. x.now) raws.now) }
     requires few { length raws.now < 2 ^ 32 }
-    requires groups { length groups.now ≡ length raws.now }
     requires rooms { rooms.now ≡ map room_for resolved.now.instances }
-    requires window { IsWindow (spec.outcome_at job.now.all resolved.now) (map (λ x. x.now) raws.now) first made.now }
-    ensures next { IfOk result.0 (λ v. IsWindow (spec.outcome_at job.now.all resolved.now) (map (λ x. x.now) raws.now) (first + length made.now) v.items) }
-    ensures amid { (before : Option (List ℕ)) (whole : List ℕ) → IsAmid before (K.taken out.old) text.old (spec.left_text job.now.all resolved.now first (map (λ x. x.now) groups.now) (map (λ x. x.now) raws.now)) whole → OnOk result.1 (IsAmid before (K.taken out.new) text.new (spec.left_text job.now.all resolved.now (first + length made.now) (map (λ x. x.now) groups.now) (map (λ x. x.now) raws.now)) whole) }
-    ensures front { (before : Option (List ℕ)) (whole : List ℕ) → IsAmid before (K.taken out.old) text.old (spec.left_text job.now.all resolved.now first (map (λ x. x.now) groups.now) (map (λ x. x.now) raws.now)) whole → OnErr result.1 (TookFront before (K.taken out.new) (encode_utf8_all whole)) }
+    requires within { next ≤ length raws.now }
+    ensures next { IfOk result.0 (λ w. IsWindow (flat_map (spec.row_text job.now.all resolved.now (map (λ x. x.now) job.now.groups.now))) (map (λ x. x.now) raws.now) next w.next w.made.items) }
+    ensures amid { (before : Option (List ℕ)) (rest whole : List ℕ) → IsAmid before (K.taken out.old) text.old (concat made.now ++ rest) whole → OnOk result.1 (IsAmid before (K.taken out.new) text.new rest whole) }
+    ensures front { (before : Option (List ℕ)) (whole : List ℕ) → ((rest : List ℕ) × IsAmid before (K.taken out.old) text.old (concat made.now ++ rest) whole) → OnErr result.1 (TookFront before (K.taken out.new) (encode_utf8_all whole)) }
     ensures fault { IsErrOf result.1 Cut.WriteFault → Rose (K.faults out.old) (K.faults out.new) }
     ensures faultless { OnOk result.1 (K.faults out.new ≡ K.faults out.old) }
     ensures faultless_starved { IsErrOf result.1 Cut.NoMemory → K.faults out.new ≡ K.faults out.old }
     ensures counted { K.faults out.old ≤ K.faults out.new }
 {
-    let next = first + made.len() as u32;
-    let all = job.all;
-    join_mut(
+    windows.make_beside(
         rt,
-        &mut || -> Result<Vec<Text>, NoMemory>
-            requires { IsSync R.row × IsSync G.row × AreOnes resolved.now 0 (map (λ x. x.now) raws.now) × (length raws.now < 2 ^ 32) × (next ≤ length raws.now) × (rooms.now ≡ map room_for resolved.now.instances) }
-            ensures { IfOk result (λ v. IsWindow (spec.outcome_at job.entry.now.all resolved.entry.now) (map (λ x. x.now) raws.entry.now) next v.items) }
-        { windows.make(rt, alloc, job, resolved, rooms, raws, gate, next) },
-        &mut || write_window(alloc, out, text, resolved, groups, raws, first, made, all),
+        alloc,
+        job,
+        resolved,
+        rooms,
+        raws,
+        gate,
+        next,
+        &mut || write_texts(alloc, out, text, made),
     )
 }
 
-/// Writes a window and answers the next one, which is empty where no solution is left. Where this thread is the
-/// only worker, it makes the next window once this one is written and dropped, so that it holds one at a time.
+/// Writes a window and answers the next one, which ends where it begins where no solution is left. Where this thread
+/// is the only worker, it makes the next window once this one is written and dropped, so that it holds one at a time.
 fn write_and_make<R: Threads + Sync, K: Sink, G: Gate>(
     rt: &R,
     alloc: Global,
@@ -190,40 +129,34 @@ fn write_and_make<R: Threads + Sync, K: Sink, G: Gate>(
     text: &mut Text,
     resolved: &Resolved,
     rooms: &[ResourceRoom],
-    groups: &[&Text],
     raws: &[&RawSolution],
     gate: &G,
     windows: &WindowMaker,
     job: &Outcomes,
-    first: u32,
-    made: Vec<Text>,
-) -> Result<Vec<Text>, Cut>
+    window: Window<Text>,
+) -> Result<Window<Text>, Cut>
     requires ones { AreOnes resolved.now 0 (map (λ x. x.now) raws.now) }
     requires few { length raws.now < 2 ^ 32 }
-    requires groups { length groups.now ≡ length raws.now }
     requires rooms { rooms.now ≡ map room_for resolved.now.instances }
-    requires window { IsWindow (spec.outcome_at job.now.all resolved.now) (map (λ x. x.now) raws.now) first made.items }
-    ensures next { IfOk result (λ v. IsWindow (spec.outcome_at job.now.all resolved.now) (map (λ x. x.now) raws.now) (first + length made.items) v.items) }
-    ensures amid { (before : Option (List ℕ)) (whole : List ℕ) → IsAmid before (K.taken out.old) text.old (spec.left_text job.now.all resolved.now first (map (λ x. x.now) groups.now) (map (λ x. x.now) raws.now)) whole → OnOk result (IsAmid before (K.taken out.new) text.new (spec.left_text job.now.all resolved.now (first + length made.items) (map (λ x. x.now) groups.now) (map (λ x. x.now) raws.now)) whole) }
-    ensures front { (before : Option (List ℕ)) (whole : List ℕ) → IsAmid before (K.taken out.old) text.old (spec.left_text job.now.all resolved.now first (map (λ x. x.now) groups.now) (map (λ x. x.now) raws.now)) whole → OnErr result (TookFront before (K.taken out.new) (encode_utf8_all whole)) }
+    requires within { window.next ≤ length raws.now }
+    ensures next { IfOk result (λ w. IsWindow (flat_map (spec.row_text job.now.all resolved.now (map (λ x. x.now) job.now.groups.now))) (map (λ x. x.now) raws.now) window.next w.next w.made.items) }
+    ensures amid { (before : Option (List ℕ)) (rest whole : List ℕ) → IsAmid before (K.taken out.old) text.old (concat window.made.items ++ rest) whole → OnOk result (IsAmid before (K.taken out.new) text.new rest whole) }
+    ensures front { (before : Option (List ℕ)) (rest whole : List ℕ) → IsAmid before (K.taken out.old) text.old (concat window.made.items ++ rest) whole → OnErr result (TookFront before (K.taken out.new) (encode_utf8_all whole)) }
     ensures fault { IsErrOf result Cut.WriteFault → Rose (K.faults out.old) (K.faults out.new) }
     ensures faultless { OnOk result (K.faults out.new ≡ K.faults out.old) }
     ensures faultless_starved { IsErrOf result Cut.NoMemory → K.faults out.new ≡ K.faults out.old }
     ensures counted { K.faults out.old ≤ K.faults out.new }
 {
-    let next = first + made.len() as u32;
-    if windows.workers() == 1 || next as usize == raws.len() {
-        let outcomes = made.as_slice();
-        write_window(
-            alloc, out, text, resolved, groups, raws, first, outcomes, job.all,
-        )?;
+    let Window { next, made } = window;
+    if windows.workers() == 1 {
+        write_texts(alloc, out, text, made.as_slice())?;
         drop(made);
         let later = windows.make(rt, alloc, job, resolved, rooms, raws, gate, next)?;
         return Ok(later);
     }
     let made = made.as_slice();
     let (later, written) = write_beside(
-        rt, alloc, out, text, resolved, rooms, groups, raws, gate, windows, job, first, made,
+        rt, alloc, out, text, resolved, rooms, raws, gate, windows, job, next, made,
     );
     written?;
     let later = later?;
@@ -238,7 +171,6 @@ fn write_windows<R: Threads + Sync, K: Sink, G: Gate>(
     text: &mut Text,
     resolved: &Resolved,
     rooms: &[ResourceRoom],
-    groups: &[&Text],
     raws: &[&RawSolution],
     gate: &G,
     windows: &WindowMaker,
@@ -246,23 +178,21 @@ fn write_windows<R: Threads + Sync, K: Sink, G: Gate>(
 ) -> Result<(), Cut>
     requires ones { AreOnes resolved.now 0 (map (λ x. x.now) raws.now) }
     requires few { length raws.now < 2 ^ 32 }
-    requires groups { length groups.now ≡ length raws.now }
     requires rooms { rooms.now ≡ map room_for resolved.now.instances }
-    ensures amid { (before : Option (List ℕ)) (whole : List ℕ) → IsAmid before (K.taken out.old) text.old (spec.left_text job.now.all resolved.now 0 (map (λ x. x.now) groups.now) (map (λ x. x.now) raws.now)) whole → OnOk result (IsAmid before (K.taken out.new) text.new [] whole) }
-    ensures front { (before : Option (List ℕ)) (whole : List ℕ) → IsAmid before (K.taken out.old) text.old (spec.left_text job.now.all resolved.now 0 (map (λ x. x.now) groups.now) (map (λ x. x.now) raws.now)) whole → OnErr result (TookFront before (K.taken out.new) (encode_utf8_all whole)) }
+    ensures amid { (before : Option (List ℕ)) (whole : List ℕ) → IsAmid before (K.taken out.old) text.old (spec.left_text job.now.all resolved.now (map (λ x. x.now) job.now.groups.now) 0 (map (λ x. x.now) raws.now)) whole → OnOk result (IsAmid before (K.taken out.new) text.new [] whole) }
+    ensures front { (before : Option (List ℕ)) (whole : List ℕ) → IsAmid before (K.taken out.old) text.old (spec.left_text job.now.all resolved.now (map (λ x. x.now) job.now.groups.now) 0 (map (λ x. x.now) raws.now)) whole → OnErr result (TookFront before (K.taken out.new) (encode_utf8_all whole)) }
     ensures fault { IsErrOf result Cut.WriteFault → Rose (K.faults out.old) (K.faults out.new) }
     ensures faultless { OnOk result (K.faults out.new ≡ K.faults out.old) }
     ensures faultless_starved { IsErrOf result Cut.NoMemory → K.faults out.new ≡ K.faults out.old }
     ensures counted { K.faults out.old ≤ K.faults out.new }
 {
     let mut first = 0;
-    let mut made = windows.make(rt, alloc, job, resolved, rooms, raws, gate, first)?;
-    while !made.is_empty() {
-        let next = first + made.len() as u32;
-        made = write_and_make(
-            rt, alloc, out, text, resolved, rooms, groups, raws, gate, windows, job, first, made,
+    let mut window = windows.make(rt, alloc, job, resolved, rooms, raws, gate, first)?;
+    while first < window.next {
+        first = window.next;
+        window = write_and_make(
+            rt, alloc, out, text, resolved, rooms, raws, gate, windows, job, window,
         )?;
-        first = next;
     }
     Ok(())
 }
@@ -279,15 +209,14 @@ fn header(alloc: Global, _archive: &Archive, resolved: &Resolved) -> Result<Text
 
 /// Writes the report of an archive: its header, and for each solution its line and what comes of it. The
 /// workers evaluate the solutions and make the text of what comes of them, window by window, and pass the gate
-/// before each of them with its number; this thread puts the texts together, which are the same for every
-/// number of workers. While it writes those of one window, several workers make those of the next; a single
-/// worker is this thread, which does the one after the other.
+/// before each of them with its number; this thread hands the texts on, which together are the same for every
+/// number of workers. While it writes those of one window, the other workers make those of the next, and then it
+/// helps them; a single worker is this thread, which does the one after the other.
 ///
 /// It takes time about linear in the instances, the solutions and the report; that of evaluating and of
 /// making the texts is divided among the workers that run at the same time. It keeps in memory the masks
-/// of the instances, two references for each solution, the texts of two windows, or of one where there is one
-/// worker, for each worker what evaluating one solution takes, what one adds to the report, and of the rest no
-/// more than a piece.
+/// of the instances, two references for each solution, the texts of two windows, or of one batch where there is
+/// one worker, for each worker what evaluating one solution takes, and of the rest no more than a piece.
 pub(crate) fn report<R: Threads + Sync, K: Sink, G: Gate>(
     rt: &R,
     alloc: Global,
@@ -312,6 +241,10 @@ pub(crate) fn report<R: Threads + Sync, K: Sink, G: Gate>(
     let rooms = rooms_of(alloc, resolved)?;
     let mut text = header(alloc, archive, resolved)?;
     let windows = WindowMaker::new(resolved, workers);
+    let job = Outcomes {
+        all,
+        groups: groups.as_slice(),
+    };
     write_windows(
         rt,
         alloc,
@@ -319,11 +252,10 @@ pub(crate) fn report<R: Threads + Sync, K: Sink, G: Gate>(
         &mut text,
         resolved,
         rooms.as_slice(),
-        groups.as_slice(),
         raws.as_slice(),
         gate,
         &windows,
-        &Outcomes { all },
+        &job,
     )?;
     flush(alloc, out, &mut text)
 }

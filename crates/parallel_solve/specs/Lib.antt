@@ -1,3 +1,4 @@
 pub mod Verdicts
 pub mod Ready
-pub mod Windows
+pub mod Batches
+pub mod Draws

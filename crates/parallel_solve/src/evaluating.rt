@@ -1,12 +1,13 @@
 ghost use Rattle.std.specs.Prelude.{◌≡◌, ◌≤◌, IfOk, Ok, map};
-ghost use Rattle.std.specs.List.{enumerate_from};
+ghost use Rattle.std.specs.List.{enumerate_from, flat_map};
 ghost use Rattle.xhstt_references.specs.References.{solutions_of};
 ghost use Rattle.xhstt_resolve.specs.Resolved as resolving;
 ghost use Rattle.xhstt_shape.specs.WellFormed.{IsInForm};
 ghost use Rattle.parallel_solve.specs.Verdicts.{numbered_verdict};
 
-use crate::shares::made_by;
+use crate::draws::{Span, made_beside};
 use crate::verdicts::{Judging, Verdict, rooms_of};
+use crate::windows::batch_of_share;
 use khe_base::{NoMemory, Seq};
 use khe_io::Gate;
 use std::alloc::Global;
@@ -28,8 +29,8 @@ pub fn all_solutions(alloc: Global, archive: &Archive) -> Result<Vec<&RawSolutio
     Ok(all)
 }
 
-/// What comes of each solution of a resolved archive, in order, by 1 to 64 workers, who share the
-/// solutions evenly in threads of their own. A worker passes the gate before each solution, with
+/// What comes of each solution of a resolved archive, in order, by 1 to 64 workers, who draw batches
+/// of solutions in threads of their own. A worker passes the gate before each solution, with
 /// its number. What comes does not depend on the number of workers, nor on their turns: a valid
 /// solution's values are the definitions', and an invalid one has its first cause.
 ///
@@ -53,6 +54,36 @@ pub fn evaluate_all<R: Threads + Sync, G: Gate>(
     let rooms = rooms_of(alloc, resolved)?;
     let rooms = rooms.as_slice();
     let raws = raws.as_slice();
-    let all = made_by(rt, alloc, &Judging, resolved, rooms, 0, raws, workers, gate)?;
+    let batch = batch_of_share(raws.len() / workers as usize);
+    let span = Span {
+        first: 0,
+        end: raws.len(),
+        batch,
+    };
+    let (batches, ()) = made_beside(
+        rt,
+        alloc,
+        &Judging,
+        resolved,
+        rooms,
+        raws,
+        gate,
+        span,
+        workers,
+        &mut || (),
+    );
+    let verdicts = joined(alloc, batches?)?;
+    Ok(verdicts)
+}
+
+/// The verdicts of batches that follow one another, in order.
+fn joined(alloc: Global, batches: Vec<Seq<Verdict>>) -> Result<Seq<Verdict>, NoMemory>
+    ensures { IfOk result (λ v. v ≡ flat_map (λ batch. batch) batches.items) }
+{
+    let mut all = Vec::new(alloc);
+    for batch in batches {
+        let mut verdicts = batch.items;
+        all.append(&mut verdicts)?;
+    }
     Ok(Seq { items: all })
 }

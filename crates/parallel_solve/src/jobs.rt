@@ -1,35 +1,42 @@
-ghost use Rattle.std.specs.Prelude.{◌≡◌, ℕ, IfOk, map};
+ghost use Rattle.std.specs.Prelude.{◌≡◌, ◌+◌, ◌<◌, ◌≤◌, ◌^◌, ℕ, List, IfOk, map, length};
 ghost use Rattle.resource_deviations.specs.Sets.{room_for};
-ghost use Rattle.parallel_solve.specs.Ready.{IsOne};
+ghost use Rattle.parallel_solve.specs.Ready.{AreOnes};
+ghost use Rattle.parallel_solve.specs.Batches.{batch_of};
 ghost use Rattle.xhstt_resolve.specs.declared.resolving.Resolved.{Resolved};
 ghost use Rattle.xhstt_shape.specs.declared.records.RawSolution.{RawSolution};
 
 use khe_base::NoMemory;
+use khe_io::Gate;
 use resource_deviations::ResourceRoom;
 use std::alloc::Global;
 use xhstt_resolve::Resolved;
 use xhstt_shape::RawSolution;
 
-/// What is done for each solution of an archive. What it makes depends on the solution alone, and
-/// not on who does it or when.
+/// What is done for solutions of an archive that follow one another: for a batch of them. What it makes
+/// depends on the solutions alone, and not on who does it or when.
 pub trait SolutionJob: Sync {
-    /// What it makes of a solution.
+    /// What it makes of a batch.
     type Made: Drop + Send;
 
-    /// What it makes of the solution with a number.
-    ghost made: { Self → Resolved → ℕ × RawSolution → Self.Made };
+    /// What it makes of the solutions of a batch with their numbers.
+    ghost made: { Self → Resolved → List (ℕ × RawSolution) → Self.Made };
 
-    /// Does it for the solution with this number, with what evaluations need of each instance
-    /// alone. The only error is want of memory.
-    fn make(
+    /// Does it for so many of all solutions from a first one on, with what evaluations need of each
+    /// instance alone. It passes the gate before each of them, with its number. The only error is want
+    /// of memory.
+    fn make<G: Gate>(
         &self,
         alloc: Global,
         resolved: &Resolved,
         rooms: &[ResourceRoom],
-        number: u32,
-        raw: &RawSolution,
+        raws: &[&RawSolution],
+        first: usize,
+        count: usize,
+        gate: &G,
     ) -> Result<Self::Made, NoMemory>
-        requires one { IsOne resolved.now number raw.now }
+        requires ones { AreOnes resolved.now 0 (map (λ x. x.now) raws.now) }
+        requires few { length raws.now < 2 ^ 32 }
         requires rooms { rooms.now ≡ map room_for resolved.now.instances }
-        ensures { IfOk result (λ m. m ≡ made self.now resolved.now (number, raw.now)) };
+        requires within { first + count ≤ length raws.now }
+        ensures { IfOk result (λ m. m ≡ made self.now resolved.now (batch_of first count (map (λ x. x.now) raws.now))) };
 }

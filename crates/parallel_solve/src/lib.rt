@@ -2,13 +2,13 @@
 //! or as far as a report has come. The answer is that of one thread, for every number of workers.
 #![tactic(auto)]
 
+mod draws;
 mod evaluating;
 mod jobs;
-mod shares;
 mod verdicts;
 mod windows;
 
 pub use evaluating::{all_solutions, evaluate_all};
 pub use jobs::SolutionJob;
 pub use verdicts::{Judging, Verdict, numbered, rooms_of};
-pub use windows::WindowMaker;
+pub use windows::{Window, WindowMaker};

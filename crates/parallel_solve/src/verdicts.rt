@@ -5,8 +5,9 @@ ghost use Rattle.parallel_solve.specs.Verdicts.{verdict_of, numbered_verdict, pa
 ghost use Rattle.parallel_solve.specs.Ready.{IsOne};
 
 use crate::jobs::SolutionJob;
-use khe_base::{NoMemory, lends_to_threads};
+use khe_base::{NoMemory, Seq, lends_to_threads};
 use khe_instance::Instance;
+use khe_io::Gate;
 use plain_eval::{Values, evaluate_in};
 use resource_deviations::ResourceRoom;
 use std::alloc::Global;
@@ -100,23 +101,30 @@ pub fn numbered(
     Ok(told)
 }
 
-/// The job of evaluating each solution.
+/// The job of evaluating each solution of a batch.
 pub struct Judging;
 
 impl SolutionJob for Judging {
-    type Made = Verdict;
+    type Made = Seq<Verdict>;
 
-    ghost made = { λ _ r one. numbered_verdict r one };
+    ghost made = { λ _ r rows. map (numbered_verdict r) rows };
 
-    fn make(
+    fn make<G: Gate>(
         &self,
         alloc: Global,
         resolved: &Resolved,
         rooms: &[ResourceRoom],
-        number: u32,
-        raw: &RawSolution,
-    ) -> Result<Verdict, NoMemory> {
-        numbered(alloc, resolved, rooms, number, raw)
+        raws: &[&RawSolution],
+        first: usize,
+        count: usize,
+        gate: &G,
+    ) -> Result<Seq<Verdict>, NoMemory> {
+        let mut told = Vec::with_capacity(alloc, count)?;
+        for number in first..first + count {
+            gate.pass(number as u64);
+            told.push(numbered(alloc, resolved, rooms, number as u32, raws[number])?)?;
+        }
+        Ok(Seq { items: told })
     }
 }
 

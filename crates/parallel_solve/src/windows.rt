@@ -1,11 +1,11 @@
-ghost use Rattle.std.specs.Prelude.{◌≡◌, ◌+◌, ◌<◌, ◌≤◌, ◌^◌, IfOk, map, take, drop, length};
-ghost use Rattle.std.specs.List.{enumerate_from};
+ghost use Rattle.std.specs.Prelude.{◌≡◌, ◌+◌, ◌<◌, ◌≤◌, ◌^◌, ℕ, List, IfOk, map, length};
 ghost use Rattle.resource_deviations.specs.Sets.{room_for};
 ghost use Rattle.parallel_solve.specs.Ready.{AreOnes};
-ghost use Rattle.parallel_solve.specs.Windows.{IsWindow};
+ghost use Rattle.parallel_solve.specs.Batches.{AreBatches, IsWindow};
+ghost use Rattle.xhstt_shape.specs.declared.records.RawSolution.{RawSolution};
 
+use crate::draws::{Span, made_beside};
 use crate::jobs::SolutionJob;
-use crate::shares::{cut, made_by};
 use khe_base::NoMemory;
 use khe_io::Gate;
 use resource_deviations::ResourceRoom;
@@ -14,26 +14,41 @@ use std::thread::Threads;
 use xhstt_resolve::Resolved;
 use xhstt_shape::RawSolution;
 
-/// How many monitors the solutions may have that one worker evaluates at a time, where it is more
-/// than one solution.
-const MOST_MONITORS: usize = 1 << 16;
+/// How many monitors the solutions of a window may have for each worker, where these are not the fewest.
+const MOST_MONITORS: usize = 1 << 17;
 
-/// How many solutions one worker evaluates at a time, at most.
+/// How many solutions a window has for each worker, at most, and at least.
 const MOST_SOLUTIONS: usize = 1_024;
 
+const FEW_SOLUTIONS: usize = 4;
+
+/// Into how many batches the solutions are cut that a window has for each worker, where they are so many: so a
+/// worker that is late, or has solutions that cost more, leaves batches to the others. A single worker has one.
+const BATCHES: usize = 16;
+
 /// Makes windows over the solutions of an archive: what a job makes of so many solutions that follow one
-/// another, by workers who share them. So who reads window after window needs the memory of those that are
-/// held, and not of what all solutions come to.
+/// another, by workers who draw batches of them. So who reads window after window needs the memory of those that
+/// are held, and not of what all solutions come to.
 #[derive(Clone, Copy)]
 pub struct WindowMaker {
     /// How many solutions a window has, while so many are left.
     size: usize,
     workers: u32,
     ghost some: { 1 ≤ size },
+    ghost crew: { 1 ≤ workers },
 }
 
-/// How many solutions each of the workers takes from a window, so that a window has not much more
-/// than `MOST_MONITORS` monitors for each worker.
+/// What a job made of a window: of the batches of its solutions, in order.
+#[derive(Drop)]
+pub struct Window<M> {
+    /// The number of the first solution after it.
+    pub next: usize,
+    /// What was made of each batch.
+    pub made: Vec<M>,
+}
+
+/// How many solutions a window has for each worker, so that they have not many more than `MOST_MONITORS`
+/// monitors.
 fn share_of_window(resolved: &Resolved) -> usize
     ensures { (1 ≤ result) × (result ≤ 1_024) }
 {
@@ -41,34 +56,14 @@ fn share_of_window(resolved: &Resolved) -> usize
     for instance in resolved.instances.as_slice() {
         most = most.max(instance.monitors() as usize);
     }
-    (MOST_MONITORS / most).clamp(1, MOST_SOLUTIONS)
+    (MOST_MONITORS / most).clamp(FEW_SOLUTIONS, MOST_SOLUTIONS)
 }
 
-/// What a job makes of so many solutions from a number on.
-fn window<J: SolutionJob, R: Threads + Sync, G: Gate>(
-    rt: &R,
-    alloc: Global,
-    job: &J,
-    resolved: &Resolved,
-    rooms: &[ResourceRoom],
-    raws: &[&RawSolution],
-    number: u32,
-    size: usize,
-    workers: u32,
-    gate: &G,
-) -> Result<Vec<J::Made>, NoMemory>
-    requires ones { AreOnes resolved.now 0 (map (λ x. x.now) raws.now) }
-    requires within { number + size ≤ length raws.now }
-    requires small { length raws.now < 2 ^ 32 }
-    requires rooms { rooms.now ≡ map room_for resolved.now.instances }
-    ensures { IfOk result (λ v. v.items ≡ map (J.made job.now resolved.now) (enumerate_from number (map (λ x. x.now) (take size (drop number raws.now))))) }
+/// How many solutions a worker draws at a time, where a window has so many for each of them.
+pub(crate) fn batch_of_share(share: usize) -> usize
+    ensures { 1 ≤ result }
 {
-    let (_, back) = cut(resolved, 0, raws, number as usize);
-    let (middle, _) = cut(resolved, number, back, size);
-    let made = made_by(
-        rt, alloc, job, resolved, rooms, number, middle, workers, gate,
-    )?;
-    Ok(made)
+    (share / BATCHES).max(1)
 }
 
 impl WindowMaker {
@@ -76,10 +71,13 @@ impl WindowMaker {
     pub fn new(resolved: &Resolved, workers: u32) -> WindowMaker
         requires { (1 ≤ workers) × (workers ≤ 64) }
     {
-        WindowMaker {
-            size: share_of_window(resolved) * workers as usize,
-            workers,
-        }
+        let share = share_of_window(resolved);
+        let size = if workers == 1 {
+            batch_of_share(share)
+        } else {
+            share * workers as usize
+        };
+        WindowMaker { size, workers }
     }
 
     /// How many workers make a window, the calling thread among them. It takes constant time.
@@ -89,8 +87,26 @@ impl WindowMaker {
         self.workers
     }
 
-    /// Makes the window that begins with this number. It is empty only where no solution is left from there
-    /// on. The workers do the job with the rooms of all instances, and pass the gate before each solution,
+    /// The solutions of the window that begins with this one, where there are so many in all.
+    fn span(&self, first: usize, all: usize) -> Span
+        requires { first ≤ all }
+        ensures { (result.first ≡ first) × (result.end ≤ all) × (first < all → first < result.end) }
+    {
+        let count = self.size.min(all - first);
+        let batch = if self.workers == 1 {
+            count.max(1)
+        } else {
+            batch_of_share(count / self.workers as usize)
+        };
+        Span {
+            first,
+            end: first + count,
+            batch,
+        }
+    }
+
+    /// Makes the window that begins with this solution. It reaches no further only where no solution is left from
+    /// there on. The workers do the job with the rooms of all instances, and pass the gate before each solution,
     /// with its number.
     ///
     /// The only error is want of memory. It takes the time and memory of the job for the window's solutions,
@@ -104,19 +120,64 @@ impl WindowMaker {
         rooms: &[ResourceRoom],
         raws: &[&RawSolution],
         gate: &G,
-        number: u32,
-    ) -> Result<Vec<J::Made>, NoMemory>
+        first: usize,
+    ) -> Result<Window<J::Made>, NoMemory>
         requires ones { AreOnes resolved.now 0 (map (λ x. x.now) raws.now) }
-        requires within { number ≤ length raws.now }
-        requires small { length raws.now < 2 ^ 32 }
+        requires few { length raws.now < 2 ^ 32 }
         requires rooms { rooms.now ≡ map room_for resolved.now.instances }
-        ensures { IfOk result (λ v. IsWindow (J.made job.now resolved.now) (map (λ x. x.now) raws.now) number v.items) }
+        requires within { first ≤ length raws.now }
+        ensures { IfOk result (λ w. IsWindow (J.made job.now resolved.now) (map (λ x. x.now) raws.now) first w.next w.made.items) }
     {
-        let size = self.size.min(raws.len() - number as usize);
-        let workers = self.workers;
-        let made = window(
-            rt, alloc, job, resolved, rooms, raws, number, size, workers, gate,
-        )?;
-        Ok(made)
+        let (window, ()) = self.make_beside(
+            rt,
+            alloc,
+            job,
+            resolved,
+            rooms,
+            raws,
+            gate,
+            first,
+            &mut || (),
+        );
+        window
     }
+
+    /// The same, and what comes of something else: the calling thread does that first, while the other workers
+    /// make the window, and then it is one of them.
+    pub fn make_beside<J: SolutionJob, R: Threads + Sync, G: Gate, T, B: FnMut() -> T>(
+        &self,
+        rt: &R,
+        alloc: Global,
+        job: &J,
+        resolved: &Resolved,
+        rooms: &[ResourceRoom],
+        raws: &[&RawSolution],
+        gate: &G,
+        first: usize,
+        beside: &mut B,
+    ) -> (Result<Window<J::Made>, NoMemory>, T)
+        requires ones { AreOnes resolved.now 0 (map (λ x. x.now) raws.now) }
+        requires few { length raws.now < 2 ^ 32 }
+        requires rooms { rooms.now ≡ map room_for resolved.now.instances }
+        requires within { first ≤ length raws.now }
+        requires beside { B.pre beside.old }
+        ensures window { IfOk result.0 (λ w. IsWindow (J.made job.now resolved.now) (map (λ x. x.now) raws.now) first w.next w.made.items) }
+        ensures beside { B.step beside.old result.1 beside.new }
+    {
+        let span = self.span(first, raws.len());
+        let workers = self.workers;
+        let (made, told) = made_beside(
+            rt, alloc, job, resolved, rooms, raws, gate, span, workers, beside,
+        );
+        (window_of(made, span.end), told)
+    }
+}
+
+/// What was made of a window that ends before this solution.
+fn window_of<M: Drop>(made: Result<Vec<M>, NoMemory>, next: usize) -> Result<Window<M>, NoMemory>
+    ensures { (f : List (ℕ × RawSolution) → M) (raws : List RawSolution) (first : ℕ) → next ≤ length raws → (first < length raws → first < next) → IfOk made (λ v. AreBatches f raws first next v.items)
+        → IfOk result (λ w. IsWindow f raws first w.next w.made.items) }
+{
+    let made = made?;
+    Ok(Window { next, made })
 }

@@ -45,8 +45,8 @@ fn at_once<R: Threads + Sync, G: Gate>(
     Ok(all)
 }
 
-/// What comes of the solutions of an archive, told one after another from windows that so many
-/// workers fill.
+/// What comes of the solutions of an archive, told one after another from the runs of windows that so
+/// many workers make.
 fn in_turn<R: Threads + Sync, G: Gate>(
     rt: &R,
     alloc: Global,
@@ -66,12 +66,13 @@ fn in_turn<R: Threads + Sync, G: Gate>(
     let mut all = Vec::new(alloc);
     let mut first = 0;
     while first < raws.len() {
-        let number = first as u32;
-        let made = windows.make(rt, alloc, &Judging, resolved, rooms, raws, gate, number)?;
-        for verdict in made.as_slice() {
-            all.push(told_of(verdict))?;
+        let window = windows.make(rt, alloc, &Judging, resolved, rooms, raws, gate, first)?;
+        for run in window.made.as_slice() {
+            for verdict in run.as_slice() {
+                all.push(told_of(verdict))?;
+            }
         }
-        first += made.len();
+        first = window.next;
     }
     Ok(all)
 }

@@ -6,7 +6,7 @@ use Rattle.xhstt_shape.specs.declared.records.RawSolution.{RawSolution}
 use Rattle.khe_app.specs.Report.{report}
 use Rattle.parallel_solve.specs.Ready.{AreOnes}
 use Rattle.script_run.proofs.AmidLemmas.{always-err, amid-cut, amid-end, amid-flush, err-of, one-err, one-ok}
-use Rattle.khe_app.proofs.WindowLemmas.{as_many, at_first}
+use Rattle.khe_app.proofs.WindowLemmas.{at_first}
 use Rattle.khe_app.proofs.reports.report.Goals as goal
 
 pub write_windows-requires-clause-ones : goal.write_windows-requires-clause-ones
@@ -25,19 +25,6 @@ write_windows-requires-clause-few g c κs within =
       c.requires.ready.ready.few,
     )
 
-pub write_windows-requires-clause-groups : goal.write_windows-requires-clause-groups
-write_windows-requires-clause-groups g c κs within =
-    let id = λ (x : Bor Text). x.now in
-    let now = λ (x : Bor RawSolution). x.now in
-    omega (
-      arith,
-      ap length (ap (map id) c.as_slice-2.ensures.value ∙ c.in_ok-groups.ensures),
-      ap length (ap (map now) c.as_slice-3.ensures.value ∙ c.in_ok-raws.ensures),
-      length-map c.as_slice-2.result.now id,
-      length-map c.as_slice-3.result.now now,
-      as_many c.args.archive.now.solution_groups,
-    )
-
 pub returns-in_err-write_windows-clause-front : goal.returns-in_err-write_windows-clause-front
 returns-in_err-write_windows-clause-front g c =
     let a = c.args.archive.now in
@@ -48,8 +35,8 @@ returns-in_err-write_windows-clause-front g c =
     always-err c.from_residual-in_err-write_windows.result
     (err-of c.write_windows.result c.in_err-write_windows.field-0.0 c.in_err-write_windows.was
     (c.write_windows.ensures.front before (report c.args.all a r)
-    (at_first before c.args.all a r c.in_ok-text.text (map id c.as_slice-2.result.now) (map now c.as_slice-3.result.now)
-    c.in_ok-text.ensures (ap (map id) c.as_slice-2.ensures.value ∙ c.in_ok-groups.ensures)
+    (at_first before c.args.all a r c.in_ok-text.text (map id c.as_slice.result.now) (map now c.as_slice-3.result.now)
+    c.in_ok-text.ensures (ap (map id) c.as_slice.ensures.value ∙ c.in_ok-groups.ensures)
     (ap (map now) c.as_slice-3.ensures.value ∙ c.in_ok-raws.ensures))))
 
 pub returns-clause-whole : goal.returns-clause-whole
@@ -62,8 +49,8 @@ returns-clause-whole g c =
     let written = g.K.Sink.taken c.write_windows.new.out in
     let whole = report c.args.all a r in
     let amid = c.in_ok-write_windows.ensures.amid before whole
-    (at_first before c.args.all a r c.in_ok-text.text (map id c.as_slice-2.result.now) (map now c.as_slice-3.result.now)
-    c.in_ok-text.ensures (ap (map id) c.as_slice-2.ensures.value ∙ c.in_ok-groups.ensures)
+    (at_first before c.args.all a r c.in_ok-text.text (map id c.as_slice.result.now) (map now c.as_slice-3.result.now)
+    c.in_ok-text.ensures (ap (map id) c.as_slice.ensures.value ∙ c.in_ok-groups.ensures)
     (ap (map now) c.as_slice-3.ensures.value ∙ c.in_ok-raws.ensures)) in
     one-ok c.flush.result c.flush.ensures.taken
     (λ took. amid-end before (g.K.Sink.taken c.flush.new.out) whole
@@ -79,8 +66,8 @@ returns-clause-front g c =
     let written = g.K.Sink.taken c.write_windows.new.out in
     let whole = report c.args.all a r in
     let amid = c.in_ok-write_windows.ensures.amid before whole
-    (at_first before c.args.all a r c.in_ok-text.text (map id c.as_slice-2.result.now) (map now c.as_slice-3.result.now)
-    c.in_ok-text.ensures (ap (map id) c.as_slice-2.ensures.value ∙ c.in_ok-groups.ensures)
+    (at_first before c.args.all a r c.in_ok-text.text (map id c.as_slice.result.now) (map now c.as_slice-3.result.now)
+    c.in_ok-text.ensures (ap (map id) c.as_slice.ensures.value ∙ c.in_ok-groups.ensures)
     (ap (map now) c.as_slice-3.ensures.value ∙ c.in_ok-raws.ensures)) in
     one-err c.flush.result c.flush.ensures.front
     (λ cut. amid-cut before written (g.K.Sink.taken c.flush.new.out) c.write_windows.new.text [] whole amid cut)

@@ -1,22 +1,23 @@
 -- What was written and what waits, with the solutions that are left, of which each turn leaves fewer.
 use Rattle.std.proofs.Common.{ℕ, ◌≡◌, ◌-◌, List, Option, map, length}
+use Rattle.std.specs.List.{flat_map}
 use Rattle.script_run.specs.Amid.{IsAmid}
-use Rattle.khe_app.specs.Report.{left_text, outcome_at}
-use Rattle.parallel_solve.specs.Windows.{IsWindow}
+use Rattle.khe_app.specs.Report.{left_text, row_text}
+use Rattle.parallel_solve.specs.Batches.{IsWindow}
 use Rattle.khe_app.proofs.reports.write_windows.Given as goal
 
-abbrev pub invariant-loop-alloc : goal.invariant-loop-alloc
-invariant-loop-alloc g l =
-    let groups = map (λ x. x.now) l.fn.groups in
+abbrev pub invariant-loop-first : goal.invariant-loop-first
+invariant-loop-first g l =
+    let groups = map (λ x. x.now) l.fn.job.groups.now in
     let raws = map (λ x. x.now) l.fn.raws in
     let all = l.fn.job.all in
     record {
-      window : IsWindow (outcome_at all l.fn.resolved) raws l.first l.made.items;
+      window : IsWindow (flat_map (row_text all l.fn.resolved groups)) raws l.first l.window.next l.window.made.items;
       amid : (before : Option (List ℕ)) (whole : List ℕ)
-          → IsAmid before (g.K.Sink.taken l.fn.out) l.fn.text (left_text all l.fn.resolved 0 groups raws) whole
-          → IsAmid before (g.K.Sink.taken l.out) l.text (left_text all l.fn.resolved l.first groups raws) whole;
+          → IsAmid before (g.K.Sink.taken l.fn.out) l.fn.text (left_text all l.fn.resolved groups 0 raws) whole
+          → IsAmid before (g.K.Sink.taken l.out) l.text (left_text all l.fn.resolved groups l.first raws) whole;
       faultless : g.K.Sink.faults l.out ≡ g.K.Sink.faults l.fn.out;
     }
 
-abbrev pub decreases-loop-alloc : goal.decreases-loop-alloc
-decreases-loop-alloc g l = length l.fn.raws - l.first
+abbrev pub decreases-loop-first : goal.decreases-loop-first
+decreases-loop-first g l = length l.fn.raws - l.first
