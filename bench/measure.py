@@ -1,13 +1,14 @@
-"""Runs commands in turns, and prints for each the least wall time and the greatest memory that it took.
+"""Runs commands in turns, and prints for each the least wall time, the greatest memory and the median time that it took.
 
     python3 bench/measure.py RUNS COMMAND WORD.. [-- COMMAND WORD..]..
 
 Each command is run RUNS times, its standard output going to a file in the temporary folder. A line for each
-command has the seconds of its fastest run, the peak of its resident memory in bytes over all runs, and the
-bytes that it wrote. A command that ends with another status than 0 ends this one with status 1.
+command has the seconds of its fastest run, the peak of its resident memory in bytes over all runs, the
+bytes that it wrote, and the seconds of its median run. A command that ends with another status than 0 ends this one with status 1.
 """
 
 import os
+import statistics
 import sys
 import tempfile
 import time
@@ -47,7 +48,8 @@ def main():
             for number, words in enumerate(commands):
                 took[number].append(run(words, out.fileno()))
     for each in took:
-        print("%.4f %d %d" % (min(t[0] for t in each), max(t[1] for t in each), each[-1][2]))
+        seconds = [t[0] for t in each]
+        print("%.4f %d %d %.4f" % (min(seconds), max(t[1] for t in each), each[-1][2], statistics.median(seconds)))
 
 
 main()

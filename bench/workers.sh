@@ -3,7 +3,8 @@
 # fast the several are past the reading. That is the time of the same archive with another role in the first entry
 # of each solution, so that none is valid and nothing is evaluated; it is taken off first. The archives are one of
 # 116 solutions of 2,000 events each, and one of 10,000 solutions of 4 events each. The reports of both are
-# compared: they must be the same. Each is run three times in turns, and the fastest run counts.
+# compared: they must be the same. Each is run three times in turns; the ratio is told by the fastest runs and by
+# the medians.
 #
 #     bench/workers.sh KHE [WORKERS]
 #
@@ -28,12 +29,13 @@ sys.stdout.write("<Solution ".join([head] + solutions))' < "$archive" > "$work/i
   python3 "$top/bench/measure.py" "${RUNS:-3}" "$khe" evaluate "$work/invalid.xml" \
     -- "$khe" evaluate "$archive" -- "$khe" evaluate "$archive" --workers "$workers" > "$work/took"
   awk -v written="$written" -v events="$1" -v workers="$workers" '
-    NR == 1 { reading = $1 }
-    NR == 2 { one = $1 }
-    NR == 3 { several = $1; peak = $2 }
+    NR == 1 { reading = $1; middle[1] = $4 }
+    NR == 2 { one = $1; middle[2] = $4 }
+    NR == 3 { several = $1; peak = $2; middle[3] = $4 }
     END {
-      printf "%d solutions of %d events: read in %.3f s, evaluated by one worker in %.3f s and by %d in %.3f s, %.2f times as fast (aim: at least 3 by 4), memory %.1f MiB\n",
-        written, events, reading, one - reading, workers, several - reading, (one - reading) / (several - reading), peak / 1048576
+      printf "%d solutions of %d events: read in %.3f s, evaluated by one worker in %.3f s and by %d in %.3f s, %.2f times as fast (aim: at least 3 by 4); by the medians %.3f s and %.3f s, %.2f times; memory %.1f MiB\n",
+        written, events, reading, one - reading, workers, several - reading, (one - reading) / (several - reading),
+        middle[2] - middle[1], middle[3] - middle[1], (middle[2] - middle[1]) / (middle[3] - middle[1]), peak / 1048576
     }' "$work/took"
 }
 compare 2000 116
