@@ -2,7 +2,8 @@
 # Times what `khe evaluate --workers 4` does from its first thread to its end, with its threads and with none, where
 # the caller does all of it, and prints how many times as fast it is with them. Reading has no part in it, so its time,
 # and how that varies, does not blur the ratio. The archives are those of bench/workers.sh. Each is run in turns; the
-# ratio is told by the fastest runs and by the medians.
+# ratio is told by the fastest runs, by the medians of all, and by the medians of those runs in which the kernel saw no
+# time stolen: on a host that gives its processors to others meanwhile, threads can't be as fast as they are.
 #
 #     bench/threads.sh KHE [WORKERS]
 #
@@ -12,23 +13,41 @@
 . "$(dirname "$0")/setup.sh"
 workers=${2:-4}
 cc -O2 -shared -fPIC -o "$work/clock.so" "$top/bench/thread_clock.c" -ldl
+
+# The time of all processors that went to others, since the machine began.
+stolen() { awk '/^cpu /{ print $9 }' /proc/stat; }
+
+# Runs it with these variables, puts its report into one file, and adds what it took and what was stolen to another.
+run() {
+  local report=$1 times=$2 before
+  shift 2
+  before=$(stolen)
+  env "$@" LD_PRELOAD="$work/clock.so" THREAD_CLOCK="$work/took" \
+    "$khe" evaluate "$archive" --workers "$workers" > "$report"
+  echo "$(cat "$work/took") $(($(stolen) - before))" >> "$times"
+}
+
 measure() {
   python3 "$top/bench/archives.py" "$1" "$2" --rounds "${ROUNDS:-1}" > "$archive"
   : > "$work/one"
   : > "$work/several"
-  for ((run = 0; run < ${RUNS:-15}; run++)); do
-    THREADS_REFUSED=1 LD_PRELOAD=$work/clock.so THREAD_CLOCK=$work/took "$khe" evaluate "$archive" --workers "$workers" > "$work/text"
-    cat "$work/took" >> "$work/one"
-    LD_PRELOAD=$work/clock.so THREAD_CLOCK=$work/took "$khe" evaluate "$archive" --workers "$workers" > "$work/other"
+  for ((turn = 0; turn < ${RUNS:-15}; turn++)); do
+    run "$work/text" "$work/one" THREADS_REFUSED=1
+    run "$work/other" "$work/several"
     cmp "$work/other" "$work/text"
-    cat "$work/took" >> "$work/several"
   done
   python3 - "$work/one" "$work/several" "$2 solutions of $1 events" "$workers" <<'PYTHON'
 import statistics, sys
-one, several = ([float(line) for line in open(name)] for name in sys.argv[1:3])
-for told, of in (("fastest", min), ("median", statistics.median)):
-    print("%s, %s of %d: %.1f ms by the caller, %.1f ms by %s, %.2f times as fast (aim: at least 3 by 4)"
-          % (sys.argv[3], told, len(one), of(one), of(several), sys.argv[4], of(one) / of(several)))
+one, several = ([tuple(map(float, line.split())) for line in open(name)] for name in sys.argv[1:3])
+def took(runs, quiet=False):
+    return [took for took, stolen in runs if not (quiet and stolen)]
+for told, of, quiet in (("fastest", min, False), ("median", statistics.median, False),
+                        ("undisturbed, median", statistics.median, True)):
+    alone, together = took(one, quiet), took(several, quiet)
+    if alone and together:
+        print("%s, %s of %d and %d: %.1f ms by the caller, %.1f ms by %s, %.2f times as fast (aim: at least 3 by 4)"
+              % (sys.argv[3], told, len(alone), len(together), of(alone), of(together), sys.argv[4],
+                 of(alone) / of(together)))
 PYTHON
 }
 measure 2000 116

@@ -158,4 +158,8 @@ impl<'a> SolutionJob for Outcomes<'a> {
         }
         Ok(text)
     }
+
+    fn size(&self, made: &Text) -> usize {
+        made.as_bytes().len()
+    }
 }

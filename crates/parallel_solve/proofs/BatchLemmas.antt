@@ -1,13 +1,16 @@
 -- Batches of solutions that follow one another, and what is made of them.
 use Rattle.std.proofs.Common.{◌≡◌, ℕ, zero, suc, ◌+◌, ◌<◌, ◌≤◌, List, [], ◌∷◌, ◌++◌, length, take, drop, refl, sym, ap}
-use Rattle.std.proofs.Common.{◌∙◌, ◌-◌, Some, arith, append_assoc, length-drop, length-take-le, map, slice_get, subst}
+use Rattle.std.proofs.Common.{◌∙◌, ◌-◌, Some, Result, Ok, Err, IfOk, arith, append_assoc, length-drop, length-take-le, map, slice_get, subst}
 use Rattle.std.proofs.Math.Seq.{take-suc}
 use Rattle.std.proofs.lemmas.List.{map-append, take-append-drop}
 use Rattle.std.proofs.lemmas.Option.{get_or_from_slice_get, slice_get_within}
 use Rattle.std.proofs.lemmas.List.Concat.{flat_map-cons}
 use Rattle.std.specs.List.{enumerate_from, flat_map}
-use Rattle.parallel_solve.proofs.CutLemmas.{get_dropped}
-use Rattle.parallel_solve.specs.Batches.{AreBatches, rows_from, batch_of}
+use Rattle.parallel_solve.proofs.CutLemmas.{get_dropped, ok_is}
+use Rattle.parallel_solve.specs.Batches.{AreBatches, IsWindow, rows_from, batch_of}
+use Rattle.parallel_solve.specs.Draws.{IsMade}
+use Rattle.parallel_solve.specs.declared.spans.Span.{Span}
+use Rattle.parallel_solve.specs.declared.jobs.Window.{Window}
 use Rattle.xhstt_shape.specs.declared.records.RawSolution.{RawSolution}
 
 drop_none : (k : ℕ) → drop {A = RawSolution} k [] ≡ []
@@ -98,3 +101,25 @@ module _ {B : Type 0} (f : List (ℕ × RawSolution) → List B) (raws : List Ra
       ∙ ap (λ t. t ++ f (rows_from (first + count) raws)) is
       ∙ sym (both (batch_of first count raws) (rows_from (first + count) raws))
       ∙ ap f (rows_cut first count raws (omega (arith, within, le)))
+
+-- what was made of a span is a window
+pub window_of : {M E : Type 0} (f : List (ℕ × RawSolution) → M) (raws : List RawSolution) (first : ℕ) (span : Span)
+    (made : Result (Window M) E)
+    → span.first ≡ first → span.end ≤ length raws → (first < length raws → first < span.sure)
+    → IfOk made (λ w. IsMade f raws span w.next w.made.items) → IfOk made (λ w. IsWindow f raws first w.next w.made.items)
+window_of f raws first span (Ok w) is le some made = record {
+  within = omega (arith, made.within, le);
+  some = λ left. omega (arith, some left, made.sure);
+  batches = subst (λ n. AreBatches f raws n w.next w.made.items) is made.batches;
+}
+window_of f raws first span (Err e) is le some made = made
+
+-- what was made of a span that is sure to be made whole
+pub whole_of : {M E : Type 0} (f : List (ℕ × RawSolution) → M) (raws : List RawSolution) (span : Span)
+    (made : Result (Window M) E) (w : Window M) → span.end ≤ span.sure
+    → IfOk made (λ w. IsMade f raws span w.next w.made.items) → made ≡ Ok w
+    → AreBatches f raws span.first span.end w.made.items
+whole_of f raws span made w le all is =
+    let whole = ok_is made w (λ w. IsMade f raws span w.next w.made.items) all is in
+    subst (λ n. AreBatches f raws span.first n w.made.items)
+    (let e : w.next ≡ span.end = omega (arith, whole.sure, whole.within, le) in e) whole.batches

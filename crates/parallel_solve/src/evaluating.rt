@@ -5,9 +5,10 @@ ghost use Rattle.xhstt_resolve.specs.Resolved as resolving;
 ghost use Rattle.xhstt_shape.specs.WellFormed.{IsInForm};
 ghost use Rattle.parallel_solve.specs.Verdicts.{numbered_verdict};
 
-use crate::draws::{Span, made_beside};
+use crate::draws::made_beside;
+use crate::spans::Span;
 use crate::verdicts::{Judging, Verdict, rooms_of};
-use crate::windows::batch_of_share;
+use crate::windows::batch_for;
 use khe_base::{NoMemory, Seq};
 use khe_io::Gate;
 use std::alloc::Global;
@@ -54,13 +55,14 @@ pub fn evaluate_all<R: Threads + Sync, G: Gate>(
     let rooms = rooms_of(alloc, resolved)?;
     let rooms = rooms.as_slice();
     let raws = raws.as_slice();
-    let batch = batch_of_share(raws.len() / workers as usize);
     let span = Span {
         first: 0,
+        sure: raws.len(),
         end: raws.len(),
-        batch,
+        batch: batch_for(raws.len(), workers),
+        most: usize::MAX,
     };
-    let (batches, ()) = made_beside(
+    let (window, ()) = made_beside(
         rt,
         alloc,
         &Judging,
@@ -72,7 +74,7 @@ pub fn evaluate_all<R: Threads + Sync, G: Gate>(
         workers,
         &mut || (),
     );
-    let verdicts = joined(alloc, batches?)?;
+    let verdicts = joined(alloc, window?.made)?;
     Ok(verdicts)
 }
 

@@ -39,4 +39,17 @@ pub trait SolutionJob: Sync {
         requires rooms { rooms.now ≡ map room_for resolved.now.instances }
         requires within { first + count ≤ length raws.now }
         ensures { IfOk result (λ m. m ≡ made self.now resolved.now (batch_of first count (map (λ x. x.now) raws.now))) };
+
+    /// About how many bytes of memory something takes that it made: a window ends once its batches come to enough. No
+    /// answer changes what is made of a batch.
+    fn size(&self, made: &Self::Made) -> usize;
+}
+
+/// What a job made of a window over the solutions: of the batches of its solutions, in order.
+#[derive(Drop)]
+pub struct Window<M> {
+    /// The number of the first solution after it.
+    pub next: usize,
+    /// What was made of each batch.
+    pub made: Vec<M>,
 }

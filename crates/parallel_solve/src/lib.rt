@@ -5,10 +5,11 @@
 mod draws;
 mod evaluating;
 mod jobs;
+mod spans;
 mod verdicts;
 mod windows;
 
 pub use evaluating::{all_solutions, evaluate_all};
-pub use jobs::SolutionJob;
+pub use jobs::{SolutionJob, Window};
 pub use verdicts::{Judging, Verdict, numbered, rooms_of};
-pub use windows::{Window, WindowMaker};
+pub use windows::WindowMaker;

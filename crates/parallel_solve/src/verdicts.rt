@@ -24,6 +24,17 @@ pub enum Verdict {
     Invalid { cause: u32, entry: u32 },
 }
 
+impl Verdict {
+    /// About how many bytes of memory it takes: a deviation and a cost of each monitor, and itself.
+    fn size(&self) -> usize {
+        let monitors = match self {
+            Verdict::Valid(values) => values.deviations.len(),
+            Verdict::Invalid { .. } => 0,
+        };
+        monitors.saturating_mul(24).saturating_add(64)
+    }
+}
+
 /// What comes of the solution with this number, of this instance, with what depends on the instance
 /// alone. It takes the time and memory of completing it and evaluating its state.
 fn judge(
@@ -125,6 +136,14 @@ impl SolutionJob for Judging {
             told.push(numbered(alloc, resolved, rooms, number as u32, raws[number])?)?;
         }
         Ok(Seq { items: told })
+    }
+
+    fn size(&self, made: &Seq<Verdict>) -> usize {
+        let mut size = 0_usize;
+        for verdict in made.as_slice() {
+            size = size.saturating_add(verdict.size());
+        }
+        size
     }
 }
 

@@ -4,8 +4,9 @@ ghost use Rattle.parallel_solve.specs.Ready.{AreOnes};
 ghost use Rattle.parallel_solve.specs.Batches.{AreBatches, IsWindow};
 ghost use Rattle.xhstt_shape.specs.declared.records.RawSolution.{RawSolution};
 
-use crate::draws::{Span, made_beside};
-use crate::jobs::SolutionJob;
+use crate::draws::made_beside;
+use crate::jobs::{SolutionJob, Window};
+use crate::spans::Span;
 use khe_base::NoMemory;
 use khe_io::Gate;
 use resource_deviations::ResourceRoom;
@@ -14,56 +15,53 @@ use std::thread::Threads;
 use xhstt_resolve::Resolved;
 use xhstt_shape::RawSolution;
 
-/// How many monitors the solutions of a window may have for each worker, where these are not the fewest.
-const MOST_MONITORS: usize = 1 << 17;
+/// How many bytes what is made of a window takes for each of its workers when no more is drawn. The batches that were
+/// drawn by then come to it.
+const MOST_BYTES: usize = 1 << 21;
 
-/// How many solutions a window has for each worker, at most, and at least.
-const MOST_SOLUTIONS: usize = 1_024;
+/// How many monitors the solutions of a batch may have, where it has more than one.
+const MOST_MONITORS: usize = 1 << 13;
 
-const FEW_SOLUTIONS: usize = 4;
+/// How many solutions a batch has at most.
+const MOST_SOLUTIONS: usize = 64;
 
-/// Into how many batches the solutions are cut that a window has for each worker, where they are so many: so a
-/// worker that is late, or has solutions that cost more, leaves batches to the others. A single worker has one.
+/// Into how many batches the solutions that are left are cut for each worker, where they are so many: so a worker
+/// that is late, or has solutions that cost more, leaves batches to the others.
 const BATCHES: usize = 16;
 
-/// Makes windows over the solutions of an archive: what a job makes of so many solutions that follow one
-/// another, by workers who draw batches of them. So who reads window after window needs the memory of those that
-/// are held, and not of what all solutions come to.
+/// What part of all solutions the last ones are that several workers make a window of: while they are made, what was
+/// made of those before them is written, so that little is left to write when nothing is left to make.
+const LAST: usize = 8;
+
+/// Makes windows over the solutions of an archive: what a job makes of solutions that follow one another, by workers
+/// who draw batches of them until that comes to 2 MiB for each worker. A single worker's window is one batch. So who
+/// reads window after window needs the memory of those that are held, and not of what all solutions come to.
 #[derive(Clone, Copy)]
 pub struct WindowMaker {
-    /// How many solutions a window has, while so many are left.
-    size: usize,
+    /// How many solutions a batch has at most.
+    batch: usize,
     workers: u32,
-    ghost some: { 1 ≤ size },
+    ghost some: { 1 ≤ batch },
     ghost crew: { 1 ≤ workers },
 }
 
-/// What a job made of a window: of the batches of its solutions, in order.
-#[derive(Drop)]
-pub struct Window<M> {
-    /// The number of the first solution after it.
-    pub next: usize,
-    /// What was made of each batch.
-    pub made: Vec<M>,
-}
-
-/// How many solutions a window has for each worker, so that they have not many more than `MOST_MONITORS`
-/// monitors.
-fn share_of_window(resolved: &Resolved) -> usize
-    ensures { (1 ≤ result) × (result ≤ 1_024) }
+/// How many solutions a batch has at most, so that they have not many more than `MOST_MONITORS` monitors.
+fn most_in_batch(resolved: &Resolved) -> usize
+    ensures { 1 ≤ result }
 {
     let mut most = 1;
     for instance in resolved.instances.as_slice() {
         most = most.max(instance.monitors() as usize);
     }
-    (MOST_MONITORS / most).clamp(FEW_SOLUTIONS, MOST_SOLUTIONS)
+    (MOST_MONITORS / most).clamp(1, MOST_SOLUTIONS)
 }
 
-/// How many solutions a worker draws at a time, where a window has so many for each of them.
-pub(crate) fn batch_of_share(share: usize) -> usize
+/// How many solutions a worker draws at a time, where so many are left for so many workers.
+pub(crate) fn batch_for(left: usize, workers: u32) -> usize
+    requires { 1 ≤ workers }
     ensures { 1 ≤ result }
 {
-    (share / BATCHES).max(1)
+    (left / workers as usize / BATCHES).max(1)
 }
 
 impl WindowMaker {
@@ -71,13 +69,8 @@ impl WindowMaker {
     pub fn new(resolved: &Resolved, workers: u32) -> WindowMaker
         requires { (1 ≤ workers) × (workers ≤ 64) }
     {
-        let share = share_of_window(resolved);
-        let size = if workers == 1 {
-            batch_of_share(share)
-        } else {
-            share * workers as usize
-        };
-        WindowMaker { size, workers }
+        let batch = most_in_batch(resolved);
+        WindowMaker { batch, workers }
     }
 
     /// How many workers make a window, the calling thread among them. It takes constant time.
@@ -87,21 +80,31 @@ impl WindowMaker {
         self.workers
     }
 
-    /// The solutions of the window that begins with this one, where there are so many in all.
+    /// The solutions of the window that begins with this one, where there are so many in all. Where there is a single
+    /// worker that is one batch. Else it is all that are left, but that the last ones of all are a window of their own.
     fn span(&self, first: usize, all: usize) -> Span
         requires { first ≤ all }
-        ensures { (result.first ≡ first) × (result.end ≤ all) × (first < all → first < result.end) }
+        ensures { (result.first ≡ first) × (result.end ≤ all) × (first < all → first < result.sure) }
     {
-        let count = self.size.min(all - first);
-        let batch = if self.workers == 1 {
-            count.max(1)
-        } else {
-            batch_of_share(count / self.workers as usize)
-        };
+        let left = all - first;
+        if self.workers == 1 {
+            let sure = first + self.batch.min(left);
+            return Span {
+                first,
+                sure,
+                end: sure,
+                batch: self.batch,
+                most: usize::MAX,
+            };
+        }
+        let last = all - all / LAST;
+        let end = if first < last { last } else { all };
         Span {
             first,
-            end: first + count,
-            batch,
+            sure: first + self.batch.min(end - first),
+            end,
+            batch: batch_for(left, self.workers).min(self.batch),
+            most: MOST_BYTES.saturating_mul(self.workers as usize),
         }
     }
 
@@ -166,18 +169,8 @@ impl WindowMaker {
     {
         let span = self.span(first, raws.len());
         let workers = self.workers;
-        let (made, told) = made_beside(
+        made_beside(
             rt, alloc, job, resolved, rooms, raws, gate, span, workers, beside,
-        );
-        (window_of(made, span.end), told)
+        )
     }
-}
-
-/// What was made of a window that ends before this solution.
-fn window_of<M: Drop>(made: Result<Vec<M>, NoMemory>, next: usize) -> Result<Window<M>, NoMemory>
-    ensures { (f : List (ℕ × RawSolution) → M) (raws : List RawSolution) (first : ℕ) → next ≤ length raws → (first < length raws → first < next) → IfOk made (λ v. AreBatches f raws first next v.items)
-        → IfOk result (λ w. IsWindow f raws first w.next w.made.items) }
-{
-    let made = made?;
-    Ok(Window { next, made })
 }

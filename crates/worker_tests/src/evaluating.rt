@@ -2,10 +2,11 @@ ghost use Rattle.std.specs.Prelude.{◌≤◌, IfOk, IfSome};
 ghost use Rattle.worker_tests.specs.Reading.{IsResolved};
 
 use crate::archives::{ReadArchive, read_archive, text_of};
+use crate::bulky::Bulky;
 use crate::gates::Meeting;
 use khe_base::NoMemory;
 use khe_io::{Gate, OpenGate};
-use parallel_solve::{Judging, Verdict, WindowMaker, all_solutions, evaluate_all, rooms_of};
+use parallel_solve::{Verdict, WindowMaker, all_solutions, evaluate_all, rooms_of};
 use std::alloc::Global;
 use std::test::Fail;
 use std::thread::Threads;
@@ -46,14 +47,14 @@ fn at_once<R: Threads + Sync, G: Gate>(
 }
 
 /// What comes of the solutions of an archive, told one after another from the runs of windows that so
-/// many workers make.
+/// many workers make of a bulky job, and how many windows there were.
 fn in_turn<R: Threads + Sync, G: Gate>(
     rt: &R,
     alloc: Global,
     read: &ReadArchive,
     workers: u32,
     gate: &G,
-) -> Result<Vec<Told>, NoMemory>
+) -> Result<(Vec<Told>, usize), NoMemory>
     requires read { IsResolved read.now }
     requires workers { (1 ≤ workers) × (workers ≤ 64) }
 {
@@ -64,17 +65,19 @@ fn in_turn<R: Threads + Sync, G: Gate>(
     let rooms = rooms.as_slice();
     let windows = WindowMaker::new(resolved, workers);
     let mut all = Vec::new(alloc);
+    let mut count = 0_usize;
     let mut first = 0;
     while first < raws.len() {
-        let window = windows.make(rt, alloc, &Judging, resolved, rooms, raws, gate, first)?;
+        let window = windows.make(rt, alloc, &Bulky, resolved, rooms, raws, gate, first)?;
         for run in window.made.as_slice() {
             for verdict in run.as_slice() {
                 all.push(told_of(verdict))?;
             }
         }
         first = window.next;
+        count = count.saturating_add(1);
     }
-    Ok(all)
+    Ok((all, count))
 }
 
 /// The archive with so many solutions that place nothing, one that costs nothing and one that is
@@ -114,16 +117,17 @@ fn two_workers_evaluate_side_by_side(rt: HostRuntime) -> Result<(), Fail> {
     Ok(())
 }
 
-/// More solutions than a window of two workers holds, which are 2,048, are told in order.
+/// The solutions of many windows are told in order. A window of a bulky job has at most one batch of each of two
+/// workers, of at most 64 solutions.
 #[test]
 fn windows_follow_one_another(rt: HostRuntime) -> Result<(), Fail> {
     let read = read_with(rt.alloc(), 3_000)?.ok_or("a fault")?;
-    let all = in_turn(&rt, rt.alloc(), &read, 2, &OpenGate)?;
+    let (all, windows) = in_turn(&rt, rt.alloc(), &read, 2, &OpenGate)?;
     let empty = all
         .iter()
         .take_while(|told| **told == Told::Costs(6, 0))
         .count();
-    assert!(rt; all.len() == 3_002 && empty == 3_000);
+    assert!(rt; all.len() == 3_002 && empty == 3_000 && windows >= 24);
     assert_eq!(rt; all.get(3_000).copied(), Some(Told::Costs(0, 0)));
     assert_eq!(rt; all.get(3_001).copied(), Some(Told::Invalid(4, 0)));
     Ok(())

@@ -5,6 +5,8 @@ mod archives;
 #[cfg(test)]
 mod boards;
 #[cfg(test)]
+mod bulky;
+#[cfg(test)]
 mod drawing;
 #[cfg(test)]
 mod evaluating;

@@ -3,8 +3,7 @@ use Rattle.std.proofs.Common.{◌≡◌, ◌≤◌, ◌∙◌, ◌++◌, [], Bor
 use Rattle.std.proofs.Math.ListN.{drop_of_length-le}
 use Rattle.std.proofs.lemmas.List.{append-nil, length-map, map-append}
 use Rattle.std.specs.List.{enumerate_from, flat_map}
-use Rattle.parallel_solve.proofs.CutLemmas.{ok_is}
-use Rattle.parallel_solve.proofs.BatchLemmas.{joined}
+use Rattle.parallel_solve.proofs.BatchLemmas.{joined, whole_of}
 use Rattle.parallel_solve.specs.Batches.{AreBatches}
 use Rattle.parallel_solve.specs.Verdicts.{numbered_verdict}
 use Rattle.xhstt_references.specs.References.{solutions_of}
@@ -13,16 +12,16 @@ use Rattle.parallel_solve.specs.Ready.{AreOnes}
 use Rattle.parallel_solve.proofs.ReadyLemmas.{ready}
 use Rattle.parallel_solve.proofs.evaluating.evaluate_all.Goals as goal
 
-pub made_beside-batches-requires-clause-ones : goal.made_beside-batches-requires-clause-ones
-made_beside-batches-requires-clause-ones g c κs within =
+pub made_beside-window-requires-clause-ones : goal.made_beside-window-requires-clause-ones
+made_beside-window-requires-clause-ones g c κs within =
     let r = c.args.resolved.now in
     subst (λ (xs : List (Bor RawSolution)). AreOnes r 0 (map (λ (x : Bor RawSolution). x.now) xs))
     (sym c.as_slice-raws.ensures.value)
     (subst (AreOnes r 0) (sym c.in_ok-raws.ensures)
     (ready c.args.archive.now r c.requires.resolved c.requires.formed).ones)
 
-pub made_beside-batches-requires-clause-few : goal.made_beside-batches-requires-clause-few
-made_beside-batches-requires-clause-few g c =
+pub made_beside-window-requires-clause-few : goal.made_beside-window-requires-clause-few
+made_beside-window-requires-clause-few g c =
     let r = c.args.resolved.now in
     let raws = c.in_ok-raws.raws.items in
     let same = ap length c.in_ok-raws.ensures in
@@ -43,10 +42,10 @@ returns g c =
     let slice = c.as_slice-raws.result.now in
     let raws = map now slice in
     let end = length slice in
-    let batches = c.in_ok-batches.field-0.items in
-    let are : AreBatches f raws 0 end batches = ok_is c.made_beside-batches.result.0 c.in_ok-batches.field-0
-    (λ v. AreBatches f raws 0 end v.items)
-    c.made_beside-batches.ensures.made c.in_ok-batches.was in
+    let w = c.in_ok-window.field-0 in
+    let batches = w.made.items in
+    let are : AreBatches f raws 0 end batches = whole_of f raws _ c.made_beside-window.result.0 w (omega arith)
+    c.made_beside-window.ensures.made c.in_ok-window.was in
     let long : end ≤ length raws = omega (arith, length-map slice now) in
     let none : drop end raws ≡ [] = drop_of_length-le raws (omega (arith, length-map slice now)) in
     let all : raws ≡ solutions_of c.args.archive.now =
