@@ -6,6 +6,8 @@
 What it breaks means the same: a line that goes on stands further in than the one that it belongs to, a
 comment goes on in further comments, and a long list of imports is cut into several. What it can't break it
 leaves. Run `rt fmt` in the crate afterwards, which has the last word on layout, and prove the crate again.
+A file of another kind is refused, and then no file is changed: a list of crates or a page means something else
+once its lines are broken.
 """
 import re
 import sys
@@ -105,6 +107,9 @@ def broken(line):
 
 
 def main():
+    others = [path for path in sys.argv[1:] if not path.endswith(".antt")]
+    if others:
+        sys.exit("long_lines.py: for .antt files alone, and not " + " ".join(others))
     for path in sys.argv[1:]:
         text = open(path, encoding="utf-8").read()
         lines = []
