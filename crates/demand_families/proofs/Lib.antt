@@ -1,2 +1,5 @@
+pub mod ExcessLaws
+pub mod HallKept
+pub mod Outnumbering
 pub mod SetLaws
 pub mod ShortageLaws

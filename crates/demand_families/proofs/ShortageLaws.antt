@@ -1,9 +1,9 @@
 -- A number and a set with the properties of the deficit and of the Hall set are those of the definition
 -- by all sets.
-use Rattle.std.proofs.Common.{ℕ, zero, suc, ◌+◌, ◌-◌, ◌<◌, ◌≤◌, ◌≡◌, Bool, true, false, not, ◌&&◌, cond, List, [], ◌∷◌}
-use Rattle.std.proofs.Common.{map, length, refl, sym, ap, subst, ◌∙◌, arith}
-use Rattle.std.specs.Prelude.{◌==◌, ◌||◌, ◌^◌}
-use Rattle.std.specs.List.{list_all, range_with_len}
+use Rattle.std.proofs.Common.{ℕ, zero, suc, ◌+◌, ◌<◌, ◌≤◌, ◌≡◌, Bool, true, false, not, ◌&&◌, cond, List, [], ◌∷◌}
+use Rattle.std.proofs.Common.{length, refl, sym, ap, subst, ◌∙◌, arith}
+use Rattle.std.specs.Prelude.{◌||◌, ◌^◌}
+use Rattle.std.specs.List.{range_with_len}
 use Rattle.std.proofs.Props.{props}
 use Rattle.std.proofs.Math.Logic.{∥∥₁_elim}
 use Rattle.std.proofs.lemmas.Bool.{and_from, eq-eqb, eqb-true}
@@ -24,7 +24,7 @@ use Rattle.hall_report.proofs.Stated.{is_own, kept_number, kept_place, renamed}
 use Rattle.hall_report.specs.Kept.{AreOf}
 use Rattle.hall_report.specs.declared.renewing.Picks.{Picks}
 use Rattle.hall_report.specs.declared.units.Units.{Units}
-use Rattle.demand_families.specs.Shortages.{AreCompeting, all_sets, competes, deficit_of, excess_of, greatest_excess}
+use Rattle.demand_families.specs.Shortages.{all_sets, competes, deficit_of, excess_of, greatest_excess}
 use Rattle.demand_families.specs.Shortages.{hall_of, has_greatest}
 use Rattle.demand_families.proofs.SetLaws.{all_at, all_from, greatest_ge, greatest_le, has_passing, is_listed, passing}
 
@@ -41,11 +41,11 @@ sum_same zero a b h = refl
 sum_same (suc n) a b h = ap (λ x. x + sum_below n a) (h n) ∙ ap (λ x. b n + x) (sum_same n a b h)
 
 module _ (w : Domains) (a b : ℕ → Bool) (same : (k : ℕ) → k < length w.demands → a k ≡ b k) where
-  size_same : size_of w a ≡ size_of w b
+  pub size_same : size_of w a ≡ size_of w b
   size_same = count_same (length w.demands) (λ k. is_present w k && a k) (λ k. is_present w k && b k)
       (λ k l. ap (λ x. is_present w k && x) (same k l))
 
-  near_same : neighbours_of w a ≡ neighbours_of w b
+  pub near_same : neighbours_of w a ≡ neighbours_of w b
   near_same =
       sum_same w.width (λ r. count_below w.last (λ t. is_neighbour w a r t))
       (λ r. count_below w.last (λ t. is_neighbour w b r t))
@@ -54,13 +54,13 @@ module _ (w : Domains) (a b : ℕ → Bool) (same : (k : ℕ) → k < length w.d
       (λ k m. ap (λ x. x && may_have w k r t) (same k m))))
 
 -- the set of a test
-abbrev listed : Domains → (ℕ → Bool) → List Bool
+abbrev pub listed : Domains → (ℕ → Bool) → List Bool
 listed w set = passing (length w.demands) set
 
-size_listed : (w : Domains) (set : ℕ → Bool) → size_of w (has_member (listed w set)) ≡ size_of w set
+pub size_listed : (w : Domains) (set : ℕ → Bool) → size_of w (has_member (listed w set)) ≡ size_of w set
 size_listed w set = size_same w (has_member (listed w set)) set (has_passing (length w.demands) set)
 
-near_listed : (w : Domains) (set : ℕ → Bool) → neighbours_of w (has_member (listed w set)) ≡ neighbours_of w set
+pub near_listed : (w : Domains) (set : ℕ → Bool) → neighbours_of w (has_member (listed w set)) ≡ neighbours_of w set
 near_listed w set = near_same w (has_member (listed w set)) set (has_passing (length w.demands) set)
 
 -- the deficit
@@ -176,7 +176,7 @@ module _ (p : Parts) (s : List Slot) (u : Units) (picks : Picks) (w : Domains) (
       (λ k l. sym (and_from (is_present (domains p s) k) true
       (is_own p s u picks w cells are.told are.units are.opened are.numbered k (omega (arith, l, many p s))) refl))
 
-  few_demands : length (demands p s) < 2 ^ 32
+  pub few_demands : length (demands p s) < 2 ^ 32
   few_demands =
       let safely = safe s u picks w cells tasks times ∣ (p, are) ∣₁ in
       let size = safely.size in
@@ -192,7 +192,7 @@ module _ (p : Parts) (s : List Slot) (u : Units) (picks : Picks) (w : Domains) (
       ) in
       omega (arith, size, total, all, same, most)
 
-  chosen_few : (test : ℕ → Bool) (n : ℕ) (ds : List Demand) → length (chosen test n ds) ≤ length ds
+  pub chosen_few : (test : ℕ → Bool) (n : ℕ) (ds : List Demand) → length (chosen test n ds) ≤ length ds
   chosen_few test n [] = omega arith
   chosen_few test n (d ∷ ds) = one_more (test n) (chosen test (n + 1) ds) (chosen_few test (n + 1) ds)
     where
@@ -200,11 +200,3 @@ module _ (p : Parts) (s : List Slot) (u : Units) (picks : Picks) (w : Domains) (
           → length (cond b (d ∷ rest) rest) ≤ suc (length ds)
       one_more true rest l = omega (arith, l)
       one_more false rest l = omega (arith, l)
-
-  pub hall_kept : (deficit : ℕ) (hall : List Demand) → IsDeficitOf p s deficit → IsHallOf p s hall
-      → AreCompeting p s hall
-  hall_kept deficit hall is own = record {
-    are = hall_told p s deficit hall is own;
-    few = (let l = chosen_few own.0 0 (demands p s) in let e = ap length own.2 in let f = few_demands in
-        omega (arith, l, e, f));
-  }

@@ -1,14 +1,15 @@
 -- What is short in a told state: the greatest excess of a set of demands over the supplies that they
 -- may have, over all sets, and the demands that are in every set which has it.
-use Rattle.std.specs.Prelude.{ℕ, zero, suc, ◌+◌, ◌-◌, ◌==◌, ◌≡◌, ◌<◌, ◌^◌, max, Bool, true, false, not, ◌||◌, List, []}
+use Rattle.std.specs.Prelude.{ℕ, zero, suc, ◌+◌, ◌-◌, ◌==◌, ◌≡◌, ◌<◌, ◌^◌, max, Bool, true, false, not, ◌&&◌, ◌||◌, List, []}
 use Rattle.std.specs.Prelude.{◌∷◌, ◌++◌, map, length}
-use Rattle.std.specs.List.{list_all}
+use Rattle.std.specs.List.{list_all, list_any}
 use Rattle.khe_base.specs.IdSet.{has_member}
 use Rattle.khe_instance.specs.declared.parts.Parts.{Parts}
 use Rattle.khe_told.specs.declared.slots.Slot.{Slot}
+use Rattle.demand_matching.specs.Counts.{count_below, sum_below}
 use Rattle.demand_matching.specs.Domains.{Domains}
 use Rattle.demand_matching.specs.Excess.{size_of, neighbours_of}
-use Rattle.hall_report.specs.Demands.{chosen, demands, domains}
+use Rattle.hall_report.specs.Demands.{chosen, demands, domains, runs_at, takes}
 use Rattle.hall_report.specs.declared.demand.Demand.{Demand}
 use Rattle.demand_families.specs.declared.shortages.Shortage.{Shortage}
 
@@ -45,9 +46,16 @@ deficit_of p s = greatest_excess (domains p s)
 unfoldable pub hall_of : Parts → List Slot → List Demand
 hall_of p s = chosen (competes (domains p s)) 0 (demands p s)
 
--- these are the demands that compete: as many as 32 bits count
+-- how many supplies at least one of the demands may have
+abbrev pub supplies_of : Parts → List Slot → List Demand → ℕ
+supplies_of p s ds = sum_below (length p.resources)
+    (λ r. count_below (length p.times) (λ t. list_any (λ d. takes p s d r && runs_at p s d t) ds))
+
+-- these are the demands that compete: they outnumber the supplies that they may have by the deficit,
+-- and are as many as 32 bits count
 pub record AreCompeting (p : Parts) (s : List Slot) (hall : List Demand) : Type 0 where
   pub are : hall ≡ hall_of p s
+  pub outnumber : length hall ≡ supplies_of p s hall + deficit_of p s
   pub few : length hall < 2 ^ 32
 
 -- these are what is short

@@ -1,4 +1,5 @@
 pub mod FoundLaws
+pub mod LineLaws
 pub mod MendedLaws
 pub mod SendLaws
 pub mod SolvedLaws

@@ -12,10 +12,13 @@ ghost use Rattle.parallel_repair.specs.Jobs.{job_answer};
 ghost use Rattle.repair_pool.specs.Solved.{IsSolved};
 ghost use Rattle.repair_pool.specs.declared.answers.Solved.{Solved};
 ghost use Rattle.repair_run.specs.Laws.{IsLeast, IsNoDearer, IsSettledTo};
-ghost use Rattle.repair_run.specs.Repairs.{IsMended};
-ghost use Rattle.repair_run.specs.Solves.{IsSolveText};
+ghost use Rattle.repair_run.specs.Placed.{respelled};
+ghost use Rattle.repair_run.specs.Repairs.{IsMended, repair_bytes};
+ghost use Rattle.repair_run.specs.Solves.{IsSolveText, solve_bytes};
 ghost use Rattle.repair_run.specs.declared.mending.Mended.{Mended};
+ghost use Rattle.xhstt_shape.specs.WellFormed.{IsWellFormed};
 ghost use Rattle.xhstt_shape.specs.declared.records.Archive.{Archive};
+ghost use Rattle.xhstt_writer.specs.Archives.{IsReadAs};
 
 // A repair never leaves a timetable that costs more, and where a chain was taken it costs less. Where the
 // repair is done, no chain of so many moves leaves lower totals; where the budget is spent, none of as many
@@ -34,4 +37,11 @@ fn a_solve_never_costs_more()
 // What a solve is written as is the same bytes, whoever did which jobs and in which order.
 fn a_solve_is_written_in_one_way()
     ensures { (a : Archive) (number : ℕ) (p : Parts) (plain : Plain) (depth budget jobs : ℕ) (text other : List ℕ) → IsSolveText a number p plain depth budget jobs text → IsSolveText a number p plain depth budget jobs other → encode_utf8_all text ≡ encode_utf8_all other }
+{}
+
+// What a repair is written as, and what a solve is, is read as the archive alone: the line after it is a
+// comment.
+fn a_line_is_read_as_nothing()
+    ensures repaired { (a : Archive) (number : ℕ) (p : Parts) (m : Mended) → IsWellFormed (respelled a number p m.plain) → IsReadAs (repair_bytes a number p m) (respelled a number p m.plain) }
+    ensures solved { (a : Archive) (number : ℕ) (p : Parts) (s : Solved) → IsWellFormed (respelled a number p s.plain) → IsReadAs (solve_bytes a number p s) (respelled a number p s.plain) }
 {}

@@ -3,6 +3,7 @@ pub mod Bounds
 pub mod CleanForest
 pub mod Complete
 pub mod DocumentTable
+pub mod EndingLaws
 pub mod Escapes
 pub mod Follow
 pub mod FollowAttributes

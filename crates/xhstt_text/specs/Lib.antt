@@ -1,5 +1,6 @@
 pub mod Bytes
 pub mod Document
+pub mod Endings
 pub mod Escape
 pub mod Faults
 pub mod FirstFault

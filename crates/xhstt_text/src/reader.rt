@@ -1,6 +1,7 @@
 ghost use Rattle.std.specs.Prelude.{◌≡◌, ◌<◌, ◌^◌, ◌⊎◌, ℕ, length, IfOk, Ok, Err, []};
 ghost use Rattle.xhstt_text.specs.Bytes.{is_white};
 ghost use Rattle.xhstt_text.specs.Document.{Document, IsSpellingOf, Spelled, Spells, table};
+ghost use Rattle.xhstt_text.specs.Endings.{MayEndInComment, MayEndInSpace};
 ghost use Rattle.xhstt_text.specs.FlatTable.{IsTable, root_forest};
 ghost use Rattle.xhstt_text.specs.Forest.{Forest};
 ghost use Rattle.xhstt_text.specs.Machine.{outcome_of, run, ended, Outcome};
@@ -112,6 +113,10 @@ pub fn elements<'a>(alloc: Global, bytes: &'a [u8]) -> Result<Tree<'a>, TextFaul
     ensures one_fault { (kind at other place : ℕ) → IsFirstFault bytes.now kind at → IsFirstFault bytes.now other place → (kind ≡ other) × (at ≡ place) }
     ensures not_spelled { (kind at : ℕ) → IsFirstFault bytes.now kind at → (d : Document) → IsSpellingOf bytes.now d → ⊥ }
     ensures lasting { HasLastingFaults bytes.now }
+
+    // What they spell they spell with white and comments after them too.
+    ensures space_after { MayEndInSpace bytes.now }
+    ensures comment_after { MayEndInComment bytes.now }
 {
     match str::from_utf8(bytes) {
         Ok(_) => read(alloc, bytes),

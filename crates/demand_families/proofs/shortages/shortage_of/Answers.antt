@@ -1,5 +1,6 @@
 -- Both have the properties that decide them.
-use Rattle.demand_families.proofs.ShortageLaws.{deficit_told, hall_kept}
+use Rattle.demand_families.proofs.HallKept.{hall_kept}
+use Rattle.demand_families.proofs.ShortageLaws.{deficit_told}
 use Rattle.demand_families.proofs.shortages.shortage_of.Goals as goal
 
 pub returns : goal.returns

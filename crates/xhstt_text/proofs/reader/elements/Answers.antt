@@ -3,6 +3,7 @@ use Rattle.fault_tables.specs.declared.faults.TheConstants.{NOT_UTF8}
 use Rattle.std.specs.Str.{IsValidUpTo}
 use Rattle.xhstt_text.proofs.Answer.{spelled, alone, unspelled, first_fault, fault_answered, utf8_answered, utf8_fault}
 use Rattle.xhstt_text.proofs.Answer.{one_first, decides, lasting}
+use Rattle.xhstt_text.proofs.EndingLaws.{ends_in_comment, ends_in_space}
 use Rattle.xhstt_text.proofs.Trees.{read-table, read-spelled, read-alone}
 use Rattle.xhstt_text.proofs.reader.elements.Goals as goal
 
@@ -79,3 +80,15 @@ returns-in-Ok-clause-lasting c = lasting c.args.bytes.now
 
 pub returns-in-Err-clause-lasting : goal.returns-in-Err-clause-lasting
 returns-in-Err-clause-lasting c = lasting c.args.bytes.now
+
+pub returns-in-Ok-clause-space_after : goal.returns-in-Ok-clause-space_after
+returns-in-Ok-clause-space_after c = ends_in_space c.args.bytes.now
+
+pub returns-in-Ok-clause-comment_after : goal.returns-in-Ok-clause-comment_after
+returns-in-Ok-clause-comment_after c = ends_in_comment c.args.bytes.now
+
+pub returns-in-Err-clause-space_after : goal.returns-in-Err-clause-space_after
+returns-in-Err-clause-space_after c = ends_in_space c.args.bytes.now
+
+pub returns-in-Err-clause-comment_after : goal.returns-in-Err-clause-comment_after
+returns-in-Err-clause-comment_after c = ends_in_comment c.args.bytes.now
