@@ -12,5 +12,4 @@ mod words;
 
 pub use commands::{Command, LineFault};
 pub use lines::first_line;
-pub use numbers::number_of;
 pub use reading::{asks_deficit, read_line};

@@ -10,8 +10,8 @@ use Rattle.khe_instance.specs.declared.states.Plain.{Plain}
 use Rattle.khe_io.specs.Faults.{Rose, Took, TookFront}
 use Rattle.script_run.specs.Plays.{begun, play_of}
 use Rattle.script_run.specs.Scripts.{is_script, script_text}
-use Rattle.script_run.specs.declared.writing.Cut.{Cut}
-use Rattle.script_run.specs.declared.writing.Cut.TheVariants.{WriteFault, NoMemory}
+use Rattle.khe_io.specs.declared.pieces.Cut.{Cut}
+use Rattle.khe_io.specs.declared.pieces.Cut.TheVariants.{WriteFault, NoMemory}
 use Rattle.khe_app.specs.Ends.{Written, status_after}
 use Rattle.khe_app.specs.Outcome.{IsRunOf}
 

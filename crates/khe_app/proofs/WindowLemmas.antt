@@ -15,7 +15,7 @@ use Rattle.khe_io.specs.Faults.{Took}
 use Rattle.parallel_solve.proofs.BatchLemmas.{joined}
 use Rattle.parallel_solve.specs.Ready.{AreOnes, IsOne}
 use Rattle.parallel_solve.specs.Batches.{IsWindow, batch_of}
-use Rattle.script_run.specs.Amid.{IsAmid}
+use Rattle.khe_io.specs.Amid.{IsAmid}
 use Rattle.khe_app.specs.Report.{group_ids, group_text, groups_text, left_text, numbered_text, report, row_text}
 use Rattle.xhstt_references.specs.References.{solutions_of}
 use Rattle.xhstt_resolve.specs.declared.resolving.Resolved.{Resolved}

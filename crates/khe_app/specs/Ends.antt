@@ -7,8 +7,8 @@ use Rattle.khe_io.specs.Faults.{Rose, Took, TookFront}
 use Rattle.khe_io.specs.Shelf.{IsMissing}
 use Rattle.khe_app.specs.Outcome.{IsOutcomeOf}
 use Rattle.khe_app.specs.Words.{Asked, archive_of, asked}
-use Rattle.script_run.specs.declared.writing.Cut.{Cut}
-use Rattle.script_run.specs.declared.writing.Cut.TheVariants.{WriteFault, NoMemory}
+use Rattle.khe_io.specs.declared.pieces.Cut.{Cut}
+use Rattle.khe_io.specs.declared.pieces.Cut.TheVariants.{WriteFault, NoMemory}
 
 -- what a shelf holds under its names, where it tells it
 abbrev pub Holdings : Type 0

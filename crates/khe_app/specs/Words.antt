@@ -5,7 +5,8 @@ use Rattle.std.specs.Prelude.{codes, length}
 use Rattle.std.specs.List.{list_all}
 use Rattle.std.specs.Option.{option_and_then, option_map}
 use Rattle.std.specs.Str.{bytes_eq}
-use Rattle.edit_script.specs.Numbers.{is_digit, number_of, value_after}
+use Rattle.khe_base.specs.Digits.{number_of, long_number_of}
+use Rattle.khe_base.specs.declared.limits.TheConstants.{DIGITS}
 
 -- what is asked for
 pub data Asked : Type 0 where
@@ -53,7 +54,7 @@ archive_of (Some (running seed size)) = None
 -- a number from 1 to a greatest one, by 1 to 18 digits that write it
 unfoldable pub number_to : ℕ → List ℕ → Option ℕ
 number_to greatest word = option_and_then (λ n. if nat_le 1 n && nat_le n greatest then Some n else None)
-    (number_of 18 word)
+    (number_of DIGITS word)
 
 -- the value of an option, the word after it, among words that are options with their values
 unfoldable pub value_of : List ℕ → List (List ℕ) → Option (List ℕ)
@@ -97,7 +98,7 @@ options_by (first ∷ second ∷ third ∷ fourth ∷ more) = None
 -- a script is asked for by the number of the solution, of 1 to 18 digits and below 2^32, and its own name
 abbrev pub script_by : List ℕ → List (List ℕ) → Option Asked
 script_by archive (solution ∷ script ∷ []) = option_map (λ number. scripting archive number script)
-    (number_of 18 solution)
+    (number_of DIGITS solution)
 script_by archive _ = None
 
 -- the canonical spelling of an archive is asked for by its name alone
@@ -123,7 +124,7 @@ repair_with archive solution options =
 abbrev pub repair_by : List ℕ → List (List ℕ) → Option Asked
 repair_by archive [] = None
 repair_by archive (solution ∷ options) = option_and_then (λ number. repair_with archive number options)
-    (number_of 18 solution)
+    (number_of DIGITS solution)
 
 -- the repairs of a solve: their depth and their budget
 unfoldable pub chains_by : List (List ℕ) → Option (ℕ × ℕ)
@@ -152,7 +153,7 @@ solve_with archive solution options =
 abbrev pub solve_by : List ℕ → List (List ℕ) → Option Asked
 solve_by archive [] = None
 solve_by archive (solution ∷ options) = option_and_then (λ number. solve_with archive number options)
-    (number_of 18 solution)
+    (number_of DIGITS solution)
 
 -- what is asked for by a command that changes nothing, the archive's name and the words after it
 unfoldable pub told_by : List ℕ → List ℕ → List (List ℕ) → Option Asked
@@ -169,15 +170,9 @@ archive_by command name more =
     else if bytes_eq (codes "solve") command then solve_by name more
     else told_by command name more
 
--- the seed that 1 to 18 digits write
-unfoldable pub seed_of : List ℕ → Option ℕ
-seed_of word =
-    if list_all is_digit word && nat_lt 0 (length word) && nat_le (length word) 18
-    then Some (value_after 0 word) else None
-
 -- a seed and a number of events, at most 2,000
 unfoldable pub job_by : List ℕ → List ℕ → Option (ℕ × ℕ)
-job_by seed size = option_and_then (λ s. option_map (λ n. (s, n)) (number_to 2000 size)) (seed_of seed)
+job_by seed size = option_and_then (λ s. option_map (λ n. (s, n)) (number_to 2000 size)) (long_number_of seed)
 
 unfoldable pub made_by : List ℕ → List ℕ → Option Asked
 made_by seed size = option_map (λ job. making job.0 job.1) (job_by seed size)

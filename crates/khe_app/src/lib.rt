@@ -11,7 +11,6 @@ mod refusals;
 mod repairing;
 mod reports;
 mod scripts;
-mod seeds;
 mod solving;
 mod starting;
 mod words;

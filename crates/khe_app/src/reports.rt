@@ -1,6 +1,6 @@
 ghost use Rattle.std.specs.Prelude.{◌≡◌, ◌≤◌, ◌<◌, ◌+◌, ◌++◌, ◌^◌, ℕ, List, [], Option, IfOk, length, map, OnOk, OnErr, IsErrOf, encode_utf8_all};
 ghost use Rattle.khe_io.specs.Faults.{Rose, Took, TookFront};
-ghost use Rattle.script_run.specs.Amid.{IsAmid};
+ghost use Rattle.khe_io.specs.Amid.{IsAmid};
 ghost use Rattle.khe_app.specs.Report as spec;
 ghost use Rattle.khe_app.specs.Ready.{IsReady};
 ghost use Rattle.evaluation_report.specs.Lines as lines;
@@ -13,18 +13,15 @@ ghost use Rattle.xhstt_references.specs.References.{solutions_of};
 
 use crate::outcomes::Outcomes;
 use evaluation_report::header_line;
+use khe_base::limits::PIECE_BYTES;
 use khe_base::{NoMemory, Text};
-use khe_io::{Gate, Sink, put_all};
+use khe_io::{Cut, Gate, Sink, flush, flush_long, put_all};
 use parallel_solve::{Window, WindowMaker, all_solutions, rooms_of};
 use resource_deviations::ResourceRoom;
-use script_run::{Cut, flush, flush_long};
 use std::alloc::Global;
 use std::thread::Threads;
 use xhstt_resolve::Resolved;
 use xhstt_shape::{Archive, RawSolution};
-
-/// How many bytes a text has that goes to the sink as it stands: it isn't copied to what waits first.
-const LONG: usize = 1 << 16;
 
 /// Adds a text to what waits, and gives that to the sink where it is long; a text that is long by itself goes
 /// there after what waits, without being copied.
@@ -37,7 +34,7 @@ fn pass_on<K: Sink>(alloc: Global, out: &mut K, pending: &mut Text, text: &Text)
     ensures counted { K.faults out.old ≤ K.faults out.new }
 {
     let bytes = text.as_bytes();
-    if bytes.len() < LONG {
+    if bytes.len() < PIECE_BYTES {
         pending.push_text(text)?;
         return flush_long(alloc, out, pending);
     }

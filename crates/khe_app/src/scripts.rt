@@ -11,8 +11,8 @@ use demand_families::WithDemands;
 use khe_base::NoMemory;
 use khe_engine::Engine;
 use khe_instance::{Instance, Plain};
-use khe_io::Sink;
-use script_run::{Cut, Shortages, asks_often, run};
+use khe_io::{Cut, Sink};
+use script_run::{Shortages, asks_often, run};
 use sixteen_families::Families;
 use std::alloc::Global;
 

@@ -3,8 +3,8 @@ ghost use Rattle.khe_app.specs.Requests.{IsFit, asked_of, workers_in};
 ghost use Rattle.khe_app.specs.Words.{all_by, archive_by, asked, asked_by, both_by, budget_by, chains_by, check_by, crew_by, depth_by, evaluating, job_by, jobs_by, made_by, make_by, number_by, number_to, options_by, repair_by, repair_with, run_by, script_by, shares_by, solve_by, solve_with, told_by, value_of, workers_by, workers_of};
 ghost use Rattle.std.specs.Option.{option_map};
 
-use crate::seeds::seed_of;
-use edit_script::number_of;
+use khe_base::digits::{long_number_of, number_of};
+use khe_base::limits::DIGITS;
 
 /// What the words of the command line ask for.
 #[derive(Clone, Copy)]
@@ -220,7 +220,7 @@ fn number_to(greatest: u32, word: &str) -> Option<u32>
     ensures number { result ≡ number_to greatest word.now }
     ensures fit { IfSome result (λ n. (1 ≤ n) × (n ≤ greatest)) }
 {
-    let number = number_of(18, word.as_bytes())?;
+    let number = number_of(DIGITS, word.as_bytes())?;
     if 1 <= number && number <= greatest {
         Some(number)
     } else {
@@ -238,7 +238,7 @@ fn script_by<'a>(archive: &'a str, words: &'a [String]) -> Option<Request<'a>>
     };
     Some(Request::Script {
         archive,
-        solution: number_of(18, solution.as_bytes())?,
+        solution: number_of(DIGITS, solution.as_bytes())?,
         script: script.as_str(),
     })
 }
@@ -304,7 +304,7 @@ fn repair_by<'a>(archive: &'a str, words: &'a [String]) -> Option<Request<'a>>
     let [solution, options @ ..] = words else {
         return None;
     };
-    repair_with(archive, number_of(18, solution.as_bytes())?, options)
+    repair_with(archive, number_of(DIGITS, solution.as_bytes())?, options)
 }
 
 /// The repair of a solution that is asked for by its options.
@@ -372,7 +372,7 @@ fn solve_by<'a>(archive: &'a str, words: &'a [String]) -> Option<Request<'a>>
     let [solution, options @ ..] = words else {
         return None;
     };
-    solve_with(archive, number_of(18, solution.as_bytes())?, options)
+    solve_with(archive, number_of(DIGITS, solution.as_bytes())?, options)
 }
 
 /// The solve of a solution that is asked for by its options.
@@ -438,7 +438,7 @@ fn job_by(seed: &str, size: &str) -> Option<(u64, u32)>
     ensures job { result ≡ job_by seed.now size.now }
     ensures fit { IfSome result (λ j. (1 ≤ j.1) × (j.1 ≤ 2000)) }
 {
-    let seed = seed_of(seed.as_bytes())?;
+    let seed = long_number_of(seed.as_bytes())?;
     let size = number_to(2_000, size)?;
     Some((seed, size))
 }

@@ -3,6 +3,7 @@ pub mod Bounds
 pub mod BoundsLaws
 pub mod Busy
 pub mod Costs
+pub mod Digits
 pub mod IdSet
 pub mod Names
 pub mod StoredSets

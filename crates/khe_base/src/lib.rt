@@ -5,6 +5,7 @@
 pub mod bits;
 mod bounds;
 mod costs;
+pub mod digits;
 mod id_sets;
 pub mod limits;
 mod memory;

@@ -1,5 +1,6 @@
 //! The greatest sizes of an instance, each with its name. An archive beyond one of them is
-//! refused by that name; within them no sum of durations, deviations or costs overflows.
+//! refused by that name; within them no sum of durations, deviations or costs overflows. And the
+//! greatest numbers of the command line, and how many bytes go to a device at a time.
 
 /// The greatest number of bytes of an archive: 64 MiB.
 pub const ARCHIVE_BYTES: u64 = 67_108_864;
@@ -70,6 +71,30 @@ pub const GROUPS: u32 = 200;
 
 /// The greatest number of open marks.
 pub const MARKS: u32 = 1_000;
+
+/// The greatest number of moves of a chain of a repair.
+pub const CHAIN_MOVES: u32 = 4;
+
+/// The greatest number of chains that a repair may try.
+pub const BUDGET: u32 = 1_000_000_000;
+
+/// The greatest number of repairs of one timetable, each with its number as diversifier.
+pub const JOBS: u32 = 10_000;
+
+/// The greatest number of workers that share solutions or repairs.
+pub const WORKERS: u32 = 64;
+
+/// The greatest number of events of an archive that is made.
+pub const MADE_EVENTS: u32 = 2_000;
+
+/// The greatest number of bytes of a script: 16 MiB.
+pub const SCRIPT_BYTES: u64 = 16_777_216;
+
+/// The greatest number of digits of a number on the command line: what so many write fits 64 bits.
+pub const DIGITS: usize = 18;
+
+/// How many bytes are read or written at a time: 64 KiB.
+pub const PIECE_BYTES: usize = 65_536;
 
 /// The greatest deviation that the limits allow, 4 * 10^11: that of a resource which has all tasks,
 /// each with the greatest workload.

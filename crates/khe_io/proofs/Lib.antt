@@ -1,3 +1,4 @@
+pub mod AmidLemmas
 pub mod CallNumbers
 pub mod Counts
 pub mod NamedFiles

@@ -1,3 +1,4 @@
+pub mod Amid
 pub mod Calls
 pub mod Faults
 pub mod MemoryShelf

@@ -3,12 +3,10 @@ ghost use Rattle.khe_io.specs.Faults.{Rose, Took, TookFront};
 ghost use Rattle.khe_io.specs.Shelf.{StandsUnder, StandsAbove, IsMissing};
 
 use crate::{Failed, Shelf, Sink};
+use khe_base::limits::PIECE_BYTES;
 use khe_base::{NoMemory, Seq};
 use std::alloc::{AllocError, Global};
 use thiserror::Error;
-
-/// How many bytes `take_all` asks for in one read: 64 KiB.
-const PIECE_BYTES: usize = 65_536;
 
 /// Why a text was not taken from a shelf.
 #[derive(Clone, Copy, Debug, PartialEq, Eq, Error)]

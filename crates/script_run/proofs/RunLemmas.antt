@@ -6,10 +6,10 @@ use Rattle.edit_script.specs.declared.commands.Command.{Command}
 use Rattle.edit_script.specs.declared.commands.LineFault.{LineFault}
 use Rattle.khe_instance.specs.declared.parts.Parts.{Parts}
 use Rattle.khe_io.specs.Faults.{Took}
-use Rattle.script_run.specs.Amid.{IsAmid}
+use Rattle.khe_io.specs.Amid.{IsAmid}
 use Rattle.script_run.specs.Plays.{Play}
 use Rattle.script_run.specs.Scripts.{answers, answers_after}
-use Rattle.script_run.proofs.AmidLemmas.{amid-end, amid-flush}
+use Rattle.khe_io.proofs.AmidLemmas.{amid-end, amid-flush}
 
 -- the first of the lines that are left
 pub next_line : (before now : Option (List ℕ)) (text : List ℕ) (p q : Parts) (w : Play) (n : ℕ) (ls : List (List ℕ))

@@ -3,18 +3,17 @@
 ghost use Rattle.std.specs.Prelude.{◌≡◌, ◌≤◌, ◌++◌, ◌<◌, ◌^◌, ◌-◌, ◌+◌, ◌∷◌, ℕ, is_ok, List, Option, IfOk, IsErrOf, OnErr, OnOk, encode_utf8_all, length};
 ghost use Rattle.khe_io.specs.Faults.{Rose, Took, TookFront};
 ghost use Rattle.edit_script.specs.Reading.{reading};
-ghost use Rattle.script_run.specs.Amid.{IsAmid};
+ghost use Rattle.khe_io.specs.Amid.{IsAmid};
 ghost use Rattle.script_run.specs.Plays.{play_of};
 ghost use Rattle.script_run.specs.Scripts as spec;
 
 use crate::answering::carry_out;
 use crate::faults::fault_line;
 use crate::shortages::Shortages;
-use crate::writing::{Cut, flush, flush_long};
 use edit_script::{first_line, read_line};
 use khe_base::Text;
 use khe_engine::Engine;
-use khe_io::Sink;
+use khe_io::{Cut, Sink, flush, flush_long};
 use khe_told::{Blank, Steps};
 use std::alloc::Global;
 use std::marker::Brand;

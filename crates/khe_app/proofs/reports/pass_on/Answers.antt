@@ -1,8 +1,8 @@
 -- The text joins what waits, and some of that is taken; or what waits is taken, and then the text.
 use Rattle.std.proofs.Common.{[], ◌++◌, subst, sym}
 use Rattle.khe_io.specs.Faults.{Took, TookFront}
-use Rattle.script_run.specs.Amid.{IsAmid}
-use Rattle.script_run.proofs.AmidLemmas.{amid-cut, amid-flush, amid-push, amid-stop, always-err, one-err}
+use Rattle.khe_io.specs.Amid.{IsAmid}
+use Rattle.khe_io.proofs.AmidLemmas.{amid-cut, amid-flush, amid-push, amid-stop, always-err, one-err}
 use Rattle.khe_app.proofs.reports.pass_on.Goals as goal
 
 pub returns-in_err-push_text-clause-front : goal.returns-in_err-push_text-clause-front
@@ -10,15 +10,15 @@ returns-in_err-push_text-clause-front g c = λ before rest whole h.
     always-err c.from_residual.result
     (amid-stop before (g.K.Sink.taken c.args.out.now) c.args.pending.now (c.args.text.now ++ rest) whole h)
 
-pub returns-then-bytes-lt-LONG-clause-amid : goal.returns-then-bytes-lt-LONG-clause-amid
-returns-then-bytes-lt-LONG-clause-amid g c = λ before rest whole h.
+pub returns-then-bytes-lt-PIECE_BYTES-clause-amid : goal.returns-then-bytes-lt-PIECE_BYTES-clause-amid
+returns-then-bytes-lt-PIECE_BYTES-clause-amid g c = λ before rest whole h.
     let taken = g.K.Sink.taken c.args.out.now in
     let pushed = amid-push before taken c.args.pending.now c.args.text.now rest whole h in
     c.flush_long.ensures.amid before rest whole (subst (λ t. IsAmid before taken t rest whole)
     (sym c.in_ok-push_text.ensures.ok) pushed)
 
-pub returns-then-bytes-lt-LONG-clause-front : goal.returns-then-bytes-lt-LONG-clause-front
-returns-then-bytes-lt-LONG-clause-front g c = λ before rest whole h.
+pub returns-then-bytes-lt-PIECE_BYTES-clause-front : goal.returns-then-bytes-lt-PIECE_BYTES-clause-front
+returns-then-bytes-lt-PIECE_BYTES-clause-front g c = λ before rest whole h.
     let taken = g.K.Sink.taken c.args.out.now in
     let pushed = amid-push before taken c.args.pending.now c.args.text.now rest whole h in
     one-err c.flush_long.result c.flush_long.ensures.front

@@ -5,7 +5,7 @@ use Rattle.khe_base.specs.declared.texts.Text.{Text}
 use Rattle.xhstt_shape.specs.declared.records.RawSolution.{RawSolution}
 use Rattle.khe_app.specs.Report.{report}
 use Rattle.parallel_solve.specs.Ready.{AreOnes}
-use Rattle.script_run.proofs.AmidLemmas.{always-err, amid-cut, amid-end, amid-flush, err-of, one-err, one-ok}
+use Rattle.khe_io.proofs.AmidLemmas.{always-err, amid-cut, amid-end, amid-flush, err-of, one-err, one-ok}
 use Rattle.khe_app.proofs.WindowLemmas.{at_first}
 use Rattle.khe_app.proofs.reports.report.Goals as goal
 

@@ -1,8 +1,8 @@
 -- Where the next window could not be made, this one was written.
 use Rattle.std.proofs.Common.{◌≡◌, ◌++◌, Result, Ok, OnOk, subst, sym}
 use Rattle.std.specs.List.{concat}
-use Rattle.script_run.specs.Amid.{IsAmid}
-use Rattle.script_run.proofs.AmidLemmas.{always-err, amid-stop, err-of}
+use Rattle.khe_io.specs.Amid.{IsAmid}
+use Rattle.khe_io.proofs.AmidLemmas.{always-err, amid-stop, err-of}
 use Rattle.khe_app.proofs.reports.write_and_make.Goals as goal
 
 of_ok : {A E : Type 0} (r : Result A E) (x : A) {P : Type 0} → r ≡ Ok x → OnOk r P → P

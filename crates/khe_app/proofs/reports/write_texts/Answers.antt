@@ -1,8 +1,8 @@
 -- Where a text is not passed on, what was written is a first part.
 use Rattle.std.proofs.Common.{◌++◌, ◌+◌, subst, drop}
 use Rattle.std.specs.List.{concat}
-use Rattle.script_run.specs.Amid.{IsAmid}
-use Rattle.script_run.proofs.AmidLemmas.{always-err, err-of}
+use Rattle.khe_io.specs.Amid.{IsAmid}
+use Rattle.khe_io.proofs.AmidLemmas.{always-err, err-of}
 use Rattle.khe_app.proofs.WindowLemmas.{first_text}
 use Rattle.khe_app.proofs.reports.write_texts.Goals as goal
 

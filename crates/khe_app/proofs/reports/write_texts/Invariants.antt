@@ -1,7 +1,7 @@
 -- What was written and what waits, with the texts that are left.
 use Rattle.std.proofs.Common.{ℕ, ◌≡◌, ◌++◌, List, Option, drop}
 use Rattle.std.specs.List.{concat}
-use Rattle.script_run.specs.Amid.{IsAmid}
+use Rattle.khe_io.specs.Amid.{IsAmid}
 use Rattle.khe_app.proofs.reports.write_texts.Given as goal
 
 abbrev pub invariant-loop-one : goal.invariant-loop-one

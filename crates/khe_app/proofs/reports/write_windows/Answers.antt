@@ -3,8 +3,8 @@ use Rattle.std.proofs.Common.{Bor, ◌≤◌, ◌∙◌, arith, map, subst, sym}
 use Rattle.std.specs.List.{flat_map}
 use Rattle.khe_base.specs.declared.texts.Text.{Text}
 use Rattle.xhstt_shape.specs.declared.records.RawSolution.{RawSolution}
-use Rattle.script_run.specs.Amid.{IsAmid}
-use Rattle.script_run.proofs.AmidLemmas.{always-err, amid-stop, err-of}
+use Rattle.khe_io.specs.Amid.{IsAmid}
+use Rattle.khe_io.proofs.AmidLemmas.{always-err, amid-stop, err-of}
 use Rattle.khe_app.specs.Report.{left_text, row_text}
 use Rattle.khe_app.proofs.WindowLemmas.{none_left, with_window}
 use Rattle.khe_app.proofs.reports.write_windows.Goals as goal

@@ -1,7 +1,7 @@
 -- What was written and what waits, with the solutions that are left, of which each turn leaves fewer.
 use Rattle.std.proofs.Common.{ℕ, ◌≡◌, ◌-◌, List, Option, map, length}
 use Rattle.std.specs.List.{flat_map}
-use Rattle.script_run.specs.Amid.{IsAmid}
+use Rattle.khe_io.specs.Amid.{IsAmid}
 use Rattle.khe_app.specs.Report.{left_text, row_text}
 use Rattle.parallel_solve.specs.Batches.{IsWindow}
 use Rattle.khe_app.proofs.reports.write_windows.Given as goal

@@ -2,10 +2,10 @@
 use Rattle.std.proofs.Common.{◌≡◌, ◌+◌, []}
 use Rattle.edit_script.specs.Lines.{lines}
 use Rattle.edit_script.specs.Reading.{reading}
-use Rattle.script_run.specs.Amid.{IsAmid}
+use Rattle.khe_io.specs.Amid.{IsAmid}
 use Rattle.script_run.specs.Plays.{play_of}
 use Rattle.script_run.specs.Scripts.{script_text}
-use Rattle.script_run.proofs.AmidLemmas.{always-err, amid-cut, err-of}
+use Rattle.khe_io.proofs.AmidLemmas.{always-err, amid-cut, err-of}
 use Rattle.script_run.proofs.RunLemmas.{all_taken, last_line, next_line, no_line}
 use Rattle.script_run.proofs.running.run_counting.Goals as goal
 

@@ -1,7 +1,7 @@
 -- What was written, what waits, and the answers to the lines that are left are the whole text.
 use Rattle.std.proofs.Common.{◌≡◌, ◌≤◌, ◌+◌, length}
 use Rattle.edit_script.specs.Lines.{lines}
-use Rattle.script_run.specs.Amid.{IsAmid}
+use Rattle.khe_io.specs.Amid.{IsAmid}
 use Rattle.script_run.specs.Plays.{play_of}
 use Rattle.script_run.specs.Scripts.{answers, is_read, script_text}
 use Rattle.script_run.proofs.running.run_counting.Given as goal

@@ -1,12 +1,12 @@
 -- Nothing was taken, or a first part of what waits with the answer.
 use Rattle.std.proofs.Common.{ℕ, ◌≡◌, ◌+◌, ◌++◌, ◌∷◌, ◌∙◌, List, Option, Ok, Err, sym, ap, subst}
 use Rattle.edit_script.specs.Reading.{reading}
-use Rattle.script_run.specs.Amid.{IsAmid}
+use Rattle.khe_io.specs.Amid.{IsAmid}
 use Rattle.script_run.specs.Answers.{answer}
 use Rattle.script_run.specs.Faults.{fault_line}
 use Rattle.script_run.specs.Plays.{play_of, played}
 use Rattle.script_run.specs.Scripts.{answers, by_reading}
-use Rattle.script_run.proofs.AmidLemmas.{always-err, amid-cut, amid-push, amid-stop}
+use Rattle.khe_io.proofs.AmidLemmas.{always-err, amid-cut, amid-push, amid-stop}
 use Rattle.script_run.proofs.running.run_line.Goals as goal
 
 pub returns-in_err-carry_out-in-Ok-clause-front : goal.returns-in_err-carry_out-in-Ok-clause-front

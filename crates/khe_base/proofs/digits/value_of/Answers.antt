@@ -1,7 +1,7 @@
 -- The number so far is below 10 to the number of its digits, of which there are at most 18.
 use Rattle.std.proofs.Common.{ℕ, ◌≤◌, ◌<◌, ◌^◌, arith}
 use Rattle.std.proofs.Math.Nat.{pow-le-pow_right}
-use Rattle.khe_app.proofs.seeds.value_of.Goals as goal
+use Rattle.khe_base.proofs.digits.value_of.Goals as goal
 
 small : (v i n : ℕ) → v < 10 ^ i → i < n → n ≤ 18 → v < 10 ^ 17
 small v i n h l m =
