@@ -1,0 +1,9 @@
+pub mod Choices
+pub mod Examples
+pub mod Exits
+pub mod Prices
+pub mod Settled
+pub mod Smallness
+pub mod Trees
+pub mod Begun
+pub mod Room
