@@ -1,7 +1,7 @@
 //! Repair that can be undone.
 
 ghost use Rattle.std.specs.Prelude.{◌≡◌, ◌≤◌, ◌+◌, length, IfOk};
-ghost use Rattle.khe_base.specs.declared.limits.TheConstants.{MARKS};
+ghost use Rattle.khe_base.specs.declared.limits.TheConstants.{CHAIN_MOVES, MARKS};
 ghost use Rattle.ejection_repair.specs.Kept.{states};
 ghost use Rattle.ejection_repair.specs.Repaired.{repaired};
 
@@ -31,7 +31,7 @@ pub fn repair_inside<F: Family, L: Ledger>(
     steps: &mut Steps<L>,
 ) -> Result<Outcome, NoMemory>
     requires depth { 1 ≤ depth }
-    requires deepest { depth ≤ 4 }
+    requires deepest { depth ≤ CHAIN_MOVES }
     requires budget { 1 ≤ budget }
     requires marks { length engine.old.saved + depth ≤ MARKS }
     ensures outcome { IfOk result (λ o. o ≡ (repaired engine.old.parts engine.old.state depth budget diversifier).outcome) }

@@ -1,5 +1,5 @@
 ghost use Rattle.std.specs.Prelude.{◌≡◌, ◌<◌, ◌≤◌, ◌+◌, ◌*◌, [], length, IfOk, OnErr};
-ghost use Rattle.khe_base.specs.declared.limits.TheConstants.{MARKS};
+ghost use Rattle.khe_base.specs.declared.limits.TheConstants.{CHAIN_MOVES, MARKS};
 ghost use Rattle.ejection_repair.specs.Bounds.{most_moves, IsWithin};
 ghost use Rattle.ejection_repair.specs.Kept.{IsKept, room};
 ghost use Rattle.ejection_repair.specs.Repaired.{repaired, Goes};
@@ -38,7 +38,7 @@ pub fn repair<F: Family, L: Ledger>(
     steps: &mut Steps<L>,
 ) -> Result<Outcome, NoMemory>
     requires depth { 1 ≤ depth }
-    requires deepest { depth ≤ 4 }
+    requires deepest { depth ≤ CHAIN_MOVES }
     requires budget { 1 ≤ budget }
     requires marks { engine.old.saved ≡ [] }
     ensures outcome { IfOk result (λ o. o ≡ (repaired engine.old.parts engine.old.state depth budget diversifier).outcome) }
@@ -69,7 +69,7 @@ pub(crate) fn round<F: Family, L: Ledger>(
 ) -> Round
     requires marked { engine.old.marked ≡ costs_at engine.old.parts engine.old.state }
     requires lowest { aim.now.lowest ≡ totals_at engine.old.parts engine.old.state }
-    requires depth { depth ≤ 4 }
+    requires depth { depth ≤ CHAIN_MOVES }
     requires marks { length engine.old.saved + depth + aim.now.spare_marks ≤ MARKS }
     requires room { depth + aim.now.spare_marks ≤ engine.old.spare }
     ensures goes { Goes result depth aim.now.diversifier engine.old engine.new left.old left.new }
@@ -95,7 +95,7 @@ fn repair_exactly<F: Family, L: Ledger>(
     steps: &mut Steps<L>,
 ) -> Result<Outcome, NoMemory>
     requires depth { 1 ≤ depth }
-    requires deepest { depth ≤ 4 }
+    requires deepest { depth ≤ CHAIN_MOVES }
     requires budget { 1 ≤ budget }
     requires marks { engine.old.saved ≡ [] }
     ensures outcome { IfOk result (λ o. o ≡ (repaired engine.old.parts engine.old.state depth budget diversifier).outcome) }

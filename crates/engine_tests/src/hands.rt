@@ -1,14 +1,16 @@
 //! A graph by hand: calls that look first whether they may be made.
 
-ghost use Rattle.std.specs.Prelude.{◌≡◌, IfOk};
+ghost use Rattle.std.specs.Prelude.{◌≡◌, ◌<◌, IfOk};
 ghost use Rattle.engine_tests.specs.Hands.{AreFresh};
 ghost use Rattle.monitor_graph.specs.Edits.{is_of_groups};
 
 use khe_base::limits::{GREATEST_DEVIATION, MONITORS, WEIGHT};
 use khe_base::{CostFn, GroupId, MonitorId, NoMemory, Totals};
-use khe_told::{Edit, Refusal};
+use khe_told::{Blank, Edit, Refusal, Steps};
 use monitor_graph::{Graph, Line};
 use std::alloc::Global;
+use std::marker::Brand;
+use std::sync::ledger::Ledger;
 
 /// The weights of monitors, and which of them are hard.
 pub(crate) type Row = (u32, bool);
@@ -42,8 +44,18 @@ pub(crate) fn graph_of(alloc: Global, rows: &[Row], times: u32) -> Result<Graph,
 
 /// Sets one deviation, where there is such a monitor.
 fn set(graph: &mut Graph, monitor: u32, deviation: u64) {
+    set_counting::<Brand>(graph, monitor, deviation, Blank::new(1));
+}
+
+/// The same, with its step in a ledger.
+fn set_counting<L: Ledger>(graph: &mut Graph, monitor: u32, deviation: u64, blank: Blank)
+    requires name { blank.name ≡ L.name }
+    requires parts { blank.parts ≡ L.parts }
+    requires some { 0 < blank.parts }
+{
+    let mut steps = Steps::<L>::new(blank);
     if monitor < graph.monitors() && deviation <= GREATEST_DEVIATION {
-        graph.set(MonitorId(monitor), deviation);
+        graph.set(MonitorId(monitor), deviation, &mut steps);
     }
 }
 

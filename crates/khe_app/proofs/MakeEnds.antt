@@ -5,6 +5,7 @@ use Rattle.std.specs.Option.{option_map_or}
 use Rattle.std.specs.Str.{chars}
 use Rattle.std.proofs.lemmas.Str.{encodes-chars}
 use Rattle.std.proofs.lemmas.Option.{same_Some}
+use Rattle.khe_base.specs.declared.limits.TheConstants.{MADE_EVENTS}
 use Rattle.job_generator.specs.Made.{made}
 use Rattle.job_generator.proofs.SlotLaws.{made_instances}
 use Rattle.khe_instance.specs.declared.parts.Parts.{Parts}
@@ -101,7 +102,7 @@ made_few seed size a e =
     one_few (length a.instances)
     (ap (λ (x : Archive). length x.instances) e ∙ ap length (made_instances seed size))
 
-no_fault : (seed size : ℕ) (a : Archive) (f : ResolveFault) → 1 ≤ size → size ≤ 2000 → a ≡ made seed size
+no_fault : (seed size : ℕ) (a : Archive) (f : ResolveFault) → 1 ≤ size → size ≤ MADE_EVENTS → a ≡ made seed size
     → resolved a ≡ Err f → ⊥
 no_fault seed size a f some few e is =
     let made_is = made_resolved seed size some few in
@@ -109,7 +110,7 @@ no_fault seed size a f some few e is =
     let g : ⊥ = cc in g
 
 -- it is resolved, so that a fault is want of memory
-pub not_refused : (seed size : ℕ) (a : Archive) (f : ResolveFault) → 1 ≤ size → size ≤ 2000 → a ≡ made seed size
+pub not_refused : (seed size : ℕ) (a : Archive) (f : ResolveFault) → 1 ≤ size → size ≤ MADE_EVENTS → a ≡ made seed size
     → IsFaultOf (resolved a) f → f ≡ resolve.NoMemory
 not_refused seed size a resolve.NoMemory some few e is = refl
 not_refused seed size a (resolve.Bad kind at) some few e is = absurd (no_fault seed size a _ some few e is)
@@ -124,7 +125,7 @@ started_as seed size r h =
     ∙ ap (λ o. option_map_or (λ p. start_by p (completed p h.solution)) o (barred NoSuchSolution)) h.parts_are
     ∙ ap (start_by h.parts) h.completed_is
 
-pub start_made : (seed size : ℕ) (a : Archive) (r : Resolved) → 1 ≤ size → size ≤ 2000 → a ≡ made seed size
+pub start_made : (seed size : ℕ) (a : Archive) (r : Resolved) → 1 ≤ size → size ≤ MADE_EVENTS → a ≡ made seed size
     → resolved a ≡ Ok r → (p : Parts) × (plain : Plain) × (start_of a r 0 ≡ begins p plain)
 start_made seed size a r some few e is =
     let h = has_start seed size some few r (sym (ap resolved e) ∙ is) in (

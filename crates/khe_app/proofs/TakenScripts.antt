@@ -4,7 +4,7 @@ use Rattle.khe_io.specs.Shelf.{StandsUnder}
 use Rattle.khe_app.specs.Answers.{IsScriptOf}
 use Rattle.khe_app.specs.Ends.{Holdings}
 use Rattle.khe_app.specs.declared.program.Play.TheVariants as play
-use Rattle.khe_app.specs.declared.scripts.TheConstants.{SCRIPT_BYTES}
+use Rattle.khe_base.specs.declared.limits.TheConstants.{SCRIPT_BYTES}
 use Rattle.khe_app.specs.declared.starting.Begun.{Begun}
 
 pub script_taken : (h : Holdings) (name bytes : List ℕ) (b : Begun) → StandsUnder h name bytes

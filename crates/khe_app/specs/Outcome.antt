@@ -32,7 +32,7 @@ use Rattle.xhstt_writer.specs.Archives.{canonical}
 use Rattle.khe_app.specs.Refusals.{refusal_line, not_understood_line, script_too_large_line}
 use Rattle.khe_app.specs.Report.{report}
 use Rattle.khe_app.specs.Words.{Asked, asked, evaluating, scripting, checking, repairing, solving, making, running}
-use Rattle.khe_app.specs.declared.scripts.TheConstants.{SCRIPT_BYTES}
+use Rattle.khe_base.specs.declared.limits.TheConstants.{SCRIPT_BYTES}
 use Rattle.khe_app.specs.declared.refusals.Refusal.{Refusal}
 use Rattle.khe_app.specs.declared.refusals.Refusal.TheVariants.{Fault, Limit, TooLarge, NoSuchSolution, Invalid}
 

@@ -1,5 +1,6 @@
 -- What a request stands for.
 use Rattle.std.specs.Prelude.{ℕ, ◌≤◌}
+use Rattle.khe_base.specs.declared.limits.TheConstants.{CHAIN_MOVES, JOBS, WORKERS, MADE_EVENTS}
 use Rattle.khe_app.specs.Words.{Asked, evaluating, scripting, checking, repairing, solving, making, running}
 use Rattle.khe_app.specs.declared.words.Request.{Request}
 use Rattle.khe_app.specs.declared.words.Request.TheVariants.{Evaluate, Script, Check, Repair, Solve, Make, Run}
@@ -16,14 +17,14 @@ asked_of (Run seed size) = running seed size
 -- workers are 1 to 64, the moves of a chain 1 to 4, one chain at least may be tried, and jobs are 1 to 10,000;
 -- the events that are made are 1 to 2,000
 abbrev pub IsFit : Request → Type 0
-IsFit (Evaluate archive all workers) = (1 ≤ workers) × (workers ≤ 64)
+IsFit (Evaluate archive all workers) = (1 ≤ workers) × (workers ≤ WORKERS)
 IsFit (Script archive solution script) = Unit {0}
 IsFit (Check archive) = Unit {0}
-IsFit (Repair archive solution depth budget) = (1 ≤ depth) × (depth ≤ 4) × (1 ≤ budget)
-IsFit (Solve archive solution depth budget jobs workers) = (1 ≤ depth) × (depth ≤ 4) × (1 ≤ budget)
-    × (1 ≤ jobs) × (jobs ≤ 10000) × (1 ≤ workers) × (workers ≤ 64)
-IsFit (Make seed size) = (1 ≤ size) × (size ≤ 2000)
-IsFit (Run seed size) = (1 ≤ size) × (size ≤ 2000)
+IsFit (Repair archive solution depth budget) = (1 ≤ depth) × (depth ≤ CHAIN_MOVES) × (1 ≤ budget)
+IsFit (Solve archive solution depth budget jobs workers) = (1 ≤ depth) × (depth ≤ CHAIN_MOVES) × (1 ≤ budget)
+    × (1 ≤ jobs) × (jobs ≤ JOBS) × (1 ≤ workers) × (workers ≤ WORKERS)
+IsFit (Make seed size) = (1 ≤ size) × (size ≤ MADE_EVENTS)
+IsFit (Run seed size) = (1 ≤ size) × (size ≤ MADE_EVENTS)
 
 -- how many workers do what is asked for
 abbrev pub workers_in : Request → ℕ

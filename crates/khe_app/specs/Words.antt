@@ -6,7 +6,7 @@ use Rattle.std.specs.List.{list_all}
 use Rattle.std.specs.Option.{option_and_then, option_map}
 use Rattle.std.specs.Str.{bytes_eq}
 use Rattle.khe_base.specs.Digits.{number_of, long_number_of}
-use Rattle.khe_base.specs.declared.limits.TheConstants.{DIGITS}
+use Rattle.khe_base.specs.declared.limits.TheConstants.{BUDGET, CHAIN_MOVES, DIGITS, JOBS, MADE_EVENTS, WORKERS}
 
 -- what is asked for
 pub data Asked : Type 0 where
@@ -68,7 +68,7 @@ number_by name greatest options = option_and_then (number_to greatest) (value_of
 
 -- a number of workers is at most 64
 unfoldable pub workers_of : List ℕ → Option ℕ
-workers_of word = number_to 64 word
+workers_of word = number_to WORKERS word
 
 -- a number of workers that is asked for by an option and its value
 unfoldable pub workers_by : Bool → List ℕ → List ℕ → Option (Bool × ℕ)
@@ -108,10 +108,10 @@ check_by archive (word ∷ more) = None
 
 -- the depth of a repair, at most 4, and its budget of chains, at most 1,000,000,000
 unfoldable pub depth_by : List (List ℕ) → Option ℕ
-depth_by options = number_by (codes "--depth") 4 options
+depth_by options = number_by (codes "--depth") CHAIN_MOVES options
 
 unfoldable pub budget_by : List (List ℕ) → Option ℕ
-budget_by options = number_by (codes "--budget") 1000000000 options
+budget_by options = number_by (codes "--budget") BUDGET options
 
 -- a repair with these options: each of both stands once where both have values in four words
 unfoldable pub repair_with : List ℕ → ℕ → List (List ℕ) → Option Asked
@@ -133,10 +133,10 @@ chains_by options = option_and_then (λ depth. option_map (λ budget. (depth, bu
 
 -- how many jobs there are, at most 10,000, and how many workers do them, at most 64
 unfoldable pub jobs_by : List (List ℕ) → Option ℕ
-jobs_by options = number_by (codes "--jobs") 10000 options
+jobs_by options = number_by (codes "--jobs") JOBS options
 
 unfoldable pub crew_by : List (List ℕ) → Option ℕ
-crew_by options = number_by (codes "--workers") 64 options
+crew_by options = number_by (codes "--workers") WORKERS options
 
 unfoldable pub shares_by : List (List ℕ) → Option (ℕ × ℕ)
 shares_by options = option_and_then (λ jobs. option_map (λ workers. (jobs, workers)) (crew_by options))
@@ -172,7 +172,7 @@ archive_by command name more =
 
 -- a seed and a number of events, at most 2,000
 unfoldable pub job_by : List ℕ → List ℕ → Option (ℕ × ℕ)
-job_by seed size = option_and_then (λ s. option_map (λ n. (s, n)) (number_to 2000 size)) (long_number_of seed)
+job_by seed size = option_and_then (λ s. option_map (λ n. (s, n)) (number_to MADE_EVENTS size)) (long_number_of seed)
 
 unfoldable pub made_by : List ℕ → List ℕ → Option Asked
 made_by seed size = option_map (λ job. making job.0 job.1) (job_by seed size)

@@ -1,6 +1,7 @@
 //! Archives that are made, and the runs of their jobs.
 
 ghost use Rattle.std.specs.Prelude.{◌≡◌, ◌≤◌, ◌⊎◌, ℕ, Bool, List, Some, encode_utf8_all};
+ghost use Rattle.khe_base.specs.declared.limits.TheConstants.{MADE_EVENTS};
 ghost use Rattle.job_generator.specs.Made.{made, state_after};
 ghost use Rattle.khe_instance.specs.States.{IsValid};
 ghost use Rattle.made_run.specs.Runs.{IsJob, IsRunLine};
@@ -41,7 +42,7 @@ pub(crate) fn make<K: Sink>(alloc: Global, out: &mut K, seed: u64, size: u32) ->
 
 /// Writes the line on the run of the job that is made from a seed, with so many events.
 pub(crate) fn make_run<K: Sink>(alloc: Global, out: &mut K, seed: u64, size: u32) -> Status
-    requires { (1 ≤ size) × (size ≤ 2000) }
+    requires { (1 ≤ size) × (size ≤ MADE_EVENTS) }
     ensures end { (h : Holdings) (sound : Bool) (faults : ℕ) → IsEnd (Some (running seed size)) h sound faults faults (K.taken out.old) (K.taken out.new) (K.faults out.old) (K.faults out.new) result.0 }
     ensures status { result.0 ≡ 2 → ⊥ }
     ensures write_fault_ends { (result.0 ≡ 5) ⊎ (K.faults out.new ≡ K.faults out.old) }
@@ -63,7 +64,7 @@ fn run_made<K: Sink>(
     seed: u64,
     size: u32,
 ) -> Status
-    requires size { (1 ≤ size) × (size ≤ 2000) }
+    requires size { (1 ≤ size) × (size ≤ MADE_EVENTS) }
     requires made { archive.now ≡ made seed size }
     requires formed { IsWellFormed archive.now }
     requires drawn { draws.old.state ≡ state_after seed size }
@@ -103,7 +104,7 @@ fn run_resolved<K: Sink>(
     draws: &mut Draws,
     job: Job,
 ) -> Status
-    requires size { (1 ≤ job.size) × (job.size ≤ 2000) }
+    requires size { (1 ≤ job.size) × (job.size ≤ MADE_EVENTS) }
     requires made { archive.now ≡ made job.seed job.size }
     requires ready { IsReady archive.now resolved.now }
     requires job { IsJob job }

@@ -1,5 +1,5 @@
 ghost use Rattle.std.specs.Prelude.{◌≡◌, ◌<◌, ◌≤◌, ◌⊎◌, ◌↔◌, ℕ, Bool, false, List, None, Some, map, IsTrue, IfOk, IfSome, IsErrOf, OnOk, length, slice_get, string_bytes, encode_utf8_all};
-ghost use Rattle.khe_base.specs.declared.limits.TheConstants.{ARCHIVE_BYTES};
+ghost use Rattle.khe_base.specs.declared.limits.TheConstants.{ARCHIVE_BYTES, WORKERS};
 ghost use Rattle.khe_io.specs.Faults.{Rose, Took, TookFront};
 ghost use Rattle.khe_io.specs.Shelf.{IsMissing};
 ghost use Rattle.khe_app.specs.Answers.{reading_of, IsAnswerOf, IsOnlyAnswerOf, IsReadyAnswer, IsPlayAnswer, IsReadyPlay, IsScriptOf, IsTextOf, IsWith};
@@ -14,7 +14,7 @@ use crate::reading::{ReadArchive, Unread, read};
 use crate::refusals::{Refusal, refusal_line};
 use crate::repairing::repair;
 use crate::reports::report;
-use crate::scripts::{SCRIPT_BYTES, play_script};
+use crate::scripts::play_script;
 use crate::solving::solve;
 use crate::starting::{Begun, start};
 use crate::words::{Request, request_of};
@@ -278,7 +278,7 @@ fn evaluate<R: Threads + Sync, S: Shelf, K: Sink, G: Gate>(
     all: bool,
     workers: u32,
 ) -> Status
-    requires { (1 ≤ workers) × (workers ≤ 64) }
+    requires { (1 ≤ workers) × (workers ≤ WORKERS) }
     ensures end { IsEnd (Some (evaluating name.now all)) (S.holdings shelf.old) (S.is_sound shelf.old) (S.faults shelf.old) (S.faults shelf.new) (K.taken out.old) (K.taken out.new) (K.faults out.old) (K.faults out.new) result.0 }
     ensures status { result.0 ≡ 2 → ⊥ }
     ensures absent { IsTrue (S.is_sound shelf.old) → IsMissing (S.holdings shelf.old) name.now → result.0 ≡ 4 }
@@ -367,7 +367,7 @@ fn write<R: Threads + Sync, K: Sink, G: Gate>(
     workers: u32,
 ) -> Status
     requires ready { IsReadyAnswer answer.now }
-    requires workers { (1 ≤ workers) × (workers ≤ 64) }
+    requires workers { (1 ≤ workers) × (workers ≤ WORKERS) }
     ensures written { Written (K.taken out.old) (K.taken out.new) (K.faults out.old) (K.faults out.new) (encode_utf8_all (text_of all (reading_of answer.now))) (status_of (reading_of answer.now)) result.0 }
     ensures write_fault_ends { (result.0 ≡ 5) ⊎ (K.faults out.new ≡ K.faults out.old) }
     ensures sink_faults { K.faults out.old ≤ K.faults out.new }
@@ -502,7 +502,7 @@ fn script_under<S: Shelf>(
     ensures counted { S.faults shelf.old ≤ S.faults shelf.new }
     ensures stays_sound { IsTrue (S.is_sound shelf.old) → IsTrue (S.is_sound shelf.new) }
 {
-    match take_all(alloc, shelf, script, SCRIPT_BYTES) {
+    match take_all(alloc, shelf, script, limits::SCRIPT_BYTES) {
         Ok(bytes) => Ok(Play::Run(begun, bytes)),
         Err(TakeFault::TooLarge) => Ok(Play::TooLarge),
         Err(TakeFault::ReadFault) => Err(Stop::ReadFault),

@@ -1,6 +1,7 @@
 //! Archives with one of their solutions repaired.
 
 ghost use Rattle.std.specs.Prelude.{◌≡◌, ◌≤◌, ◌⊎◌, ℕ, List, Some, IsTrue, encode_utf8_all};
+ghost use Rattle.khe_base.specs.declared.limits.TheConstants.{CHAIN_MOVES};
 ghost use Rattle.khe_instance.specs.States.{IsTold, IsValid};
 ghost use Rattle.repair_run.specs.Repairs.{IsRepairText, repair_bytes};
 ghost use Rattle.repair_run.specs.Texts.{HasSpellable};
@@ -36,7 +37,7 @@ pub(crate) fn repair<S: Shelf, K: Sink>(
     depth: u32,
     budget: u32,
 ) -> Status
-    requires depth { (1 ≤ depth) × (depth ≤ 4) }
+    requires depth { (1 ≤ depth) × (depth ≤ CHAIN_MOVES) }
     requires budget { 1 ≤ budget }
     ensures end { IsEnd (Some (repairing name.now number depth budget)) (S.holdings shelf.old) (S.is_sound shelf.old) (S.faults shelf.old) (S.faults shelf.new) (K.taken out.old) (K.taken out.new) (K.faults out.old) (K.faults out.new) result.0 }
     ensures status { result.0 ≡ 2 → ⊥ }
@@ -65,7 +66,7 @@ fn write_repair<K: Sink>(
     budget: u32,
 ) -> Status
     requires ready { IsReadyAnswer answer }
-    requires depth { (1 ≤ depth) × (depth ≤ 4) }
+    requires depth { (1 ≤ depth) × (depth ≤ CHAIN_MOVES) }
     requires budget { 1 ≤ budget }
     ensures written { ((result.0 ≡ 6) × (K.taken out.new ≡ K.taken out.old)) ⊎ ((status : ℕ) × (text : List ℕ) × IsRepairIn number depth budget (reading_of answer) status text
         × Written (K.taken out.old) (K.taken out.new) (K.faults out.old) (K.faults out.new) (encode_utf8_all text) status result.0) }
@@ -88,7 +89,7 @@ fn repair_in<K: Sink>(
     budget: u32,
 ) -> Status
     requires ready { IsReady read.old.archive read.old.resolved }
-    requires depth { (1 ≤ depth) × (depth ≤ 4) }
+    requires depth { (1 ≤ depth) × (depth ≤ CHAIN_MOVES) }
     requires budget { 1 ≤ budget }
     ensures written { ((result.0 ≡ 6) × (K.taken out.new ≡ K.taken out.old)) ⊎ ((status : ℕ) × (text : List ℕ) × IsRepairOf read.old.archive number depth budget (start_of read.old.archive read.old.resolved number) status text
         × Written (K.taken out.old) (K.taken out.new) (K.faults out.old) (K.faults out.new) (encode_utf8_all text) status result.0) }
@@ -128,7 +129,7 @@ fn put_repair<K: Sink>(
     requires formed { IsWellFormed archive.old }
     requires texts { HasSpellable inst.now }
     requires valid { IsValid inst.now plain.now }
-    requires depth { (1 ≤ depth) × (depth ≤ 4) }
+    requires depth { (1 ≤ depth) × (depth ≤ CHAIN_MOVES) }
     requires budget { 1 ≤ budget }
     ensures written { ((result.0 ≡ 6) × (K.taken out.new ≡ K.taken out.old)) ⊎ ((text : List ℕ) × IsRepairText archive.old number inst.now plain.now depth budget text
         × Written (K.taken out.old) (K.taken out.new) (K.faults out.old) (K.faults out.new) (encode_utf8_all text) 0 result.0) }

@@ -9,6 +9,7 @@ ghost use Rattle.parallel_solve.specs.Ready.{AreOnes};
 ghost use Rattle.parallel_solve.specs.Ready as solutions;
 ghost use Rattle.parallel_solve.specs.Batches.{IsWindow};
 ghost use Rattle.std.specs.List.{concat, flat_map};
+ghost use Rattle.khe_base.specs.declared.limits.TheConstants.{WORKERS};
 ghost use Rattle.xhstt_references.specs.References.{solutions_of};
 
 use crate::outcomes::Outcomes;
@@ -225,7 +226,7 @@ pub(crate) fn report<R: Threads + Sync, K: Sink, G: Gate>(
     gate: &G,
 ) -> Result<(), Cut>
     requires ready { IsReady archive.now resolved.now }
-    requires workers { (1 ≤ workers) × (workers ≤ 64) }
+    requires workers { (1 ≤ workers) × (workers ≤ WORKERS) }
     ensures whole { OnOk result (Took (K.taken out.old) (K.taken out.new) (encode_utf8_all (spec.report all archive.now resolved.now))) }
     ensures front { OnErr result (TookFront (K.taken out.old) (K.taken out.new) (encode_utf8_all (spec.report all archive.now resolved.now))) }
     ensures fault { IsErrOf result Cut.WriteFault → Rose (K.faults out.old) (K.faults out.new) }

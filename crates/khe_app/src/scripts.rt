@@ -1,6 +1,7 @@
 //! Scripts: what is run, on what, and what is written.
 
 ghost use Rattle.std.specs.Prelude.{◌≡◌, ◌≤◌, ◌⊎◌, ℕ, List, encode_utf8_all, length};
+ghost use Rattle.khe_base.specs.declared.limits.TheConstants.{SCRIPT_BYTES};
 ghost use Rattle.khe_engine.specs.Values.{ServesAll};
 ghost use Rattle.khe_instance.specs.States.{IsValid};
 ghost use Rattle.khe_app.specs.Ends.{Written, status_after};
@@ -15,9 +16,6 @@ use khe_io::{Cut, Sink};
 use script_run::{Shortages, asks_often, run};
 use sixteen_families::Families;
 use std::alloc::Global;
-
-/// The greatest number of bytes of a script: 16 MiB.
-pub const SCRIPT_BYTES: u64 = 16_777_216;
 
 /// Runs a script on a timetable, and writes its answers. It takes what opening an engine takes, and then
 /// what the script takes. Demands are kept only where the script asks for them more than once: then each

@@ -1,6 +1,7 @@
 //! Archives with one of their solutions replaced by the least result of many repairs of it.
 
 ghost use Rattle.std.specs.Prelude.{◌≡◌, ◌≤◌, ◌⊎◌, ℕ, List, Some, IfOk, IsTrue, encode_utf8_all};
+ghost use Rattle.khe_base.specs.declared.limits.TheConstants.{CHAIN_MOVES, JOBS, WORKERS};
 ghost use Rattle.khe_instance.specs.States.{IsTold, IsValid};
 ghost use Rattle.parallel_repair.specs.Jobs.{job_answer};
 ghost use Rattle.repair_pool.specs.Solved.{IsSolved};
@@ -46,10 +47,10 @@ pub(crate) fn solve<R: Threads + Sync, S: Shelf, K: Sink, G: Gate>(
     jobs: u32,
     workers: u32,
 ) -> Status
-    requires depth { (1 ≤ depth) × (depth ≤ 4) }
+    requires depth { (1 ≤ depth) × (depth ≤ CHAIN_MOVES) }
     requires budget { 1 ≤ budget }
-    requires jobs { (1 ≤ jobs) × (jobs ≤ 10000) }
-    requires workers { (1 ≤ workers) × (workers ≤ 64) }
+    requires jobs { (1 ≤ jobs) × (jobs ≤ JOBS) }
+    requires workers { (1 ≤ workers) × (workers ≤ WORKERS) }
     ensures end { IsEnd (Some (solving name.now number depth budget jobs)) (S.holdings shelf.old) (S.is_sound shelf.old) (S.faults shelf.old) (S.faults shelf.new) (K.taken out.old) (K.taken out.new) (K.faults out.old) (K.faults out.new) result.0 }
     ensures status { result.0 ≡ 2 → ⊥ }
     ensures absent { IsTrue (S.is_sound shelf.old) → IsMissing (S.holdings shelf.old) name.now → result.0 ≡ 4 }
@@ -83,10 +84,10 @@ fn write_solve<R: Threads + Sync, K: Sink, G: Gate>(
     workers: u32,
 ) -> Status
     requires ready { IsReadyAnswer answer }
-    requires depth { (1 ≤ depth) × (depth ≤ 4) }
+    requires depth { (1 ≤ depth) × (depth ≤ CHAIN_MOVES) }
     requires budget { 1 ≤ budget }
-    requires jobs { (1 ≤ jobs) × (jobs ≤ 10000) }
-    requires workers { (1 ≤ workers) × (workers ≤ 64) }
+    requires jobs { (1 ≤ jobs) × (jobs ≤ JOBS) }
+    requires workers { (1 ≤ workers) × (workers ≤ WORKERS) }
     ensures written { ((result.0 ≡ 6) × (K.taken out.new ≡ K.taken out.old)) ⊎ ((status : ℕ) × (text : List ℕ) × IsSolveIn number depth budget jobs (reading_of answer) status text
         × Written (K.taken out.old) (K.taken out.new) (K.faults out.old) (K.faults out.new) (encode_utf8_all text) status result.0) }
     ensures write_fault_ends { (result.0 ≡ 5) ⊎ (K.faults out.new ≡ K.faults out.old) }
@@ -114,10 +115,10 @@ fn solve_in<R: Threads + Sync, K: Sink, G: Gate>(
     workers: u32,
 ) -> Status
     requires ready { IsReady read.old.archive read.old.resolved }
-    requires depth { (1 ≤ depth) × (depth ≤ 4) }
+    requires depth { (1 ≤ depth) × (depth ≤ CHAIN_MOVES) }
     requires budget { 1 ≤ budget }
-    requires jobs { (1 ≤ jobs) × (jobs ≤ 10000) }
-    requires workers { (1 ≤ workers) × (workers ≤ 64) }
+    requires jobs { (1 ≤ jobs) × (jobs ≤ JOBS) }
+    requires workers { (1 ≤ workers) × (workers ≤ WORKERS) }
     ensures written { ((result.0 ≡ 6) × (K.taken out.new ≡ K.taken out.old)) ⊎ ((status : ℕ) × (text : List ℕ) × IsSolveOf read.old.archive number depth budget jobs (start_of read.old.archive read.old.resolved number) status text
         × Written (K.taken out.old) (K.taken out.new) (K.faults out.old) (K.faults out.new) (encode_utf8_all text) status result.0) }
     ensures write_fault_ends { (result.0 ≡ 5) ⊎ (K.faults out.new ≡ K.faults out.old) }
@@ -178,10 +179,10 @@ fn put_solve<R: Threads + Sync, K: Sink, G: Gate>(
     requires formed { IsWellFormed archive.old }
     requires texts { HasSpellable inst.now }
     requires valid { IsValid inst.now plain.now }
-    requires depth { (1 ≤ depth) × (depth ≤ 4) }
+    requires depth { (1 ≤ depth) × (depth ≤ CHAIN_MOVES) }
     requires budget { 1 ≤ budget }
-    requires jobs { (1 ≤ jobs) × (jobs ≤ 10000) }
-    requires workers { (1 ≤ workers) × (workers ≤ 64) }
+    requires jobs { (1 ≤ jobs) × (jobs ≤ JOBS) }
+    requires workers { (1 ≤ workers) × (workers ≤ WORKERS) }
     ensures written { ((result.0 ≡ 6) × (K.taken out.new ≡ K.taken out.old)) ⊎ ((text : List ℕ) × IsSolveText archive.old number inst.now plain.now depth budget jobs text
         × Written (K.taken out.old) (K.taken out.new) (K.faults out.old) (K.faults out.new) (encode_utf8_all text) 0 result.0) }
     ensures write_fault_ends { (result.0 ≡ 5) ⊎ (K.faults out.new ≡ K.faults out.old) }
@@ -207,10 +208,10 @@ fn solve_jobs<R: Threads + Sync, G: Gate>(
     workers: u32,
 ) -> Result<Solved, NoMemory>
     requires valid { IsValid inst.now plain.now }
-    requires depth { (1 ≤ depth) × (depth ≤ 4) }
+    requires depth { (1 ≤ depth) × (depth ≤ CHAIN_MOVES) }
     requires budget { 1 ≤ budget }
-    requires jobs { (1 ≤ jobs) × (jobs ≤ 10000) }
-    requires workers { (1 ≤ workers) × (workers ≤ 64) }
+    requires jobs { (1 ≤ jobs) × (jobs ≤ JOBS) }
+    requires workers { (1 ≤ workers) × (workers ≤ WORKERS) }
     ensures solved { IfOk result (λ s. IsSolved (job_answer inst.now plain.now depth budget) jobs s) }
     ensures valid { IfOk result (λ s. IsValid inst.now s.plain) }
 {

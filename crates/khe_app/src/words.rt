@@ -2,9 +2,10 @@ ghost use Rattle.std.specs.Prelude.{◌≡◌, ◌≤◌, None, Some, map, IfSom
 ghost use Rattle.khe_app.specs.Requests.{IsFit, asked_of, workers_in};
 ghost use Rattle.khe_app.specs.Words.{all_by, archive_by, asked, asked_by, both_by, budget_by, chains_by, check_by, crew_by, depth_by, evaluating, job_by, jobs_by, made_by, make_by, number_by, number_to, options_by, repair_by, repair_with, run_by, script_by, shares_by, solve_by, solve_with, told_by, value_of, workers_by, workers_of};
 ghost use Rattle.std.specs.Option.{option_map};
+ghost use Rattle.khe_base.specs.declared.limits.TheConstants.{CHAIN_MOVES, JOBS, WORKERS, MADE_EVENTS};
 
 use khe_base::digits::{long_number_of, number_of};
-use khe_base::limits::DIGITS;
+use khe_base::limits::{BUDGET, CHAIN_MOVES, DIGITS, JOBS, MADE_EVENTS, WORKERS};
 
 /// What the words of the command line ask for.
 #[derive(Clone, Copy)]
@@ -152,7 +153,7 @@ fn evaluate_by<'a>(archive: &'a str, options: &'a [String]) -> Option<Request<'a
 /// reading.
 fn options_by(options: &[String]) -> Option<(bool, u32)>
     ensures options { result ≡ options_by (map string_bytes options.now) }
-    ensures fit { IfSome result (λ o. (1 ≤ o.1) × (o.1 ≤ 64)) }
+    ensures fit { IfSome result (λ o. (1 ≤ o.1) × (o.1 ≤ WORKERS)) }
 {
     match options {
         [] => Some((false, 1)),
@@ -167,7 +168,7 @@ fn options_by(options: &[String]) -> Option<(bool, u32)>
 #[tactic(auto, unfolding(crate::specs::Words::all_by))]
 fn all_by(option: &str) -> Option<(bool, u32)>
     ensures options { result ≡ all_by option.now }
-    ensures fit { IfSome result (λ o. (1 ≤ o.1) × (o.1 ≤ 64)) }
+    ensures fit { IfSome result (λ o. (1 ≤ o.1) × (o.1 ≤ WORKERS)) }
 {
     if option == "--all" {
         Some((true, 1))
@@ -180,7 +181,7 @@ fn all_by(option: &str) -> Option<(bool, u32)>
 #[tactic(auto, unfolding(crate::specs::Words::both_by))]
 fn both_by(first: &str, second: &str, third: &str) -> Option<(bool, u32)>
     ensures options { result ≡ both_by first.now second.now third.now }
-    ensures fit { IfSome result (λ o. (1 ≤ o.1) × (o.1 ≤ 64)) }
+    ensures fit { IfSome result (λ o. (1 ≤ o.1) × (o.1 ≤ WORKERS)) }
 {
     if first == "--all" {
         return workers_by(true, second, third);
@@ -196,7 +197,7 @@ fn both_by(first: &str, second: &str, third: &str) -> Option<(bool, u32)>
 #[tactic(auto, unfolding(crate::specs::Words::workers_by))]
 fn workers_by(all: bool, option: &str, value: &str) -> Option<(bool, u32)>
     ensures workers { result ≡ workers_by all option.now value.now }
-    ensures fit { IfSome result (λ o. (1 ≤ o.1) × (o.1 ≤ 64)) }
+    ensures fit { IfSome result (λ o. (1 ≤ o.1) × (o.1 ≤ WORKERS)) }
 {
     if option == "--workers" {
         let workers = workers_of(value)?;
@@ -209,9 +210,9 @@ fn workers_by(all: bool, option: &str, value: &str) -> Option<(bool, u32)>
 #[tactic(auto, unfolding(crate::specs::Words::workers_of))]
 fn workers_of(word: &str) -> Option<u32>
     ensures workers { result ≡ workers_of word.now }
-    ensures fit { IfSome result (λ n. (1 ≤ n) × (n ≤ 64)) }
+    ensures fit { IfSome result (λ n. (1 ≤ n) × (n ≤ WORKERS)) }
 {
-    number_to(64, word)
+    number_to(WORKERS, word)
 }
 
 /// The number from 1 to a greatest one that a word writes.
@@ -282,9 +283,9 @@ fn number_by(name: &str, greatest: u32, options: &[String]) -> Option<u32>
 #[tactic(auto, unfolding(crate::specs::Words::depth_by))]
 fn depth_by(options: &[String]) -> Option<u32>
     ensures depth { result ≡ depth_by (map string_bytes options.now) }
-    ensures fit { IfSome result (λ n. (1 ≤ n) × (n ≤ 4)) }
+    ensures fit { IfSome result (λ n. (1 ≤ n) × (n ≤ CHAIN_MOVES)) }
 {
-    number_by("--depth", 4, options)
+    number_by("--depth", CHAIN_MOVES, options)
 }
 
 /// How many chains may be tried.
@@ -293,7 +294,7 @@ fn budget_by(options: &[String]) -> Option<u32>
     ensures budget { result ≡ budget_by (map string_bytes options.now) }
     ensures fit { IfSome result (λ n. 1 ≤ n) }
 {
-    number_by("--budget", 1_000_000_000, options)
+    number_by("--budget", BUDGET, options)
 }
 
 /// The repair that is asked for by the words after the archive's name.
@@ -328,7 +329,7 @@ fn repair_with<'a>(archive: &'a str, solution: u32, options: &[String]) -> Optio
 #[tactic(auto, unfolding(crate::specs::Words::chains_by))]
 fn chains_by(options: &[String]) -> Option<(u32, u32)>
     ensures chains { result ≡ chains_by (map string_bytes options.now) }
-    ensures fit { IfSome result (λ c. (1 ≤ c.0) × (c.0 ≤ 4) × (1 ≤ c.1)) }
+    ensures fit { IfSome result (λ c. (1 ≤ c.0) × (c.0 ≤ CHAIN_MOVES) × (1 ≤ c.1)) }
 {
     let depth = depth_by(options)?;
     let budget = budget_by(options)?;
@@ -339,25 +340,25 @@ fn chains_by(options: &[String]) -> Option<(u32, u32)>
 #[tactic(auto, unfolding(crate::specs::Words::jobs_by))]
 fn jobs_by(options: &[String]) -> Option<u32>
     ensures jobs { result ≡ jobs_by (map string_bytes options.now) }
-    ensures fit { IfSome result (λ n. (1 ≤ n) × (n ≤ 10000)) }
+    ensures fit { IfSome result (λ n. (1 ≤ n) × (n ≤ JOBS)) }
 {
-    number_by("--jobs", 10_000, options)
+    number_by("--jobs", JOBS, options)
 }
 
 /// How many workers do them.
 #[tactic(auto, unfolding(crate::specs::Words::crew_by))]
 fn crew_by(options: &[String]) -> Option<u32>
     ensures workers { result ≡ crew_by (map string_bytes options.now) }
-    ensures fit { IfSome result (λ n. (1 ≤ n) × (n ≤ 64)) }
+    ensures fit { IfSome result (λ n. (1 ≤ n) × (n ≤ WORKERS)) }
 {
-    number_by("--workers", 64, options)
+    number_by("--workers", WORKERS, options)
 }
 
 /// How many jobs there are, and how many workers do them.
 #[tactic(auto, unfolding(crate::specs::Words::shares_by))]
 fn shares_by(options: &[String]) -> Option<(u32, u32)>
     ensures shares { result ≡ shares_by (map string_bytes options.now) }
-    ensures fit { IfSome result (λ s. (1 ≤ s.0) × (s.0 ≤ 10000) × (1 ≤ s.1) × (s.1 ≤ 64)) }
+    ensures fit { IfSome result (λ s. (1 ≤ s.0) × (s.0 ≤ JOBS) × (1 ≤ s.1) × (s.1 ≤ WORKERS)) }
 {
     let jobs = jobs_by(options)?;
     let workers = crew_by(options)?;
@@ -436,9 +437,9 @@ fn run_by<'a>(seed: &str, size: &str, option: &str) -> Option<Request<'a>>
 #[tactic(auto, unfolding(crate::specs::Words::job_by))]
 fn job_by(seed: &str, size: &str) -> Option<(u64, u32)>
     ensures job { result ≡ job_by seed.now size.now }
-    ensures fit { IfSome result (λ j. (1 ≤ j.1) × (j.1 ≤ 2000)) }
+    ensures fit { IfSome result (λ j. (1 ≤ j.1) × (j.1 ≤ MADE_EVENTS)) }
 {
     let seed = long_number_of(seed.as_bytes())?;
-    let size = number_to(2_000, size)?;
+    let size = number_to(MADE_EVENTS, size)?;
     Some((seed, size))
 }

@@ -239,6 +239,7 @@ impl<'i, F: Family> Engine<'i, F> {
         ensures marked { self.new.marked ≡ self.old.marked }
         ensures spare { self.old.spare + kept self.old.saved ≤ self.new.spare + kept self.new.saved }
         ensures steps { OnOk result (steps.new ≤ steps.old + trails_cost self.old.parts (length self.old.saved + 1 - k) self.old.saved) }
+        ensures no_steps { OnErr result (steps.new ≡ steps.old) }
     {
         if k == 0 {
             return Err(Refusal::NoMark);

@@ -93,23 +93,29 @@ fn listen<F: Family, L: Ledger>(
     ensures grouping { grouping_of listeners.new.graph ≡ grouping_of listeners.old.graph }
 {
     let mut steps = Steps::<L>::new(blank);
-    set_all(inst, &listeners.families, &mut listeners.graph);
+    set_all(inst, &listeners.families, &mut listeners.graph, &mut steps);
     tell_all(inst, solution, listeners, &mut steps);
 }
 
-/// Sets every deviation to that of the state that the families were told.
-fn set_all<F: Family>(inst: &Instance, families: &F, graph: &mut Graph)
+/// Sets every deviation to that of the state that the families were told, with a step for each monitor.
+pub(crate) fn set_all<F: Family, L: Ledger>(
+    inst: &Instance,
+    families: &F,
+    graph: &mut Graph,
+    steps: &mut Steps<L>,
+)
     requires of { F.IsOf families.now inst.now }
     requires serves { ServesAll F.serves_kind }
     requires rates { IsOf graph.old inst.now }
     requires many { length (deviations_of graph.old) ≡ length inst.now.monitors }
     ensures values { HasValues inst.now (F.told families.now) graph.new }
     ensures rest { HaveSameRest graph.old graph.new }
+    ensures steps { steps.new ≡ steps.old + length inst.now.monitors }
 {
     inst.facts();
     for number in 0..inst.monitors() {
         let monitor = MonitorId(number);
         let deviation = families.deviation(inst, monitor);
-        graph.set(monitor, deviation);
+        graph.set(monitor, deviation, steps);
     }
 }

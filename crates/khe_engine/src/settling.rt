@@ -33,7 +33,6 @@ pub(crate) fn settle<F: Family, L: Ledger>(
 {
     while let Some(monitor) = waiting.pop() {
         let deviation = families.deviation(inst, monitor);
-        graph.set(monitor, deviation);
-        steps.tick();
+        graph.set(monitor, deviation, steps);
     }
 }

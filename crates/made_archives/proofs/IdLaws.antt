@@ -8,6 +8,7 @@ use Rattle.std.proofs.lemmas.List.{append-nil, map-append}
 use Rattle.std.proofs.lemmas.List.Elements.{filter-append}
 use Rattle.std.proofs.lemmas.List.Folds.{list_any-append}
 use Rattle.std.proofs.lemmas.Simd.{map-map}
+use Rattle.khe_base.specs.declared.limits.TheConstants.{MADE_EVENTS}
 use Rattle.khe_base.specs.Names.{is_among_names, are_distinct}
 use Rattle.khe_base.proofs.ListLemmas.{filter-all}
 use Rattle.xhstt_shape.specs.declared.records.RawResource.{RawResource}
@@ -43,7 +44,7 @@ resource_rows size = (row (codes "p") (job.teachers size) ++ row (codes "c") (jo
 -- the size of a job, as far as the laws need it
 pub record IsSize (size : ℕ) : Type 0 where
   pub some : 1 ≤ size
-  pub few : size ≤ 2000
+  pub few : size ≤ MADE_EVENTS
 
 module _ (size : ℕ) (es : List DrawnEvent) where
   pub time_ids : ids.time_ids (made.instance size es) ≡ row (codes "t") 40

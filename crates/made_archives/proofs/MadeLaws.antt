@@ -6,7 +6,7 @@ use Rattle.std.specs.Prelude.{codes, unwrap_or}
 use Rattle.std.proofs.lemmas.List.{length-map}
 use Rattle.std.proofs.lemmas.Option.{slice_get-map}
 use Rattle.khe_base.specs.Names.{number_of}
-use Rattle.khe_base.specs.declared.limits.TheConstants.{SOLUTIONS}
+use Rattle.khe_base.specs.declared.limits.TheConstants.{MADE_EVENTS, SOLUTIONS}
 use Rattle.xhstt_shape.specs.declared.records.RawSolution.{RawSolution}
 use Rattle.xhstt_references.specs.Ids.{instance_ids}
 use Rattle.xhstt_references.specs.References.{solutions_of}
@@ -61,7 +61,7 @@ first_solution seed size =
     ∙ ap (option_map solutions.solution) (first_drawn size es x)
 
 -- no reference, no Id and no size of the archive is a fault
-pub made_faultless : (seed size : ℕ) → 1 ≤ size → size ≤ 2000 → archive_fault (made.made seed size) ≡ None
+pub made_faultless : (seed size : ℕ) → 1 ≤ size → size ≤ MADE_EVENTS → archive_fault (made.made seed size) ≡ None
 made_faultless seed size some few =
     let s : IsSize size = record { some = some; few = few } in
     let a = made.made seed size in
@@ -77,7 +77,7 @@ made_faultless seed size some few =
     (neither _ _ (ap (option_map as_fault) (solutions_faultless seed size s)) refl)) refl))
 
 -- so it is resolved
-pub made_resolved : (seed size : ℕ) → 1 ≤ size → size ≤ 2000
+pub made_resolved : (seed size : ℕ) → 1 ≤ size → size ≤ MADE_EVENTS
     → resolved (made.made seed size)
     ≡ Ok (record { instances = map parts_of (made.made seed size).instances; of = instances_of (made.made seed size) })
 made_resolved seed size some few =
@@ -102,7 +102,7 @@ first_parts seed size r instances of_ =
     ∙ ap (λ ps. slice_get ps 0) (instances ∙ ap (map parts_of) (made_instances seed size))
 
 -- and it can be completed, so that a run begins with its state
-pub has_start : (seed size : ℕ) → 1 ≤ size → size ≤ 2000 → (r : Resolved) → resolved (made.made seed size) ≡ Ok r
+pub has_start : (seed size : ℕ) → 1 ≤ size → size ≤ MADE_EVENTS → (r : Resolved) → resolved (made.made seed size) ≡ Ok r
     → HasStart seed size r
 has_start seed size some few r is =
     let s : IsSize size = record { some = some; few = few } in

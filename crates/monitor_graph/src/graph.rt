@@ -16,8 +16,10 @@ use crate::lines::{Line, cost_of, replace, shift, totals_among};
 use crate::rows::{first_set, put};
 use khe_base::bits::no_bits;
 use khe_base::{GroupId, MonitorId, NoMemory, Totals};
+use khe_told::Steps;
 use std::alloc::Global;
 use std::marker::Model;
+use std::sync::ledger::Ledger;
 
 /// The deviations of all monitors, which of them are attached, and groups of monitors; and what
 /// follows from these: costs, totals, defects, and which monitors cost more than when the costs were
@@ -223,14 +225,16 @@ impl Graph {
         self.groups.reserve(n as usize)
     }
 
-    /// Changes the deviation of a monitor, and what it costs, in constant time. A deviation that
-    /// stays the same, as most do, is only looked at.
-    pub fn set(&mut self, monitor: MonitorId, deviation: u64)
+    /// Changes the deviation of a monitor, and what it costs, in constant time, and takes one step. A
+    /// deviation that stays the same, as most do, is only looked at.
+    pub fn set<L: Ledger>(&mut self, monitor: MonitorId, deviation: u64, steps: &mut Steps<L>)
         requires known { monitor.0 < length (deviations_of self.old) }
         requires small { deviation ≤ GREATEST_DEVIATION }
         ensures set { deviations_of self.new ≡ slice_set (deviations_of self.old) monitor.0 deviation }
         ensures rest { HaveSameRest self.old self.new }
+        ensures steps { steps.new ≡ steps.old + 1 }
     {
+        steps.tick();
         if self.lines[monitor.0 as usize].deviation == deviation {
             return;
         }

@@ -1,5 +1,6 @@
 -- What the jobs of a solve come to.
 use Rattle.std.specs.Prelude.{ℕ, ◌≡◌, ◌≤◌, [], ◌∷◌}
+use Rattle.khe_base.specs.declared.limits.TheConstants.{CHAIN_MOVES}
 use Rattle.ejection_repair.specs.Repaired.{repaired}
 use Rattle.khe_engine.specs.States.{State}
 use Rattle.khe_engine.specs.Values.{totals}
@@ -25,7 +26,7 @@ job_answer p start depth budget n = job_from p (state_in p start) depth budget n
 -- a repair may begin at the timetable, to this depth and budget
 pub record IsRepair (p : Parts) (start : Plain) (depth budget : ℕ) : Type 0 where
   pub valid : IsValid p start
-  pub depth_is : (1 ≤ depth) × (depth ≤ 4)
+  pub depth_is : (1 ≤ depth) × (depth ≤ CHAIN_MOVES)
   pub budget_is : 1 ≤ budget
 
 -- an engine is at a state, with one mark, which is there

@@ -1,6 +1,7 @@
 //! One repair after the other on one engine.
 
 ghost use Rattle.std.specs.Prelude.{◌≡◌, ◌≤◌, ◌<◌, ◌∷◌, [], IfOk, OnOk, length};
+ghost use Rattle.khe_base.specs.declared.limits.TheConstants.{CHAIN_MOVES};
 ghost use Rattle.ejection_repair.specs.Kept.{states};
 ghost use Rattle.khe_engine.specs.States.{State};
 ghost use Rattle.khe_engine.specs.Values.{ServesAll};
@@ -67,7 +68,7 @@ pub(crate) fn run_job<F: Family, L: Ledger>(
     job: u64,
     blank: Blank,
 ) -> Result<Answer, NoMemory>
-    requires depth { (1 ≤ depth) × (depth ≤ 4) }
+    requires depth { (1 ≤ depth) × (depth ≤ CHAIN_MOVES) }
     requires budget { 1 ≤ budget }
     requires marked { IsMarkedAt engine.old.state engine.old }
     requires name { blank.name ≡ L.name }

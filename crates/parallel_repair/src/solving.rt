@@ -1,4 +1,5 @@
 ghost use Rattle.std.specs.Prelude.{◌≤◌, IfOk};
+ghost use Rattle.khe_base.specs.declared.limits.TheConstants.{CHAIN_MOVES, JOBS, WORKERS};
 ghost use Rattle.khe_engine.specs.Values.{ServesAll};
 ghost use Rattle.khe_instance.specs.States.{IsValid};
 ghost use Rattle.parallel_repair.specs.Jobs.{job_answer};
@@ -39,10 +40,10 @@ pub fn solve<F: Family + Drop + Send + Sync, R: Threads + Sync, G: Gate>(
     requires joined { F.IsWellJoined }
     requires serves { ServesAll F.serves_kind }
     requires valid { IsValid inst.now start.now }
-    requires depth { (1 ≤ depth) × (depth ≤ 4) }
+    requires depth { (1 ≤ depth) × (depth ≤ CHAIN_MOVES) }
     requires budget { 1 ≤ budget }
-    requires jobs { (1 ≤ jobs) × (jobs ≤ 10000) }
-    requires workers { (1 ≤ workers) × (workers ≤ 64) }
+    requires jobs { (1 ≤ jobs) × (jobs ≤ JOBS) }
+    requires workers { (1 ≤ workers) × (workers ≤ WORKERS) }
     ensures solved { IfOk result (λ s. IsSolved (job_answer inst.now start.now depth budget) jobs s) }
     ensures valid { IfOk result (λ s. IsValid inst.now s.plain) }
 {

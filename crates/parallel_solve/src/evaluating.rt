@@ -1,5 +1,6 @@
 ghost use Rattle.std.specs.Prelude.{◌≡◌, ◌≤◌, IfOk, Ok, map};
 ghost use Rattle.std.specs.List.{enumerate_from, flat_map};
+ghost use Rattle.khe_base.specs.declared.limits.TheConstants.{WORKERS};
 ghost use Rattle.xhstt_references.specs.References.{solutions_of};
 ghost use Rattle.xhstt_resolve.specs.Resolved as resolving;
 ghost use Rattle.xhstt_shape.specs.WellFormed.{IsInForm};
@@ -48,7 +49,7 @@ pub fn evaluate_all<R: Threads + Sync, G: Gate>(
 ) -> Result<Seq<Verdict>, NoMemory>
     requires formed { IsInForm archive.now }
     requires resolved { resolving.resolved archive.now ≡ Ok resolved.now }
-    requires workers { (1 ≤ workers) × (workers ≤ 64) }
+    requires workers { (1 ≤ workers) × (workers ≤ WORKERS) }
     ensures { IfOk result (λ v. v ≡ map (numbered_verdict resolved.now) (enumerate_from 0 (solutions_of archive.now))) }
 {
     let raws = all_solutions(alloc, archive)?;

@@ -1,4 +1,5 @@
 ghost use Rattle.std.specs.Prelude.{◌≡◌, ◌+◌, ◌<◌, ◌≤◌, ◌^◌, ℕ, List, IfOk, map, length};
+ghost use Rattle.khe_base.specs.declared.limits.TheConstants.{WORKERS};
 ghost use Rattle.resource_deviations.specs.Sets.{room_for};
 ghost use Rattle.parallel_solve.specs.Ready.{AreOnes};
 ghost use Rattle.parallel_solve.specs.Batches.{AreBatches, IsWindow};
@@ -67,7 +68,7 @@ pub(crate) fn batch_for(left: usize, workers: u32) -> usize
 impl WindowMaker {
     /// Windows that are made by 1 to 64 workers. It takes time in proportion to the instances, and no memory.
     pub fn new(resolved: &Resolved, workers: u32) -> WindowMaker
-        requires { (1 ≤ workers) × (workers ≤ 64) }
+        requires { (1 ≤ workers) × (workers ≤ WORKERS) }
     {
         let batch = most_in_batch(resolved);
         WindowMaker { batch, workers }

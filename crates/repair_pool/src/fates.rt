@@ -1,4 +1,5 @@
 ghost use Rattle.std.specs.Prelude.{◌≡◌, ℕ, ◌<◌, ◌≤◌, All, IfOk, replicate};
+ghost use Rattle.khe_base.specs.declared.limits.TheConstants.{JOBS};
 ghost use Rattle.repair_pool.specs.Worked.{IsRow};
 ghost use Rattle.repair_pool.specs.Fates.{AreFates};
 ghost use Rattle.repair_pool.specs.declared.answers.Answer.{Answer};
@@ -10,7 +11,7 @@ use std::alloc::Global;
 
 /// The fates of jobs that were all left out.
 fn all_skipped(alloc: Global, jobs: u64, by: u64) -> Result<Vec<Fate>, NoMemory>
-    requires { jobs ≤ 10000 }
+    requires { jobs ≤ JOBS }
     ensures { IfOk result (λ fates. fates.items ≡ replicate jobs (Skipped by)) }
 {
     let mut fates = Vec::with_capacity(alloc, jobs as usize)?;
@@ -27,7 +28,7 @@ pub(crate) fn fates_of(
     rows: &[Row],
     by: u64,
 ) -> Result<Seq<Fate>, NoMemory>
-    requires jobs { jobs ≤ 10000 }
+    requires jobs { jobs ≤ JOBS }
     requires rows { All (λ r. r.job < jobs) rows.now }
     ensures { (answer : ℕ → Answer) → All (IsRow answer jobs) rows.now → IfOk result (λ fates. AreFates answer jobs rows.now by fates) }
 {

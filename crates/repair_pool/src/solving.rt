@@ -1,4 +1,5 @@
 ghost use Rattle.std.specs.Prelude.{◌≡◌, ℕ, ◌≤◌, IfOk};
+ghost use Rattle.khe_base.specs.declared.limits.TheConstants.{JOBS, WORKERS};
 ghost use Rattle.repair_pool.specs.Solved.{IsSolved};
 ghost use Rattle.repair_pool.specs.declared.answers.Answer.{Answer};
 ghost use Rattle.repair_pool.specs.declared.answers.Solved.{Solved};
@@ -34,8 +35,8 @@ pub fn solved_by<R: Threads + Sync, W: Work, G: Gate>(
     gate: &G,
 ) -> Result<Solved, NoMemory>
     requires sound { W.IsSound work.now }
-    requires jobs { (1 ≤ jobs) × (jobs ≤ 10000) }
-    requires workers { (1 ≤ workers) × (workers ≤ 64) }
+    requires jobs { (1 ≤ jobs) × (jobs ≤ JOBS) }
+    requires workers { (1 ≤ workers) × (workers ≤ WORKERS) }
     ensures solved { IfOk result (λ s. IsSolved (W.answer work.now) jobs s) }
     ensures fit { IfOk result (λ s. W.IsFit work.now s.plain) }
 {

@@ -1,6 +1,7 @@
 //! The repair of a timetable.
 
 ghost use Rattle.std.specs.Prelude.{◌≡◌, ◌<◌, ◌≤◌, [], IfOk};
+ghost use Rattle.khe_base.specs.declared.limits.TheConstants.{CHAIN_MOVES};
 ghost use Rattle.ejection_repair.specs.Repaired.{repaired};
 ghost use Rattle.khe_engine.specs.Openings.{IsStateOf};
 ghost use Rattle.khe_engine.specs.Values.{ServesAll, totals};
@@ -43,7 +44,7 @@ pub fn mend<F: Family + Drop>(
     requires serves { ServesAll F.serves_kind }
     requires valid { IsValid inst.now plain.now }
     requires depth { 1 ≤ depth }
-    requires deepest { depth ≤ 4 }
+    requires deepest { depth ≤ CHAIN_MOVES }
     requires budget { 1 ≤ budget }
     ensures mended { IfOk result (IsMended inst.now plain.now depth budget) }
     ensures valid { IfOk result (λ m. IsValid inst.now m.plain) }
@@ -62,7 +63,7 @@ fn mend_on<F: Family, L: Ledger>(
 ) -> Result<Mended, NoMemory>
     requires marks { engine.old.saved ≡ [] }
     requires depth { 1 ≤ depth }
-    requires deepest { depth ≤ 4 }
+    requires deepest { depth ≤ CHAIN_MOVES }
     requires budget { 1 ≤ budget }
     requires name { blank.name ≡ L.name }
     requires parts { blank.parts ≡ L.parts }

@@ -1,5 +1,6 @@
 -- A new board keeps the rule.
 use Rattle.std.proofs.Common.{zero, ◌≡◌, ℕ, suc, ◌≤◌, [], ◌∷◌, refl, sym, subst, arith}
+use Rattle.khe_base.specs.declared.limits.TheConstants.{JOBS}
 use mathlib.Core.Option.{some, some-injective, some-ne-none}
 use lib.ListN.{get_elem?}
 use Rattle.solve_board.specs.Views.{first_view}
@@ -8,7 +9,7 @@ use Rattle.solve_board.specs.declared.views.BoardView.{BoardView}
 use Rattle.solve_board.specs.Runs.{Splits as Parts}
 
 -- a new board
-pub begins : (jobs : ℕ) → jobs ≤ 10000 → Holds jobs
+pub begins : (jobs : ℕ) → jobs ≤ JOBS → Holds jobs
     (record { words = 0 ∷ jobs ∷ []; homes = []; views = first_view jobs ∷ [] })
 begins jobs few = (
   0,

@@ -1,6 +1,7 @@
 -- What the two words of a board and the views of its seats keep between any two steps. Word 0 is the
 -- number that is claimed next. Word 1 is the least of all offers, or the number of jobs where there is none.
 use Rattle.std.specs.Prelude.{◌≡◌, ℕ, ◌+◌, ◌^◌, ◌<◌, ◌≤◌, List, [], ◌∷◌, map}
+use Rattle.khe_base.specs.declared.limits.TheConstants.{JOBS}
 use mathlib.Core.Option.{some}
 use lib.ListN.{get_elem?}
 use Rattle.atomic_table.specs.Table.{State}
@@ -34,7 +35,7 @@ IsReached s = (events : List Event) × IsRun nobody events × (ran nobody events
 -- what all views keep. `claims` says that together they have each number below `next` once and no other:
 -- however numbers are weighed, both weigh the same
 pub record IsKept (jobs next low : ℕ) (views : List BoardView) : Type 0 where
-  pub few : jobs ≤ 10000
+  pub few : jobs ≤ JOBS
   pub claims : (h : ℕ → ℕ) → total (λ v. weigh h v.claims) views ≡ weigh_below h next
   pub lowest : low ≤ jobs
   pub shown : low < jobs → IsOffered views low

@@ -1,4 +1,5 @@
 ghost use Rattle.std.specs.Prelude.{◌≡◌, ℕ, ◌+◌, ◌^◌, ◌<◌, ◌≤◌, [], IfOk, MatchOption, if◌then◌else◌, nat_lt, Some, None, length};
+ghost use Rattle.khe_base.specs.declared.limits.TheConstants.{JOBS};
 ghost use Rattle.solve_board.specs.Counts.{IsAmong, times, once_below};
 
 use crate::rules::{BoardRule, Both, Claim, Look, Offer, Part, Tell};
@@ -50,7 +51,7 @@ impl Board {
     /// A board of at most 10,000 jobs, none of them claimed, with its first seat. The only error is
     /// want of memory. It takes constant time and memory.
     pub fn new(alloc: Global, jobs: u64) -> Result<(Board, Seat), NoMemory>
-        requires { jobs ≤ 10000 }
+        requires { jobs ≤ JOBS }
         ensures seat { IfOk result (λ made. IsSeatOf made.0 made.1) }
         ensures view { IfOk result (λ made. view made.1 ≡ first_view jobs) }
     {

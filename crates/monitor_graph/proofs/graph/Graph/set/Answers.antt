@@ -5,7 +5,7 @@ use Rattle.monitor_graph.proofs.LineLaws.{deviations_same}
 use Rattle.monitor_graph.proofs.graph.Graph.set.Goals as goal
 
 pub returns-then-index-deviation-clause-set : goal.returns-then-index-deviation-clause-set
-returns-then-index-deviation-clause-set c =
+returns-then-index-deviation-clause-set g c =
     let d = c.index.result.now in
     let m = c.args.monitor.0 in
     let same : d ≡ get_or c.args.self.now.lines m d =
