@@ -7,6 +7,8 @@ use Rattle.fault_tables.specs.declared.faults.TheConstants.{UNSUPPORTED, TOO_DEE
 use Rattle.fault_tables.specs.declared.faults.TheConstants.{REPEATED_CHILD, BAD_NUMBER, BAD_WORD, DUPLICATE_ID}
 use Rattle.fault_tables.specs.declared.faults.TheConstants.{UNKNOWN_REFERENCE, DUPLICATE_ROLE, EVENT_OFF_END}
 use Rattle.fault_tables.specs.declared.faults.TheConstants.{LIMIT, TOO_LARGE, NO_SUCH_SOLUTION, INVALID}
+use Rattle.fault_tables.specs.declared.faults.TheConstants.{NO_SUCH_INSTANCE, NO_SUCH_TIME, NO_SUCH_TYPE}
+use Rattle.fault_tables.specs.declared.faults.TheConstants.{TOO_MANY_TO_MATCH}
 
 -- the kinds with their names
 abbrev pub kinds : List (ℕ × List ℕ)
@@ -30,6 +32,10 @@ kinds =
     ∷ (TOO_LARGE, codes "TooLarge")
     ∷ (NO_SUCH_SOLUTION, codes "NoSuchSolution")
     ∷ (INVALID, codes "Invalid")
+    ∷ (NO_SUCH_INSTANCE, codes "NoSuchInstance")
+    ∷ (NO_SUCH_TIME, codes "NoSuchTime")
+    ∷ (NO_SUCH_TYPE, codes "NoSuchType")
+    ∷ (TOO_MANY_TO_MATCH, codes "TooManyTasks")
     ∷ []
 
 -- the name of a kind

@@ -18,7 +18,10 @@ fn kinds_are_numbered()
     ensures end { fault_name 15 ≡ Some (codes "EventOffEnd") }
     ensures limit { fault_name 16 ≡ Some (codes "Limit") }
     ensures invalid { fault_name 19 ≡ Some (codes "Invalid") }
-    ensures beyond { fault_name 20 ≡ None }
+    ensures unused { fault_name 20 ≡ None }
+    ensures instance { fault_name 21 ≡ Some (codes "NoSuchInstance") }
+    ensures last { fault_name 24 ≡ Some (codes "TooManyTasks") }
+    ensures beyond { fault_name 25 ≡ None }
 {}
 
 #[allow(dead_code)]

@@ -68,6 +68,18 @@ pub const NO_SUCH_SOLUTION: u32 = 18;
 /// A solution that is invalid, where a valid one is asked for.
 pub const INVALID: u32 = 19;
 
+/// A number of an instance that the archive does not have.
+pub const NO_SUCH_INSTANCE: u32 = 21;
+
+/// A number of a time that the instance does not have.
+pub const NO_SUCH_TIME: u32 = 22;
+
+/// A number of a resource type that the instance does not have.
+pub const NO_SUCH_TYPE: u32 = 23;
+
+/// More tasks of one time than can be matched.
+pub const TOO_MANY_TO_MATCH: u32 = 24;
+
 /// The name of the kind of faults with a number, as lines print it, in constant time. A number that
 /// no kind has has no name.
 pub fn fault_name(kind: u32) -> Option<&'static str>
@@ -94,6 +106,10 @@ pub fn fault_name(kind: u32) -> Option<&'static str>
         TOO_LARGE => Some("TooLarge"),
         NO_SUCH_SOLUTION => Some("NoSuchSolution"),
         INVALID => Some("Invalid"),
+        NO_SUCH_INSTANCE => Some("NoSuchInstance"),
+        NO_SUCH_TIME => Some("NoSuchTime"),
+        NO_SUCH_TYPE => Some("NoSuchType"),
+        TOO_MANY_TO_MATCH => Some("TooManyTasks"),
         _ => None,
     }
 }
