@@ -1,6 +1,6 @@
 //! An engine of a timetable.
 
-ghost use Rattle.std.specs.Prelude.{ℕ, ◌≡◌, ◌<◌, [], Some, length, slice_get, IfOk};
+ghost use Rattle.std.specs.Prelude.{ℕ, ◌≡◌, ◌+◌, ◌<◌, [], Some, length, slice_get, IfOk};
 ghost use Rattle.khe_instance.specs.States.{IsValid};
 ghost use Rattle.khe_told.specs.Agreement.{deviation_in};
 ghost use Rattle.khe_told.specs.Slots.{no_meets};

@@ -24,8 +24,8 @@ use std::thread::Threads;
 ///
 /// The only error is want of memory, and there is none for a thread that can't be had: this one then
 /// does its work. It takes the time of the jobs that are run, divided among the workers that run at
-/// the same time, and a little for each job. It takes memory for one desk and two results at a time for
-/// each worker, and a row for each job.
+/// the same time, and a little for each job. No more workers start than there are jobs. It takes memory
+/// for one desk and two results at a time for each worker that starts, and a row for each job.
 pub fn solved_by<R: Threads + Sync, W: Work, G: Gate>(
     rt: &R,
     alloc: Global,
@@ -41,6 +41,7 @@ pub fn solved_by<R: Threads + Sync, W: Work, G: Gate>(
     ensures fit { IfOk result (λ s. W.IsFit work.now s.plain) }
 {
     let (board, seat) = Board::new(alloc, jobs)?;
+    let workers = crew_size(workers, jobs);
     let found = crew(rt, alloc, &board, work, gate, jobs, workers, seat)?;
     let Found { seat, rows, best } = found;
     let Closed { next: _, least } = board.close(seat);
@@ -53,6 +54,19 @@ pub fn solved_by<R: Threads + Sync, W: Work, G: Gate>(
         plain,
         fates,
     })
+}
+
+/// How many of the workers there is a job for.
+fn crew_size(workers: u32, jobs: u64) -> u32
+    requires { (1 ≤ workers) × (1 ≤ jobs) }
+    ensures some { 1 ≤ result }
+    ensures few { (result ≤ workers) × (result ≤ jobs) }
+{
+    if u64::from(workers) <= jobs {
+        workers
+    } else {
+        jobs as u32
+    }
 }
 
 // The job, its totals and its timetable are the same, whoever did which jobs and in which order. It is
