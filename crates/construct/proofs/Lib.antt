@@ -1,0 +1,10 @@
+pub mod AmountLaws
+pub mod BeginLaws
+pub mod BegunLaws
+pub mod BuiltLaws
+pub mod CutLaws
+pub mod KeepLaws
+pub mod LeastLaws
+pub mod LookLaws
+pub mod OrderLaws
+pub mod TurnLaws

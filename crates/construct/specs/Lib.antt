@@ -1,0 +1,7 @@
+pub mod Amounts
+pub mod Begun
+pub mod Best
+pub mod Choices
+pub mod Constructed
+pub mod Cuts
+pub mod Orders
