@@ -7,4 +7,5 @@ pub mod KeepLaws
 pub mod LeastLaws
 pub mod LookLaws
 pub mod OrderLaws
+pub mod TakenLaws
 pub mod TurnLaws

@@ -4,4 +4,5 @@ pub mod Best
 pub mod Choices
 pub mod Constructed
 pub mod Cuts
+pub mod Laws
 pub mod Orders

@@ -8,6 +8,7 @@ mod bounds;
 mod built;
 mod choosing;
 mod constructing;
+mod laws;
 mod ordering;
 
 pub use built::Built;
