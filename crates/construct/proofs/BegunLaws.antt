@@ -45,7 +45,7 @@ each_way P e event n k live free = by (nat_lt k n) refl
     by false h = free
 
 -- the same with what the number tells
-each_case : (P : Slot → Type 0) (e : ℕ) (event : EventInfo) (n k : ℕ)
+pub each_case : (P : Slot → Type 0) (e : ℕ) (event : EventInfo) (n k : ℕ)
     → (k < n → P (cut_slot (event.first_meet + k) e event (part event.duration n k)))
     → (n ≤ k → P (empty_slot (event.first_meet + k) e event)) → P (begun_slot e event n k)
 unfolding begun_slot

@@ -7,5 +7,6 @@ pub mod KeepLaws
 pub mod LeastLaws
 pub mod LookLaws
 pub mod OrderLaws
+pub mod SplitLaws
 pub mod TakenLaws
 pub mod TurnLaws

@@ -114,13 +114,13 @@ lesser_either P p s e (Some f) a b = either (are_lower (totals_after p s f) (tot
     either true = b
     either false = a
 
-least_among : (P : Edit → Type 0) (p : Parts) (s : State) (es : List Edit) → All P es → IfSome (least p s es) P
+pub least_among : (P : Edit → Type 0) (p : Parts) (s : State) (es : List Edit) → All P es → IfSome (least p s es) P
 unfolding least
 least_among P p s [] h = tt
 least_among P p s (e ∷ es) h =
     lesser_either P p s e (least p s es) (All-head P e es h) (least_among P p s es (All-tail P e es h))
 
-kept_if_lower : (P : Edit → Type 0) (p : Parts) (s : State) (o : Option Edit) → IfSome o P
+pub kept_if_lower : (P : Edit → Type 0) (p : Parts) (s : State) (o : Option Edit) → IfSome o P
     → IfSome (option_and_then (if_lower p s) o) P
 unfolding if_lower
 kept_if_lower P p s None h = tt
