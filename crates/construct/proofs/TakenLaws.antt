@@ -36,6 +36,7 @@ none_accepted p s (e ∷ es) h = by (is_accepted p s e) refl h (none_accepted p 
   where
     rest : List Edit
     rest = filter (is_accepted p s) es
+
     by : (c : Bool) → is_accepted p s e ≡ c → least p s (cond c (e ∷ rest) rest) ≡ None
         → (least p s rest ≡ None → All (IsNot p s) es) → All (IsNot p s) (e ∷ es)
     by true a k more = absurd (none-some (lesser p s e (least p s rest)) (sym k ∙ least_cons p s e rest))
@@ -109,6 +110,7 @@ least_is p s (x ∷ es) e h =
   where
     rest : List Edit
     rest = filter (is_accepted p s) es
+
     by : (c : Bool) → is_accepted p s x ≡ c → least p s (cond c (x ∷ rest) rest) ≡ Some e
         → (least p s rest ≡ None → All (IsNot p s) es)
         → ((f : Edit) → least p s rest ≡ Some f → IsFirstLeast p s es f) → IsFirstLeast p s (x ∷ es) e

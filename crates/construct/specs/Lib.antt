@@ -4,5 +4,6 @@ pub mod Best
 pub mod Choices
 pub mod Constructed
 pub mod Cuts
+pub mod Examples
 pub mod Laws
 pub mod Orders

@@ -8,6 +8,7 @@ mod bounds;
 mod built;
 mod choosing;
 mod constructing;
+mod examples;
 mod laws;
 mod ordering;
 
