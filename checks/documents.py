@@ -2,14 +2,16 @@
 """Runs every example of README.md and docs/manual.md, and compares what they show with what comes.
 
     checks/documents.py KHE
+    checks/documents.py --page
     checks/documents.py --copy
 
-KHE is the program, say ./khe or a proved build. A block of text whose lines begin with `$ ` shows commands with
+KHE is the program, say ./khe or a proved build; with `--page` only docs/khe.1 is compared, and nothing is run. A block of text whose lines begin with `$ ` shows commands with
 their output. They are run in order in a folder that has examples/ and the program, as `khe` and as `./khe`. A
 command `cat NAME` of a file that isn't there shows that file: it is made so. A block without commands after a
 paragraph that names a file of examples/ shows that file. The copies of the manual and of examples/ on which the gate
-runs the manual's examples are compared with them; `--copy` makes these copies anew. It prints a line for each
-difference, then how many commands and files it compared, and ends with status 1 where one differed.
+runs the manual's examples are compared with them; `--copy` makes these copies anew. The page docs/khe.1 has the
+synopsis and the statuses of the manual, and examples that stand there. It prints a line for each difference, then how
+many commands, files and parts it compared, and ends with status 1 where one differed.
 """
 
 import os
@@ -79,6 +81,25 @@ def lines_of(shown):
     return "".join(line + "\n" for line in shown)
 
 
+def text_of(line):
+    """A line of docs/khe.1 as it is shown."""
+    return line.replace("\\-", "-").replace("\\&", "").replace("\\e", "\\")
+
+
+def parts_of(lines, first, last):
+    """The lines that stand between each pair of two requests of docs/khe.1, as they are shown."""
+    found, part = [], None
+    for line in lines:
+        if line == first:
+            part = []
+        elif line == last and part is not None:
+            found.append(part)
+            part = None
+        elif part is not None:
+            part.append(text_of(line))
+    return found
+
+
 class Comparison:
     def __init__(self, folder):
         self.folder = folder
@@ -92,6 +113,11 @@ class Comparison:
             self.differing += 1
             print("%s: %s\nshown:\n%scame:\n%s" % (where, what, shown, came))
 
+    def end(self):
+        """Says how much was compared, and ends."""
+        print("%d compared, %d differing" % (self.compared, self.differing))
+        sys.exit(1 if self.differing or not self.compared else 0)
+
     def command(self, where, command, shown):
         made = re.fullmatch(r"cat (\S+)", command)
         if made and not os.path.exists(os.path.join(self.folder, made.group(1))):
@@ -100,6 +126,21 @@ class Comparison:
             return
         ran = subprocess.run(["bash", "-c", command], cwd=self.folder, env=self.environment, stdout=subprocess.PIPE, check=False)
         self.compare(where, command, lines_of(shown), ran.stdout.decode("utf-8", "replace"))
+
+    def page(self):
+        """Compares docs/khe.1 with the manual: the synopsis, the statuses, and the examples."""
+        with open(os.path.join(TOP, "docs/khe.1"), encoding="utf-8") as file:
+            lines = file.read().split("\n")
+        with open(os.path.join(TOP, "docs/manual.md"), encoding="utf-8") as file:
+            manual = file.read()
+        self.compare("docs/khe.1", "the synopsis", next(blocks(manual))[2], parts_of(lines, ".nf", ".fi")[0])
+        statuses = re.findall(r"^\| (\d) \| (.*?) \|", manual.split("## Statuses")[1].split("\n## ")[0], re.M)
+        told = lines[lines.index(".SH EXIT STATUS") : lines.index(".SH EXAMPLES")]
+        rows = [(told[at + 1][3:], text_of(told[at + 2])) for at, line in enumerate(told) if line == ".TP"]
+        self.compare("docs/khe.1", "the statuses", statuses, rows)
+        for shown in parts_of(lines, ".EX", ".EE"):
+            stands = "\n" + lines_of(shown) in manual
+            self.compare("docs/khe.1", shown[0], "an example of the manual", "an example of the manual" if stands else "none")
 
     def document(self, name):
         with open(os.path.join(TOP, name), encoding="utf-8") as file:
@@ -118,6 +159,10 @@ def main():
     if sys.argv[1] == "--copy":
         copy()
         return
+    if sys.argv[1] == "--page":
+        comparison = Comparison(TOP)
+        comparison.page()
+        comparison.end()
     program = os.path.abspath(sys.argv[1])
     with tempfile.TemporaryDirectory() as folder:
         shutil.copytree(os.path.join(TOP, "examples"), os.path.join(folder, "examples"))
@@ -131,8 +176,8 @@ def main():
             comparison.document(name)
         for path, other in copied():
             comparison.compare(path, "its copy for the gate", bytes_of(path), bytes_of(other))
-    print("%d compared, %d differing" % (comparison.compared, comparison.differing))
-    sys.exit(1 if comparison.differing or not comparison.compared else 0)
+        comparison.page()
+    comparison.end()
 
 
 main()
