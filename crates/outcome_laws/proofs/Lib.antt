@@ -1,0 +1,5 @@
+pub mod ReadingLaws
+pub mod StartLaws
+pub mod TextLaws
+pub mod OneLaws
+pub mod DeficitLaws

@@ -1,0 +1,284 @@
+-- No two outcomes: each command has one status and one text.
+use Rattle.std.proofs.Common.{ℕ, ◌≡◌, ◌∙◌, inl, inr, Bool, true, false, Option, Some, None, Ok, List}
+use Rattle.std.proofs.Common.{[], ◌++◌, refl, sym, ap, subst, arith, encode_utf8_all}
+use Rattle.ejection_repair.specs.Repaired.{repaired}
+use Rattle.job_generator.proofs.WellFormed.{made_fits}
+use Rattle.job_generator.specs.Made.{made}
+use Rattle.khe_app.specs.Outcome.{IsAnswerTo, IsOutcome, IsOutcomeOf, IsPlayTo, IsReadingOf, IsRepairIn}
+use Rattle.khe_app.specs.Outcome.{IsRepairOf, IsRepairTo, IsRunOf, IsRunOr, IsRunTo, IsScripted, IsSolveIn, IsSolveOf}
+use Rattle.khe_app.specs.Outcome.{IsSolveTo, IsSpellingTo, Reading, Start, barred, begins, evaluable, refused, spelling_of}
+use Rattle.khe_app.specs.Outcome.{start_in, start_of, status_of, text_of}
+use Rattle.khe_app.specs.Words.{Asked, asked, checking, evaluating, is_read, making, repairing, running, scripting}
+use Rattle.khe_app.specs.Words.{solving}
+use Rattle.khe_engine.specs.Openings.{IsStateOf}
+use Rattle.khe_engine.specs.States.{State}
+use Rattle.khe_engine.specs.Values as engine
+use Rattle.khe_instance.specs.WellMade.{AreWellMade}
+use Rattle.khe_instance.specs.declared.parts.Parts.{Parts}
+use Rattle.khe_instance.specs.declared.states.Plain.{Plain}
+use Rattle.khe_told.specs.Lists.{meets_in, tasks_in}
+use Rattle.made_run.specs.Commands.{commands}
+use Rattle.made_run.specs.Courses.{course, started}
+use Rattle.made_run.specs.Lines.{made_line}
+use Rattle.made_run.specs.Runs.{IsRunLine}
+use Rattle.parallel_repair.proofs.FillLemmas.{state_is}
+use Rattle.repair_run.proofs.SolvedLaws.{one_way}
+use Rattle.repair_run.specs.Lines.{repair_line}
+use Rattle.repair_run.specs.Placed.{respelled}
+use Rattle.repair_run.specs.Repairs.{IsRepairText}
+use Rattle.script_run.specs.Plays.{begun}
+use Rattle.script_run.specs.Scripts.{script_text}
+use Rattle.text_laws.proofs.ReadLaws.{instance_of, read_formed, well_made}
+use Rattle.xhstt_resolve.specs.Resolved.{resolved}
+use Rattle.xhstt_resolve.specs.declared.resolving.Resolved.{Resolved}
+use Rattle.xhstt_shape.specs.declared.records.Archive.{Archive}
+use Rattle.xhstt_writer.specs.Archives.{canonical}
+use Rattle.outcome_laws.specs.Outcomes.{AreOne, Shelf}
+use Rattle.outcome_laws.proofs.ReadingLaws.{one_reading, spelled_by}
+use Rattle.outcome_laws.proofs.StartLaws.{same_start, started_by}
+
+-- both are these
+both : (status other s : ℕ) (text more t : List ℕ) → status ≡ s → other ≡ s → text ≡ t → more ≡ t
+    → AreOne status other text more
+both status other s text more t e f g h =
+    record { status = e ∙ sym f; bytes = ap encode_utf8_all (g ∙ sym h) }
+
+-- the parts of a run are well made
+made_of : (bytes : List ℕ) (a : Archive) (r : Resolved) (number : ℕ) (p : Parts) (plain : Plain)
+    → IsReadingOf bytes (evaluable a r) → start_of a r number ≡ begins p plain → AreWellMade p
+made_of bytes a r number p plain is e =
+    let read = (spelled_by bytes a r is).archive in
+    let x = started_by a r number p plain e in
+    well_made a r p (read_formed bytes a r read) read.resolved_is (instance_of a r number p read.resolved_is x.parts)
+
+one_state : (p : Parts) (plain : Plain) (s t : State) → AreWellMade p → IsStateOf p plain s → IsStateOf p plain t → s ≡ t
+one_state p plain s t made f g = state_is p plain s made f ∙ sym (state_is p plain t made g)
+
+-- reports
+answers : (all : Bool) (o : Option (List ℕ)) (status other : ℕ) (text more : List ℕ) → IsAnswerTo all o status text
+    → IsAnswerTo all o other more → AreOne status other text more
+answers all None status other text more f g = both status other 4 text more [] f.0 g.0 f.1 g.1
+answers all (Some bytes) status other text more f g =
+    let same = one_reading bytes g.reading f.reading g.is f.is in
+    both status other (status_of f.reading) text more (text_of all f.reading) f.status_is
+    (g.status_is ∙ ap status_of same) f.text_is (g.text_is ∙ ap (text_of all) same)
+
+-- scripts
+runs : (p : Parts) (plain : Plain) (script : List ℕ) (status other : ℕ) (text more : List ℕ) → AreWellMade p
+    → IsRunOf p plain script status text → IsRunOf p plain script other more → AreOne status other text more
+runs p plain script status other text more made f g =
+    let same = one_state p plain g.state f.state made g.is f.is in
+    record {
+      status = f.status_is ∙ sym g.status_is;
+      bytes = ap encode_utf8_all
+          (f.text_is ∙ sym (g.text_is ∙ ap (λ s. script_text p (begun s) script) same));
+    }
+
+runs_or : (p : Parts) (plain : Plain) (script : List ℕ) (status other : ℕ) (text more : List ℕ) → AreWellMade p
+    → IsRunOr p plain script status text → IsRunOr p plain script other more → AreOne status other text more
+runs_or p plain script status other text more made (inl f) (inl g) =
+    both status other 7 text more _ f.1 g.1 f.2 g.2
+runs_or p plain script status other text more made (inl f) (inr g) =
+    absurd (let l = f.0 in let m = g.0 in omega (arith, l, m))
+runs_or p plain script status other text more made (inr f) (inl g) =
+    absurd (let l = f.0 in let m = g.0 in omega (arith, l, m))
+runs_or p plain script status other text more made (inr f) (inr g) =
+    runs p plain script status other text more made f.1 g.1
+
+scripts : (s : Start) (script : Option (List ℕ)) (status other : ℕ) (text more : List ℕ)
+    → ((p : Parts) (plain : Plain) → s ≡ begins p plain → AreWellMade p) → IsScripted s script status text
+    → IsScripted s script other more → AreOne status other text more
+scripts (barred f) script status other text more made x y = both status other 3 text more _ x.0 y.0 x.1 y.1
+scripts (begins p plain) None status other text more made x y = both status other 4 text more [] x.0 y.0 x.1 y.1
+scripts (begins p plain) (Some script) status other text more made x y =
+    runs_or p plain script status other text more (made p plain refl) x y
+
+plays_in : (number : ℕ) (bytes : List ℕ) (script : Option (List ℕ)) (x : Reading) (status other : ℕ)
+    (text more : List ℕ) → IsReadingOf bytes x → IsScripted (start_in number x) script status text
+    → IsScripted (start_in number x) script other more → AreOne status other text more
+plays_in number bytes script (evaluable a r) status other text more is f g =
+    scripts (start_of a r number) script status other text more (λ p plain e. made_of bytes a r number p plain is e) f g
+plays_in number bytes script (refused x) status other text more is f g = both status other 3 text more _ f.0 g.0 f.1 g.1
+
+plays : (number : ℕ) (o script : Option (List ℕ)) (status other : ℕ) (text more : List ℕ)
+    → IsPlayTo number o script status text → IsPlayTo number o script other more → AreOne status other text more
+plays number None script status other text more f g = both status other 4 text more [] f.0 g.0 f.1 g.1
+plays number (Some bytes) script status other text more f g =
+    let same = one_reading bytes g.reading f.reading g.is f.is in
+    plays_in number bytes script f.reading status other text more f.is f.scripted
+    (subst (λ x. IsScripted (start_in number x) script other more) same g.scripted)
+
+-- spellings
+spellings : (o : Option (List ℕ)) (status other : ℕ) (text more : List ℕ) → IsSpellingTo o status text
+    → IsSpellingTo o other more → AreOne status other text more
+spellings None status other text more f g = both status other 4 text more [] f.0 g.0 f.1 g.1
+spellings (Some bytes) status other text more f g =
+    let same = one_reading bytes g.reading f.reading g.is f.is in
+    record {
+      status = f.status_is ∙ sym (g.status_is ∙ ap status_of same);
+      bytes = f.bytes_are ∙ sym (g.bytes_are ∙ ap spelling_of same);
+    }
+
+-- repairs
+repair_texts : (a : Archive) (number : ℕ) (p : Parts) (plain : Plain) (depth budget : ℕ) (text more : List ℕ)
+    → AreWellMade p → IsRepairText a number p plain depth budget text
+    → IsRepairText a number p plain depth budget more → encode_utf8_all text ≡ encode_utf8_all more
+repair_texts a number p plain depth budget text more made f g =
+    let m = f.mended in
+    let n = g.mended in
+    let same = one_state p plain f.is.state g.is.state made f.is.begins g.is.begins in
+    let outcomes : m.outcome ≡ n.outcome =
+    f.is.outcome ∙ ap (λ s. (repaired p s depth budget 0).outcome) same ∙ sym g.is.outcome in
+    let costs : m.totals ≡ n.totals =
+    f.is.totals ∙ ap (λ s. engine.totals p (repaired p s depth budget 0).state) same ∙ sym g.is.totals in
+    let meets : m.plain.meets ≡ n.plain.meets =
+    sym f.is.listed.meets ∙ ap (λ s. meets_in (repaired p s depth budget 0).state.slots) same ∙ g.is.listed.meets in
+    let tasks : m.plain.tasks ≡ n.plain.tasks =
+    sym f.is.listed.tasks ∙ ap (λ s. tasks_in (repaired p s depth budget 0).state.slots) same ∙ g.is.listed.tasks in
+    let archives : respelled a number p m.plain ≡ respelled a number p n.plain =
+    λ i. respelled a number p (record { meets = meets i; tasks = tasks i; detached = []; groups = [] }) in
+    f.bytes_are
+    ∙ (λ i. canonical (archives i) ++ encode_utf8_all (repair_line (outcomes i) (costs i)))
+    ∙ sym g.bytes_are
+
+repairs_of : (a : Archive) (number depth budget : ℕ) (s : Start) (status other : ℕ) (text more : List ℕ)
+    → ((p : Parts) (plain : Plain) → s ≡ begins p plain → AreWellMade p)
+    → IsRepairOf a number depth budget s status text → IsRepairOf a number depth budget s other more
+    → AreOne status other text more
+repairs_of a number depth budget (barred x) status other text more made f g =
+    both status other 3 text more _ f.0 g.0 f.1 g.1
+repairs_of a number depth budget (begins p plain) status other text more made f g = record {
+  status = f.0 ∙ sym g.0;
+  bytes = repair_texts a number p plain depth budget text more (made p plain refl) f.1 g.1;
+}
+
+repairs_in : (number depth budget : ℕ) (bytes : List ℕ) (x : Reading) (status other : ℕ) (text more : List ℕ)
+    → IsReadingOf bytes x → IsRepairIn number depth budget x status text → IsRepairIn number depth budget x other more
+    → AreOne status other text more
+repairs_in number depth budget bytes (evaluable a r) status other text more is f g =
+    repairs_of a number depth budget (start_of a r number) status other text more
+    (λ p plain e. made_of bytes a r number p plain is e) f g
+repairs_in number depth budget bytes (refused x) status other text more is f g =
+    both status other 3 text more _ f.0 g.0 f.1 g.1
+
+repairs : (number depth budget : ℕ) (o : Option (List ℕ)) (status other : ℕ) (text more : List ℕ)
+    → IsRepairTo number depth budget o status text → IsRepairTo number depth budget o other more
+    → AreOne status other text more
+repairs number depth budget None status other text more f g = both status other 4 text more [] f.0 g.0 f.1 g.1
+repairs number depth budget (Some bytes) status other text more f g =
+    repairs_in number depth budget bytes f.reading status other text more f.is f.repaired
+    (subst (λ x. IsRepairIn number depth budget x other more) (one_reading bytes g.reading f.reading g.is f.is)
+    g.repaired)
+
+-- solves
+solves_of : (a : Archive) (number depth budget jobs : ℕ) (s : Start) (status other : ℕ) (text more : List ℕ)
+    → IsSolveOf a number depth budget jobs s status text → IsSolveOf a number depth budget jobs s other more
+    → AreOne status other text more
+solves_of a number depth budget jobs (barred x) status other text more f g =
+    both status other 3 text more _ f.0 g.0 f.1 g.1
+solves_of a number depth budget jobs (begins p plain) status other text more f g = record {
+  status = f.0 ∙ sym g.0;
+  bytes = one_way a number p plain depth budget jobs text more f.1 g.1;
+}
+
+solves_in : (number depth budget jobs : ℕ) (x : Reading) (status other : ℕ) (text more : List ℕ)
+    → IsSolveIn number depth budget jobs x status text → IsSolveIn number depth budget jobs x other more
+    → AreOne status other text more
+solves_in number depth budget jobs (evaluable a r) status other text more f g =
+    solves_of a number depth budget jobs (start_of a r number) status other text more f g
+solves_in number depth budget jobs (refused x) status other text more f g =
+    both status other 3 text more _ f.0 g.0 f.1 g.1
+
+solves : (number depth budget jobs : ℕ) (o : Option (List ℕ)) (status other : ℕ) (text more : List ℕ)
+    → IsSolveTo number depth budget jobs o status text → IsSolveTo number depth budget jobs o other more
+    → AreOne status other text more
+solves number depth budget jobs None status other text more f g = both status other 4 text more [] f.0 g.0 f.1 g.1
+solves number depth budget jobs (Some bytes) status other text more f g =
+    solves_in number depth budget jobs f.reading status other text more f.solved
+    (subst (λ x. IsSolveIn number depth budget jobs x other more) (one_reading bytes g.reading f.reading g.is f.is)
+    g.solved)
+
+-- what is made, and its run
+same_instances : (a : Archive) (r q : Resolved) → resolved a ≡ Ok r → resolved a ≡ Ok q → q ≡ r
+same_instances a r q e d = let g : q ≡ r = cc in g
+
+made_lines : (seed size : ℕ) (p : Parts) (plain : Plain) (text more : List ℕ) → AreWellMade p
+    → IsRunLine seed size p plain text → IsRunLine seed size p plain more → text ≡ more
+made_lines seed size p plain text more made f g =
+    f.line_is
+    ∙ ap (λ s. made_line seed size p (course p (started s) (commands seed size)))
+    (one_state p plain f.state g.state made f.is g.is)
+    ∙ sym g.line_is
+
+made_runs : (seed size status other : ℕ) (text more : List ℕ) → IsRunTo seed size status text
+    → IsRunTo seed size other more → AreOne status other text more
+made_runs seed size status other text more f g =
+    let a = made seed size in
+    let one = same_instances a f.instances g.instances f.resolved_is g.resolved_is in
+    let start : start_of a f.instances 0 ≡ begins g.parts g.plain =
+    ap (λ r. start_of a r 0) (sym one) ∙ g.start_is in
+    let same = same_start g.parts f.parts g.plain f.plain (sym start ∙ f.start_is) in
+    let x = started_by a f.instances 0 f.parts f.plain f.start_is in
+    let good = well_made a f.instances f.parts (made_fits seed size) f.resolved_is
+    (instance_of a f.instances 0 f.parts f.resolved_is x.parts) in
+    let line : IsRunLine seed size f.parts f.plain more =
+    subst (λ q. IsRunLine seed size q f.plain more) same.0 (subst (λ s. IsRunLine seed size g.parts s more) same.1 g.line) in
+    record {
+      status = f.status_is ∙ sym g.status_is;
+      bytes = ap encode_utf8_all (made_lines seed size f.parts f.plain text more good f.line line);
+    }
+
+-- what is asked for
+outcomes : (a : Option Asked) (under : Shelf) (status other : ℕ) (text more : List ℕ)
+    → IsOutcomeOf a under status text → IsOutcomeOf a under other more → AreOne status other text more
+outcomes None under status other text more f g = both status other 2 text more _ f.0 g.0 f.1 g.1
+outcomes (Some (evaluating archive all)) under status other text more f g =
+    answers all (under archive) status other text more f g
+outcomes (Some (scripting archive number script)) under status other text more f g =
+    plays number (under archive) (under script) status other text more f g
+outcomes (Some (checking archive)) under status other text more f g =
+    spellings (under archive) status other text more f g
+outcomes (Some (repairing archive number depth budget)) under status other text more f g =
+    repairs number depth budget (under archive) status other text more f g
+outcomes (Some (solving archive number depth budget jobs)) under status other text more f g =
+    solves number depth budget jobs (under archive) status other text more f g
+outcomes (Some (making seed size)) under status other text more f g =
+    record { status = f.0 ∙ sym g.0; bytes = f.1 ∙ sym g.1 }
+outcomes (Some (running seed size)) under status other text more f g = made_runs seed size status other text more f g
+
+pub one_outcome : (words : List (List ℕ)) (under : Shelf) (status other : ℕ) (text more : List ℕ)
+    → IsOutcome words under status text → IsOutcome words under other more → AreOne status other text more
+one_outcome words under status other text more f g = outcomes (asked words) under status other text more f g
+
+-- where nothing is read
+never : {A : Type 0} → true ≡ false → A
+never e = absurd (let g : ⊥ = cc in g)
+
+unread : (a : Option Asked) (under other : Shelf) (status : ℕ) (text : List ℕ) → is_read a ≡ false
+    → IsOutcomeOf a under status text → IsOutcomeOf a other status text
+unread None under other status text e f = f
+unread (Some (evaluating archive all)) under other status text e f = never e
+unread (Some (scripting archive number script)) under other status text e f = never e
+unread (Some (checking archive)) under other status text e f = never e
+unread (Some (repairing archive number depth budget)) under other status text e f = never e
+unread (Some (solving archive number depth budget jobs)) under other status text e f = never e
+unread (Some (making seed size)) under other status text e f = f
+unread (Some (running seed size)) under other status text e f = f
+
+missing : (a : Option Asked) (under : Shelf) (text : List ℕ) → is_read a ≡ false → IsOutcomeOf a under 4 text → ⊥
+missing None under text e f = let s = f.0 in omega (arith, s)
+missing (Some (evaluating archive all)) under text e f = never e
+missing (Some (scripting archive number script)) under text e f = never e
+missing (Some (checking archive)) under text e f = never e
+missing (Some (repairing archive number depth budget)) under text e f = never e
+missing (Some (solving archive number depth budget jobs)) under text e f = never e
+missing (Some (making seed size)) under text e f = let s = f.0 in omega (arith, s)
+missing (Some (running seed size)) under text e f = let s = f.status_is in omega (arith, s)
+
+pub does_not_hang : (words : List (List ℕ)) (under other : Shelf) (status : ℕ) (text : List ℕ)
+    → is_read (asked words) ≡ false → IsOutcome words under status text → IsOutcome words other status text
+does_not_hang words under other status text e f = unread (asked words) under other status text e f
+
+pub nothing_missing : (words : List (List ℕ)) (under : Shelf) (text : List ℕ) → is_read (asked words) ≡ false
+    → IsOutcome words under 4 text → ⊥
+nothing_missing words under text e f = missing (asked words) under text e f

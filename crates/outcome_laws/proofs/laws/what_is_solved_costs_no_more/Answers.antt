@@ -1,0 +1,6 @@
+-- By the law on the bytes.
+use Rattle.outcome_laws.proofs.TextLaws.{solves}
+use Rattle.outcome_laws.proofs.laws.what_is_solved_costs_no_more.Goals as goal
+
+pub returns : goal.returns
+returns c = solves

@@ -1,0 +1,3 @@
+pub mod Deficits
+pub mod Outcomes
+pub mod Texts

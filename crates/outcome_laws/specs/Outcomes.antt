@@ -1,0 +1,30 @@
+-- How many outcomes there are.
+use Rattle.std.specs.Prelude.{ℕ, ◌≡◌, false, Option, List, encode_utf8_all}
+use Rattle.khe_app.specs.Outcome.{IsOutcome}
+use Rattle.khe_app.specs.Words.{asked, is_read}
+
+-- what stands under each name
+abbrev pub Shelf : Type 0
+Shelf = List ℕ → Option (List ℕ)
+
+-- two outcomes have the same status and the same bytes
+pub record AreOne (first second : ℕ) (text more : List ℕ) : Type 0 where
+  pub status : first ≡ second
+  pub bytes : encode_utf8_all text ≡ encode_utf8_all more
+
+abbrev pub NoRunHasTwoOutcomes : Type 0
+NoRunHasTwoOutcomes =
+    (words : List (List ℕ)) (under : Shelf) (status other : ℕ) (text more : List ℕ) → IsOutcome words under status text
+    → IsOutcome words under other more → AreOne status other text more
+
+-- where nothing is read, the outcome is that by any other shelf
+abbrev pub OutcomesDoNotHang : Type 0
+OutcomesDoNotHang =
+    (words : List (List ℕ)) (under other : Shelf) (status : ℕ) (text : List ℕ) → is_read (asked words) ≡ false
+    → IsOutcome words under status text → IsOutcome words other status text
+
+-- and nothing is missing
+abbrev pub MakingReadsNothing : Type 0
+MakingReadsNothing =
+    (words : List (List ℕ)) (under : Shelf) (text : List ℕ) → is_read (asked words) ≡ false
+    → IsOutcome words under 4 text → ⊥

@@ -1,0 +1,62 @@
+-- What is read of the texts that the program writes.
+use Rattle.std.specs.Prelude.{ℕ, ◌≡◌, ◌≤◌, Option, Some, List, length, encode_utf8_all}
+use Rattle.khe_base.specs.declared.limits.TheConstants.{ARCHIVE_BYTES}
+use Rattle.khe_instance.specs.declared.parts.Parts.{Parts}
+use Rattle.khe_instance.specs.declared.states.Plain.{Plain}
+use Rattle.khe_app.specs.Outcome.{IsOutcomeOf, IsReadingOf, IsRespelled, evaluable}
+use Rattle.khe_app.specs.Words.{checking, repairing, solving}
+use Rattle.text_laws.specs.Read.{IsTimetableOf}
+use Rattle.text_laws.specs.Repaired.{IsReadRepaired, IsReadSolved}
+use Rattle.text_laws.specs.Rewritten.{IsReadAgain}
+use Rattle.xhstt_resolve.specs.declared.resolving.Resolved.{Resolved}
+use Rattle.xhstt_shape.specs.declared.records.Archive.{Archive}
+use Rattle.xhstt_writer.specs.Archives.{canonical}
+
+-- an archive was read from some bytes, and a text has the bytes of its spelling, which are read as the same archive;
+-- where they are few enough to be read, they are what is written for them
+pub record IsCheckOf (bytes text : List ℕ) : Type 0 where
+  pub archive : Archive
+  pub instances : Resolved
+  pub read : IsReadingOf bytes (evaluable archive instances)
+  pub written : encode_utf8_all text ≡ canonical archive
+  pub again : IsReadAgain archive instances
+  pub fixed : length (encode_utf8_all text) ≤ ARCHIVE_BYTES → IsRespelled (encode_utf8_all text) 0 text
+
+-- a solution with this number was read from some bytes, and a text has the bytes of the same archive with it repaired
+pub record IsRepairFrom (number : ℕ) (bytes text : List ℕ) : Type 0 where
+  pub archive : Archive
+  pub instances : Resolved
+  pub read : IsReadingOf bytes (evaluable archive instances)
+  pub parts : Parts
+  pub timetable : Plain
+  pub solution : IsTimetableOf archive instances number parts timetable
+  pub repaired : IsReadRepaired archive instances number parts timetable (encode_utf8_all text)
+
+-- or with the least result of so many jobs in its place
+pub record IsSolveFrom (number jobs : ℕ) (bytes text : List ℕ) : Type 0 where
+  pub archive : Archive
+  pub instances : Resolved
+  pub read : IsReadingOf bytes (evaluable archive instances)
+  pub parts : Parts
+  pub timetable : Plain
+  pub solution : IsTimetableOf archive instances number parts timetable
+  pub solved : IsReadSolved archive instances number parts timetable jobs (encode_utf8_all text)
+
+-- the outcomes with status 0
+abbrev pub ChecksAreReadAgain : Type 0
+ChecksAreReadAgain =
+    (name : List ℕ) (under : List ℕ → Option (List ℕ)) (text : List ℕ)
+    → IsOutcomeOf (Some (checking name)) under 0 text
+    → (bytes : List ℕ) × (under name ≡ Some bytes) × IsCheckOf bytes text
+
+abbrev pub RepairsAreNoDearer : Type 0
+RepairsAreNoDearer =
+    (name : List ℕ) (number depth budget : ℕ) (under : List ℕ → Option (List ℕ)) (text : List ℕ)
+    → IsOutcomeOf (Some (repairing name number depth budget)) under 0 text
+    → (bytes : List ℕ) × (under name ≡ Some bytes) × IsRepairFrom number bytes text
+
+abbrev pub SolvesAreNoDearer : Type 0
+SolvesAreNoDearer =
+    (name : List ℕ) (number depth budget jobs : ℕ) (under : List ℕ → Option (List ℕ)) (text : List ℕ)
+    → IsOutcomeOf (Some (solving name number depth budget jobs)) under 0 text
+    → (bytes : List ℕ) × (under name ≡ Some bytes) × IsSolveFrom number jobs bytes text

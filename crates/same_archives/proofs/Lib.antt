@@ -1,0 +1,6 @@
+pub mod ListLaws
+pub mod PartsLaws
+pub mod LimitLaws
+pub mod FaultLaws
+pub mod SolutionLaws
+pub mod SpellingLaws
