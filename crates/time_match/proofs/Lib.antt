@@ -1,0 +1,10 @@
+pub mod AskLaws
+pub mod EditLaws
+pub mod GiveLaws
+pub mod MarkLaws
+pub mod MatchLaws
+pub mod OpenLaws
+pub mod StripLaws
+pub mod TakeLaws
+pub mod TaskLaws
+pub mod TotalsLaws
