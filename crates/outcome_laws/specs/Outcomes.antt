@@ -12,10 +12,15 @@ pub record AreOne (first second : ℕ) (text more : List ℕ) : Type 0 where
   pub status : first ≡ second
   pub bytes : encode_utf8_all text ≡ encode_utf8_all more
 
-abbrev pub NoRunHasTwoOutcomes : Type 0
-NoRunHasTwoOutcomes =
-    (words : List (List ℕ)) (under : Shelf) (status other : ℕ) (text more : List ℕ) → IsOutcome words under status text
-    → IsOutcome words under other more → AreOne status other text more
+-- words have an outcome with this shelf, and no other
+pub record HasOneOutcome (words : List (List ℕ)) (under : Shelf) : Type 0 where
+  pub status : ℕ
+  pub text : List ℕ
+  pub is : IsOutcome words under status text
+  pub only : (other : ℕ) (more : List ℕ) → IsOutcome words under other more → AreOne status other text more
+
+abbrev pub EachRunHasOneOutcome : Type 0
+EachRunHasOneOutcome = (words : List (List ℕ)) (under : Shelf) → HasOneOutcome words under
 
 -- where nothing is read, the outcome is that by any other shelf
 abbrev pub OutcomesDoNotHang : Type 0

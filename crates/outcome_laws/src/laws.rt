@@ -2,12 +2,13 @@
 #![allow(dead_code)]
 
 ghost use Rattle.outcome_laws.specs.Deficits.{DeficitsOutnumber};
-ghost use Rattle.outcome_laws.specs.Outcomes.{MakingReadsNothing, NoRunHasTwoOutcomes, OutcomesDoNotHang};
+ghost use Rattle.outcome_laws.specs.Outcomes.{EachRunHasOneOutcome, MakingReadsNothing, OutcomesDoNotHang};
 ghost use Rattle.outcome_laws.specs.Texts.{ChecksAreReadAgain, RepairsAreNoDearer, SolvesAreNoDearer};
 
-// Words have no two outcomes, whatever stands under the names: the status and the bytes of the text are the same.
-fn no_run_has_two_outcomes()
-    ensures { NoRunHasTwoOutcomes }
+// All words have one outcome, whatever stands under the names: there is a status and a text, and any other outcome has
+// the same status and the same bytes.
+fn each_run_has_one_outcome()
+    ensures { EachRunHasOneOutcome }
 {}
 
 // Where nothing is read, the outcome is the same whatever stands under the names, and nothing is missing.

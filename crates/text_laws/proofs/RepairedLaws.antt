@@ -198,7 +198,7 @@ repair_no_dearer bytes a r number p plain depth budget text read x is =
     by t u s n c d (inr (some, lower)) = inr (some, (λ j. is_lower (c j) (sym d j)) ∙ lower)
 
 -- the job with the least result
-solved_left : (p : Parts) (plain : Plain) (s : State) (depth budget job : ℕ) (left : Plain) (costs : Totals)
+pub solved_left : (p : Parts) (plain : Plain) (s : State) (depth budget job : ℕ) (left : Plain) (costs : Totals)
     → AreWellMade p → IsWhole p plain → IsStateOf p plain s
     → left ≡ (job_answer p plain depth budget job).plain → costs ≡ (job_answer p plain depth budget job).totals
     → IsLeft p left costs
