@@ -12,4 +12,6 @@ mod words;
 
 pub use commands::{Command, LineFault};
 pub use lines::first_line;
+pub use numbers::numbers_of;
 pub use reading::{asks_deficit, read_line};
+pub use words::{count_words, first_word};

@@ -8,7 +8,7 @@ use khe_base::digits::number_of;
 
 /// The numbers that the words of a line write, with 0 where there are fewer than four, or `None`
 /// where a word writes none. It takes time in proportion to the line.
-pub(crate) fn numbers_of(line: &[u8]) -> Option<[u32; 4]>
+pub fn numbers_of(line: &[u8]) -> Option<[u32; 4]>
     requires { length (words line.now) ≤ 4 }
     ensures { result ≡ option_map spec.first_four (spec.numbers (words line.now)) }
 {

@@ -4,9 +4,13 @@
 mod answering;
 mod asking;
 mod faults;
+mod players;
 mod running;
 mod shortages;
 
+pub use answering::{push_answer, push_mark, push_ok};
 pub use asking::asks_often;
+pub use faults::fault_line;
+pub use players::Player;
 pub use running::run;
 pub use shortages::Shortages;

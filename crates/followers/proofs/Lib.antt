@@ -1,0 +1,15 @@
+pub mod BarLaws
+pub mod CarryLaws
+pub mod LineLaws
+pub mod LinkLaws
+pub mod MarkLaws
+pub mod OpenLaws
+pub mod PutLaws
+pub mod RowLaws
+pub mod SettleLaws
+pub mod StartLaws
+pub mod StillLaws
+pub mod SwapLaws
+pub mod TieLaws
+pub mod UndoLaws
+pub mod UntieLaws

@@ -1,0 +1,12 @@
+pub mod Bars
+pub mod Carrying
+pub mod Examples
+pub mod Lines
+pub mod Links
+pub mod Names
+pub mod Records
+pub mod Starts
+pub mod Still
+pub mod Tables
+pub mod Ties
+pub mod Worlds

@@ -1,0 +1,93 @@
+//! The lines that speak of ties.
+
+ghost use Rattle.std.specs.Prelude.{◌≡◌, ◌++◌, OnOk, IfOk, is_some};
+ghost use Rattle.std.specs.List.{count_by};
+ghost use Rattle.tied_run.specs.Answers as spec;
+
+use followers::{Tie, TiedRefusal};
+use khe_base::{NoMemory, Text};
+use std::alloc::Global;
+
+/// The line that says why something is refused: `refused NUMBER NAME`.
+pub(crate) fn tied_refused_line(alloc: Global, refusal: TiedRefusal) -> Result<Text, NoMemory>
+    ensures { IfOk result (λ t. t ≡ spec.tied_refused_line refusal) }
+{
+    let mut line = Text::new(alloc);
+    line.push_literal("refused ")?;
+    line.push_number(u128::from(refusal.number()))?;
+    line.push_literal(" ")?;
+    line.push_literal(refusal.name())?;
+    line.push_literal("\n")?;
+    Ok(line)
+}
+
+/// The line of a tie: `tie FOLLOWER LEADER OFFSET`.
+fn tie_line(alloc: Global, follower: usize, tie: Tie) -> Result<Text, NoMemory>
+    ensures { IfOk result (λ t. t ≡ spec.line_of_tie follower tie) }
+{
+    let mut line = Text::new(alloc);
+    line.push_literal("tie ")?;
+    line.push_number(follower as u128)?;
+    line.push_literal(" ")?;
+    line.push_number(u128::from(tie.leader.0))?;
+    line.push_literal(" ")?;
+    line.push_number(u128::from(tie.offset))?;
+    line.push_literal("\n")?;
+    Ok(line)
+}
+
+/// The line before the ties: `ties NUMBER`.
+fn count_line(alloc: Global, count: usize) -> Result<Text, NoMemory>
+    ensures { IfOk result (λ t. t ≡ spec.count_line count) }
+{
+    let mut line = Text::new(alloc);
+    line.push_literal("ties ")?;
+    line.push_number(count as u128)?;
+    line.push_literal("\n")?;
+    Ok(line)
+}
+
+/// How many meets have a tie.
+fn count_ties(ties: &[Option<Tie>]) -> usize
+    ensures { result ≡ count_by is_some ties.now }
+{
+    ties.iter().filter(|tie| tie.is_some()).count()
+}
+
+/// Adds the line of the tie of a meet, if it has one.
+fn push_tie(
+    alloc: Global,
+    follower: usize,
+    tie: Option<Tie>,
+    text: &mut Text,
+) -> Result<(), NoMemory>
+    ensures { OnOk result (text.new ≡ text.old ++ spec.tie_line follower tie) }
+{
+    match tie {
+        Some(tie) => text.push_text(&tie_line(alloc, follower, tie)?),
+        None => Ok(()),
+    }
+}
+
+/// Adds how many ties there are, and the line of each, ascending by the follower. It takes time in proportion to the
+/// meet slots.
+pub(crate) fn push_ties(
+    alloc: Global,
+    ties: &[Option<Tie>],
+    text: &mut Text,
+) -> Result<(), NoMemory>
+    ensures { OnOk result (text.new ≡ text.old ++ spec.ties_text ties.now) }
+{
+    text.push_text(&count_line(alloc, count_ties(ties))?)?;
+    push_lines(alloc, ties, text)
+}
+
+/// Adds the lines of ties.
+fn push_lines(alloc: Global, ties: &[Option<Tie>], text: &mut Text) -> Result<(), NoMemory>
+    ensures { OnOk result (text.new ≡ text.old ++ spec.tie_lines ties.now) }
+{
+    for number in 0..ties.len() {
+        push_tie(alloc, number, ties[number], text)?;
+    }
+    Ok(())
+}
