@@ -8,9 +8,13 @@ use Rattle.fault_tables.specs.declared.faults.TheConstants.{LIMIT, TOO_LARGE, NO
 use Rattle.khe_app.specs.declared.refusals.Refusal.{Refusal}
 use Rattle.khe_app.specs.declared.refusals.Refusal.TheVariants.{Fault, Limit, TooLarge, NoSuchSolution, Invalid}
 
+-- the name of a kind of fault
+unfoldable pub kind_name : ℕ → List ℕ
+kind_name kind = unwrap_or (fault_name kind) []
+
 -- the number of a kind of fault, and its name
 abbrev pub kind_words : ℕ → List ℕ
-kind_words kind = decimal kind ++ codes " " ++ unwrap_or (fault_name kind) []
+kind_words kind = decimal kind ++ codes " " ++ kind_name kind
 
 -- a kind, and the place
 abbrev pub fault_words : ℕ → ℕ → List ℕ

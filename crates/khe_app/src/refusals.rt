@@ -1,4 +1,5 @@
-ghost use Rattle.std.specs.Prelude.{◌≡◌, ◌++◌, IfOk, OnOk, codes};
+ghost use Rattle.std.specs.Prelude.{◌≡◌, ◌++◌, IfOk, IsTrue, OnOk, codes};
+ghost use Rattle.khe_base.specs.Text.{is_ascii};
 ghost use Rattle.khe_app.specs.Refusals as spec;
 
 use evaluation_report::push_cause;
@@ -54,7 +55,16 @@ fn push_kind(line: &mut Text, kind: u32) -> Result<(), NoMemory>
 {
     line.push_number(u128::from(kind))?;
     line.push_literal(" ")?;
-    line.push_literal(fault_name(kind).unwrap_or(""))
+    line.push_literal(kind_name(kind))
+}
+
+/// The name of a kind of fault.
+#[tactic(auto, unfolding(crate::specs::Refusals::kind_name))]
+fn kind_name(kind: u32) -> &'static str
+    ensures name { result.now ≡ spec.kind_name kind }
+    ensures ascii { IsTrue (is_ascii result.now) }
+{
+    fault_name(kind).unwrap_or("")
 }
 
 /// Adds a kind of which no more is said.
