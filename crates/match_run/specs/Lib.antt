@@ -1,0 +1,4 @@
+pub mod Fitting
+pub mod Found
+pub mod Lines
+pub mod Texts
