@@ -1,3 +1,4 @@
+pub mod AnswerLaws
 pub mod ReadingLaws
 pub mod StartLaws
 pub mod TextLaws
@@ -6,3 +7,4 @@ pub mod DeficitLaws
 pub mod NeverLaws
 pub mod WordLaws
 pub mod ThereLaws
+pub mod OutcomeLaws

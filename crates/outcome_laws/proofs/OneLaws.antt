@@ -1,15 +1,13 @@
 -- No two outcomes: each command has one status and one text.
-use Rattle.std.proofs.Common.{ℕ, ◌≡◌, ◌∙◌, inl, inr, Bool, true, false, Option, Some, None, Ok, List}
+use Rattle.std.proofs.Common.{ℕ, ◌≡◌, ◌∙◌, inl, inr, Bool, Option, Some, None, Ok, List}
 use Rattle.std.proofs.Common.{[], ◌++◌, refl, sym, ap, subst, arith, encode_utf8_all}
 use Rattle.ejection_repair.specs.Repaired.{repaired}
 use Rattle.job_generator.proofs.WellFormed.{made_fits}
 use Rattle.job_generator.specs.Made.{made}
-use Rattle.khe_app.specs.Outcome.{IsAnswerTo, IsOutcome, IsOutcomeOf, IsPlayTo, IsReadingOf, IsRepairIn}
+use Rattle.khe_app.specs.Outcome.{IsAnswerTo, IsPlayTo, IsReadingOf, IsRepairIn}
 use Rattle.khe_app.specs.Outcome.{IsRepairOf, IsRepairTo, IsRunOf, IsRunOr, IsRunTo, IsScripted, IsSolveIn, IsSolveOf}
 use Rattle.khe_app.specs.Outcome.{IsSolveTo, IsSpellingTo, Reading, Start, barred, begins, evaluable, refused, spelling_of}
 use Rattle.khe_app.specs.Outcome.{start_in, start_of, status_of, text_of}
-use Rattle.khe_app.specs.Words.{Asked, asked, checking, evaluating, is_read, making, repairing, running, scripting}
-use Rattle.khe_app.specs.Words.{solving}
 use Rattle.khe_engine.specs.Openings.{IsStateOf}
 use Rattle.khe_engine.specs.States.{State}
 use Rattle.khe_engine.specs.Values as engine
@@ -33,15 +31,10 @@ use Rattle.xhstt_resolve.specs.Resolved.{resolved}
 use Rattle.xhstt_resolve.specs.declared.resolving.Resolved.{Resolved}
 use Rattle.xhstt_shape.specs.declared.records.Archive.{Archive}
 use Rattle.xhstt_writer.specs.Archives.{canonical}
-use Rattle.outcome_laws.specs.Outcomes.{AreOne, Shelf}
+use Rattle.outcome_laws.specs.Outcomes.{AreOne}
+use Rattle.outcome_laws.proofs.AnswerLaws.{both}
 use Rattle.outcome_laws.proofs.ReadingLaws.{one_reading, spelled_by}
 use Rattle.outcome_laws.proofs.StartLaws.{same_start, started_by}
-
--- both are these
-both : (status other s : ℕ) (text more t : List ℕ) → status ≡ s → other ≡ s → text ≡ t → more ≡ t
-    → AreOne status other text more
-both status other s text more t e f g h =
-    record { status = e ∙ sym f; bytes = ap encode_utf8_all (g ∙ sym h) }
 
 -- the parts of a run are well made
 made_of : (bytes : List ℕ) (a : Archive) (r : Resolved) (number : ℕ) (p : Parts) (plain : Plain)
@@ -55,7 +48,7 @@ one_state : (p : Parts) (plain : Plain) (s t : State) → AreWellMade p → IsSt
 one_state p plain s t made f g = state_is p plain s made f ∙ sym (state_is p plain t made g)
 
 -- reports
-answers : (all : Bool) (o : Option (List ℕ)) (status other : ℕ) (text more : List ℕ) → IsAnswerTo all o status text
+pub answers : (all : Bool) (o : Option (List ℕ)) (status other : ℕ) (text more : List ℕ) → IsAnswerTo all o status text
     → IsAnswerTo all o other more → AreOne status other text more
 answers all None status other text more f g = both status other 4 text more [] f.0 g.0 f.1 g.1
 answers all (Some bytes) status other text more f g =
@@ -100,7 +93,7 @@ plays_in number bytes script (evaluable a r) status other text more is f g =
     scripts (start_of a r number) script status other text more (λ p plain e. made_of bytes a r number p plain is e) f g
 plays_in number bytes script (refused x) status other text more is f g = both status other 3 text more _ f.0 g.0 f.1 g.1
 
-plays : (number : ℕ) (o script : Option (List ℕ)) (status other : ℕ) (text more : List ℕ)
+pub plays : (number : ℕ) (o script : Option (List ℕ)) (status other : ℕ) (text more : List ℕ)
     → IsPlayTo number o script status text → IsPlayTo number o script other more → AreOne status other text more
 plays number None script status other text more f g = both status other 4 text more [] f.0 g.0 f.1 g.1
 plays number (Some bytes) script status other text more f g =
@@ -109,7 +102,7 @@ plays number (Some bytes) script status other text more f g =
     (subst (λ x. IsScripted (start_in number x) script other more) same g.scripted)
 
 -- spellings
-spellings : (o : Option (List ℕ)) (status other : ℕ) (text more : List ℕ) → IsSpellingTo o status text
+pub spellings : (o : Option (List ℕ)) (status other : ℕ) (text more : List ℕ) → IsSpellingTo o status text
     → IsSpellingTo o other more → AreOne status other text more
 spellings None status other text more f g = both status other 4 text more [] f.0 g.0 f.1 g.1
 spellings (Some bytes) status other text more f g =
@@ -161,7 +154,7 @@ repairs_in number depth budget bytes (evaluable a r) status other text more is f
 repairs_in number depth budget bytes (refused x) status other text more is f g =
     both status other 3 text more _ f.0 g.0 f.1 g.1
 
-repairs : (number depth budget : ℕ) (o : Option (List ℕ)) (status other : ℕ) (text more : List ℕ)
+pub repairs : (number depth budget : ℕ) (o : Option (List ℕ)) (status other : ℕ) (text more : List ℕ)
     → IsRepairTo number depth budget o status text → IsRepairTo number depth budget o other more
     → AreOne status other text more
 repairs number depth budget None status other text more f g = both status other 4 text more [] f.0 g.0 f.1 g.1
@@ -189,7 +182,7 @@ solves_in number depth budget jobs (evaluable a r) status other text more f g =
 solves_in number depth budget jobs (refused x) status other text more f g =
     both status other 3 text more _ f.0 g.0 f.1 g.1
 
-solves : (number depth budget jobs : ℕ) (o : Option (List ℕ)) (status other : ℕ) (text more : List ℕ)
+pub solves : (number depth budget jobs : ℕ) (o : Option (List ℕ)) (status other : ℕ) (text more : List ℕ)
     → IsSolveTo number depth budget jobs o status text → IsSolveTo number depth budget jobs o other more
     → AreOne status other text more
 solves number depth budget jobs None status other text more f g = both status other 4 text more [] f.0 g.0 f.1 g.1
@@ -210,7 +203,7 @@ made_lines seed size p plain text more made f g =
     (one_state p plain f.state g.state made f.is g.is)
     ∙ sym g.line_is
 
-made_runs : (seed size status other : ℕ) (text more : List ℕ) → IsRunTo seed size status text
+pub made_runs : (seed size status other : ℕ) (text more : List ℕ) → IsRunTo seed size status text
     → IsRunTo seed size other more → AreOne status other text more
 made_runs seed size status other text more f g =
     let a = made seed size in
@@ -227,58 +220,3 @@ made_runs seed size status other text more f g =
       status = f.status_is ∙ sym g.status_is;
       bytes = ap encode_utf8_all (made_lines seed size f.parts f.plain text more good f.line line);
     }
-
--- what is asked for
-outcomes : (a : Option Asked) (under : Shelf) (status other : ℕ) (text more : List ℕ)
-    → IsOutcomeOf a under status text → IsOutcomeOf a under other more → AreOne status other text more
-outcomes None under status other text more f g = both status other 2 text more _ f.0 g.0 f.1 g.1
-outcomes (Some (evaluating archive all)) under status other text more f g =
-    answers all (under archive) status other text more f g
-outcomes (Some (scripting archive number script)) under status other text more f g =
-    plays number (under archive) (under script) status other text more f g
-outcomes (Some (checking archive)) under status other text more f g =
-    spellings (under archive) status other text more f g
-outcomes (Some (repairing archive number depth budget)) under status other text more f g =
-    repairs number depth budget (under archive) status other text more f g
-outcomes (Some (solving archive number depth budget jobs)) under status other text more f g =
-    solves number depth budget jobs (under archive) status other text more f g
-outcomes (Some (making seed size)) under status other text more f g =
-    record { status = f.0 ∙ sym g.0; bytes = f.1 ∙ sym g.1 }
-outcomes (Some (running seed size)) under status other text more f g = made_runs seed size status other text more f g
-
-pub one_outcome : (words : List (List ℕ)) (under : Shelf) (status other : ℕ) (text more : List ℕ)
-    → IsOutcome words under status text → IsOutcome words under other more → AreOne status other text more
-one_outcome words under status other text more f g = outcomes (asked words) under status other text more f g
-
--- where nothing is read
-never : {A : Type 0} → true ≡ false → A
-never e = absurd (let g : ⊥ = cc in g)
-
-unread : (a : Option Asked) (under other : Shelf) (status : ℕ) (text : List ℕ) → is_read a ≡ false
-    → IsOutcomeOf a under status text → IsOutcomeOf a other status text
-unread None under other status text e f = f
-unread (Some (evaluating archive all)) under other status text e f = never e
-unread (Some (scripting archive number script)) under other status text e f = never e
-unread (Some (checking archive)) under other status text e f = never e
-unread (Some (repairing archive number depth budget)) under other status text e f = never e
-unread (Some (solving archive number depth budget jobs)) under other status text e f = never e
-unread (Some (making seed size)) under other status text e f = f
-unread (Some (running seed size)) under other status text e f = f
-
-missing : (a : Option Asked) (under : Shelf) (text : List ℕ) → is_read a ≡ false → IsOutcomeOf a under 4 text → ⊥
-missing None under text e f = let s = f.0 in omega (arith, s)
-missing (Some (evaluating archive all)) under text e f = never e
-missing (Some (scripting archive number script)) under text e f = never e
-missing (Some (checking archive)) under text e f = never e
-missing (Some (repairing archive number depth budget)) under text e f = never e
-missing (Some (solving archive number depth budget jobs)) under text e f = never e
-missing (Some (making seed size)) under text e f = let s = f.0 in omega (arith, s)
-missing (Some (running seed size)) under text e f = let s = f.status_is in omega (arith, s)
-
-pub does_not_hang : (words : List (List ℕ)) (under other : Shelf) (status : ℕ) (text : List ℕ)
-    → is_read (asked words) ≡ false → IsOutcome words under status text → IsOutcome words other status text
-does_not_hang words under other status text e f = unread (asked words) under other status text e f
-
-pub nothing_missing : (words : List (List ℕ)) (under : Shelf) (text : List ℕ) → is_read (asked words) ≡ false
-    → IsOutcome words under 4 text → ⊥
-nothing_missing words under text e f = missing (asked words) under text e f

@@ -1,7 +1,7 @@
 -- There is an outcome: bytes have a reading, and each command makes something of it.
 use Rattle.std.proofs.Common.{ℕ, zero, suc, ◌≡◌, ◌<◌, ◌≤◌, ◌+◌, ◌∙◌, ◌⊎◌, inl, inr, Bool, true, false, Option, Some, None}
 use Rattle.std.proofs.Common.{Result, Ok, Err, List, [], ◌∷◌, map, length, take, refl, sym, ap, subst, arith}
-use Rattle.std.proofs.Common.{IfSome, encode_utf8_all, slice_get, option_map, nat_lt, take_all}
+use Rattle.std.proofs.Common.{encode_utf8_all, slice_get, option_map, nat_lt, take_all}
 use Rattle.std.specs.List.{range_with_len}
 use Rattle.std.specs.Option.{option_map_or}
 use Rattle.std.specs.Str.{IsUtf8, IsValidUpTo, chars, is_utf8}
@@ -12,12 +12,11 @@ use Rattle.std.proofs.lemmas.Str.{IsUtf8-from_is_utf8, IsUtf8-nil, encodes-chars
 use Rattle.ejection_repair.proofs.KeptLaws.{same_grouping}
 use Rattle.ejection_repair.specs.Repaired.{repaired}
 use Rattle.fault_tables.specs.declared.faults.TheConstants.{NOT_UTF8}
-use Rattle.khe_app.specs.Outcome.{IsMadeTo, IsOutcomeOf, IsRunTo, start_by}
+use Rattle.khe_app.specs.Outcome.{IsMadeTo, IsRunTo, start_by}
 use Rattle.khe_app.specs.Outcome.{IsAnswerTo, IsPlayTo, IsRead, IsReadingOf, IsRepairIn, IsRepairOf, IsRepairTo, IsRunOr}
 use Rattle.khe_app.specs.Outcome.{IsScripted, IsShaped, IsSolveIn, IsSolveOf, IsSolveTo, IsSpellingTo, Reading, Start}
 use Rattle.khe_app.specs.Outcome.{barred, begins, evaluable, refused, spelling_of, start_in, start_of, status_of, text_of}
-use Rattle.khe_app.specs.Refusals.{not_understood_line, refusal_line, script_too_large_line}
-use Rattle.khe_app.specs.Words.{Asked, asked, checking, evaluating, making, repairing, running, scripting, solving}
+use Rattle.khe_app.specs.Refusals.{refusal_line, script_too_large_line}
 use Rattle.khe_app.specs.declared.refusals.Refusal.TheVariants.{Fault, Limit, NoSuchSolution, TooLarge}
 use Rattle.khe_base.specs.declared.limits.TheConstants.{ARCHIVE_BYTES, MADE_EVENTS, SCRIPT_BYTES}
 use Rattle.khe_engine.specs.Openings.{IsStateOf}
@@ -64,12 +63,11 @@ use Rattle.xhstt_text.specs.Document.{forest_of}
 use Rattle.xhstt_text.specs.FirstFault.{HasFault, IsText}
 use Rattle.xhstt_writer.specs.Archives.{canonical}
 use Rattle.xhstt_writer.proofs.Written.{canonical_spells}
+use Rattle.outcome_laws.proofs.AnswerLaws.{Answer}
 use Rattle.outcome_laws.proofs.NeverLaws.{resolved_never, shape_never}
 use Rattle.outcome_laws.proofs.ReadingLaws.{spelled_by}
 use Rattle.outcome_laws.proofs.StartLaws.{started_by}
-use Rattle.outcome_laws.proofs.WordLaws.{IsAskable, askable}
-use Rattle.outcome_laws.proofs.OneLaws.{one_outcome}
-use Rattle.outcome_laws.specs.Outcomes.{HasOneOutcome, Shelf}
+
 
 -- the greatest front of bytes that is UTF-8
 untrue : {A : Type 0} → true ≡ false → A
@@ -172,10 +170,7 @@ pub state_of_ready : (a : Archive) (r : Resolved) (number : ℕ) (p : Parts) (pl
 state_of_ready a r number p plain h = state_there p plain h.made h.whole.valid.told
 
 -- reports
-abbrev Answer : (ℕ → List ℕ → Type 0) → Type 0
-Answer P = (status : ℕ) × (text : List ℕ) × P status text
-
-answer_there : (all : Bool) (o : Option (List ℕ)) → Answer (IsAnswerTo all o)
+pub answer_there : (all : Bool) (o : Option (List ℕ)) → Answer (IsAnswerTo all o)
 answer_there all None = (4, [], (refl, refl))
 answer_there all (Some bytes) =
     let x = reading_there bytes in (
@@ -211,7 +206,7 @@ play_in number bytes script (evaluable a r) is =
     (λ p plain s. state_of_ready a r number p plain (ready_of bytes a r number p plain is s))
 play_in number bytes script (refused f) is = (3, refusal_line f, (refl, refl))
 
-play_there : (number : ℕ) (o script : Option (List ℕ)) → Answer (IsPlayTo number o script)
+pub play_there : (number : ℕ) (o script : Option (List ℕ)) → Answer (IsPlayTo number o script)
 play_there number None script = (4, [], (refl, refl))
 play_there number (Some bytes) script =
     let x = reading_there bytes in
@@ -226,7 +221,7 @@ spelled_text bytes (evaluable a r) is =
     (chars (canonical a), encodes-chars (canonical a) (canonical_spells a w).2.1.0)
 spelled_text bytes (refused f) is = (refusal_line f, refl)
 
-spelling_there : (o : Option (List ℕ)) → Answer (IsSpellingTo o)
+pub spelling_there : (o : Option (List ℕ)) → Answer (IsSpellingTo o)
 spelling_there None = (4, [], (refl, refl))
 spelling_there (Some bytes) =
     let x = reading_there bytes in
@@ -293,7 +288,7 @@ repair_in number depth budget bytes (evaluable a r) is =
     repair_of a r number depth budget (start_of a r number) (λ p plain s. ready_of bytes a r number p plain is s)
 repair_in number depth budget bytes (refused f) is = (3, refusal_line f, (refl, refl))
 
-repair_there : (number depth budget : ℕ) (o : Option (List ℕ)) → Answer (IsRepairTo number depth budget o)
+pub repair_there : (number depth budget : ℕ) (o : Option (List ℕ)) → Answer (IsRepairTo number depth budget o)
 repair_there number depth budget None = (4, [], (refl, refl))
 repair_there number depth budget (Some bytes) =
     let x = reading_there bytes in
@@ -401,7 +396,7 @@ solve_in number depth budget jobs bytes (evaluable a r) some is =
     (λ p plain s. ready_of bytes a r number p plain is s)
 solve_in number depth budget jobs bytes (refused f) some is = (3, refusal_line f, (refl, refl))
 
-solve_there : (number depth budget jobs : ℕ) (o : Option (List ℕ)) → 1 ≤ jobs
+pub solve_there : (number depth budget jobs : ℕ) (o : Option (List ℕ)) → 1 ≤ jobs
     → Answer (IsSolveTo number depth budget jobs o)
 solve_there number depth budget jobs None some = (4, [], (refl, refl))
 solve_there number depth budget jobs (Some bytes) some =
@@ -410,7 +405,7 @@ solve_there number depth budget jobs (Some bytes) some =
     (s.0, s.1, record { reading = x.0; is = x.1; solved = s.2 })
 
 -- what is made, and its run
-make_there : (seed size : ℕ) → Answer (IsMadeTo seed size)
+pub make_there : (seed size : ℕ) → Answer (IsMadeTo seed size)
 make_there seed size =
     let a = made seed size in (
       0,
@@ -426,7 +421,7 @@ start_is seed size r h =
     ∙ ap (λ o. option_map_or (λ p. start_by p (completed p h.solution)) o (barred NoSuchSolution)) h.parts_are
     ∙ ap (start_by h.parts) h.completed_is
 
-made_run_there : (seed size : ℕ) → 1 ≤ size → size ≤ MADE_EVENTS → Answer (IsRunTo seed size)
+pub made_run_there : (seed size : ℕ) → 1 ≤ size → size ≤ MADE_EVENTS → Answer (IsRunTo seed size)
 made_run_there seed size some few =
     let a = made seed size in
     let r : Resolved = record { instances = map parts_of a.instances; of = instances_of a } in
@@ -447,24 +442,3 @@ made_run_there seed size some few =
         line = record { state = s.0; is = s.1; line_is = refl };
       },
     )
-
--- what is asked for
-pub there : (a : Option Asked) (under : Shelf) → IfSome a IsAskable → Answer (IsOutcomeOf a under)
-there None under h = (2, not_understood_line, (refl, refl))
-there (Some (evaluating archive all)) under h = answer_there all (under archive)
-there (Some (scripting archive number script)) under h = play_there number (under archive) (under script)
-there (Some (checking archive)) under h = spelling_there (under archive)
-there (Some (repairing archive number depth budget)) under h = repair_there number depth budget (under archive)
-there (Some (solving archive number depth budget jobs)) under h = solve_there number depth budget jobs (under archive) h
-there (Some (making seed size)) under h = make_there seed size
-there (Some (running seed size)) under h = made_run_there seed size h.0 h.1
-
-pub one_there : (words : List (List ℕ)) (under : Shelf) → HasOneOutcome words under
-one_there words under =
-    let o = there (asked words) under (askable words) in
-    record {
-      status = o.0;
-      text = o.1;
-      is = o.2;
-      only = λ other more is. one_outcome words under o.0 other o.1 more o.2 is;
-    }
