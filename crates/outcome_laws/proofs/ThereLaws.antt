@@ -68,7 +68,6 @@ use Rattle.outcome_laws.proofs.NeverLaws.{resolved_never, shape_never}
 use Rattle.outcome_laws.proofs.ReadingLaws.{spelled_by}
 use Rattle.outcome_laws.proofs.StartLaws.{started_by}
 
-
 -- the greatest front of bytes that is UTF-8
 untrue : {A : Type 0} → true ≡ false → A
 untrue e = absurd (let g : ⊥ = cc in g)
