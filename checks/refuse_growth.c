@@ -1,48 +1,71 @@
-/* Refuses one growth of memory: the one with the number that REFUSED_GROWTH has, counted from 1; with 0 none. How
- * many there were is counted in the first 8 bytes of the file that GROWTHS_COUNTED names, which has so many. It is
- * loaded before the C library (LD_PRELOAD) by checks/refused_memory.sh. */
-#define _GNU_SOURCE
-#include <dlfcn.h>
+/* Refuses one growth of memory: the one with the number that REFUSED_GROWTH has, counted from 1; with 0 none. A growth
+ * is a call of any function of the C library that gives memory out. The file that GROWTHS_COUNTED names has 16 bytes:
+ * the first 8 count the growths, the others those that were refused. It is loaded before the C library (LD_PRELOAD)
+ * by checks/refused_memory.sh. Growths are handed on by the names that glibc has for them, so that nothing is looked
+ * up, which may take memory itself. */
 #include <errno.h>
 #include <fcntl.h>
 #include <stdatomic.h>
+#include <stdint.h>
 #include <stdlib.h>
 #include <sys/mman.h>
 #include <unistd.h>
 
-static atomic_ulong before_main;
-static atomic_ulong *grown = &before_main;
+void *__libc_malloc(size_t size);
+void *__libc_calloc(size_t count, size_t size);
+void *__libc_realloc(void *old, size_t size);
+void *__libc_memalign(size_t alignment, size_t size);
+
+static atomic_ulong before_main[2];
+static atomic_ulong *counts = before_main;
 static unsigned long refused;
 
 __attribute__((constructor)) static void begin(void) {
   const char *number = getenv("REFUSED_GROWTH"), *name = getenv("GROWTHS_COUNTED");
   int file = name ? open(name, O_RDWR) : -1;
-  void *place = file < 0 ? MAP_FAILED : mmap(NULL, sizeof *grown, PROT_READ | PROT_WRITE, MAP_SHARED, file, 0);
+  void *place = file < 0 ? MAP_FAILED : mmap(NULL, sizeof before_main, PROT_READ | PROT_WRITE, MAP_SHARED, file, 0);
   if (place == MAP_FAILED)
     _exit(99);
   close(file);
-  grown = place;
-  atomic_store(grown, 0);
+  counts = place;
+  atomic_store(&counts[0], 0);
+  atomic_store(&counts[1], 0);
   refused = number ? strtoul(number, NULL, 10) : 0;
 }
 
 static int is_refused(void) {
-  if (atomic_fetch_add(grown, 1) + 1 != refused)
+  if (atomic_fetch_add(&counts[0], 1) + 1 != refused)
     return 0;
+  atomic_fetch_add(&counts[1], 1);
   errno = ENOMEM;
   return 1;
 }
 
-void *malloc(size_t size) {
-  static void *(*next)(size_t);
-  if (!next)
-    next = dlsym(RTLD_NEXT, "malloc");
-  return is_refused() ? NULL : next(size);
+void *malloc(size_t size) { return is_refused() ? NULL : __libc_malloc(size); }
+
+void *calloc(size_t count, size_t size) { return is_refused() ? NULL : __libc_calloc(count, size); }
+
+void *realloc(void *old, size_t size) { return is_refused() ? NULL : __libc_realloc(old, size); }
+
+void *reallocarray(void *old, size_t count, size_t size) {
+  size_t bytes;
+  if (__builtin_mul_overflow(count, size, &bytes)) {
+    errno = ENOMEM;
+    return NULL;
+  }
+  return realloc(old, bytes);
 }
 
-void *realloc(void *old, size_t size) {
-  static void *(*next)(void *, size_t);
-  if (!next)
-    next = dlsym(RTLD_NEXT, "realloc");
-  return is_refused() ? NULL : next(old, size);
+void *memalign(size_t alignment, size_t size) { return is_refused() ? NULL : __libc_memalign(alignment, size); }
+
+void *aligned_alloc(size_t alignment, size_t size) { return memalign(alignment, size); }
+
+int posix_memalign(void **place, size_t alignment, size_t size) {
+  void *made = memalign(alignment, size);
+  if (!made)
+    return ENOMEM;
+  *place = made;
+  return 0;
 }
+
+void *valloc(size_t size) { return memalign((size_t)sysconf(_SC_PAGESIZE), size); }
