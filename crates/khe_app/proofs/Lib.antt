@@ -1,7 +1,9 @@
 pub mod CheckEnds
+pub mod ConstructEnds
 pub mod EndsLemmas
 pub mod FewLemmas
 pub mod MakeEnds
+pub mod MatchEnds
 pub mod OnlyLemmas
 pub mod OutcomeLemmas
 pub mod PlayEnds

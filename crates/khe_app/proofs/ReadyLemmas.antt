@@ -10,7 +10,9 @@ use Rattle.repair_run.proofs.SpellLaws.{parts_spellable}
 use Rattle.xhstt_resolve.specs.Parts.{parts_of}
 use Rattle.xhstt_resolve.specs.Resolved.{resolved}
 use Rattle.xhstt_resolve.specs.declared.resolving.Resolved.{Resolved}
+use Rattle.xhstt_shape.specs.Characters.{IsSpellable}
 use Rattle.xhstt_shape.specs.WellFormed as formed
+use Rattle.khe_instance.specs.declared.parts.Parts.{Parts}
 use Rattle.xhstt_shape.specs.declared.records.Archive.{Archive}
 
 instances-few : (n m : ℕ) → n ≡ m → m < 2 ^ 32 → n < 2 ^ 32
@@ -28,4 +30,7 @@ ready a r e form few = record {
       (All-map HasSpellable parts_of a.instances
       (λ k d l. parts_spellable (get_or a.instances k d) (form.spellable.instances k d l)
       (form.in_form.instances k d l)));
+  ids = subst (All (λ (p : Parts). IsSpellable p.id)) (sym (resolved-as a r e).instances)
+      (All-map (λ (p : Parts). IsSpellable p.id) parts_of a.instances
+      (λ k d l. (form.spellable.instances k d l).id));
 }

@@ -1,5 +1,5 @@
 -- What the program holds before it writes.
-use Rattle.std.specs.Prelude.{ℕ, ◌≡◌, ◌<◌, ◌≤◌, Option, Some, None, List, [], length, slice_get, encode_utf8_all}
+use Rattle.std.specs.Prelude.{ℕ, ◌≡◌, ◌<◌, ◌≤◌, Bool, Option, Some, None, List, [], length, slice_get, encode_utf8_all}
 use Rattle.khe_instance.specs.States.{IsValid}
 use Rattle.khe_instance.specs.declared.parts.Parts.{Parts}
 use Rattle.khe_app.specs.Ends.{Written}
@@ -78,15 +78,15 @@ IsPlayOf s (Some script) (play.Run b bytes) = IsBegun s b × (bytes ≡ script) 
 
 -- and of what stands under both names; whatever else is read from the archive, the script is not what is
 -- missing
-pub record IsPlayed (number : ℕ) (bytes : List ℕ) (script : Option (List ℕ)) (a : Play) : Type 0 where
+pub record IsPlayed (tied : Bool) (number : ℕ) (bytes : List ℕ) (script : Option (List ℕ)) (a : Play) : Type 0 where
   pub reading : Reading
   pub is : IsReadingOf bytes reading
   pub play : IsPlayOf (start_in number reading) script a
-  pub there : (x : Reading) → IsReadingOf bytes x → IsScripted (start_in number x) script 4 [] → ⊥
+  pub there : (x : Reading) → IsReadingOf bytes x → IsScripted tied (start_in number x) script 4 [] → ⊥
 
-abbrev pub IsPlayAnswer : ℕ → Option (List ℕ) → Option (List ℕ) → Play → Type 0
-IsPlayAnswer number None script a = ⊥
-IsPlayAnswer number (Some bytes) script a = IsPlayed number bytes script a
+abbrev pub IsPlayAnswer : Bool → ℕ → Option (List ℕ) → Option (List ℕ) → Play → Type 0
+IsPlayAnswer tied number None script a = ⊥
+IsPlayAnswer tied number (Some bytes) script a = IsPlayed tied number bytes script a
 
 -- the instance stands among those of the archive, the timetable is valid, and the script is not too large
 pub record IsHeld (b : Begun) (script : List ℕ) : Type 0 where
@@ -101,8 +101,8 @@ IsReadyPlay play.TooLarge = Unit {0}
 IsReadyPlay (play.Run b script) = IsHeld b script
 
 -- a status and a text that come of it
-abbrev pub IsTextOf : Play → ℕ → List ℕ → Type 0
-IsTextOf (play.Refused refusal) status text = (status ≡ 3) × (text ≡ refusal_line refusal)
-IsTextOf play.TooLarge status text = (status ≡ 7) × (text ≡ script_too_large_line)
-IsTextOf (play.Run b script) status text = (p : Parts) → slice_get b.resolved.instances b.instance ≡ Some p
-    → IsRunOf p b.plain script status text
+abbrev pub IsTextOf : Bool → Play → ℕ → List ℕ → Type 0
+IsTextOf tied (play.Refused refusal) status text = (status ≡ 3) × (text ≡ refusal_line refusal)
+IsTextOf tied play.TooLarge status text = (status ≡ 7) × (text ≡ script_too_large_line)
+IsTextOf tied (play.Run b script) status text = (p : Parts) → slice_get b.resolved.instances b.instance ≡ Some p
+    → IsRunOf tied p b.plain script status text

@@ -5,6 +5,7 @@ use Rattle.parallel_solve.specs.Ready as solutions
 use Rattle.repair_run.specs.Texts.{HasSpellable}
 use Rattle.xhstt_resolve.specs.Resolved.{resolved}
 use Rattle.xhstt_resolve.specs.declared.resolving.Resolved.{Resolved}
+use Rattle.xhstt_shape.specs.Characters.{IsSpellable}
 use Rattle.xhstt_shape.specs.WellFormed.{IsWellFormed}
 use Rattle.xhstt_shape.specs.declared.records.Archive.{Archive}
 
@@ -14,3 +15,4 @@ pub record IsReady (a : Archive) (r : Resolved) : Type 0 where
   pub instances : length r.instances < 2 ^ 32
   pub well_formed : IsWellFormed a
   pub texts : All HasSpellable r.instances
+  pub ids : All (λ p. IsSpellable p.id) r.instances

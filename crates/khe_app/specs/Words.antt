@@ -13,9 +13,9 @@ pub data Asked : Type 0 where
   -- the report of the archive with this name, of all monitors or of those with a deviation; it is the
   -- same for every number of workers
   evaluating : List ℕ → Bool → Asked
-  -- the answers to a script on one solution of an archive: the archive's name, the solution's number,
-  -- and the script's name
-  scripting : List ℕ → ℕ → List ℕ → Asked
+  -- the answers to a script on one solution of an archive: the archive's name, the solution's number, the
+  -- script's name, and whether its lines may speak of ties
+  scripting : List ℕ → ℕ → List ℕ → Bool → Asked
   -- the canonical spelling of the archive with this name
   checking : List ℕ → Asked
   -- the same with one of its solutions repaired: the archive's name, the solution's number, the greatest
@@ -24,6 +24,11 @@ pub data Asked : Type 0 where
   -- the same with the least result of many such repairs: besides how many jobs there are; it is the same for
   -- every number of workers
   solving : List ℕ → ℕ → ℕ → ℕ → ℕ → Asked
+  -- the same with the tasks of one time matched: besides the number of the time, and that of the resource type
+  matching : List ℕ → ℕ → ℕ → ℕ → Asked
+  -- an archive with a timetable that is constructed: the archive's name, the number of the instance, and where it is
+  -- repaired the greatest number of moves of a chain and how many chains may be tried
+  constructing : List ℕ → ℕ → Option (ℕ × ℕ) → Asked
   -- the archive that is made from a seed, with so many events
   making : ℕ → ℕ → Asked
   -- the line on the run of the same
@@ -33,10 +38,12 @@ pub data Asked : Type 0 where
 abbrev pub is_read : Option Asked → Bool
 is_read None = false
 is_read (Some (evaluating archive all)) = true
-is_read (Some (scripting archive number script)) = true
+is_read (Some (scripting archive number script tied)) = true
 is_read (Some (checking archive)) = true
 is_read (Some (repairing archive number depth budget)) = true
 is_read (Some (solving archive number depth budget jobs)) = true
+is_read (Some (matching archive number time rtype)) = true
+is_read (Some (constructing archive number chains)) = true
 is_read (Some (making seed size)) = false
 is_read (Some (running seed size)) = false
 
@@ -44,10 +51,12 @@ is_read (Some (running seed size)) = false
 abbrev pub archive_of : Option Asked → Option (List ℕ)
 archive_of None = None
 archive_of (Some (evaluating archive all)) = Some archive
-archive_of (Some (scripting archive number script)) = Some archive
+archive_of (Some (scripting archive number script tied)) = Some archive
 archive_of (Some (checking archive)) = Some archive
 archive_of (Some (repairing archive number depth budget)) = Some archive
 archive_of (Some (solving archive number depth budget jobs)) = Some archive
+archive_of (Some (matching archive number time rtype)) = Some archive
+archive_of (Some (constructing archive number chains)) = Some archive
 archive_of (Some (making seed size)) = None
 archive_of (Some (running seed size)) = None
 
@@ -96,10 +105,17 @@ options_by (first ∷ second ∷ third ∷ []) = both_by first second third
 options_by (first ∷ second ∷ third ∷ fourth ∷ more) = None
 
 -- a script is asked for by the number of the solution, of 1 to 18 digits and below 2^32, and its own name
-abbrev pub script_by : List ℕ → List (List ℕ) → Option Asked
-script_by archive (solution ∷ script ∷ []) = option_map (λ number. scripting archive number script)
+abbrev pub script_by : Bool → List ℕ → List (List ℕ) → Option Asked
+script_by tied archive (solution ∷ script ∷ []) = option_map (λ number. scripting archive number script tied)
     (number_of DIGITS solution)
-script_by archive _ = None
+script_by tied archive _ = None
+
+-- by one of two commands: one of lines without ties, and one of lines with them
+unfoldable pub scripted_by : List ℕ → List ℕ → List (List ℕ) → Option Asked
+scripted_by command name more =
+    if bytes_eq (codes "script") command then script_by false name more
+    else if bytes_eq (codes "tied") command then script_by true name more
+    else None
 
 -- the canonical spelling of an archive is asked for by its name alone
 abbrev pub check_by : List ℕ → List (List ℕ) → Option Asked
@@ -155,20 +171,53 @@ solve_by archive [] = None
 solve_by archive (solution ∷ options) = option_and_then (λ number. solve_with archive number options)
     (number_of DIGITS solution)
 
+-- the repair after a construction: none without options, and one with both of them
+unfoldable pub after_by : List (List ℕ) → Option (Option (ℕ × ℕ))
+after_by options =
+    if length options == 0 then Some None
+    else if length options == 4 then option_map (λ c. Some c) (chains_by options)
+    else None
+
+-- a construction with these options
+unfoldable pub construct_with : List ℕ → ℕ → List (List ℕ) → Option Asked
+construct_with archive instance options = option_map (λ c. constructing archive instance c) (after_by options)
+
+-- a construction is asked for by the number of the instance and its options
+abbrev pub construct_by : List ℕ → List (List ℕ) → Option Asked
+construct_by archive [] = None
+construct_by archive (instance ∷ options) = option_and_then (λ number. construct_with archive number options)
+    (number_of DIGITS instance)
+
 -- what is asked for by a command that changes nothing, the archive's name and the words after it
 unfoldable pub told_by : List ℕ → List ℕ → List (List ℕ) → Option Asked
 told_by command name more =
     if bytes_eq (codes "evaluate") command then option_map (λ o. evaluating name o.0) (options_by more)
-    else if bytes_eq (codes "script") command then script_by name more
     else if bytes_eq (codes "check") command then check_by name more
-    else None
+    else scripted_by command name more
+
+-- a matching is asked for by the numbers of the solution, of the time and of the resource type
+unfoldable pub match_with : List ℕ → List ℕ → List ℕ → List ℕ → Option Asked
+match_with archive solution time rtype =
+    option_and_then (λ n. option_and_then (λ t. option_map (λ r. matching archive n t r) (number_of DIGITS rtype))
+    (number_of DIGITS time)) (number_of DIGITS solution)
+
+abbrev pub match_by : List ℕ → List (List ℕ) → Option Asked
+match_by archive (solution ∷ time ∷ rtype ∷ []) = match_with archive solution time rtype
+match_by archive _ = None
+
+-- or by a command that constructs a timetable or matches
+unfoldable pub placed_by : List ℕ → List ℕ → List (List ℕ) → Option Asked
+placed_by command name more =
+    if bytes_eq (codes "construct") command then construct_by name more
+    else if bytes_eq (codes "match") command then match_by name more
+    else told_by command name more
 
 -- and by any command on an archive
 unfoldable pub archive_by : List ℕ → List ℕ → List (List ℕ) → Option Asked
 archive_by command name more =
     if bytes_eq (codes "repair") command then repair_by name more
     else if bytes_eq (codes "solve") command then solve_by name more
-    else told_by command name more
+    else placed_by command name more
 
 -- a seed and a number of events, at most 2,000
 unfoldable pub job_by : List ℕ → List ℕ → Option (ℕ × ℕ)
@@ -194,9 +243,10 @@ unfoldable pub asked_by : List ℕ → List ℕ → List (List ℕ) → Option A
 asked_by command first more =
     if bytes_eq (codes "make") command then make_by first more else archive_by command first more
 
--- `evaluate ARCHIVE [--all] [--workers N]`, `script ARCHIVE SOLUTION SCRIPT`, `check ARCHIVE`, `repair ARCHIVE
--- SOLUTION --depth D --budget B` or `solve ARCHIVE SOLUTION --depth D --budget B --jobs J --workers N`, where the
--- second word is the archive's name, whatever it begins with; or `make SEED SIZE [--run]`
+-- `evaluate ARCHIVE [--all] [--workers N]`, `script ARCHIVE SOLUTION SCRIPT`, `tied ARCHIVE SOLUTION SCRIPT`,
+-- `check ARCHIVE`, `repair ARCHIVE SOLUTION --depth D --budget B`, `solve ARCHIVE SOLUTION --depth D --budget B
+-- --jobs J --workers N`, `construct ARCHIVE INSTANCE [--depth D --budget B]` or `match ARCHIVE SOLUTION TIME TYPE`,
+-- where the second word is the archive's name, whatever it begins with; or `make SEED SIZE [--run]`
 abbrev pub asked : List (List ℕ) → Option Asked
 asked (command ∷ first ∷ more) = asked_by command first more
 asked _ = None

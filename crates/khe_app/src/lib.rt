@@ -3,7 +3,9 @@
 #![tactic(auto)]
 
 mod checking;
+mod constructing;
 mod making;
+mod matching;
 mod outcomes;
 mod program;
 mod reading;

@@ -9,7 +9,9 @@ ghost use Rattle.khe_app.specs.Refusals as refusals;
 ghost use Rattle.khe_app.specs.Words.{asked, evaluating, is_read, scripting};
 
 use crate::checking::check;
+use crate::constructing::construct;
 use crate::making::{make, make_run};
+use crate::matching::{Wanted, match_tasks};
 use crate::reading::{ReadArchive, Unread, read};
 use crate::refusals::{Refusal, refusal_line};
 use crate::repairing::repair;
@@ -30,9 +32,9 @@ use thiserror::Error;
 ///
 /// | Status | Meaning |
 /// |---|---|
-/// | 0 | the archive was evaluated, written, repaired, solved or made, the script was read to its end, or the job was run |
+/// | 0 | the archive was evaluated, written, repaired, solved, constructed or made, the script was read to its end, or the job was run |
 /// | 2 | the words were not understood |
-/// | 3 | the archive was refused, or the solution that a script, a repair or a solve begins with |
+/// | 3 | the archive was refused, or the solution that a script, a repair or a solve begins with, or the instance that is constructed |
 /// | 4 | the archive or the script could not be read |
 /// | 5 | the text could not be written |
 /// | 6 | memory ran out |
@@ -83,16 +85,19 @@ impl From<NoMemory> for Stop {
 }
 
 /// Runs the program on these words: reads the archive that they name from the shelf, and writes its
-/// report, the answers to a script, its canonical spelling as it is or with a solution repaired, or the
+/// report, the answers to a script, its canonical spelling as it is, with a solution repaired or with one that is
+/// constructed, or the
 /// line that refuses it, to the sink; or makes an archive, and writes it or the line on its run.
 ///
 /// The words are `evaluate`, the archive's name, and in any order `--all` where the report is to have all
 /// monitors and `--workers` with the number of workers, 1 to 64; or `script`, the archive's name, the
-/// number of a solution, and the name of the script; or `check` and the archive's name; or `repair`, the
+/// number of a solution, and the name of the script; or `tied` with the same words, for a script whose lines may
+/// speak of ties; or `check` and the archive's name; or `repair`, the
 /// archive's name, the number of a solution, and in any order `--depth` with the greatest number of moves
 /// of a chain, 1 to 4, and `--budget` with the number of chains that may be tried, 1 to 1,000,000,000; or
 /// `solve` with the same words and besides, in any order, `--jobs` with the number of repairs, 1 to 10,000,
-/// and `--workers` with the number of workers, 1 to 64; or `make`, a seed of up to 18 digits, the number of
+/// and `--workers` with the number of workers, 1 to 64; or `construct`, the archive's name, the number of an
+/// instance, and `--depth` and `--budget` as for `repair` or nothing more; or `make`, a seed of up to 18 digits, the number of
 /// events, 1 to 2,000, and `--run` or nothing more, for which nothing is read. The answer is a status, as in
 /// `Status`. What was written before a status of 4 is nothing, and before a status of 5 or 6 a first part of
 /// the text. The text does not depend on the number of workers, who pass the gate before each solution that
@@ -104,6 +109,9 @@ impl From<NoMemory> for Stop {
 /// line names. Of many repairs, which begin their lists of defects and moves at the number of their job, the
 /// one with the least totals takes that place, of equal ones the lowest; the line names its job.
 ///
+/// A timetable that is constructed is the only solution of its archive, and the line after it tells how many meets
+/// and which totals it has, as it is before it is repaired; the line of the repair follows.
+///
 /// A report takes time about linear in the archive's bytes, in what its instances follow out, and, for
 /// each solution, in the meets, tasks, covered times, watches and monitors; the workers that run at the
 /// same time divide the solutions. It keeps in memory the archive's bytes with their tree or, after that,
@@ -111,7 +119,8 @@ impl From<NoMemory> for Stop {
 /// solution adds. An archive that was evaluated is left in memory, since a process ends with its run: who
 /// evaluates many in one process keeps them all. A script takes besides what opening an engine takes, and for each edit what
 /// watches its changes. A canonical spelling takes time linear in its bytes, and beside the archive and its
-/// instances no more memory than a piece of it. A repair takes besides an engine, and for each chain that
+/// instances no more memory than a piece of it. A construction takes besides an engine, and what watches a meet for
+/// each time that it tries for it, and a task for each resource. A repair takes besides an engine, and for each chain that
 /// it tries what watches the changes of its last move. Many repairs take the time of all, divided among the
 /// workers that run at the same time, and an engine and two timetables for each worker.
 /// An archive is made in time and memory linear in the number of its events, and its run takes what a script
@@ -210,8 +219,9 @@ fn respond<R: Threads + Sync, S: Shelf, K: Sink, G: Gate>(
                 archive,
                 solution,
                 script,
+                tied,
             },
-        ) => run_script(alloc, shelf, out, archive, solution, script),
+        ) => run_script(alloc, shelf, out, archive, solution, script, tied),
         Some(Request::Check { archive }) => check(alloc, shelf, out, archive),
         Some(
             Request::Repair {
@@ -233,6 +243,31 @@ fn respond<R: Threads + Sync, S: Shelf, K: Sink, G: Gate>(
         ) => solve(
             rt, alloc, shelf, out, gate, archive, solution, depth, budget, jobs, workers,
         ),
+        Some(
+            Request::Match {
+                archive,
+                solution,
+                time,
+                rtype,
+            },
+        ) => match_tasks(
+            alloc,
+            shelf,
+            out,
+            archive,
+            Wanted {
+                solution,
+                time,
+                rtype,
+            },
+        ),
+        Some(
+            Request::Construct {
+                archive,
+                instance,
+                chains,
+            },
+        ) => construct(alloc, shelf, out, archive, instance, chains),
         Some(Request::Make { seed, size }) => make(alloc, out, seed, size),
         Some(Request::Run { seed, size }) => make_run(alloc, out, seed, size),
         None => refuse_words(out),
@@ -303,7 +338,7 @@ fn evaluate<R: Threads + Sync, S: Shelf, K: Sink, G: Gate>(
     }
 }
 
-/// Writes the answers to a script on a solution of the archive under a name.
+/// Writes the answers to a script, whose lines may speak of ties or not, on a solution of the archive under a name.
 #[tactic(auto, using(crate::proofs::EndsLemmas::end_starved, crate::proofs::EndsLemmas::end_stopped))]
 fn run_script<S: Shelf, K: Sink>(
     alloc: Global,
@@ -312,8 +347,9 @@ fn run_script<S: Shelf, K: Sink>(
     name: &str,
     number: u32,
     script: &str,
+    tied: bool,
 ) -> Status
-    ensures end { IsEnd (Some (scripting name.now number script.now)) (S.holdings shelf.old) (S.is_sound shelf.old) (S.faults shelf.old) (S.faults shelf.new) (K.taken out.old) (K.taken out.new) (K.faults out.old) (K.faults out.new) result.0 }
+    ensures end { IsEnd (Some (scripting name.now number script.now tied)) (S.holdings shelf.old) (S.is_sound shelf.old) (S.faults shelf.old) (S.faults shelf.new) (K.taken out.old) (K.taken out.new) (K.faults out.old) (K.faults out.new) result.0 }
     ensures status { result.0 ≡ 2 → ⊥ }
     ensures absent { IsTrue (S.is_sound shelf.old) → IsMissing (S.holdings shelf.old) name.now → result.0 ≡ 4 }
     ensures holdings { S.holdings shelf.new ≡ S.holdings shelf.old }
@@ -323,8 +359,8 @@ fn run_script<S: Shelf, K: Sink>(
     ensures write_fault_ends { (result.0 ≡ 5) ⊎ (K.faults out.new ≡ K.faults out.old) }
     ensures sink_faults { K.faults out.old ≤ K.faults out.new }
 {
-    match play_of(alloc, shelf, name, number, script) {
-        Ok(play) => write_play(alloc, out, &play),
+    match play_of(alloc, shelf, name, number, script, tied) {
+        Ok(play) => write_play(alloc, out, &play, tied),
         Err(Stop::ReadFault) => Status(4),
         Err(Stop::NoMemory) => Status(6),
     }
@@ -394,9 +430,9 @@ fn write<R: Threads + Sync, K: Sink, G: Gate>(
 }
 
 /// Writes the answers to a script, or the line in their place.
-fn write_play<K: Sink>(alloc: Global, out: &mut K, play: &Play) -> Status
+fn write_play<K: Sink>(alloc: Global, out: &mut K, play: &Play, tied: bool) -> Status
     requires { IsReadyPlay play.now }
-    ensures written { ((result.0 ≡ 6) × (K.taken out.new ≡ K.taken out.old)) ⊎ ((status : ℕ) × (text : List ℕ) × IsTextOf play.now status text
+    ensures written { ((result.0 ≡ 6) × (K.taken out.new ≡ K.taken out.old)) ⊎ ((status : ℕ) × (text : List ℕ) × IsTextOf tied play.now status text
         × Written (K.taken out.old) (K.taken out.new) (K.faults out.old) (K.faults out.new) (encode_utf8_all text) status result.0) }
     ensures write_fault_ends { (result.0 ≡ 5) ⊎ (K.faults out.new ≡ K.faults out.old) }
     ensures sink_faults { K.faults out.old ≤ K.faults out.new }
@@ -406,7 +442,7 @@ fn write_play<K: Sink>(alloc: Global, out: &mut K, play: &Play) -> Status
         Play::TooLarge => put(out, 7, script_too_large()),
         Play::Run(begun, script) => {
             let inst = instance_of(begun);
-            play_script(alloc, out, inst, &begun.plain, script.as_slice())
+            play_script(alloc, out, inst, &begun.plain, script.as_slice(), tied)
         }
     }
 }
@@ -463,18 +499,20 @@ fn play_of<S: Shelf>(
     name: &str,
     number: u32,
     script: &str,
+    tied: bool,
 ) -> Result<Play, Stop>
-    ensures play { IfOk result (λ a. IfSome (S.holdings shelf.old) (λ under. IsPlayAnswer number (under name.now) (under script.now) a)) }
+    ensures play { IfOk result (λ a. IfSome (S.holdings shelf.old) (λ under. IsPlayAnswer tied number (under name.now) (under script.now) a)) }
     ensures ready { IfOk result IsReadyPlay }
     ensures fault { IsErrOf result Stop.ReadFault → Rose (S.faults shelf.old) (S.faults shelf.new) }
     ensures faultless { OnOk result (S.faults shelf.new ≡ S.faults shelf.old) }
     ensures faultless_starved { IsErrOf result Stop.NoMemory → S.faults shelf.new ≡ S.faults shelf.old }
-    ensures missing { IsTrue (S.is_sound shelf.old) → IsErrOf result Stop.ReadFault → LacksOf (Some (scripting name.now number script.now)) (S.holdings shelf.old) }
+    ensures missing { IsTrue (S.is_sound shelf.old) → IsErrOf result Stop.ReadFault → LacksOf (Some (scripting name.now number script.now tied)) (S.holdings shelf.old) }
     ensures absent { IsTrue (S.is_sound shelf.old) → IsMissing (S.holdings shelf.old) name.now → IsErrOf result Stop.ReadFault }
     ensures unchanged { S.holdings shelf.new ≡ S.holdings shelf.old }
     ensures counted { S.faults shelf.old ≤ S.faults shelf.new }
     ensures stays_sound { IsTrue (S.is_sound shelf.old) → IsTrue (S.is_sound shelf.new) }
 {
+    let _ = tied;
     match answer_to(alloc, shelf, name)? {
         Answer::Refused(refusal) => Ok(Play::Refused(refusal)),
         Answer::Read(read) => match start(alloc, read, number) {

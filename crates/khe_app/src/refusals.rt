@@ -3,7 +3,10 @@ ghost use Rattle.khe_base.specs.Text.{is_ascii};
 ghost use Rattle.khe_app.specs.Refusals as spec;
 
 use evaluation_report::push_cause;
-use fault_tables::{INVALID, LIMIT, NO_SUCH_SOLUTION, TOO_LARGE, fault_name, limit_name};
+use fault_tables::{
+    INVALID, LIMIT, NO_SUCH_INSTANCE, NO_SUCH_SOLUTION, NO_SUCH_TIME, NO_SUCH_TYPE, TOO_LARGE,
+    TOO_MANY_TO_MATCH, fault_name, limit_name,
+};
 use khe_base::{NoMemory, Text};
 use std::alloc::Global;
 
@@ -19,8 +22,16 @@ pub enum Refusal {
     TooLarge,
     /// The archive has no solution of the number that is asked for.
     NoSuchSolution,
+    /// The archive has no instance of the number that is asked for.
+    NoSuchInstance,
     /// That solution is invalid, for the cause with this number at the entry with this number.
     Invalid { cause: u32, entry: u32 },
+    /// Its instance has no time of the number that is asked for.
+    NoSuchTime,
+    /// Its instance has no resource type of the number that is asked for.
+    NoSuchType,
+    /// So many tasks run at the time, more than can be matched.
+    TooManyTasks { tasks: u32 },
 }
 
 /// The line that refuses an archive.
@@ -41,11 +52,15 @@ fn push_refusal(line: &mut Text, refusal: Refusal) -> Result<(), NoMemory>
         Refusal::Limit { which, value } => push_limit(line, which, value),
         Refusal::TooLarge => push_alone(line, TOO_LARGE),
         Refusal::NoSuchSolution => push_alone(line, NO_SUCH_SOLUTION),
+        Refusal::NoSuchInstance => push_alone(line, NO_SUCH_INSTANCE),
         Refusal::Invalid { cause, entry } => {
             push_kind(line, INVALID)?;
             line.push_literal(" ")?;
             push_cause(line, cause, entry)
         }
+        Refusal::NoSuchTime => push_alone(line, NO_SUCH_TIME),
+        Refusal::NoSuchType => push_alone(line, NO_SUCH_TYPE),
+        Refusal::TooManyTasks { tasks } => push_count(line, TOO_MANY_TO_MATCH, tasks),
     }
 }
 
@@ -72,6 +87,16 @@ fn push_alone(line: &mut Text, kind: u32) -> Result<(), NoMemory>
     ensures { OnOk result (line.new ≡ line.old ++ (spec.kind_words kind ++ codes "\n")) }
 {
     push_kind(line, kind)?;
+    line.push_literal("\n")
+}
+
+/// Adds a kind and a number of what there is too much of.
+fn push_count(line: &mut Text, kind: u32, count: u32) -> Result<(), NoMemory>
+    ensures { OnOk result (line.new ≡ line.old ++ spec.count_words kind count) }
+{
+    push_kind(line, kind)?;
+    line.push_literal(" ")?;
+    line.push_number(u128::from(count))?;
     line.push_literal("\n")
 }
 

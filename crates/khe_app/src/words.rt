@@ -1,6 +1,6 @@
 ghost use Rattle.std.specs.Prelude.{◌≡◌, ◌≤◌, None, Some, map, IfSome, MatchOption, string_bytes};
-ghost use Rattle.khe_app.specs.Requests.{IsFit, asked_of, workers_in};
-ghost use Rattle.khe_app.specs.Words.{all_by, archive_by, asked, asked_by, both_by, budget_by, chains_by, check_by, crew_by, depth_by, evaluating, job_by, jobs_by, made_by, make_by, number_by, number_to, options_by, repair_by, repair_with, run_by, script_by, shares_by, solve_by, solve_with, told_by, value_of, workers_by, workers_of};
+ghost use Rattle.khe_app.specs.Requests.{IsFit, asked_of, workers_in, AreChains};
+ghost use Rattle.khe_app.specs.Words.{all_by, archive_by, asked, asked_by, both_by, budget_by, chains_by, check_by, crew_by, depth_by, evaluating, job_by, jobs_by, made_by, make_by, match_by, match_with, placed_by, number_by, number_to, options_by, repair_by, repair_with, run_by, script_by, scripted_by, shares_by, solve_by, solve_with, told_by, value_of, workers_by, workers_of, after_by, construct_by, construct_with};
 ghost use Rattle.std.specs.Option.{option_map};
 ghost use Rattle.khe_base.specs.declared.limits.TheConstants.{CHAIN_MOVES, JOBS, WORKERS, MADE_EVENTS};
 
@@ -27,6 +27,8 @@ pub(crate) enum Request<'a> {
         solution: u32,
         /// The name of the script.
         script: &'a str,
+        /// Whether its lines may speak of ties.
+        tied: bool,
     },
     /// The canonical spelling of an archive.
     Check {
@@ -59,6 +61,27 @@ pub(crate) enum Request<'a> {
         /// How many workers do them, 1 to 64.
         workers: u32,
     },
+    /// An archive with the tasks of one time of one of its solutions matched.
+    Match {
+        /// The name of the archive.
+        archive: &'a str,
+        /// The number of the solution, over all groups.
+        solution: u32,
+        /// The number of the time.
+        time: u32,
+        /// The number of the resource type.
+        rtype: u32,
+    },
+    /// An archive with a timetable that is constructed of one of its instances.
+    Construct {
+        /// The name of the archive.
+        archive: &'a str,
+        /// The number of the instance.
+        instance: u32,
+        /// Where the timetable is repaired, the greatest number of moves of a chain, 1 to 4, and how many chains
+        /// may be tried, 1 to 1,000,000,000.
+        chains: Option<(u32, u32)>,
+    },
     /// An archive that is made.
     Make {
         /// The seed of what is drawn, below 10^18.
@@ -75,11 +98,12 @@ pub(crate) enum Request<'a> {
     },
 }
 
-/// What these words ask for, or `None` where they have no reading: the words are `evaluate`, a name,
-/// and in any order `--all` and `--workers` with a number, or nothing more; or `script`, a name, a number
-/// and a name; or `check` and a name; or `repair`, a name, a number, and in any order `--depth` and
-/// `--budget`, each with a number; or `solve`, a name, a number, and in any order these two, `--jobs` and
-/// `--workers`, each with a number; or `make`, two numbers, and `--run` or nothing more.
+/// What these words ask for, or `None` where they have no reading: the words are `evaluate`, a name, and in any
+/// order `--all` and `--workers` with a number, or nothing more; or `script` or `tied`, a name, a number and a name;
+/// or `check` and a name; or `repair`, a name, a number, and in any order `--depth` and `--budget`, each with a
+/// number; or `solve`, a name, a number, and in any order these two, `--jobs` and `--workers`, each with a number; or
+/// `construct`, a name, a number, and `--depth` and `--budget` in the same way or nothing more; or `match`, a name and
+/// three numbers; or `make`, two numbers, and `--run` or nothing more.
 pub(crate) fn request_of(words: &[String]) -> Option<Request<'_>>
     ensures asked { MatchOption result (asked (map string_bytes words.now) ≡ None) (λ r. asked (map string_bytes words.now) ≡ Some (asked_of r)) }
     ensures fit { IfSome result IsFit }
@@ -114,6 +138,22 @@ fn archive_by<'a>(command: &str, archive: &'a str, more: &'a [String]) -> Option
     if command == "solve" {
         return solve_by(archive, more);
     }
+    placed_by(command, archive, more)
+}
+
+/// What a command that constructs a timetable or matches asks for with the archive's name and the words after it, or
+/// one that changes nothing.
+#[tactic(auto, unfolding(crate::specs::Words::placed_by))]
+fn placed_by<'a>(command: &str, archive: &'a str, more: &'a [String]) -> Option<Request<'a>>
+    ensures asked { MatchOption result (placed_by command.now archive.now (map string_bytes more.now) ≡ None) (λ r. placed_by command.now archive.now (map string_bytes more.now) ≡ Some (asked_of r)) }
+    ensures fit { IfSome result IsFit }
+{
+    if command == "construct" {
+        return construct_by(archive, more);
+    }
+    if command == "match" {
+        return match_by(archive, more);
+    }
     told_by(command, archive, more)
 }
 
@@ -126,11 +166,23 @@ fn told_by<'a>(command: &str, archive: &'a str, more: &'a [String]) -> Option<Re
     if command == "evaluate" {
         return evaluate_by(archive, more);
     }
-    if command == "script" {
-        return script_by(archive, more);
-    }
     if command == "check" {
         return check_by(archive, more);
+    }
+    scripted_by(command, archive, more)
+}
+
+/// What a command that runs a script asks for with the archive's name and the words after it.
+#[tactic(auto, unfolding(crate::specs::Words::scripted_by))]
+fn scripted_by<'a>(command: &str, archive: &'a str, more: &'a [String]) -> Option<Request<'a>>
+    ensures asked { MatchOption result (scripted_by command.now archive.now (map string_bytes more.now) ≡ None) (λ r. scripted_by command.now archive.now (map string_bytes more.now) ≡ Some (asked_of r)) }
+    ensures fit { IfSome result IsFit }
+{
+    if command == "script" {
+        return script_by(false, archive, more);
+    }
+    if command == "tied" {
+        return script_by(true, archive, more);
     }
     None
 }
@@ -230,8 +282,8 @@ fn number_to(greatest: u32, word: &str) -> Option<u32>
 }
 
 /// What a script is asked for by these words after the archive's name.
-fn script_by<'a>(archive: &'a str, words: &'a [String]) -> Option<Request<'a>>
-    ensures asked { MatchOption result (script_by archive.now (map string_bytes words.now) ≡ None) (λ r. script_by archive.now (map string_bytes words.now) ≡ Some (asked_of r)) }
+fn script_by<'a>(tied: bool, archive: &'a str, words: &'a [String]) -> Option<Request<'a>>
+    ensures asked { MatchOption result (script_by tied archive.now (map string_bytes words.now) ≡ None) (λ r. script_by tied archive.now (map string_bytes words.now) ≡ Some (asked_of r)) }
     ensures fit { IfSome result IsFit }
 {
     let [solution, script] = words else {
@@ -241,6 +293,7 @@ fn script_by<'a>(archive: &'a str, words: &'a [String]) -> Option<Request<'a>>
         archive,
         solution: number_of(DIGITS, solution.as_bytes())?,
         script: script.as_str(),
+        tied,
     })
 }
 
@@ -395,6 +448,72 @@ fn solve_with<'a>(archive: &'a str, solution: u32, options: &[String]) -> Option
         budget,
         jobs,
         workers,
+    })
+}
+
+/// The matching that is asked for by the words after the archive's name.
+fn match_by<'a>(archive: &'a str, words: &'a [String]) -> Option<Request<'a>>
+    ensures asked { MatchOption result (match_by archive.now (map string_bytes words.now) ≡ None) (λ r. match_by archive.now (map string_bytes words.now) ≡ Some (asked_of r)) }
+    ensures fit { IfSome result IsFit }
+{
+    let [solution, time, rtype] = words else {
+        return None;
+    };
+    match_with(archive, solution.as_str(), time.as_str(), rtype.as_str())
+}
+
+/// The matching of the tasks of a solution at a time with the resources of a type.
+#[tactic(auto, unfolding(crate::specs::Words::match_with))]
+fn match_with<'a>(archive: &'a str, solution: &str, time: &str, rtype: &str) -> Option<Request<'a>>
+    ensures asked { MatchOption result (match_with archive.now solution.now time.now rtype.now ≡ None) (λ r. match_with archive.now solution.now time.now rtype.now ≡ Some (asked_of r)) }
+    ensures fit { IfSome result IsFit }
+{
+    Some(Request::Match {
+        archive,
+        solution: number_of(DIGITS, solution.as_bytes())?,
+        time: number_of(DIGITS, time.as_bytes())?,
+        rtype: number_of(DIGITS, rtype.as_bytes())?,
+    })
+}
+
+/// The repair after a construction: none without options.
+#[tactic(auto, unfolding(crate::specs::Words::after_by))]
+fn after_by(options: &[String]) -> Option<Option<(u32, u32)>>
+    ensures after { result ≡ after_by (map string_bytes options.now) }
+    ensures fit { IfSome result AreChains }
+{
+    if options.is_empty() {
+        return Some(None);
+    }
+    if options.len() != 4 {
+        return None;
+    }
+    let chains = chains_by(options)?;
+    Some(Some(chains))
+}
+
+/// The construction that is asked for by the words after the archive's name.
+fn construct_by<'a>(archive: &'a str, words: &'a [String]) -> Option<Request<'a>>
+    ensures asked { MatchOption result (construct_by archive.now (map string_bytes words.now) ≡ None) (λ r. construct_by archive.now (map string_bytes words.now) ≡ Some (asked_of r)) }
+    ensures fit { IfSome result IsFit }
+{
+    let [instance, options @ ..] = words else {
+        return None;
+    };
+    construct_with(archive, number_of(DIGITS, instance.as_bytes())?, options)
+}
+
+/// The construction of a timetable that is asked for by its options.
+#[tactic(auto, unfolding(crate::specs::Words::construct_with))]
+fn construct_with<'a>(archive: &'a str, instance: u32, options: &[String]) -> Option<Request<'a>>
+    ensures asked { MatchOption result (construct_with archive.now instance (map string_bytes options.now) ≡ None) (λ r. construct_with archive.now instance (map string_bytes options.now) ≡ Some (asked_of r)) }
+    ensures fit { IfSome result IsFit }
+{
+    let chains = after_by(options)?;
+    Some(Request::Construct {
+        archive,
+        instance,
+        chains,
     })
 }
 

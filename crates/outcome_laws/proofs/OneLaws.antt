@@ -24,27 +24,26 @@ use Rattle.repair_run.proofs.SolvedLaws.{one_way}
 use Rattle.repair_run.specs.Lines.{repair_line}
 use Rattle.repair_run.specs.Placed.{respelled}
 use Rattle.repair_run.specs.Repairs.{IsRepairText}
-use Rattle.script_run.specs.Plays.{begun}
-use Rattle.script_run.specs.Scripts.{script_text}
 use Rattle.text_laws.proofs.ReadLaws.{instance_of, read_formed, well_made}
 use Rattle.xhstt_resolve.specs.Resolved.{resolved}
 use Rattle.xhstt_resolve.specs.declared.resolving.Resolved.{Resolved}
 use Rattle.xhstt_shape.specs.declared.records.Archive.{Archive}
 use Rattle.xhstt_writer.specs.Archives.{canonical}
+use Rattle.khe_app.specs.Outcome.{answers_of}
 use Rattle.outcome_laws.specs.Outcomes.{AreOne}
 use Rattle.outcome_laws.proofs.AnswerLaws.{both}
 use Rattle.outcome_laws.proofs.ReadingLaws.{one_reading, spelled_by}
 use Rattle.outcome_laws.proofs.StartLaws.{same_start, started_by}
 
 -- the parts of a run are well made
-made_of : (bytes : List ℕ) (a : Archive) (r : Resolved) (number : ℕ) (p : Parts) (plain : Plain)
+pub made_of : (bytes : List ℕ) (a : Archive) (r : Resolved) (number : ℕ) (p : Parts) (plain : Plain)
     → IsReadingOf bytes (evaluable a r) → start_of a r number ≡ begins p plain → AreWellMade p
 made_of bytes a r number p plain is e =
     let read = (spelled_by bytes a r is).archive in
     let x = started_by a r number p plain e in
     well_made a r p (read_formed bytes a r read) read.resolved_is (instance_of a r number p read.resolved_is x.parts)
 
-one_state : (p : Parts) (plain : Plain) (s t : State) → AreWellMade p → IsStateOf p plain s → IsStateOf p plain t → s ≡ t
+pub one_state : (p : Parts) (plain : Plain) (s t : State) → AreWellMade p → IsStateOf p plain s → IsStateOf p plain t → s ≡ t
 one_state p plain s t made f g = state_is p plain s made f ∙ sym (state_is p plain t made g)
 
 -- reports
@@ -57,49 +56,49 @@ answers all (Some bytes) status other text more f g =
     (g.status_is ∙ ap status_of same) f.text_is (g.text_is ∙ ap (text_of all) same)
 
 -- scripts
-runs : (p : Parts) (plain : Plain) (script : List ℕ) (status other : ℕ) (text more : List ℕ) → AreWellMade p
-    → IsRunOf p plain script status text → IsRunOf p plain script other more → AreOne status other text more
-runs p plain script status other text more made f g =
+runs : (tied : Bool) (p : Parts) (plain : Plain) (script : List ℕ) (status other : ℕ) (text more : List ℕ) → AreWellMade p
+    → IsRunOf tied p plain script status text → IsRunOf tied p plain script other more → AreOne status other text more
+runs tied p plain script status other text more made f g =
     let same = one_state p plain g.state f.state made g.is f.is in
     record {
       status = f.status_is ∙ sym g.status_is;
       bytes = ap encode_utf8_all
-          (f.text_is ∙ sym (g.text_is ∙ ap (λ s. script_text p (begun s) script) same));
+          (f.text_is ∙ sym (g.text_is ∙ ap (λ s. answers_of tied p s script) same));
     }
 
-runs_or : (p : Parts) (plain : Plain) (script : List ℕ) (status other : ℕ) (text more : List ℕ) → AreWellMade p
-    → IsRunOr p plain script status text → IsRunOr p plain script other more → AreOne status other text more
-runs_or p plain script status other text more made (inl f) (inl g) =
+runs_or : (tied : Bool) (p : Parts) (plain : Plain) (script : List ℕ) (status other : ℕ) (text more : List ℕ) → AreWellMade p
+    → IsRunOr tied p plain script status text → IsRunOr tied p plain script other more → AreOne status other text more
+runs_or tied p plain script status other text more made (inl f) (inl g) =
     both status other 7 text more _ f.1 g.1 f.2 g.2
-runs_or p plain script status other text more made (inl f) (inr g) =
+runs_or tied p plain script status other text more made (inl f) (inr g) =
     absurd (let l = f.0 in let m = g.0 in omega (arith, l, m))
-runs_or p plain script status other text more made (inr f) (inl g) =
+runs_or tied p plain script status other text more made (inr f) (inl g) =
     absurd (let l = f.0 in let m = g.0 in omega (arith, l, m))
-runs_or p plain script status other text more made (inr f) (inr g) =
-    runs p plain script status other text more made f.1 g.1
+runs_or tied p plain script status other text more made (inr f) (inr g) =
+    runs tied p plain script status other text more made f.1 g.1
 
-scripts : (s : Start) (script : Option (List ℕ)) (status other : ℕ) (text more : List ℕ)
-    → ((p : Parts) (plain : Plain) → s ≡ begins p plain → AreWellMade p) → IsScripted s script status text
-    → IsScripted s script other more → AreOne status other text more
-scripts (barred f) script status other text more made x y = both status other 3 text more _ x.0 y.0 x.1 y.1
-scripts (begins p plain) None status other text more made x y = both status other 4 text more [] x.0 y.0 x.1 y.1
-scripts (begins p plain) (Some script) status other text more made x y =
-    runs_or p plain script status other text more (made p plain refl) x y
+scripts : (tied : Bool) (s : Start) (script : Option (List ℕ)) (status other : ℕ) (text more : List ℕ)
+    → ((p : Parts) (plain : Plain) → s ≡ begins p plain → AreWellMade p) → IsScripted tied s script status text
+    → IsScripted tied s script other more → AreOne status other text more
+scripts tied (barred f) script status other text more made x y = both status other 3 text more _ x.0 y.0 x.1 y.1
+scripts tied (begins p plain) None status other text more made x y = both status other 4 text more [] x.0 y.0 x.1 y.1
+scripts tied (begins p plain) (Some script) status other text more made x y =
+    runs_or tied p plain script status other text more (made p plain refl) x y
 
-plays_in : (number : ℕ) (bytes : List ℕ) (script : Option (List ℕ)) (x : Reading) (status other : ℕ)
-    (text more : List ℕ) → IsReadingOf bytes x → IsScripted (start_in number x) script status text
-    → IsScripted (start_in number x) script other more → AreOne status other text more
-plays_in number bytes script (evaluable a r) status other text more is f g =
-    scripts (start_of a r number) script status other text more (λ p plain e. made_of bytes a r number p plain is e) f g
-plays_in number bytes script (refused x) status other text more is f g = both status other 3 text more _ f.0 g.0 f.1 g.1
+plays_in : (tied : Bool) (number : ℕ) (bytes : List ℕ) (script : Option (List ℕ)) (x : Reading) (status other : ℕ)
+    (text more : List ℕ) → IsReadingOf bytes x → IsScripted tied (start_in number x) script status text
+    → IsScripted tied (start_in number x) script other more → AreOne status other text more
+plays_in tied number bytes script (evaluable a r) status other text more is f g =
+    scripts tied (start_of a r number) script status other text more (λ p plain e. made_of bytes a r number p plain is e) f g
+plays_in tied number bytes script (refused x) status other text more is f g = both status other 3 text more _ f.0 g.0 f.1 g.1
 
-pub plays : (number : ℕ) (o script : Option (List ℕ)) (status other : ℕ) (text more : List ℕ)
-    → IsPlayTo number o script status text → IsPlayTo number o script other more → AreOne status other text more
-plays number None script status other text more f g = both status other 4 text more [] f.0 g.0 f.1 g.1
-plays number (Some bytes) script status other text more f g =
+pub plays : (tied : Bool) (number : ℕ) (o script : Option (List ℕ)) (status other : ℕ) (text more : List ℕ)
+    → IsPlayTo tied number o script status text → IsPlayTo tied number o script other more → AreOne status other text more
+plays tied number None script status other text more f g = both status other 4 text more [] f.0 g.0 f.1 g.1
+plays tied number (Some bytes) script status other text more f g =
     let same = one_reading bytes g.reading f.reading g.is f.is in
-    plays_in number bytes script f.reading status other text more f.is f.scripted
-    (subst (λ x. IsScripted (start_in number x) script other more) same g.scripted)
+    plays_in tied number bytes script f.reading status other text more f.is f.scripted
+    (subst (λ x. IsScripted tied (start_in number x) script other more) same g.scripted)
 
 -- spellings
 pub spellings : (o : Option (List ℕ)) (status other : ℕ) (text more : List ℕ) → IsSpellingTo o status text

@@ -179,11 +179,11 @@ answer_there all (Some bytes) =
     )
 
 -- scripts
-run_there : (p : Parts) (plain : Plain) (script : List ℕ) → ((s : State) × IsStateOf p plain s)
-    → Answer (IsRunOr p plain script)
-run_there p plain script s = by (nat_lt SCRIPT_BYTES (length script)) refl
+run_there : (tied : Bool) (p : Parts) (plain : Plain) (script : List ℕ) → ((s : State) × IsStateOf p plain s)
+    → Answer (IsRunOr tied p plain script)
+run_there tied p plain script s = by (nat_lt SCRIPT_BYTES (length script)) refl
   where
-    by : (b : Bool) → nat_lt SCRIPT_BYTES (length script) ≡ b → Answer (IsRunOr p plain script)
+    by : (b : Bool) → nat_lt SCRIPT_BYTES (length script) ≡ b → Answer (IsRunOr tied p plain script)
     by true e = (7, script_too_large_line, inl (grind (arith, nat_tests), refl, refl))
     by false e = (
       _,
@@ -191,25 +191,25 @@ run_there p plain script s = by (nat_lt SCRIPT_BYTES (length script)) refl
       inr (grind (arith, nat_tests), record { state = s.0; is = s.1; status_is = refl; text_is = refl }),
     )
 
-script_there : (s : Start) (script : Option (List ℕ))
+script_there : (tied : Bool) (s : Start) (script : Option (List ℕ))
     → ((p : Parts) (plain : Plain) → s ≡ begins p plain → (t : State) × IsStateOf p plain t)
-    → Answer (IsScripted s script)
-script_there (barred f) script h = (3, refusal_line f, (refl, refl))
-script_there (begins p plain) None h = (4, [], (refl, refl))
-script_there (begins p plain) (Some script) h = run_there p plain script (h p plain refl)
+    → Answer (IsScripted tied s script)
+script_there tied (barred f) script h = (3, refusal_line f, (refl, refl))
+script_there tied (begins p plain) None h = (4, [], (refl, refl))
+script_there tied (begins p plain) (Some script) h = run_there tied p plain script (h p plain refl)
 
-play_in : (number : ℕ) (bytes : List ℕ) (script : Option (List ℕ)) (x : Reading) → IsReadingOf bytes x
-    → Answer (IsScripted (start_in number x) script)
-play_in number bytes script (evaluable a r) is =
-    script_there (start_of a r number) script
+play_in : (tied : Bool) (number : ℕ) (bytes : List ℕ) (script : Option (List ℕ)) (x : Reading) → IsReadingOf bytes x
+    → Answer (IsScripted tied (start_in number x) script)
+play_in tied number bytes script (evaluable a r) is =
+    script_there tied (start_of a r number) script
     (λ p plain s. state_of_ready a r number p plain (ready_of bytes a r number p plain is s))
-play_in number bytes script (refused f) is = (3, refusal_line f, (refl, refl))
+play_in tied number bytes script (refused f) is = (3, refusal_line f, (refl, refl))
 
-pub play_there : (number : ℕ) (o script : Option (List ℕ)) → Answer (IsPlayTo number o script)
-play_there number None script = (4, [], (refl, refl))
-play_there number (Some bytes) script =
+pub play_there : (tied : Bool) (number : ℕ) (o script : Option (List ℕ)) → Answer (IsPlayTo tied number o script)
+play_there tied number None script = (4, [], (refl, refl))
+play_there tied number (Some bytes) script =
     let x = reading_there bytes in
-    let s = play_in number bytes script x.0 x.1 in
+    let s = play_in tied number bytes script x.0 x.1 in
     (s.0, s.1, record { reading = x.0; is = x.1; scripted = s.2 })
 
 -- spellings

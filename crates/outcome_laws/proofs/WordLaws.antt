@@ -6,17 +6,22 @@ use Rattle.std.specs.Str.{bytes_eq}
 use Rattle.std.proofs.lemmas.Bool.Decides.{nat_tests}
 use Rattle.khe_base.specs.Digits.{long_number_of, number_of}
 use Rattle.khe_base.specs.declared.limits.TheConstants.{DIGITS, JOBS, MADE_EVENTS}
+use Rattle.khe_app.specs.Words.{after_by, construct_by, construct_with, constructing}
+use Rattle.khe_app.specs.Words.{scripted_by}
 use Rattle.khe_app.specs.Words.{Asked, archive_by, asked, asked_by, budget_by, chains_by, depth_by, check_by, checking, crew_by, evaluating}
+use Rattle.khe_app.specs.Words.{match_by, match_with, matching, placed_by}
 use Rattle.khe_app.specs.Words.{job_by, jobs_by, made_by, make_by, making, number_by, number_to, options_by, repair_by}
 use Rattle.khe_app.specs.Words.{repair_with, repairing, run_by, running, script_by, scripting, shares_by}
 use Rattle.khe_app.specs.Words.{solve_by, solve_with, solving, told_by, value_of}
 
 abbrev pub IsAskable : Asked → Type 0
 IsAskable (evaluating archive all) = Unit {0}
-IsAskable (scripting archive number script) = Unit {0}
+IsAskable (scripting archive number script tied) = Unit {0}
 IsAskable (checking archive) = Unit {0}
 IsAskable (repairing archive number depth budget) = Unit {0}
 IsAskable (solving archive number depth budget jobs) = 1 ≤ jobs
+IsAskable (constructing archive number chains) = Unit {0}
+IsAskable (matching archive number time rtype) = Unit {0}
 IsAskable (making seed size) = Unit {0}
 IsAskable (running seed size) = (1 ≤ size) × (size ≤ MADE_EVENTS)
 
@@ -111,31 +116,70 @@ repairs_fine archive (solution ∷ options) =
     chained (λ n. Unit {0}) IsAskable (λ number. repair_with archive number options) (number_of DIGITS solution)
     (any (number_of DIGITS solution)) (λ n u. repair_fine archive n options)
 
-script_fine : (archive : List ℕ) (more : List (List ℕ)) → Fine (script_by archive more)
-script_fine archive [] = tt
-script_fine archive (a ∷ []) = tt
-script_fine archive (solution ∷ script ∷ []) =
-    mapped (λ n. Unit {0}) IsAskable (λ number. scripting archive number script) (number_of DIGITS solution)
+script_fine : (tied : Bool) (archive : List ℕ) (more : List (List ℕ)) → Fine (script_by tied archive more)
+script_fine tied archive [] = tt
+script_fine tied archive (a ∷ []) = tt
+script_fine tied archive (solution ∷ script ∷ []) =
+    mapped (λ n. Unit {0}) IsAskable (λ number. scripting archive number script tied) (number_of DIGITS solution)
     (any (number_of DIGITS solution)) (λ n u. tt)
-script_fine archive (a ∷ b ∷ c ∷ more) = tt
+script_fine tied archive (a ∷ b ∷ c ∷ more) = tt
 
 check_fine : (archive : List ℕ) (more : List (List ℕ)) → Fine (check_by archive more)
 check_fine archive [] = tt
 check_fine archive (a ∷ more) = tt
+
+construct_fine : (archive : List ℕ) (number : ℕ) (options : List (List ℕ))
+    → Fine (construct_with archive number options)
+unfolding construct_with
+construct_fine archive number options =
+    mapped (λ c. Unit {0}) IsAskable (λ c. constructing archive number c) (after_by options) (any (after_by options))
+    (λ c u. tt)
+
+constructs_fine : (archive : List ℕ) (more : List (List ℕ)) → Fine (construct_by archive more)
+constructs_fine archive [] = tt
+constructs_fine archive (number ∷ options) =
+    chained (λ n. Unit {0}) IsAskable (λ n. construct_with archive n options) (number_of DIGITS number)
+    (any (number_of DIGITS number)) (λ n u. construct_fine archive n options)
+
+scripts_fine : (command name : List ℕ) (more : List (List ℕ)) → Fine (scripted_by command name more)
+unfolding scripted_by
+scripts_fine command name more =
+    choice Fine (bytes_eq (codes "script") command) _ _ (script_fine false name more)
+    (choice Fine (bytes_eq (codes "tied") command) _ None (script_fine true name more) tt)
 
 told_fine : (command name : List ℕ) (more : List (List ℕ)) → Fine (told_by command name more)
 unfolding told_by
 told_fine command name more =
     choice Fine (bytes_eq (codes "evaluate") command) _ _
     (mapped (λ o. Unit {0}) IsAskable (λ o. evaluating name o.0) (options_by more) (any (options_by more)) (λ o u. tt))
-    (choice Fine (bytes_eq (codes "script") command) _ _ (script_fine name more)
-    (choice Fine (bytes_eq (codes "check") command) _ None (check_fine name more) tt))
+    (choice Fine (bytes_eq (codes "check") command) _ _ (check_fine name more) (scripts_fine command name more))
+
+match_fine : (archive solution time rtype : List ℕ) → Fine (match_with archive solution time rtype)
+unfolding match_with
+match_fine archive solution time rtype =
+    chained (λ n. Unit {0}) IsAskable _ (number_of DIGITS solution) (any (number_of DIGITS solution))
+    (λ n u. chained (λ t. Unit {0}) IsAskable _ (number_of DIGITS time) (any (number_of DIGITS time))
+    (λ t v. mapped (λ r. Unit {0}) IsAskable (λ r. matching archive n t r) (number_of DIGITS rtype)
+    (any (number_of DIGITS rtype)) (λ r w. tt)))
+
+matches_fine : (archive : List ℕ) (more : List (List ℕ)) → Fine (match_by archive more)
+matches_fine archive [] = tt
+matches_fine archive (a ∷ []) = tt
+matches_fine archive (a ∷ b ∷ []) = tt
+matches_fine archive (solution ∷ time ∷ rtype ∷ []) = match_fine archive solution time rtype
+matches_fine archive (a ∷ b ∷ c ∷ d ∷ more) = tt
+
+placed_fine : (command name : List ℕ) (more : List (List ℕ)) → Fine (placed_by command name more)
+unfolding placed_by
+placed_fine command name more =
+    choice Fine (bytes_eq (codes "construct") command) _ _ (constructs_fine name more)
+    (choice Fine (bytes_eq (codes "match") command) _ _ (matches_fine name more) (told_fine command name more))
 
 archive_fine : (command name : List ℕ) (more : List (List ℕ)) → Fine (archive_by command name more)
 unfolding archive_by
 archive_fine command name more =
     choice Fine (bytes_eq (codes "repair") command) _ _ (repairs_fine name more)
-    (choice Fine (bytes_eq (codes "solve") command) _ _ (solves_fine name more) (told_fine command name more))
+    (choice Fine (bytes_eq (codes "solve") command) _ _ (solves_fine name more) (placed_fine command name more))
 
 -- what is made
 job_fine : (seed size : List ℕ) → IfSome (job_by seed size) (λ j. InRange MADE_EVENTS j.1)

@@ -1,7 +1,7 @@
 -- How many outcomes there are.
-use Rattle.std.specs.Prelude.{ℕ, ◌≡◌, false, Option, List, encode_utf8_all}
+use Rattle.std.specs.Prelude.{ℕ, ◌≡◌, Bool, true, false, Option, Some, List, encode_utf8_all}
 use Rattle.khe_app.specs.Outcome.{IsOutcome}
-use Rattle.khe_app.specs.Words.{asked, is_read}
+use Rattle.khe_app.specs.Words.{Asked, asked, is_read, matching}
 
 -- what stands under each name
 abbrev pub Shelf : Type 0
@@ -19,8 +19,20 @@ pub record HasOneOutcome (words : List (List ℕ)) (under : Shelf) : Type 0 wher
   pub is : IsOutcome words under status text
   pub only : (other : ℕ) (more : List ℕ) → IsOutcome words under other more → AreOne status other text more
 
+-- a matching may be any that its prices certify, and so its text is left open
+abbrev pub leaves_choice : Option Asked → Bool
+leaves_choice (Some (matching archive number time rtype)) = true
+leaves_choice _ = false
+
 abbrev pub EachRunHasOneOutcome : Type 0
-EachRunHasOneOutcome = (words : List (List ℕ)) (under : Shelf) → HasOneOutcome words under
+EachRunHasOneOutcome =
+    (words : List (List ℕ)) (under : Shelf) → leaves_choice (asked words) ≡ false → HasOneOutcome words under
+
+-- but for its status
+abbrev pub NoRunHasTwoStatuses : Type 0
+NoRunHasTwoStatuses =
+    (words : List (List ℕ)) (under : Shelf) (status other : ℕ) (text more : List ℕ)
+    → IsOutcome words under status text → IsOutcome words under other more → status ≡ other
 
 -- where nothing is read, the outcome is that by any other shelf
 abbrev pub OutcomesDoNotHang : Type 0

@@ -2,13 +2,15 @@
 #![allow(dead_code)]
 
 ghost use Rattle.outcome_laws.specs.Deficits.{DeficitsOutnumber};
-ghost use Rattle.outcome_laws.specs.Outcomes.{EachRunHasOneOutcome, MakingReadsNothing, OutcomesDoNotHang};
+ghost use Rattle.outcome_laws.specs.Outcomes.{EachRunHasOneOutcome, MakingReadsNothing, NoRunHasTwoStatuses};
+ghost use Rattle.outcome_laws.specs.Outcomes.{OutcomesDoNotHang};
 ghost use Rattle.outcome_laws.specs.Texts.{ChecksAreReadAgain, RepairsAreNoDearer, SolvesAreNoDearer};
 
 // All words have one outcome, whatever stands under the names: there is a status and a text, and any other outcome has
-// the same status and the same bytes.
+// the same status and the same bytes. The words of `match` have one status, and the choice of its text is left open.
 fn each_run_has_one_outcome()
-    ensures { EachRunHasOneOutcome }
+    ensures one { EachRunHasOneOutcome }
+    ensures status { NoRunHasTwoStatuses }
 {}
 
 // Where nothing is read, the outcome is the same whatever stands under the names, and nothing is missing.

@@ -56,8 +56,10 @@ fn shows(costs: &Costs, found: &Cheapest, chosen: &[Option<u32>], sum: u8) -> bo
     found.chosen.as_slice() == chosen
         && total.hard == u128::from(sum)
         && total.soft == 0
-        && together(found.task_prices.as_slice(), found.resource_prices.as_slice())
-            == i128::from(sum)
+        && together(
+            found.task_prices.as_slice(),
+            found.resource_prices.as_slice(),
+        ) == i128::from(sum)
 }
 
 // The hard parts of all prices together.

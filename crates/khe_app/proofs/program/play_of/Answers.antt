@@ -24,8 +24,8 @@ returns-in-Ok-clause-play g c =
     c.in_ok-refusal.ensures.only in
     IfOk-weaker c.script_under.result (λ a. IfSome (g.S.Shelf.holdings c.answer_to.new.shelf)
     (λ under. IsScriptOf begun (under script) a))
-    (λ a. IfSome h (λ under. IsPlayAnswer c.args.number (under name) (under script) a))
-    (λ a k. play_script h name c.args.number script read begun a is only c.in-Ok.ensures.begun
+    (λ a. IfSome h (λ under. IsPlayAnswer c.args.tied c.args.number (under name) (under script) a))
+    (λ a k. play_script c.args.tied h name c.args.number script read begun a is only c.in-Ok.ensures.begun
     (subst (λ (x : Holdings). IfSome x (λ under. IsScriptOf begun (under script) a)) c.answer_to.ensures.unchanged k))
     c.script_under.ensures.play
 
@@ -49,4 +49,4 @@ returns-in-Err-Refused-clause-play g c =
     c.in_ok-refusal.ensures.only in
     let bar = subst (IsBarredBy (start_of read.archive read.resolved c.args.number)) c.in-Err-Refused.field-0-is
     c.in-Err-Refused.ensures.barred in
-    barred_as h name c.args.number c.args.script.now read c.in-Err-Refused.refusal _ is only bar (let e : _ = cc in e)
+    barred_as c.args.tied h name c.args.number c.args.script.now read c.in-Err-Refused.refusal _ is only bar (let e : _ = cc in e)

@@ -58,6 +58,14 @@ pub returns-in-Some-Solve-clause-unread : goal.returns-in-Some-Solve-clause-unre
 returns-in-Some-Solve-clause-unread g c = not_unread (asked (map string_bytes c.args.words.now)) _
     (c.in-Some-Solve.ensures.asked ∙ ap (λ (r : Request). Some (asked_of r)) c.in-Some-Solve.field-0-is) refl
 
+pub returns-in-Some-Match-clause-unread : goal.returns-in-Some-Match-clause-unread
+returns-in-Some-Match-clause-unread g c = not_unread (asked (map string_bytes c.args.words.now)) _
+    (c.in-Some-Match.ensures.asked ∙ ap (λ (r : Request). Some (asked_of r)) c.in-Some-Match.field-0-is) refl
+
+pub returns-in-Some-Construct-clause-unread : goal.returns-in-Some-Construct-clause-unread
+returns-in-Some-Construct-clause-unread g c = not_unread (asked (map string_bytes c.args.words.now)) _
+    (c.in-Some-Construct.ensures.asked ∙ ap (λ (r : Request). Some (asked_of r)) c.in-Some-Construct.field-0-is) refl
+
 pub returns-in-Some-Evaluate-clause-absent : goal.returns-in-Some-Evaluate-clause-absent
 returns-in-Some-Evaluate-clause-absent g c sound =
     archive_lacked (map string_bytes c.args.words.now) _ c.in-Some-Evaluate.archive.now
@@ -92,6 +100,20 @@ returns-in-Some-Solve-clause-absent g c sound =
     (g.S.Shelf.holdings c.args.shelf.now) c.solve.result.0
     (c.in-Some-Solve.ensures.asked ∙ ap (λ (r : Request). Some (asked_of r)) c.in-Some-Solve.field-0-is) refl
     (c.solve.ensures.absent sound)
+
+pub returns-in-Some-Match-clause-absent : goal.returns-in-Some-Match-clause-absent
+returns-in-Some-Match-clause-absent g c sound =
+    archive_lacked (map string_bytes c.args.words.now) _ c.in-Some-Match.archive.now
+    (g.S.Shelf.holdings c.args.shelf.now) c.match_tasks.result.0
+    (c.in-Some-Match.ensures.asked ∙ ap (λ (r : Request). Some (asked_of r)) c.in-Some-Match.field-0-is) refl
+    (c.match_tasks.ensures.absent sound)
+
+pub returns-in-Some-Construct-clause-absent : goal.returns-in-Some-Construct-clause-absent
+returns-in-Some-Construct-clause-absent g c sound =
+    archive_lacked (map string_bytes c.args.words.now) _ c.in-Some-Construct.archive.now
+    (g.S.Shelf.holdings c.args.shelf.now) c.construct.result.0
+    (c.in-Some-Construct.ensures.asked ∙ ap (λ (r : Request). Some (asked_of r)) c.in-Some-Construct.field-0-is) refl
+    (c.construct.ensures.absent sound)
 
 pub returns-in-Some-Make-clause-absent : goal.returns-in-Some-Make-clause-absent
 returns-in-Some-Make-clause-absent g c sound =

@@ -12,7 +12,7 @@ returns-in-Refused-clause-written g c =
     inr (
       3,
       line,
-      subst (λ (a : Play). IsTextOf a 3 line) (sym c.in-Refused.is) (refl, refl),
+      subst (λ (a : Play). IsTextOf c.args.tied a 3 line) (sym c.in-Refused.is) (refl, refl),
       c.put_refusal.ensures.written,
     )
 
@@ -21,7 +21,7 @@ returns-in-TooLarge-clause-written g c =
     inr (
       7,
       script_too_large_line,
-      subst (λ (a : Play). IsTextOf a 7 script_too_large_line) (sym c.in-TooLarge.is) (refl, refl),
+      subst (λ (a : Play). IsTextOf c.args.tied a 7 script_too_large_line) (sym c.in-TooLarge.is) (refl, refl),
       subst (λ bytes. Written (g.K.Sink.taken c.args.out.now) (g.K.Sink.taken c.put.new.out)
           (g.K.Sink.faults c.args.out.now) (g.K.Sink.faults c.put.new.out) bytes 7 c.put.result.0)
           c.script_too_large.ensures c.put.ensures.written,

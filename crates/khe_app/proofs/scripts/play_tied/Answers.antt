@@ -1,0 +1,17 @@
+-- What a run on the timetable that was opened wrote.
+use Rattle.std.proofs.Common.{inr}
+use Rattle.khe_app.proofs.ScriptEnds.{run_faultless, tied_written}
+use Rattle.khe_app.proofs.scripts.play_tied.Goals as goal
+
+pub returns-in-Ok-clause-written : goal.returns-in-Ok-clause-written
+returns-in-Ok-clause-written g c =
+    inr (tied_written c.args.inst.now c.args.plain.now c.in-Ok.tied c.args.script.now c.run.result
+    (g.K.Sink.taken c.args.out.now) (g.K.Sink.taken c.run.new.out) (g.K.Sink.faults c.args.out.now)
+    (g.K.Sink.faults c.run.new.out) c.status_after.result.0 c.in-Ok.ensures.parts c.in-Ok.ensures.state
+    c.in-Ok.ensures.saved c.in-Ok.ensures.ties c.run.ensures.read c.run.ensures.whole c.run.ensures.front c.run.ensures.fault
+    c.status_after.ensures)
+
+pub returns-in-Ok-clause-write_fault_ends : goal.returns-in-Ok-clause-write_fault_ends
+returns-in-Ok-clause-write_fault_ends g c =
+    run_faultless c.run.result (g.K.Sink.faults c.args.out.now) (g.K.Sink.faults c.run.new.out)
+    c.status_after.result.0 c.run.ensures.faultless c.run.ensures.faultless_starved c.status_after.ensures
