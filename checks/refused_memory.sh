@@ -2,7 +2,8 @@
 # Runs the program with each growth of its memory refused in turn, on small archives, one growth a run: each command,
 # with one worker and with several. Each run must end with status 6 and some first bytes of the text that ample
 # memory gives, or as it ends with ample memory. It prints a line for each command, with how many growths were
-# refused of how many that a run with ample memory makes, and ends with status 1 where a run ended in another way.
+# refused of how many that a run with ample memory makes, then the sums of both, and ends with status 1 where a run
+# ended in another way.
 #
 #     checks/refused_memory.sh KHE
 #
@@ -17,6 +18,7 @@ cc -O2 -shared -fPIC -o "$work/refuse.so" "$top/checks/refuse_growth.c" || exit 
 head -c 16 /dev/zero > "$work/count"
 failed=0
 all=0
+made=0
 
 # Runs the words with one growth refused, or none: its text, its status, the growths that it made and those that were
 # refused to it.
@@ -48,10 +50,11 @@ sweep() {
   done
   echo "khe $*: refused $refused of $count growths; $ended ended with status 6, $same as with ample memory, $bad otherwise"
   all=$((all + refused))
+  made=$((made + count))
   [ $bad = 0 ] && [ "$refused" -gt 0 ] || failed=1
 }
 
-cp "$top"/checks/two_events.xml "$top"/checks/marks.script "$top"/examples/causes.xml "$work" || exit 2
+cp "$top"/checks/two_events.xml "$top"/checks/marks.script "$top"/checks/ties.script "$top"/examples/causes.xml "$work" || exit 2
 cd "$work" || exit 2
 sweep evaluate two_events.xml
 sweep evaluate two_events.xml --all
@@ -59,12 +62,16 @@ sweep evaluate two_events.xml --workers 2
 sweep evaluate two_events.xml --workers 4
 sweep evaluate causes.xml
 sweep script two_events.xml 0 marks.script
+sweep tied two_events.xml 0 ties.script
 sweep repair two_events.xml 0 --depth 1 --budget 1000
 sweep check two_events.xml
 sweep solve two_events.xml 0 --depth 1 --budget 1000 --jobs 2 --workers 1
 sweep solve two_events.xml 0 --depth 1 --budget 1000 --jobs 2 --workers 2
 sweep solve two_events.xml 0 --depth 1 --budget 1 --jobs 7 --workers 4
+sweep construct two_events.xml 0
+sweep construct two_events.xml 0 --depth 1 --budget 1000
+sweep match two_events.xml 1 0 0
 sweep make 0 1
 sweep make 0 1 --run
-echo "refused in all: $all growths"
+echo "refused in all: $all of $made growths"
 exit $failed

@@ -3,40 +3,7 @@
 use program_runs::Piece;
 use program_runs::Piece::{Numbered, Once};
 
-/// Two events, of three times and of one, each with a place. Its first solution is empty, its second
-/// costs nothing.
-pub(crate) const SMALL: &str = r#"<HighSchoolTimetableArchive>
-<Instances><Instance Id="J">
-<Times><Time Id="t0"/><Time Id="t1"/><Time Id="t2"/></Times>
-<Resources><ResourceTypes><ResourceType Id="X"/></ResourceTypes>
-<Resource Id="r0"><ResourceType Reference="X"/></Resource>
-<Resource Id="r1"><ResourceType Reference="X"/></Resource></Resources>
-<Events>
-<Event Id="E"><Duration>3</Duration><Resources><Resource><Role>R</Role><ResourceType Reference="X"/></Resource></Resources></Event>
-<Event Id="F"><Duration>1</Duration><Resources><Resource><Role>R</Role><ResourceType Reference="X"/></Resource></Resources></Event>
-</Events>
-<Constraints>
-<AssignTimeConstraint Id="c0"><Required>true</Required><Weight>2</Weight><CostFunction>Linear</CostFunction>
-<AppliesTo><Events><Event Reference="E"/><Event Reference="F"/></Events></AppliesTo></AssignTimeConstraint>
-<AssignResourceConstraint Id="c1"><Required>true</Required><Weight>1</Weight><CostFunction>Linear</CostFunction>
-<AppliesTo><Events><Event Reference="E"/><Event Reference="F"/></Events></AppliesTo><Role>R</Role></AssignResourceConstraint>
-<AvoidClashesConstraint Id="c2"><Required>true</Required><Weight>5</Weight><CostFunction>Linear</CostFunction>
-<AppliesTo><Resources><Resource Reference="r0"/><Resource Reference="r1"/></Resources></AppliesTo></AvoidClashesConstraint>
-<PreferTimesConstraint Id="c3"><Required>false</Required><Weight>3</Weight><CostFunction>Linear</CostFunction>
-<AppliesTo><Events><Event Reference="F"/></Events></AppliesTo><Times><Time Reference="t0"/></Times></PreferTimesConstraint>
-</Constraints>
-</Instance></Instances>
-<SolutionGroups><SolutionGroup Id="H">
-<Solution Reference="J"/>
-<Solution Reference="J"><Events>
-<Event Reference="E"><Time Reference="t0"/><Resources><Resource Reference="r0"><Role>R</Role></Resource></Resources></Event>
-<Event Reference="F"><Time Reference="t0"/><Resources><Resource Reference="r1"><Role>R</Role></Resource></Resources></Event>
-</Events></Solution>
-</SolutionGroup></SolutionGroups>
-</HighSchoolTimetableArchive>
-"#;
-
-/// The same, but that each event has its time in the first solution.
+/// The archive of two events, but that each event has its time in the first solution.
 pub(crate) const TIMED: &str = r#"<HighSchoolTimetableArchive>
 <Instances><Instance Id="J">
 <Times><Time Id="t0"/><Time Id="t1"/><Time Id="t2"/></Times>

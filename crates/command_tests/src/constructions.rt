@@ -1,51 +1,25 @@
 //! The command that makes a timetable of an instance from nothing.
 
-use crate::archives::{CUTS, SMALL, TO_CUT, TWO};
+use crate::archives::{CUTS, TO_CUT, TWO};
 use crate::ends::{Row, must_end_so};
-use crate::texts::{CUTS_FRONT, SMALL_FRONT, TO_CUT_FRONT, TWO_FRONT};
+use crate::texts::{CUTS_FRONT, TO_CUT_FRONT, TWO_FRONT};
 use program_runs::Piece::Once;
+use program_runs::{FRONT, PLACED, REST, TWO_EVENTS};
 use std::test::Fail;
 
 const ROWS: &[Row] = &[
     // Each meet and each task has the first time and the first resource that costs nothing.
     Row {
         words: &["construct", "archive", "0"],
-        archive: &[Once(SMALL)],
+        archive: &[Once(TWO_EVENTS)],
         script: "",
         status: 0,
         text: &[
-            Once(SMALL_FRONT),
-            Once(
-                r#"<SolutionGroups>
-<SolutionGroup Id="constructed">
-<Solution Reference="J">
-<Events>
-<Event Reference="E">
-<Duration>3</Duration>
-<Time Reference="t0"/>
-<Resources>
-<Resource Reference="r0">
-<Role>R</Role>
-</Resource>
-</Resources>
-</Event>
-<Event Reference="F">
-<Duration>1</Duration>
-<Time Reference="t0"/>
-<Resources>
-<Resource Reference="r1">
-<Role>R</Role>
-</Resource>
-</Resources>
-</Event>
-</Events>
-</Solution>
-</SolutionGroup>
-</SolutionGroups>
-</HighSchoolTimetableArchive>
-<!-- khe construct meets 2 hard 0 soft 0 -->
-"#,
-            ),
+            Once(FRONT),
+            Once("<SolutionGroup Id=\"constructed\">\n"),
+            Once(PLACED),
+            Once(REST),
+            Once("<!-- khe construct meets 2 hard 0 soft 0 -->\n"),
         ],
     },
     Row {
@@ -58,40 +32,16 @@ const ROWS: &[Row] = &[
             "--budget",
             "10",
         ],
-        archive: &[Once(SMALL)],
+        archive: &[Once(TWO_EVENTS)],
         script: "",
         status: 0,
         text: &[
-            Once(SMALL_FRONT),
+            Once(FRONT),
+            Once("<SolutionGroup Id=\"constructed\">\n"),
+            Once(PLACED),
+            Once(REST),
             Once(
-                r#"<SolutionGroups>
-<SolutionGroup Id="constructed">
-<Solution Reference="J">
-<Events>
-<Event Reference="E">
-<Duration>3</Duration>
-<Time Reference="t0"/>
-<Resources>
-<Resource Reference="r0">
-<Role>R</Role>
-</Resource>
-</Resources>
-</Event>
-<Event Reference="F">
-<Duration>1</Duration>
-<Time Reference="t0"/>
-<Resources>
-<Resource Reference="r1">
-<Role>R</Role>
-</Resource>
-</Resources>
-</Event>
-</Events>
-</Solution>
-</SolutionGroup>
-</SolutionGroups>
-</HighSchoolTimetableArchive>
-<!-- khe construct meets 2 hard 0 soft 0 -->
+                r#"<!-- khe construct meets 2 hard 0 soft 0 -->
 <!-- khe repair done accepted 0 tried 0 hard 0 soft 0 -->
 "#,
             ),
@@ -280,14 +230,14 @@ const ROWS: &[Row] = &[
     },
     Row {
         words: &["construct", "archive", "4294967295"],
-        archive: &[Once(SMALL)],
+        archive: &[Once(TWO_EVENTS)],
         script: "",
         status: 3,
         text: &[Once("khe: archive refused: 21 NoSuchInstance\n")],
     },
     Row {
         words: &["construct", "archive", "1"],
-        archive: &[Once(SMALL)],
+        archive: &[Once(TWO_EVENTS)],
         script: "",
         status: 3,
         text: &[Once("khe: archive refused: 21 NoSuchInstance\n")],

@@ -1,9 +1,10 @@
 //! The command that matches the tasks of one time.
 
-use crate::archives::{CHOICE, CROWD, SMALL, TIMED, TOO_LARGE_CROWD, TWO};
+use crate::archives::{CHOICE, CROWD, TIMED, TOO_LARGE_CROWD, TWO};
 use crate::ends::{Matched, Row, must_end_so, must_match};
-use crate::texts::{CHOICE_FRONT, SMALL_FRONT};
+use crate::texts::CHOICE_FRONT;
 use program_runs::Piece::Once;
+use program_runs::{EMPTY, FRONT, GROUP, PLACED, REST, SECOND, TWO_EVENTS};
 use std::test::Fail;
 
 /// Runs of which one text alone is right.
@@ -11,15 +12,14 @@ const ROWS: &[Row] = &[
     // No meet runs.
     Row {
         words: &["match", "archive", "0", "0", "0"],
-        archive: &[Once(SMALL)],
+        archive: &[Once(TWO_EVENTS)],
         script: "",
         status: 0,
         text: &[
-            Once(SMALL_FRONT),
+            Once(FRONT),
+            Once(GROUP),
             Once(
-                r#"<SolutionGroups>
-<SolutionGroup Id="H">
-<Solution Reference="J">
+                r#"<Solution Reference="J">
 <Events>
 <Event Reference="E">
 <Duration>3</Duration>
@@ -29,32 +29,11 @@ const ROWS: &[Row] = &[
 </Event>
 </Events>
 </Solution>
-<Solution Reference="J">
-<Events>
-<Event Reference="E">
-<Time Reference="t0"/>
-<Resources>
-<Resource Reference="r0">
-<Role>R</Role>
-</Resource>
-</Resources>
-</Event>
-<Event Reference="F">
-<Time Reference="t0"/>
-<Resources>
-<Resource Reference="r1">
-<Role>R</Role>
-</Resource>
-</Resources>
-</Event>
-</Events>
-</Solution>
-</SolutionGroup>
-</SolutionGroups>
-</HighSchoolTimetableArchive>
-<!-- khe match tasks 0 sum hard 0 soft 0 kept hard 12 soft 0 -->
 "#,
             ),
+            Once(SECOND),
+            Once(REST),
+            Once("<!-- khe match tasks 0 sum hard 0 soft 0 kept hard 12 soft 0 -->\n"),
         ],
     },
     // Where each resource costs more than none, the task goes without; the only price is then its cost.
@@ -182,40 +161,13 @@ const MATCHED: &[Matched] = &[
     // Both resources cost the same, so the old solution stays.
     Matched {
         words: &["match", "archive", "1", "0", "0"],
-        archive: &[Once(SMALL)],
+        archive: &[Once(TWO_EVENTS)],
         fronts: &[&[
-            Once(SMALL_FRONT),
-            Once(
-                r#"<SolutionGroups>
-<SolutionGroup Id="H">
-<Solution Reference="J"/>
-<Solution Reference="J">
-<Events>
-<Event Reference="E">
-<Duration>3</Duration>
-<Time Reference="t0"/>
-<Resources>
-<Resource Reference="r0">
-<Role>R</Role>
-</Resource>
-</Resources>
-</Event>
-<Event Reference="F">
-<Duration>1</Duration>
-<Time Reference="t0"/>
-<Resources>
-<Resource Reference="r1">
-<Role>R</Role>
-</Resource>
-</Resources>
-</Event>
-</Events>
-</Solution>
-</SolutionGroup>
-</SolutionGroups>
-</HighSchoolTimetableArchive>
-"#,
-            ),
+            Once(FRONT),
+            Once(GROUP),
+            Once(EMPTY),
+            Once(PLACED),
+            Once(REST),
         ]],
         last: "<!-- khe match tasks 2 sum hard 4 soft 0 kept hard 0 soft 0 -->\n",
     },
@@ -225,64 +177,17 @@ const MATCHED: &[Matched] = &[
         archive: &[Once(TIMED)],
         fronts: &[
             &[
-                Once(SMALL_FRONT),
-                Once(
-                    r#"<SolutionGroups>
-<SolutionGroup Id="H">
-<Solution Reference="J">
-<Events>
-<Event Reference="E">
-<Duration>3</Duration>
-<Time Reference="t0"/>
-<Resources>
-<Resource Reference="r0">
-<Role>R</Role>
-</Resource>
-</Resources>
-</Event>
-<Event Reference="F">
-<Duration>1</Duration>
-<Time Reference="t0"/>
-<Resources>
-<Resource Reference="r1">
-<Role>R</Role>
-</Resource>
-</Resources>
-</Event>
-</Events>
-</Solution>
-<Solution Reference="J">
-<Events>
-<Event Reference="E">
-<Time Reference="t0"/>
-<Resources>
-<Resource Reference="r0">
-<Role>R</Role>
-</Resource>
-</Resources>
-</Event>
-<Event Reference="F">
-<Time Reference="t0"/>
-<Resources>
-<Resource Reference="r1">
-<Role>R</Role>
-</Resource>
-</Resources>
-</Event>
-</Events>
-</Solution>
-</SolutionGroup>
-</SolutionGroups>
-</HighSchoolTimetableArchive>
-"#,
-                ),
+                Once(FRONT),
+                Once(GROUP),
+                Once(PLACED),
+                Once(SECOND),
+                Once(REST),
             ],
             &[
-                Once(SMALL_FRONT),
+                Once(FRONT),
+                Once(GROUP),
                 Once(
-                    r#"<SolutionGroups>
-<SolutionGroup Id="H">
-<Solution Reference="J">
+                    r#"<Solution Reference="J">
 <Events>
 <Event Reference="E">
 <Duration>3</Duration>
@@ -304,31 +209,10 @@ const MATCHED: &[Matched] = &[
 </Event>
 </Events>
 </Solution>
-<Solution Reference="J">
-<Events>
-<Event Reference="E">
-<Time Reference="t0"/>
-<Resources>
-<Resource Reference="r0">
-<Role>R</Role>
-</Resource>
-</Resources>
-</Event>
-<Event Reference="F">
-<Time Reference="t0"/>
-<Resources>
-<Resource Reference="r1">
-<Role>R</Role>
-</Resource>
-</Resources>
-</Event>
-</Events>
-</Solution>
-</SolutionGroup>
-</SolutionGroups>
-</HighSchoolTimetableArchive>
 "#,
                 ),
+                Once(SECOND),
+                Once(REST),
             ],
         ],
         last: "<!-- khe match tasks 2 sum hard 4 soft 0 taken hard 0 soft 0 -->\n",

@@ -1,14 +1,15 @@
 //! The command that runs scripts with ties.
 
-use crate::archives::{SMALL, TIES, TWO};
+use crate::archives::{TIES, TWO};
 use crate::ends::{Row, must_end_so};
 use program_runs::Piece::Once;
+use program_runs::TWO_EVENTS;
 use std::test::Fail;
 
 const ROWS: &[Row] = &[
     Row {
         words: &["tied", "archive", "0", "script"],
-        archive: &[Once(SMALL)],
+        archive: &[Once(TWO_EVENTS)],
         script: r#"tie 3 0 2
 assign 0 0
 assign 3 0
@@ -41,7 +42,7 @@ refused 30 NotFollower
     },
     Row {
         words: &["tied", "archive", "0", "script"],
-        archive: &[Once(SMALL)],
+        archive: &[Once(TWO_EVENTS)],
         script: r#"begin
 tie 3 0 1
 assign 0 0
@@ -417,7 +418,7 @@ line 2 fault 1 UnknownCommand
     },
     Row {
         words: &["tied", "archive", "2", "script"],
-        archive: &[Once(SMALL)],
+        archive: &[Once(TWO_EVENTS)],
         script: "ties\n",
         status: 3,
         text: &[Once("khe: archive refused: 18 NoSuchSolution\n")],

@@ -1,6 +1,8 @@
-use crate::archives::{WITH_RESOURCES, replaced};
+//! Solutions that are invalid, each for its cause.
+
+use crate::archives::replaced;
 use crate::ends::must_answer;
-use program_runs::End;
+use program_runs::{End, TWO_EVENTS};
 use std::alloc::Global;
 use std::process::Abort;
 use std::test::Fail;
@@ -8,7 +10,7 @@ use std::thread::Threads;
 
 /// An archive of an event with a time and resources of its own, of an event without them, and of two
 /// empty solutions.
-const TWO_EVENTS: &str = r#"<HighSchoolTimetableArchive>
+const OWN_AND_OPEN: &str = r#"<HighSchoolTimetableArchive>
 <Instances><Instance Id="I">
 <Times><Time Id="t0"/><Time Id="t1"/><Time Id="t2"/></Times>
 <Resources><ResourceTypes><ResourceType Id="X"/><ResourceType Id="Y"/></ResourceTypes>
@@ -49,7 +51,7 @@ fn must_tell<R: Threads + Sync + Abort>(
         "<Solution Reference=\"I\"><Events>{entries}</Events></Solution>"
     )?;
     let part = "<Solution Reference=\"I\"/>";
-    let archive = replaced(alloc, TWO_EVENTS, "", part, other.as_str())?.ok_or("no such part")?;
+    let archive = replaced(alloc, OWN_AND_OPEN, "", part, other.as_str())?.ok_or("no such part")?;
     let first = "archive instances 1 solutions 2\nsolution 0 group \"G\" instance \"I\"\n";
     let second = "solution 1 group \"G\" instance \"I\"\n";
     let text = format!(in alloc; "{first}{lines}{second}{EMPTY}")?;
@@ -226,7 +228,7 @@ fn evaluates_behind_an_invalid_solution(rt: HostRuntime) -> Result<(), Fail> {
         "<Solution Reference=\"J\"><Events><Event Reference=\"E\"><Time Reference=\"t1\"/></Event></Events></Solution>";
     let text =
         "archive instances 1 solutions 2\nsolution 0 group \"H\" instance \"J\"\ninvalid 4 OffEnd entry 0\nsolution 1 group \"H\" instance \"J\"\ntotal hard 0 soft 0\n";
-    let archive = replaced(rt.alloc(), WITH_RESOURCES, "", part, other)?.ok_or("no such part")?;
+    let archive = replaced(rt.alloc(), TWO_EVENTS, "", part, other)?.ok_or("no such part")?;
     let end = End {
         status: 0,
         text: text,

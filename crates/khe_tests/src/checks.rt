@@ -1,7 +1,9 @@
+//! Archives in their canonical spelling.
+
 use crate::archives::FIRST;
 use crate::ends::{must_answer, must_end};
 use program_runs::Piece::{Copies, Once};
-use program_runs::{Call, End, File, failing, reads_made, text_of, writes_made};
+use program_runs::{Call, End, File, failing, text_of};
 use std::alloc::Global;
 use std::process::Abort;
 use std::test::Fail;
@@ -117,35 +119,6 @@ fn must_end_all<R: Threads + Sync + Abort>(
 #[test]
 fn archives_are_spelled_or_refused(rt: HostRuntime) -> Result<(), Fail> {
     must_end_all(&rt, rt.alloc(), CASES)
-}
-
-/// The first archive is spelled.
-const SPELLS: Call<'static> = Call {
-    words: &CHECK,
-    files: &[File {
-        name: "archive",
-        text: FIRST,
-    }],
-};
-
-const SPELLED: End<'static> = End {
-    status: 0,
-    text: FIRST_SPELLED,
-};
-
-#[test]
-fn each_call_of_a_check_fails_in_turn(rt: HostRuntime) -> Result<(), Fail> {
-    // The archive has 553 bytes; one call opens it, and one sees its end.
-    for (piece, calls) in [(1, 556), (100, 9), (1_000_000, 4)] {
-        let made = reads_made(&rt, rt.alloc(), SPELLS, SPELLED, piece, 1)?;
-        assert_eq!(rt; made, Some(calls));
-    }
-    // The spelling has 616 bytes.
-    for (piece, calls) in [(1, 617), (100, 8), (1_000_000, 2)] {
-        let made = writes_made(&rt, rt.alloc(), SPELLS, SPELLED, piece, 1)?;
-        assert_eq!(rt; made, Some(calls));
-    }
-    Ok(())
 }
 
 /// An archive with an Id of 70,000 letters is written in two pieces: the second call of the sink is

@@ -1,7 +1,9 @@
-use crate::archives::{FIRST, WITH_RESOURCES, first_with};
+//! Reports, words and refusals.
+
+use crate::archives::{FIRST, first_with};
 use crate::ends::{must_answer, must_end};
 use khe_base::NoMemory;
-use program_runs::{Call, Devices, End, File, GOOD, failing};
+use program_runs::{Call, Devices, End, File, GOOD, TWO_EVENTS, failing};
 use std::alloc::Global;
 use std::process::Abort;
 use std::test::Fail;
@@ -282,7 +284,7 @@ fn must_answer_each<R: Threads + Sync + Abort>(
         text: text,
     };
     for words in lists {
-        must_answer(rt, alloc, words, WITH_RESOURCES, end)?;
+        must_answer(rt, alloc, words, TWO_EVENTS, end)?;
     }
     Ok(())
 }
@@ -318,6 +320,31 @@ const SMALL_ARCHIVES: &[Small] = &[
     (
         "<HighSchoolTimetableArchive><SolutionGroups><SolutionGroup Id=\"G\"><Solution Reference=\"X\"/></SolutionGroup></SolutionGroups></HighSchoolTimetableArchive>",
         "khe: archive refused: 13 UnknownReference at 87\n",
+        3,
+    ),
+    (
+        "<HighSchoolTimetableArchive><X/></HighSchoolTimetableArchive>",
+        "khe: archive refused: 7 UnknownElement at 28\n",
+        3,
+    ),
+    (
+        "<HighSchoolTimetableArchive>x</HighSchoolTimetableArchive>",
+        "khe: archive refused: 11 BadWord at 28\n",
+        3,
+    ),
+    (
+        "<HighSchoolTimetableArchive><MetaData/><MetaData/></HighSchoolTimetableArchive>",
+        "khe: archive refused: 9 RepeatedChild at 39\n",
+        3,
+    ),
+    (
+        "<HighSchoolTimetableArchive><Instances><Instance/></Instances></HighSchoolTimetableArchive>",
+        "khe: archive refused: 8 MissingChild at 39\n",
+        3,
+    ),
+    (
+        "<HighSchoolTimetableArchive><Instances><Instance Id=\"I\"/><Instance Id=\"I\"/></Instances></HighSchoolTimetableArchive>",
+        "khe: archive refused: 12 DuplicateId at 71\n",
         3,
     ),
 ];

@@ -1,5 +1,5 @@
 //! Tests of the whole program at the greatest sizes that an archive may have, each met and then
-//! passed by one more, and on devices of which each call fails in turn.
+//! passed by one more.
 #![tactic(auto)]
 
 #[cfg(test)]
@@ -18,7 +18,5 @@ mod sizes;
 mod solutions;
 #[cfg(test)]
 mod sums;
-#[cfg(test)]
-mod sweeps;
 #[cfg(test)]
 mod units;

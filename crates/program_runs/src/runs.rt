@@ -4,7 +4,7 @@ use crate::calls::{Call, File};
 use crate::devices::Devices;
 use khe_app::khe;
 use khe_base::{NoMemory, Seq, Text, both};
-use khe_io::{MemoryShelf, MemorySink, Named, OpenGate};
+use khe_io::{Gate, MemoryShelf, MemorySink, Named, OpenGate};
 use std::alloc::Global;
 use std::thread::Threads;
 
@@ -17,17 +17,22 @@ pub fn run<R: Threads + Sync>(
     devices: Devices,
     room: u64,
 ) -> Result<(u8, MemorySink), NoMemory> {
+    run_at(rt, alloc, call, devices, room, &OpenGate)
+}
+
+/// The same where the workers of the run pass this gate.
+pub fn run_at<R: Threads + Sync, G: Gate>(
+    rt: &R,
+    alloc: Global,
+    call: Call<'_>,
+    devices: Devices,
+    room: u64,
+    gate: &G,
+) -> Result<(u8, MemorySink), NoMemory> {
     let shelf = shelf(alloc, call.files, devices);
     let sink = sink(alloc, devices, room.min(devices.room));
     let ((mut shelf, mut sink), words) = both(both(shelf, sink), owned(alloc, call.words))?;
-    let status = khe(
-        rt,
-        alloc,
-        words.as_slice(),
-        &mut shelf,
-        &mut sink,
-        &OpenGate,
-    );
+    let status = khe(rt, alloc, words.as_slice(), &mut shelf, &mut sink, gate);
     Ok((status.0, sink))
 }
 

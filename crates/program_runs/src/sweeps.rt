@@ -10,7 +10,7 @@ use std::alloc::Global;
 use std::thread::Threads;
 
 /// More calls of a device than any run of a test makes.
-const CALLS: u64 = 10_000;
+const CALLS: u64 = 100_000;
 
 /// How a run on devices that fail at a call ended.
 #[derive(Clone, Copy)]

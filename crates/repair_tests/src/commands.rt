@@ -1,12 +1,14 @@
 //! The command on small archives. What it should write was made by a reference program that was written
 //! apart from this one.
 
-use crate::archives::{CROSSED, SMALL, TO_CUT, TO_JOIN};
+use crate::archives::{CROSSED, TO_CUT, TO_JOIN};
 use crate::ends::{must_answer, must_end};
-use crate::texts::{CUT, FIFTH, FRONT, JOINED, KEPT, REPAIRED, SPENT, SWAPPED};
+use crate::texts::{CUT, FIFTH, JOINED, SPENT, SWAPPED};
 use khe_base::NoMemory;
 use program_runs::Piece::Once;
-use program_runs::{Call, End, Piece, failing, text_of};
+use program_runs::{
+    Call, EMPTY, End, FRONT, GROUP, PLACED, Piece, REST, SECOND, TWO_EVENTS, failing, text_of,
+};
 use std::alloc::Global;
 use std::process::Abort;
 use std::test::Fail;
@@ -24,30 +26,43 @@ struct Row {
 
 const REPAIRS: &[Row] = &[
     Row {
-        archive: SMALL,
+        archive: TWO_EVENTS,
         words: &["repair", "archive", "0", "--depth", "1", "--budget", "1000"],
         status: 0,
         text: &[
             Once(FRONT),
-            Once(REPAIRED),
+            Once(GROUP),
+            Once(PLACED),
+            Once(SECOND),
+            Once(REST),
             Once("<!-- khe repair done accepted 4 tried 5 hard 0 soft 0 -->\n"),
         ],
     },
     Row {
-        archive: SMALL,
+        archive: TWO_EVENTS,
         words: &["repair", "archive", "0", "--budget", "1", "--depth", "1"],
         status: 0,
         text: &[
             Once(FRONT),
+            Once(GROUP),
             Once(SPENT),
+            Once(SECOND),
+            Once(REST),
             Once("<!-- khe repair spent accepted 1 tried 1 settled 0 hard 6 soft 0 -->\n"),
         ],
     },
     Row {
-        archive: SMALL,
+        archive: TWO_EVENTS,
         words: &["repair", "archive", "1", "--depth", "01", "--budget", "10"],
         status: 0,
-        text: &[Once(FRONT), Once(KEPT)],
+        text: &[
+            Once(FRONT),
+            Once(GROUP),
+            Once(EMPTY),
+            Once(PLACED),
+            Once(REST),
+            Once("<!-- khe repair done accepted 0 tried 0 hard 0 soft 0 -->\n"),
+        ],
     },
     Row {
         archive: CROSSED,
@@ -74,7 +89,7 @@ const REPAIRS: &[Row] = &[
         text: &[Once(JOINED)],
     },
     Row {
-        archive: SMALL,
+        archive: TWO_EVENTS,
         words: &["repair", "archive", "2", "--depth", "1", "--budget", "10"],
         status: 3,
         text: &[Once("khe: archive refused: 18 NoSuchSolution\n")],
@@ -87,7 +102,7 @@ const REPAIRS: &[Row] = &[
     },
 ];
 
-/// A solve of a solution that the small archive does not have.
+/// A solve of a solution that the archive of two events does not have.
 const LACKING: &[&str] = &[
     "solve",
     "archive",
@@ -104,7 +119,7 @@ const LACKING: &[&str] = &[
 
 const SOLVES: &[Row] = &[
     Row {
-        archive: SMALL,
+        archive: TWO_EVENTS,
         words: &[
             "solve",
             "archive",
@@ -121,12 +136,15 @@ const SOLVES: &[Row] = &[
         status: 0,
         text: &[
             Once(FRONT),
+            Once(GROUP),
             Once(FIFTH),
+            Once(SECOND),
+            Once(REST),
             Once("<!-- khe solve job 4 hard 3 soft 0 -->\n"),
         ],
     },
     Row {
-        archive: SMALL,
+        archive: TWO_EVENTS,
         words: &[
             "solve",
             "archive",
@@ -143,12 +161,15 @@ const SOLVES: &[Row] = &[
         status: 0,
         text: &[
             Once(FRONT),
-            Once(REPAIRED),
+            Once(GROUP),
+            Once(PLACED),
+            Once(SECOND),
+            Once(REST),
             Once("<!-- khe solve job 0 hard 0 soft 0 -->\n"),
         ],
     },
     Row {
-        archive: SMALL,
+        archive: TWO_EVENTS,
         words: LACKING,
         status: 3,
         text: &[Once("khe: archive refused: 18 NoSuchSolution\n")],
@@ -215,13 +236,16 @@ fn must_solve_by<R: Threads + Sync + Abort>(
         status: 0,
         text: text.as_str(),
     };
-    must_answer(rt, alloc, &words, SMALL, end)
+    must_answer(rt, alloc, &words, TWO_EVENTS, end)
 }
 
 /// What three jobs with one chain each come to.
 const THREE_JOBS: &[Piece] = &[
     Once(FRONT),
+    Once(GROUP),
     Once(SPENT),
+    Once(SECOND),
+    Once(REST),
     Once("<!-- khe solve job 0 hard 6 soft 0 -->\n"),
 ];
 

@@ -11,13 +11,9 @@ mod commands;
 #[cfg(test)]
 mod ends;
 #[cfg(test)]
-mod gates;
-#[cfg(test)]
 mod repairs;
 #[cfg(test)]
 mod solves;
-#[cfg(test)]
-mod sweeps;
 #[cfg(test)]
 mod texts;
 #[cfg(test)]

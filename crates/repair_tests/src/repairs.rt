@@ -4,7 +4,7 @@ ghost use Rattle.std.specs.Prelude.{◌≡◌, ◌<◌, ◌≤◌, []};
 ghost use Rattle.khe_engine.specs.Values.{ServesAll};
 ghost use Rattle.khe_instance.specs.States.{IsValid};
 
-use crate::archives::{CROSSED, SMALL, SPLIT};
+use crate::archives::{CROSSED, SPLIT};
 use crate::cases::{Case, OF_CROSSED, OF_SMALL, OF_SPLIT};
 use crate::worked::{Worked, read, state_of};
 use ejection_repair::{Outcome, repair};
@@ -12,6 +12,7 @@ use khe_base::{NoMemory, Totals};
 use khe_engine::Engine;
 use khe_instance::{Instance, Plain};
 use khe_told::{Blank, Family, Steps};
+use program_runs::TWO_EVENTS;
 use sixteen_families::Families;
 use std::alloc::Global;
 use std::marker::Brand;
@@ -102,7 +103,7 @@ fn right(alloc: Global, archive: &str, cases: &[Case]) -> usize {
 
 #[test]
 fn meets_and_tasks_are_placed(rt: HostRuntime) {
-    assert_eq!(rt; right(rt.alloc(), SMALL, &OF_SMALL), OF_SMALL.len());
+    assert_eq!(rt; right(rt.alloc(), TWO_EVENTS, &OF_SMALL), OF_SMALL.len());
 }
 
 #[test]

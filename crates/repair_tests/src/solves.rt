@@ -4,18 +4,19 @@ ghost use Rattle.std.specs.Prelude.{◌≤◌};
 ghost use Rattle.khe_engine.specs.Values.{ServesAll};
 ghost use Rattle.khe_instance.specs.States.{IsValid};
 
-use crate::archives::{SMALL, SPLIT};
-use crate::gates::Meeting;
+use crate::archives::SPLIT;
 use crate::worked::{Worked, read, state_of};
 use khe_base::{NoMemory, Totals};
 use khe_instance::{Instance, Plain};
-use khe_io::{Gate, OpenGate};
+use khe_io::Gate;
 use khe_told::Family;
 use parallel_repair::solve;
+use program_runs::TWO_EVENTS;
 use repair_pool::{Fate, Solved};
 use sixteen_families::Families;
 use std::alloc::Global;
 use std::thread::Threads;
+use test_gates::{JOBS, Meeting, Record};
 
 /// The jobs of a solve of an archive's first solution, which are repairs by single moves; the job that
 /// has the least result, and the fates of all.
@@ -88,6 +89,28 @@ fn comes_right<R: Threads + Sync, G: Gate>(
     }
 }
 
+/// Whether each job that ran by these fates passed the gate once by its number, and nothing else did.
+fn passed_by(gate: &Record, fates: &[Fate]) -> bool {
+    for job in 0..JOBS {
+        let has_run = matches!(fates.get(job), Some(Fate::Ran(_)));
+        if gate.calls_of(job) != u64::from(has_run) {
+            return false;
+        }
+    }
+    fates.len() <= JOBS && gate.others() == 0
+}
+
+/// The same as `comes_right`, where each job that runs passes the gate by its number.
+fn comes_right_by_number<R: Threads + Sync>(
+    rt: &R,
+    alloc: Global,
+    archive: &str,
+    case: &Case<'_>,
+) -> bool {
+    let gate = Record::new();
+    comes_right(rt, alloc, archive, case, &gate) && passed_by(&gate, case.fates)
+}
+
 /// A job that ran and came to these costs.
 const fn ran(hard: u128, soft: u128) -> Fate {
     Fate::Ran(Totals { hard, soft })
@@ -102,7 +125,7 @@ fn any_number_of_workers_comes_to_the_same(rt: HostRuntime) {
             job: 0,
             fates: &[ran(6, 0), ran(10, 3), ran(9, 0)],
         };
-        assert!(rt; comes_right(&rt, rt.alloc(), SMALL, &case, &OpenGate));
+        assert!(rt; comes_right_by_number(&rt, rt.alloc(), TWO_EVENTS, &case));
     }
 }
 
@@ -114,7 +137,7 @@ fn the_last_job_may_be_the_least(rt: HostRuntime) {
         job: 4,
         fates: &[ran(4, 0), ran(7, 3), ran(8, 0), ran(5, 0), ran(3, 0)],
     };
-    assert!(rt; comes_right(&rt, rt.alloc(), SMALL, &case, &OpenGate));
+    assert!(rt; comes_right_by_number(&rt, rt.alloc(), TWO_EVENTS, &case));
 }
 
 #[test]
@@ -126,7 +149,7 @@ fn jobs_after_one_without_a_cost_are_left_out(rt: HostRuntime) {
         job: 1,
         fates: &[ran(0, 2), ran(0, 0), left_out, left_out, left_out],
     };
-    assert!(rt; comes_right(&rt, rt.alloc(), SPLIT, &case, &OpenGate));
+    assert!(rt; comes_right_by_number(&rt, rt.alloc(), SPLIT, &case));
 }
 
 /// The first worker waits in its first job until the other one has done all others.
@@ -148,5 +171,5 @@ fn a_worker_that_waits_leaves_its_jobs_to_the_other(rt: HostRuntime) {
         ],
     };
     let gate = Meeting::of(7);
-    assert!(rt; comes_right(&rt, rt.alloc(), SMALL, &case, &gate) && gate.came());
+    assert!(rt; comes_right(&rt, rt.alloc(), TWO_EVENTS, &case, &gate) && gate.came());
 }

@@ -1,37 +1,6 @@
-/// An archive with an event `E` of three times and an event `F` of one, each with a place for one of
-/// two resources of one type. Its first solution is empty, its second meets every constraint.
-pub(crate) const SMALL: &str = r#"<HighSchoolTimetableArchive>
-<Instances><Instance Id="J">
-<Times><Time Id="t0"/><Time Id="t1"/><Time Id="t2"/></Times>
-<Resources><ResourceTypes><ResourceType Id="X"/></ResourceTypes>
-<Resource Id="r0"><ResourceType Reference="X"/></Resource>
-<Resource Id="r1"><ResourceType Reference="X"/></Resource></Resources>
-<Events>
-<Event Id="E"><Duration>3</Duration><Resources><Resource><Role>R</Role><ResourceType Reference="X"/></Resource></Resources></Event>
-<Event Id="F"><Duration>1</Duration><Resources><Resource><Role>R</Role><ResourceType Reference="X"/></Resource></Resources></Event>
-</Events>
-<Constraints>
-<AssignTimeConstraint Id="c0"><Required>true</Required><Weight>2</Weight><CostFunction>Linear</CostFunction>
-<AppliesTo><Events><Event Reference="E"/><Event Reference="F"/></Events></AppliesTo></AssignTimeConstraint>
-<AssignResourceConstraint Id="c1"><Required>true</Required><Weight>1</Weight><CostFunction>Linear</CostFunction>
-<AppliesTo><Events><Event Reference="E"/><Event Reference="F"/></Events></AppliesTo><Role>R</Role></AssignResourceConstraint>
-<AvoidClashesConstraint Id="c2"><Required>true</Required><Weight>5</Weight><CostFunction>Linear</CostFunction>
-<AppliesTo><Resources><Resource Reference="r0"/><Resource Reference="r1"/></Resources></AppliesTo></AvoidClashesConstraint>
-<PreferTimesConstraint Id="c3"><Required>false</Required><Weight>3</Weight><CostFunction>Linear</CostFunction>
-<AppliesTo><Events><Event Reference="F"/></Events></AppliesTo><Times><Time Reference="t0"/></Times></PreferTimesConstraint>
-</Constraints>
-</Instance></Instances>
-<SolutionGroups><SolutionGroup Id="H">
-<Solution Reference="J"/>
-<Solution Reference="J"><Events>
-<Event Reference="E"><Time Reference="t0"/><Resources><Resource Reference="r0"><Role>R</Role></Resource></Resources></Event>
-<Event Reference="F"><Time Reference="t0"/><Resources><Resource Reference="r1"><Role>R</Role></Resource></Resources></Event>
-</Events></Solution>
-</SolutionGroup></SolutionGroups>
-</HighSchoolTimetableArchive>
-"#;
+//! Archives that scripts are played on.
 
-/// The same, but for an entry in its first solution by which `E` would run past the last time.
+/// The archive of two events, but for an entry in its first solution by which `E` would run past the last time.
 pub(crate) const OFF_END: &str = r#"<HighSchoolTimetableArchive>
 <Instances><Instance Id="J">
 <Times><Time Id="t0"/><Time Id="t1"/><Time Id="t2"/></Times>
@@ -66,7 +35,7 @@ pub(crate) const OFF_END: &str = r#"<HighSchoolTimetableArchive>
 /// The same cut off within its last end tag.
 pub(crate) const CUT_SHORT: &str = r#"<HighSchoolTimetableArchive></HighSch"#;
 
-/// The small archive, in which `r0` must be free at `t0`.
+/// The archive of two events, in which `r0` must be free at `t0`.
 pub(crate) const RESERVED: &str = r#"<HighSchoolTimetableArchive>
 <Instances><Instance Id="J">
 <Times><Time Id="t0"/><Time Id="t1"/><Time Id="t2"/></Times>
@@ -106,7 +75,7 @@ pub(crate) const UNRESERVED: &str = r#"<HighSchoolTimetableArchive>
 </HighSchoolTimetableArchive>
 "#;
 
-/// The small archive, in which `F` must start at `t0`: that is the monitor 0.
+/// The archive of two events, in which `F` must start at `t0`: that is the monitor 0.
 pub(crate) const STRICT: &str = r#"<HighSchoolTimetableArchive>
 <Instances><Instance Id="J">
 <Times><Time Id="t0"/><Time Id="t1"/><Time Id="t2"/></Times>

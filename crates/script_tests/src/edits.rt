@@ -1,11 +1,13 @@
-use crate::archives::SMALL;
+//! Edits that are accepted and edits that are refused.
+
 use crate::plays::{Play, must_go};
 use program_runs::Piece::{Copies, Numbered, Once};
+use program_runs::TWO_EVENTS;
 use std::test::Fail;
 
 /// A meet is cut in two.
 const CUTS: Play = Play {
-    archive: SMALL,
+    archive: TWO_EVENTS,
     solution: "0",
     script: &[Once(
         "\
@@ -35,7 +37,7 @@ task 3 0 resource -
 
 /// And its parts are merged, once they have the same resources.
 const MERGES: Play = Play {
-    archive: SMALL,
+    archive: TWO_EVENTS,
     solution: "0",
     script: &[Once(
         "\
@@ -70,7 +72,7 @@ total hard 3 soft 0
 
 /// Edits that are refused, of meets, tasks and monitors.
 const REFUSED: Play = Play {
-    archive: SMALL,
+    archive: TWO_EVENTS,
     solution: "0",
     script: &[Once(
         "\
@@ -113,7 +115,7 @@ refused 12 NotAdjacent
 
 /// Monitors come into groups and leave them.
 const GROUPS: Play = Play {
-    archive: SMALL,
+    archive: TWO_EVENTS,
     solution: "0",
     script: &[Once(
         "\
@@ -156,7 +158,7 @@ ok 1
 
 /// Two events run at once with one resource, then with two, and then one of them at its own time.
 const CLASHES: Play = Play {
-    archive: SMALL,
+    archive: TWO_EVENTS,
     solution: "0",
     script: &[Once(
         "\
@@ -189,7 +191,7 @@ total hard 0 soft 0
 
 /// Starts and resources are exchanged, moved and taken, from the solution that meets all.
 const EXCHANGES: Play = Play {
-    archive: SMALL,
+    archive: TWO_EVENTS,
     solution: "1",
     script: &[Once(
         "\
@@ -267,7 +269,7 @@ total hard 7 soft 0
 
 /// As many groups as there may be, and one more; a dropped number is free again.
 const ALL_GROUPS: Play = Play {
-    archive: SMALL,
+    archive: TWO_EVENTS,
     solution: "0",
     script: &[
         Copies(200, "group\n"),

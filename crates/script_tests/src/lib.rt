@@ -20,6 +20,4 @@ mod shortages;
 #[cfg(test)]
 mod starts;
 #[cfg(test)]
-mod sweeps;
-#[cfg(test)]
 mod week;

@@ -1,7 +1,8 @@
-use crate::archives::SMALL;
+//! Lines of every sort, and lines without a reading.
+
 use crate::plays::{Play, must_go};
-use program_runs::Piece;
 use program_runs::Piece::{Copies, Once};
+use program_runs::{Piece, TWO_EVENTS};
 use std::test::Fail;
 
 /// The answer to `total` before any edit.
@@ -9,7 +10,7 @@ const TOTAL: Piece = Once("total hard 12 soft 0\n");
 
 /// A script without lines.
 const EMPTY: Play = Play {
-    archive: SMALL,
+    archive: TWO_EVENTS,
     solution: "0",
     script: &[],
     status: 0,
@@ -18,7 +19,7 @@ const EMPTY: Play = Play {
 
 /// A comment, an empty line, and a last line without a line feed.
 const COMMENTED: Play = Play {
-    archive: SMALL,
+    archive: TWO_EVENTS,
     solution: "0",
     script: &[Once("  # note\n\ntotal")],
     status: 0,
@@ -27,7 +28,7 @@ const COMMENTED: Play = Play {
 
 /// Lines that end in the way of other systems, and words far apart.
 const RETURNS: Play = Play {
-    archive: SMALL,
+    archive: TWO_EVENTS,
     solution: "0",
     script: &[Once("#total\r\n\r\n\tassign \t 0000000000  2 \r\nunassign 3\r\ntotal\r\n")],
     status: 0,
@@ -36,7 +37,7 @@ const RETURNS: Play = Play {
 
 /// The answers to the lines before a line without a reading are kept, and it is the last.
 const UNKNOWN: Play = Play {
-    archive: SMALL,
+    archive: TWO_EVENTS,
     solution: "0",
     script: &[Once("total\nfly 3\ntotal\n")],
     status: 7,
@@ -45,7 +46,7 @@ const UNKNOWN: Play = Play {
 
 /// Lines without an answer are counted too.
 const TOO_FEW: Play = Play {
-    archive: SMALL,
+    archive: TWO_EVENTS,
     solution: "0",
     script: &[Once("# note\n\n\nassign x\n")],
     status: 7,
@@ -53,7 +54,7 @@ const TOO_FEW: Play = Play {
 };
 
 const TOO_MANY: Play = Play {
-    archive: SMALL,
+    archive: TWO_EVENTS,
     solution: "0",
     script: &[Once("total\ntotal # now")],
     status: 7,
@@ -62,7 +63,7 @@ const TOO_MANY: Play = Play {
 
 /// The greatest number there may be, and one more.
 const TOO_GREAT: Play = Play {
-    archive: SMALL,
+    archive: TWO_EVENTS,
     solution: "0",
     script: &[Once("monitor 4294967295\nmonitor 4294967296\n")],
     status: 7,
@@ -71,7 +72,7 @@ const TOO_GREAT: Play = Play {
 
 /// Questions of what is there and of what is not.
 const QUESTIONS: Play = Play {
-    archive: SMALL,
+    archive: TWO_EVENTS,
     solution: "0",
     script: &[Once(
         "\
@@ -117,7 +118,7 @@ group 0 hard 3 soft 3
 
 /// Answers that are too long to be written at once.
 const LONG: Play = Play {
-    archive: SMALL,
+    archive: TWO_EVENTS,
     solution: "1",
     script: &[Copies(1_000, "monitors\n"), Once("fly")],
     status: 7,
@@ -191,7 +192,7 @@ const REST: &str = "\
 
 /// A script of 16 MiB is run.
 const GREATEST: Play = Play {
-    archive: SMALL,
+    archive: TWO_EVENTS,
     solution: "0",
     script: &[FIRST_LINES, Copies(16_383, PART), Once(REST)],
     status: 7,
@@ -200,7 +201,7 @@ const GREATEST: Play = Play {
 
 /// A script of one byte more is not.
 const TOO_LARGE: Play = Play {
-    archive: SMALL,
+    archive: TWO_EVENTS,
     solution: "0",
     script: &[FIRST_LINES, Copies(16_383, PART), Once(REST), Once("\n")],
     status: 7,

@@ -1,56 +1,13 @@
-use crate::archives::SMALL;
+//! Marks, and what they lead back to.
+
 use crate::plays::{Play, must_go};
 use program_runs::Piece::{Copies, Once};
+use program_runs::{NESTED_SCRIPT, NESTED_TEXT, TWO_EVENTS};
 use std::test::Fail;
 
-/// A script with a mark in a mark.
-pub(crate) const NESTED_SCRIPT: &str = "\
-begin
-assign 0 0
-total
-begin
-give 0 0 0
-group
-add 0 1
-groupcost 0
-total
-undo
-groupcost 0
-total
-undo
-total
-end
-undo
-total
-end
-undo
-";
-
-/// What it answers: each undo goes back to its own mark.
-pub(crate) const NESTED_TEXT: &str = "\
-ok
-ok
-total hard 6 soft 0
-ok
-ok
-ok 0
-ok
-group 0 hard 2 soft 0
-total hard 3 soft 0
-ok
-refused 16 NoSuchGroup
-total hard 6 soft 0
-ok
-total hard 6 soft 0
-ok
-ok
-total hard 12 soft 0
-ok
-refused 25 NoMark
-";
-
+/// Each undo goes back to its own mark.
 const NESTED: Play = Play {
-    archive: SMALL,
+    archive: TWO_EVENTS,
     solution: "0",
     script: &[Once(NESTED_SCRIPT)],
     status: 0,
@@ -59,7 +16,7 @@ const NESTED: Play = Play {
 
 /// Meets, resources, groups and detached monitors are all as they were.
 const WHOLE: Play = Play {
-    archive: SMALL,
+    archive: TWO_EVENTS,
     solution: "0",
     script: &[Once(
         "\
@@ -116,7 +73,7 @@ refused 16 NoSuchGroup
 
 /// Marks are counted from one.
 const NUMBERS: Play = Play {
-    archive: SMALL,
+    archive: TWO_EVENTS,
     solution: "0",
     script: &[Once("end\nundoto 1\nbegin\nundoto 0\nundoto 2\nundoto 1\n")],
     status: 0,
@@ -127,7 +84,7 @@ const NUMBERS: Play = Play {
 
 /// Going back to an outer mark closes those inside it.
 const OUTER: Play = Play {
-    archive: SMALL,
+    archive: TWO_EVENTS,
     solution: "0",
     script: &[Once("begin\nbegin\nassign 0 0\nundoto 1\nend\nend\ntotal\n")],
     status: 0,
@@ -136,7 +93,7 @@ const OUTER: Play = Play {
 
 /// What was done since a mark that is closed belongs to the mark around it.
 const CLOSED: Play = Play {
-    archive: SMALL,
+    archive: TWO_EVENTS,
     solution: "0",
     script: &[Once("begin\nassign 0 0\nbegin\ngive 0 0 0\nend\ntotal\nundo\ntotal\n")],
     status: 0,
@@ -145,7 +102,7 @@ const CLOSED: Play = Play {
 
 /// As many marks as may be open, and one more.
 const ALL_MARKS: Play = Play {
-    archive: SMALL,
+    archive: TWO_EVENTS,
     solution: "0",
     script: &[
         Copies(1_000, "begin\n"),

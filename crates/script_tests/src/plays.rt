@@ -1,3 +1,5 @@
+//! Scripts on archives, and how they should end.
+
 use crate::ends::must_end;
 use khe_base::{NoMemory, both};
 use program_runs::{Call, End, File, GOOD, Piece, text_of};

@@ -1,6 +1,9 @@
-use crate::archives::{NO_RESOURCE, RESERVED, SMALL, STRICT, UNRESERVED};
+//! What is short of supplies.
+
+use crate::archives::{NO_RESOURCE, RESERVED, STRICT, UNRESERVED};
 use crate::plays::{Play, must_go};
 use program_runs::Piece::Once;
+use program_runs::TWO_EVENTS;
 use std::test::Fail;
 
 /// The lines of the demands for `r0` when both events are given it.
@@ -8,7 +11,7 @@ const FOUR: &str = "deficit 1 demands 4\ndemand 0 0 0\ndemand 0 0 1\ndemand 0 0 
 
 /// Four demands share the three supplies of one resource, until one of them gets another.
 const SHARED: Play = Play {
-    archive: SMALL,
+    archive: TWO_EVENTS,
     solution: "0",
     script: &[Once("give 0 0 0\ngive 3 0 0\ndeficit\nregive 3 0 1\ndeficit\n")],
     status: 0,
@@ -21,7 +24,7 @@ const SHARED: Play = Play {
 
 /// What an undo leads back to is short again, also where meets were split and moved.
 const UNDONE: Play = Play {
-    archive: SMALL,
+    archive: TWO_EVENTS,
     solution: "0",
     script: &[Once(
         "give 0 0 0\ngive 3 0 0\nbegin\nregive 3 0 1\ndeficit\nsplit 0 1\nassign 1 1\ntake 1 0\nundo\ndeficit\n",
@@ -35,7 +38,7 @@ const UNDONE: Play = Play {
 
 /// A script that asks once.
 const ONCE: Play = Play {
-    archive: SMALL,
+    archive: TWO_EVENTS,
     solution: "0",
     script: &[Once("give 0 0 0\ngive 3 0 0\nassign 0 0\ndeficit")],
     status: 0,

@@ -1,8 +1,10 @@
-use crate::archives::{CUT_SHORT, OFF_END, SMALL};
+//! Runs that end before their script is played.
+
+use crate::archives::{CUT_SHORT, OFF_END};
 use crate::ends::must_end;
 use crate::plays::{Play, must_go};
 use program_runs::Piece::Once;
-use program_runs::{Call, End, File, GOOD, failing};
+use program_runs::{Call, End, File, GOOD, TWO_EVENTS, failing};
 use std::alloc::Global;
 use std::process::Abort;
 use std::test::Fail;
@@ -12,7 +14,7 @@ use std::thread::Threads;
 const FILES: &[File<'static>] = &[
     File {
         name: "archive",
-        text: SMALL,
+        text: TWO_EVENTS,
     },
     File {
         name: "script",
@@ -22,7 +24,7 @@ const FILES: &[File<'static>] = &[
 
 /// The number of a solution may have zeros in front.
 const ZEROS: Play = Play {
-    archive: SMALL,
+    archive: TWO_EVENTS,
     solution: "000000000000000001",
     script: &[Once("total\n")],
     status: 0,
@@ -30,7 +32,7 @@ const ZEROS: Play = Play {
 };
 
 const NO_SUCH_SOLUTION: Play = Play {
-    archive: SMALL,
+    archive: TWO_EVENTS,
     solution: "2",
     script: &[Once("fly 3\n")],
     status: 3,
@@ -38,7 +40,7 @@ const NO_SUCH_SOLUTION: Play = Play {
 };
 
 const GREATEST_NUMBER: Play = Play {
-    archive: SMALL,
+    archive: TWO_EVENTS,
     solution: "4294967295",
     script: &[Once("total\n")],
     status: 3,

@@ -1,3 +1,5 @@
+//! A script on the week of a school.
+
 use crate::plays::{Play, must_go};
 use program_runs::Piece;
 use program_runs::Piece::Once;

@@ -3,13 +3,13 @@ ghost use Rattle.worker_tests.specs.Reading.{IsResolved};
 
 use crate::archives::{ReadArchive, read_archive, text_of};
 use crate::bulky::Bulky;
-use crate::gates::Meeting;
 use khe_base::NoMemory;
 use khe_io::{Gate, OpenGate};
 use parallel_solve::{Verdict, WindowMaker, all_solutions, evaluate_all, rooms_of};
 use std::alloc::Global;
 use std::test::Fail;
 use std::thread::Threads;
+use test_gates::{Meeting, Record};
 
 /// What a test reads of a verdict.
 #[derive(Clone, Copy, Debug, PartialEq, Eq)]
@@ -89,7 +89,8 @@ fn read_with(alloc: Global, empty: usize) -> Result<Option<ReadArchive>, NoMemor
     Ok(read_archive(alloc, text.as_str()))
 }
 
-/// Each number of workers tells the same, in the order of the solutions.
+/// Each number of workers tells the same, in the order of the solutions, and each solution passes the gate by its
+/// number.
 #[test]
 fn workers_tell_the_same(rt: HostRuntime) -> Result<(), Fail> {
     let expected = [
@@ -101,8 +102,10 @@ fn workers_tell_the_same(rt: HostRuntime) -> Result<(), Fail> {
     ];
     let read = read_with(rt.alloc(), 3)?.ok_or("a fault")?;
     for workers in 1..=5 {
-        let all = at_once(&rt, rt.alloc(), &read, workers, &OpenGate)?;
+        let gate = Record::new();
+        let all = at_once(&rt, rt.alloc(), &read, workers, &gate)?;
         assert_eq!(rt; all.as_slice(), expected.as_slice());
+        assert!(rt; gate.is_of_first(5));
     }
     Ok(())
 }
@@ -111,7 +114,7 @@ fn workers_tell_the_same(rt: HostRuntime) -> Result<(), Fail> {
 #[test]
 fn two_workers_evaluate_side_by_side(rt: HostRuntime) -> Result<(), Fail> {
     let read = read_with(rt.alloc(), 3)?.ok_or("a fault")?;
-    let gate = Meeting::new();
+    let gate = Meeting::of(1);
     let all = at_once(&rt, rt.alloc(), &read, 2, &gate)?;
     assert!(rt; gate.came() && all.len() == 5);
     Ok(())

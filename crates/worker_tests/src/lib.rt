@@ -11,6 +11,4 @@ mod drawing;
 #[cfg(test)]
 mod evaluating;
 #[cfg(test)]
-mod gates;
-#[cfg(test)]
 mod looking;

@@ -3,19 +3,20 @@
 use khe_io::Gate;
 use std::sync::atomic::{AtomicBool, AtomicU64, Ordering};
 
-/// How often the first worker at a gate looks for the others.
+/// How often the first job at a gate looks for the others.
 const MOST_TURNS: u32 = 4_000_000_000;
 
 /// A gate at which the first job waits until so many others have come, and which notes whether they did.
 #[derive(Drop)]
-pub(crate) struct Meeting {
+pub struct Meeting {
     others: u64,
     entered: AtomicU64,
     came: AtomicBool,
 }
 
 impl Meeting {
-    pub(crate) fn of(others: u64) -> Meeting {
+    /// A gate at which no job has come yet, and the first one will wait for so many others.
+    pub fn of(others: u64) -> Meeting {
         Meeting {
             others,
             entered: AtomicU64::new(0),
@@ -24,7 +25,7 @@ impl Meeting {
     }
 
     /// Whether so many others came while the first job waited.
-    pub(crate) fn came(&self) -> bool {
+    pub fn came(&self) -> bool {
         self.came.load(Ordering::SeqCst)
     }
 }
