@@ -1,0 +1,393 @@
+//! The command that matches the tasks of one time.
+
+use crate::archives::{CHOICE, CROWD, TIMED, TOO_LARGE_CROWD, TWO};
+use crate::ends::{Matched, Row, must_end_so, must_match};
+use crate::texts::CHOICE_FRONT;
+use program_runs::Piece::Once;
+use program_runs::{EMPTY, FRONT, GROUP, PLACED, REST, SECOND, TWO_EVENTS};
+use std::test::Fail;
+
+/// Runs of which one text alone is right.
+const ROWS: &[Row] = &[
+    // No meet runs.
+    Row {
+        words: &["match", "archive", "0", "0", "0"],
+        archive: &[Once(TWO_EVENTS)],
+        script: "",
+        status: 0,
+        text: &[
+            Once(FRONT),
+            Once(GROUP),
+            Once(
+                r#"<Solution Reference="J">
+<Events>
+<Event Reference="E">
+<Duration>3</Duration>
+</Event>
+<Event Reference="F">
+<Duration>1</Duration>
+</Event>
+</Events>
+</Solution>
+"#,
+            ),
+            Once(SECOND),
+            Once(REST),
+            Once("<!-- khe match tasks 0 sum hard 0 soft 0 kept hard 12 soft 0 -->\n"),
+        ],
+    },
+    // Where each resource costs more than none, the task goes without; the only price is then its cost.
+    Row {
+        words: &["match", "archive", "0", "2", "0"],
+        archive: &[Once(CHOICE)],
+        script: "",
+        status: 0,
+        text: &[
+            Once(CHOICE_FRONT),
+            Once(
+                r#"<SolutionGroups>
+<SolutionGroup Id="H">
+<Solution Reference="M">
+<Events>
+<Event Reference="E">
+<Duration>2</Duration>
+<Time Reference="t0"/>
+<Resources>
+<Resource Reference="r0">
+<Role>R</Role>
+</Resource>
+</Resources>
+</Event>
+<Event Reference="F">
+<Duration>1</Duration>
+<Time Reference="t1"/>
+<Resources>
+<Resource Reference="r1">
+<Role>R</Role>
+</Resource>
+</Resources>
+</Event>
+<Event Reference="G">
+<Duration>1</Duration>
+<Time Reference="t2"/>
+</Event>
+</Events>
+</Solution>
+<Solution Reference="M">
+<Events>
+<Event Reference="E">
+<Time Reference="t0"/>
+<Resources>
+<Resource Reference="r1">
+<Role>R</Role>
+</Resource>
+</Resources>
+</Event>
+<Event Reference="F">
+<Time Reference="t1"/>
+<Resources>
+<Resource Reference="r0">
+<Role>R</Role>
+</Resource>
+</Resources>
+</Event>
+<Event Reference="G">
+<Time Reference="t2"/>
+</Event>
+</Events>
+</Solution>
+</SolutionGroup>
+</SolutionGroups>
+</HighSchoolTimetableArchive>
+<!-- khe task 3 0 resource - price 13 0 -->
+<!-- khe match tasks 1 sum hard 13 soft 0 taken hard 13 soft 0 -->
+"#,
+            ),
+        ],
+    },
+    Row {
+        words: &["match", "archive", "0", "3", "0"],
+        archive: &[Once(TIMED)],
+        script: "",
+        status: 3,
+        text: &[Once("khe: archive refused: 22 NoSuchTime\n")],
+    },
+    Row {
+        words: &["match", "archive", "0", "0", "1"],
+        archive: &[Once(TIMED)],
+        script: "",
+        status: 3,
+        text: &[Once("khe: archive refused: 23 NoSuchType\n")],
+    },
+    Row {
+        words: &["match", "archive", "0", "4294967295", "1"],
+        archive: &[Once(TIMED)],
+        script: "",
+        status: 3,
+        text: &[Once("khe: archive refused: 22 NoSuchTime\n")],
+    },
+    Row {
+        words: &["match", "archive", "2", "3", "1"],
+        archive: &[Once(TIMED)],
+        script: "",
+        status: 3,
+        text: &[Once("khe: archive refused: 18 NoSuchSolution\n")],
+    },
+    Row {
+        words: &["match", "archive", "0", "9", "9"],
+        archive: &[Once(TWO)],
+        script: "",
+        status: 3,
+        text: &[Once("khe: archive refused: 19 Invalid 4 OffEnd entry 0\n")],
+    },
+    Row {
+        words: &["match", "archive", "0", "0", "0"],
+        archive: TOO_LARGE_CROWD,
+        script: "",
+        status: 3,
+        text: &[Once("khe: archive refused: 24 TooManyTasks 201\n")],
+    },
+    Row {
+        words: &["match", "archive", "0", "0", "1"],
+        archive: TOO_LARGE_CROWD,
+        script: "",
+        status: 3,
+        text: &[Once("khe: archive refused: 23 NoSuchType\n")],
+    },
+];
+
+/// Runs of which several texts are right: what is written ends with this line, and begins with one of these texts.
+const MATCHED: &[Matched] = &[
+    // Both resources cost the same, so the old solution stays.
+    Matched {
+        words: &["match", "archive", "1", "0", "0"],
+        archive: &[Once(TWO_EVENTS)],
+        fronts: &[&[
+            Once(FRONT),
+            Once(GROUP),
+            Once(EMPTY),
+            Once(PLACED),
+            Once(REST),
+        ]],
+        last: "<!-- khe match tasks 2 sum hard 4 soft 0 kept hard 0 soft 0 -->\n",
+    },
+    // Either task may have either resource.
+    Matched {
+        words: &["match", "archive", "0", "0", "0"],
+        archive: &[Once(TIMED)],
+        fronts: &[
+            &[
+                Once(FRONT),
+                Once(GROUP),
+                Once(PLACED),
+                Once(SECOND),
+                Once(REST),
+            ],
+            &[
+                Once(FRONT),
+                Once(GROUP),
+                Once(
+                    r#"<Solution Reference="J">
+<Events>
+<Event Reference="E">
+<Duration>3</Duration>
+<Time Reference="t0"/>
+<Resources>
+<Resource Reference="r1">
+<Role>R</Role>
+</Resource>
+</Resources>
+</Event>
+<Event Reference="F">
+<Duration>1</Duration>
+<Time Reference="t0"/>
+<Resources>
+<Resource Reference="r0">
+<Role>R</Role>
+</Resource>
+</Resources>
+</Event>
+</Events>
+</Solution>
+"#,
+                ),
+                Once(SECOND),
+                Once(REST),
+            ],
+        ],
+        last: "<!-- khe match tasks 2 sum hard 4 soft 0 taken hard 0 soft 0 -->\n",
+    },
+    // Task by task, `E` would take the resource that `F` wants. The first time of `E` is an earlier one, and its own
+    // resource and the place of another type are passed over.
+    Matched {
+        words: &["match", "archive", "0", "1", "0"],
+        archive: &[Once(CHOICE)],
+        fronts: &[&[
+            Once(CHOICE_FRONT),
+            Once(
+                r#"<SolutionGroups>
+<SolutionGroup Id="H">
+<Solution Reference="M">
+<Events>
+<Event Reference="E">
+<Duration>2</Duration>
+<Time Reference="t0"/>
+<Resources>
+<Resource Reference="r1">
+<Role>R</Role>
+</Resource>
+</Resources>
+</Event>
+<Event Reference="F">
+<Duration>1</Duration>
+<Time Reference="t1"/>
+<Resources>
+<Resource Reference="r0">
+<Role>R</Role>
+</Resource>
+</Resources>
+</Event>
+<Event Reference="G">
+<Duration>1</Duration>
+<Time Reference="t2"/>
+<Resources>
+<Resource Reference="r0">
+<Role>R</Role>
+</Resource>
+</Resources>
+</Event>
+</Events>
+</Solution>
+<Solution Reference="M">
+<Events>
+<Event Reference="E">
+<Time Reference="t0"/>
+<Resources>
+<Resource Reference="r1">
+<Role>R</Role>
+</Resource>
+</Resources>
+</Event>
+<Event Reference="F">
+<Time Reference="t1"/>
+<Resources>
+<Resource Reference="r0">
+<Role>R</Role>
+</Resource>
+</Resources>
+</Event>
+<Event Reference="G">
+<Time Reference="t2"/>
+</Event>
+</Events>
+</Solution>
+</SolutionGroup>
+</SolutionGroups>
+</HighSchoolTimetableArchive>
+"#,
+            ),
+        ]],
+        last: "<!-- khe match tasks 2 sum hard 69 soft 0 taken hard 22 soft 0 -->\n",
+    },
+    // The same choice stands already.
+    Matched {
+        words: &["match", "archive", "1", "1", "0"],
+        archive: &[Once(CHOICE)],
+        fronts: &[&[
+            Once(CHOICE_FRONT),
+            Once(
+                r#"<SolutionGroups>
+<SolutionGroup Id="H">
+<Solution Reference="M">
+<Events>
+<Event Reference="E">
+<Time Reference="t0"/>
+<Resources>
+<Resource Reference="r0">
+<Role>R</Role>
+</Resource>
+</Resources>
+</Event>
+<Event Reference="F">
+<Time Reference="t1"/>
+<Resources>
+<Resource Reference="r1">
+<Role>R</Role>
+</Resource>
+</Resources>
+</Event>
+<Event Reference="G">
+<Time Reference="t2"/>
+<Resources>
+<Resource Reference="r0">
+<Role>R</Role>
+</Resource>
+</Resources>
+</Event>
+</Events>
+</Solution>
+<Solution Reference="M">
+<Events>
+<Event Reference="E">
+<Duration>2</Duration>
+<Time Reference="t0"/>
+<Resources>
+<Resource Reference="r1">
+<Role>R</Role>
+</Resource>
+</Resources>
+</Event>
+<Event Reference="F">
+<Duration>1</Duration>
+<Time Reference="t1"/>
+<Resources>
+<Resource Reference="r0">
+<Role>R</Role>
+</Resource>
+</Resources>
+</Event>
+<Event Reference="G">
+<Duration>1</Duration>
+<Time Reference="t2"/>
+</Event>
+</Events>
+</Solution>
+</SolutionGroup>
+</SolutionGroups>
+</HighSchoolTimetableArchive>
+"#,
+            ),
+        ]],
+        last: "<!-- khe match tasks 2 sum hard 47 soft 0 kept hard 11 soft 0 -->\n",
+    },
+    // A resource that costs as much as none.
+    Matched {
+        words: &["match", "archive", "0", "1", "1"],
+        archive: &[Once(CHOICE)],
+        fronts: &[&[Once(CHOICE_FRONT)]],
+        last: "<!-- khe match tasks 1 sum hard 24 soft 0 kept hard 24 soft 0 -->\n",
+    },
+    Matched {
+        words: &["match", "archive", "0", "0", "0"],
+        archive: &[Once(CHOICE)],
+        fronts: &[&[Once(CHOICE_FRONT)]],
+        last: "<!-- khe match tasks 1 sum hard 24 soft 0 kept hard 24 soft 0 -->\n",
+    },
+    // As many tasks as can be matched, and one resource.
+    Matched {
+        words: &["match", "archive", "0", "0", "0"],
+        archive: CROWD,
+        fronts: &[&[]],
+        last: "<!-- khe match tasks 200 sum hard 597 soft 0 taken hard 0 soft 0 -->\n",
+    },
+];
+
+#[test]
+fn tasks_are_matched(rt: HostRuntime) -> Result<(), Fail> {
+    must_match(&rt, rt.alloc(), MATCHED)
+}
+
+#[test]
+fn matchings_with_one_text_are_written(rt: HostRuntime) -> Result<(), Fail> {
+    must_end_so(&rt, rt.alloc(), ROWS)
+}
