@@ -126,16 +126,16 @@ group_edit n s (RemoveChild g m) l v o h =
     let low = slice_get_within s.groups g.0 (Some xs)
     (group_is s.groups g.0 (child_in_group s.groups g.0 m.0 a.1)) in
     (l, put n s.groups g.0 (Some (without m.0 xs)) v low (one_less n xs m (each_child n s.groups v g.0) a.1))
-group_edit n s (Assign a b) l v o h = absurd (both_ways true o refl)
-group_edit n s (Unassign a) l v o h = absurd (both_ways true o refl)
-group_edit n s (MoveTo a b) l v o h = absurd (both_ways true o refl)
-group_edit n s (Split a b) l v o h = absurd (both_ways true o refl)
-group_edit n s (Merge a b) l v o h = absurd (both_ways true o refl)
-group_edit n s (SwapMeets a b) l v o h = absurd (both_ways true o refl)
-group_edit n s (Give a b) l v o h = absurd (both_ways true o refl)
-group_edit n s (Take a) l v o h = absurd (both_ways true o refl)
-group_edit n s (Regive a b) l v o h = absurd (both_ways true o refl)
-group_edit n s (SwapTasks a b) l v o h = absurd (both_ways true o refl)
+group_edit n s (Assign a b) l v o h = absurd (both_ways false refl o)
+group_edit n s (Unassign a) l v o h = absurd (both_ways false refl o)
+group_edit n s (MoveTo a b) l v o h = absurd (both_ways false refl o)
+group_edit n s (Split a b) l v o h = absurd (both_ways false refl o)
+group_edit n s (Merge a b) l v o h = absurd (both_ways false refl o)
+group_edit n s (SwapMeets a b) l v o h = absurd (both_ways false refl o)
+group_edit n s (Give a b) l v o h = absurd (both_ways false refl o)
+group_edit n s (Take a) l v o h = absurd (both_ways false refl o)
+group_edit n s (Regive a b) l v o h = absurd (both_ways false refl o)
+group_edit n s (SwapTasks a b) l v o h = absurd (both_ways false refl o)
 
 pub edits_stand : (p : Parts) (s : State) (e : Edit) → Stands p s → refusal p s e ≡ None → Stands p (edited s e)
 edits_stand p s e v h = by (groups.is_of_groups e) refl
@@ -177,7 +177,7 @@ differ_once m (x ∷ xs) h =
 -- the groups of a timetable
 of_group : (p : Parts) (g : Group) → IsGroup p g → AreChildren (length p.monitors) g.children
 of_group p g v = (
-  λ m h. let d = record { 0 = m } in let q = child_place g.children m d h in
+  λ m h. let d : MonitorId = record { 0 = m } in let q = child_place g.children m d h in
       subst (λ k. k < length p.monitors) q.1
       (all-there (λ (c : MonitorId). c.0 < length p.monitors) g.children (place_of m g.children)
       (get_or g.children (place_of m g.children) d) v.children
