@@ -1,0 +1,3 @@
+pub mod BudgetLaws
+pub mod SmallLaws
+pub mod StandingLaws

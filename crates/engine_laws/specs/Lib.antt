@@ -1,0 +1,3 @@
+pub mod Budgets
+pub mod Small
+pub mod Standing

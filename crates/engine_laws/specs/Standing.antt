@@ -1,0 +1,27 @@
+-- States that stand: what an engine may hold.
+use Rattle.std.specs.Prelude.{◌≡◌, None, length}
+use Rattle.khe_engine.specs.Openings.{IsStateOf}
+use Rattle.khe_engine.specs.States.{State, edited, refusal}
+use Rattle.khe_instance.specs.States.{IsValid}
+use Rattle.khe_instance.specs.WellMade.{AreWellMade}
+use Rattle.khe_instance.specs.declared.parts.Parts.{Parts}
+use Rattle.khe_instance.specs.declared.states.Plain.{Plain}
+use Rattle.khe_told.specs.Valid.{AreValid}
+use Rattle.khe_told.specs.declared.edits.Edit.{Edit}
+use Rattle.monitor_graph.specs.Groups.{AreGroups}
+
+-- the slots are those of a timetable that stands whole; each monitor is attached or not; and each child of a
+-- group is a monitor, which stands in the group once
+pub record Stands (p : Parts) (s : State) : Type 0 where
+  pub slots : AreValid p s.slots
+  pub attached : length s.grouping.attached ≡ length p.monitors
+  pub groups : AreGroups (length p.monitors) s.grouping.groups
+
+-- the state that an engine is opened with stands
+abbrev pub OpenedStatesStand : Type 0
+OpenedStatesStand = (p : Parts) (plain : Plain) (s : State) → AreWellMade p → IsValid p plain → IsStateOf p plain s
+    → Stands p s
+
+-- and so does the one after each edit that is accepted
+abbrev pub EditsKeepStanding : Type 0
+EditsKeepStanding = (p : Parts) (s : State) (e : Edit) → Stands p s → refusal p s e ≡ None → Stands p (edited s e)

@@ -1,0 +1,27 @@
+//! Laws on the states of an engine, each the contract of a function that does nothing: no program calls these.
+#![allow(dead_code)]
+
+ghost use Rattle.engine_laws.specs.Budgets.{LargeBudgetsTell};
+ghost use Rattle.engine_laws.specs.Small.{StatesCostLittle, TimetablesCostLittle};
+ghost use Rattle.engine_laws.specs.Standing.{EditsKeepStanding, OpenedStatesStand};
+
+// Whatever a timetable is: no monitor of it deviates or costs more than the limits allow, nor do all of them.
+fn timetables_cost_little()
+    ensures { TimetablesCostLittle }
+{}
+
+// So it is with each state that stands, and with each of its groups.
+fn states_cost_little()
+    ensures { StatesCostLittle }
+{}
+
+// An engine begins with a state that stands, and each edit that is accepted leads from one to another.
+fn states_stand()
+    ensures opened { OpenedStatesStand }
+    ensures edited { EditsKeepStanding }
+{}
+
+// A repair with a budget of more than all chains of one move has lowered the totals, or no chain of one move does.
+fn large_budgets_tell()
+    ensures { LargeBudgetsTell }
+{}
