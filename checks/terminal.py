@@ -22,10 +22,10 @@ import time
 TOP = os.path.dirname(os.path.dirname(os.path.abspath(__file__)))
 WEEK = os.path.join(TOP, "examples/school_week.xml")
 FIRST = os.path.join(TOP, "examples/first.xml")
-SOLVE = ["solve", WEEK, "0", "--depth", "2", "--budget", "20000", "--jobs", "24", "--workers", "2"]
+SOLVE = ["solve", WEEK, "0", "--depth", "2", "--budget", "400", "--jobs", "24", "--workers", "2"]
 JOB = re.compile(r"job (\d+) of 24, (\d+) s")
 SOLUTION = re.compile(r"solution (\d+), (\d+) s")
-SOLUTIONS = 40000
+SOLUTIONS = 4000
 
 
 def read_all(descriptor, into):
