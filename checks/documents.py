@@ -5,13 +5,15 @@
     checks/documents.py --page
     checks/documents.py --copy
 
-KHE is the program, say ./khe or a proved build; with `--page` only docs/khe.1 is compared, and nothing is run. A block of text whose lines begin with `$ ` shows commands with
-their output. They are run in order in a folder that has examples/ and the program, as `khe` and as `./khe`. A
-command `cat NAME` of a file that isn't there shows that file: it is made so. A block without commands after a
-paragraph that names a file of examples/ shows that file. The copies of the manual and of examples/ on which the gate
-runs the manual's examples are compared with them; `--copy` makes these copies anew. The page docs/khe.1 has the
-synopsis and the statuses of the manual, and examples that stand there. It prints a line for each difference, then how
-many commands, files and parts it compared, and ends with status 1 where one differed.
+KHE is the program, say ./khe or a proved build; with `--page` only docs/khe.1 and docs/CALLING.md are compared, and
+nothing is run. A block of text whose lines begin with `$ ` shows commands with their output. They are run in order in
+a folder that has examples/ and the program, as `khe` and as `./khe`. A command `cat NAME` of a file that isn't there
+shows that file: it is made so. A block without commands after a paragraph that names a file of examples/ shows that
+file. The copies of the manual and of examples/ on which the gate runs the manual's examples are compared with them;
+`--copy` makes these copies anew. The page docs/khe.1 has the synopsis and the statuses of the manual, and examples
+that stand there. The code that docs/CALLING.md shows stands in crates/calling_examples, which the gate proves. It
+prints a line for each difference, then how many commands, files and parts it compared, and ends with status 1 where
+one differed.
 """
 
 import os
@@ -24,6 +26,7 @@ import tempfile
 TOP = os.path.dirname(os.path.dirname(os.path.abspath(__file__)))
 DOCUMENTS = ["README.md", "docs/manual.md"]
 COPIES = os.path.join(TOP, "crates/manual_examples/data")
+CALLERS = os.path.join(TOP, "crates/calling_examples")
 
 
 def copied():
@@ -142,6 +145,20 @@ class Comparison:
             stands = "\n" + lines_of(shown) in manual
             self.compare("docs/khe.1", shown[0], "an example of the manual", "an example of the manual" if stands else "none")
 
+    def callers(self):
+        """Looks for each piece of code in docs/CALLING.md in the files of the crate that proves it."""
+        proved = []
+        for folder, _, names in os.walk(CALLERS):
+            for name in sorted(names):
+                if name.endswith((".rt", ".antt")) and "/out" not in folder:
+                    with open(os.path.join(folder, name), encoding="utf-8") as file:
+                        proved.append(file.read())
+        with open(os.path.join(TOP, "docs/CALLING.md"), encoding="utf-8") as file:
+            text = file.read()
+        for first, _, block in blocks(text):
+            stands = any(lines_of(block) in one for one in proved)
+            self.compare("docs/CALLING.md:%d" % first, block[0], "a proved file", "a proved file" if stands else "none")
+
     def document(self, name):
         with open(os.path.join(TOP, name), encoding="utf-8") as file:
             text = file.read()
@@ -162,6 +179,7 @@ def main():
     if sys.argv[1] == "--page":
         comparison = Comparison(TOP)
         comparison.page()
+        comparison.callers()
         comparison.end()
     program = os.path.abspath(sys.argv[1])
     with tempfile.TemporaryDirectory() as folder:
@@ -177,6 +195,7 @@ def main():
         for path, other in copied():
             comparison.compare(path, "its copy for the gate", bytes_of(path), bytes_of(other))
         comparison.page()
+        comparison.callers()
     comparison.end()
 
 

@@ -1,12 +1,17 @@
 //! The program `khe`: hands the words of the command line, the files and the standard output to
-//! `khe_app::khe`, and ends with its status.
+//! `khe_app::khe`, shows on a terminal how far long work is, and ends with the status.
 #![tactic(auto)]
 
+mod progress;
+
 use khe_app::{Status, khe};
-use khe_io::{FileShelf, OpenGate, StdSink};
+use khe_io::{FileShelf, StdSink};
+use progress::{Cleared, Progress, Terminals, work_of};
+use std::io::IsTerminal;
 use std::process::ExitCode;
 use std::rt::{Env, Files};
 use std::thread::Threads;
+use std::time::Clock;
 use std::{env, io};
 
 /// The words after the program's name. A word that is not UTF-8 leaves none of them, since such
@@ -27,22 +32,29 @@ fn words<R: Env + AllocGlobal>(rt: &R) -> io::Result<Vec<String>> {
 
 /// Runs the program on the files and the output of a system. Where the words cannot be taken for
 /// want of memory the status is 6.
-fn run<R: Env + Files + Print + AllocGlobal + Threads + Sync>(rt: &R) -> Status {
+fn run<R>(rt: &R, terminals: Terminals) -> Status
+where
+    R: Env + Files + Print + Eprint + Clock + AllocGlobal + Threads + Sync,
+{
     let Ok(words) = words(rt) else {
         return Status(6);
     };
+    let words = words.as_slice();
+    let progress = Progress::new(rt, work_of(words), terminals);
     let mut shelf = FileShelf::new(rt);
-    let mut out = StdSink::new(rt);
-    khe(
-        rt,
-        rt.alloc(),
-        words.as_slice(),
-        &mut shelf,
-        &mut out,
-        &OpenGate,
-    )
+    let mut out = Cleared {
+        out: StdSink::new(rt),
+        progress: &progress,
+    };
+    let status = khe(rt, rt.alloc(), words, &mut shelf, &mut out, &progress);
+    progress.clear();
+    status
 }
 
 fn main(rt: HostRuntime) -> ExitCode {
-    ExitCode::from(run(&rt).0)
+    let terminals = Terminals {
+        output: rt.stdout().is_terminal(),
+        errors: rt.stderr().is_terminal(),
+    };
+    ExitCode::from(run(&rt, terminals).0)
 }
