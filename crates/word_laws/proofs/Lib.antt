@@ -1,0 +1,4 @@
+mod GivenLaws
+mod NumberLaws
+mod ReadLaws
+mod TableLaws
