@@ -17,7 +17,7 @@ use Rattle.khe_app.specs.Words.{running, script_by, scripted_by, scripting, shar
 use Rattle.khe_app.specs.Words.{told_by, workers_by, workers_of}
 use Rattle.word_laws.specs.Commands.{Command, Said, asks_evaluate, check, construct, construct_repaired, evaluate, flag}
 use Rattle.word_laws.specs.Commands.{make, match_tasks, number, repair, script, scripted, solve, text, tied}
-use Rattle.word_laws.specs.Table.{AreGiven, Given, IsOf, IsReading, given_words}
+use Rattle.word_laws.specs.Table.{AreGiven, Given, HasNoReading, IsOf, IsReading, given_words}
 use Rattle.word_laws.proofs.GivenLaws.{pairs}
 use Rattle.word_laws.proofs.NumberLaws.{AreDistinct, AreNumbers, IsNumber, Must, Spells, in_pairs, musts, number_in}
 use Rattle.word_laws.proofs.NumberLaws.{number_read, spells}
@@ -549,3 +549,10 @@ pub read_by_table : (words : List (List ℕ)) (a : Asked) → asked words ≡ So
 read_by_table [] a e = absurd (none-some a e)
 read_by_table (command ∷ []) a e = absurd (none-some a e)
 read_by_table (command ∷ first ∷ more) a e = any_there command first more a e
+
+none_read : (words : List (List ℕ)) (o : Option Asked) → asked words ≡ o → HasNoReading words → o ≡ None
+none_read words None e none = refl
+none_read words (Some a) e none = absurd (none a (read_by_table words a e))
+
+pub not_read : (words : List (List ℕ)) → HasNoReading words → asked words ≡ None
+not_read words none = none_read words (asked words) refl none

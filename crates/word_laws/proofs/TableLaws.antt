@@ -3,6 +3,7 @@ use Rattle.std.proofs.Common.{ℕ, suc, ◌≡◌, ◌+◌, ◌∙◌, Bool, tru
 use Rattle.std.proofs.Common.{length, inl, inr, refl, sym, ap, ap₂, subst, arith}
 use Rattle.std.specs.Prelude.{codes, ◌==◌}
 use Rattle.std.specs.Option.{option_and_then, option_map}
+use Rattle.std.proofs.lemmas.Option.{none-some}
 use Rattle.khe_base.specs.Digits.{long_number_of, number_of}
 use Rattle.khe_base.specs.declared.limits.TheConstants.{BUDGET, CHAIN_MOVES, DIGITS, JOBS, MADE_EVENTS, WORKERS}
 use Rattle.khe_app.specs.Words.{Asked, after_by, all_by, archive_by, asked, asked_by, both_by, budget_by, chains_by}
@@ -14,7 +15,7 @@ use Rattle.word_laws.specs.Commands.{Form, Said, any, asks_check, asks_construct
 use Rattle.word_laws.specs.Commands.{asks_repair, asks_script, asks_solve, below, check, construct, construct_repaired}
 use Rattle.word_laws.specs.Commands.{digits, evaluate, flag, make, match_tasks, number, repair, script, solve, text, tied}
 use Rattle.word_laws.specs.Commands.{scripted, up_to}
-use Rattle.word_laws.specs.Table.{AreGiven, Given, IsOf, IsReading, Say, Says, SaysValue, given_words, with_value}
+use Rattle.word_laws.specs.Table.{AreGiven, Given, HasNoReading, IsOf, IsReading, Say, Says, SaysValue, given_words, with_value}
 use Rattle.word_laws.proofs.GivenLaws.{AllOf, HasValue, words_many}
 use Rattle.word_laws.proofs.NumberLaws.{AreFound, AreNumbers, IsNumber, all_valued, first_number, no_number, number_given}
 use Rattle.word_laws.proofs.NumberLaws.{number_in, number_kept, numbers_given, says_number}
@@ -628,3 +629,7 @@ asked_by_table words a (inr (inr (inr (inr (inr (inr (inr (inl h)))))))) = by_re
 asked_by_table words a (inr (inr (inr (inr (inr (inr (inr (inr (inl h))))))))) = by_match words a h
 asked_by_table words a (inr (inr (inr (inr (inr (inr (inr (inr (inr (inl h)))))))))) = by_make words a h
 asked_by_table words a (inr (inr (inr (inr (inr (inr (inr (inr (inr (inr none)))))))))) = absurd none
+
+-- and words that ask for nothing are not read
+pub unread : (words : List (List ℕ)) → asked words ≡ None → HasNoReading words
+unread words e = λ a h. none-some a (sym e ∙ asked_by_table words a h)

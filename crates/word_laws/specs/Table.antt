@@ -69,8 +69,15 @@ IsOfOne (c ∷ more) words a = IsOf c words a ⊎ IsOfOne more words a
 abbrev pub IsReading : List (List ℕ) → Asked → Type 0
 IsReading words a = IsOfOne commands words a
 
+-- or for nothing
+abbrev pub HasNoReading : List (List ℕ) → Type 0
+HasNoReading words = (a : Asked) → IsReading words a → ⊥
+
 abbrev pub WordsAreReadByTable : Type 0
 WordsAreReadByTable = (words : List (List ℕ)) (a : Asked) → ((asked words ≡ Some a) ↔ IsReading words a)
+
+abbrev pub OthersAreNotRead : Type 0
+OthersAreNotRead = (words : List (List ℕ)) → ((asked words ≡ None) ↔ HasNoReading words)
 
 abbrev pub OneReadingAtMost : Type 0
 OneReadingAtMost = (words : List (List ℕ)) (a b : Asked) → IsReading words a → IsReading words b → a ≡ b
