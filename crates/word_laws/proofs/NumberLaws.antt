@@ -106,9 +106,10 @@ taken [] before after g [] o h = tt
 taken [] before after g (s ∷ said) o h = absurd h
 taken (m ∷ more) before after g [] o h = absurd h
 taken (m ∷ more) before after g (None ∷ said) o h = absurd h
-taken (m ∷ more) before after g (Some (number n) ∷ said) o h =
-    (sym (ap (option_and_then (number_to m.1)) (passed_over m.0 before after g o.0)) ∙ h.0,
-    taken more before after g said o.1 h.1)
+taken (m ∷ more) before after g (Some (number n) ∷ said) o h = (
+  sym (ap (option_and_then (number_to m.1)) (passed_over m.0 before after g o.0)) ∙ h.0,
+  taken more before after g said o.1 h.1,
+)
 taken (m ∷ more) before after g (Some _ ∷ said) o h = absurd h
 
 -- a value that says a number
@@ -212,8 +213,7 @@ given_numbers (m ∷ more) given (Some (number n) ∷ said) d h e v =
     let others : AreOther s.g.word more = subst (λ x. AreOther x more) (sym s.word) d.0 in
     let fewer : length (s.before ++ s.after) ≡ length more =
     let all : length (s.before ++ (s.g ∷ s.after)) ≡ suc (length more) = ap length (sym s.given_is) ∙ e in
-    let one = one_more s.before s.after s.g in omega (arith, all, one) in
-    (
+    let one = one_more s.before s.after s.g in omega (arith, all, one) in (
       s.before,
       s.g,
       s.after,

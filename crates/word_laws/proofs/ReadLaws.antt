@@ -120,9 +120,15 @@ unfolding alone_given option_given
 all_first name first second third o a w e f =
     let crew = crew_read true second third o e in
     evaluate_of name (first ∷ second ∷ third ∷ []) (alone_given first ∷ option_given second third ∷ [])
-    (Some flag ∷ Some (number crew.n) ∷ []) a refl
-    ([], alone_given first, option_given second third ∷ [], refl, w, refl,
-    ([], option_given second third, [], refl, crew.word, (crew.n, refl, crew.is.writes, crew.is.least, crew.is.most), refl))
+    (Some flag ∷ Some (number crew.n) ∷ []) a refl (
+      [],
+      alone_given first,
+      option_given second third ∷ [],
+      refl,
+      w,
+      refl,
+      ([], option_given second third, [], refl, crew.word, (crew.n, refl, crew.is.writes, crew.is.least, crew.is.most), refl),
+    )
     (asks_all name true o a crew.all_is f)
 
 all_last : (name first second third : List ℕ) (o : Bool × ℕ) (a : Asked) → third ≡ codes "--all"
@@ -132,9 +138,15 @@ unfolding alone_given option_given
 all_last name first second third o a w e f =
     let crew = crew_read true first second o e in
     evaluate_of name (first ∷ second ∷ third ∷ []) (option_given first second ∷ alone_given third ∷ [])
-    (Some flag ∷ Some (number crew.n) ∷ []) a refl
-    (option_given first second ∷ [], alone_given third, [], refl, w, refl,
-    ([], option_given first second, [], refl, crew.word, (crew.n, refl, crew.is.writes, crew.is.least, crew.is.most), refl))
+    (Some flag ∷ Some (number crew.n) ∷ []) a refl (
+      option_given first second ∷ [],
+      alone_given third,
+      [],
+      refl,
+      w,
+      refl,
+      ([], option_given first second, [], refl, crew.word, (crew.n, refl, crew.is.writes, crew.is.least, crew.is.most), refl),
+    )
     (asks_all name true o a crew.all_is f)
 
 both_read : (name first second third : List ℕ) (o : Bool × ℕ) (a : Asked) → both_by first second third ≡ Some o
@@ -246,9 +258,13 @@ four_given : (options : List (List ℕ)) (d b j w : ℕ) → length options ≡ 
     → Spells all_four options (Some (number d) ∷ Some (number b) ∷ Some (number j) ∷ Some (number w) ∷ [])
 unfolding depth_by budget_by jobs_by crew_by
 four_given options d b j w e x y z v =
-    spells all_four options (Some (number d) ∷ Some (number b) ∷ Some (number j) ∷ Some (number w) ∷ []) distinct_four e
-    (in_pairs (codes "--depth") CHAIN_MOVES options 4 d e x, (in_pairs (codes "--budget") BUDGET options 4 b e y,
-    (in_pairs (codes "--jobs") JOBS options 4 j e z, (in_pairs (codes "--workers") WORKERS options 4 w e v, tt))))
+    spells all_four options (Some (number d) ∷ Some (number b) ∷ Some (number j) ∷ Some (number w) ∷ []) distinct_four e (
+      in_pairs (codes "--depth") CHAIN_MOVES options 4 d e x,
+      (
+        in_pairs (codes "--budget") BUDGET options 4 b e y,
+        (in_pairs (codes "--jobs") JOBS options 4 j e z, (in_pairs (codes "--workers") WORKERS options 4 w e v, tt)),
+      ),
+    )
 
 -- depth and budget, and jobs and workers
 abbrev pub paired : Option ℕ → Option ℕ → Option (ℕ × ℕ)
