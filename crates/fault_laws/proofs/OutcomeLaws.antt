@@ -1,9 +1,8 @@
 -- Outcomes come of readings by the rows, and tell the least fault of bytes.
-use Rattle.std.proofs.Common.{ℕ, ◌≡◌, ◌≤◌, ◌↔◌, ◌∙◌, Option, Some, None, List, length, sym, ap, subst}
+use Rattle.std.proofs.Common.{ℕ, ◌≡◌, ◌≤◌, ◌∙◌, Option, Some, None, List, length, sym, ap, subst}
 use Rattle.std.specs.Prelude.{encode_utf8_all}
 use Rattle.khe_base.specs.declared.limits.TheConstants.{ARCHIVE_BYTES}
 use Rattle.fault_laws.proofs.RowLaws.{by_machines, by_rows, faulty, no_tree}
-use Rattle.fault_laws.specs.Readings.{IsReadingByRows}
 use Rattle.fault_laws.specs.Told.{ComesOf, IsFaultLine, IsOutcomeByRows, Shelf, TellsLeastFault}
 use Rattle.first_faults.specs.Rows.{IsLeastFault}
 use Rattle.khe_app.specs.Outcome.{IsAnswerTo, IsAnswered, IsConstructTo, IsConstructed, IsMatchTo, IsMatchedFrom}

@@ -1,5 +1,5 @@
 -- Readings by the machines and by the rows are the same.
-use Rattle.std.proofs.Common.{ℕ, ◌≡◌, ◌≤◌, ◌∙◌, inl, inr, List, length, sym, ap₂, arith}
+use Rattle.std.proofs.Common.{ℕ, ◌≡◌, ◌≤◌, ◌∙◌, inl, inr, List, length, ap₂, arith}
 use Rattle.khe_base.specs.declared.limits.TheConstants.{ARCHIVE_BYTES}
 use Rattle.fault_laws.proofs.MeaningLaws.{stands_for_meanings}
 use Rattle.fault_laws.specs.Readings.{IsReadingByRows}

@@ -8,7 +8,6 @@ use Rattle.khe_app.specs.Outcome.{IsSolveIn, Reading, spelling_of, start_in, sta
 use Rattle.khe_app.specs.Refusals.{refusal_line}
 use Rattle.khe_app.specs.Words.{Asked, archive_of, asked, checking, constructing, evaluating, making, matching}
 use Rattle.khe_app.specs.Words.{repairing, running, scripting, solving}
-use Rattle.khe_app.specs.declared.refusals.Refusal.{Refusal}
 use Rattle.khe_app.specs.declared.refusals.Refusal.TheVariants.{Fault}
 use Rattle.xhstt_text.specs.Document.{Spelled}
 use Rattle.xhstt_text.specs.Forest.{Forest}

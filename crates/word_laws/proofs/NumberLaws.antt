@@ -13,7 +13,7 @@ use Rattle.khe_base.specs.Digits.{number_of}
 use Rattle.khe_base.specs.declared.limits.TheConstants.{DIGITS}
 use Rattle.khe_app.specs.Words.{number_by, number_to}
 use Rattle.word_laws.specs.Commands.{Choice, Said, must, number, up_to}
-use Rattle.word_laws.specs.Table.{AreGiven, Given, Says, SaysValue, given_words}
+use Rattle.word_laws.specs.Table.{AreGiven, Given, SaysValue, given_words}
 use Rattle.word_laws.proofs.GivenLaws.{AllOf, Fits, HasValue, Lacks, each, found, found_there, left}
 use Rattle.word_laws.proofs.GivenLaws.{are_pairs, one_more, pairs, pairs_valued, passed_over, stands_in, value_found}
 

@@ -1,5 +1,5 @@
 -- What words are read as is what they ask for by the table.
-use Rattle.std.proofs.Common.{ℕ, suc, ◌≡◌, ◌+◌, ◌∙◌, Bool, true, false, cond, Option, Some, None, List, [], ◌∷◌, inl, inr}
+use Rattle.std.proofs.Common.{ℕ, suc, ◌≡◌, ◌∙◌, Bool, true, false, cond, Option, Some, None, List, [], ◌∷◌, inl, inr}
 use Rattle.std.proofs.Common.{length, refl, sym, ap, subst, arith}
 use Rattle.std.specs.Prelude.{codes, ◌==◌}
 use Rattle.std.specs.Option.{option_and_then, option_map}
@@ -10,16 +10,15 @@ use Rattle.std.proofs.lemmas.Slice.Eq.{bytes_eq-Decides}
 use Rattle.khe_base.specs.Digits.{long_number_of, number_of}
 use Rattle.khe_base.specs.declared.limits.TheConstants.{BUDGET, CHAIN_MOVES, DIGITS, JOBS, MADE_EVENTS, WORKERS}
 use Rattle.khe_app.specs.Words.{Asked, after_by, all_by, archive_by, asked, asked_by, both_by, budget_by, chains_by}
-use Rattle.khe_app.specs.Words.{check_by, checking, construct_by, construct_with, constructing, crew_by, depth_by}
+use Rattle.khe_app.specs.Words.{check_by, construct_by, construct_with, constructing, crew_by, depth_by}
 use Rattle.khe_app.specs.Words.{evaluating, job_by, jobs_by, made_by, make_by, making, match_by, match_with, matching}
-use Rattle.khe_app.specs.Words.{number_by, number_to, options_by, placed_by, repair_by, repair_with, repairing, run_by}
+use Rattle.khe_app.specs.Words.{number_to, options_by, placed_by, repair_by, repair_with, repairing, run_by}
 use Rattle.khe_app.specs.Words.{running, script_by, scripted_by, scripting, shares_by, solve_by, solve_with, solving}
 use Rattle.khe_app.specs.Words.{told_by, workers_by, workers_of}
-use Rattle.word_laws.specs.Commands.{Command, Said, asks_evaluate, check, construct, construct_repaired, evaluate, flag}
-use Rattle.word_laws.specs.Commands.{make, match_tasks, number, repair, script, scripted, solve, text, tied}
+use Rattle.word_laws.specs.Commands.{Said, asks_evaluate, check, construct, construct_repaired, evaluate, flag}
+use Rattle.word_laws.specs.Commands.{make, match_tasks, number, repair, scripted, solve, text}
 use Rattle.word_laws.specs.Table.{AreGiven, Given, HasNoReading, IsOf, IsReading, given_words}
-use Rattle.word_laws.proofs.GivenLaws.{pairs}
-use Rattle.word_laws.proofs.NumberLaws.{AreDistinct, AreNumbers, IsNumber, Must, Spells, in_pairs, musts, number_in}
+use Rattle.word_laws.proofs.NumberLaws.{AreDistinct, IsNumber, Must, Spells, in_pairs}
 use Rattle.word_laws.proofs.NumberLaws.{number_read, spells}
 
 -- a choice, and a value that is made of another

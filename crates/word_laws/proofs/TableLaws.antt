@@ -1,6 +1,6 @@
 -- What words ask for by the table is what they are read as.
-use Rattle.std.proofs.Common.{ℕ, suc, ◌≡◌, ◌+◌, ◌∙◌, Bool, true, false, cond, Option, Some, None, List, [], ◌∷◌, ◌++◌}
-use Rattle.std.proofs.Common.{length, inl, inr, refl, sym, ap, ap₂, subst, arith}
+use Rattle.std.proofs.Common.{ℕ, ◌≡◌, ◌+◌, ◌∙◌, Bool, true, false, cond, Option, Some, None, List, [], ◌∷◌, ◌++◌}
+use Rattle.std.proofs.Common.{length, inl, inr, refl, sym, ap, ap₂}
 use Rattle.std.specs.Prelude.{codes, ◌==◌}
 use Rattle.std.specs.Option.{option_and_then, option_map}
 use Rattle.std.proofs.lemmas.Option.{none-some}
@@ -13,12 +13,12 @@ use Rattle.khe_app.specs.Words.{repairing, run_by, running, scripted_by, scripti
 use Rattle.khe_app.specs.Words.{told_by, workers_by, workers_of}
 use Rattle.word_laws.specs.Commands.{Form, Said, any, asks_check, asks_construct, asks_evaluate, asks_make, asks_match}
 use Rattle.word_laws.specs.Commands.{asks_repair, asks_script, asks_solve, below, check, construct, construct_repaired}
-use Rattle.word_laws.specs.Commands.{digits, evaluate, flag, make, match_tasks, number, repair, script, solve, text, tied}
-use Rattle.word_laws.specs.Commands.{scripted, up_to}
+use Rattle.word_laws.specs.Commands.{digits, evaluate, make, match_tasks, number, repair, script, solve, text, tied}
+use Rattle.word_laws.specs.Commands.{up_to}
 use Rattle.word_laws.specs.Table.{AreGiven, Given, HasNoReading, IsOf, IsReading, Say, Says, SaysValue, given_words, with_value}
 use Rattle.word_laws.proofs.GivenLaws.{AllOf, HasValue, words_many}
-use Rattle.word_laws.proofs.NumberLaws.{AreFound, AreNumbers, IsNumber, all_valued, first_number, no_number, number_given}
-use Rattle.word_laws.proofs.NumberLaws.{number_in, number_kept, numbers_given, says_number}
+use Rattle.word_laws.proofs.NumberLaws.{IsNumber, all_valued, first_number, no_number, number_given}
+use Rattle.word_laws.proofs.NumberLaws.{number_kept, numbers_given, says_number}
 use Rattle.word_laws.proofs.ReadLaws.{all_four, chains, distinct_chains, distinct_four, paired, with_all}
 
 -- the words in order, one after the other
