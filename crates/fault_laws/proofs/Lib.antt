@@ -1,0 +1,3 @@
+mod MeaningLaws
+mod OutcomeLaws
+mod RowLaws

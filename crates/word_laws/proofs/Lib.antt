@@ -1,0 +1,6 @@
+mod GivenLaws
+mod NumberLaws
+mod OutcomeLaws
+mod ReadExamples
+mod ReadLaws
+mod TableLaws
