@@ -381,7 +381,7 @@ pub(crate) fn put<K: Sink>(out: &mut K, status: u8, bytes: &[u8]) -> Status
 }
 
 /// Writes the line that refuses an archive or a solution.
-pub(crate) fn put_refusal<K: Sink>(alloc: Global, out: &mut K, refusal: Refusal) -> Status
+pub fn put_refusal<K: Sink>(alloc: Global, out: &mut K, refusal: Refusal) -> Status
     ensures written { Written (K.taken out.old) (K.taken out.new) (K.faults out.old) (K.faults out.new) (encode_utf8_all (refusals.refusal_line refusal)) 3 result.0 }
     ensures write_fault_ends { (result.0 ≡ 5) ⊎ (K.faults out.new ≡ K.faults out.old) }
     ensures sink_faults { K.faults out.old ≤ K.faults out.new }
@@ -456,7 +456,7 @@ fn instance_of(begun: &Begun) -> &Instance
 }
 
 /// What the archive under a name leads to.
-pub(crate) fn answer_to<S: Shelf>(alloc: Global, shelf: &mut S, name: &str) -> Result<Answer, Stop>
+pub fn answer_to<S: Shelf>(alloc: Global, shelf: &mut S, name: &str) -> Result<Answer, Stop>
     ensures answer { IfOk result (λ a. IfSome (S.holdings shelf.old) (λ under. IsAnswerOf (under name.now) a)) }
     ensures only { IfOk result (λ a. IfSome (S.holdings shelf.old) (λ under. IsOnlyAnswerOf (under name.now) a)) }
     ensures ready { IfOk result IsReadyAnswer }

@@ -42,7 +42,7 @@ pub(crate) fn start(alloc: Global, read: ReadArchive, number: u32) -> Result<Beg
 }
 
 /// The number of the solution's instance, and its timetable.
-pub(crate) fn begin(
+pub fn begin(
     alloc: Global,
     archive: &Archive,
     resolved: &Resolved,
@@ -75,7 +75,7 @@ fn instance_number(resolved: &Resolved, number: u32) -> usize
 }
 
 /// The instance with a number.
-pub(crate) fn instance_numbered(resolved: &Resolved, instance: usize) -> &Instance
+pub fn instance_numbered(resolved: &Resolved, instance: usize) -> &Instance
     requires { instance < length resolved.now.instances }
     ensures { slice_get resolved.now.instances instance ≡ Some result.now }
 {
