@@ -1,0 +1,4 @@
+pub mod BetweenLemmas
+pub mod PlayLaws
+pub mod ReadLemmas
+pub mod SentLaws
