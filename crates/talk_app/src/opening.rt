@@ -1,5 +1,13 @@
 //! A talk on a solution of an archive that was read.
 
+ghost use Rattle.std.specs.Prelude.{◌≡◌, ◌≤◌, ◌⊎◌};
+ghost use Rattle.khe_app.specs.Outcome.{begins, start_of};
+ghost use Rattle.khe_app.specs.Ready.{IsReady};
+ghost use Rattle.khe_engine.specs.Values.{ServesAll};
+ghost use Rattle.khe_instance.specs.States.{IsValid};
+ghost use Rattle.talk_app.specs.Ends.{IsEnd, status_after};
+ghost use Rattle.talk_app.specs.Outcome.{IsTalkOf, IsTalkOn};
+
 use demand_families::WithDemands;
 use khe_app::{ReadArchive, Status, Unread, begin, instance_numbered, put_refusal};
 use khe_base::NoMemory;
@@ -21,7 +29,12 @@ pub(crate) fn talk_on<R: BufRead, K: Sink>(
     read: ReadArchive,
     solution: u32,
     demands: bool,
-) -> Status {
+) -> Status
+    requires { IsReady read.archive read.resolved }
+    ensures end { IsEnd (IsTalkOf read.archive solution (start_of read.archive read.resolved solution)) (R.remaining reader.old) (K.taken out.old) (K.taken out.new) (K.faults out.old) (K.faults out.new) result.0 }
+    ensures write_fault_ends { (result.0 ≡ 5) ⊎ (K.faults out.new ≡ K.faults out.old) }
+    ensures sink_faults { K.faults out.old ≤ K.faults out.new }
+{
     match begin(alloc, &read.archive, &read.resolved, solution) {
         Ok((instance, plain)) => {
             let ReadArchive { archive, resolved } = read;
@@ -43,7 +56,12 @@ fn talk_with<R: BufRead, K: Sink>(
     archive: Archive,
     solution: u32,
     demands: bool,
-) -> Status {
+) -> Status
+    requires valid { IsValid inst.now plain.now }
+    ensures end { IsEnd (IsTalkOn archive solution inst.now plain.now) (R.remaining reader.old) (K.taken out.old) (K.taken out.new) (K.faults out.old) (K.faults out.new) result.0 }
+    ensures write_fault_ends { (result.0 ≡ 5) ⊎ (K.faults out.new ≡ K.faults out.old) }
+    ensures sink_faults { K.faults out.old ≤ K.faults out.new }
+{
     if demands {
         talk_by::<R, K, WithDemands<Families>>(alloc, reader, out, inst, plain, archive, solution)
     } else {
@@ -60,7 +78,14 @@ fn talk_by<R: BufRead, K: Sink, F: Shortages + Drop>(
     plain: &Plain,
     archive: Archive,
     solution: u32,
-) -> Status {
+) -> Status
+    requires joined { F.IsWellJoined }
+    requires serves { ServesAll F.serves_kind }
+    requires valid { IsValid inst.now plain.now }
+    ensures end { IsEnd (IsTalkOn archive solution inst.now plain.now) (R.remaining reader.old) (K.taken out.old) (K.taken out.new) (K.faults out.old) (K.faults out.new) result.0 }
+    ensures write_fault_ends { (result.0 ≡ 5) ⊎ (K.faults out.new ≡ K.faults out.old) }
+    ensures sink_faults { K.faults out.old ≤ K.faults out.new }
+{
     match Engine::<F>::open(alloc, inst, plain) {
         Ok(engine) => {
             let mut speaker = Speaker {
@@ -75,7 +100,9 @@ fn talk_by<R: BufRead, K: Sink, F: Shortages + Drop>(
 }
 
 /// The status after a talk.
-fn status_after(ended: Result<(), TalkFault>) -> Status {
+fn status_after(ended: Result<(), TalkFault>) -> Status
+    ensures { result.0 ≡ status_after ended }
+{
     match ended {
         Ok(()) => Status(0),
         Err(TalkFault::ReadFault) => Status(4),

@@ -20,6 +20,15 @@ between_push before now pending piece rest whole h = record {
       ∙ append_assoc (encode_utf8_all pending) (encode_utf8_all piece) rest) ∙ h.is;
 }
 
+-- a piece that spells what is to be written next joins what waits
+pub between_pushed : (before now : Option (List ℕ)) (pending pending2 piece bytes rest whole : List ℕ)
+    → bytes ≡ encode_utf8_all piece → pending2 ≡ pending ++ piece → IsBetween before now pending (bytes ++ rest) whole
+    → IsBetween before now pending2 rest whole
+between_pushed before now pending pending2 piece bytes rest whole e f h =
+    subst (λ t. IsBetween before now t rest whole) (sym f)
+    (between_push before now pending piece rest whole
+    (subst (λ bs. IsBetween before now pending (bs ++ rest) whole) e h))
+
 -- what waits is taken
 pub between_flush : (before now after : Option (List ℕ)) (pending rest whole : List ℕ)
     → IsBetween before now pending rest whole → Took now after (encode_utf8_all pending)

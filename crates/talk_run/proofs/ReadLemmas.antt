@@ -1,9 +1,9 @@
 -- What was read is the next line.
 use Rattle.std.proofs.Common.{ℕ, ◌≡◌, ◌≢◌, ◌<◌, ◌≤◌, ◌+◌, ◌-◌, ◌==◌, Bool, true, false, cond, Option, None, Some, IfSome, inl, inr}
-use Rattle.std.proofs.Common.{List, [], ◌∷◌, ◌++◌, length, take, get_or, append_assoc, refl, sym, ap, subst, ◌∙◌, arith}
+use Rattle.std.proofs.Common.{List, [], ◌∷◌, ◌++◌, length, take, get_or, append_assoc, refl, sym, ap, subst, drop, ◌∙◌, arith}
 use Rattle.std.specs.Io.BufRead.{take_through}
 use Rattle.std.specs.Io.KnownBytes.{Consumes}
-use Rattle.std.specs.Io.{StopsAt}
+use Rattle.std.specs.Io.{StopsAt, appended_bytes}
 use Rattle.std.specs.List.{All, slice_split}
 use Rattle.std.proofs.lemmas.Bool.{cases_Bool, ne_eqb}
 use Rattle.std.proofs.lemmas.Bool.Decides.{nat_tests}
@@ -106,3 +106,17 @@ found_of left left2 bytes line found.Last cut lost known = record {
   last = line-alone bytes cut.1 cut.2 ∙ ap (λ xs. xs ∷ []) (sym cut.0);
 }
 found_of left left2 bytes line found.End cut lost known = none-of left bytes cut known
+
+drop-nothing : (xs : List ℕ) → drop 0 xs ≡ xs
+drop-nothing [] = refl
+drop-nothing (x ∷ xs) = refl
+
+-- what was appended to nothing is all that a buffer has
+pub lost_of : (left left2 : Option (List ℕ)) (old new : List ℕ) → old ≡ [] → Consumes left left2 (appended_bytes old new)
+    → Consumes left left2 new
+lost_of left left2 old new e h =
+    subst (Consumes left left2) (drop-nothing new) (subst (λ o. Consumes left left2 (appended_bytes o new)) e h)
+
+pub known_of : (left : Option (List ℕ)) (old new : List ℕ) → old ≡ []
+    → IfSome left (λ xs. new ≡ old ++ take_through 10 xs) → IfSome left (λ xs. new ≡ take_through 10 xs)
+known_of left old new e h = subst (λ o. IfSome left (λ xs. new ≡ o ++ take_through 10 xs)) e h

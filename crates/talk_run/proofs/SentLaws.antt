@@ -20,7 +20,11 @@ use Rattle.xhstt_references.specs.References.{solutions_of}
 use Rattle.xhstt_shape.specs.declared.records.Archive.{Archive}
 use Rattle.xhstt_shape.specs.declared.records.RawSolution.{RawSolution}
 use Rattle.xhstt_shape.specs.declared.records.SolutionGroup.{SolutionGroup}
-use Rattle.talk_run.specs.Answers.{listed}
+use Rattle.script_run.specs.Plays.{Play}
+use Rattle.xhstt_writer.specs.Archives.{canonical}
+use Rattle.talk_run.specs.Answers.{archive_bytes, listed}
+use Rattle.talk_run.specs.Talks.{talk_bytes}
+use Rattle.talk_run.proofs.ScriptLaw.{spelled_alike}
 use Rattle.talk_run.specs.Sent.{IsSame}
 
 -- entries are those of the meets and the tasks
@@ -111,3 +115,13 @@ twice-by a number p q plain plain2 (Some old) e =
 pub respelled_twice : (a : Archive) (number : ℕ) (p : Parts) (plain : Plain) → IsSame (respelled a number p plain) a number
 respelled_twice a number p plain =
     λ q plain2. twice-by a number p q plain plain2 (slice_get (solutions_of a) number) refl
+
+-- a talk goes on in the same way with an archive that differs in the solution alone
+pub said_alike : (a a2 : Archive) (k k2 : ℕ) (p p2 : Parts) (w w2 : Play) (number : ℕ) (ls : List (List ℕ)) → p2 ≡ p
+    → k2 ≡ k → w2 ≡ w → IsSame a2 a k
+    → talk_bytes (archive_bytes a2 k2 p2) p2 w2 number ls ≡ talk_bytes (archive_bytes a k p) p w number ls
+said_alike a a2 k k2 p p2 w w2 number ls e f g same =
+    ap (λ x. talk_bytes (archive_bytes a2 k2 x) x w2 number ls) e
+    ∙ ap (λ x. talk_bytes (archive_bytes a2 x p) p w2 number ls) f
+    ∙ ap (λ x. talk_bytes (archive_bytes a2 k p) p x number ls) g
+    ∙ spelled_alike (archive_bytes a2 k p) (archive_bytes a k p) p w number ls (λ s. ap canonical (same p (listed s)))

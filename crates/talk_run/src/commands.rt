@@ -1,9 +1,8 @@
 //! The lines of a talk: those of scripts, and two more.
 
-ghost use Rattle.std.specs.Prelude.{◌≡◌, ◌≤◌, length, bytes_eq, IfSome};
-ghost use Rattle.khe_base.specs.declared.limits.TheConstants.{BUDGET, CHAIN_MOVES};
+ghost use Rattle.std.specs.Prelude.{◌≡◌, bytes_eq, IfOk};
 ghost use Rattle.edit_script.specs.Words.{words};
-ghost use Rattle.talk_run.specs.Lines.{archive_by, by_more, chains_by, is_word, repair_by, talk_reading};
+ghost use Rattle.talk_run.specs.Lines.{IsFit, archive_by, are_chains, by_more, chains_by, repair_by, talk_reading};
 
 use edit_script::{Command, LineFault, count_words, first_word, numbers_of, read_line};
 use khe_base::limits::{BUDGET, CHAIN_MOVES};
@@ -36,8 +35,10 @@ pub enum TalkCommand {
 ///
 /// The errors are those of scripts, in the same order. A depth that is not from 1 to 4 and a budget that is not from 1 to
 /// 1,000,000,000 are no such numbers (`BadNumber`). It takes no memory, and time linear in the line.
+#[tactic(auto, unfolding(crate::specs::Lines::talk_reading))]
 pub fn read_talk_line(line: &[u8]) -> Result<TalkCommand, LineFault>
-    ensures { result ≡ talk_reading line.now }
+    ensures reading { result ≡ talk_reading line.now }
+    ensures fit { IfOk result IsFit }
 {
     match read_line(line) {
         Ok(command) => Ok(TalkCommand::Base(command)),
@@ -48,7 +49,8 @@ pub fn read_talk_line(line: &[u8]) -> Result<TalkCommand, LineFault>
 
 /// What a line asks for that no command of scripts begins.
 fn read_more(line: &[u8]) -> Result<TalkCommand, LineFault>
-    ensures { result ≡ by_more (words line.now) }
+    ensures reading { result ≡ by_more (words line.now) }
+    ensures fit { IfOk result IsFit }
 {
     let Some((word, rest)) = first_word(line) else {
         return Err(LineFault::UnknownCommand);
@@ -71,7 +73,8 @@ fn is_word(name: &[u8], word: &[u8]) -> bool
 
 /// The repair that is asked for by the words after `repair`.
 fn read_repair(rest: &[u8]) -> Result<TalkCommand, LineFault>
-    ensures { result ≡ repair_by (words rest.now) }
+    ensures reading { result ≡ repair_by (words rest.now) }
+    ensures fit { IfOk result IsFit }
 {
     if count_words(rest) != 3 {
         return Err(LineFault::BadCount);
@@ -88,7 +91,8 @@ fn read_repair(rest: &[u8]) -> Result<TalkCommand, LineFault>
 
 /// A repair by chains, where there are such.
 fn read_chains(chains: Chains) -> Result<TalkCommand, LineFault>
-    ensures { result ≡ chains_by chains }
+    ensures reading { result ≡ chains_by chains }
+    ensures fit { IfOk result IsFit }
 {
     if are_within(chains) {
         Ok(TalkCommand::Repair(chains))
@@ -98,7 +102,9 @@ fn read_chains(chains: Chains) -> Result<TalkCommand, LineFault>
 }
 
 /// Whether chains have a depth and a budget that a repair may have.
-fn are_within(chains: Chains) -> bool {
+fn are_within(chains: Chains) -> bool
+    ensures { result ≡ are_chains chains }
+{
     1 <= chains.depth
         && chains.depth <= CHAIN_MOVES
         && 1 <= chains.budget
@@ -107,7 +113,8 @@ fn are_within(chains: Chains) -> bool {
 
 /// The archive, where no word stands after `archive`.
 fn read_archive(rest: &[u8]) -> Result<TalkCommand, LineFault>
-    ensures { result ≡ archive_by (words rest.now) }
+    ensures reading { result ≡ archive_by (words rest.now) }
+    ensures fit { IfOk result IsFit }
 {
     if count_words(rest) == 0 {
         Ok(TalkCommand::Archive)

@@ -5,6 +5,7 @@
 mod answering;
 mod commands;
 mod faults;
+mod laws;
 mod reading;
 mod repairs;
 mod speakers;

@@ -1,6 +1,6 @@
 //! Lines one after the other, of a reader.
 
-ghost use Rattle.std.specs.Prelude.{◌≡◌, ◌<◌, ◌-◌, ◌==◌, length, slice_index, IfOk};
+ghost use Rattle.std.specs.Prelude.{◌≡◌, ◌<◌, ◌-◌, ◌==◌, length, slice_index, IfOk, IsErrOf};
 ghost use Rattle.std.specs.Io.{StopsAt};
 ghost use Rattle.talk_run.specs.Between.{IsFound};
 ghost use Rattle.talk_run.specs.Found.{IsCut};
@@ -24,6 +24,7 @@ pub enum Found {
 /// to the line.
 pub(crate) fn next_line<R: BufRead>(reader: &mut R, line: &mut Vec<u8>) -> Result<Found, TalkFault>
     ensures found { IfOk result (IsFound (R.remaining reader.old) (R.remaining reader.new) line.new.items) }
+    ensures unread { IsErrOf result TalkFault.WriteFault → ⊥ }
 {
     line.clear();
     match reader.read_until(b'\n', line) {
@@ -56,7 +57,9 @@ fn has_end(line: &[u8]) -> bool
 }
 
 /// Why a line was not read.
-fn fault_of(error: &io::Error) -> TalkFault {
+fn fault_of(error: &io::Error) -> TalkFault
+    ensures { result ≡ TalkFault.WriteFault → ⊥ }
+{
     if error.kind() == ErrorKind::OutOfMemory {
         TalkFault::NoMemory
     } else {

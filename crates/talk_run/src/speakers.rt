@@ -5,8 +5,8 @@ ghost use Rattle.script_run.specs.Plays.{play_of};
 ghost use Rattle.talk_run.specs.Answers.{archive_bytes};
 ghost use Rattle.talk_run.specs.Talks.{talk_bytes};
 
-use crate::answering::{answer_by_reading, put_archive};
-use crate::commands::{TalkCommand, read_talk_line};
+use crate::answering::answer_reading;
+use crate::commands::read_talk_line;
 use crate::talking::Talker;
 use khe_base::Text;
 use khe_engine::Engine;
@@ -39,17 +39,7 @@ impl<'i, F: Shortages> Talker for Speaker<'i, F> {
         text: &mut Text,
         out: &mut K,
     ) -> Result<(), Cut> {
-        match read_talk_line(line) {
-            Ok(TalkCommand::Archive) => put_archive(
-                alloc,
-                &self.engine,
-                &mut self.archive,
-                self.solution,
-                text,
-                out,
-            )?,
-            reading => answer_by_reading(alloc, &mut self.engine, reading, number, text)?,
-        }
+        answer_reading(alloc, self, read_talk_line(line), number, text, out)?;
         Ok(text.push_literal(".\n")?)
     }
 }
