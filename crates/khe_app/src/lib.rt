@@ -17,5 +17,7 @@ mod solving;
 mod starting;
 mod words;
 
-pub use program::{Status, khe};
+pub use program::{Answer, Status, Stop, answer_to, khe, put_refusal};
+pub use reading::{ReadArchive, Unread};
 pub use refusals::Refusal;
+pub use starting::{begin, instance_numbered};

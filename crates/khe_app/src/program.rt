@@ -380,8 +380,9 @@ pub(crate) fn put<K: Sink>(out: &mut K, status: u8, bytes: &[u8]) -> Status
     }
 }
 
-/// Writes the line that refuses an archive or a solution.
-pub(crate) fn put_refusal<K: Sink>(alloc: Global, out: &mut K, refusal: Refusal) -> Status
+/// Writes the line that refuses an archive or a solution, and answers status 3, or 5 where the sink refused a call after
+/// some first bytes of it, or 6 where memory ran out. It takes constant time and memory.
+pub fn put_refusal<K: Sink>(alloc: Global, out: &mut K, refusal: Refusal) -> Status
     ensures written { Written (K.taken out.old) (K.taken out.new) (K.faults out.old) (K.faults out.new) (encode_utf8_all (refusals.refusal_line refusal)) 3 result.0 }
     ensures write_fault_ends { (result.0 ≡ 5) ⊎ (K.faults out.new ≡ K.faults out.old) }
     ensures sink_faults { K.faults out.old ≤ K.faults out.new }
@@ -455,8 +456,11 @@ fn instance_of(begun: &Begun) -> &Instance
     &begun.resolved.instances.as_slice()[begun.instance]
 }
 
-/// What the archive under a name leads to.
-pub(crate) fn answer_to<S: Shelf>(alloc: Global, shelf: &mut S, name: &str) -> Result<Answer, Stop>
+/// What the archive under a name leads to: it is read with its instances, or it is refused, also where it is too large.
+///
+/// `ReadFault` comes only with a fault that the shelf counted, and on a sound shelf exactly where the name is missing.
+/// After any answer the shelf holds what it held. It takes what reading an archive takes.
+pub fn answer_to<S: Shelf>(alloc: Global, shelf: &mut S, name: &str) -> Result<Answer, Stop>
     ensures answer { IfOk result (λ a. IfSome (S.holdings shelf.old) (λ under. IsAnswerOf (under name.now) a)) }
     ensures only { IfOk result (λ a. IfSome (S.holdings shelf.old) (λ under. IsOnlyAnswerOf (under name.now) a)) }
     ensures ready { IfOk result IsReadyAnswer }

@@ -41,8 +41,9 @@ pub(crate) fn start(alloc: Global, read: ReadArchive, number: u32) -> Result<Beg
     }
 }
 
-/// The number of the solution's instance, and its timetable.
-pub(crate) fn begin(
+/// The number of the instance of the solution with this number over all groups, and its timetable, completed; or why
+/// there is none, or that memory was refused. It takes what reading the solution takes, and changes nothing.
+pub fn begin(
     alloc: Global,
     archive: &Archive,
     resolved: &Resolved,
@@ -74,8 +75,8 @@ fn instance_number(resolved: &Resolved, number: u32) -> usize
     resolved.of.as_slice()[number as usize] as usize
 }
 
-/// The instance with a number.
-pub(crate) fn instance_numbered(resolved: &Resolved, instance: usize) -> &Instance
+/// The instance with a number, in constant time.
+pub fn instance_numbered(resolved: &Resolved, instance: usize) -> &Instance
     requires { instance < length resolved.now.instances }
     ensures { slice_get resolved.now.instances instance ≡ Some result.now }
 {

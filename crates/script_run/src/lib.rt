@@ -3,6 +3,7 @@
 
 mod answering;
 mod asking;
+mod commands;
 mod faults;
 mod players;
 mod running;
@@ -10,6 +11,7 @@ mod shortages;
 
 pub use answering::{push_answer, push_mark, push_ok};
 pub use asking::asks_often;
+pub use commands::answer_command;
 pub use faults::fault_line;
 pub use players::Player;
 pub use running::run;

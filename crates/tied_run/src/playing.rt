@@ -39,7 +39,7 @@ impl<'i, F: Shortages> Player for TiedPlayer<'i, F> {
                 Ok(true)
             }
             Err(fault) => {
-                text.push_text(&fault_line(alloc, number, fault)?)?;
+                text.push_text(&fault_line(alloc, u64::from(number), fault)?)?;
                 Ok(false)
             }
         }

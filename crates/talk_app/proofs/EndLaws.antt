@@ -1,0 +1,139 @@
+-- How a run ends.
+use Rattle.std.proofs.Common.{ℕ, ◌≡◌, ◌⊎◌, Option, None, Some, Result, Ok, Err, OnOk, OnErr, IfSome, List, [], inl, inr, refl, sym, ap, subst, ◌∙◌}
+use Rattle.std.specs.Result.{IsErrOf}
+use Rattle.std.proofs.Common.{encode_utf8_all}
+use Rattle.edit_script.specs.Lines.{lines}
+use Rattle.khe_app.specs.Answers.{IsAnswerOf, IsBarredBy, reading_of}
+use Rattle.khe_app.specs.Ends.{Written}
+use Rattle.khe_app.specs.Outcome.{IsReadingOf, Reading, Start, barred, refused, start_of}
+use Rattle.khe_app.specs.Refusals.{refusal_line}
+use Rattle.khe_app.specs.declared.program.Answer.{Answer}
+use Rattle.khe_app.specs.declared.refusals.Refusal.{Refusal}
+use Rattle.khe_io.specs.Faults.{Rose, Took, TookFront}
+use Rattle.talk_app.specs.Ends.{IsEnd, IsWritten, Wrote, status_after}
+use Rattle.talk_app.specs.Outcome.{IsOutcome, IsTalkIn, IsTalkTo, not_understood_line}
+use Rattle.talk_run.specs.Between.{HadLeft, IsCutOff, IsTalked}
+use Rattle.talk_run.specs.declared.faults.TalkFault.{TalkFault}
+use Rattle.talk_run.specs.declared.faults.TalkFault.TheVariants.{ReadFault, WriteFault, NoMemory}
+
+-- a reader had something left
+record Had (left : Option (List ℕ)) : Type 0 where
+  input : List ℕ
+  all : HadLeft left input
+
+had : (left : Option (List ℕ)) → Had left
+had None = record { input = []; all = tt }
+had (Some xs) = record { input = xs; all = refl }
+
+-- another outcome, where each of one is one of the other
+pub end_as : (one other : List ℕ → ℕ → List ℕ → Type 0) (left before after : Option (List ℕ)) (faults faults2 result : ℕ)
+    → ((input : List ℕ) (status : ℕ) (bytes : List ℕ) → one input status bytes → other input status bytes)
+    → IsEnd one left before after faults faults2 result → IsEnd other left before after faults faults2 result
+end_as one other left before after faults faults2 result to (inl nothing) = inl nothing
+end_as one other left before after faults faults2 result to (inr w) = inr (record {
+  input = w.input;
+  all = w.all;
+  status = w.status;
+  bytes = w.bytes;
+  is = to w.input w.status w.bytes w.is;
+  wrote = w.wrote;
+})
+
+-- a line is written in place of all answers
+written_as : (before after : Option (List ℕ)) (faults faults2 : ℕ) (bytes : List ℕ) (status result : ℕ)
+    → Written before after faults faults2 bytes status result → Wrote before after faults faults2 bytes status result
+written_as before after faults faults2 bytes status result (inl whole) = inl whole
+written_as before after faults faults2 bytes status result (inr (inl cut)) = inr (inl cut)
+written_as before after faults faults2 bytes status result (inr (inr starved)) = inr (inr (inr starved.0, starved.1))
+
+pub line_end : (outcome : List ℕ → ℕ → List ℕ → Type 0) (left before after : Option (List ℕ)) (faults faults2 : ℕ)
+    (bytes : List ℕ) (status result : ℕ) → ((input : List ℕ) → outcome input status bytes)
+    → Written before after faults faults2 bytes status result → IsEnd outcome left before after faults faults2 result
+line_end outcome left before after faults faults2 bytes status result is wrote = inr (record {
+  input = (had left).input;
+  all = (had left).all;
+  status = status;
+  bytes = bytes;
+  is = is (had left).input;
+  wrote = written_as before after faults faults2 bytes status result wrote;
+})
+
+-- a talk ended, after all answers or after first bytes of them
+pub talk_end : (outcome : List ℕ → ℕ → List ℕ → Type 0) (left before after : Option (List ℕ)) (faults faults2 : ℕ)
+    (said : List (List ℕ) → List ℕ) (ended : Result (Unit {0}) TalkFault)
+    → ((input : List ℕ) → outcome input 0 (said (lines input))) → OnOk ended (IsTalked left before after said)
+    → OnErr ended (IsCutOff left before after said) → (IsErrOf ended WriteFault → Rose faults faults2)
+    → IsEnd outcome left before after faults faults2 (status_after ended)
+talk_end outcome left before after faults faults2 said (Ok u) is whole cut rose = inr (record {
+  input = whole.bytes;
+  all = whole.all;
+  status = 0;
+  bytes = said (lines whole.bytes);
+  is = is whole.bytes;
+  wrote = inl (refl, whole.took);
+})
+talk_end outcome left before after faults faults2 said (Err ReadFault) is whole cut rose = inr (record {
+  input = cut.bytes;
+  all = cut.all;
+  status = 0;
+  bytes = said (lines cut.bytes);
+  is = is cut.bytes;
+  wrote = inr (inr (inl refl, cut.front));
+})
+talk_end outcome left before after faults faults2 said (Err WriteFault) is whole cut rose = inr (record {
+  input = cut.bytes;
+  all = cut.all;
+  status = 0;
+  bytes = said (lines cut.bytes);
+  is = is cut.bytes;
+  wrote = inr (inl (refl, rose refl, cut.front));
+})
+talk_end outcome left before after faults faults2 said (Err NoMemory) is whole cut rose = inr (record {
+  input = cut.bytes;
+  all = cut.all;
+  status = 0;
+  bytes = said (lines cut.bytes);
+  is = is cut.bytes;
+  wrote = inr (inr (inr refl, cut.front));
+})
+
+-- faults are counted where a call was refused
+pub talk_faults : (ended : Result (Unit {0}) TalkFault) (faults faults2 : ℕ) → OnOk ended (faults2 ≡ faults)
+    → (IsErrOf ended ReadFault → faults2 ≡ faults) → (IsErrOf ended NoMemory → faults2 ≡ faults)
+    → (status_after ended ≡ 5) ⊎ (faults2 ≡ faults)
+talk_faults (Ok u) faults faults2 ok read starved = inr ok
+talk_faults (Err ReadFault) faults faults2 ok read starved = inr (read refl)
+talk_faults (Err WriteFault) faults faults2 ok read starved = inl refl
+talk_faults (Err NoMemory) faults faults2 ok read starved = inr (starved refl)
+
+-- the line that refuses words
+pub words_end : (left before after : Option (List ℕ)) (faults faults2 result : ℕ) (under : List ℕ → Option (List ℕ))
+    → ((result ≡ 2) × Took before after not_understood_line)
+    ⊎ ((result ≡ 5) × Rose faults faults2 × TookFront before after not_understood_line)
+    → IsEnd (IsOutcome None under) left before after faults faults2 result
+words_end left before after faults faults2 result under (inl whole) = inr (record {
+  input = (had left).input;
+  all = (had left).all;
+  status = 2;
+  bytes = not_understood_line;
+  is = (refl, refl);
+  wrote = inl whole;
+})
+words_end left before after faults faults2 result under (inr cut) = inr (record {
+  input = (had left).input;
+  all = (had left).all;
+  status = 2;
+  bytes = not_understood_line;
+  is = (refl, refl);
+  wrote = inr (inl cut);
+})
+
+-- what stands under the archive's name is what was read
+pub answer_end : (number : ℕ) (archive : Option (List ℕ)) (answer : Answer) (left before after : Option (List ℕ))
+    (faults faults2 result : ℕ) → IsAnswerOf archive answer
+    → IsEnd (IsTalkIn number (reading_of answer)) left before after faults faults2 result
+    → IsEnd (IsTalkTo number archive) left before after faults faults2 result
+answer_end number None answer left before after faults faults2 result is end = absurd is
+answer_end number (Some bytes) answer left before after faults faults2 result is end =
+    end_as (IsTalkIn number (reading_of answer)) (IsTalkTo number (Some bytes)) left before after faults faults2 result
+    (λ input status text talk. record { reading = reading_of answer; is = is; talk = talk }) end

@@ -1,0 +1,112 @@
+//! A talk on a solution of an archive that was read.
+
+ghost use Rattle.std.specs.Prelude.{◌≡◌, ◌≤◌, ◌⊎◌};
+ghost use Rattle.khe_app.specs.Outcome.{begins, start_of};
+ghost use Rattle.khe_app.specs.Ready.{IsReady};
+ghost use Rattle.khe_engine.specs.Values.{ServesAll};
+ghost use Rattle.khe_instance.specs.States.{IsValid};
+ghost use Rattle.talk_app.specs.Ends.{IsEnd, status_after};
+ghost use Rattle.talk_app.specs.Outcome.{IsTalkOf, IsTalkOn};
+
+use demand_families::WithDemands;
+use khe_app::{ReadArchive, Status, Unread, begin, instance_numbered, put_refusal};
+use khe_base::NoMemory;
+use khe_engine::Engine;
+use khe_instance::{Instance, Plain};
+use khe_io::Sink;
+use script_run::Shortages;
+use sixteen_families::Families;
+use std::alloc::Global;
+use std::io::BufRead;
+use talk_run::{Speaker, TalkFault, talk};
+use xhstt_shape::Archive;
+
+/// Talks on the solution with this number, or writes the line that refuses it.
+pub(crate) fn talk_on<R: BufRead, K: Sink>(
+    alloc: Global,
+    reader: &mut R,
+    out: &mut K,
+    read: ReadArchive,
+    solution: u32,
+    demands: bool,
+) -> Status
+    requires { IsReady read.archive read.resolved }
+    ensures end { IsEnd (IsTalkOf read.archive solution (start_of read.archive read.resolved solution)) (R.remaining reader.old) (K.taken out.old) (K.taken out.new) (K.faults out.old) (K.faults out.new) result.0 }
+    ensures write_fault_ends { (result.0 ≡ 5) ⊎ (K.faults out.new ≡ K.faults out.old) }
+    ensures sink_faults { K.faults out.old ≤ K.faults out.new }
+{
+    match begin(alloc, &read.archive, &read.resolved, solution) {
+        Ok((instance, plain)) => {
+            let ReadArchive { archive, resolved } = read;
+            let inst = instance_numbered(&resolved, instance);
+            talk_with(alloc, reader, out, inst, &plain, archive, solution, demands)
+        }
+        Err(Unread::Refused(refusal)) => put_refusal(alloc, out, refusal),
+        Err(Unread::NoMemory) => Status(6),
+    }
+}
+
+/// Talks on a timetable, with demands that are kept or not.
+fn talk_with<R: BufRead, K: Sink>(
+    alloc: Global,
+    reader: &mut R,
+    out: &mut K,
+    inst: &Instance,
+    plain: &Plain,
+    archive: Archive,
+    solution: u32,
+    demands: bool,
+) -> Status
+    requires valid { IsValid inst.now plain.now }
+    ensures end { IsEnd (IsTalkOn archive solution inst.now plain.now) (R.remaining reader.old) (K.taken out.old) (K.taken out.new) (K.faults out.old) (K.faults out.new) result.0 }
+    ensures write_fault_ends { (result.0 ≡ 5) ⊎ (K.faults out.new ≡ K.faults out.old) }
+    ensures sink_faults { K.faults out.old ≤ K.faults out.new }
+{
+    if demands {
+        talk_by::<R, K, WithDemands<Families>>(alloc, reader, out, inst, plain, archive, solution)
+    } else {
+        talk_by::<R, K, Families>(alloc, reader, out, inst, plain, archive, solution)
+    }
+}
+
+/// Talks on a timetable with these families.
+fn talk_by<R: BufRead, K: Sink, F: Shortages + Drop>(
+    alloc: Global,
+    reader: &mut R,
+    out: &mut K,
+    inst: &Instance,
+    plain: &Plain,
+    archive: Archive,
+    solution: u32,
+) -> Status
+    requires joined { F.IsWellJoined }
+    requires serves { ServesAll F.serves_kind }
+    requires valid { IsValid inst.now plain.now }
+    ensures end { IsEnd (IsTalkOn archive solution inst.now plain.now) (R.remaining reader.old) (K.taken out.old) (K.taken out.new) (K.faults out.old) (K.faults out.new) result.0 }
+    ensures write_fault_ends { (result.0 ≡ 5) ⊎ (K.faults out.new ≡ K.faults out.old) }
+    ensures sink_faults { K.faults out.old ≤ K.faults out.new }
+{
+    match Engine::<F>::open(alloc, inst, plain) {
+        Ok(engine) => {
+            let mut speaker = Speaker {
+                engine,
+                archive,
+                solution,
+            };
+            status_after(talk(alloc, &mut speaker, reader, out))
+        }
+        Err(NoMemory) => Status(6),
+    }
+}
+
+/// The status after a talk.
+fn status_after(ended: Result<(), TalkFault>) -> Status
+    ensures { result.0 ≡ status_after ended }
+{
+    match ended {
+        Ok(()) => Status(0),
+        Err(TalkFault::ReadFault) => Status(4),
+        Err(TalkFault::WriteFault) => Status(5),
+        Err(TalkFault::NoMemory) => Status(6),
+    }
+}

@@ -1,0 +1,43 @@
+-- What a repair makes of a play, where a mark is open and where none is.
+use Rattle.std.proofs.Common.{ℕ, ◌≡◌, List, [], ◌∷◌, length, map, refl, ap, ◌∙◌, sym, arith}
+use Rattle.khe_engine.specs.States.{State}
+use Rattle.khe_engine.specs.Worlds.{Saved, World}
+use Rattle.khe_instance.specs.declared.parts.Parts.{Parts}
+use Rattle.script_run.specs.Plays.{Play, play_of}
+use Rattle.talk_run.specs.Answers.{by_marks, line_on, open_mark_line, repair_answer, repair_played, repaired_by}
+use Rattle.talk_run.specs.declared.commands.Chains.{Chains}
+
+-- no mark is open
+pub no_marks : (xs : List Saved) → length xs ≡ 0 → xs ≡ []
+no_marks [] e = refl
+no_marks (x ∷ xs) e = absurd (omega arith)
+
+-- where none is, the line is that on the repair, and the state the repaired one
+pub free_answer : (p : Parts) (w : World) (c : Chains) → w.saved ≡ []
+    → repair_answer p (play_of w) c ≡ line_on p (repaired_by p w.state c)
+free_answer p w c e =
+    ap (λ (xs : List Saved). by_marks (map (λ (x : Saved). x.state) xs) (line_on p (repaired_by p w.state c)) open_mark_line) e
+
+pub free_played : (p : Parts) (w v : World) (c : Chains) → w.saved ≡ [] → v.saved ≡ []
+    → v.state ≡ (repaired_by p w.state c).state → play_of v ≡ repair_played p (play_of w) c
+free_played p w v c e f g =
+    ap (λ (xs : List Saved). record { state = v.state; saved = map (λ (x : Saved). x.state) xs }) f
+    ∙ ap (λ (s : State). record { state = s; saved = [] }) g
+    ∙ sym (ap (λ (xs : List Saved). by_marks (map (λ (x : Saved). x.state) xs)
+    (record { state = (repaired_by p w.state c).state; saved = map (λ (x : Saved). x.state) xs })
+    (record { state = w.state; saved = map (λ (x : Saved). x.state) xs })) e)
+
+-- where one is, all stays as it was
+some-marks : (xs : List Saved) → (length xs ≡ 0 → ⊥) → (A : Type 0) → (a b : A)
+    → by_marks (map (λ (x : Saved). x.state) xs) a b ≡ b
+some-marks [] n A a b = absurd (n refl)
+some-marks (x ∷ xs) n A a b = refl
+
+pub marked_answer : (p : Parts) (w : World) (c : Chains) → (length w.saved ≡ 0 → ⊥)
+    → repair_answer p (play_of w) c ≡ open_mark_line
+marked_answer p w c n = some-marks w.saved n (List ℕ) (line_on p (repaired_by p w.state c)) open_mark_line
+
+pub marked_played : (p : Parts) (w : World) (c : Chains) → (length w.saved ≡ 0 → ⊥)
+    → repair_played p (play_of w) c ≡ play_of w
+marked_played p w c n = some-marks w.saved n Play
+    (record { state = (repaired_by p w.state c).state; saved = (play_of w).saved }) (play_of w)
