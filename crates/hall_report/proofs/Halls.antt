@@ -1,9 +1,9 @@
 -- The Hall set of a told state from the numbers that are marked.
-use Rattle.std.proofs.Common.{ℕ, ◌+◌, ◌<◌, ◌≤◌, ◌≡◌, Bool, true, ◌&&◌, List, ◌++◌, map, length, sym, ap, ◌∙◌, arith}
+use Rattle.std.proofs.Common.{ℕ, ◌+◌, ◌<◌, ◌≤◌, ◌≡◌, Bool, true, ◌&&◌, List, [], ◌∷◌, ◌++◌, map, length, refl, sym, subst, ap, ◌∙◌, arith}
 use Rattle.std.specs.Prelude.{◌==◌}
 use Rattle.std.specs.List.{filter, list_any}
-use Rattle.std.proofs.lemmas.Bool.{and_parts}
-use Rattle.std.proofs.lemmas.List.{length-map}
+use Rattle.std.proofs.lemmas.Bool.{and_parts, eqb-true}
+use Rattle.std.proofs.lemmas.List.{length-map, nil_from_length}
 use Rattle.std.proofs.lemmas.Option.{slice_get_within}
 use Rattle.khe_base.specs.IdSet.{has_member}
 use Rattle.khe_instance.specs.declared.parts.Parts.{Parts}
@@ -22,6 +22,15 @@ use Rattle.hall_report.specs.declared.units.Units.{Units}
 
 and_same : (a b : Bool) → a ≡ true → a && b ≡ b
 and_same a b h = ap (λ v. v && b) h
+
+-- nothing is listed where nothing is marked
+unmarked_tasks : (u : Units) (ds : List Demand) → filter (is_marked u []) ds ≡ []
+unmarked_tasks u [] = refl
+unmarked_tasks u (d ∷ ds) = unmarked_tasks u ds
+
+unmarked_cells : (tasks n : ℕ) (ds : List Demand) → chosen (λ i. has_member [] (tasks + i)) n ds ≡ []
+unmarked_cells tasks n [] = refl
+unmarked_cells tasks n (d ∷ ds) = unmarked_cells tasks (n + 1) ds
 
 module _ (p : Parts) (s : List Slot) (u : Units) (picks : Picks) (w : Domains) (cells : List ℕ) (tasks times : ℕ)
     (are : AreOf p s u picks w cells tasks times) where
@@ -69,3 +78,14 @@ module _ (p : Parts) (s : List Slot) (u : Units) (picks : Picks) (w : Domains) (
             ∙ ap (λ xs. chosen test 0 ts ++ xs) two
             ∙ sym (chosen_both test 0 ts (map (cell_demand times) cells)) ∙ ap (λ xs. chosen test 0 (ts ++ xs)) three,
       )
+
+  -- a Hall set without demands is listed as the empty list
+  pub hall_none : (numbers : List ℕ) (hall : List Demand) → IsHallSet w (λ j. list_any (λ m. m == j) numbers)
+      → (length numbers == 0) ≡ true → hall ≡ [] → IsHallOf p s hall
+  hall_none numbers hall least none empty =
+      let ts : List Demand = task_demands s in
+      let cs : List Demand = map (cell_demand times) cells in
+      let e : numbers ≡ [] = nil_from_length numbers (eqb-true (length numbers) 0 none) in
+      hall_is [] [] hall (subst (λ xs. IsHallSet w (λ j. list_any (λ m. m == j) xs)) e least) (λ n. refl)
+      (empty ∙ sym (ap (λ xs. xs ++ chosen (λ i. has_member [] (tasks + i)) 0 cs) (unmarked_tasks u ts)
+      ∙ unmarked_cells tasks 0 cs))

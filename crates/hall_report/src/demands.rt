@@ -1,6 +1,7 @@
-ghost use Rattle.std.specs.Prelude.{◌≡◌, ◌+◌, ◌*◌, ◌++◌, ◌<◌, ◌≤◌, ◌^◌, All, IfOk, OnOk, List, length, map};
-ghost use Rattle.std.specs.List.{filter};
+ghost use Rattle.std.specs.Prelude.{◌≡◌, ◌==◌, ◌+◌, ◌*◌, ◌++◌, ◌<◌, ◌≤◌, ◌^◌, All, IfOk, OnOk, List, length, map};
+ghost use Rattle.std.specs.List.{filter, list_any};
 ghost use Rattle.khe_base.specs.IdSet.{has_member};
+ghost use Rattle.demand_matching.specs.Excess.{IsHallSet};
 ghost use Rattle.hall_report.specs.Listing.{AreMarks, is_marked};
 ghost use Rattle.khe_instance.specs.declared.parts.Parts.{Parts};
 ghost use Rattle.khe_told.specs.Slots.{no_meets, slot_at, length_of};
@@ -96,24 +97,38 @@ impl Demands {
 
     /// The least set of demands whose excess is the deficit, in their order.
     ///
-    /// It takes memory for a mark for each demand, and time in proportion to the demands.
+    /// Where the deficit is 0 it is empty, and is answered in constant time and without memory. Else it
+    /// takes memory for a mark for each demand, and time in proportion to the demands and to the
+    /// supplies that those of the set may have.
     pub fn hall(&self) -> Result<Seq<Demand>, NoMemory>
         ensures { (p : Parts) → AreOf p self.now.told self.now.units self.now.picks self.now.matching self.now.cells self.now.tasks self.now.times → IfOk result (λ hall. IsHallOf p self.now.told hall) }
     {
-        let marks = self.marks()?;
+        let numbers = self.matching.hall_set()?;
+        if numbers.is_empty() {
+            return Ok(Seq::new(self.alloc));
+        }
+        self.hall_of(numbers.as_slice())
+    }
+
+    // The demands of the Hall set, which has these numbers.
+    fn hall_of(&self, numbers: &[u32]) -> Result<Seq<Demand>, NoMemory>
+        requires { IsHallSet self.now.matching (λ j. list_any (λ m. m == j) numbers.now) }
+        ensures { (p : Parts) → AreOf p self.now.told self.now.units self.now.picks self.now.matching self.now.cells self.now.tasks self.now.times → IfOk result (λ hall. IsHallOf p self.now.told hall) }
+    {
+        let marks = self.marks(numbers)?;
         let mut hall = Seq::new(self.alloc);
         self.list(&mut hall, &marks)?;
         Ok(hall)
     }
 
     // Marks the numbers of the Hall set.
-    fn marks(&self) -> Result<IdSet, NoMemory>
+    fn marks(&self, numbers: &[u32]) -> Result<IdSet, NoMemory>
+        requires { IsHallSet self.now.matching (λ j. list_any (λ m. m == j) numbers.now) }
         ensures { IfOk result (λ marks. AreMarks self.now.matching marks) }
     {
-        let numbers = self.matching.hall_set()?;
         let cells = self.cells.as_slice().len() as u32;
         let count = self.tasks + cells;
-        let marks = marked(self.alloc, count, numbers.as_slice())?;
+        let marks = marked(self.alloc, count, numbers)?;
         Ok(marks)
     }
 

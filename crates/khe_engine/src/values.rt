@@ -44,7 +44,7 @@ impl<'i, F: Family> Engine<'i, F> {
         self.listeners.graph.has_group(group)
     }
 
-    /// What a group costs, in time in proportion to its children.
+    /// What a group costs, in constant time.
     pub fn group_cost(&self, group: GroupId) -> Totals
         requires { has_group self.now.state.grouping.groups group.0 ≡ true }
         ensures { result ≡ group_totals self.now.parts self.now.state group.0 }
@@ -67,7 +67,7 @@ impl<'i, F: Family> Engine<'i, F> {
     }
 
     /// Marks the costs that stand, to be compared with from here on. It takes time in proportion to
-    /// the monitors.
+    /// the monitors whose costs changed since they were marked, and to a 4096th of all.
     #[tactic(auto, using(crate::proofs::ValueLaws::costs_same))]
     pub fn compare_from_here(&mut self)
         ensures parts { self.new.parts ≡ self.old.parts }

@@ -1,7 +1,10 @@
+pub mod AloneLaws
 pub mod DearerLaws
 pub mod DefectLaws
 pub mod EditLaws
+pub mod GroupCostLaws
 pub mod JoinedLaws
+pub mod LeftLaws
 pub mod LineLaws
 pub mod ListLaws
 pub mod ListedLaws

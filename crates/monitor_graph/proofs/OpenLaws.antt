@@ -45,7 +45,7 @@ use Rattle.monitor_graph.specs.Seating.{joined, sizes_of, bit_of, IsSeating}
 use Rattle.monitor_graph.specs.declared.lines.Line.{Line}
 
 -- no groups
-none_at : (n g : ℕ) → children_at (replicate n None) g ≡ []
+pub none_at : (n g : ℕ) → children_at (replicate n None) g ≡ []
 none_at zero g = refl
 none_at (suc n) zero = refl
 none_at (suc n) (suc g) = none_at n g
@@ -63,7 +63,7 @@ none_from : (a n : ℕ) → map (λ (g : ℕ). option_map (λ (x : Group). x.chi
 none_from a zero = refl
 none_from a (suc n) = ap (λ xs. None ∷ xs) (none_from (a + 1) n)
 
-none_numbered : (n : ℕ) → numbered_groups n [] ≡ replicate n None
+pub none_numbered : (n : ℕ) → numbered_groups n [] ≡ replicate n None
 unfolding numbered_groups
 none_numbered n = none_from 0 n
 
@@ -158,6 +158,10 @@ fresh_defects lines words summary few h w s =
       few = omega (arith, long, few);
       summary_few = omega (arith, short, few);
     }
+
+pub fresh_marked : (lines : List Line) (marked : List ℕ) → All IsFresh lines → marked ≡ replicate (length lines) 0
+    → marked ≡ line_costs lines
+fresh_marked lines marked h m = m ∙ sym (zeros_of line_cost fresh_cost lines h)
 
 pub fresh_compared : (lines : List Line) (marked : List ℕ) → length lines ≤ MONITORS → All IsFresh lines
     → marked ≡ replicate (length lines) 0 → AreCompared (line_costs lines) marked 0 0

@@ -209,7 +209,7 @@ removed gs monitors sizes children held held2 g k v d xs s h l at_place long new
     bit_small false = omega arith
 
 -- a group without children that comes, and one that goes
-same_children : (gs : Groups) (g : ℕ) (o : Option (List MonitorId)) → listed (Some o) ≡ [] → children_at gs g ≡ []
+pub same_children : (gs : Groups) (g : ℕ) (o : Option (List MonitorId)) → listed (Some o) ≡ [] → children_at gs g ≡ []
     → g < length gs → (k : ℕ) → children_at (set gs g o) k ≡ children_at gs k
 same_children gs g o a b there k = go (nat_eq k g) refl
   where

@@ -2,7 +2,9 @@ pub mod Boards
 pub mod Dearer
 pub mod Defects
 pub mod Edits
+pub mod GroupCosts
 pub mod Groups
+pub mod Left
 pub mod Lines
 pub mod Listed
 pub mod Opened

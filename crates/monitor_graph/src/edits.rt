@@ -285,6 +285,8 @@ impl Graph {
         ensures grouping { grouping_of self.new ≡ regrouped self.old group.0 (Some (insert (children_at self.old.groups group.0) place child)) }
         ensures rest { KeepsValues self.old self.new }
     {
+        self.costs
+            .add(&self.groups, group, self.lines.as_slice(), child);
         self.groups.insert(group, child, place);
     }
 
@@ -293,6 +295,8 @@ impl Graph {
         ensures grouping { grouping_of self.new ≡ edited (grouping_of self.old) (RemoveChild group child) }
         ensures rest { KeepsValues self.old self.new }
     {
+        self.costs
+            .remove(&self.groups, group, self.lines.as_slice(), child);
         self.groups.remove(group, child);
     }
 }

@@ -10,9 +10,10 @@ ghost use Rattle.monitor_graph.specs.Opened.{IsFresh, groups_in};
 ghost use Rattle.monitor_graph.specs.Trials.{AreTotalsWith, IsStill};
 ghost use Rattle.monitor_graph.specs.Values.{IsOf, IsNextDefect, costs_in, group_totals, only_dearer};
 
-use crate::dearer::{mark_costs, recount};
+use crate::dearer::{mark_changed, recount};
+use crate::group_costs::GroupCosts;
 use crate::groups::Groups;
-use crate::lines::{Line, cost_of, replace, shift, totals_among};
+use crate::lines::{Line, cost_of, replace, shift};
 use crate::rows::{first_set, put};
 use khe_base::bits::no_bits;
 use khe_base::{GroupId, MonitorId, NoMemory, Totals};
@@ -27,8 +28,7 @@ use std::sync::ledger::Ledger;
 /// room for. A graph has the definitions' values where it is of an instance (`IsOf`), as `open` gives
 /// it.
 ///
-/// A change of a deviation takes constant time, and so do all values but the next defect and what a
-/// group costs. Only `open`, `of_lines` and `room` take memory.
+/// A change of a deviation takes constant time, and so do all values but the next defect. Only `open`, `of_lines` and `room` take memory.
 #[derive(Drop)]
 pub struct Graph {
     pub(crate) lines: Vec<Line>,
@@ -39,10 +39,15 @@ pub struct Graph {
     summary: Vec<u64>,
     /// What each monitor cost when the costs were marked.
     marked: Vec<u128>,
+    /// A bit for each monitor whose cost was another since, and a bit for each word of these that is
+    /// not 0.
+    changed: Vec<u64>,
+    changed_words: Vec<u64>,
     /// How many monitors cost more than marked, and the sum of their numbers.
     dearer: u64,
     numbers: u64,
     pub(crate) groups: Groups,
+    pub(crate) costs: GroupCosts,
 }
 
 impl Model for Graph {
@@ -50,6 +55,8 @@ impl Model for Graph {
     ghost use Rattle.monitor_graph.specs.Boards.{Board};
     ghost use Rattle.monitor_graph.specs.Dearer.{AreCompared};
     ghost use Rattle.monitor_graph.specs.Defects.{AreDefects};
+    ghost use Rattle.monitor_graph.specs.GroupCosts.{AreGroupCosts};
+    ghost use Rattle.monitor_graph.specs.Left.{AreLeft};
     ghost use Rattle.monitor_graph.specs.Lines.{AreTotalled, line_costs};
 
     ghost Value = { Board };
@@ -57,7 +64,9 @@ impl Model for Graph {
     ghost view = { λ g. record { lines = g.lines.items; groups = g.groups.groups; marked = g.marked.items; seats = g.groups.seats } };
 
     ghost invariant = { λ g. AreTotalled g.lines.items g.hard g.soft × AreDefects g.lines.items g.words.items g.summary.items
-        × AreCompared (line_costs g.lines.items) g.marked.items g.dearer g.numbers × (g.groups.monitors ≡ length g.lines.items) };
+        × AreCompared (line_costs g.lines.items) g.marked.items g.dearer g.numbers × (g.groups.monitors ≡ length g.lines.items)
+        × AreGroupCosts g.lines.items g.groups.groups g.costs.hard.items g.costs.soft.items
+        × AreLeft (line_costs g.lines.items) g.marked.items g.changed.items g.changed_words.items };
 }
 
 impl Graph {
@@ -80,7 +89,10 @@ impl Graph {
             summary: no_bits(alloc, words / 64 + 1)?,
             words: no_bits(alloc, words)?,
             marked: vec![in alloc; 0; monitors]?,
+            changed_words: no_bits(alloc, words / 64 + 1)?,
+            changed: no_bits(alloc, words)?,
             groups: Groups::open(alloc, monitors)?,
+            costs: GroupCosts::open(alloc)?,
             lines,
         })
     }
@@ -165,14 +177,19 @@ impl Graph {
     }
 
     /// Marks the costs that stand, to be compared with from here on. It takes time in proportion to
-    /// the monitors.
+    /// the monitors whose costs changed since they were marked, and to a 4096th of all.
     pub fn compare_from_here(&mut self)
         ensures lines { self.new.lines ≡ self.old.lines }
         ensures groups { self.new.groups ≡ self.old.groups }
         ensures seats { self.new.seats ≡ self.old.seats }
         ensures marked { (p : Parts) → IsOf self.old p → self.new.marked ≡ costs_in p self.old }
     {
-        mark_costs(&mut self.marked, self.lines.as_slice());
+        mark_changed(
+            &mut self.marked,
+            &mut self.changed,
+            &mut self.changed_words,
+            self.lines.as_slice(),
+        );
         self.dearer = 0;
         self.numbers = 0;
     }
@@ -203,13 +220,13 @@ impl Graph {
         self.groups.children(group).get(k as usize).copied()
     }
 
-    /// What a group costs, in time in proportion to its children.
+    /// What a group costs, in constant time.
     pub fn group_cost(&self, group: GroupId) -> Totals
         requires { has_group self.now.groups group.0 ≡ true }
         ensures { (p : Parts) → IsOf self.now p → result ≡ group_totals p self.now group.0 }
     {
         self.groups.facts();
-        totals_among(self.lines.as_slice(), self.groups.children(group))
+        self.costs.of(group)
     }
 
     /// Makes room for this many children more. Where memory is refused, all stays as it was.
@@ -271,6 +288,8 @@ impl Graph {
         let place = monitor.0 as usize;
         let before = cost_of(&self.lines[place]);
         let after = cost_of(&line);
+        self.costs
+            .follow(&self.groups, self.lines.as_slice(), monitor, line);
         replace(
             &mut self.lines,
             &mut self.hard,
@@ -282,6 +301,7 @@ impl Graph {
         );
         let marked = self.marked[place];
         put(&mut self.words, &mut self.summary, place, after > 0);
+        put(&mut self.changed, &mut self.changed_words, place, true);
         recount(
             &mut self.dearer,
             &mut self.numbers,

@@ -1,4 +1,4 @@
-ghost use Rattle.std.specs.Prelude.{ℕ, ◌≡◌, ◌<◌, ◌≤◌, ◌+◌, ◌^◌, [], true, false, Option, Some, None, is_none, drop, length, slice_get, slice_set, take, All, AllPairs, ◌≢◌, IfOk, IsOk, OnOk, OnErr, MatchOption, nat_le};
+ghost use Rattle.std.specs.Prelude.{ℕ, ◌≡◌, ◌<◌, ◌≤◌, ◌+◌, ◌^◌, [], true, false, Option, Some, None, is_none, drop, length, slice_get, slice_index_or, slice_set, take, All, AllPairs, ◌≢◌, IfOk, IsOk, OnOk, OnErr, MatchOption, nat_le};
 ghost use Rattle.std.specs.List.{insert, sum_by, position_or_len};
 ghost use Rattle.std.specs.Option.{option_map, option_map_or};
 ghost use Rattle.khe_base.specs.declared.limits.TheConstants.{GROUPS, MONITORS};
@@ -126,6 +126,16 @@ impl Groups {
         group < self.sizes.len() && is_set(self.held.as_slice(), BITS * child.0 as usize + group)
     }
 
+    /// Whether a monitor is in no group, in constant time.
+    pub(crate) fn is_alone(&self, child: MonitorId) -> bool
+        ensures { result ≡ true → (g : ℕ) → has_child self.now.groups g child.0 ≡ false }
+    {
+        if self.children.is_empty() {
+            return true;
+        }
+        is_clear(self.held.as_slice(), BITS / 64 * child.0 as usize)
+    }
+
     /// The lowest number of no group; `None` where each number is taken.
     pub(crate) fn free(&self) -> Option<GroupId>
         ensures { MatchOption result
@@ -240,6 +250,19 @@ fn part(children: &[MonitorId], start: usize, size: usize) -> &[MonitorId]
     ensures { result.now ≡ take size (drop start children.now) }
 {
     &children[start..start + size]
+}
+
+/// Whether no bit is set in the words of a monitor, from this one on.
+fn is_clear(held: &[u64], first: usize) -> bool
+    requires { first < 2 ^ 63 }
+    ensures { result ≡ true → (n : ℕ) → first ≤ n → n < first + 4 → slice_index_or held.now n 0 ≡ 0 }
+{
+    for word in first..first + BITS / 64 {
+        if word < held.len() && held[word] != 0 {
+            return false;
+        }
+    }
+    true
 }
 
 /// The first number of no group.

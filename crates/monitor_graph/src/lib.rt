@@ -5,6 +5,7 @@
 mod dearer;
 mod edits;
 mod graph;
+mod group_costs;
 mod groups;
 mod lines;
 mod listing;

@@ -141,7 +141,7 @@ pub(crate) fn shift(lines: &[Line], place: usize, deviation: u64, totals: &mut T
 }
 
 /// Changes totals by the costs of a line that takes the place of another.
-fn exchange(totals: &mut Totals, old: &Line, line: &Line)
+pub(crate) fn exchange(totals: &mut Totals, old: &Line, line: &Line)
     requires old { IsLine old.now }
     requires line { IsLine line.now }
     requires hard { hard_cost old.now ≤ totals.old.hard }

@@ -75,6 +75,8 @@ impl Graph {
         self.groups.reserve(group.children.len())?;
         self.groups.make(group.group);
         self.groups.put_all(group.group, group.children.as_slice());
+        self.costs
+            .renew(&self.groups, group.group, self.lines.as_slice());
         Ok(())
     }
 }

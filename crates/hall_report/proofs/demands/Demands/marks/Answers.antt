@@ -1,5 +1,4 @@
-use Rattle.std.proofs.Common.{◌+◌, length, sym, ap, arith, subst}
-use Rattle.std.specs.Prelude.{All, ◌<◌}
+use Rattle.std.proofs.Common.{◌+◌, length, ap, arith}
 use Rattle.hall_report.proofs.Safe.{safe, hall_below}
 use Rattle.hall_report.proofs.demands.Demands.marks.Goals as goal
 
@@ -18,6 +17,8 @@ marked-requires c =
     let a = (safe c.args.self.now.told c.args.self.now.units c.args.self.now.picks c.args.self.now.matching
     c.args.self.now.cells c.args.self.now.tasks c.args.self.now.times c.args.self.now.opened).size in
     let b = ap length c.as_slice.ensures in
-    subst (All (λ m. m < c.args.self.now.tasks + length c.as_slice.result.now)) (sym c.as_slice-2.ensures)
-    (hall_below c.args.self.now.matching c.in_ok-numbers.numbers
-    (c.args.self.now.tasks + length c.as_slice.result.now) c.in_ok-numbers.ensures.least (omega (arith, a, b)))
+    hall_below c.args.self.now.matching c.args.numbers.now
+    (c.args.self.now.tasks + length c.as_slice.result.now) c.requires (omega (arith, a, b))
+
+pub returns : goal.returns
+returns c = (c.args.numbers.now, c.requires, c.in_ok-marks.ensures)

@@ -4,9 +4,12 @@ use Rattle.khe_base.specs.Bits.{is_set}
 use Rattle.monitor_graph.specs.Boards.{Board}
 use Rattle.monitor_graph.specs.Dearer.{is_dearer, AreCompared, CanRecount}
 use Rattle.monitor_graph.specs.Defects.{AreDefects}
+use Rattle.monitor_graph.specs.GroupCosts.{AreGroupCosts}
+use Rattle.monitor_graph.specs.Left.{AreLeft}
 use Rattle.monitor_graph.specs.Lines.{line_cost, line_costs}
 use Rattle.monitor_graph.proofs.DearerLaws.{can_recount, recounted}
 use Rattle.monitor_graph.proofs.DefectLaws.{defects_set}
+use Rattle.monitor_graph.proofs.LeftLaws.{left_turned}
 use Rattle.monitor_graph.proofs.ListLaws.{get-any}
 use Rattle.monitor_graph.proofs.ValueLaws.{at_line}
 use Rattle.monitor_graph.proofs.graph.Graph.turn.Goals as goal
@@ -77,4 +80,10 @@ invariant_of-self c =
       subst (λ xs. AreDefects xs c.put.new.words.items c.put.new.summary.items) (sym lines) defects,
       subst (λ xs. AreCompared xs s.marked.items c.recount.new.count c.recount.new.numbers) costs_now compared,
       i.3 ∙ sym (ap length lines ∙ length-set s.lines.items m y),
+      subst (λ xs. AreGroupCosts xs s.groups.groups c.follow.new.self.hard.items c.follow.new.self.soft.items)
+          (ap (λ xs. set xs m y) c.as_slice.ensures.value ∙ sym lines) c.follow.ensures,
+      subst (λ xs. AreLeft xs s.marked.items c.put-2.new.words.items c.put-2.new.summary.items) costs_now
+          (left_turned costs s.marked.items s.changed.items s.changed_words.items c.put-2.new.words.items
+          c.put-2.new.summary.items m (line_cost y) i.5 below c.put-2.ensures.length c.put-2.ensures.summary
+          c.put-2.ensures.bits c.put-2.ensures.summed),
     )
