@@ -99,17 +99,38 @@ pub(crate) fn must_match<R: Threads + Sync + Abort>(
 
 fn matches_so<R: Threads + Sync>(rt: &R, alloc: Global, row: &Matched) -> Result<bool, NoMemory> {
     let archive = text_of(alloc, row.archive)?;
+    matches_on(rt, alloc, archive.as_str(), row)
+}
+
+/// Whether a run on an archive of this text ends as it should.
+fn matches_on<R: Threads + Sync>(
+    rt: &R,
+    alloc: Global,
+    archive: &str,
+    row: &Matched,
+) -> Result<bool, NoMemory> {
     let files = [File {
         name: "archive",
-        text: archive.as_str(),
+        text: archive,
     }];
     let call = Call {
         words: row.words,
         files: &files,
     };
+    ends_right(rt, alloc, call, row.fronts, row.last)
+}
+
+/// Whether a run ends well, with what begins with one of the texts and ends with the line.
+fn ends_right<R: Threads + Sync>(
+    rt: &R,
+    alloc: Global,
+    call: Call<'_>,
+    fronts: &[&[Piece]],
+    last: &str,
+) -> Result<bool, NoMemory> {
     let (status, sink) = run(rt, alloc, call, GOOD, 1_000_000)?;
-    let begun = begins_so(alloc, sink.taken(), row.fronts)?;
-    Ok(begun && status == 0 && sink.taken().ends_with(row.last.as_bytes()))
+    let begun = begins_so(alloc, sink.taken(), fronts)?;
+    Ok(begun && status == 0 && sink.taken().ends_with(last.as_bytes()))
 }
 
 /// Whether these bytes begin with one of the texts.
