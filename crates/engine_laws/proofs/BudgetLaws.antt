@@ -1,10 +1,10 @@
 -- A repair with a large budget lowers the totals, or leaves a state that is settled to one move.
-use Rattle.std.proofs.Common.{ℕ, zero, suc, ◌≡◌, ◌≤◌, ◌<◌, ◌+◌, ◌*◌, ◌⊎◌, inl, inr, refl, sym, arith, length}
+use Rattle.std.proofs.Common.{ℕ, zero, suc, ◌≡◌, ◌≤◌, ◌<◌, ◌+◌, ◌*◌, inl, inr, refl, arith, length}
 use Rattle.ejection_repair.proofs.CountLaws.{repaired_bounded}
 use Rattle.ejection_repair.proofs.SettledLaws.{no_worse_by, true_by}
 use Rattle.ejection_repair.specs.Bounds.{IsWithin, most, most_moves}
 use Rattle.ejection_repair.specs.Repaired.{repaired}
-use Rattle.ejection_repair.specs.Settled.{HasTried, IsNoWorse, IsSettled, StopsBelow, accepted_of, settled_to}
+use Rattle.ejection_repair.specs.Settled.{HasTried, IsNoWorse, IsSettled, accepted_of, settled_to}
 use Rattle.ejection_repair.specs.declared.outcome.Outcome.{Outcome}
 use Rattle.ejection_repair.specs.declared.outcome.Outcome.TheVariants.{Done, Spent}
 use Rattle.engine_laws.specs.Budgets.{IsLowerOrSettled}

@@ -8,7 +8,7 @@ use Rattle.std.proofs.lemmas.Bool.{cases_lt, cond_both}
 use Rattle.std.proofs.lemmas.List.{get_or-map, get_or_past, length-map}
 use Rattle.std.proofs.lemmas.List.FromFn.{get_or-map-range_with_len, length-map-range_with_len, length-range_with_len}
 use Rattle.std.proofs.lemmas.List.Sums.{sum_by-le}
-use Rattle.std.proofs.lemmas.Option.{get_or_from_slice_get, slice_get_within}
+use Rattle.std.proofs.lemmas.Option.{get_or_from_slice_get}
 use Rattle.engine_laws.specs.Small.{AreSmall, AreUpTo, AreWithin, CostsLittle}
 use Rattle.engine_laws.specs.Standing.{Stands}
 use Rattle.khe_base.proofs.ListLemmas.{all-there, there}
@@ -34,7 +34,6 @@ use Rattle.khe_instance.specs.declared.states.Plain.{Plain}
 use Rattle.khe_told.proofs.DutyLaws.{duties_listed}
 use Rattle.khe_told.proofs.FrameLaws.{told_from}
 use Rattle.khe_told.proofs.ValidLaws.{listed_told}
-use Rattle.khe_told.specs.Fits.{AreTold}
 use Rattle.khe_told.specs.Lists.{duties_in, meets_in, tasks_in}
 use Rattle.monitor_graph.proofs.LineLaws.{line_small}
 use Rattle.monitor_graph.proofs.SeatLaws.{few_is}

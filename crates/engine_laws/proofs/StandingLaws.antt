@@ -1,9 +1,9 @@
 -- The states of an engine stand: the one that it is opened with, and the one after each accepted edit.
-use Rattle.std.proofs.Common.{ℕ, zero, suc, ◌≡◌, ◌≢◌, ◌≤◌, ◌<◌, ◌+◌, ◌⊎◌, inl, inr, Bool, true, false, cond, Option}
-use Rattle.std.proofs.Common.{Some, None, List, [], ◌∷◌, ◌++◌, length, map, refl, sym, ap, subst, ◌∙◌, arith, set}
-use Rattle.std.proofs.Common.{get_or, slice_get}
+use Rattle.std.proofs.Common.{ℕ, suc, ◌≡◌, ◌≢◌, ◌≤◌, ◌<◌, ◌+◌, inl, inr, Bool, true, false, cond, Option}
+use Rattle.std.proofs.Common.{Some, None, List, [], ◌∷◌, ◌++◌, length, refl, sym, ap, subst, ◌∙◌, arith, set}
+use Rattle.std.proofs.Common.{get_or}
 use Rattle.std.specs.Prelude.{◌==◌, not, All, AllPairs}
-use Rattle.std.specs.List.{find, range_with_len}
+use Rattle.std.specs.List.{find}
 use Rattle.std.specs.Option.{option_map}
 use Rattle.std.proofs.lemmas.Bool.{both_ways, cases_eq, cases_lt, eqb-true, ne_eqb}
 use Rattle.std.proofs.lemmas.List.{length-set}
@@ -92,9 +92,10 @@ one_more n xs v h low fresh =
 -- a child less
 one_less : (n : ℕ) (xs : List MonitorId) (v : MonitorId) → AreChildren n xs → is_among v.0 xs ≡ true
     → AreChildren n (without v.0 xs)
-one_less n xs v h there =
-    (λ m a. h.0 m (yes_among m xs (let l = among_yes m (without v.0 xs) a in let k = less m in omega (arith, k, l))),
-    λ m. let k = less m in let l = h.1 m in omega (arith, k, l))
+one_less n xs v h there = (
+  λ m a. h.0 m (yes_among m xs (let l = among_yes m (without v.0 xs) a in let k = less m in omega (arith, k, l))),
+  λ m. let k = less m in let l = h.1 m in omega (arith, k, l),
+)
   where
     less : (m : ℕ) → occurs m (without v.0 xs) ≤ occurs m xs
     less m =

@@ -1,5 +1,5 @@
 -- An instance of an archive, for examples of what its constraints' points are and of which limit it is above.
-use Rattle.std.specs.Prelude.{ℕ, true, Option, Some, None, List, [], ◌∷◌, codes, map}
+use Rattle.std.specs.Prelude.{ℕ, true, Some, None, List, [], ◌∷◌, codes, map}
 use Rattle.khe_base.specs.declared.costs.CostFn.TheVariants.{Linear}
 use Rattle.khe_instance.specs.declared.points.Point.{Point}
 use Rattle.khe_instance.specs.declared.points.Point.TheVariants as point
@@ -7,7 +7,6 @@ use Rattle.xhstt_shape.specs.declared.constraints.RawApplies.{RawApplies}
 use Rattle.xhstt_shape.specs.declared.constraints.RawConstraint.{RawConstraint}
 use Rattle.xhstt_shape.specs.declared.constraints.RawPair.{RawPair}
 use Rattle.xhstt_shape.specs.declared.constraints.RawRule.{RawRule}
-use Rattle.xhstt_shape.specs.declared.records.EventGroup.{EventGroup}
 use Rattle.xhstt_shape.specs.declared.records.GroupSort.TheVariants as grouped
 use Rattle.xhstt_shape.specs.declared.records.Name.{Name}
 use Rattle.xhstt_shape.specs.declared.records.RawEvent.{RawEvent}
@@ -15,8 +14,6 @@ use Rattle.xhstt_shape.specs.declared.records.RawEventResource.{RawEventResource
 use Rattle.xhstt_shape.specs.declared.records.RawInstance.{RawInstance}
 use Rattle.xhstt_shape.specs.declared.records.RawResource.{RawResource}
 use Rattle.xhstt_shape.specs.declared.records.Ref.{Ref}
-use Rattle.xhstt_shape.specs.declared.records.ResourceGroup.{ResourceGroup}
-use Rattle.xhstt_shape.specs.declared.records.ResourceType.{ResourceType}
 use Rattle.xhstt_shape.specs.declared.records.Time.{Time}
 
 abbrev pub name : List ℕ → Name

@@ -1,6 +1,5 @@
 -- Two events of one resource: a chain of two moves mends what no single move does.
-use Rattle.std.specs.Prelude.{ℕ, true, false, Option, Some, None, List, [], ◌∷◌, codes}
-use Rattle.khe_base.specs.declared.numbers.TimeId.{TimeId}
+use Rattle.std.specs.Prelude.{ℕ, true, false, Some, None, List, [], ◌∷◌, codes}
 use Rattle.khe_engine.specs.States.{State}
 use Rattle.khe_instance.specs.declared.parts.EventInfo.{EventInfo}
 use Rattle.khe_instance.specs.declared.parts.Parts.{Parts}

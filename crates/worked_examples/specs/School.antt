@@ -1,6 +1,6 @@
 -- A small school and states of it: three times, two resources of one type, an event of duration 3 and one of
 -- duration 1, each with a place of that type.
-use Rattle.std.specs.Prelude.{ℕ, Bool, true, false, Option, Some, None, List, [], ◌∷◌, ◌++◌, codes}
+use Rattle.std.specs.Prelude.{ℕ, Bool, true, false, Option, Some, None, List, [], ◌∷◌, codes}
 use Rattle.khe_base.specs.declared.costs.CostFn.TheVariants.{Linear}
 use Rattle.khe_base.specs.declared.numbers.GroupId.{GroupId}
 use Rattle.khe_base.specs.declared.numbers.MeetId.{MeetId}

@@ -1,8 +1,8 @@
 -- The states and marks of a short course of edits: a mark, an edit, a mark inside it, and two more edits.
-use Rattle.std.specs.Prelude.{None, Some, List, [], ◌∷◌}
+use Rattle.std.specs.Prelude.{None, Some, [], ◌∷◌}
 use Rattle.khe_told.specs.declared.changes.Change.TheVariants.{Give, Place}
 use Rattle.khe_engine.specs.States.{State}
-use Rattle.khe_engine.specs.Worlds.{Saved, fresh, grown}
+use Rattle.khe_engine.specs.Worlds.{Saved}
 use Rattle.worked_examples.specs.School.{at, blank, has, resource, state, task, time, meet, whole}
 
 -- the states at the two marks, and the one after all edits

@@ -3,7 +3,7 @@
 #![allow(dead_code)]
 #![tactic(auto, unfolding(ejection_repair::specs::Chains::chains, ejection_repair::specs::Chains::extensions, ejection_repair::specs::Chains::longer, ejection_repair::specs::Chains::rotated, ejection_repair::specs::Chains::tried, ejection_repair::specs::Repaired::repaired, ejection_repair::specs::Repaired::run, ejection_repair::specs::Repaired::tries_from, ejection_repair::specs::Trails::is_fresh, ejection_repair::specs::Trails::was_moved, ejection_repair::specs::Values::are_lower, ejection_repair::specs::Values::costs_at, ejection_repair::specs::Values::defects_from, ejection_repair::specs::Values::totals_at, khe_engine::specs::States::edited, khe_engine::specs::Values::deviations_in, khe_solution::specs::Editing::edited, khe_solution::specs::Refusing::refusal, monitor_graph::specs::Dearer::dearer_from, monitor_graph::specs::Dearer::only, repair_moves::specs::Items::is_free_at, repair_moves::specs::Items::is_item, repair_moves::specs::Items::is_meet_at, repair_moves::specs::Items::is_open_at, repair_moves::specs::Items::is_task_at, repair_moves::specs::Items::item_slots, repair_moves::specs::Items::task_at, repair_moves::specs::Moved::moved_by, repair_moves::specs::Moves::choices, repair_moves::specs::Moves::choices_from, repair_moves::specs::Moves::edit_of, repair_moves::specs::Moves::is_accepted, repair_moves::specs::Moves::items_from, repair_moves::specs::Moves::moves, repair_moves::specs::Moves::moves_of, repair_moves::specs::Moves::moves_under, repair_moves::specs::Moves::part_from, repair_moves::specs::Picked::picked, repair_moves::specs::Table::parts_of))]
 
-ghost use Rattle.std.specs.Prelude.{◌≡◌, Some, None, [], ◌∷◌, map};
+ghost use Rattle.std.specs.Prelude.{ℕ, ◌≡◌, Some, None, [], ◌∷◌, map};
 ghost use Rattle.ejection_repair.specs.Chains.{Chain, chains, rotated};
 ghost use Rattle.ejection_repair.specs.Repaired.{repaired};
 ghost use Rattle.ejection_repair.specs.Values.{costs_at, totals_at};
@@ -39,7 +39,7 @@ fn chains_have_two_moves()
 
 // A diversifier of 1 begins each list at its second place, and goes round.
 fn a_diversifier_goes_round()
-    ensures round { rotated 4 (7 ∷ 8 ∷ 9 ∷ []) ≡ 8 ∷ 9 ∷ 7 ∷ [] }
+    ensures round { rotated {A = ℕ} 4 (7 ∷ 8 ∷ 9 ∷ []) ≡ 8 ∷ 9 ∷ 7 ∷ [] }
     ensures one { map (λ (c : Chain). c.state) (chains clash begun 1 1) ≡ timed 2 0 ∷ timed 0 1 ∷ timed 0 0 ∷ [] }
 {}
 
