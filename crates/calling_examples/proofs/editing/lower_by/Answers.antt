@@ -7,7 +7,7 @@ use Rattle.khe_instance.specs.declared.parts.Parts.{Parts}
 use Rattle.calling_examples.proofs.editing.lower_by.Goals as goal
 
 pub returns-clause-lower : goal.returns-clause-lower
-returns-clause-lower c =
+returns-clause-lower g c =
     let r = c.lower_in_mark-lowers.result in
     let p = c.args.engine.now.parts in
     let s = c.args.engine.now.state in
