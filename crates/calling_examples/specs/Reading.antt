@@ -1,7 +1,7 @@
 -- What a caller knows of an archive that it read, and of what a solution costs.
 use Rattle.std.specs.Prelude.{ℕ, ◌≡◌, Some, Ok, List, slice_get}
-use Rattle.calling_examples.specs.declared.reading.ReadFault.{ReadFault}
-use Rattle.calling_examples.specs.declared.reading.ReadFault.TheVariants as told
+use Rattle.calling_examples.specs.declared.faults.ReadFault.{ReadFault}
+use Rattle.calling_examples.specs.declared.faults.ReadFault.TheVariants as told
 use Rattle.khe_base.specs.declared.sums.Totals.{Totals}
 use Rattle.khe_instance.specs.Evaluated.{totals}
 use Rattle.khe_instance.specs.declared.parts.Parts.{Parts}
@@ -19,11 +19,12 @@ use Rattle.xhstt_text.specs.Forest.{Forest}
 use Rattle.xhstt_text.specs.declared.faults.TextFault.{TextFault}
 use Rattle.xhstt_text.specs.declared.faults.TextFault.TheVariants.{Bad, NoMemory}
 
--- the bytes spell a tree, and each tree that they spell is this archive's
+-- the bytes spell one tree, and it is this archive's
 pub record IsArchiveOf (bytes : List ℕ) (a : Archive) : Type 0 where
   pub tree : Forest
   pub spelled : Spelled bytes tree
-  pub only : (t : Forest) → Spelled bytes t → shape_of t ≡ Ok a
+  pub only : (t : Forest) → Spelled bytes t → tree ≡ t
+  pub shape : shape_of tree ≡ Ok a
 
 -- where a text leaves the grammar, it is told where it does so first
 abbrev pub IsTextFaultOf : List ℕ → TextFault → Type 0

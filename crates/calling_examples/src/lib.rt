@@ -3,9 +3,11 @@
 #![tactic(auto)]
 
 mod editing;
+mod faults;
 mod reading;
 #[cfg(test)]
 mod tests;
 
 pub use editing::{assigned_totals, lower_by, opened_totals};
-pub use reading::{ReadArchive, ReadFault, read, totals_of};
+pub use faults::ReadFault;
+pub use reading::{ReadArchive, read, totals_of};

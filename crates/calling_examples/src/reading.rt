@@ -6,42 +6,16 @@ ghost use Rattle.xhstt_completion.specs.Numbered.{parts_at};
 ghost use Rattle.xhstt_resolve.specs.Resolved.{resolved};
 ghost use Rattle.xhstt_shape.specs.WellFormed.{IsInForm};
 
+use crate::ReadFault;
 use khe_base::Totals;
 use khe_instance::Instance;
 use plain_eval::evaluate;
 use std::alloc::Global;
-use thiserror::Error;
-use xhstt_completion::{SolutionFault, solution};
-use xhstt_resolve::{ResolveFault, Resolved, resolve};
+use xhstt_completion::solution;
+use xhstt_resolve::{Resolved, resolve};
+use xhstt_shape::Archive;
 use xhstt_shape::reading::archive;
-use xhstt_shape::{Archive, ShapeFault};
-use xhstt_text::{TextFault, elements};
-
-/// Why an archive or one of its solutions gives no totals.
-#[derive(Clone, Copy, Debug, Error)]
-pub enum ReadFault {
-    /// The bytes are no text of elements.
-    #[error("{0}")]
-    Text(TextFault),
-    /// The elements are none of an archive.
-    #[error("{0}")]
-    Shape(ShapeFault),
-    /// There are more instances than numbers for them.
-    #[error("too many instances")]
-    TooManyInstances,
-    /// The archive has a fault of names, references or limits.
-    #[error("{0}")]
-    Resolve(ResolveFault),
-    /// The solution is invalid.
-    #[error("{0}")]
-    Solution(SolutionFault),
-    /// There is no solution with this number.
-    #[error("no such solution")]
-    NoSuchSolution,
-    /// Memory was refused.
-    #[error("out of memory")]
-    NoMemory,
-}
+use xhstt_text::elements;
 
 /// More instances than so many have no numbers.
 const MOST_INSTANCES: usize = u32::MAX as usize;
@@ -79,8 +53,8 @@ fn archive_of(alloc: Global, bytes: &[u8]) -> Result<Archive, ReadFault>
     ensures few { IfOk result (λ a. length a.instances < 2 ^ 32) }
     ensures fault { IfErr result (IsToldOf bytes.now) }
 {
-    let tree = elements(alloc, bytes).map_err(ReadFault::Text)?;
-    let archive = archive(alloc, &tree).map_err(ReadFault::Shape)?;
+    let tree = elements(alloc, bytes)?;
+    let archive = archive(alloc, &tree)?;
     if archive.instances.len() > MOST_INSTANCES {
         return Err(ReadFault::TooManyInstances);
     }
@@ -97,10 +71,8 @@ pub fn totals_of(alloc: Global, read: &ReadArchive, number: u32) -> Result<Total
     let Some(inst) = instance_of(&read.resolved, number) else {
         return Err(ReadFault::NoSuchSolution);
     };
-    let plain = solution(alloc, inst, &read.archive, &read.resolved, number).map_err(
-        ReadFault::Solution,
-    )?;
-    let values = evaluate(alloc, inst, &plain).map_err(|_| ReadFault::NoMemory)?;
+    let plain = solution(alloc, inst, &read.archive, &read.resolved, number)?;
+    let values = evaluate(alloc, inst, &plain)?;
     Ok(values.totals)
 }
 

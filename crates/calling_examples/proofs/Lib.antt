@@ -1,0 +1,2 @@
+mod EditingLemmas
+mod ReadingLemmas
