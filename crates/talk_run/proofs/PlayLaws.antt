@@ -1,5 +1,9 @@
 -- What a repair makes of a play, where a mark is open and where none is.
 use Rattle.std.proofs.Common.{ℕ, ◌≡◌, List, [], ◌∷◌, length, map, refl, ap, ◌∙◌, sym, arith}
+use Rattle.std.proofs.Common.{◌≤◌, IsTrue}
+use Rattle.std.proofs.lemmas.Bool.Decides.{nat_tests}
+use Rattle.khe_base.specs.declared.limits.TheConstants.{CHAIN_MOVES}
+use Rattle.talk_run.specs.Lines.{are_chains}
 use Rattle.khe_engine.specs.States.{State}
 use Rattle.khe_engine.specs.Worlds.{Saved, World}
 use Rattle.khe_instance.specs.declared.parts.Parts.{Parts}
@@ -41,3 +45,13 @@ pub marked_played : (p : Parts) (w : World) (c : Chains) → (length w.saved ≡
     → repair_played p (play_of w) c ≡ play_of w
 marked_played p w c n = some-marks w.saved n Play
     (record { state = (repaired_by p w.state c).state; saved = (play_of w).saved }) (play_of w)
+
+-- what chains that a repair may have are within
+pub depth_some : (c : Chains) → IsTrue (are_chains c) → 1 ≤ c.depth
+depth_some c h = grind (arith, nat_tests)
+
+pub depth_small : (c : Chains) → IsTrue (are_chains c) → c.depth ≤ CHAIN_MOVES
+depth_small c h = grind (arith, nat_tests)
+
+pub budget_some : (c : Chains) → IsTrue (are_chains c) → 1 ≤ c.budget
+budget_some c h = grind (arith, nat_tests)
