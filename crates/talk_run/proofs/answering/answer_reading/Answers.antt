@@ -1,0 +1,57 @@
+-- The answer is that of the reading.
+use Rattle.std.proofs.Common.{◌≡◌, ◌++◌, Err, Ok, Result, ap, subst}
+use Rattle.edit_script.specs.declared.commands.LineFault.{LineFault}
+use Rattle.script_run.specs.Answers.{answer}
+use Rattle.script_run.specs.Faults.{fault_line}
+use Rattle.script_run.specs.Plays.{play_of}
+use Rattle.talk_run.specs.Answers.{answered, archive_bytes, repair_answer}
+use Rattle.talk_run.specs.Between.{IsBetween}
+use Rattle.talk_run.specs.declared.commands.TalkCommand.{TalkCommand}
+use Rattle.talk_run.specs.declared.commands.TalkCommand.TheVariants as command
+use Rattle.talk_run.proofs.BetweenLemmas.{between_pushed}
+use Rattle.talk_run.proofs.answering.answer_reading.Goals as goal
+
+pub returns-in-Ok-Archive-clause-front : goal.returns-in-Ok-Archive-clause-front
+returns-in-Ok-Archive-clause-front g c = λ before rest whole h.
+    let s = c.args.speaker.now in
+    let p = s.engine.parts in
+    let is : c.args.reading ≡ Ok command.Archive = cc in
+    c.put_archive.ensures.front before rest whole
+    (subst (λ (r : Result TalkCommand LineFault). IsBetween before (g.K.Sink.taken c.args.out.now) c.args.text.now
+    (answered (archive_bytes s.archive s.solution p) p (play_of s.engine) c.args.number r ++ rest) whole) is h)
+
+pub returns-in_ok-answer_command-in-Ok-Base-clause-answered : goal.returns-in_ok-answer_command-in-Ok-Base-clause-answered
+returns-in_ok-answer_command-in-Ok-Base-clause-answered g c = λ before rest whole h.
+    let s = c.args.speaker.now in
+    let p = s.engine.parts in
+    let w = play_of s.engine in
+    let is : c.args.reading ≡ Ok (command.Base c.in-Ok-Base.command) = cc in
+    between_pushed before (g.K.Sink.taken c.args.out.now) c.args.text.now c.answer_command.new.text
+    (answer p w c.in-Ok-Base.command)
+    (answered (archive_bytes s.archive s.solution p) p w c.args.number c.args.reading) rest whole
+    (ap (answered (archive_bytes s.archive s.solution p) p w c.args.number) is)
+    c.in_ok-answer_command-in-Ok-Base.ensures.text h
+
+pub returns-in_ok-answer_repair-in-Ok-Repair-clause-answered : goal.returns-in_ok-answer_repair-in-Ok-Repair-clause-answered
+returns-in_ok-answer_repair-in-Ok-Repair-clause-answered g c = λ before rest whole h.
+    let s = c.args.speaker.now in
+    let p = s.engine.parts in
+    let w = play_of s.engine in
+    let is : c.args.reading ≡ Ok (command.Repair c.in-Ok-Repair.chains) = cc in
+    between_pushed before (g.K.Sink.taken c.args.out.now) c.args.text.now c.answer_repair.new.text
+    (repair_answer p w c.in-Ok-Repair.chains)
+    (answered (archive_bytes s.archive s.solution p) p w c.args.number c.args.reading) rest whole
+    (ap (answered (archive_bytes s.archive s.solution p) p w c.args.number) is)
+    c.in_ok-answer_repair-in-Ok-Repair.ensures.text h
+
+pub returns-in_ok-push_fault-in-Err-clause-answered : goal.returns-in_ok-push_fault-in-Err-clause-answered
+returns-in_ok-push_fault-in-Err-clause-answered g c = λ before rest whole h.
+    let s = c.args.speaker.now in
+    let p = s.engine.parts in
+    let w = play_of s.engine in
+    let is : c.args.reading ≡ Err c.in-Err.fault = cc in
+    between_pushed before (g.K.Sink.taken c.args.out.now) c.args.text.now c.push_fault.new.text
+    (fault_line c.args.number c.in-Err.fault)
+    (answered (archive_bytes s.archive s.solution p) p w c.args.number c.args.reading) rest whole
+    (ap (answered (archive_bytes s.archive s.solution p) p w c.args.number) is)
+    c.in_ok-push_fault-in-Err.ensures h
