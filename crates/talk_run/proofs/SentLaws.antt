@@ -25,7 +25,7 @@ use Rattle.xhstt_writer.specs.Archives.{canonical}
 use Rattle.talk_run.specs.Answers.{archive_bytes, listed}
 use Rattle.talk_run.specs.Talks.{talk_bytes}
 use Rattle.talk_run.proofs.ScriptLaw.{spelled_alike}
-use Rattle.std.proofs.Common.{append_assoc, subst}
+use Rattle.std.proofs.Common.{append_assoc, codes, encode_utf8_all, subst}
 use Rattle.talk_run.specs.Between.{IsBetween}
 use Rattle.talk_run.specs.Sent.{IsSame}
 
@@ -135,3 +135,8 @@ pub ahead : (before now : Option (List ℕ)) (text bytes bytes2 rest whole : Lis
 ahead before now text bytes bytes2 rest whole e h =
     subst (λ xs. IsBetween before now text xs whole)
     (append_assoc bytes (46 ∷ 10 ∷ []) rest ∙ ap (λ bs. bs ++ (46 ∷ 10 ∷ rest)) (sym e)) h
+
+-- the line that ends an answer
+pub stop_bytes : (46 ∷ 10 ∷ []) ≡ encode_utf8_all (codes ".\n")
+unfolding lib.Utf8.encode
+stop_bytes = refl

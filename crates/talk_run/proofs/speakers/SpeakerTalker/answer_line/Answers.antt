@@ -1,5 +1,5 @@
 -- The answer, and then the line that ends it.
-use Rattle.std.proofs.Common.{◌+◌, ◌∷◌, [], ◌++◌, ◌∙◌, ap, codes, refl, subst, sym}
+use Rattle.std.proofs.Common.{◌+◌, ◌∷◌, [], ◌++◌, ◌∙◌, ap, codes, subst, sym}
 use Rattle.khe_io.specs.Faults.{TookFront}
 use Rattle.khe_io.proofs.AmidLemmas.{always-err}
 use Rattle.script_run.specs.Plays.{play_of}
@@ -8,7 +8,7 @@ use Rattle.talk_run.specs.Between.{IsBetween}
 use Rattle.talk_run.specs.Lines.{talk_reading}
 use Rattle.talk_run.specs.Talks.{talk_bytes}
 use Rattle.talk_run.proofs.BetweenLemmas.{between_pushed, between_stop}
-use Rattle.talk_run.proofs.SentLaws.{ahead, said_alike}
+use Rattle.talk_run.proofs.SentLaws.{ahead, said_alike, stop_bytes}
 use Rattle.talk_run.proofs.speakers.SpeakerTalker.answer_line.Goals as goal
 
 pub returns-in_err-answer_reading-clause-front : goal.returns-in_err-answer_reading-clause-front
@@ -59,7 +59,7 @@ returns-clause-answered g c = λ before more whole h.
     (answered spelled p w n c.read_talk_line.result) rest whole
     (ap (answered spelled p w n) c.read_talk_line.ensures.reading) h) in
     let stopped = between_pushed before after c.answer_reading.new.text c.end_answer.new.text (codes ".\n")
-    (46 ∷ 10 ∷ []) rest whole refl c.in_ok-end_answer.ensures mid in
+    (46 ∷ 10 ∷ []) rest whole stop_bytes c.in_ok-end_answer.ensures mid in
     subst (λ xs. IsBetween before after c.end_answer.new.text xs whole)
     (sym (said_alike s.archive v.archive s.solution v.solution p v.engine.parts (turned p w r) (play_of v.engine) (n + 1)
     more c.in_ok-answer_reading.ensures.parts c.in_ok-answer_reading.ensures.solution
