@@ -1,17 +1,22 @@
 -- How a run ends.
-use Rattle.std.proofs.Common.{ℕ, ◌≡◌, ◌⊎◌, Option, None, Some, Result, Ok, Err, OnOk, OnErr, IfSome, List, [], inl, inr, refl, sym, ap, subst, ◌∙◌}
+use Rattle.std.proofs.Common.{ℕ, ◌≡◌, ◌⊎◌, Option, None, Some, Result, Ok, Err, OnOk, OnErr, IfSome, List, [], inl, inr, refl, sym, ap, map, subst, ◌∙◌}
 use Rattle.std.specs.Result.{IsErrOf}
-use Rattle.std.proofs.Common.{encode_utf8_all}
 use Rattle.edit_script.specs.Lines.{lines}
-use Rattle.khe_app.specs.Answers.{IsAnswerOf, IsBarredBy, reading_of}
+use Rattle.khe_app.specs.Answers.{IsAnswerOf, reading_of}
 use Rattle.khe_app.specs.Ends.{Written}
-use Rattle.khe_app.specs.Outcome.{IsReadingOf, Reading, Start, barred, refused, start_of}
-use Rattle.khe_app.specs.Refusals.{refusal_line}
+use Rattle.khe_app.specs.Outcome.{Start, begins}
 use Rattle.khe_app.specs.declared.program.Answer.{Answer}
-use Rattle.khe_app.specs.declared.refusals.Refusal.{Refusal}
 use Rattle.khe_io.specs.Faults.{Rose, Took, TookFront}
 use Rattle.talk_app.specs.Ends.{IsEnd, IsWritten, Wrote, status_after}
-use Rattle.talk_app.specs.Outcome.{IsOutcome, IsTalkIn, IsTalkTo, not_understood_line}
+use Rattle.khe_engine.specs.Openings.{IsStateOf}
+use Rattle.khe_engine.specs.Worlds.{Saved, World}
+use Rattle.khe_instance.specs.declared.parts.Parts.{Parts}
+use Rattle.khe_instance.specs.declared.states.Plain.{Plain}
+use Rattle.script_run.specs.Plays.{begun, play_of}
+use Rattle.talk_run.specs.Answers.{archive_bytes}
+use Rattle.talk_run.specs.Talks.{talk_bytes}
+use Rattle.xhstt_shape.specs.declared.records.Archive.{Archive}
+use Rattle.talk_app.specs.Outcome.{IsOutcome, IsTalkIn, IsTalkOf, IsTalkOn, IsTalkTo, not_understood_line}
 use Rattle.talk_run.specs.Between.{HadLeft, IsCutOff, IsTalked}
 use Rattle.talk_run.specs.declared.faults.TalkFault.{TalkFault}
 use Rattle.talk_run.specs.declared.faults.TalkFault.TheVariants.{ReadFault, WriteFault, NoMemory}
@@ -26,7 +31,7 @@ had None = record { input = []; all = tt }
 had (Some xs) = record { input = xs; all = refl }
 
 -- another outcome, where each of one is one of the other
-pub end_as : (one other : List ℕ → ℕ → List ℕ → Type 0) (left before after : Option (List ℕ)) (faults faults2 result : ℕ)
+end_as : (one other : List ℕ → ℕ → List ℕ → Type 0) (left before after : Option (List ℕ)) (faults faults2 result : ℕ)
     → ((input : List ℕ) (status : ℕ) (bytes : List ℕ) → one input status bytes → other input status bytes)
     → IsEnd one left before after faults faults2 result → IsEnd other left before after faults faults2 result
 end_as one other left before after faults faults2 result to (inl nothing) = inl nothing
@@ -59,7 +64,7 @@ line_end outcome left before after faults faults2 bytes status result is wrote =
 })
 
 -- a talk ended, after all answers or after first bytes of them
-pub talk_end : (outcome : List ℕ → ℕ → List ℕ → Type 0) (left before after : Option (List ℕ)) (faults faults2 : ℕ)
+talk_end : (outcome : List ℕ → ℕ → List ℕ → Type 0) (left before after : Option (List ℕ)) (faults faults2 : ℕ)
     (said : List (List ℕ) → List ℕ) (ended : Result (Unit {0}) TalkFault)
     → ((input : List ℕ) → outcome input 0 (said (lines input))) → OnOk ended (IsTalked left before after said)
     → OnErr ended (IsCutOff left before after said) → (IsErrOf ended WriteFault → Rose faults faults2)
@@ -98,7 +103,7 @@ talk_end outcome left before after faults faults2 said (Err NoMemory) is whole c
 })
 
 -- faults are counted where a call was refused
-pub talk_faults : (ended : Result (Unit {0}) TalkFault) (faults faults2 : ℕ) → OnOk ended (faults2 ≡ faults)
+talk_faults : (ended : Result (Unit {0}) TalkFault) (faults faults2 : ℕ) → OnOk ended (faults2 ≡ faults)
     → (IsErrOf ended ReadFault → faults2 ≡ faults) → (IsErrOf ended NoMemory → faults2 ≡ faults)
     → (status_after ended ≡ 5) ⊎ (faults2 ≡ faults)
 talk_faults (Ok u) faults faults2 ok read starved = inr ok
@@ -129,7 +134,7 @@ words_end left before after faults faults2 result under (inr cut) = inr (record 
 })
 
 -- what stands under the archive's name is what was read
-pub answer_end : (number : ℕ) (archive : Option (List ℕ)) (answer : Answer) (left before after : Option (List ℕ))
+answer_end : (number : ℕ) (archive : Option (List ℕ)) (answer : Answer) (left before after : Option (List ℕ))
     (faults faults2 result : ℕ) → IsAnswerOf archive answer
     → IsEnd (IsTalkIn number (reading_of answer)) left before after faults faults2 result
     → IsEnd (IsTalkTo number archive) left before after faults faults2 result
@@ -137,3 +142,62 @@ answer_end number None answer left before after faults faults2 result is end = a
 answer_end number (Some bytes) answer left before after faults faults2 result is end =
     end_as (IsTalkIn number (reading_of answer)) (IsTalkTo number (Some bytes)) left before after faults faults2 result
     (λ input status text talk. record { reading = reading_of answer; is = is; talk = talk }) end
+
+-- the lines of a talk are answered as on a state without marks
+begun_said : (a : Archive) (number : ℕ) (w : World) (p : Parts) (ls : List (List ℕ)) → w.parts ≡ p → w.saved ≡ []
+    → talk_bytes (archive_bytes a number w.parts) w.parts (play_of w) 1 ls
+    ≡ talk_bytes (archive_bytes a number p) p (begun w.state) 1 ls
+begun_said a number w p ls parts none =
+    ap (λ (xs : List Saved). talk_bytes (archive_bytes a number w.parts) w.parts
+    (record { state = w.state; saved = map (λ (x : Saved). x.state) xs }) 1 ls) none
+    ∙ ap (λ (q : Parts). talk_bytes (archive_bytes a number q) q (begun w.state) 1 ls) parts
+
+-- a talk on an engine that lists the timetable and has no marks
+pub talked_on : (a : Archive) (number : ℕ) (p : Parts) (plain : Plain) (w : World) (left before after : Option (List ℕ))
+    (faults faults2 : ℕ) (ended : Result (Unit {0}) TalkFault) (result : ℕ) → w.parts ≡ p → IsStateOf p plain w.state
+    → w.saved ≡ []
+    → OnOk ended (IsTalked left before after (talk_bytes (archive_bytes a number w.parts) w.parts (play_of w) 1))
+    → OnErr ended (IsCutOff left before after (talk_bytes (archive_bytes a number w.parts) w.parts (play_of w) 1))
+    → (IsErrOf ended WriteFault → Rose faults faults2) → result ≡ status_after ended
+    → IsEnd (IsTalkOn a number p plain) left before after faults faults2 result
+talked_on a number p plain w left before after faults faults2 ended result parts is none whole cut rose same =
+    subst (IsEnd (IsTalkOn a number p plain) left before after faults faults2) (sym same)
+    (talk_end (IsTalkOn a number p plain) left before after faults faults2
+    (talk_bytes (archive_bytes a number w.parts) w.parts (play_of w) 1) ended
+    (λ input. record {
+      state = w.state;
+      is = is;
+      status_is = refl;
+      bytes_are = begun_said a number w p (lines input) parts none;
+    }) whole cut rose)
+
+pub talked_faults : (ended : Result (Unit {0}) TalkFault) (faults faults2 result : ℕ) → OnOk ended (faults2 ≡ faults)
+    → (IsErrOf ended ReadFault → faults2 ≡ faults) → (IsErrOf ended NoMemory → faults2 ≡ faults)
+    → result ≡ status_after ended → (result ≡ 5) ⊎ (faults2 ≡ faults)
+talked_faults ended faults faults2 result ok read starved same =
+    subst (λ r. (r ≡ 5) ⊎ (faults2 ≡ faults)) (sym same) (talk_faults ended faults faults2 ok read starved)
+
+-- a talk on the instance of a start
+pub begun_end : (a : Archive) (number : ℕ) (s : Start) (found : Option Parts) (p q : Parts) (plain : Plain)
+    (left before after : Option (List ℕ)) (faults faults2 result : ℕ) → found ≡ Some p → found ≡ Some q
+    → s ≡ begins p plain → IsEnd (IsTalkOn a number q plain) left before after faults faults2 result
+    → IsEnd (IsTalkOf a number s) left before after faults faults2 result
+begun_end a number s found p q plain left before after faults faults2 result e f g end =
+    let same : q ≡ p = cc in
+    subst (λ x. IsEnd (IsTalkOf a number x) left before after faults faults2 result) (sym g)
+    (subst (λ x. IsEnd (IsTalkOn a number x plain) left before after faults faults2 result) same end)
+
+pub held_end : (h : Option (List ℕ → Option (List ℕ))) (name : List ℕ) (number : ℕ) (answer : Answer)
+    (left before after : Option (List ℕ)) (faults faults2 result : ℕ)
+    → IfSome h (λ under. IsAnswerOf (under name) answer)
+    → IsEnd (IsTalkIn number (reading_of answer)) left before after faults faults2 result
+    → IfSome h (λ under. IsEnd (IsTalkTo number (under name)) left before after faults faults2 result)
+held_end None name number answer left before after faults faults2 result is end = tt
+held_end (Some under) name number answer left before after faults faults2 result is end =
+    answer_end number (under name) answer left before after faults faults2 result is end
+
+-- what is so of whatever a shelf holds
+pub each_held : (h : Option (List ℕ → Option (List ℕ))) (P : (List ℕ → Option (List ℕ)) → Type 0)
+    → ((under : List ℕ → Option (List ℕ)) → P under) → IfSome h P
+each_held None P all = tt
+each_held (Some under) P all = all under

@@ -25,6 +25,8 @@ use Rattle.xhstt_writer.specs.Archives.{canonical}
 use Rattle.talk_run.specs.Answers.{archive_bytes, listed}
 use Rattle.talk_run.specs.Talks.{talk_bytes}
 use Rattle.talk_run.proofs.ScriptLaw.{spelled_alike}
+use Rattle.std.proofs.Common.{append_assoc, codes, encode_utf8_all, subst}
+use Rattle.talk_run.specs.Between.{IsBetween}
 use Rattle.talk_run.specs.Sent.{IsSame}
 
 -- entries are those of the meets and the tasks
@@ -125,3 +127,16 @@ said_alike a a2 k k2 p p2 w w2 number ls e f g same =
     ∙ ap (λ x. talk_bytes (archive_bytes a2 x p) p w2 number ls) f
     ∙ ap (λ x. talk_bytes (archive_bytes a2 k p) p x number ls) g
     ∙ spelled_alike (archive_bytes a2 k p) (archive_bytes a k p) p w number ls (λ s. ap canonical (same p (listed s)))
+
+-- an answer stands before the line that ends it
+pub ahead : (before now : Option (List ℕ)) (text bytes bytes2 rest whole : List ℕ) → bytes2 ≡ bytes
+    → IsBetween before now text ((bytes ++ (46 ∷ 10 ∷ [])) ++ rest) whole
+    → IsBetween before now text (bytes2 ++ (46 ∷ 10 ∷ rest)) whole
+ahead before now text bytes bytes2 rest whole e h =
+    subst (λ xs. IsBetween before now text xs whole)
+    (append_assoc bytes (46 ∷ 10 ∷ []) rest ∙ ap (λ bs. bs ++ (46 ∷ 10 ∷ rest)) (sym e)) h
+
+-- the line that ends an answer
+pub stop_bytes : (46 ∷ 10 ∷ []) ≡ encode_utf8_all (codes ".\n")
+unfolding lib.Utf8.encode
+stop_bytes = refl

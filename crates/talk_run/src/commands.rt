@@ -2,7 +2,7 @@
 
 ghost use Rattle.std.specs.Prelude.{◌≡◌, bytes_eq, IfOk};
 ghost use Rattle.edit_script.specs.Words.{words};
-ghost use Rattle.talk_run.specs.Lines.{IsFit, archive_by, are_chains, by_more, chains_by, repair_by, talk_reading};
+ghost use Rattle.talk_run.specs.Lines.{IsFit, archive_by, are_chains, by_more, chains_by, chains_of, repair_by, talk_reading};
 
 use edit_script::{Command, LineFault, count_words, first_word, numbers_of, read_line};
 use khe_base::limits::{BUDGET, CHAIN_MOVES};
@@ -79,14 +79,22 @@ fn read_repair(rest: &[u8]) -> Result<TalkCommand, LineFault>
     if count_words(rest) != 3 {
         return Err(LineFault::BadCount);
     }
-    let Some([depth, budget, diversifier, _]) = numbers_of(rest) else {
-        return Err(LineFault::BadNumber);
-    };
-    read_chains(Chains {
+    match numbers_of(rest) {
+        Some(numbers) => read_chains(chains_of(numbers)),
+        None => Err(LineFault::BadNumber),
+    }
+}
+
+/// The chains that three numbers ask for.
+fn chains_of(numbers: [u32; 4]) -> Chains
+    ensures { result ≡ chains_of numbers }
+{
+    let [depth, budget, diversifier, _] = numbers;
+    Chains {
         depth,
         budget,
         diversifier,
-    })
+    }
 }
 
 /// A repair by chains, where there are such.

@@ -20,7 +20,7 @@ use std::sync::ledger::Ledger;
 ///
 /// Its only error is want of memory, after which the instance is the same and nothing else is promised. It takes what
 /// `repair` takes.
-#[tactic(auto, using(crate::proofs::PlayLaws::no_marks, crate::proofs::PlayLaws::marks_answer, crate::proofs::PlayLaws::marks_played))]
+#[tactic(auto, using(crate::proofs::PlayLaws::no_marks, crate::proofs::PlayLaws::depth_some, crate::proofs::PlayLaws::depth_small, crate::proofs::PlayLaws::budget_some))]
 pub(crate) fn answer_repair<F: Family>(
     alloc: Global,
     engine: &mut Engine<'_, F>,

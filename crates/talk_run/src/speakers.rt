@@ -1,6 +1,6 @@
 //! An engine and its archive as who answers a talk.
 
-ghost use Rattle.std.specs.Prelude.{refl};
+ghost use Rattle.std.specs.Prelude.{◌≡◌, ◌++◌, OnOk, codes, refl};
 ghost use Rattle.script_run.specs.Plays.{play_of};
 ghost use Rattle.talk_run.specs.Answers.{archive_bytes};
 ghost use Rattle.talk_run.specs.Talks.{talk_bytes};
@@ -8,7 +8,7 @@ ghost use Rattle.talk_run.specs.Talks.{talk_bytes};
 use crate::answering::answer_reading;
 use crate::commands::read_talk_line;
 use crate::talking::Talker;
-use khe_base::Text;
+use khe_base::{NoMemory, Text};
 use khe_engine::Engine;
 use khe_io::{Cut, Sink};
 use script_run::Shortages;
@@ -40,6 +40,13 @@ impl<'i, F: Shortages> Talker for Speaker<'i, F> {
         out: &mut K,
     ) -> Result<(), Cut> {
         answer_reading(alloc, self, read_talk_line(line), number, text, out)?;
-        Ok(text.push_literal(".\n")?)
+        Ok(end_answer(text)?)
     }
+}
+
+/// Adds the line that ends an answer.
+fn end_answer(text: &mut Text) -> Result<(), NoMemory>
+    ensures { OnOk result (text.new ≡ text.old ++ codes ".\n") }
+{
+    text.push_literal(".\n")
 }
