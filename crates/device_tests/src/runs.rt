@@ -8,8 +8,10 @@ use program_runs::{
     REST, SECOND, TWO_EVENTS,
 };
 
-/// The greatest number of bytes of a read or of a write, and the number of the first call that a run does not make.
-pub(crate) type Sweep = (u32, u64);
+/// The greatest number of bytes of a read or of a write, the number of the first call that fails, and the number of
+/// the first call that a run then does not make. Where to let each call fail would take minutes at one byte a call,
+/// each one does at more bytes, and the last ones do at one.
+pub(crate) type Sweep = (u32, u64, u64);
 
 /// A run, and how it ends where no call fails.
 #[derive(Clone, Copy)]
@@ -20,7 +22,8 @@ pub(crate) struct Run {
     pub text: &'static [Piece],
     /// Calls of the shelf: for each file one opens it, some read it, and one sees its end.
     pub reads: &'static [Sweep],
-    /// Writes: an archive is given in one piece, what stands after it in another one, and any other text in one.
+    /// Writes: an archive is given in one piece, what stands after it in another one, and any other text in one. So
+    /// the bytes of a write divide an archive that something stands after.
     pub writes: &'static [Sweep],
 }
 
@@ -33,7 +36,7 @@ const ARCHIVE: File<'static> = File {
 const ARCHIVE_ALONE: &[File<'static>] = &[ARCHIVE];
 
 /// The calls of a run that reads the archive of two events alone.
-const READS_OF_ARCHIVE: &[Sweep] = &[(1, 2_012), (3, 673), (1_000_000, 4)];
+const READS_OF_ARCHIVE: &[Sweep] = &[(1, 2_000, 2_012), (3, 1, 673), (1_000_000, 1, 4)];
 
 /// A report of 387 bytes.
 const EVALUATE: Run = Run {
@@ -55,8 +58,8 @@ solution 1 group \"H\" instance \"J\"
 total hard 0 soft 0
 ",
     )],
-    reads: READS_OF_ARCHIVE,
-    writes: &[(1, 388), (3, 130), (1_000_000, 2)],
+    reads: &[(1, 1, 2_012), (1_000_000, 1, 4)],
+    writes: &[(1, 1, 388), (3, 1, 130), (1_000_000, 1, 2)],
 };
 
 /// A script of 130 bytes, and answers of 199.
@@ -73,8 +76,8 @@ const SCRIPT: Run = Run {
     },
     status: 0,
     text: &[Once(NESTED_TEXT)],
-    reads: &[(1, 2_144), (20, 113), (1_000_000, 7)],
-    writes: &[(1, 200), (7, 30), (1_000_000, 2)],
+    reads: &[(1, 2_130, 2_144), (20, 1, 113), (1_000_000, 1, 7)],
+    writes: &[(1, 1, 200), (7, 1, 30), (1_000_000, 1, 2)],
 };
 
 /// A script of 28 bytes with a line without a reading, and answers of 51.
@@ -91,8 +94,8 @@ const FAULTY_SCRIPT: Run = Run {
     },
     status: 7,
     text: &[Once("total hard 12 soft 0\nline 3 fault 1 UnknownCommand\n")],
-    reads: &[(1, 2_042), (100, 27)],
-    writes: &[(1, 52), (3, 18)],
+    reads: &[(1, 2_030, 2_042), (100, 1, 27)],
+    writes: &[(1, 1, 52), (3, 1, 18)],
 };
 
 /// A script on a solution that is not there: it is not read. The refusal has 40 bytes.
@@ -110,7 +113,7 @@ const REFUSED_SCRIPT: Run = Run {
     status: 3,
     text: &[Once("khe: archive refused: 18 NoSuchSolution\n")],
     reads: READS_OF_ARCHIVE,
-    writes: &[(1, 41), (3, 15)],
+    writes: &[(1, 1, 41), (3, 1, 15)],
 };
 
 /// A script with ties of 87 bytes, and answers of 221.
@@ -155,8 +158,8 @@ refused 29 BadOffset
 refused 30 NotFollower
 ",
     )],
-    reads: &[(1, 2_101), (1_000_000, 7)],
-    writes: &[(1, 222), (13, 18), (1_000_000, 2)],
+    reads: &[(1, 2_090, 2_101), (20, 1, 111), (1_000_000, 1, 7)],
+    writes: &[(1, 1, 222), (13, 1, 18), (1_000_000, 1, 2)],
 };
 
 /// An archive of 2,475 bytes, and a line of 58.
@@ -175,7 +178,7 @@ const REPAIR: Run = Run {
         Once("<!-- khe repair done accepted 4 tried 5 hard 0 soft 0 -->\n"),
     ],
     reads: READS_OF_ARCHIVE,
-    writes: &[(1, 2_534), (33, 78), (1_000_000, 3)],
+    writes: &[(1, 2_525, 2_534), (33, 1, 78), (2_475, 1, 3)],
 };
 
 /// An archive of 2,475 bytes, and a line of 39.
@@ -206,7 +209,7 @@ const SOLVE: Run = Run {
         Once("<!-- khe solve job 0 hard 0 soft 0 -->\n"),
     ],
     reads: READS_OF_ARCHIVE,
-    writes: &[(1, 2_515), (33, 78), (1_000_000, 3)],
+    writes: &[(1, 2_505, 2_515), (33, 1, 78), (2_475, 1, 3)],
 };
 
 /// An archive of 2,165 bytes, and a line of 45.
@@ -224,7 +227,7 @@ const CONSTRUCT: Run = Run {
         Once("<!-- khe construct meets 2 hard 0 soft 0 -->\n"),
     ],
     reads: READS_OF_ARCHIVE,
-    writes: &[(1, 2_211), (433, 7), (1_000_000, 3)],
+    writes: &[(1, 2_200, 2_211), (5, 1, 443), (2_165, 1, 3)],
 };
 
 /// An archive of 2,181 bytes, and lines of 150.
@@ -249,7 +252,7 @@ const MATCH: Run = Run {
         ),
     ],
     reads: READS_OF_ARCHIVE,
-    writes: &[(1, 2_332), (727, 5), (1_000_000, 3)],
+    writes: &[(1, 2_320, 2_332), (3, 1, 778), (2_181, 1, 3)],
 };
 
 /// An archive of 2,135 bytes.
@@ -267,7 +270,7 @@ const CHECK: Run = Run {
         Once(REST),
     ],
     reads: READS_OF_ARCHIVE,
-    writes: &[(1, 2_136), (61, 36), (1_000_000, 2)],
+    writes: &[(1, 2_125, 2_136), (61, 1, 36), (1_000_000, 1, 2)],
 };
 
 /// An archive of 10,404 bytes. Nothing is read.
@@ -278,8 +281,8 @@ const MAKE: Run = Run {
     },
     status: 0,
     text: &[Once(MADE_ONE_EVENT)],
-    reads: &[(1, 1)],
-    writes: &[(1, 10_405), (1_000_000, 2)],
+    reads: &[(1, 1, 1)],
+    writes: &[(1, 10_400, 10_405), (102, 1, 103), (1_000_000, 1, 2)],
 };
 
 /// A line of 89 bytes. Nothing is read.
@@ -292,8 +295,8 @@ const MAKE_AND_RUN: Run = Run {
     text: &[Once(
         "made seed 0 size 1 resources 3 monitors 17 accepted 0 refused 10 hard 0 soft 1 deficit 0\n",
     )],
-    reads: &[(1, 1)],
-    writes: &[(1, 90), (1_000_000, 2)],
+    reads: &[(1, 1, 1)],
+    writes: &[(1, 1, 90), (1_000_000, 1, 2)],
 };
 
 /// Runs that write reports, answers and refusals.

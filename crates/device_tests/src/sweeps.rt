@@ -33,15 +33,15 @@ fn made<R: Threads + Sync>(
     run: &Run,
     text: &str,
     device: Device,
-    piece: u32,
+    (piece, from, _): Sweep,
 ) -> Result<Option<u64>, NoMemory> {
     let end = End {
         status: run.status,
         text,
     };
     match device {
-        Device::Shelf => reads_made(rt, alloc, run.call, end, piece.max(1), 1),
-        Device::Sink => writes_made(rt, alloc, run.call, end, piece.max(1), 1),
+        Device::Shelf => reads_made(rt, alloc, run.call, end, piece.max(1), from.max(1)),
+        Device::Sink => writes_made(rt, alloc, run.call, end, piece.max(1), from.max(1)),
     }
 }
 
@@ -54,13 +54,13 @@ fn wrong_among<R: Threads + Sync>(
     device: Device,
     sweeps: &[Sweep],
 ) -> Result<Option<Wrong<'static>>, NoMemory> {
-    for (piece, calls) in sweeps {
-        let made = made(rt, alloc, run, text, device, *piece)?;
-        if made != Some(*calls) {
+    for sweep in sweeps {
+        let made = made(rt, alloc, run, text, device, *sweep)?;
+        if made != Some(sweep.2) {
             return Ok(Some(Wrong {
                 words: run.call.words,
                 device,
-                piece: *piece,
+                piece: sweep.0,
                 made,
             }));
         }
