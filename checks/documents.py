@@ -34,8 +34,9 @@ def copied():
     yield os.path.join(TOP, "docs/manual.md"), os.path.join(COPIES, "manual.md")
     for folder, _, names in os.walk(os.path.join(TOP, "examples")):
         for name in names:
-            path = os.path.join(folder, name)
-            yield path, os.path.join(COPIES, os.path.relpath(path, TOP))
+            if not name.endswith((".py", ".pyc")):
+                path = os.path.join(folder, name)
+                yield path, os.path.join(COPIES, os.path.relpath(path, TOP))
 
 
 def bytes_of(path):
