@@ -1,6 +1,7 @@
 pub mod Costs
 pub mod Endings
 pub mod Escape
+pub mod Outcomes
 pub mod Pages
 pub mod Pieces
 pub mod Readings

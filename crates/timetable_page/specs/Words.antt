@@ -8,7 +8,7 @@ use Rattle.khe_base.specs.declared.limits.TheConstants.{DIGITS}
 -- the name of the archive, and of how many solutions timetables are shown at most
 abbrev pub asked_with : List ℕ → List ℕ → List ℕ → Option (List ℕ × ℕ)
 asked_with archive option number =
-    if bytes_eq option (codes "--solutions") then option_map (λ n. (archive, n)) (number_of DIGITS number) else None
+    if bytes_eq (codes "--solutions") option then option_map (λ n. (archive, n)) (number_of DIGITS number) else None
 
 -- what words ask for: the archive's name, and `--solutions` with a number or nothing more
 unfoldable pub asked : List (List ℕ) → Option (List ℕ × ℕ)

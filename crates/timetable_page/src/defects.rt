@@ -5,7 +5,7 @@ use crate::costs::Defect;
 use crate::marking::{push_between, push_counted, push_place};
 use crate::naming::{event_name, group_name, resource_name, time_name};
 use crate::sections::View;
-use khe_base::{EventId, MonitorId, NoMemory, Seq, Text};
+use khe_base::{EventId, MonitorId, NoMemory, Text};
 use khe_instance::{EventPair, Kind, Point, Rule};
 use std::alloc::Global;
 
@@ -86,7 +86,7 @@ fn phrase(kind: Kind) -> &'static str {
         Kind::SpreadEvents => " is not spread over the time groups as wanted, by ",
         Kind::LinkEvents => " does not run at the same times; times apart: ",
         Kind::OrderEvents => " are not in order or too near or too far apart, by ",
-        Kind::AvoidClashes => " is in two places at once; times too many: ",
+        Kind::AvoidClashes => " is busy more than once at a time; meets too many: ",
         Kind::AvoidUnavailableTimes => " is busy when it is to be free; times: ",
         Kind::LimitIdleTimes => " has too many or too few idle times, by ",
         Kind::ClusterBusyTimes => " is busy in too many or too few time groups, by ",
@@ -184,7 +184,7 @@ pub(crate) fn push_defects(
     defects: &[Defect],
 ) -> Result<(), NoMemory> {
     page.push_literal("<tr class=\"why\"><td colspan=\"6\"><details><summary>")?;
-    push_counted(page, "", defects.len() as u128, " deviate</summary><ul>\n")?;
+    push_counted(page, "Monitors that deviate: ", defects.len() as u128, "</summary><ul>\n")?;
     for defect in defects.iter().take(LISTED_MONITORS) {
         push_defect(alloc, page, view, rule, defect)?;
     }
@@ -192,9 +192,4 @@ pub(crate) fn push_defects(
         push_counted(page, "<li>Only the ", LISTED_MONITORS as u128, " dearest are listed.</li>")?;
     }
     page.push_literal("</ul></details></td></tr>\n")
-}
-
-/// The cells of a resource by their times, for whoever only counts them.
-pub(crate) fn is_clash(cells: &Seq<Seq<u32>>, time: u32) -> bool {
-    list_at(cells, time).len() > 1
 }

@@ -211,7 +211,7 @@ pub(crate) fn push_grids(
     view: &View<'_>,
     deviations: &[u64],
 ) -> Result<(), NoMemory> {
-    page.push_literal("<details><summary>Timetables</summary>\n")?;
+    page.push_literal("<details open><summary>Timetables</summary>\n")?;
     for rtype in 0..view.inst.types() {
         push_type(alloc, page, view, rtype, deviations)?;
     }

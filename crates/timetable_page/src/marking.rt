@@ -1,4 +1,10 @@
-//! The pieces that the page is put together from: literal markup with a text, a number or a cost between.
+//! The pieces that the page is put together from: literal markup with a text, a number or totals between.
+
+ghost use Rattle.std.specs.Prelude.{◌≡◌, ◌++◌, OnOk, IsTrue};
+ghost use Rattle.std.specs.Fmt.{decimal};
+ghost use Rattle.khe_base.specs.Text.{is_ascii};
+ghost use Rattle.timetable_page.specs.Escape.{escaped};
+ghost use Rattle.timetable_page.specs.Pieces.{totals_text};
 
 use crate::escaping::push_escaped;
 use khe_base::{NoMemory, Text, Totals};
@@ -9,7 +15,11 @@ pub(crate) fn push_between(
     before: &str,
     text: &Text,
     after: &str,
-) -> Result<(), NoMemory> {
+) -> Result<(), NoMemory>
+    requires before { IsTrue (is_ascii before.now) }
+    requires after { IsTrue (is_ascii after.now) }
+    ensures { OnOk result (page.new ≡ page.old ++ (before.now ++ (escaped text.now ++ after.now))) }
+{
     page.push_literal(before)?;
     push_escaped(page, text)?;
     page.push_literal(after)
@@ -21,14 +31,20 @@ pub(crate) fn push_counted(
     before: &str,
     number: u128,
     after: &str,
-) -> Result<(), NoMemory> {
+) -> Result<(), NoMemory>
+    requires before { IsTrue (is_ascii before.now) }
+    requires after { IsTrue (is_ascii after.now) }
+    ensures { OnOk result (page.new ≡ page.old ++ (before.now ++ (decimal number ++ after.now))) }
+{
     page.push_literal(before)?;
     page.push_number(number)?;
     page.push_literal(after)
 }
 
 /// Adds totals, the hard cost first.
-pub(crate) fn push_totals(page: &mut Text, totals: Totals) -> Result<(), NoMemory> {
+pub(crate) fn push_totals(page: &mut Text, totals: Totals) -> Result<(), NoMemory>
+    ensures { OnOk result (page.new ≡ page.old ++ totals_text totals) }
+{
     push_counted(page, "hard <b>", totals.hard, "</b> ")?;
     push_counted(page, "soft <b>", totals.soft, "</b>")
 }
@@ -41,7 +57,11 @@ pub(crate) fn push_place(
     letter: &str,
     number: u32,
     after: &str,
-) -> Result<(), NoMemory> {
+) -> Result<(), NoMemory>
+    requires before { IsTrue (is_ascii before.now) }
+    requires letter { IsTrue (is_ascii letter.now) }
+    requires after { IsTrue (is_ascii after.now) }
+{
     push_counted(page, before, u128::from(solution), letter)?;
     push_counted(page, "", u128::from(number), after)
 }

@@ -59,7 +59,8 @@ pub(crate) fn opening(alloc: Global, archive: &Archive, solutions: usize) -> Res
 }
 
 /// The end of the page, where timetables from one solution on are not shown.
-pub(crate) fn closing(alloc: Global, shown: u32, solutions: u32) -> Result<Text, NoMemory> {
+pub(crate) fn closing(alloc: Global, shown: u32, solutions: usize) -> Result<Text, NoMemory> {
+    let solutions = u32::try_from(solutions).unwrap_or(u32::MAX);
     let mut page = Text::new(alloc);
     if shown < solutions {
         push_counted(&mut page, "<section><h2>Not shown</h2><p id=\"rest\">The timetables of solutions from ", u128::from(shown), " on ")?;

@@ -1,5 +1,12 @@
 //! What comes of each solution, for the summary: its totals, or why it is invalid.
 
+ghost use Rattle.std.specs.Prelude.{◌≡◌, ◌<◌, ◌^◌, IfOk, length, map};
+ghost use Rattle.std.specs.List.{enumerate_from};
+ghost use Rattle.parallel_solve.specs.Ready.{AreOnes, IsOne};
+ghost use Rattle.parallel_solve.specs.Verdicts.{numbered_verdict};
+ghost use Rattle.resource_deviations.specs.Sets.{room_for};
+ghost use Rattle.timetable_page.specs.Outcomes as spec;
+
 use khe_base::{NoMemory, Seq, Totals};
 use parallel_solve::{Verdict, numbered};
 use resource_deviations::ResourceRoom;
@@ -17,7 +24,9 @@ pub(crate) enum Outcome {
 }
 
 /// What comes of a solution, by its verdict.
-fn outcome_of(verdict: &Verdict) -> Outcome {
+fn outcome_of(verdict: &Verdict) -> Outcome
+    ensures { result ≡ spec.outcome_of verdict.now }
+{
     match verdict {
         Verdict::Valid(values) => Outcome::Valid(values.totals),
         Verdict::Invalid { cause, entry } => Outcome::Invalid {
@@ -34,7 +43,11 @@ fn outcome_at(
     rooms: &[ResourceRoom],
     number: u32,
     raw: &RawSolution,
-) -> Result<Outcome, NoMemory> {
+) -> Result<Outcome, NoMemory>
+    requires one { IsOne resolved.now number raw.now }
+    requires rooms { rooms.now ≡ map room_for resolved.now.instances }
+    ensures { IfOk result (λ o. o ≡ spec.outcome_of (numbered_verdict resolved.now (number, raw.now))) }
+{
     let verdict = numbered(alloc, resolved, rooms, number, raw)?;
     Ok(outcome_of(&verdict))
 }
@@ -46,7 +59,12 @@ pub(crate) fn outcomes(
     resolved: &Resolved,
     rooms: &[ResourceRoom],
     raws: &[&RawSolution],
-) -> Result<Seq<Outcome>, NoMemory> {
+) -> Result<Seq<Outcome>, NoMemory>
+    requires ones { AreOnes resolved.now 0 (map (λ x. x.now) raws.now) }
+    requires few { length raws.now < 2 ^ 32 }
+    requires rooms { rooms.now ≡ map room_for resolved.now.instances }
+    ensures { IfOk result (λ all. all ≡ map (λ row. spec.outcome_of (numbered_verdict resolved.now row)) (enumerate_from 0 (map (λ x. x.now) raws.now))) }
+{
     let mut all = Seq::new(alloc);
     for number in 0..raws.len() {
         let outcome = outcome_at(alloc, resolved, rooms, number as u32, raws[number])?;

@@ -1,5 +1,10 @@
 //! From the bytes of an archive to the archive with its instances.
 
+ghost use Rattle.std.specs.Prelude.{◌≡◌, ◌≤◌, length, IfOk, IfErr};
+ghost use Rattle.khe_base.specs.declared.limits.TheConstants.{ARCHIVE_BYTES};
+ghost use Rattle.timetable_page.specs.Readings.{IsRead, IsReady, IsStopped, IsTree, of_resolve};
+ghost use Rattle.xhstt_shape.specs.WellFormed.{IsInForm};
+
 use crate::refusing::Refusal;
 use khe_base::{NoMemory, Seq};
 use std::alloc::Global;
@@ -25,6 +30,11 @@ pub(crate) enum Unread {
 }
 
 impl From<TextFault> for Unread {
+    ghost use Rattle.std.specs.Prelude.{◌≡◌};
+    ghost use Rattle.timetable_page.specs.Readings.{of_text};
+
+    ghost from_gives = { λ fault unread. unread ≡ of_text fault };
+
     fn from(fault: TextFault) -> Unread {
         match fault {
             TextFault::Bad { kind, at } => Unread::Refused(Refusal::Fault { kind, at }),
@@ -34,6 +44,11 @@ impl From<TextFault> for Unread {
 }
 
 impl From<ShapeFault> for Unread {
+    ghost use Rattle.std.specs.Prelude.{◌≡◌};
+    ghost use Rattle.timetable_page.specs.Readings.{of_shape};
+
+    ghost from_gives = { λ fault unread. unread ≡ of_shape fault };
+
     fn from(fault: ShapeFault) -> Unread {
         match fault {
             ShapeFault::Bad { kind, at } => Unread::Refused(Refusal::Fault { kind, at }),
@@ -43,14 +58,24 @@ impl From<ShapeFault> for Unread {
 }
 
 /// The archive that these bytes spell. The tree of the text is kept no longer than this call.
-fn archive_of(alloc: Global, bytes: &[u8]) -> Result<Archive, Unread> {
+fn archive_of(alloc: Global, bytes: &[u8]) -> Result<Archive, Unread>
+    requires { length bytes.now ≤ ARCHIVE_BYTES }
+    ensures tree { IfOk result (IsTree bytes.now) }
+    ensures formed { IfOk result IsInForm }
+    ensures stopped { IfErr result (IsStopped bytes.now) }
+{
     let tree = elements(alloc, bytes)?;
     Ok(archive(alloc, &tree)?)
 }
 
 /// What these bytes lead to, as an archive with its instances. The bytes are kept no longer than it takes to read
 /// the archive from them.
-pub(crate) fn read(alloc: Global, bytes: Seq<u8>) -> Result<ReadArchive, Unread> {
+pub(crate) fn read(alloc: Global, bytes: Seq<u8>) -> Result<ReadArchive, Unread>
+    requires { length bytes ≤ ARCHIVE_BYTES }
+    ensures read { IfOk result (λ r. IsRead bytes r.archive r.resolved) }
+    ensures ready { IfOk result (λ r. IsReady r.archive r.resolved) }
+    ensures stopped { IfErr result (IsStopped bytes) }
+{
     let archive = archive_of(alloc, bytes.as_slice())?;
     drop(bytes);
     match resolve(alloc, &archive) {
@@ -60,7 +85,9 @@ pub(crate) fn read(alloc: Global, bytes: Seq<u8>) -> Result<ReadArchive, Unread>
 }
 
 /// A fault of resolving as a reason not to read.
-fn unresolved(fault: ResolveFault) -> Unread {
+fn unresolved(fault: ResolveFault) -> Unread
+    ensures { result ≡ of_resolve fault }
+{
     match fault {
         ResolveFault::Bad { kind, at } => Unread::Refused(Refusal::Fault { kind, at }),
         ResolveFault::Limit { which, value } => Unread::Refused(Refusal::Limit { which, value }),

@@ -1,5 +1,9 @@
 //! The page on an archive that is refused.
 
+ghost use Rattle.std.specs.Prelude.{◌≡◌, ◌++◌, OnOk, IfOk, IsTrue};
+ghost use Rattle.khe_base.specs.Text.{is_ascii};
+ghost use Rattle.timetable_page.specs.Refusals as spec;
+
 use fault_tables::{LIMIT, TOO_LARGE, fault_name, limit_name};
 use khe_base::{NoMemory, Text};
 use std::alloc::Global;
@@ -16,23 +20,30 @@ pub(crate) enum Refusal {
 }
 
 /// The page that refuses an archive, which has the line that the program `khe` refuses it with.
-pub(crate) fn refusal_page(alloc: Global, refusal: Refusal) -> Result<Text, NoMemory> {
+pub(crate) fn refusal_page(alloc: Global, refusal: Refusal) -> Result<Text, NoMemory>
+    ensures { IfOk result (λ t. t ≡ spec.refusal_page refusal) }
+{
     let mut page = Text::new(alloc);
-    page.push_literal("<!DOCTYPE html>\n<html lang=\"en\"><meta charset=\"utf-8\"><title>Refused</title>\n<p>")?;
-    page.push_literal("khe: archive refused: ")?;
+    page.push_literal(refusal_head())?;
     push_refusal(&mut page, refusal)?;
     page.push_literal("</p></html>\n")?;
     Ok(page)
 }
 
+/// What the page of a refusal begins with.
+fn refusal_head() -> &'static str
+    ensures head { result.now ≡ spec.refusal_head }
+    ensures ascii { IsTrue (is_ascii result.now) }
+{
+    "<!DOCTYPE html>\n<html lang=\"en\"><meta charset=\"utf-8\"><title>Refused</title>\n<p>khe: archive refused: "
+}
+
 /// Adds the kind of a refusal, and what is said of it.
-fn push_refusal(page: &mut Text, refusal: Refusal) -> Result<(), NoMemory> {
+fn push_refusal(page: &mut Text, refusal: Refusal) -> Result<(), NoMemory>
+    ensures { OnOk result (page.new ≡ page.old ++ spec.refusal_words refusal) }
+{
     match refusal {
-        Refusal::Fault { kind, at } => {
-            push_kind(page, kind)?;
-            page.push_literal(" at ")?;
-            page.push_number(u128::from(at))
-        }
+        Refusal::Fault { kind, at } => push_fault(page, kind, at),
         Refusal::Limit { which, value } => {
             push_kind(page, LIMIT)?;
             push_limit(page, which, value)
@@ -41,15 +52,37 @@ fn push_refusal(page: &mut Text, refusal: Refusal) -> Result<(), NoMemory> {
     }
 }
 
+/// Adds a kind of fault and its place.
+fn push_fault(page: &mut Text, kind: u32, at: u64) -> Result<(), NoMemory>
+    ensures { OnOk result (page.new ≡ page.old ++ spec.fault_words kind at) }
+{
+    push_kind(page, kind)?;
+    page.push_literal(" at ")?;
+    page.push_number(u128::from(at))
+}
+
 /// Adds the number of a kind of fault and its name.
-fn push_kind(page: &mut Text, kind: u32) -> Result<(), NoMemory> {
+fn push_kind(page: &mut Text, kind: u32) -> Result<(), NoMemory>
+    ensures { OnOk result (page.new ≡ page.old ++ spec.kind_words kind) }
+{
     page.push_number(u128::from(kind))?;
     page.push_literal(" ")?;
-    page.push_literal(fault_name(kind).unwrap_or(""))
+    page.push_literal(kind_name(kind))
+}
+
+/// The name of a kind of fault.
+#[tactic(auto, unfolding(crate::specs::Refusals::kind_name))]
+fn kind_name(kind: u32) -> &'static str
+    ensures name { result.now ≡ spec.kind_name kind }
+    ensures ascii { IsTrue (is_ascii result.now) }
+{
+    fault_name(kind).unwrap_or("")
 }
 
 /// Adds the name of a limit and the count that is above it.
-fn push_limit(page: &mut Text, which: u32, value: u128) -> Result<(), NoMemory> {
+fn push_limit(page: &mut Text, which: u32, value: u128) -> Result<(), NoMemory>
+    ensures { OnOk result (page.new ≡ page.old ++ spec.limit_words which value) }
+{
     page.push_literal(" ")?;
     page.push_literal(limit_name(which).unwrap_or(""))?;
     page.push_literal(" ")?;

@@ -1,5 +1,11 @@
 //! The part of the page on one solution.
 
+ghost use Rattle.std.specs.Prelude.{◌≡◌, ◌++◌, OnOk, IfOk, IsTrue, length, map};
+ghost use Rattle.khe_base.specs.Text.{is_ascii};
+ghost use Rattle.parallel_solve.specs.declared.verdicts.Verdict.TheVariants.{Valid as ValidVerdict, Invalid as InvalidVerdict};
+ghost use Rattle.timetable_page.specs.Pages.{IsSection};
+ghost use Rattle.timetable_page.specs.Pieces as spec;
+
 use crate::busy::{Timetable, list_at, timetable};
 use crate::costs::{Defect, PageSolution, cost_of, dearest_first, page_solution};
 use crate::defects::push_defects;
@@ -49,19 +55,36 @@ fn push_head(
     Ok(())
 }
 
-/// The head of the section of a valid solution, with its totals.
-fn push_valid_head(
-    page: &mut Text,
+/// The head of a section, as a text of its own.
+fn head_of(
+    alloc: Global,
     number: u32,
     raw: &RawInstance,
     group: &Text,
     solution: &RawSolution,
-    totals: Totals,
-) -> Result<(), NoMemory> {
-    push_head(page, number, raw, group, solution)?;
+) -> Result<Text, NoMemory> {
+    let mut page = Text::new(alloc);
+    push_head(&mut page, number, raw, group, solution)?;
+    Ok(page)
+}
+
+/// Adds what a section says of the totals of a valid solution.
+fn push_valid(page: &mut Text, totals: Totals) -> Result<(), NoMemory>
+    ensures { OnOk result (page.new ≡ page.old ++ spec.valid_text totals) }
+{
     page.push_literal("<p class=\"totals\">")?;
     push_totals(page, totals)?;
     page.push_literal("</p>\n")
+}
+
+/// A section of its head, the totals, and the rest.
+fn joined(head: Text, totals: Totals, rest: &Text) -> Result<Text, NoMemory>
+    ensures { IfOk result (λ page. page ≡ head ++ (spec.valid_text totals ++ rest.now)) }
+{
+    let mut page = head;
+    push_valid(&mut page, totals)?;
+    page.push_text(rest)?;
+    Ok(page)
 }
 
 /// The section of an invalid solution.
@@ -73,20 +96,40 @@ pub(crate) fn invalid_section(
     solution: &RawSolution,
     cause: u32,
     entry: u32,
-) -> Result<Text, NoMemory> {
-    let mut page = Text::new(alloc);
-    push_head(&mut page, number, raw, group, solution)?;
-    page.push_literal("<p class=\"bad\">")?;
-    push_invalid(&mut page, cause, entry)?;
-    page.push_literal("</p></section>\n")?;
+) -> Result<Text, NoMemory>
+    ensures { IfOk result (IsSection (InvalidVerdict cause entry)) }
+{
+    let head = head_of(alloc, number, raw, group, solution)?;
+    let mut page = head;
+    push_cause(&mut page, cause, entry)?;
     Ok(page)
 }
 
+/// Adds what a section says of a solution that is invalid, and ends the section.
+fn push_cause(page: &mut Text, cause: u32, entry: u32) -> Result<(), NoMemory>
+    ensures { OnOk result (page.new ≡ page.old ++ spec.cause_text cause entry) }
+{
+    page.push_literal("<p class=\"bad\">")?;
+    push_invalid(page, cause, entry)?;
+    page.push_literal("</p></section>\n")
+}
+
 /// Adds why and at which entry a solution is invalid.
-pub(crate) fn push_invalid(page: &mut Text, cause: u32, entry: u32) -> Result<(), NoMemory> {
+pub(crate) fn push_invalid(page: &mut Text, cause: u32, entry: u32) -> Result<(), NoMemory>
+    ensures { OnOk result (page.new ≡ page.old ++ spec.invalid_text cause entry) }
+{
     page.push_literal("invalid: ")?;
-    page.push_literal(cause_name(cause).unwrap_or(""))?;
+    page.push_literal(name_of(cause))?;
     push_counted(page, " at entry ", u128::from(entry), "")
+}
+
+/// The name of a cause.
+#[tactic(auto, unfolding(crate::specs::Pieces::name_of_cause))]
+fn name_of(cause: u32) -> &'static str
+    ensures name { result.now ≡ spec.name_of_cause cause }
+    ensures ascii { IsTrue (is_ascii result.now) }
+{
+    cause_name(cause).unwrap_or("")
 }
 
 /// The name of a kind of constraints.
@@ -199,19 +242,18 @@ fn in_order(defects: &mut Seq<Seq<Defect>>) {
     }
 }
 
-/// The section of a valid solution: its totals, its costs by constraint, its timetables and its events.
-pub(crate) fn valid_section(
+/// What a section has below the totals: the costs by constraint, the timetables and the events.
+fn rest_of(
     alloc: Global,
     number: u32,
     inst: &Instance,
     raw: &RawInstance,
-    group: &Text,
-    solution: &RawSolution,
     plain: &Plain,
     values: &Values,
-) -> Result<Text, NoMemory> {
+) -> Result<Text, NoMemory>
+    requires { (length values.now.deviations ≡ length inst.now.monitors) × (length values.now.costs ≡ length inst.now.monitors) }
+{
     let mut page = Text::new(alloc);
-    push_valid_head(&mut page, number, raw, group, solution, values.totals)?;
     let PageSolution {
         totals: _,
         mut defects,
@@ -231,5 +273,25 @@ pub(crate) fn valid_section(
     push_grids(alloc, &mut page, &view, values.deviations.as_slice())?;
     push_events(&mut page, &view)?;
     page.push_literal("</section>\n")?;
+    Ok(page)
+}
+
+/// The section of a valid solution: its totals, its costs by constraint, its timetables and its events.
+pub(crate) fn valid_section(
+    alloc: Global,
+    number: u32,
+    inst: &Instance,
+    raw: &RawInstance,
+    group: &Text,
+    solution: &RawSolution,
+    plain: &Plain,
+    values: &Values,
+) -> Result<Text, NoMemory>
+    requires { (length values.now.deviations ≡ length inst.now.monitors) × (length values.now.costs ≡ length inst.now.monitors) }
+    ensures { IfOk result (IsSection (ValidVerdict values.now)) }
+{
+    let head = head_of(alloc, number, raw, group, solution)?;
+    let rest = rest_of(alloc, number, inst, raw, plain, values)?;
+    let page = joined(head, values.totals, &rest)?;
     Ok(page)
 }

@@ -35,7 +35,7 @@ td.none{border:0}
 .mark{display:block;font-weight:700;font-size:.8rem;color:var(--bad)}.idle .mark{color:var(--idle)}
 .best{color:var(--best);font-weight:700;white-space:nowrap}
 summary{cursor:pointer;font-weight:600;padding:.2rem 0}.why summary{font-weight:400}
-.why ul{margin:.2rem 0;padding-left:1.2rem}
+.why ul{margin:.2rem 0;padding-left:1.2rem;max-width:86vw}
 button{font:inherit;color:inherit;background:none;border:0;padding:0;cursor:pointer;text-align:left;
 text-decoration:underline dotted}
 th[aria-sort=ascending] button::after{content:" \25b2"}th[aria-sort=descending] button::after{content:" \25bc"}
