@@ -6,7 +6,7 @@ use Rattle.khe_io.specs.Faults.{Took}
 use Rattle.timetable_page.specs.Pages.{AreSections, IsPage}
 use Rattle.timetable_page.specs.Readings.{IsRead, IsRefusedFor}
 use Rattle.timetable_page.specs.Refusals.{refusal_page}
-use Rattle.timetable_page.specs.declared.page.TheConstants.{PAGE_BYTES}
+use Rattle.timetable_page.specs.declared.program.TheConstants.{PAGE_BYTES}
 use Rattle.timetable_page.specs.declared.refusing.Refusal.{Refusal}
 use Rattle.xhstt_references.specs.References.{solutions_of}
 use Rattle.xhstt_resolve.specs.declared.resolving.Resolved.{Resolved}

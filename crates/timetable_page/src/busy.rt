@@ -141,7 +141,7 @@ fn parts_of(alloc: Global, inst: &Instance, meets: &[Meet]) -> Result<Seq<Seq<u3
 
 /// What a timetable says of each resource, each meet and each event. It takes time and memory in proportion to the
 /// meet slots, the tasks and the times that they cover, the resources, the events and the monitors.
-pub(crate) fn timetable(alloc: Global, inst: &Instance, plain: &Plain) -> Result<Timetable, NoMemory> {
+pub(crate) fn timetable_of(alloc: Global, inst: &Instance, plain: &Plain) -> Result<Timetable, NoMemory> {
     let (given, runs) = taken(alloc, inst, plain)?;
     let watched = watched_by(alloc, inst)?;
     let parts = parts_of(alloc, inst, plain.meets.as_slice())?;

@@ -4,7 +4,7 @@ use crate::busy::{cells_of, has_cells, list_at, marks_of};
 use crate::costs::Defect;
 use crate::marking::{push_between, push_counted, push_place};
 use crate::naming::{event_name, group_name, resource_name, time_name};
-use crate::sections::View;
+use crate::view::View;
 use khe_base::{EventId, MonitorId, NoMemory, Text};
 use khe_instance::{EventPair, Kind, Point, Rule};
 use std::alloc::Global;

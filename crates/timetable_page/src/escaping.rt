@@ -1,6 +1,6 @@
 //! The one way of a text of the archive onto the page: escaped, so that it stands as it is written.
 
-ghost use Rattle.std.specs.Prelude.{◌≡◌, ◌++◌, true, OnOk, encode_utf8_all, ℕ, List, IsTrue};
+ghost use Rattle.std.specs.Prelude.{◌≡◌, ◌++◌, true, OnOk, encode_utf8_all, ℕ, List};
 ghost use Rattle.std.specs.List.{list_all};
 ghost use Rattle.std.specs.Str.{IsUtf8};
 ghost use Rattle.timetable_page.specs.Escape.{escaped, escaped_character, is_inert};
@@ -38,6 +38,6 @@ fn push_character(page: &mut Text, character: char) -> Result<(), NoMemory>
 // What a text is written as opens and closes no tag and no quote, and stands for the text: no program calls this.
 #[allow(dead_code)]
 fn escaped_texts()
-    ensures inert { (text : List ℕ) → IsTrue (list_all is_inert (escaped text)) }
+    ensures inert { (text : List ℕ) → list_all is_inert (escaped text) ≡ true }
     ensures read_back { (text : List ℕ) → IsUtf8 (encode_utf8_all text) → unescaped (encode_utf8_all (escaped text)) ≡ text }
 {}

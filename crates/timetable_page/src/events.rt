@@ -4,7 +4,7 @@ use crate::busy::list_at;
 use crate::defects::{push_event_link, push_resource_link, role_of};
 use crate::marking::{push_between, push_counted, push_place};
 use crate::naming::{event_name, time_name};
-use crate::sections::View;
+use crate::view::View;
 use khe_base::{NoMemory, Text};
 use khe_instance::Meet;
 

@@ -5,7 +5,7 @@ use crate::defects::{push_event_link, push_resource_link};
 use crate::layout::{Column, column_name, only_time};
 use crate::marking::{push_between, push_counted, push_place};
 use crate::naming::{constraint_name, resource_name, type_name};
-use crate::sections::View;
+use crate::view::View;
 use khe_base::{MonitorId, NoMemory, ResourceId, Seq, Text};
 use std::alloc::Global;
 

@@ -13,13 +13,14 @@ mod marking;
 mod naming;
 mod opening;
 mod outcomes;
-mod page;
+mod program;
 mod reading;
 mod refusing;
 mod sections;
 mod sending;
 mod style;
 mod summary;
+mod view;
 mod words;
 
-pub use page::{Status, page};
+pub use program::{Status, page};

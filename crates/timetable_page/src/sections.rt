@@ -6,32 +6,21 @@ ghost use Rattle.parallel_solve.specs.declared.verdicts.Verdict.TheVariants.{Val
 ghost use Rattle.timetable_page.specs.Pages.{IsSection};
 ghost use Rattle.timetable_page.specs.Pieces as spec;
 
-use crate::busy::{Timetable, list_at, timetable};
+use crate::busy::{list_at, timetable_of};
 use crate::costs::{Defect, PageSolution, cost_of, dearest_first, page_solution};
 use crate::defects::push_defects;
 use crate::events::push_events;
 use crate::grids::push_grids;
-use crate::layout::{Layout, layout_of};
+use crate::layout::layout_of;
 use crate::marking::{push_between, push_counted, push_place, push_totals};
 use crate::naming::{constraint_name, instance_name};
+use crate::view::View;
 use fault_tables::cause_name;
 use khe_base::{CostFn, NoMemory, Seq, Text, Totals};
 use khe_instance::{Constraint, Instance, Kind, Plain, Rule};
 use plain_eval::Values;
 use std::alloc::Global;
 use xhstt_shape::{RawInstance, RawSolution};
-
-/// A solution with its timetable, and what the parts of its section look up.
-#[derive(Clone, Copy)]
-pub(crate) struct View<'a> {
-    /// The number of the solution.
-    pub number: u32,
-    pub inst: &'a Instance,
-    pub raw: &'a RawInstance,
-    pub plain: &'a Plain,
-    pub table: &'a Timetable,
-    pub layout: &'a Layout,
-}
 
 /// The head of a section: the number of the solution, its instance and its group.
 fn push_head(
@@ -259,7 +248,7 @@ fn rest_of(
         mut defects,
     } = page_solution(alloc, inst, values)?;
     in_order(&mut defects);
-    let table = timetable(alloc, inst, plain)?;
+    let table = timetable_of(alloc, inst, plain)?;
     let layout = layout_of(alloc, raw)?;
     let view = View {
         number,

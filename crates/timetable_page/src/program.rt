@@ -301,7 +301,8 @@ fn write_sections<K: Sink>(
         if sent > PAGE_BYTES {
             return Ok(number);
         }
-        let raw = raws[number as usize];
+        let place = number as usize;
+        let raw = raws[place];
         sent = write_section(
             alloc, out, pending, archive, resolved, rooms, groups, number, raw, sent,
         )?;
@@ -351,8 +352,8 @@ fn write<K: Sink>(
     let raws = all_solutions(alloc, archive)?;
     let groups = group_numbers(alloc, archive)?;
     let rooms = rooms_of(alloc, resolved)?;
-    let rooms = rooms.as_slice();
     let raws = raws.as_slice();
+    let rooms = rooms.as_slice();
     let groups = groups.as_slice();
     let mut pending = first_part(alloc, archive, resolved, rooms, groups, raws)?;
     let shown = write_sections(

@@ -1,0 +1,4 @@
+pub mod Escapes
+pub mod FewLemmas
+pub mod PageLemmas
+pub mod ReadingLemmas
