@@ -1,3 +1,4 @@
+pub mod DefectLemmas
 pub mod Escapes
 pub mod FewLemmas
 pub mod PageLemmas

@@ -1,5 +1,8 @@
 //! What each resource does at each time, and what each meet is given, of one timetable.
 
+ghost use Rattle.std.specs.Prelude.{◌≡◌, [], IfOk, OnOk, replicate};
+ghost use Rattle.timetable_page.specs.Costs.{with_item};
+
 use khe_base::{IdSet, MonitorId, NoMemory, ResourceId, Seq, TimeId};
 use khe_instance::{Instance, Kind, Meet, Plain, Point, Rule};
 use std::alloc::Global;
@@ -32,7 +35,9 @@ pub(crate) struct Timetable {
 }
 
 /// So many empty lists.
-pub(crate) fn empty_lists<T: Drop>(alloc: Global, count: usize) -> Result<Seq<Seq<T>>, NoMemory> {
+pub(crate) fn empty_lists<T: Drop>(alloc: Global, count: usize) -> Result<Seq<Seq<T>>, NoMemory>
+    ensures { IfOk result (λ lists. lists ≡ replicate count []) }
+{
     let mut lists = Seq::new(alloc);
     for _ in 0..count {
         lists.push(Seq::new(alloc))?;
@@ -41,11 +46,15 @@ pub(crate) fn empty_lists<T: Drop>(alloc: Global, count: usize) -> Result<Seq<Se
 }
 
 /// Adds an item to the list with a number, where there is one.
-pub(crate) fn add<T: Drop>(lists: &mut Seq<Seq<T>>, number: u32, item: T) -> Result<(), NoMemory> {
-    let number = number as usize;
-    if number < lists.len() {
-        lists.items[number].push(item)?;
+pub(crate) fn add<T: Drop>(lists: &mut Seq<Seq<T>>, number: u32, item: T) -> Result<(), NoMemory>
+    ensures { OnOk result (lists.new ≡ with_item lists.old number item) }
+{
+    let place = number as usize;
+    if place >= lists.len() {
+        return Ok(());
     }
+    let list = &mut lists.items[place];
+    list.push(item)?;
     Ok(())
 }
 

@@ -7,7 +7,7 @@ ghost use Rattle.timetable_page.specs.Pages.{IsSection};
 ghost use Rattle.timetable_page.specs.Pieces as spec;
 
 use crate::busy::{list_at, timetable_of};
-use crate::costs::{Defect, PageSolution, cost_of, dearest_first, page_solution};
+use crate::costs::{Defect, PageSolution, dearest_first, page_solution, push_spent};
 use crate::defects::push_defects;
 use crate::events::push_events;
 use crate::grids::push_grids;
@@ -17,7 +17,7 @@ use crate::naming::{constraint_name, instance_name};
 use crate::view::View;
 use fault_tables::cause_name;
 use khe_base::{CostFn, NoMemory, Seq, Text, Totals};
-use khe_instance::{Constraint, Instance, Kind, Plain, Rule};
+use khe_instance::{Constraint, Instance, Plain, Rule};
 use plain_eval::Values;
 use std::alloc::Global;
 use xhstt_shape::{RawInstance, RawSolution};
@@ -173,8 +173,7 @@ fn push_constraint_row(
     page.push_literal(hardness(constraint.required))?;
     push_counted(page, "</td><td class=\"num\">", u128::from(constraint.weight), " ")?;
     page.push_literal(cost_function(constraint.cost))?;
-    push_counted(page, "</td><td class=\"num\">", defects.len() as u128, "</td>")?;
-    push_counted(page, "<td class=\"num\">", cost_of(defects), "</td></tr>\n")
+    push_spent(page, defects)
 }
 
 /// Adds the row of one constraint, and below it the monitors that deviate.

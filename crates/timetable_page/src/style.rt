@@ -22,8 +22,8 @@ thead th{background:var(--band)}
 .num{text-align:right;font-variant-numeric:tabular-nums}
 .fine{color:var(--soft)}.fine th{font-weight:normal}
 .why td{background:var(--band)}
-.grid{table-layout:fixed;min-width:100%}
-.grid td{min-width:7rem;font-size:.9rem}.grid th[scope=row]{width:2.5rem}.grid thead td{width:2.5rem;min-width:2.5rem}
+.grid{width:100%}.grid th[scope=col]{width:12rem;min-width:7rem}
+.grid td{font-size:.9rem}.grid th[scope=row]{width:2.5rem}.grid thead td{width:2.5rem;min-width:2.5rem}
 .grid div+div{border-top:1px dashed var(--line);margin-top:.2rem;padding-top:.2rem}
 .grid div a:first-child{font-weight:600}
 caption{position:absolute;width:1px;height:1px;overflow:hidden;clip-path:inset(50%)}
