@@ -24,7 +24,7 @@ use Rattle.xhstt_shape.specs.declared.records.RawSolution.{RawSolution}
 -- the values of a timetable, by their parts
 pub same_values : (p : Parts) (s : Plain) (v : Values) → v.deviations ≡ evaluated.deviations p s
     → v.costs ≡ evaluated.costs p s → v.totals ≡ evaluated.totals p s → v ≡ values_of p s
-same_values p s v d c t = cc
+same_values p s v d c t = λ i. record { deviations = d i; costs = c i; totals = t i }
 
 -- nothing was taken, and a text waits
 took_none : (o : Option (List ℕ)) → Took o o (encode_utf8_all [])

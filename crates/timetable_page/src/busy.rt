@@ -173,9 +173,10 @@ pub(crate) fn cells_of(alloc: Global, times: u32, runs: &[Run]) -> Result<Seq<Se
 
 /// Marks the times that a resource is to be free at.
 fn mark_closed(closed: &mut Vec<bool>, times: &IdSet) {
-    for time in 0..closed.len() {
+    let marks = closed.as_mut_slice();
+    for time in 0..marks.len() {
         if u32::try_from(time).is_ok_and(|time| times.has(time)) {
-            closed[time] = true;
+            marks[time] = true;
         }
     }
 }

@@ -1,5 +1,8 @@
 //! The monitors that deviate, in words.
 
+ghost use Rattle.std.specs.Prelude.{IsTrue};
+ghost use Rattle.khe_base.specs.Text.{is_ascii};
+
 use crate::busy::{cells_of, has_cells, list_at, marks_of};
 use crate::costs::Defect;
 use crate::marking::{push_between, push_counted, push_place};
@@ -74,7 +77,9 @@ fn push_subject(page: &mut Text, view: &View<'_>, rule: &Rule, point: Point) -> 
 }
 
 /// What is wrong, by the kind of the constraint, before the deviation.
-fn phrase(kind: Kind) -> &'static str {
+fn phrase(kind: Kind) -> &'static str
+    ensures { IsTrue (is_ascii result.now) }
+{
     match kind {
         Kind::AssignTime => " has no time; times missing: ",
         Kind::AssignResource => " has no resource; times without one: ",
@@ -140,10 +145,10 @@ fn push_cells(
         let closed = marks.closed.get(time as usize).copied().unwrap_or(false);
         let idle = marks.idle.get(time as usize).copied().unwrap_or(false);
         if is_cell(kind, busy, closed, idle) {
-            if listed == LISTED_CELLS {
+            if listed >= LISTED_CELLS {
                 return page.push_literal(" and at more times");
             }
-            listed += 1;
+            listed = listed.saturating_add(1);
             push_cell_link(page, view, resource, time, busy)?;
         }
     }

@@ -1,10 +1,8 @@
 //! The one way of a text of the archive onto the page: escaped, so that it stands as it is written.
 
-ghost use Rattle.std.specs.Prelude.{◌≡◌, ◌++◌, true, OnOk, encode_utf8_all, ℕ, List};
+ghost use Rattle.std.specs.Prelude.{◌≡◌, ◌++◌, true, OnOk, None, ℕ, List};
 ghost use Rattle.std.specs.List.{list_all};
-ghost use Rattle.std.specs.Str.{IsUtf8};
-ghost use Rattle.timetable_page.specs.Escape.{escaped, escaped_character, is_inert};
-ghost use Rattle.xhstt_text.specs.Unescape.{unescaped};
+ghost use Rattle.timetable_page.specs.Escape.{escaped, escaped_character, is_inert, read_from};
 
 use khe_base::{NoMemory, Text};
 
@@ -35,9 +33,9 @@ fn push_character(page: &mut Text, character: char) -> Result<(), NoMemory>
     }
 }
 
-// What a text is written as opens and closes no tag and no quote, and stands for the text: no program calls this.
+// What a text is written as opens and closes no tag and no quote, and is read back as the text: no program calls this.
 #[allow(dead_code)]
 fn escaped_texts()
     ensures inert { (text : List ℕ) → list_all is_inert (escaped text) ≡ true }
-    ensures read_back { (text : List ℕ) → IsUtf8 (encode_utf8_all text) → unescaped (encode_utf8_all (escaped text)) ≡ text }
+    ensures read_back { (text : List ℕ) → read_from None (escaped text) ≡ text }
 {}

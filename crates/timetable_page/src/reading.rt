@@ -15,14 +15,14 @@ use xhstt_text::{TextFault, elements};
 
 /// An archive with its instances.
 #[derive(Drop)]
-pub(crate) struct ReadArchive {
+pub struct ReadArchive {
     pub archive: Archive,
     pub resolved: Resolved,
 }
 
 /// Why an archive is not read.
 #[derive(Clone, Copy)]
-pub(crate) enum Unread {
+pub enum Unread {
     /// It is refused.
     Refused(Refusal),
     /// Memory was refused.

@@ -10,7 +10,7 @@ use std::alloc::Global;
 
 /// Why an archive is refused.
 #[derive(Clone, Copy)]
-pub(crate) enum Refusal {
+pub enum Refusal {
     /// A fault of this kind at this byte: of the text, of the shape of the elements, or of names and references.
     Fault { kind: u32, at: u64 },
     /// The count above the limit with this number, from 1 to 16.

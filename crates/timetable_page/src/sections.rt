@@ -7,7 +7,7 @@ ghost use Rattle.timetable_page.specs.Pages.{IsSection};
 ghost use Rattle.timetable_page.specs.Pieces as spec;
 
 use crate::busy::{list_at, timetable_of};
-use crate::costs::{Defect, PageSolution, dearest_first, page_solution, push_spent};
+use crate::costs::{Defect, PageSolution, cost_of, dearest_first, page_solution, push_spent};
 use crate::defects::push_defects;
 use crate::events::push_events;
 use crate::grids::push_grids;
@@ -168,12 +168,12 @@ fn push_constraint_row(
     defects: &[Defect],
 ) -> Result<(), NoMemory> {
     push_place(page, "<tr id=\"s", number, "c", which, "\"><td>")?;
-    page.push_literal(kind_name(&constraint.rule))?;
+    page.push_str(kind_name(&constraint.rule))?;
     push_between(page, "</td><th scope=\"row\">", constraint_name(raw, which), "</th><td>")?;
-    page.push_literal(hardness(constraint.required))?;
+    page.push_str(hardness(constraint.required))?;
     push_counted(page, "</td><td class=\"num\">", u128::from(constraint.weight), " ")?;
-    page.push_literal(cost_function(constraint.cost))?;
-    push_spent(page, defects)
+    page.push_str(cost_function(constraint.cost))?;
+    push_spent(page, defects.len(), cost_of(defects))
 }
 
 /// Adds the row of one constraint, and below it the monitors that deviate.

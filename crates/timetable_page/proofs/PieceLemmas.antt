@@ -1,0 +1,6 @@
+-- Pieces that are added one after another.
+use Rattle.std.proofs.Common.{ℕ, ◌≡◌, ◌∙◌, List, ◌++◌, ap, append_assoc}
+
+pub three : (page one two a b c : List ℕ) → one ≡ page ++ a → two ≡ one ++ b → two ++ c ≡ page ++ (a ++ (b ++ c))
+three page one two a b c e d =
+    ap (λ t. t ++ c) (d ∙ ap (λ t. t ++ b) e) ∙ append_assoc (page ++ a) b c ∙ append_assoc page a (b ++ c)
