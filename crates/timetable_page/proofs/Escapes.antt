@@ -3,7 +3,8 @@ use Rattle.std.proofs.Common.{◌≡◌, ℕ, Bool, true, false, cond, ◌&&◌,
 use Rattle.std.specs.List.{list_all}
 use Rattle.std.proofs.lemmas.Bool.{cond_both, eqb-true}
 use Rattle.std.proofs.lemmas.List.Folds.{list_all-append}
-use Rattle.timetable_page.specs.Escape.{escaped_character, escaped, is_inert, read_from}
+use Rattle.timetable_page.specs.Escape.{escaped_character, escaped}
+use Rattle.timetable_page.specs.Reading.{is_inert, read_from}
 
 -- a character that is written as it is
 inert_itself : (c : ℕ) → eqb c 60 ≡ false → eqb c 62 ≡ false → eqb c 34 ≡ false → eqb c 39 ≡ false

@@ -4,6 +4,7 @@ pub mod Escape
 pub mod Outcomes
 pub mod Pages
 pub mod Pieces
+pub mod Reading
 pub mod Readings
 pub mod Refusals
 pub mod Words

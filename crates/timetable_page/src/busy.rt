@@ -96,7 +96,11 @@ fn add_runs(
 }
 
 /// When each resource is busy, and what each meet is given, by the tasks of a timetable.
-fn taken(alloc: Global, inst: &Instance, plain: &Plain) -> Result<(Seq<Seq<Given>>, Seq<Seq<Run>>), NoMemory> {
+fn taken(
+    alloc: Global,
+    inst: &Instance,
+    plain: &Plain,
+) -> Result<(Seq<Seq<Given>>, Seq<Seq<Run>>), NoMemory> {
     let meets = plain.meets.as_slice();
     let places = places_of(alloc, inst.meet_slots(), meets)?;
     let mut given = empty_lists(alloc, meets.len())?;
@@ -150,7 +154,11 @@ fn parts_of(alloc: Global, inst: &Instance, meets: &[Meet]) -> Result<Seq<Seq<u3
 
 /// What a timetable says of each resource, each meet and each event. It takes time and memory in proportion to the
 /// meet slots, the tasks and the times that they cover, the resources, the events and the monitors.
-pub(crate) fn timetable_of(alloc: Global, inst: &Instance, plain: &Plain) -> Result<Timetable, NoMemory> {
+pub(crate) fn timetable_of(
+    alloc: Global,
+    inst: &Instance,
+    plain: &Plain,
+) -> Result<Timetable, NoMemory> {
     let (given, runs) = taken(alloc, inst, plain)?;
     let watched = watched_by(alloc, inst)?;
     let parts = parts_of(alloc, inst, plain.meets.as_slice())?;
@@ -225,7 +233,14 @@ pub(crate) fn marks_of(
     for number in monitors {
         if *number < inst.monitors() {
             let monitor = inst.monitor(MonitorId(*number));
-            mark_by(alloc, &mut closed, &mut idle, inst, monitor.constraint, cells)?;
+            mark_by(
+                alloc,
+                &mut closed,
+                &mut idle,
+                inst,
+                monitor.constraint,
+                cells,
+            )?;
         }
     }
     Ok(Marks { closed, idle })

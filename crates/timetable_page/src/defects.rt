@@ -19,13 +19,21 @@ const LISTED_MONITORS: usize = 1_000;
 const LISTED_CELLS: u32 = 40;
 
 /// Adds a link to a resource's timetable, with its name.
-pub(crate) fn push_resource_link(page: &mut Text, view: &View<'_>, resource: u32) -> Result<(), NoMemory> {
+pub(crate) fn push_resource_link(
+    page: &mut Text,
+    view: &View<'_>,
+    resource: u32,
+) -> Result<(), NoMemory> {
     push_place(page, "<a href=\"#s", view.number, "r", resource, "\">")?;
     push_between(page, "", resource_name(view.raw, resource), "</a>")
 }
 
 /// Adds a link to an event's row, with its name.
-pub(crate) fn push_event_link(page: &mut Text, view: &View<'_>, event: u32) -> Result<(), NoMemory> {
+pub(crate) fn push_event_link(
+    page: &mut Text,
+    view: &View<'_>,
+    event: u32,
+) -> Result<(), NoMemory> {
     push_place(page, "<a href=\"#s", view.number, "e", event, "\">")?;
     push_between(page, "", event_name(view.raw, event), "</a>")
 }
@@ -60,7 +68,12 @@ fn push_pair(page: &mut Text, view: &View<'_>, rule: &Rule, number: u32) -> Resu
 }
 
 /// Adds what a monitor watches.
-fn push_subject(page: &mut Text, view: &View<'_>, rule: &Rule, point: Point) -> Result<(), NoMemory> {
+fn push_subject(
+    page: &mut Text,
+    view: &View<'_>,
+    rule: &Rule,
+    point: Point,
+) -> Result<(), NoMemory> {
     match point {
         Point::Event(event) => push_event_link(page, view, event.0),
         Point::EventResource { event, place } => {
@@ -137,8 +150,17 @@ fn push_cells(
     kind: Kind,
     resource: u32,
 ) -> Result<(), NoMemory> {
-    let cells = cells_of(alloc, view.inst.times(), list_at(&view.table.runs, resource))?;
-    let marks = marks_of(alloc, view.inst, list_at(&view.table.watched, resource), &cells)?;
+    let cells = cells_of(
+        alloc,
+        view.inst.times(),
+        list_at(&view.table.runs, resource),
+    )?;
+    let marks = marks_of(
+        alloc,
+        view.inst,
+        list_at(&view.table.watched, resource),
+        &cells,
+    )?;
     let mut listed = 0u32;
     for time in 0..view.inst.times() {
         let busy = list_at(&cells, time).len();
@@ -189,12 +211,22 @@ pub(crate) fn push_defects(
     defects: &[Defect],
 ) -> Result<(), NoMemory> {
     page.push_literal("<tr class=\"why\"><td colspan=\"6\"><details><summary>")?;
-    push_counted(page, "Monitors that deviate: ", defects.len() as u128, "</summary><ul>\n")?;
+    push_counted(
+        page,
+        "Monitors that deviate: ",
+        defects.len() as u128,
+        "</summary><ul>\n",
+    )?;
     for defect in defects.iter().take(LISTED_MONITORS) {
         push_defect(alloc, page, view, rule, defect)?;
     }
     if defects.len() > LISTED_MONITORS {
-        push_counted(page, "<li>Only the ", LISTED_MONITORS as u128, " dearest are listed.</li>")?;
+        push_counted(
+            page,
+            "<li>Only the ",
+            LISTED_MONITORS as u128,
+            " dearest are listed.</li>",
+        )?;
     }
     page.push_literal("</ul></details></td></tr>\n")
 }

@@ -1,8 +1,7 @@
 //! The one way of a text of the archive onto the page: escaped, so that it stands as it is written.
 
-ghost use Rattle.std.specs.Prelude.{◌≡◌, ◌++◌, true, OnOk, None, ℕ, List};
-ghost use Rattle.std.specs.List.{list_all};
-ghost use Rattle.timetable_page.specs.Escape.{escaped, escaped_character, is_inert, read_from};
+ghost use Rattle.std.specs.Prelude.{◌≡◌, ◌++◌, OnOk};
+ghost use Rattle.timetable_page.specs.Escape.{escaped, escaped_character};
 
 use khe_base::{NoMemory, Text};
 
@@ -32,10 +31,3 @@ fn push_character(page: &mut Text, character: char) -> Result<(), NoMemory>
         other => page.push(other),
     }
 }
-
-// What a text is written as opens and closes no tag and no quote, and is read back as the text: no program calls this.
-#[allow(dead_code)]
-fn escaped_texts()
-    ensures inert { (text : List ℕ) → list_all is_inert (escaped text) ≡ true }
-    ensures read_back { (text : List ℕ) → read_from None (escaped text) ≡ text }
-{}

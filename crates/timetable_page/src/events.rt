@@ -9,7 +9,13 @@ use khe_base::{NoMemory, Text};
 use khe_instance::Meet;
 
 /// Adds one resource of a meet, or that its place has none.
-fn push_given(page: &mut Text, view: &View<'_>, meet: &Meet, place: u32, resource: Option<u32>) -> Result<(), NoMemory> {
+fn push_given(
+    page: &mut Text,
+    view: &View<'_>,
+    meet: &Meet,
+    place: u32,
+    resource: Option<u32>,
+) -> Result<(), NoMemory> {
     if let Some(resource) = resource {
         page.push_literal(" ")?;
         return push_resource_link(page, view, resource);
@@ -34,7 +40,13 @@ fn push_part(page: &mut Text, view: &View<'_>, number: u32) -> Result<(), NoMemo
     }
     page.push_literal(":")?;
     for given in list_at(&view.table.given, number) {
-        push_given(page, view, meet, given.place, given.resource.map(|resource| resource.0))?;
+        push_given(
+            page,
+            view,
+            meet,
+            given.place,
+            given.resource.map(|resource| resource.0),
+        )?;
     }
     page.push_literal("</div>")
 }
@@ -42,7 +54,12 @@ fn push_part(page: &mut Text, view: &View<'_>, number: u32) -> Result<(), NoMemo
 /// Adds the row of an event.
 fn push_event(page: &mut Text, view: &View<'_>, event: u32) -> Result<(), NoMemory> {
     push_place(page, "<tr id=\"s", view.number, "e", event, "\">")?;
-    push_between(page, "<th scope=\"row\" class=\"n\">", event_name(view.raw, event), "</th><td>")?;
+    push_between(
+        page,
+        "<th scope=\"row\" class=\"n\">",
+        event_name(view.raw, event),
+        "</th><td>",
+    )?;
     for number in list_at(&view.table.parts, event) {
         push_part(page, view, *number)?;
     }
@@ -102,7 +119,9 @@ pub(crate) fn push_events(page: &mut Text, view: &View<'_>) -> Result<(), NoMemo
     page.push_literal("<details><summary>Events</summary>\n")?;
     push_lacking(page, view, true)?;
     push_lacking(page, view, false)?;
-    page.push_literal("<div class=\"wide\"><table class=\"events\"><thead><tr><th scope=\"col\">Event</th>")?;
+    page.push_literal(
+        "<div class=\"wide\"><table class=\"events\"><thead><tr><th scope=\"col\">Event</th>",
+    )?;
     page.push_literal("<th scope=\"col\">When and with whom</th></tr></thead><tbody>\n")?;
     for event in 0..view.inst.events() {
         push_event(page, view, event)?;

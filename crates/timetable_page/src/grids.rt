@@ -40,7 +40,14 @@ fn push_marked(
     page.push_str(class)?;
     push_place(page, "\" id=\"s", view.number, "r", resource, "")?;
     push_counted(page, "t", u128::from(time), "\">")?;
-    push_place(page, "<a class=\"mark\" href=\"#s", view.number, "r", resource, "\">")?;
+    push_place(
+        page,
+        "<a class=\"mark\" href=\"#s",
+        view.number,
+        "r",
+        resource,
+        "\">",
+    )?;
     page.push_str(word)?;
     page.push_literal("</a>")
 }
@@ -171,15 +178,37 @@ fn push_grid(
     deviations: &[u64],
 ) -> Result<(), NoMemory> {
     let runs = list_at(&view.table.runs, resource);
-    push_place(page, "<div class=\"one\" id=\"s", view.number, "r", resource, "\">")?;
-    push_between(page, "<h4 class=\"n\">", resource_name(view.raw, resource), "</h4>\n")?;
+    push_place(
+        page,
+        "<div class=\"one\" id=\"s",
+        view.number,
+        "r",
+        resource,
+        "\">",
+    )?;
+    push_between(
+        page,
+        "<h4 class=\"n\">",
+        resource_name(view.raw, resource),
+        "</h4>\n",
+    )?;
     push_monitors(page, view, resource, deviations)?;
     if runs.is_empty() {
         return page.push_literal("<p class=\"nothing\">has no meets</p></div>\n");
     }
     let cells = cells_of(alloc, view.inst.times(), runs)?;
-    let marks = marks_of(alloc, view.inst, list_at(&view.table.watched, resource), &cells)?;
-    push_between(page, "<table class=\"grid\"><caption>", resource_name(view.raw, resource), "</caption>")?;
+    let marks = marks_of(
+        alloc,
+        view.inst,
+        list_at(&view.table.watched, resource),
+        &cells,
+    )?;
+    push_between(
+        page,
+        "<table class=\"grid\"><caption>",
+        resource_name(view.raw, resource),
+        "</caption>",
+    )?;
     push_column_heads(page, view)?;
     for row in 0..view.layout.height {
         push_row(page, view, resource, row, &cells, &marks)?;

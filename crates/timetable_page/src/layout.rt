@@ -77,7 +77,11 @@ fn add(columns: &mut Seq<Column>, column: usize, time: u32) -> Result<(), NoMemo
 }
 
 /// The columns of all time groups with the times whose day or week they are.
-fn filled_columns(alloc: Global, raw: &RawInstance, sort: TimeSort) -> Result<Seq<Column>, NoMemory> {
+fn filled_columns(
+    alloc: Global,
+    raw: &RawInstance,
+    sort: TimeSort,
+) -> Result<Seq<Column>, NoMemory> {
     let names = group_names(alloc, raw)?;
     let mut columns = empty_columns(alloc, names.len())?;
     let mut number = 0u32;

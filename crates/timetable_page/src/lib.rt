@@ -8,6 +8,8 @@ mod defects;
 mod escaping;
 mod events;
 mod grids;
+#[allow(dead_code)]
+mod laws;
 mod layout;
 mod marking;
 mod naming;

@@ -5,11 +5,7 @@ use xhstt_shape::{MetaData, RawInstance};
 
 /// A name, or the Id where the name is missing.
 pub(crate) fn shown<'a>(name: &'a Text, id: &'a Text) -> &'a Text {
-    if name.as_bytes().is_empty() {
-        id
-    } else {
-        name
-    }
+    if name.as_bytes().is_empty() { id } else { name }
 }
 
 /// What an archive, an instance or a solution group is called.

@@ -62,7 +62,12 @@ pub struct Status(pub u8);
 /// With other words nothing is read or written. Before a status of 4 nothing was written, and before a status of 5 or
 /// 6 a first part of the page. It takes about the time of evaluating all solutions twice and of writing the page, and
 /// memory for the archive with its instances, the totals of all solutions, and the section of one.
-pub fn page<S: Shelf, K: Sink>(alloc: Global, words: &[String], shelf: &mut S, out: &mut K) -> Status
+pub fn page<S: Shelf, K: Sink>(
+    alloc: Global,
+    words: &[String],
+    shelf: &mut S,
+    out: &mut K,
+) -> Status
     ensures status { (result.0 ≡ 2) ⊎ IsStatus result.0 }
     ensures no_reading { asked (map string_bytes words.now) ≡ None → result.0 ≡ 2 }
     ensures not_understood { result.0 ≡ 2 → asked (map string_bytes words.now) ≡ None }
@@ -91,7 +96,13 @@ pub fn page<S: Shelf, K: Sink>(alloc: Global, words: &[String], shelf: &mut S, o
 }
 
 /// Writes the page of the archive under a name.
-fn respond<S: Shelf, K: Sink>(alloc: Global, shelf: &mut S, out: &mut K, name: &str, most: u32) -> Status
+fn respond<S: Shelf, K: Sink>(
+    alloc: Global,
+    shelf: &mut S,
+    out: &mut K,
+    name: &str,
+    most: u32,
+) -> Status
     ensures status { IsStatus result.0 }
     ensures shown { result.0 ≡ 0 → Stands (S.holdings shelf.old) name.now (IsShown most (K.taken out.old) (K.taken out.new)) }
     ensures refused { result.0 ≡ 3 → Stands (S.holdings shelf.old) name.now (IsRefused (K.taken out.old) (K.taken out.new)) }
@@ -224,7 +235,16 @@ fn section(
     let inst = &resolved.instances.as_slice()[instance];
     let spelled = &archive.instances.as_slice()[instance];
     let group = group_of(archive, groups, number, &spelled.id.text);
-    section_of(alloc, inst, &rooms[instance], spelled, resolved, number, group, raw)
+    section_of(
+        alloc,
+        inst,
+        &rooms[instance],
+        spelled,
+        resolved,
+        number,
+        group,
+        raw,
+    )
 }
 
 /// What the group of the solution with a number is called.
@@ -357,7 +377,15 @@ fn write<K: Sink>(
     let groups = groups.as_slice();
     let mut pending = first_part(alloc, archive, resolved, rooms, groups, raws)?;
     let shown = write_sections(
-        alloc, out, &mut pending, archive, resolved, rooms, groups, raws, most,
+        alloc,
+        out,
+        &mut pending,
+        archive,
+        resolved,
+        rooms,
+        groups,
+        raws,
+        most,
     )?;
     let end = closing(alloc, shown, raws.len())?;
     pass_on(alloc, out, &mut pending, &end)?;

@@ -169,9 +169,19 @@ fn push_constraint_row(
 ) -> Result<(), NoMemory> {
     push_place(page, "<tr id=\"s", number, "c", which, "\"><td>")?;
     page.push_str(kind_name(&constraint.rule))?;
-    push_between(page, "</td><th scope=\"row\">", constraint_name(raw, which), "</th><td>")?;
+    push_between(
+        page,
+        "</td><th scope=\"row\">",
+        constraint_name(raw, which),
+        "</th><td>",
+    )?;
     page.push_str(hardness(constraint.required))?;
-    push_counted(page, "</td><td class=\"num\">", u128::from(constraint.weight), " ")?;
+    push_counted(
+        page,
+        "</td><td class=\"num\">",
+        u128::from(constraint.weight),
+        " ",
+    )?;
     page.push_str(cost_function(constraint.cost))?;
     push_spent(page, defects.len(), cost_of(defects))
 }
@@ -203,10 +213,14 @@ fn push_costs(
     view: &View<'_>,
     defects: &Seq<Seq<Defect>>,
 ) -> Result<(), NoMemory> {
-    page.push_literal("<details open><summary>Costs by constraint</summary><div class=\"wide\"><table class=\"costs\">")?;
+    page.push_literal(
+        "<details open><summary>Costs by constraint</summary><div class=\"wide\"><table class=\"costs\">",
+    )?;
     page.push_literal("<thead><tr><th scope=\"col\">Kind</th><th scope=\"col\">Constraint</th>")?;
     page.push_literal("<th scope=\"col\">Counts as</th><th scope=\"col\">Weight</th>")?;
-    page.push_literal("<th scope=\"col\">Deviate</th><th scope=\"col\">Cost</th></tr></thead><tbody>\n")?;
+    page.push_literal(
+        "<th scope=\"col\">Deviate</th><th scope=\"col\">Cost</th></tr></thead><tbody>\n",
+    )?;
     for which in 0..view.inst.constraints() {
         let list = list_at(defects, which);
         if !list.is_empty() {

@@ -11,7 +11,12 @@ use std::alloc::Global;
 
 /// Adds a text to what waits, and gives that to the sink where it is long; a text that is long by itself goes
 /// there after what waits, without being copied.
-pub(crate) fn pass_on<K: Sink>(alloc: Global, out: &mut K, pending: &mut Text, text: &Text) -> Result<(), Cut>
+pub(crate) fn pass_on<K: Sink>(
+    alloc: Global,
+    out: &mut K,
+    pending: &mut Text,
+    text: &Text,
+) -> Result<(), Cut>
     ensures amid { (before : Option (List ℕ)) (rest whole : List ℕ) → IsAmid before (K.taken out.old) pending.old (text.now ++ rest) whole → OnOk result (IsAmid before (K.taken out.new) pending.new rest whole) }
     ensures fault { IsErrOf result Cut.WriteFault → Rose (K.faults out.old) (K.faults out.new) }
     ensures faultless { OnOk result (K.faults out.new ≡ K.faults out.old) }

@@ -76,7 +76,12 @@ fn least_of(results: &Results<'_>, solutions: &[u32]) -> Option<Totals> {
 }
 
 /// Adds what comes of a solution, as a link to its section.
-fn push_result(page: &mut Text, number: u32, outcome: Outcome, least: Option<Totals>) -> Result<(), NoMemory> {
+fn push_result(
+    page: &mut Text,
+    number: u32,
+    outcome: Outcome,
+    least: Option<Totals>,
+) -> Result<(), NoMemory> {
     push_counted(page, "<div><a href=\"#s", u128::from(number), "\">")?;
     match outcome {
         Outcome::Valid(totals) => {
@@ -145,7 +150,12 @@ fn by_instance(alloc: Global, results: &Results<'_>) -> Result<Seq<Seq<u32>>, No
 
 /// Adds a head that sorts its table by its column.
 fn push_sorting_head(page: &mut Text, name: &Text) -> Result<(), NoMemory> {
-    push_between(page, "<th scope=\"col\"><button type=\"button\">", name, "</button></th>")
+    push_between(
+        page,
+        "<th scope=\"col\"><button type=\"button\">",
+        name,
+        "</button></th>",
+    )
 }
 
 /// Adds the row of an instance.
@@ -168,7 +178,9 @@ fn push_instance_row(
 /// Adds a table with a row for each instance and a column for each solution group.
 fn push_matrix(alloc: Global, page: &mut Text, results: &Results<'_>) -> Result<(), NoMemory> {
     let lists = by_instance(alloc, results)?;
-    page.push_literal("<table class=\"sorts\"><thead><tr><th scope=\"col\"><button type=\"button\">Instance</button></th>")?;
+    page.push_literal(
+        "<table class=\"sorts\"><thead><tr><th scope=\"col\"><button type=\"button\">Instance</button></th>",
+    )?;
     for group in results.archive.solution_groups.as_slice() {
         push_sorting_head(page, title_of(group))?;
     }
@@ -182,7 +194,12 @@ fn push_matrix(alloc: Global, page: &mut Text, results: &Results<'_>) -> Result<
 }
 
 /// Adds the row of a solution.
-fn push_solution_row(page: &mut Text, results: &Results<'_>, number: u32, outcome: Outcome) -> Result<(), NoMemory> {
+fn push_solution_row(
+    page: &mut Text,
+    results: &Results<'_>,
+    number: u32,
+    outcome: Outcome,
+) -> Result<(), NoMemory> {
     page.push_literal("<tr><th scope=\"row\">")?;
     if let Some(instance) = results.instances.get(number as usize) {
         if let Some(raw) = results.archive.instances.as_slice().get(*instance as usize) {
@@ -203,9 +220,13 @@ fn push_solution_row(page: &mut Text, results: &Results<'_>, number: u32, outcom
 
 /// Adds a table with a row for each solution.
 fn push_list(page: &mut Text, results: &Results<'_>) -> Result<(), NoMemory> {
-    page.push_literal("<table class=\"sorts\"><thead><tr><th scope=\"col\"><button type=\"button\">Instance</button></th>")?;
+    page.push_literal(
+        "<table class=\"sorts\"><thead><tr><th scope=\"col\"><button type=\"button\">Instance</button></th>",
+    )?;
     page.push_literal("<th scope=\"col\"><button type=\"button\">Group</button></th>")?;
-    page.push_literal("<th scope=\"col\"><button type=\"button\">Costs</button></th></tr></thead><tbody>\n")?;
+    page.push_literal(
+        "<th scope=\"col\"><button type=\"button\">Costs</button></th></tr></thead><tbody>\n",
+    )?;
     let mut number = 0u32;
     for outcome in results.outcomes {
         push_solution_row(page, results, number, *outcome)?;
@@ -216,7 +237,11 @@ fn push_list(page: &mut Text, results: &Results<'_>) -> Result<(), NoMemory> {
 
 /// Adds the summary of an archive. It takes time in proportion to the instances times the solution groups, where these
 /// are few, and to the solutions times the solution groups.
-pub(crate) fn push_summary(alloc: Global, page: &mut Text, results: &Results<'_>) -> Result<(), NoMemory> {
+pub(crate) fn push_summary(
+    alloc: Global,
+    page: &mut Text,
+    results: &Results<'_>,
+) -> Result<(), NoMemory> {
     page.push_literal("<section id=\"summary\"><h2>Summary</h2><div class=\"wide\">\n")?;
     let instances = results.archive.instances.len();
     let groups = results.archive.solution_groups.len();

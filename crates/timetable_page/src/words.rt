@@ -26,7 +26,11 @@ pub(crate) fn request_of(words: &[String]) -> Option<Request<'_>>
             archive: archive.as_str(),
             solutions: u32::MAX,
         }),
-        [archive, option, number] => request_with(archive.as_str(), option.as_str(), number.as_str()),
+        [archive, option, number] => request_with(
+            archive.as_str(),
+            option.as_str(),
+            number.as_str(),
+        ),
         _ => None,
     }
 }
