@@ -39,9 +39,11 @@ referred : (c n : ℕ) (rest written : List ℕ) → eqb c n ≡ true → Gives 
 referred c n rest written e h = h ∙ ap (λ m. m ∷ read_from None rest) (sym (eqb-true c n e))
 
 given_itself : (c : ℕ) (rest : List ℕ) → eqb c 38 ≡ false → Gives c rest (c ∷ [])
+unfolding read_from
 given_itself c rest e = ap (λ b. cond b (read_from (Some []) rest) (c ∷ read_from None rest)) e
 
 given : (c : ℕ) (rest : List ℕ) → Gives c rest (escaped_character c)
+unfolding read_from
 given c rest =
     let P : List ℕ → Type 0 = λ written. Gives c rest written in
     cond_both (eqb c 38) _ _ P (λ e. referred c 38 rest (escaped_character 38) e refl) (λ plain.
@@ -52,5 +54,6 @@ given c rest =
     given_itself c rest plain)))))
 
 pub read_back : (text : List ℕ) → read_from None (escaped text) ≡ text
+unfolding read_from
 read_back [] = refl
 read_back (c ∷ cs) = given c (escaped cs) ∙ ap (λ t. c ∷ t) (read_back cs)

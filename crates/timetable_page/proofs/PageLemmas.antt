@@ -1,13 +1,15 @@
 -- A page that is put together section by section, on its way to a sink.
 use Rattle.std.proofs.Common.{ℕ, ◌≡◌, ◌+◌, ◌<◌, ◌≤◌, inl, inr, Option, Some, None, List, [], ◌++◌, length, min, refl, sym, ap}
 use Rattle.std.proofs.Common.{subst, ◌∙◌, arith, append_assoc, add-one, length-append, encode_utf8_all, slice_get, IfSome}
-use Rattle.std.proofs.lemmas.List.{append-nil}
+use Rattle.std.proofs.lemmas.List.{append-nil, length-map}
+use Rattle.std.proofs.lemmas.List.FromFn.{length-map-range_with_len}
 use Rattle.std.proofs.lemmas.Str.{encodes-append}
 use Rattle.std.specs.Prelude.{IsSomeAnd}
 use Rattle.khe_io.specs.Amid.{IsAmid}
 use Rattle.khe_io.specs.Faults.{Took}
 use Rattle.khe_io.specs.Shelf.{StandsUnder, StandsAbove}
 use Rattle.khe_io.proofs.AmidLemmas.{amid-end, amid-flush}
+use Rattle.khe_instance.specs.Costs.{cost_at}
 use Rattle.khe_instance.specs.Evaluated as evaluated
 use Rattle.khe_instance.specs.declared.parts.Parts.{Parts}
 use Rattle.khe_instance.specs.declared.states.Plain.{Plain}
@@ -25,6 +27,15 @@ use Rattle.xhstt_shape.specs.declared.records.RawSolution.{RawSolution}
 pub same_values : (p : Parts) (s : Plain) (v : Values) → v.deviations ≡ evaluated.deviations p s
     → v.costs ≡ evaluated.costs p s → v.totals ≡ evaluated.totals p s → v ≡ values_of p s
 same_values p s v d c t = λ i. record { deviations = d i; costs = c i; totals = t i }
+
+-- as many rows as monitors
+pub valued-long : (p : Parts) (s : Plain) (v : Values) → v ≡ values_of p s
+    → (length v.deviations ≡ length p.monitors) × (length v.costs ≡ length p.monitors)
+valued-long p s v is = (
+  ap (λ (u : Values). length u.deviations) is ∙ length-map p.monitors (evaluated.deviation_in p s),
+  ap (λ (u : Values). length u.costs) is ∙ length-map-range_with_len
+      (cost_at p (evaluated.is_detached s) (evaluated.deviations p s)) 0 (length p.monitors),
+)
 
 -- nothing was taken, and a text waits
 took_none : (o : Option (List ℕ)) → Took o o (encode_utf8_all [])

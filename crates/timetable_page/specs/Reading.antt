@@ -17,7 +17,7 @@ named name =
     else 65533
 
 -- what a browser reads of a text, from where it is in no reference, or in one of whose name so much was read
-pub read_from : Option (List ℕ) → List ℕ → List ℕ
+unfoldable pub read_from : Option (List ℕ) → List ℕ → List ℕ
 read_from None [] = []
 read_from None (c ∷ cs) = if c == 38 then read_from (Some []) cs else c ∷ read_from None cs
 read_from (Some name) [] = []

@@ -1,4 +1,5 @@
 -- What was taken from the shelf is what stands under the name.
+use Rattle.std.proofs.Common.{rules}
 use Rattle.timetable_page.specs.Endings.{IsRefused, IsShown}
 use Rattle.timetable_page.specs.declared.refusing.Refusal.TheVariants.{TooLarge}
 use Rattle.khe_base.specs.declared.limits.TheConstants.{ARCHIVE_BYTES}

@@ -1,13 +1,20 @@
 -- A section says what comes of its solution.
 use Rattle.std.proofs.Common.{ap, sym, subst, ◌∙◌, IfOk}
 use Rattle.parallel_solve.specs.Verdicts.{verdict_of}
-use Rattle.parallel_solve.specs.declared.verdicts.Verdict.TheVariants.{Valid, Invalid}
+use Rattle.parallel_solve.specs.declared.verdicts.Verdict.TheVariants.{Valid}
 use Rattle.timetable_page.specs.Pages.{IsSection}
-use Rattle.timetable_page.proofs.PageLemmas.{same_values}
+use Rattle.timetable_page.proofs.PageLemmas.{same_values, valued-long}
 use Rattle.timetable_page.proofs.program.section_of.Goals as goal
 
-pub returns-in-Ok+in_ok-values : goal.returns-in-Ok+in_ok-values
-returns-in-Ok+in_ok-values c =
+pub valid_section-requires : goal.valid_section-requires
+valid_section-requires c =
+    let v = c.in_ok-values.values in
+    valued-long c.args.inst.now c.in-Ok.plain v
+    (same_values c.args.inst.now c.in-Ok.plain v c.in_ok-values.ensures.deviations c.in_ok-values.ensures.costs
+    c.in_ok-values.ensures.totals)
+
+pub returns-in_ok-values-in-Ok : goal.returns-in_ok-values-in-Ok
+returns-in_ok-values-in-Ok c =
     let p = c.args.inst.now in
     let s = c.in-Ok.plain in
     let v = c.in_ok-values.values in

@@ -8,7 +8,7 @@ returns-clause-sent g c = λ before opening raws found h.
     let text = c.in_ok-text.text in
     let now = g.K.Sink.taken c.args.out.now in
     let bound : c.saturating_add.result ≤ c.args.sent + length (encode_utf8_all text) =
-    omega (arith, c.saturating_add.ensures, c.len.ensures, ap length c.as_bytes.ensures) in
+    omega (arith, c.saturating_add.ensures, ap length c.as_bytes.ensures) in
     one_sent c.args.resolved.now raws c.args.number c.args.sent c.saturating_add.result before now
     (g.K.Sink.taken c.pass_on.new.out) c.args.pending.now c.pass_on.new.pending opening text c.args.raw.now found
     c.in_ok-text.ensures bound h
