@@ -1,6 +1,6 @@
 -- A page that is put together section by section, on its way to a sink.
 use Rattle.std.proofs.Common.{ℕ, ◌≡◌, ◌+◌, ◌<◌, ◌≤◌, inl, inr, Option, Some, None, List, [], ◌++◌, length, min, refl, sym, ap}
-use Rattle.std.proofs.Common.{subst, ◌∙◌, arith, append_assoc, add-one, length-append, encode_utf8_all, slice_get, IfSome}
+use Rattle.std.proofs.Common.{subst, ◌∙◌, arith, append_assoc, add-one, length-append, encode_utf8_all, slice_get}
 use Rattle.std.proofs.lemmas.List.{append-nil, length-map}
 use Rattle.std.proofs.lemmas.List.FromFn.{length-map-range_with_len}
 use Rattle.std.proofs.lemmas.Str.{encodes-append}

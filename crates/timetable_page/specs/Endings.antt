@@ -1,5 +1,5 @@
 -- How a run ends, and what a sink took of a page.
-use Rattle.std.specs.Prelude.{ℕ, ◌≡◌, ◌<◌, ◌≤◌, ◌⊎◌, Option, Some, None, List, [], ◌++◌, length, min, encode_utf8_all}
+use Rattle.std.specs.Prelude.{ℕ, ◌≡◌, ◌<◌, ◌≤◌, ◌⊎◌, Option, List, [], ◌++◌, length, min, encode_utf8_all}
 use Rattle.std.specs.Prelude.{IfSome, IsSomeAnd}
 use Rattle.khe_io.specs.Amid.{IsAmid}
 use Rattle.khe_io.specs.Faults.{Took}

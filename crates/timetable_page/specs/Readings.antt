@@ -1,5 +1,5 @@
 -- What the bytes of an archive lead to.
-use Rattle.std.specs.Prelude.{ℕ, ◌≡◌, ◌<◌, ◌≤◌, ◌⊎◌, List, length, Result, Ok, Err}
+use Rattle.std.specs.Prelude.{ℕ, ◌≡◌, ◌<◌, ◌⊎◌, List, length, Ok, Err}
 use Rattle.khe_base.specs.declared.limits.TheConstants.{ARCHIVE_BYTES}
 use Rattle.parallel_solve.specs.Ready as solutions
 use Rattle.timetable_page.specs.declared.reading.Unread.{Unread}

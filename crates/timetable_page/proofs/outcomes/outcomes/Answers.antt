@@ -1,5 +1,5 @@
 -- Each solution is one of the archive's.
-use Rattle.std.proofs.Common.{Bor, ◌<◌, arith, length, map, subst, zero-add}
+use Rattle.std.proofs.Common.{Bor, ◌<◌, arith, length, subst, zero-add}
 use Rattle.parallel_solve.proofs.CutLemmas.{there_of}
 use Rattle.parallel_solve.specs.Ready.{IsOne}
 use Rattle.timetable_page.proofs.outcomes.outcomes.Goals as goal

@@ -1,5 +1,5 @@
 -- At each turn one section more; in the end as many as are asked for, or enough bytes.
-use Rattle.std.proofs.Common.{Bor, ℕ, ◌≡◌, ◌<◌, ◌∙◌, ap, arith, length, map, rules, subst, sym, zero-add, min}
+use Rattle.std.proofs.Common.{Bor, ◌≡◌, ◌<◌, ◌∙◌, ap, arith, length, map, rules, subst, sym, zero-add, min}
 use Rattle.std.proofs.lemmas.List.{length-map}
 use Rattle.parallel_solve.proofs.CutLemmas.{there_of}
 use Rattle.parallel_solve.specs.Ready.{IsOne}
