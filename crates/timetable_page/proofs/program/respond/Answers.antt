@@ -1,0 +1,25 @@
+-- What was taken from the shelf is what stands under the name.
+use Rattle.std.proofs.Common.{rules}
+use Rattle.timetable_page.specs.Endings.{IsRefused, IsShown}
+use Rattle.timetable_page.specs.declared.refusing.Refusal.TheVariants.{TooLarge}
+use Rattle.khe_base.specs.declared.limits.TheConstants.{ARCHIVE_BYTES}
+use Rattle.timetable_page.proofs.PageLemmas.{stands, stands_above}
+use Rattle.timetable_page.proofs.program.respond.Goals as goal
+
+pub returns-in-Ok-clause-shown : goal.returns-in-Ok-clause-shown
+returns-in-Ok-clause-shown g c = λ done.
+    stands (g.S.Shelf.holdings c.args.shelf.now) c.args.name.now c.in-Ok.bytes
+    (IsShown c.args.most (g.K.Sink.taken c.args.out.now) (g.K.Sink.taken c.show.new.out)) c.in-Ok.ensures.whole
+    (c.show.ensures.shown done)
+
+pub returns-in-Ok-clause-refused : goal.returns-in-Ok-clause-refused
+returns-in-Ok-clause-refused g c = λ done.
+    stands (g.S.Shelf.holdings c.args.shelf.now) c.args.name.now c.in-Ok.bytes
+    (IsRefused (g.K.Sink.taken c.args.out.now) (g.K.Sink.taken c.show.new.out)) c.in-Ok.ensures.whole
+    (c.show.ensures.refused done)
+
+pub returns-in-Err-TooLarge-clause-refused : goal.returns-in-Err-TooLarge-clause-refused
+returns-in-Err-TooLarge-clause-refused g c = λ done.
+    stands_above (g.S.Shelf.holdings c.args.shelf.now) c.args.name.now ARCHIVE_BYTES
+    (IsRefused (g.K.Sink.taken c.args.out.now) (g.K.Sink.taken c.refuse.new.out)) (search rules)
+    (λ bytes large. record { refusal = TooLarge; why = large; took = c.refuse.ensures.took done })

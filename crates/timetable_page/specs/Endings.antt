@@ -1,0 +1,63 @@
+-- How a run ends, and what a sink took of a page.
+use Rattle.std.specs.Prelude.{ℕ, ◌≡◌, ◌<◌, ◌≤◌, ◌⊎◌, Option, List, [], ◌++◌, length, min, encode_utf8_all}
+use Rattle.std.specs.Prelude.{IfSome, IsSomeAnd}
+use Rattle.khe_io.specs.Amid.{IsAmid}
+use Rattle.khe_io.specs.Faults.{Took}
+use Rattle.timetable_page.specs.Pages.{AreSections, IsPage}
+use Rattle.timetable_page.specs.Readings.{IsRead, IsRefusedFor}
+use Rattle.timetable_page.specs.Refusals.{refusal_page}
+use Rattle.timetable_page.specs.declared.program.TheConstants.{PAGE_BYTES}
+use Rattle.timetable_page.specs.declared.refusing.Refusal.{Refusal}
+use Rattle.xhstt_references.specs.References.{solutions_of}
+use Rattle.xhstt_resolve.specs.declared.resolving.Resolved.{Resolved}
+use Rattle.xhstt_shape.specs.declared.records.Archive.{Archive}
+use Rattle.xhstt_shape.specs.declared.records.RawSolution.{RawSolution}
+
+-- the statuses of a run whose words have a reading
+abbrev pub IsStatus : ℕ → Type 0
+IsStatus n = (n ≡ 0) ⊎ (n ≡ 3) ⊎ (n ≡ 4) ⊎ (n ≡ 5) ⊎ (n ≡ 6)
+
+-- the shelf tells bytes under a name that are as they are said to be
+abbrev pub Stands : Option (List ℕ → Option (List ℕ)) → List ℕ → (List ℕ → Type 0) → Type 0
+Stands holdings name P = IfSome holdings (λ under. IsSomeAnd (under name) P)
+
+-- as many solutions are shown as are asked for and there, or fewer where the page is too large for more
+abbrev pub AreEnough : ℕ → ℕ → ℕ → List ℕ → Type 0
+AreEnough most count n sections = (n ≡ min count most) ⊎ (PAGE_BYTES < length (encode_utf8_all sections))
+
+-- the sections of the first solutions are on their way, after an opening
+pub record AreSent (r : Resolved) (raws : List RawSolution) (n sent : ℕ) (before now : Option (List ℕ))
+    (pending opening : List ℕ) : Type 0 where
+  pub sections : List ℕ
+  pub are : AreSections r raws n sections
+  pub counted : sent ≤ length (encode_utf8_all sections)
+  pub amid : IsAmid before now pending [] (opening ++ sections)
+
+-- and they are enough
+pub record AreAllSent (r : Resolved) (raws : List RawSolution) (most n : ℕ) (before now : Option (List ℕ))
+    (pending opening : List ℕ) : Type 0 where
+  pub sections : List ℕ
+  pub are : AreSections r raws n sections
+  pub enough : AreEnough most (length raws) n sections
+  pub amid : IsAmid before now pending [] (opening ++ sections)
+
+-- a sink took the whole page of an archive
+pub record IsPut (a : Archive) (r : Resolved) (most : ℕ) (before after : Option (List ℕ)) : Type 0 where
+  pub shown : ℕ
+  pub text : List ℕ
+  pub page : IsPage a r shown text
+  pub enough : AreEnough most (length (solutions_of a)) shown page.sections
+  pub took : Took before after (encode_utf8_all text)
+
+-- a sink took the whole page of the archive that these bytes spell
+pub record IsShown (most : ℕ) (before after : Option (List ℕ)) (bytes : List ℕ) : Type 0 where
+  pub archive : Archive
+  pub resolved : Resolved
+  pub read : IsRead bytes archive resolved
+  pub put : IsPut archive resolved most before after
+
+-- a sink took the page that refuses these bytes
+pub record IsRefused (before after : Option (List ℕ)) (bytes : List ℕ) : Type 0 where
+  pub refusal : Refusal
+  pub why : IsRefusedFor bytes refusal
+  pub took : Took before after (encode_utf8_all (refusal_page refusal))

@@ -1,0 +1,10 @@
+pub mod Costs
+pub mod Endings
+pub mod Escape
+pub mod Outcomes
+pub mod Pages
+pub mod Pieces
+pub mod Reading
+pub mod Readings
+pub mod Refusals
+pub mod Words

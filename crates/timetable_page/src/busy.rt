@@ -1,0 +1,279 @@
+//! What each resource does at each time, and what each meet is given, of one timetable.
+
+ghost use Rattle.std.specs.Prelude.{◌≡◌, [], IfOk, OnOk, replicate};
+ghost use Rattle.timetable_page.specs.Costs.{with_item};
+
+use khe_base::{IdSet, MonitorId, NoMemory, ResourceId, Seq, TimeId};
+use khe_instance::{Instance, Kind, Meet, Plain, Point, Rule};
+use std::alloc::Global;
+
+/// A place of a meet's event and the resource that it is given.
+#[derive(Clone, Copy)]
+pub(crate) struct Given {
+    pub place: u32,
+    pub resource: Option<ResourceId>,
+}
+
+/// A time at which a resource is busy, and the place of the meet among all meets.
+#[derive(Clone, Copy)]
+pub(crate) struct Run {
+    pub time: u32,
+    pub meet: u32,
+}
+
+/// What is given to each meet, and when each resource is busy.
+#[derive(Drop)]
+pub(crate) struct Timetable {
+    /// Of each meet, in the order of the meets.
+    pub given: Seq<Seq<Given>>,
+    /// Of each resource, in the order of the meets.
+    pub runs: Seq<Seq<Run>>,
+    /// The numbers of the monitors on each resource.
+    pub watched: Seq<Seq<u32>>,
+    /// The places of the meets of each event among all meets.
+    pub parts: Seq<Seq<u32>>,
+}
+
+/// So many empty lists.
+pub(crate) fn empty_lists<T: Drop>(alloc: Global, count: usize) -> Result<Seq<Seq<T>>, NoMemory>
+    ensures { IfOk result (λ lists. lists ≡ replicate count []) }
+{
+    let mut lists = Seq::new(alloc);
+    for _ in 0..count {
+        lists.push(Seq::new(alloc))?;
+    }
+    Ok(lists)
+}
+
+/// Adds an item to the list with a number, where there is one.
+pub(crate) fn add<T: Drop>(lists: &mut Seq<Seq<T>>, number: u32, item: T) -> Result<(), NoMemory>
+    ensures { OnOk result (lists.new ≡ with_item lists.old number item) }
+{
+    let place = number as usize;
+    if place >= lists.len() {
+        return Ok(());
+    }
+    let list = &mut lists.items[place];
+    list.push(item)?;
+    Ok(())
+}
+
+/// The list with a number, and an empty one where there is none.
+pub(crate) fn list_at<T>(lists: &Seq<Seq<T>>, number: u32) -> &[T] {
+    match lists.as_slice().get(number as usize) {
+        Some(list) => list.as_slice(),
+        None => &[],
+    }
+}
+
+/// The place of each meet among all meets, by its slot.
+fn places_of(alloc: Global, slots: u32, meets: &[Meet]) -> Result<Vec<u32>, NoMemory> {
+    let mut places = vec![in alloc; u32::MAX; slots as usize]?;
+    let mut place = 0u32;
+    for meet in meets {
+        let slot = meet.meet.0 as usize;
+        if slot < places.len() {
+            places[slot] = place;
+        }
+        place = place.saturating_add(1);
+    }
+    Ok(places)
+}
+
+/// Adds the times of a meet to those of a resource.
+fn add_runs(
+    runs: &mut Seq<Seq<Run>>,
+    resource: ResourceId,
+    start: TimeId,
+    duration: u32,
+    meet: u32,
+) -> Result<(), NoMemory> {
+    for offset in 0..duration {
+        let time = start.0.saturating_add(offset);
+        add(runs, resource.0, Run { time, meet })?;
+    }
+    Ok(())
+}
+
+/// When each resource is busy, and what each meet is given, by the tasks of a timetable.
+fn taken(
+    alloc: Global,
+    inst: &Instance,
+    plain: &Plain,
+) -> Result<(Seq<Seq<Given>>, Seq<Seq<Run>>), NoMemory> {
+    let meets = plain.meets.as_slice();
+    let places = places_of(alloc, inst.meet_slots(), meets)?;
+    let mut given = empty_lists(alloc, meets.len())?;
+    let mut runs = empty_lists(alloc, inst.resources() as usize)?;
+    for task in plain.tasks.as_slice() {
+        let meet = match places.get(task.task.meet.0 as usize) {
+            Some(place) => *place,
+            None => u32::MAX,
+        };
+        let Some(held) = meets.get(meet as usize) else {
+            continue;
+        };
+        add(
+            &mut given,
+            meet,
+            Given {
+                place: task.task.place,
+                resource: task.resource,
+            },
+        )?;
+        if let Some(resource) = task.resource {
+            if let Some(start) = held.start {
+                add_runs(&mut runs, resource, start, held.duration, meet)?;
+            }
+        }
+    }
+    Ok((given, runs))
+}
+
+/// The numbers of the monitors on each resource.
+fn watched_by(alloc: Global, inst: &Instance) -> Result<Seq<Seq<u32>>, NoMemory> {
+    let mut watched = empty_lists(alloc, inst.resources() as usize)?;
+    for number in 0..inst.monitors() {
+        if let Point::Resource(resource) = inst.monitor(MonitorId(number)).point {
+            add(&mut watched, resource.0, number)?;
+        }
+    }
+    Ok(watched)
+}
+
+/// The places of the meets of each event.
+fn parts_of(alloc: Global, inst: &Instance, meets: &[Meet]) -> Result<Seq<Seq<u32>>, NoMemory> {
+    let mut parts = empty_lists(alloc, inst.events() as usize)?;
+    let mut place = 0u32;
+    for meet in meets {
+        add(&mut parts, meet.event.0, place)?;
+        place = place.saturating_add(1);
+    }
+    Ok(parts)
+}
+
+/// What a timetable says of each resource, each meet and each event. It takes time and memory in proportion to the
+/// meet slots, the tasks and the times that they cover, the resources, the events and the monitors.
+pub(crate) fn timetable_of(
+    alloc: Global,
+    inst: &Instance,
+    plain: &Plain,
+) -> Result<Timetable, NoMemory> {
+    let (given, runs) = taken(alloc, inst, plain)?;
+    let watched = watched_by(alloc, inst)?;
+    let parts = parts_of(alloc, inst, plain.meets.as_slice())?;
+    Ok(Timetable {
+        given,
+        runs,
+        watched,
+        parts,
+    })
+}
+
+/// The meets of a resource at each time, by their places.
+pub(crate) fn cells_of(alloc: Global, times: u32, runs: &[Run]) -> Result<Seq<Seq<u32>>, NoMemory> {
+    let mut cells = empty_lists(alloc, times as usize)?;
+    for run in runs {
+        add(&mut cells, run.time, run.meet)?;
+    }
+    Ok(cells)
+}
+
+/// Marks the times that a resource is to be free at.
+fn mark_closed(closed: &mut Vec<bool>, times: &IdSet) {
+    let marks = closed.as_mut_slice();
+    for time in 0..marks.len() {
+        if u32::try_from(time).is_ok_and(|time| times.has(time)) {
+            marks[time] = true;
+        }
+    }
+}
+
+/// Marks the idle times of a resource in a time group: it is not busy then, but before and after in the group.
+fn mark_idle(
+    alloc: Global,
+    idle: &mut Vec<bool>,
+    group: &IdSet,
+    cells: &Seq<Seq<u32>>,
+) -> Result<(), NoMemory> {
+    let members = group.members(alloc)?;
+    let times = members.as_slice();
+    let busy = |time: &&u32| !list_at(cells, **time).is_empty();
+    let Some(first) = times.iter().find(busy) else {
+        return Ok(());
+    };
+    let Some(last) = times.iter().rev().find(busy) else {
+        return Ok(());
+    };
+    for time in times {
+        let place = *time as usize;
+        if first < time && time < last && list_at(cells, *time).is_empty() && place < idle.len() {
+            idle[place] = true;
+        }
+    }
+    Ok(())
+}
+
+/// The times at which a resource is to be free, and those at which it is idle.
+#[derive(Drop)]
+pub(crate) struct Marks {
+    pub closed: Vec<bool>,
+    pub idle: Vec<bool>,
+}
+
+/// What the constraints of a resource say of its times, by the numbers of its monitors.
+pub(crate) fn marks_of(
+    alloc: Global,
+    inst: &Instance,
+    monitors: &[u32],
+    cells: &Seq<Seq<u32>>,
+) -> Result<Marks, NoMemory> {
+    let mut closed = vec![in alloc; false; cells.len()]?;
+    let mut idle = vec![in alloc; false; cells.len()]?;
+    for number in monitors {
+        if *number < inst.monitors() {
+            let monitor = inst.monitor(MonitorId(*number));
+            mark_by(
+                alloc,
+                &mut closed,
+                &mut idle,
+                inst,
+                monitor.constraint,
+                cells,
+            )?;
+        }
+    }
+    Ok(Marks { closed, idle })
+}
+
+/// Marks what one constraint says of a resource's times.
+fn mark_by(
+    alloc: Global,
+    closed: &mut Vec<bool>,
+    idle: &mut Vec<bool>,
+    inst: &Instance,
+    constraint: u32,
+    cells: &Seq<Seq<u32>>,
+) -> Result<(), NoMemory> {
+    if constraint >= inst.constraints() {
+        return Ok(());
+    }
+    match &inst.constraint(constraint).rule {
+        Rule::AvoidUnavailableTimes { times } => mark_closed(closed, times),
+        Rule::LimitIdleTimes { groups, .. } => {
+            for group in groups.as_slice() {
+                mark_idle(alloc, idle, group, cells)?;
+            }
+        }
+        _ => {}
+    }
+    Ok(())
+}
+
+/// The kind of a monitor that cares for when a resource is busy: its cells are listed with it.
+pub(crate) fn has_cells(kind: Kind) -> bool {
+    matches!(
+        kind,
+        Kind::AvoidClashes | Kind::AvoidUnavailableTimes | Kind::LimitIdleTimes
+    )
+}

@@ -1,0 +1,130 @@
+//! The events of a solution: when they run and with whom, and those that lack a time or a resource.
+
+use crate::busy::list_at;
+use crate::defects::{push_event_link, push_resource_link, role_of};
+use crate::marking::{push_between, push_counted, push_place};
+use crate::naming::{event_name, time_name};
+use crate::view::View;
+use khe_base::{NoMemory, Text};
+use khe_instance::Meet;
+
+/// Adds one resource of a meet, or that its place has none.
+fn push_given(
+    page: &mut Text,
+    view: &View<'_>,
+    meet: &Meet,
+    place: u32,
+    resource: Option<u32>,
+) -> Result<(), NoMemory> {
+    if let Some(resource) = resource {
+        page.push_literal(" ")?;
+        return push_resource_link(page, view, resource);
+    }
+    match role_of(view, meet.event, place) {
+        Some(role) => push_between(page, " <strong class=\"bad\">no ", role, "</strong>"),
+        None => page.push_literal(" <strong class=\"bad\">nobody</strong>"),
+    }
+}
+
+/// Adds one meet: its time, how long it lasts, and its resources.
+fn push_part(page: &mut Text, view: &View<'_>, number: u32) -> Result<(), NoMemory> {
+    let Some(meet) = view.plain.meets.as_slice().get(number as usize) else {
+        return Ok(());
+    };
+    match meet.start {
+        Some(time) => push_between(page, "<div><b>", time_name(view.raw, time.0), "</b>")?,
+        None => page.push_literal("<div><strong class=\"bad\">no time</strong>")?,
+    }
+    if meet.duration > 1 {
+        push_counted(page, " for ", u128::from(meet.duration), " times")?;
+    }
+    page.push_literal(":")?;
+    for given in list_at(&view.table.given, number) {
+        push_given(
+            page,
+            view,
+            meet,
+            given.place,
+            given.resource.map(|resource| resource.0),
+        )?;
+    }
+    page.push_literal("</div>")
+}
+
+/// Adds the row of an event.
+fn push_event(page: &mut Text, view: &View<'_>, event: u32) -> Result<(), NoMemory> {
+    push_place(page, "<tr id=\"s", view.number, "e", event, "\">")?;
+    push_between(
+        page,
+        "<th scope=\"row\" class=\"n\">",
+        event_name(view.raw, event),
+        "</th><td>",
+    )?;
+    for number in list_at(&view.table.parts, event) {
+        push_part(page, view, *number)?;
+    }
+    page.push_literal("</td></tr>\n")
+}
+
+/// Whether a part of an event has no time.
+fn lacks_time(view: &View<'_>, event: u32) -> bool {
+    let meets = view.plain.meets.as_slice();
+    let parts = list_at(&view.table.parts, event);
+    parts.iter().any(|number| match meets.get(*number as usize) {
+        Some(meet) => meet.start.is_none(),
+        None => false,
+    })
+}
+
+/// Whether a place of a part of an event has no resource.
+fn lacks_resource(view: &View<'_>, event: u32) -> bool {
+    let parts = list_at(&view.table.parts, event);
+    parts.iter().any(|number| {
+        let given = list_at(&view.table.given, *number);
+        given.iter().any(|one| one.resource.is_none())
+    })
+}
+
+/// Adds a list of the events that lack a time, or of those that lack a resource.
+fn push_lacking(page: &mut Text, view: &View<'_>, times: bool) -> Result<(), NoMemory> {
+    let mut any = false;
+    for event in 0..view.inst.events() {
+        let lacks = if times {
+            lacks_time(view, event)
+        } else {
+            lacks_resource(view, event)
+        };
+        if lacks {
+            if any {
+                page.push_literal(", ")?;
+            } else {
+                page.push_str(if times {
+                    "<p class=\"lack\">Without a time: "
+                } else {
+                    "<p class=\"lack\">Without a resource: "
+                })?;
+            }
+            push_event_link(page, view, event)?;
+            any = true;
+        }
+    }
+    if any {
+        page.push_literal("</p>\n")?;
+    }
+    Ok(())
+}
+
+/// Adds the events of a solution.
+pub(crate) fn push_events(page: &mut Text, view: &View<'_>) -> Result<(), NoMemory> {
+    page.push_literal("<details><summary>Events</summary>\n")?;
+    push_lacking(page, view, true)?;
+    push_lacking(page, view, false)?;
+    page.push_literal(
+        "<div class=\"wide\"><table class=\"events\"><thead><tr><th scope=\"col\">Event</th>",
+    )?;
+    page.push_literal("<th scope=\"col\">When and with whom</th></tr></thead><tbody>\n")?;
+    for event in 0..view.inst.events() {
+        push_event(page, view, event)?;
+    }
+    page.push_literal("</tbody></table></div></details>\n")
+}

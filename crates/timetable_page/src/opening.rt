@@ -1,0 +1,110 @@
+//! The beginning and the end of the page.
+
+ghost use Rattle.std.specs.Prelude.{IsTrue};
+ghost use Rattle.khe_base.specs.Text.{is_ascii};
+
+use crate::marking::{push_between, push_counted};
+use crate::naming::whole_name;
+use crate::style::{SCRIPT, STYLE};
+use khe_base::{NoMemory, Text};
+use std::alloc::Global;
+use xhstt_shape::{Archive, MetaData};
+
+/// Adds a line on the archive, where it has one.
+fn push_said(page: &mut Text, before: &str, text: &Option<Text>) -> Result<(), NoMemory>
+    requires { IsTrue (is_ascii before.now) }
+{
+    match text {
+        Some(text) => push_between(page, before, text, "</dd>\n"),
+        None => Ok(()),
+    }
+}
+
+/// Adds what an archive says of itself.
+fn push_meta_data(page: &mut Text, meta_data: &MetaData) -> Result<(), NoMemory> {
+    page.push_literal("<dl>\n")?;
+    push_said(page, "<dt>Contributor</dt><dd>", &meta_data.contributor)?;
+    push_said(page, "<dt>Date</dt><dd>", &meta_data.date)?;
+    push_said(page, "<dt>Country</dt><dd>", &meta_data.country)?;
+    push_said(page, "<dt>Description</dt><dd>", &meta_data.description)?;
+    push_said(page, "<dt>Publication</dt><dd>", &meta_data.publication)?;
+    push_said(page, "<dt>Remarks</dt><dd>", &meta_data.remarks)?;
+    page.push_literal("</dl>\n")
+}
+
+/// What an archive is called.
+fn push_title(
+    page: &mut Text,
+    unnamed: &Text,
+    archive: &Archive,
+    after: &str,
+) -> Result<(), NoMemory>
+    requires { IsTrue (is_ascii after.now) }
+{
+    let id = match &archive.id {
+        Some(id) => &id.text,
+        None => unnamed,
+    };
+    push_between(page, "", whole_name(&archive.meta_data, id), after)
+}
+
+/// The beginning of the page: what archive it is, and how much it has.
+pub(crate) fn opening(
+    alloc: Global,
+    archive: &Archive,
+    solutions: usize,
+) -> Result<Text, NoMemory> {
+    let mut page = Text::new(alloc);
+    let unnamed = Text::from_str(alloc, "Timetables")?;
+    page.push_literal("<!DOCTYPE html>\n<html lang=\"en\"><head><meta charset=\"utf-8\"><title>")?;
+    push_title(&mut page, &unnamed, archive, "</title>\n")?;
+    page.push_literal(
+        "<meta name=\"viewport\" content=\"width=device-width,initial-scale=1\">\n<style>\n",
+    )?;
+    page.push_str(STYLE)?;
+    page.push_literal("</style></head><body><header><h1>")?;
+    push_title(&mut page, &unnamed, archive, "</h1>\n")?;
+    push_counted(
+        &mut page,
+        "<p>Instances: ",
+        archive.instances.len() as u128,
+        ", ",
+    )?;
+    push_counted(&mut page, "solutions: ", solutions as u128, ".</p>\n")?;
+    if let Some(meta_data) = &archive.meta_data {
+        push_meta_data(&mut page, meta_data)?;
+    }
+    page.push_literal("<search><label for=\"find\">Find a resource or an event</label>\n")?;
+    page.push_literal(
+        "<input id=\"find\" type=\"search\" autocomplete=\"off\"><ul id=\"found\" aria-live=\"polite\"></ul></search>\n",
+    )?;
+    page.push_literal(
+        "<noscript><p>Searching and sorting need scripts; all else works without.</p></noscript>\n",
+    )?;
+    page.push_literal("</header><main>\n")?;
+    Ok(page)
+}
+
+/// The end of the page, where timetables from one solution on are not shown.
+pub(crate) fn closing(alloc: Global, shown: u32, solutions: usize) -> Result<Text, NoMemory> {
+    let solutions = u32::try_from(solutions).unwrap_or(u32::MAX);
+    let mut page = Text::new(alloc);
+    if shown < solutions {
+        push_counted(
+            &mut page,
+            "<section><h2>Not shown</h2><p id=\"rest\">The timetables of solutions from ",
+            u128::from(shown),
+            " on ",
+        )?;
+        page.push_literal("are not shown, so that the page does not grow too large.</p>\n")?;
+        for number in shown..solutions {
+            push_counted(&mut page, "<p id=\"s", u128::from(number), "\">Solution ")?;
+            push_counted(&mut page, "", u128::from(number), " is not shown.</p>\n")?;
+        }
+        page.push_literal("</section>\n")?;
+    }
+    page.push_literal("</main><script>\n")?;
+    page.push_str(SCRIPT)?;
+    page.push_literal("</script></body></html>\n")?;
+    Ok(page)
+}

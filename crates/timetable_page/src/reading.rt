@@ -1,0 +1,96 @@
+//! From the bytes of an archive to the archive with its instances.
+
+ghost use Rattle.std.specs.Prelude.{◌≡◌, ◌≤◌, length, IfOk, IfErr};
+ghost use Rattle.khe_base.specs.declared.limits.TheConstants.{ARCHIVE_BYTES};
+ghost use Rattle.timetable_page.specs.Readings.{IsRead, IsReady, IsStopped, IsTree, of_resolve};
+ghost use Rattle.xhstt_shape.specs.WellFormed.{IsInForm};
+
+use crate::refusing::Refusal;
+use khe_base::{NoMemory, Seq};
+use std::alloc::Global;
+use xhstt_resolve::{ResolveFault, Resolved, resolve};
+use xhstt_shape::reading::archive;
+use xhstt_shape::{Archive, ShapeFault};
+use xhstt_text::{TextFault, elements};
+
+/// An archive with its instances.
+#[derive(Drop)]
+pub struct ReadArchive {
+    pub archive: Archive,
+    pub resolved: Resolved,
+}
+
+/// Why an archive is not read.
+#[derive(Clone, Copy)]
+pub enum Unread {
+    /// It is refused.
+    Refused(Refusal),
+    /// Memory was refused.
+    NoMemory,
+}
+
+impl From<TextFault> for Unread {
+    ghost use Rattle.std.specs.Prelude.{◌≡◌};
+    ghost use Rattle.timetable_page.specs.Readings.{of_text};
+
+    ghost from_gives = { λ fault unread. unread ≡ of_text fault };
+
+    fn from(fault: TextFault) -> Unread {
+        match fault {
+            TextFault::Bad { kind, at } => Unread::Refused(Refusal::Fault { kind, at }),
+            TextFault::NoMemory => Unread::NoMemory,
+        }
+    }
+}
+
+impl From<ShapeFault> for Unread {
+    ghost use Rattle.std.specs.Prelude.{◌≡◌};
+    ghost use Rattle.timetable_page.specs.Readings.{of_shape};
+
+    ghost from_gives = { λ fault unread. unread ≡ of_shape fault };
+
+    fn from(fault: ShapeFault) -> Unread {
+        match fault {
+            ShapeFault::Bad { kind, at } => Unread::Refused(Refusal::Fault { kind, at }),
+            ShapeFault::NoMemory => Unread::NoMemory,
+        }
+    }
+}
+
+/// The archive that these bytes spell. The tree of the text is kept no longer than this call.
+fn archive_of(alloc: Global, bytes: &[u8]) -> Result<Archive, Unread>
+    requires { length bytes.now ≤ ARCHIVE_BYTES }
+    ensures tree { IfOk result (IsTree bytes.now) }
+    ensures formed { IfOk result IsInForm }
+    ensures stopped { IfErr result (IsStopped bytes.now) }
+{
+    let tree = elements(alloc, bytes)?;
+    Ok(archive(alloc, &tree)?)
+}
+
+/// What these bytes lead to, as an archive with its instances. The bytes are kept no longer than it takes to read
+/// the archive from them.
+pub(crate) fn read(alloc: Global, bytes: Seq<u8>) -> Result<ReadArchive, Unread>
+    requires { length bytes ≤ ARCHIVE_BYTES }
+    ensures read { IfOk result (λ r. IsRead bytes r.archive r.resolved) }
+    ensures ready { IfOk result (λ r. IsReady r.archive r.resolved) }
+    ensures stopped { IfErr result (IsStopped bytes) }
+{
+    let archive = archive_of(alloc, bytes.as_slice())?;
+    drop(bytes);
+    match resolve(alloc, &archive) {
+        Ok(resolved) => Ok(ReadArchive { archive, resolved }),
+        Err(fault) => Err(unresolved(fault)),
+    }
+}
+
+/// A fault of resolving as a reason not to read.
+fn unresolved(fault: ResolveFault) -> Unread
+    ensures { result ≡ of_resolve fault }
+{
+    match fault {
+        ResolveFault::Bad { kind, at } => Unread::Refused(Refusal::Fault { kind, at }),
+        ResolveFault::Limit { which, value } => Unread::Refused(Refusal::Limit { which, value }),
+        ResolveFault::NoMemory => Unread::NoMemory,
+    }
+}

@@ -1,0 +1,299 @@
+//! The part of the page on one solution.
+
+ghost use Rattle.std.specs.Prelude.{◌≡◌, ◌++◌, OnOk, IfOk, IsTrue, length, map};
+ghost use Rattle.khe_base.specs.Text.{is_ascii};
+ghost use Rattle.parallel_solve.specs.declared.verdicts.Verdict.TheVariants.{Valid as ValidVerdict, Invalid as InvalidVerdict};
+ghost use Rattle.timetable_page.specs.Pages.{IsSection};
+ghost use Rattle.timetable_page.specs.Pieces as spec;
+
+use crate::busy::{list_at, timetable_of};
+use crate::costs::{Defect, PageSolution, cost_of, dearest_first, page_solution, push_spent};
+use crate::defects::push_defects;
+use crate::events::push_events;
+use crate::grids::push_grids;
+use crate::layout::layout_of;
+use crate::marking::{push_between, push_counted, push_place, push_totals};
+use crate::naming::{constraint_name, instance_name};
+use crate::view::View;
+use fault_tables::cause_name;
+use khe_base::{CostFn, NoMemory, Seq, Text, Totals};
+use khe_instance::{Constraint, Instance, Plain, Rule};
+use plain_eval::Values;
+use std::alloc::Global;
+use xhstt_shape::{RawInstance, RawSolution};
+
+/// The head of a section: the number of the solution, its instance and its group.
+fn push_head(
+    page: &mut Text,
+    number: u32,
+    raw: &RawInstance,
+    group: &Text,
+    solution: &RawSolution,
+) -> Result<(), NoMemory> {
+    let number = u128::from(number);
+    push_counted(page, "<section class=\"sol\" id=\"s", number, "\">")?;
+    push_counted(page, "<h2>Solution ", number, ": ")?;
+    push_between(page, "", instance_name(raw), " ")?;
+    push_between(page, "<small>by ", group, "</small></h2>\n")?;
+    if let Some(description) = &solution.description {
+        push_between(page, "<p>", description, "</p>\n")?;
+    }
+    if let Some(running_time) = &solution.running_time {
+        push_between(page, "<p>Running time: ", running_time, "</p>\n")?;
+    }
+    Ok(())
+}
+
+/// The head of a section, as a text of its own.
+fn head_of(
+    alloc: Global,
+    number: u32,
+    raw: &RawInstance,
+    group: &Text,
+    solution: &RawSolution,
+) -> Result<Text, NoMemory> {
+    let mut page = Text::new(alloc);
+    push_head(&mut page, number, raw, group, solution)?;
+    Ok(page)
+}
+
+/// Adds what a section says of the totals of a valid solution.
+fn push_valid(page: &mut Text, totals: Totals) -> Result<(), NoMemory>
+    ensures { OnOk result (page.new ≡ page.old ++ spec.valid_text totals) }
+{
+    page.push_literal("<p class=\"totals\">")?;
+    push_totals(page, totals)?;
+    page.push_literal("</p>\n")
+}
+
+/// A section of its head, the totals, and the rest.
+fn joined(head: Text, totals: Totals, rest: &Text) -> Result<Text, NoMemory>
+    ensures { IfOk result (λ page. page ≡ head ++ (spec.valid_text totals ++ rest.now)) }
+{
+    let mut page = head;
+    push_valid(&mut page, totals)?;
+    page.push_text(rest)?;
+    Ok(page)
+}
+
+/// The section of an invalid solution.
+pub(crate) fn invalid_section(
+    alloc: Global,
+    number: u32,
+    raw: &RawInstance,
+    group: &Text,
+    solution: &RawSolution,
+    cause: u32,
+    entry: u32,
+) -> Result<Text, NoMemory>
+    ensures { IfOk result (IsSection (InvalidVerdict cause entry)) }
+{
+    let head = head_of(alloc, number, raw, group, solution)?;
+    let mut page = head;
+    push_cause(&mut page, cause, entry)?;
+    Ok(page)
+}
+
+/// Adds what a section says of a solution that is invalid, and ends the section.
+fn push_cause(page: &mut Text, cause: u32, entry: u32) -> Result<(), NoMemory>
+    ensures { OnOk result (page.new ≡ page.old ++ spec.cause_text cause entry) }
+{
+    page.push_literal("<p class=\"bad\">")?;
+    push_invalid(page, cause, entry)?;
+    page.push_literal("</p></section>\n")
+}
+
+/// Adds why and at which entry a solution is invalid.
+pub(crate) fn push_invalid(page: &mut Text, cause: u32, entry: u32) -> Result<(), NoMemory>
+    ensures { OnOk result (page.new ≡ page.old ++ spec.invalid_text cause entry) }
+{
+    page.push_literal("invalid: ")?;
+    page.push_literal(name_of(cause))?;
+    push_counted(page, " at entry ", u128::from(entry), "")
+}
+
+/// The name of a cause.
+#[tactic(auto, unfolding(crate::specs::Pieces::name_of_cause))]
+fn name_of(cause: u32) -> &'static str
+    ensures name { result.now ≡ spec.name_of_cause cause }
+    ensures ascii { IsTrue (is_ascii result.now) }
+{
+    cause_name(cause).unwrap_or("")
+}
+
+/// The name of a kind of constraints.
+pub(crate) fn kind_name(rule: &Rule) -> &'static str {
+    match rule {
+        Rule::AssignTime => "AssignTime",
+        Rule::AssignResource { .. } => "AssignResource",
+        Rule::SplitEvents { .. } => "SplitEvents",
+        Rule::DistributeSplitEvents { .. } => "DistributeSplitEvents",
+        Rule::PreferTimes { .. } => "PreferTimes",
+        Rule::PreferResources { .. } => "PreferResources",
+        Rule::AvoidSplitAssignments { .. } => "AvoidSplitAssignments",
+        Rule::SpreadEvents { .. } => "SpreadEvents",
+        Rule::LinkEvents => "LinkEvents",
+        Rule::OrderEvents { .. } => "OrderEvents",
+        Rule::AvoidClashes => "AvoidClashes",
+        Rule::AvoidUnavailableTimes { .. } => "AvoidUnavailableTimes",
+        Rule::LimitIdleTimes { .. } => "LimitIdleTimes",
+        Rule::ClusterBusyTimes { .. } => "ClusterBusyTimes",
+        Rule::LimitBusyTimes { .. } => "LimitBusyTimes",
+        Rule::LimitWorkload { .. } => "LimitWorkload",
+    }
+}
+
+/// How a constraint's cost counts.
+fn hardness(required: bool) -> &'static str {
+    if required { "hard" } else { "soft" }
+}
+
+/// What a constraint's cost is of its deviation.
+fn cost_function(cost: CostFn) -> &'static str {
+    match cost {
+        CostFn::Step => "step",
+        CostFn::Linear => "linear",
+        CostFn::Quadratic => "quadratic",
+    }
+}
+
+/// Adds the row of a constraint: its kind, its name, whether it is required, its weight, how many monitors deviate,
+/// and what they cost together.
+fn push_constraint_row(
+    page: &mut Text,
+    number: u32,
+    raw: &RawInstance,
+    which: u32,
+    constraint: &Constraint,
+    defects: &[Defect],
+) -> Result<(), NoMemory> {
+    push_place(page, "<tr id=\"s", number, "c", which, "\"><td>")?;
+    page.push_str(kind_name(&constraint.rule))?;
+    push_between(
+        page,
+        "</td><th scope=\"row\">",
+        constraint_name(raw, which),
+        "</th><td>",
+    )?;
+    page.push_str(hardness(constraint.required))?;
+    push_counted(
+        page,
+        "</td><td class=\"num\">",
+        u128::from(constraint.weight),
+        " ",
+    )?;
+    page.push_str(cost_function(constraint.cost))?;
+    push_spent(page, defects.len(), cost_of(defects))
+}
+
+/// Adds the row of one constraint, and below it the monitors that deviate.
+fn push_constraint(
+    alloc: Global,
+    page: &mut Text,
+    view: &View<'_>,
+    which: u32,
+    defects: &[Defect],
+) -> Result<(), NoMemory> {
+    if which >= view.inst.constraints() {
+        return Ok(());
+    }
+    let constraint = view.inst.constraint(which);
+    push_constraint_row(page, view.number, view.raw, which, constraint, defects)?;
+    if !defects.is_empty() {
+        push_defects(alloc, page, view, &constraint.rule, defects)?;
+    }
+    Ok(())
+}
+
+/// Adds the table of what the solution costs by constraint, in the order of the instance, those first of which a
+/// monitor deviates.
+fn push_costs(
+    alloc: Global,
+    page: &mut Text,
+    view: &View<'_>,
+    defects: &Seq<Seq<Defect>>,
+) -> Result<(), NoMemory> {
+    page.push_literal(
+        "<details open><summary>Costs by constraint</summary><div class=\"wide\"><table class=\"costs\">",
+    )?;
+    page.push_literal("<thead><tr><th scope=\"col\">Kind</th><th scope=\"col\">Constraint</th>")?;
+    page.push_literal("<th scope=\"col\">Counts as</th><th scope=\"col\">Weight</th>")?;
+    page.push_literal(
+        "<th scope=\"col\">Deviate</th><th scope=\"col\">Cost</th></tr></thead><tbody>\n",
+    )?;
+    for which in 0..view.inst.constraints() {
+        let list = list_at(defects, which);
+        if !list.is_empty() {
+            push_constraint(alloc, page, view, which, list)?;
+        }
+    }
+    page.push_literal("</tbody><tbody class=\"fine\">\n")?;
+    for which in 0..view.inst.constraints() {
+        let list = list_at(defects, which);
+        if list.is_empty() {
+            push_constraint(alloc, page, view, which, list)?;
+        }
+    }
+    page.push_literal("</tbody></table></div></details>\n")
+}
+
+/// Puts the defects of each constraint in order, the dearest first.
+fn in_order(defects: &mut Seq<Seq<Defect>>) {
+    for list in defects.items.iter_mut() {
+        dearest_first(list);
+    }
+}
+
+/// What a section has below the totals: the costs by constraint, the timetables and the events.
+fn rest_of(
+    alloc: Global,
+    number: u32,
+    inst: &Instance,
+    raw: &RawInstance,
+    plain: &Plain,
+    values: &Values,
+) -> Result<Text, NoMemory>
+    requires { (length values.now.deviations ≡ length inst.now.monitors) × (length values.now.costs ≡ length inst.now.monitors) }
+{
+    let mut page = Text::new(alloc);
+    let PageSolution {
+        totals: _,
+        mut defects,
+    } = page_solution(alloc, inst, values)?;
+    in_order(&mut defects);
+    let table = timetable_of(alloc, inst, plain)?;
+    let layout = layout_of(alloc, raw)?;
+    let view = View {
+        number,
+        inst,
+        raw,
+        plain,
+        table: &table,
+        layout: &layout,
+    };
+    push_costs(alloc, &mut page, &view, &defects)?;
+    push_grids(alloc, &mut page, &view, values.deviations.as_slice())?;
+    push_events(&mut page, &view)?;
+    page.push_literal("</section>\n")?;
+    Ok(page)
+}
+
+/// The section of a valid solution: its totals, its costs by constraint, its timetables and its events.
+pub(crate) fn valid_section(
+    alloc: Global,
+    number: u32,
+    inst: &Instance,
+    raw: &RawInstance,
+    group: &Text,
+    solution: &RawSolution,
+    plain: &Plain,
+    values: &Values,
+) -> Result<Text, NoMemory>
+    requires { (length values.now.deviations ≡ length inst.now.monitors) × (length values.now.costs ≡ length inst.now.monitors) }
+    ensures { IfOk result (IsSection (ValidVerdict values.now)) }
+{
+    let head = head_of(alloc, number, raw, group, solution)?;
+    let rest = rest_of(alloc, number, inst, raw, plain, values)?;
+    let page = joined(head, values.totals, &rest)?;
+    Ok(page)
+}
