@@ -94,14 +94,7 @@ fn talk_of<S: Shelf, R: BufRead, K: Sink>(
     ensures sound { IsTrue (S.is_sound shelf.old) → IsTrue (S.is_sound shelf.new) }
 {
     match answer_to(alloc, shelf, name) {
-        Ok(answer) => talk_after(
-            alloc,
-            reader,
-            out,
-            answer,
-            request.solution,
-            request.demands,
-        ),
+        Ok(answer) => talk_after(alloc, reader, out, answer, solution, demands),
         Err(Stop::ReadFault) => Status(4),
         Err(Stop::NoMemory) => Status(6),
     }
