@@ -201,3 +201,7 @@ pub each_held : (h : Option (List ℕ → Option (List ℕ))) (P : (List ℕ →
     → ((under : List ℕ → Option (List ℕ)) → P under) → IfSome h P
 each_held None P all = tt
 each_held (Some under) P all = all under
+
+-- words that have a reading are not without one
+pub never : {A : Type 0} (o : Option A) (a : A) → o ≡ Some a → o ≡ None → ⊥
+never o a e f = cc

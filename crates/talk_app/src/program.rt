@@ -9,7 +9,7 @@ ghost use Rattle.talk_app.specs.Requests.{asked_of};
 ghost use Rattle.talk_app.specs.Words.{asked};
 
 use crate::opening::talk_on;
-use crate::words::{Request, request_of};
+use crate::words::request_of;
 use khe_app::{Answer, Status, Stop, answer_to, put_refusal};
 use khe_io::{Shelf, Sink, put_all};
 use std::alloc::Global;
@@ -43,7 +43,15 @@ pub fn talk_by_words<S: Shelf, R: BufRead, K: Sink>(
     ensures sound { IsTrue (S.is_sound shelf.old) → IsTrue (S.is_sound shelf.new) }
 {
     match request_of(words) {
-        Some(request) => talk_of(alloc, shelf, reader, out, request),
+        Some(request) => talk_of(
+            alloc,
+            shelf,
+            reader,
+            out,
+            request.archive,
+            request.solution,
+            request.demands,
+        ),
         None => refuse_words(out),
     }
 }
@@ -73,9 +81,11 @@ fn talk_of<S: Shelf, R: BufRead, K: Sink>(
     shelf: &mut S,
     reader: &mut R,
     out: &mut K,
-    request: Request<'_>,
+    name: &str,
+    solution: u32,
+    demands: bool,
 ) -> Status
-    ensures end { IfSome (S.holdings shelf.old) (λ under. IsEnd (IsTalkTo request.solution (under request.archive.now)) (R.remaining reader.old) (K.taken out.old) (K.taken out.new) (K.faults out.old) (K.faults out.new) result.0) }
+    ensures end { IfSome (S.holdings shelf.old) (λ under. IsEnd (IsTalkTo solution (under name.now)) (R.remaining reader.old) (K.taken out.old) (K.taken out.new) (K.faults out.old) (K.faults out.new) result.0) }
     ensures write_fault_ends { (result.0 ≡ 5) ⊎ (K.faults out.new ≡ K.faults out.old) }
     ensures sink_faults { K.faults out.old ≤ K.faults out.new }
     ensures read_fault_ends { (result.0 ≡ 4) ⊎ (S.faults shelf.new ≡ S.faults shelf.old) }
@@ -83,15 +93,8 @@ fn talk_of<S: Shelf, R: BufRead, K: Sink>(
     ensures shelf_faults { S.faults shelf.old ≤ S.faults shelf.new }
     ensures sound { IsTrue (S.is_sound shelf.old) → IsTrue (S.is_sound shelf.new) }
 {
-    match answer_to(alloc, shelf, request.archive) {
-        Ok(answer) => talk_after(
-            alloc,
-            reader,
-            out,
-            answer,
-            request.solution,
-            request.demands,
-        ),
+    match answer_to(alloc, shelf, name) {
+        Ok(answer) => talk_after(alloc, reader, out, answer, solution, demands),
         Err(Stop::ReadFault) => Status(4),
         Err(Stop::NoMemory) => Status(6),
     }
