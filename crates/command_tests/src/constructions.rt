@@ -7,7 +7,8 @@ use program_runs::Piece::Once;
 use program_runs::{FRONT, PLACED, REST, TWO_EVENTS};
 use std::test::Fail;
 
-const ROWS: &[Row] = &[
+/// Events that are left whole, and a meet that no time makes cheaper.
+const WHOLE: &[Row] = &[
     // Each meet and each task has the first time and the first resource that costs nothing.
     Row {
         words: &["construct", "archive", "0"],
@@ -76,6 +77,10 @@ const ROWS: &[Row] = &[
             ),
         ],
     },
+];
+
+/// Events that are cut, in an archive of one instance and of two.
+const CUT: &[Row] = &[
     // Both parts of `Rest` and one of `Both` have no time: each time would cost as much as none.
     Row {
         words: &["construct", "archive", "0"],
@@ -181,6 +186,10 @@ const ROWS: &[Row] = &[
             ),
         ],
     },
+];
+
+/// A timetable that is repaired before it is written.
+const REPAIRED: &[Row] = &[
     // The line tells what was constructed, and the solution is what the repair leaves.
     Row {
         words: &[
@@ -221,6 +230,10 @@ const ROWS: &[Row] = &[
             ),
         ],
     },
+];
+
+/// Instances that are not there, and an archive without one.
+const REFUSED: &[Row] = &[
     Row {
         words: &["construct", "archive", "2"],
         archive: &[Once(TWO)],
@@ -252,6 +265,21 @@ const ROWS: &[Row] = &[
 ];
 
 #[test]
-fn timetables_are_constructed(rt: HostRuntime) -> Result<(), Fail> {
-    must_end_so(&rt, rt.alloc(), ROWS)
+fn whole_events_are_placed(rt: HostRuntime) -> Result<(), Fail> {
+    must_end_so(&rt, rt.alloc(), WHOLE)
+}
+
+#[test]
+fn events_are_cut(rt: HostRuntime) -> Result<(), Fail> {
+    must_end_so(&rt, rt.alloc(), CUT)
+}
+
+#[test]
+fn timetables_are_repaired(rt: HostRuntime) -> Result<(), Fail> {
+    must_end_so(&rt, rt.alloc(), REPAIRED)
+}
+
+#[test]
+fn missing_instances_are_refused(rt: HostRuntime) -> Result<(), Fail> {
+    must_end_so(&rt, rt.alloc(), REFUSED)
 }

@@ -217,6 +217,10 @@ const MATCHED: &[Matched] = &[
         ],
         last: "<!-- khe match tasks 2 sum hard 4 soft 0 taken hard 0 soft 0 -->\n",
     },
+];
+
+/// Tasks that want the same resource.
+const CROSSED: &[Matched] = &[
     // Task by task, `E` would take the resource that `F` wants. The first time of `E` is an earlier one, and its own
     // resource and the place of another type are passed over.
     Matched {
@@ -289,6 +293,10 @@ const MATCHED: &[Matched] = &[
         ]],
         last: "<!-- khe match tasks 2 sum hard 69 soft 0 taken hard 22 soft 0 -->\n",
     },
+];
+
+/// A choice that stands already.
+const SETTLED: &[Matched] = &[
     // The same choice stands already.
     Matched {
         words: &["match", "archive", "1", "1", "0"],
@@ -360,6 +368,10 @@ const MATCHED: &[Matched] = &[
         ]],
         last: "<!-- khe match tasks 2 sum hard 47 soft 0 kept hard 11 soft 0 -->\n",
     },
+];
+
+/// Costs that are equal, and as many tasks as can be matched.
+const EDGES: &[Matched] = &[
     // A resource that costs as much as none.
     Matched {
         words: &["match", "archive", "0", "1", "1"],
@@ -385,6 +397,21 @@ const MATCHED: &[Matched] = &[
 #[test]
 fn tasks_are_matched(rt: HostRuntime) -> Result<(), Fail> {
     must_match(&rt, rt.alloc(), MATCHED)
+}
+
+#[test]
+fn tasks_leave_each_other_their_resources(rt: HostRuntime) -> Result<(), Fail> {
+    must_match(&rt, rt.alloc(), CROSSED)
+}
+
+#[test]
+fn a_choice_that_stands_is_kept(rt: HostRuntime) -> Result<(), Fail> {
+    must_match(&rt, rt.alloc(), SETTLED)
+}
+
+#[test]
+fn equal_costs_and_many_tasks_are_matched(rt: HostRuntime) -> Result<(), Fail> {
+    must_match(&rt, rt.alloc(), EDGES)
 }
 
 #[test]
