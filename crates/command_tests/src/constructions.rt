@@ -7,12 +7,10 @@ use program_runs::Piece::Once;
 use program_runs::{FRONT, PLACED, REST, TWO_EVENTS};
 use std::test::Fail;
 
-/// Events that are left whole, and a meet that no time makes cheaper.
-const WHOLE: &[Row] = &[
+const TWO_EVENTS_ROWS: &[Row] = &[
     // Each meet and each task has the first time and the first resource that costs nothing.
     Row {
         words: &["construct", "archive", "0"],
-        archive: &[Once(TWO_EVENTS)],
         script: "",
         status: 0,
         text: &[
@@ -33,7 +31,6 @@ const WHOLE: &[Row] = &[
             "--budget",
             "10",
         ],
-        archive: &[Once(TWO_EVENTS)],
         script: "",
         status: 0,
         text: &[
@@ -48,10 +45,29 @@ const WHOLE: &[Row] = &[
             ),
         ],
     },
+    Row {
+        words: &["construct", "archive", "4294967295"],
+        script: "",
+        status: 3,
+        text: &[Once("khe: archive refused: 21 NoSuchInstance\n")],
+    },
+    Row {
+        words: &["construct", "archive", "1"],
+        script: "",
+        status: 3,
+        text: &[Once("khe: archive refused: 21 NoSuchInstance\n")],
+    },
+];
+
+#[test]
+fn a_timetable_of_two_events_is_constructed(rt: HostRuntime) -> Result<(), Fail> {
+    must_end_so(&rt, rt.alloc(), &[Once(TWO_EVENTS)], TWO_EVENTS_ROWS)
+}
+
+const TO_CUT_ROWS: &[Row] = &[
     // No time lowers the totals, so no meet has one.
     Row {
         words: &["construct", "archive", "0"],
-        archive: &[Once(TO_CUT)],
         script: "",
         status: 0,
         text: &[
@@ -79,12 +95,15 @@ const WHOLE: &[Row] = &[
     },
 ];
 
-/// Events that are cut, in an archive of one instance and of two.
-const CUT: &[Row] = &[
+#[test]
+fn an_event_is_cut(rt: HostRuntime) -> Result<(), Fail> {
+    must_end_so(&rt, rt.alloc(), &[Once(TO_CUT)], TO_CUT_ROWS)
+}
+
+const CUTS_ROWS: &[Row] = &[
     // Both parts of `Rest` and one of `Both` have no time: each time would cost as much as none.
     Row {
         words: &["construct", "archive", "0"],
-        archive: &[Once(CUTS)],
         script: "",
         status: 0,
         text: &[
@@ -155,10 +174,17 @@ const CUT: &[Row] = &[
             ),
         ],
     },
+];
+
+#[test]
+fn events_are_cut_by_their_constraints(rt: HostRuntime) -> Result<(), Fail> {
+    must_end_so(&rt, rt.alloc(), &[Once(CUTS)], CUTS_ROWS)
+}
+
+const TWO_ROWS: &[Row] = &[
     // The invalid solution is not looked at, and both instances stay.
     Row {
         words: &["construct", "archive", "1"],
-        archive: &[Once(TWO)],
         script: "",
         status: 0,
         text: &[
@@ -186,10 +212,6 @@ const CUT: &[Row] = &[
             ),
         ],
     },
-];
-
-/// A timetable that is repaired before it is written.
-const REPAIRED: &[Row] = &[
     // The line tells what was constructed, and the solution is what the repair leaves.
     Row {
         words: &[
@@ -201,7 +223,6 @@ const REPAIRED: &[Row] = &[
             "--depth",
             "1",
         ],
-        archive: &[Once(TWO)],
         script: "",
         status: 0,
         text: &[
@@ -230,56 +251,27 @@ const REPAIRED: &[Row] = &[
             ),
         ],
     },
-];
-
-/// Instances that are not there, and an archive without one.
-const REFUSED: &[Row] = &[
     Row {
         words: &["construct", "archive", "2"],
-        archive: &[Once(TWO)],
         script: "",
         status: 3,
         text: &[Once("khe: archive refused: 21 NoSuchInstance\n")],
-    },
-    Row {
-        words: &["construct", "archive", "4294967295"],
-        archive: &[Once(TWO_EVENTS)],
-        script: "",
-        status: 3,
-        text: &[Once("khe: archive refused: 21 NoSuchInstance\n")],
-    },
-    Row {
-        words: &["construct", "archive", "1"],
-        archive: &[Once(TWO_EVENTS)],
-        script: "",
-        status: 3,
-        text: &[Once("khe: archive refused: 21 NoSuchInstance\n")],
-    },
-    Row {
-        words: &["construct", "archive", "0"],
-        archive: &[Once("<")],
-        script: "",
-        status: 3,
-        text: &[Once("khe: archive refused: 2 BadMarkup at 1\n")],
     },
 ];
 
 #[test]
-fn whole_events_are_placed(rt: HostRuntime) -> Result<(), Fail> {
-    must_end_so(&rt, rt.alloc(), WHOLE)
+fn one_of_two_instances_is_constructed(rt: HostRuntime) -> Result<(), Fail> {
+    must_end_so(&rt, rt.alloc(), &[Once(TWO)], TWO_ROWS)
 }
 
-#[test]
-fn events_are_cut(rt: HostRuntime) -> Result<(), Fail> {
-    must_end_so(&rt, rt.alloc(), CUT)
-}
+const REFUSED_ROWS: &[Row] = &[Row {
+    words: &["construct", "archive", "0"],
+    script: "",
+    status: 3,
+    text: &[Once("khe: archive refused: 2 BadMarkup at 1\n")],
+}];
 
 #[test]
-fn timetables_are_repaired(rt: HostRuntime) -> Result<(), Fail> {
-    must_end_so(&rt, rt.alloc(), REPAIRED)
-}
-
-#[test]
-fn missing_instances_are_refused(rt: HostRuntime) -> Result<(), Fail> {
-    must_end_so(&rt, rt.alloc(), REFUSED)
+fn a_refused_archive_is_not_constructed(rt: HostRuntime) -> Result<(), Fail> {
+    must_end_so(&rt, rt.alloc(), &[Once("<")], REFUSED_ROWS)
 }

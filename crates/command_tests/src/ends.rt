@@ -7,12 +7,10 @@ use std::process::Abort;
 use std::test::Fail;
 use std::thread::Threads;
 
-/// A run on an archive and a script, and how it should end.
+/// A run on a script, and how it should end.
 #[derive(Clone, Copy)]
 pub(crate) struct Row {
     pub words: &'static [&'static str],
-    /// What stands under `archive`.
-    pub archive: &'static [Piece],
     /// What stands under `script`.
     pub script: &'static str,
     pub status: u8,
@@ -24,8 +22,6 @@ pub(crate) struct Row {
 #[derive(Clone, Copy)]
 pub(crate) struct Matched {
     pub words: &'static [&'static str],
-    /// What stands under `archive`.
-    pub archive: &'static [Piece],
     /// With one of these texts begins what should be written.
     pub fronts: &'static [&'static [Piece]],
     /// With this line it ends.
@@ -46,14 +42,15 @@ pub(crate) fn must_end<R: Threads + Sync + Abort>(
     Ok(())
 }
 
-/// The test fails unless each of these runs ends as it should.
+/// The test fails unless each of these runs on an archive of these pieces ends as it should.
 pub(crate) fn must_end_so<R: Threads + Sync + Abort>(
     rt: &R,
     alloc: Global,
+    archive: &[Piece],
     rows: &[Row],
 ) -> Result<(), Fail> {
     for row in rows {
-        must_end_well(rt, alloc, row)?;
+        must_end_well(rt, alloc, archive, row)?;
     }
     Ok(())
 }
@@ -61,9 +58,10 @@ pub(crate) fn must_end_so<R: Threads + Sync + Abort>(
 fn must_end_well<R: Threads + Sync + Abort>(
     rt: &R,
     alloc: Global,
+    archive: &[Piece],
     row: &Row,
 ) -> Result<(), NoMemory> {
-    let (archive, text) = both(text_of(alloc, row.archive), text_of(alloc, row.text))?;
+    let (archive, text) = both(text_of(alloc, archive), text_of(alloc, row.text))?;
     let files = [
         File {
             name: "archive",
@@ -85,20 +83,27 @@ fn must_end_well<R: Threads + Sync + Abort>(
     must_end(rt, alloc, call, GOOD, end)
 }
 
-/// The test fails unless each of these runs ends well, with one of the texts that are right.
+/// The test fails unless each of these runs on an archive of these pieces ends well, with one of the texts that are
+/// right.
 pub(crate) fn must_match<R: Threads + Sync + Abort>(
     rt: &R,
     alloc: Global,
+    archive: &[Piece],
     rows: &[Matched],
 ) -> Result<(), Fail> {
     for row in rows {
-        assert!(rt; matches_so(rt, alloc, row)?, "{:?}", row.last);
+        assert!(rt; matches_so(rt, alloc, archive, row)?, "{:?}", row.last);
     }
     Ok(())
 }
 
-fn matches_so<R: Threads + Sync>(rt: &R, alloc: Global, row: &Matched) -> Result<bool, NoMemory> {
-    let archive = text_of(alloc, row.archive)?;
+fn matches_so<R: Threads + Sync>(
+    rt: &R,
+    alloc: Global,
+    archive: &[Piece],
+    row: &Matched,
+) -> Result<bool, NoMemory> {
+    let archive = text_of(alloc, archive)?;
     matches_on(rt, alloc, archive.as_str(), row)
 }
 

@@ -7,12 +7,10 @@ use program_runs::Piece::Once;
 use program_runs::{EMPTY, FRONT, GROUP, PLACED, REST, SECOND, TWO_EVENTS};
 use std::test::Fail;
 
-/// Runs of which one text alone is right.
-const ROWS: &[Row] = &[
+const NONE_ROWS: &[Row] = &[
     // No meet runs.
     Row {
         words: &["match", "archive", "0", "0", "0"],
-        archive: &[Once(TWO_EVENTS)],
         script: "",
         status: 0,
         text: &[
@@ -36,10 +34,17 @@ const ROWS: &[Row] = &[
             Once("<!-- khe match tasks 0 sum hard 0 soft 0 kept hard 12 soft 0 -->\n"),
         ],
     },
+];
+
+#[test]
+fn no_task_is_matched(rt: HostRuntime) -> Result<(), Fail> {
+    must_end_so(&rt, rt.alloc(), &[Once(TWO_EVENTS)], NONE_ROWS)
+}
+
+const CHOICE_ROWS: &[Row] = &[
     // Where each resource costs more than none, the task goes without; the only price is then its cost.
     Row {
         words: &["match", "archive", "0", "2", "0"],
-        archive: &[Once(CHOICE)],
         script: "",
         status: 0,
         text: &[
@@ -105,63 +110,81 @@ const ROWS: &[Row] = &[
             ),
         ],
     },
+];
+
+#[test]
+fn a_task_goes_without(rt: HostRuntime) -> Result<(), Fail> {
+    must_end_so(&rt, rt.alloc(), &[Once(CHOICE)], CHOICE_ROWS)
+}
+
+const REFUSED_ROWS: &[Row] = &[
     Row {
         words: &["match", "archive", "0", "3", "0"],
-        archive: &[Once(TIMED)],
         script: "",
         status: 3,
         text: &[Once("khe: archive refused: 22 NoSuchTime\n")],
     },
     Row {
         words: &["match", "archive", "0", "0", "1"],
-        archive: &[Once(TIMED)],
         script: "",
         status: 3,
         text: &[Once("khe: archive refused: 23 NoSuchType\n")],
     },
     Row {
         words: &["match", "archive", "0", "4294967295", "1"],
-        archive: &[Once(TIMED)],
         script: "",
         status: 3,
         text: &[Once("khe: archive refused: 22 NoSuchTime\n")],
     },
     Row {
         words: &["match", "archive", "2", "3", "1"],
-        archive: &[Once(TIMED)],
         script: "",
         status: 3,
         text: &[Once("khe: archive refused: 18 NoSuchSolution\n")],
     },
-    Row {
-        words: &["match", "archive", "0", "9", "9"],
-        archive: &[Once(TWO)],
-        script: "",
-        status: 3,
-        text: &[Once("khe: archive refused: 19 Invalid 4 OffEnd entry 0\n")],
-    },
+];
+
+#[test]
+fn times_types_and_solutions_that_are_missing_are_refused(rt: HostRuntime) -> Result<(), Fail> {
+    must_end_so(&rt, rt.alloc(), &[Once(TIMED)], REFUSED_ROWS)
+}
+
+const INVALID_ROWS: &[Row] = &[Row {
+    words: &["match", "archive", "0", "9", "9"],
+    script: "",
+    status: 3,
+    text: &[Once("khe: archive refused: 19 Invalid 4 OffEnd entry 0\n")],
+}];
+
+#[test]
+fn an_invalid_solution_is_not_matched(rt: HostRuntime) -> Result<(), Fail> {
+    must_end_so(&rt, rt.alloc(), &[Once(TWO)], INVALID_ROWS)
+}
+
+const CROWD_ROWS: &[Row] = &[
     Row {
         words: &["match", "archive", "0", "0", "0"],
-        archive: TOO_LARGE_CROWD,
         script: "",
         status: 3,
         text: &[Once("khe: archive refused: 24 TooManyTasks 201\n")],
     },
     Row {
         words: &["match", "archive", "0", "0", "1"],
-        archive: TOO_LARGE_CROWD,
         script: "",
         status: 3,
         text: &[Once("khe: archive refused: 23 NoSuchType\n")],
     },
 ];
 
-/// Runs of which several texts are right: what is written ends with this line, and begins with one of these texts.
-const MATCHED: &[Matched] = &[
+#[test]
+fn more_tasks_than_there_may_be_are_refused(rt: HostRuntime) -> Result<(), Fail> {
+    must_end_so(&rt, rt.alloc(), TOO_LARGE_CROWD, CROWD_ROWS)
+}
+
+const KEPT: &[Matched] = &[
     // Both resources cost the same, so the old solution stays.
     Matched {
         words: &["match", "archive", "1", "0", "0"],
-        archive: &[Once(TWO_EVENTS)],
         fronts: &[&[
             Once(FRONT),
             Once(GROUP),
@@ -171,10 +194,17 @@ const MATCHED: &[Matched] = &[
         ]],
         last: "<!-- khe match tasks 2 sum hard 4 soft 0 kept hard 0 soft 0 -->\n",
     },
+];
+
+#[test]
+fn a_solution_stays(rt: HostRuntime) -> Result<(), Fail> {
+    must_match(&rt, rt.alloc(), &[Once(TWO_EVENTS)], KEPT)
+}
+
+const EITHER: &[Matched] = &[
     // Either task may have either resource.
     Matched {
         words: &["match", "archive", "0", "0", "0"],
-        archive: &[Once(TIMED)],
         fronts: &[
             &[
                 Once(FRONT),
@@ -219,13 +249,16 @@ const MATCHED: &[Matched] = &[
     },
 ];
 
-/// Tasks that want the same resource.
-const CROSSED: &[Matched] = &[
+#[test]
+fn two_tasks_have_a_resource_each(rt: HostRuntime) -> Result<(), Fail> {
+    must_match(&rt, rt.alloc(), &[Once(TIMED)], EITHER)
+}
+
+const CHOSEN: &[Matched] = &[
     // Task by task, `E` would take the resource that `F` wants. The first time of `E` is an earlier one, and its own
     // resource and the place of another type are passed over.
     Matched {
         words: &["match", "archive", "0", "1", "0"],
-        archive: &[Once(CHOICE)],
         fronts: &[&[
             Once(CHOICE_FRONT),
             Once(
@@ -293,14 +326,9 @@ const CROSSED: &[Matched] = &[
         ]],
         last: "<!-- khe match tasks 2 sum hard 69 soft 0 taken hard 22 soft 0 -->\n",
     },
-];
-
-/// A choice that stands already.
-const SETTLED: &[Matched] = &[
     // The same choice stands already.
     Matched {
         words: &["match", "archive", "1", "1", "0"],
-        archive: &[Once(CHOICE)],
         fronts: &[&[
             Once(CHOICE_FRONT),
             Once(
@@ -368,53 +396,34 @@ const SETTLED: &[Matched] = &[
         ]],
         last: "<!-- khe match tasks 2 sum hard 47 soft 0 kept hard 11 soft 0 -->\n",
     },
-];
-
-/// Costs that are equal, and as many tasks as can be matched.
-const EDGES: &[Matched] = &[
     // A resource that costs as much as none.
     Matched {
         words: &["match", "archive", "0", "1", "1"],
-        archive: &[Once(CHOICE)],
         fronts: &[&[Once(CHOICE_FRONT)]],
         last: "<!-- khe match tasks 1 sum hard 24 soft 0 kept hard 24 soft 0 -->\n",
     },
     Matched {
         words: &["match", "archive", "0", "0", "0"],
-        archive: &[Once(CHOICE)],
         fronts: &[&[Once(CHOICE_FRONT)]],
         last: "<!-- khe match tasks 1 sum hard 24 soft 0 kept hard 24 soft 0 -->\n",
     },
+];
+
+#[test]
+fn a_task_leaves_a_resource_to_another(rt: HostRuntime) -> Result<(), Fail> {
+    must_match(&rt, rt.alloc(), &[Once(CHOICE)], CHOSEN)
+}
+
+const CROWDED: &[Matched] = &[
     // As many tasks as can be matched, and one resource.
     Matched {
         words: &["match", "archive", "0", "0", "0"],
-        archive: CROWD,
         fronts: &[&[]],
         last: "<!-- khe match tasks 200 sum hard 597 soft 0 taken hard 0 soft 0 -->\n",
     },
 ];
 
 #[test]
-fn tasks_are_matched(rt: HostRuntime) -> Result<(), Fail> {
-    must_match(&rt, rt.alloc(), MATCHED)
-}
-
-#[test]
-fn tasks_leave_each_other_their_resources(rt: HostRuntime) -> Result<(), Fail> {
-    must_match(&rt, rt.alloc(), CROSSED)
-}
-
-#[test]
-fn a_choice_that_stands_is_kept(rt: HostRuntime) -> Result<(), Fail> {
-    must_match(&rt, rt.alloc(), SETTLED)
-}
-
-#[test]
-fn equal_costs_and_many_tasks_are_matched(rt: HostRuntime) -> Result<(), Fail> {
-    must_match(&rt, rt.alloc(), EDGES)
-}
-
-#[test]
-fn matchings_with_one_text_are_written(rt: HostRuntime) -> Result<(), Fail> {
-    must_end_so(&rt, rt.alloc(), ROWS)
+fn as_many_tasks_as_there_may_be_are_matched(rt: HostRuntime) -> Result<(), Fail> {
+    must_match(&rt, rt.alloc(), CROWD, CROWDED)
 }

@@ -6,10 +6,9 @@ use program_runs::Piece::Once;
 use program_runs::TWO_EVENTS;
 use std::test::Fail;
 
-const ROWS: &[Row] = &[
+const TWO_EVENTS_ROWS: &[Row] = &[
     Row {
         words: &["tied", "archive", "0", "script"],
-        archive: &[Once(TWO_EVENTS)],
         script: r#"tie 3 0 2
 assign 0 0
 assign 3 0
@@ -42,7 +41,6 @@ refused 30 NotFollower
     },
     Row {
         words: &["tied", "archive", "0", "script"],
-        archive: &[Once(TWO_EVENTS)],
         script: r#"begin
 tie 3 0 1
 assign 0 0
@@ -63,10 +61,23 @@ total hard 12 soft 0
 "#,
         )],
     },
+    Row {
+        words: &["tied", "archive", "2", "script"],
+        script: "ties\n",
+        status: 3,
+        text: &[Once("khe: archive refused: 18 NoSuchSolution\n")],
+    },
+];
+
+#[test]
+fn two_events_are_tied(rt: HostRuntime) -> Result<(), Fail> {
+    must_end_so(&rt, rt.alloc(), &[Once(TWO_EVENTS)], TWO_EVENTS_ROWS)
+}
+
+const TIES_ROWS: &[Row] = &[
     // Each refusal, and which of several comes first.
     Row {
         words: &["tied", "archive", "0", "script"],
-        archive: &[Once(TIES)],
         script: r#"tie 9 0 0
 tie 0 9 0
 tie 1 0 0
@@ -146,7 +157,6 @@ meet 8 event "K" duration 1 time -
     // Followers go where the meets that a swap exchanges go, and a split or a merge is refused to who leads or follows.
     Row {
         words: &["tied", "archive", "0", "script"],
-        archive: &[Once(TIES)],
         script: r#"assign 0 0
 assign 4 4
 tie 3 0 2
@@ -226,7 +236,6 @@ meet 8 event "K" duration 1 time 1
     // Ties inside marks come back and go as the meets do.
     Row {
         words: &["tied", "archive", "0", "script"],
-        archive: &[Once(TIES)],
         script: r#"assign 0 1
 begin
 tie 3 0 2
@@ -315,7 +324,6 @@ meet 8 event "K" duration 1 time 4
     // The lines of a script have the answers that they have there.
     Row {
         words: &["tied", "archive", "0", "script"],
-        archive: &[Once(TIES)],
         script: r#"# two
 tie 3 0 2
 ties
@@ -351,7 +359,6 @@ total hard 6 soft 3
     },
     Row {
         words: &["tied", "archive", "0", "script"],
-        archive: &[Once(TIES)],
         script: r#"ties
 tie 3 0
 ties
@@ -365,49 +372,42 @@ line 2 fault 2 BadCount
     },
     Row {
         words: &["tied", "archive", "0", "script"],
-        archive: &[Once(TIES)],
         script: "tie 3 0 x\n",
         status: 7,
         text: &[Once("line 1 fault 3 BadNumber\n")],
     },
     Row {
         words: &["tied", "archive", "0", "script"],
-        archive: &[Once(TIES)],
         script: "tie 3 4294967296 0\n",
         status: 7,
         text: &[Once("line 1 fault 3 BadNumber\n")],
     },
     Row {
         words: &["tied", "archive", "0", "script"],
-        archive: &[Once(TIES)],
         script: "untie\n",
         status: 7,
         text: &[Once("line 1 fault 2 BadCount\n")],
     },
     Row {
         words: &["tied", "archive", "0", "script"],
-        archive: &[Once(TIES)],
         script: "untie 3 0\n",
         status: 7,
         text: &[Once("line 1 fault 2 BadCount\n")],
     },
     Row {
         words: &["tied", "archive", "0", "script"],
-        archive: &[Once(TIES)],
         script: "\n ties 3\n",
         status: 7,
         text: &[Once("line 2 fault 2 BadCount\n")],
     },
     Row {
         words: &["tied", "archive", "0", "script"],
-        archive: &[Once(TIES)],
         script: "fasten 3 0 0\n",
         status: 7,
         text: &[Once("line 1 fault 1 UnknownCommand\n")],
     },
     Row {
         words: &["script", "archive", "0", "script"],
-        archive: &[Once(TIES)],
         script: "total\nties\n",
         status: 7,
         text: &[Once(
@@ -417,22 +417,7 @@ line 2 fault 1 UnknownCommand
         )],
     },
     Row {
-        words: &["tied", "archive", "2", "script"],
-        archive: &[Once(TWO_EVENTS)],
-        script: "ties\n",
-        status: 3,
-        text: &[Once("khe: archive refused: 18 NoSuchSolution\n")],
-    },
-    Row {
-        words: &["tied", "archive", "0", "script"],
-        archive: &[Once(TWO)],
-        script: "ties\n",
-        status: 3,
-        text: &[Once("khe: archive refused: 19 Invalid 4 OffEnd entry 0\n")],
-    },
-    Row {
         words: &["tied", "archive", "0", "nothing"],
-        archive: &[Once(TIES)],
         script: "ties\n",
         status: 4,
         text: &[],
@@ -441,5 +426,17 @@ line 2 fault 1 UnknownCommand
 
 #[test]
 fn meets_are_tied_to_meets(rt: HostRuntime) -> Result<(), Fail> {
-    must_end_so(&rt, rt.alloc(), ROWS)
+    must_end_so(&rt, rt.alloc(), &[Once(TIES)], TIES_ROWS)
+}
+
+const INVALID_ROWS: &[Row] = &[Row {
+    words: &["tied", "archive", "0", "script"],
+    script: "ties\n",
+    status: 3,
+    text: &[Once("khe: archive refused: 19 Invalid 4 OffEnd entry 0\n")],
+}];
+
+#[test]
+fn an_invalid_solution_has_no_ties(rt: HostRuntime) -> Result<(), Fail> {
+    must_end_so(&rt, rt.alloc(), &[Once(TWO)], INVALID_ROWS)
 }
