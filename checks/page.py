@@ -38,7 +38,7 @@ def solutions(path):
 def opened():
     options = webdriver.ChromeOptions()
     options.binary_location = '/usr/bin/chromium'
-    for word in ('--headless=new', '--no-sandbox', '--disable-gpu', '--hide-scrollbars', '--window-size=1200,900'):
+    for word in ('--headless=new', '--no-sandbox', '--disable-dev-shm-usage', '--disable-gpu', '--hide-scrollbars', '--window-size=1200,900'):
         options.add_argument(word)
     options.set_capability('goog:loggingPrefs', {'browser': 'ALL', 'performance': 'ALL'})
     driver = webdriver.Chrome(service=Service('/usr/bin/chromedriver'), options=options)

@@ -10,6 +10,7 @@ pub(crate) const STYLE: &str = r#"
 *{box-sizing:border-box}
 body{margin:0 auto;padding:1rem;max-width:80rem;font:1rem/1.45 system-ui,sans-serif;color:var(--ink);
 background:var(--back)}
+h1,h2,h3,h4,p,dd,li{overflow-wrap:anywhere}
 h1{font-size:1.6rem;margin:.2rem 0}h2{font-size:1.25rem;margin:.2rem 0 .5rem}h3{margin:1rem 0 .3rem}h4{margin:.8rem 0 .2rem}
 a{color:var(--link)}small,.nothing,dt{color:var(--soft)}
 dl{display:grid;grid-template-columns:max-content 1fr;gap:.1rem .8rem}dd{margin:0}
