@@ -27,6 +27,17 @@ fn written<R: Threads + Sync, G: Gate>(
 ) -> Result<MemorySink, NoMemory> {
     let (_, made) = run(rt, alloc, MAKE, GOOD, ROOM)?;
     let text = std::str::from_utf8(made.taken()).unwrap_or("");
+    written_on(rt, alloc, text, words, gate)
+}
+
+/// What a command writes on an archive of this text.
+fn written_on<R: Threads + Sync, G: Gate>(
+    rt: &R,
+    alloc: Global,
+    text: &str,
+    words: &[&str],
+    gate: &G,
+) -> Result<MemorySink, NoMemory> {
     let files = [File {
         name: "archive",
         text,

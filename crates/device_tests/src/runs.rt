@@ -309,5 +309,11 @@ pub(crate) const TOLD: &[&Run] = &[
     &MAKE_AND_RUN,
 ];
 
-/// Runs that write archives.
-pub(crate) const WRITTEN: &[&Run] = &[&REPAIR, &SOLVE, &CONSTRUCT, &MATCH, &CHECK, &MAKE];
+/// Runs that write an archive with a repaired timetable.
+pub(crate) const REPAIRED: &[&Run] = &[&REPAIR, &SOLVE];
+
+/// Those of which a new timetable is written.
+pub(crate) const RENEWED: &[&Run] = &[&CONSTRUCT, &MATCH];
+
+/// Those that write an archive as it is read or drawn.
+pub(crate) const SPELLED: &[&Run] = &[&CHECK, &MAKE];

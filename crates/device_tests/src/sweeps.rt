@@ -1,7 +1,7 @@
 //! Devices of which each call fails in turn: before the first call that a run does not make, each failing one ends
 //! the run as a fault of its device must.
 
-use crate::runs::{Run, Sweep, TOLD, WRITTEN};
+use crate::runs::{RENEWED, REPAIRED, Run, SPELLED, Sweep, TOLD};
 use khe_base::NoMemory;
 use program_runs::{End, reads_made, text_of, writes_made};
 use std::alloc::Global;
@@ -102,6 +102,16 @@ fn each_call_of_a_run_that_tells_fails_in_turn(rt: HostRuntime) -> Result<(), Fa
 }
 
 #[test]
+fn each_call_of_a_run_that_repairs_fails_in_turn(rt: HostRuntime) -> Result<(), Fail> {
+    must_fail_in_turn(&rt, rt.alloc(), REPAIRED)
+}
+
+#[test]
+fn each_call_of_a_run_that_makes_a_timetable_fails_in_turn(rt: HostRuntime) -> Result<(), Fail> {
+    must_fail_in_turn(&rt, rt.alloc(), RENEWED)
+}
+
+#[test]
 fn each_call_of_a_run_that_writes_an_archive_fails_in_turn(rt: HostRuntime) -> Result<(), Fail> {
-    must_fail_in_turn(&rt, rt.alloc(), WRITTEN)
+    must_fail_in_turn(&rt, rt.alloc(), SPELLED)
 }
