@@ -29,12 +29,11 @@ def run_jobs(archive, solution, depth, budget, jobs, folder):
     with tempfile.NamedTemporaryFile(suffix=".xml") as file:
         file.write(archive)
         file.flush()
-        with khe.Session(file.name, solution) as session:
-            for job in jobs:
-                with session.mark():
-                    totals = tuple(session.repair(depth, budget, job).totals)
-                    if least is None or (totals, job) < least[:2]:
-                        least = (totals, job, session.archive())
+        for job in jobs:
+            with khe.Session(file.name, solution) as session:
+                totals = tuple(session.repair(depth, budget, job).totals)
+                if least is None or (totals, job) < least[:2]:
+                    least = (totals, job, session.archive())
     return least
 
 
