@@ -1,3 +1,5 @@
+//! Deviations at events and at pairs of events.
+
 ghost use Rattle.std.specs.Prelude.{◌≡◌, ◌+◌, ◌≤◌, ◌<◌, ◌==◌, ◌&&◌, max, min, length, count_by, IfSome, All, Some};
 ghost use Rattle.std.specs.List.{filter_map, sum_by};
 ghost use Rattle.std.specs.Option.{option_map, option_map_or};

@@ -1,3 +1,5 @@
+//! Deviations at event groups.
+
 ghost use Rattle.std.specs.Prelude.{◌≡◌, ◌+◌, ◌-◌, ◌*◌, ◌≤◌, ◌<◌, ◌||◌, ℕ, length, count_by, All, IfSome};
 ghost use Rattle.std.specs.List.{sum_by, range_with_len};
 ghost use Rattle.khe_base.specs.declared.limits.TheConstants.{NUMBER, DURATION, LISTED};

@@ -1,3 +1,5 @@
+//! Deviations at places of events.
+
 ghost use Rattle.std.specs.Prelude.{◌≡◌, ◌≤◌, ◌<◌};
 ghost use Rattle.std.specs.List.{sum_by};
 ghost use Rattle.khe_base.specs.declared.limits.TheConstants.{NUMBER, GREATEST_DEVIATION};

@@ -1,3 +1,5 @@
+//! The meets of each event and the duties of each place.
+
 ghost use Rattle.std.specs.Prelude.{◌≡◌, ◌≤◌, ◌<◌, Some, length, option_map, slice_get, All, IfOk, IfSome};
 ghost use Rattle.std.specs.List.{sum_by};
 ghost use Rattle.khe_base.specs.IdSet.{members_of};

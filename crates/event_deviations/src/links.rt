@@ -1,3 +1,5 @@
+//! The deviation of Link Events.
+
 ghost use Rattle.std.specs.Prelude.{◌≡◌, ◌+◌, ◌≤◌, ◌<◌, length, All, IfSome};
 ghost use Rattle.std.specs.List.{list_any};
 ghost use Rattle.khe_base.specs.declared.limits.TheConstants.{TIMES, EVENTS};

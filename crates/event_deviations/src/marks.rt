@@ -1,3 +1,5 @@
+//! A value for each number below a size, cleared in the time of what was marked.
+
 ghost use Rattle.std.specs.Prelude.{◌≡◌, ◌<◌, ◌++◌, ◌∷◌, [], ◌≤◌, ℕ, length, replicate, slice_index, slice_set, IfOk, All, if◌then◌else◌, ◌==◌, vec_len, vec_capacity};
 ghost use Rattle.std.specs.List.{list_any};
 ghost use Rattle.event_deviations.specs.Marked.{marked_count};

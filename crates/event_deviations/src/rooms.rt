@@ -1,3 +1,5 @@
+//! The marks that deviations at event groups take.
+
 ghost use Rattle.std.specs.Prelude.{◌≡◌, ◌-◌, ◌≤◌, ◌<◌, length, count_by, All, IfOk};
 ghost use Rattle.std.specs.List.{range_with_len};
 ghost use Rattle.khe_base.specs.declared.limits.TheConstants.{EVENTS};

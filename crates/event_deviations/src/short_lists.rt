@@ -1,3 +1,5 @@
+//! Lists of which most have one item.
+
 ghost use Rattle.std.specs.Prelude.{◌≡◌, ◌++◌, ◌∷◌, [], IfOk, OnOk};
 ghost use Rattle.std.specs.Mem.{FitsInMemory};
 ghost use Rattle.event_deviations.specs.ShortLists.{items_in};

@@ -1,3 +1,5 @@
+//! The tasks of a timetable with their meets.
+
 ghost use Rattle.std.specs.Prelude.{◌≡◌, ◌++◌, map, IfOk, OnOk};
 ghost use Rattle.khe_instance.specs.Running.{duties as duties_of};
 ghost use Rattle.khe_instance.specs.States.{IsTold};

@@ -1,3 +1,5 @@
+//! How far a number lies outside of two bounds.
+
 ghost use Rattle.std.specs.Prelude.{◌≡◌, ◌≤◌, ◌+◌};
 ghost use Rattle.khe_base.specs.Bounds.{IsNearZero, outside, count_outside};
 

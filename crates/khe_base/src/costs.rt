@@ -1,3 +1,5 @@
+//! What a deviation costs under a constraint's cost function and weight.
+
 ghost use Rattle.std.specs.Prelude.{◌≡◌, ◌≤◌};
 ghost use Rattle.khe_base.specs.Costs.{cost_of};
 ghost use Rattle.khe_base.specs.declared.limits.TheConstants.{GREATEST_COST, GREATEST_DEVIATION, WEIGHT};

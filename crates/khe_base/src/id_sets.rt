@@ -1,3 +1,5 @@
+//! Sets of numbers below a size, as bits.
+
 ghost use Rattle.std.specs.Prelude.{◌≡◌, ◌==◌, ◌++◌, ◌+◌, ◌*◌, ◌<◌, ◌≤◌, ◌^◌, ℕ, false, length, map, IfOk, OnOk};
 ghost use Rattle.khe_base.specs.Bits.{is_set, words_for};
 ghost use Rattle.khe_base.specs.IdSet.{no_members, has_member, with_member, members_of, member_count};

@@ -1,3 +1,5 @@
+//! The one error of a call that only takes memory.
+
 use std::alloc::{AllocError, AllocFailed};
 use thiserror::Error;
 

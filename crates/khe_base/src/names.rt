@@ -1,3 +1,5 @@
+//! Names, each once, with the number of each.
+
 ghost use Rattle.std.specs.Prelude.{◌≡◌, [], length, true, not, OnOk, OnErr, IfOk, Some, None, if◌then◌else◌};
 ghost use Rattle.khe_base.specs.Names.{is_among_names, number_of, with_name, are_distinct};
 

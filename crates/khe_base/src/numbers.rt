@@ -1,3 +1,5 @@
+//! The numbers by which parts of an instance and of a timetable are named, each with a type of its own.
+
 /// The number of a time: its place among the times of the instance, which is the chronological
 /// order. Numbers start at 0.
 #[derive(Clone, Copy, Debug, PartialEq, Eq, PartialOrd, Ord, Hash)]

@@ -1,3 +1,5 @@
+//! Several results that are made together, where memory may be refused to any of them.
+
 ghost use Rattle.std.specs.Prelude.{◌≡◌, Err, IfErr, IfOk, Ok};
 
 use crate::NoMemory;

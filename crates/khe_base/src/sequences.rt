@@ -1,3 +1,5 @@
+//! A list in one block of memory, which contracts see as a plain list.
+
 ghost use Rattle.std.specs.Prelude.{◌≡◌, ◌==◌, ◌++◌, ◌∷◌, [], length, OnOk, OnErr};
 
 use crate::NoMemory;

@@ -1,3 +1,5 @@
+//! A hard and a soft cost, and their order.
+
 ghost use Rattle.std.specs.Prelude.{◌≡◌};
 ghost use Rattle.khe_base.specs.Totals.{is_lower};
 

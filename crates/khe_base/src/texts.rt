@@ -1,3 +1,5 @@
+//! Texts, which contracts see as the list of their characters.
+
 ghost use Rattle.std.specs.Prelude.{◌≡◌, ◌++◌, ◌∷◌, [], OnOk, OnErr, IfOk, IsTrue, encode_utf8_all, decimal};
 ghost use Rattle.std.specs.Str.{bytes_eq};
 ghost use Rattle.khe_base.specs.Text.{characters, text_of, is_ascii};

@@ -1,3 +1,5 @@
+//! The least common multiple of durations, in which workloads are counted whole.
+
 ghost use Rattle.std.specs.Prelude.{◌<◌};
 ghost use Rattle.std.specs.Int.{IsGcd};
 ghost use Rattle.khe_base.specs.Units.{IsLeastMultiple};

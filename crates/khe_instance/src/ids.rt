@@ -1,3 +1,5 @@
+//! The Ids of parts, with the number of each.
+
 ghost use Rattle.std.specs.Prelude.{◌≡◌, true, List, ℕ, map, IfOk};
 ghost use Rattle.khe_base.specs.Names.{are_distinct};
 

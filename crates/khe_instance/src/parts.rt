@@ -1,3 +1,5 @@
+//! The parts of which an instance is made.
+
 use crate::points::Monitor;
 use crate::rules::Constraint;
 use khe_base::{IdSet, ResourceId, Seq, Text, TimeId};

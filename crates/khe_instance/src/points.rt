@@ -1,3 +1,5 @@
+//! Monitors, and the points at which they watch.
+
 use crate::rules::Kind;
 use khe_base::{EventId, ResourceId};
 

@@ -1,3 +1,5 @@
+//! The sixteen kinds of constraints, with what each of them says.
+
 use khe_base::{CostFn, EventId, IdSet, Seq, Text};
 
 /// The sixteen kinds of constraints of the XHSTT format.

@@ -1,3 +1,5 @@
+//! The meet slots and task slots of events, found by their numbers.
+
 ghost use Rattle.std.specs.Prelude.{◌≡◌, ◌<◌, ◌≤◌, ◌+◌, ◌*◌, ◌^◌, ◌++◌, ℕ, List, Some, length, replicate, slice_get, All, IfOk, OnOk};
 ghost use Rattle.std.specs.List.{sum_by};
 ghost use Rattle.khe_base.specs.declared.limits.TheConstants.{EVENTS};

@@ -1,3 +1,5 @@
+//! A timetable from scratch: its meets, its tasks and its groups of monitors.
+
 use khe_base::{EventId, GroupId, MeetId, MonitorId, ResourceId, Seq, TaskId, TimeId};
 
 /// A meet: a part of an event that is held without a break.

@@ -1,3 +1,5 @@
+//! Which calls of a device in memory fail, and how many were made.
+
 ghost use Rattle.std.specs.Prelude.{◌≡◌, ◌+◌, ◌-◌, ◌^◌, ◌≤◌, min, is_err, IsTrue, IsOk, OnOk, OnErr};
 ghost use Rattle.khe_io.specs.Faults.{Rose};
 ghost use Rattle.khe_io.specs.Calls.{fails_next, faults_after, none_to_come, one_more};

@@ -1,3 +1,5 @@
+//! A refused call of a device, and how it is counted.
+
 ghost use Rattle.std.specs.Prelude.{◌≡◌, ◌≤◌};
 ghost use Rattle.khe_io.specs.Calls.{one_more};
 ghost use Rattle.khe_io.specs.Faults.{Rose};

@@ -1,3 +1,5 @@
+//! The files of the system as a shelf.
+
 use crate::faults::count_fault;
 use crate::{Failed, Shelf};
 use std::fs::OpenFile;

@@ -1,3 +1,5 @@
+//! What a worker passes before each of its jobs.
+
 /// What a worker passes before each job that it runs. A test can look there at which workers run
 /// side by side; the product's own gate is always open.
 pub trait Gate: Sync {

@@ -1,3 +1,5 @@
+//! A shelf of files in memory, which can be told to fail.
+
 ghost use Rattle.std.specs.Prelude.{◌≤◌};
 ghost use Rattle.std.specs.Option.{ForSome};
 ghost use Rattle.khe_io.specs.Named.{IsPlaceIn};

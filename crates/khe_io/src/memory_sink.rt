@@ -1,3 +1,5 @@
+//! A sink in memory, which can be told to fail.
+
 ghost use Rattle.std.specs.Prelude.{◌≡◌, ◌+◌, ◌≤◌, ◌++◌, length, take, vec_len, vec_capacity};
 
 use crate::calls::Calls;

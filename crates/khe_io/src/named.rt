@@ -1,3 +1,5 @@
+//! Files in memory: bytes under names, and a place in them.
+
 ghost use Rattle.std.specs.Option.{option_map};
 ghost use Rattle.khe_io.specs.Named.{bytes_at, bytes_from, bytes_under, IsPlaceIn};
 ghost use Rattle.std.specs.Prelude.{◌≡◌, ◌-◌, ◌<◌, ◌≤◌, ◌↔◌, [], ◌++◌, ◌+◌, length, take, drop, min, IfSome};

@@ -1,3 +1,5 @@
+//! Where bytes come from: the trait of all shelves.
+
 ghost use Rattle.std.specs.Prelude.{◌≡◌, ℕ, ◌<◌, ◌≤◌, ◌↔◌, List, Bool, Option, length, take, IsTrue, IsSome, IsOk, IsErr, IfOk, OnOk, OnErr, is_ok};
 ghost use Rattle.khe_io.specs.Faults.{Rose};
 ghost use Rattle.khe_io.specs.Shelf.{IsMissing, Opened, Gave, EndsWhereNoneIsLeft};

@@ -1,3 +1,5 @@
+//! Where bytes go to: the trait of all sinks.
+
 ghost use Rattle.std.specs.Prelude.{◌≡◌, ℕ, ◌<◌, ◌≤◌, List, Option, length, take, IfOk, OnOk, OnErr};
 ghost use Rattle.khe_io.specs.Faults.{Rose, Took};
 

@@ -1,3 +1,5 @@
+//! The standard output as a sink.
+
 ghost use Rattle.std.specs.Prelude.{◌≤◌, length, IfOk};
 
 use crate::faults::count_fault;

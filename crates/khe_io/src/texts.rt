@@ -1,3 +1,5 @@
+//! Whole texts: all bytes under a name of a shelf, and all bytes of a text to a sink.
+
 ghost use Rattle.std.specs.Prelude.{◌≡◌, ◌<◌, ◌≤◌, ◌↔◌, [], length, IsTrue, IsOk, IfOk, OnOk, OnErr, IsErrOf};
 ghost use Rattle.khe_io.specs.Faults.{Rose, Took, TookFront};
 ghost use Rattle.khe_io.specs.Shelf.{StandsUnder, StandsAbove, IsMissing};

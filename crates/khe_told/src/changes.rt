@@ -1,3 +1,5 @@
+//! The six changes, the smallest steps of an edit.
+
 ghost use Rattle.std.specs.Prelude.{◌≡◌};
 ghost use Rattle.khe_told.specs.Changes.{meet_of, inverse, span_after};
 

@@ -1,3 +1,5 @@
+//! The sixteen edits, and the record that leads back from each.
+
 use khe_base::{GroupId, MeetId, MonitorId, ResourceId, TaskId, TimeId};
 
 /// An edit of a timetable: ten of its meets and tasks, six of its monitors and their groups.

@@ -1,3 +1,5 @@
+//! Why an edit or a mark is refused, with the number and the name of each cause.
+
 ghost use Rattle.std.specs.Prelude.{◌≡◌, IsTrue};
 ghost use Rattle.khe_base.specs.Text.{is_ascii};
 ghost use Rattle.khe_told.specs.Refusals.{row_of};

@@ -1,3 +1,5 @@
+//! One meet slot as it is stored, and how a change turns it.
+
 ghost use Rattle.std.specs.Prelude.{◌≡◌, ◌<◌, length, slice_get};
 ghost use Rattle.khe_told.specs.Changes.{after, meet_of};
 ghost use Rattle.khe_told.specs.Fits.{Suits};

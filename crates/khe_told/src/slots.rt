@@ -1,3 +1,5 @@
+//! One meet slot as contracts see it.
+
 use khe_base::{EventId, MeetId, ResourceId, Seq, TimeId};
 
 /// How long a live meet is, and when it starts.

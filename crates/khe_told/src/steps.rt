@@ -1,3 +1,5 @@
+//! The count of monitors that were measured anew.
+
 ghost use Rattle.std.specs.Prelude.{◌≡◌, ◌+◌, ◌<◌};
 
 use std::marker::Model;

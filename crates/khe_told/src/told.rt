@@ -1,3 +1,5 @@
+//! The told state: the meets and tasks after all changes so far.
+
 ghost use Rattle.std.specs.Prelude.{◌≡◌, ◌<◌, ◌≤◌, length, slice_get, slice_set, IfOk, MatchOption, Some};
 ghost use Rattle.khe_instance.specs.States.{IsTold};
 ghost use Rattle.khe_told.specs.Slots.{emptied, length_of, no_meets, no_slot, slot_at};
@@ -21,7 +23,9 @@ use std::marker::Model;
 /// The meets and tasks that were told. Contracts see the list of slots.
 ///
 /// It keeps one row for each meet slot and one entry for each task slot, a few bytes each. No call
-/// but `open` takes memory, and each takes constant time.
+/// but `open` and `from_plain` takes memory. Each takes constant time, but for those two, for
+/// `turn_to` and `follow`, and for noting that a meet is added or dropped: these three go through the
+/// places of the meet's event.
 #[derive(Drop)]
 pub struct Told {
     rows: Vec<Row>,

@@ -1,3 +1,5 @@
+//! What becomes of one meet slot at an edit, whatever changes lead there.
+
 ghost use Rattle.std.specs.Prelude.{◌≡◌, true, false};
 ghost use Rattle.khe_told.specs.Turns.{duration_of};
 

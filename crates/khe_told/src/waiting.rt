@@ -1,3 +1,5 @@
+//! Monitors that wait to be measured anew.
+
 ghost use Rattle.std.specs.Prelude.{◌≡◌, ◌<◌, ◌≤◌, ◌+◌, ◌++◌, ◌∷◌, [], ◌||◌, ◌&&◌, Bool, ℕ, true, false, length, nat_eq, replicate, slice_set, vec_capacity, vec_len, IfOk, MatchOption};
 ghost use Rattle.std.specs.List.{count_by};
 ghost use Rattle.khe_told.specs.Waits.{AreListedOnce, waits_in};

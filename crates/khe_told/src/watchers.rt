@@ -1,3 +1,5 @@
+//! The trait of what is notified of each change of a timetable.
+
 ghost use Rattle.std.specs.Prelude.{◌≡◌, ◌≤◌, ◌+◌, ◌++◌, ◌∷◌, [], Bool, true, List, Option};
 ghost use Rattle.std.specs.Option.{option_map};
 ghost use Rattle.khe_instance.specs.declared.parts.Parts.{Parts};

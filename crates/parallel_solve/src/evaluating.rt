@@ -1,3 +1,5 @@
+//! All solutions of an archive, judged by several workers.
+
 ghost use Rattle.std.specs.Prelude.{◌≡◌, ◌≤◌, IfOk, Ok, map};
 ghost use Rattle.std.specs.List.{enumerate_from, flat_map};
 ghost use Rattle.khe_base.specs.declared.limits.TheConstants.{WORKERS};

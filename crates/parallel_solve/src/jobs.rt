@@ -1,3 +1,5 @@
+//! The trait of what is done for the solutions of an archive.
+
 ghost use Rattle.std.specs.Prelude.{◌≡◌, ◌+◌, ◌<◌, ◌≤◌, ◌^◌, ℕ, List, IfOk, map, length};
 ghost use Rattle.resource_deviations.specs.Sets.{room_for};
 ghost use Rattle.parallel_solve.specs.Ready.{AreOnes};

@@ -1,3 +1,5 @@
+//! The batches of solutions that workers share.
+
 ghost use Rattle.std.specs.Prelude.{◌≡◌, ◌+◌, ◌≤◌, IfSome};
 
 use std::sync::atomic::{AtomicUsize, Ordering};

@@ -1,3 +1,5 @@
+//! What comes of a solution: its costs, or the cause for which it is invalid.
+
 ghost use Rattle.std.specs.Prelude.{◌≡◌, IfOk, IsSome, Some, map, slice_get};
 ghost use Rattle.resource_deviations.specs.Sets.{room_for};
 ghost use Rattle.xhstt_completion.specs.Completed as completion;

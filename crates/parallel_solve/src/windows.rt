@@ -1,3 +1,5 @@
+//! A window over the solutions: as many batches as keep its memory small.
+
 ghost use Rattle.std.specs.Prelude.{◌≡◌, ◌+◌, ◌<◌, ◌≤◌, ◌^◌, ℕ, List, IfOk, map, length};
 ghost use Rattle.khe_base.specs.declared.limits.TheConstants.{WORKERS};
 ghost use Rattle.resource_deviations.specs.Sets.{room_for};

@@ -1,3 +1,5 @@
+//! Costs and totals by deviations.
+
 ghost use Rattle.std.specs.Prelude.{◌≡◌, ◌≤◌, ◌+◌, ◌^◌, ◌<◌, if◌then◌else◌, All, IfOk, ℕ, length};
 ghost use Rattle.khe_base.specs.IdSet.{has_member};
 ghost use Rattle.khe_base.specs.declared.limits.TheConstants.{GREATEST_COST, GREATEST_DEVIATION, GREATEST_TOTAL};

@@ -1,3 +1,5 @@
+//! What a timetable costs, from scratch.
+
 ghost use Rattle.std.specs.Prelude.{◌≡◌, ◌≤◌, All, IfOk};
 ghost use Rattle.khe_base.specs.declared.limits.TheConstants.{GREATEST_COST, GREATEST_DEVIATION, GREATEST_TOTAL};
 ghost use Rattle.khe_instance.specs.Evaluated as evaluated;

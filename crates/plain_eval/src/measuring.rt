@@ -1,3 +1,5 @@
+//! The deviations of all monitors of a timetable.
+
 ghost use Rattle.std.specs.Prelude.{◌≡◌, ◌≤◌, All, IfOk};
 ghost use Rattle.event_deviations.specs.Rooms.{room_for as room_of_events};
 ghost use Rattle.khe_base.specs.declared.limits.TheConstants.{GREATEST_DEVIATION};

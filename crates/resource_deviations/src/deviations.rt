@@ -1,3 +1,5 @@
+//! The deviations of all monitors at resources.
+
 ghost use Rattle.resource_deviations.specs.Filled.{IsFilled};
 
 use crate::filling::{add_counts, add_workload, no_workloads};

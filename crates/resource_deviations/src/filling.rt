@@ -1,3 +1,5 @@
+//! Adding the tasks of a timetable up for each resource.
+
 ghost use Rattle.std.specs.Prelude.{◌≡◌, ◌+◌, ◌*◌, ◌^◌, ◌/◌, ◌<◌, ◌≤◌, ◌&&◌, ℕ, ◌==◌, nat_le, nat_lt, if◌then◌else◌, IfOk, length, replicate, slice_index};
 ghost use Rattle.khe_base.specs.declared.limits.TheConstants.{GREATEST_COUNT, NUMBER};
 ghost use Rattle.khe_instance.specs.ResourceDeviation.{workload_of};

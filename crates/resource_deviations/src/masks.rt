@@ -1,3 +1,5 @@
+//! The sets of times of one constraint, as masks.
+
 ghost use Rattle.std.specs.Prelude.{◌≡◌, ◌∷◌, [], IfOk};
 ghost use Rattle.resource_deviations.specs.Sets.{sets_of};
 

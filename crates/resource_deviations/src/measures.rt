@@ -1,3 +1,5 @@
+//! What is counted in the timetable of a resource: clashes, busy and idle times.
+
 ghost use Rattle.std.specs.Prelude.{◌≡◌, ◌+◌, ◌-◌, ◌*◌, ◌^◌, ◌<◌, ◌≤◌, nat_lt, length, All, slice_index};
 ghost use Rattle.std.specs.List.{count_by, sum_by, range_with_len};
 ghost use Rattle.khe_base.specs.Bounds.{count_outside};

@@ -1,3 +1,5 @@
+//! The sets of times of all constraints of an instance, as masks.
+
 ghost use Rattle.std.specs.Prelude.{◌≡◌, ◌<◌, IfOk, Some, length, slice_get};
 ghost use Rattle.resource_deviations.specs.Sets.{room_for};
 

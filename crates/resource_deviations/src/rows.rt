@@ -1,3 +1,5 @@
+//! Which resources have a row of counts of their own.
+
 ghost use Rattle.std.specs.Prelude.{◌≡◌, ◌+◌, ◌^◌, ◌<◌, ◌≤◌, ℕ, length, slice_index, All, IfOk, IfSome};
 ghost use Rattle.khe_base.specs.declared.limits.TheConstants.{TASKS};
 ghost use Rattle.resource_deviations.specs.Rows.{AreRows, HasRow, IsResource};

@@ -1,3 +1,5 @@
+//! Sets of times whose busy and idle times are counted.
+
 ghost use Rattle.std.specs.Prelude.{◌≡◌, ◌+◌, ◌-◌, ◌*◌, ◌%◌, ◌^◌, ◌<◌, ◌≤◌, ◌&&◌, ℕ, false, length, nat_lt, slice_index, count_ones, IfOk, IsSomeAnd, MatchOption};
 ghost use Rattle.std.specs.Int.{w64, trailing_zeros, leading_zeros};
 ghost use Rattle.khe_base.specs.Bits.{is_set, words_for};

@@ -1,3 +1,5 @@
+//! How often one resource is used at each time.
+
 ghost use Rattle.std.specs.Prelude.{◌≡◌, ◌+◌, ◌-◌, ◌*◌, ◌^◌, ◌<◌, ℕ, length, nat_lt, replicate, slice_index, slice_set, IfOk};
 ghost use Rattle.khe_base.specs.declared.limits.TheConstants.{GREATEST_COUNT};
 ghost use Rattle.khe_base.specs.Bits.{has_bit, words_for};

@@ -1,3 +1,5 @@
+//! How often each resource is used at each time.
+
 ghost use Rattle.std.specs.Prelude.{◌≡◌, ◌+◌, ◌-◌, ◌*◌, ◌<◌, ℕ, length, nat_lt, IfOk};
 ghost use Rattle.khe_base.specs.declared.limits.TheConstants.{GREATEST_COUNT};
 ghost use Rattle.khe_base.specs.Bits.{has_bit, words_for};

@@ -1,3 +1,5 @@
+//! The state that a solution says, completed.
+
 ghost use Rattle.std.specs.Prelude.{◌≡◌, [], length, ◌<◌, IfOk, IfErr, Ok, Some, slice_get};
 ghost use Rattle.std.specs.Option.{option_copied};
 ghost use Rattle.khe_instance.specs.States.{IsValid};

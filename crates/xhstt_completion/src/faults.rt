@@ -1,3 +1,5 @@
+//! Why there is no state for a solution.
+
 use khe_base::NoMemory;
 use thiserror::Error;
 

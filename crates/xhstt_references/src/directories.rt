@@ -1,3 +1,5 @@
+//! The names of all parts of an instance.
+
 use khe_base::Names;
 
 /// The Ids of an instance's parts, each numbered in the order of the text.

@@ -1,3 +1,5 @@
+//! Why the names of an archive lead nowhere.
+
 use khe_base::NoMemory;
 use std::alloc::AllocFailed;
 use thiserror::Error;

@@ -1,3 +1,5 @@
+//! The first of several places in a text.
+
 ghost use Rattle.std.specs.Prelude.{◌≡◌, [], ◌∷◌};
 ghost use Rattle.std.specs.Option.{option_map};
 ghost use Rattle.xhstt_references.specs.Faults.{IsTold};

@@ -1,3 +1,5 @@
+//! The trait of what has an Id.
+
 ghost use Rattle.xhstt_shape.specs.declared.records.Name.{Name};
 ghost use Rattle.std.specs.Prelude.{◌≡◌};
 

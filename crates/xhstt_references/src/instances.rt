@@ -1,3 +1,5 @@
+//! The names of one instance, or its first fault.
+
 ghost use Rattle.std.specs.Prelude.{◌≡◌, ◌+◌, nat_lt, false, [], map, length, IfOk};
 ghost use Rattle.std.specs.List.{flat_map};
 ghost use Rattle.std.specs.Option.{option_map_or};

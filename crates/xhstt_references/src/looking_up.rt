@@ -1,3 +1,4 @@
+//! References that name nothing.
 #![tactic(auto, using(crate::proofs::FirstLemmas::place_steps))]
 
 ghost use Rattle.std.specs.Prelude.{◌≡◌, List, ℕ};

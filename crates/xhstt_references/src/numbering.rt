@@ -1,3 +1,5 @@
+//! The names of times, resources and events, each numbered in the order of the text.
+
 ghost use Rattle.std.specs.Prelude.{◌≡◌, ◌++◌, [], map, IfOk, OnOk};
 ghost use Rattle.xhstt_references.specs.First.{first_of};
 ghost use Rattle.xhstt_references.specs.Ids as ids;

@@ -1,3 +1,5 @@
+//! Making the parts of an instance that keeps its limits.
+
 ghost use Rattle.std.specs.Prelude.{◌≡◌, ◌≤◌, map, IfOk};
 ghost use Rattle.khe_base.specs.declared.limits.TheConstants.{DURATION};
 ghost use Rattle.xhstt_references.specs.Ids.{time_ids};

@@ -1,3 +1,5 @@
+//! What numbers are collected in: sets, counts, and lists without repeats.
+
 ghost use Rattle.std.specs.Prelude.{◌≡◌, ℕ, ◌<◌, length, IfOk, OnOk};
 ghost use Rattle.khe_base.specs.IdSet.{with_member};
 ghost use Rattle.xhstt_resolve.specs.Collected.{with_mention, no_mentions};

@@ -1,3 +1,5 @@
+//! How many monitors and watches an instance has, before any is made.
+
 ghost use Rattle.std.specs.Prelude.{◌≡◌, length, IfOk};
 ghost use Rattle.xhstt_resolve.specs.Followed.{with_count};
 ghost use Rattle.xhstt_resolve.specs.Limits.{watch_count};

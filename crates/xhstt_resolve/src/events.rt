@@ -1,3 +1,5 @@
+//! Events with their places and meet slots.
+
 ghost use Rattle.std.specs.Prelude.{◌≡◌, ◌≤◌, IfOk};
 ghost use Rattle.khe_base.specs.declared.limits.TheConstants.{DURATION};
 ghost use Rattle.xhstt_resolve.specs.Limits.{total_duration};

@@ -1,3 +1,5 @@
+//! Why an archive has no instances.
+
 use khe_base::NoMemory;
 use thiserror::Error;
 use xhstt_references::ReferenceFault;

@@ -1,3 +1,5 @@
+//! One instance, or the first limit that it is above.
+
 ghost use Rattle.std.specs.Prelude.{◌≡◌, ◌≤◌, ◌*◌, ◌^◌, ◌<◌, None, length, map, IfOk, IfErr};
 ghost use Rattle.khe_base.specs.declared.limits.TheConstants.{RESOURCES, TIMES};
 ghost use Rattle.xhstt_references.specs.Directories.{IsDirectoryOf};

@@ -1,3 +1,5 @@
+//! The members of groups.
+
 ghost use Rattle.std.specs.Prelude.{◌≡◌, ◌<◌, ◌^◌, ◌∷◌, [], List, ℕ, true, length, map, slice_set, slice_index_or, replicate, IfOk, OnOk};
 ghost use Rattle.std.specs.Option.{option_copied, option_to_list};
 ghost use Rattle.khe_base.specs.Names.{are_distinct};

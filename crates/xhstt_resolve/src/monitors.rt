@@ -1,3 +1,5 @@
+//! Following constraints out into monitors.
+
 ghost use Rattle.std.specs.Prelude.{◌≡◌, ◌++◌, IfOk};
 ghost use Rattle.khe_instance.specs.Kinds.{kind_of};
 ghost use Rattle.xhstt_resolve.specs.Followed.{with_monitor};

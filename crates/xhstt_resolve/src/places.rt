@@ -1,3 +1,5 @@
+//! The places of an event, its own and those of its groups.
+
 ghost use Rattle.std.specs.Prelude.{◌≡◌, ◌++◌, map, IfOk, OnOk};
 ghost use Rattle.std.specs.List.{flat_map};
 ghost use Rattle.xhstt_resolve.specs.Parts.{place_type, fixed_resource, role_text, workload_of, place_of, member_place, group_places, places_of};

@@ -1,3 +1,5 @@
+//! The points of a constraint, each at its first mention.
+
 ghost use Rattle.std.specs.Prelude.{◌≡◌, ◌≤◌, ◌<◌, ◌^◌, ◌∷◌, [], if◌then◌else◌, map, length, IfOk, OnOk};
 ghost use Rattle.std.specs.List.{fold, flat_map};
 ghost use Rattle.std.specs.Option.{option_copied, option_to_list};

@@ -1,3 +1,5 @@
+//! All instances of an archive, or its first fault.
+
 ghost use Rattle.std.specs.Prelude.{◌≡◌, ◌<◌, ◌≤◌, ◌∷◌, [], ◌^◌, All, None, Ok, length, map, IfOk, IfErr, OnOk, ◌++◌};
 ghost use Rattle.std.specs.Option.{option_map};
 ghost use Rattle.xhstt_references.specs.Directories.{directory_of};

@@ -1,3 +1,5 @@
+//! Resources with their types.
+
 ghost use Rattle.std.specs.Prelude.{◌≡◌, ◌<◌, ◌^◌, length, map, unwrap_or, IfOk};
 ghost use Rattle.khe_base.specs.Names.{number_of};
 ghost use Rattle.xhstt_resolve.specs.Parts.{type_named, type_at, type_of_resource, resource_of, group_of};

@@ -1,3 +1,5 @@
+//! The event resources of an event by their roles.
+
 ghost use Rattle.std.specs.Prelude.{◌≡◌, ◌<◌, ◌^◌, length, IfOk};
 ghost use Rattle.std.specs.Option.{option_copied};
 ghost use Rattle.xhstt_resolve.specs.Roles.{role_texts, role_places, numbered_roles, role_table, roles_of, table_at, place_at};

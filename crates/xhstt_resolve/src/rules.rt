@@ -1,3 +1,5 @@
+//! Constraints with their rules: names have become numbers and sets.
+
 ghost use Rattle.std.specs.Prelude.{◌≡◌, map, IfOk};
 ghost use Rattle.xhstt_resolve.specs.Members.{listed_times, listed_resources, time_set, resource_set};
 ghost use Rattle.xhstt_resolve.specs.Parts.{constraint_of};

@@ -1,3 +1,5 @@
+//! How many tasks an instance has, and how long its events are.
+
 ghost use Rattle.std.specs.Prelude.{◌≡◌, ◌≤◌, ◌^◌, ◌*◌, length, map, find, nat_lt};
 ghost use Rattle.khe_base.specs.declared.limits.TheConstants.{EVENTS, LISTED};
 ghost use Rattle.xhstt_resolve.specs.Limits.{total_duration, task_count, listed_groups};

@@ -1,3 +1,5 @@
+//! The times, resources and events of an instance by their names and groups.
+
 ghost use Rattle.std.specs.Prelude.{◌≡◌, ◌<◌, ◌≤◌, ◌^◌, length, IfOk, OnOk};
 ghost use Rattle.std.specs.List.{fold, flat_map};
 ghost use Rattle.khe_base.specs.Names.{number_of};

@@ -1,3 +1,5 @@
+//! The unit in which an instance's workloads are counted whole.
+
 ghost use Rattle.std.specs.Prelude.{◌≡◌, ◌≤◌, All, None, Some, IfOk, IfErr, map, find, nat_lt};
 ghost use Rattle.khe_base.specs.declared.limits.TheConstants.{UNIT};
 ghost use Rattle.xhstt_resolve.specs.Units.{running_units, unit_of};

@@ -1,3 +1,5 @@
+//! How much a constraint watches at a point.
+
 ghost use Rattle.std.specs.Prelude.{◌≡◌, ◌≤◌, ◌^◌, ◌∷◌, [], length};
 ghost use Rattle.std.specs.List.{sum_by};
 ghost use Rattle.khe_base.specs.declared.limits.TheConstants.{TIMES};

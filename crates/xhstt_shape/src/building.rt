@@ -1,3 +1,5 @@
+//! The trait of what is built from an element, and lists and options of such records.
+
 ghost use Rattle.std.specs.Prelude.{◌≡◌, [], IfOk, map};
 ghost use Rattle.std.specs.Option.{option_map};
 ghost use Rattle.xhstt_text.specs.Handles.{Standing};

@@ -1,3 +1,5 @@
+//! Building constraints from elements.
+
 ghost use Rattle.std.specs.Prelude.{◌≡◌, IfOk};
 ghost use Rattle.std.specs.List.{filter_map};
 ghost use Rattle.xhstt_shape.specs.Values as spec;

@@ -1,3 +1,5 @@
+//! A constraint as it is written in an archive.
+
 use crate::records::{Name, Ref};
 use khe_base::{CostFn, Seq, Text};
 

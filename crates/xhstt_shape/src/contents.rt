@@ -1,3 +1,5 @@
+//! The texts and numbers that stand in an element.
+
 ghost use Rattle.std.specs.Prelude.{◌≡◌, ◌≤◌, [], IfOk, IsTrue, length, not, unwrap_or};
 ghost use Rattle.std.specs.List.{list_all};
 ghost use Rattle.khe_base.specs.Text.{text_of};

@@ -1,3 +1,5 @@
+//! Why a tree is not that of an archive.
+
 ghost use Rattle.std.specs.Prelude.{◌≡◌};
 ghost use Rattle.xhstt_shape.specs.Faults as spec;
 

@@ -1,3 +1,5 @@
+//! The first child or attribute of a name.
+
 ghost use Rattle.std.specs.Prelude.{◌≡◌, ◌∷◌, IfSome, IfNone, IsTrue, MatchOption, is_some, None, Some};
 ghost use Rattle.xhstt_shape.specs.Walk as spec;
 ghost use Rattle.xhstt_text.specs.Handles.{attribute_of};

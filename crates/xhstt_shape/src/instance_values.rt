@@ -1,3 +1,5 @@
+//! Building instances from elements.
+
 ghost use Rattle.std.specs.Prelude.{◌≡◌, IfOk};
 ghost use Rattle.xhstt_shape.specs.Values as spec;
 

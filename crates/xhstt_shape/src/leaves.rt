@@ -1,3 +1,5 @@
+//! Building references, names and other records without children of their own.
+
 ghost use Rattle.std.specs.Prelude.{◌≡◌, IfOk};
 ghost use Rattle.xhstt_shape.specs.Values as spec;
 

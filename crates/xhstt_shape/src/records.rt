@@ -1,3 +1,5 @@
+//! An archive as records: what its elements say, before any Id is looked up.
+
 use crate::constraints::RawConstraint;
 use khe_base::{Seq, Text};
 

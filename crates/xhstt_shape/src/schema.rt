@@ -1,3 +1,5 @@
+//! The table of elements: which children, attributes and texts each element may have.
+
 ghost use Rattle.std.specs.Prelude.{◌≡◌};
 ghost use Rattle.xhstt_shape.specs.Schema as schema;
 

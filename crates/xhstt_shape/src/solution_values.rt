@@ -1,3 +1,5 @@
+//! Building solution groups, solutions and their events from elements.
+
 ghost use Rattle.xhstt_shape.specs.Values as spec;
 
 use crate::building::{Build, all, every, optional};

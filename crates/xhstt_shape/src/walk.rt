@@ -1,3 +1,5 @@
+//! The walk over a tree that finds its first fault against the table of elements.
+
 ghost use Rattle.std.specs.Prelude.{◌≡◌, ◌≤◌, ◌<◌, ℕ, List, [], true, if◌then◌else◌, length, nat_eq};
 ghost use Rattle.std.specs.List.{position};
 ghost use Rattle.khe_base.specs.Bits.{has_bit};

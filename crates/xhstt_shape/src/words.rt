@@ -1,3 +1,5 @@
+//! The names of elements, attributes and values.
+
 ghost use Rattle.std.specs.Prelude.{◌≡◌};
 ghost use Rattle.std.specs.Str.{bytes_eq};
 ghost use Rattle.xhstt_shape.specs.Words as words;

@@ -1,3 +1,5 @@
+//! The attributes of an element, one after another.
+
 ghost use Rattle.std.specs.Prelude.{◌≡◌, ◌<◌, ◌∷◌, [], length, MatchOption, OnSome, All, map};
 
 use crate::tree::{Attribute, Span};

@@ -1,3 +1,5 @@
+//! Which bytes are white, begin a name, go on in one, or may stand in a text.
+
 ghost use Rattle.std.specs.Prelude.{◌≡◌, ◌+◌, ◌≤◌, ◌∷◌, length, drop, MatchOption, false};
 ghost use Rattle.std.specs.List.{prefix_len};
 ghost use Rattle.xhstt_text.specs.Bytes.{is_white, is_first, is_name, is_text, is_quoted};

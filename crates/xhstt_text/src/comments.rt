@@ -1,3 +1,5 @@
+//! Reading comments.
+
 ghost use Rattle.std.specs.Prelude.{◌≡◌, ◌<◌, ◌≤◌, false, length, IfOk, [], List};
 ghost use Rattle.xhstt_text.specs.Bytes.{is_white};
 ghost use Rattle.xhstt_text.specs.Machine.{Region, Read, bang, in_comment, phase_of, run};

@@ -1,3 +1,5 @@
+//! A place in a text that is read.
+
 ghost use Rattle.std.specs.Prelude.{◌≡◌, ◌+◌, ◌^◌, ◌<◌, length};
 
 /// A place in a text, and the bytes from there on.

@@ -1,3 +1,5 @@
+//! A text as it is written between tags or in an attribute.
+
 ghost use Rattle.std.specs.Prelude.{◌≡◌, ◌++◌, OnOk, OnErr, IfOk, encode_utf8_all};
 ghost use Rattle.xhstt_text.specs.Escape.{escaped, escaped_character};
 ghost use Rattle.xhstt_text.specs.Unescape.{unescaped};

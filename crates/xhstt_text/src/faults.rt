@@ -1,3 +1,5 @@
+//! Why bytes are not read as a tree, with the place and the kind of each fault.
+
 ghost use Rattle.std.specs.Prelude.{◌≡◌};
 ghost use Rattle.xhstt_text.specs.Faults as spec;
 

@@ -1,3 +1,5 @@
+//! Handles on the elements of a tree, and the walk over the children of one.
+
 ghost use Rattle.std.specs.Prelude.{◌≡◌, ◌<◌, ◌↔◌, IsTrue, length, MatchOption, OnSome, IfSome};
 ghost use Rattle.std.specs.Str.{bytes_eq};
 ghost use Rattle.xhstt_text.specs.Forest.{empty, node};

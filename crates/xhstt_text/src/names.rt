@@ -1,3 +1,5 @@
+//! The names of the attributes of one tag, of which no two are the same.
+
 ghost use Rattle.std.specs.Prelude.{◌≡◌, ◌∷◌, [], List, ℕ, not, IfOk, OnOk};
 ghost use Rattle.xhstt_text.specs.Document.{has_name};
 ghost use Rattle.xhstt_text.specs.Reading.{Holds};

@@ -1,3 +1,5 @@
+//! What may stand before the root: a byte order mark, a declaration, comments and white.
+
 ghost use Rattle.std.specs.Prelude.{◌≡◌, ◌≤◌, ◌<◌, ◌∷◌, ◌+◌, ◌++◌, [], true, false, drop, length, IfOk, MatchOption};
 ghost use Rattle.xhstt_text.specs.Bytes.{is_white};
 ghost use Rattle.xhstt_text.specs.Machine.{Read, at_declaration, beginning, content, in_declaration, question, run};

@@ -1,3 +1,5 @@
+//! Reading a whole text as a tree.
+
 ghost use Rattle.std.specs.Prelude.{◌≡◌, ◌<◌, ◌^◌, ◌⊎◌, ℕ, length, IfOk, Ok, Err, []};
 ghost use Rattle.xhstt_text.specs.Bytes.{is_white};
 ghost use Rattle.xhstt_text.specs.Document.{Document, IsSpellingOf, Spelled, Spells, table};

@@ -1,3 +1,5 @@
+//! References to characters, by name or by number.
+
 ghost use Rattle.std.specs.Prelude.{◌≡◌, ◌≤◌, ◌<◌, ◌+◌, ◌∷◌, [], ℕ, true, false, length, IfOk, MatchOption, MatchResult};
 ghost use Rattle.xhstt_text.specs.Machine.{Phase, Read, Within, after_piece, hash, hash_x, reference, reference_a, run, wide_1, wide_2, word};
 ghost use Rattle.xhstt_text.specs.Reading.{Enters, Fails, Leads, NoPiece, TakesDigit, begins, broken, is_byte};

@@ -1,3 +1,5 @@
+//! The table of elements while a text is read: its rows, and the elements that are still open.
+
 ghost use Rattle.std.specs.Prelude.{◌≡◌, ◌+◌, ◌<◌, ◌^◌, ◌++◌, ◌∷◌, [], length, set, IfOk, OnOk};
 ghost use Rattle.xhstt_text.specs.Machine.{closed_row};
 ghost use Rattle.xhstt_text.specs.Reading.{row_from};

@@ -1,3 +1,5 @@
+//! Reading start tags, end tags and empty tags.
+
 ghost use Rattle.std.specs.Prelude.{◌≡◌, ◌<◌, ◌≤◌, ◌+◌, ◌∷◌, ◌++◌, ◌^◌, ℕ, List, true, false, length, IfOk, MatchOption, [], set, Option, Some};
 ghost use Rattle.xhstt_text.specs.Bytes.{is_first, is_name, is_text, is_white, is_quote, is_quoted};
 ghost use Rattle.xhstt_text.specs.Document.{has_name};

@@ -1,3 +1,5 @@
+//! The tree of the elements of a text, as a table with one row for each element.
+
 ghost use Rattle.std.specs.Prelude.{◌≡◌, ℕ, Option};
 ghost use Rattle.xhstt_text.specs.Machine.{closed_row};
 ghost use Rattle.xhstt_text.specs.Packed.{with_loose};

@@ -1,3 +1,5 @@
+//! What the bytes between two tags or two quotes stand for.
+
 ghost use Rattle.std.specs.Prelude.{◌≡◌, ℕ, List, Some, [], ◌++◌, ◌≤◌, nat_lt, OnOk, IfOk, IfSome, unwrap_or, encode_utf8_all};
 ghost use Rattle.std.specs.List.{list_all};
 ghost use Rattle.std.specs.Option.{option_and_then};

@@ -1,3 +1,5 @@
+//! Bytes in memory as an output.
+
 ghost use Rattle.std.specs.Prelude.{◌≡◌, ◌++◌, [], ℕ, List, false};
 
 use crate::output::Output;

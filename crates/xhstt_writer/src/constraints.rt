@@ -1,3 +1,5 @@
+//! Writing constraints.
+
 ghost use Rattle.std.specs.Prelude.{◌≡◌, [], ◌∷◌, ℕ, List, Bool, true, false};
 ghost use Rattle.xhstt_shape.specs.declared.words.Tag.{Tag as AnyTag};
 ghost use Rattle.xhstt_writer.specs.Canonical as spec;

@@ -1,3 +1,5 @@
+//! Writing lists, and what may be missing.
+
 ghost use Rattle.std.specs.Prelude.{◌≡◌, [], ℕ, List, Bool, true, false, map, length};
 ghost use Rattle.xhstt_shape.specs.declared.words.Tag.{Tag as AnyTag};
 ghost use Rattle.xhstt_writer.specs.Trees.{Trees, none, filled};

@@ -1,3 +1,5 @@
+//! Writing tags, attributes and the line breaks between them.
+
 ghost use Rattle.std.specs.Prelude.{◌≡◌, ◌++◌, ◌∷◌, [], ℕ, List, Bool, true, false, Option, decimal, length, ◌<◌};
 ghost use Rattle.xhstt_shape.specs.Words.{word, label_word};
 ghost use Rattle.xhstt_writer.specs.Trees.{Labelled, Trees, none, filled, between, closed, leaf_end, attribute_spelled, attributes_spelled, value_bytes};

@@ -1,3 +1,5 @@
+//! Writing solution groups and solutions.
+
 ghost use Rattle.std.specs.Prelude.{◌≡◌, ℕ, List, Bool, true, false};
 ghost use Rattle.xhstt_writer.specs.Archives as spec;
 ghost use Rattle.xhstt_writer.specs.Trees.{Trees, none, filled};
