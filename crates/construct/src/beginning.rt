@@ -14,7 +14,6 @@ use std::alloc::Global;
 
 /// The timetable in which each event is cut, with what is preassigned alone. It takes time in proportion to
 /// the monitors, the meet slots and the tasks, and memory in proportion to the timetable and the events.
-
 pub(crate) fn begin(alloc: Global, inst: &Instance) -> Result<Plain, NoMemory>
     ensures { IfOk result (λ plain. plain ≡ begun inst.now) }
 {

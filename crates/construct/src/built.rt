@@ -1,3 +1,5 @@
+//! A timetable that was constructed.
+
 use khe_base::Totals;
 use khe_instance::Plain;
 

@@ -1,3 +1,5 @@
+//! Constructing a timetable of an instance.
+
 ghost use Rattle.std.specs.Prelude.{◌≡◌, ◌<◌, All, IfOk, IfSome, [], length};
 ghost use Rattle.std.specs.Option.{option_map_or};
 ghost use Rattle.construct.specs.Choices.{IsMove};

@@ -1,3 +1,5 @@
+//! The trait of families that can say what is short.
+
 ghost use Rattle.std.specs.Prelude.{◌≡◌, IfOk};
 ghost use Rattle.khe_instance.specs.declared.parts.Parts.{Parts};
 ghost use Rattle.demand_families.specs.Shortages.{AreCompeting, deficit_of};

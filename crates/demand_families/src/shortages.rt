@@ -1,3 +1,5 @@
+//! What is short in a timetable.
+
 ghost use Rattle.std.specs.Prelude.{◌≡◌, IfOk};
 ghost use Rattle.khe_instance.specs.declared.parts.Parts.{Parts};
 ghost use Rattle.hall_report.specs.Kept.{AreOf};

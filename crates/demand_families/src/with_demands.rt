@@ -1,3 +1,5 @@
+//! Families that keep the demands beside them.
+
 use crate::keepers::DemandKeeper;
 use crate::shortages::shortage_of;
 use hall_report::{Demand, Demands};

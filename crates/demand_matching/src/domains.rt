@@ -1,3 +1,5 @@
+//! The supplies that a demand may have.
+
 /// Some numbers: one, or those of a set that was given at the start.
 #[derive(Clone, Copy, Debug, PartialEq, Eq)]
 pub enum Pick {

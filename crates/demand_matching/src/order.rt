@@ -1,3 +1,5 @@
+//! The demands in the order of a search.
+
 ghost use Rattle.std.specs.Prelude.{◌≡◌, ◌<◌, length, IfOk};
 ghost use Rattle.demand_matching.specs.Order.{IsOrder, ChangesPlaces, IsCountedUp};
 

@@ -1,3 +1,5 @@
+//! The sets of resources and times that domains are made of.
+
 ghost use Rattle.std.specs.Prelude.{◌≡◌, ◌+◌, ◌*◌, ◌^◌, ◌<◌, ◌≤◌, ℕ, length, slice_index, IfOk};
 ghost use Rattle.khe_base.specs.Bits.{has_bit};
 ghost use Rattle.demand_matching.specs.Domains.{IsGiven, is_picked};

@@ -1,3 +1,5 @@
+//! The domains of demands, and who has which supply.
+
 ghost use Rattle.std.specs.Prelude.{◌≡◌, ◌≢◌, ◌+◌, ◌-◌, ◌*◌, ◌^◌, ◌<◌, ◌≤◌, ℕ, true, false, length, slice_index, Option, None, Some, IfSome, MatchOption};
 ghost use Rattle.khe_base.specs.Bits.{has_bit, is_set};
 ghost use Rattle.demand_matching.specs.Domains.{IsInRange, is_picked, domain_of, with_domain};

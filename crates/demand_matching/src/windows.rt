@@ -1,3 +1,5 @@
+//! Sixty-four bits of a row from any place on.
+
 ghost use Rattle.std.specs.Prelude.{◌≡◌, ◌+◌, ◌<◌, ℕ, slice_index};
 ghost use Rattle.khe_base.specs.Bits.{has_bit, is_set};
 

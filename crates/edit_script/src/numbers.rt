@@ -1,3 +1,5 @@
+//! The numbers in a line.
+
 ghost use Rattle.std.specs.Prelude.{◌≡◌, ◌≤◌, length, drop, MatchOption};
 ghost use Rattle.std.specs.Option.{option_map};
 ghost use Rattle.edit_script.specs.Numbers as spec;

@@ -1,3 +1,5 @@
+//! What a search for lower totals looks for, and what it came to.
+
 use khe_base::Totals;
 
 /// What a search for lower totals came to.

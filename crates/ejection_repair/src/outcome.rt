@@ -1,3 +1,5 @@
+//! How a repair ended.
+
 /// How a repair ended.
 #[derive(Clone, Copy, Debug, PartialEq, Eq)]
 pub enum Outcome {

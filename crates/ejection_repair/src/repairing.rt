@@ -1,3 +1,5 @@
+//! Repairing the timetable of an engine.
+
 ghost use Rattle.std.specs.Prelude.{◌≡◌, ◌<◌, ◌≤◌, ◌+◌, ◌*◌, [], length, IfOk, OnErr};
 ghost use Rattle.khe_base.specs.declared.limits.TheConstants.{CHAIN_MOVES, MARKS};
 ghost use Rattle.ejection_repair.specs.Bounds.{most_moves, IsWithin};

@@ -1,3 +1,5 @@
+//! Lists that are begun inside and taken round.
+
 use repair_moves::Cursor;
 
 /// A place of a list of moves that is begun inside and taken round.

@@ -1,3 +1,5 @@
+//! What the moves of a chain moved.
+
 ghost use Rattle.std.specs.Prelude.{◌≤◌};
 
 use repair_moves::Moved;

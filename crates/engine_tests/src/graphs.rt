@@ -1,3 +1,5 @@
+//! Graphs of monitors.
+
 use crate::hands::{
     Row, cost, edit, edit_and_undo, graph_of, group_cost, has_children, set_all, set_each,
 };

@@ -1,3 +1,5 @@
+//! Journals of records.
+
 use khe_base::NoMemory;
 use khe_told::Refusal;
 use std::process::Abort;

@@ -1,3 +1,5 @@
+//! The lines that answer the questions of a script.
+
 ghost use Rattle.std.specs.Prelude.{◌≡◌, ◌++◌, ◌<◌, length, OnOk, IfOk};
 ghost use Rattle.std.specs.Option.{option_map};
 ghost use Rattle.evaluation_report.specs.Answers.{group_line, meet_line, span_text, task_line, ok_line, refused_line, number_or_dash};

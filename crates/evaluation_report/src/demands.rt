@@ -1,3 +1,5 @@
+//! The lines on what is short.
+
 ghost use Rattle.std.specs.Prelude.{◌≡◌, ◌++◌, OnOk, IfOk};
 ghost use Rattle.evaluation_report.specs.Demands as spec;
 ghost use Rattle.hall_report.specs.declared.demand.Demand.TheVariants as demand;

@@ -1,3 +1,5 @@
+//! The lines of a report on solutions.
+
 ghost use Rattle.std.specs.Prelude.{◌≡◌, ◌++◌, ◌<◌, length, OnOk, IfOk, codes};
 ghost use Rattle.evaluation_report.specs.Lines.{header_line, solution_line, monitor_line, measured_line, monitor_head, monitor_tail, total_line, cause_at, invalid_line};
 

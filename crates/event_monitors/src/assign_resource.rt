@@ -1,3 +1,5 @@
+//! Assign Resource.
+
 use crate::counted::Counted;
 use crate::shares::{Share, moves_tasks};
 use crate::sums::{Sum, Summed};

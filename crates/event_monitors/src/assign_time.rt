@@ -1,3 +1,5 @@
+//! Assign Time.
+
 use crate::counted::Counted;
 use crate::shares::{Share, moves_meet};
 use crate::sums::{Sum, Summed};

@@ -1,3 +1,5 @@
+//! A keeper with a gauge for each monitor.
+
 use crate::gauges::Gauge;
 use crate::indexes::Index;
 use crate::posts::gauges_of;

@@ -1,3 +1,5 @@
+//! Distribute Split Events.
+
 use crate::counted::Counted;
 use crate::shares::{Share, resizes};
 use crate::sums::{Sum, Summed};

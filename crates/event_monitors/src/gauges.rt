@@ -1,3 +1,5 @@
+//! The trait of a gauge: what is kept for one monitor.
+
 ghost use Rattle.std.specs.Prelude.{◌≡◌, ◌≤◌, ◌<◌, Bool, true, false, ℕ, List, IfOk, slice_set, length};
 ghost use Rattle.khe_base.specs.declared.limits.TheConstants.{GREATEST_DEVIATION};
 ghost use Rattle.khe_instance.specs.WellMade.{IsMonitor};

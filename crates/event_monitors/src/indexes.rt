@@ -1,3 +1,5 @@
+//! Served monitors found by the events that they name.
+
 ghost use Rattle.std.specs.Prelude.{ℕ, ◌≡◌, ◌<◌, Some, length, slice_get, IfOk};
 ghost use Rattle.event_monitors.specs.Posts.{ArePosts, AreListed, ArePlaces};
 

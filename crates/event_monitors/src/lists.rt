@@ -1,3 +1,5 @@
+//! For each event the monitors that name it.
+
 ghost use Rattle.std.specs.Prelude.{ℕ, ◌≡◌, ◌<◌, ◌≤◌, ◌+◌, ◌==◌, ◌||◌, ◌++◌, ◌∷◌, [], Some, false, All, drop, length, replicate, slice_get, slice_index_or, slice_set, IfOk, OnOk};
 ghost use Rattle.khe_instance.specs.Watching.{pair_names};
 ghost use Rattle.khe_instance.specs.WellMade.{IsMonitor};

@@ -1,3 +1,5 @@
+//! A gauge of one of two sorts.
+
 use crate::gauges::Gauge;
 use khe_base::NoMemory;
 use khe_instance::{Instance, Kind, Monitor};

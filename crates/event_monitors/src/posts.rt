@@ -1,3 +1,5 @@
+//! The monitors that are served, with their numbers.
+
 ghost use Rattle.std.specs.Prelude.{◌≡◌, ◌++◌, ◌∷◌, [], if◌then◌else◌, length, IfOk, OnOk};
 ghost use Rattle.khe_told.specs.Slots.{no_meets};
 ghost use Rattle.event_monitors.specs.Posts.{ArePosts, AreKept};

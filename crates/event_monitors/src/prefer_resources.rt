@@ -1,3 +1,5 @@
+//! Prefer Resources.
+
 ghost use Rattle.std.specs.Prelude.{◌≡◌};
 ghost use Rattle.khe_instance.specs.EventDeviation.{misfilled_duration};
 

@@ -1,3 +1,5 @@
+//! Prefer Times.
+
 ghost use Rattle.std.specs.Prelude.{◌≡◌};
 ghost use Rattle.khe_instance.specs.EventDeviation.{misplaced_duration};
 

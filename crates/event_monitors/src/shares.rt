@@ -1,3 +1,5 @@
+//! What one slot adds to the sum of a monitor.
+
 ghost use Rattle.std.specs.Prelude.{◌≡◌, ◌≤◌, true, false, ℕ, Option};
 ghost use Rattle.khe_base.specs.declared.numbers.ResourceId.{ResourceId as Resource};
 ghost use Rattle.khe_instance.specs.WellMade.{IsMonitor};

@@ -1,3 +1,5 @@
+//! Split Events.
+
 ghost use Rattle.std.specs.Prelude.{◌≡◌, ◌≤◌, ◌+◌};
 ghost use Rattle.khe_base.specs.declared.limits.TheConstants.{NUMBER};
 ghost use Rattle.khe_instance.specs.WellMade.{IsRule};

@@ -1,3 +1,5 @@
+//! Kinds whose deviation is read from one sum.
+
 ghost use Rattle.std.specs.Prelude.{◌≡◌, ◌≤◌, ◌+◌, Bool, true, ℕ, List};
 ghost use Rattle.khe_base.specs.declared.limits.TheConstants.{NUMBER};
 ghost use Rattle.khe_instance.specs.Deviation.{deviation_at};

@@ -1,3 +1,5 @@
+//! Turning the gauges of the monitors that name an event.
+
 ghost use Rattle.std.specs.Prelude.{◌≡◌, ◌≢◌, ◌<◌, ℕ, false, true, length};
 ghost use Rattle.khe_told.specs.Turns.{IsTurn, turned};
 ghost use Rattle.khe_told.specs.Waits.{WaitOn};

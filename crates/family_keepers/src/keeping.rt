@@ -1,3 +1,5 @@
+//! The family of a keeper.
+
 ghost use Rattle.std.specs.Prelude.{ℕ, ◌≡◌, ◌<◌, ◌≤◌, ◌⊎◌, length, slice_set, true, None, Some};
 ghost use Rattle.khe_told.specs.Changes.{after_all};
 ghost use Rattle.khe_told.specs.Fits.{AllFit, AreTold};

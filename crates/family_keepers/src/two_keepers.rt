@@ -1,3 +1,5 @@
+//! Two keepers as one.
+
 use crate::keepers::Keeper;
 use khe_base::{MonitorId, NoMemory};
 use khe_instance::{Instance, Kind};

@@ -1,3 +1,5 @@
+//! A listener that counts what is set.
+
 ghost use Rattle.std.specs.Prelude.{◌≡◌, length, IfOk};
 
 use khe_base::NoMemory;

@@ -1,3 +1,5 @@
+//! One demand.
+
 use khe_base::{MeetId, ResourceId, TimeId};
 
 /// What wants one supply, a resource at a time, for itself. The order is that of the variants, and

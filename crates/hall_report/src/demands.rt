@@ -1,3 +1,5 @@
+//! The demands of a timetable, kept as it changes.
+
 ghost use Rattle.std.specs.Prelude.{◌≡◌, ◌==◌, ◌+◌, ◌*◌, ◌++◌, ◌<◌, ◌≤◌, ◌^◌, All, IfOk, OnOk, List, length, map};
 ghost use Rattle.std.specs.List.{filter, list_any};
 ghost use Rattle.khe_base.specs.IdSet.{has_member};

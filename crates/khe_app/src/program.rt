@@ -1,3 +1,5 @@
+//! The program: what its words ask for, and the status that it ends with.
+
 ghost use Rattle.std.specs.Prelude.{◌≡◌, ◌<◌, ◌≤◌, ◌⊎◌, ◌↔◌, ℕ, Bool, false, List, None, Some, map, IsTrue, IfOk, IfSome, IsErrOf, OnOk, length, slice_get, string_bytes, encode_utf8_all};
 ghost use Rattle.khe_base.specs.declared.limits.TheConstants.{ARCHIVE_BYTES, WORKERS};
 ghost use Rattle.khe_io.specs.Faults.{Rose, Took, TookFront};

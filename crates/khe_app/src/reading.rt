@@ -1,3 +1,5 @@
+//! Reading an archive with its instances.
+
 ghost use Rattle.std.specs.Prelude.{ℕ, ◌≡◌, ◌≤◌, length, Ok, IfOk, IfErr};
 ghost use Rattle.khe_base.specs.declared.limits.TheConstants.{ARCHIVE_BYTES};
 ghost use Rattle.khe_app.specs.Outcome.{Reading, evaluable, IsReadingOf};

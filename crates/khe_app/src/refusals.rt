@@ -1,3 +1,5 @@
+//! Why an archive is refused, and the line that says so.
+
 ghost use Rattle.std.specs.Prelude.{◌≡◌, ◌++◌, IfOk, IsTrue, OnOk, codes};
 ghost use Rattle.khe_base.specs.Text.{is_ascii};
 ghost use Rattle.khe_app.specs.Refusals as spec;

@@ -1,3 +1,5 @@
+//! The report of `evaluate`.
+
 ghost use Rattle.std.specs.Prelude.{◌≡◌, ◌≤◌, ◌<◌, ◌+◌, ◌++◌, ◌^◌, ℕ, List, [], Option, IfOk, length, map, OnOk, OnErr, IsErrOf, encode_utf8_all};
 ghost use Rattle.khe_io.specs.Faults.{Rose, Took, TookFront};
 ghost use Rattle.khe_io.specs.Amid.{IsAmid};

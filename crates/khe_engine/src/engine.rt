@@ -1,3 +1,5 @@
+//! The engine: a timetable that is edited, with its costs, marks and undo.
+
 ghost use Rattle.std.specs.Prelude.{ℕ, ◌≡◌, ◌↔◌, ◌<◌, ◌≤◌, ◌+◌, ◌-◌, ◌⊎◌, ◌∷◌, [], false, true, None, Err, List, length, IfErr, IfOk, IsOk, OnErr, OnOk};
 ghost use Rattle.khe_base.specs.Totals.{is_lower};
 ghost use Rattle.khe_base.specs.declared.limits.TheConstants.{MARKS};

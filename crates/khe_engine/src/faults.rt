@@ -1,3 +1,5 @@
+//! Why an edit was not made.
+
 ghost use Rattle.std.specs.Prelude.{◌≡◌};
 ghost use Rattle.khe_engine.specs.declared.faults.EditFault.TheVariants.{Refused, NoMemory as NoRoom};
 

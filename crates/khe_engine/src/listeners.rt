@@ -1,3 +1,5 @@
+//! Who is notified of each change: the families, and through them the graph.
+
 use crate::settling::settle;
 use khe_instance::Instance;
 use khe_told::{Change, Family, Steps, Waiting, Watcher};

@@ -14,7 +14,6 @@ use std::sync::ledger::Ledger;
 
 /// Notes a watcher that was told of no meets of all meets of a timetable and their tasks, in time in
 /// proportion to the meet slots and the watchers of what comes.
-
 pub(crate) fn tell_all<V: Watcher, L: Ledger>(
     inst: &Instance,
     solution: &Solution<'_>,
@@ -36,7 +35,6 @@ pub(crate) fn tell_all<V: Watcher, L: Ledger>(
 }
 
 /// Notes it of the meet of one slot, if there is one.
-
 fn tell_slot<V: Watcher, L: Ledger>(
     inst: &Instance,
     solution: &Solution<'_>,
@@ -103,7 +101,6 @@ fn tell_tasks<V: Watcher, L: Ledger>(
 }
 
 /// Notes it of what one place is given, if anything.
-
 fn tell_task<V: Watcher, L: Ledger>(
     inst: &Instance,
     solution: &Solution<'_>,
@@ -129,7 +126,6 @@ fn tell_task<V: Watcher, L: Ledger>(
 }
 
 /// Notes it of the start of a meet, if it has one.
-
 fn tell_start<V: Watcher, L: Ledger>(
     inst: &Instance,
     solution: &Solution<'_>,

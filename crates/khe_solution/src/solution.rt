@@ -1,3 +1,5 @@
+//! A timetable that is edited, and what is asked of it.
+
 ghost use Rattle.std.specs.Prelude.{◌≡◌, ◌≤◌, ◌<◌, ◌+◌, ◌*◌, ◌++◌, ◌^◌, ℕ, true, length, vec_capacity, Option, Some, None, Ok, Err, IfOk, OnOk, OnErr};
 ghost use Rattle.std.specs.Option.{option_map};
 ghost use Rattle.khe_instance.specs.States.{IsValid};

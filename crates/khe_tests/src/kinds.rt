@@ -1,3 +1,5 @@
+//! Archives of each kind of constraint.
+
 use crate::ends::must_answer;
 use khe_base::NoMemory;
 use program_runs::End;

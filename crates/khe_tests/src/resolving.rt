@@ -1,3 +1,5 @@
+//! Archives whose names and references are resolved.
+
 use crate::archives::replaced;
 use crate::ends::must_answer;
 use program_runs::End;

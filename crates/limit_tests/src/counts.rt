@@ -1,3 +1,5 @@
+//! The limits on the parts of an instance.
+
 use crate::limits::{HEAD, Limit, NOTHING_DEVIATES, TAIL, TYPES, must_be_kept};
 use program_runs::Piece::{Numbered, Once};
 use std::test::Fail;

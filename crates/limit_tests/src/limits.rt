@@ -1,3 +1,5 @@
+//! Pairs of archives, one at a limit and one above it.
+
 use crate::ends::must_answer;
 use khe_base::{NoMemory, Text, both};
 use program_runs::{End, Piece, push_all, text_of};

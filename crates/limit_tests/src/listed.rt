@@ -1,3 +1,5 @@
+//! The limits on what groups and constraints list.
+
 use crate::limits::{COST, HEAD, Limit, NOTHING_DEVIATES, TAIL, TYPES, must_be_kept};
 use program_runs::Piece;
 use program_runs::Piece::{Copies, Once};

@@ -1,3 +1,5 @@
+//! The limit on the bytes of an archive.
+
 use crate::limits::{Limit, must_be_kept};
 use program_runs::Piece::{Copies, Once};
 use std::test::Fail;

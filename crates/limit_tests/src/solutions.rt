@@ -1,3 +1,5 @@
+//! The limit on solutions.
+
 use crate::limits::{HEAD, Limit, NOTHING_DEVIATES, TAIL, must_be_kept};
 use program_runs::Piece::{Copies, Numbered, Once};
 use std::test::Fail;

@@ -1,3 +1,5 @@
+//! The limit on the unit of workloads.
+
 use crate::limits::{HEAD, Limit, NOTHING_DEVIATES, TAIL, must_be_kept};
 use program_runs::Piece;
 use program_runs::Piece::Once;

@@ -1,3 +1,5 @@
+//! Link Events.
+
 use crate::links::{Links, no_links};
 use crate::turns::{follow, members};
 use event_monitors::{Counted, Gauge, moves_meet};

@@ -1,3 +1,5 @@
+//! The gauge of Link Events.
+
 ghost use Rattle.std.specs.Prelude.{◌≡◌, ◌<◌, ◌≤◌, ◌+◌, ◌-◌, ◌^◌, length, replicate, slice_index, slice_set, if◌then◌else◌, IfOk};
 ghost use Rattle.khe_base.specs.declared.limits.TheConstants.{GREATEST_COUNT, TIMES};
 ghost use Rattle.timetables.specs.Counts.{no_counts, count_at, with_count};

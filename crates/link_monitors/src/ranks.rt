@@ -1,3 +1,5 @@
+//! The place of an event among ascending events.
+
 ghost use Rattle.std.specs.Prelude.{ℕ, ◌≡◌, Some, slice_get};
 ghost use Rattle.link_monitors.specs.Links.{AreAscending};
 

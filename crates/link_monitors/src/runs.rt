@@ -1,3 +1,5 @@
+//! Counting a meet in or out at each time at which it runs.
+
 ghost use Rattle.std.specs.Prelude.{◌≡◌, ◌<◌, ◌≤◌, ℕ, true, length};
 ghost use Rattle.khe_base.specs.declared.limits.TheConstants.{GREATEST_COUNT};
 ghost use Rattle.timetables.specs.Counts.{count_at};

@@ -1,3 +1,5 @@
+//! Turning the gauge of Link Events where a slot becomes another.
+
 ghost use Rattle.std.specs.Prelude.{◌≡◌, ◌<◌, ◌≤◌, ℕ, true, Some, length, slice_get};
 ghost use Rattle.khe_base.specs.declared.limits.TheConstants.{EVENTS};
 ghost use Rattle.khe_instance.specs.KindLaws.{is_kind};

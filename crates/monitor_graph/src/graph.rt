@@ -1,3 +1,5 @@
+//! The graph of monitors: deviations, costs, totals and groups.
+
 ghost use Rattle.std.specs.Prelude.{◌≡◌, ◌<◌, ◌≤◌, ◌+◌, ℕ, List, [], true, length, slice_index, slice_set, replicate, All, IfOk, IsOk, OnOk, OnErr};
 ghost use Rattle.khe_base.specs.declared.limits.TheConstants.{GREATEST_DEVIATION, MONITORS};
 ghost use Rattle.khe_instance.specs.Costs.{totals_of};

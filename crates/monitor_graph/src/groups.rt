@@ -1,3 +1,5 @@
+//! Groups of monitors, each with its children in order.
+
 ghost use Rattle.std.specs.Prelude.{ℕ, ◌≡◌, ◌<◌, ◌≤◌, ◌+◌, ◌^◌, [], true, false, Option, Some, None, is_none, drop, length, slice_get, slice_index_or, slice_set, take, All, AllPairs, ◌≢◌, IfOk, IsOk, OnOk, OnErr, MatchOption, nat_le};
 ghost use Rattle.std.specs.List.{insert, sum_by, position_or_len};
 ghost use Rattle.std.specs.Option.{option_map, option_map_or};

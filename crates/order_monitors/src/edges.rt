@@ -1,3 +1,5 @@
+//! When the meets of each event start and end.
+
 ghost use Rattle.std.specs.Prelude.{◌≡◌, ◌<◌, ◌-◌, ◌==◌, fold, min, if◌then◌else◌, Some, None, length, replicate, slice_set, IfOk};
 ghost use Rattle.order_monitors.specs.Edges.{end_key, start_key, IsShort};
 ghost use Rattle.order_monitors.specs.declared.trees.TheConstants.{NOTHING};

@@ -1,3 +1,5 @@
+//! Order Events.
+
 ghost use Rattle.std.specs.Prelude.{◌≡◌, ◌≢◌, [], length, IfOk};
 ghost use Rattle.khe_told.specs.Slots.{no_meets};
 ghost use Rattle.khe_told.specs.Turns.{IsTurn, turned};

@@ -1,3 +1,5 @@
+//! The pair of events that a monitor watches, and its deviation.
+
 ghost use Rattle.std.specs.Prelude.{◌≡◌, ◌≤◌, ◌<◌, length};
 ghost use Rattle.khe_base.specs.declared.limits.TheConstants.{GREATEST_DEVIATION};
 ghost use Rattle.khe_instance.specs.WellMade.{IsMonitor};

@@ -1,3 +1,5 @@
+//! The monitors that are served, with their numbers.
+
 ghost use Rattle.std.specs.Prelude.{◌≡◌, ◌++◌, ◌∷◌, [], if◌then◌else◌, IfOk, OnOk};
 ghost use Rattle.event_monitors.specs.Posts.{ArePosts};
 ghost use Rattle.order_monitors.specs.Pairs.{is_order};

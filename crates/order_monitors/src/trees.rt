@@ -1,3 +1,5 @@
+//! Numbers by place, with the least of them.
+
 ghost use Rattle.std.specs.Prelude.{◌≡◌, ◌<◌, ◌*◌, ◌^◌, length, drop, fold, min, replicate, slice_set, IfOk};
 ghost use Rattle.order_monitors.specs.Trees.{IsMended, IsTree};
 

@@ -1,3 +1,5 @@
+//! Marking the monitors of a list as dirty.
+
 ghost use Rattle.std.specs.Prelude.{◌≡◌, [], true, length};
 ghost use Rattle.event_monitors.specs.Posts.{ArePosts, posts_at};
 ghost use Rattle.event_monitors.specs.Turns.{AreListedSince};

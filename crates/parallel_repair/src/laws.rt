@@ -1,4 +1,5 @@
-// What is true of the definitions that a solve stands on. It is proved, and no program calls it.
+//! A law on the definitions that a solve stands on. It is proved, and no program calls it.
+
 #![allow(dead_code)]
 
 ghost use Rattle.std.specs.Prelude.{◌≡◌};

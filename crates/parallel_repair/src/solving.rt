@@ -1,3 +1,5 @@
+//! Many repairs of one timetable, by several workers.
+
 ghost use Rattle.std.specs.Prelude.{◌≤◌, IfOk};
 ghost use Rattle.khe_base.specs.declared.limits.TheConstants.{CHAIN_MOVES, JOBS, WORKERS};
 ghost use Rattle.khe_engine.specs.Values.{ServesAll};

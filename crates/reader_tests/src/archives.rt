@@ -1,3 +1,5 @@
+//! Texts that are read as archives.
+
 use khe_base::{CostFn, lends_to_threads};
 use std::test::Fail;
 use xhstt_shape::reading::archive;

@@ -1,3 +1,5 @@
+//! Shelves and sinks in memory.
+
 ghost use Rattle.std.specs.Prelude.{◌≤◌};
 
 use khe_base::{NoMemory, Seq, Text, beside};

@@ -1,3 +1,5 @@
+//! Texts, lists and names in memory.
+
 use khe_base::{IdSet, Names, Seq, Text, least_multiple, lends_to_threads, numbered};
 use std::test::Fail;
 

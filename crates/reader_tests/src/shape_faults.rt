@@ -1,3 +1,5 @@
+//! Texts that are refused as archives.
+
 use fault_tables::{BAD_NUMBER, BAD_WORD, MISSING_CHILD, REPEATED_CHILD, UNKNOWN_ELEMENT};
 use std::alloc::Global;
 use std::test::Fail;

@@ -1,3 +1,5 @@
+//! Spans of text with what they stand for.
+
 use khe_base::{NoMemory, Text};
 use std::alloc::Global;
 use std::test::Fail;

@@ -1,3 +1,5 @@
+//! Texts that are refused as XML.
+
 use crate::mutations;
 use fault_tables::{BAD_MARKUP, BAD_REFERENCE, MISMATCHED_END, NOT_UTF8, TOO_DEEP, UNSUPPORTED};
 use std::alloc::Global;

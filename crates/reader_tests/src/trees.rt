@@ -1,3 +1,5 @@
+//! Texts that are read as trees.
+
 ghost use Rattle.std.specs.Prelude.{◌<◌, ◌^◌, length};
 
 use std::alloc::Global;

@@ -1,3 +1,5 @@
+//! A place in the list of the moves of a monitor.
+
 use khe_base::MonitorId;
 
 /// A place inside a part of a list of moves.

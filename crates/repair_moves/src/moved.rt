@@ -1,3 +1,5 @@
+//! What a move moves.
+
 use khe_base::{MeetId, TaskId};
 
 /// What a move moves.

@@ -1,3 +1,5 @@
+//! The parts of a list of moves, and their order.
+
 ghost use Rattle.std.specs.Prelude.{◌≡◌, ◌≤◌, length};
 ghost use Rattle.repair_moves.specs.Table.{parts_of};
 

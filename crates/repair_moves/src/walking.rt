@@ -1,3 +1,5 @@
+//! The walk over a list of moves.
+
 ghost use Rattle.std.specs.Prelude.{◌≡◌, ◌<◌, ◌+◌, ◌^◌, None, IfSome, true, length};
 ghost use Rattle.khe_solution.specs.Refusing.{is_of_meets, refusal};
 ghost use Rattle.repair_moves.specs.Cursors.{left_of_part, ahead, IsCursor, IsNext};

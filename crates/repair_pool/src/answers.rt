@@ -1,3 +1,5 @@
+//! What one job comes to, and what all come to.
+
 use khe_base::{Seq, Totals};
 use khe_instance::Plain;
 

@@ -1,3 +1,5 @@
+//! Workers in threads, and what they have come to together.
+
 ghost use Rattle.std.specs.Prelude.{◌≡◌, ◌≤◌, ◌<◌, ◌++◌, [], None, IfOk, IfSome};
 ghost use Rattle.std.specs.Thread.{IsSync};
 ghost use Rattle.solve_board.specs.Seats.{view, IsSeatOf};

@@ -1,3 +1,5 @@
+//! What became of each job.
+
 ghost use Rattle.std.specs.Prelude.{◌≡◌, ℕ, ◌<◌, ◌≤◌, All, IfOk, replicate};
 ghost use Rattle.khe_base.specs.declared.limits.TheConstants.{JOBS};
 ghost use Rattle.repair_pool.specs.Worked.{IsRow};

@@ -1,3 +1,5 @@
+//! The order of results: by totals, then by the job's number.
+
 ghost use Rattle.std.specs.Prelude.{◌≡◌};
 ghost use Rattle.repair_pool.specs.Ranks.{is_before, is_free, lesser};
 

@@ -1,3 +1,5 @@
+//! All jobs, by several workers.
+
 ghost use Rattle.std.specs.Prelude.{◌≡◌, ℕ, ◌≤◌, IfOk};
 ghost use Rattle.khe_base.specs.declared.limits.TheConstants.{JOBS, WORKERS};
 ghost use Rattle.repair_pool.specs.Solved.{IsSolved};

@@ -1,3 +1,5 @@
+//! One worker: drawing jobs and doing them.
+
 ghost use Rattle.std.specs.Prelude.{◌≡◌, ◌<◌, [], None, IfOk, IfSome, OnOk, true};
 ghost use Rattle.solve_board.specs.Counts.{IsAmong};
 ghost use Rattle.solve_board.specs.Seats.{view, IsSeatOf};

@@ -1,3 +1,5 @@
+//! The trait of work in numbered jobs.
+
 use crate::answers::Answer;
 use khe_base::NoMemory;
 use std::alloc::Global;

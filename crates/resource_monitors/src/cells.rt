@@ -1,3 +1,5 @@
+//! A keeper of kinds that are measured at cells: a resource at a time.
+
 ghost use Rattle.std.specs.Prelude.{◌≡◌, ℕ, true, length};
 ghost use Rattle.khe_instance.specs.Running.{running_tasks};
 ghost use Rattle.khe_told.specs.Lists.{duties_in};

@@ -1,3 +1,5 @@
+//! The five kinds that are measured at cells.
+
 ghost use Rattle.std.specs.Prelude.{◌≡◌, Bool, true};
 ghost use Rattle.khe_instance.specs.declared.rules.Kind.{Kind};
 ghost use Rattle.resource_monitors.specs.Cells.{is_at_cells, is_by_busy};

@@ -1,3 +1,5 @@
+//! The sets of times of one constraint, as masks.
+
 ghost use Rattle.std.specs.Prelude.{◌≡◌, ◌≤◌, ℕ, false, IfOk};
 ghost use Rattle.resource_monitors.specs.Sets.{has_time, sets_of, IsUnion};
 

@@ -1,3 +1,5 @@
+//! What becomes of the cells of a resource where a place of a meet is given another.
+
 ghost use Rattle.std.specs.Prelude.{◌≡◌, ◌≤◌, ◌+◌, ◌<◌, ◌∷◌, [], ℕ, true, false, length, Some};
 ghost use Rattle.khe_base.specs.declared.limits.TheConstants.{GREATEST_COUNT};
 ghost use Rattle.khe_base.specs.declared.numbers.ResourceId.{ResourceId};

@@ -1,3 +1,5 @@
+//! The monitors that are served, by resource.
+
 ghost use Rattle.std.specs.Prelude.{◌≡◌, ◌<◌, ◌++◌, ◌∷◌, [], ℕ, if◌then◌else◌, length, replicate, slice_index_or, IfOk, OnOk};
 ghost use Rattle.khe_base.specs.declared.numbers.ResourceId.{ResourceId};
 ghost use Rattle.khe_instance.specs.declared.points.Point.TheVariants.{Resource};

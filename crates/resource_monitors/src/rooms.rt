@@ -1,3 +1,5 @@
+//! The sets of times of all constraints of an instance, as masks.
+
 ghost use Rattle.std.specs.Prelude.{◌≡◌, ◌<◌, [], IfOk, Some, length, slice_get, slice_index_or};
 ghost use Rattle.resource_monitors.specs.Sets.{has_time, room_for};
 

@@ -1,3 +1,5 @@
+//! The times of a meet.
+
 ghost use Rattle.std.specs.Prelude.{◌≡◌, ◌<◌, ◌+◌, ◌^◌, Some};
 ghost use Rattle.khe_base.specs.declared.numbers.TimeId.{TimeId};
 ghost use Rattle.khe_told.specs.declared.slots.Span.{Span};

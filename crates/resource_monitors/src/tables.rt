@@ -1,3 +1,5 @@
+//! A timetable that knows how many tasks run beyond one.
+
 ghost use Rattle.std.specs.Prelude.{◌≡◌, ◌+◌, ◌-◌, ◌<◌, ◌≤◌, length, nat_lt, slice_index, IfOk};
 ghost use Rattle.std.specs.List.{range_with_len, sum_by};
 ghost use Rattle.khe_base.specs.declared.limits.TheConstants.{GREATEST_COUNT, TIMES};

@@ -1,3 +1,5 @@
+//! Filling and emptying cells where a slot becomes another.
+
 ghost use Rattle.std.specs.Prelude.{◌≡◌, ◌≤◌, ◌<◌, ℕ, true, length, ◌∷◌, [], Some};
 ghost use Rattle.khe_base.specs.declared.limits.TheConstants.{GREATEST_COUNT};
 ghost use Rattle.khe_base.specs.declared.numbers.ResourceId.{ResourceId};

@@ -1,3 +1,5 @@
+//! What a rule measures at a resource.
+
 ghost use Rattle.std.specs.Prelude.{◌≡◌, ◌<◌, true, length, slice_index};
 ghost use Rattle.khe_instance.specs.Deviation.{measured};
 ghost use Rattle.khe_instance.specs.Kinds.{kind_of};

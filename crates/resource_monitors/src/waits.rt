@@ -1,3 +1,5 @@
+//! Which monitors are dirty where the cells of a resource change.
+
 ghost use Rattle.std.specs.Prelude.{◌≡◌, ◌≤◌, ◌<◌, ◌&&◌, ◌||◌, ℕ, true, length, nat_eq, Some};
 ghost use Rattle.khe_base.specs.declared.numbers.ResourceId.{ResourceId};
 ghost use Rattle.khe_instance.specs.WellMade.{IsMonitor};

@@ -1,3 +1,5 @@
+//! Avoid Split Assignments.
+
 ghost use Rattle.std.specs.Prelude.{◌≡◌, ◌≤◌, ◌+◌, ◌-◌, ℕ, true, false, Some, length, replicate, IfOk, IfSome, slice_get};
 ghost use Rattle.khe_base.specs.declared.limits.TheConstants.{RESOURCES};
 ghost use Rattle.khe_told.specs.Turns.{IsTurn, turned};

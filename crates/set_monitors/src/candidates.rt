@@ -1,3 +1,5 @@
+//! The resources that may have a task in a role among the events of a monitor.
+
 ghost use Rattle.std.specs.Prelude.{◌≡◌, ◌<◌, ◌++◌, ◌∷◌, [], ℕ, All, if◌then◌else◌, true, length, IfOk, OnOk};
 ghost use Rattle.khe_base.specs.IdSet.{has_member};
 ghost use Rattle.khe_instance.specs.KindLaws.{is_kind};

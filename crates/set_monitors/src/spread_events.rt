@@ -1,3 +1,5 @@
+//! Spread Events.
+
 ghost use Rattle.std.specs.Prelude.{◌≡◌, ◌≤◌, ◌+◌, ◌*◌, ℕ, All, Bool, true, List, length};
 ghost use Rattle.khe_base.specs.Bounds.{count_outside};
 ghost use Rattle.khe_base.specs.declared.limits.TheConstants.{DURATION, GREATEST_DEVIATION, LISTED, NUMBER};

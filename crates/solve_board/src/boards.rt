@@ -1,3 +1,5 @@
+//! The board that workers share, and a seat at it.
+
 ghost use Rattle.std.specs.Prelude.{◌≡◌, ℕ, ◌+◌, ◌^◌, ◌<◌, ◌≤◌, [], IfOk, MatchOption, if◌then◌else◌, nat_lt, Some, None, length};
 ghost use Rattle.khe_base.specs.declared.limits.TheConstants.{JOBS};
 ghost use Rattle.solve_board.specs.Counts.{IsAmong, times, once_below};

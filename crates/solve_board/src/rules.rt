@@ -1,4 +1,5 @@
-// The rule that the table under a board keeps, and the names of the steps on it.
+//! The rule that the table under a board keeps between any two steps, and the names of the steps.
+
 ghost use Rattle.solve_board.specs.Rule.{Holds};
 ghost use Rattle.solve_board.specs.Views.{first_view, spent_view, split_view, new_view, joined_view};
 ghost use Rattle.solve_board.specs.Plays.{Claims, Offers, Looks, Tells};

@@ -1,3 +1,5 @@
+//! A board as plain data.
+
 use khe_base::Seq;
 
 /// A board as plain data, without threads: what `board_step` leads on from.

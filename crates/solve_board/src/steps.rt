@@ -1,3 +1,5 @@
+//! The steps of workers on a board as plain data.
+
 ghost use Rattle.std.specs.Prelude.{◌≡◌, ◌<◌, List, IfOk, OnOk, length};
 ghost use Rattle.solve_board.specs.States.{stepped, MayStep, IsInOrder, with_number};
 ghost use Rattle.solve_board.specs.Runs.{Event, IsRun, ran, nobody};

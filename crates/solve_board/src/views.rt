@@ -1,3 +1,5 @@
+//! What a seat of a board knows.
+
 use khe_base::Seq;
 
 /// What a seat of a board knows. No program makes a value of it: it stands in contracts alone.

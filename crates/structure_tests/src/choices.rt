@@ -1,3 +1,5 @@
+//! Cheapest choices.
+
 ghost use Rattle.std.specs.Prelude.{◌≡◌, ◌*◌, ◌≤◌, ℕ, length, slice_index_or, IfOk};
 ghost use Rattle.resource_match.specs.Choices.{AreCosts, IsCertified, no_cost};
 ghost use Rattle.resource_match.specs.Smallness.{IsSmall};

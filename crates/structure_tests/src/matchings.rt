@@ -1,3 +1,5 @@
+//! Matchings of demands.
+
 ghost use Rattle.std.specs.Prelude.{◌≡◌, ◌*◌, ◌<◌, ◌≤◌, length, IfOk};
 ghost use Rattle.structure_tests.specs.Matchings.{IsSized, SameSizes};
 

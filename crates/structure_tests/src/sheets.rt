@@ -1,3 +1,5 @@
+//! Timetables of resources.
+
 ghost use Rattle.structure_tests.specs.Sheets.{IsSheet};
 
 use khe_base::limits::GREATEST_COUNT;

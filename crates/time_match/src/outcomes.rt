@@ -1,3 +1,5 @@
+//! What a matching of the tasks of one time comes to.
+
 use khe_base::{NoMemory, ResourceId, Seq, TaskId, Totals};
 use resource_match::choices::Cheapest;
 

@@ -1,3 +1,5 @@
+//! A board and its seats.
+
 use crate::drawing::{Drawn, draw_together};
 use crate::looking::meet;
 use khe_base::{NoMemory, Seq};

@@ -1,3 +1,5 @@
+//! A job whose windows hold a batch a worker.
+
 ghost use Rattle.std.specs.Prelude.{map};
 ghost use Rattle.parallel_solve.specs.Verdicts.{numbered_verdict};
 

@@ -1,3 +1,5 @@
+//! Workers that draw jobs from a board.
+
 ghost use Rattle.std.specs.Prelude.{◌≡◌, ℕ, ◌+◌, ◌<◌, ◌≤◌, IfOk};
 ghost use Rattle.std.specs.Thread.{IsSync};
 ghost use Rattle.solve_board.specs.Seats.{view, IsSeatOf};

@@ -1,3 +1,5 @@
+//! Solutions evaluated by several workers.
+
 ghost use Rattle.std.specs.Prelude.{◌≤◌, IfOk, IfSome};
 ghost use Rattle.worker_tests.specs.Reading.{IsResolved};
 

@@ -1,3 +1,5 @@
+//! A worker that looks for what another offers.
+
 ghost use Rattle.std.specs.Prelude.{◌≡◌, ◌<◌};
 ghost use Rattle.solve_board.specs.Counts.{IsAmong};
 ghost use Rattle.solve_board.specs.Seats.{view, IsSeatOf};

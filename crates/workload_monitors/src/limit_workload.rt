@@ -1,3 +1,5 @@
+//! Limit Workload.
+
 use crate::loads::no_loads;
 use crate::posts::lists_of;
 use crate::turns::turn_loads;

@@ -1,3 +1,5 @@
+//! The workload of each resource.
+
 ghost use Rattle.std.specs.Prelude.{◌≡◌, ◌+◌, ◌-◌, ◌*◌, ◌/◌, ◌^◌, ◌<◌, ◌≤◌, length, slice_get, slice_index, slice_set, replicate, IfOk, Some};
 ghost use Rattle.std.specs.Option.{option_map_or};
 ghost use Rattle.workload_monitors.specs.Loads.{CanTurn, Turned, worth_at};

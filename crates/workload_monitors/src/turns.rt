@@ -1,3 +1,5 @@
+//! Raising and lowering workloads where a slot becomes another.
+
 ghost use Rattle.std.specs.Prelude.{◌≡◌, ◌<◌, true, false, length, Some};
 ghost use Rattle.khe_base.specs.declared.numbers.ResourceId.{ResourceId};
 ghost use Rattle.khe_told.specs.Turns.{AreWatchers, IsTurn, turned};

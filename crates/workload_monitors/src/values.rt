@@ -1,3 +1,5 @@
+//! What a rule measures of a workload.
+
 ghost use Rattle.std.specs.Prelude.{◌≡◌, ◌*◌, ◌<◌, ◌≤◌, ℕ, length, slice_index};
 ghost use Rattle.khe_base.specs.Bounds.{count_outside};
 ghost use Rattle.khe_base.specs.declared.limits.TheConstants.{GREATEST_DEVIATION, UNIT};

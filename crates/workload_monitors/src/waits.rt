@@ -1,3 +1,5 @@
+//! Marking the monitors of a list as dirty.
+
 ghost use Rattle.std.specs.Prelude.{◌≡◌, ◌<◌, ℕ, length, slice_get, Some};
 ghost use Rattle.resource_monitors.specs.Posts.{AreAdded};
 ghost use Rattle.resource_monitors.specs.declared.posts.Post.{Post};

@@ -1,3 +1,5 @@
+//! Archives with their canonical spelling.
+
 use std::alloc::Global;
 use std::test::Fail;
 use xhstt_shape::reading::archive;
