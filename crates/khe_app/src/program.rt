@@ -34,9 +34,9 @@ use thiserror::Error;
 ///
 /// | Status | Meaning |
 /// |---|---|
-/// | 0 | the archive was evaluated, written, repaired, solved, constructed or made, the script was read to its end, or the job was run |
+/// | 0 | the archive was evaluated, written, repaired, solved, constructed, matched or made, the script was read to its end, or the job was run |
 /// | 2 | the words were not understood |
-/// | 3 | the archive was refused, or the solution that a script, a repair or a solve begins with, or the instance that is constructed |
+/// | 3 | the archive was refused, or the solution that a command begins with, the instance that is constructed, or the time, the type or the tasks of a matching |
 /// | 4 | the archive or the script could not be read |
 /// | 5 | the text could not be written |
 /// | 6 | memory ran out |
@@ -86,24 +86,25 @@ impl From<NoMemory> for Stop {
     }
 }
 
-/// Runs the program on these words: reads the archive that they name from the shelf, and writes its
-/// report, the answers to a script, its canonical spelling as it is, with a solution repaired or with one that is
-/// constructed, or the
-/// line that refuses it, to the sink; or makes an archive, and writes it or the line on its run.
+/// Runs the program on these words: reads the archive that they name from the shelf, if they name one, and
+/// writes the answer of their command to the sink, or the line that refuses them or the archive.
 ///
-/// The words are `evaluate`, the archive's name, and in any order `--all` where the report is to have all
-/// monitors and `--workers` with the number of workers, 1 to 64; or `script`, the archive's name, the
-/// number of a solution, and the name of the script; or `tied` with the same words, for a script whose lines may
-/// speak of ties; or `check` and the archive's name; or `repair`, the
-/// archive's name, the number of a solution, and in any order `--depth` with the greatest number of moves
-/// of a chain, 1 to 4, and `--budget` with the number of chains that may be tried, 1 to 1,000,000,000; or
-/// `solve` with the same words and besides, in any order, `--jobs` with the number of repairs, 1 to 10,000,
-/// and `--workers` with the number of workers, 1 to 64; or `construct`, the archive's name, the number of an
-/// instance, and `--depth` and `--budget` as for `repair` or nothing more; or `make`, a seed of up to 18 digits, the number of
-/// events, 1 to 2,000, and `--run` or nothing more, for which nothing is read. The answer is a status, as in
-/// `Status`. What was written before a status of 4 is nothing, and before a status of 5 or 6 a first part of
-/// the text. The text does not depend on the number of workers, who pass the gate before each solution that
-/// they evaluate and before each job that they run, with its number.
+/// | Words | Answer |
+/// |---|---|
+/// | `evaluate ARCHIVE [--all] [--workers N]` | what each solution costs |
+/// | `script ARCHIVE SOLUTION SCRIPT` | the answers to the lines of a script |
+/// | `tied ARCHIVE SOLUTION SCRIPT` | the same, for a script whose lines may speak of ties |
+/// | `check ARCHIVE` | the archive in its canonical spelling |
+/// | `repair ARCHIVE SOLUTION --depth D --budget B` | the archive with that solution repaired, and a line |
+/// | `solve ARCHIVE SOLUTION --depth D --budget B --jobs J --workers N` | the same, of J repairs the best |
+/// | `construct ARCHIVE INSTANCE [--depth D --budget B]` | the archive with a constructed solution, and lines on it |
+/// | `match ARCHIVE SOLUTION TIME TYPE` | the archive with a time's tasks matched, and lines on it |
+/// | `make SEED EVENTS [--run]` | an archive made by a seed, or a line on a run of many edits on it |
+///
+/// Options stand in any order after the rest, each once. N is 1 to 64 workers, J 1 to 10,000 repairs, D 1 to 4 moves of
+/// a chain at most, B 1 to 1,000,000,000 chains that may be tried, EVENTS 1 to 2,000, and SEED has up to 18 digits. The answer is a status, as in `Status`. What was written before a status of 4 is
+/// nothing, and before a status of 5 or 6 a first part of the text. The text does not depend on the number of workers,
+/// who pass the gate before each solution that they evaluate and before each job that they run, with its number.
 ///
 /// A repaired timetable takes the place of the entries of its solution, and the line after the archive
 /// tells how the repair ended. It never costs more than the solution did; where the repair is done no
@@ -112,19 +113,22 @@ impl From<NoMemory> for Stop {
 /// one with the least totals takes that place, of equal ones the lowest; the line names its job.
 ///
 /// A timetable that is constructed is the only solution of its archive, and the line after it tells how many meets
-/// and which totals it has, as it is before it is repaired; the line of the repair follows.
+/// and which totals it has, as it is before it is repaired; the line of the repair follows. A matching gives the tasks
+/// that run at the time resources of the type, each at most one, so that the totals are the least; it stays only where
+/// they are lower than before, and its lines show a proof of the least by prices.
 ///
 /// A report takes time about linear in the archive's bytes, in what its instances follow out, and, for
 /// each solution, in the meets, tasks, covered times, watches and monitors; the workers that run at the
 /// same time divide the solutions. It keeps in memory the archive's bytes with their tree or, after that,
 /// the archive with its instances, and what the solutions of one window cost; and of the report what one
 /// solution adds. An archive that was evaluated is left in memory, since a process ends with its run: who
-/// evaluates many in one process keeps them all. A script takes besides what opening an engine takes, and for each edit what
-/// watches its changes. A canonical spelling takes time linear in its bytes, and beside the archive and its
+/// evaluates many in one process keeps them all. A script takes besides what opening an engine takes, and for each
+/// edit what watches its changes. A canonical spelling takes time linear in its bytes, and beside the archive and its
 /// instances no more memory than a piece of it. A construction takes besides an engine, and what watches a meet for
-/// each time that it tries for it, and a task for each resource. A repair takes besides an engine, and for each chain that
-/// it tries what watches the changes of its last move. Many repairs take the time of all, divided among the
-/// workers that run at the same time, and an engine and two timetables for each worker.
+/// each time that it tries for it, and a task for each resource. A matching takes besides an engine, and for each task
+/// and each resource what watches the task; and a table of a cost for each of these pairs. A repair takes besides an
+/// engine, and for each chain that it tries what watches the changes of its last move. Many repairs take the time of
+/// all, divided among the workers that run at the same time, and an engine and two timetables for each worker.
 /// An archive is made in time and memory linear in the number of its events, and its run takes what a script
 /// of ten edits an event takes.
 pub fn khe<R: Threads + Sync, S: Shelf, K: Sink, G: Gate>(
