@@ -8,6 +8,7 @@ mod faults;
 mod listeners;
 mod listing;
 mod opening;
+mod resting;
 mod settling;
 mod shortages;
 mod telling;
@@ -17,3 +18,4 @@ mod values;
 
 pub use engine::Engine;
 pub use faults::EditFault;
+pub use resting::Resting;

@@ -4,8 +4,9 @@ pub mod Editing
 pub mod FreeBits
 pub mod Marks
 pub mod NextTask
-pub mod Refusing
 pub mod Reading
+pub mod Refusing
+pub mod Resting
 pub mod Steps
 pub mod TaskRows
 pub mod Timetables

@@ -18,4 +18,4 @@ mod tasks;
 
 pub use notes::invert;
 pub use room::room_for;
-pub use solution::Solution;
+pub use solution::{RestingSolution, Solution};

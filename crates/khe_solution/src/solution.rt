@@ -16,6 +16,7 @@ ghost use Rattle.khe_solution.specs.Changing.{changes};
 ghost use Rattle.khe_solution.specs.Timetables.{HasRoom};
 ghost use Rattle.khe_solution.specs.Backs.{back_of, undone, undone_changes, LeadsBack};
 ghost use Rattle.khe_told.specs.Valid.{AreValid};
+ghost use Rattle.khe_solution.specs.Resting.{FitsIn, timetable_of};
 
 use crate::checks::check;
 use crate::edits::{back_of, list_edit, list_undo, made};
@@ -219,5 +220,47 @@ impl<'i> Solution<'i> {
         self.inst.facts();
         list_undo(&mut self.list, self.slots.told(), back);
         note_back(self.inst, &mut self.list, &mut self.slots, watcher, steps);
+    }
+}
+
+/// A timetable that has let go of its instance, and wakes on it again.
+#[derive(Drop)]
+pub struct RestingSolution {
+    slots: Slots,
+    list: Vec<Change>,
+}
+
+impl Model for RestingSolution {
+    ghost use Rattle.std.specs.Prelude.{vec_capacity};
+    ghost use Rattle.khe_solution.specs.Resting.{Rested};
+
+    ghost Value = { Rested };
+
+    ghost view = { λ r. record { slots = r.slots; room = vec_capacity r.list } };
+}
+
+impl<'i> Solution<'i> {
+    /// Lets go of the instance. It takes constant time and no memory.
+    pub fn rest(self) -> RestingSolution
+        ensures fits { FitsIn self.entry.parts result }
+        ensures same { timetable_of self.entry.parts result ≡ self.entry }
+    {
+        let Solution {
+            inst: _,
+            slots,
+            list,
+        } = self;
+        RestingSolution { slots, list }
+    }
+}
+
+impl RestingSolution {
+    /// The timetable again, on an instance that reads the same. It takes constant time and no memory.
+    pub fn wake<'i>(self, inst: &'i Instance) -> Solution<'i>
+        requires { FitsIn inst.now self }
+        ensures { result ≡ timetable_of inst.now self }
+    {
+        let RestingSolution { slots, list } = self;
+        Solution { inst, slots, list }
     }
 }
