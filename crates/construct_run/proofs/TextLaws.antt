@@ -12,7 +12,7 @@ use Rattle.khe_instance.specs.declared.states.Plain.{Plain}
 use Rattle.repair_run.proofs.SpellLaws.{respelled_formed}
 use Rattle.repair_run.specs.Lines.{repair_line}
 use Rattle.repair_run.specs.Placed.{groups_with, respelled}
-use Rattle.repair_run.specs.Texts.{HasSpellable}
+use Rattle.xhstt_entries.specs.Texts.{HasSpellable}
 use Rattle.repair_run.specs.declared.mending.Mended.{Mended}
 use Rattle.xhstt_completion.specs.Entries as completed
 use Rattle.xhstt_entries.specs.Spelled.{entries_of}

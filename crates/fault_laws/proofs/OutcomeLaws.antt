@@ -7,12 +7,13 @@ use Rattle.fault_laws.specs.Told.{ComesOf, IsFaultLine, IsOutcomeByRows, Shelf, 
 use Rattle.first_faults.specs.Rows.{IsLeastFault}
 use Rattle.khe_app.specs.Outcome.{IsAnswerTo, IsAnswered, IsConstructTo, IsConstructed, IsMatchTo, IsMatchedFrom}
 use Rattle.khe_app.specs.Outcome.{IsOutcomeOf, IsPlayTo, IsPlayed, IsRepairTo, IsRepaired, IsRespelled, IsSolveTo}
-use Rattle.khe_app.specs.Outcome.{IsSolvedFrom, IsSpellingTo, refused}
-use Rattle.khe_app.specs.Refusals.{refusal_line}
+use Rattle.khe_app.specs.Outcome.{IsSolvedFrom, IsSpellingTo}
+use Rattle.archive_reading.specs.Reading.{refused}
+use Rattle.archive_reading.specs.Refusals.{refusal_line}
 use Rattle.khe_app.specs.Words.{Asked, archive_of, checking, constructing, evaluating, making, matching, repairing}
 use Rattle.khe_app.specs.Words.{running, scripting, solving}
-use Rattle.khe_app.specs.declared.refusals.Refusal.{Refusal}
-use Rattle.khe_app.specs.declared.refusals.Refusal.TheVariants.{Fault}
+use Rattle.archive_reading.specs.declared.refusals.Refusal.{Refusal}
+use Rattle.archive_reading.specs.declared.refusals.Refusal.TheVariants.{Fault}
 use Rattle.xhstt_text.specs.Document.{Spelled}
 use Rattle.xhstt_text.specs.Forest.{Forest}
 

@@ -5,8 +5,8 @@ use Rattle.fault_laws.proofs.MeaningLaws.{stands_for_meanings}
 use Rattle.fault_laws.specs.Readings.{IsReadingByRows}
 use Rattle.first_faults.proofs.FirstRow.{first_least, least_first}
 use Rattle.first_faults.specs.Rows.{IsLeastFault}
-use Rattle.khe_app.specs.Outcome.{IsReadingOf, Reading, refused}
-use Rattle.khe_app.specs.declared.refusals.Refusal.TheVariants.{Fault}
+use Rattle.archive_reading.specs.Reading.{IsReadingOf, Reading, refused}
+use Rattle.archive_reading.specs.declared.refusals.Refusal.TheVariants.{Fault}
 use Rattle.xhstt_text.proofs.Answer.{one_first, unspelled}
 use Rattle.xhstt_text.specs.Document.{Spelled}
 use Rattle.xhstt_text.specs.Forest.{Forest}

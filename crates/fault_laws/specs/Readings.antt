@@ -3,8 +3,8 @@ use Rattle.std.specs.Prelude.{ℕ, ◌≡◌, ◌<◌, ◌≤◌, ◌⊎◌, ◌
 use Rattle.khe_base.specs.Text.{text_of}
 use Rattle.khe_base.specs.declared.limits.TheConstants.{ARCHIVE_BYTES}
 use Rattle.first_faults.specs.Rows.{IsLeastFault}
-use Rattle.khe_app.specs.Outcome.{IsShaped, Reading, refused}
-use Rattle.khe_app.specs.declared.refusals.Refusal.TheVariants.{Fault, TooLarge}
+use Rattle.archive_reading.specs.Reading.{IsShaped, Reading, refused}
+use Rattle.archive_reading.specs.declared.refusals.Refusal.TheVariants.{Fault, TooLarge}
 use Rattle.xhstt_shape.specs.Shape.{shape_of}
 use Rattle.xhstt_text.specs.Document.{Content, Spelled, Value}
 use Rattle.xhstt_text.specs.Forest.{Forest}

@@ -3,12 +3,14 @@ use Rattle.std.specs.Prelude.{ℕ, ◌≡◌, ◌≤◌, ◌↔◌, Option, Some
 use Rattle.khe_base.specs.declared.limits.TheConstants.{ARCHIVE_BYTES}
 use Rattle.fault_laws.specs.Readings.{IsReadingByRows}
 use Rattle.first_faults.specs.Rows.{IsLeastFault}
-use Rattle.khe_app.specs.Outcome.{IsConstructIn, IsMatchIn, IsOutcome, IsOutcomeOf, IsReadingOf, IsRepairIn, IsScripted}
-use Rattle.khe_app.specs.Outcome.{IsSolveIn, Reading, spelling_of, start_in, status_of, text_of}
-use Rattle.khe_app.specs.Refusals.{refusal_line}
+use Rattle.khe_app.specs.Outcome.{IsConstructIn, IsMatchIn, IsOutcome, IsOutcomeOf, IsRepairIn, IsScripted}
+use Rattle.archive_reading.specs.Reading.{IsReadingOf}
+use Rattle.khe_app.specs.Outcome.{IsSolveIn, spelling_of, start_in, status_of, text_of}
+use Rattle.archive_reading.specs.Reading.{Reading}
+use Rattle.archive_reading.specs.Refusals.{refusal_line}
 use Rattle.khe_app.specs.Words.{Asked, archive_of, asked, checking, constructing, evaluating, making, matching}
 use Rattle.khe_app.specs.Words.{repairing, running, scripting, solving}
-use Rattle.khe_app.specs.declared.refusals.Refusal.TheVariants.{Fault}
+use Rattle.archive_reading.specs.declared.refusals.Refusal.TheVariants.{Fault}
 use Rattle.xhstt_text.specs.Document.{Spelled}
 use Rattle.xhstt_text.specs.Forest.{Forest}
 

@@ -7,7 +7,7 @@ use Rattle.khe_io.specs.Shelf.{IsMissing}
 use Rattle.khe_app.specs.Answers.{reading_of, IsAnswerOf, IsReadyAnswer}
 use Rattle.khe_app.specs.Ends.{Holdings, IsEnd, LacksOf, Written}
 use Rattle.khe_app.specs.Outcome.{IsOutcomeOf, IsSpellingTo, spelling_of, status_of}
-use Rattle.khe_app.specs.Refusals.{refusal_line}
+use Rattle.archive_reading.specs.Refusals.{refusal_line}
 use Rattle.khe_app.specs.Words.{checking}
 use Rattle.khe_app.specs.declared.program.Answer.{Answer}
 use Rattle.khe_app.specs.declared.program.Answer.TheVariants.{Read, Refused}

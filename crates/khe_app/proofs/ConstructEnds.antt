@@ -7,7 +7,8 @@ use Rattle.khe_instance.specs.declared.parts.Parts.{Parts}
 use Rattle.khe_io.specs.Shelf.{IsMissing}
 use Rattle.khe_app.specs.Answers.{reading_of, IsAnswerOf}
 use Rattle.khe_app.specs.Ends.{Holdings, IsEnd, LacksOf, Written}
-use Rattle.khe_app.specs.Outcome.{Reading, evaluable, refused, IsOutcomeOf}
+use Rattle.khe_app.specs.Outcome.{IsOutcomeOf}
+use Rattle.archive_reading.specs.Reading.{Reading, evaluable, refused}
 use Rattle.khe_app.specs.Outcome.{IsConstructIn, IsConstructOf, IsConstructTo}
 use Rattle.khe_app.specs.Words.{constructing}
 use Rattle.khe_app.specs.declared.program.Answer.{Answer}

@@ -7,7 +7,8 @@ use Rattle.khe_io.specs.Faults.{Rose, Took, TookFront}
 use Rattle.khe_io.specs.Shelf.{IsMissing, StandsUnder}
 use Rattle.khe_app.specs.Answers.{reading_of, IsAnswerOf, IsOnlyAnswerOf}
 use Rattle.khe_app.specs.Ends.{Holdings, EndedOf, CutOffOf, LacksArchiveOf, LacksOf, IsDecided, IsEnd, Written}
-use Rattle.khe_app.specs.Outcome.{Reading, evaluable, refused, IsAnswerTo, IsOutcomeOf, IsReadingOf, status_of, text_of}
+use Rattle.khe_app.specs.Outcome.{IsAnswerTo, IsOutcomeOf, status_of, text_of}
+use Rattle.archive_reading.specs.Reading.{Reading, evaluable, refused, IsReadingOf}
 use Rattle.khe_app.specs.Words.{Asked, archive_of, asked, evaluating, is_read}
 use Rattle.khe_app.specs.declared.program.Answer.{Answer}
 

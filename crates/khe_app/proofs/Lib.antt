@@ -1,14 +1,10 @@
 pub mod CheckEnds
 pub mod ConstructEnds
 pub mod EndsLemmas
-pub mod FewLemmas
 pub mod MakeEnds
 pub mod MatchEnds
-pub mod OnlyLemmas
 pub mod OutcomeLemmas
 pub mod PlayEnds
-pub mod ReadingLemmas
-pub mod ReadyLemmas
 pub mod RepairEnds
 pub mod ReportLemmas
 pub mod ScriptEnds

@@ -17,10 +17,10 @@ use Rattle.khe_app.specs.Answers.{IsBarredBy}
 use Rattle.khe_app.specs.Ends.{Holdings, IsEnd, LacksOf, Written}
 use Rattle.khe_app.specs.Outcome.{Start, begins, barred, start_by, start_of, IsOutcomeOf, IsRunTo}
 use Rattle.khe_app.specs.Words.{making, running}
-use Rattle.khe_app.specs.declared.reading.Unread.{Unread}
-use Rattle.khe_app.specs.declared.reading.Unread.TheVariants as unread
-use Rattle.khe_app.specs.declared.refusals.Refusal.{Refusal}
-use Rattle.khe_app.specs.declared.refusals.Refusal.TheVariants.{NoSuchSolution}
+use Rattle.archive_reading.specs.declared.reading.Unread.{Unread}
+use Rattle.archive_reading.specs.declared.reading.Unread.TheVariants as unread
+use Rattle.archive_reading.specs.declared.refusals.Refusal.{Refusal}
+use Rattle.archive_reading.specs.declared.refusals.Refusal.TheVariants.{NoSuchSolution}
 use Rattle.khe_app.proofs.CheckEnds.{canonical_utf8}
 use Rattle.khe_app.proofs.EndsLemmas.{end_starved, end_written, not_two}
 use Rattle.parallel_solve.specs.Verdicts.{parts_at}

@@ -8,11 +8,12 @@ use Rattle.khe_instance.specs.declared.states.Plain.{Plain}
 use Rattle.khe_io.specs.Shelf.{IsMissing}
 use Rattle.khe_app.specs.Answers.{reading_of, IsAnswerOf}
 use Rattle.khe_app.specs.Ends.{Holdings, IsDecided, IsEnd, LacksOf, Written}
-use Rattle.khe_app.specs.Outcome.{Reading, evaluable, refused, Start, begins, barred, start_of, IsOutcomeOf}
+use Rattle.khe_app.specs.Outcome.{Start, begins, barred, start_of, IsOutcomeOf}
+use Rattle.archive_reading.specs.Reading.{Reading, evaluable, refused}
 use Rattle.khe_app.specs.Outcome.{IsMatchIn, IsMatchOf, IsMatchTo, IsMatchedAt}
 use Rattle.khe_app.specs.Words.{matching}
 use Rattle.khe_app.specs.declared.program.Answer.{Answer}
-use Rattle.khe_app.specs.declared.refusals.Refusal.{Refusal}
+use Rattle.archive_reading.specs.declared.refusals.Refusal.{Refusal}
 use Rattle.khe_app.proofs.EndsLemmas.{end_starved, end_written, not_two}
 use Rattle.khe_app.proofs.RepairEnds.{decided, four_apart, two_apart}
 use Rattle.xhstt_resolve.specs.declared.resolving.Resolved.{Resolved}

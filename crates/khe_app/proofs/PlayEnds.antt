@@ -8,15 +8,17 @@ use Rattle.khe_io.specs.Shelf.{IsMissing}
 use Rattle.khe_app.specs.Answers.{IsAnswerOf, IsBegun, IsOnlyAnswerOf, IsPlayAnswer, IsPlayOf, IsReadyPlay, IsScriptOf}
 use Rattle.khe_app.specs.Answers.{IsTextOf, IsWith}
 use Rattle.khe_app.specs.Ends.{Holdings, LacksOf, IsDecided, IsEnd, Written}
-use Rattle.khe_app.specs.Outcome.{Reading, evaluable, refused, Start, barred, start_in, start_of, IsOutcomeOf, IsPlayTo}
-use Rattle.khe_app.specs.Outcome.{IsReadingOf, IsRunOf, IsRunOr, IsScripted, is_understood}
+use Rattle.khe_app.specs.Outcome.{Start, barred, start_in, start_of, IsOutcomeOf, IsPlayTo}
+use Rattle.archive_reading.specs.Reading.{Reading, evaluable, refused}
+use Rattle.khe_app.specs.Outcome.{IsRunOf, IsRunOr, IsScripted, is_understood}
+use Rattle.archive_reading.specs.Reading.{IsReadingOf}
 use Rattle.khe_app.specs.Words.{scripting}
 use Rattle.khe_app.proofs.EndsLemmas.{end_starved, end_written, not_two}
 use Rattle.khe_app.specs.declared.program.Answer.TheVariants.{Read, Refused}
 use Rattle.khe_app.specs.declared.program.Play.{Play}
 use Rattle.khe_app.specs.declared.program.Play.TheVariants as play
-use Rattle.khe_app.specs.declared.reading.ReadArchive.{ReadArchive}
-use Rattle.khe_app.specs.declared.refusals.Refusal.{Refusal}
+use Rattle.archive_reading.specs.declared.reading.ReadArchive.{ReadArchive}
+use Rattle.archive_reading.specs.declared.refusals.Refusal.{Refusal}
 use Rattle.khe_app.specs.declared.starting.Begun.{Begun}
 
 -- a start without a timetable says nothing of the script

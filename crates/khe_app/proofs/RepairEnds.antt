@@ -9,11 +9,12 @@ use Rattle.khe_io.specs.Shelf.{IsMissing}
 use Rattle.repair_run.specs.Repairs.{IsRepairText}
 use Rattle.khe_app.specs.Answers.{reading_of, IsAnswerOf}
 use Rattle.khe_app.specs.Ends.{Holdings, IsDecided, IsEnd, LacksOf, Written}
-use Rattle.khe_app.specs.Outcome.{Reading, evaluable, refused, Start, begins, barred, start_of, IsOutcomeOf}
+use Rattle.khe_app.specs.Outcome.{Start, begins, barred, start_of, IsOutcomeOf}
+use Rattle.archive_reading.specs.Reading.{Reading, evaluable, refused}
 use Rattle.khe_app.specs.Outcome.{IsRepairIn, IsRepairOf, IsRepairTo}
 use Rattle.khe_app.specs.Words.{repairing}
 use Rattle.khe_app.specs.declared.program.Answer.{Answer}
-use Rattle.khe_app.specs.declared.refusals.Refusal.{Refusal}
+use Rattle.archive_reading.specs.declared.refusals.Refusal.{Refusal}
 use Rattle.khe_app.proofs.EndsLemmas.{end_starved, end_written, not_two}
 use Rattle.xhstt_resolve.specs.declared.resolving.Resolved.{Resolved}
 use Rattle.xhstt_shape.specs.declared.records.Archive.{Archive}

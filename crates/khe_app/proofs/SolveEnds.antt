@@ -8,14 +8,15 @@ use Rattle.khe_io.specs.Shelf.{IsMissing}
 use Rattle.repair_run.specs.Solves.{IsSolveText}
 use Rattle.khe_app.specs.Answers.{reading_of, IsAnswerOf, IsBarredBy}
 use Rattle.khe_app.specs.Ends.{Holdings, IsEnd, LacksOf, Written}
-use Rattle.khe_app.specs.Outcome.{Reading, evaluable, refused, Start, begins, barred, start_of, IsOutcomeOf}
+use Rattle.khe_app.specs.Outcome.{Start, begins, barred, start_of, IsOutcomeOf}
+use Rattle.archive_reading.specs.Reading.{Reading, evaluable, refused}
 use Rattle.khe_app.specs.Outcome.{IsSolveIn, IsSolveOf, IsSolveTo}
-use Rattle.khe_app.specs.Refusals.{refusal_line}
+use Rattle.archive_reading.specs.Refusals.{refusal_line}
 use Rattle.khe_app.specs.Words.{solving}
 use Rattle.khe_app.specs.declared.program.Answer.{Answer}
-use Rattle.khe_app.specs.declared.reading.Unread.{Unread}
-use Rattle.khe_app.specs.declared.reading.Unread.TheVariants.{Refused}
-use Rattle.khe_app.specs.declared.refusals.Refusal.{Refusal}
+use Rattle.archive_reading.specs.declared.reading.Unread.{Unread}
+use Rattle.archive_reading.specs.declared.reading.Unread.TheVariants.{Refused}
+use Rattle.archive_reading.specs.declared.refusals.Refusal.{Refusal}
 use Rattle.khe_app.proofs.EndsLemmas.{end_starved, end_written, not_two}
 use Rattle.khe_app.proofs.RepairEnds.{decided, four_apart, two_apart}
 use Rattle.xhstt_resolve.specs.declared.resolving.Resolved.{Resolved}

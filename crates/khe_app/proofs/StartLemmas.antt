@@ -7,9 +7,9 @@ use Rattle.khe_base.proofs.ListLemmas.{there}
 use Rattle.khe_instance.specs.declared.parts.Parts.{Parts}
 use Rattle.khe_instance.specs.declared.states.Plain.{Plain}
 use Rattle.khe_app.specs.Outcome.{barred, begins, start_by, start_of}
-use Rattle.khe_app.specs.Ready.{IsReady}
+use Rattle.archive_reading.specs.Ready.{IsReady}
 use Rattle.parallel_solve.specs.Verdicts.{parts_at}
-use Rattle.khe_app.specs.declared.refusals.Refusal.TheVariants.{NoSuchSolution, Invalid}
+use Rattle.archive_reading.specs.declared.refusals.Refusal.TheVariants.{NoSuchSolution, Invalid}
 use Rattle.xhstt_completion.specs.Completed.{completed}
 use Rattle.xhstt_completion.specs.declared.faults.Cause.{Cause}
 use Rattle.xhstt_references.specs.References.{solutions_of}

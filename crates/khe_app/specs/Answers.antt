@@ -3,16 +3,18 @@ use Rattle.std.specs.Prelude.{ℕ, ◌≡◌, ◌<◌, ◌≤◌, Bool, Option, 
 use Rattle.khe_instance.specs.States.{IsValid}
 use Rattle.khe_instance.specs.declared.parts.Parts.{Parts}
 use Rattle.khe_app.specs.Ends.{Written}
-use Rattle.khe_app.specs.Outcome.{Reading, evaluable, refused, IsReadingOf, IsRunOf, IsScripted, Start, begins, barred}
+use Rattle.khe_app.specs.Outcome.{IsRunOf, IsScripted, Start, begins, barred}
+use Rattle.archive_reading.specs.Reading.{Reading, evaluable, refused, IsReadingOf}
 use Rattle.khe_app.specs.Outcome.{start_in}
-use Rattle.khe_app.specs.Ready.{IsReady}
-use Rattle.khe_app.specs.Refusals.{refusal_line, script_too_large_line}
+use Rattle.archive_reading.specs.Ready.{IsReady}
+use Rattle.archive_reading.specs.Refusals.{refusal_line}
+use Rattle.khe_app.specs.Lines.{script_too_large_line}
 use Rattle.khe_app.specs.declared.program.Answer.{Answer}
 use Rattle.khe_app.specs.declared.program.Answer.TheVariants.{Read, Refused}
 use Rattle.khe_app.specs.declared.program.Play.{Play}
 use Rattle.khe_app.specs.declared.program.Play.TheVariants as play
-use Rattle.khe_app.specs.declared.reading.Unread.{Unread}
-use Rattle.khe_app.specs.declared.reading.Unread.TheVariants as unread
+use Rattle.archive_reading.specs.declared.reading.Unread.{Unread}
+use Rattle.archive_reading.specs.declared.reading.Unread.TheVariants as unread
 use Rattle.khe_base.specs.declared.limits.TheConstants.{SCRIPT_BYTES}
 use Rattle.khe_app.specs.declared.starting.Begun.{Begun}
 use Rattle.xhstt_resolve.specs.declared.resolving.Resolved.{Resolved}

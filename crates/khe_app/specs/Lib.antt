@@ -1,9 +1,7 @@
 pub mod Answers
 pub mod Ends
+pub mod Lines
 pub mod Outcome
-pub mod Readings
-pub mod Ready
-pub mod Refusals
 pub mod Report
 pub mod Requests
 pub mod Words

@@ -34,51 +34,15 @@ use Rattle.xhstt_resolve.specs.declared.faults.ResolveFault.{ResolveFault}
 use Rattle.xhstt_resolve.specs.declared.faults.ResolveFault.TheVariants as resolve
 use Rattle.xhstt_resolve.specs.declared.resolving.Resolved.{Resolved}
 use Rattle.xhstt_writer.specs.Archives.{canonical}
-use Rattle.khe_app.specs.Refusals.{refusal_line, not_understood_line, script_too_large_line}
+use Rattle.archive_reading.specs.Refusals.{refusal_line}
+use Rattle.khe_app.specs.Lines.{not_understood_line, script_too_large_line}
 use Rattle.khe_app.specs.Report.{report}
 use Rattle.khe_app.specs.Words.{Asked, asked, evaluating, scripting, checking, repairing, solving, matching, making, running}
 use Rattle.khe_base.specs.declared.limits.TheConstants.{SCRIPT_BYTES}
-use Rattle.khe_app.specs.declared.refusals.Refusal.{Refusal}
-use Rattle.khe_app.specs.declared.refusals.Refusal.TheVariants.{Fault, Limit, TooLarge, NoSuchSolution, Invalid}
-use Rattle.khe_app.specs.declared.refusals.Refusal.TheVariants.{NoSuchTime, NoSuchType, TooManyTasks, NoSuchInstance}
+use Rattle.archive_reading.specs.declared.refusals.Refusal.{Refusal}
+use Rattle.archive_reading.specs.declared.refusals.Refusal.TheVariants.{Fault, Limit, TooLarge, NoSuchSolution, Invalid}
+use Rattle.archive_reading.specs.declared.refusals.Refusal.TheVariants.{NoSuchTime, NoSuchType, TooManyTasks, NoSuchInstance}
 use Rattle.khe_app.specs.Words.{constructing}
-
--- an archive is read, with its instances; or refused
-pub data Reading : Type 0 where
-  evaluable : Archive → Resolved → Reading
-  refused : Refusal → Reading
-
--- a fault of references or a limit refuses an archive; want of memory is no fault of one
-abbrev pub IsRead : Archive → Result Resolved ResolveFault → Reading → Type 0
-IsRead a (Ok r) reading = reading ≡ evaluable a r
-IsRead a (Err (resolve.Bad kind at)) reading = reading ≡ refused (Fault kind at)
-IsRead a (Err (resolve.Limit which value)) reading = reading ≡ refused (Limit which value)
-IsRead a (Err resolve.NoMemory) reading = ⊥
-
--- a fault of the shape refuses an archive
-abbrev pub IsShaped : Result Archive ShapeFault → Reading → Type 0
-IsShaped (Ok a) reading = IsRead a (resolved a) reading
-IsShaped (Err (shape.Bad kind at)) reading = reading ≡ refused (Fault kind at)
-IsShaped (Err shape.NoMemory) reading = ⊥
-
--- the bytes spell a tree that leads to this reading
-pub record IsSpelled (bytes : List ℕ) (reading : Reading) : Type 0 where
-  pub tree : Forest
-  pub spelled : Spelled bytes tree
-  pub shaped : IsShaped (shape_of tree) reading
-
--- the bytes have a fault of the text, which refuses them
-pub record IsFaulty (bytes : List ℕ) (reading : Reading) : Type 0 where
-  pub kind : ℕ
-  pub at : ℕ
-  pub first : IsFirstFault bytes kind at
-  pub refused_is : reading ≡ refused (Fault kind at)
-
--- what the bytes of an archive lead to: above the greatest size they are refused unread
-abbrev pub IsReadingOf : List ℕ → Reading → Type 0
-IsReadingOf bytes reading =
-    ((ARCHIVE_BYTES < length bytes) × (reading ≡ refused TooLarge))
-    ⊎ ((length bytes ≤ ARCHIVE_BYTES) × (IsFaulty bytes reading ⊎ IsSpelled bytes reading))
 
 -- the status and the text of a reading
 abbrev pub status_of : Reading → ℕ

@@ -8,8 +8,6 @@ mod making;
 mod matching;
 mod outcomes;
 mod program;
-mod reading;
-mod refusals;
 mod repairing;
 mod reports;
 mod scripts;
@@ -18,6 +16,4 @@ mod starting;
 mod words;
 
 pub use program::{Answer, Status, Stop, answer_to, khe, put_refusal};
-pub use reading::{ReadArchive, Unread};
-pub use refusals::Refusal;
 pub use starting::{begin, instance_numbered};

@@ -8,14 +8,14 @@ ghost use Rattle.made_run.specs.Runs.{IsJob, IsRunLine};
 ghost use Rattle.xhstt_shape.specs.WellFormed.{IsWellFormed};
 ghost use Rattle.khe_app.specs.Ends.{Holdings, IsEnd, Written};
 ghost use Rattle.khe_app.specs.Outcome.{IsRunTo};
-ghost use Rattle.khe_app.specs.Ready.{IsReady};
+ghost use Rattle.archive_reading.specs.Ready.{IsReady};
 ghost use Rattle.khe_app.specs.Words.{making, running};
-ghost use Rattle.khe_app.specs.declared.reading.Unread.TheVariants as unread_by;
+ghost use Rattle.archive_reading.specs.declared.reading.Unread.TheVariants as unread_by;
 ghost use Rattle.xhstt_resolve.specs.declared.faults.ResolveFault.TheVariants as resolve_fault;
 
 use crate::checking::put_spelling;
 use crate::program::{Status, put};
-use crate::reading::Unread;
+use archive_reading::Unread;
 use crate::starting::{begin, instance_numbered};
 use job_generator::{Draws, generate, slot_count};
 use khe_base::NoMemory;

@@ -6,22 +6,23 @@ ghost use Rattle.khe_io.specs.Faults.{Rose, Took, TookFront};
 ghost use Rattle.khe_io.specs.Shelf.{IsMissing};
 ghost use Rattle.khe_app.specs.Answers.{reading_of, IsAnswerOf, IsOnlyAnswerOf, IsReadyAnswer, IsPlayAnswer, IsReadyPlay, IsScriptOf, IsTextOf, IsWith};
 ghost use Rattle.khe_app.specs.Ends.{EndedBy, CutOff, Holdings, LacksArchive, LacksName, LacksOf, IsDecided, IsEnd, IsStatus, Written};
-ghost use Rattle.khe_app.specs.Outcome.{IsReadingOf, status_of, text_of};
-ghost use Rattle.khe_app.specs.Refusals as refusals;
+ghost use Rattle.khe_app.specs.Outcome.{status_of, text_of};
+ghost use Rattle.archive_reading.specs.Reading.{IsReadingOf};
+ghost use Rattle.archive_reading.specs.Refusals as refusals;
+ghost use Rattle.khe_app.specs.Lines as lines;
 ghost use Rattle.khe_app.specs.Words.{asked, evaluating, is_read, scripting};
 
 use crate::checking::check;
 use crate::constructing::construct;
 use crate::making::{make, make_run};
 use crate::matching::{Wanted, match_tasks};
-use crate::reading::{ReadArchive, Unread, read};
-use crate::refusals::{Refusal, refusal_line};
 use crate::repairing::repair;
 use crate::reports::report;
 use crate::scripts::play_script;
 use crate::solving::solve;
 use crate::starting::{Begun, start};
 use crate::words::{Request, request_of};
+use archive_reading::{ReadArchive, Refusal, Unread, read, refusal_line};
 use khe_base::{NoMemory, Seq, limits};
 use khe_instance::Instance;
 use khe_io::{Cut, Gate, Shelf, Sink, TakeFault, put_all, take_all};
@@ -150,8 +151,8 @@ pub fn khe<R: Threads + Sync, S: Shelf, K: Sink, G: Gate>(
     ensures not_understood { result.0 ≡ 2 → asked (map string_bytes words.now) ≡ None }
 
     // Their line is the text also over a shelf that keeps its content to itself.
-    ensures line { result.0 ≡ 2 → Took (K.taken out.old) (K.taken out.new) (encode_utf8_all refusals.not_understood_line) }
-    ensures line_cut_off { asked (map string_bytes words.now) ≡ None → result.0 ≡ 5 → TookFront (K.taken out.old) (K.taken out.new) (encode_utf8_all refusals.not_understood_line) }
+    ensures line { result.0 ≡ 2 → Took (K.taken out.old) (K.taken out.new) (encode_utf8_all lines.not_understood_line) }
+    ensures line_cut_off { asked (map string_bytes words.now) ≡ None → result.0 ≡ 5 → TookFront (K.taken out.old) (K.taken out.new) (encode_utf8_all lines.not_understood_line) }
 
     // Status 4 comes by a fault of the shelf and always where it counted one, so no call is made
     // again after it. On a sound shelf it comes exactly where nothing stands under a name whose
@@ -201,8 +202,8 @@ fn respond<R: Threads + Sync, S: Shelf, K: Sink, G: Gate>(
     ensures end { IsEnd (asked (map string_bytes words.now)) (S.holdings shelf.old) (S.is_sound shelf.old) (S.faults shelf.old) (S.faults shelf.new) (K.taken out.old) (K.taken out.new) (K.faults out.old) (K.faults out.new) result.0 }
     ensures no_reading { asked (map string_bytes words.now) ≡ None → ((result.0 ≡ 2) ⊎ (result.0 ≡ 5)) × (shelf.new ≡ shelf.old) }
     ensures not_understood { result.0 ≡ 2 → asked (map string_bytes words.now) ≡ None }
-    ensures line { result.0 ≡ 2 → Took (K.taken out.old) (K.taken out.new) (encode_utf8_all refusals.not_understood_line) }
-    ensures line_cut_off { asked (map string_bytes words.now) ≡ None → result.0 ≡ 5 → TookFront (K.taken out.old) (K.taken out.new) (encode_utf8_all refusals.not_understood_line) }
+    ensures line { result.0 ≡ 2 → Took (K.taken out.old) (K.taken out.new) (encode_utf8_all lines.not_understood_line) }
+    ensures line_cut_off { asked (map string_bytes words.now) ≡ None → result.0 ≡ 5 → TookFront (K.taken out.old) (K.taken out.new) (encode_utf8_all lines.not_understood_line) }
     ensures absent { IsTrue (S.is_sound shelf.old) → LacksArchive (map string_bytes words.now) (S.holdings shelf.old) → result.0 ≡ 4 }
     ensures unread { is_read (asked (map string_bytes words.now)) ≡ false → shelf.new ≡ shelf.old }
     ensures holdings { S.holdings shelf.new ≡ S.holdings shelf.old }
@@ -284,8 +285,8 @@ fn respond<R: Threads + Sync, S: Shelf, K: Sink, G: Gate>(
 fn refuse_words<K: Sink>(out: &mut K) -> Status
     ensures end { (h : Holdings) (sound : Bool) (faults : ℕ) → IsEnd None h sound faults faults (K.taken out.old) (K.taken out.new) (K.faults out.old) (K.faults out.new) result.0 }
     ensures status { (result.0 ≡ 2) ⊎ (result.0 ≡ 5) }
-    ensures line { result.0 ≡ 2 → Took (K.taken out.old) (K.taken out.new) (encode_utf8_all refusals.not_understood_line) }
-    ensures line_cut_off { result.0 ≡ 5 → TookFront (K.taken out.old) (K.taken out.new) (encode_utf8_all refusals.not_understood_line) }
+    ensures line { result.0 ≡ 2 → Took (K.taken out.old) (K.taken out.new) (encode_utf8_all lines.not_understood_line) }
+    ensures line_cut_off { result.0 ≡ 5 → TookFront (K.taken out.old) (K.taken out.new) (encode_utf8_all lines.not_understood_line) }
     ensures write_fault_ends { (result.0 ≡ 5) ⊎ (K.faults out.new ≡ K.faults out.old) }
     ensures sink_faults { K.faults out.old ≤ K.faults out.new }
 {
@@ -294,14 +295,14 @@ fn refuse_words<K: Sink>(out: &mut K) -> Status
 
 /// The line for words without a reading.
 fn not_understood() -> &'static [u8]
-    ensures { result.now ≡ encode_utf8_all refusals.not_understood_line }
+    ensures { result.now ≡ encode_utf8_all lines.not_understood_line }
 {
     b"khe: words not understood\n"
 }
 
 /// The line in place of the answers to a script that is too large.
 fn script_too_large() -> &'static [u8]
-    ensures { result.now ≡ encode_utf8_all refusals.script_too_large_line }
+    ensures { result.now ≡ encode_utf8_all lines.script_too_large_line }
 {
     b"script fault 4 TooLarge\n"
 }

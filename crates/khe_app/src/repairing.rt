@@ -4,17 +4,17 @@ ghost use Rattle.std.specs.Prelude.{◌≡◌, ◌≤◌, ◌⊎◌, ℕ, List, 
 ghost use Rattle.khe_base.specs.declared.limits.TheConstants.{CHAIN_MOVES};
 ghost use Rattle.khe_instance.specs.States.{IsTold, IsValid};
 ghost use Rattle.repair_run.specs.Repairs.{IsRepairText, repair_bytes};
-ghost use Rattle.repair_run.specs.Texts.{HasSpellable};
+ghost use Rattle.xhstt_entries.specs.Texts.{HasSpellable};
 ghost use Rattle.xhstt_shape.specs.WellFormed.{IsWellFormed};
 ghost use Rattle.khe_io.specs.Shelf.{IsMissing};
 ghost use Rattle.khe_app.specs.Answers.{reading_of, IsReadyAnswer};
 ghost use Rattle.khe_app.specs.Ends.{IsEnd, Written};
 ghost use Rattle.khe_app.specs.Outcome.{IsRepairIn, IsRepairOf, start_of};
-ghost use Rattle.khe_app.specs.Ready.{IsReady};
+ghost use Rattle.archive_reading.specs.Ready.{IsReady};
 ghost use Rattle.khe_app.specs.Words.{repairing};
 
 use crate::program::{Answer, Status, Stop, answer_to, put_refusal};
-use crate::reading::{ReadArchive, Unread};
+use archive_reading::{ReadArchive, Unread};
 use crate::starting::{begin, instance_numbered};
 use khe_base::NoMemory;
 use khe_instance::{Instance, Plain};

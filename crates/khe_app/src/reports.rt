@@ -4,7 +4,7 @@ ghost use Rattle.std.specs.Prelude.{◌≡◌, ◌≤◌, ◌<◌, ◌+◌, ◌+
 ghost use Rattle.khe_io.specs.Faults.{Rose, Took, TookFront};
 ghost use Rattle.khe_io.specs.Amid.{IsAmid};
 ghost use Rattle.khe_app.specs.Report as spec;
-ghost use Rattle.khe_app.specs.Ready.{IsReady};
+ghost use Rattle.archive_reading.specs.Ready.{IsReady};
 ghost use Rattle.evaluation_report.specs.Lines as lines;
 ghost use Rattle.resource_deviations.specs.Sets.{room_for};
 ghost use Rattle.parallel_solve.specs.Ready.{AreOnes};

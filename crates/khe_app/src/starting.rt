@@ -5,10 +5,10 @@ ghost use Rattle.khe_instance.specs.States.{IsValid};
 ghost use Rattle.khe_instance.specs.declared.parts.Parts.{Parts};
 ghost use Rattle.khe_app.specs.Answers.{IsBegun, IsBarredBy};
 ghost use Rattle.khe_app.specs.Outcome.{begins, start_of};
-ghost use Rattle.khe_app.specs.Ready.{IsReady};
+ghost use Rattle.archive_reading.specs.Ready.{IsReady};
 
-use crate::reading::{ReadArchive, Unread};
-use crate::refusals::Refusal;
+use archive_reading::{ReadArchive, Unread};
+use archive_reading::Refusal;
 use khe_instance::{Instance, Plain};
 use std::alloc::Global;
 use xhstt_completion::{SolutionFault, solution};

@@ -5,7 +5,7 @@ use Rattle.std.proofs.lemmas.Str.{encodes-append, encodes-chars}
 use Rattle.khe_instance.specs.declared.parts.Parts.{Parts}
 use Rattle.khe_instance.specs.declared.states.Plain.{Plain}
 use Rattle.repair_run.specs.Placed.{respelled}
-use Rattle.repair_run.specs.Texts.{HasSpellable}
+use Rattle.xhstt_entries.specs.Texts.{HasSpellable}
 use Rattle.repair_run.proofs.SpellLaws.{respelled_formed}
 use Rattle.resource_match.specs.Choices.{IsCertified}
 use Rattle.resource_match.specs.declared.choices.Costs.{Costs}

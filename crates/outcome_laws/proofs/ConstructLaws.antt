@@ -21,9 +21,10 @@ use Rattle.construct_run.specs.Lines.{construct_line}
 use Rattle.ejection_repair.proofs.EditLaws.{not_of_groups}
 use Rattle.ejection_repair.proofs.KeptLaws.{same_grouping}
 use Rattle.ejection_repair.specs.Repaired.{repaired}
-use Rattle.khe_app.specs.Outcome.{IsConstructIn, IsConstructOf, IsConstructTo, IsReadingOf, Reading, evaluable, refused}
-use Rattle.khe_app.specs.Refusals.{refusal_line}
-use Rattle.khe_app.specs.declared.refusals.Refusal.TheVariants.{NoSuchInstance}
+use Rattle.khe_app.specs.Outcome.{IsConstructIn, IsConstructOf, IsConstructTo}
+use Rattle.archive_reading.specs.Reading.{IsReadingOf, Reading, evaluable, refused}
+use Rattle.archive_reading.specs.Refusals.{refusal_line}
+use Rattle.archive_reading.specs.declared.refusals.Refusal.TheVariants.{NoSuchInstance}
 use Rattle.khe_base.specs.declared.numbers.TaskId.{TaskId}
 use Rattle.khe_engine.proofs.StateLaws.{edited_meets}
 use Rattle.khe_engine.specs.Openings.{IsStateOf}
@@ -42,7 +43,7 @@ use Rattle.khe_told.specs.declared.edits.Edit.{Edit}
 use Rattle.khe_told.specs.declared.edits.Edit.TheVariants.{Assign, Give}
 use Rattle.parallel_repair.proofs.FillLemmas.{state_is}
 use Rattle.repair_run.specs.Lines.{repair_line}
-use Rattle.repair_run.specs.Texts.{HasSpellable}
+use Rattle.xhstt_entries.specs.Texts.{HasSpellable}
 use Rattle.repair_run.specs.declared.mending.Mended.{Mended}
 use Rattle.text_laws.proofs.ReadLaws.{IsInstanceOf, read_formed, spellable, well_made}
 use Rattle.text_laws.proofs.StateLaws.{AreListed, cleared, cleared_state, cleared_valid, repaired_valid, state_there}

@@ -1,7 +1,9 @@
 -- A matching has one status: the tasks of a time are too many or they are not.
 use Rattle.std.proofs.Common.{ℕ, ◌≡◌, ◌∙◌, inl, inr, Option, Some, None, List, length, refl, sym, ap, subst, arith}
-use Rattle.khe_app.specs.Outcome.{IsMatchIn, IsMatchOf, IsMatchTo, IsMatched, IsMatchedAt, IsReadingOf, Reading, Start}
-use Rattle.khe_app.specs.Outcome.{barred, begins, evaluable, refused, start_of}
+use Rattle.khe_app.specs.Outcome.{IsMatchIn, IsMatchOf, IsMatchTo, IsMatched, IsMatchedAt, Start}
+use Rattle.archive_reading.specs.Reading.{IsReadingOf, Reading}
+use Rattle.khe_app.specs.Outcome.{barred, begins, start_of}
+use Rattle.archive_reading.specs.Reading.{evaluable, refused}
 use Rattle.khe_instance.specs.WellMade.{AreWellMade}
 use Rattle.khe_instance.specs.declared.parts.Parts.{Parts}
 use Rattle.khe_instance.specs.declared.states.Plain.{Plain}

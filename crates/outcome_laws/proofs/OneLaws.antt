@@ -4,9 +4,11 @@ use Rattle.std.proofs.Common.{[], ◌++◌, refl, sym, ap, subst, arith, encode_
 use Rattle.ejection_repair.specs.Repaired.{repaired}
 use Rattle.job_generator.proofs.WellFormed.{made_fits}
 use Rattle.job_generator.specs.Made.{made}
-use Rattle.khe_app.specs.Outcome.{IsAnswerTo, IsPlayTo, IsReadingOf, IsRepairIn}
+use Rattle.khe_app.specs.Outcome.{IsAnswerTo, IsPlayTo, IsRepairIn}
+use Rattle.archive_reading.specs.Reading.{IsReadingOf}
 use Rattle.khe_app.specs.Outcome.{IsRepairOf, IsRepairTo, IsRunOf, IsRunOr, IsRunTo, IsScripted, IsSolveIn, IsSolveOf}
-use Rattle.khe_app.specs.Outcome.{IsSolveTo, IsSpellingTo, Reading, Start, barred, begins, evaluable, refused, spelling_of}
+use Rattle.khe_app.specs.Outcome.{IsSolveTo, IsSpellingTo, Start, barred, begins, spelling_of}
+use Rattle.archive_reading.specs.Reading.{Reading, evaluable, refused}
 use Rattle.khe_app.specs.Outcome.{start_in, start_of, status_of, text_of}
 use Rattle.khe_engine.specs.Openings.{IsStateOf}
 use Rattle.khe_engine.specs.States.{State}

@@ -2,9 +2,9 @@
 use Rattle.std.proofs.Common.{ℕ, ◌≡◌, ◌<◌, ◌≤◌, ◌^◌, ◌∙◌, inl, inr, Result, Ok, Err, List, length, refl, sym, ap, ap₂, subst}
 use Rattle.std.proofs.Common.{arith}
 use Rattle.khe_base.specs.declared.limits.TheConstants.{ARCHIVE_BYTES}
-use Rattle.khe_app.specs.Outcome.{IsFaulty, IsRead, IsReadingOf, IsShaped, IsSpelled, Reading, evaluable, refused}
-use Rattle.khe_app.specs.declared.refusals.Refusal.{Refusal}
-use Rattle.khe_app.specs.declared.refusals.Refusal.TheVariants.{Fault}
+use Rattle.archive_reading.specs.Reading.{IsFaulty, IsRead, IsReadingOf, IsShaped, IsSpelled, Reading, evaluable, refused}
+use Rattle.archive_reading.specs.declared.refusals.Refusal.{Refusal}
+use Rattle.archive_reading.specs.declared.refusals.Refusal.TheVariants.{Fault}
 use Rattle.text_laws.specs.Read.{IsArchiveOf}
 use Rattle.xhstt_resolve.specs.Resolved.{resolved}
 use Rattle.xhstt_resolve.specs.declared.faults.ResolveFault.{ResolveFault}

@@ -2,8 +2,8 @@
 use Rattle.std.proofs.Common.{ℕ, ◌≡◌, ◌∙◌, Option, Some, None, Result, Ok, Err, refl, sym, ap, subst, slice_get}
 use Rattle.std.specs.Option.{option_map_or}
 use Rattle.khe_app.specs.Outcome.{Start, barred, begins, start_by, start_of}
-use Rattle.khe_app.specs.declared.refusals.Refusal.{Refusal}
-use Rattle.khe_app.specs.declared.refusals.Refusal.TheVariants.{NoSuchSolution}
+use Rattle.archive_reading.specs.declared.refusals.Refusal.{Refusal}
+use Rattle.archive_reading.specs.declared.refusals.Refusal.TheVariants.{NoSuchSolution}
 use Rattle.khe_instance.specs.declared.parts.Parts.{Parts}
 use Rattle.khe_instance.specs.declared.states.Plain.{Plain}
 use Rattle.text_laws.specs.Read.{IsTimetableOf}

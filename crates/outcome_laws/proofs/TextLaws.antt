@@ -1,8 +1,10 @@
 -- What is read of the texts that the program writes, by the outcomes that the program has.
 use Rattle.std.proofs.Common.{ℕ, ◌≡◌, ◌∙◌, Option, Some, None, List, refl, sym, subst, arith}
 use Rattle.std.proofs.Common.{encode_utf8_all}
-use Rattle.khe_app.specs.Outcome.{IsOutcomeOf, IsReadingOf, IsRepairIn, IsRepairOf, IsRepairTo, IsSolveIn}
-use Rattle.khe_app.specs.Outcome.{IsSolveOf, IsSolveTo, IsSpellingTo, Reading, Start, barred, begins, evaluable, refused}
+use Rattle.khe_app.specs.Outcome.{IsOutcomeOf, IsRepairIn, IsRepairOf, IsRepairTo, IsSolveIn}
+use Rattle.archive_reading.specs.Reading.{IsReadingOf}
+use Rattle.khe_app.specs.Outcome.{IsSolveOf, IsSolveTo, IsSpellingTo, Start, barred, begins}
+use Rattle.archive_reading.specs.Reading.{Reading, evaluable, refused}
 use Rattle.khe_app.specs.Outcome.{spelling_of, start_of, status_of}
 use Rattle.khe_app.specs.Words.{checking, repairing, solving}
 use Rattle.text_laws.specs.Read.{IsArchiveOf}

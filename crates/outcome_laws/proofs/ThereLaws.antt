@@ -13,11 +13,15 @@ use Rattle.ejection_repair.proofs.KeptLaws.{same_grouping}
 use Rattle.ejection_repair.specs.Repaired.{repaired}
 use Rattle.fault_tables.specs.declared.faults.TheConstants.{NOT_UTF8}
 use Rattle.khe_app.specs.Outcome.{IsMadeTo, IsRunTo, start_by}
-use Rattle.khe_app.specs.Outcome.{IsAnswerTo, IsPlayTo, IsRead, IsReadingOf, IsRepairIn, IsRepairOf, IsRepairTo, IsRunOr}
-use Rattle.khe_app.specs.Outcome.{IsScripted, IsShaped, IsSolveIn, IsSolveOf, IsSolveTo, IsSpellingTo, Reading, Start}
-use Rattle.khe_app.specs.Outcome.{barred, begins, evaluable, refused, spelling_of, start_in, start_of, status_of, text_of}
-use Rattle.khe_app.specs.Refusals.{refusal_line, script_too_large_line}
-use Rattle.khe_app.specs.declared.refusals.Refusal.TheVariants.{Fault, Limit, NoSuchSolution, TooLarge}
+use Rattle.khe_app.specs.Outcome.{IsAnswerTo, IsPlayTo, IsRepairIn, IsRepairOf, IsRepairTo, IsRunOr}
+use Rattle.archive_reading.specs.Reading.{IsRead, IsReadingOf}
+use Rattle.khe_app.specs.Outcome.{IsScripted, IsSolveIn, IsSolveOf, IsSolveTo, IsSpellingTo, Start}
+use Rattle.archive_reading.specs.Reading.{IsShaped, Reading}
+use Rattle.khe_app.specs.Outcome.{barred, begins, spelling_of, start_in, start_of, status_of, text_of}
+use Rattle.archive_reading.specs.Reading.{evaluable, refused}
+use Rattle.archive_reading.specs.Refusals.{refusal_line}
+use Rattle.khe_app.specs.Lines.{script_too_large_line}
+use Rattle.archive_reading.specs.declared.refusals.Refusal.TheVariants.{Fault, Limit, NoSuchSolution, TooLarge}
 use Rattle.khe_base.specs.declared.limits.TheConstants.{ARCHIVE_BYTES, MADE_EVENTS, SCRIPT_BYTES}
 use Rattle.khe_engine.specs.Openings.{IsStateOf}
 use Rattle.khe_engine.specs.States.{State}

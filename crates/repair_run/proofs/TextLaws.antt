@@ -16,7 +16,7 @@ use Rattle.repair_run.specs.Placed.{respelled}
 use Rattle.repair_run.specs.Repairs.{repair_bytes}
 use Rattle.repair_run.specs.Solves.{solve_bytes}
 use Rattle.repair_run.specs.declared.mending.Mended.{Mended}
-use Rattle.repair_run.specs.Texts.{HasSpellable}
+use Rattle.xhstt_entries.specs.Texts.{HasSpellable}
 use Rattle.repair_run.proofs.SpellLaws.{respelled_formed}
 
 utf8 : (a : Archive) → IsWellFormed a → IsUtf8 (canonical a)

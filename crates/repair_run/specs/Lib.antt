@@ -3,4 +3,3 @@ pub mod Lines
 pub mod Placed
 pub mod Repairs
 pub mod Solves
-pub mod Texts

@@ -2,7 +2,7 @@
 
 ghost use Rattle.std.specs.Prelude.{◌≡◌, ◌≤◌, ◌⊎◌};
 ghost use Rattle.khe_app.specs.Outcome.{begins, start_of};
-ghost use Rattle.khe_app.specs.Ready.{IsReady};
+ghost use Rattle.archive_reading.specs.Ready.{IsReady};
 ghost use Rattle.khe_engine.specs.Values.{ServesAll};
 ghost use Rattle.khe_instance.specs.States.{IsValid};
 ghost use Rattle.talk_app.specs.Ends.{IsEnd, status_after};

@@ -6,8 +6,8 @@ use Rattle.std.proofs.lemmas.Option.{same_Some, slice_get-map}
 use Rattle.khe_base.proofs.ListLemmas.{all-there}
 use Rattle.khe_instance.specs.WellMade.{AreWellMade}
 use Rattle.khe_instance.specs.declared.parts.Parts.{Parts}
-use Rattle.repair_run.specs.Texts.{HasSpellable}
-use Rattle.repair_run.proofs.SpellLaws.{parts_spellable}
+use Rattle.xhstt_entries.specs.Texts.{HasSpellable}
+use Rattle.xhstt_entries.proofs.SpellableLaws.{parts_spellable}
 use Rattle.xhstt_completion.specs.Numbered.{parts_at}
 use Rattle.xhstt_completion.proofs.Resolved.{resolved-as}
 use Rattle.xhstt_references.specs.Faults.{fault_of_ids, fault_of_instance}

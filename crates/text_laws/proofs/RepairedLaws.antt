@@ -27,7 +27,7 @@ use Rattle.repair_run.specs.Lines.{repair_line, solve_line}
 use Rattle.repair_run.specs.Placed.{archive_with, respelled}
 use Rattle.repair_run.specs.Repairs.{IsRepairText}
 use Rattle.repair_run.specs.Solves.{IsSolveText}
-use Rattle.repair_run.specs.Texts.{HasSpellable}
+use Rattle.xhstt_entries.specs.Texts.{HasSpellable}
 use Rattle.same_archives.proofs.FaultLaws.{same_resolved}
 use Rattle.same_archives.proofs.SolutionLaws.{same_completed}
 use Rattle.same_archives.proofs.SpellingLaws.{same_spelling}

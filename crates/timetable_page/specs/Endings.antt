@@ -1,13 +1,13 @@
 -- How a run ends, and what a sink took of a page.
 use Rattle.std.specs.Prelude.{ℕ, ◌≡◌, ◌<◌, ◌≤◌, ◌⊎◌, Option, List, [], ◌++◌, length, min, encode_utf8_all}
 use Rattle.std.specs.Prelude.{IfSome, IsSomeAnd}
+use Rattle.archive_reading.specs.Reading.{IsReadingOf, evaluable, refused}
+use Rattle.archive_reading.specs.declared.refusals.Refusal.{Refusal}
 use Rattle.khe_io.specs.Amid.{IsAmid}
 use Rattle.khe_io.specs.Faults.{Took}
 use Rattle.timetable_page.specs.Pages.{AreSections, IsPage}
-use Rattle.timetable_page.specs.Readings.{IsRead, IsRefusedFor}
 use Rattle.timetable_page.specs.Refusals.{refusal_page}
 use Rattle.timetable_page.specs.declared.program.TheConstants.{PAGE_BYTES}
-use Rattle.timetable_page.specs.declared.refusing.Refusal.{Refusal}
 use Rattle.xhstt_references.specs.References.{solutions_of}
 use Rattle.xhstt_resolve.specs.declared.resolving.Resolved.{Resolved}
 use Rattle.xhstt_shape.specs.declared.records.Archive.{Archive}
@@ -53,11 +53,11 @@ pub record IsPut (a : Archive) (r : Resolved) (most : ℕ) (before after : Optio
 pub record IsShown (most : ℕ) (before after : Option (List ℕ)) (bytes : List ℕ) : Type 0 where
   pub archive : Archive
   pub resolved : Resolved
-  pub read : IsRead bytes archive resolved
+  pub read : IsReadingOf bytes (evaluable archive resolved)
   pub put : IsPut archive resolved most before after
 
 -- a sink took the page that refuses these bytes
 pub record IsRefused (before after : Option (List ℕ)) (bytes : List ℕ) : Type 0 where
   pub refusal : Refusal
-  pub why : IsRefusedFor bytes refusal
+  pub why : IsReadingOf bytes (refused refusal)
   pub took : Took before after (encode_utf8_all (refusal_page refusal))

@@ -5,6 +5,5 @@ pub mod Outcomes
 pub mod Pages
 pub mod Pieces
 pub mod Reading
-pub mod Readings
 pub mod Refusals
 pub mod Words

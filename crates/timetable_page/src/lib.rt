@@ -16,7 +16,6 @@ mod naming;
 mod opening;
 mod outcomes;
 mod program;
-mod reading;
 mod refusing;
 mod sections;
 mod sending;
@@ -26,4 +25,3 @@ mod view;
 mod words;
 
 pub use program::{Status, page};
-pub use refusing::Refusal;

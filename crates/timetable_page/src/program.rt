@@ -1,6 +1,7 @@
 //! The whole program as one call.
 
 ghost use Rattle.std.specs.Prelude.{◌≡◌, ◌≤◌, ◌<◌, ◌+◌, ◌^◌, ◌⊎◌, ℕ, List, [], Option, None, Some, IfOk, IfSome, IsErrOf, IsSome, IsTrue, OnOk, ◌↔◌, encode_utf8_all, length, map, min, slice_get, string_bytes};
+ghost use Rattle.archive_reading.specs.Ready.{IsReady};
 ghost use Rattle.khe_base.specs.declared.limits.TheConstants.{ARCHIVE_BYTES};
 ghost use Rattle.khe_io.specs.Amid.{IsAmid};
 ghost use Rattle.khe_io.specs.Faults.{Rose, Took};
@@ -10,19 +11,18 @@ ghost use Rattle.parallel_solve.specs.Verdicts.{numbered_verdict, parts_at, verd
 ghost use Rattle.resource_deviations.specs.Sets.{room_for};
 ghost use Rattle.timetable_page.specs.Endings.{AreAllSent, AreSent, IsPut, IsRefused, IsShown, IsStatus, Stands};
 ghost use Rattle.timetable_page.specs.Pages.{IsSection};
-ghost use Rattle.timetable_page.specs.Readings.{IsReady};
 ghost use Rattle.timetable_page.specs.Refusals as refusals;
 ghost use Rattle.timetable_page.specs.Words.{asked};
 ghost use Rattle.xhstt_completion.specs.Completed as completion;
 
 use crate::opening::{closing, opening};
 use crate::outcomes::outcomes;
-use crate::reading::{ReadArchive, Unread, read};
-use crate::refusing::{Refusal, refusal_page};
+use crate::refusing::refusal_page;
 use crate::sections::{invalid_section, valid_section};
 use crate::sending::pass_on;
 use crate::summary::{Results, group_numbers, group_title, push_summary};
 use crate::words::request_of;
+use archive_reading::{ReadArchive, Refusal, Unread, read};
 use khe_base::{NoMemory, Seq, Text, limits};
 use khe_instance::Instance;
 use khe_io::{Cut, Shelf, Sink, TakeFault, flush, put_all, take_all};

@@ -6,3 +6,4 @@ pub mod NumberLaws
 pub mod Own
 pub mod OwnTasks
 pub mod ReadBack
+pub mod SpellableLaws

@@ -1,3 +1,4 @@
 pub mod Spelled
+pub mod Texts
 pub mod Renumbered
 pub mod Examples

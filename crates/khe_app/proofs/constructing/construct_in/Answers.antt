@@ -2,10 +2,10 @@
 use Rattle.std.proofs.Common.{inr, refl, slice_get, arith}
 use Rattle.khe_base.proofs.ListLemmas.{all-there}
 use Rattle.khe_instance.specs.declared.parts.Parts.{Parts}
-use Rattle.repair_run.specs.Texts.{HasSpellable}
+use Rattle.xhstt_entries.specs.Texts.{HasSpellable}
 use Rattle.xhstt_shape.specs.Characters.{IsSpellable}
-use Rattle.khe_app.specs.Refusals.{refusal_line}
-use Rattle.khe_app.specs.declared.refusals.Refusal.TheVariants.{NoSuchInstance}
+use Rattle.archive_reading.specs.Refusals.{refusal_line}
+use Rattle.archive_reading.specs.declared.refusals.Refusal.TheVariants.{NoSuchInstance}
 use Rattle.khe_app.proofs.ConstructEnds.{absent_text, constructed_text, none_there}
 use Rattle.khe_app.proofs.constructing.construct_in.Goals as goal
 

@@ -1,6 +1,6 @@
 -- The archive is the one that was made, so it is resolved or memory ran out.
 use Rattle.khe_app.proofs.MakeEnds.{made_few, not_refused}
-use Rattle.khe_app.proofs.ReadyLemmas.{ready}
+use Rattle.archive_reading.proofs.ReadyLemmas.{ready}
 use Rattle.khe_app.proofs.making.run_made.Goals as goal
 
 pub resolve-requires-clause-few : goal.resolve-requires-clause-few

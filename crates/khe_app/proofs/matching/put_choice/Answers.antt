@@ -1,8 +1,8 @@
 -- The choice is certified, and the bytes are those of a text.
 use Rattle.std.proofs.Common.{ℕ, inl, inr, refl, sym, subst, encode_utf8_all}
 use Rattle.khe_app.specs.Ends.{Written}
-use Rattle.khe_app.specs.Refusals.{refusal_line}
-use Rattle.khe_app.specs.declared.refusals.Refusal.TheVariants.{TooManyTasks}
+use Rattle.archive_reading.specs.Refusals.{refusal_line}
+use Rattle.archive_reading.specs.declared.refusals.Refusal.TheVariants.{TooManyTasks}
 use Rattle.match_run.specs.Found.{IsFaultOf}
 use Rattle.match_run.proofs.TextLaws.{certified_for, match_text}
 use Rattle.xhstt_entries.proofs.EntryLaws.{each_entry}

@@ -1,7 +1,7 @@
 -- The time, then the type, and else what is matched.
 use Rattle.std.proofs.Common.{ℕ, ◌<◌, ◌≤◌, inl, inr, refl, arith, length}
-use Rattle.khe_app.specs.Refusals.{refusal_line}
-use Rattle.khe_app.specs.declared.refusals.Refusal.TheVariants.{NoSuchTime, NoSuchType}
+use Rattle.archive_reading.specs.Refusals.{refusal_line}
+use Rattle.archive_reading.specs.declared.refusals.Refusal.TheVariants.{NoSuchTime, NoSuchType}
 use Rattle.khe_app.proofs.matching.put_match.Goals as goal
 
 pub returns-then-times-wanted-clause-written : goal.returns-then-times-wanted-clause-written

@@ -2,7 +2,7 @@
 use Rattle.std.proofs.Common.{None, arith, inl, inr, refl, subst}
 use Rattle.khe_io.specs.Faults.{Took, TookFront}
 use Rattle.khe_app.specs.Ends.{Written}
-use Rattle.khe_app.specs.Refusals.{not_understood_line}
+use Rattle.khe_app.specs.Lines.{not_understood_line}
 use Rattle.khe_app.proofs.EndsLemmas.{end_written, unread, unread-there, written_front, written_whole}
 use Rattle.khe_app.proofs.program.refuse_words.Goals as goal
 

@@ -2,7 +2,8 @@
 use Rattle.std.proofs.Common.{inr, refl, subst, sym}
 use Rattle.khe_app.specs.Answers.{IsTextOf}
 use Rattle.khe_app.specs.Ends.{Written}
-use Rattle.khe_app.specs.Refusals.{refusal_line, script_too_large_line}
+use Rattle.archive_reading.specs.Refusals.{refusal_line}
+use Rattle.khe_app.specs.Lines.{script_too_large_line}
 use Rattle.khe_app.specs.declared.program.Play.{Play}
 use Rattle.khe_app.proofs.program.write_play.Goals as goal
 

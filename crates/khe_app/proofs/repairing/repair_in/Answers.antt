@@ -1,10 +1,10 @@
 -- The timetable is that of the solution, in its instance.
 use Rattle.std.proofs.Common.{inr, refl, subst, sym}
 use Rattle.khe_base.proofs.ListLemmas.{all-there}
-use Rattle.repair_run.specs.Texts.{HasSpellable}
+use Rattle.xhstt_entries.specs.Texts.{HasSpellable}
 use Rattle.khe_app.specs.Answers.{IsBarredBy}
 use Rattle.khe_app.specs.Outcome.{IsRepairOf, Start, start_of}
-use Rattle.khe_app.specs.Refusals.{refusal_line}
+use Rattle.archive_reading.specs.Refusals.{refusal_line}
 use Rattle.khe_app.proofs.RepairEnds.{begun_text}
 use Rattle.khe_app.proofs.repairing.repair_in.Goals as goal
 

@@ -2,7 +2,7 @@
 use Rattle.std.proofs.Common.{inr, refl, subst, sym}
 use Rattle.khe_app.specs.Answers.{reading_of}
 use Rattle.khe_app.specs.Outcome.{IsRepairIn}
-use Rattle.khe_app.specs.Refusals.{refusal_line}
+use Rattle.archive_reading.specs.Refusals.{refusal_line}
 use Rattle.khe_app.specs.declared.program.Answer.{Answer}
 use Rattle.khe_app.proofs.repairing.write_repair.Goals as goal
 

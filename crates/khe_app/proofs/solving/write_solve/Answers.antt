@@ -2,7 +2,7 @@
 use Rattle.std.proofs.Common.{inr, refl, subst, sym}
 use Rattle.khe_app.specs.Answers.{reading_of}
 use Rattle.khe_app.specs.Outcome.{IsSolveIn}
-use Rattle.khe_app.specs.Refusals.{refusal_line}
+use Rattle.archive_reading.specs.Refusals.{refusal_line}
 use Rattle.khe_app.specs.declared.program.Answer.{Answer}
 use Rattle.khe_app.proofs.solving.write_solve.Goals as goal
 

@@ -2,7 +2,7 @@
 use Rattle.std.proofs.Common.{encode_utf8_all, refl, slice_get, subst, sym}
 use Rattle.khe_app.specs.Answers.{IsBarredBy}
 use Rattle.khe_app.specs.Outcome.{Start, start_of}
-use Rattle.khe_app.specs.Refusals.{refusal_line}
+use Rattle.archive_reading.specs.Refusals.{refusal_line}
 use Rattle.talk_app.specs.Outcome.{IsTalkOf}
 use Rattle.talk_app.proofs.EndLaws.{begun_end, line_end}
 use Rattle.talk_app.proofs.opening.talk_on.Goals as goal

@@ -1,7 +1,7 @@
 -- The line that refuses the archive stands in place of all answers.
 use Rattle.std.proofs.Common.{encode_utf8_all, refl, subst, sym}
 use Rattle.khe_app.specs.Answers.{reading_of}
-use Rattle.khe_app.specs.Refusals.{refusal_line}
+use Rattle.archive_reading.specs.Refusals.{refusal_line}
 use Rattle.khe_app.specs.declared.program.Answer.{Answer}
 use Rattle.talk_app.specs.Outcome.{IsTalkIn}
 use Rattle.talk_app.proofs.EndLaws.{line_end}

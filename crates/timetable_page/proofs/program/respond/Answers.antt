@@ -1,7 +1,7 @@
 -- What was taken from the shelf is what stands under the name.
-use Rattle.std.proofs.Common.{rules}
+use Rattle.std.proofs.Common.{inl, refl, rules}
 use Rattle.timetable_page.specs.Endings.{IsRefused, IsShown}
-use Rattle.timetable_page.specs.declared.refusing.Refusal.TheVariants.{TooLarge}
+use Rattle.archive_reading.specs.declared.refusals.Refusal.TheVariants.{TooLarge}
 use Rattle.khe_base.specs.declared.limits.TheConstants.{ARCHIVE_BYTES}
 use Rattle.timetable_page.proofs.PageLemmas.{stands, stands_above}
 use Rattle.timetable_page.proofs.program.respond.Goals as goal
@@ -22,4 +22,4 @@ pub returns-in-Err-TooLarge-clause-refused : goal.returns-in-Err-TooLarge-clause
 returns-in-Err-TooLarge-clause-refused g c = λ done.
     stands_above (g.S.Shelf.holdings c.args.shelf.now) c.args.name.now ARCHIVE_BYTES
     (IsRefused (g.K.Sink.taken c.args.out.now) (g.K.Sink.taken c.refuse.new.out)) (search rules)
-    (λ bytes large. record { refusal = TooLarge; why = large; took = c.refuse.ensures.took done })
+    (λ bytes large. record { refusal = TooLarge; why = inl (large, refl); took = c.refuse.ensures.took done })

@@ -4,7 +4,7 @@ use Rattle.std.proofs.Common.{arith, length-append, if◌then◌else◌}
 use Rattle.std.specs.Str.{bytes_eq}
 use Rattle.std.proofs.lemmas.List.{length-map}
 use Rattle.khe_base.specs.declared.limits.TheConstants.{ARCHIVE_BYTES}
-use Rattle.khe_app.specs.Readings.{IsTree}
+use Rattle.archive_reading.specs.Steps.{IsTree}
 use Rattle.xhstt_shape.specs.Faults.{Outcome}
 use Rattle.xhstt_shape.specs.Shape.{judged, shape_of}
 use Rattle.xhstt_shape.specs.Values.{archive, elements, every, instance, kids_of}

@@ -1,4 +1,4 @@
--- The lines that refuse words and archives. Each ends with a line feed.
+-- The line that refuses an archive, or what is asked for of it. It ends with a line feed.
 use Rattle.std.specs.Prelude.{ℕ, unwrap_or, List, [], ◌++◌, codes}
 use Rattle.std.specs.Fmt.{decimal}
 use Rattle.evaluation_report.specs.Lines.{cause_at}
@@ -6,9 +6,9 @@ use Rattle.fault_tables.specs.Faults.{fault_name}
 use Rattle.fault_tables.specs.Limits.{limit_name}
 use Rattle.fault_tables.specs.declared.faults.TheConstants.{LIMIT, TOO_LARGE, NO_SUCH_SOLUTION, INVALID}
 use Rattle.fault_tables.specs.declared.faults.TheConstants.{NO_SUCH_TIME, NO_SUCH_TYPE, TOO_MANY_TO_MATCH, NO_SUCH_INSTANCE}
-use Rattle.khe_app.specs.declared.refusals.Refusal.{Refusal}
-use Rattle.khe_app.specs.declared.refusals.Refusal.TheVariants.{Fault, Limit, TooLarge, NoSuchSolution, Invalid}
-use Rattle.khe_app.specs.declared.refusals.Refusal.TheVariants.{NoSuchTime, NoSuchType, TooManyTasks, NoSuchInstance}
+use Rattle.archive_reading.specs.declared.refusals.Refusal.{Refusal}
+use Rattle.archive_reading.specs.declared.refusals.Refusal.TheVariants.{Fault, Limit, TooLarge, NoSuchSolution, Invalid}
+use Rattle.archive_reading.specs.declared.refusals.Refusal.TheVariants.{NoSuchTime, NoSuchType, TooManyTasks, NoSuchInstance}
 
 -- the name of a kind of fault
 unfoldable pub kind_name : ℕ → List ℕ
@@ -48,11 +48,3 @@ refusal_words (TooManyTasks tasks) = count_words TOO_MANY_TO_MATCH tasks
 -- why an archive, or its solution, is refused
 abbrev pub refusal_line : Refusal → List ℕ
 refusal_line refusal = codes "khe: archive refused: " ++ refusal_words refusal
-
--- what is written where the words have no reading
-abbrev pub not_understood_line : List ℕ
-not_understood_line = codes "khe: words not understood\n"
-
--- what is written in place of a script's answers where it is too large
-abbrev pub script_too_large_line : List ℕ
-script_too_large_line = codes "script fault 4 TooLarge\n"

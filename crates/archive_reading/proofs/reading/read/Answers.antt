@@ -1,11 +1,11 @@
 -- Each step's answer leads to the reading.
 use Rattle.std.proofs.Common.{ℕ, ◌≡◌, List, Ok, subst, sym}
-use Rattle.khe_app.specs.Readings.{IsStopped, IsTree, IsUnread, IsUnshaped}
-use Rattle.khe_app.proofs.FewLemmas.{few}
-use Rattle.khe_app.proofs.OnlyLemmas.{passed, read_only, unread_resolved, unread_tree}
-use Rattle.khe_app.proofs.ReadingLemmas.{resolve-stopped}
-use Rattle.khe_app.proofs.ReadyLemmas.{ready}
-use Rattle.khe_app.proofs.reading.read.Goals as goal
+use Rattle.archive_reading.specs.Steps.{IsStopped, IsTree, IsUnread, IsUnshaped}
+use Rattle.archive_reading.proofs.FewLemmas.{few}
+use Rattle.archive_reading.proofs.OnlyLemmas.{passed, read_only, unread_resolved, unread_tree}
+use Rattle.archive_reading.proofs.ReadingLemmas.{resolve-stopped}
+use Rattle.archive_reading.proofs.ReadyLemmas.{ready}
+use Rattle.archive_reading.proofs.reading.read.Goals as goal
 use Rattle.xhstt_shape.specs.Shape.{shape_of}
 use Rattle.xhstt_text.specs.Document.{Spelled}
 use Rattle.xhstt_text.specs.FirstFault.{IsFirstFault}

@@ -1,9 +1,9 @@
 -- What the steps of reading an archive answer, and how that leads to the archive's reading.
 use Rattle.std.specs.Prelude.{ℕ, ◌≡◌, ◌⊎◌, List, Ok, Err}
-use Rattle.khe_app.specs.Outcome.{IsFaulty, IsReadingOf, evaluable, refused}
-use Rattle.khe_app.specs.declared.reading.Unread.{Unread}
-use Rattle.khe_app.specs.declared.reading.Unread.TheVariants.{Refused, NoMemory}
-use Rattle.khe_app.specs.declared.refusals.Refusal.TheVariants.{Fault, Limit}
+use Rattle.archive_reading.specs.Reading.{IsFaulty, IsReadingOf, evaluable, refused}
+use Rattle.archive_reading.specs.declared.reading.Unread.{Unread}
+use Rattle.archive_reading.specs.declared.reading.Unread.TheVariants.{Refused, NoMemory}
+use Rattle.archive_reading.specs.declared.refusals.Refusal.TheVariants.{Fault, Limit}
 use Rattle.xhstt_resolve.specs.declared.faults.ResolveFault.{ResolveFault}
 use Rattle.xhstt_resolve.specs.declared.faults.ResolveFault.TheVariants as resolve
 use Rattle.xhstt_resolve.specs.declared.resolving.Resolved.{Resolved}

@@ -2,9 +2,9 @@
 
 ghost use Rattle.std.specs.Prelude.{ℕ, ◌≡◌, ◌≤◌, length, Ok, IfOk, IfErr};
 ghost use Rattle.khe_base.specs.declared.limits.TheConstants.{ARCHIVE_BYTES};
-ghost use Rattle.khe_app.specs.Outcome.{Reading, evaluable, IsReadingOf};
-ghost use Rattle.khe_app.specs.Readings.{IsTree, IsStoppedTree, IsStopped, IsUnread, IsUnshaped, of_resolve};
-ghost use Rattle.khe_app.specs.Ready.{IsReady};
+ghost use Rattle.archive_reading.specs.Reading.{Reading, evaluable, IsReadingOf};
+ghost use Rattle.archive_reading.specs.Steps.{IsTree, IsStoppedTree, IsStopped, IsUnread, IsUnshaped, of_resolve};
+ghost use Rattle.archive_reading.specs.Ready.{IsReady};
 ghost use Rattle.xhstt_shape.specs.Shape.{shape_of};
 ghost use Rattle.xhstt_shape.specs.WellFormed.{IsWellFormed};
 ghost use Rattle.xhstt_text.specs.Document.{Spelled};
@@ -37,7 +37,7 @@ pub enum Unread {
 
 impl From<TextFault> for Unread {
     ghost use Rattle.std.specs.Prelude.{◌≡◌};
-    ghost use Rattle.khe_app.specs.Readings.{of_text};
+    ghost use Rattle.archive_reading.specs.Steps.{of_text};
 
     ghost from_gives = { λ fault unread. unread ≡ of_text fault };
 
@@ -51,7 +51,7 @@ impl From<TextFault> for Unread {
 
 impl From<ShapeFault> for Unread {
     ghost use Rattle.std.specs.Prelude.{◌≡◌};
-    ghost use Rattle.khe_app.specs.Readings.{of_shape};
+    ghost use Rattle.archive_reading.specs.Steps.{of_shape};
 
     ghost from_gives = { λ fault unread. unread ≡ of_shape fault };
 
@@ -79,7 +79,7 @@ fn archive_of(alloc: Global, bytes: &[u8]) -> Result<Archive, Unread>
 
 /// What these bytes lead to, as an archive to evaluate. The bytes are kept no longer than it takes
 /// to read the archive from them.
-pub(crate) fn read(alloc: Global, bytes: Seq<u8>) -> Result<ReadArchive, Unread>
+pub fn read(alloc: Global, bytes: Seq<u8>) -> Result<ReadArchive, Unread>
     requires { length bytes ≤ ARCHIVE_BYTES }
     ensures read { IfOk result (λ r. IsReadingOf bytes (evaluable r.archive r.resolved)) }
     ensures ready { IfOk result (λ r. IsReady r.archive r.resolved) }
@@ -96,7 +96,7 @@ pub(crate) fn read(alloc: Global, bytes: Seq<u8>) -> Result<ReadArchive, Unread>
 }
 
 /// A fault of resolving as a reason not to read.
-pub(crate) fn unresolved(fault: ResolveFault) -> Unread
+pub fn unresolved(fault: ResolveFault) -> Unread
     ensures { result ≡ of_resolve fault }
 {
     match fault {

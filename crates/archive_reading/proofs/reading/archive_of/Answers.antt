@@ -1,8 +1,8 @@
 -- The tree of the bytes is the only one that they spell.
 use Rattle.std.proofs.Common.{ℕ, ◌≡◌, Err, ap, sym, ◌∙◌, subst}
-use Rattle.khe_app.specs.Readings.{IsUnshaped, of_shape, of_text}
-use Rattle.khe_app.proofs.OnlyLemmas.{passed, shaped_only, unshaped_text, unshaped_tree}
-use Rattle.khe_app.proofs.reading.archive_of.Goals as goal
+use Rattle.archive_reading.specs.Steps.{IsUnshaped, of_shape, of_text}
+use Rattle.archive_reading.proofs.OnlyLemmas.{passed, shaped_only, unshaped_text, unshaped_tree}
+use Rattle.archive_reading.proofs.reading.archive_of.Goals as goal
 use Rattle.xhstt_shape.specs.Faults.{IsTold}
 use Rattle.xhstt_shape.specs.Shape.{shape_of}
 use Rattle.xhstt_shape.specs.declared.faults.ShapeFault.{ShapeFault}

@@ -2,7 +2,7 @@
 
 ghost use Rattle.std.specs.Prelude.{◌≡◌, ◌++◌, IfOk, IsTrue, OnOk, codes};
 ghost use Rattle.khe_base.specs.Text.{is_ascii};
-ghost use Rattle.khe_app.specs.Refusals as spec;
+ghost use Rattle.archive_reading.specs.Refusals as spec;
 
 use evaluation_report::push_cause;
 use fault_tables::{
@@ -37,7 +37,7 @@ pub enum Refusal {
 }
 
 /// The line that refuses an archive.
-pub(crate) fn refusal_line(alloc: Global, refusal: Refusal) -> Result<Text, NoMemory>
+pub fn refusal_line(alloc: Global, refusal: Refusal) -> Result<Text, NoMemory>
     ensures { IfOk result (λ t. t ≡ spec.refusal_line refusal) }
 {
     let mut line = Text::new(alloc);
@@ -46,7 +46,8 @@ pub(crate) fn refusal_line(alloc: Global, refusal: Refusal) -> Result<Text, NoMe
     Ok(line)
 }
 
-fn push_refusal(line: &mut Text, refusal: Refusal) -> Result<(), NoMemory>
+/// Adds the number and the name of a refusal, with what more is said of it, and a line feed.
+pub fn push_refusal(line: &mut Text, refusal: Refusal) -> Result<(), NoMemory>
     ensures { OnOk result (line.new ≡ line.old ++ spec.refusal_words refusal) }
 {
     match refusal {

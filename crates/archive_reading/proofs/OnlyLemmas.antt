@@ -2,11 +2,11 @@
 use Rattle.std.proofs.Common.{ℕ, ◌≡◌, ◌≤◌, inl, inr, Result, Ok, Err, List, length, refl, sym, ap, subst, ◌∙◌, arith}
 use Rattle.std.specs.Result.{IfErr, IsErrAnd}
 use Rattle.khe_base.specs.declared.limits.TheConstants.{ARCHIVE_BYTES}
-use Rattle.khe_app.specs.Outcome.{IsRead, IsReadingOf, IsShaped, Reading, evaluable, refused}
-use Rattle.khe_app.specs.Readings.{IsUnread, IsUnshaped, of_resolve, of_shape, of_text}
-use Rattle.khe_app.specs.declared.reading.Unread.{Unread}
-use Rattle.khe_app.specs.declared.reading.Unread.TheVariants.{Refused, NoMemory}
-use Rattle.khe_app.specs.declared.refusals.Refusal.{Refusal}
+use Rattle.archive_reading.specs.Reading.{IsRead, IsReadingOf, IsShaped, Reading, evaluable, refused}
+use Rattle.archive_reading.specs.Steps.{IsUnread, IsUnshaped, of_resolve, of_shape, of_text}
+use Rattle.archive_reading.specs.declared.reading.Unread.{Unread}
+use Rattle.archive_reading.specs.declared.reading.Unread.TheVariants.{Refused, NoMemory}
+use Rattle.archive_reading.specs.declared.refusals.Refusal.{Refusal}
 use Rattle.xhstt_resolve.specs.Answers.{IsFaultOf}
 use Rattle.xhstt_resolve.specs.Resolved.{resolved}
 use Rattle.xhstt_resolve.specs.declared.faults.ResolveFault.{ResolveFault}

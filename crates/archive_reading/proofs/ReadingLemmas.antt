@@ -1,9 +1,9 @@
 -- How the steps of reading lead to an archive's reading.
 use Rattle.std.proofs.Common.{ℕ, ◌≡◌, ◌≤◌, inr, List, length, Err, Result, refl, sym, subst}
 use Rattle.khe_base.specs.declared.limits.TheConstants.{ARCHIVE_BYTES}
-use Rattle.khe_app.specs.Outcome.{IsRead, IsShaped, IsSpelled, Reading, refused}
-use Rattle.khe_app.specs.Readings.{IsTree, IsStopped, of_resolve}
-use Rattle.khe_app.specs.declared.refusals.Refusal.TheVariants.{Fault, Limit}
+use Rattle.archive_reading.specs.Reading.{IsRead, IsShaped, IsSpelled, Reading, refused}
+use Rattle.archive_reading.specs.Steps.{IsTree, IsStopped, of_resolve}
+use Rattle.archive_reading.specs.declared.refusals.Refusal.TheVariants.{Fault, Limit}
 use Rattle.xhstt_resolve.specs.Answers.{IsFaultOf}
 use Rattle.xhstt_resolve.specs.Resolved.{resolved}
 use Rattle.xhstt_resolve.specs.declared.faults.ResolveFault.{ResolveFault}

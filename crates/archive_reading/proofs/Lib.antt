@@ -1,0 +1,4 @@
+pub mod FewLemmas
+pub mod OnlyLemmas
+pub mod ReadingLemmas
+pub mod ReadyLemmas

@@ -1,0 +1,4 @@
+pub mod Reading
+pub mod Ready
+pub mod Refusals
+pub mod Steps
