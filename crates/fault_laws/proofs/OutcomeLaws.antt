@@ -4,7 +4,7 @@ use Rattle.std.specs.Prelude.{encode_utf8_all}
 use Rattle.khe_base.specs.declared.limits.TheConstants.{ARCHIVE_BYTES}
 use Rattle.fault_laws.proofs.RowLaws.{by_machines, by_rows, faulty, no_tree}
 use Rattle.fault_laws.specs.Told.{ComesOf, IsFaultLine, IsOutcomeByRows, Shelf, TellsLeastFault}
-use Rattle.first_faults.specs.Rows.{IsLeastFault}
+use Rattle.text_fault_laws.specs.Rows.{IsLeastFault}
 use Rattle.khe_app.specs.Outcome.{IsAnswerTo, IsAnswered, IsConstructTo, IsConstructed, IsMatchTo, IsMatchedFrom}
 use Rattle.khe_app.specs.Outcome.{IsOutcomeOf, IsPlayTo, IsPlayed, IsRepairTo, IsRepaired, IsRespelled, IsSolveTo}
 use Rattle.khe_app.specs.Outcome.{IsSolvedFrom, IsSpellingTo}

@@ -3,8 +3,8 @@ use Rattle.std.proofs.Common.{ℕ, ◌≡◌, ◌≤◌, ◌∙◌, inl, inr, Li
 use Rattle.khe_base.specs.declared.limits.TheConstants.{ARCHIVE_BYTES}
 use Rattle.fault_laws.proofs.MeaningLaws.{stands_for_meanings}
 use Rattle.fault_laws.specs.Readings.{IsReadingByRows}
-use Rattle.first_faults.proofs.FirstRow.{first_least, least_first}
-use Rattle.first_faults.specs.Rows.{IsLeastFault}
+use Rattle.text_fault_laws.proofs.FirstRow.{first_least, least_first}
+use Rattle.text_fault_laws.specs.Rows.{IsLeastFault}
 use Rattle.archive_reading.specs.Reading.{IsReadingOf, Reading, refused}
 use Rattle.archive_reading.specs.declared.refusals.Refusal.TheVariants.{Fault}
 use Rattle.xhstt_text.proofs.Answer.{one_first, unspelled}

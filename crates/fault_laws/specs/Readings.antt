@@ -2,7 +2,7 @@
 use Rattle.std.specs.Prelude.{ℕ, ◌≡◌, ◌<◌, ◌≤◌, ◌⊎◌, ◌↔◌, Some, List, length}
 use Rattle.khe_base.specs.Text.{text_of}
 use Rattle.khe_base.specs.declared.limits.TheConstants.{ARCHIVE_BYTES}
-use Rattle.first_faults.specs.Rows.{IsLeastFault}
+use Rattle.text_fault_laws.specs.Rows.{IsLeastFault}
 use Rattle.archive_reading.specs.Reading.{IsShaped, Reading, refused}
 use Rattle.archive_reading.specs.declared.refusals.Refusal.TheVariants.{Fault, TooLarge}
 use Rattle.xhstt_shape.specs.Shape.{shape_of}

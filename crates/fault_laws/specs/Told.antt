@@ -2,7 +2,7 @@
 use Rattle.std.specs.Prelude.{ℕ, ◌≡◌, ◌≤◌, ◌↔◌, Option, Some, List, length, encode_utf8_all}
 use Rattle.khe_base.specs.declared.limits.TheConstants.{ARCHIVE_BYTES}
 use Rattle.fault_laws.specs.Readings.{IsReadingByRows}
-use Rattle.first_faults.specs.Rows.{IsLeastFault}
+use Rattle.text_fault_laws.specs.Rows.{IsLeastFault}
 use Rattle.khe_app.specs.Outcome.{IsConstructIn, IsMatchIn, IsOutcome, IsOutcomeOf, IsRepairIn, IsScripted}
 use Rattle.archive_reading.specs.Reading.{IsReadingOf}
 use Rattle.khe_app.specs.Outcome.{IsSolveIn, spelling_of, start_in, status_of, text_of}

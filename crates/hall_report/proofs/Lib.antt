@@ -1,12 +1,16 @@
+pub mod AllSets
 pub mod CellsOpened
 pub mod Changed
 pub mod DemandsOpened
+pub mod ExcessLaws
 pub mod Following
+pub mod HallKept
 pub mod Halls
 pub mod ListingLaws
 pub mod NarrowLaws
 pub mod Noting
 pub mod Numbers
+pub mod Outnumbering
 pub mod Places
 pub mod Ranges
 pub mod Renaming
@@ -16,6 +20,7 @@ pub mod RulesOpened
 pub mod Safe
 pub mod SetLaws
 pub mod SetsOpened
+pub mod ShortageLaws
 pub mod Stated
 pub mod UnitLaws
 pub mod UnitsOpened

@@ -5,5 +5,6 @@ pub mod Opening
 pub mod Picks
 pub mod Renewing
 pub mod Sets
+pub mod Shortages
 pub mod Strict
 pub mod Units

@@ -6,12 +6,12 @@ use Rattle.std.specs.Str.{chars}
 use Rattle.std.proofs.lemmas.Str.{encodes-chars}
 use Rattle.std.proofs.lemmas.Option.{same_Some}
 use Rattle.khe_base.specs.declared.limits.TheConstants.{MADE_EVENTS}
-use Rattle.job_generator.specs.Made.{made}
-use Rattle.job_generator.proofs.SlotLaws.{made_instances}
+use Rattle.archive_generator.specs.Made.{made}
+use Rattle.archive_generator.proofs.SlotLaws.{made_instances}
 use Rattle.khe_instance.specs.declared.parts.Parts.{Parts}
 use Rattle.khe_instance.specs.declared.states.Plain.{Plain}
-use Rattle.made_archives.specs.Starts.{HasStart}
-use Rattle.made_archives.proofs.MadeLaws.{has_start, made_resolved}
+use Rattle.generator_laws.specs.Starts.{HasStart}
+use Rattle.generator_laws.proofs.MadeLaws.{has_start, made_resolved}
 use Rattle.made_run.specs.Runs.{IsRunLine}
 use Rattle.khe_app.specs.Answers.{IsBarredBy}
 use Rattle.khe_app.specs.Ends.{Holdings, IsEnd, LacksOf, Written}

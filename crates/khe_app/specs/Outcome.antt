@@ -4,7 +4,7 @@ use Rattle.std.specs.Prelude.{length, slice_get, encode_utf8_all}
 use Rattle.std.specs.Option.{option_map_or}
 use Rattle.khe_base.specs.declared.limits.TheConstants.{ARCHIVE_BYTES}
 use Rattle.construct_run.specs.Constructs.{IsConstructText}
-use Rattle.job_generator.specs.Made.{made}
+use Rattle.archive_generator.specs.Made.{made}
 use Rattle.khe_engine.specs.Openings.{IsStateOf}
 use Rattle.khe_engine.specs.States.{State}
 use Rattle.khe_instance.specs.declared.parts.Parts.{Parts}

@@ -18,9 +18,8 @@ ghost use Rattle.khe_app.specs.Words.{constructing};
 ghost use Rattle.std.specs.Prelude.{slice_get};
 
 use crate::program::{Answer, Status, Stop, answer_to, put_refusal};
-use archive_reading::ReadArchive;
-use archive_reading::Refusal;
 use crate::starting::instance_numbered;
+use archive_reading::{ReadArchive, Refusal};
 use construct::Built;
 use construct_run::{build, send_built, send_mended};
 use khe_base::NoMemory;

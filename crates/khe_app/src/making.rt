@@ -2,7 +2,7 @@
 
 ghost use Rattle.std.specs.Prelude.{◌≡◌, ◌≤◌, ◌⊎◌, ℕ, Bool, List, Some, encode_utf8_all};
 ghost use Rattle.khe_base.specs.declared.limits.TheConstants.{MADE_EVENTS};
-ghost use Rattle.job_generator.specs.Made.{made, state_after};
+ghost use Rattle.archive_generator.specs.Made.{made, state_after};
 ghost use Rattle.khe_instance.specs.States.{IsValid};
 ghost use Rattle.made_run.specs.Runs.{IsJob, IsRunLine};
 ghost use Rattle.xhstt_shape.specs.WellFormed.{IsWellFormed};
@@ -15,9 +15,9 @@ ghost use Rattle.xhstt_resolve.specs.declared.faults.ResolveFault.TheVariants as
 
 use crate::checking::put_spelling;
 use crate::program::{Status, put};
-use archive_reading::Unread;
 use crate::starting::{begin, instance_numbered};
-use job_generator::{Draws, generate, slot_count};
+use archive_generator::{Draws, generate, slot_count};
+use archive_reading::Unread;
 use khe_base::NoMemory;
 use khe_instance::{Instance, Plain};
 use khe_io::Sink;

@@ -16,9 +16,8 @@ ghost use Rattle.archive_reading.specs.Ready.{IsReady};
 ghost use Rattle.khe_app.specs.Words.{matching};
 
 use crate::program::{Answer, Status, Stop, answer_to, put_refusal};
-use archive_reading::{ReadArchive, Unread};
-use archive_reading::Refusal;
 use crate::starting::{begin, instance_numbered};
+use archive_reading::{ReadArchive, Refusal, Unread};
 use khe_base::TimeId;
 use khe_instance::{Instance, Plain};
 use khe_io::{Shelf, Sink};

@@ -14,8 +14,8 @@ ghost use Rattle.archive_reading.specs.Ready.{IsReady};
 ghost use Rattle.khe_app.specs.Words.{repairing};
 
 use crate::program::{Answer, Status, Stop, answer_to, put_refusal};
-use archive_reading::{ReadArchive, Unread};
 use crate::starting::{begin, instance_numbered};
+use archive_reading::{ReadArchive, Unread};
 use khe_base::NoMemory;
 use khe_instance::{Instance, Plain};
 use khe_io::{Shelf, Sink};

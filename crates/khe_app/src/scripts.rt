@@ -8,8 +8,8 @@ ghost use Rattle.khe_app.specs.Ends.{Written, status_after};
 ghost use Rattle.khe_app.specs.Outcome.{IsRunOf};
 
 use crate::program::Status;
-use demand_families::WithDemands;
 use followers::Tied;
+use hall_report::WithDemands;
 use khe_base::NoMemory;
 use khe_engine::Engine;
 use khe_instance::{Instance, Plain};

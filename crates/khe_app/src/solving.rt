@@ -4,7 +4,7 @@ ghost use Rattle.std.specs.Prelude.{◌≡◌, ◌≤◌, ◌⊎◌, ℕ, List, 
 ghost use Rattle.khe_base.specs.declared.limits.TheConstants.{CHAIN_MOVES, JOBS, WORKERS};
 ghost use Rattle.khe_instance.specs.States.{IsTold, IsValid};
 ghost use Rattle.parallel_repair.specs.Jobs.{job_answer};
-ghost use Rattle.repair_pool.specs.Solved.{IsSolved};
+ghost use Rattle.parallel_repair.specs.Solved.{IsSolved};
 ghost use Rattle.repair_run.specs.Solves.{IsSolveText, solve_bytes};
 ghost use Rattle.xhstt_entries.specs.Texts.{HasSpellable};
 ghost use Rattle.xhstt_shape.specs.WellFormed.{IsWellFormed};
@@ -18,12 +18,12 @@ ghost use Rattle.khe_app.specs.Words.{solving};
 ghost use Rattle.archive_reading.specs.declared.refusals.Refusal.{Refusal as Why};
 
 use crate::program::{Answer, Status, Stop, answer_to, put_refusal};
-use archive_reading::{ReadArchive, Unread};
 use crate::starting::{begin, instance_numbered};
+use archive_reading::{ReadArchive, Unread};
 use khe_base::NoMemory;
 use khe_instance::{Instance, Plain};
 use khe_io::{Gate, Shelf, Sink};
-use repair_pool::Solved;
+use parallel_repair::Solved;
 use repair_run::send_solved;
 use sixteen_families::Families;
 use std::alloc::Global;

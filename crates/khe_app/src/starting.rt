@@ -7,8 +7,7 @@ ghost use Rattle.khe_app.specs.Answers.{IsBegun, IsBarredBy};
 ghost use Rattle.khe_app.specs.Outcome.{begins, start_of};
 ghost use Rattle.archive_reading.specs.Ready.{IsReady};
 
-use archive_reading::{ReadArchive, Unread};
-use archive_reading::Refusal;
+use archive_reading::{ReadArchive, Refusal, Unread};
 use khe_instance::{Instance, Plain};
 use std::alloc::Global;
 use xhstt_completion::{SolutionFault, solution};

@@ -2,12 +2,11 @@
 
 ghost use Rattle.std.specs.Prelude.{◌≡◌, ◌<◌, IfOk};
 ghost use Rattle.hall_report.specs.Kept.{AreOf};
-ghost use Rattle.demand_families.specs.Shortages.{AreCompeting, IsShortageOf, deficit_of};
+ghost use Rattle.hall_report.specs.Shortages.{AreCompeting, IsShortageOf, deficit_of};
 
 use crate::engine::Engine;
 use crate::telling::tell_all;
-use demand_families::{DemandKeeper, Shortage, shortage_of};
-use hall_report::{Demand, Demands};
+use hall_report::{Demand, DemandKeeper, Demands, Shortage, shortage_of};
 use khe_base::{NoMemory, Seq};
 use khe_instance::Instance;
 use khe_solution::Solution;

@@ -3,11 +3,11 @@ use Rattle.std.proofs.Common.{ℕ, ◌≡◌, ◌+◌, ◌*◌, ◌≤◌, ◌<�
 use Rattle.std.proofs.Common.{subst, ◌∙◌}
 use Rattle.std.specs.Prelude.{IfOk}
 use Rattle.edit_script.specs.declared.commands.Command.{Command}
-use Rattle.job_generator.specs.Job.{slots}
-use Rattle.job_generator.specs.Made.{state_after}
-use Rattle.job_generator.specs.Names.{below}
-use Rattle.job_generator.specs.Turns.{gathered}
-use Rattle.job_generator.proofs.ListLemmas.{drop_below_end}
+use Rattle.archive_generator.specs.Job.{slots}
+use Rattle.archive_generator.specs.Made.{state_after}
+use Rattle.archive_generator.specs.Names.{below}
+use Rattle.archive_generator.specs.Turns.{gathered}
+use Rattle.archive_generator.proofs.ListLemmas.{drop_below_end}
 use Rattle.khe_engine.specs.Openings.{IsStateOf}
 use Rattle.khe_engine.specs.States.{State}
 use Rattle.khe_engine.specs.Worlds.{Saved, World}

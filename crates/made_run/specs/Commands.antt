@@ -2,11 +2,11 @@
 use Rattle.std.specs.Prelude.{ℕ, ◌+◌, ◌*◌, ◌%◌, ◌==◌, nat_lt, List, [], ◌∷◌, ◌++◌, if◌then◌else◌}
 use Rattle.edit_script.specs.declared.commands.Command.{Command}
 use Rattle.edit_script.specs.declared.commands.Command.TheVariants as command
-use Rattle.job_generator.specs.Draws.{next, drawn}
-use Rattle.job_generator.specs.Job.{resource_count, slots}
-use Rattle.job_generator.specs.Made.{state_after}
-use Rattle.job_generator.specs.Names.{below}
-use Rattle.job_generator.specs.Turns.{gathered}
+use Rattle.archive_generator.specs.Draws.{next, drawn}
+use Rattle.archive_generator.specs.Job.{resource_count, slots}
+use Rattle.archive_generator.specs.Made.{state_after}
+use Rattle.archive_generator.specs.Names.{below}
+use Rattle.archive_generator.specs.Turns.{gathered}
 use Rattle.khe_base.specs.declared.numbers.MeetId.{MeetId}
 use Rattle.khe_base.specs.declared.numbers.ResourceId.{ResourceId}
 use Rattle.khe_base.specs.declared.numbers.TaskId.{TaskId}

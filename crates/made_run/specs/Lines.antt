@@ -1,7 +1,7 @@
 -- The line on a run. It ends with a line feed.
 use Rattle.std.specs.Prelude.{ℕ, List, ◌++◌, codes, length}
 use Rattle.std.specs.Fmt.{decimal}
-use Rattle.demand_families.specs.Shortages.{deficit_of}
+use Rattle.hall_report.specs.Shortages.{deficit_of}
 use Rattle.khe_base.specs.declared.sums.Totals.{Totals}
 use Rattle.khe_engine.specs.Values.{totals}
 use Rattle.khe_instance.specs.declared.parts.Parts.{Parts}

@@ -1,6 +1,6 @@
 -- The run of a job on a timetable of its instance.
 use Rattle.std.specs.Prelude.{ℕ, ◌≡◌, ◌≤◌, ◌<◌, ◌^◌, List}
-use Rattle.job_generator.specs.Job.{slots}
+use Rattle.archive_generator.specs.Job.{slots}
 use Rattle.khe_engine.specs.Openings.{IsStateOf}
 use Rattle.khe_engine.specs.States.{State}
 use Rattle.khe_instance.specs.declared.parts.Parts.{Parts}

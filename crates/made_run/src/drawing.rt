@@ -3,7 +3,7 @@
 ghost use Rattle.std.specs.Prelude.{◌≡◌, ◌<◌};
 ghost use Rattle.made_run.specs.Commands as spec;
 
-use job_generator::{Draws, resource_count};
+use archive_generator::{Draws, resource_count};
 use khe_base::{MeetId, ResourceId, TaskId, TimeId};
 use khe_told::Edit;
 

@@ -2,8 +2,8 @@
 
 ghost use Rattle.std.specs.Prelude.{◌≡◌, ◌+◌, ◌-◌, ◌<◌, ◌≤◌, ◌^◌, [], IfOk, OnOk};
 ghost use Rattle.edit_script.specs.declared.commands.Command.TheVariants as command;
-ghost use Rattle.demand_families.specs.Shortages.{deficit_of};
-ghost use Rattle.job_generator.specs.Made.{state_after};
+ghost use Rattle.hall_report.specs.Shortages.{deficit_of};
+ghost use Rattle.archive_generator.specs.Made.{state_after};
 ghost use Rattle.khe_engine.specs.Values.{ServesAll};
 ghost use Rattle.khe_instance.specs.States.{IsValid};
 ghost use Rattle.made_run.specs.Commands as spec;
@@ -14,7 +14,7 @@ ghost use Rattle.made_run.specs.Runs.{IsJob, IsRunLine};
 use crate::drawing::draw_edit;
 use crate::lines::{push_counts, push_deficit, push_instance, push_job, push_totals};
 use crate::marks::{begin_before, end_after, undo_after};
-use job_generator::Draws;
+use archive_generator::Draws;
 use khe_base::{NoMemory, Text};
 use khe_engine::{EditFault, Engine};
 use khe_instance::{Instance, Plain};

@@ -1,7 +1,7 @@
 -- The demands that compete outnumber their supplies by the deficit.
 use Rattle.std.proofs.Common.{refl}
-use Rattle.demand_families.proofs.Outnumbering.{outnumber}
-use Rattle.demand_families.specs.Shortages.{competes, deficit_of, hall_of}
+use Rattle.hall_report.proofs.Outnumbering.{outnumber}
+use Rattle.hall_report.specs.Shortages.{competes, deficit_of, hall_of}
 use Rattle.hall_report.specs.Demands.{domains}
 use Rattle.khe_instance.specs.declared.parts.Parts.{Parts}
 use Rattle.script_run.specs.Answers.{answer}

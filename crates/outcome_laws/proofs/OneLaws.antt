@@ -2,8 +2,8 @@
 use Rattle.std.proofs.Common.{ℕ, ◌≡◌, ◌∙◌, inl, inr, Bool, Option, Some, None, Ok, List}
 use Rattle.std.proofs.Common.{[], ◌++◌, refl, sym, ap, subst, arith, encode_utf8_all}
 use Rattle.ejection_repair.specs.Repaired.{repaired}
-use Rattle.job_generator.proofs.WellFormed.{made_fits}
-use Rattle.job_generator.specs.Made.{made}
+use Rattle.archive_generator.proofs.WellFormed.{made_fits}
+use Rattle.archive_generator.specs.Made.{made}
 use Rattle.khe_app.specs.Outcome.{IsAnswerTo, IsPlayTo, IsRepairIn}
 use Rattle.archive_reading.specs.Reading.{IsReadingOf}
 use Rattle.khe_app.specs.Outcome.{IsRepairOf, IsRepairTo, IsRunOf, IsRunOr, IsRunTo, IsScripted, IsSolveIn, IsSolveOf}

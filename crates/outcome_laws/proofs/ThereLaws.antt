@@ -30,18 +30,18 @@ use Rattle.khe_instance.specs.WellMade.{AreWellMade}
 use Rattle.khe_instance.specs.declared.parts.Parts.{Parts}
 use Rattle.khe_instance.specs.declared.states.Plain.{Plain}
 use Rattle.khe_told.specs.Lists.{meets_in, tasks_in}
-use Rattle.job_generator.proofs.WellFormed.{made_fits}
-use Rattle.job_generator.specs.Made.{made}
-use Rattle.made_archives.proofs.MadeLaws.{has_start, made_resolved}
-use Rattle.made_archives.specs.Starts.{HasStart}
+use Rattle.archive_generator.proofs.WellFormed.{made_fits}
+use Rattle.archive_generator.specs.Made.{made}
+use Rattle.generator_laws.proofs.MadeLaws.{has_start, made_resolved}
+use Rattle.generator_laws.specs.Starts.{HasStart}
 use Rattle.parallel_repair.specs.Jobs.{job_answer}
-use Rattle.repair_pool.proofs.RankLemmas.{before_lower, before_self}
-use Rattle.repair_pool.specs.Ranks.{is_before}
-use Rattle.repair_pool.specs.Solved.{IsSolved}
-use Rattle.repair_pool.specs.declared.answers.Answer.{Answer as Job}
-use Rattle.repair_pool.specs.declared.answers.Fate.{Fate}
-use Rattle.repair_pool.specs.declared.answers.Fate.TheVariants.{Ran}
-use Rattle.repair_pool.specs.declared.answers.Solved.{Solved}
+use Rattle.parallel_repair.proofs.RankLemmas.{before_lower, before_self}
+use Rattle.parallel_repair.specs.Ranks.{is_before}
+use Rattle.parallel_repair.specs.Solved.{IsSolved}
+use Rattle.parallel_repair.specs.declared.answers.Answer.{Answer as Job}
+use Rattle.parallel_repair.specs.declared.answers.Fate.{Fate}
+use Rattle.parallel_repair.specs.declared.answers.Fate.TheVariants.{Ran}
+use Rattle.parallel_repair.specs.declared.answers.Solved.{Solved}
 use Rattle.repair_run.specs.Solves.{IsSolveText, solve_bytes}
 use Rattle.repair_run.specs.Repairs.{IsRepairText, repair_bytes}
 use Rattle.repair_run.specs.declared.mending.Mended.{Mended}

@@ -1,6 +1,6 @@
 -- What a script answers to `deficit`.
 use Rattle.std.specs.Prelude.{ℕ, ◌≡◌, ◌+◌, Bool, List, length}
-use Rattle.demand_families.specs.Shortages.{supplies_of}
+use Rattle.hall_report.specs.Shortages.{supplies_of}
 use Rattle.edit_script.specs.declared.commands.Command.TheVariants.{Deficit}
 use Rattle.hall_report.specs.Demands.{chosen, demands}
 use Rattle.hall_report.specs.declared.demand.Demand.{Demand}

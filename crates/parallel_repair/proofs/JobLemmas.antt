@@ -13,7 +13,7 @@ use Rattle.khe_instance.specs.declared.parts.Parts.{Parts}
 use Rattle.khe_instance.specs.declared.states.Plain.{Plain}
 use Rattle.parallel_repair.specs.Jobs.{IsDesk, IsMarkedAt, answer_at, job_answer, job_from}
 use Rattle.parallel_repair.specs.Listed.{state_in}
-use Rattle.repair_pool.specs.declared.answers.Answer.{Answer}
+use Rattle.parallel_repair.specs.declared.answers.Answer.{Answer}
 use Rattle.parallel_repair.proofs.FillLemmas.{state_is}
 use Rattle.parallel_repair.proofs.ListedLemmas.{listed_is}
 

@@ -9,7 +9,7 @@ use Rattle.khe_instance.specs.States.{IsValid}
 use Rattle.khe_instance.specs.declared.parts.Parts.{Parts}
 use Rattle.khe_instance.specs.declared.states.Plain.{Plain}
 use Rattle.parallel_repair.specs.Listed.{listed, state_in}
-use Rattle.repair_pool.specs.declared.answers.Answer.{Answer}
+use Rattle.parallel_repair.specs.declared.answers.Answer.{Answer}
 
 -- a state's timetable with its totals
 unfoldable pub answer_at : Parts → State → Answer

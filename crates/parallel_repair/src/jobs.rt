@@ -9,12 +9,12 @@ ghost use Rattle.khe_instance.specs.States.{IsValid};
 ghost use Rattle.parallel_repair.specs.Jobs.{IsMarkedAt, answer_at, job_from};
 ghost use Rattle.parallel_repair.specs.Listed.{state_in};
 
+use crate::answers::Answer;
 use ejection_repair::repair_inside;
 use khe_base::NoMemory;
 use khe_engine::Engine;
 use khe_instance::{Instance, Plain};
 use khe_told::{Blank, Family, Steps};
-use repair_pool::Answer;
 use std::alloc::Global;
 use std::sync::ledger::Ledger;
 

@@ -5,14 +5,15 @@ ghost use Rattle.khe_base.specs.declared.limits.TheConstants.{CHAIN_MOVES, JOBS,
 ghost use Rattle.khe_engine.specs.Values.{ServesAll};
 ghost use Rattle.khe_instance.specs.States.{IsValid};
 ghost use Rattle.parallel_repair.specs.Jobs.{job_answer};
-ghost use Rattle.repair_pool.specs.Solved.{IsSolved};
+ghost use Rattle.parallel_repair.specs.Solved.{IsSolved};
 
-use crate::works::Repairs;
+use crate::answers::Solved;
+use crate::pool::solved_by;
+use crate::repairs::Repairs;
 use khe_base::NoMemory;
 use khe_instance::{Instance, Plain};
 use khe_io::Gate;
 use khe_told::Family;
-use repair_pool::{Solved, solved_by};
 use std::alloc::Global;
 use std::marker::PhantomData;
 use std::thread::Threads;

@@ -1,45 +1,41 @@
-//! The jobs of a solve.
+//! The trait of work in numbered jobs.
 
-use crate::jobs::{open_marked, run_job};
+use crate::answers::Answer;
 use khe_base::NoMemory;
-use khe_engine::Engine;
-use khe_instance::{Instance, Plain};
-use khe_told::{Blank, Family};
-use repair_pool::{Answer, Work};
 use std::alloc::Global;
-use std::marker::{Brand, PhantomData};
 
-/// Repairs of one timetable to one depth and budget. The number of a job is its diversifier.
-#[derive(Drop)]
-pub(crate) struct Repairs<'a, F: Family> {
-    pub(crate) inst: &'a Instance,
-    pub(crate) start: &'a Plain,
-    pub(crate) depth: u32,
-    pub(crate) budget: u64,
-    pub(crate) families: PhantomData<F>,
-}
+/// Work in jobs with numbers. Each worker does its jobs one after another at a desk of its own. What
+/// a job comes to depends on its number alone, and not on who does it, when, or after which others.
+pub trait Work: Sync {
+    ghost use Rattle.std.specs.Prelude.{ℕ, ◌≡◌, IfOk, OnOk};
+    ghost use Rattle.khe_instance.specs.declared.states.Plain.{Plain};
+    ghost use Rattle.parallel_repair.specs.declared.answers.Answer.{Answer};
 
-impl<'a, F: Family + Drop + Send + Sync> Work for Repairs<'a, F> {
-    ghost use Rattle.std.specs.Prelude.{◌≡◌, ◌≤◌};
-    ghost use Rattle.khe_engine.specs.Values.{ServesAll};
-    ghost use Rattle.khe_instance.specs.States.{IsValid};
-    ghost use Rattle.parallel_repair.specs.Jobs.{IsDesk, IsRepair, job_answer};
+    /// What a worker works at, from job to job.
+    type Desk: Drop + Send;
 
-    type Desk = Engine<'a, F>;
+    /// What the job with a number comes to.
+    ghost answer: { Self → ℕ → Answer };
 
-    ghost answer = { λ w n. job_answer w.inst.now w.start.now w.depth w.budget n };
+    /// That the work can be done.
+    ghost IsSound: { Self → Type 0 };
 
-    ghost IsSound = { λ w. F.IsWellJoined × ServesAll F.serves_kind × IsRepair w.inst.now w.start.now w.depth w.budget };
+    /// What is known of each timetable that a job comes to.
+    ghost IsFit: { Self → Plain → Type 0 };
 
-    ghost IsFit = { λ w plain. IsValid w.inst.now plain };
+    /// That a desk is one of this work, ready for a job.
+    ghost IsReady: { Self → Self.Desk → Type 0 };
 
-    ghost IsReady = { λ w e. IsRepair w.inst.now w.start.now w.depth w.budget × IsDesk w.inst.now w.start.now e };
+    /// A desk for one worker. The only error is want of memory.
+    fn open(&self, alloc: Global) -> Result<Self::Desk, NoMemory>
+        requires { IsSound self.now }
+        ensures { IfOk result (IsReady self.now) };
 
-    fn open(&self, alloc: Global) -> Result<Engine<'a, F>, NoMemory> {
-        open_marked::<F>(alloc, self.inst, self.start)
-    }
-
-    fn run(&self, alloc: Global, desk: &mut Engine<'a, F>, job: u64) -> Result<Answer, NoMemory> {
-        run_job::<F, Brand>(alloc, desk, self.depth, self.budget, job, Blank::new(1))
-    }
+    /// Does the job with this number, and leaves the desk ready for another one. The only error is
+    /// want of memory, after which the desk is of no use.
+    fn run(&self, alloc: Global, desk: &mut Self::Desk, job: u64) -> Result<Answer, NoMemory>
+        requires { IsReady self.now desk.old }
+        ensures answer { IfOk result (λ a. a ≡ answer self.now job) }
+        ensures fit { IfOk result (λ a. IsFit self.now a.plain) }
+        ensures ready { OnOk result (IsReady self.now desk.new) };
 }

@@ -375,7 +375,7 @@ fn fault_of(alloc: Global, text: &[u8]) -> Result<Option<ShapeFault>, Fail> {
 }
 
 #[test]
-fn first_faults(rt: HostRuntime) -> Result<(), Fail> {
+fn text_fault_laws(rt: HostRuntime) -> Result<(), Fail> {
     for (text, kind, at) in REFUSED {
         let fault = fault_of(rt.alloc(), text)?;
         assert_eq!(rt;

@@ -131,7 +131,7 @@ fn fault_of(alloc: Global, text: &[u8]) -> Option<TextFault> {
 }
 
 #[test]
-fn first_faults(rt: HostRuntime) {
+fn text_fault_laws(rt: HostRuntime) {
     for (text, kind, at) in REFUSED {
         let fault = fault_of(rt.alloc(), text);
         assert_eq!(rt;

@@ -13,7 +13,7 @@ use Rattle.ejection_repair.specs.declared.outcome.Outcome.{Outcome}
 use Rattle.ejection_repair.specs.declared.outcome.Outcome.TheVariants.{Done, Spent}
 use Rattle.khe_base.specs.declared.sums.Totals.{Totals}
 use Rattle.khe_instance.specs.declared.parts.Parts.{Parts}
-use Rattle.repair_pool.specs.declared.answers.Solved.{Solved}
+use Rattle.parallel_repair.specs.declared.answers.Solved.{Solved}
 use Rattle.repair_run.specs.Lines.{count_words, outcome_words}
 use Rattle.repair_run.specs.Placed.{respelled}
 use Rattle.repair_run.specs.Repairs.{repair_bytes}

@@ -15,10 +15,10 @@ use Rattle.khe_instance.specs.declared.states.Plain.{Plain}
 use Rattle.parallel_repair.specs.Jobs.{answer_at, job_answer, job_from}
 use Rattle.parallel_repair.specs.Listed.{state_in}
 use Rattle.parallel_repair.proofs.FillLemmas.{state_is}
-use Rattle.repair_pool.specs.Ranks.{is_before}
-use Rattle.repair_pool.specs.Solved.{IsSolved}
-use Rattle.repair_pool.specs.declared.answers.Solved.{Solved}
-use Rattle.repair_pool.proofs.SolvedLemmas.{same_solved}
+use Rattle.parallel_repair.specs.Ranks.{is_before}
+use Rattle.parallel_repair.specs.Solved.{IsSolved}
+use Rattle.parallel_repair.specs.declared.answers.Solved.{Solved}
+use Rattle.parallel_repair.proofs.SolvedLemmas.{same_solved}
 use Rattle.xhstt_shape.specs.declared.records.Archive.{Archive}
 use Rattle.xhstt_writer.specs.Archives.{canonical}
 use Rattle.repair_run.specs.Laws.{IsLeast}

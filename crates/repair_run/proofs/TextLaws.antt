@@ -4,7 +4,7 @@ use Rattle.std.specs.Str.{IsUtf8, chars}
 use Rattle.std.proofs.lemmas.Str.{encodes-append, encodes-chars}
 use Rattle.khe_instance.specs.declared.parts.Parts.{Parts}
 use Rattle.khe_instance.specs.declared.states.Plain.{Plain}
-use Rattle.repair_pool.specs.declared.answers.Solved.{Solved}
+use Rattle.parallel_repair.specs.declared.answers.Solved.{Solved}
 use Rattle.xhstt_completion.specs.Entries.{IsEntry}
 use Rattle.xhstt_entries.specs.Spelled.{entries_of}
 use Rattle.xhstt_shape.specs.WellFormed.{IsWellFormed}

@@ -8,7 +8,7 @@ use Rattle.khe_engine.specs.States.{State}
 use Rattle.khe_engine.specs.Values.{totals}
 use Rattle.khe_instance.specs.declared.parts.Parts.{Parts}
 use Rattle.khe_instance.specs.declared.states.Plain.{Plain}
-use Rattle.repair_pool.specs.declared.answers.Solved.{Solved}
+use Rattle.parallel_repair.specs.declared.answers.Solved.{Solved}
 use Rattle.repair_run.specs.declared.mending.Mended.{Mended}
 
 -- it costs what the timetable before it did, and nothing was accepted; or it costs less, and something was

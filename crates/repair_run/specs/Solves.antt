@@ -3,8 +3,8 @@ use Rattle.std.specs.Prelude.{ℕ, ◌≡◌, List, ◌++◌, encode_utf8_all}
 use Rattle.khe_instance.specs.declared.parts.Parts.{Parts}
 use Rattle.khe_instance.specs.declared.states.Plain.{Plain}
 use Rattle.parallel_repair.specs.Jobs.{job_answer}
-use Rattle.repair_pool.specs.Solved.{IsSolved}
-use Rattle.repair_pool.specs.declared.answers.Solved.{Solved}
+use Rattle.parallel_repair.specs.Solved.{IsSolved}
+use Rattle.parallel_repair.specs.declared.answers.Solved.{Solved}
 use Rattle.xhstt_shape.specs.declared.records.Archive.{Archive}
 use Rattle.xhstt_writer.specs.Archives.{canonical}
 use Rattle.repair_run.specs.Lines.{solve_line}

@@ -13,7 +13,7 @@ use crate::sending::send_with;
 use khe_base::{NoMemory, Text};
 use khe_instance::Instance;
 use khe_io::Sink;
-use repair_pool::Solved;
+use parallel_repair::Solved;
 use std::alloc::Global;
 use xhstt_shape::Archive;
 use xhstt_writer::SendFault;

@@ -9,7 +9,7 @@ use Rattle.khe_told.specs.declared.refusals.Refusal.TheVariants.{NoMark, MarksFu
 use Rattle.khe_engine.specs.Values.{totals}
 use Rattle.khe_engine.specs.States.{State}
 use Rattle.khe_engine.specs.Worlds.{World}
-use Rattle.demand_families.specs.Shortages.{deficit_of, hall_of}
+use Rattle.hall_report.specs.Shortages.{deficit_of, hall_of}
 use Rattle.evaluation_report.specs.Answers.{ok_line}
 use Rattle.evaluation_report.specs.Lines.{total_line}
 use Rattle.edit_script.specs.declared.commands.Command.{Command}

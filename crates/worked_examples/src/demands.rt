@@ -1,10 +1,10 @@
 //! What demands are, which constraints are strict, and the demands that compete. Each function's contract is an
 //! example: it is proved, and nothing calls it.
 #![allow(dead_code)]
-#![tactic(auto, unfolding(demand_families::specs::Shortages::all_sets, demand_families::specs::Shortages::competes, demand_families::specs::Shortages::deficit_of, demand_families::specs::Shortages::greatest_excess, demand_families::specs::Shortages::hall_of, demand_matching::specs::Counts::any_below, demand_matching::specs::Counts::count_below, demand_matching::specs::Counts::sum_below))]
+#![tactic(auto, unfolding(hall_report::specs::Shortages::all_sets, hall_report::specs::Shortages::competes, hall_report::specs::Shortages::deficit_of, hall_report::specs::Shortages::greatest_excess, hall_report::specs::Shortages::hall_of, demand_matching::specs::Counts::any_below, demand_matching::specs::Counts::count_below, demand_matching::specs::Counts::sum_below))]
 
 ghost use Rattle.std.specs.Prelude.{◌≡◌, None, true, false, [], ◌∷◌};
-ghost use Rattle.demand_families.specs.Shortages.{deficit_of, hall_of, supplies_of};
+ghost use Rattle.hall_report.specs.Shortages.{deficit_of, hall_of, supplies_of};
 ghost use Rattle.hall_report.specs.Demands.{demands, runs_at, takes};
 ghost use Rattle.hall_report.specs.Strict.{is_unavailable, may_be_given, may_start};
 ghost use Rattle.hall_report.specs.declared.demand.Demand.TheVariants.{Task, Unavailable};

@@ -1,6 +1,6 @@
 -- What was written, or nothing.
 use Rattle.std.proofs.Common.{◌∙◌, ap, refl}
-use Rattle.job_generator.specs.Made.{made}
+use Rattle.archive_generator.specs.Made.{made}
 use Rattle.khe_app.proofs.EndsLemmas.{end_starved, not_two}
 use Rattle.khe_app.proofs.MakeEnds.{end_making, zero_two}
 use Rattle.khe_app.proofs.making.make.Goals as goal

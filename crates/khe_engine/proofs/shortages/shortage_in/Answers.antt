@@ -1,6 +1,6 @@
 -- The demands were told of the timetable.
 use Rattle.std.proofs.Common.{subst, IfOk}
-use Rattle.demand_families.specs.Shortages.{IsShortageOf}
+use Rattle.hall_report.specs.Shortages.{IsShortageOf}
 use Rattle.khe_engine.proofs.shortages.shortage_in.Goals as goal
 
 pub returns : goal.returns

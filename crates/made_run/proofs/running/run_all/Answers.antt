@@ -1,8 +1,8 @@
 -- One number more; after the last one nothing is left.
 use Rattle.std.proofs.Common.{◌≡◌, ◌+◌, ◌*◌, ◌∙◌, ap, refl}
 use Rattle.khe_instance.specs.declared.parts.Parts.{Parts}
-use Rattle.job_generator.specs.Names.{below}
-use Rattle.job_generator.proofs.ListLemmas.{drop_below}
+use Rattle.archive_generator.specs.Names.{below}
+use Rattle.archive_generator.proofs.ListLemmas.{drop_below}
 use Rattle.made_run.specs.Commands as spec
 use Rattle.made_run.specs.Courses.{course, course_of}
 use Rattle.made_run.proofs.RunLaws.{begin_run, end_run, next_course}

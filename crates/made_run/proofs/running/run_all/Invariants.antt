@@ -1,7 +1,7 @@
 -- What the commands so far made, and then those of the rest, is what all make.
 use Rattle.std.proofs.Common.{◌≡◌, ◌+◌, ◌*◌, drop}
-use Rattle.job_generator.specs.Names.{below}
-use Rattle.job_generator.specs.Turns.{gathered}
+use Rattle.archive_generator.specs.Names.{below}
+use Rattle.archive_generator.specs.Turns.{gathered}
 use Rattle.made_run.specs.Commands as spec
 use Rattle.made_run.specs.Courses.{course, course_of, started}
 use Rattle.made_run.proofs.running.run_all.Given as goal

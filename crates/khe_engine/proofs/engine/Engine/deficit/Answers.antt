@@ -1,6 +1,6 @@
 -- The families are of the instance, and were told of the slots.
 use Rattle.std.proofs.Common.{ap, ◌∙◌}
-use Rattle.demand_families.specs.Shortages.{deficit_of}
+use Rattle.hall_report.specs.Shortages.{deficit_of}
 use Rattle.khe_engine.proofs.engine.Engine.deficit.Goals as goal
 
 pub returns : goal.returns

@@ -1,6 +1,6 @@
 -- The families are of the instance, and were told of the slots.
 use Rattle.std.proofs.Common.{subst, IfOk}
-use Rattle.demand_families.specs.Shortages.{AreCompeting}
+use Rattle.hall_report.specs.Shortages.{AreCompeting}
 use Rattle.khe_engine.proofs.engine.Engine.hall.Goals as goal
 
 pub returns : goal.returns

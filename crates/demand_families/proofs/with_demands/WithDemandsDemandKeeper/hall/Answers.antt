@@ -1,8 +1,0 @@
--- What the demands were told is what the families were told.
-use Rattle.std.proofs.Common.{subst}
-use Rattle.demand_families.specs.Shortages.{AreCompeting}
-use Rattle.demand_families.proofs.with_demands.WithDemandsDemandKeeper.hall.Goals as goal
-
-pub returns : goal.returns
-returns g c = λ p is.
-    subst (λ s. AreCompeting p s c.in_ok-shortage.shortage.demands) is.1 (c.in_ok-shortage.ensures p is.2).hall

@@ -1,7 +1,0 @@
-use Rattle.std.proofs.Common.{codes, refl}
-use Rattle.fault_tables.specs.declared.faults.TheConstants.{MISMATCHED_END}
-use Rattle.first_faults.proofs.AsciiTexts.{by_machine}
-use Rattle.first_faults.proofs.examples.an_end_tag_with_another_name.Goals as goal
-
-pub returns : goal.returns
-returns c = by_machine (codes "<a></b>") MISMATCHED_END 3 refl refl

@@ -1,0 +1,61 @@
+//! Families that keep the demands beside them.
+
+use crate::demand::Demand;
+use crate::demand_keepers::DemandKeeper;
+use crate::demands::Demands;
+use crate::shortages::shortage_of;
+use khe_base::{MonitorId, NoMemory, Seq, both};
+use khe_instance::{Instance, Kind};
+use khe_told::{Change, Family, Waits};
+use std::alloc::Global;
+
+/// Families that keep the demands of the timetable beside them: each change is told to both. They
+/// serve the kinds of the families.
+#[derive(Drop)]
+pub struct WithDemands<F> {
+    families: F,
+    demands: Demands,
+}
+
+impl<F: Family + Drop> Family for WithDemands<F> {
+    ghost use Rattle.std.specs.Prelude.{◌≡◌};
+    ghost use Rattle.hall_report.specs.Kept.{AreOf};
+
+    ghost serves_kind = { F.serves_kind };
+
+    ghost IsWellJoined = { F.IsWellJoined };
+
+    ghost told = { λ x. F.told x.families };
+
+    ghost IsOf = { λ x p. F.IsOf x.families p × (x.demands.told ≡ F.told x.families)
+        × AreOf p x.demands.told x.demands.units x.demands.picks x.demands.matching x.demands.cells x.demands.tasks x.demands.times };
+
+    fn open(alloc: Global, inst: &Instance) -> Result<WithDemands<F>, NoMemory> {
+        let (families, demands) = both(F::open(alloc, inst), Demands::open(alloc, inst))?;
+        Ok(WithDemands { families, demands })
+    }
+
+    fn serves(&self, kind: Kind) -> bool {
+        self.families.serves(kind)
+    }
+
+    fn turn_all<W: Waits>(&mut self, inst: &Instance, changes: &[Change], waits: &mut W) {
+        self.demands.tell_all(inst, changes);
+        self.families.turn_all(inst, changes, waits);
+    }
+
+    fn deviation(&self, inst: &Instance, monitor: MonitorId) -> u64 {
+        self.families.deviation(inst, monitor)
+    }
+}
+
+impl<F: Family + Drop> DemandKeeper for WithDemands<F> {
+    fn deficit(&self) -> u32 {
+        self.demands.deficit()
+    }
+
+    fn hall(&self) -> Result<Seq<Demand>, NoMemory> {
+        let shortage = shortage_of(&self.demands)?;
+        Ok(shortage.demands)
+    }
+}

@@ -1,8 +1,0 @@
--- The pairs so far.
-use Rattle.std.proofs.Common.{◌≡◌, map}
-use Rattle.job_generator.specs.Names.{below}
-use Rattle.job_generator.specs.Constraints.{pair}
-use Rattle.job_generator.proofs.constraints.pairs.Given as goal
-
-abbrev pub invariant-loop-number : goal.invariant-loop-number
-invariant-loop-number l = l.pairs ≡ map pair (below l.number)

@@ -1,8 +1,0 @@
--- The group of all events, and the groups so far.
-use Rattle.std.proofs.Common.{◌≡◌, ◌++◌, ◌∷◌, [], map}
-use Rattle.job_generator.specs.Names.{below}
-use Rattle.job_generator.specs.Events.{all, half}
-use Rattle.job_generator.proofs.events.event_groups.Given as goal
-
-abbrev pub invariant-loop-number : goal.invariant-loop-number
-invariant-loop-number l = l.groups ≡ all ∷ [] ++ map half (below l.number)

@@ -1,7 +1,0 @@
--- The solutions so far, and those of the rest, are all.
-use Rattle.std.proofs.Common.{◌≡◌, ◌++◌, map, drop}
-use Rattle.job_generator.specs.Solutions.{solution}
-use Rattle.job_generator.proofs.solutions.solutions.Given as goal
-
-abbrev pub invariant-loop-one : goal.invariant-loop-one
-invariant-loop-one l = l.list ++ map solution (drop l.one-index l.drawn) ≡ map solution l.drawn

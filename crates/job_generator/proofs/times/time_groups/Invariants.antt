@@ -1,8 +1,0 @@
--- The days so far.
-use Rattle.std.proofs.Common.{◌≡◌, map}
-use Rattle.job_generator.specs.Names.{below}
-use Rattle.job_generator.specs.Times.{day}
-use Rattle.job_generator.proofs.times.time_groups.Given as goal
-
-abbrev pub invariant-loop-number : goal.invariant-loop-number
-invariant-loop-number l = l.groups ≡ map day (below l.number)

@@ -1,8 +1,0 @@
--- The times so far.
-use Rattle.std.proofs.Common.{◌≡◌, map}
-use Rattle.job_generator.specs.Names.{below}
-use Rattle.job_generator.specs.Times.{time}
-use Rattle.job_generator.proofs.times.times.Given as goal
-
-abbrev pub invariant-loop-number : goal.invariant-loop-number
-invariant-loop-number l = l.times ≡ map time (below l.number)
