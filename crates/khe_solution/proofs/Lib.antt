@@ -4,6 +4,7 @@ pub mod EditLaws
 pub mod EditingLaws
 pub mod FreeLaws
 pub mod KeptLaws
+pub mod LiveLaws
 pub mod MarkLaws
 pub mod MeetEdits
 pub mod NoteLaws

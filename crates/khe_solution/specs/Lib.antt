@@ -2,6 +2,7 @@ pub mod Backs
 pub mod Changing
 pub mod Editing
 pub mod FreeBits
+pub mod LiveBits
 pub mod Marks
 pub mod NextTask
 pub mod Reading

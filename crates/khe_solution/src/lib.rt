@@ -8,6 +8,7 @@ mod checks;
 mod edits;
 mod laws;
 mod lists;
+mod lives;
 mod marks;
 mod notes;
 mod reads;

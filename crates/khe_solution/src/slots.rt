@@ -1,4 +1,4 @@
-//! The slots of a solution: the told state, with a bit for each free slot.
+//! The slots of a solution: the told state, with a bit for each free slot and one for each live slot.
 
 ghost use Rattle.std.specs.Prelude.{◌≡◌, ◌≤◌, ◌<◌, ◌^◌, length, MatchOption, IfOk};
 ghost use Rattle.khe_instance.specs.States.{IsTold};
@@ -8,9 +8,11 @@ ghost use Rattle.khe_told.specs.Lists.{meets_in, tasks_in};
 ghost use Rattle.khe_told.specs.Slots.{slot_at, length_of};
 ghost use Rattle.khe_solution.specs.Reading.{free_slot};
 ghost use Rattle.khe_solution.specs.FreeBits.{AreLive, IsFirstFree};
+ghost use Rattle.khe_solution.specs.LiveBits.{IsNextMeet};
 ghost use Rattle.khe_solution.specs.NextTask.{IsNextTask};
 
 use crate::bits::{first_set, free_bits, keep_free};
+use crate::lives::{LiveRows, keep_live, live_rows, next_live};
 use crate::reads::live;
 use crate::tasks::{TaskRows, keep_tasks, next_task, rows_of};
 use khe_base::{MeetId, NoMemory, ResourceId, TaskId};
@@ -26,19 +28,21 @@ pub(crate) struct Slots {
     /// One bit for each slot, set where it is free.
     free: Vec<u64>,
     tasks: TaskRows,
+    live: LiveRows,
 }
 
 impl Model for Slots {
     ghost use Rattle.std.specs.Prelude.{List};
     ghost use Rattle.khe_told.specs.declared.slots.Slot.{Slot};
     ghost use Rattle.khe_solution.specs.FreeBits.{AreFree};
+    ghost use Rattle.khe_solution.specs.LiveBits.{AreLiveBits};
     ghost use Rattle.khe_solution.specs.TaskRows.{AreKept};
 
     ghost Value = { List Slot };
 
     ghost view = { λ s. s.told };
 
-    ghost invariant = { λ s. AreFree s.told s.free.items × AreKept s.told s.tasks };
+    ghost invariant = { λ s. AreFree s.told s.free.items × AreKept s.told s.tasks × AreLiveBits s.told s.live };
 }
 
 impl Slots {
@@ -54,7 +58,13 @@ impl Slots {
         let told = Told::from_plain(alloc, inst, plain)?;
         let free = free_bits(alloc, &told)?;
         let tasks = rows_of(alloc, inst, &told)?;
-        Ok(Slots { told, free, tasks })
+        let live = live_rows(alloc, &told)?;
+        Ok(Slots {
+            told,
+            free,
+            tasks,
+            live,
+        })
     }
 
     /// The told state.
@@ -69,6 +79,13 @@ impl Slots {
         ensures { MatchOption result (AreLive self.now from (length self.now)) (λ n. IsFirstFree self.now from n) }
     {
         first_set(self.free.as_slice(), from as usize)
+    }
+
+    /// The first meet from this number on.
+    pub(crate) fn next_meet(&self, from: MeetId) -> Option<MeetId>
+        ensures { IsNextMeet self.now from.0 result }
+    {
+        next_live(&self.live, from)
     }
 
     /// The first task from this one on that has this resource, or has none where none is wanted.
@@ -92,6 +109,7 @@ impl Slots {
     {
         keep_tasks(&mut self.tasks, inst, &self.told, change);
         keep_free(&mut self.free, change);
+        keep_live(&mut self.live, change);
         self.told.note(inst, change);
     }
 }

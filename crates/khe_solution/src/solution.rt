@@ -8,6 +8,7 @@ ghost use Rattle.khe_told.specs.Slots.{slot_at, is_live};
 ghost use Rattle.khe_told.specs.Changes.{after_all, inverses};
 ghost use Rattle.khe_told.specs.Fits.{AllFit, AreTold};
 ghost use Rattle.khe_told.specs.Watchers.{watcher_counts};
+ghost use Rattle.khe_solution.specs.LiveBits.{IsNextMeet};
 ghost use Rattle.khe_solution.specs.NextTask.{IsNextTask};
 ghost use Rattle.khe_solution.specs.Reading.{has_place, resource_at};
 ghost use Rattle.khe_solution.specs.Refusing.{is_of_meets, checked, refusal};
@@ -90,6 +91,14 @@ impl<'i> Solution<'i> {
         ensures { result ≡ meet_in (slot_at self.now.slots meet.0) }
     {
         self.slots.told().meet(meet)
+    }
+
+    /// The first live meet with a number of at least this one, or `None` where there is none. It looks at a bit
+    /// for each 4,096 meet slots up to there.
+    pub fn next_meet(&self, from: MeetId) -> Option<MeetId>
+        ensures { IsNextMeet self.now.slots from.0 result }
+    {
+        self.slots.next_meet(from)
     }
 
     /// The resource of a task, or `None` where it has none. It takes constant time.
