@@ -1,6 +1,6 @@
 //! Repairing the timetable of an engine.
 
-ghost use Rattle.std.specs.Prelude.{◌≡◌, ◌<◌, ◌≤◌, ◌+◌, ◌*◌, [], length, IfOk, OnErr};
+ghost use Rattle.std.specs.Prelude.{◌≡◌, ◌<◌, ◌≤◌, ◌+◌, ◌*◌, [], length, IfOk, OnErr, OnOk};
 ghost use Rattle.khe_base.specs.declared.limits.TheConstants.{CHAIN_MOVES, MARKS};
 ghost use Rattle.ejection_repair.specs.Bounds.{most_moves, IsWithin};
 ghost use Rattle.ejection_repair.specs.Kept.{IsKept, room};
@@ -23,9 +23,12 @@ use std::sync::ledger::Ledger;
 /// defects and of moves is begun, modulo its length.
 ///
 /// The depth is 1 to 4, and the budget, a number of chains, at least 1. Memory is taken first, for a
-/// record of each move of a chain and one more; where it is refused the engine stays as it was. The
-/// new state is reached by edits of meets and tasks that the engine accepts, so groups and detached
-/// monitors stay; it never costs more, and less where a chain was taken; no mark is open afterwards.
+/// record of each move of a chain and one more; where it is refused the timetable stays as it was.
+/// What was spare before is spare afterwards too, and so is what was taken.
+///
+/// The new state is reached by edits of meets and tasks that the engine accepts, so groups and
+/// detached monitors stay; it never costs more, and less where a chain was taken; no mark is open
+/// afterwards.
 ///
 /// A try of a chain makes its last move and takes it back: it takes the time of what watches the
 /// move's changes, twice. Where last moves that follow one another put the same meet elsewhere, or
@@ -54,6 +57,8 @@ pub fn repair<F: Family, L: Ledger>(
     ensures grouping { engine.new.state.grouping ≡ engine.old.state.grouping }
     ensures parts { engine.new.parts ≡ engine.old.parts }
     ensures marks { engine.new.saved ≡ [] }
+    ensures spare { engine.old.spare ≤ engine.new.spare }
+    ensures room { OnOk result (depth + 1 ≤ engine.new.spare) }
     ensures refused { OnErr result ((engine.new.state ≡ engine.old.state) × (engine.new.marked ≡ engine.old.marked)) }
 {
     engine.instance().facts();
@@ -104,6 +109,8 @@ fn repair_exactly<F: Family, L: Ledger>(
     ensures state { IfOk result (λ _. engine.new.state ≡ (repaired engine.old.parts engine.old.state depth budget diversifier).state) }
     ensures parts { engine.new.parts ≡ engine.old.parts }
     ensures marks { engine.new.saved ≡ [] }
+    ensures spare { engine.old.spare ≤ engine.new.spare }
+    ensures room { OnOk result (depth + 1 ≤ engine.new.spare) }
     ensures refused { OnErr result ((engine.new.state ≡ engine.old.state) × (engine.new.marked ≡ engine.old.marked)) }
 {
     engine.reserve(depth + 1)?;

@@ -1,3 +1,4 @@
 pub mod BudgetLaws
+pub mod ServedLaws
 pub mod SmallLaws
 pub mod StandingLaws

@@ -1,3 +1,4 @@
 pub mod Budgets
+pub mod Served
 pub mod Small
 pub mod Standing

@@ -2,8 +2,13 @@
 #![allow(dead_code)]
 
 ghost use Rattle.engine_laws.specs.Budgets.{LargeBudgetsTell};
+ghost use Rattle.engine_laws.specs.Served.{WatchersAreServed};
 ghost use Rattle.engine_laws.specs.Small.{StatesCostLittle, TimetablesCostLittle};
 ghost use Rattle.engine_laws.specs.Standing.{EditsKeepStanding, OpenedStatesStand};
+ghost use Rattle.khe_engine.specs.Values.{ServesAll};
+
+use khe_told::Family;
+use sixteen_families::Families;
 
 // Whatever a timetable is: no monitor of it deviates or costs more than the limits allow, nor do all of them.
 fn timetables_cost_little()
@@ -24,4 +29,12 @@ fn states_stand()
 // A repair with a budget of more than all chains of one move has lowered the totals, or no chain of one move does.
 fn large_budgets_tell()
     ensures { LargeBudgetsTell }
+{}
+
+// Where every kind is served, as an engine asks of its families, the watchers that bound its steps are monitors that
+// watch and are served. The sixteen families serve every kind, and no two of them serve the same one.
+fn each_watcher_is_served()
+    ensures watchers { WatchersAreServed }
+    ensures served { ServesAll ⟦<Families as Family>⟧.serves_kind }
+    ensures once { ⟦<Families as Family>⟧.IsWellJoined }
 {}

@@ -9,6 +9,7 @@ loop-accepted-init g c =
       parts = e.parts;
       saved = e.saved ∙ c.requires.marks;
       room = e.ok;
+      spare = e.kept;
       fewer = omega arith;
       runs = runs.begun_repaired _ _ _ _ _ c.args.budget e.state;
     }

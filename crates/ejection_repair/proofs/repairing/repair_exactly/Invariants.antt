@@ -9,6 +9,7 @@ invariant-loop-accepted g l =
       parts : l.engine.parts ≡ w.parts;
       saved : l.engine.saved ≡ [];
       room : l.depth + 1 ≤ l.engine.spare;
+      spare : w.spare ≤ l.engine.spare;
       fewer : l.accepted + l.left ≤ l.budget;
       runs : runs_from w.parts l.depth l.diversifier l.left l.accepted (l.budget - l.left) l.engine.state
           ≡ repaired w.parts w.state l.depth l.budget l.diversifier;
