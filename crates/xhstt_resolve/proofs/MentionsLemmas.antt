@@ -5,19 +5,22 @@ use Rattle.std.proofs.Common.{if◌then◌else◌, eqb, inl, inr, ◌⊎◌}
 use Rattle.std.specs.List.{All, cons_option, filter, flat_map, fold}
 use Rattle.std.proofs.lemmas.Bool.{eq-eqb, ne_eqb, cases_eq, cases_lt}
 use Rattle.std.proofs.lemmas.List.{append-nil, append_assoc, get_or-set_same, get_or-set_other, get_or-replicate}
-use Rattle.std.proofs.lemmas.List.{get_or_past, length-set, length-replicate, length_push}
+use Rattle.std.proofs.lemmas.List.{get_or_past, length-map, length-set, length-replicate, length_push}
 use Rattle.std.proofs.lemmas.List.Elements.{All-nil, All-cons, All-head, All-tail, All-append}
 use Rattle.khe_base.specs.IdSet.{has_member, with_member, no_members, member_count, IsCounted}
 use Rattle.khe_base.specs.Names.{number_of}
+use Rattle.khe_base.specs.declared.limits.TheConstants.{EVENTS}
 use Rattle.khe_base.proofs.IdSetLemmas.{IsCounted-with_member}
 use Rattle.std.proofs.lemmas.List.Folds.{sum_by-replicate}
 use Rattle.std.proofs.lemmas.List.Sums.{count_by-le-length}
 use Rattle.xhstt_resolve.specs.Collected.{with_mention, no_mentions}
-use Rattle.xhstt_resolve.specs.Members.{first_mentions, numbers_of}
-use Rattle.xhstt_resolve.specs.Tables.{IsTable, members_at, listed_at}
+use Rattle.xhstt_resolve.specs.Members.{first_mentions, listed_events, numbers_of}
+use Rattle.xhstt_resolve.specs.Tables.{IsLookup, IsTable, members_at, listed_at}
 use Rattle.xhstt_resolve.specs.declared.collecting.Mentions.{Mentions}
+use Rattle.xhstt_resolve.specs.declared.tables.Lookup.{Lookup}
 use Rattle.xhstt_resolve.specs.declared.tables.Table.{Table}
 use Rattle.xhstt_resolve.proofs.JoinedLemmas.{number_of_place}
+use Rattle.xhstt_resolve.proofs.TablesLemmas.{listed-at}
 use Rattle.xhstt_shape.specs.declared.records.Ref.{Ref}
 
 -- one filter after another
@@ -182,3 +185,26 @@ collected_few size ns small h =
     let end = all_counted size ns (no_mentions size) h start in
     let bound = count_by-le-length (λ b. b) (fold with_mention (no_mentions size) ns).seen in
     omega (arith, end.count.counted, end.sized, bound)
+
+-- no more items are listed than there are
+pub mentions_few : (t : Table) → IsTable t → (groups singles : List Ref)
+    → length (first_mentions (listed_at t groups singles)) ≤ length t.names.now
+mentions_few t is groups singles =
+    let ns = listed_at t groups singles in
+    let within = listed_within t is groups singles in
+    subst (λ ms. length ms ≤ length t.names.now) (collected_mentions (length t.names.now) ns within)
+    (collected_few (length t.names.now) ns is.small within)
+
+pub events_few : (l : Lookup) → IsLookup l → (groups events : List Ref)
+    → length (first_mentions (listed_events l.instance.now groups events)) ≤ EVENTS
+events_few l is groups events =
+    let t = l.tables.events in
+    let i = l.instance.now in
+    omega (
+      arith,
+      mentions_few t is.tables.events.table groups events,
+      ap (λ ns. length (first_mentions ns)) (listed-at t is.tables.events groups events),
+      ap length is.tables.events.names,
+      length-map i.events (λ e. e.id.text),
+      is.counts.events,
+    )

@@ -1,15 +1,17 @@
 -- A constraint followed out: its points, and with each how much is watched there.
 use Rattle.std.specs.Prelude.{ℕ, ◌+◌, ◌-◌, ◌^◌, min, Option, Some, None, List, [], ◌∷◌, ◌++◌, map}
-use Rattle.std.specs.List.{enumerate_from, flat_map}
+use Rattle.std.specs.List.{enumerate_from, filter, flat_map}
 use Rattle.khe_instance.specs.declared.points.Point.{Point}
 use Rattle.khe_instance.specs.declared.points.Point.TheVariants as point
 use Rattle.xhstt_resolve.specs.Limits.{group_size, named_in, watches_at}
 use Rattle.xhstt_resolve.specs.Members.{numbers_where}
 use Rattle.xhstt_resolve.specs.Points.{event_point, has_role, monitor_of, place_point, places_at, points_of, resource_point}
+use Rattle.xhstt_resolve.specs.Roles.{is_at}
 use Rattle.xhstt_resolve.specs.Rules.{pair_of}
 use Rattle.xhstt_resolve.specs.declared.counting.Counts.{Counts}
 use Rattle.xhstt_resolve.specs.declared.monitors.Monitors.{Monitors}
 use Rattle.xhstt_resolve.specs.declared.points.Visit.{Visit}
+use Rattle.xhstt_resolve.specs.declared.roles.RolePlace.{RolePlace}
 use Rattle.xhstt_shape.specs.declared.constraints.RawConstraint.{RawConstraint}
 use Rattle.xhstt_shape.specs.declared.constraints.RawPair.{RawPair}
 use Rattle.xhstt_shape.specs.declared.records.RawInstance.{RawInstance}
@@ -47,6 +49,13 @@ place_visit e place = record { point = place_point e place; watches = 1 }
 
 abbrev pub role_visits : RawInstance → List ℕ → ℕ → List Visit
 role_visits i role e = map (place_visit e) (numbers_where (has_role role) (places_at i e))
+
+-- an event resource by its event and its place, and those of an event among some
+abbrev pub visit_of : RolePlace → Visit
+visit_of p = place_visit p.event p.place
+
+abbrev pub visits_at : List RolePlace → ℕ → List Visit
+visits_at places e = map visit_of (filter (is_at e) places)
 
 abbrev pub event_visits : RawInstance → Option (List ℕ) → List ℕ → List Visit
 event_visits i None events = map event_visit events

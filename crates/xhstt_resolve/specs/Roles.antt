@@ -1,43 +1,35 @@
--- The event resources of large events by their roles.
-use Rattle.std.specs.Prelude.{ℕ, Bool, nat_lt, if◌then◌else◌, is_some, Option, Some, None, List, map, length, slice_get}
-use Rattle.std.specs.List.{filter_map}
-use Rattle.std.specs.Option.{option_and_then, option_map_or}
-use Rattle.khe_base.specs.Names.{are_distinct, number_of}
+-- The event resources of an instance by their roles.
+use Rattle.std.specs.Prelude.{ℕ, ◌≡◌, ◌+◌, ◌==◌, Bool, List, [], ◌∷◌, ◌++◌, map, slice_index_or}
+use Rattle.std.specs.Option.{option_map_or}
+use Rattle.khe_base.specs.Names.{number_of}
 use Rattle.xhstt_resolve.specs.Members.{numbers_where}
-use Rattle.xhstt_resolve.specs.Parts.{role_text}
-use Rattle.xhstt_resolve.specs.declared.roles.RoleTable.{RoleTable}
+use Rattle.xhstt_resolve.specs.Points.{has_role}
+use Rattle.xhstt_resolve.specs.declared.roles.RolePlace.{RolePlace}
 use Rattle.xhstt_resolve.specs.declared.roles.Roles.{Roles}
-use Rattle.xhstt_resolve.specs.declared.roles.TheConstants.{FEW}
 use Rattle.xhstt_shape.specs.declared.records.RawEvent.{RawEvent}
-use Rattle.xhstt_shape.specs.declared.records.RawEventResource.{RawEventResource}
 use Rattle.xhstt_shape.specs.declared.records.RawInstance.{RawInstance}
 
--- the roles of event resources, and the places of those that have one
-abbrev pub role_texts : List RawEventResource → List (List ℕ)
-role_texts rs = filter_map (λ r. role_text r.role) rs
+-- an event resource by its event and its place
+abbrev pub role_place : ℕ → ℕ → RolePlace
+role_place e place = record { event = e; place = place }
 
-abbrev pub has_any_role : RawEventResource → Bool
-has_any_role r = is_some r.role
+-- the event resources with a role of events from a number on, and of all events
+abbrev pub places_from : List ℕ → ℕ → List RawEvent → List RolePlace
+places_from role k [] = []
+places_from role k (e ∷ es) = map (role_place k) (numbers_where (has_role role) e.resources) ++
+    places_from role (k + 1) es
 
-abbrev pub role_places : List RawEventResource → List ℕ
-role_places rs = numbers_where has_any_role rs
+abbrev pub places_with : RawInstance → List ℕ → List RolePlace
+places_with i role = places_from role 0 i.events
 
--- event resources by their roles, where no two have the same
-abbrev pub numbered_roles : List RawEventResource → Option RoleTable
-numbered_roles rs = if are_distinct (role_texts rs)
-    then Some (record { names = role_texts rs; places = role_places rs }) else None
+-- whether an event resource is of an event
+abbrev pub is_at : ℕ → RolePlace → Bool
+is_at e p = p.event == e
 
--- the event resources of an event by their roles, where they are more than a few
-abbrev pub role_table : RawEvent → Option RoleTable
-role_table e = if nat_lt FEW (length e.resources) then numbered_roles e.resources else None
+-- what the lists of roles, each with a number, hold for a role
+abbrev pub held : List (List ℕ) → List (List RolePlace) → List ℕ → List RolePlace
+held names lists role = option_map_or (λ n. slice_index_or lists n []) (number_of role names) []
 
-abbrev pub roles_of : RawInstance → Roles
-roles_of i = record { events = map role_table i.events }
-
--- the table of the event with a number
-abbrev pub table_at : Roles → ℕ → Option RoleTable
-table_at rs e = option_map_or (λ table. table) (slice_get rs.events e) None
-
--- the place of the event resource that has a role
-abbrev pub place_at : RoleTable → List ℕ → Option ℕ
-place_at t role = option_and_then (slice_get t.places) (number_of role t.names)
+-- each role leads to the event resources that have it
+pub record AreRolesOf (i : RawInstance) (r : Roles) : Type 0 where
+  pub places : (role : List ℕ) → held r.names r.places role ≡ places_with i role

@@ -5,7 +5,7 @@ ghost use Rattle.khe_base.specs.declared.limits.TheConstants.{DURATION};
 ghost use Rattle.xhstt_references.specs.Ids.{time_ids};
 ghost use Rattle.xhstt_resolve.specs.Limits.{total_duration};
 ghost use Rattle.xhstt_resolve.specs.Parts.{parts_of};
-ghost use Rattle.xhstt_resolve.specs.Roles.{roles_of};
+ghost use Rattle.xhstt_resolve.specs.Roles.{AreRolesOf};
 ghost use Rattle.xhstt_resolve.specs.Tables.{IsLookup, HasFewPlaces};
 ghost use Rattle.xhstt_resolve.specs.Units.{unit_of};
 
@@ -33,7 +33,7 @@ pub(crate) fn parts_of(
 ) -> Result<Parts, NoMemory>
     requires lookup { IsLookup lookup.now }
     requires places { HasFewPlaces lookup.now.instance.now }
-    requires roles { roles.now ≡ roles_of lookup.now.instance.now }
+    requires roles { AreRolesOf lookup.now.instance.now roles.now }
     requires duration { total_duration lookup.now.instance.now ≤ DURATION }
     requires unit { unit ≡ unit_of (map (λ e. e.duration) lookup.now.instance.now.events) }
     ensures { IfOk result (λ p. p ≡ parts_of lookup.now.instance.now) }

@@ -4,7 +4,7 @@ ghost use Rattle.std.specs.Prelude.{◌≡◌, length, IfOk};
 ghost use Rattle.xhstt_resolve.specs.Followed.{with_count};
 ghost use Rattle.xhstt_resolve.specs.Limits.{watch_count};
 ghost use Rattle.xhstt_resolve.specs.Points.{monitors_of};
-ghost use Rattle.xhstt_resolve.specs.Roles.{roles_of};
+ghost use Rattle.xhstt_resolve.specs.Roles.{AreRolesOf};
 ghost use Rattle.xhstt_resolve.specs.Tables.{IsLookup, HasFewPlaces};
 
 use crate::points::{Follow, Visit, follow_out};
@@ -41,7 +41,7 @@ pub(crate) fn counts_of(
 ) -> Result<Counts, NoMemory>
     requires lookup { IsLookup lookup.now }
     requires places { HasFewPlaces lookup.now.instance.now }
-    requires roles { roles.now ≡ roles_of lookup.now.instance.now }
+    requires roles { AreRolesOf lookup.now.instance.now roles.now }
     ensures monitors { IfOk result (λ n. n.monitors ≡ length (monitors_of lookup.now.instance.now)) }
     ensures watches { IfOk result (λ n. n.watches ≡ watch_count lookup.now.instance.now) }
 {

@@ -7,7 +7,7 @@ ghost use Rattle.xhstt_references.specs.Faults.{fault_of_instance};
 ghost use Rattle.xhstt_resolve.specs.Answers.{IsFirst};
 ghost use Rattle.xhstt_resolve.specs.Limits as spec;
 ghost use Rattle.xhstt_resolve.specs.Parts as parts;
-ghost use Rattle.xhstt_resolve.specs.Roles.{roles_of};
+ghost use Rattle.xhstt_resolve.specs.Roles.{AreRolesOf};
 ghost use Rattle.xhstt_resolve.specs.Tables.{IsLookup};
 ghost use Rattle.xhstt_resolve.specs.Units.{unit_of};
 ghost use Rattle.xhstt_shape.specs.WellFormed.{IsInstance};
@@ -58,7 +58,7 @@ pub(crate) fn instance_of(
     Ok(Instance::new(alloc, parts)?)
 }
 
-/// An instance that keeps its limits, with the roles of its large events and its unit.
+/// An instance that keeps its limits, with its event resources by their roles and its unit.
 #[derive(Drop)]
 struct Kept<'a> {
     lookup: Lookup<'a>,
@@ -77,7 +77,7 @@ fn kept_limits<'a>(
     requires formed { IsInstance raw.now }
     ensures lookup { IfOk result (λ k. IsLookup k.lookup) }
     ensures instance { IfOk result (λ k. k.lookup.instance.now ≡ raw.now) }
-    ensures roles { IfOk result (λ k. k.roles ≡ roles_of raw.now) }
+    ensures roles { IfOk result (λ k. AreRolesOf raw.now k.roles) }
     ensures unit { IfOk result (λ k. k.unit ≡ unit_of (map (λ e. e.duration) raw.now.events)) }
     ensures within { IfOk result (λ k. spec.limit_fault raw.now ≡ None) }
     ensures fault { IfErr result (IsFirst (spec.limit_fault raw.now)) }

@@ -4,7 +4,7 @@ ghost use Rattle.std.specs.Prelude.{◌≡◌, ◌++◌, IfOk};
 ghost use Rattle.khe_instance.specs.Kinds.{kind_of};
 ghost use Rattle.xhstt_resolve.specs.Followed.{with_monitor};
 ghost use Rattle.xhstt_resolve.specs.Points.{monitors_at, monitors_of};
-ghost use Rattle.xhstt_resolve.specs.Roles.{roles_of};
+ghost use Rattle.xhstt_resolve.specs.Roles.{AreRolesOf};
 ghost use Rattle.xhstt_resolve.specs.Rules.{rule_of};
 ghost use Rattle.xhstt_resolve.specs.Tables.{IsLookup, HasFewPlaces};
 ghost use Rattle.xhstt_shape.specs.declared.constraints.RawApplies.{RawApplies};
@@ -51,7 +51,7 @@ pub(crate) fn monitors_of(
 ) -> Result<Seq<Monitor>, NoMemory>
     requires lookup { IsLookup lookup.now }
     requires places { HasFewPlaces lookup.now.instance.now }
-    requires roles { roles.now ≡ roles_of lookup.now.instance.now }
+    requires roles { AreRolesOf lookup.now.instance.now roles.now }
     ensures { IfOk result (λ ms. ms ≡ monitors_of lookup.now.instance.now) }
 {
     let mut monitors = Seq::new(alloc);
@@ -72,7 +72,7 @@ fn with_monitors(
 ) -> Result<Seq<Monitor>, NoMemory>
     requires lookup { IsLookup lookup.now }
     requires places { HasFewPlaces lookup.now.instance.now }
-    requires roles { roles.now ≡ roles_of lookup.now.instance.now }
+    requires roles { AreRolesOf lookup.now.instance.now roles.now }
     ensures { IfOk result (λ ms. ms ≡ made ++ monitors_at lookup.now.instance.now (number, constraint.now)) }
 {
     let mut monitors = Monitors {

@@ -1,24 +1,25 @@
 //! The points of a constraint, each at its first mention.
 
-ghost use Rattle.std.specs.Prelude.{◌≡◌, ◌≤◌, ◌<◌, ◌^◌, ◌∷◌, [], if◌then◌else◌, map, length, IfOk, OnOk};
+ghost use Rattle.std.specs.Prelude.{◌≡◌, ◌≤◌, ◌^◌, map, length, IfOk, OnOk};
 ghost use Rattle.std.specs.List.{fold, flat_map};
-ghost use Rattle.std.specs.Option.{option_copied, option_to_list};
-ghost use Rattle.khe_base.specs.declared.limits.TheConstants.{EVENTS, RESOURCES};
+ghost use Rattle.std.specs.List.Sorted.{IsNonDecreasingBy};
+ghost use Rattle.std.specs.Option.{option_copied};
+ghost use Rattle.khe_base.specs.declared.limits.TheConstants.{RESOURCES};
 ghost use Rattle.xhstt_references.specs.Ids.{event_group_ids};
-ghost use Rattle.xhstt_resolve.specs.Followed.{followed, event_visit, place_visit, role_visits, event_visits, group_visit, pair_visits, resource_visit};
+ghost use Rattle.xhstt_resolve.specs.Followed.{followed, event_visit, role_visits, event_visits, visit_of, visits_at, group_visit, pair_visits, resource_visit};
 ghost use Rattle.xhstt_resolve.specs.Limits.{watches_of};
-ghost use Rattle.xhstt_resolve.specs.Members.{first_mentions, numbers_of, numbers_where, listed_events, listed_resources};
-ghost use Rattle.xhstt_resolve.specs.Points.{role_of, has_role, points_of};
-ghost use Rattle.xhstt_resolve.specs.Roles.{roles_of, place_at};
+ghost use Rattle.xhstt_resolve.specs.Members.{first_mentions, numbers_of, listed_events, listed_resources};
+ghost use Rattle.xhstt_resolve.specs.Points.{role_of, points_of};
+ghost use Rattle.xhstt_resolve.specs.Roles.{AreRolesOf, places_with};
 ghost use Rattle.xhstt_resolve.specs.Tables.{IsLookup, HasFewPlaces};
 
-use crate::roles::{RoleTable, Roles};
+use crate::roles::{RolePlace, Roles, places_at};
 use crate::tables::{Lookup, first_named};
 use crate::watching::{group_size, pair_size, watched_times};
 use khe_base::{EventId, NoMemory, ResourceId, Seq, Text};
 use khe_instance::Point;
 use std::alloc::Global;
-use xhstt_shape::{RawApplies, RawConstraint, RawEventResource, RawPair, RawRule, Ref};
+use xhstt_shape::{RawApplies, RawConstraint, RawPair, RawRule, Ref};
 
 /// A point of a constraint, with how much is watched there.
 #[derive(Clone, Copy)]
@@ -42,10 +43,11 @@ pub(crate) trait Follow {
 /// much each watches.
 ///
 /// It takes time in proportion to what the constraint applies to and the times that it lists, with
-/// their groups followed out, and to all items of the sort that it applies to, on average, whatever
-/// the number of event resources: of each event few are looked through for a role. It takes memory in
-/// proportion to those items, besides what meeting takes. Where memory is refused some points may
-/// have been met. More than 2 ^ 32 pairs are refused alike, since no point has such a number.
+/// their groups followed out, and to all items of the sort that it applies to, on average. Of each
+/// event the place with a role is found in time in proportion to the logarithm of how many event
+/// resources have it, and where none has it, no event is looked at. It takes memory in proportion to
+/// those items, besides what meeting takes. Where memory is refused some points may have been met.
+/// More than 2 ^ 32 pairs are refused alike, since no point has such a number.
 pub(crate) fn follow_out<F: Follow>(
     alloc: Global,
     lookup: &Lookup<'_>,
@@ -55,7 +57,7 @@ pub(crate) fn follow_out<F: Follow>(
 ) -> Result<(), NoMemory>
     requires lookup { IsLookup lookup.now }
     requires places { HasFewPlaces lookup.now.instance.now }
-    requires roles { roles.now ≡ roles_of lookup.now.instance.now }
+    requires roles { AreRolesOf lookup.now.instance.now roles.now }
     ensures met { OnOk result (into.new ≡ fold F.met into.old (followed lookup.now.instance.now constraint.now)) }
     ensures few { OnOk result (length (points_of lookup.now.instance.now constraint.now) ≤ 2 ^ 64) }
     ensures small { OnOk result (watches_of lookup.now.instance.now constraint.now ≤ 2 ^ 112) }
@@ -65,11 +67,13 @@ pub(crate) fn follow_out<F: Follow>(
             event_groups,
             events,
         } => {
-            let events = events_of(alloc, lookup, event_groups.as_slice(), events.as_slice())?;
+            let role = role_of(&constraint.rule);
             follow_events(
+                alloc,
                 lookup,
                 roles,
-                role_of(&constraint.rule),
+                role,
+                event_groups.as_slice(),
                 events.as_slice(),
                 into,
             )
@@ -103,8 +107,7 @@ fn events_of(
     events: &[Ref],
 ) -> Result<Seq<u32>, NoMemory>
     requires { IsLookup lookup.now }
-    ensures numbers { IfOk result (λ ns. ns ≡ first_mentions (listed_events lookup.now.instance.now groups.now events.now)) }
-    ensures few { IfOk result (λ ns. length ns ≤ EVENTS) }
+    ensures { IfOk result (λ ns. ns ≡ first_mentions (listed_events lookup.now.instance.now groups.now events.now)) }
 {
     lookup.tables.events.first_mentions(alloc, groups, events)
 }
@@ -158,22 +161,43 @@ fn role_of(rule: &RawRule) -> Option<&Text>
     }
 }
 
-/// Meets events: themselves, or their event resources of a role.
+/// Meets the events that are listed, each at its first mention: themselves, or their event resources
+/// of a role.
 fn follow_events<F: Follow>(
+    alloc: Global,
     lookup: &Lookup<'_>,
     roles: &Roles,
     role: Option<&Text>,
-    events: &[u32],
+    groups: &[Ref],
+    events: &[Ref],
     into: &mut F,
 ) -> Result<(), NoMemory>
-    requires places { HasFewPlaces lookup.now.instance.now }
-    requires roles { roles.now ≡ roles_of lookup.now.instance.now }
-    ensures { OnOk result (into.new ≡ fold F.met into.old (event_visits lookup.now.instance.now (option_copied role.entry) events.now)) }
+    requires lookup { IsLookup lookup.now }
+    requires roles { AreRolesOf lookup.now.instance.now roles.now }
+    ensures { OnOk result (into.new ≡ fold F.met into.old (event_visits lookup.now.instance.now (option_copied role.entry) (first_mentions (listed_events lookup.now.instance.now groups.now events.now)))) }
 {
     match role {
-        Some(role) => follow_role(lookup, roles, role, events, into),
-        None => follow_singly(events, into),
+        Some(role) => {
+            let places = roles.with_role(role);
+            follow_role(alloc, lookup, role, places, groups, events, into)
+        }
+        None => follow_listed(alloc, lookup, groups, events, into),
     }
+}
+
+/// Meets the events that are listed by themselves.
+fn follow_listed<F: Follow>(
+    alloc: Global,
+    lookup: &Lookup<'_>,
+    groups: &[Ref],
+    events: &[Ref],
+    into: &mut F,
+) -> Result<(), NoMemory>
+    requires { IsLookup lookup.now }
+    ensures { OnOk result (into.new ≡ fold F.met into.old (map event_visit (first_mentions (listed_events lookup.now.instance.now groups.now events.now)))) }
+{
+    let events = events_of(alloc, lookup, groups, events)?;
+    follow_singly(events.as_slice(), into)
 }
 
 /// Meets events by themselves.
@@ -189,121 +213,57 @@ fn follow_singly<F: Follow>(events: &[u32], into: &mut F) -> Result<(), NoMemory
     Ok(())
 }
 
-/// Meets the event resources of a role, event by event.
+/// Meets the event resources of a role of the events that are listed. Where no event resource has the
+/// role, no event is looked at.
 fn follow_role<F: Follow>(
+    alloc: Global,
     lookup: &Lookup<'_>,
-    roles: &Roles,
     role: &Text,
+    places: &[RolePlace],
+    groups: &[Ref],
+    events: &[Ref],
+    into: &mut F,
+) -> Result<(), NoMemory>
+    requires lookup { IsLookup lookup.now }
+    requires places { places.now ≡ places_with lookup.now.instance.now role.now }
+    ensures { OnOk result (into.new ≡ fold F.met into.old (flat_map (role_visits lookup.now.instance.now role.now) (first_mentions (listed_events lookup.now.instance.now groups.now events.now)))) }
+{
+    if places.is_empty() {
+        return Ok(());
+    }
+    let events = events_of(alloc, lookup, groups, events)?;
+    follow_places(places, events.as_slice(), into)
+}
+
+/// Meets those of some event resources that are of one of the events, event by event.
+fn follow_places<F: Follow>(
+    places: &[RolePlace],
     events: &[u32],
     into: &mut F,
 ) -> Result<(), NoMemory>
-    requires places { HasFewPlaces lookup.now.instance.now }
-    requires roles { roles.now ≡ roles_of lookup.now.instance.now }
-    ensures { OnOk result (into.new ≡ fold F.met into.old (flat_map (role_visits lookup.now.instance.now role.now) events.now)) }
+    requires { IsNonDecreasingBy (λ (p : RolePlace). p.event) places.now }
+    ensures { OnOk result (into.new ≡ fold F.met into.old (flat_map (visits_at places.now) events.now)) }
 {
     for event in events {
-        follow_role_at(lookup, roles, role, *event, into)?;
+        meet_all(places_at(places, *event), into)?;
     }
     Ok(())
 }
 
-/// Meets the event resources of a role of one event, in constant time on average.
-fn follow_role_at<F: Follow>(
-    lookup: &Lookup<'_>,
-    roles: &Roles,
-    role: &Text,
-    event: u32,
-    into: &mut F,
-) -> Result<(), NoMemory>
-    requires places { HasFewPlaces lookup.now.instance.now }
-    requires roles { roles.now ≡ roles_of lookup.now.instance.now }
-    ensures { OnOk result (into.new ≡ fold F.met into.old (role_visits lookup.now.instance.now role.now event)) }
+/// Meets event resources.
+fn meet_all<F: Follow>(places: &[RolePlace], into: &mut F) -> Result<(), NoMemory>
+    ensures { OnOk result (into.new ≡ fold F.met into.old (map visit_of places.now)) }
 {
-    match roles.table(event) {
-        Some(table) => follow_named(table, role, event, into),
-        None => follow_listed(lookup, role, event, into),
-    }
-}
-
-/// Meets the event resource of a role of an event that has a table of them.
-fn follow_named<F: Follow>(
-    table: &RoleTable,
-    role: &Text,
-    event: u32,
-    into: &mut F,
-) -> Result<(), NoMemory>
-    ensures { OnOk result (into.new ≡ fold F.met into.old (map (place_visit event) (option_to_list (place_at table.now role.now)))) }
-{
-    if let Some(place) = table.place(role) {
-        let event = EventId(event);
+    for place in places {
         into.meet(Visit {
-            point: Point::EventResource { event, place },
+            point: Point::EventResource {
+                event: EventId(place.event),
+                place: place.place,
+            },
             watches: 1,
         })?;
     }
     Ok(())
-}
-
-/// Meets the event resources of a role of one event, which are looked through.
-fn follow_listed<F: Follow>(
-    lookup: &Lookup<'_>,
-    role: &Text,
-    event: u32,
-    into: &mut F,
-) -> Result<(), NoMemory>
-    requires { HasFewPlaces lookup.now.instance.now }
-    ensures { OnOk result (into.new ≡ fold F.met into.old (role_visits lookup.now.instance.now role.now event)) }
-{
-    match lookup.instance.events.as_slice().get(event as usize) {
-        Some(raw) => follow_places(role, event, raw.resources.as_slice(), into),
-        None => Ok(()),
-    }
-}
-
-/// Meets those of the resources of an event that have a role.
-fn follow_places<F: Follow>(
-    role: &Text,
-    event: u32,
-    resources: &[RawEventResource],
-    into: &mut F,
-) -> Result<(), NoMemory>
-    requires { length resources.now < 2 ^ 32 }
-    ensures { OnOk result (into.new ≡ fold F.met into.old (map (place_visit event) (numbers_where (has_role role.now) resources.now))) }
-{
-    for (place, resource) in resources.iter().enumerate() {
-        follow_place(role, event, place as u32, resource, into)?;
-    }
-    Ok(())
-}
-
-/// Meets an event resource where it has a role.
-fn follow_place<F: Follow>(
-    role: &Text,
-    event: u32,
-    place: u32,
-    resource: &RawEventResource,
-    into: &mut F,
-) -> Result<(), NoMemory>
-    ensures { OnOk result (into.new ≡ fold F.met into.old (map (place_visit event) (if has_role role.now resource.now then place ∷ [] else []))) }
-{
-    if has_role(role, resource) {
-        let event = EventId(event);
-        into.meet(Visit {
-            point: Point::EventResource { event, place },
-            watches: 1,
-        })?;
-    }
-    Ok(())
-}
-
-/// Whether an event resource has a role.
-fn has_role(role: &Text, resource: &RawEventResource) -> bool
-    ensures { result ≡ has_role role.now resource.now }
-{
-    match &resource.role {
-        Some(name) => name.text.is_same(role),
-        None => false,
-    }
 }
 
 /// Meets event groups.

@@ -33,8 +33,8 @@ returns-in_err-listed_within-clause-fault c =
     subst (λ n. above TOO_MANY_TASKS n ≡ None) count c.in_ok-within-10.ensures.within in
     search (rules, tasks)
 
-pub roles_of-requires : goal.roles_of-requires
-roles_of-requires c =
+pub roles_of-requires-clause-places : goal.roles_of-requires-clause-places
+roles_of-requires-clause-places c =
     let i = c.args.raw.now in
     let count = c.task_count.ensures ∙ ap task_count c.in_ok-lookup.ensures.instance in
     let tasks : above TOO_MANY_TASKS (task_count i) ≡ None =

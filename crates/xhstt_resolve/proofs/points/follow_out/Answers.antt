@@ -8,38 +8,30 @@ use Rattle.xhstt_references.specs.Ids.{event_group_ids}
 use Rattle.xhstt_resolve.specs.Followed.{event_visits, pair_visits}
 use Rattle.xhstt_resolve.specs.Members.{events_in, first_mentions, listed_events, listed_resources, numbers_of}
 use Rattle.xhstt_resolve.proofs.BoundsLemmas.{events_bounded, groups_bounded, pairs_bounded, resources_bounded}
+use Rattle.xhstt_resolve.proofs.MentionsLemmas.{events_few}
 use Rattle.xhstt_resolve.proofs.FollowedLemmas.{followed_events, followed_pairs}
 use Rattle.xhstt_resolve.proofs.points.follow_out.Goals as goal
 
-pub returns-in_ok-events-in-Events-clause-met : goal.returns-in_ok-events-in-Events-clause-met
-returns-in_ok-events-in-Events-clause-met g c =
+pub returns-in-Events-clause-met : goal.returns-in-Events-clause-met
+returns-in-Events-clause-met g c =
     let i = c.args.lookup.now.instance.now in
-    let numbers = c.as_slice-in-Events-2.ensures ∙ c.in_ok-events-in-Events.ensures.numbers
-    ∙ (λ j. first_mentions (listed_events i (c.as_slice.ensures j) (c.as_slice-in-Events.ensures j))) in
-    let all = (λ j. event_visits i (c.role_of.ensures j) (numbers j))
+    let all = (λ j. event_visits i (c.role_of-role.ensures j)
+    (first_mentions (listed_events i (c.as_slice.ensures j) (c.as_slice-in-Events.ensures j))))
     ∙ sym (followed_events i c.args.constraint.now c.in-Events.event_groups c.in-Events.events c.in-Events.is) in
     on_ok_weaker c.follow_events.result (λ e. e ∙ ap (fold g.F.Follow.met c.args.into.now) all) c.follow_events.ensures
 
-pub returns-in_ok-events-in-Events-clause-few : goal.returns-in_ok-events-in-Events-clause-few
-returns-in_ok-events-in-Events-clause-few g c =
-    let i = c.args.lookup.now.instance.now in
-    let numbers = c.in_ok-events-in-Events.ensures.numbers
-    ∙ (λ j. first_mentions (listed_events i (c.as_slice.ensures j) (c.as_slice-in-Events.ensures j))) in
-    let few : length (first_mentions (listed_events i c.in-Events.event_groups c.in-Events.events)) ≤ EVENTS =
-    omega (arith, c.in_ok-events-in-Events.ensures.few, ap length numbers) in
-    let own = events_bounded i c.args.constraint.now c.in-Events.event_groups c.in-Events.events c.in-Events.is
-    c.requires.places few in
+pub returns-in-Events-clause-few : goal.returns-in-Events-clause-few
+returns-in-Events-clause-few g c =
+    let own = events_bounded c.args.lookup.now.instance.now c.args.constraint.now c.in-Events.event_groups
+    c.in-Events.events c.in-Events.is c.requires.places
+    (events_few c.args.lookup.now c.requires.lookup c.in-Events.event_groups c.in-Events.events) in
     on_ok_weaker c.follow_events.result (λ _. omega (arith, own.few)) c.follow_events.ensures
 
-pub returns-in_ok-events-in-Events-clause-small : goal.returns-in_ok-events-in-Events-clause-small
-returns-in_ok-events-in-Events-clause-small g c =
-    let i = c.args.lookup.now.instance.now in
-    let numbers = c.in_ok-events-in-Events.ensures.numbers
-    ∙ (λ j. first_mentions (listed_events i (c.as_slice.ensures j) (c.as_slice-in-Events.ensures j))) in
-    let few : length (first_mentions (listed_events i c.in-Events.event_groups c.in-Events.events)) ≤ EVENTS =
-    omega (arith, c.in_ok-events-in-Events.ensures.few, ap length numbers) in
-    let own = events_bounded i c.args.constraint.now c.in-Events.event_groups c.in-Events.events c.in-Events.is
-    c.requires.places few in
+pub returns-in-Events-clause-small : goal.returns-in-Events-clause-small
+returns-in-Events-clause-small g c =
+    let own = events_bounded c.args.lookup.now.instance.now c.args.constraint.now c.in-Events.event_groups
+    c.in-Events.events c.in-Events.is c.requires.places
+    (events_few c.args.lookup.now c.requires.lookup c.in-Events.event_groups c.in-Events.events) in
     on_ok_weaker c.follow_events.result (λ _. omega (arith, own.small)) c.follow_events.ensures
 
 pub returns-in_ok-groups-in-Groups-clause-small : goal.returns-in_ok-groups-in-Groups-clause-small

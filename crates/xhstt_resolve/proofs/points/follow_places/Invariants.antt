@@ -1,13 +1,10 @@
 -- What is left goes on from what was met.
-use Rattle.std.proofs.Common.{◌≡◌, drop, map}
-use Rattle.std.specs.List.{fold}
-use Rattle.xhstt_resolve.specs.Followed.{place_visit}
-use Rattle.xhstt_resolve.specs.Members.{numbers_from, numbers_where}
-use Rattle.xhstt_resolve.specs.Points.{has_role}
+use Rattle.std.proofs.Common.{◌≡◌, drop}
+use Rattle.std.specs.List.{fold, flat_map}
+use Rattle.xhstt_resolve.specs.Followed.{visits_at}
 use Rattle.xhstt_resolve.proofs.points.follow_places.Given as goal
 
-abbrev pub invariant-loop-place : goal.invariant-loop-place
-invariant-loop-place g l =
-    fold g.F.Follow.met l.into (map (place_visit l.event)
-    (numbers_from (has_role l.role) l.place (drop l.place l.resources)))
-    ≡ fold g.F.Follow.met l.fn.into (map (place_visit l.event) (numbers_where (has_role l.role) l.resources))
+abbrev pub invariant-loop-event : goal.invariant-loop-event
+invariant-loop-event g l =
+    fold g.F.Follow.met l.into (flat_map (visits_at l.places) (drop l.event-index l.events))
+    ≡ fold g.F.Follow.met l.fn.into (flat_map (visits_at l.places) l.events)
