@@ -5,8 +5,6 @@
 mod editing;
 mod faults;
 mod reading;
-#[cfg(test)]
-mod tests;
 
 pub use editing::{assigned_totals, lower_by, opened_totals};
 pub use faults::ReadFault;

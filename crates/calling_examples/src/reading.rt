@@ -77,7 +77,7 @@ pub fn totals_of(alloc: Global, read: &ReadArchive, number: u32) -> Result<Total
 }
 
 /// The instance of the solution with this number; `None` where there is no such solution.
-pub(crate) fn instance_of(resolved: &Resolved, number: u32) -> Option<&Instance>
+fn instance_of(resolved: &Resolved, number: u32) -> Option<&Instance>
     ensures { MatchOption result (parts_at resolved.now number ≡ None) (λ i. parts_at resolved.now number ≡ Some i.now) }
 {
     let instance = *resolved.of.as_slice().get(number as usize)?;

@@ -59,17 +59,6 @@ fn set_counting<L: Ledger>(graph: &mut Graph, monitor: u32, deviation: u64, blan
     }
 }
 
-/// Sets the deviations of the monitors from 0 on.
-pub(crate) fn set_all(graph: &mut Graph, deviations: &[u64]) {
-    let mut monitor = 0;
-    for deviation in deviations {
-        set(graph, monitor, *deviation);
-        if monitor < MONITORS {
-            monitor += 1;
-        }
-    }
-}
-
 /// Sets the deviations of these monitors.
 pub(crate) fn set_each(graph: &mut Graph, monitors: &[u32], deviation: u64) {
     for monitor in monitors {
@@ -105,28 +94,6 @@ pub(crate) fn edit(
     }
 }
 
-/// Makes an edit and undoes it, if it is accepted.
-pub(crate) fn edit_and_undo(graph: &mut Graph, edit: Edit) -> Result<bool, NoMemory> {
-    graph.room(1)?;
-    if !is_of_groups(&edit) || graph.check(&edit).is_err() {
-        return Ok(false);
-    }
-    let back = graph.back(&edit);
-    let made = graph.edit(edit);
-    graph.room(1)?;
-    graph.undo(back);
-    Ok(made.is_ok())
-}
-
-/// What a monitor costs.
-pub(crate) fn cost(graph: &Graph, monitor: u32) -> Option<u128> {
-    if monitor < graph.monitors() {
-        Some(graph.cost(MonitorId(monitor)))
-    } else {
-        None
-    }
-}
-
 /// What a group costs.
 pub(crate) fn group_cost(graph: &Graph, group: u32) -> Option<Totals> {
     if graph.has_group(GroupId(group)) {
@@ -134,19 +101,4 @@ pub(crate) fn group_cost(graph: &Graph, group: u32) -> Option<Totals> {
     } else {
         None
     }
-}
-
-/// Whether a group has these children, in this order, and no more.
-pub(crate) fn has_children(graph: &Graph, group: u32, children: &[u32]) -> bool {
-    if !graph.has_group(GroupId(group)) {
-        return false;
-    }
-    let mut place = 0;
-    for child in children {
-        if graph.child(GroupId(group), place) != Some(MonitorId(*child)) || place == u32::MAX {
-            return false;
-        }
-        place += 1;
-    }
-    graph.child(GroupId(group), place).is_none()
 }

@@ -1,10 +1,7 @@
-//! Tests of the layers that the engine stands on: rows whose answers were worked out by hand, and
-//! tests of great size, which no clause bounds in time.
+//! A test of great size of a layer that the engine stands on: no clause bounds the time that it takes.
 #![tactic(auto)]
 
 #[cfg(test)]
 mod graphs;
 #[cfg(test)]
 mod hands;
-#[cfg(test)]
-mod journals;

@@ -1,14 +1,10 @@
-//! Tests of the readers over their public calls: whole texts from devices and to them, the tree of
-//! a text, and the archive of a tree. They stand apart, so that the readers' own crates are proved
-//! no second time with their tests.
+//! Tests of the readers over their public calls: texts from real devices and to them, the table of
+//! a text, and the first faults of texts and of archives. They stand apart, so that the readers' own
+//! crates are proved no second time with their tests.
 #![tactic(auto)]
 
 #[cfg(test)]
-mod archives;
-#[cfg(test)]
 mod devices;
-#[cfg(test)]
-mod foundations;
 #[cfg(test)]
 mod mutations;
 #[cfg(test)]

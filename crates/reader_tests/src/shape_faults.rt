@@ -2,7 +2,6 @@
 
 use fault_tables::{BAD_NUMBER, BAD_WORD, MISSING_CHILD, REPEATED_CHILD, UNKNOWN_ELEMENT};
 use std::alloc::Global;
-use std::test::Fail;
 use xhstt_shape::ShapeFault;
 use xhstt_shape::reading::archive;
 use xhstt_text::elements;
@@ -367,24 +366,30 @@ const REFUSED: &[(&[u8], u32, u64)] = &[
     ),
 ];
 
-/// The answer for a text of the grammar.
-fn fault_of(alloc: Global, text: &[u8]) -> Result<Option<ShapeFault>, Fail> {
+/// The fault of a text of the grammar.
+fn fault_of(alloc: Global, text: &[u8]) -> Option<ShapeFault> {
     let text = if text.len() < 4096 { text } else { b"" };
-    let tree = elements(alloc, text)?;
-    Ok(archive(alloc, &tree).err())
+    match elements(alloc, text) {
+        Ok(tree) => archive(alloc, &tree).err(),
+        Err(_) => None,
+    }
+}
+
+/// Whether each of these texts has this first fault.
+fn are_refused(alloc: Global, rows: &[(&[u8], u32, u64)]) -> bool {
+    for (text, kind, at) in rows {
+        let fault = ShapeFault::Bad {
+            kind: *kind,
+            at: *at,
+        };
+        if fault_of(alloc, text) != Some(fault) {
+            return false;
+        }
+    }
+    true
 }
 
 #[test]
-fn text_fault_laws(rt: HostRuntime) -> Result<(), Fail> {
-    for (text, kind, at) in REFUSED {
-        let fault = fault_of(rt.alloc(), text)?;
-        assert_eq!(rt;
-            fault,
-            Some(ShapeFault::Bad {
-                kind: *kind,
-                at: *at
-            })
-        );
-    }
-    Ok(())
+fn archives_are_refused(rt: HostRuntime) {
+    assert!(rt; are_refused(rt.alloc(), REFUSED));
 }

@@ -130,18 +130,23 @@ fn fault_of(alloc: Global, text: &[u8]) -> Option<TextFault> {
     elements(alloc, text).err()
 }
 
-#[test]
-fn text_fault_laws(rt: HostRuntime) {
-    for (text, kind, at) in REFUSED {
-        let fault = fault_of(rt.alloc(), text);
-        assert_eq!(rt;
-            fault,
-            Some(TextFault::Bad {
-                kind: *kind,
-                at: *at
-            })
-        );
+/// Whether each of these texts has this first fault.
+fn are_refused(alloc: Global, rows: &[(&[u8], u32, u64)]) -> bool {
+    for (text, kind, at) in rows {
+        let fault = TextFault::Bad {
+            kind: *kind,
+            at: *at,
+        };
+        if fault_of(alloc, text) != Some(fault) {
+            return false;
+        }
     }
+    true
+}
+
+#[test]
+fn texts_are_refused(rt: HostRuntime) {
+    assert!(rt; are_refused(rt.alloc(), REFUSED));
 }
 
 /// Whether each of these texts has a first fault of this kind, at its place.

@@ -1,2 +1,1 @@
 pub mod Matchings
-pub mod Sheets

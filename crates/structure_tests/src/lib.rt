@@ -1,9 +1,7 @@
-//! Tests of matchings, of cheapest choices and of timetables, over their public calls.
+//! Tests of the cheapest choices, and that a change of a matching looks at few of its demands, over public calls.
 #![tactic(auto)]
 
 #[cfg(test)]
 mod choices;
 #[cfg(test)]
 mod matchings;
-#[cfg(test)]
-mod sheets;
