@@ -28,7 +28,7 @@ use Rattle.khe_solution.specs.Reading.{resource_at}
 use Rattle.khe_solution.specs.Refusing.{assign_row, first_refusal, give_row, merge_row, move_row, refusal, regive_row}
 use Rattle.khe_solution.specs.Refusing.{split_row, swap_meets_row, swap_tasks_row}
 use Rattle.khe_solution.proofs.Basics.{AllPass, no_value, not-false, passed, true-false}
-use Rattle.repair_moves.specs.Items.{task_at}
+use Rattle.repair_moves.specs.Items.{is_live_at, task_at}
 use Rattle.repair_moves.specs.Moves.{choices, edit_of, is_accepted, is_choice, resource_of, task_move}
 use Rattle.repair_moves.specs.declared.parts.Part.TheVariants.{TimeMoves, SwapMoves, Cuts, Joins, TaskMoves, TradeMoves}
 use Rattle.repair_moves.specs.declared.parts.Part.TheVariants.{Gives}
@@ -111,6 +111,7 @@ pub record IsSwapMove (p : Parts) (s : List Slot) (n k : ℕ) : Type 0 where
   pub live : is_live (slot_at s n) ≡ true
   pub free : is_fixed_event p (slot_at s n).event.0 ≡ false
   pub placed : is_placed (slot_at s n) ≡ true
+  pub other : is_live (slot_at s k) ≡ true
 
 pub swap_move_is : (p : Parts) (s : List Slot) (point : Point) (n k : ℕ) → is_choice p s point SwapMoves n k ≡ true
     → IsSwapMove p s n k
@@ -118,7 +119,7 @@ unfolding is_accepted edit_of refusal
 swap_move_is p s point n k h =
     let a = passed (swap_meets_row p s (record { 0 = n }) (record { 0 = k }))
     (none_is (refusal p s (SwapMeets (record { 0 = n }) (record { 0 = k }))) h) in
-    record { live = not-false _ a.0; free = a.1.1.0; placed = not-false _ a.1.1.1.1.0 }
+    record { live = not-false _ a.0; free = a.1.1.0; placed = not-false _ a.1.1.1.1.0; other = not-false _ a.1.0 }
 
 -- a cut
 pub record IsCut (p : Parts) (s : List Slot) (n k : ℕ) : Type 0 where
@@ -193,6 +194,14 @@ trade_move_is p s point n k h =
     (none_is (refusal p s (SwapTasks (task_at p n) (task_at p k))) h) in
     record { there = not-false _ a.0; free = a.1.1.0; given = a.1.1.1.1.0 }
 
+trade_other : (p : Parts) (s : List Slot) (point : Point) (n k : ℕ) → is_choice p s point TradeMoves n k ≡ true
+    → has_place (slot_at s (task_at p k).meet.0) (task_at p k).place ≡ true
+unfolding is_accepted edit_of refusal
+trade_other p s point n k h =
+    let a = passed (swap_tasks_row p s (task_at p n) (task_at p k))
+    (none_is (refusal p s (SwapTasks (task_at p n) (task_at p k))) h) in
+    not-false _ a.1.0
+
 -- why a choice is no move
 pub time_dead : (p : Parts) (s : List Slot) (point : Point) (n k : ℕ) → is_live (slot_at s n) ≡ false
     → is_choice p s point TimeMoves n k ≡ false
@@ -209,6 +218,10 @@ time_start p s point n k h = false_unless _ (λ t. true-false (sym h ∙ (time_m
 pub swap_dead : (p : Parts) (s : List Slot) (point : Point) (n k : ℕ) → is_live (slot_at s n) ≡ false
     → is_choice p s point SwapMoves n k ≡ false
 swap_dead p s point n k h = false_unless _ (λ t. true-false (sym (swap_move_is p s point n k t).live ∙ h))
+
+pub swap_apart : (p : Parts) (s : List Slot) (point : Point) (n k : ℕ) → is_live (slot_at s k) ≡ false
+    → is_choice p s point SwapMoves n k ≡ false
+swap_apart p s point n k h = false_unless _ (λ t. true-false (sym (swap_move_is p s point n k t).other ∙ h))
 
 pub swap_fixed : (p : Parts) (s : List Slot) (point : Point) (n k : ℕ) → is_fixed_event p (slot_at s n).event.0 ≡ true
     → is_choice p s point SwapMoves n k ≡ false
@@ -258,6 +271,18 @@ pub join_dead : (p : Parts) (s : List Slot) (point : Point) (n k : ℕ) → AreW
     → is_live (slot_at s n) ≡ false → is_choice p s point Joins n k ≡ false
 join_dead p s point n k made told h = false_unless _ (λ t. true-false (sym (join_is p s point n k made told t).0 ∙ h))
 
+join_second : (p : Parts) (s : List Slot) (point : Point) (n k : ℕ) → is_choice p s point Joins n k ≡ true
+    → is_live (slot_at s k) ≡ true
+unfolding is_accepted edit_of refusal
+join_second p s point n k h =
+    let a = passed (merge_row s (record { 0 = n }) (record { 0 = k }))
+    (none_is (refusal p s (Merge (record { 0 = n }) (record { 0 = k }))) h) in
+    not-false _ a.1.0
+
+pub join_apart : (p : Parts) (s : List Slot) (point : Point) (n k : ℕ) → is_live (slot_at s k) ≡ false
+    → is_choice p s point Joins n k ≡ false
+join_apart p s point n k h = false_unless _ (λ t. true-false (sym (join_second p s point n k t) ∙ h))
+
 -- a meet of another event is none to be joined
 pub join_outside : (p : Parts) (s : List Slot) (point : Point) (n k : ℕ) (event : EventInfo) → AreWellMade p
     → AreTold p s → slice_get p.events (slot_at s n).event.0 ≡ Some event
@@ -282,6 +307,12 @@ pub trade_dead : (p : Parts) (s : List Slot) (point : Point) (n k : ℕ)
 trade_dead p s point n k h = false_unless _ (λ t. true-false
     (sym (place_there (slot_at s (task_at p n).meet.0) (task_at p n).place (trade_move_is p s point n k t).there).0
     ∙ h))
+
+pub trade_apart : (p : Parts) (s : List Slot) (point : Point) (n k : ℕ) → is_live_at p s k ≡ false
+    → is_choice p s point TradeMoves n k ≡ false
+unfolding is_live_at
+trade_apart p s point n k h = false_unless _ (λ t. true-false
+    (sym (place_there (slot_at s (task_at p k).meet.0) (task_at p k).place (trade_other p s point n k t)).0 ∙ h))
 
 pub none_unless : {A : Type 0} (o : Option A) → is_some o ≡ false → is_none o ≡ true
 none_unless None h = refl

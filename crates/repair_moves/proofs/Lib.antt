@@ -1,5 +1,6 @@
 pub mod ChoiceLaws
 pub mod ItemLaws
+pub mod LiveTasks
 pub mod ListLaws
 pub mod PickedLaws
 pub mod SlotLaws

@@ -72,6 +72,10 @@ abbrev pub may_be_given : Parts → Point → Slot → ℕ → Bool
 may_be_given p (Resource r) x k = has_type p r.0 (place_at p.events x.event.0 k)
 may_be_given p _ x k = false
 
+-- whether the meet of a task slot is live
+unfoldable pub is_live_at : Parts → List Slot → ℕ → Bool
+is_live_at p s n = is_live (slot_at s (task_at p n).meet.0)
+
 unfoldable pub is_free_at : Parts → List Slot → ℕ → Bool
 is_free_at p s n = has_task s None (task_at p n)
 

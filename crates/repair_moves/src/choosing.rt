@@ -8,6 +8,7 @@ ghost use Rattle.repair_moves.specs.Moves.{choices, edit_of, is_choice, resource
 ghost use Rattle.repair_moves.specs.Picked.{IsFirst};
 ghost use Rattle.repair_moves.specs.declared.parts.Part.TheVariants as kinds;
 
+use crate::items::next_live_task;
 use crate::parts::Part;
 use crate::reads::{
     accepts, facts, has_type, is_fixed_event, is_fixed_place, live, resource_at, task_at,
@@ -126,7 +127,7 @@ fn next_time(
 }
 
 /// The first meet from a slot on with which a meet can exchange its start. It takes the time of the
-/// slots that it goes over.
+/// live meets that it goes over.
 fn next_swap(
     inst: &Instance,
     solution: &Solution<'_>,
@@ -138,6 +139,7 @@ fn next_swap(
     ensures next { IsFirst (is_choice inst.now solution.now.slots point kinds.SwapMoves item) from (meet_slots inst.now) result }
     ensures small { IfSome result (λ k. k + 1 < 2 ^ 32) }
 {
+    facts(inst, solution);
     let own = live(solution, item)?;
     if is_fixed_event(inst, own.event) {
         return None;
@@ -145,14 +147,16 @@ fn next_swap(
     if own.start.is_none() {
         return None;
     }
-    for other in from..inst.meet_slots() {
+    let mut next = MeetId(from);
+    while let Some(other) = solution.next_meet(next) {
         let edit = Edit::SwapMeets {
             a: MeetId(item),
-            b: MeetId(other),
+            b: other,
         };
         if accepts(inst, solution, edit) {
-            return Some(other);
+            return Some(other.0);
         }
+        next = MeetId(other.0 + 1);
     }
     None
 }
@@ -177,7 +181,7 @@ fn next_cut(
     if from < end { Some(from) } else { None }
 }
 
-/// The first meet from a slot on with which a meet can be joined. It takes the time of the slots of
+/// The first meet from a slot on with which a meet can be joined. It takes the time of the live meets of
 /// the meet's event.
 fn next_join(
     inst: &Instance,
@@ -193,14 +197,20 @@ fn next_join(
     facts(inst, solution);
     let own = live(solution, item)?;
     let event = inst.event(own.event);
-    for other in from.max(event.first_meet)..event.first_meet + event.duration {
+    let end = event.first_meet + event.duration;
+    let mut next = MeetId(from.max(event.first_meet));
+    while let Some(other) = solution.next_meet(next) {
+        if other.0 >= end {
+            return None;
+        }
         let edit = Edit::Merge {
             first: MeetId(item),
-            second: MeetId(other),
+            second: other,
         };
         if accepts(inst, solution, edit) {
-            return Some(other);
+            return Some(other.0);
         }
+        next = MeetId(other.0 + 1);
     }
     None
 }
@@ -237,7 +247,7 @@ fn next_resource(
 }
 
 /// The first task from a task slot on with which a task can exchange its resource. It takes the time
-/// of the task slots that it goes over.
+/// of the tasks of live meets that it goes over.
 fn next_trade(
     inst: &Instance,
     solution: &Solution<'_>,
@@ -249,6 +259,7 @@ fn next_trade(
     ensures next { IsFirst (is_choice inst.now solution.now.slots point kinds.TradeMoves item) from (task_slots inst.now) result }
     ensures small { IfSome result (λ k. k + 1 < 2 ^ 32) }
 {
+    facts(inst, solution);
     let task = task_at(inst, item);
     let own = live(solution, task.meet.0)?;
     if is_fixed_place(inst, own.event, task.place) {
@@ -257,7 +268,8 @@ fn next_trade(
     if resource_at(inst, solution, task).is_none() {
         return None;
     }
-    for other in from..inst.task_slots() {
+    let mut next = from;
+    while let Some(other) = next_live_task(inst, solution, next) {
         let edit = Edit::SwapTasks {
             a: task,
             b: task_at(inst, other),
@@ -265,6 +277,7 @@ fn next_trade(
         if accepts(inst, solution, edit) {
             return Some(other);
         }
+        next = other + 1;
     }
     None
 }

@@ -5,7 +5,7 @@ ghost use Rattle.khe_instance.specs.Watching.{names_event, pair_names};
 ghost use Rattle.khe_solution.specs.Reading.{has_type};
 ghost use Rattle.khe_instance.specs.Lookups.{place_at, role_at};
 ghost use Rattle.khe_told.specs.Slots.{slot_at, is_live};
-ghost use Rattle.repair_moves.specs.Items.{is_free_at, is_item, is_meet_at, is_open_at, is_task_at, is_task_in, is_task_of, item_slots, may_be_given, meet_slots, task_slots, wants_role};
+ghost use Rattle.repair_moves.specs.Items.{is_free_at, is_item, is_live_at, is_meet_at, is_open_at, is_task_at, is_task_in, is_task_of, item_slots, may_be_given, meet_slots, task_slots, wants_role};
 ghost use Rattle.khe_instance.specs.Slots.{first_task};
 ghost use Rattle.repair_moves.specs.Named.{AreSlotsOf, AreWithin, NamesItsTasks, is_named, pair_at};
 ghost use Rattle.repair_moves.specs.Picked.{IsFirst};
@@ -324,6 +324,26 @@ fn next_slot(
     }
     let task = next_task(inst, solution, rule, point, task_at(inst, from))?;
     Some(number_of(inst, task))
+}
+
+/// The first task slot from one on whose meet is live. It goes over the live meets alone.
+pub(crate) fn next_live_task(inst: &Instance, solution: &Solution<'_>, from: u32) -> Option<u32>
+    requires { solution.now.parts ≡ inst.now }
+    ensures { IsFirst (is_live_at inst.now solution.now.slots) from (task_slots inst.now) result }
+{
+    facts(inst, solution);
+    let mut slot = from;
+    while slot < inst.task_slots() {
+        let task = task_at(inst, slot);
+        let Some(next) = solution.next_meet(task.meet) else {
+            return None;
+        };
+        if next.0 == task.meet.0 {
+            return Some(slot);
+        }
+        slot = inst.first_task(next);
+    }
+    None
 }
 
 /// The first task slot from one on whose task has no resource.

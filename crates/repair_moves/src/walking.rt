@@ -127,9 +127,9 @@ pub fn moves(inst: &Instance, solution: &Solution<'_>, monitor: MonitorId) -> Cu
 /// after edits that were undone. A call takes the time of the choices that it goes over. A time at
 /// which a meet would end too late, a cut, a meet of another event than the one to be joined, and all
 /// choices of a meet or task that is preassigned are gone past at once; the tasks of a resource and
-/// those without one are found by words of 64. Meets to swap with, resources and tasks to trade with
-/// are looked at one by one, each resource of another type in constant time, and of an event group's
-/// meets as many events as lie between.
+/// those without one are found by words of 64, and so are live meets. Live meets to swap with, resources
+/// and tasks of live meets to trade with are looked at one by one, each resource of another type in
+/// constant time, and of an event group's meets as many events as lie between.
 pub fn next_move(inst: &Instance, solution: &Solution<'_>, cursor: &mut Cursor) -> Option<Edit>
     requires of { solution.now.parts ≡ inst.now }
     requires cursor { IsCursor inst.now cursor.old }

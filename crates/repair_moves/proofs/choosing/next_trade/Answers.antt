@@ -28,30 +28,52 @@ returns-then-is_none-clause-next c = λ k a b. laws.trade_bare c.args.inst.now c
 
 pub returns-then-accepts-clause-next : goal.returns-then-accepts-clause-next
 returns-then-accepts-clause-next c =
-    let l = c.loop-other-test.true in
-    let many = c.task_slots-other-end.ensures in (
-      c.loop-other.invariant.onward,
-      omega arith,
-      laws.TradeMoves_is c.args.inst.now c.args.solution.now.slots
-          c.args.point c.args.item c.loop-other.other ∙ (λ i. is_accepted c.args.inst.now c.args.solution.now.slots
-          (SwapTasks (sym c.task_at-task.ensures i) (sym c.task_at.ensures i))) ∙ sym c.accepts.ensures
-          ∙ c.if-accepts.true,
-      c.loop-other.invariant.none,
+    let p = c.args.inst.now in
+    let s = c.args.solution.now.slots in
+    let e = c.in-Some.ensures in
+    let o = c.loop-other.invariant.onward in
+    let f = e.0 in (
+      omega (arith, o, f),
+      e.1,
+      laws.TradeMoves_is p s c.args.point c.args.item c.in-Some.other
+          ∙ (λ i. is_accepted p s (SwapTasks (sym c.task_at-task.ensures i) (sym c.task_at.ensures i)))
+          ∙ sym c.accepts.ensures ∙ c.if-accepts.true,
+      none_on (is_choice p s c.args.point TradeMoves c.args.item) c.args.from c.loop-other.next c.in-Some.other
+          c.loop-other.invariant.none (λ k a b. laws.trade_apart p s c.args.point c.args.item k (e.3 k a b)),
     )
 
+pub returns-then-accepts-clause-small : goal.returns-then-accepts-clause-small
+returns-then-accepts-clause-small c =
+    let l = c.in-Some.ensures.1 in let limit = c.facts.ensures.made.limits.tasks in omega (arith, l, limit)
+
+pub overflow_add-next : goal.overflow_add-next
+overflow_add-next c =
+    let l = c.in-Some.ensures.1 in let limit = c.facts.ensures.made.limits.tasks in omega (arith, l, limit)
+
 pub loop-other-preserved : goal.loop-other-preserved
-loop-other-preserved c = record {
-  onward = let o = c.loop-other.invariant.onward in omega (arith, o);
-  none = none_more (is_choice c.args.inst.now c.args.solution.now.slots c.args.point TradeMoves c.args.item) c.args.from
-      c.loop-other.other c.loop-other.invariant.none
-      (laws.TradeMoves_is c.args.inst.now c.args.solution.now.slots c.args.point c.args.item c.loop-other.other
-      ∙ (λ i. is_accepted c.args.inst.now c.args.solution.now.slots
-      (SwapTasks (sym c.task_at-task.ensures i) (sym c.task_at.ensures i))) ∙ sym c.accepts.ensures
-      ∙ c.if-accepts.false);
-}
+loop-other-preserved c =
+    let p = c.args.inst.now in
+    let s = c.args.solution.now.slots in
+    let test = is_choice p s c.args.point TradeMoves c.args.item in
+    let e = c.in-Some.ensures in
+    let o = c.loop-other.invariant.onward in
+    let f = e.0 in
+    record {
+      onward = omega (arith, o, f);
+      none = none_more test c.args.from c.in-Some.other
+          (none_on test c.args.from c.loop-other.next c.in-Some.other c.loop-other.invariant.none
+          (λ k a b. laws.trade_apart p s c.args.point c.args.item k (e.3 k a b)))
+          (laws.TradeMoves_is p s c.args.point c.args.item c.in-Some.other
+          ∙ (λ i. is_accepted p s (SwapTasks (sym c.task_at-task.ensures i) (sym c.task_at.ensures i)))
+          ∙ sym c.accepts.ensures ∙ c.if-accepts.false);
+    }
+
+pub loop-other-smaller : goal.loop-other-smaller
+loop-other-smaller c = let e = c.in-Some.ensures in let f = e.0 in let l = e.1 in omega (arith, f, l)
 
 pub returns-clause-next : goal.returns-clause-next
 returns-clause-next c =
     none_on (is_choice c.args.inst.now c.args.solution.now.slots c.args.point TradeMoves c.args.item) c.args.from
-    c.loop-other.other (task_slots c.args.inst.now) c.loop-other.invariant.none
-    (λ k a b. absurd (let l = c.loop-other-test.false in let many = c.task_slots-other-end.ensures in omega arith))
+    c.loop-other.next (task_slots c.args.inst.now) c.loop-other.invariant.none
+    (λ k a b. laws.trade_apart c.args.inst.now c.args.solution.now.slots c.args.point c.args.item k
+    (c.in_default.ensures k a b))
