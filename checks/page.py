@@ -161,6 +161,9 @@ def check_looks(driver):
     driver.execute_cdp_cmd('Emulation.setDeviceMetricsOverride', {'width': 390, 'height': 844, 'deviceScaleFactor': 1, 'mobile': True})
     width = driver.execute_script('return document.documentElement.scrollWidth')
     wants(width <= 390, f'a phone has to scroll sideways: {width}')
+    wide = driver.execute_script(
+        'return Array.from(document.querySelectorAll("table.costs")).map(t => t.parentElement.scrollWidth)')
+    wants(all(width <= 390 for width in wide), f'costs are out of sight on a phone: {wide}')
     if folder:
         picture(driver, 'page_phone')
     driver.execute_cdp_cmd('Emulation.clearDeviceMetricsOverride', {})

@@ -195,7 +195,7 @@ fn push_defect(
     push_counted(page, phrase(monitor.kind), u128::from(defect.deviation), "")?;
     if has_cells(monitor.kind) {
         if let Point::Resource(resource) = monitor.point {
-            page.push_literal(":")?;
+            page.push_literal(", at")?;
             push_cells(alloc, page, view, monitor.kind, resource.0)?;
         }
     }

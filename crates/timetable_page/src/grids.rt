@@ -9,6 +9,10 @@ use crate::view::View;
 use khe_base::{MonitorId, NoMemory, ResourceId, Seq, Text};
 use std::alloc::Global;
 
+/// What the marks of cells mean, above the timetables of a solution.
+const LEGEND: &str = "<p class=\"legend\">Marks: <b>clash</b>, more than one meet at the time; <b>unavailable</b>, a \
+meet at a time to be kept free; <b>idle</b>, a gap between meets; <b>off</b>, a time to be kept free.</p>\n";
+
 /// Adds one meet of a cell: its event, and the other resources that it is given.
 fn push_meet(page: &mut Text, view: &View<'_>, resource: u32, meet: u32) -> Result<(), NoMemory> {
     let Some(held) = view.plain.meets.as_slice().get(meet as usize) else {
@@ -75,7 +79,7 @@ fn push_cell_head(
         return push_marked(page, view, resource, time, "idle", "idle");
     }
     if closed {
-        return page.push_literal("<td class=\"off\">free");
+        return page.push_literal("<td class=\"off\">off");
     }
     page.push_literal("<td>")
 }
@@ -241,6 +245,7 @@ pub(crate) fn push_grids(
     deviations: &[u64],
 ) -> Result<(), NoMemory> {
     page.push_literal("<details open><summary>Timetables</summary>\n")?;
+    page.push_str(LEGEND)?;
     for rtype in 0..view.inst.types() {
         push_type(alloc, page, view, rtype, deviations)?;
     }

@@ -44,6 +44,12 @@ search{display:block;margin:.8rem 0}label{display:block}
 input{font:inherit;width:100%;max-width:28rem;padding:.35rem .5rem;color:inherit;background:var(--band);
 border:1px solid var(--line);border-radius:.3rem}
 #found{list-style:none;margin:.3rem 0;padding:0;columns:18rem}
+.legend{color:var(--soft);margin:.4rem 0}
+@media screen and (max-width:40rem){th,td{padding:.15rem .25rem}.costs{font-size:.7rem;width:100%}
+.costs th,.costs td,.grid td{overflow-wrap:anywhere}.costs thead th{overflow-wrap:normal}
+.costs td:first-child:not([colspan]){min-width:5rem}.why ul{padding-left:1rem}.costs .why{font-size:.85rem}
+.grid td{font-size:.75rem}.grid th[scope=col]{width:auto;min-width:3.9rem;font-size:.8rem}
+.grid th[scope=row],.grid thead td{width:1.5rem;min-width:1.5rem}}
 :focus-visible{outline:3px solid var(--link);outline-offset:2px}
 :target{outline:3px solid var(--link);outline-offset:1px}
 @media print{body{max-width:none;padding:0;font-size:9pt}search,noscript{display:none}a{color:inherit;

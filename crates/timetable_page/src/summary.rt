@@ -242,7 +242,9 @@ pub(crate) fn push_summary(
     page: &mut Text,
     results: &Results<'_>,
 ) -> Result<(), NoMemory> {
-    page.push_literal("<section id=\"summary\"><h2>Summary</h2><div class=\"wide\">\n")?;
+    page.push_literal("<section id=\"summary\"><h2>Summary</h2>\n")?;
+    page.push_literal("<p>Lower costs are better, and hard ones count before soft ones.</p>\n")?;
+    page.push_literal("<div class=\"wide\">\n")?;
     let instances = results.archive.instances.len();
     let groups = results.archive.solution_groups.len();
     if instances.saturating_mul(groups) > CELLS {
