@@ -16,7 +16,7 @@ made=${1:-$work/made}
 program=$made/crates/bench/out/bench
 
 make_program() {
-  copy_program "$made" families khe_base khe_io khe_instance xhstt_text xhstt_shape xhstt_resolve khe_told family_keepers resource_monitors workload_monitors family_tests
+  copy_program "$made" families khe_base khe_io khe_instance xhstt_text xhstt_shape xhstt_resolve khe_told family_keepers resource_monitors family_tests
   mkdir -p "$made/crates/bench/data"
   cp "$work"/*.xml "$made/crates/bench/data/"
   run_program "$made" data/week.xml

@@ -1,4 +1,4 @@
-"""Writes crates/reader_tests/src/mutations.rt: texts with the place of their first fault, by its kind.
+"""Writes crates/text_tests/src/mutations.rt: texts with the place of their first fault, by its kind.
 
 The faults come from the reference implementation, which stands outside of this repository: run
 

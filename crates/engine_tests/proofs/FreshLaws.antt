@@ -1,7 +1,7 @@
 -- One line more.
 use Rattle.std.proofs.Common.{◌<◌, ◌≤◌, List, [], ◌∷◌, ◌++◌, length, length-append, arith}
 use Rattle.std.proofs.lemmas.List.Elements.{All-push}
-use Rattle.engine_tests.specs.Hands.{AreFresh}
+use Rattle.engine_tests.specs.HandGraphs.{AreFresh}
 use Rattle.khe_base.specs.declared.limits.TheConstants.{MONITORS}
 use Rattle.monitor_graph.specs.Opened.{IsFresh}
 use Rattle.monitor_graph.specs.declared.lines.Line.{Line}

@@ -1,1 +1,4 @@
 pub mod FreshLaws
+pub mod MatchingLemmas
+pub mod PlaceLaws
+pub mod SameLaws

@@ -1,6 +1,6 @@
 //! Defects far apart among many monitors.
 
-use crate::hands::{edit, graph_of, group_cost, set_each};
+use crate::hand_graphs::{edit, graph_of, group_cost, set_each};
 use khe_base::{GroupId, MonitorId, NoMemory, Totals};
 use khe_told::Edit;
 use monitor_graph::Graph;

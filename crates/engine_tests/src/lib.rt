@@ -1,7 +1,30 @@
-//! A test of great size of a layer that the engine stands on: no clause bounds the time that it takes.
+//! Tests of the layers that the engine stands on: of matchings, cheapest choices and timetables; rows whose
+//! answers were worked out by hand, and tests of great size, which no clause bounds in time; and edits of a
+//! timetable, where each step of a list is checked, made, undone and made again, and what was noted and
+//! what stands is compared with what was worked out by hand.
 #![tactic(auto)]
 
 #[cfg(test)]
+mod archives;
+#[cfg(test)]
+mod choices;
+#[cfg(test)]
 mod graphs;
 #[cfg(test)]
-mod hands;
+mod hand_graphs;
+#[cfg(test)]
+mod matchings;
+#[cfg(test)]
+mod moves;
+#[cfg(test)]
+mod numbers;
+#[cfg(test)]
+mod plays;
+#[cfg(test)]
+mod rows;
+#[cfg(test)]
+mod sights;
+#[cfg(test)]
+mod watched_solutions;
+#[cfg(test)]
+mod worked;

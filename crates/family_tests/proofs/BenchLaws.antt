@@ -24,7 +24,7 @@ use Rattle.khe_told.specs.declared.changes.Change.TheVariants.{Add, Drop, Place 
 use Rattle.khe_told.specs.declared.slots.Slot.{Slot}
 use Rattle.khe_told.proofs.FrameLaws.{IsFrame, frames}
 use Rattle.khe_told.proofs.FreeSlots.{none_held, told_opened}
-use Rattle.workload_monitors.proofs.LoadLaws.{lowered, raised}
+use Rattle.resource_monitors.proofs.LoadLaws.{lowered, raised}
 use Rattle.family_tests.specs.Benches.{AreHeld, IsBench, IsSetFor}
 use Rattle.resource_monitors.proofs.OpenLaws.{none_row}
 

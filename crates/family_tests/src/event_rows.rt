@@ -2,8 +2,7 @@
 
 use crate::moves::{Move, Row, holds};
 use event_monitors::SplitEvents;
-use link_monitors::LinkEvents;
-use order_monitors::OrderEvents;
+use set_monitors::{LinkEvents, OrderEvents};
 use std::test::Fail;
 
 const FIVE_TIMES: &str = r#"<Event Id="E"><Duration>5</Duration></Event>"#;

@@ -9,16 +9,14 @@ use event_monitors::{
 };
 use khe_base::NoMemory;
 use khe_told::{Change, Family};
-use link_monitors::LinkEvents;
-use order_monitors::OrderEvents;
 use resource_monitors::{
     AvoidClashes, AvoidUnavailableTimes, ClusterBusyTimes, LimitBusyTimes, LimitIdleTimes,
+    LimitWorkload,
 };
-use set_monitors::{AvoidSplitAssignments, SpreadEvents};
+use set_monitors::{AvoidSplitAssignments, LinkEvents, OrderEvents, SpreadEvents};
 use sixteen_families::Families;
 use std::alloc::Global;
 use std::test::Fail;
-use workload_monitors::LimitWorkload;
 use xhstt_resolve::Resolved;
 
 /// The meets.

@@ -6,10 +6,9 @@ use crate::moves::{Move, Row, holds, stands_at};
 use khe_base::NoMemory;
 use khe_instance::Instance;
 use khe_told::Family;
-use resource_monitors::{AvoidClashes, LimitBusyTimes, LimitIdleTimes};
+use resource_monitors::{AvoidClashes, LimitBusyTimes, LimitIdleTimes, LimitWorkload};
 use std::alloc::Global;
 use std::test::Fail;
-use workload_monitors::LimitWorkload;
 use xhstt_resolve::Resolved;
 
 const THREE_TIMES: &str = r#"<Event Id="E"><Duration>3</Duration><Workload>4</Workload>

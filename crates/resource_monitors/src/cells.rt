@@ -10,13 +10,13 @@ ghost use Rattle.resource_monitors.specs.Cells.{HasRows};
 ghost use Rattle.resource_monitors.specs.Posts.{AreLists};
 ghost use Rattle.resource_monitors.specs.Sets.{room_for};
 
+use crate::cell_values::value;
 use crate::kinds::CellKinds;
 use crate::places::follow_all;
 use crate::posts::{Post, lists_of};
 use crate::rooms::TimeSets;
 use crate::runs::run_of;
 use crate::tables::CellTable;
-use crate::values::value;
 use family_keepers::Keeper;
 use khe_base::{MonitorId, NoMemory, Seq};
 use khe_instance::{Instance, Kind};

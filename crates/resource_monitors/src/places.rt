@@ -11,13 +11,13 @@ ghost use Rattle.resource_monitors.specs.Runs.{AreAtEither, AreAtMoved, AreAtRun
 ghost use Rattle.resource_monitors.specs.Sets.{room_for};
 ghost use Rattle.resource_monitors.specs.declared.runs.Run.{Run};
 
+use crate::cell_turns::turn_place;
+use crate::cell_waits::add_place;
 use crate::kinds::CellKinds;
 use crate::posts::Post;
 use crate::rooms::TimeSets;
 use crate::runs::{Run, limit_for};
 use crate::tables::CellTable;
-use crate::turns::turn_place;
-use crate::waits::add_place;
 use khe_base::{ResourceId, Seq};
 use khe_instance::Instance;
 use khe_told::Waits;

@@ -1,4 +1,13 @@
+pub mod BetweenLaws
 pub mod CandidateLaws
+pub mod EventRankLaws
 pub mod HolderLaws
 pub mod HolderTurns
+pub mod LinkCountLaws
+pub mod LinkTurnLaws
+pub mod OrderPairLaws
+pub mod OrderTurnLaws
+pub mod OrderWaitLaws
+pub mod OwnSlotLaws
 pub mod SpreadLaws
+pub mod TreeLaws

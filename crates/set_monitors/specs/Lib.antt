@@ -1,4 +1,14 @@
 pub mod AvoidSplitAssignments
 pub mod Candidates
+pub mod LeastTrees
+pub mod LinkCounts
+pub mod LinkElsewhereLaws
+pub mod LinkExactLaws
+pub mod LinkRuns
+pub mod Links
+pub mod MeetEdges
+pub mod MemberLaws
 pub mod NamedSums
+pub mod OrderPairs
+pub mod OrderWaits
 pub mod SpreadEvents

@@ -8,11 +8,9 @@ use family_keepers::{Keeping, TwoKeepers};
 use khe_base::NoMemory;
 use khe_instance::Instance;
 use khe_told::Family;
-use link_monitors::Links;
-use order_monitors::OrderEdges;
-use set_monitors::{Holders, Starts};
+use resource_monitors::ResourceKeepers;
+use set_monitors::{Holders, Links, OrderEdges, Starts};
 use std::alloc::Global;
-use workload_monitors::ResourceKeepers;
 
 /// The kinds that only a change of a duration may change.
 type OfDurations = Counted<OneOf<Split, Sum<OfDuration>>>;

@@ -1,5 +1,0 @@
--- The step goes to the ledger of the blank.
-use Rattle.engine_tests.proofs.hands.set.Given as goal
-
-abbrev pub ghosts-set_counting : goal.ghosts-set_counting
-ghosts-set_counting a = record { name = a.blank.name; parts = a.blank.parts }

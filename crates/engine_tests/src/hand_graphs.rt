@@ -1,0 +1,104 @@
+//! A graph by hand: calls that look first whether they may be made.
+
+ghost use Rattle.std.specs.Prelude.{◌≡◌, ◌<◌, IfOk};
+ghost use Rattle.engine_tests.specs.HandGraphs.{AreFresh};
+ghost use Rattle.monitor_graph.specs.Edits.{is_of_groups};
+
+use khe_base::limits::{GREATEST_DEVIATION, MONITORS, WEIGHT};
+use khe_base::{CostFn, GroupId, MonitorId, NoMemory, Totals};
+use khe_told::{Blank, Edit, Refusal, Steps};
+use monitor_graph::{Graph, Line};
+use std::alloc::Global;
+use std::marker::Brand;
+use std::sync::ledger::Ledger;
+
+/// The weights of monitors, and which of them are hard.
+pub(crate) type Row = (u32, bool);
+
+/// So many times the lines of these rows, attached, as far as they are within the limits.
+#[tactic(auto, using(crate::proofs::FreshLaws::fresh_push))]
+pub(crate) fn lines_of(alloc: Global, rows: &[Row], times: u32) -> Result<Vec<Line>, NoMemory>
+    ensures { IfOk result (λ lines. AreFresh lines.items) }
+{
+    let mut lines = Vec::new(alloc);
+    'times: for _ in 0..times {
+        for (weight, required) in rows {
+            if lines.len() < MONITORS as usize && *weight <= WEIGHT {
+                lines.push(Line {
+                    function: CostFn::Linear,
+                    weight: *weight,
+                    required: *required,
+                    attached: true,
+                    deviation: 0,
+                })?;
+            }
+        }
+    }
+    Ok(lines)
+}
+
+/// A graph of such lines.
+pub(crate) fn graph_of(alloc: Global, rows: &[Row], times: u32) -> Result<Graph, NoMemory> {
+    Graph::of_lines(alloc, lines_of(alloc, rows, times)?)
+}
+
+/// Sets one deviation, where there is such a monitor.
+fn set(graph: &mut Graph, monitor: u32, deviation: u64) {
+    set_counting::<Brand>(graph, monitor, deviation, Blank::new(1));
+}
+
+/// The same, with its step in a ledger.
+fn set_counting<L: Ledger>(graph: &mut Graph, monitor: u32, deviation: u64, blank: Blank)
+    requires name { blank.name ≡ L.name }
+    requires parts { blank.parts ≡ L.parts }
+    requires some { 0 < blank.parts }
+{
+    let mut steps = Steps::<L>::new(blank);
+    if monitor < graph.monitors() && deviation <= GREATEST_DEVIATION {
+        graph.set(MonitorId(monitor), deviation, &mut steps);
+    }
+}
+
+/// Sets the deviations of these monitors.
+pub(crate) fn set_each(graph: &mut Graph, monitors: &[u32], deviation: u64) {
+    for monitor in monitors {
+        set(graph, *monitor, deviation);
+    }
+}
+
+/// Whether an edit is one of monitors and groups.
+fn is_of_groups(edit: &Edit) -> bool
+    ensures { result ≡ is_of_groups edit.now }
+{
+    match *edit {
+        Edit::Attach { .. } => true,
+        Edit::Detach { .. } => true,
+        Edit::MakeGroup => true,
+        Edit::DropGroup { .. } => true,
+        Edit::AddChild { .. } => true,
+        Edit::RemoveChild { .. } => true,
+        _ => false,
+    }
+}
+
+/// Makes an edit of monitors and groups, with a seat for a child.
+pub(crate) fn edit(
+    graph: &mut Graph,
+    edit: Edit,
+) -> Result<Result<Option<u32>, Refusal>, NoMemory> {
+    graph.room(1)?;
+    if is_of_groups(&edit) {
+        Ok(graph.edit(edit))
+    } else {
+        Ok(Err(Refusal::Same))
+    }
+}
+
+/// What a group costs.
+pub(crate) fn group_cost(graph: &Graph, group: u32) -> Option<Totals> {
+    if graph.has_group(GroupId(group)) {
+        Some(graph.group_cost(GroupId(group)))
+    } else {
+        None
+    }
+}

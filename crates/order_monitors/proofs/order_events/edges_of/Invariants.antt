@@ -1,5 +1,0 @@
-use Rattle.order_monitors.proofs.TurnLaws.{AreOpened}
-use Rattle.order_monitors.proofs.order_events.edges_of.Given as goal
-
-abbrev pub invariant-loop-i : goal.invariant-loop-i
-invariant-loop-i l = AreOpened l.inst l.lists l.edges.items l.i

@@ -1,6 +1,0 @@
-use Rattle.order_monitors.specs.Pairs.{is_order}
-use Rattle.event_monitors.proofs.PostLaws.{AreServed}
-use Rattle.order_monitors.proofs.posts.posts_of.Given as goal
-
-abbrev pub invariant-loop-i : goal.invariant-loop-i
-invariant-loop-i l = AreServed l.inst is_order l.i l.posts

@@ -1,4 +1,0 @@
-pub mod Edges
-pub mod Pairs
-pub mod Trees
-pub mod Waits

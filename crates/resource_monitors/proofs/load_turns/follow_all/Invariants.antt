@@ -1,0 +1,17 @@
+use Rattle.std.proofs.Common.{◌≡◌, length, take, true}
+use Rattle.khe_told.specs.Waits.{WaitOn}
+use Rattle.resource_monitors.specs.Loads.{AreAllExchanged, AreMeasuredSame, AreOnMoved}
+use Rattle.resource_monitors.proofs.load_turns.follow_all.Given as goal
+
+abbrev pub invariant-loop-number : goal.invariant-loop-number
+invariant-loop-number g l =
+    record {
+      resources : length l.loads.items ≡ length l.fn.loads.items;
+      exchanged : AreAllExchanged l.inst l.event l.less l.more (take l.number l.before) (take l.number l.later)
+          l.fn.loads.items l.loads.items;
+      same : g.W.Waits.monitors l.waits ≡ g.W.Waits.monitors l.fn.waits;
+      unmoved : g.W.Waits.hears ≡ true → AreMeasuredSame l.inst (g.W.Waits.waits l.waits) l.fn.loads.items
+          l.loads.items;
+      kept : WaitOn (g.W.Waits.waits l.fn.waits) (g.W.Waits.waits l.waits);
+      listed : AreOnMoved l.inst l.less l.more l.before l.later (g.W.Waits.waits l.fn.waits) (g.W.Waits.waits l.waits);
+    }

@@ -1,0 +1,157 @@
+//! Raising and lowering workloads where a slot becomes another.
+
+ghost use Rattle.std.specs.Prelude.{◌≡◌, ◌<◌, true, false, length, Some};
+ghost use Rattle.khe_base.specs.declared.numbers.ResourceId.{ResourceId};
+ghost use Rattle.khe_told.specs.Turns.{AreWatchers, IsTurn, turned};
+ghost use Rattle.khe_told.specs.Waits.{AreUnmoved, WaitOn};
+ghost use Rattle.resource_monitors.specs.Posts.{AreLists};
+ghost use Rattle.resource_monitors.specs.Loads.{AreAllExchanged, AreExchanged, AreMeasuredSame, AreOnEither, AreOnLoad, AreOnMoved, CanExchange, CanTurn, HasLoads, Turned, is_on_workload, worth_at};
+
+use crate::load_waits::add_all;
+use crate::loads::{length_of, turn_load, worth_of};
+use crate::posts::Post;
+use khe_base::{EventId, ResourceId, Seq};
+use khe_instance::Instance;
+use khe_told::{Told, Turn, Waits};
+
+/// Raises the workload of the resource that a place is given, or lowers it, and lets the monitors on it wait.
+fn follow_place<W: Waits>(
+    inst: &Instance,
+    lists: &[Seq<Post>],
+    event: EventId,
+    duration: u32,
+    number: usize,
+    place: Option<ResourceId>,
+    rises: bool,
+    loads: &mut Vec<u128>,
+    waits: &mut W,
+)
+    requires lists { AreLists is_on_workload (length inst.now.resources) inst.now.monitors lists.now }
+    requires event { event.0 < length inst.now.events }
+    requires resources { length loads.old.items ≡ length inst.now.resources }
+    requires resource { (r : ResourceId) → place ≡ Some r → r.0 < length inst.now.resources }
+    requires can { CanTurn rises place (worth_at inst.now event duration number) loads.old.items }
+    requires monitors { W.monitors waits.old ≡ length inst.now.monitors }
+    ensures resources { length loads.new.items ≡ length loads.old.items }
+    ensures loads { Turned rises place (worth_at inst.now event duration number) loads.old.items loads.new.items }
+    ensures monitors { W.monitors waits.new ≡ W.monitors waits.old }
+    ensures unmoved { W.hears ≡ true → AreMeasuredSame inst.now (W.waits waits.new) loads.old.items loads.new.items }
+    ensures kept { WaitOn (W.waits waits.old) (W.waits waits.new) }
+    ensures listed { AreOnLoad inst.now place (W.waits waits.old) (W.waits waits.new) }
+{
+    inst.facts();
+    let Some(r) = place else {
+        return;
+    };
+    let worth = worth_of(inst, event, duration, number);
+    turn_load(loads, r, worth, rises);
+    let list = lists[r.0 as usize].as_slice();
+    add_all(list, waits);
+}
+
+/// Whether a place is given the same for the same duration.
+fn is_same(before: Option<ResourceId>, later: Option<ResourceId>, less: u32, more: u32) -> bool
+    ensures same { result ≡ true → (before ≡ later) × (less ≡ more) }
+    ensures differ { result ≡ false → before ≡ later → less ≡ more → ⊥ }
+{
+    before == later && less == more
+}
+
+/// Lowers the workload of what a place is given before, and raises that of what it is given after. Where that is
+/// the same for the same duration there is nothing to do.
+fn follow_both<W: Waits>(
+    inst: &Instance,
+    lists: &[Seq<Post>],
+    event: EventId,
+    less: u32,
+    more: u32,
+    number: usize,
+    before: Option<ResourceId>,
+    later: Option<ResourceId>,
+    loads: &mut Vec<u128>,
+    waits: &mut W,
+)
+    requires lists { AreLists is_on_workload (length inst.now.resources) inst.now.monitors lists.now }
+    requires event { event.0 < length inst.now.events }
+    requires resources { length loads.old.items ≡ length inst.now.resources }
+    requires before { (r : ResourceId) → before ≡ Some r → r.0 < length inst.now.resources }
+    requires later { (r : ResourceId) → later ≡ Some r → r.0 < length inst.now.resources }
+    requires some { CanTurn false before (worth_at inst.now event less number) loads.old.items }
+    requires room { CanTurn true later (worth_at inst.now event more number) loads.old.items }
+    requires monitors { W.monitors waits.old ≡ length inst.now.monitors }
+    ensures resources { length loads.new.items ≡ length loads.old.items }
+    ensures loads { AreExchanged before later (worth_at inst.now event less number) (worth_at inst.now event more number) loads.old.items loads.new.items }
+    ensures monitors { W.monitors waits.new ≡ W.monitors waits.old }
+    ensures unmoved { W.hears ≡ true → AreMeasuredSame inst.now (W.waits waits.new) loads.old.items loads.new.items }
+    ensures kept { WaitOn (W.waits waits.old) (W.waits waits.new) }
+    ensures listed { AreOnEither inst.now before later less more (W.waits waits.old) (W.waits waits.new) }
+{
+    if is_same(before, later, less, more) {
+        return;
+    }
+    follow_place(
+        inst, lists, event, less, number, before, false, loads, waits,
+    );
+    follow_place(inst, lists, event, more, number, later, true, loads, waits);
+}
+
+/// Lowers the workloads of what the places of a meet are given before, and raises those of what they are given after.
+fn follow_all<W: Waits>(
+    inst: &Instance,
+    lists: &[Seq<Post>],
+    event: EventId,
+    less: u32,
+    more: u32,
+    before: &[Option<ResourceId>],
+    later: &[Option<ResourceId>],
+    loads: &mut Vec<u128>,
+    waits: &mut W,
+)
+    requires lists { AreLists is_on_workload (length inst.now.resources) inst.now.monitors lists.now }
+    requires can { CanExchange inst.now event less more before.now later.now loads.old.items }
+    requires monitors { W.monitors waits.old ≡ length inst.now.monitors }
+    ensures resources { length loads.new.items ≡ length loads.old.items }
+    ensures loads { AreAllExchanged inst.now event less more before.now later.now loads.old.items loads.new.items }
+    ensures monitors { W.monitors waits.new ≡ W.monitors waits.old }
+    ensures unmoved { W.hears ≡ true → AreMeasuredSame inst.now (W.waits waits.new) loads.old.items loads.new.items }
+    ensures kept { WaitOn (W.waits waits.old) (W.waits waits.new) }
+    ensures listed { AreOnMoved inst.now less more before.now later.now (W.waits waits.old) (W.waits waits.new) }
+{
+    for number in 0..before.len() {
+        let old = before[number];
+        let new = later[number];
+        follow_both(
+            inst, lists, event, less, more, number, old, new, loads, waits,
+        );
+    }
+}
+
+/// Turns the workloads where a slot becomes another, and lets the monitors on them wait. It takes time in proportion
+/// to the places and the monitors on their workloads.
+pub(crate) fn turn_loads<W: Waits>(
+    inst: &Instance,
+    told: &Told,
+    turn: &Turn<'_>,
+    lists: &[Seq<Post>],
+    loads: &mut Vec<u128>,
+    waits: &mut W,
+)
+    requires turns { IsTurn inst.now told.now turn.now }
+    requires lists { AreLists is_on_workload (length inst.now.resources) inst.now.monitors lists.now }
+    requires loads { HasLoads inst.now told.now loads.old.items }
+    requires monitors { W.monitors waits.old ≡ length inst.now.monitors }
+    ensures loads { HasLoads inst.now (turned told.now turn.now) loads.new.items }
+    ensures monitors { W.monitors waits.new ≡ W.monitors waits.old }
+    ensures unmoved { W.hears ≡ true → AreUnmoved inst.now is_on_workload (W.waits waits.new) told.now (turned told.now turn.now) }
+    ensures kept { WaitOn (W.waits waits.old) (W.waits waits.new) }
+    ensures watchers { AreWatchers inst.now turn.now (W.waits waits.old) (W.waits waits.new) }
+{
+    let _ = told;
+    inst.facts();
+    let event = turn.event();
+    let less = length_of(turn.before());
+    let more = length_of(turn.after());
+    let before = turn.given_before();
+    let later = turn.given_after();
+    follow_all(inst, lists, event, less, more, before, later, loads, waits);
+}

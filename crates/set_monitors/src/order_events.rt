@@ -1,0 +1,122 @@
+//! Order Events.
+
+ghost use Rattle.std.specs.Prelude.{◌≡◌, ◌≢◌, [], length, IfOk};
+ghost use Rattle.khe_told.specs.Slots.{no_meets};
+ghost use Rattle.khe_told.specs.Turns.{IsTurn, turned};
+ghost use Rattle.set_monitors.specs.MeetEdges.{AreEdges, IsEdges};
+
+use crate::meet_edges::Edges;
+use crate::order_pairs::value;
+use crate::order_posts::posts_of;
+use crate::order_waits::add_all;
+use crate::pair_lists::lists_of;
+use event_monitors::Post;
+use family_keepers::{Keeper, Keeping};
+use khe_base::{EventId, MonitorId, NoMemory, Seq, beside};
+use khe_instance::{EventInfo, Instance, Kind};
+use khe_told::{Told, Turn, Waits};
+use std::alloc::Global;
+
+/// The family of Order Events: a monitor's deviation is how far the times from the end of its first
+/// event's meets to the start of its second's lie outside the bounds, while both have a start.
+pub type OrderEvents = Keeping<OrderEdges>;
+
+/// The keeper of Order Events. What was told is lent to it.
+///
+/// It keeps, for each event that a served monitor names, when the meet of each meet slot starts and
+/// ends, four numbers a slot. A turn that moves a meet takes time of the logarithm of its event's meet
+/// slots, and then that of the monitors that name the event. Where there are none, and where the meet
+/// does not move, it takes constant time.
+#[derive(Drop)]
+pub struct OrderEdges {
+    posts: Seq<Post>,
+    /// For each event the places of the posts that name it.
+    lists: Seq<Seq<u32>>,
+    /// For each event that has a list when its meets start and end.
+    edges: Vec<Edges>,
+}
+
+impl Keeper for OrderEdges {
+    ghost use Rattle.std.specs.Prelude.{◌≡◌};
+    ghost use Rattle.event_monitors.specs.Posts.{ArePosts, AreListed};
+    ghost use Rattle.set_monitors.specs.MeetEdges.{AreEdges, AreShort};
+    ghost use Rattle.set_monitors.specs.OrderPairs.{is_order};
+
+    ghost serves_kind = { is_order };
+
+    ghost IsWellJoined = { Unit {0} };
+
+    ghost Keeps = { λ f p s. ArePosts p is_order f.posts × AreListed p f.posts f.lists × AreEdges p f.lists s f.edges.items × AreShort s };
+
+    fn open(alloc: Global, inst: &Instance) -> Result<OrderEdges, NoMemory> {
+        let posts = posts_of(alloc, inst)?;
+        let lists = lists_of(alloc, inst, posts.as_slice());
+        let (lists, posts) = beside(lists, posts)?;
+        let edges = edges_of(alloc, inst, lists.as_slice());
+        let (edges, (lists, posts)) = beside(edges, (lists, posts))?;
+        Ok(OrderEdges {
+            posts,
+            lists,
+            edges,
+        })
+    }
+
+    fn serves(&self, kind: Kind) -> bool {
+        kind == Kind::OrderEvents
+    }
+
+    fn turn<W: Waits>(&mut self, inst: &Instance, told: &Told, turn: &Turn<'_>, waits: &mut W) {
+        inst.facts();
+        if !turn.moves() {
+            return;
+        }
+        let event = turn.event();
+        let list = self.lists.as_slice()[event.0 as usize].as_slice();
+        if list.is_empty() {
+            return;
+        }
+        follow(inst, told, turn, &mut self.edges[event.0 as usize]);
+        let posts = self.posts.as_slice();
+        add_all(inst, posts, event, list, waits);
+    }
+
+    fn deviation(&self, inst: &Instance, monitor: MonitorId) -> u64 {
+        inst.facts();
+        value(inst, self.edges.as_slice(), inst.monitor(monitor))
+    }
+}
+
+/// When the meets of all events that have a list start and end, while there are none. It takes time
+/// and memory in proportion to the events and to the meet slots of those.
+fn edges_of(alloc: Global, inst: &Instance, lists: &[Seq<u32>]) -> Result<Vec<Edges>, NoMemory>
+    requires { length lists.now ≡ length inst.now.events }
+    ensures { IfOk result (λ edges. AreEdges inst.now lists.now (no_meets inst.now) edges.items) }
+{
+    let mut edges = Vec::new(alloc);
+    for i in 0..inst.events() {
+        let slots = slots_for(&lists[i as usize], inst.event(EventId(i)));
+        edges.push(Edges::open(alloc, slots)?)?;
+    }
+    Ok(edges)
+}
+
+/// How many meet slots are kept for an event with this list: none where it is empty.
+fn slots_for(list: &Seq<u32>, event: &EventInfo) -> u32
+    ensures { list.now ≢ [] → result ≡ event.now.duration }
+{
+    if list.is_empty() { 0 } else { event.duration }
+}
+
+/// Follows a turn of one of an event's meet slots. What was told is the state before it.
+fn follow(inst: &Instance, told: &Told, turn: &Turn<'_>, edges: &mut Edges)
+    requires turns { IsTurn inst.now told.now turn.now }
+    requires of { IsEdges turn.now.before.event.0 told.now edges.old }
+    ensures { IsEdges turn.now.before.event.0 (turned told.now turn.now) edges.new }
+{
+    let _ = told;
+    inst.facts();
+    let event = inst.event(turn.event());
+    let place = turn.meet().0 - event.first_meet;
+    let meet = turn.after();
+    edges.set(place as usize, meet);
+}

@@ -1,7 +1,0 @@
-use Rattle.std.proofs.Common.{length, take}
-use Rattle.resource_monitors.specs.Posts.{AreLists}
-use Rattle.workload_monitors.specs.Loads.{is_on_workload}
-use Rattle.workload_monitors.proofs.posts.lists_of.Given as goal
-
-abbrev pub invariant-loop-k : goal.invariant-loop-k
-invariant-loop-k l = AreLists is_on_workload (length l.inst.resources) (take l.k l.inst.monitors) l.lists.items
