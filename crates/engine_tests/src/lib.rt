@@ -1,4 +1,4 @@
-//! Tests of the layers that the engine stands on: of matchings, cheapest choices and timetables; rows whose
+//! Tests of the layers that the engine stands on: of matchings, cheapest choices and graphs of monitors; rows whose
 //! answers were worked out by hand, and tests of great size, which no clause bounds in time; and edits of a
 //! timetable, where each step of a list is checked, made, undone and made again, and what was noted and
 //! what stands is compared with what was worked out by hand.
