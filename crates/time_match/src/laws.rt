@@ -26,7 +26,10 @@ fn a_matching_never_costs_more()
 // counted together: with two resources, they cost together what they cost with these exchanged, but for the monitors
 // that prefer some of a task's resources to others.
 fn alike_tasks_exchange_resources()
-    ensures { (p : Parts) (off : ℕ → Bool) (s : List Slot) (x y : TaskOf) (r q : ResourceOf) → IsBare s x → IsBare s y
+    ensures hard { (p : Parts) (off : ℕ → Bool) (s : List Slot) (x y : TaskOf) (r q : ResourceOf) → IsBare s x → IsBare s y
         → AreAlike p s x y → IsSingle p s x → IsSingle p s y
         → (rest_with p off s x r).hard + (rest_with p off s y q).hard ≡ (rest_with p off s x q).hard + (rest_with p off s y r).hard }
+    ensures soft { (p : Parts) (off : ℕ → Bool) (s : List Slot) (x y : TaskOf) (r q : ResourceOf) → IsBare s x → IsBare s y
+        → AreAlike p s x y → IsSingle p s x → IsSingle p s y
+        → (rest_with p off s x r).soft + (rest_with p off s y q).soft ≡ (rest_with p off s x q).soft + (rest_with p off s y r).soft }
 {}
