@@ -1,5 +1,8 @@
+pub mod AlikeLaws
 pub mod AskLaws
+pub mod DutyLaws
 pub mod EditLaws
+pub mod FourLaws
 pub mod GiveLaws
 pub mod MarkLaws
 pub mod MatchLaws
