@@ -51,7 +51,7 @@ pub record AreFound (p : Parts) (m : Monitor) (events : List ℕ) (types : List 
   pub size_is : length types ≡ p.types
   pub found : (j e : ℕ) → j < i → slice_get events j ≡ Some e → HasTypesOf p m e types
 
-listed_of : (list : List ℕ) (e : ℕ) → has list e ≡ true → IsListed list e
+pub listed_of : (list : List ℕ) (e : ℕ) → has list e ≡ true → IsListed list e
 listed_of [] e h = absurd (true≢false (sym h))
 listed_of (x ∷ list) e h = by (cases_eq x e) (λ is. listed_of list e is)
   where

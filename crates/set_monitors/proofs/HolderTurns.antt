@@ -1,7 +1,7 @@
 -- What is kept for a monitor on split assignments, while the places of a turned slot are followed.
 use Rattle.std.proofs.Common.{ℕ, ◌≡◌, ◌≤◌, ◌<◌, ◌+◌, ◌-◌, ◌==◌, ◌∙◌, ◌&&◌, ◌⊎◌, inl, inr, zero, suc, ltb, count_by}
 use Rattle.std.proofs.Common.{true}
-use Rattle.std.proofs.Common.{false, cond, Option, Some, None, List, length, set, get_or, slice_get, refl, sym, ap}
+use Rattle.std.proofs.Common.{false, cond, Option, Some, None, List, [], ◌∷◌, length, set, get_or, slice_get, refl, sym, ap}
 use Rattle.std.proofs.Common.{subst}
 use Rattle.std.proofs.Common.{add-one, arith, get_or-set_same}
 use Rattle.std.specs.Prelude.{IfSome, replicate}
@@ -12,7 +12,8 @@ use Rattle.std.proofs.lemmas.Bool.{cases_eq, eq-eqb, ne_eqb, true≢false}
 use Rattle.std.proofs.lemmas.List.{length-replicate, length-set}
 use Rattle.std.proofs.lemmas.List.Elements.{All-get_or}
 use Rattle.std.proofs.lemmas.List.Sums.{sum_by-cons}
-use Rattle.std.proofs.lemmas.Option.{same_Some, slice_get-get_or, slice_get_cases, slice_get_within}
+use Rattle.std.proofs.lemmas.Option.{get_or_from_slice_get, same_Some, slice_get-get_or}
+use Rattle.std.proofs.lemmas.Option.{slice_get_cases, slice_get_within}
 use Rattle.khe_base.specs.declared.limits.TheConstants.{TASKS}
 use Rattle.khe_base.specs.declared.numbers.ResourceId.{ResourceId}
 use Rattle.khe_base.proofs.ListLemmas.{there}
@@ -107,13 +108,25 @@ module _ (p : Parts) (s : List Slot) (t : SlotTurn) (turns : IsTurn p s t) where
   same_event : t.after.event.0 ≡ t.before.event.0
   same_event = ap (λ (y : Slot). y.event.0) turns.same
 
-  same_places : length t.before.given ≡ length t.after.given
+  pub same_places : length t.before.given ≡ length t.after.given
   same_places =
       let a : length (emptied t.after).given ≡ length (emptied t.before).given = ap (λ (y : Slot). length y.given)
       turns.same in
       let b : length (emptied t.after).given ≡ length t.after.given = length-replicate (length t.after.given) None in
       let c : length (emptied t.before).given ≡ length t.before.given = length-replicate (length t.before.given) None
       in omega (arith, a, b, c)
+
+-- nothing stands at a place beyond the end
+beyond : {A : Type 0} (xs : List A) (k : ℕ) (d : A) → length xs ≤ k → get_or xs k d ≡ d
+beyond [] k d l = refl
+beyond (x ∷ xs) zero d l = absurd (omega (arith, l))
+beyond (x ∷ xs) (suc k) d l = beyond xs k d (omega (arith, l))
+
+-- what a list that is read gives at a place
+pub read_at : (xs given : List (Option ResourceId)) (k : ℕ) (o : Option ResourceId) → xs ≡ given → o ≡ get_or xs k None
+    → k < length given → slice_get given k ≡ Some o
+read_at xs given k o same is l =
+    slice_get-get_or given k None l ∙ ap Some (sym (is ∙ ap (λ ys. get_or ys k None) same))
 
 -- the slots while the places are turned, one after the other
 abbrev pub midway : List Slot → SlotTurn → ℕ → List Slot
@@ -263,23 +276,75 @@ module _ (p : Parts) (m : Monitor) (s : List Slot) (t : SlotTurn) (turns : IsTur
           let b : cond {A = ℕ} (r.0 == r.0) 1 0 ≡ 1 = ap (λ b. cond b 1 0) (eq-eqb r.0 r.0 refl) in
           ap (λ b. cond b 1 0) (last_first (with_one f new r.0) (g r.0) (omega (arith, a, b)))
 
--- at a place of the lists that are gone through
-pub record IsPlace (t : SlotTurn) (before later : List (Option ResourceId)) (k : ℕ) : Type 0 where
-  pub within : k < length before
-  pub was : slice_get t.before.given k ≡ Some (get_or before k None)
-  pub is : slice_get t.after.given k ≡ Some (get_or later k None)
+  -- a place that is given the same, or is not in the role
+  abbrev pub IsStill : ℕ → Type 0
+  IsStill j = (o new : Option ResourceId) → slice_get t.before.given j ≡ Some o → slice_get t.after.given j ≡ Some new
+      → (o ≡ new) ⊎ (in_role p m t.before.event.0 j ≡ false)
 
-pub is_place : (p : Parts) (s : List Slot) (t : SlotTurn) (before later : List (Option ResourceId)) (k : ℕ)
-    → IsTurn p s t → before ≡ t.before.given → later ≡ t.after.given → k < length later → IsPlace t before later k
-is_place p s t before later k turns old new l = record {
-  within = within;
-  was = ap (λ xs. slice_get xs k) (sym old) ∙ slice_get-get_or before k None within;
-  is = ap (λ xs. slice_get xs k) (sym new) ∙ slice_get-get_or later k None l;
-}
-  where
-    within : k < length before
-    within = let a = same_places p s t turns in let b = ap length old in let d = ap length new in
-        omega (arith, a, b, d, l)
+  -- so is each place where one place alone is in the role, and is given the same
+  pub still_one : (k : ℕ) → get_or t.before.given k None ≡ get_or t.after.given k None
+      → ((j : ℕ) → (j ≡ k → ⊥) → in_role p m t.before.event.0 j ≡ false) → (j : ℕ) → IsStill j
+  still_one k same others j = by (cases_eq j k)
+    where
+      by : (j ≡ k) ⊎ (j ≡ k → ⊥) → IsStill j
+      by (inl z) = λ o new was is. inl (sym (get_or_from_slice_get t.before.given k o None
+          (ap (slice_get t.before.given) (sym z) ∙ was)) ∙ same
+          ∙ get_or_from_slice_get t.after.given k new None (ap (slice_get t.after.given) (sym z) ∙ is))
+      by (inr z) = λ o new was is. inr (others j z)
+
+  -- one that is given something else is there
+  pub within_other : (k : ℕ) → (get_or t.before.given k None ≡ get_or t.after.given k None → ⊥)
+      → k < length t.after.given
+  within_other k apart = by (slice_get_cases t.after.given k).1
+    where
+      by : ((x : Option ResourceId) × (k < length t.after.given) × (slice_get t.after.given k ≡ Some x)
+          × (get_or t.after.given k x ≡ x)) ⊎ ((length t.after.given ≤ k) × (slice_get t.after.given k ≡ None))
+          → k < length t.after.given
+      by (inl h) = h.1
+      by (inr h) =
+          let same = same_places p s t turns in
+          let l = h.0 in
+          absurd (apart (beyond t.before.given k None (omega (arith, l, same)) ∙ sym (beyond t.after.given k None l)))
+
+  -- so many of these
+  midway_past : (numbers row : List ℕ) (n i d : ℕ) → i + d ≤ length t.after.given
+      → ((j : ℕ) → i ≤ j → j < i + d → IsStill j) → AreMidway p m s t numbers row n i
+      → AreMidway p m s t numbers row n (i + d)
+  midway_past numbers row n i zero l still so =
+      let e : i ≡ i + 0 = omega arith in
+      subst (AreMidway p m s t numbers row n) e so
+  midway_past numbers row n i (suc d) l still so =
+      let same = same_places p s t turns in
+      let x = there t.before.given (i + d) (omega (arith, l, same)) in
+      let y = there t.after.given (i + d) (omega (arith, l)) in
+      let e : i + d + 1 ≡ i + suc d = omega arith in
+      subst (AreMidway p m s t numbers row n) e
+      (midway_kept numbers row n (i + d) x.value y.value x.found y.found
+      (still (i + d) (omega arith) (omega arith) x.value y.value x.found y.found)
+      (midway_past numbers row n i d (omega (arith, l)) (λ j a b. still j a (omega (arith, b))) so))
+
+  -- a turn that gives no place in the role anything else
+  pub turned_still : (numbers row : List ℕ) (n : ℕ) → ((j : ℕ) → IsStill j) → IsShared p m s numbers row n
+      → IsShared p m (turned s t) numbers row n
+  turned_still numbers row n still kept =
+      midway_done numbers row row n n (0 + length t.after.given) (omega arith) kept
+      (midway_past numbers row n 0 (length t.after.given) (omega arith) (λ j a b. still j)
+      (midway_begun numbers row n kept))
+
+  -- one that gives one of them something else
+  pub turned_at : (numbers row later : List ℕ) (n less k : ℕ) → k < length t.after.given
+      → ((j : ℕ) → (j ≡ k → ⊥) → IsStill j)
+      → (AreMidway p m s t numbers row n k → AreMidway p m s t numbers later less (k + 1))
+      → IsShared p m s numbers row n → IsShared p m (turned s t) numbers later less
+  turned_at numbers row later n less k l still step kept =
+      let rest : ℕ = length t.after.given - (k + 1) in
+      let e : 0 + k ≡ k = omega arith in
+      let first = subst (AreMidway p m s t numbers row n) e
+      (midway_past numbers row n 0 k (omega (arith, l)) (λ j a b. still j (λ z. omega (arith, b, z)))
+      (midway_begun numbers row n kept)) in
+      midway_done numbers row later n less (k + 1 + rest) (omega (arith, l)) kept
+      (midway_past numbers later less (k + 1) rest (omega (arith, l)) (λ j a b. still j (λ z. omega (arith, a, z)))
+      (step first))
 
 -- what a turned slot gives at a place in the role, before and after
 module _ (p : Parts) (m : Monitor) (s : List Slot) (t : SlotTurn) (numbers counts : List ℕ) (above : ℕ)

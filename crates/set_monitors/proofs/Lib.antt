@@ -9,5 +9,6 @@ pub mod OrderPairLaws
 pub mod OrderTurnLaws
 pub mod OrderWaitLaws
 pub mod OwnSlotLaws
+pub mod RoleLaws
 pub mod SpreadLaws
 pub mod TreeLaws

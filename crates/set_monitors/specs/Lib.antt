@@ -11,4 +11,5 @@ pub mod MemberLaws
 pub mod NamedSums
 pub mod OrderPairs
 pub mod OrderWaits
+pub mod RolePlaces
 pub mod SpreadEvents

@@ -1,12 +1,18 @@
 //! Avoid Split Assignments.
 
-ghost use Rattle.std.specs.Prelude.{◌≡◌, ◌≤◌, ◌+◌, ◌-◌, ℕ, true, false, Some, length, replicate, IfOk, IfSome, slice_get};
+ghost use Rattle.std.specs.Prelude.{◌≡◌, ◌≤◌, ◌+◌, ◌-◌, ℕ, true, false, None, Some, length, replicate, IfOk, IfSome, slice_get, slice_index_or};
 ghost use Rattle.khe_base.specs.declared.limits.TheConstants.{RESOURCES};
+ghost use Rattle.khe_instance.specs.KindLaws.{is_kind};
+ghost use Rattle.khe_instance.specs.WellMade.{IsMonitor};
+ghost use Rattle.khe_instance.specs.declared.rules.Kind.TheVariants as kind;
+ghost use Rattle.khe_told.specs.Slots.{no_meets};
 ghost use Rattle.khe_told.specs.Turns.{IsTurn, turned};
 ghost use Rattle.event_monitors.specs.Posts.{names};
 ghost use Rattle.set_monitors.specs.AvoidSplitAssignments.{AreAscending, AreHeld, AreWithin, IsListed, IsShared, is_first, is_last, with_one, without_one};
+ghost use Rattle.set_monitors.specs.RolePlaces.{AreRolePlaces};
 
-use crate::candidates::{candidates, has_role};
+use crate::candidates::candidates;
+use crate::role_places::{RolePlace, place_of, role_places};
 use event_monitors::{Counted, Gauge};
 use family_keepers::Keeping;
 use khe_base::{NoMemory, ResourceId, Seq, beside};
@@ -17,9 +23,9 @@ use std::alloc::Global;
 /// The family of Avoid Split Assignments: a monitor's deviation is how many resources have a task
 /// in the role among its events, less one.
 ///
-/// A monitor keeps a count for each resource with the type of such a task, 8 bytes each. Where one of these
-/// tasks is given something else, a turn looks for the resources before and after by halves. It looks at the
-/// role of no other task, and at nothing where no task is given something else.
+/// A monitor keeps a count for each resource with the type of such a task, 8 bytes each, and the place in the role
+/// of each of its events that has one. A turn looks for that place by halves, and at no other; where it is given
+/// something else, the resources before and after are looked for by halves too.
 pub type AvoidSplitAssignments = Keeping<Counted<Holders>>;
 
 /// The gauge of Avoid Split Assignments.
@@ -31,6 +37,8 @@ pub struct Holders {
     counts: Vec<u32>,
     /// The resources that may have one, ascending.
     candidates: Seq<u32>,
+    /// The places in the role.
+    places: Seq<RolePlace>,
 }
 
 impl Gauge for Holders {
@@ -38,10 +46,11 @@ impl Gauge for Holders {
     ghost use Rattle.khe_instance.specs.KindLaws.{is_kind};
     ghost use Rattle.khe_instance.specs.declared.rules.Kind.TheVariants as kind;
     ghost use Rattle.set_monitors.specs.AvoidSplitAssignments.{IsShared, shared_elsewhere, shared_exact, shared_unheard};
+    ghost use Rattle.set_monitors.specs.RolePlaces.{AreRolePlaces};
 
     ghost serves_kind = { λ k. is_kind k kind.AvoidSplitAssignments };
 
-    ghost Keeps = { λ g p m s. IsShared p m s g.candidates g.counts.items g.above };
+    ghost Keeps = { λ g p m s. IsShared p m s g.candidates g.counts.items g.above × AreRolePlaces p m g.places };
 
     ghost value = { λ g p m. g.above - 1 };
 
@@ -56,24 +65,26 @@ impl Gauge for Holders {
     }
 
     fn open(alloc: Global, inst: &Instance, monitor: Monitor) -> Result<Holders, NoMemory> {
-        let candidates = candidates(alloc, inst, monitor)?;
-        let counts = no_tasks(alloc, candidates.len());
-        let (counts, candidates) = beside(counts, candidates)?;
+        let places = role_places(alloc, inst, monitor)?;
+        let (counts, candidates) = nothing_held(alloc, inst, monitor)?;
         Ok(Holders {
             above: 0,
             counts,
             candidates,
+            places,
         })
     }
 
     fn turn(&mut self, inst: &Instance, monitor: Monitor, told: &Told, turn: &Turn<'_>) -> bool {
         let before = self.above;
+        let places = self.places.as_slice();
         let candidates = self.candidates.as_slice();
         self.above = turned(
             inst,
             monitor,
             told,
             turn,
+            places,
             candidates,
             &mut self.counts,
             before,
@@ -87,11 +98,27 @@ impl Gauge for Holders {
         u64::from(self.above.saturating_sub(1))
     }
 
-    ghost exact = { λ g p m s k. shared_exact p m s g.candidates g.counts.items g.above k };
+    ghost exact = { λ g p m s k. shared_exact p m s g.candidates g.counts.items g.above k.0 };
 
-    ghost deaf = { λ g p m s t h turns kept. shared_unheard p m s t g.candidates g.counts.items g.above h turns kept };
+    ghost deaf = { λ g p m s t h turns kept. (shared_unheard p m s t g.candidates g.counts.items g.above h turns kept.0, kept.1) };
 
-    ghost elsewhere = { λ g p m s k x l same named kept. shared_elsewhere p m s k x g.candidates g.counts.items g.above l same named kept };
+    ghost elsewhere = { λ g p m s k x l same named kept. (shared_elsewhere p m s k x g.candidates g.counts.items g.above l same named kept.0, kept.1) };
+}
+
+// The resources that may have a task in the role, and a count of none for each.
+fn nothing_held(
+    alloc: Global,
+    inst: &Instance,
+    monitor: Monitor,
+) -> Result<(Vec<u32>, Seq<u32>), NoMemory>
+    requires monitor { IsMonitor inst.now monitor }
+    requires served { is_kind monitor.kind kind.AvoidSplitAssignments ≡ true }
+    ensures { IfOk result (λ made. IsShared inst.now monitor (no_meets inst.now) made.1 made.0.items 0) }
+{
+    let candidates = candidates(alloc, inst, monitor)?;
+    let counts = no_tasks(alloc, candidates.len());
+    let (counts, candidates) = beside(counts, candidates)?;
+    Ok((counts, candidates))
 }
 
 // So many counts of no tasks.
@@ -101,40 +128,52 @@ fn no_tasks(alloc: Global, size: usize) -> Result<Vec<u32>, NoMemory>
     Ok(vec![in alloc; 0; size]?)
 }
 
-// Turns the counts of the resources before and after of each place in the role that is given something else.
-// What is returned is how many counts are above 0 then.
+// Turns the counts of the resources before and after of the event's place in the role, where that is given
+// something else. What is returned is how many counts are above 0 then.
 fn turned(
     inst: &Instance,
     monitor: Monitor,
     told: &Told,
     turn: &Turn<'_>,
+    places: &[RolePlace],
     candidates: &[u32],
     counts: &mut Vec<u32>,
     above: u32,
 ) -> u32
     requires keeps { IsShared inst.now monitor told.now candidates.now counts.old.items above }
+    requires places { AreRolePlaces inst.now monitor places.now }
     requires turns { IsTurn inst.now told.now turn.now }
     requires named { names inst.now turn.now.before.event.0 monitor ≡ true }
     ensures keeps { IsShared inst.now monitor (turned told.now turn.now) candidates.now counts.new.items result }
 {
     let _ = told;
     inst.facts();
-    let event = turn.event();
-    let before = turn.given_before();
-    let after = turn.given_after();
-    let mut above = above;
-    for (k, given) in after.iter().enumerate() {
-        if is_other(before[k], *given) && has_role(inst, monitor, event, k) {
-            above = rise(candidates, counts, above, *given);
-            above = fall(candidates, counts, above, before[k]);
-        }
+    let Some(place) = place_of(places, turn.event()) else {
+        return above;
+    };
+    let before = given_at(turn.given_before(), place);
+    let after = given_at(turn.given_after(), place);
+    if is_other(before, after) {
+        let above = rise(candidates, counts, above, after);
+        return fall(candidates, counts, above, before);
     }
     above
 }
 
+// What a place is given: nothing where there is none of the number.
+fn given_at(given: &[Option<ResourceId>], place: usize) -> Option<ResourceId>
+    ensures { result ≡ slice_index_or given.now place None }
+{
+    match given.get(place) {
+        Some(resource) => *resource,
+        None => None,
+    }
+}
+
 // Whether a place is given something else.
 fn is_other(before: Option<ResourceId>, after: Option<ResourceId>) -> bool
-    ensures { result ≡ false → before ≡ after }
+    ensures same { result ≡ false → before ≡ after }
+    ensures differ { result ≡ true → before ≡ after → ⊥ }
 {
     before != after
 }

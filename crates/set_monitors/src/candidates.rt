@@ -7,7 +7,7 @@ ghost use Rattle.khe_instance.specs.WellMade.{IsMonitor};
 ghost use Rattle.khe_instance.specs.declared.rules.Kind.TheVariants as kind;
 ghost use Rattle.event_monitors.specs.Posts.{names};
 ghost use Rattle.event_monitors.specs.Turns.{has};
-ghost use Rattle.set_monitors.specs.AvoidSplitAssignments.{AreCandidates, in_role, wants};
+ghost use Rattle.set_monitors.specs.AvoidSplitAssignments.{AreAscending, AreCandidates, in_role, wants};
 ghost use Rattle.set_monitors.specs.Candidates.{AreTyped, HasTypes, HasTypesOf};
 
 use khe_base::{EventId, IdSet, NoMemory, ResourceId, Seq, Text};
@@ -86,12 +86,13 @@ fn add_types(inst: &Instance, monitor: Monitor, event: EventId, types: &mut IdSe
     }
 }
 
-// The events of a monitor's group.
-fn members(inst: &Instance, monitor: Monitor) -> &[u32]
+/// The events of a monitor's group, ascending.
+pub(crate) fn members(inst: &Instance, monitor: Monitor) -> &[u32]
     requires monitor { IsMonitor inst.now monitor }
     requires served { is_kind monitor.kind kind.AvoidSplitAssignments ≡ true }
     ensures named { (e : ℕ) → e < length inst.now.events → has result.now e ≡ names inst.now e monitor }
     ensures each { All (λ e. e < length inst.now.events) result.now }
+    ensures ascending { AreAscending result.now }
 {
     inst.facts();
     match monitor.point {

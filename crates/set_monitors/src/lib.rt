@@ -19,6 +19,7 @@ mod order_pairs;
 mod order_posts;
 mod order_waits;
 mod pair_lists;
+mod role_places;
 mod spread_events;
 
 pub use avoid_split_assignments::{AvoidSplitAssignments, Holders};

@@ -1,128 +1,140 @@
-use Rattle.std.proofs.Common.{◌≡◌, ◌+◌, ◌∙◌, ◌⊎◌, inl, inr, true, false, None, length, get_or, sym, ap, subst, arith}
+-- The event's place in the role, where it has one, is the only place that counts.
+use Rattle.std.proofs.Common.{ℕ, ◌≡◌, ◌<◌, ◌∙◌, inr, None, get_or, length, sym, ap, subst, arith}
 use Rattle.event_monitors.proofs.SlotFacts.{turn_event}
-use Rattle.set_monitors.specs.AvoidSplitAssignments.{held, in_role}
-use Rattle.set_monitors.proofs.HolderLaws.{holders_few}
-use Rattle.set_monitors.proofs.HolderTurns.{AreMidway, held_mixed_few, held_within, is_place, listed_after}
-use Rattle.set_monitors.proofs.HolderTurns.{listed_before, listed_within, midway, midway_begun, midway_done}
-use Rattle.set_monitors.proofs.HolderTurns.{midway_kept}
-use Rattle.set_monitors.proofs.HolderTurns.{midway_turned}
+use Rattle.set_monitors.specs.AvoidSplitAssignments.{held}
+use Rattle.set_monitors.specs.RolePlaces.{IsAt, IsPlaceAt}
+use Rattle.set_monitors.proofs.HolderLaws.{held_few, holders_few}
+use Rattle.set_monitors.proofs.HolderTurns.{held_within, listed_after, listed_before, listed_within, midway_turned}
+use Rattle.set_monitors.proofs.HolderTurns.{read_at, same_places, still_one, turned_at, turned_still, within_other}
+use Rattle.set_monitors.proofs.RoleLaws.{none_in_role, others_not, place_only}
 use Rattle.set_monitors.proofs.avoid_split_assignments.turned.Goals as goal
-use Rattle.set_monitors.proofs.avoid_split_assignments.turned.Goals.{then-is_other+then-has_role, else-is_other}
-use Rattle.set_monitors.proofs.avoid_split_assignments.turned.Goals.{else-is_other-via-then-is_other+else-has_role}
-use Rattle.set_monitors.proofs.avoid_split_assignments.turned.Goals.{else-is_other-via-else-is_other}
 
-pub loop-k-init : goal.loop-k-init
-loop-k-init c = midway_begun c.args.inst.now c.args.monitor c.args.told.now c.args.turn.now c.requires.turns
-    c.requires.named c.args.candidates.now c.args.counts.now.items c.args.above c.requires.keeps
+pub place_of-requires : goal.place_of-requires
+place_of-requires c = c.requires.places.ordered
 
-pub bounds-before-k : goal.bounds-before-k
-bounds-before-k c = (is_place c.args.inst.now c.args.told.now c.args.turn.now c.given_before-before.result.now
-    c.given_after-after.result.now c.loop-k.k c.requires.turns c.given_before-before.ensures c.given_after-after.ensures
-    c.loop-k-test.true).within
-
-pub bounds-before-k-then-has_role : goal.bounds-before-k-then-has_role
-bounds-before-k-then-has_role c = (is_place c.args.inst.now c.args.told.now c.args.turn.now
-    c.given_before-before.result.now c.given_after-after.result.now c.loop-k.k c.requires.turns
-    c.given_before-before.ensures c.given_after-after.ensures c.loop-k-test.true).within
-
-pub has_role-requires-clause-event : goal.has_role-requires-clause-event
-has_role-requires-clause-event c =
-    let known = turn_event c.args.inst.now c.args.told.now c.args.turn.now c.requires.turns in
-    let e = ap (λ n. n.0) c.event-event.ensures in
-    omega (arith, known, e)
+pub returns-in_default : goal.returns-in_default
+returns-in_default c =
+    let p = c.args.inst.now in
+    let m = c.args.monitor in
+    let s = c.args.told.now in
+    let t = c.args.turn.now in
+    let e : c.event.result.0 ≡ t.before.event.0 = ap (λ n. n.0) c.event.ensures in
+    let none = none_in_role p m c.args.places.now t.before.event.0 c.requires.places
+    (turn_event p s t c.requires.turns) c.requires.named
+    (subst (λ (n : ℕ). (i : ℕ) → IsAt c.args.places.now n i → ⊥) e c.in_default.ensures) in
+    record {
+      keeps = turned_still p m s t c.requires.turns c.requires.named c.args.candidates.now c.args.counts.now.items
+          c.args.above (λ j o new was is. inr (none j)) c.requires.keeps;
+    }
 
 pub rise-above-requires-clause-listed : goal.rise-above-requires-clause-listed
 rise-above-requires-clause-listed c =
     let p = c.args.inst.now in
     let m = c.args.monitor in
+    let s = c.args.told.now in
     let t = c.args.turn.now in
-    let place = is_place p c.args.told.now t c.given_before-before.result.now c.given_after-after.result.now c.loop-k.k
-    c.requires.turns c.given_before-before.ensures c.given_after-after.ensures c.loop-k-test.true in
-    let role : in_role p m t.before.event.0 c.loop-k.k ≡ true = ap (λ e. in_role p m e.0 c.loop-k.k)
-    (sym c.event-event.ensures) ∙ sym c.has_role.ensures ∙ c.if-has_role.true in
-    listed_after p m c.args.told.now t c.args.candidates.now c.args.counts.now.items c.args.above c.requires.keeps
-    c.requires.turns c.requires.named c.loop-k.k
-    (get_or c.given_after-after.result.now c.loop-k.k None) role place.is
+    let k = c.in-Some.place in
+    let e : c.event.result.0 ≡ t.before.event.0 = ap (λ n. n.0) c.event.ensures in
+    let only = place_only p m c.args.places.now t.before.event.0 k c.requires.places
+    (subst (λ (n : ℕ). IsPlaceAt c.args.places.now n k) e c.in-Some.ensures) in
+    let old = c.given_at-before.ensures ∙ ap (λ xs. get_or xs k None) c.given_before.ensures in
+    let new = c.given_at-after.ensures ∙ ap (λ xs. get_or xs k None) c.given_after.ensures in
+    let l : k < length t.after.given = within_other p m s t c.requires.turns c.requires.named k
+    (λ h. c.is_other.ensures.differ c.if-is_other.true (old ∙ h ∙ sym new)) in
+    listed_after p m s t c.args.candidates.now c.args.counts.now.items c.args.above c.requires.keeps c.requires.turns
+    c.requires.named k c.given_at-after.result only.0
+    (read_at c.given_after.result.now t.after.given k c.given_at-after.result c.given_after.ensures
+    c.given_at-after.ensures l)
 
 pub rise-above-requires-clause-within : goal.rise-above-requires-clause-within
 rise-above-requires-clause-within c =
-    let so = c.loop-k.invariant in
-    let p = c.args.inst.now in
-    let m = c.args.monitor in
-    let s = c.args.told.now in
-    let t = c.args.turn.now in
-    held_within (held p m (midway s t c.loop-k.k)) c.args.candidates.now c.loop-k.counts.items so.amount so.counts
-    (λ q. held_mixed_few p m s t c.requires.turns c.requires.named c.loop-k.k q c.facts.ensures)
+    held_within (held c.args.inst.now c.args.monitor c.args.told.now) c.args.candidates.now c.args.counts.now.items
+    c.requires.keeps.amount c.requires.keeps.counts
+    (λ q. held_few c.args.inst.now c.args.monitor c.args.told.now q c.facts.ensures c.requires.turns.told.whose)
 
 pub rise-above-requires-clause-above : goal.rise-above-requires-clause-above
 rise-above-requires-clause-above c =
-    let a = holders_few c.args.inst.now (held c.args.inst.now c.args.monitor
-    (midway c.args.told.now c.args.turn.now c.loop-k.k)) c.facts.ensures in
-    let b = c.loop-k.invariant.above in
+    let a = holders_few c.args.inst.now (held c.args.inst.now c.args.monitor c.args.told.now) c.facts.ensures in
+    let b = c.requires.keeps.above in
     omega (arith, a, b)
 
-pub fall-above-requires-clause-listed : goal.fall-above-requires-clause-listed
-fall-above-requires-clause-listed c =
-    let p = c.args.inst.now in
-    let m = c.args.monitor in
-    let t = c.args.turn.now in
-    let place = is_place p c.args.told.now t c.given_before-before.result.now c.given_after-after.result.now c.loop-k.k
-    c.requires.turns c.given_before-before.ensures c.given_after-after.ensures c.loop-k-test.true in
-    let role : in_role p m t.before.event.0 c.loop-k.k ≡ true = ap (λ e. in_role p m e.0 c.loop-k.k)
-    (sym c.event-event.ensures) ∙ sym c.has_role.ensures ∙ c.if-has_role.true in
-    listed_before p m c.args.told.now t c.args.candidates.now c.args.counts.now.items c.args.above c.requires.keeps
-    c.requires.turns c.requires.named c.loop-k.k
-    (get_or c.given_before-before.result.now c.loop-k.k None) role place.was
-
-pub loop-k-preserved : goal.loop-k-preserved
-loop-k-preserved c =
+pub fall-requires-clause-listed : goal.fall-requires-clause-listed
+fall-requires-clause-listed c =
     let p = c.args.inst.now in
     let m = c.args.monitor in
     let s = c.args.told.now in
     let t = c.args.turn.now in
-    let numbers = c.args.candidates.now in
-    let old = c.args.counts.now.items in
-    let row = c.loop-k.counts.items in
-    let k = c.loop-k.k in
-    let kept = c.requires.keeps in
+    let k = c.in-Some.place in
+    let e : c.event.result.0 ≡ t.before.event.0 = ap (λ n. n.0) c.event.ensures in
+    let only = place_only p m c.args.places.now t.before.event.0 k c.requires.places
+    (subst (λ (n : ℕ). IsPlaceAt c.args.places.now n k) e c.in-Some.ensures) in
+    let old = c.given_at-before.ensures ∙ ap (λ xs. get_or xs k None) c.given_before.ensures in
+    let new = c.given_at-after.ensures ∙ ap (λ xs. get_or xs k None) c.given_after.ensures in
+    let l : k < length t.after.given = within_other p m s t c.requires.turns c.requires.named k
+    (λ h. c.is_other.ensures.differ c.if-is_other.true (old ∙ h ∙ sym new)) in
+    let same = same_places p s t c.requires.turns in
+    let l_old : k < length t.before.given = omega (arith, l, same) in
+    listed_before p m s t c.args.candidates.now c.args.counts.now.items c.args.above c.requires.keeps c.requires.turns
+    c.requires.named k c.given_at-before.result only.0
+    (read_at c.given_before.result.now t.before.given k c.given_at-before.result c.given_before.ensures
+    c.given_at-before.ensures l_old)
+
+pub returns-then-is_other : goal.returns-then-is_other
+returns-then-is_other c =
+    let p = c.args.inst.now in
+    let m = c.args.monitor in
+    let s = c.args.told.now in
+    let t = c.args.turn.now in
     let turns = c.requires.turns in
     let named = c.requires.named in
-    let o = get_or c.given_before-before.result.now k None in
-    let new = get_or c.given_after-after.result.now k None in
-    let place = is_place p s t c.given_before-before.result.now c.given_after-after.result.now k turns
-    c.given_before-before.ensures c.given_after-after.ensures c.loop-k-test.true in
-    let e = c.event-event.ensures in
-    elim c.if-is_other.branch [
-      | then-is_other+then-has_role w ↦
-          let role : in_role p m t.before.event.0 k ≡ true = ap (λ a. in_role p m a.0 k) (sym e)
-          ∙ sym w.has_role.ensures ∙ w.if-has_role.true in
-          let was = listed_before p m s t numbers old c.args.above kept turns named k o role place.was in
-          let is = listed_after p m s t numbers old c.args.above kept turns named k new role place.is in
-          let within = listed_within p m s numbers old c.args.above kept in
-          let done = midway_turned p m s t turns named numbers row w.rise-above.new.counts.items
-          w.fall-above.new.counts.items c.loop-k.above w.rise-above.result w.fall-above.result k o new place.was
-          place.is
-          role (within o was) (within new is) w.fall-above.ensures.amount w.rise-above.ensures.counts
-          w.rise-above.ensures.above w.fall-above.ensures.counts w.fall-above.ensures.above c.loop-k.invariant in
-          subst (λ v. AreMidway p m s t numbers v.items c.if-is_other.above (k + 1)) (sym w.counts-is)
-          (subst (λ n. AreMidway p m s t numbers w.fall-above.new.counts.items n (k + 1)) (sym w.above-is) done)
-      | else-is_other w ↦
-          let still : (o ≡ new) ⊎ (in_role p m t.before.event.0 k ≡ false) = elim w.else-is_other.branch [
-            | else-is_other-via-then-is_other+else-has_role v ↦ inr (ap (λ a. in_role p m a.0 k) (sym e)
-                ∙ sym v.has_role.ensures ∙ v.if-has_role.false)
-            | else-is_other-via-else-is_other v ↦ inl (c.is_other.ensures v.if-is_other.false)
-          ] in
-          subst (λ v. AreMidway p m s t numbers v.items c.if-is_other.above (k + 1)) (sym w.counts-is)
-          (subst (λ n. AreMidway p m s t numbers row n (k + 1)) (sym w.above-is)
-          (midway_kept p m s t turns named numbers row c.loop-k.above k o new place.was place.is still
-          c.loop-k.invariant))
-    ]
+    let kept = c.requires.keeps in
+    let numbers = c.args.candidates.now in
+    let row = c.args.counts.now.items in
+    let n = c.args.above in
+    let k = c.in-Some.place in
+    let o = c.given_at-before.result in
+    let o_new = c.given_at-after.result in
+    let e : c.event.result.0 ≡ t.before.event.0 = ap (λ n. n.0) c.event.ensures in
+    let only = place_only p m c.args.places.now t.before.event.0 k c.requires.places
+    (subst (λ (n : ℕ). IsPlaceAt c.args.places.now n k) e c.in-Some.ensures) in
+    let old = c.given_at-before.ensures ∙ ap (λ xs. get_or xs k None) c.given_before.ensures in
+    let new = c.given_at-after.ensures ∙ ap (λ xs. get_or xs k None) c.given_after.ensures in
+    let l : k < length t.after.given = within_other p m s t turns named k
+    (λ h. c.is_other.ensures.differ c.if-is_other.true (old ∙ h ∙ sym new)) in
+    let same = same_places p s t turns in
+    let l_old : k < length t.before.given = omega (arith, l, same) in
+    let was = read_at c.given_before.result.now t.before.given k o c.given_before.ensures c.given_at-before.ensures l_old in
+    let is = read_at c.given_after.result.now t.after.given k o_new c.given_after.ensures c.given_at-after.ensures l in
+    let there_old = listed_within p m s numbers row n kept o
+    (listed_before p m s t numbers row n kept turns named k o only.0 was) in
+    let there_new = listed_within p m s numbers row n kept o_new
+    (listed_after p m s t numbers row n kept turns named k o_new only.0 is) in
+    record {
+      keeps = turned_at p m s t turns named numbers row c.fall.new.counts.items n c.fall.result k l
+          (λ j apart a b u v. inr (others_not p m t.before.event.0 k only j apart))
+          (midway_turned p m s t turns named numbers row c.rise-above.new.counts.items c.fall.new.counts.items n
+          c.rise-above.result c.fall.result k o o_new was is only.0 there_old there_new c.fall.ensures.amount
+          c.rise-above.ensures.counts c.rise-above.ensures.above c.fall.ensures.counts c.fall.ensures.above)
+          kept;
+    }
 
 pub returns : goal.returns
-returns c = record {
-  keeps =
-      midway_done c.args.inst.now c.args.monitor c.args.told.now c.args.turn.now c.requires.turns c.requires.named
-      c.args.candidates.now c.args.counts.now.items c.loop-k.counts.items c.args.above c.loop-k.above c.loop-k.k
-      (let a = ap length c.given_after-after.ensures in let b = c.loop-k-test.false in omega (arith, a, b))
-      c.requires.keeps c.loop-k.invariant;
-}
+returns c =
+    let p = c.args.inst.now in
+    let m = c.args.monitor in
+    let s = c.args.told.now in
+    let t = c.args.turn.now in
+    let k = c.in-Some.place in
+    let e : c.event.result.0 ≡ t.before.event.0 = ap (λ n. n.0) c.event.ensures in
+    let only = place_only p m c.args.places.now t.before.event.0 k c.requires.places
+    (subst (λ (n : ℕ). IsPlaceAt c.args.places.now n k) e c.in-Some.ensures) in
+    let old = c.given_at-before.ensures ∙ ap (λ xs. get_or xs k None) c.given_before.ensures in
+    let new = c.given_at-after.ensures ∙ ap (λ xs. get_or xs k None) c.given_after.ensures in
+    record {
+      keeps = turned_still p m s t c.requires.turns c.requires.named c.args.candidates.now c.args.counts.now.items
+          c.args.above
+          (still_one p m s t c.requires.turns c.requires.named k
+          (sym old ∙ c.is_other.ensures.same c.if-is_other.false ∙ new)
+          (others_not p m t.before.event.0 k only))
+          c.requires.keeps;
+    }
