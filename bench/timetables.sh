@@ -7,8 +7,5 @@
 #     bench/timetables.sh
 . "$(dirname "$0")/programs.sh"
 copy_program "$work/made" timetables khe_base timetables
-mkdir -p "$work/made/crates/bench/specs"
-cp "$top/crates/engine_tests/specs/Sheets.antt" "$work/made/crates/bench/specs/"
-echo "pub mod Sheets" > "$work/made/crates/bench/specs/Lib.antt"
 run_program "$work/made"
 grep -a ' rounds of ' "$work/log"
