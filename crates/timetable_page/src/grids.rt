@@ -10,7 +10,8 @@ use khe_base::{MonitorId, NoMemory, ResourceId, Seq, Text};
 use std::alloc::Global;
 
 /// What the marks of cells mean, above the timetables of a solution.
-const LEGEND: &str = "<p class=\"legend\">Marks: <b>clash</b>, more than one meet at the time; <b>unavailable</b>, a \
+const LEGEND: &str =
+    "<p class=\"legend\">Marks: <b>clash</b>, more than one meet at the time; <b>unavailable</b>, a \
 meet at a time to be kept free; <b>idle</b>, a gap between meets; <b>off</b>, a time to be kept free.</p>\n";
 
 /// Adds one meet of a cell: its event, and the other resources that it is given.
