@@ -3,6 +3,7 @@ use Rattle.std.specs.Prelude.{ℕ, ◌≡◌, ◌<◌, ◌≤◌, ◌⊎◌, Boo
 use Rattle.std.specs.Prelude.{length, slice_get, encode_utf8_all}
 use Rattle.std.specs.Option.{option_map_or}
 use Rattle.khe_base.specs.declared.limits.TheConstants.{ARCHIVE_BYTES}
+use Rattle.archive_reading.specs.Reading.{Reading, evaluable, refused, IsReadingOf}
 use Rattle.construct_run.specs.Constructs.{IsConstructText}
 use Rattle.archive_generator.specs.Made.{made}
 use Rattle.khe_engine.specs.Openings.{IsStateOf}
