@@ -8,8 +8,9 @@ ghost use Rattle.khe_instance.specs.States.{IsValid};
 ghost use Rattle.talk_app.specs.Ends.{IsEnd, status_after};
 ghost use Rattle.talk_app.specs.Outcome.{IsTalkOf, IsTalkOn};
 
+use archive_reading::{ReadArchive, Unread};
 use hall_report::WithDemands;
-use khe_app::{ReadArchive, Status, Unread, begin, instance_numbered, put_refusal};
+use khe_app::{Status, begin, instance_numbered, put_refusal};
 use khe_base::NoMemory;
 use khe_engine::Engine;
 use khe_instance::{Instance, Plain};
