@@ -1,7 +1,6 @@
 //! Archives that many tests change a part of.
 
-use khe_base::{NoMemory, Text};
-use std::alloc::Global;
+use std::alloc::{AllocError, Global};
 
 /// An archive of one event of three times, without a start.
 pub(crate) const FIRST: &str = r#"<HighSchoolTimetableArchive>
@@ -15,50 +14,35 @@ pub(crate) const FIRST: &str = r#"<HighSchoolTimetableArchive>
 </HighSchoolTimetableArchive>
 "#;
 
-/// The text of these parts.
-pub(crate) fn joined(alloc: Global, parts: &[&str]) -> Result<Text, NoMemory> {
-    let mut text = Text::new(alloc);
-    let pushed = push_parts(&mut text, parts);
-    pushed.and(Ok(text))
-}
-
-fn push_parts(text: &mut Text, parts: &[&str]) -> Result<(), NoMemory> {
-    for part in parts {
-        text.push_str(part)?;
-    }
-    Ok(())
-}
-
-/// This archive with other parts in place of the first `part` behind the first `after`. It is no text at all, and so
-/// no archive, where there is no such part.
+/// This archive with `other` in place of the first `part` behind the first `after`, or `None` where
+/// it has no such part.
 pub(crate) fn replaced(
     alloc: Global,
     archive: &str,
     after: &str,
     part: &str,
-    other: &[&str],
-) -> Result<Text, NoMemory> {
-    let mut text = Text::new(alloc);
-    let pushed = push_replaced(&mut text, archive, after, part, other);
-    pushed.and(Ok(text))
-}
-
-fn push_replaced(
-    text: &mut Text,
-    archive: &str,
-    after: &str,
-    part: &str,
-    other: &[&str],
-) -> Result<(), NoMemory> {
+    other: &str,
+) -> Result<Option<String>, AllocError> {
     let Some((front, rest)) = archive.split_once(after) else {
-        return Ok(());
+        return Ok(None);
     };
     let Some((before, behind)) = rest.split_once(part) else {
-        return Ok(());
+        return Ok(None);
     };
-    text.push_str(front)?;
-    text.push_str(after)?;
-    text.push_str(before)?;
-    push_parts(text, other)?;
-    text.push_str(behind)
+    let text = format!(in alloc; "{front}{after}{before}{other}{behind}")?;
+    Ok(Some(text))
+}
+
+/// The first archive with one part of its text in place of another, or `None` where it has no such
+/// part.
+pub(crate) fn first_with(
+    alloc: Global,
+    part: &str,
+    other: &str,
+) -> Result<Option<String>, AllocError> {
+    let Some((before, after)) = FIRST.split_once(part) else {
+        return Ok(None);
+    };
+    let text = format!(in alloc; "{before}{other}{after}")?;
+    Ok(Some(text))
 }

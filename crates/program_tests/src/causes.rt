@@ -1,11 +1,11 @@
 //! Solutions that are invalid, each for its cause.
 
-use crate::archives::{joined, replaced};
+use crate::archives::replaced;
 use crate::ends::must_answer;
-use khe_base::{NoMemory, both};
 use program_runs::{End, TWO_EVENTS};
 use std::alloc::Global;
 use std::process::Abort;
+use std::test::Fail;
 use std::thread::Threads;
 
 /// An archive of an event with a time and resources of its own, of an event without them, and of two
@@ -37,11 +37,6 @@ const OWN_AND_OPEN: &str = r#"<HighSchoolTimetableArchive>
 const EMPTY: &str =
     "monitor 1 AssignTime \"time\" event \"F\" deviation 2 hard 2\nmonitor 2 AssignResource \"room\" event \"E\" role \"R\" deviation 2 hard 20\nmonitor 3 AssignResource \"room\" event \"F\" role \"R\" deviation 2 hard 20\ntotal hard 42 soft 0\n";
 
-/// What is told before the lines of the first solution, and before those of the second.
-const FIRST: &str = "archive instances 1 solutions 2\nsolution 0 group \"G\" instance \"I\"\n";
-
-const SECOND: &str = "solution 1 group \"G\" instance \"I\"\n";
-
 /// The entries of a solution, and the lines that are told of it.
 type Told = (&'static str, &'static str);
 
@@ -51,29 +46,28 @@ fn must_tell<R: Threads + Sync + Abort>(
     rt: &R,
     alloc: Global,
     (entries, lines): Told,
-) -> Result<(), NoMemory> {
-    let begun = "<Solution Reference=\"I\"><Events>";
-    let other = [begun, entries, "</Events></Solution>"];
-    let archive = replaced(
-        alloc,
-        OWN_AND_OPEN,
-        "",
-        "<Solution Reference=\"I\"/>",
-        &other,
-    );
-    let (archive, text) = both(archive, joined(alloc, &[FIRST, lines, SECOND, EMPTY]))?;
+) -> Result<(), Fail> {
+    let other = format!(in alloc;
+        "<Solution Reference=\"I\"><Events>{entries}</Events></Solution>"
+    )?;
+    let part = "<Solution Reference=\"I\"/>";
+    let archive = replaced(alloc, OWN_AND_OPEN, "", part, other.as_str())?.ok_or("no such part")?;
+    let first = "archive instances 1 solutions 2\nsolution 0 group \"G\" instance \"I\"\n";
+    let second = "solution 1 group \"G\" instance \"I\"\n";
+    let text = format!(in alloc; "{first}{lines}{second}{EMPTY}")?;
     let end = End {
         status: 0,
         text: text.as_str(),
     };
-    must_answer(rt, alloc, &["evaluate", "archive"], archive.as_str(), end)
+    must_answer(rt, alloc, &["evaluate", "archive"], archive.as_str(), end)?;
+    Ok(())
 }
 
 fn must_tell_all<R: Threads + Sync + Abort>(
     rt: &R,
     alloc: Global,
     rows: &[Told],
-) -> Result<(), NoMemory> {
+) -> Result<(), Fail> {
     for row in rows {
         must_tell(rt, alloc, *row)?;
     }
@@ -137,7 +131,7 @@ const TIMES_AND_DURATIONS: &[Told] = &[
 ];
 
 #[test]
-fn names_the_causes_of_times_and_durations(rt: HostRuntime) -> Result<(), NoMemory> {
+fn names_the_causes_of_times_and_durations(rt: HostRuntime) -> Result<(), Fail> {
     must_tell_all(&rt, rt.alloc(), TIMES_AND_DURATIONS)
 }
 
@@ -190,7 +184,7 @@ const RESOURCES: &[Told] = &[
 ];
 
 #[test]
-fn names_the_causes_of_resources(rt: HostRuntime) -> Result<(), NoMemory> {
+fn names_the_causes_of_resources(rt: HostRuntime) -> Result<(), Fail> {
     must_tell_all(&rt, rt.alloc(), RESOURCES)
 }
 
@@ -223,18 +217,18 @@ const VALID: &[Told] = &[
 ];
 
 #[test]
-fn evaluates_solutions_without_a_cause(rt: HostRuntime) -> Result<(), NoMemory> {
+fn evaluates_solutions_without_a_cause(rt: HostRuntime) -> Result<(), Fail> {
     must_tell_all(&rt, rt.alloc(), VALID)
 }
 
 #[test]
-fn evaluates_behind_an_invalid_solution(rt: HostRuntime) -> Result<(), NoMemory> {
+fn evaluates_behind_an_invalid_solution(rt: HostRuntime) -> Result<(), Fail> {
     let part = "<Solution Reference=\"J\"/>";
     let other =
         "<Solution Reference=\"J\"><Events><Event Reference=\"E\"><Time Reference=\"t1\"/></Event></Events></Solution>";
     let text =
         "archive instances 1 solutions 2\nsolution 0 group \"H\" instance \"J\"\ninvalid 4 OffEnd entry 0\nsolution 1 group \"H\" instance \"J\"\ntotal hard 0 soft 0\n";
-    let archive = replaced(rt.alloc(), TWO_EVENTS, "", part, &[other])?;
+    let archive = replaced(rt.alloc(), TWO_EVENTS, "", part, other)?.ok_or("no such part")?;
     let end = End {
         status: 0,
         text: text,
@@ -245,5 +239,6 @@ fn evaluates_behind_an_invalid_solution(rt: HostRuntime) -> Result<(), NoMemory>
         &["evaluate", "archive"],
         archive.as_str(),
         end,
-    )
+    )?;
+    Ok(())
 }

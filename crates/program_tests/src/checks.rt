@@ -2,14 +2,14 @@
 
 use crate::archives::FIRST;
 use crate::ends::{must_answer, must_end};
-use khe_base::{NoMemory, both};
 use program_runs::Piece::{Copies, Once};
-use program_runs::{Call, End, File, Piece, failing, text_of};
+use program_runs::{Call, End, File, failing, text_of};
 use std::alloc::Global;
 use std::process::Abort;
+use std::test::Fail;
 use std::thread::Threads;
 
-const CHECK: &[&str] = &["check", "archive"];
+const CHECK: [&str; 2] = ["check", "archive"];
 
 /// The canonical spelling of the first archive, as a program written apart from this one gave it.
 const FIRST_SPELLED: &str = r#"<?xml version="1.0" encoding="UTF-8"?>
@@ -59,16 +59,16 @@ const SMALLEST_SPELLED: &str =
 type Case = (&'static [&'static str], &'static str, u8, &'static str);
 
 const CASES: &[Case] = &[
-    (CHECK, SMALLEST, 0, SMALLEST_SPELLED),
-    (CHECK, SMALLEST_SPELLED, 0, SMALLEST_SPELLED),
+    (&CHECK, SMALLEST, 0, SMALLEST_SPELLED),
+    (&CHECK, SMALLEST_SPELLED, 0, SMALLEST_SPELLED),
     (
-        CHECK,
+        &CHECK,
         "<HighSchoolTimetableArchive Id=\"a&amp;&#9;b\"/>",
         0,
         "<?xml version=\"1.0\" encoding=\"UTF-8\"?>\n<HighSchoolTimetableArchive Id=\"a&amp;&#9;b\"/>\n",
     ),
-    (CHECK, FIRST, 0, FIRST_SPELLED),
-    (CHECK, FIRST_SPELLED, 0, FIRST_SPELLED),
+    (&CHECK, FIRST, 0, FIRST_SPELLED),
+    (&CHECK, FIRST_SPELLED, 0, FIRST_SPELLED),
     (
         &["evaluate", "archive"],
         FIRST_SPELLED,
@@ -76,13 +76,13 @@ const CASES: &[Case] = &[
         "archive instances 1 solutions 1\nsolution 0 group \"G\" instance \"I\"\nmonitor 0 AssignTime \"c\" event \"E\" deviation 3 hard 6\ntotal hard 6 soft 0\n",
     ),
     (
-        CHECK,
+        &CHECK,
         "<HighSchoolTimetableArchive></HighSch",
         3,
         "khe: archive refused: 2 BadMarkup at 37\n",
     ),
     (
-        CHECK,
+        &CHECK,
         "<HighSchoolTimetableArchive><SolutionGroups><SolutionGroup Id=\"G\"><Solution Reference=\"X\"/></SolutionGroup></SolutionGroups></HighSchoolTimetableArchive>",
         3,
         "khe: archive refused: 13 UnknownReference at 87\n",
@@ -107,7 +107,7 @@ fn must_end_all<R: Threads + Sync + Abort>(
     rt: &R,
     alloc: Global,
     cases: &[Case],
-) -> Result<(), NoMemory> {
+) -> Result<(), Fail> {
     for case in cases {
         let (words, archive, status, text) = *case;
         let end = End { status, text: text };
@@ -117,42 +117,36 @@ fn must_end_all<R: Threads + Sync + Abort>(
 }
 
 #[test]
-fn archives_are_spelled_or_refused(rt: HostRuntime) -> Result<(), NoMemory> {
+fn archives_are_spelled_or_refused(rt: HostRuntime) -> Result<(), Fail> {
     must_end_all(&rt, rt.alloc(), CASES)
 }
 
-const START: Piece = Once("<HighSchoolTimetableArchive Id=\"");
-
-/// An archive with an Id of 70,000 letters.
-const LONG: &[Piece] = &[START, Copies(70_000, "a"), Once("\"/>")];
-
-/// How its spelling begins.
-const LONG_FRONT: &[Piece] = &[
-    Once("<?xml version=\"1.0\" encoding=\"UTF-8\"?>\n"),
-    START,
-    Copies(70_000, "a"),
-];
-
-/// The test fails unless that archive is written in two pieces: the second call of the sink, which fails, is asked
-/// for what stands after the letters.
-fn must_be_cut<R: Threads + Sync + Abort>(rt: &R, alloc: Global) -> Result<(), NoMemory> {
-    let (archive, front) = both(text_of(alloc, LONG), text_of(alloc, LONG_FRONT))?;
+/// An archive with an Id of 70,000 letters is written in two pieces: the second call of the sink is
+/// asked for what stands after the letters.
+#[test]
+fn a_long_text_is_written_in_pieces(rt: HostRuntime) -> Result<(), Fail> {
+    let start = "<HighSchoolTimetableArchive Id=\"";
+    let archive = text_of(
+        rt.alloc(),
+        &[Once(start), Copies(70_000, "a"), Once("\"/>")],
+    )?;
+    let declaration = "<?xml version=\"1.0\" encoding=\"UTF-8\"?>\n";
+    let front = text_of(
+        rt.alloc(),
+        &[Once(declaration), Once(start), Copies(70_000, "a")],
+    )?;
     let files = [File {
         name: "archive",
         text: archive.as_str(),
     }];
     let call = Call {
-        words: CHECK,
+        words: &CHECK,
         files: &files,
     };
     let end = End {
         status: 5,
         text: front.as_str(),
     };
-    must_end(rt, alloc, call, failing(0, 2), end)
-}
-
-#[test]
-fn a_long_text_is_written_in_pieces(rt: HostRuntime) -> Result<(), NoMemory> {
-    Ok(must_be_cut(&rt, rt.alloc())?)
+    must_end(&rt, rt.alloc(), call, failing(0, 2), end)?;
+    Ok(())
 }

@@ -1,10 +1,11 @@
 //! Archives of each kind of constraint.
 
 use crate::ends::must_answer;
-use khe_base::{NoMemory, Text, both};
+use khe_base::NoMemory;
 use program_runs::End;
 use std::alloc::Global;
 use std::process::Abort;
+use std::test::Fail;
 use std::thread::Threads;
 
 /// The start of an archive with a day of five times, a resource and an event group.
@@ -42,75 +43,39 @@ type Measured = (
     &'static str,
 );
 
-/// Adds the archive of these events, one constraint of this kind, and one solution of these entries.
-fn push_archive(text: &mut Text, row: Measured) -> Result<(), NoMemory> {
-    let (events, kind, rule, entries, _, _) = row;
-    text.push_str(TIMES)?;
-    text.push_str(events)?;
-    text.push_str(EVENTS_END)?;
-    text.push_str("<")?;
-    text.push_str(kind)?;
-    text.push_str("Constraint Id=\"c\">")?;
-    text.push_str(COST)?;
-    text.push_str(rule)?;
-    text.push_str("</")?;
-    text.push_str(kind)?;
-    text.push_str("Constraint>")?;
-    text.push_str(CONSTRAINT_END)?;
-    text.push_str(entries)?;
-    text.push_str(SOLUTION_END)
-}
-
-/// Adds the report in which the only monitor's line has this point and this deviation.
-fn push_report(text: &mut Text, row: Measured) -> Result<(), NoMemory> {
-    let (_, kind, _, _, point, deviation) = row;
-    text.push_str(
-        "archive instances 1 solutions 1\nsolution 0 group \"G\" instance \"I\"\nmonitor 0 ",
-    )?;
-    text.push_str(kind)?;
-    text.push_str(" \"c\" ")?;
-    text.push_str(point)?;
-    text.push_str(" deviation ")?;
-    text.push_str(deviation)?;
-    text.push_str(" hard ")?;
-    text.push_str(deviation)?;
-    text.push_str("\ntotal hard ")?;
-    text.push_str(deviation)?;
-    text.push_str(" soft 0\n")
-}
-
-fn archive_of(alloc: Global, row: Measured) -> Result<Text, NoMemory> {
-    let mut text = Text::new(alloc);
-    let pushed = push_archive(&mut text, row);
-    pushed.and(Ok(text))
-}
-
-fn report_of(alloc: Global, row: Measured) -> Result<Text, NoMemory> {
-    let mut text = Text::new(alloc);
-    let pushed = push_report(&mut text, row);
-    pushed.and(Ok(text))
-}
-
-/// The test fails unless the archive of a row is evaluated to its report.
+/// The test fails unless the only monitor's line has this point and this deviation, for an archive of these
+/// events, one constraint of this kind, and one solution of these entries.
 fn must_deviate<R: Threads + Sync + Abort>(
     rt: &R,
     alloc: Global,
-    row: Measured,
+    (events, kind, rule, entries, point, deviation): Measured,
 ) -> Result<(), NoMemory> {
-    let (archive, text) = both(archive_of(alloc, row), report_of(alloc, row))?;
+    let start = format!(in alloc; "{TIMES}{events}{EVENTS_END}<{kind}Constraint Id=\"c\">{COST}")?;
+    let end = format!(in alloc; "</{kind}Constraint>{CONSTRAINT_END}{entries}{SOLUTION_END}")?;
+    let archive = format!(in alloc; "{start}{rule}{end}")?;
+    let header = "archive instances 1 solutions 1\nsolution 0 group \"G\" instance \"I\"\n";
+    let line = format!(in alloc;
+        "monitor 0 {kind} \"c\" {point} deviation {deviation} hard {deviation}\n"
+    )?;
+    let text = format!(in alloc; "{header}{line}total hard {deviation} soft 0\n")?;
     let end = End {
         status: 0,
         text: text.as_str(),
     };
-    let words = ["evaluate", "archive", "--all"];
-    must_answer(rt, alloc, &words, archive.as_str(), end)
+    must_answer(
+        rt,
+        alloc,
+        &["evaluate", "archive", "--all"],
+        archive.as_str(),
+        end,
+    )
 }
 
 fn must_deviate_all<R: Threads + Sync + Abort>(
     rt: &R,
     alloc: Global,
     rows: &[Measured],
-) -> Result<(), NoMemory> {
+) -> Result<(), Fail> {
     for row in rows {
         must_deviate(rt, alloc, *row)?;
     }
@@ -170,7 +135,7 @@ const KINDS_OF_EVENTS: &[Measured] = &[
 ];
 
 #[test]
-fn measures_kinds_of_events(rt: HostRuntime) -> Result<(), NoMemory> {
+fn measures_kinds_of_events(rt: HostRuntime) -> Result<(), Fail> {
     must_deviate_all(&rt, rt.alloc(), KINDS_OF_EVENTS)
 }
 
@@ -251,6 +216,6 @@ const KINDS_OF_RESOURCES: &[Measured] = &[
 ];
 
 #[test]
-fn measures_kinds_of_resources(rt: HostRuntime) -> Result<(), NoMemory> {
+fn measures_kinds_of_resources(rt: HostRuntime) -> Result<(), Fail> {
     must_deviate_all(&rt, rt.alloc(), KINDS_OF_RESOURCES)
 }

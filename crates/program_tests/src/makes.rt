@@ -2,10 +2,10 @@
 //! gave.
 
 use crate::ends::must_answer;
-use khe_base::NoMemory;
 use program_runs::{End, MADE_ONE_EVENT};
 use std::alloc::Global;
 use std::process::Abort;
+use std::test::Fail;
 use std::thread::Threads;
 
 /// Words, and how the run ends.
@@ -48,7 +48,7 @@ fn must_end_all<R: Threads + Sync + Abort>(
     rt: &R,
     alloc: Global,
     cases: &[Case],
-) -> Result<(), NoMemory> {
+) -> Result<(), Fail> {
     for case in cases {
         let (words, status, text) = *case;
         must_answer(rt, alloc, words, "", End { status, text: text })?;
@@ -57,6 +57,6 @@ fn must_end_all<R: Threads + Sync + Abort>(
 }
 
 #[test]
-fn archives_are_made_and_jobs_run(rt: HostRuntime) -> Result<(), NoMemory> {
+fn archives_are_made_and_jobs_run(rt: HostRuntime) -> Result<(), Fail> {
     must_end_all(&rt, rt.alloc(), CASES)
 }

@@ -1,14 +1,14 @@
 //! Archives whose names and references are resolved.
 
-use crate::archives::{joined, replaced};
+use crate::archives::replaced;
 use crate::ends::must_answer;
-use khe_base::{NoMemory, both};
 use program_runs::End;
 use std::alloc::Global;
 use std::process::Abort;
+use std::test::Fail;
 use std::thread::Threads;
 
-const EVALUATE: &[&str] = &["evaluate", "archive"];
+const EVALUATE: [&str; 2] = ["evaluate", "archive"];
 
 /// An archive with each sort of name, of reference and of constraint. Its second instance has some
 /// names of its first and some of its own.
@@ -60,33 +60,30 @@ type Change = (&'static str, &'static str, &'static str, &'static str);
 /// its name has other letters in front.
 type Unknown = (&'static str, &'static str, &'static str);
 
-/// The test fails unless the archive is refused with this fault, where other parts stand in place of the first
+/// The test fails unless the archive is refused with this fault, where `other` stands in place of the first
 /// `part` behind the first `after`.
 fn must_refuse<R: Threads + Sync + Abort>(
     rt: &R,
     alloc: Global,
-    (after, part): (&str, &str),
-    other: &[&str],
-    fault: &[&str; 2],
-) -> Result<(), NoMemory> {
-    let [cause, place] = *fault;
-    let text = joined(alloc, &["khe: archive refused: ", cause, place, "\n"]);
-    let (archive, text) = both(replaced(alloc, ARCHIVE, after, part, other), text)?;
+    (after, part, other, fault): (&str, &str, &str, &str),
+) -> Result<(), Fail> {
+    let archive = replaced(alloc, ARCHIVE, after, part, other)?.ok_or("no such part")?;
+    let text = format!(in alloc; "khe: archive refused: {fault}\n")?;
     let end = End {
         status: 3,
         text: text.as_str(),
     };
-    must_answer(rt, alloc, EVALUATE, archive.as_str(), end)
+    must_answer(rt, alloc, &EVALUATE, archive.as_str(), end)?;
+    Ok(())
 }
 
 fn must_refuse_all<R: Threads + Sync + Abort>(
     rt: &R,
     alloc: Global,
     changes: &[Change],
-) -> Result<(), NoMemory> {
+) -> Result<(), Fail> {
     for change in changes {
-        let (after, part, other, fault) = *change;
-        must_refuse(rt, alloc, (after, part), &[other], &[fault, ""])?;
+        must_refuse(rt, alloc, *change)?;
     }
     Ok(())
 }
@@ -96,16 +93,17 @@ fn must_be_unknown<R: Threads + Sync + Abort>(
     rt: &R,
     alloc: Global,
     (after, part, place): Unknown,
-) -> Result<(), NoMemory> {
-    let fault = ["13 UnknownReference at ", place];
-    must_refuse(rt, alloc, (after, part), &[part, "un"], &fault)
+) -> Result<(), Fail> {
+    let other = format!(in alloc; "{part}un")?;
+    let fault = format!(in alloc; "13 UnknownReference at {place}")?;
+    must_refuse(rt, alloc, (after, part, other.as_str(), fault.as_str()))
 }
 
 fn must_be_unknown_all<R: Threads + Sync + Abort>(
     rt: &R,
     alloc: Global,
     references: &[Unknown],
-) -> Result<(), NoMemory> {
+) -> Result<(), Fail> {
     for reference in references {
         must_be_unknown(rt, alloc, *reference)?;
     }
@@ -113,14 +111,15 @@ fn must_be_unknown_all<R: Threads + Sync + Abort>(
 }
 
 #[test]
-fn accepts_the_archive(rt: HostRuntime) -> Result<(), NoMemory> {
+fn accepts_the_archive(rt: HostRuntime) -> Result<(), Fail> {
     let text =
         "archive instances 2 solutions 2\nsolution 0 group \"I\" instance \"I\"\nmonitor 1 AssignResource \"c2\" event \"E\" role \"R\" deviation 1 hard 1\nmonitor 9 OrderEvents \"c10\" events \"E\" \"F\" deviation 2 hard 2\nmonitor 10 AvoidClashes \"c11\" resource \"p0\" deviation 1 hard 1\nmonitor 11 AvoidClashes \"c11\" resource \"q0\" deviation 1 hard 1\nmonitor 12 AvoidUnavailableTimes \"c12\" resource \"p0\" deviation 2 hard 2\nmonitor 13 AvoidUnavailableTimes \"c12\" resource \"q0\" deviation 1 hard 1\ntotal hard 8 soft 0\nsolution 1 group \"J\" instance \"J\"\ntotal hard 0 soft 0\n";
     let end = End {
         status: 0,
         text: text,
     };
-    must_answer(&rt, rt.alloc(), EVALUATE, ARCHIVE, end)
+    must_answer(&rt, rt.alloc(), &EVALUATE, ARCHIVE, end)?;
+    Ok(())
 }
 
 /// Names that came before in their class.
@@ -218,7 +217,7 @@ const REPEATED_NAMES: &[Change] = &[
 ];
 
 #[test]
-fn refuses_repeated_names(rt: HostRuntime) -> Result<(), NoMemory> {
+fn refuses_repeated_names(rt: HostRuntime) -> Result<(), Fail> {
     must_refuse_all(&rt, rt.alloc(), REPEATED_NAMES)
 }
 
@@ -243,7 +242,7 @@ const UNKNOWN_IN_THE_INSTANCE: &[Unknown] = &[
 ];
 
 #[test]
-fn refuses_unknown_names_in_the_instance(rt: HostRuntime) -> Result<(), NoMemory> {
+fn refuses_unknown_names_in_the_instance(rt: HostRuntime) -> Result<(), Fail> {
     must_be_unknown_all(&rt, rt.alloc(), UNKNOWN_IN_THE_INSTANCE)
 }
 
@@ -267,7 +266,7 @@ const UNKNOWN_AT_EVENTS: &[Unknown] = &[
 ];
 
 #[test]
-fn refuses_unknown_names_in_constraints_of_events(rt: HostRuntime) -> Result<(), NoMemory> {
+fn refuses_unknown_names_in_constraints_of_events(rt: HostRuntime) -> Result<(), Fail> {
     must_be_unknown_all(&rt, rt.alloc(), UNKNOWN_AT_EVENTS)
 }
 
@@ -290,7 +289,7 @@ const UNKNOWN_AT_RESOURCES: &[Unknown] = &[
 ];
 
 #[test]
-fn refuses_unknown_names_in_constraints_of_resources(rt: HostRuntime) -> Result<(), NoMemory> {
+fn refuses_unknown_names_in_constraints_of_resources(rt: HostRuntime) -> Result<(), Fail> {
     must_be_unknown_all(&rt, rt.alloc(), UNKNOWN_AT_RESOURCES)
 }
 
@@ -313,7 +312,7 @@ const UNKNOWN_IN_RULES: &[Unknown] = &[
 ];
 
 #[test]
-fn refuses_unknown_names_in_rules_and_solutions(rt: HostRuntime) -> Result<(), NoMemory> {
+fn refuses_unknown_names_in_rules_and_solutions(rt: HostRuntime) -> Result<(), Fail> {
     must_be_unknown_all(&rt, rt.alloc(), UNKNOWN_IN_RULES)
 }
 
@@ -400,7 +399,7 @@ const OTHER_SORTS: &[Change] = &[
 ];
 
 #[test]
-fn refuses_names_of_other_sorts_and_instances(rt: HostRuntime) -> Result<(), NoMemory> {
+fn refuses_names_of_other_sorts_and_instances(rt: HostRuntime) -> Result<(), Fail> {
     must_refuse_all(&rt, rt.alloc(), OTHER_SORTS)
 }
 
@@ -469,7 +468,7 @@ const ROLES_AND_ENDS: &[Change] = &[
 ];
 
 #[test]
-fn refuses_repeated_roles_and_late_events(rt: HostRuntime) -> Result<(), NoMemory> {
+fn refuses_repeated_roles_and_late_events(rt: HostRuntime) -> Result<(), Fail> {
     must_refuse_all(&rt, rt.alloc(), ROLES_AND_ENDS)
 }
 
@@ -520,7 +519,7 @@ const TOO_MUCH: &[Change] = &[
 ];
 
 #[test]
-fn refuses_too_much(rt: HostRuntime) -> Result<(), NoMemory> {
+fn refuses_too_much(rt: HostRuntime) -> Result<(), Fail> {
     must_refuse_all(&rt, rt.alloc(), TOO_MUCH)
 }
 
@@ -601,6 +600,6 @@ const FIRST_FAULTS: &[Change] = &[
 ];
 
 #[test]
-fn tells_the_first_fault(rt: HostRuntime) -> Result<(), NoMemory> {
+fn tells_the_first_fault(rt: HostRuntime) -> Result<(), Fail> {
     must_refuse_all(&rt, rt.alloc(), FIRST_FAULTS)
 }

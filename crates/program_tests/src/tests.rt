@@ -1,24 +1,25 @@
 //! Reports, words and refusals.
 
-use crate::archives::{FIRST, joined, replaced};
+use crate::archives::{FIRST, first_with};
 use crate::ends::{must_answer, must_end};
-use khe_base::{NoMemory, both};
-use program_runs::{Call, End, File, TWO_EVENTS, failing};
+use khe_base::NoMemory;
+use program_runs::{Call, Devices, End, File, GOOD, TWO_EVENTS, failing};
 use std::alloc::Global;
 use std::process::Abort;
+use std::test::Fail;
 use std::thread::Threads;
 
-const EVALUATE: &[&str] = &["evaluate", "archive"];
+const EVALUATE: [&str; 2] = ["evaluate", "archive"];
 
 /// Words that ask for all monitors.
-const EVALUATE_ALL: &[&[&str]] = &[
+const EVALUATE_ALL: [&[&str]; 3] = [
     &["evaluate", "archive", "--all"],
     &["evaluate", "archive", "--all", "--workers", "3"],
     &["evaluate", "archive", "--workers", "3", "--all"],
 ];
 
 /// Words that ask for some number of workers.
-const BY_WORKERS: &[&[&str]] = &[
+const BY_WORKERS: [&[&str]; 6] = [
     &["evaluate", "archive"],
     &["evaluate", "archive", "--workers", "1"],
     &["evaluate", "archive", "--workers", "2"],
@@ -28,7 +29,7 @@ const BY_WORKERS: &[&[&str]] = &[
 ];
 
 /// Words without a reading.
-const WITHOUT_READING: &[&[&str]] = &[
+const WITHOUT_READING: [&[&str]; 15] = [
     &[],
     &["evaluate"],
     &["archive", "evaluate"],
@@ -58,46 +59,56 @@ const TIMED: &str =
 /// A part of the first archive, what stands in its place, and the fault or the lines of the solution.
 type Change = (&'static str, &'static str, &'static str);
 
-/// The test fails unless the first archive with this change ends the run with this status and text.
-fn must_end_so<R: Threads + Sync + Abort>(
+/// The test fails unless the first archive with this change is refused with this fault.
+fn must_refuse<R: Threads + Sync + Abort>(
     rt: &R,
     alloc: Global,
-    (part, other): (&str, &str),
-    status: u8,
-    text: &[&str],
-) -> Result<(), NoMemory> {
-    let archive = replaced(alloc, FIRST, "", part, &[other]);
-    let (archive, text) = both(archive, joined(alloc, text))?;
+    (part, other, fault): Change,
+) -> Result<(), Fail> {
+    let archive = first_with(alloc, part, other)?.ok_or("no such part")?;
+    let text = format!(in alloc; "khe: archive refused: {fault}\n")?;
     let end = End {
-        status,
+        status: 3,
         text: text.as_str(),
     };
-    must_answer(rt, alloc, EVALUATE, archive.as_str(), end)
+    must_answer(rt, alloc, &EVALUATE, archive.as_str(), end)?;
+    Ok(())
 }
 
-/// The test fails unless the first archive with each of these changes is refused with its fault.
 fn must_refuse_all<R: Threads + Sync + Abort>(
     rt: &R,
     alloc: Global,
     changes: &[Change],
-) -> Result<(), NoMemory> {
+) -> Result<(), Fail> {
     for change in changes {
-        let (part, other, fault) = *change;
-        let text = ["khe: archive refused: ", fault, "\n"];
-        must_end_so(rt, alloc, (part, other), 3, &text)?;
+        must_refuse(rt, alloc, *change)?;
     }
     Ok(())
 }
 
-/// The test fails unless these lines are told of the solution of the first archive with each of these changes.
+/// The test fails unless these lines are told of the solution of the first archive with this change.
+fn must_report<R: Threads + Sync + Abort>(
+    rt: &R,
+    alloc: Global,
+    (part, other, lines): Change,
+) -> Result<(), Fail> {
+    let archive = first_with(alloc, part, other)?.ok_or("no such part")?;
+    let text = format!(in alloc; "{HEADER}{lines}")?;
+    let end = End {
+        status: 0,
+        text: text.as_str(),
+    };
+    must_answer(rt, alloc, &EVALUATE, archive.as_str(), end)?;
+    Ok(())
+}
+
 fn must_report_all<R: Threads + Sync + Abort>(
     rt: &R,
     alloc: Global,
     changes: &[Change],
-) -> Result<(), NoMemory> {
+) -> Result<(), Fail> {
     for change in changes {
-        let (part, other, lines) = *change;
-        must_end_so(rt, alloc, (part, other), 0, &[HEADER, lines])?;
+        must_report(rt, alloc, *change)?;
     }
     Ok(())
 }
@@ -142,7 +153,7 @@ const FIRST_REPORTS: &[Change] = &[
 ];
 
 #[test]
-fn evaluates_the_first_archive(rt: HostRuntime) -> Result<(), NoMemory> {
+fn evaluates_the_first_archive(rt: HostRuntime) -> Result<(), Fail> {
     must_report_all(&rt, rt.alloc(), FIRST_REPORTS)
 }
 
@@ -203,7 +214,7 @@ const REFUSED: &[Change] = &[
 ];
 
 #[test]
-fn refuses_archives(rt: HostRuntime) -> Result<(), NoMemory> {
+fn refuses_archives(rt: HostRuntime) -> Result<(), Fail> {
     must_refuse_all(&rt, rt.alloc(), REFUSED)
 }
 
@@ -240,34 +251,24 @@ const OTHER_REPORTS: &[Change] = &[
 ];
 
 #[test]
-fn evaluates_solutions_and_names_causes(rt: HostRuntime) -> Result<(), NoMemory> {
+fn evaluates_solutions_and_names_causes(rt: HostRuntime) -> Result<(), Fail> {
     must_report_all(&rt, rt.alloc(), OTHER_REPORTS)
 }
 
-/// What is told of the solution of the archive with resources that places nothing, and of its other monitors.
-const CAUSED: &str =
-    "archive instances 1 solutions 2\nsolution 0 group \"H\" instance \"J\"\nmonitor 0 AssignTime \"c0\" event \"E\" deviation 3 hard 6\nmonitor 1 AssignTime \"c0\" event \"F\" deviation 1 hard 2\nmonitor 2 AssignResource \"c1\" event \"E\" role \"R\" deviation 3 hard 3\nmonitor 3 AssignResource \"c1\" event \"F\" role \"R\" deviation 1 hard 1\n";
-
-const OTHERS: &str =
-    "monitor 4 AvoidClashes \"c2\" resource \"r0\" deviation 0 hard 0\nmonitor 5 AvoidClashes \"c2\" resource \"r1\" deviation 0 hard 0\nmonitor 6 PreferTimes \"c3\" event \"F\" deviation 0 soft 0\n";
-
-/// What is told between its solutions.
-const NEXT: &str = "total hard 12 soft 0\nsolution 1 group \"H\" instance \"J\"\n";
-
-/// What is told of the monitors that deviate in the first solution, where they do not in the second.
-const MET: &str =
-    "monitor 0 AssignTime \"c0\" event \"E\" deviation 0 hard 0\nmonitor 1 AssignTime \"c0\" event \"F\" deviation 0 hard 0\nmonitor 2 AssignResource \"c1\" event \"E\" role \"R\" deviation 0 hard 0\nmonitor 3 AssignResource \"c1\" event \"F\" role \"R\" deviation 0 hard 0\n";
-
-const DONE: &str = "total hard 0 soft 0\n";
-
-const SHORT: &[&str] = &[CAUSED, NEXT, DONE];
-
-const LONG: &[&str] = &[CAUSED, OTHERS, NEXT, MET, OTHERS, DONE];
-
 #[test]
-fn evaluates_resources(rt: HostRuntime) -> Result<(), NoMemory> {
-    must_answer_each(&rt, rt.alloc(), BY_WORKERS, SHORT)?;
-    must_answer_each(&rt, rt.alloc(), EVALUATE_ALL, LONG)
+fn evaluates_resources(rt: HostRuntime) -> Result<(), Fail> {
+    let first =
+        "archive instances 1 solutions 2\nsolution 0 group \"H\" instance \"J\"\nmonitor 0 AssignTime \"c0\" event \"E\" deviation 3 hard 6\nmonitor 1 AssignTime \"c0\" event \"F\" deviation 1 hard 2\nmonitor 2 AssignResource \"c1\" event \"E\" role \"R\" deviation 3 hard 3\nmonitor 3 AssignResource \"c1\" event \"F\" role \"R\" deviation 1 hard 1\n";
+    let second = "total hard 12 soft 0\nsolution 1 group \"H\" instance \"J\"\n";
+    let rest =
+        "monitor 4 AvoidClashes \"c2\" resource \"r0\" deviation 0 hard 0\nmonitor 5 AvoidClashes \"c2\" resource \"r1\" deviation 0 hard 0\nmonitor 6 PreferTimes \"c3\" event \"F\" deviation 0 soft 0\n";
+    let met =
+        "monitor 0 AssignTime \"c0\" event \"E\" deviation 0 hard 0\nmonitor 1 AssignTime \"c0\" event \"F\" deviation 0 hard 0\nmonitor 2 AssignResource \"c1\" event \"E\" role \"R\" deviation 0 hard 0\nmonitor 3 AssignResource \"c1\" event \"F\" role \"R\" deviation 0 hard 0\n";
+    let last = "total hard 0 soft 0\n";
+    let text = format!(in rt.alloc(); "{first}{second}{last}")?;
+    must_answer_each(&rt, rt.alloc(), &BY_WORKERS, text.as_str())?;
+    let text = format!(in rt.alloc(); "{first}{rest}{second}{met}{rest}{last}")?;
+    must_answer_each(&rt, rt.alloc(), &EVALUATE_ALL, text.as_str())
 }
 
 /// The test fails unless a run on each of these lists of words, on the archive with resources, ends well after this
@@ -276,22 +277,12 @@ fn must_answer_each<R: Threads + Sync + Abort>(
     rt: &R,
     alloc: Global,
     lists: &[&[&str]],
-    text: &[&str],
-) -> Result<(), NoMemory> {
-    let text = joined(alloc, text)?;
+    text: &str,
+) -> Result<(), Fail> {
     let end = End {
         status: 0,
-        text: text.as_str(),
+        text: text,
     };
-    must_answer_all(rt, alloc, lists, end)
-}
-
-fn must_answer_all<R: Threads + Sync + Abort>(
-    rt: &R,
-    alloc: Global,
-    lists: &[&[&str]],
-    end: End<'_>,
-) -> Result<(), NoMemory> {
     for words in lists {
         must_answer(rt, alloc, words, TWO_EVENTS, end)?;
     }
@@ -305,11 +296,11 @@ fn must_end_all<R: Threads + Sync + Abort>(
     rt: &R,
     alloc: Global,
     rows: &[Small],
-) -> Result<(), NoMemory> {
+) -> Result<(), Fail> {
     for row in rows {
         let (archive, text, status) = *row;
         let end = End { status, text: text };
-        must_answer(rt, alloc, EVALUATE, archive, end)?;
+        must_answer(rt, alloc, &EVALUATE, archive, end)?;
     }
     Ok(())
 }
@@ -359,7 +350,7 @@ const SMALL_ARCHIVES: &[Small] = &[
 ];
 
 #[test]
-fn evaluates_small_archives(rt: HostRuntime) -> Result<(), NoMemory> {
+fn evaluates_small_archives(rt: HostRuntime) -> Result<(), Fail> {
     must_end_all(&rt, rt.alloc(), SMALL_ARCHIVES)
 }
 
@@ -380,7 +371,7 @@ fn must_not_be_read<R: Threads + Sync + Abort>(
     rt: &R,
     alloc: Global,
     lists: &[&[&str]],
-) -> Result<(), NoMemory> {
+) -> Result<(), Fail> {
     for words in lists {
         let call = Call {
             words,
@@ -392,6 +383,53 @@ fn must_not_be_read<R: Threads + Sync + Abort>(
 }
 
 #[test]
-fn reads_the_words(rt: HostRuntime) -> Result<(), NoMemory> {
-    must_not_be_read(&rt, rt.alloc(), WITHOUT_READING)
+fn reads_the_words(rt: HostRuntime) -> Result<(), Fail> {
+    must_not_be_read(&rt, rt.alloc(), &WITHOUT_READING)
+}
+
+/// Devices that take and give a byte a call.
+const BIT_BY_BIT: Devices = Devices {
+    read: 1,
+    write: 1,
+    room: 10_000,
+    failing_read: 0,
+    failing_write: 0,
+};
+
+/// Devices of which the sink takes three bytes in all.
+const SMALL: Devices = Devices {
+    read: 100,
+    write: 100,
+    room: 3,
+    failing_read: 0,
+    failing_write: 0,
+};
+
+/// The test fails unless a run on the archive under a name ends so with these devices.
+fn must_end_by<R: Threads + Sync + Abort>(
+    rt: &R,
+    alloc: Global,
+    name: &str,
+    devices: Devices,
+    (status, text): (u8, &str),
+) -> Result<(), NoMemory> {
+    let words = ["evaluate", name];
+    let call = Call {
+        words: &words,
+        files: FILES,
+    };
+    let end = End { status, text: text };
+    must_end(rt, alloc, call, devices, end)
+}
+
+#[test]
+fn answers_failing_devices(rt: HostRuntime) -> Result<(), Fail> {
+    let whole = format!(in rt.alloc(); "{HEADER}{WHOLE}")?;
+    must_end_by(&rt, rt.alloc(), "archive", BIT_BY_BIT, (0, whole.as_str()))?;
+    must_end_by(&rt, rt.alloc(), "archive", SMALL, (5, "arc"))?;
+    must_end_by(&rt, rt.alloc(), "archive", failing(0, 1), (5, ""))?;
+    must_end_by(&rt, rt.alloc(), "archive", failing(1, 0), (4, ""))?;
+    must_end_by(&rt, rt.alloc(), "archive", failing(2, 0), (4, ""))?;
+    must_end_by(&rt, rt.alloc(), "nothing", GOOD, (4, ""))?;
+    Ok(())
 }
