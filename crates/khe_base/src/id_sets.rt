@@ -45,6 +45,17 @@ impl IdSet {
         })
     }
 
+    /// A copy of this set in memory of its own. It takes time and memory for one bit for each number of the size.
+    pub fn copy(&self, alloc: Global) -> Result<IdSet, NoMemory>
+        ensures { IfOk result (λ s. s ≡ self.now) }
+    {
+        Ok(IdSet {
+            words: self.words.as_slice().to_vec(alloc)?,
+            size: self.size,
+            count: self.count,
+        })
+    }
+
     /// Makes a number below the size a member; every other number stays as it was. It takes
     /// constant time.
     pub fn insert(&mut self, n: u32)
