@@ -1,6 +1,7 @@
 pub mod BoundsLemmas
 pub mod CountsLemmas
 pub mod FollowedLemmas
+pub mod GroupedSetsLemmas
 pub mod FewLemmas
 pub mod WatchesLemmas
 pub mod AnswersLemmas

@@ -2,6 +2,7 @@ pub mod Answers
 pub mod Collected
 pub mod Faults
 pub mod Followed
+pub mod GroupedSets
 pub mod Joined
 pub mod Limits
 pub mod Members

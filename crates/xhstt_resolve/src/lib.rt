@@ -7,6 +7,7 @@ mod collecting;
 mod counting;
 mod events;
 mod faults;
+mod grouped_sets;
 mod instances;
 mod members;
 mod monitors;

@@ -7,6 +7,7 @@ ghost use Rattle.xhstt_resolve.specs.Members.{set_of, first_mentions, numbers_of
 ghost use Rattle.xhstt_resolve.specs.Tables.{IsTable, IsTableOf, IsLookup, HasNames, HasKeptCounts, members_numbered, members_at, listed_at, listed_once};
 
 use crate::collecting::{Collect, Mentions};
+use crate::grouped_sets::{Members, add_all};
 use crate::members::{Grouped, members_of};
 use crate::resources::types_of;
 use khe_base::{IdSet, Names, NoMemory, Seq, Text, both};
@@ -20,7 +21,7 @@ pub(crate) struct Table<'a> {
     pub names: &'a Names,
     pub group_names: &'a Names,
     /// The numbers of the members of each group, ascending.
-    pub members: Seq<Seq<u32>>,
+    pub members: Seq<Members>,
 }
 
 /// The times, resources and events of an instance.
@@ -100,12 +101,24 @@ fn table_of<'a, T: Grouped>(
     requires same { length names.now ≡ length items.now }
     ensures { IfOk result (IsTableOf names.now (members_in group_names.now T.groups items.now)) }
 {
-    let members = members_of(alloc, items, group_names)?;
+    let lists = members_of(alloc, items, group_names)?;
+    let members = with_sets(alloc, items.len() as u32, lists)?;
     Ok(Table {
         names,
         group_names,
         members,
     })
+}
+
+/// Lists of members of groups of so many items, as members.
+fn with_sets(alloc: Global, size: u32, lists: Seq<Seq<u32>>) -> Result<Seq<Members>, NoMemory>
+    ensures { IfOk result (λ members. members ≡ lists) }
+{
+    let mut members = Seq::new(alloc);
+    for list in lists.items {
+        members.push(Members::new(alloc, size, list)?)?;
+    }
+    Ok(members)
 }
 
 impl<'a> Table<'a> {
@@ -149,15 +162,27 @@ impl<'a> Table<'a> {
         }
     }
 
-    /// The set of the members of a group. It takes time in proportion to them, on average, and time
-    /// and memory in proportion to a 64th of the items.
+    /// The set of the members of a group, in constant time on average but for time and memory in proportion to a 64th
+    /// of the items.
     pub fn group_set(&self, alloc: Global, group: &Text) -> Result<IdSet, NoMemory>
         requires { IsTable self.now }
         ensures { IfOk result (λ s. s ≡ set_of (length self.now.names.now) (members_at self.now group.now)) }
     {
-        let mut set = IdSet::new(alloc, self.size())?;
-        add_all(self.members(group), &mut set)?;
-        Ok(set)
+        match self.group_names.number(group) {
+            Some(number) => self.set_numbered(alloc, number as u32),
+            None => IdSet::new(alloc, self.size()),
+        }
+    }
+
+    /// The set of the members of the group with a number, and the empty one where there is no such group.
+    fn set_numbered(&self, alloc: Global, group: u32) -> Result<IdSet, NoMemory>
+        requires { IsTable self.now }
+        ensures { IfOk result (λ s. s ≡ set_of (length self.now.names.now) (members_numbered self.now group)) }
+    {
+        match self.members.as_slice().get(group as usize) {
+            Some(members) => members.set(alloc, self.size()),
+            None => IdSet::new(alloc, self.size()),
+        }
     }
 
     /// The set of what is listed. It takes time in proportion to the list, on average, to the members
@@ -247,16 +272,6 @@ fn collect_named<C: Collect>(
         if let Some(number) = names.number(&reference.id) {
             into.add(number as u32)?;
         }
-    }
-    Ok(())
-}
-
-/// Collects some numbers.
-fn add_all<C: Collect>(numbers: &[u32], into: &mut C) -> Result<(), NoMemory>
-    ensures { OnOk result (into.new ≡ fold C.added into.old numbers.now) }
-{
-    for number in numbers {
-        into.add(*number)?;
     }
     Ok(())
 }
