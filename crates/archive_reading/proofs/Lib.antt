@@ -2,3 +2,4 @@ pub mod FewLemmas
 pub mod OnlyLemmas
 pub mod ReadingLemmas
 pub mod ReadyLemmas
+pub mod StartLemmas

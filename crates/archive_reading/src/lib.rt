@@ -4,6 +4,8 @@
 
 mod reading;
 mod refusals;
+mod starting;
 
 pub use reading::{ReadArchive, Unread, read, unresolved};
 pub use refusals::{Refusal, push_refusal, refusal_line};
+pub use starting::{begin, instance_numbered};

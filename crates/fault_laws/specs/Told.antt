@@ -5,7 +5,8 @@ use Rattle.fault_laws.specs.Readings.{IsReadingByRows}
 use Rattle.text_fault_laws.specs.Rows.{IsLeastFault}
 use Rattle.khe_app.specs.Outcome.{IsConstructIn, IsMatchIn, IsOutcome, IsOutcomeOf, IsRepairIn, IsScripted}
 use Rattle.archive_reading.specs.Reading.{IsReadingOf}
-use Rattle.khe_app.specs.Outcome.{IsSolveIn, spelling_of, start_in, status_of, text_of}
+use Rattle.khe_app.specs.Outcome.{IsSolveIn, spelling_of, status_of, text_of}
+use Rattle.archive_reading.specs.Starting.{start_in}
 use Rattle.archive_reading.specs.Reading.{Reading}
 use Rattle.archive_reading.specs.Refusals.{refusal_line}
 use Rattle.khe_app.specs.Words.{Asked, archive_of, asked, checking, constructing, evaluating, making, matching}

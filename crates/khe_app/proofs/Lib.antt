@@ -9,7 +9,6 @@ pub mod RepairEnds
 pub mod ReportLemmas
 pub mod ScriptEnds
 pub mod SolveEnds
-pub mod StartLemmas
 pub mod TakenScripts
 pub mod ValueLemmas
 pub mod WindowLemmas

@@ -13,9 +13,9 @@ use Rattle.khe_instance.specs.declared.states.Plain.{Plain}
 use Rattle.generator_laws.specs.Starts.{HasStart}
 use Rattle.generator_laws.proofs.MadeLaws.{has_start, made_resolved}
 use Rattle.made_run.specs.Runs.{IsRunLine}
-use Rattle.khe_app.specs.Answers.{IsBarredBy}
+use Rattle.archive_reading.specs.Starting.{IsBarredBy, Start, begins, barred, start_by, start_of}
 use Rattle.khe_app.specs.Ends.{Holdings, IsEnd, LacksOf, Written}
-use Rattle.khe_app.specs.Outcome.{Start, begins, barred, start_by, start_of, IsOutcomeOf, IsRunTo}
+use Rattle.khe_app.specs.Outcome.{IsOutcomeOf, IsRunTo}
 use Rattle.khe_app.specs.Words.{making, running}
 use Rattle.archive_reading.specs.declared.reading.Unread.{Unread}
 use Rattle.archive_reading.specs.declared.reading.Unread.TheVariants as unread

@@ -8,7 +8,8 @@ use Rattle.khe_io.specs.Shelf.{IsMissing}
 use Rattle.khe_app.specs.Answers.{IsAnswerOf, IsBegun, IsOnlyAnswerOf, IsPlayAnswer, IsPlayOf, IsReadyPlay, IsScriptOf}
 use Rattle.khe_app.specs.Answers.{IsTextOf, IsWith}
 use Rattle.khe_app.specs.Ends.{Holdings, LacksOf, IsDecided, IsEnd, Written}
-use Rattle.khe_app.specs.Outcome.{Start, barred, start_in, start_of, IsOutcomeOf, IsPlayTo}
+use Rattle.khe_app.specs.Outcome.{IsOutcomeOf, IsPlayTo}
+use Rattle.archive_reading.specs.Starting.{Start, barred, start_in, start_of}
 use Rattle.archive_reading.specs.Reading.{Reading, evaluable, refused}
 use Rattle.khe_app.specs.Outcome.{IsRunOf, IsRunOr, IsScripted, is_understood}
 use Rattle.archive_reading.specs.Reading.{IsReadingOf}

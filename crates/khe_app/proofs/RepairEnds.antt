@@ -9,7 +9,8 @@ use Rattle.khe_io.specs.Shelf.{IsMissing}
 use Rattle.repair_run.specs.Repairs.{IsRepairText}
 use Rattle.khe_app.specs.Answers.{reading_of, IsAnswerOf}
 use Rattle.khe_app.specs.Ends.{Holdings, IsDecided, IsEnd, LacksOf, Written}
-use Rattle.khe_app.specs.Outcome.{Start, begins, barred, start_of, IsOutcomeOf}
+use Rattle.khe_app.specs.Outcome.{IsOutcomeOf}
+use Rattle.archive_reading.specs.Starting.{Start, begins, barred, start_of}
 use Rattle.archive_reading.specs.Reading.{Reading, evaluable, refused}
 use Rattle.khe_app.specs.Outcome.{IsRepairIn, IsRepairOf, IsRepairTo}
 use Rattle.khe_app.specs.Words.{repairing}

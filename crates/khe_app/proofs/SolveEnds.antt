@@ -6,9 +6,10 @@ use Rattle.khe_instance.specs.declared.parts.Parts.{Parts}
 use Rattle.khe_instance.specs.declared.states.Plain.{Plain}
 use Rattle.khe_io.specs.Shelf.{IsMissing}
 use Rattle.repair_run.specs.Solves.{IsSolveText}
-use Rattle.khe_app.specs.Answers.{reading_of, IsAnswerOf, IsBarredBy}
+use Rattle.khe_app.specs.Answers.{reading_of, IsAnswerOf}
+use Rattle.archive_reading.specs.Starting.{IsBarredBy, Start, begins, barred, start_of}
 use Rattle.khe_app.specs.Ends.{Holdings, IsEnd, LacksOf, Written}
-use Rattle.khe_app.specs.Outcome.{Start, begins, barred, start_of, IsOutcomeOf}
+use Rattle.khe_app.specs.Outcome.{IsOutcomeOf}
 use Rattle.archive_reading.specs.Reading.{Reading, evaluable, refused}
 use Rattle.khe_app.specs.Outcome.{IsSolveIn, IsSolveOf, IsSolveTo}
 use Rattle.archive_reading.specs.Refusals.{refusal_line}

@@ -3,9 +3,9 @@ use Rattle.std.specs.Prelude.{ℕ, ◌≡◌, ◌<◌, ◌≤◌, Bool, Option, 
 use Rattle.khe_instance.specs.States.{IsValid}
 use Rattle.khe_instance.specs.declared.parts.Parts.{Parts}
 use Rattle.khe_app.specs.Ends.{Written}
-use Rattle.khe_app.specs.Outcome.{IsRunOf, IsScripted, Start, begins, barred}
+use Rattle.khe_app.specs.Outcome.{IsRunOf, IsScripted}
+use Rattle.archive_reading.specs.Starting.{Start, begins, barred, start_in}
 use Rattle.archive_reading.specs.Reading.{Reading, evaluable, refused, IsReadingOf}
-use Rattle.khe_app.specs.Outcome.{start_in}
 use Rattle.archive_reading.specs.Ready.{IsReady}
 use Rattle.archive_reading.specs.Refusals.{refusal_line}
 use Rattle.khe_app.specs.Lines.{script_too_large_line}
@@ -45,11 +45,6 @@ pub record IsBegun (s : Start) (b : Begun) : Type 0 where
   pub at : slice_get b.resolved.instances b.instance ≡ Some parts
   pub valid : IsValid parts b.plain
   pub is : s ≡ begins parts b.plain
-
--- there is none, for this reason, or memory ran out
-abbrev pub IsBarredBy : Start → Unread → Type 0
-IsBarredBy s (unread.Refused refusal) = s ≡ barred refusal
-IsBarredBy s unread.NoMemory = Unit {0}
 
 -- what came of writing the line of a refusal, or nothing where memory ran out
 abbrev pub IsUnreadEnd : Option (List ℕ) → Option (List ℕ) → ℕ → ℕ → ℕ → Unread → Type 0

@@ -1,9 +1,8 @@
 -- What `khe` is to answer: a status and a text, by the words and by what stands under the names.
-use Rattle.std.specs.Prelude.{ℕ, ◌≡◌, ◌<◌, ◌≤◌, ◌⊎◌, Bool, true, false, if◌then◌else◌, Option, Some, None, Result, Ok, Err, List, []}
+use Rattle.std.specs.Prelude.{ℕ, ◌≡◌, ◌<◌, ◌≤◌, ◌⊎◌, Bool, true, false, if◌then◌else◌, Option, Some, None, Ok, List, []}
 use Rattle.std.specs.Prelude.{length, slice_get, encode_utf8_all}
-use Rattle.std.specs.Option.{option_map_or}
-use Rattle.khe_base.specs.declared.limits.TheConstants.{ARCHIVE_BYTES}
 use Rattle.archive_reading.specs.Reading.{Reading, evaluable, refused, IsReadingOf}
+use Rattle.archive_reading.specs.Starting.{Start, begins, barred, start_of, start_in}
 use Rattle.construct_run.specs.Constructs.{IsConstructText}
 use Rattle.archive_generator.specs.Made.{made}
 use Rattle.khe_engine.specs.Openings.{IsStateOf}
@@ -13,26 +12,14 @@ use Rattle.khe_instance.specs.declared.states.Plain.{Plain}
 use Rattle.made_run.specs.Runs.{IsRunLine}
 use Rattle.match_run.specs.Found.{AreTooMany}
 use Rattle.match_run.specs.Texts.{IsMatchText}
-use Rattle.parallel_solve.specs.Verdicts.{parts_at}
 use Rattle.repair_run.specs.Repairs.{IsRepairText}
 use Rattle.repair_run.specs.Solves.{IsSolveText}
 use Rattle.script_run.specs.Plays.{begun}
 use Rattle.script_run.specs.Scripts.{is_script, script_text}
 use Rattle.tied_run.specs.Plays.{untied}
 use Rattle.tied_run.specs.Scripts.{is_tied_script, tied_text}
-use Rattle.xhstt_completion.specs.Completed.{completed}
-use Rattle.xhstt_completion.specs.declared.faults.Cause.{Cause}
-use Rattle.xhstt_references.specs.References.{solutions_of}
-use Rattle.xhstt_text.specs.Document.{Spelled}
-use Rattle.xhstt_text.specs.FirstFault.{IsFirstFault}
-use Rattle.xhstt_text.specs.Forest.{Forest}
-use Rattle.xhstt_shape.specs.Shape.{shape_of}
-use Rattle.xhstt_shape.specs.declared.faults.ShapeFault.{ShapeFault}
-use Rattle.xhstt_shape.specs.declared.faults.ShapeFault.TheVariants as shape
 use Rattle.xhstt_shape.specs.declared.records.Archive.{Archive}
 use Rattle.xhstt_resolve.specs.Resolved.{resolved}
-use Rattle.xhstt_resolve.specs.declared.faults.ResolveFault.{ResolveFault}
-use Rattle.xhstt_resolve.specs.declared.faults.ResolveFault.TheVariants as resolve
 use Rattle.xhstt_resolve.specs.declared.resolving.Resolved.{Resolved}
 use Rattle.xhstt_writer.specs.Archives.{canonical}
 use Rattle.archive_reading.specs.Refusals.{refusal_line}
@@ -41,7 +28,6 @@ use Rattle.khe_app.specs.Report.{report}
 use Rattle.khe_app.specs.Words.{Asked, asked, evaluating, scripting, checking, repairing, solving, matching, making, running}
 use Rattle.khe_base.specs.declared.limits.TheConstants.{SCRIPT_BYTES}
 use Rattle.archive_reading.specs.declared.refusals.Refusal.{Refusal}
-use Rattle.archive_reading.specs.declared.refusals.Refusal.TheVariants.{Fault, Limit, TooLarge, NoSuchSolution, Invalid}
 use Rattle.archive_reading.specs.declared.refusals.Refusal.TheVariants.{NoSuchTime, NoSuchType, TooManyTasks, NoSuchInstance}
 use Rattle.khe_app.specs.Words.{constructing}
 
@@ -65,26 +51,6 @@ pub record IsAnswered (all : Bool) (bytes : List ℕ) (status : ℕ) (text : Lis
 abbrev pub IsAnswerTo : Bool → Option (List ℕ) → ℕ → List ℕ → Type 0
 IsAnswerTo all None status text = (status ≡ 4) × (text ≡ [])
 IsAnswerTo all (Some bytes) status text = IsAnswered all bytes status text
-
--- what a script begins with: the state of a solution of an instance; or a refusal in its place
-pub data Start : Type 0 where
-  begins : Parts → Plain → Start
-  barred : Refusal → Start
-
--- a solution that is completed, or is invalid for a cause
-abbrev pub start_by : Parts → Result Plain Cause → Start
-start_by p (Ok plain) = begins p plain
-start_by p (Err cause) = barred (Invalid cause.cause cause.entry)
-
--- the solution of an archive with this number, if there is one
-abbrev pub start_of : Archive → Resolved → ℕ → Start
-start_of a r number =
-    option_map_or (λ raw. option_map_or (λ p. start_by p (completed p raw)) (parts_at r number) (barred NoSuchSolution))
-    (slice_get (solutions_of a) number) (barred NoSuchSolution)
-
-abbrev pub start_in : ℕ → Reading → Start
-start_in number (evaluable a r) = start_of a r number
-start_in number (refused refusal) = barred refusal
 
 -- what a script answers on a state without ties, and whether it is read to its end: by the lines of scripts, or by
 -- the wider table of lines that may speak of ties

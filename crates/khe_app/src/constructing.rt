@@ -18,8 +18,7 @@ ghost use Rattle.khe_app.specs.Words.{constructing};
 ghost use Rattle.std.specs.Prelude.{slice_get};
 
 use crate::program::{Answer, Status, Stop, answer_to, put_refusal};
-use crate::starting::instance_numbered;
-use archive_reading::{ReadArchive, Refusal};
+use archive_reading::{ReadArchive, Refusal, instance_numbered};
 use construct::Built;
 use construct_run::{build, send_built, send_mended};
 use khe_base::NoMemory;

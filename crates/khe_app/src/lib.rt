@@ -16,4 +16,3 @@ mod starting;
 mod words;
 
 pub use program::{Answer, Status, Stop, answer_to, khe, put_refusal};
-pub use starting::{begin, instance_numbered};

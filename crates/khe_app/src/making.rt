@@ -15,9 +15,8 @@ ghost use Rattle.xhstt_resolve.specs.declared.faults.ResolveFault.TheVariants as
 
 use crate::checking::put_spelling;
 use crate::program::{Status, put};
-use crate::starting::{begin, instance_numbered};
 use archive_generator::{Draws, generate, slot_count};
-use archive_reading::Unread;
+use archive_reading::{Unread, begin, instance_numbered};
 use khe_base::NoMemory;
 use khe_instance::{Instance, Plain};
 use khe_io::Sink;

@@ -11,13 +11,13 @@ ghost use Rattle.resource_match.specs.declared.choices.Costs.{Costs};
 ghost use Rattle.xhstt_shape.specs.WellFormed.{IsWellFormed};
 ghost use Rattle.khe_app.specs.Answers.{reading_of, IsReadyAnswer};
 ghost use Rattle.khe_app.specs.Ends.{IsEnd, Written};
-ghost use Rattle.khe_app.specs.Outcome.{IsMatchIn, IsMatchOf, IsMatched, IsMatchedAt, start_of};
+ghost use Rattle.khe_app.specs.Outcome.{IsMatchIn, IsMatchOf, IsMatched, IsMatchedAt};
+ghost use Rattle.archive_reading.specs.Starting.{start_of};
 ghost use Rattle.archive_reading.specs.Ready.{IsReady};
 ghost use Rattle.khe_app.specs.Words.{matching};
 
 use crate::program::{Answer, Status, Stop, answer_to, put_refusal};
-use crate::starting::{begin, instance_numbered};
-use archive_reading::{ReadArchive, Refusal, Unread};
+use archive_reading::{ReadArchive, Refusal, Unread, begin, instance_numbered};
 use khe_base::TimeId;
 use khe_instance::{Instance, Plain};
 use khe_io::{Shelf, Sink};

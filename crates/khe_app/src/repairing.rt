@@ -9,13 +9,13 @@ ghost use Rattle.xhstt_shape.specs.WellFormed.{IsWellFormed};
 ghost use Rattle.khe_io.specs.Shelf.{IsMissing};
 ghost use Rattle.khe_app.specs.Answers.{reading_of, IsReadyAnswer};
 ghost use Rattle.khe_app.specs.Ends.{IsEnd, Written};
-ghost use Rattle.khe_app.specs.Outcome.{IsRepairIn, IsRepairOf, start_of};
+ghost use Rattle.khe_app.specs.Outcome.{IsRepairIn, IsRepairOf};
+ghost use Rattle.archive_reading.specs.Starting.{start_of};
 ghost use Rattle.archive_reading.specs.Ready.{IsReady};
 ghost use Rattle.khe_app.specs.Words.{repairing};
 
 use crate::program::{Answer, Status, Stop, answer_to, put_refusal};
-use crate::starting::{begin, instance_numbered};
-use archive_reading::{ReadArchive, Unread};
+use archive_reading::{ReadArchive, Unread, begin, instance_numbered};
 use khe_base::NoMemory;
 use khe_instance::{Instance, Plain};
 use khe_io::{Shelf, Sink};

@@ -1,8 +1,8 @@
 -- A matching has one status: the tasks of a time are too many or they are not.
 use Rattle.std.proofs.Common.{ℕ, ◌≡◌, ◌∙◌, inl, inr, Option, Some, None, List, length, refl, sym, ap, subst, arith}
-use Rattle.khe_app.specs.Outcome.{IsMatchIn, IsMatchOf, IsMatchTo, IsMatched, IsMatchedAt, Start}
+use Rattle.khe_app.specs.Outcome.{IsMatchIn, IsMatchOf, IsMatchTo, IsMatched, IsMatchedAt}
+use Rattle.archive_reading.specs.Starting.{Start, barred, begins, start_of}
 use Rattle.archive_reading.specs.Reading.{IsReadingOf, Reading}
-use Rattle.khe_app.specs.Outcome.{barred, begins, start_of}
 use Rattle.archive_reading.specs.Reading.{evaluable, refused}
 use Rattle.khe_instance.specs.WellMade.{AreWellMade}
 use Rattle.khe_instance.specs.declared.parts.Parts.{Parts}

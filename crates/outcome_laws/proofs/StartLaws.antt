@@ -1,7 +1,7 @@
 -- What a start is, where there is one.
 use Rattle.std.proofs.Common.{ℕ, ◌≡◌, ◌∙◌, Option, Some, None, Result, Ok, Err, refl, sym, ap, subst, slice_get}
 use Rattle.std.specs.Option.{option_map_or}
-use Rattle.khe_app.specs.Outcome.{Start, barred, begins, start_by, start_of}
+use Rattle.archive_reading.specs.Starting.{Start, barred, begins, start_by, start_of}
 use Rattle.archive_reading.specs.declared.refusals.Refusal.{Refusal}
 use Rattle.archive_reading.specs.declared.refusals.Refusal.TheVariants.{NoSuchSolution}
 use Rattle.khe_instance.specs.declared.parts.Parts.{Parts}

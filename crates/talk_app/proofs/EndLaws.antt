@@ -4,7 +4,7 @@ use Rattle.std.specs.Result.{IsErrOf}
 use Rattle.edit_script.specs.Lines.{lines}
 use Rattle.khe_app.specs.Answers.{IsAnswerOf, reading_of}
 use Rattle.khe_app.specs.Ends.{Written}
-use Rattle.khe_app.specs.Outcome.{Start, begins}
+use Rattle.archive_reading.specs.Starting.{Start, begins}
 use Rattle.khe_app.specs.declared.program.Answer.{Answer}
 use Rattle.khe_io.specs.Faults.{Rose, Took, TookFront}
 use Rattle.talk_app.specs.Ends.{IsEnd, IsWritten, Wrote, status_after}

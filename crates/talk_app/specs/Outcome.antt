@@ -2,7 +2,7 @@
 -- names, and by the bytes of the lines that it is given.
 use Rattle.std.specs.Prelude.{ℕ, ◌≡◌, Option, Some, None, List, codes, encode_utf8_all}
 use Rattle.edit_script.specs.Lines.{lines}
-use Rattle.khe_app.specs.Outcome.{Start, barred, begins, start_of}
+use Rattle.archive_reading.specs.Starting.{Start, barred, begins, start_of}
 use Rattle.archive_reading.specs.Reading.{IsReadingOf, Reading, evaluable, refused}
 use Rattle.archive_reading.specs.Refusals.{refusal_line}
 use Rattle.khe_engine.specs.Openings.{IsStateOf}

@@ -1,16 +1,16 @@
 //! A talk on a solution of an archive that was read.
 
 ghost use Rattle.std.specs.Prelude.{◌≡◌, ◌≤◌, ◌⊎◌};
-ghost use Rattle.khe_app.specs.Outcome.{begins, start_of};
+ghost use Rattle.archive_reading.specs.Starting.{start_of};
 ghost use Rattle.archive_reading.specs.Ready.{IsReady};
 ghost use Rattle.khe_engine.specs.Values.{ServesAll};
 ghost use Rattle.khe_instance.specs.States.{IsValid};
 ghost use Rattle.talk_app.specs.Ends.{IsEnd, status_after};
 ghost use Rattle.talk_app.specs.Outcome.{IsTalkOf, IsTalkOn};
 
-use archive_reading::{ReadArchive, Unread};
+use archive_reading::{ReadArchive, Unread, begin, instance_numbered};
 use hall_report::WithDemands;
-use khe_app::{Status, begin, instance_numbered, put_refusal};
+use khe_app::{Status, put_refusal};
 use khe_base::NoMemory;
 use khe_engine::Engine;
 use khe_instance::{Instance, Plain};

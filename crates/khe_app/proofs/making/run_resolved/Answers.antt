@@ -1,5 +1,5 @@
 -- The timetable is that of the first solution, in its instance.
-use Rattle.khe_app.specs.Outcome.{start_of}
+use Rattle.archive_reading.specs.Starting.{start_of}
 use Rattle.khe_app.proofs.MakeEnds.{only_starved, run_of_start, start_made}
 use Rattle.khe_app.proofs.making.run_resolved.Goals as goal
 

@@ -2,10 +2,10 @@
 use Rattle.std.proofs.Common.{inr, refl, subst, sym, encode_utf8_all}
 use Rattle.khe_base.proofs.ListLemmas.{all-there}
 use Rattle.xhstt_entries.specs.Texts.{HasSpellable}
-use Rattle.khe_app.specs.Answers.{IsBarredBy}
+use Rattle.archive_reading.specs.Starting.{IsBarredBy, Start, start_of}
 use Rattle.khe_app.specs.Ends.{Written}
 use Rattle.archive_reading.specs.declared.refusals.Refusal.{Refusal}
-use Rattle.khe_app.specs.Outcome.{IsMatchOf, Start, start_of}
+use Rattle.khe_app.specs.Outcome.{IsMatchOf}
 use Rattle.archive_reading.specs.Refusals.{refusal_line}
 use Rattle.khe_app.proofs.MatchEnds.{begun_text}
 use Rattle.khe_app.proofs.matching.match_in.Goals as goal

@@ -2,8 +2,8 @@
 use Rattle.std.proofs.Common.{inr, refl, subst, sym}
 use Rattle.khe_base.proofs.ListLemmas.{all-there}
 use Rattle.xhstt_entries.specs.Texts.{HasSpellable}
-use Rattle.khe_app.specs.Answers.{IsBarredBy}
-use Rattle.khe_app.specs.Outcome.{IsRepairOf, Start, start_of}
+use Rattle.archive_reading.specs.Starting.{IsBarredBy, Start, start_of}
+use Rattle.khe_app.specs.Outcome.{IsRepairOf}
 use Rattle.archive_reading.specs.Refusals.{refusal_line}
 use Rattle.khe_app.proofs.RepairEnds.{begun_text}
 use Rattle.khe_app.proofs.repairing.repair_in.Goals as goal

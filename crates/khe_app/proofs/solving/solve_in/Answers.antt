@@ -1,7 +1,7 @@
 -- The timetable is that of the solution, in its instance.
 use Rattle.khe_base.proofs.ListLemmas.{all-there}
 use Rattle.xhstt_entries.specs.Texts.{HasSpellable}
-use Rattle.khe_app.specs.Outcome.{start_of}
+use Rattle.archive_reading.specs.Starting.{start_of}
 use Rattle.khe_app.proofs.SolveEnds.{barred_solve, begun_solve}
 use Rattle.khe_app.proofs.solving.solve_in.Goals as goal
 

@@ -1,7 +1,6 @@
 -- The timetable is that of the solution, in its instance.
 use Rattle.std.proofs.Common.{encode_utf8_all, refl, slice_get, subst, sym}
-use Rattle.khe_app.specs.Answers.{IsBarredBy}
-use Rattle.khe_app.specs.Outcome.{Start, start_of}
+use Rattle.archive_reading.specs.Starting.{IsBarredBy, Start, start_of}
 use Rattle.archive_reading.specs.Refusals.{refusal_line}
 use Rattle.talk_app.specs.Outcome.{IsTalkOf}
 use Rattle.talk_app.proofs.EndLaws.{begun_end, line_end}

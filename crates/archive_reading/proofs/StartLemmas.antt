@@ -6,7 +6,7 @@ use Rattle.std.proofs.lemmas.Option.{same_Some, slice_get-get_or}
 use Rattle.khe_base.proofs.ListLemmas.{there}
 use Rattle.khe_instance.specs.declared.parts.Parts.{Parts}
 use Rattle.khe_instance.specs.declared.states.Plain.{Plain}
-use Rattle.khe_app.specs.Outcome.{barred, begins, start_by, start_of}
+use Rattle.archive_reading.specs.Starting.{barred, begins, start_by, start_of}
 use Rattle.archive_reading.specs.Ready.{IsReady}
 use Rattle.parallel_solve.specs.Verdicts.{parts_at}
 use Rattle.archive_reading.specs.declared.refusals.Refusal.TheVariants.{NoSuchSolution, Invalid}

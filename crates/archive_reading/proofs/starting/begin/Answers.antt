@@ -5,8 +5,8 @@ use Rattle.xhstt_completion.specs.Completed.{completed, IsFaultOf}
 use Rattle.xhstt_completion.specs.declared.faults.Cause.{Cause}
 use Rattle.xhstt_shape.specs.declared.records.RawSolution.{RawSolution}
 use Rattle.xhstt_references.specs.References.{solutions_of}
-use Rattle.khe_app.proofs.StartLemmas.{at_number, barred_at, begun_at, chosen}
-use Rattle.khe_app.proofs.starting.begin.Goals as goal
+use Rattle.archive_reading.proofs.StartLemmas.{at_number, barred_at, begun_at, chosen}
+use Rattle.archive_reading.proofs.starting.begin.Goals as goal
 
 pub instance_numbered-inst-requires : goal.instance_numbered-inst-requires
 instance_numbered-inst-requires c =
