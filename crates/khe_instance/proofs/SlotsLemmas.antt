@@ -2,11 +2,10 @@
 use Rattle.std.proofs.Common.{ℕ, ◌≡◌, ◌+◌, ◌-◌, ◌<◌, ◌≤◌, inl, inr, Some, List, [], ◌∷◌, length, get_or, refl, sym, ap}
 use Rattle.std.proofs.Common.{subst, ◌∙◌, arith, suc, slice_get, length-append, zero-add}
 use Rattle.std.specs.Prelude.{replicate}
-use Rattle.std.specs.List.{sum_by, All}
+use Rattle.std.specs.List.{sum_by}
 use Rattle.std.proofs.Math.Seq.{get_or-append_right}
 use Rattle.std.proofs.lemmas.Bool.{cases_lt}
 use Rattle.std.proofs.lemmas.List.{get_or_append_left, get_or-replicate, length-replicate}
-use Rattle.std.proofs.lemmas.List.Elements.{All-append, All-nil, All-replicate}
 use Rattle.std.proofs.lemmas.List.Sums.{sum_by-cons}
 use Rattle.khe_instance.specs.Slots.{slots_from, HasSlot}
 use Rattle.khe_instance.specs.WellMade.{AreFirstMeets}
@@ -69,10 +68,3 @@ slot-event slot events h l =
     let s = slot-stands 0 0 slot events h l in
     let e : get_or (slots_from 0 events) slot 0 ≡ s.number = s.value ∙ zero-add s.number in
     subst (λ n. HasSlot events n slot) (sym e) (s.event, s.there, omega (arith, s.from), omega (arith, s.to))
-
--- each slot is of one of these events
-pub slots-below : (e n : ℕ) (events : List EventInfo) → e + length events ≤ n → All (λ k. k < n) (slots_from e events)
-slots-below e n [] h = All-nil (λ k. k < n)
-slots-below e n (x ∷ xs) h =
-    All-append (λ k. k < n) (replicate x.duration e) (slots_from (e + 1) xs)
-    (All-replicate (λ k. k < n) x.duration e (omega (arith, h))) (slots-below (e + 1) n xs (omega (arith, h)))

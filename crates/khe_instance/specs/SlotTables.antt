@@ -1,21 +1,26 @@
 -- What stands in memory for the slots of events.
-use Rattle.std.specs.Prelude.{ℕ, ◌≡◌, List, map, take, length}
+use Rattle.std.specs.Prelude.{ℕ, ◌+◌, ◌*◌, ◌≡◌, ◌≤◌, ◌<◌, List, map, take, length, get_or}
 use Rattle.std.specs.List.{sum_by, range_with_len}
-use Rattle.khe_base.specs.declared.numbers.TaskId.{TaskId}
-use Rattle.khe_instance.specs.Lookups.{places_at}
-use Rattle.khe_instance.specs.Slots.{slots_from, tasks_from}
+use Rattle.khe_instance.specs.Slots.{slots_from}
 use Rattle.khe_instance.specs.declared.parts.EventInfo.{EventInfo}
 use Rattle.khe_instance.specs.declared.slots.SlotTable.{SlotTable}
+use Rattle.khe_instance.specs.declared.slots.TaskTable.{TaskTable}
 
--- how many places the slots before each slot have
-abbrev pub first_tasks : List EventInfo → List ℕ → List ℕ
-first_tasks events slots = map (λ m. sum_by (places_at events) (take m slots)) (range_with_len 0 (length slots))
+-- how many tasks so many events have that come first
+abbrev pub tasks_before : List EventInfo → ℕ → ℕ
+tasks_before events e = sum_by (λ x. x.duration * length x.places) (take e events)
 
--- the tasks of the slots of these events, and where those of each slot begin
-pub record AreTasks (events : List EventInfo) (slots : List ℕ) (firsts : List ℕ) (tasks : List TaskId) : Type 0 where
-  pub firsts_are : firsts ≡ first_tasks events slots
-  pub tasks_are : tasks ≡ tasks_from events 0 slots
+-- where the tasks of each event begin, and how many there are
+pub record AreTasks (events : List EventInfo) (table : TaskTable) : Type 0 where
+  pub firsts_are : table.firsts.items ≡ map (tasks_before events) (range_with_len 0 (length events))
+  pub count_is : table.count ≡ sum_by (λ x. x.duration * length x.places) events
 
 pub record IsSlotTable (events : List EventInfo) (table : SlotTable) : Type 0 where
   pub slots_are : table.events.items ≡ slots_from 0 events
-  pub tasks_are : AreTasks events (slots_from 0 events) table.tasks.firsts.items table.tasks.tasks.items
+  pub tasks_are : AreTasks events table.tasks
+
+-- this is where the last of ascending numbers stands that is at most n
+pub record IsLastUpTo (numbers : List ℕ) (n : ℕ) (i : ℕ) : Type 0 where
+  pub within : i < length numbers
+  pub from : (d : ℕ) → get_or numbers i d ≤ n
+  pub to : (d : ℕ) → i + 1 < length numbers → n < get_or numbers (i + 1) d

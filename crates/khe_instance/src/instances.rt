@@ -22,7 +22,8 @@ use std::marker::Model;
 
 /// An instance: parts that are well made. It does not change. Contracts see its parts.
 ///
-/// No call but `new` takes memory, and each takes constant time but for those that look an Id up.
+/// No call but `new` takes memory, and each takes constant time but for those that look an Id up,
+/// and `task`.
 #[derive(Drop)]
 pub struct Instance {
     parts: Parts,
@@ -51,9 +52,9 @@ impl Model for Instance {
 }
 
 impl Instance {
-    /// The instance with these parts. It takes time and memory in proportion to the meet slots and
-    /// the tasks of all events, the members of the event groups, and the Ids of all times, resources
-    /// and events together, on average, and to a 64th of the events for each event group.
+    /// The instance with these parts. It takes time and memory in proportion to the meet slots of all
+    /// events, the members of the event groups, and the Ids of all times, resources and events
+    /// together, on average, and to a 64th of the events for each event group.
     pub fn new(alloc: Global, parts: Parts) -> Result<Instance, NoMemory>
         requires { AreWellMade parts }
         ensures { IfOk result (λ i. i ≡ parts) }
@@ -182,15 +183,16 @@ impl Instance {
         requires { meet.0 < sum_by (λ e. e.duration) self.now.events }
         ensures { result ≡ first_task self.now.events meet.0 }
     {
-        self.slots.first_task(meet)
+        self.slots.first_task(self.parts.events.as_slice(), meet)
     }
 
-    /// The task with this number.
+    /// The task with this number, in time in proportion to the logarithm of how many events there
+    /// are.
     pub fn task(&self, number: u32) -> TaskId
         requires { number < sum_by (λ e. e.duration * length e.places) self.now.events }
         ensures { slice_get (all_tasks self.now.events) number ≡ Some result }
     {
-        self.slots.task(number)
+        self.slots.tasks.task(self.parts.events.as_slice(), number)
     }
 
     /// The constraint with this number.

@@ -1,17 +1,19 @@
 //! The meet slots and task slots of events, found by their numbers.
 
-ghost use Rattle.std.specs.Prelude.{◌≡◌, ◌<◌, ◌≤◌, ◌+◌, ◌*◌, ◌^◌, ◌++◌, ℕ, List, Some, length, replicate, slice_get, All, IfOk, OnOk};
+ghost use Rattle.std.specs.Prelude.{◌≡◌, ◌<◌, ◌≤◌, ◌*◌, ◌^◌, ◌++◌, ℕ, Some, length, replicate, slice_get, IfOk, OnOk};
 ghost use Rattle.std.specs.List.{sum_by};
+ghost use Rattle.std.specs.List.Sorted.{IsNonDecreasing};
 ghost use Rattle.khe_base.specs.declared.limits.TheConstants.{EVENTS};
-ghost use Rattle.khe_instance.specs.Slots.{HasSlot, slots_from, slot_tasks, tasks_from, all_tasks, first_task};
-ghost use Rattle.khe_instance.specs.SlotTables.{IsSlotTable, AreTasks, first_tasks};
-ghost use Rattle.khe_instance.specs.declared.parts.EventInfo.{EventInfo as Info};
+ghost use Rattle.khe_instance.specs.Slots.{slots_from, all_tasks, first_task};
+ghost use Rattle.khe_instance.specs.SlotTables.{IsSlotTable, AreTasks, IsLastUpTo};
+ghost use Rattle.khe_instance.specs.WellMade.{AreFirstMeets};
 
 use crate::parts::EventInfo;
 use khe_base::{MeetId, NoMemory, TaskId};
 use std::alloc::Global;
 
-/// The meet slots and the task slots of events, each found by its number.
+/// The meet slots and the task slots of events, each found by its number. It keeps a number for each
+/// meet slot and one for each event, and none for the tasks.
 #[derive(Drop)]
 pub(crate) struct SlotTable {
     /// The event of each meet slot.
@@ -19,13 +21,13 @@ pub(crate) struct SlotTable {
     pub tasks: TaskTable,
 }
 
-/// The tasks of meet slots.
+/// Where the tasks of events stand.
 #[derive(Drop)]
 pub(crate) struct TaskTable {
-    /// The number of the first task of each meet slot.
+    /// The number of the first task of each event.
     pub firsts: Vec<u32>,
-    /// The task of each task slot.
-    pub tasks: Vec<TaskId>,
+    /// How many task slots there are.
+    pub count: u32,
 }
 
 impl SlotTable {
@@ -45,41 +47,71 @@ impl SlotTable {
     }
 
     pub(crate) fn task_slots(&self) -> u32
-        requires { length self.now.tasks.tasks.items < 2 ^ 32 }
-        ensures { result ≡ length self.now.tasks.tasks.items }
+        ensures { result ≡ self.now.tasks.count }
     {
-        self.tasks.tasks.len() as u32
+        self.tasks.count
     }
 
-    /// The number of the first task of a meet slot.
-    pub(crate) fn first_task(&self, meet: MeetId) -> u32
-        requires { meet.0 < length self.now.tasks.firsts.items }
-        ensures { slice_get self.now.tasks.firsts.items meet.0 ≡ Some result }
+    /// The number of the first task of a meet slot of these events.
+    pub(crate) fn first_task(&self, events: &[EventInfo], meet: MeetId) -> u32
+        requires made { AreFirstMeets 0 events.now }
+        requires table { IsSlotTable events.now self.now }
+        requires slot { meet.0 < sum_by (λ e. e.duration) events.now }
+        requires tasks { sum_by (λ e. e.duration * length e.places) events.now < 2 ^ 32 }
+        ensures { result ≡ first_task events.now meet.0 }
     {
-        self.tasks.firsts[meet.0 as usize]
-    }
-
-    /// The task with a number.
-    pub(crate) fn task(&self, number: u32) -> TaskId
-        requires { number < length self.now.tasks.tasks.items }
-        ensures { slice_get self.now.tasks.tasks.items number ≡ Some result }
-    {
-        self.tasks.tasks[number as usize]
+        let event = self.events[meet.0 as usize] as usize;
+        let info = &events[event];
+        let before = (meet.0 - info.first_meet) as usize * info.places.len();
+        self.tasks.firsts[event] + before as u32
     }
 }
 
-/// The slots of events, in time and memory in proportion to the slots.
+impl TaskTable {
+    /// The task of these events with a number, in time in proportion to the logarithm of how many
+    /// events there are.
+    pub(crate) fn task(&self, events: &[EventInfo], number: u32) -> TaskId
+        requires made { AreFirstMeets 0 events.now }
+        requires table { AreTasks events.now self.now }
+        requires events { length events.now ≤ EVENTS }
+        requires slots { sum_by (λ e. e.duration) events.now < 2 ^ 32 }
+        requires task { number < sum_by (λ e. e.duration * length e.places) events.now }
+        ensures { slice_get (all_tasks events.now) number ≡ Some result }
+    {
+        let event = self.event_of(number);
+        let info = &events[event];
+        let task = (number - self.firsts[event]) as usize;
+        let places = info.places.len();
+        TaskId {
+            meet: MeetId(info.first_meet + (task / places) as u32),
+            place: (task % places) as u32,
+        }
+    }
+
+    /// The last event whose first task is not after this one: it has the task, since an event without
+    /// tasks has the number of the event that follows it.
+    fn event_of(&self, number: u32) -> usize
+        requires some { slice_get self.now.firsts.items 0 ≡ Some 0 }
+        requires ordered { IsNonDecreasing self.now.firsts.items }
+        ensures { IsLastUpTo self.now.firsts.items number result }
+    {
+        self.firsts
+            .as_slice()
+            .partition_point(|first| *first <= number)
+            - 1
+    }
+}
+
+/// The slots of events, in time in proportion to the meet slots and the events, and memory for a
+/// number for each.
 pub(crate) fn slot_table(alloc: Global, events: &[EventInfo]) -> Result<SlotTable, NoMemory>
     requires events { length events.now ≤ EVENTS }
-    requires slots { sum_by (λ e. e.duration) events.now < 2 ^ 32 }
     requires tasks { sum_by (λ e. e.duration * length e.places) events.now < 2 ^ 32 }
     ensures { IfOk result (λ table. IsSlotTable events.now table) }
 {
-    let slots = slots_of(alloc, events)?;
-    let tasks = tasks_of(alloc, events, slots.as_slice())?;
     Ok(SlotTable {
-        events: slots,
-        tasks,
+        events: slots_of(alloc, events)?,
+        tasks: tasks_of(alloc, events)?,
     })
 }
 
@@ -105,33 +137,16 @@ fn push_slots(slots: &mut Vec<u32>, event: u32, count: u32) -> Result<(), NoMemo
     Ok(())
 }
 
-/// The tasks of the meet slots, whose events are given, and where those of each slot begin.
-fn tasks_of(alloc: Global, events: &[EventInfo], slots: &[u32]) -> Result<TaskTable, NoMemory>
-    requires slots { All (λ e. e < length events.now) slots.now }
-    requires tasks { length (tasks_from events.now 0 slots.now) < 2 ^ 32 }
-    requires few { length slots.now < 2 ^ 32 }
-    ensures { IfOk result (λ table. AreTasks events.now slots.now table.firsts.items table.tasks.items) }
+/// Where the tasks of events begin, and how many there are.
+fn tasks_of(alloc: Global, events: &[EventInfo]) -> Result<TaskTable, NoMemory>
+    requires { sum_by (λ e. e.duration * length e.places) events.now < 2 ^ 32 }
+    ensures { IfOk result (λ table. AreTasks events.now table) }
 {
     let mut firsts = Vec::new(alloc);
-    let mut tasks = Vec::new(alloc);
-    for (meet, event) in slots.iter().enumerate() {
-        let places = events[*event as usize].places.len();
-        firsts.push(tasks.len() as u32)?;
-        push_tasks(&mut tasks, meet as u32, places)?;
+    let mut count = 0;
+    for event in events {
+        firsts.push(count)?;
+        count += (event.duration as usize * event.places.len()) as u32;
     }
-    Ok(TaskTable { firsts, tasks })
-}
-
-/// Adds the tasks of a meet slot, one for each place.
-fn push_tasks(tasks: &mut Vec<TaskId>, meet: u32, places: usize) -> Result<(), NoMemory>
-    requires { places < 2 ^ 32 }
-    ensures { OnOk result (tasks.new.items ≡ tasks.old.items ++ slot_tasks meet places) }
-{
-    for place in 0..places {
-        tasks.push(TaskId {
-            meet: MeetId(meet),
-            place: place as u32,
-        })?;
-    }
-    Ok(())
+    Ok(TaskTable { firsts, count })
 }
