@@ -94,7 +94,8 @@ def look_at_lines(name, archive, *words):
     with tempfile.TemporaryDirectory() as folder:
         status, wanted = script(archive, [line for line, is_read in drawn if is_read], folder)
         case(f"{name}: khe script reads {sum(is_read for _, is_read in drawn)} lines of {count}", status == 0, wanted[-80:])
-        faults = {line: script(archive, [line], folder) for line, is_read in drawn if not is_read}
+        # What fault a line has does not hang on the archive, and this one is read soonest.
+        faults = {line: script("examples/first.xml", [line], folder) for line, is_read in drawn if not is_read}
         case(f"{name}: khe script finds a fault in each of the others, {len(faults)} by their words",
              all(status == 7 and told.startswith(b"line 1 fault ") for status, told in faults.values()), faults)
         doors = [("khe-talk from Python", one_by_one(archive, lines, program=KHE_TALK)),
@@ -316,7 +317,7 @@ def seconds(call, *words):
 def look_at_speed(archive, *words):
     is_judged = "told" not in words
     sizes = [int(word) for word in words if word != "told"]
-    lines = random_lines.short(1, 200000, sizes)
+    lines = random_lines.short(1, 200000 if is_judged else 2000, sizes)
 
     def judge(what, holds):
         if is_judged:
