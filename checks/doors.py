@@ -212,7 +212,7 @@ def look_at_many(name, week, door):
             if is_closed:
                 session.close()
             del session
-    many = 200 if "library" in door else 20
+    many = 50 if "library" in door else 20
     use(many, True)
     gc.collect()
     held, size = files(), memory()
@@ -260,18 +260,35 @@ def look_at_sides(name, made, door):
     case(f"{name}: four sessions side by side in threads", len(counts) == 4 and len(set(counts)) == 1, counts)
 
 
-def look_at_talk(week, made):
-    """What the program alone can do, and what may happen to it."""
-    with khe.Session(week, 0, demands=True) as session:
+def look_at_repairs(name, week, door):
+    """A repair and its archive, and a job of a solve."""
+    def run(*words):
+        return subprocess.run([KHE, *words], stdout=subprocess.PIPE, stderr=subprocess.DEVNULL).stdout
+    with khe.Session(week, 0, **door) as session:
         repaired = session.repair(2, 500)
         text = session.archive()
-        run = subprocess.run([KHE, "repair", week, "0", "--depth", "2", "--budget", "500"], stdout=subprocess.PIPE, stderr=subprocess.DEVNULL)
-        line = run.stdout[len(text):].decode()
-        case("khe-talk: a repair and its archive are those of khe repair", run.stdout.startswith(text) and
-             f"accepted {repaired.accepted} tried {repaired.tried} settled {repaired.settled} hard {repaired.totals.hard}" in line
-             and not repaired.is_done, line, repaired)
+        whole = run("repair", week, "0", "--depth", "2", "--budget", "500")
+        line = (f"<!-- khe repair spent accepted {repaired.accepted} tried {repaired.tried} settled {repaired.settled} "
+                f"hard {repaired.totals.hard} soft {repaired.totals.soft} -->\n")
+        case(f"{name}: a repair and its archive are those of khe repair", text + line.encode() == whole and not repaired.is_done,
+             whole[-80:], repaired)
         session.begin()
-        case("khe-talk: no repair while a mark is open", raised(khe.Refused, session.repair, 1, 1).name == "OpenMark")
+        case(f"{name}: no repair while a mark is open", raised(khe.Refused, session.repair, 1, 1).name == "OpenMark")
+        case(f"{name}: a depth that is none is a line without a reading", raised(khe.NoReading, session.repair, 5, 1).name == "BadNumber")
+    whole = run("solve", week, "0", "--depth", "1", "--budget", "1000", "--jobs", "16", "--workers", "2")
+    job = int(whole.split()[-6])
+    with khe.Session(week, 0, **door) as session:
+        totals = session.repair(1, 1000, job).totals
+        line = b"<!-- khe solve job %d hard %d soft %d -->\n" % (job, *totals)
+        case(f"{name}: a repair with diversifier {job} is that job of khe solve", session.archive() + line == whole, whole[-80:])
+
+
+def look_at_talk(week, made):
+    """What may happen to the program."""
+    with khe.Session(week, 0, demands=True) as session:
+        deficit = session.deficit()
+    with khe.Session(week, 0) as session:
+        case("khe-talk: demands that are kept change no answer", session.deficit() == deficit)
     session = khe.Session(week, 0)
     session._door._process.kill()
     ended = raised(khe.Ended, lambda: [session.totals() for _ in range(2)])
@@ -289,21 +306,35 @@ def look_at_talk(week, made):
     case("khe-talk: a program that is not there raises", raised(OSError, lambda: khe.Session(week, 0, program="/nothing")) is not None)
 
 
+def look_at_library(week, made):
+    """What may happen in the library."""
+    case("the library: that it keeps no demands is said", raised(ValueError, lambda: khe.Session(week, 0, library=LIBRARY, demands=True)) is not None)
+    case("the library: one that is not there raises", raised(OSError, lambda: khe.Session(week, 0, library="/nothing")) is not None)
+    with khe.Session(made, 0, library=LIBRARY) as session:
+        thread = threading.Thread(target=session.repair, args=(4, 200000))
+        thread.start()
+        errors = [None]
+        while thread.is_alive() and errors == [None]:
+            errors = [raised(khe.KheError, session.totals)]
+        if errors != [None]:
+            errors += [raised(khe.KheError, session.answer, b"total"), raised(khe.KheError, session.close)]
+        thread.join()
+        case("the library: while a repair goes on other threads do, and can't come into its session",
+             None not in errors and not session.is_ended and session.totals() >= (0, 0), errors)
+
+
 def look_at_behaviour(week, made):
     for name, door in DOORS:
         with khe.Session(week, 0, **door) as session:
             look_at_marks(name, session)
             look_at_errors(name, session, door)
+        look_at_repairs(name, week, door)
         look_at_long(name, made, door)
         look_at_many(name, week, door)
         look_at_sides(name, made, door)
     look_at_talk(week, made)
     if LIBRARY:
-        with khe.Session(week, 0, library=LIBRARY) as session:
-            case("the library: repairs and archives are said not to be there",
-                 None not in (raised(khe.NotOffered, session.repair, 1, 1), raised(khe.NotOffered, session.archive)))
-        case("the library: kept demands are said not to be there",
-             raised(khe.NotOffered, lambda: khe.Session(week, 0, library=LIBRARY, demands=True)) is not None)
+        look_at_library(week, made)
 
 
 # -- speed -----------------------------------------------------------------------------------------------------------

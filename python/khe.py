@@ -18,8 +18,7 @@ Two doors lead to the engine, and a session has the same methods behind either:
 
 - The program `khe-talk`, over pipes; this is what a session has where nothing else is said. It is looked for in this
   order: the argument `program`, the variable KHE_TALK, `khe-talk` beside this file's folder, `khe-talk` on the path.
-- The shared library of the engine, in this process, where the argument `library` names it. It has neither
-  :meth:`Session.repair` nor :meth:`Session.archive`.
+- The shared library of the engine, in this process, where the argument `library` names it.
 
 Times, resources, events and monitors are numbered from 0 in the order of the archive, meets and tasks as the
 answers of :meth:`Session.meets` show them. What an edit does and when it is refused stands in docs/manual.md.
@@ -43,8 +42,8 @@ from types import TracebackType
 from typing import Any, Callable, Iterable, Iterator, NamedTuple, NoReturn, Optional, Protocol, Sequence, Union
 
 __all__ = [
-    "ArchiveRefused", "Deficit", "Ended", "KheError", "Mark", "Meet", "Monitor", "NoReading", "NotOffered", "Refused",
-    "Repaired", "Session", "Totals",
+    "ArchiveRefused", "Deficit", "Ended", "KheError", "Mark", "Meet", "Monitor", "NoReading", "Refused", "Repaired",
+    "Session", "Totals",
 ]
 
 
@@ -129,10 +128,6 @@ class NoReading(KheError):
         return f"line {self.line}: {self.number} {self.name}"
 
 
-class NotOffered(KheError):
-    """What this session's door does not offer: the library has neither repairs nor archives."""
-
-
 class Ended(KheError):
     """The session is over: it was closed, the program has ended, or memory ran out. `status` is the status of the
     program or of the library's call, and `text` what was written last. The statuses stand in docs/manual.md: 4 where
@@ -172,6 +167,9 @@ class _Door(Protocol):
     def answer(self, line: bytes) -> bytes:
         """The answer to a line."""
 
+    def answer_slowly(self, line: bytes) -> bytes:
+        """The answer to a line that may take long; other threads go on meanwhile."""
+
     def answers(self, lines: Sequence[bytes]) -> list[bytes]:
         """The answers to lines, which are fewer than `BATCH` bytes together, or one line."""
 
@@ -204,6 +202,8 @@ class _Talk:
         assert self._process.stdin is not None and self._process.stdout is not None
         self._to = self._process.stdin.fileno()
         self._from = self._process.stdout.fileno()
+        # A session that is forgotten ends its program too.
+        self._end = weakref.finalize(self, self._end_program, self._process)
         # An empty line, which has no answer, shows whether the archive and the solution were taken. So the program
         # counts one line more than the session has asked.
         self.answer(b"")
@@ -223,6 +223,9 @@ class _Talk:
             self._fail(error)
         return answer[:-2] if answer[:5] != b"line " else self._renumbered(answer[:-2])
 
+    def answer_slowly(self, line: bytes) -> bytes:
+        return self.answer(line)
+
     def answers(self, lines: Sequence[bytes]) -> list[bytes]:
         if any(b"\n" in line for line in lines):
             raise ValueError(_LINE_FEED)
@@ -237,19 +240,18 @@ class _Talk:
         return Totals(int(words[2]), int(words[4]))
 
     def close(self) -> None:
-        if self.is_ended:
-            return
-        self._let_go()
-        self._process.wait()
-
-    def _let_go(self) -> None:
-        """Closes the pipes, at which a program that waits for a line ends. From then on the numbers of the pipes are
-        none, lest they be those of other files."""
+        # From now on the numbers of the pipes are none, lest they be those of other files.
         self.is_ended = True
         self._to = self._from = -1
-        for pipe in (self._process.stdin, self._process.stdout):
+        self._end()
+
+    @staticmethod
+    def _end_program(process: subprocess.Popen[bytes]) -> None:
+        """Closes the pipes, at which a program that waits for a line ends, and waits for that."""
+        for pipe in (process.stdin, process.stdout):
             if pipe is not None:
                 pipe.close()
+        process.wait()
 
     def _send(self, question: bytes) -> None:
         """Writes all of it. A write may stop early where a signal came."""
@@ -306,8 +308,8 @@ class _Talk:
 
     def _fail_on_end(self, text: bytes) -> NoReturn:
         """Says how the program has ended, of whose last answer these bytes were read."""
-        self._let_go()
-        status = self._process.wait()
+        self.close()
+        status = self._process.returncode
         last = text.decode(errors="replace").rstrip("\n")
         if status == 3 and "refused: " in last:
             raise ArchiveRefused(status, last)
@@ -334,10 +336,11 @@ class _Calls:
     def __init__(self, path: str) -> None:
         size, handle = ctypes.c_size_t, ctypes.POINTER(_Handle)
         length = ctypes.POINTER(ctypes.c_uint64)
-        # Opening takes as long as reading the archive, so other threads run meanwhile. The other calls are short, and
-        # no other thread runs during them: so none can come into the same session, which the library forbids.
-        self.open = self._call(ctypes.CDLL(path).khe_open, ctypes.c_char_p, size, ctypes.c_uint32, handle)
-        held = ctypes.PyDLL(path)
+        # Opening and some lines take long, so other threads run meanwhile. Other calls are short, and no other thread
+        # runs during them: so none can come into the same session, which the library forbids.
+        free, held = ctypes.CDLL(path), ctypes.PyDLL(path)
+        self.open = self._call(free.khe_open, ctypes.c_char_p, size, ctypes.c_uint32, handle)
+        self.long_line = self._call(free.khe_line, handle, ctypes.c_char_p, size, ctypes.c_char_p, size, length)
         self.line = self._call(held.khe_line, handle, ctypes.c_char_p, size, ctypes.c_char_p, size, length)
         self.answer = self._call(held.khe_answer, handle, ctypes.c_char_p, size, length)
         self.totals = self._call(held.khe_totals, handle, ctypes.POINTER(_Costs))
@@ -357,15 +360,15 @@ class _Library:
 
     def __init__(self, path: str, archive: bytes, solution: int) -> None:
         self.is_ended = False
-        self._handle = _Handle()
-        self._at = ctypes.byref(self._handle)
+        self._is_busy = False
+        self._at = ctypes.byref(_Handle())
         self._length = ctypes.c_uint64()
         self._length_at = ctypes.byref(self._length)
         self._costs = _Costs()
         self._costs_at = ctypes.byref(self._costs)
         self._make_room(LONG)
         calls = _Calls(path)
-        self._line, self._again, self._totals = calls.line, calls.answer, calls.totals
+        self._line, self._long_line, self._again, self._totals = calls.line, calls.long_line, calls.answer, calls.totals
         status = calls.open(archive, len(archive), solution, self._at)
         # What the handle holds is given back by `close`, or else when this door is forgotten.
         self._give_back = weakref.finalize(self, calls.close, self._at)
@@ -386,6 +389,22 @@ class _Library:
         answer: bytes = self._room[:self._length.value]
         return answer
 
+    def answer_slowly(self, line: bytes) -> bytes:
+        if b"\n" in line:
+            raise ValueError(_LINE_FEED)
+        # A thread that comes into this session meanwhile finds a handle that is closed.
+        at, self._at = self._at, ctypes.byref(_Handle())
+        try:
+            self._is_busy = True
+            status = self._long_line(at, line, len(line), self._room, self._size, self._length_at)
+        finally:
+            self._at = at
+            self._is_busy = False
+        if status:
+            self._take_long(status)
+        answer: bytes = self._room[:self._length.value]
+        return answer
+
     def answers(self, lines: Sequence[bytes]) -> list[bytes]:
         return [self.answer(line) for line in lines]
 
@@ -397,8 +416,13 @@ class _Library:
         return Totals(costs.hard_high << 64 | costs.hard_low, costs.soft_high << 64 | costs.soft_low)
 
     def close(self) -> None:
+        self._refuse_if_busy()
         self.is_ended = True
         self._give_back()
+
+    def _refuse_if_busy(self) -> None:
+        if self._is_busy:
+            raise KheError("the session is at work in another thread")
 
     def _make_room(self, size: int) -> None:
         self._size = size
@@ -415,6 +439,7 @@ class _Library:
 
     def _fail(self, status: int) -> NoReturn:
         """Says why a call did nothing."""
+        self._refuse_if_busy()
         text = _SESSION_CLOSED if self.is_ended else "memory ran out" if status == _NO_MEMORY else ""
         self.close()
         raise Ended(status, text)
@@ -443,7 +468,7 @@ def _opened(archive: Union[str, os.PathLike[str]], solution: int, program: Union
     if program is not None:
         raise ValueError("a session has one door: program or library")
     if demands:
-        raise NotOffered("the library keeps no demands")
+        raise ValueError("demands are kept by the program alone")
     with open(archive, "rb") as file:
         content = file.read()
     return _Library(os.fspath(library), content, solution)
@@ -737,25 +762,21 @@ class Session:
         first, *rest = (line.split(" ") for line in self.ask("deficit"))
         return Deficit(int(first[1]), tuple((kind, *map(int, numbers)) for kind, *numbers in rest))
 
-    # -- beyond scripts, by the program alone ------------------------------------------------------------------------
+    # -- beyond scripts ----------------------------------------------------------------------------------------------
 
     def repair(self, depth: int, budget: int, diversifier: int = 0) -> Repaired:
         """Repairs the timetable by chains of at most `depth` moves, of which `budget` may be tried; lists begin at
-        their place `diversifier`. No mark may be open. The totals are never higher than before."""
-        self._ask_talk()
-        line = self.ask(f"repair {depth} {budget} {diversifier}")[0]
+        their place `diversifier`. No mark may be open. The totals are never higher than before. An interrupt ends the
+        session over the program; the library comes back first."""
+        line = self._door.answer_slowly(f"repair {depth} {budget} {diversifier}".encode()).decode().rstrip("\n")
+        _raise_refusal(line)
         end, accepted, tried, settled, hard, soft = _matched(_REPAIR, line).groups()
         return Repaired(end == "done", int(accepted), int(tried), None if settled is None else int(settled),
                         Totals(int(hard), int(soft)))
 
     def archive(self) -> bytes:
         """The archive in its canonical spelling, with the timetable in the solution's place."""
-        self._ask_talk()
-        return self.answer(b"archive")
-
-    def _ask_talk(self) -> None:
-        if not isinstance(self._door, _Talk):
-            raise NotOffered("the library has neither repairs nor archives; a session with the program has both")
+        return self._door.answer_slowly(b"archive")
 
 
 # -- as a program ----------------------------------------------------------------------------------------------------

@@ -8,8 +8,8 @@ where the totals are no higher than before, and is taken back where they are. A 
 end finds what is left within one step. The engine says what each edit costs; this file knows nothing of the
 constraints.
 
-The engine is the program khe-talk, or the shared library that is named; the library has neither the repair nor
---out. The picture takes matplotlib (python3-matplotlib), all else the standard library alone.
+The engine is the program khe-talk, or the shared library that is named. The picture takes matplotlib
+(python3-matplotlib), all else the standard library alone.
 """
 
 from __future__ import annotations
@@ -89,7 +89,7 @@ def climbed(session: khe.Session, tries: int, rng: random.Random) -> list[Step]:
     return course
 
 
-def drawn(course: list[Step], repaired: Optional[khe.Totals], title: str, file: str) -> None:
+def drawn(course: list[Step], repaired: khe.Totals, title: str, file: str) -> None:
     """Draws both totals by the number of tries, and where a repair brought them."""
     import matplotlib
     matplotlib.use("Agg")
@@ -99,8 +99,7 @@ def drawn(course: list[Step], repaired: Optional[khe.Totals], title: str, file: 
     for axes, part, colour in zip(panels, ("hard", "soft"), ("tab:red", "tab:blue")):
         values = [getattr(totals, part) for _, totals in course]
         axes.step([number for number, _ in course], values, where="post", color=colour, label="climbed")
-        if repaired is not None:
-            axes.plot([course[-1][0]], [getattr(repaired, part)], "o", color=colour, clip_on=False, label="repaired")
+        axes.plot([course[-1][0]], [getattr(repaired, part)], "o", color=colour, clip_on=False, label="repaired")
         axes.set_ylabel(f"{part} total")
         axes.set_ylim(bottom=0)
         axes.grid(alpha=0.3)
@@ -120,12 +119,10 @@ def main() -> None:
     parser.add_argument("--out", help="the archive with the timetable that was found")
     parser.add_argument("--library", help="the shared library of the engine, in place of khe-talk")
     words = parser.parse_args()
-    if words.library and words.out:
-        parser.error("--out is by khe-talk alone")
     try:
         with khe.Session(words.archive, words.solution, library=words.library) as session:
             course = climbed(session, words.tries, random.Random(words.seed))
-            repaired = None if words.library else session.repair(1, 100000).totals
+            repaired = session.repair(1, 100000).totals
             if words.out:
                 with open(words.out, "wb") as file:
                     file.write(session.archive())
@@ -133,8 +130,7 @@ def main() -> None:
         raise SystemExit(f"climb.py: {error}") from None
     print("before hard %d soft %d" % course[0][1])
     print("climbed hard %d soft %d" % course[-1][1])
-    if repaired is not None:
-        print("repaired hard %d soft %d" % repaired)
+    print("repaired hard %d soft %d" % repaired)
     if words.plot:
         drawn(course, repaired, f"{os.path.basename(words.archive)}, solution {words.solution}", words.plot)
 
