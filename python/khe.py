@@ -25,7 +25,7 @@ answers of :meth:`Session.meets` show them. What an edit does and when it is ref
 
 As a program this file asks one session of each kind of question, and says how fast it answers:
 
-    python3 khe.py ARCHIVE SOLUTION [--program PROGRAM | --library LIBRARY] [--lines N]
+    python3 khe.py ARCHIVE SOLUTION [--program PROGRAM | --library LIBRARY] [--one-processor] [--lines N]
 """
 
 from __future__ import annotations
@@ -192,13 +192,29 @@ _LINE_FEED = "a line feed inside a line"
 _SESSION_CLOSED = "the session is closed"
 
 
+def _stay() -> set[int]:
+    """Lets this thread run on the processor alone that it is on, and answers those on which it might run before."""
+    before = os.sched_getaffinity(0)
+    with open("/proc/thread-self/stat") as file:
+        # The processor is the 39th field; the second one is a name in parentheses.
+        present = int(file.read().rpartition(")")[2].split()[36])
+    os.sched_setaffinity(0, {present})
+    return before
+
+
 class _Talk:
     """The program `khe-talk`: an answer ends with a line that holds one full stop alone, and no other line of an
     answer is that."""
 
-    def __init__(self, words: Sequence[str]) -> None:
+    def __init__(self, words: Sequence[str], one_processor: bool) -> None:
         self.is_ended = False
-        self._process = subprocess.Popen(words, stdin=subprocess.PIPE, stdout=subprocess.PIPE, bufsize=0)
+        # The program runs where this thread may run.
+        self._processors = _stay() if one_processor else None
+        try:
+            self._process = subprocess.Popen(words, stdin=subprocess.PIPE, stdout=subprocess.PIPE, bufsize=0)
+        except BaseException:
+            self._leave_processor()
+            raise
         assert self._process.stdin is not None and self._process.stdout is not None
         self._to = self._process.stdin.fileno()
         self._from = self._process.stdout.fileno()
@@ -244,6 +260,12 @@ class _Talk:
         self.is_ended = True
         self._to = self._from = -1
         self._end()
+        self._leave_processor()
+
+    def _leave_processor(self) -> None:
+        if self._processors:
+            os.sched_setaffinity(0, self._processors)
+            self._processors = None
 
     @staticmethod
     def _end_program(process: subprocess.Popen[bytes]) -> None:
@@ -458,13 +480,13 @@ def _program_words(program: Union[str, Sequence[str], None]) -> list[str]:
 
 
 def _opened(archive: Union[str, os.PathLike[str]], solution: int, program: Union[str, Sequence[str], None],
-            library: Union[str, os.PathLike[str], None], demands: bool) -> _Door:
+            library: Union[str, os.PathLike[str], None], demands: bool, one_processor: bool) -> _Door:
     """The door that is asked for."""
     if not 0 <= solution < 1 << 32:
         raise ValueError(f"no number of a solution: {solution}")
     if library is None:
         options = ["--demands"] if demands else []
-        return _Talk([*_program_words(program), os.fspath(archive), str(solution), *options])
+        return _Talk([*_program_words(program), os.fspath(archive), str(solution), *options], one_processor)
     if program is not None:
         raise ValueError("a session has one door: program or library")
     if demands:
@@ -562,14 +584,19 @@ class Session:
     as a string or a list of words, and `library` the file of the shared library; where both are left out, the program
     is looked for. With `demands` the program keeps what :meth:`deficit` asks for, so that it answers at once.
 
+    Over the program a line and its answer cost two changes from one process to the other, which are several times as
+    fast where both run on one processor. With `one_processor` they do: this thread stays on the processor that it is on
+    until the session is closed, and threads and programs that it begins meanwhile stay there too (Linux alone).
+
     An archive or a solution that is refused raises :class:`ArchiveRefused`, and one that can't be read :class:`Ended`
     or, by the library, OSError. Leaving the block of a session closes it, and with it goes what was done. A session
     is used by one thread at a time; several sessions stand side by side."""
 
     def __init__(self, archive: Union[str, os.PathLike[str]], solution: int, *,
                  program: Union[str, Sequence[str], None] = None,
-                 library: Union[str, os.PathLike[str], None] = None, demands: bool = False) -> None:
-        self._door = _opened(archive, solution, program, library, demands)
+                 library: Union[str, os.PathLike[str], None] = None, demands: bool = False,
+                 one_processor: bool = False) -> None:
+        self._door = _opened(archive, solution, program, library, demands, one_processor)
         #: The answer to one line of a script, as bytes: no line or many, each with a line feed at its end. The line
         #: is bytes without a line feed. This is the fast way, and raises neither for a refusal nor for a line without
         #: a reading: their lines are answers. Marks that are opened or closed so are not counted in `marks`.
@@ -840,10 +867,12 @@ def main() -> None:
     parser.add_argument("solution", type=int)
     parser.add_argument("--program", help="the program khe-talk")
     parser.add_argument("--library", help="the shared library, in place of the program")
+    parser.add_argument("--one-processor", action="store_true", help="with the program on the processor of this one")
     parser.add_argument("--lines", type=int, default=100000, help="how many lines to measure with")
     words = parser.parse_args()
     try:
-        with Session(words.archive, words.solution, program=words.program, library=words.library) as session:
+        with Session(words.archive, words.solution, program=words.program, library=words.library,
+                     one_processor=words.one_processor) as session:
             _look_at(session)
             _measure(session, words.lines)
     except (KheError, OSError) as error:
