@@ -34,7 +34,7 @@ def copied():
     yield os.path.join(TOP, "docs/manual.md"), os.path.join(COPIES, "manual.md")
     for folder, _, names in os.walk(os.path.join(TOP, "examples")):
         for name in names:
-            if not name.endswith((".py", ".pyc")):
+            if not name.endswith((".py", ".pyc", ".sh", ".c")):
                 path = os.path.join(folder, name)
                 yield path, os.path.join(COPIES, os.path.relpath(path, TOP))
 

@@ -1,8 +1,9 @@
+#!/usr/bin/env python3
 """The high school timetabling engine `khe`, asked from Python.
 
-A :class:`Session` holds one solution of an archive. It is a program of its own, `khe-talk`, whose answers are
-those of `khe script`: each cost, each total and each refusal is what the proved engine gives for the timetable as
-it stands. The standard library is all that this module needs.
+A :class:`Session` holds one solution of an archive in an engine of its own, whose answers are those of `khe script`:
+each cost, each total and each refusal is what the proved engine gives for the timetable as it stands. The standard
+library is all that this module needs.
 
     import khe
 
@@ -13,83 +14,438 @@ it stands. The standard library is all that this module needs.
             if week.totals() < (25, 13):
                 mark.keep()                   # else the mark takes all of it back
 
+Two doors lead to the engine, and a session has the same methods behind either:
+
+- The program `khe-talk`, over pipes; this is what a session has where nothing else is said. It is looked for in this
+  order: the argument `program`, the variable KHE_TALK, `khe-talk` beside this file's folder, `khe-talk` on the path.
+- The shared library of the engine, in this process, where the argument `library` names it.
+
 Times, resources, events and monitors are numbered from 0 in the order of the archive, meets and tasks as the
 answers of :meth:`Session.meets` show them. What an edit does and when it is refused stands in docs/manual.md.
 
-The program is looked for in this order: the argument `program`, the variable KHE_TALK, `khe-talk` beside this
-file's folder, and `khe-talk` on the path.
+As a program this file asks one session of each kind of question, and says how fast it answers:
+
+    python3 khe.py ARCHIVE SOLUTION [--program PROGRAM | --library LIBRARY] [--lines N]
 """
 
-import collections
+from __future__ import annotations
+
+import ctypes
 import os
+import re
 import shlex
 import shutil
 import subprocess
+import weakref
+from os import read as _read, write as _write
+from types import TracebackType
+from typing import Any, Callable, Iterable, Iterator, NamedTuple, NoReturn, Optional, Protocol, Sequence, Union
 
 __all__ = [
-    "Deficit", "Ended", "KheError", "Mark", "Meet", "Monitor", "NoReading", "Refused", "Repaired", "Session",
-    "Totals",
+    "ArchiveRefused", "Deficit", "Ended", "KheError", "Mark", "Meet", "Monitor", "NoReading", "Refused", "Repaired",
+    "Session", "Totals",
 ]
 
-# How many bytes are read at once.
-PIECE = 1 << 16
-# The least number of bytes of questions that `ask_all` has under way.
-AHEAD = 1 << 14
 
-#: The hard and the soft total of a timetable. Totals compare as the engine compares them: hard first.
-Totals = collections.namedtuple("Totals", "hard soft")
+# -- what is answered ------------------------------------------------------------------------------------------------
 
-#: A meet: its number, the Id of its event, its duration, the time that it starts at or None, and the resources of
-#: its tasks by place, with None where a task has none.
-Meet = collections.namedtuple("Meet", "number event duration time tasks")
+class Totals(NamedTuple):
+    """The hard and the soft total of a timetable. They compare as the engine compares them: hard first."""
+    hard: int
+    soft: int
 
-#: A monitor: its number, the kind and the Id of its constraint, its point as text, its deviation, its cost, whether
-#: the constraint is required (a hard cost), and whether it is detached.
-Monitor = collections.namedtuple("Monitor", "number kind constraint point deviation cost is_hard is_detached")
 
-#: What is short: the deficit, and the demands that compete. A demand is ("demand", meet, place, offset) or
-#: ("unavailable", resource, time).
-Deficit = collections.namedtuple("Deficit", "deficit demands")
+class Meet(NamedTuple):
+    """A meet: its number, the Id of its event, its duration, the time that it starts at or None, and the resources
+    of its tasks by place, with None where a task has none."""
+    number: int
+    event: str
+    duration: int
+    time: Optional[int]
+    tasks: tuple[Optional[int], ...]
 
-#: How a repair ended: whether it was done (and not cut off by its budget), how many chains it took of how many that
-#: it tried, the length up to which all chains were tried in vain (None where it was done), and the totals.
-Repaired = collections.namedtuple("Repaired", "is_done accepted tried settled totals")
 
+class Monitor(NamedTuple):
+    """A monitor: its number, the kind and the Id of its constraint, its point as text, its deviation, its cost,
+    whether the constraint is required (a hard cost), and whether it is detached."""
+    number: int
+    kind: str
+    constraint: str
+    point: str
+    deviation: int
+    cost: int
+    is_hard: bool
+    is_detached: bool
+
+
+class Deficit(NamedTuple):
+    """What is short: how many demands must go without, and those that compete. A demand is
+    ("demand", meet, place, offset) or ("unavailable", resource, time)."""
+    deficit: int
+    demands: tuple[tuple[Union[str, int], ...], ...]
+
+
+class Repaired(NamedTuple):
+    """How a repair ended: whether it was done (and not cut off by its budget), how many chains it took of how many
+    that it tried, the length up to which all chains were tried in vain (None where it was done), and the totals."""
+    is_done: bool
+    accepted: int
+    tried: int
+    settled: Optional[int]
+    totals: Totals
+
+
+# -- what goes wrong -------------------------------------------------------------------------------------------------
 
 class KheError(Exception):
     """What went wrong while the engine was asked."""
 
 
 class Refused(KheError):
-    """An edit or a question that is refused; nothing was changed.
+    """An edit or a question that is refused; nothing was changed. `number` and `name` are those of the refusal, as 8
+    and "OffEnd"."""
 
-    `number` and `name` are those of the refusal, as 8 and "OffEnd"."""
-
-    def __init__(self, number, name):
-        super().__init__("%d %s" % (number, name))
+    def __init__(self, number: int, name: str) -> None:
+        super().__init__(number, name)
         self.number = number
         self.name = name
 
+    def __str__(self) -> str:
+        return f"{self.number} {self.name}"
+
 
 class NoReading(KheError):
-    """A line that is no line of a script; nothing was changed. `fault` says why, as "2 BadCount"."""
+    """A line that is no line of a script; nothing was changed. `line` is its number among the session's lines, from
+    1; `number` and `name` are those of the fault, as 2 and "BadCount"."""
 
-    def __init__(self, fault):
-        super().__init__(fault)
-        self.fault = fault
+    def __init__(self, line: int, number: int, name: str) -> None:
+        super().__init__(line, number, name)
+        self.line = line
+        self.number = number
+        self.name = name
+
+    def __str__(self) -> str:
+        return f"line {self.line}: {self.number} {self.name}"
 
 
 class Ended(KheError):
-    """The program has ended. `status` is its status and `text` what it wrote last: 3 and a refusal where the
-    archive or the solution was refused, 4 where the archive can't be read, 6 where memory ran out."""
+    """The session is over: it was closed, the program has ended, or memory ran out. `status` is the status of the
+    program or of the library's call, and `text` what was written last. The statuses stand in docs/manual.md: 4 where
+    the archive can't be read, 6 where memory ran out."""
 
-    def __init__(self, status, text):
-        super().__init__("status %s%s" % (status, ": " + text if text else ""))
+    def __init__(self, status: int, text: str) -> None:
+        super().__init__(status, text)
         self.status = status
         self.text = text
 
+    def __str__(self) -> str:
+        return f"status {self.status}: {self.text}" if self.text else f"status {self.status}"
 
-def _program(program):
+
+class ArchiveRefused(Ended):
+    """The archive, or its solution, is refused. `text` is the line that says so, as
+    "khe: archive refused: 19 Invalid 1 TooLong entry 1"; its number is `number`, its name is `name`, and what stands
+    after that is `rest`."""
+
+    def __init__(self, status: int, text: str) -> None:
+        super().__init__(status, text)
+        number, self.name, *rest = text.rpartition("refused: ")[2].split(" ", 2)
+        self.number = int(number)
+        self.rest = rest[0] if rest else ""
+
+    def __str__(self) -> str:
+        return self.text
+
+
+# -- the doors -------------------------------------------------------------------------------------------------------
+
+class _Door(Protocol):
+    """A way to an engine. A line has no line feed at its end, and its answer is bytes: no line or many, each with a
+    line feed."""
+    is_ended: bool
+
+    def answer(self, line: bytes) -> bytes:
+        """The answer to a line."""
+
+    def answer_slowly(self, line: bytes) -> bytes:
+        """The answer to a line that may take long; other threads go on meanwhile."""
+
+    def answers(self, lines: Sequence[bytes]) -> list[bytes]:
+        """The answers to lines, which are fewer than `BATCH` bytes together, or one line."""
+
+    def totals(self) -> Totals:
+        """The totals of the timetable as it stands."""
+
+    def close(self) -> None:
+        """Ends the session. A second time it does nothing."""
+
+
+# How many bytes of lines are sent before their answers are read. A pipe that is empty takes as many without waiting
+# for its reader on any system; with more, program and session could wait for each other.
+BATCH = 4096
+
+# How many bytes are read at once where most answers are short, and where there are many or a long one.
+SHORT, LONG = 1 << 12, 1 << 16
+
+_STOP = re.compile(rb"^\.\n", re.MULTILINE)
+_LINE_FEED = "a line feed inside a line"
+_SESSION_CLOSED = "the session is closed"
+
+
+class _Talk:
+    """The program `khe-talk`: an answer ends with a line that holds one full stop alone, and no other line of an
+    answer is that."""
+
+    def __init__(self, words: Sequence[str]) -> None:
+        self.is_ended = False
+        self._process = subprocess.Popen(words, stdin=subprocess.PIPE, stdout=subprocess.PIPE, bufsize=0)
+        assert self._process.stdin is not None and self._process.stdout is not None
+        self._to = self._process.stdin.fileno()
+        self._from = self._process.stdout.fileno()
+        # A session that is forgotten ends its program too.
+        self._end = weakref.finalize(self, self._end_program, self._process)
+        # An empty line, which has no answer, shows whether the archive and the solution were taken. So the program
+        # counts one line more than the session has asked.
+        self.answer(b"")
+
+    def answer(self, line: bytes) -> bytes:
+        if b"\n" in line:
+            raise ValueError(_LINE_FEED)
+        try:
+            line += b"\n"
+            sent = _write(self._to, line)
+            if sent != len(line):
+                self._send(line[sent:])
+            answer = _read(self._from, SHORT)
+            if answer[-3:] != b"\n.\n":
+                answer = self._whole(answer)
+        except BaseException as error:
+            self._fail(error)
+        return answer[:-2] if answer[:5] != b"line " else self._renumbered(answer[:-2])
+
+    def answer_slowly(self, line: bytes) -> bytes:
+        return self.answer(line)
+
+    def answers(self, lines: Sequence[bytes]) -> list[bytes]:
+        if any(b"\n" in line for line in lines):
+            raise ValueError(_LINE_FEED)
+        try:
+            self._send(b"\n".join(lines) + b"\n")
+            return self._read_answers(len(lines))
+        except BaseException as error:
+            self._fail(error)
+
+    def totals(self) -> Totals:
+        words = self.answer(b"total").split()
+        return Totals(int(words[2]), int(words[4]))
+
+    def close(self) -> None:
+        # From now on the numbers of the pipes are none, lest they be those of other files.
+        self.is_ended = True
+        self._to = self._from = -1
+        self._end()
+
+    @staticmethod
+    def _end_program(process: subprocess.Popen[bytes]) -> None:
+        """Closes the pipes, at which a program that waits for a line ends, and waits for that."""
+        for pipe in (process.stdin, process.stdout):
+            if pipe is not None:
+                pipe.close()
+        process.wait()
+
+    def _send(self, question: bytes) -> None:
+        """Writes all of it. A write may stop early where a signal came."""
+        while question:
+            question = question[_write(self._to, question):]
+
+    def _whole(self, piece: bytes) -> bytes:
+        """The whole answer that this piece begins, with its full stop."""
+        pieces, tail = [piece], piece[-3:]
+        while tail not in (b"\n.\n", b".\n"):
+            piece = _read(self._from, LONG)
+            if not piece:
+                self._fail_on_end(b"".join(pieces))
+            pieces.append(piece)
+            tail = (tail + piece)[-3:]
+        return b"".join(pieces)
+
+    def _read_answers(self, count: int) -> list[bytes]:
+        """So many answers, the lines of which are under way."""
+        answers: list[bytes] = []
+        pieces: list[bytes] = []
+        rest = b""
+        while len(answers) < count:
+            piece = _read(self._from, LONG)
+            if not piece:
+                self._fail_on_end(b"".join(pieces) + rest)
+            rest += piece
+            end = rest.rfind(b"\n") + 1
+            first, *others = _STOP.split(rest[:end])
+            rest = rest[end:]
+            pieces.append(first)
+            for other in others:
+                answers.append(b"".join(pieces))
+                pieces = [other]
+        return [answer if answer[:5] != b"line " else self._renumbered(answer) for answer in answers]
+
+    @staticmethod
+    def _renumbered(answer: bytes) -> bytes:
+        """The line on a fault with the number of its line among those of the session."""
+        _, number, rest = answer.split(b" ", 2)
+        return b"line %d %s" % (int(number) - 1, rest)
+
+    def _fail(self, error: BaseException) -> NoReturn:
+        """Ends the session after an error amid a question: what would be read next is not known any more."""
+        if isinstance(error, Ended):
+            raise error
+        if self.is_ended:
+            raise Ended(self._process.returncode, _SESSION_CLOSED) from None
+        if isinstance(error, BrokenPipeError):
+            self._fail_on_end(b"".join(iter(lambda: _read(self._from, LONG), b"")))
+        self._process.kill()
+        self.close()
+        raise error
+
+    def _fail_on_end(self, text: bytes) -> NoReturn:
+        """Says how the program has ended, of whose last answer these bytes were read."""
+        self.close()
+        status = self._process.returncode
+        last = text.decode(errors="replace").rstrip("\n")
+        if status == 3 and "refused: " in last:
+            raise ArchiveRefused(status, last)
+        raise Ended(status, last)
+
+
+class _Handle(ctypes.Structure):
+    """A handle of the library."""
+    _fields_ = [("at", ctypes.c_void_p), ("is_open", ctypes.c_bool)]
+
+
+class _Costs(ctypes.Structure):
+    """The totals as the library tells them."""
+    _fields_ = [(name, ctypes.c_uint64) for name in ("hard_high", "hard_low", "soft_high", "soft_low")]
+
+
+# The library's statuses.
+_DONE, _REFUSED, _NO_MEMORY, _NO_ROOM = 0, 3, 6, 9
+
+
+class _Calls:
+    """The functions of the library, with their types."""
+
+    def __init__(self, path: str) -> None:
+        size, handle = ctypes.c_size_t, ctypes.POINTER(_Handle)
+        length = ctypes.POINTER(ctypes.c_uint64)
+        # Opening and some lines take long, so other threads run meanwhile. Other calls are short, and no other thread
+        # runs during them: so none can come into the same session, which the library forbids.
+        free, held = ctypes.CDLL(path), ctypes.PyDLL(path)
+        self.open = self._call(free.khe_open, ctypes.c_char_p, size, ctypes.c_uint32, handle)
+        self.long_line = self._call(free.khe_line, handle, ctypes.c_char_p, size, ctypes.c_char_p, size, length)
+        self.line = self._call(held.khe_line, handle, ctypes.c_char_p, size, ctypes.c_char_p, size, length)
+        self.answer = self._call(held.khe_answer, handle, ctypes.c_char_p, size, length)
+        self.totals = self._call(held.khe_totals, handle, ctypes.POINTER(_Costs))
+        self.close = self._call(held.khe_close, handle)
+
+    @staticmethod
+    def _call(function: Any, *types: Any) -> Callable[..., int]:
+        function.argtypes = types
+        function.restype = ctypes.c_uint32
+        call: Callable[..., int] = function
+        return call
+
+
+class _Library:
+    """The engine in this process, by the calls of the shared library. Answers are copied into one room, which grows
+    where one is longer."""
+
+    def __init__(self, path: str, archive: bytes, solution: int) -> None:
+        self.is_ended = False
+        self._is_busy = False
+        self._at = ctypes.byref(_Handle())
+        self._length = ctypes.c_uint64()
+        self._length_at = ctypes.byref(self._length)
+        self._costs = _Costs()
+        self._costs_at = ctypes.byref(self._costs)
+        self._make_room(LONG)
+        calls = _Calls(path)
+        self._line, self._long_line, self._again, self._totals = calls.line, calls.long_line, calls.answer, calls.totals
+        status = calls.open(archive, len(archive), solution, self._at)
+        # What the handle holds is given back by `close`, or else when this door is forgotten.
+        self._give_back = weakref.finalize(self, calls.close, self._at)
+        if status == _REFUSED:
+            self._again(self._at, self._room, self._size, self._length_at)
+            refusal = self._room[:self._length.value].decode(errors="replace").rstrip("\n")
+            self.close()
+            raise ArchiveRefused(status, refusal)
+        if status != _DONE:
+            self._fail(status)
+
+    def answer(self, line: bytes) -> bytes:
+        if b"\n" in line:
+            raise ValueError(_LINE_FEED)
+        status = self._line(self._at, line, len(line), self._room, self._size, self._length_at)
+        if status:
+            self._take_long(status)
+        answer: bytes = self._room[:self._length.value]
+        return answer
+
+    def answer_slowly(self, line: bytes) -> bytes:
+        if b"\n" in line:
+            raise ValueError(_LINE_FEED)
+        # A thread that comes into this session meanwhile finds a handle that is closed.
+        at, self._at = self._at, ctypes.byref(_Handle())
+        try:
+            self._is_busy = True
+            status = self._long_line(at, line, len(line), self._room, self._size, self._length_at)
+        finally:
+            self._at = at
+            self._is_busy = False
+        if status:
+            self._take_long(status)
+        answer: bytes = self._room[:self._length.value]
+        return answer
+
+    def answers(self, lines: Sequence[bytes]) -> list[bytes]:
+        return [self.answer(line) for line in lines]
+
+    def totals(self) -> Totals:
+        status = self._totals(self._at, self._costs_at)
+        if status:
+            self._fail(status)
+        costs = self._costs
+        return Totals(costs.hard_high << 64 | costs.hard_low, costs.soft_high << 64 | costs.soft_low)
+
+    def close(self) -> None:
+        self._refuse_if_busy()
+        self.is_ended = True
+        self._give_back()
+
+    def _refuse_if_busy(self) -> None:
+        if self._is_busy:
+            raise KheError("the session is at work in another thread")
+
+    def _make_room(self, size: int) -> None:
+        self._size = size
+        self._room: Any = (ctypes.c_char * size)()
+
+    def _take_long(self, status: int) -> None:
+        """Takes an answer for which the room was too small into a larger one."""
+        if status != _NO_ROOM:
+            self._fail(status)
+        self._make_room(2 * self._length.value)
+        status = self._again(self._at, self._room, self._size, self._length_at)
+        if status:
+            self._fail(status)
+
+    def _fail(self, status: int) -> NoReturn:
+        """Says why a call did nothing."""
+        self._refuse_if_busy()
+        text = _SESSION_CLOSED if self.is_ended else "memory ran out" if status == _NO_MEMORY else ""
+        self.close()
+        raise Ended(status, text)
+
+
+def _program_words(program: Union[str, Sequence[str], None]) -> list[str]:
     """The words that begin the program."""
     if program is None:
         program = os.environ.get("KHE_TALK")
@@ -101,363 +457,398 @@ def _program(program):
     return shlex.split(program) if isinstance(program, str) else list(program)
 
 
-def _unescaped(text):
+def _opened(archive: Union[str, os.PathLike[str]], solution: int, program: Union[str, Sequence[str], None],
+            library: Union[str, os.PathLike[str], None], demands: bool) -> _Door:
+    """The door that is asked for."""
+    if not 0 <= solution < 1 << 32:
+        raise ValueError(f"no number of a solution: {solution}")
+    if library is None:
+        options = ["--demands"] if demands else []
+        return _Talk([*_program_words(program), os.fspath(archive), str(solution), *options])
+    if program is not None:
+        raise ValueError("a session has one door: program or library")
+    if demands:
+        raise ValueError("demands are kept by the program alone")
+    with open(archive, "rb") as file:
+        content = file.read()
+    return _Library(os.fspath(library), content, solution)
+
+
+# -- reading answers -------------------------------------------------------------------------------------------------
+
+_REFUSAL = re.compile(r"refused (\d+) (\S+)")
+_FAULT = re.compile(r"line (\d+) fault (\d+) (\S+)")
+_MONITOR = re.compile(r'monitor (\d+) (\S+) "([^"]*)" (.*) deviation (\d+) (hard|soft) (\d+)( detached)?')
+_MEET = re.compile(r'meet (\d+) event "([^"]*)" duration (\d+) time (\d+|-)')
+_REPAIR = re.compile(r"<!-- khe repair (done|spent) accepted (\d+) tried (\d+)(?: settled (\d+))? hard (\d+) soft (\d+) -->")
+_REFERENCES = (("&#9;", "\t"), ("&#10;", "\n"), ("&#13;", "\r"), ("&lt;", "<"), ("&gt;", ">"), ("&quot;", '"'), ("&amp;", "&"))
+
+
+def _raise_refusal(line: str) -> None:
+    """Raises what a line says that was not done."""
+    if refusal := _REFUSAL.fullmatch(line):
+        raise Refused(int(refusal[1]), refusal[2])
+    if fault := _FAULT.fullmatch(line):
+        raise NoReading(int(fault[1]), int(fault[2]), fault[3])
+
+
+def _matched(form: re.Pattern[str], line: str) -> re.Match[str]:
+    """The parts of a line of this form."""
+    match = form.fullmatch(line)
+    if match is None:
+        raise KheError(f"an answer that was not expected: {line!r}")
+    return match
+
+
+def _unescaped(text: str) -> str:
     """An Id as the archive has it."""
-    for sign, mark in (("\t", "&#9;"), ("\n", "&#10;"), ("\r", "&#13;"), ("<", "&lt;"), (">", "&gt;"), ('"', "&quot;")):
-        text = text.replace(mark, sign)
-    return text.replace("&amp;", "&")
+    if "&" in text:
+        for reference, sign in _REFERENCES:
+            text = text.replace(reference, sign)
+    return text
 
 
-def _quoted(text):
-    """The Id that a text begins with, in quotes, and what stands after it."""
-    end = text.index('"', 1)
-    return _unescaped(text[1:end]), text[end + 2:]
-
-
-def _number(word):
+def _number(word: str) -> Optional[int]:
     """A number, or None for a dash."""
     return None if word == "-" else int(word)
 
 
-def _totals(line):
-    """The totals at the end of a line `.. hard H soft S`."""
-    words = line.split()
-    return Totals(int(words[-3]), int(words[-1]))
-
-
-def _monitor(line):
+def _monitor(line: str) -> Monitor:
     """The monitor of its line."""
-    _, number, kind, rest = line.split(" ", 3)
-    constraint, rest = _quoted(rest)
-    is_detached = rest.endswith(" detached")
-    if is_detached:
-        rest = rest[:-len(" detached")]
-    words = rest.rsplit(" ", 4)
-    return Monitor(int(number), kind, constraint, words[0], int(words[2]), int(words[4]), words[3] == "hard", is_detached)
+    number, kind, constraint, point, deviation, part, cost, detached = _matched(_MONITOR, line).groups()
+    return Monitor(int(number), kind, _unescaped(constraint), point, int(deviation), int(cost), part == "hard",
+                   detached is not None)
 
+
+# -- a session -------------------------------------------------------------------------------------------------------
 
 class Mark:
-    """An open mark. Leaving its block goes back to the state at its begin, unless :meth:`keep` was called; either
-    way it is closed, with all marks that were opened inside it."""
+    """A mark for a block. Where the block is left, the state at its begin comes back, unless :meth:`keep` was called
+    and no error is under way; either way the mark is closed, and each that was opened inside it."""
 
-    def __init__(self, session):
+    def __init__(self, session: Session) -> None:
         self._session = session
-        self._kept = False
+        self._depth = 0
+        self._is_kept = False
 
-    def keep(self):
+    def keep(self) -> None:
         """Keeps what was done since the mark was opened, once its block is left."""
-        self._kept = True
+        self._is_kept = True
 
-    def undo(self):
+    def undo(self) -> None:
         """Goes back to the state at the mark's begin. The mark stays open."""
         self._session.undo_to(self._depth)
 
-    def __enter__(self):
+    def __enter__(self) -> Mark:
         self._session.begin()
         self._depth = self._session.marks
         return self
 
-    def __exit__(self, kind, value, trace):
+    def __exit__(self, kind: Optional[type[BaseException]], value: Optional[BaseException],
+                 trace: Optional[TracebackType]) -> None:
         session = self._session
-        if session.is_ended:
+        if session.is_ended or session.marks < self._depth:
             return
-        if kind is None and self._kept:
-            while session.marks >= self._depth:
-                session.end()
-        else:
+        if kind is not None or not self._is_kept:
             session.undo_to(self._depth)
+        while session.marks >= self._depth:
             session.end()
 
 
 class Session:
     """One solution of an archive, in an engine of its own.
 
-    `archive` is a file's name, `solution` the number of a solution in it, from 0; `program` is the program
-    `khe-talk`, as a string or a list of words. The first question raises :class:`Ended` where the archive or the
-    solution is refused. A session is used by one thread at a time; several sessions stand side by side."""
+    `archive` is a file's name, `solution` the number of a solution in it, from 0. `program` is the program `khe-talk`,
+    as a string or a list of words, and `library` the file of the shared library; where both are left out, the program
+    is looked for. With `demands` the program keeps what :meth:`deficit` asks for, so that it answers at once.
 
-    def __init__(self, archive, solution, program=None):
+    An archive or a solution that is refused raises :class:`ArchiveRefused`, and one that can't be read :class:`Ended`
+    or, by the library, OSError. Leaving the block of a session closes it, and with it goes what was done. A session
+    is used by one thread at a time; several sessions stand side by side."""
+
+    def __init__(self, archive: Union[str, os.PathLike[str]], solution: int, *,
+                 program: Union[str, Sequence[str], None] = None,
+                 library: Union[str, os.PathLike[str], None] = None, demands: bool = False) -> None:
+        self._door = _opened(archive, solution, program, library, demands)
+        #: The answer to one line of a script, as bytes: no line or many, each with a line feed at its end. The line
+        #: is bytes without a line feed. This is the fast way, and raises neither for a refusal nor for a line without
+        #: a reading: their lines are answers. Marks that are opened or closed so are not counted in `marks`.
+        self.answer: Callable[[bytes], bytes] = self._door.answer
         #: How many marks are open.
         self.marks = 0
-        #: Whether the program has ended.
-        self.is_ended = False
-        self._process = subprocess.Popen(
-            _program(program) + [os.fspath(archive), str(solution)],
-            stdin=subprocess.PIPE, stdout=subprocess.PIPE, bufsize=0)
-        self._to = self._process.stdin.fileno()
-        self._from = self._process.stdout.fileno()
-        self._early = b""
 
-    # -- the conversation ----------------------------------------------------------------------------------------
+    # -- the conversation --------------------------------------------------------------------------------------------
 
-    def ask(self, line):
-        """The lines of the answer to one line of a script, as a list of strings.
+    @property
+    def is_ended(self) -> bool:
+        """Whether the session is over."""
+        return self._door.is_ended
 
-        A line without a reading raises :class:`NoReading`. A refusal is an answer here, and raises nothing."""
-        answer = self._answer(line.encode() + b"\n")
-        lines = answer[:-2].decode().splitlines()
-        if lines and lines[0].startswith("line "):
-            self._fail_on_fault(lines[0])
+    def ask(self, line: str) -> list[str]:
+        """The lines of the answer to one line of a script.
+
+        A refused edit or question raises :class:`Refused`, a line without a reading :class:`NoReading`."""
+        answer = self.answer(line.encode()).decode()
+        lines = answer.split("\n")[:-1]
+        if lines:
+            _raise_refusal(lines[0])
         return lines
 
-    def ask_all(self, lines):
-        """The answers to many lines, as an iterator over lists of strings. They are sent ahead of the answers, so
-        this is faster than one question at a time; a line without a reading is answered by its fault's line.
-
-        No other method may be called before the iterator is used up."""
-        waiting, batch, size = 0, [], 0
+    def answers(self, lines: Iterable[bytes]) -> Iterator[bytes]:
+        """The answers to many lines, as :attr:`answer` gives that to one. Some hundred lines are sent before their
+        answers are read, and this is several times as fast over pipes: so what an answer says can't decide on the
+        next line. Where the iterator is left early, some lines were carried out whose answers were not taken."""
+        batch: list[bytes] = []
+        size = 0
         for line in lines:
+            if size + len(line) >= BATCH and batch:
+                yield from self._door.answers(batch)
+                batch, size = [], 0
             batch.append(line)
             size += len(line) + 1
-            if size >= AHEAD:
-                yield from self._batch(batch)
-                batch, size = [], 0
-        yield from self._batch(batch)
+        if batch:
+            yield from self._door.answers(batch)
 
-    def close(self):
-        """Ends the program. What was done in the session is lost, unless it was taken by :meth:`archive`."""
-        if not self.is_ended:
-            self.is_ended = True
-            self._process.stdin.close()
-            self._process.stdout.close()
-            self._process.wait()
+    def close(self) -> None:
+        """Ends the session. What was done in it is lost, unless it was taken by :meth:`archive`."""
+        self._door.close()
 
-    def __enter__(self):
+    def __enter__(self) -> Session:
         return self
 
-    def __exit__(self, kind, value, trace):
+    def __exit__(self, kind: Optional[type[BaseException]], value: Optional[BaseException],
+                 trace: Optional[TracebackType]) -> None:
         self.close()
 
-    def _answer(self, question):
-        """The bytes of an answer, with the full stop at its end."""
-        self._write(question)
-        answer = os.read(self._from, PIECE)
-        while not (answer.endswith(b"\n.\n") or answer == b".\n"):
-            more = os.read(self._from, PIECE)
-            if not more:
-                self._fail_on_end(answer)
-            answer += more
-        return answer
+    def _done(self, line: str) -> None:
+        """Carries out an edit."""
+        answer = self.answer(line.encode())
+        if answer != b"ok\n":
+            text = answer.decode().rstrip("\n")
+            _raise_refusal(text)
+            raise KheError(f"an answer that was not expected: {text!r}")
 
-    def _write(self, question):
-        if self.is_ended:
-            raise Ended(self._process.returncode, "")
-        try:
-            while question:
-                question = question[os.write(self._to, question):]
-        except BrokenPipeError:
-            self._fail_on_end(b"".join(iter(lambda: os.read(self._from, PIECE), b"")))
+    def _made(self, line: str) -> int:
+        """Carries out an edit that makes something, and answers its number."""
+        return int(self.ask(line)[0].split(" ")[1])
 
-    def _batch(self, lines):
-        """The answers to a few lines, which are sent at once. The answers are read while there is more to send."""
-        if not lines:
-            return
-        import select
-        question = "".join(line + "\n" for line in lines).encode()
-        if self.is_ended:
-            raise Ended(self._process.returncode, "")
-        os.set_blocking(self._to, False)
-        have, left = [], len(lines)
-        try:
-            rest = b""
-            while left:
-                reads, writes, _ = select.select([self._from], [self._to] if question else [], [])
-                if writes:
-                    try:
-                        question = question[os.write(self._to, question):]
-                    except BrokenPipeError:
-                        question = b""
-                if reads:
-                    more = os.read(self._from, PIECE)
-                    if not more:
-                        self._fail_on_end(rest)
-                    rest += more
-                    whole = rest.rfind(b"\n") + 1
-                    for line in rest[:whole].decode().splitlines():
-                        if line == ".":
-                            left -= 1
-                            yield have
-                            have = []
-                        else:
-                            have.append(line)
-                    rest = rest[whole:]
-        finally:
-            if not self.is_ended:
-                os.set_blocking(self._to, True)
+    # -- edits -------------------------------------------------------------------------------------------------------
 
-    def _fail_on_end(self, text):
-        self.is_ended = True
-        self._process.stdin.close()
-        self._process.stdout.close()
-        raise Ended(self._process.wait(), text.decode(errors="replace").rstrip("\n"))
-
-    @staticmethod
-    def _fail_on_fault(line):
-        words = line.split(" ", 3)
-        if len(words) == 4 and words[2] == "fault":
-            raise NoReading(words[3])
-
-    def _done(self, line):
-        """Asks for an edit or a mark. It answers the number that was made, or None."""
-        answer = self._answer(line.encode() + b"\n")
-        if answer == b"ok\n.\n":
-            return None
-        words = answer.split()
-        if words[0] == b"ok":
-            return int(words[1])
-        if words[0] == b"refused":
-            raise Refused(int(words[1]), words[2].decode())
-        self._fail_on_fault(answer.decode().splitlines()[0])
-        raise KheError("an answer that was not expected: %r" % answer)
-
-    def _asked(self, line):
-        """Asks a question that may be refused."""
-        lines = self.ask(line)
-        if lines and lines[0].startswith("refused "):
-            _, number, name = lines[0].split()
-            raise Refused(int(number), name)
-        return lines
-
-    # -- edits ---------------------------------------------------------------------------------------------------
-
-    def assign(self, meet, time):
+    def assign(self, meet: int, time: int) -> None:
         """Gives a meet without a start this one."""
-        self._done("assign %d %d" % (meet, time))
+        self._done(f"assign {meet} {time}")
 
-    def unassign(self, meet):
+    def unassign(self, meet: int) -> None:
         """Takes a meet's start away."""
-        self._done("unassign %d" % meet)
+        self._done(f"unassign {meet}")
 
-    def move(self, meet, time):
+    def move(self, meet: int, time: int) -> None:
         """Gives a meet another start."""
-        self._done("move %d %d" % (meet, time))
+        self._done(f"move {meet} {time}")
 
-    def split(self, meet, cut):
+    def split(self, meet: int, cut: int) -> int:
         """Leaves a meet its first `cut` times, and answers the number of the meet that is made of the others."""
-        return self._done("split %d %d" % (meet, cut))
+        return self._made(f"split {meet} {cut}")
 
-    def merge(self, meet, other):
+    def merge(self, meet: int, other: int) -> None:
         """Adds another meet to a meet; the other one is gone."""
-        self._done("merge %d %d" % (meet, other))
+        self._done(f"merge {meet} {other}")
 
-    def swap(self, meet, other):
+    def swap(self, meet: int, other: int) -> None:
         """Exchanges the starts of two meets."""
-        self._done("swap %d %d" % (meet, other))
+        self._done(f"swap {meet} {other}")
 
-    def give(self, meet, place, resource):
+    def give(self, meet: int, place: int, resource: int) -> None:
         """Gives a task without a resource this one."""
-        self._done("give %d %d %d" % (meet, place, resource))
+        self._done(f"give {meet} {place} {resource}")
 
-    def take(self, meet, place):
+    def take(self, meet: int, place: int) -> None:
         """Takes a task's resource away."""
-        self._done("take %d %d" % (meet, place))
+        self._done(f"take {meet} {place}")
 
-    def regive(self, meet, place, resource):
+    def regive(self, meet: int, place: int, resource: int) -> None:
         """Gives a task another resource."""
-        self._done("regive %d %d %d" % (meet, place, resource))
+        self._done(f"regive {meet} {place} {resource}")
 
-    def trade(self, meet, place, other, other_place):
+    def trade(self, meet: int, place: int, other: int, other_place: int) -> None:
         """Exchanges the resources of two tasks."""
-        self._done("trade %d %d %d %d" % (meet, place, other, other_place))
+        self._done(f"trade {meet} {place} {other} {other_place}")
 
-    def attach(self, monitor):
+    def attach(self, monitor: int) -> None:
         """Lets a monitor count again."""
-        self._done("attach %d" % monitor)
+        self._done(f"attach {monitor}")
 
-    def detach(self, monitor):
+    def detach(self, monitor: int) -> None:
         """Lets a monitor cost nothing."""
-        self._done("detach %d" % monitor)
+        self._done(f"detach {monitor}")
 
-    def group(self):
+    def group(self) -> int:
         """Makes a group of monitors, and answers its number."""
-        return self._done("group")
+        return self._made("group")
 
-    def drop(self, group):
+    def drop(self, group: int) -> None:
         """Removes a group that has no monitors."""
-        self._done("drop %d" % group)
+        self._done(f"drop {group}")
 
-    def add(self, group, monitor):
+    def add(self, group: int, monitor: int) -> None:
         """Adds a monitor to a group."""
-        self._done("add %d %d" % (group, monitor))
+        self._done(f"add {group} {monitor}")
 
-    def remove(self, group, monitor):
+    def remove(self, group: int, monitor: int) -> None:
         """Takes a monitor out of a group."""
-        self._done("remove %d %d" % (group, monitor))
+        self._done(f"remove {group} {monitor}")
 
-    # -- marks ---------------------------------------------------------------------------------------------------
+    # -- marks -------------------------------------------------------------------------------------------------------
 
-    def mark(self):
+    def mark(self) -> Mark:
         """A mark as the context of a block: see :class:`Mark`."""
         return Mark(self)
 
-    def begin(self):
+    def begin(self) -> None:
         """Opens a mark."""
         self._done("begin")
         self.marks += 1
 
-    def end(self):
+    def end(self) -> None:
         """Closes the innermost mark and keeps what was done."""
         self._done("end")
         self.marks -= 1
 
-    def undo(self):
+    def undo(self) -> None:
         """Goes back to the state at the innermost mark, which stays open."""
         self._done("undo")
 
-    def undo_to(self, depth):
+    def undo_to(self, depth: int) -> None:
         """Goes back to the state at the mark of this depth, counted from 1 at the outermost, and closes those
         inside it."""
-        self._done("undoto %d" % depth)
+        self._done(f"undoto {depth}")
         self.marks = depth
 
-    # -- questions -----------------------------------------------------------------------------------------------
+    # -- questions ---------------------------------------------------------------------------------------------------
 
-    def totals(self):
+    def totals(self) -> Totals:
         """The timetable's totals."""
-        return _totals(self._answer(b"total\n")[:-3].decode())
+        return self._door.totals()
 
-    def group_totals(self, group):
+    def group_totals(self, group: int) -> Totals:
         """What the monitors of a group cost together."""
-        return _totals(self._asked("groupcost %d" % group)[0])
+        words = self.ask(f"groupcost {group}")[0].split(" ")
+        return Totals(int(words[3]), int(words[5]))
 
-    def monitor(self, number):
+    def monitor(self, number: int) -> Monitor:
         """One monitor."""
-        return _monitor(self._asked("monitor %d" % number)[0])
+        return _monitor(self.ask(f"monitor {number}")[0])
 
-    def monitors(self):
+    def monitors(self) -> list[Monitor]:
         """All monitors, in the order of their numbers."""
         return [_monitor(line) for line in self.ask("monitors")[:-1]]
 
-    def meets(self):
+    def meets(self) -> list[Meet]:
         """All meets, in the order of their numbers."""
-        found = []
-        for line in self.ask("show"):
-            words = line.split(" ")
-            if words[0] == "task":
-                found[-1].tasks.append(_number(words[4]))
+        found: list[Meet] = []
+        tasks: list[Optional[int]] = []
+        for line in reversed(self.ask("show")):
+            if line.startswith("task "):
+                tasks.append(_number(line.rpartition(" ")[2]))
             else:
-                event, rest = _quoted(line.split(" ", 3)[3])
-                _, duration, _, time = rest.split(" ")
-                found.append(Meet(int(words[1]), event, int(duration), _number(time), []))
+                number, event, duration, time = _matched(_MEET, line).groups()
+                found.append(Meet(int(number), _unescaped(event), int(duration), _number(time), tuple(reversed(tasks))))
+                tasks = []
+        found.reverse()
         return found
 
-    def deficit(self):
+    def deficit(self) -> Deficit:
         """How many demands must go without in any case, and those that compete."""
-        first, *rest = self.ask("deficit")
-        demands = [(words[0],) + tuple(int(word) for word in words[1:]) for words in (line.split() for line in rest)]
-        return Deficit(int(first.split()[1]), demands)
+        first, *rest = (line.split(" ") for line in self.ask("deficit"))
+        return Deficit(int(first[1]), tuple((kind, *map(int, numbers)) for kind, *numbers in rest))
 
-    # -- beyond scripts ------------------------------------------------------------------------------------------
+    # -- beyond scripts ----------------------------------------------------------------------------------------------
 
-    def repair(self, depth, budget, diversifier=0):
+    def repair(self, depth: int, budget: int, diversifier: int = 0) -> Repaired:
         """Repairs the timetable by chains of at most `depth` moves, of which `budget` may be tried; lists begin at
-        their place `diversifier`. No mark may be open. The totals are never higher than before."""
-        words = self._asked("repair %d %d %d" % (depth, budget, diversifier))[0].split()
-        at = words.index("done") if "done" in words else words.index("spent")
-        value = {words[i]: int(words[i + 1]) for i in range(at + 1, len(words) - 1, 2)}
-        return Repaired(words[at] == "done", value["accepted"], value["tried"], value.get("settled"),
-                        Totals(value["hard"], value["soft"]))
+        their place `diversifier`. No mark may be open. The totals are never higher than before. An interrupt ends the
+        session over the program; the library comes back first."""
+        line = self._door.answer_slowly(f"repair {depth} {budget} {diversifier}".encode()).decode().rstrip("\n")
+        _raise_refusal(line)
+        end, accepted, tried, settled, hard, soft = _matched(_REPAIR, line).groups()
+        return Repaired(end == "done", int(accepted), int(tried), None if settled is None else int(settled),
+                        Totals(int(hard), int(soft)))
 
-    def archive(self):
-        """The archive in its canonical spelling, as bytes, with the timetable in the solution's place."""
-        return self._answer(b"archive\n")[:-2]
+    def archive(self) -> bytes:
+        """The archive in its canonical spelling, with the timetable in the solution's place."""
+        return self._door.answer_slowly(b"archive")
+
+
+# -- as a program ----------------------------------------------------------------------------------------------------
+
+def _expect(what: str, holds: bool) -> None:
+    """Ends the program where something does not hold."""
+    if not holds:
+        raise SystemExit(f"khe.py: {what}")
+
+
+def _look_at(session: Session) -> None:
+    """Asks each kind of question, and compares answers that have to agree."""
+    before = session.totals()
+    monitors = session.monitors()
+    meets = session.meets()
+    deficit = session.deficit()
+    hard = sum(monitor.cost for monitor in monitors if monitor.is_hard)
+    _expect("the costs do not add up to the totals", (hard, sum(monitor.cost for monitor in monitors) - hard) == before)
+    with session.mark():
+        group = session.group()
+        for monitor in monitors[:3]:
+            _expect("a monitor and its line in the list differ", session.monitor(monitor.number) == monitor)
+            session.detach(monitor.number)
+            session.add(group, monitor.number)
+        _expect("a group of detached monitors costs something", session.group_totals(group) == (0, 0))
+        for meet in meets:
+            try:
+                session.unassign(meet.number)
+            except Refused as refused:
+                _expect("an edit was refused for no cause of its row", refused.name in ("Fixed", "NotAssigned"))
+    _expect("a mark did not take all of it back", (session.totals(), session.meets()) == (before, meets))
+    try:
+        session.ask("fly 3")
+        _expect("a line without a reading was read", False)
+    except NoReading as fault:
+        _expect("the fault of a line has another name", fault.name == "UnknownCommand")
+    print(f"totals hard {before.hard} soft {before.soft}, {len(meets)} meets, {len(monitors)} monitors, "
+          f"deficit {deficit.deficit}")
+
+
+def _measure(session: Session, lines: int) -> None:
+    """Says how many lines a second are answered: one by one, and sent ahead."""
+    from time import perf_counter
+    answer = session.answer
+    begun = perf_counter()
+    for _ in range(lines):
+        answer(b"total")
+    single = perf_counter() - begun
+    begun = perf_counter()
+    for _ in session.answers(b"total" for _ in range(lines)):
+        pass
+    ahead = perf_counter() - begun
+    print(f"{lines / single:.0f} lines a second, each answered before the next; {lines / ahead:.0f} sent ahead")
+
+
+def main() -> None:
+    """Looks at a session, by the words of the command line."""
+    import argparse
+    parser = argparse.ArgumentParser(description="asks a session of khe each kind of question, and measures it")
+    parser.add_argument("archive")
+    parser.add_argument("solution", type=int)
+    parser.add_argument("--program", help="the program khe-talk")
+    parser.add_argument("--library", help="the shared library, in place of the program")
+    parser.add_argument("--lines", type=int, default=100000, help="how many lines to measure with")
+    words = parser.parse_args()
+    try:
+        with Session(words.archive, words.solution, program=words.program, library=words.library) as session:
+            _look_at(session)
+            _measure(session, words.lines)
+    except (KheError, OSError) as error:
+        raise SystemExit(f"khe.py: {error}") from None
+
+
+if __name__ == "__main__":
+    main()

@@ -1,78 +1,122 @@
 #!/usr/bin/env python3
 """`khe solve`, its jobs shared by the machines of a cluster.
 
-    python3 examples/cluster/solve.py ARCHIVE SOLUTION --depth D --budget B --jobs J [--workers N | --at ADDRESS]
+    python3 solve.py ARCHIVE SOLUTION --depth D --budget B --jobs J [--workers N | --at ADDRESS] [--out FILE]
 
 Job j is the repair that begins its lists at their place j. Jobs know nothing of each other, so any machine may run
-any of them. The least result is taken by totals and then by the job's number, and the archive is written as
-`khe solve` writes it: the same bytes, whoever ran which job.
+any of them. Of all results the one with the least totals is taken, and of equal ones that of the lowest job; the
+archive is written as `khe solve` writes it: the same bytes, whoever ran which job.
 
-Without --at a local cluster of N processes is started. With --at the jobs go to the scheduler there; each of its
-workers needs khe.py and khe-talk at the same places as here, or the variable KHE_TALK. The archive's bytes travel
-with the jobs.
+Without --at a local cluster of N processes is started. With --at the jobs go to the scheduler there. The archive and
+khe.py travel to its workers; the program khe-talk has to be there already, at the same place as here (a shared folder
+will do), or at the place that --program names. It takes dask.distributed (python3-distributed).
 """
 
+from __future__ import annotations
+
 import argparse
+import logging
 import os
 import sys
 import tempfile
+from typing import Any, Callable, Optional, Sequence
 
-PYTHON = os.path.abspath(os.path.join(os.path.dirname(os.path.abspath(__file__)), "..", "..", "python"))
+TOP = os.path.dirname(os.path.dirname(os.path.dirname(os.path.abspath(__file__))))
+sys.path.insert(0, os.path.join(TOP, "python"))
+import khe
+
+# How many pieces of work there are for each thread of the cluster, so that none waits long for the last one.
+PIECES = 4
 
 
-def run_jobs(archive, solution, depth, budget, jobs, folder):
-    """The least result of some jobs: its totals, its job, and the archive with it. `folder` has khe.py."""
-    if folder not in sys.path:
-        sys.path.insert(0, folder)
-    import khe
-    least = None
+#: What all jobs have in common: the solution, the depth, the budget, and the program khe-talk on the workers.
+Task = tuple[int, int, int, str]
+
+#: The result of a job: its totals, its number, and the archive with it. Results compare by the first two.
+Result = tuple[tuple[int, int], int, bytes]
+
+
+def order(result: Result) -> tuple[tuple[int, int], int]:
+    """What results are compared by: that of lower totals is less, of equal ones that of the lower job."""
+    return result[:2]
+
+
+def run_jobs(archive: bytes, task: Task, jobs: Sequence[int]) -> Result:
+    """The least result of these jobs. This runs on a worker."""
+    solution, depth, budget, program = task
+    least: Optional[Result] = None
     with tempfile.NamedTemporaryFile(suffix=".xml") as file:
         file.write(archive)
         file.flush()
         for job in jobs:
-            with khe.Session(file.name, solution) as session:
-                totals = tuple(session.repair(depth, budget, job).totals)
-                if least is None or (totals, job) < least[:2]:
+            with khe.Session(file.name, solution, program=program) as session:
+                totals = session.repair(depth, budget, job).totals
+                if least is None or (totals, job) < order(least):
                     least = (totals, job, session.archive())
+    assert least is not None
     return least
 
 
-def shared(jobs, pieces):
-    """The numbers of the jobs in so many lists of about equal length."""
-    return [list(range(jobs))[first::pieces] for first in range(min(jobs, pieces))]
+def least_of(results: Sequence[Result]) -> Result:
+    """The least of results. This runs on a worker too, so that one archive alone travels back."""
+    return min(results, key=order)
 
 
-def solved(client, archive, options):
-    """The least result of all jobs, run by a cluster."""
-    workers = max(1, len(client.scheduler_info()["workers"]))
+def solved(client: Any, archive: bytes, task: Task, jobs: int) -> Result:
+    """The least result of so many jobs, run by a cluster."""
+    client.upload_file(khe.__file__)
     kept = client.scatter(archive, broadcast=True)
-    futures = [client.submit(run_jobs, kept, options.solution, options.depth, options.budget, jobs, PYTHON, pure=False)
-               for jobs in shared(options.jobs, 4 * workers)]
-    return min(client.gather(futures), key=lambda result: result[:2])
+    pieces = min(jobs, PIECES * max(1, sum(client.nthreads().values())))
+    results = [client.submit(run_jobs, kept, task, range(first, jobs, pieces), pure=False) for first in range(pieces)]
+    result: Result = client.submit(least_of, results, pure=False).result()
+    return result
 
 
-def main():
-    parser = argparse.ArgumentParser(description=__doc__.split("\n")[0])
+def number(least: int, most: int) -> Callable[[str], int]:
+    """Reads a number of the command line that is within bounds."""
+    def read(word: str) -> int:
+        value = int(word)
+        if not least <= value <= most:
+            raise argparse.ArgumentTypeError(f"{word} is not from {least} to {most}")
+        return value
+    return read
+
+
+def main() -> int:
+    """Solves by the words of the command line. The status is 3 where the archive or its solution is refused."""
+    parser = argparse.ArgumentParser(description="khe solve, its jobs shared by the machines of a cluster")
     parser.add_argument("archive")
-    parser.add_argument("solution", type=int)
-    for name in ("depth", "budget", "jobs"):
-        parser.add_argument("--" + name, type=int, required=True)
-    parser.add_argument("--workers", type=int, default=2, help="processes of a local cluster")
+    parser.add_argument("solution", type=number(0, 2 ** 32 - 1))
+    parser.add_argument("--depth", type=number(1, 4), required=True)
+    parser.add_argument("--budget", type=number(1, 10 ** 9), required=True)
+    parser.add_argument("--jobs", type=number(1, 10000), required=True)
+    parser.add_argument("--workers", type=number(1, 1024), default=2, help="processes of a local cluster")
     parser.add_argument("--at", help="the address of a scheduler that runs")
-    options = parser.parse_args()
-    from dask.distributed import Client, LocalCluster
-    with open(options.archive, "rb") as file:
+    parser.add_argument("--program", help="the program khe-talk on the workers",
+                        default=os.environ.get("KHE_TALK", os.path.join(TOP, "khe-talk")))
+    parser.add_argument("--out", help="the file for the archive, in place of standard output")
+    words = parser.parse_args()
+    from distributed import Client, LocalCluster
+    with open(words.archive, "rb") as file:
         archive = file.read()
-    if options.at:
-        with Client(options.at) as client:
-            totals, job, text = solved(client, archive, options)
-    else:
-        with LocalCluster(n_workers=options.workers, threads_per_worker=1, dashboard_address=None) as cluster:
-            with Client(cluster) as client:
-                totals, job, text = solved(client, archive, options)
-    sys.stdout.buffer.write(text)
-    sys.stdout.buffer.write(b"<!-- khe solve job %d hard %d soft %d -->\n" % (job, *totals))
+    task = (words.solution, words.depth, words.budget, words.program)
+    try:
+        if words.at:
+            with Client(words.at) as client:
+                totals, job, text = solved(client, archive, task, words.jobs)
+        else:
+            # What goes wrong on a worker comes back as an error here, so its log needs not be shown.
+            with LocalCluster(n_workers=words.workers, threads_per_worker=1, dashboard_address=None,
+                              silence_logs=logging.CRITICAL) as cluster:
+                with Client(cluster) as client:
+                    totals, job, text = solved(client, archive, task, words.jobs)
+    except khe.ArchiveRefused as refused:
+        print(refused)
+        return 3
+    with open(words.out, "wb") if words.out else sys.stdout.buffer as out:
+        out.write(text + b"<!-- khe solve job %d hard %d soft %d -->\n" % (job, *totals))
+    return 0
 
 
 if __name__ == "__main__":
-    main()
+    sys.exit(main())

@@ -27,7 +27,7 @@ use Rattle.event_deviations.specs.Groups.{spread_over}
 use Rattle.event_deviations.specs.Marked.{is_marked}
 use Rattle.khe_base.specs.IdSet.{members_of}
 use Rattle.event_deviations.proofs.Kit.{from_both, same_truth, list_any-filter, from_any_range, any_in_range, InRange}
-use Rattle.event_deviations.proofs.Kit.{count_by-agree, sum_by-filter}
+use Rattle.event_deviations.proofs.Kit.{count_by-agree, sum_by-filter, sum_one}
 use Rattle.event_deviations.proofs.MarkLemmas.{or_false, or_assoc, is_marked-set}
 use Rattle.khe_base.proofs.IdSetLemmas.{member_below}
 use Rattle.khe_instance.proofs.DutiesLemmas.{sum_by-plus}
@@ -192,34 +192,6 @@ split-is infos ds set role resources =
     (filter (λ d. has_member set d.meet.event.0 && is_role role (role_at infos d.meet.event.0 d.place)) ds))
     resources
     (λ r l. among-is infos ds set role r))
-
--- a sum over a range that is 0 but at one number
-module _ (h : ℕ → ℕ) (x : ℕ) (others : (e : ℕ) → (e ≡ x → ⊥) → h e ≡ 0) where
-  none : (a m : ℕ) → x < a → sum_by h (range_with_len a m) ≡ 0
-  none a zero l = refl
-  none a (suc m) l =
-      sum_by-cons h a (range_with_len (a + 1) m)
-      ∙ ap₂ (λ y z. y + z) (others a (λ e. absurd (omega (arith, e)))) (none (a + 1) m (omega arith))
-
-  from_on : (a m : ℕ) → a ≤ x → (a + m ≤ x → h x ≡ 0) → sum_by h (range_with_len a m) ≡ h x
-  from_on a zero low high = sym (high (omega arith))
-  from_on a (suc m) low high = at (cases_eq a x) (λ l. from_on (a + 1) m l (λ le. high (omega arith)))
-    where
-      at : (a ≡ x) ⊎ (a ≡ x → ⊥) → (a + 1 ≤ x → sum_by h (range_with_len (a + 1) m) ≡ h x)
-          → sum_by h (range_with_len a (suc m)) ≡ h x
-      at (inl e) rest =
-          let z : sum_by h (range_with_len (a + 1) m) ≡ 0 = none (a + 1) m (omega (arith, e)) in
-          let same : h a ≡ h x = ap h e in
-          let split = sum_by-cons h a (range_with_len (a + 1) m) in
-          omega arith
-      at (inr ne) rest =
-          let z : h a ≡ 0 = others a ne in
-          let later : sum_by h (range_with_len (a + 1) m) ≡ h x = rest (omega arith) in
-          let split = sum_by-cons h a (range_with_len (a + 1) m) in
-          omega arith
-
-  pub sum_one : (n : ℕ) → (n ≤ x → h x ≡ 0) → sum_by h (range_with_len 0 n) ≡ h x
-  sum_one n beyond = from_on 0 n (omega arith) (λ le. beyond (omega arith))
 
 module _ (set times : List Bool) where
   abbrev value : Meet → ℕ

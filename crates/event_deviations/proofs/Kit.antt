@@ -10,6 +10,7 @@ use Rattle.std.proofs.lemmas.List.Folds.{Any-from_list_any, list_any_at, fold-ma
 use Rattle.std.proofs.lemmas.List.FromFn.{length-range_with_len, get_or-range_with_len, length-map-range_with_len}
 use Rattle.std.proofs.lemmas.List.FromFn.{get_or-map-range_with_len, fill_by_all}
 use Rattle.std.proofs.lemmas.List.Sums.{sum_by-cons}
+use Rattle.khe_instance.proofs.DutiesLemmas.{sum_by-plus}
 
 pub from_both : (a b : Bool) → a ≡ true → b ≡ true → (a && b) ≡ true
 from_both true b e f = f
@@ -182,3 +183,50 @@ count_one k n = by 0 n
         step (inr ne) rest =
             let y : cond {A = ℕ} (a == k) 1 0 ≡ 0 = ap (λ b. cond {A = ℕ} b 1 0) (ne_eqb a k ne) in
             omega arith
+
+-- a sum over a range that is 0 but at one number
+module _ (h : ℕ → ℕ) (x : ℕ) (others : (e : ℕ) → (e ≡ x → ⊥) → h e ≡ 0) where
+  none : (a m : ℕ) → x < a → sum_by h (range_with_len a m) ≡ 0
+  none a zero l = refl
+  none a (suc m) l =
+      sum_by-cons h a (range_with_len (a + 1) m)
+      ∙ ap₂ (λ y z. y + z) (others a (λ e. absurd (omega (arith, e)))) (none (a + 1) m (omega arith))
+
+  from_on : (a m : ℕ) → a ≤ x → (a + m ≤ x → h x ≡ 0) → sum_by h (range_with_len a m) ≡ h x
+  from_on a zero low high = sym (high (omega arith))
+  from_on a (suc m) low high = at (cases_eq a x) (λ l. from_on (a + 1) m l (λ le. high (omega arith)))
+    where
+      at : (a ≡ x) ⊎ (a ≡ x → ⊥) → (a + 1 ≤ x → sum_by h (range_with_len (a + 1) m) ≡ h x)
+          → sum_by h (range_with_len a (suc m)) ≡ h x
+      at (inl e) rest =
+          let z : sum_by h (range_with_len (a + 1) m) ≡ 0 = none (a + 1) m (omega (arith, e)) in
+          let same : h a ≡ h x = ap h e in
+          let split = sum_by-cons h a (range_with_len (a + 1) m) in
+          omega arith
+      at (inr ne) rest =
+          let z : h a ≡ 0 = others a ne in
+          let later : sum_by h (range_with_len (a + 1) m) ≡ h x = rest (omega arith) in
+          let split = sum_by-cons h a (range_with_len (a + 1) m) in
+          omega arith
+
+  pub sum_one : (n : ℕ) → (n ≤ x → h x ≡ 0) → sum_by h (range_with_len 0 n) ≡ h x
+  sum_one n beyond = from_on 0 n (omega arith) (λ le. beyond (omega arith))
+
+-- sums over a range by what differs at one number alone
+pub sum_changed : (f g : ℕ → ℕ) (x d n : ℕ) → x < n → g x ≡ f x + d → ((k : ℕ) → (k ≡ x → ⊥) → g k ≡ f k)
+    → sum_by g (range_with_len 0 n) ≡ sum_by f (range_with_len 0 n) + d
+sum_changed f g x d n l here others =
+    (λ i. sum_by (λ k. point k i) (range_with_len 0 n))
+    ∙ sum_by-plus f (λ k. cond (k == x) d 0) (range_with_len 0 n)
+    ∙ ap (λ y. sum_by f (range_with_len 0 n) + y) (sum_one (λ k. cond (k == x) d 0) x
+    (λ k ne. ap (λ b. cond b d 0) (ne_eqb k x ne)) n (λ le. absurd (omega arith))
+    ∙ ap (λ b. cond b d 0) (eq-eqb x x refl))
+  where
+    point : (k : ℕ) → g k ≡ f k + cond (k == x) d 0
+    point k = by (cases_eq k x)
+      where
+        by : (k ≡ x) ⊎ (k ≡ x → ⊥) → g k ≡ f k + cond (k == x) d 0
+        by (inl e) = ap g e ∙ here ∙ ap₂ (λ y b. y + cond b d 0) (sym (ap f e)) (sym (eq-eqb k x e))
+        by (inr ne) =
+            let z : f k ≡ f k + 0 = omega arith in
+            others k ne ∙ z ∙ ap (λ b. f k + cond b d 0) (sym (ne_eqb k x ne))

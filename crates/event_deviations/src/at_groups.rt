@@ -3,15 +3,15 @@
 ghost use Rattle.std.specs.Prelude.{◌≡◌, ◌+◌, ◌-◌, ◌*◌, ◌≤◌, ◌<◌, ◌||◌, ℕ, length, count_by, All, IfSome};
 ghost use Rattle.std.specs.List.{sum_by, range_with_len};
 ghost use Rattle.khe_base.specs.declared.limits.TheConstants.{NUMBER, DURATION, LISTED};
-ghost use Rattle.khe_instance.specs.EventDeviation.{starts_in};
 ghost use Rattle.khe_instance.specs.Lookups.{duration_at, is_role};
-ghost use Rattle.event_deviations.specs.Groups.{some_has, has_duty, has_duty_among, starting_in, spread_over};
+ghost use Rattle.event_deviations.specs.Groups.{some_has, has_duty, has_duty_among, spread_over};
 ghost use Rattle.event_deviations.specs.Marked.{is_marked};
 
 use crate::index::Index;
 use crate::marks::Marks;
-use khe_base::{EventId, IdSet, Text, count_out};
-use khe_instance::{Duty, Meet, Place, Spread};
+use crate::starts::count_starts;
+use khe_base::{EventId, Text, count_out};
+use khe_instance::{Duty, Place, Spread};
 
 /// How many resources the events have in the role, less one, at least 0. It takes the time of the
 /// places of the events and of the duties in the role. `seen` has a place for each resource.
@@ -72,52 +72,28 @@ fn see(duties: &[Duty], seen: &mut Marks)
 }
 
 /// By how many too few or too many meets of the events start in the listed time groups. It takes
-/// the time of the events' meets for each listed time group.
-pub(crate) fn spread_events(index: &Index<'_>, events: &[u32], spreads: &[Spread]) -> u64
+/// the time of the events' meets, and for each listed time group that of the times at which they
+/// start. `starts` has a place for each time.
+pub(crate) fn spread_events(
+    index: &Index<'_>,
+    events: &[u32],
+    spreads: &[Spread],
+    starts: &mut Marks,
+) -> u64
     requires events { All (λ e. e < length index.now.parts.events) events.now }
     requires durations { sum_by (duration_at index.now.parts.events) events.now ≤ DURATION }
     requires least { All (λ s. s.min ≤ NUMBER) spreads.now }
     requires listed { length spreads.now ≤ LISTED }
+    requires times { length starts.old ≡ length index.now.parts.times }
+    ensures times { length starts.new ≡ length starts.old }
     ensures exact { result ≡ spread_over index.now.meets spreads.now events.now }
     ensures bound { result ≤ length spreads.now * (DURATION + NUMBER) }
 {
+    index.facts();
+    count_starts(index, events, starts);
     let mut total = 0;
     for spread in spreads {
-        let starting = starting(index, events, &spread.group);
-        total += count_out(starting, spread.min, spread.max);
+        total += count_out(starts.sum_in(&spread.group), spread.min, spread.max);
     }
     total
-}
-
-/// How many meets of the events start in a set of times.
-fn starting(index: &Index<'_>, events: &[u32], times: &IdSet) -> u64
-    requires events { All (λ e. e < length index.now.parts.events) events.now }
-    requires durations { sum_by (duration_at index.now.parts.events) events.now ≤ DURATION }
-    ensures exact { result ≡ starting_in index.now.meets times.now events.now }
-    ensures bound { result ≤ DURATION }
-{
-    let mut total = 0;
-    for event in events {
-        total += count_starting(index.meets(EventId(*event)), times);
-    }
-    total
-}
-
-/// How many of the meets start in a set of times.
-fn count_starting(meets: &[Meet], times: &IdSet) -> u64
-    ensures exact { result ≡ count_by (λ m. starts_in times.now m.start) meets.now }
-    ensures bound { result ≤ length meets.now }
-{
-    let starting = meets.iter().filter(|m| starts(m, times));
-    starting.count() as u64
-}
-
-/// Whether a meet starts in a set of times.
-fn starts(meet: &Meet, times: &IdSet) -> bool
-    ensures { result ≡ starts_in times.now meet.now.start }
-{
-    match meet.start {
-        None => false,
-        Some(start) => times.has(start.0),
-    }
 }

@@ -10,7 +10,6 @@ ghost use Rattle.khe_instance.specs.States.{AreOfState};
 ghost use Rattle.event_deviations.specs.State.{IsAtEvents};
 
 use crate::at_events::{at_event, at_pair};
-use crate::at_groups::spread_events;
 use crate::at_places::at_place;
 use crate::index::Index;
 use crate::rooms::EventRoom;
@@ -59,8 +58,9 @@ impl<'a> EventDeviations<'a> {
     /// At an event it takes the time of the event's meets, at a place of an event that of the
     /// place's duties, and at a pair that of the meets of both events. AvoidSplitAssignments takes
     /// the time of the places of the group's events and of their duties in the role, SpreadEvents
-    /// for each listed time group that of the meets of the group's events, and LinkEvents that of
-    /// the times of the meets of the group's events, each meet for each of its times.
+    /// that of the meets of the group's events, and for each listed time group that of the times at
+    /// which they start, and LinkEvents that of the times of the meets of the group's events, each
+    /// meet for each of its times.
     pub fn deviation(&self, monitor: Monitor, room: &mut EventRoom) -> u64
         requires monitor { IsMonitor self.now.parts monitor }
         requires point { IsAtEvents monitor.point }
@@ -94,7 +94,7 @@ fn at_group(index: &Index<'_>, rule: &Rule, group: u32, room: &mut EventRoom) ->
     let events = index.members(group);
     match rule {
         Rule::AvoidSplitAssignments { role } => room.split_assignments(index, events, role),
-        Rule::SpreadEvents { groups } => spread_events(index, events, groups.as_slice()),
+        Rule::SpreadEvents { groups } => room.spread_events(index, events, groups.as_slice()),
         Rule::LinkEvents => room.unlinked_times(index, events),
         _ => 0,
     }

@@ -12,6 +12,7 @@ mod lists;
 mod marks;
 mod rooms;
 mod short_lists;
+mod starts;
 mod tasks;
 
 pub use deviations::EventDeviations;

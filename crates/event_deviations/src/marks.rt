@@ -1,10 +1,12 @@
 //! A value for each number below a size, cleared in the time of what was marked.
 
 ghost use Rattle.std.specs.Prelude.{◌≡◌, ◌<◌, ◌++◌, ◌∷◌, [], ◌≤◌, ℕ, length, replicate, slice_index, slice_set, IfOk, All, if◌then◌else◌, ◌==◌, vec_len, vec_capacity};
-ghost use Rattle.std.specs.List.{list_any};
-ghost use Rattle.event_deviations.specs.Marked.{marked_count};
+ghost use Rattle.std.specs.List.{list_any, sum_by};
+ghost use Rattle.khe_base.specs.IdSet.{has_member};
+ghost use Rattle.khe_base.specs.declared.limits.TheConstants.{TIMES};
+ghost use Rattle.event_deviations.specs.Marked.{marked_count, sum_in};
 
-use khe_base::NoMemory;
+use khe_base::{IdSet, NoMemory};
 use std::alloc::Global;
 use std::marker::Model;
 
@@ -56,6 +58,15 @@ impl Marks {
         self.marked.len() as u64
     }
 
+    /// The sum of the values of the numbers in a set, in the time of the numbers that have a value
+    /// above 0.
+    pub(crate) fn sum_in(&self, set: &IdSet) -> u64
+        requires { length self.now ≤ TIMES }
+        ensures { result ≡ sum_in self.now set.now }
+    {
+        sum_of(self.values.as_slice(), self.marked.as_slice(), set)
+    }
+
     /// Gives a number a value above 0, in constant time.
     pub(crate) fn put(&mut self, n: u32, value: u32)
         requires number { n < length self.old }
@@ -86,6 +97,21 @@ fn add(numbers: &mut Vec<u32>, n: u32)
     let Ok(()) = numbers.push(n) else {
         unreachable!()
     };
+}
+
+/// The sum of the values of those of these numbers that are in a set.
+fn sum_of(values: &[u32], numbers: &[u32], set: &IdSet) -> u64
+    requires within { All (λ n. n < length values.now) numbers.now }
+    requires few { length numbers.now ≤ TIMES }
+    ensures { result ≡ sum_by (λ n. if has_member set.now n then slice_index values.now n else 0) numbers.now }
+{
+    let mut total = 0;
+    for n in numbers {
+        if set.has(*n) {
+            total += u64::from(values[*n as usize]);
+        }
+    }
+    total
 }
 
 /// Gives these numbers the value 0.

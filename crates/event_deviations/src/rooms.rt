@@ -1,17 +1,18 @@
 //! The marks that deviations at event groups take.
 
-ghost use Rattle.std.specs.Prelude.{◌≡◌, ◌-◌, ◌≤◌, ◌<◌, length, count_by, All, IfOk};
-ghost use Rattle.std.specs.List.{range_with_len};
-ghost use Rattle.khe_base.specs.declared.limits.TheConstants.{EVENTS};
-ghost use Rattle.event_deviations.specs.Groups.{apart_at, has_duty_among};
+ghost use Rattle.std.specs.Prelude.{◌≡◌, ◌+◌, ◌-◌, ◌*◌, ◌≤◌, ◌<◌, length, count_by, All, IfOk};
+ghost use Rattle.std.specs.List.{sum_by, range_with_len};
+ghost use Rattle.khe_base.specs.declared.limits.TheConstants.{NUMBER, DURATION, LISTED, EVENTS};
+ghost use Rattle.khe_instance.specs.Lookups.{duration_at};
+ghost use Rattle.event_deviations.specs.Groups.{apart_at, has_duty_among, spread_over};
 ghost use Rattle.event_deviations.specs.Rooms.{room_for};
 
-use crate::at_groups::avoid_split_assignments;
+use crate::at_groups::{avoid_split_assignments, spread_events};
 use crate::index::Index;
 use crate::links::link_events;
 use crate::marks::Marks;
 use khe_base::{NoMemory, Text};
-use khe_instance::Instance;
+use khe_instance::{Instance, Spread};
 use std::alloc::Global;
 use std::marker::Model;
 
@@ -22,7 +23,7 @@ use std::marker::Model;
 pub struct EventRoom {
     /// The resources that a look met.
     resources: Marks,
-    /// The times that a look met.
+    /// The times that a look met, or how many meets start at each.
     some: Marks,
     /// How many of the first events of a group all run at a time.
     leading: Marks,
@@ -65,6 +66,25 @@ impl EventRoom {
         ensures exact { result ≡ count_by (has_duty_among index.now.parts.events index.now.duties role.now events.now) (range_with_len 0 (length index.now.parts.resources)) - 1 }
     {
         avoid_split_assignments(index, events, role, &mut self.resources)
+    }
+
+    /// By how many too few or too many meets of the events start in the listed time groups.
+    pub(crate) fn spread_events(
+        &mut self,
+        index: &Index<'_>,
+        events: &[u32],
+        spreads: &[Spread],
+    ) -> u64
+        requires events { All (λ e. e < length index.now.parts.events) events.now }
+        requires durations { sum_by (duration_at index.now.parts.events) events.now ≤ DURATION }
+        requires least { All (λ s. s.min ≤ NUMBER) spreads.now }
+        requires listed { length spreads.now ≤ LISTED }
+        requires room { self.old ≡ room_for index.now.parts }
+        ensures room { self.new ≡ self.old }
+        ensures exact { result ≡ spread_over index.now.meets spreads.now events.now }
+        ensures bound { result ≤ length spreads.now * (DURATION + NUMBER) }
+    {
+        spread_events(index, events, spreads, &mut self.some)
     }
 
     /// At how many times some of the events run and some do not.

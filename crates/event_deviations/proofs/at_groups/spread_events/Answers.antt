@@ -16,12 +16,14 @@ loop-spread-preserved c =
     let s = c.spread-item.result in
     let old = c.loop-spread.invariant in
     let f = λ (s : Spread). count_outside (starting_in meets s.group es) s.min s.max in
+    let counts = c.count_starts.ensures in
     let own : c.count_out-total.result ≡ f (get_or ss i s) =
-    c.count_out-total.ensures.exact ∙ (λ k. count_outside (c.starting-starting.ensures.exact k) s.min s.max)
+    c.count_out-total.ensures.exact
+    ∙ (λ k. count_outside ((c.sum_in.ensures ∙ counts.exact s.group) k) s.min s.max)
     ∙ ap f c.spread-item.is in
     let least : s.min ≤ NUMBER = subst (λ (x : Spread). x.min ≤ NUMBER) (sym c.spread-item.is)
     (c.requires.least i s here) in
     record {
       exact = ap₂ (λ (a b : ℕ). a + b) old.exact own ∙ sym (sum_by_more f ss i s here);
-      bound = omega (arith, old.bound, c.count_out-total.ensures.small, c.starting-starting.ensures.bound);
+      bound = omega (arith, old.bound, c.count_out-total.ensures.small, c.sum_in.ensures, counts.bound s.group);
     }
