@@ -1,5 +1,5 @@
 -- What a task costs with each resource, by a task that is alike.
-use Rattle.std.proofs.Common.{ℕ, ◌≡◌, ◌+◌, ◌*◌, ◌<◌, ◌≤◌, ◌++◌, Bool, true, Some, None, List, [], ◌∷◌, zero, suc}
+use Rattle.std.proofs.Common.{ℕ, ◌≡◌, ◌+◌, ◌*◌, ◌<◌, ◌≤◌, ◌++◌, None, List, [], ◌∷◌, zero, suc}
 use Rattle.std.proofs.Common.{length, map}
 use Rattle.std.proofs.Common.{take, drop, get_or, refl, sym, ap, subst, ◌∙◌, arith}
 use Rattle.std.specs.Prelude.{All}
@@ -26,10 +26,9 @@ use Rattle.time_match.specs.Costs.{cost_with, no_resource, no_task, row}
 use Rattle.time_match.specs.Leaders.{AreExchanged, AreLike, IsLeader, IsLikeness, no_likeness, tasks_of}
 use Rattle.time_match.specs.Open.{AreReady}
 use Rattle.time_match.specs.Parted.{costs_given}
-use Rattle.time_match.specs.Wishes.{AreWishes, off_in, rest_in, wished, wishes_in}
+use Rattle.time_match.specs.Wishes.{off_in, rest_in, wishes_in}
 use Rattle.time_match.specs.declared.leaders.Leader.{Leader}
 use Rattle.time_match.specs.declared.likenesses.Likeness.{Likeness}
-use Rattle.time_match.specs.declared.wishes.Wish.{Wish}
 use Rattle.time_match.proofs.AskLaws.{rows_next, table_length}
 use Rattle.time_match.proofs.FourLaws.{four_hard, four_soft, parted_hard, parted_soft}
 use Rattle.time_match.proofs.OpenLaws.{may_give_each}

@@ -1,6 +1,6 @@
 -- What the wishes of a task cost with a resource, by two numbers of each monitor.
-use Rattle.std.proofs.Common.{ℕ, ◌≡◌, ◌+◌, ◌≤◌, ◌<◌, ◌==◌, ◌&&◌, Bool, true, false, cond, nat_lt, Option, Some, None}
-use Rattle.std.proofs.Common.{List, [], ◌∷◌, length, map, get_or, slice_get, sum_by, refl, sym, ap, subst, ◌∙◌, arith}
+use Rattle.std.proofs.Common.{ℕ, ◌≡◌, ◌+◌, ◌≤◌, ◌<◌, Bool, true, false, cond, Option, Some, None}
+use Rattle.std.proofs.Common.{List, [], ◌∷◌, length, get_or, slice_get, sum_by, refl, sym, ap, ◌∙◌, arith}
 use Rattle.std.specs.Prelude.{All, not}
 use Rattle.std.specs.List.{filter}
 use Rattle.std.specs.Option.{option_map, option_map_or}
@@ -11,7 +11,6 @@ use Rattle.khe_base.specs.Costs.{cost_of}
 use Rattle.khe_base.specs.declared.limits.TheConstants.{GREATEST_DEVIATION}
 use Rattle.khe_base.specs.declared.numbers.ResourceId.{ResourceId}
 use Rattle.khe_base.specs.declared.numbers.TaskId.{TaskId}
-use Rattle.khe_base.specs.declared.sums.Totals.{Totals}
 use Rattle.khe_engine.specs.States.{State}
 use Rattle.khe_engine.specs.Values.{costs, deviations_in}
 use Rattle.khe_instance.specs.Costs.{is_hard, is_hard_at, monitor_cost}

@@ -1,7 +1,6 @@
-use Rattle.std.proofs.Common.{◌≡◌, ◌≤◌, ◌<◌, ◌∙◌, ap, arith, get_or, length, map, subst, sym}
+use Rattle.std.proofs.Common.{◌∙◌, ap, arith, get_or, length, map, subst, sym}
 use Rattle.std.specs.Prelude.{All}
 use Rattle.std.proofs.lemmas.List.{length-map, take_all}
-use Rattle.khe_base.specs.declared.limits.TheConstants.{MONITORS}
 use Rattle.resource_match.specs.Choices.{no_cost}
 use Rattle.time_match.specs.Costs.{cost_with, no_resource}
 use Rattle.time_match.specs.Wishes.{IsSmallWish, rest_in}
