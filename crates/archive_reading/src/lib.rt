@@ -6,6 +6,6 @@ mod reading;
 mod refusals;
 mod starting;
 
-pub use reading::{ReadArchive, Unread, read, unresolved};
+pub use reading::{ReadArchive, Unread, read, read_slice, unresolved};
 pub use refusals::{Refusal, push_refusal, refusal_line};
 pub use starting::{begin, instance_numbered};

@@ -95,6 +95,22 @@ pub fn read(alloc: Global, bytes: Seq<u8>) -> Result<ReadArchive, Unread>
     }
 }
 
+/// What these bytes lead to, where they are kept: the same as by `read`.
+pub fn read_slice(alloc: Global, bytes: &[u8]) -> Result<ReadArchive, Unread>
+    requires { length bytes.now ≤ ARCHIVE_BYTES }
+    ensures read { IfOk result (λ r. IsReadingOf bytes.now (evaluable r.archive r.resolved)) }
+    ensures ready { IfOk result (λ r. IsReady r.archive r.resolved) }
+    ensures only { IfOk result (λ r. (x : Reading) → IsReadingOf bytes.now x → x ≡ evaluable r.archive r.resolved) }
+    ensures stopped { IfErr result (IsStopped bytes.now) }
+    ensures none { IfErr result (IsUnread bytes.now) }
+{
+    let archive = archive_of(alloc, bytes)?;
+    match resolve(alloc, &archive) {
+        Ok(resolved) => Ok(ReadArchive { archive, resolved }),
+        Err(fault) => Err(unresolved(fault)),
+    }
+}
+
 /// A fault of resolving as a reason not to read.
 pub fn unresolved(fault: ResolveFault) -> Unread
     ensures { result ≡ of_resolve fault }

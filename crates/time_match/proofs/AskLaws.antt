@@ -48,7 +48,7 @@ rows_next p b rs ts k d pairs new l h made =
     ∙ ap (flat_map f) (sym (take_more ts k d l))
 
 -- a table is as long as its rows together
-table_length : (p : Parts) (b : State) (rs : List ResourceId) (ts : List TaskId)
+pub table_length : (p : Parts) (b : State) (rs : List ResourceId) (ts : List TaskId)
     → length (flat_map (row p b rs) ts) ≡ length ts * length rs
 table_length p b rs [] = let e : 0 ≡ 0 * length rs = omega arith in e
 table_length p b rs (t ∷ ts) =

@@ -4,6 +4,8 @@ pub mod DutyLaws
 pub mod EditLaws
 pub mod FourLaws
 pub mod GiveLaws
+pub mod LeaderLaws
+pub mod LikenessLaws
 pub mod MarkLaws
 pub mod MatchLaws
 pub mod OpenLaws
@@ -11,3 +13,4 @@ pub mod StripLaws
 pub mod TakeLaws
 pub mod TaskLaws
 pub mod TotalsLaws
+pub mod WishLaws

@@ -195,7 +195,7 @@ tail_apart t ts h i j d l b = h (suc i) (suc j) d (omega (arith, l)) (omega (ari
 head_apart : (t : TaskId) (ts : List TaskId) → AllPairs AreApart (t ∷ ts) → All (AreApart t) ts
 head_apart t ts h k d l = h zero (suc k) d (omega arith) (omega (arith, l))
 
-given_slots : (s : State) (t : TaskId) (r : ResourceId) → (edited s (Give t r)).slots ≡ staffed s.slots t (Some r)
+pub given_slots : (s : State) (t : TaskId) (r : ResourceId) → (edited s (Give t r)).slots ≡ staffed s.slots t (Some r)
 unfolding edited editing.edited
 given_slots s t r = refl
 

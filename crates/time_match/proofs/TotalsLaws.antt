@@ -15,6 +15,8 @@ use Rattle.khe_base.specs.declared.limits.TheConstants.{GREATEST_COST, GREATEST_
 use Rattle.khe_engine.specs.States.{State, edited}
 use Rattle.khe_engine.specs.Values.{costs, deviations_in, totals}
 use Rattle.khe_engine.proofs.StateLaws.{edited_meets, one_sort}
+use Rattle.khe_base.specs.declared.numbers.ResourceId.{ResourceId}
+use Rattle.khe_base.specs.declared.numbers.TaskId.{TaskId}
 use Rattle.khe_instance.specs.Costs.{cost_at, is_hard_at, monitor_cost}
 use Rattle.khe_instance.specs.States.{AreOfState}
 use Rattle.khe_instance.specs.WellMade.{AreWellMade, IsConstraint, IsMonitor}
@@ -27,8 +29,10 @@ use Rattle.khe_told.specs.Fits.{AreTold}
 use Rattle.khe_told.specs.Lists.{duties_in, meets_in, tasks_in}
 use Rattle.khe_told.specs.Valid.{AreValid}
 use Rattle.khe_told.specs.declared.edits.Edit.{Edit}
+use Rattle.khe_told.specs.declared.edits.Edit.TheVariants.{Give}
 use Rattle.khe_told.specs.declared.slots.Slot.{Slot}
 use Rattle.khe_solution.specs.Editing as editing
+use Rattle.khe_solution.specs.Editing.{staffed}
 use Rattle.khe_solution.specs.Refusing.{is_of_meets, refusal}
 use Rattle.khe_solution.proofs.EditLaws.{edit_slots, edit_valid}
 use Rattle.khe_told.proofs.FrameLaws.{told_from}
@@ -37,9 +41,10 @@ use Rattle.khe_told.proofs.ValidLaws.{listed_told}
 use Rattle.monitor_graph.specs.Edits.{is_attached}
 use Rattle.monitor_graph.proofs.LineLaws.{line_small}
 use Rattle.resource_match.specs.Smallness.{IsSmall}
+use Rattle.time_match.proofs.OpenLaws.{given_slots}
 
 -- the deviation of each monitor of a told state
-deviation_in_small : (p : Parts) (s : List Slot) (m : Monitor) → AreWellMade p → AreTold p s → IsMonitor p m
+pub deviation_in_small : (p : Parts) (s : List Slot) (m : Monitor) → AreWellMade p → AreTold p s → IsMonitor p m
     → deviation_in p s m ≤ GREATEST_DEVIATION
 deviation_in_small p s m made told is =
     let of : AreOfState p (meets_in s) (duties_in s) =
@@ -93,7 +98,7 @@ cost_small p s detached n made told = at_monitor (slice_get p.monitors n) refl
         let d = deviation_in_small p s.slots m made told is in
         monitor_small p (detached n) m _ made (subst (λ k. k ≤ GREATEST_DEVIATION) (sym own) d)
 
-each_small : (p : Parts) (s : State) → AreWellMade p → AreTold p s.slots → (n : ℕ)
+pub each_small : (p : Parts) (s : State) → AreWellMade p → AreTold p s.slots → (n : ℕ)
     → get_or (costs p s) n 0 ≤ GREATEST_COST
 unfolding deviations_in
 each_small p s made told n =
@@ -129,12 +134,24 @@ totals_small p s made told =
           (λ n. cond_both (is_hard_at p n) 0 (get_or c n 0) (λ k. k ≤ GREATEST_COST) (λ b. omega arith) (λ b. e n));
     }
 
--- nor the state after an edit that is accepted
-pub totals_small_after : (p : Parts) (s : State) (e : Edit) → AreWellMade p → AreValid p s.slots
-    → is_of_meets e ≡ true → refusal p s.slots e ≡ None → IsSmall (totals p (edited s e))
-totals_small_after p s e made valid ours accepted =
+-- an edit that is accepted leaves a told state
+told_after : (p : Parts) (s : State) (e : Edit) → AreValid p s.slots → is_of_meets e ≡ true
+    → refusal p s.slots e ≡ None → AreTold p (edited s e).slots
+told_after p s e valid ours accepted =
     let after : (edited s e).slots ≡ editing.edited s.slots e =
     ap (λ (x : State). x.slots) (edited_meets s e (one_sort e ours)) in
     let told = (subst (AreValid p) (edit_slots p s.slots e valid ours accepted)
     (edit_valid p s.slots e valid ours accepted)).told in
-    totals_small p (edited s e) made (subst (AreTold p) (sym after) told)
+    subst (AreTold p) (sym after) told
+
+-- a task that may be given a resource leaves a told state
+pub staffed_told : (p : Parts) (s : State) (t : TaskId) (r : ResourceId) → AreWellMade p → AreValid p s.slots
+    → refusal p s.slots (Give t r) ≡ None → AreTold p (staffed s.slots t (Some r))
+staffed_told p s t r made valid accepted =
+    subst (AreTold p) (given_slots s t r) (told_after p s (Give t r) valid refl accepted)
+
+-- nor the state after an edit that is accepted
+pub totals_small_after : (p : Parts) (s : State) (e : Edit) → AreWellMade p → AreValid p s.slots
+    → is_of_meets e ≡ true → refusal p s.slots e ≡ None → IsSmall (totals p (edited s e))
+totals_small_after p s e made valid ours accepted =
+    totals_small p (edited s e) made (told_after p s e valid ours accepted)

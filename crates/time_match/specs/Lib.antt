@@ -1,7 +1,9 @@
 pub mod Alike
 pub mod Costs
+pub mod Leaders
 pub mod Marks
 pub mod Matching
 pub mod Open
 pub mod Parted
 pub mod Tasks
+pub mod Wishes

@@ -1,6 +1,6 @@
 //! What tasks would cost with resources, asked of the bare state without making it.
 
-ghost use Rattle.std.specs.Prelude.{◌≡◌, ◌≤◌, ◌++◌, true, None, All, OnOk, IfOk, length, replicate};
+ghost use Rattle.std.specs.Prelude.{◌≡◌, ◌≤◌, ◌<◌, ◌+◌, ◌*◌, ◌++◌, true, None, All, OnOk, IfOk, drop, length, replicate, slice_index_or, take};
 ghost use Rattle.std.specs.List.{flat_map};
 ghost use Rattle.khe_base.specs.declared.limits.TheConstants.{RESOURCES};
 ghost use Rattle.khe_engine.specs.States.{edited};
@@ -11,8 +11,11 @@ ghost use Rattle.resource_match.specs.Choices.{AreCosts};
 ghost use Rattle.resource_match.specs.Smallness.{IsSmall};
 ghost use Rattle.resource_match.specs.declared.choices.TheConstants.{MATCHED_TASKS};
 ghost use Rattle.time_match.specs.Costs.{costs_in, row};
+ghost use Rattle.time_match.specs.Leaders.{AreLike, IsReadFrom, no_likeness, preferences, tasks_of};
 ghost use Rattle.time_match.specs.Open.{AreReady};
 
+use crate::leaders::{leader_of, push_led};
+use crate::likenesses::{Likeness, first_like, likenesses_of, list_avoidances, list_preferences};
 use crate::reads::facts;
 use khe_base::{NoMemory, ResourceId, Seq, TaskId, Totals, both};
 use khe_engine::Engine;
@@ -30,7 +33,7 @@ fn totals<F: Family>(engine: &Engine<'_, F>) -> Totals
 }
 
 /// What it would cost after an edit.
-fn totals_after<F: Family>(engine: &mut Engine<'_, F>, edit: Edit) -> Totals
+pub(crate) fn totals_after<F: Family>(engine: &mut Engine<'_, F>, edit: Edit) -> Totals
     requires ours { is_of_meets edit ≡ true }
     requires accepted { refusal engine.old.parts engine.old.state.slots edit ≡ None }
     ensures is { result ≡ totals engine.old.parts (edited engine.old.state edit) }
@@ -64,7 +67,113 @@ fn push_row<F: Family>(
     Ok(())
 }
 
-/// What each of these tasks would cost with each of these resources, row by row. It asks for each task and resource.
+/// The costs that were asked for a task, in a table that is so wide.
+fn row_at(pairs: &[Totals], place: usize, wide: usize) -> &[Totals]
+    requires { (place + 1) * wide ≤ length pairs.now }
+    ensures { result.now ≡ take wide (drop (place * wide) pairs.now) }
+{
+    let start = place * wide;
+    &pairs[start..start + wide]
+}
+
+/// Adds what a task would cost with each of these resources given to it alone, by an earlier task that is alike.
+fn push_like<F: Family>(
+    alloc: Global,
+    engine: &mut Engine<'_, F>,
+    pairs: &mut Seq<Totals>,
+    read: &[Likeness],
+    first: usize,
+    place: usize,
+    numbers: &[u32],
+    resources: &[ResourceId],
+) -> Result<(), NoMemory>
+    requires numbers { numbers.now ≡ preferences engine.old.parts }
+    requires read { All (IsReadFrom engine.old.parts engine.old.state.slots) read.now }
+    requires ready { AreReady engine.old.parts resources.now engine.old.state.slots (tasks_of read.now) }
+    requires some { 0 < length resources.now }
+    requires place { place < length read.now }
+    requires first { first < place }
+    requires like { AreLike (slice_index_or read.now first no_likeness) (slice_index_or read.now place no_likeness) }
+    requires pairs { pairs.old ≡ flat_map (row engine.old.parts engine.old.state resources.now) (take place (tasks_of read.now)) }
+    requires small { All IsSmall pairs.old }
+    ensures pairs { OnOk result (pairs.new ≡ flat_map (row engine.old.parts engine.old.state resources.now) (take (place + 1) (tasks_of read.now))) }
+    ensures small { All IsSmall pairs.new }
+    ensures same { engine.new ≡ engine.old }
+{
+    let asked = row_at(pairs.as_slice(), first, resources.len());
+    let leader = leader_of(alloc, engine, asked, &read[first], numbers, resources)?;
+    push_led(
+        alloc,
+        engine,
+        pairs,
+        &read[place],
+        &leader,
+        numbers,
+        resources,
+    )
+}
+
+/// Whether an earlier task leads the one at a place, where there are resources.
+fn is_led(first: usize, place: usize, resources: &[ResourceId]) -> bool
+    ensures first { result ≡ true → first < place }
+    ensures some { result ≡ true → 0 < length resources.now }
+{
+    first < place && !resources.is_empty()
+}
+
+/// Adds what the task at a place would cost with each of these resources given to it alone: it is asked, but where
+/// an earlier one is alike.
+fn push_task<F: Family>(
+    alloc: Global,
+    engine: &mut Engine<'_, F>,
+    pairs: &mut Seq<Totals>,
+    read: &[Likeness],
+    place: usize,
+    numbers: &[u32],
+    resources: &[ResourceId],
+) -> Result<(), NoMemory>
+    requires numbers { numbers.now ≡ preferences engine.old.parts }
+    requires read { All (IsReadFrom engine.old.parts engine.old.state.slots) read.now }
+    requires ready { AreReady engine.old.parts resources.now engine.old.state.slots (tasks_of read.now) }
+    requires place { place < length read.now }
+    requires pairs { pairs.old ≡ flat_map (row engine.old.parts engine.old.state resources.now) (take place (tasks_of read.now)) }
+    requires small { All IsSmall pairs.old }
+    ensures pairs { OnOk result (pairs.new ≡ flat_map (row engine.old.parts engine.old.state resources.now) (take (place + 1) (tasks_of read.now))) }
+    ensures small { All IsSmall pairs.new }
+    ensures same { engine.new ≡ engine.old }
+{
+    let first = first_like(read, place);
+    if is_led(first, place, resources) {
+        push_like(alloc, engine, pairs, read, first, place, numbers, resources)
+    } else {
+        push_row(engine, pairs, read[place].task, resources)
+    }
+}
+
+/// What each task of which this was read would cost with each of these resources, row by row.
+fn pairs_with<F: Family>(
+    alloc: Global,
+    engine: &mut Engine<'_, F>,
+    read: &[Likeness],
+    numbers: &[u32],
+    resources: &[ResourceId],
+) -> Result<Seq<Totals>, NoMemory>
+    requires numbers { numbers.now ≡ preferences engine.old.parts }
+    requires read { All (IsReadFrom engine.old.parts engine.old.state.slots) read.now }
+    requires ready { AreReady engine.old.parts resources.now engine.old.state.slots (tasks_of read.now) }
+    ensures pairs { IfOk result (λ pairs. pairs ≡ flat_map (row engine.old.parts engine.old.state resources.now) (tasks_of read.now)) }
+    ensures small { IfOk result (All IsSmall) }
+    ensures same { engine.new ≡ engine.old }
+{
+    let mut pairs = Seq::new(alloc);
+    for place in 0..read.len() {
+        push_task(alloc, engine, &mut pairs, read, place, numbers, resources)?;
+    }
+    Ok(pairs)
+}
+
+/// What each of these tasks would cost with each of these resources, row by row. It asks for each task and resource,
+/// but for one resource alone where an earlier task is alike.
 fn pairs_of<F: Family>(
     alloc: Global,
     engine: &mut Engine<'_, F>,
@@ -76,11 +185,15 @@ fn pairs_of<F: Family>(
     ensures small { IfOk result (All IsSmall) }
     ensures same { engine.new ≡ engine.old }
 {
-    let mut pairs = Seq::new(alloc);
-    for task in tasks {
-        push_row(engine, &mut pairs, *task, resources)?;
-    }
-    Ok(pairs)
+    let inst = engine.instance();
+    let groups = list_avoidances(alloc, inst)?;
+    let united = groups.as_slice();
+    let read = likenesses_of(alloc, inst, engine.solution(), tasks, united);
+    let numbers = list_preferences(alloc, inst);
+    let (read, numbers) = both(read, numbers)?;
+    let known = read.as_slice();
+    let wanted = numbers.as_slice();
+    pairs_with(alloc, engine, known, wanted, resources)
 }
 
 /// A cost for each of so many tasks.

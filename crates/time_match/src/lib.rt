@@ -5,11 +5,14 @@
 
 mod asking;
 mod laws;
+mod leaders;
+mod likenesses;
 mod making;
 mod matching;
 mod outcomes;
 mod reads;
 mod tasks;
+mod wishes;
 
 pub use matching::match_at;
 pub use outcomes::{MatchFault, Matched};

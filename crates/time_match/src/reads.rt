@@ -27,7 +27,7 @@ pub(crate) fn facts<F: Family>(engine: &Engine<'_, F>)
 
 /// The live meet of a slot.
 #[tactic(auto, using(khe_solution::proofs::ReadingLaws::meet_shown))]
-fn live(solution: &Solution<'_>, meet: MeetId) -> Option<Meet>
+pub(crate) fn live(solution: &Solution<'_>, meet: MeetId) -> Option<Meet>
     ensures { MatchOption result (is_live (slot_at solution.now.slots meet.0) ≡ false) (Shows (slot_at solution.now.slots meet.0)) }
 {
     solution.meet(meet)

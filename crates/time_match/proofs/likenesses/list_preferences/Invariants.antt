@@ -1,0 +1,7 @@
+use Rattle.std.proofs.Common.{◌≡◌}
+use Rattle.std.specs.List.{filter, range_with_len}
+use Rattle.time_match.specs.Leaders.{is_preference_at}
+use Rattle.time_match.proofs.likenesses.list_preferences.Given as goal
+
+abbrev pub invariant-loop-number : goal.invariant-loop-number
+invariant-loop-number l = l.numbers ≡ filter (is_preference_at l.inst) (range_with_len 0 l.number)
