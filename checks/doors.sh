@@ -4,7 +4,8 @@
 # the examples run, the C ones under sanitizers and valgrind, and lines are answered fast enough. It installs what it
 # needs from Debian's packages, prints a line for each case, and ends with status 1 where one failed.
 #
-#     checks/doors.sh                 all; on a new machine the programs and the library are proved and built first
+#     checks/doors.sh                 all; on a new machine the programs and the library are proved and built first.
+#                                     The speeds are for a quiet machine
 #     KHE_BUILD=off checks/doors.sh   with programs without the proofs, and the library if it is there, on a smaller
 #                                     school; speeds are told and not judged
 #
