@@ -86,7 +86,8 @@ if [ -n "${KHE_LIBRARY:-}" ]; then
     [ -e "$source" ] || { echo "not checked: examples/c, which is not there"; continue; }
     name=$(basename "$source" .c)
     holds "examples/c/$name.c is compiled without a warning" 'compile "$name" "$source" -O2'
-    holds "it runs" '"$work/$name" examples/school_week.xml 0 2000 > "$work/$name.out"'
+    holds "it runs" '"$work/$name" examples/school_week.xml 0 2000 > "$work/$name.out" 2> "$work/$name.said"'
+    [ "$name" != climb ] || holds "what it wrote costs what it says" '[ "after: $("$KHE" evaluate "$work/$name.out" | grep -m1 ^total)" = "$(tail -1 "$work/$name.said")" ]'
     holds "the same under the sanitizers" 'compile "${name}_strict" "$source" "${strict[@]}" && "$work/${name}_strict" examples/school_week.xml 0 2000 | cmp - "$work/$name.out" && [ "${PIPESTATUS[0]}" = 0 ]'
     holds "the same under valgrind" 'memcheck "$work/$name" examples/school_week.xml 0 2000 | cmp - "$work/$name.out" && [ "${PIPESTATUS[0]}" = 0 ]'
   done
