@@ -493,7 +493,9 @@ def _opened(archive: Union[str, os.PathLike[str]], solution: int, program: Union
         raise ValueError("demands are kept by the program alone")
     with open(archive, "rb") as file:
         content = file.read()
-    return _Library(os.fspath(library), content, solution)
+    # A name without a slash is looked for where the system keeps libraries, unless it is that of a file here.
+    path = os.path.abspath(library) if os.path.exists(library) else os.fspath(library)
+    return _Library(path, content, solution)
 
 
 # -- reading answers -------------------------------------------------------------------------------------------------
