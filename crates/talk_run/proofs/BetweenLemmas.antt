@@ -78,12 +78,21 @@ pub between_stop : (before now : Option (List ℕ)) (pending rest whole : List �
 between_stop before now pending rest whole h = (h.written, encode_utf8_all pending ++ rest, sym h.is, h.took)
 
 -- at the end all is taken
-between_end : (before now : Option (List ℕ)) (whole : List ℕ) → IsBetween before now [] [] whole → Took before now whole
+pub between_end : (before now : Option (List ℕ)) (whole : List ℕ) → IsBetween before now [] [] whole → Took before now whole
 between_end before now whole h = subst (Took before now) (sym (append-nil h.written) ∙ h.is) h.took
 
 nothing-took : (before : Option (List ℕ)) → Took before before []
 nothing-took None = refl
 nothing-took (Some xs) = ap Some (sym (append-nil xs))
+
+-- before anything is written
+pub between_begin : (before : Option (List ℕ)) (pending bytes whole : List ℕ) → pending ≡ [] → bytes ≡ whole
+    → IsBetween before before pending (bytes ++ []) whole
+between_begin before pending bytes whole e f = subst (λ t. IsBetween before before t (bytes ++ []) whole) (sym e) (record {
+  written = [];
+  took = nothing-took before;
+  is = append-nil bytes ∙ f;
+})
 
 nothing-read : (left : Option (List ℕ)) → Consumes left left []
 nothing-read None = tt
