@@ -1,5 +1,5 @@
 -- What is read of a task to find one that is alike, and what the costs of one then say of those of the other.
-use Rattle.std.specs.Prelude.{ℕ, ◌≡◌, ◌+◌, ◌*◌, ◌/◌, Bool, true, false, None, List, map, slice_get}
+use Rattle.std.specs.Prelude.{ℕ, ◌≡◌, ◌+◌, ◌*◌, ◌/◌, Bool, true, false, None, List, All, map, slice_get}
 use Rattle.std.specs.List.{filter}
 use Rattle.std.specs.Option.{option_map_or}
 use Rattle.khe_base.specs.declared.numbers.ResourceId.{ResourceId}
@@ -12,6 +12,7 @@ use Rattle.khe_instance.specs.declared.points.Monitor.{Monitor}
 use Rattle.khe_instance.specs.declared.rules.Constraint.{Constraint}
 use Rattle.khe_told.specs.Slots.{length_of, slot_at, start_of}
 use Rattle.khe_told.specs.declared.slots.Slot.{Slot}
+use Rattle.resource_match.specs.Smallness.{IsSmall}
 use Rattle.time_match.specs.Alike.{is_avoiding_splits, is_preference, unites_at, worth}
 use Rattle.time_match.specs.Costs.{no_task}
 use Rattle.time_match.specs.Parted.{IsSingle, all_numbers}
@@ -81,3 +82,8 @@ pub record AreExchanged (p : Parts) (b : State) (x y : TaskId) : Type 0 where
 -- what is left of the costs of a leader without its wishes
 abbrev pub IsLeader : Parts → State → List ResourceId → Leader → Type 0
 IsLeader p b rs x = x.rests ≡ map (rest_in p b x.task) rs
+
+-- a leader that is kept for the tasks after it
+pub record IsKept (p : Parts) (b : State) (rs : List ResourceId) (x : Leader) : Type 0 where
+  pub rests : IsLeader p b rs x
+  pub small : All IsSmall x.rests

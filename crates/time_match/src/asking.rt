@@ -1,6 +1,6 @@
 //! What tasks would cost with resources, asked of the bare state without making it.
 
-ghost use Rattle.std.specs.Prelude.{◌≡◌, ◌≤◌, ◌<◌, ◌+◌, ◌*◌, ◌++◌, true, None, All, OnOk, IfOk, drop, length, replicate, slice_index_or, take};
+ghost use Rattle.std.specs.Prelude.{◌≡◌, ◌≤◌, ◌<◌, ◌+◌, ◌*◌, ◌++◌, true, None, All, OnOk, IfOk, IfSome, drop, length, replicate, slice_index_or, take};
 ghost use Rattle.std.specs.List.{flat_map};
 ghost use Rattle.khe_base.specs.declared.limits.TheConstants.{RESOURCES};
 ghost use Rattle.khe_engine.specs.States.{edited};
@@ -11,10 +11,10 @@ ghost use Rattle.resource_match.specs.Choices.{AreCosts};
 ghost use Rattle.resource_match.specs.Smallness.{IsSmall};
 ghost use Rattle.resource_match.specs.declared.choices.TheConstants.{MATCHED_TASKS};
 ghost use Rattle.time_match.specs.Costs.{costs_in, row};
-ghost use Rattle.time_match.specs.Leaders.{AreLike, IsReadFrom, no_likeness, preferences, tasks_of};
+ghost use Rattle.time_match.specs.Leaders.{AreLike, IsKept, IsReadFrom, no_likeness, preferences, tasks_of};
 ghost use Rattle.time_match.specs.Open.{AreReady};
 
-use crate::leaders::{leader_of, push_led};
+use crate::leaders::{Leader, leader_of, push_led};
 use crate::likenesses::{Likeness, first_like, likenesses_of, list_avoidances, list_preferences};
 use crate::reads::facts;
 use khe_base::{NoMemory, ResourceId, Seq, TaskId, Totals, both};
@@ -76,7 +76,49 @@ fn row_at(pairs: &[Totals], place: usize, wide: usize) -> &[Totals]
     &pairs[start..start + wide]
 }
 
-/// Adds what a task would cost with each of these resources given to it alone, by an earlier task that is alike.
+/// Whether two tasks are the same.
+fn is_task(a: TaskId, b: TaskId) -> bool
+    ensures { result ≡ true → a ≡ b }
+{
+    a.meet.0 == b.meet.0 && a.place == b.place
+}
+
+/// The task at a place as the leader of others, by what was asked: the one that is kept, where it is that task.
+fn lead<F: Family>(
+    alloc: Global,
+    engine: &Engine<'_, F>,
+    pairs: &[Totals],
+    read: &[Likeness],
+    first: usize,
+    place: usize,
+    kept: Option<Leader>,
+    numbers: &[u32],
+    resources: &[ResourceId],
+) -> Result<Leader, NoMemory>
+    requires numbers { numbers.now ≡ preferences engine.now.parts }
+    requires read { All (IsReadFrom engine.now.parts engine.now.state.slots) read.now }
+    requires ready { AreReady engine.now.parts resources.now engine.now.state.slots (tasks_of read.now) }
+    requires place { place < length read.now }
+    requires first { first < place }
+    requires single { (slice_index_or read.now first no_likeness).single ≡ true }
+    requires pairs { pairs.now ≡ flat_map (row engine.now.parts engine.now.state resources.now) (take place (tasks_of read.now)) }
+    requires small { All IsSmall pairs.now }
+    requires kept { IfSome kept (IsKept engine.now.parts engine.now.state resources.now) }
+    ensures kept { IfOk result (IsKept engine.now.parts engine.now.state resources.now) }
+    ensures task { IfOk result (λ x. x.task ≡ (slice_index_or read.now first no_likeness).task) }
+{
+    let of = &read[first];
+    if let Some(leader) = kept {
+        if is_task(leader.task, of.task) {
+            return Ok(leader);
+        }
+    }
+    let asked = row_at(pairs, first, resources.len());
+    leader_of(alloc, engine, asked, of, numbers, resources)
+}
+
+/// Adds what a task would cost with each of these resources given to it alone, by an earlier task that is alike, and
+/// hands that one on as the leader of others.
 fn push_like<F: Family>(
     alloc: Global,
     engine: &mut Engine<'_, F>,
@@ -84,9 +126,10 @@ fn push_like<F: Family>(
     read: &[Likeness],
     first: usize,
     place: usize,
+    kept: Option<Leader>,
     numbers: &[u32],
     resources: &[ResourceId],
-) -> Result<(), NoMemory>
+) -> Result<Leader, NoMemory>
     requires numbers { numbers.now ≡ preferences engine.old.parts }
     requires read { All (IsReadFrom engine.old.parts engine.old.state.slots) read.now }
     requires ready { AreReady engine.old.parts resources.now engine.old.state.slots (tasks_of read.now) }
@@ -96,12 +139,16 @@ fn push_like<F: Family>(
     requires like { AreLike (slice_index_or read.now first no_likeness) (slice_index_or read.now place no_likeness) }
     requires pairs { pairs.old ≡ flat_map (row engine.old.parts engine.old.state resources.now) (take place (tasks_of read.now)) }
     requires small { All IsSmall pairs.old }
+    requires kept { IfSome kept (IsKept engine.old.parts engine.old.state resources.now) }
     ensures pairs { OnOk result (pairs.new ≡ flat_map (row engine.old.parts engine.old.state resources.now) (take (place + 1) (tasks_of read.now))) }
     ensures small { All IsSmall pairs.new }
+    ensures kept { IfOk result (IsKept engine.old.parts engine.old.state resources.now) }
     ensures same { engine.new ≡ engine.old }
 {
-    let asked = row_at(pairs.as_slice(), first, resources.len());
-    let leader = leader_of(alloc, engine, asked, &read[first], numbers, resources)?;
+    let asked = pairs.as_slice();
+    let leader = lead(
+        alloc, engine, asked, read, first, place, kept, numbers, resources,
+    )?;
     push_led(
         alloc,
         engine,
@@ -110,7 +157,8 @@ fn push_like<F: Family>(
         &leader,
         numbers,
         resources,
-    )
+    )?;
+    Ok(leader)
 }
 
 /// Whether an earlier task leads the one at a place, where there are resources.
@@ -122,31 +170,38 @@ fn is_led(first: usize, place: usize, resources: &[ResourceId]) -> bool
 }
 
 /// Adds what the task at a place would cost with each of these resources given to it alone: it is asked, but where
-/// an earlier one is alike.
+/// an earlier one is alike. The leader that is kept may be another after it.
 fn push_task<F: Family>(
     alloc: Global,
     engine: &mut Engine<'_, F>,
     pairs: &mut Seq<Totals>,
     read: &[Likeness],
     place: usize,
+    kept: Option<Leader>,
     numbers: &[u32],
     resources: &[ResourceId],
-) -> Result<(), NoMemory>
+) -> Result<Option<Leader>, NoMemory>
     requires numbers { numbers.now ≡ preferences engine.old.parts }
     requires read { All (IsReadFrom engine.old.parts engine.old.state.slots) read.now }
     requires ready { AreReady engine.old.parts resources.now engine.old.state.slots (tasks_of read.now) }
     requires place { place < length read.now }
     requires pairs { pairs.old ≡ flat_map (row engine.old.parts engine.old.state resources.now) (take place (tasks_of read.now)) }
     requires small { All IsSmall pairs.old }
+    requires kept { IfSome kept (IsKept engine.old.parts engine.old.state resources.now) }
     ensures pairs { OnOk result (pairs.new ≡ flat_map (row engine.old.parts engine.old.state resources.now) (take (place + 1) (tasks_of read.now))) }
     ensures small { All IsSmall pairs.new }
+    ensures kept { IfOk result (λ kept. IfSome kept (IsKept engine.old.parts engine.old.state resources.now)) }
     ensures same { engine.new ≡ engine.old }
 {
     let first = first_like(read, place);
     if is_led(first, place, resources) {
-        push_like(alloc, engine, pairs, read, first, place, numbers, resources)
+        let leader = push_like(
+            alloc, engine, pairs, read, first, place, kept, numbers, resources,
+        )?;
+        Ok(Some(leader))
     } else {
-        push_row(engine, pairs, read[place].task, resources)
+        push_row(engine, pairs, read[place].task, resources)?;
+        Ok(kept)
     }
 }
 
@@ -166,8 +221,11 @@ fn pairs_with<F: Family>(
     ensures same { engine.new ≡ engine.old }
 {
     let mut pairs = Seq::new(alloc);
+    let mut kept = None;
     for place in 0..read.len() {
-        push_task(alloc, engine, &mut pairs, read, place, numbers, resources)?;
+        kept = push_task(
+            alloc, engine, &mut pairs, read, place, kept, numbers, resources,
+        )?;
     }
     Ok(pairs)
 }

@@ -1,10 +1,10 @@
 use Rattle.std.proofs.Common.{◌≡◌, ◌+◌, ◌∙◌, ap, arith, subst, sym, take}
-use Rattle.std.specs.Prelude.{All}
+use Rattle.std.specs.Prelude.{All, IfSome}
 use Rattle.std.specs.List.{flat_map}
 use Rattle.std.proofs.lemmas.List.{length-map, take_all}
 use Rattle.khe_engine.specs.Worlds.{World}
 use Rattle.time_match.specs.Costs.{row}
-use Rattle.time_match.specs.Leaders.{IsReadFrom, preferences, tasks_of}
+use Rattle.time_match.specs.Leaders.{IsKept, IsReadFrom, preferences, tasks_of}
 use Rattle.time_match.specs.Open.{AreReady}
 use Rattle.time_match.specs.declared.likenesses.Likeness.{Likeness}
 use Rattle.time_match.proofs.asking.pairs_with.Goals as goal
@@ -29,15 +29,22 @@ push_task-requires-clause-pairs g c =
     (take c.loop-place.place (tasks_of c.args.read.now))) (sym c.loop-place.invariant.same)
     c.loop-place.invariant.pairs
 
+pub push_task-requires-clause-kept : goal.push_task-requires-clause-kept
+push_task-requires-clause-kept g c =
+    subst (λ (u : World). IfSome c.loop-place.kept (IsKept u.parts u.state c.args.resources.now))
+    (sym c.loop-place.invariant.same) c.loop-place.invariant.kept
+
 pub loop-place-preserved : goal.loop-place-preserved
 loop-place-preserved g c =
     let same = c.loop-place.invariant.same in
     record {
-      pairs = c.in_ok-push_task.ensures.pairs
+      pairs = c.in_ok-kept.ensures.pairs
           ∙ ap (λ (u : World). flat_map (row u.parts u.state c.args.resources.now)
           (take (c.loop-place.place + 1) (tasks_of c.args.read.now))) same;
       small = c.push_task.ensures.small;
       same = c.push_task.ensures.same ∙ same;
+      kept = subst (λ (u : World). IfSome c.in_ok-kept.kept (IsKept u.parts u.state c.args.resources.now)) same
+          c.in_ok-kept.ensures.kept;
     }
 
 pub returns-clause-pairs : goal.returns-clause-pairs

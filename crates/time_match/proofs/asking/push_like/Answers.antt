@@ -1,55 +1,8 @@
-use Rattle.std.proofs.Common.{◌∙◌, ◌<◌, arith, get_or, length, subst, sym}
-use Rattle.std.specs.Prelude.{All}
-use Rattle.std.proofs.lemmas.List.Elements.{All-drop, All-take}
-use Rattle.std.proofs.lemmas.Result.{on_ok_weaker}
+use Rattle.std.proofs.Common.{◌<◌, arith, get_or, length, subst, sym}
 use Rattle.khe_base.specs.declared.numbers.TaskId.{TaskId}
-use Rattle.resource_match.specs.Smallness.{IsSmall}
 use Rattle.time_match.specs.Leaders.{AreExchanged, no_likeness}
-use Rattle.time_match.proofs.LeaderLaws.{asked_is, bare_at, exchanged, may_at, row_next_at, wide_enough}
+use Rattle.time_match.proofs.LeaderLaws.{bare_at, exchanged, may_at, row_next_at}
 use Rattle.time_match.proofs.asking.push_like.Goals as goal
-
-pub row_at-asked-requires : goal.row_at-asked-requires
-row_at-asked-requires g c =
-    let p = c.args.engine.now.parts in
-    let b = c.args.engine.now.state in
-    let rs = c.args.resources.now in
-    let read = c.args.read.now in
-    wide_enough p b rs read c.args.place c.args.first c.as_slice.result.now c.requires.place c.requires.first
-    (c.as_slice.ensures ∙ c.requires.pairs)
-
-pub leader_of-requires-clause-asked : goal.leader_of-requires-clause-asked
-leader_of-requires-clause-asked g c =
-    let p = c.args.engine.now.parts in
-    let b = c.args.engine.now.state in
-    let rs = c.args.resources.now in
-    let read = c.args.read.now in
-    asked_is p b rs read c.args.place c.args.first c.as_slice.result.now c.row_at-asked.result.now c.requires.place
-    c.requires.first (c.as_slice.ensures ∙ c.requires.pairs) c.row_at-asked.ensures
-
-pub leader_of-requires-clause-small : goal.leader_of-requires-clause-small
-leader_of-requires-clause-small g c =
-    subst (All IsSmall) (sym c.row_at-asked.ensures)
-    (All-take IsSmall _ _ (All-drop IsSmall _ _ (subst (All IsSmall) (sym c.as_slice.ensures) c.requires.small)))
-
-pub leader_of-requires-clause-like : goal.leader_of-requires-clause-like
-leader_of-requires-clause-like g c =
-    let l = c.requires.place in
-    let h = c.requires.first in
-    c.requires.read c.args.first no_likeness (omega (arith, l, h)) c.requires.like.first
-
-pub leader_of-requires-clause-bare : goal.leader_of-requires-clause-bare
-leader_of-requires-clause-bare g c =
-    let l = c.requires.place in
-    let h = c.requires.first in
-    bare_at c.args.engine.now.parts c.args.resources.now c.args.engine.now.state.slots c.args.read.now c.args.first
-    c.requires.ready (omega (arith, l, h))
-
-pub leader_of-requires-clause-accepted : goal.leader_of-requires-clause-accepted
-leader_of-requires-clause-accepted g c =
-    let l = c.requires.place in
-    let h = c.requires.first in
-    may_at c.args.engine.now.parts c.args.resources.now c.args.engine.now.state.slots c.args.read.now c.args.first
-    c.requires.ready (omega (arith, l, h))
 
 pub push_led-requires-clause-like : goal.push_led-requires-clause-like
 push_led-requires-clause-like g c = c.requires.read c.args.place no_likeness c.requires.place c.requires.like.second
@@ -87,6 +40,5 @@ returns-clause-pairs g c =
     let b = c.args.engine.now.state in
     let rs = c.args.resources.now in
     let read = c.args.read.now in
-    on_ok_weaker c.push_led.result
-    (row_next_at p b rs read c.args.place c.args.pairs.now c.push_led.new.pairs c.requires.place c.requires.pairs)
-    c.push_led.ensures.row
+    row_next_at p b rs read c.args.place c.args.pairs.now c.push_led.new.pairs c.requires.place c.requires.pairs
+    c.in_ok-push_led.ensures.row

@@ -1,4 +1,3 @@
-use Rattle.std.proofs.lemmas.Result.{on_ok_weaker}
 use Rattle.time_match.proofs.LeaderLaws.{may_at, row_next_at}
 use Rattle.time_match.proofs.asking.push_task.Goals as goal
 
@@ -16,12 +15,11 @@ push_row-requires-clause-accepted g c =
     may_at c.args.engine.now.parts c.args.resources.now c.args.engine.now.state.slots c.args.read.now c.args.place
     c.requires.ready c.requires.place
 
-pub returns-else-is_led-clause-pairs : goal.returns-else-is_led-clause-pairs
-returns-else-is_led-clause-pairs g c =
+pub returns-in_ok-push_row-clause-pairs : goal.returns-in_ok-push_row-clause-pairs
+returns-in_ok-push_row-clause-pairs g c =
     let p = c.args.engine.now.parts in
     let b = c.args.engine.now.state in
     let rs = c.args.resources.now in
     let read = c.args.read.now in
-    on_ok_weaker c.push_row.result
-    (row_next_at p b rs read c.args.place c.args.pairs.now c.push_row.new.pairs c.requires.place c.requires.pairs)
-    c.push_row.ensures.row
+    row_next_at p b rs read c.args.place c.args.pairs.now c.push_row.new.pairs c.requires.place c.requires.pairs
+    c.in_ok-push_row.ensures.row
