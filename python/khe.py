@@ -18,7 +18,8 @@ Two doors lead to the engine, and a session has the same methods behind either:
 
 - The program `khe-talk`, over pipes; this is what a session has where nothing else is said. It is looked for in this
   order: the argument `program`, the variable KHE_TALK, `khe-talk` beside this file's folder, `khe-talk` on the path.
-- The shared library of the engine, in this process, where the argument `library` names it.
+- A shared library of the engine, in this process, where the argument `library` names one. The repository has none
+  yet, and this door has run on stand-ins alone.
 
 Times, resources, events and monitors are numbered from 0 in the order of the archive, meets and tasks as the
 answers of :meth:`Session.meets` show them. What an edit does and when it is refused stands in docs/manual.md.
