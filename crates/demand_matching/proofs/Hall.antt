@@ -21,7 +21,7 @@ use Rattle.demand_matching.proofs.Duality.{HasLeftOut}
 use Rattle.demand_matching.proofs.Fences.{owner_below}
 use Rattle.demand_matching.proofs.Maxima.{bounded, saturated_exceeds, exceeds_left, exceeds_saturated}
 use Rattle.demand_matching.proofs.Picks.{members_hit, members_found}
-use Rattle.demand_matching.proofs.Shut.{firsts, firsts_in, firsts_out}
+use Rattle.demand_matching.proofs.Shut.{kept_of, firsts_out}
 
 -- a set that has all that are left out and all its supplies, and is in each such set, is the least
 pub least_is : (t : Table) (o : Order) (left met : ℕ) (set : ℕ → Bool) → IsMaximum t o left met
@@ -78,15 +78,11 @@ pub hall_is : (t : Table) (o : Order) (left met : ℕ) (marks : List Bool) → I
     → IsHallSet (domains_of t) (λ d. list_any (λ m. eqb m d) (members_of marks))
 hall_is t o left met marks max is =
     let set : ℕ → Bool = λ d. list_any (λ m. eqb m d) (members_of marks) in
-    let kept : ℕ → Bool = firsts t o.spots.items met in
     least_is t o left met set max (λ d h. is.there d (listed_marked marks d h))
     (λ d h. is.all d (listed_marked marks d h)) (λ d l p n. marked_listed marks d (is.left_out d l p n))
     (λ d s l h below may.
     let mark = listed_marked marks d h in
-    let inside : kept d ≡ true = is.all d mark kept
-    (λ e k p n. firsts_in t o.spots.items met e k (omega (arith, max.listing.listed e k p n, max.longer)))
-    (λ e u k x b m. let r = max.shut.saturated e u k (firsts_out t o.spots.items met e x).1 b m in
-    (r.by, r.owner, firsts_in t o.spots.items met r.by (owner_below t u r.by max.table r.owner) r.within)) in
+    let inside = kept_of t o left met d max (is.all d mark) in
     let r = max.shut.saturated d s l (firsts_out t o.spots.items met d inside).1 below may in
     (r.by, r.owner, marked_listed marks r.by (is.owners d s r.by mark may r.owner)))
 

@@ -21,3 +21,4 @@ pub mod Shifts
 pub mod Maxima
 pub mod Keeps
 pub mod Hall
+pub mod All

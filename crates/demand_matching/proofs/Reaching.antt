@@ -15,7 +15,7 @@ use Rattle.demand_matching.specs.Listing.{IsListing}
 use Rattle.demand_matching.specs.Members.{picked}
 use Rattle.demand_matching.specs.Reach.{IsInAll, IsReach, Reaches, IsReached}
 use Rattle.demand_matching.specs.Table.{domains_of, may_take, owner_of, demands_in, supplies_in, admits_supply, IsTable}
-use Rattle.demand_matching.proofs.Counting.{cases_eqb, cases_last, count_partners, count_all}
+use Rattle.demand_matching.proofs.Counting.{cases_eqb, cases_last, count_partners, count_subset, count_all}
 use Rattle.demand_matching.proofs.Duality.{same_some}
 use Rattle.demand_matching.proofs.Picks.{picked_found}
 use Rattle.demand_matching.proofs.Supplies.{supply_at, picked_below, picked_supply, supply_found, may_is, may_present}
@@ -104,17 +104,17 @@ reaches_more t r r' d is l here all new ds ms =
       };
     }
 
--- no more are listed than there are
-pub reach_fits : (t : Table) (demands : List ℕ) (marks : List Bool) → IsReach t demands marks
-    → length demands ≤ demands_in t
-reach_fits t demands marks is =
+-- no more are listed than are marked, and no more than there are
+pub reach_count : (t : Table) (demands : List ℕ) (marks : List Bool) → IsReach t demands marks
+    → length demands ≤ count_below (demands_in t) (has_member marks)
+reach_count t demands marks is =
     let n : ℕ = length demands in
-    let low : count_below n (λ _. true) ≤ count_below (demands_in t) (λ _. true) =
-    count_partners n (demands_in t) (λ _. true) (λ _. true) (λ k d. (k < n) × (get_or demands k 0 ≡ d))
+    let low : count_below n (λ _. true) ≤ count_below (demands_in t) (has_member marks) =
+    count_partners n (demands_in t) (λ _. true) (has_member marks) (λ k d. (k < n) × (get_or demands k 0 ≡ d))
     (λ k l h. (
       get_or demands k 0,
       omega (arith, member_below marks (get_or demands k 0) (is.marked k l), is.size),
-      refl,
+      is.marked k l,
       (l, refl),
     ))
     (λ j k d x y. elim (cases_order j k) [
@@ -124,7 +124,16 @@ reach_fits t demands marks is =
         | inr g ↦ absurd (is.apart k j g x.0 (y.1 ∙ sym x.1))
       ]
     ]) in
-    omega (arith, count_all n, count_all (demands_in t))
+    omega (arith, count_all n)
+
+pub reach_fits : (t : Table) (demands : List ℕ) (marks : List Bool) → IsReach t demands marks
+    → length demands ≤ demands_in t
+reach_fits t demands marks is = omega (
+  arith,
+  reach_count t demands marks is,
+  count_subset (demands_in t) (has_member marks) (λ _. true) (λ k l h. refl),
+  count_all (demands_in t),
+)
 
 -- the marks say what is reached from those left out
 pub reached_is : (t : Table) (o : Order) (r : Reach) (left : ℕ) → IsListing t o left → IsReach t r.demands r.marks

@@ -10,6 +10,7 @@ use Rattle.demand_matching.specs.Excess.{size_of, neighbours_of}
 use Rattle.demand_matching.specs.Listing.{IsListing}
 use Rattle.demand_matching.specs.Matched.{IsShut, IsMaximum}
 use Rattle.demand_matching.specs.Order.{IsOrder, HasSameFirst, is_first}
+use Rattle.demand_matching.specs.Reach.{IsInAll}
 use Rattle.demand_matching.specs.Table.{domains_of, may_take, supply_of, owner_of, demands_in, IsTable}
 use Rattle.demand_matching.proofs.Fences.{owner_below}
 use Rattle.demand_matching.proofs.Maxima.{saturated_exceeds, exceeds_saturated, other_may, other_present}
@@ -39,6 +40,17 @@ shut_exceeds t o left met max =
     (λ d s l h below may.
     let r = max.shut.saturated d s l (firsts_out t o.spots.items met d h).1 below may in
     (r.by, r.owner, firsts_in t o.spots.items met r.by (owner_below t s r.by max.table r.owner) r.within))
+
+-- a demand that is in all sets that have those left out and all their supplies is in the set that is kept
+pub kept_of : (t : Table) (o : Order) (left met d : ℕ) → IsMaximum t o left met → IsInAll t d
+    → firsts t o.spots.items met d ≡ true
+kept_of t o left met d max all =
+    all (firsts t o.spots.items met)
+    (λ e k p n. let low : get_or o.spots.items e 0 < left = max.listing.listed e k p n in
+    firsts_in t o.spots.items met e k (omega (arith, max.longer)))
+    (λ e u k x b m.
+    let r = max.shut.saturated e u k (firsts_out t o.spots.items met e x).1 b m in
+    (r.by, r.owner, firsts_in t o.spots.items met r.by (owner_below t u r.by max.table r.owner) r.within))
 
 -- a set that exceeds its supplies by as many as are left out has all that it may have
 pub exceeding_shut : (t : Table) (o : Order) (left met : ℕ) (set : ℕ → Bool) → IsTable t → IsListing t o left

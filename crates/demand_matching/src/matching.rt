@@ -147,7 +147,9 @@ impl Matching {
     ///
     /// Where the deficit is 0 it is empty, and is answered in constant time and without memory.
     /// Else it takes memory for a mark of one bit for each demand and for the demands of the set,
-    /// and time in proportion to the supplies that these may have and to a 64th of all demands.
+    /// and time in proportion to these, to a 64th of all demands, and to the supplies that the
+    /// demands may have which are followed: first those that are left out, and none any more once
+    /// all demands of the kept set were met.
     pub fn hall_set(&self) -> Result<Seq<u32>, NoMemory>
         ensures ascending { IfOk result (λ hall. IsStrictlyIncreasing hall) }
         ensures least { IfOk result (λ hall. IsHallSet self.now (λ demand. list_any (λ member. member == demand) hall)) }
@@ -155,7 +157,7 @@ impl Matching {
         if self.left == 0 {
             return Ok(Seq::new(self.alloc));
         }
-        let marks = reached_from(self.alloc, &self.table, &self.order, self.left)?;
+        let marks = reached_from(self.alloc, &self.table, &self.order, self.left, self.met)?;
         marks.members(self.alloc)
     }
 

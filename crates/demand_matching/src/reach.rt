@@ -4,7 +4,8 @@ ghost use Rattle.std.specs.Prelude.{◌≡◌, ◌+◌, ◌*◌, ◌<◌, ◌≤
 ghost use Rattle.khe_base.specs.IdSet.{has_member};
 ghost use Rattle.demand_matching.specs.Domains.{domain_of, is_present, is_picked};
 ghost use Rattle.demand_matching.specs.Listing.{IsListing};
-ghost use Rattle.demand_matching.specs.Reach.{IsReach, Reaches, IsInAll, IsReached};
+ghost use Rattle.demand_matching.specs.Matched.{IsMaximum};
+ghost use Rattle.demand_matching.specs.Reach.{IsReach, Reaches, IsInAll, AreAll, IsReached};
 ghost use Rattle.demand_matching.specs.Table.{IsTable, domains_of, may_take, owner_of, demands_in, supplies_in};
 
 use crate::Domain;
@@ -130,15 +131,19 @@ impl Reach {
         Ok(())
     }
 
-    /// All that can be are reached.
-    fn follow_all(&mut self, table: &Table) -> Result<(), NoMemory>
+    /// All that can be are reached, which so many are at most. It ends as soon as so many are.
+    fn follow_all(&mut self, table: &Table, most: u32) -> Result<(), NoMemory>
         requires table { IsTable table.now }
         requires reach { IsReach table.now self.old.demands self.old.marks }
+        requires all { AreAll table.now most }
         ensures reaches { OnOk result (Reaches table.now self.old self.new) }
         ensures reached { OnOk result ((demand supply by : ℕ) → has_member self.new.marks demand ≡ true → may_take (domains_of table.now) demand supply ≡ true → owner_of table.now supply ≡ Some by → has_member self.new.marks by ≡ true) }
     {
         let mut k = 0;
         while k < self.demands.len() {
+            if self.demands.len() >= most as usize {
+                return Ok(());
+            }
             let demand = self.demand(k);
             self.follow(table, demand)?;
             k += 1;
@@ -147,19 +152,20 @@ impl Reach {
     }
 }
 
-/// The marks of all demands that are reached from those that are left out.
+/// The marks of all demands that are reached from those that are left out. They are among the first
+/// demands of the order, `met` of them; where all of these are reached, none is followed any more.
 pub(crate) fn reached_from(
     alloc: Global,
     table: &Table,
     order: &Order,
     left: u32,
+    met: u32,
 ) -> Result<IdSet, NoMemory>
-    requires table { IsTable table.now }
-    requires listing { IsListing table.now order.now left }
+    requires { IsMaximum table.now order.now left met }
     ensures { IfOk result (IsReached table.now) }
 {
     let mut reach = Reach::new(alloc, table.demands.len() as u32)?;
     reach.start(table, order, left)?;
-    reach.follow_all(table)?;
+    reach.follow_all(table, met)?;
     Ok(reach.marks)
 }

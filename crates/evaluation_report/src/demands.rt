@@ -1,9 +1,11 @@
 //! The lines on what is short.
 
-ghost use Rattle.std.specs.Prelude.{◌≡◌, ◌++◌, OnOk, IfOk};
+ghost use Rattle.std.specs.Prelude.{◌≡◌, ◌++◌, OnOk, IfOk, codes};
+ghost use Rattle.std.specs.Fmt.{decimal};
 ghost use Rattle.evaluation_report.specs.Demands as spec;
 ghost use Rattle.hall_report.specs.declared.demand.Demand.TheVariants as demand;
 
+use crate::words::push_count;
 use hall_report::Demand;
 use khe_base::{MeetId, NoMemory, ResourceId, Text, TimeId};
 use std::alloc::Global;
@@ -24,49 +26,49 @@ pub fn deficit_line(alloc: Global, deficit: u32, demands: u32) -> Result<Text, N
     Ok(line)
 }
 
-/// The line of a demand: `demand M P O` for a task, with the number of its meet, its place and the
-/// offset, or `unavailable R T` for a resource that is to be free at a time, by their numbers.
+/// Adds the line of a demand: `demand M P O` for a task, with the number of its meet, its place and
+/// the offset, or `unavailable R T` for a resource that is to be free at a time, by their numbers.
 ///
-/// Its only error is want of memory. It takes constant time and memory.
-pub fn demand_line(alloc: Global, demand: Demand) -> Result<Text, NoMemory>
-    ensures { IfOk result (λ t. t ≡ spec.demand_line demand) }
+/// Its only error is want of memory. It takes constant time, and no memory but for what is added.
+pub fn push_demand_line(line: &mut Text, demand: Demand) -> Result<(), NoMemory>
+    ensures { OnOk result (line.new ≡ line.old ++ spec.demand_line demand) }
 {
     match demand {
         Demand::Task {
             meet,
             place,
             offset,
-        } => task_demand(alloc, meet, place, offset),
-        Demand::Unavailable { resource, time } => unavailable_time(alloc, resource, time),
+        } => push_task(line, meet, place, offset),
+        Demand::Unavailable { resource, time } => push_unavailable(line, resource, time),
     }
 }
 
-/// The line of a task's demand.
+/// Adds the line of a task's demand.
 #[tactic(auto, unfolding(crate::specs::Demands::demand_line))]
-fn task_demand(alloc: Global, meet: MeetId, place: u32, offset: u32) -> Result<Text, NoMemory>
-    ensures { IfOk result (λ t. t ≡ spec.demand_line (demand.Task meet place offset)) }
+fn push_task(line: &mut Text, meet: MeetId, place: u32, offset: u32) -> Result<(), NoMemory>
+    ensures { OnOk result (line.new ≡ line.old ++ spec.demand_line (demand.Task meet place offset)) }
 {
-    let mut line = Text::new(alloc);
     line.push_literal("demand ")?;
-    line.push_number(u128::from(meet.0))?;
+    push_count(line, u128::from(meet.0))?;
     line.push_literal(" ")?;
-    line.push_number(u128::from(place))?;
-    line.push_literal(" ")?;
-    line.push_number(u128::from(offset))?;
-    line.push_literal("\n")?;
-    Ok(line)
+    push_numbers(line, place, offset)
 }
 
-/// The line of a resource that is to be free at a time.
+/// Adds the line of a resource that is to be free at a time.
 #[tactic(auto, unfolding(crate::specs::Demands::demand_line))]
-fn unavailable_time(alloc: Global, resource: ResourceId, time: TimeId) -> Result<Text, NoMemory>
-    ensures { IfOk result (λ t. t ≡ spec.demand_line (demand.Unavailable resource time)) }
+fn push_unavailable(line: &mut Text, resource: ResourceId, time: TimeId) -> Result<(), NoMemory>
+    ensures { OnOk result (line.new ≡ line.old ++ spec.demand_line (demand.Unavailable resource time)) }
 {
-    let mut line = Text::new(alloc);
     line.push_literal("unavailable ")?;
-    line.push_number(u128::from(resource.0))?;
+    push_numbers(line, resource.0, time.0)
+}
+
+/// Adds two numbers with a space between them, and the line feed.
+fn push_numbers(line: &mut Text, first: u32, second: u32) -> Result<(), NoMemory>
+    ensures { OnOk result (line.new ≡ line.old ++ (decimal first ++ codes " " ++ decimal second ++ codes "\n")) }
+{
+    push_count(line, u128::from(first))?;
     line.push_literal(" ")?;
-    line.push_number(u128::from(time.0))?;
-    line.push_literal("\n")?;
-    Ok(line)
+    push_count(line, u128::from(second))?;
+    line.push_literal("\n")
 }

@@ -12,7 +12,7 @@ mod points;
 mod words;
 
 pub use answers::{group_line, meet_line, ok_line, refused_line, task_line};
-pub use demands::{deficit_line, demand_line};
+pub use demands::{deficit_line, push_demand_line};
 pub use lines::{
     header_line, invalid_line, monitor_line, push_cause, push_monitor_line, solution_line,
     total_line,
