@@ -1,8 +1,8 @@
 -- What is kept of groups when one of them changes.
-use Rattle.std.proofs.Common.{ℕ, ◌≡◌, ◌+◌, ◌-◌, ◌<◌, ◌≤◌, nat_eq, nat_lt, nat_le, Bool, true, false, cond, Option, Some}
+use Rattle.std.proofs.Common.{ℕ, ◌≡◌, ◌+◌, ◌-◌, ◌<◌, ◌≤◌, zero, suc, nat_eq, nat_lt, nat_le, Bool, true, false, cond, Option, Some}
 use Rattle.std.proofs.Common.{None, List, [], ◌∷◌, length, map, get_or, set, slice_get, refl, sym, ap, ◌∙◌, arith}
 use Rattle.std.proofs.Common.{subst, take, drop, inl, inr}
-use Rattle.std.specs.Prelude.{◌==◌, ◌||◌, is_none, is_some, MatchOption}
+use Rattle.std.specs.Prelude.{◌==◌, ◌||◌, not, is_none, is_some, MatchOption}
 use Rattle.std.specs.List.{AllByRecursion, IsDistinct, insert, list_any, remove, position_or_len, sum_by}
 use Rattle.std.specs.Option.{option_and_then, option_map, option_map_or}
 use Rattle.std.proofs.lemmas.Bool.{eqb-true, eqb-false, eq-eqb, ne_eqb, both_ways, lt-ltb, ltb-true, le-leb, cases_lt}
@@ -388,6 +388,25 @@ child_place xs m d h =
     let p : MonitorId → Bool = λ c. c.0 == m in
     let low : place_of m xs < length xs = ltb-true (place_of m xs) (length xs) (below_length p xs ∙ h) in
     (low, eqb-true (get_or xs (place_of m xs) d).0 m (passes_at_first p xs d low))
+
+-- and where it stands is its place, as it stands once
+pub only_place : (xs : List MonitorId) (m k : ℕ) (d : MonitorId) → k < length xs → (get_or xs k d).0 ≡ m
+    → occurs m xs ≤ 1 → k ≡ place_of m xs
+only_place [] m k d l e h = absurd (omega (arith, l))
+only_place (x ∷ xs) m zero d l e h = sym (ap (λ t. cond (not t) (1 + place_of m xs) 0) (eq-eqb x.0 m e))
+only_place (x ∷ xs) m (suc k) d l e h =
+    go (x.0 == m) refl (sum_by-cons (λ (c : MonitorId). cond (c.0 == m) 1 0) x xs)
+    (λ q. only_place xs m k d (omega (arith, l)) e q)
+  where
+    there : 0 < occurs m xs
+    there = among_yes m xs (list_any_at (λ (c : MonitorId). c.0 == m) xs k d (omega (arith, l))
+        (eq-eqb (get_or xs k d).0 m e))
+
+    go : (t : Bool) → (x.0 == m) ≡ t → occurs m (x ∷ xs) ≡ cond t 1 0 + occurs m xs
+        → (occurs m xs ≤ 1 → k ≡ place_of m xs)
+        → suc k ≡ cond (not t) (1 + place_of m xs) 0
+    go true f c r = let t = there in absurd (omega (arith, h, c, t))
+    go false f c r = let q = r (omega (arith, h, c)) in omega (arith, q)
 
 -- the same fields, said otherwise
 pub seating_as : (gs : Groups) (monitors : ℕ) (sizes sizes2 : List (Option ℕ)) (children children2 : List MonitorId)

@@ -275,6 +275,7 @@ impl Graph {
         ensures grouping { grouping_of self.new ≡ edited (grouping_of self.old) (AddChild group child) }
         ensures rest { KeepsValues self.old self.new }
     {
+        self.groups.arrive(child);
         let last = self.groups.children(group).len();
         self.insert_child(group, child, last);
     }

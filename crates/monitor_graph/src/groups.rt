@@ -34,6 +34,11 @@ pub(crate) struct Groups {
     monitors: usize,
     /// How many children there is room for.
     seats: usize,
+    /// For each monitor how many had come before it when it last came into a group while it was in
+    /// none. The search for a child goes by these; whatever they are, it finds the child.
+    came: Vec<u32>,
+    /// How many came.
+    arrivals: u32,
 }
 
 impl Model for Groups {
@@ -62,6 +67,8 @@ impl Groups {
             children: Vec::new(alloc),
             sizes: vec![in alloc; None; GROUPS as usize]?,
             held: no_bits(alloc, BITS / 64 * monitors)?,
+            came: vec![in alloc; 0; monitors]?,
+            arrivals: 0,
         })
     }
 
@@ -76,7 +83,7 @@ impl Groups {
         ensures seats { self.new.seats ≡ self.old.seats }
     {
         for place in 0..children.len() {
-            self.insert(group, children[place], place);
+            self.append(group, children[place], place);
         }
     }
 
@@ -167,6 +174,17 @@ impl Groups {
         self.sizes[group.0 as usize] = None;
     }
 
+    /// Notes that a monitor comes into a group, where it is in none so far.
+    pub(crate) fn arrive(&mut self, child: MonitorId)
+        ensures { self.new ≡ self.old }
+    {
+        let place = child.0 as usize;
+        if place < self.came.len() && self.is_alone(child) {
+            self.came[place] = self.arrivals;
+            self.arrivals = self.arrivals.wrapping_add(1);
+        }
+    }
+
     /// Puts a child at a place of a group. The children of later groups move by one.
     pub(crate) fn insert(&mut self, group: GroupId, child: MonitorId, place: usize)
         requires there { has_group self.old.groups group.0 ≡ true }
@@ -189,6 +207,21 @@ impl Groups {
         set_bit(&mut self.held, BITS * child.0 as usize + group.0 as usize);
     }
 
+    /// Puts a child that may be new to all groups after the others of its group.
+    fn append(&mut self, group: GroupId, child: MonitorId, place: usize)
+        requires there { has_group self.old.groups group.0 ≡ true }
+        requires known { child.0 < self.old.monitors }
+        requires place { place ≤ length (children_at self.old.groups group.0) }
+        requires fresh { has_child self.old.groups group.0 child.0 ≡ false }
+        requires room { seated self.old.groups < self.old.seats }
+        ensures groups { self.new.groups ≡ slice_set self.old.groups group.0 (Some (insert (children_at self.old.groups group.0) place child)) }
+        ensures monitors { self.new.monitors ≡ self.old.monitors }
+        ensures seats { self.new.seats ≡ self.old.seats }
+    {
+        self.arrive(child);
+        self.insert(group, child, place);
+    }
+
     /// Takes a child out of a group. The children of later groups move by one.
     pub(crate) fn remove(&mut self, group: GroupId, child: MonitorId)
         requires there { has_child self.old.groups group.0 child.0 ≡ true }
@@ -206,11 +239,19 @@ impl Groups {
         clear_bit(&mut self.held, BITS * child.0 as usize + group.0 as usize);
     }
 
-    /// The place of a child in its group, in time in proportion to it.
+    /// The place of a child in its group. It takes time by the logarithm of its children where they
+    /// are in the order in which they came into a group first, and in proportion to them at most.
     pub(crate) fn place(&self, group: GroupId, child: MonitorId) -> usize
         ensures { result ≡ place_of child.0 (children_at self.now.groups group.0) }
     {
-        first_of(self.children(group), child)
+        self.facts();
+        let children = self.children(group);
+        let place = guess(children, self.came.as_slice(), child);
+        if place < children.len() && children[place].0 == child.0 {
+            place
+        } else {
+            first_of(children, child)
+        }
     }
 
     /// Makes room for this many children more. Where memory is refused, all stays as it was.
@@ -280,6 +321,31 @@ fn first_none(sizes: &[Option<usize>]) -> Option<GroupId>
         }
     }
     None
+}
+
+/// Where a child stands if the children are in the order in which they came, of which there are
+/// fewer than 2^32.
+fn guess(children: &[MonitorId], came: &[u32], child: MonitorId) -> usize {
+    let time = time_of(came, child);
+    let mut low = 0;
+    let mut high = children.len();
+    for _ in 0..u32::BITS {
+        if low < high {
+            let middle = low + (high - low) / 2;
+            if middle < children.len() && time_of(came, children[middle]) < time {
+                low = middle + 1;
+            } else {
+                high = middle;
+            }
+        }
+    }
+    low
+}
+
+/// When a monitor came.
+fn time_of(came: &[u32], monitor: MonitorId) -> u32 {
+    let place = monitor.0 as usize;
+    if place < came.len() { came[place] } else { 0 }
 }
 
 /// The place of a child, and after the last one where it is none of them.

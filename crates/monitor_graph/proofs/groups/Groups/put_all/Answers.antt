@@ -15,20 +15,20 @@ loop-place-init c = record {
   seats = refl;
 }
 
-pub insert-requires-clause-there : goal.insert-requires-clause-there
-insert-requires-clause-there c =
+pub append-requires-clause-there : goal.append-requires-clause-there
+append-requires-clause-there c =
     ap (λ (gs : Groups). has_group gs c.args.group.0) c.loop-place.invariant.groups
     ∙ ap (λ o. is_some (option_and_then (λ x. x) o))
     (put_at c.args.self.now.groups c.args.group.0 (take c.loop-place.place c.args.children.now) c.requires.empty)
 
-pub insert-requires-clause-known : goal.insert-requires-clause-known
-insert-requires-clause-known c =
+pub append-requires-clause-known : goal.append-requires-clause-known
+append-requires-clause-known c =
     let low = c.requires.known c.loop-place.place (record { 0 = 0 }) c.loop-place-test.true in
     let same = c.loop-place.invariant.monitors in
     omega (arith, low, same)
 
-pub insert-requires-clause-place : goal.insert-requires-clause-place
-insert-requires-clause-place c =
+pub append-requires-clause-place : goal.append-requires-clause-place
+append-requires-clause-place c =
     let xs = c.args.children.now in
     let k = c.loop-place.place in
     let e = ap (λ (gs : Groups). length (children_at gs c.args.group.0)) c.loop-place.invariant.groups
@@ -36,8 +36,8 @@ insert-requires-clause-place c =
     let long = length-take k xs in
     omega (arith, e, long)
 
-pub insert-requires-clause-fresh : goal.insert-requires-clause-fresh
-insert-requires-clause-fresh c =
+pub append-requires-clause-fresh : goal.append-requires-clause-fresh
+append-requires-clause-fresh c =
     let xs = c.args.children.now in
     let k = c.loop-place.place in
     let first : MonitorId = record { 0 = 0 } in
@@ -46,8 +46,8 @@ insert-requires-clause-fresh c =
     c.requires.empty)
     ∙ put_fresh xs k first c.requires.once c.loop-place-test.true
 
-pub insert-requires-clause-room : goal.insert-requires-clause-room
-insert-requires-clause-room c =
+pub append-requires-clause-room : goal.append-requires-clause-room
+append-requires-clause-room c =
     let xs = c.args.children.now in
     let k = c.loop-place.place in
     let e = ap seated c.loop-place.invariant.groups
@@ -63,9 +63,9 @@ loop-place-preserved c =
     let k = c.loop-place.place in
     let first : MonitorId = record { 0 = 0 } in
     record {
-      groups = c.insert.ensures.groups ∙ ap (λ (gs : Groups). set gs c.args.group.0
+      groups = c.append.ensures.groups ∙ ap (λ (gs : Groups). set gs c.args.group.0
           (Some (insert (children_at gs c.args.group.0) k (get_or xs k first)))) c.loop-place.invariant.groups
           ∙ put_more c.args.self.now.groups c.args.group.0 k xs first c.requires.empty c.loop-place-test.true;
-      monitors = c.insert.ensures.monitors ∙ c.loop-place.invariant.monitors;
-      seats = c.insert.ensures.seats ∙ c.loop-place.invariant.seats;
+      monitors = c.append.ensures.monitors ∙ c.loop-place.invariant.monitors;
+      seats = c.append.ensures.seats ∙ c.loop-place.invariant.seats;
     }
