@@ -1,0 +1,5 @@
+pub mod CostLaws
+pub mod LineLaws
+pub mod OpeningLaws
+pub mod SessionLaws
+pub mod WakingLaws
