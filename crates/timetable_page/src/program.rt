@@ -363,12 +363,7 @@ fn write_rest<K: Sink>(
 }
 
 /// Writes the page of an archive with what its sections look up.
-fn write_parts<K: Sink>(
-    alloc: Global,
-    out: &mut K,
-    parts: &Parts<'_>,
-    most: u32,
-) -> Result<(), Cut>
+fn write_parts<K: Sink>(alloc: Global, out: &mut K, parts: &Parts<'_>, most: u32) -> Result<(), Cut>
     requires { AreParts parts.now }
     ensures put { OnOk result (IsPut parts.now.archive.now parts.now.resolved.now most (K.taken out.old) (K.taken out.new)) }
     ensures fault { IsErrOf result Cut.WriteFault → Rose (K.faults out.old) (K.faults out.new) }

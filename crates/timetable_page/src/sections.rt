@@ -232,11 +232,7 @@ fn in_order(defects: &mut Seq<Seq<Defect>>) {
 }
 
 /// The defects of each constraint, the dearest first.
-fn defects_of(
-    alloc: Global,
-    inst: &Instance,
-    values: &Values,
-) -> Result<Seq<Seq<Defect>>, NoMemory>
+fn defects_of(alloc: Global, inst: &Instance, values: &Values) -> Result<Seq<Seq<Defect>>, NoMemory>
     requires { (length values.now.deviations ≡ length inst.now.monitors) × (length values.now.costs ≡ length inst.now.monitors) }
 {
     let PageSolution {
@@ -267,7 +263,13 @@ fn below(alloc: Global, view: &View<'_>, values: &Values) -> Result<Text, NoMemo
 {
     let defects = defects_of(alloc, view.inst, values)?;
     let mut page = Text::new(alloc);
-    push_below(alloc, &mut page, view, &defects, values.deviations.as_slice())?;
+    push_below(
+        alloc,
+        &mut page,
+        view,
+        &defects,
+        values.deviations.as_slice(),
+    )?;
     Ok(page)
 }
 
