@@ -1,5 +1,5 @@
 -- What a line makes of a session whose engine is woken for it.
-use Rattle.std.proofs.Common.{ℕ, ◌≡◌, ◌+◌, ◌++◌, ◌∙◌, Some, List, [], ap, refl, subst, sym}
+use Rattle.std.proofs.Common.{ℕ, ◌≡◌, ◌+◌, ◌++◌, ◌∙◌, Some, List, [], ap, subst, sym}
 use Rattle.std.proofs.lemmas.Option.{same_Some}
 use Rattle.khe_io.specs.Faults.{Took}
 use Rattle.khe_engine.specs.Resting.{world_of}
@@ -10,7 +10,7 @@ use Rattle.talk_run.specs.Answers.{answered, archive_bytes, turned}
 use Rattle.talk_run.specs.Lines.{talk_reading}
 use Rattle.talk_run.specs.Sent.{IsSame}
 use Rattle.xhstt_shape.specs.declared.records.Archive.{Archive}
-use Rattle.khe_session.specs.States.{IsLined, SessionState, blank, lined, nothing, state_in}
+use Rattle.khe_session.specs.States.{IsLined, SessionState, blank, nothing, state_in}
 use Rattle.khe_session.specs.declared.resting.Kept.{Kept}
 use Rattle.khe_session.proofs.SessionLaws.{answered_as}
 
@@ -29,8 +29,7 @@ lined_at p number lines n k k2 line answer w2 next parts rests same played told 
     let play : play_of (world_of p k2.rest) ≡ turned p (play_of (world_of p k.rest)) (talk_reading line) =
     ap play_of at ∙ played in
     let state : Archive → Play → ℕ → SessionState =
-    λ a y m. record { archive = a; solution = number; parts = p; play = y; lines = m } in
-    (
+    λ a y m. record { archive = a; solution = number; parts = p; play = y; lines = m } in (
       ap Some (ap (λ a. state a (play_of (world_of p k2.rest)) n) (same p nothing)
           ∙ ap (λ y. state (blank k.archive number p) y n) play
           ∙ ap (λ m. state (blank k.archive number p)

@@ -1,5 +1,5 @@
 -- What a session keeps, before it is woken and after it rests again.
-use Rattle.std.proofs.Common.{ℕ, ◌≡◌, ◌∙◌, Option, None, Some, List, ap, refl, slice_get, subst, sym}
+use Rattle.std.proofs.Common.{ℕ, ◌≡◌, ◌∙◌, Option, None, Some, List, ap, slice_get, subst, sym}
 use Rattle.std.specs.Prelude.{◌-◌, ◌^◌}
 use Rattle.khe_base.specs.declared.sums.Totals.{Totals}
 use Rattle.khe_engine.specs.Resting.{FitsIn, world_of}

@@ -14,16 +14,16 @@ use Rattle.talk_run.specs.Lines.{talk_reading}
 use Rattle.xhstt_shape.specs.declared.records.Archive.{Archive}
 use Rattle.khe_session.specs.declared.resting.Kept.{Kept}
 
--- an archive without a timetable in place of its solution with a number: of whatever timetable takes that place next the
--- same comes as of the archive itself
+-- an archive without a timetable in place of its solution with a number: of whatever timetable takes that place next
+-- the same comes as of the archive itself
 abbrev pub nothing : Plain
 nothing = record { meets = []; tasks = []; detached = []; groups = [] }
 
 abbrev pub blank : Archive → ℕ → Parts → Archive
 blank a number p = respelled a number p nothing
 
--- the archive without a timetable in place of the solution, the number of the solution over all groups, the instance, the
--- state with the marks, and how many lines were answered
+-- the archive without a timetable in place of the solution, the number of the solution over all groups, the instance,
+-- the state with the marks, and how many lines were answered
 pub record SessionState : Type 0 where
   pub archive : Archive
   pub solution : ℕ

@@ -51,11 +51,12 @@ pub fn open(alloc: Global, bytes: &[u8], solution: u32) -> Result<Session, Unope
 }
 
 impl Session {
-    /// Carries out a line, without its line feed, and puts its answer in place of what a list had: that of `khe-talk` to
-    /// the line, without the full stop that ends it. A line that is refused or has no reading is answered too.
+    /// Carries out a line, without its line feed, and puts its answer in place of what a list had: that of
+    /// `khe-talk` to the line, without the full stop that ends it. A line that is refused or has no reading is
+    /// answered too.
     ///
-    /// After `NoMemory` the session is spent, and with `Spent` it is as it was. After either the list is empty. It takes
-    /// the time of the answer, and memory for it.
+    /// After `NoMemory` the session is spent, and with `Spent` it is as it was. After either the list is empty. It
+    /// takes the time of the answer, and memory for it.
     pub fn line(
         &mut self,
         alloc: Global,

@@ -23,6 +23,16 @@ use khe_told::{Edit, Family};
 use resource_match::choices::Costs;
 use std::alloc::Global;
 
+/// What was read of the tasks and the preferences, and the resources that are asked for.
+#[derive(Clone, Copy)]
+struct Reads<'a> {
+    /// What each task is like.
+    read: &'a [Likeness],
+    /// The numbers of the monitors of preferred resources.
+    numbers: &'a [u32],
+    resources: &'a [ResourceId],
+}
+
 /// What the timetable costs.
 fn totals<F: Family>(engine: &Engine<'_, F>) -> Totals
     ensures is { result ≡ totals engine.now.parts engine.now.state }
@@ -88,33 +98,31 @@ fn lead<F: Family>(
     alloc: Global,
     engine: &Engine<'_, F>,
     pairs: &[Totals],
-    read: &[Likeness],
+    reads: &Reads<'_>,
     first: usize,
     place: usize,
     kept: Option<Leader>,
-    numbers: &[u32],
-    resources: &[ResourceId],
 ) -> Result<Leader, NoMemory>
-    requires numbers { numbers.now ≡ preferences engine.now.parts }
-    requires read { All (IsReadFrom engine.now.parts engine.now.state.slots) read.now }
-    requires ready { AreReady engine.now.parts resources.now engine.now.state.slots (tasks_of read.now) }
-    requires place { place < length read.now }
+    requires numbers { reads.now.numbers.now ≡ preferences engine.now.parts }
+    requires read { All (IsReadFrom engine.now.parts engine.now.state.slots) reads.now.read.now }
+    requires ready { AreReady engine.now.parts reads.now.resources.now engine.now.state.slots (tasks_of reads.now.read.now) }
+    requires place { place < length reads.now.read.now }
     requires first { first < place }
-    requires single { (slice_index_or read.now first no_likeness).single ≡ true }
-    requires pairs { pairs.now ≡ flat_map (row engine.now.parts engine.now.state resources.now) (take place (tasks_of read.now)) }
+    requires single { (slice_index_or reads.now.read.now first no_likeness).single ≡ true }
+    requires pairs { pairs.now ≡ flat_map (row engine.now.parts engine.now.state reads.now.resources.now) (take place (tasks_of reads.now.read.now)) }
     requires small { All IsSmall pairs.now }
-    requires kept { IfSome kept (IsKept engine.now.parts engine.now.state resources.now) }
-    ensures kept { IfOk result (IsKept engine.now.parts engine.now.state resources.now) }
-    ensures task { IfOk result (λ x. x.task ≡ (slice_index_or read.now first no_likeness).task) }
+    requires kept { IfSome kept (IsKept engine.now.parts engine.now.state reads.now.resources.now) }
+    ensures kept { IfOk result (IsKept engine.now.parts engine.now.state reads.now.resources.now) }
+    ensures task { IfOk result (λ x. x.task ≡ (slice_index_or reads.now.read.now first no_likeness).task) }
 {
-    let of = &read[first];
+    let of = &reads.read[first];
     if let Some(leader) = kept {
         if is_task(leader.task, of.task) {
             return Ok(leader);
         }
     }
-    let asked = row_at(pairs, first, resources.len());
-    leader_of(alloc, engine, asked, of, numbers, resources)
+    let asked = row_at(pairs, first, reads.resources.len());
+    leader_of(alloc, engine, asked, of, reads.numbers, reads.resources)
 }
 
 /// Adds what a task would cost with each of these resources given to it alone, by an earlier task that is alike, and
@@ -123,40 +131,36 @@ fn push_like<F: Family>(
     alloc: Global,
     engine: &mut Engine<'_, F>,
     pairs: &mut Seq<Totals>,
-    read: &[Likeness],
+    reads: &Reads<'_>,
     first: usize,
     place: usize,
     kept: Option<Leader>,
-    numbers: &[u32],
-    resources: &[ResourceId],
 ) -> Result<Leader, NoMemory>
-    requires numbers { numbers.now ≡ preferences engine.old.parts }
-    requires read { All (IsReadFrom engine.old.parts engine.old.state.slots) read.now }
-    requires ready { AreReady engine.old.parts resources.now engine.old.state.slots (tasks_of read.now) }
-    requires some { 0 < length resources.now }
-    requires place { place < length read.now }
+    requires numbers { reads.now.numbers.now ≡ preferences engine.old.parts }
+    requires read { All (IsReadFrom engine.old.parts engine.old.state.slots) reads.now.read.now }
+    requires ready { AreReady engine.old.parts reads.now.resources.now engine.old.state.slots (tasks_of reads.now.read.now) }
+    requires some { 0 < length reads.now.resources.now }
+    requires place { place < length reads.now.read.now }
     requires first { first < place }
-    requires like { AreLike (slice_index_or read.now first no_likeness) (slice_index_or read.now place no_likeness) }
-    requires pairs { pairs.old ≡ flat_map (row engine.old.parts engine.old.state resources.now) (take place (tasks_of read.now)) }
+    requires like { AreLike (slice_index_or reads.now.read.now first no_likeness) (slice_index_or reads.now.read.now place no_likeness) }
+    requires pairs { pairs.old ≡ flat_map (row engine.old.parts engine.old.state reads.now.resources.now) (take place (tasks_of reads.now.read.now)) }
     requires small { All IsSmall pairs.old }
-    requires kept { IfSome kept (IsKept engine.old.parts engine.old.state resources.now) }
-    ensures pairs { OnOk result (pairs.new ≡ flat_map (row engine.old.parts engine.old.state resources.now) (take (place + 1) (tasks_of read.now))) }
+    requires kept { IfSome kept (IsKept engine.old.parts engine.old.state reads.now.resources.now) }
+    ensures pairs { OnOk result (pairs.new ≡ flat_map (row engine.old.parts engine.old.state reads.now.resources.now) (take (place + 1) (tasks_of reads.now.read.now))) }
     ensures small { All IsSmall pairs.new }
-    ensures kept { IfOk result (IsKept engine.old.parts engine.old.state resources.now) }
+    ensures kept { IfOk result (IsKept engine.old.parts engine.old.state reads.now.resources.now) }
     ensures same { engine.new ≡ engine.old }
 {
     let asked = pairs.as_slice();
-    let leader = lead(
-        alloc, engine, asked, read, first, place, kept, numbers, resources,
-    )?;
+    let leader = lead(alloc, engine, asked, reads, first, place, kept)?;
     push_led(
         alloc,
         engine,
         pairs,
-        &read[place],
+        &reads.read[place],
         &leader,
-        numbers,
-        resources,
+        reads.numbers,
+        reads.resources,
     )?;
     Ok(leader)
 }
@@ -175,32 +179,28 @@ fn push_task<F: Family>(
     alloc: Global,
     engine: &mut Engine<'_, F>,
     pairs: &mut Seq<Totals>,
-    read: &[Likeness],
+    reads: &Reads<'_>,
     place: usize,
     kept: Option<Leader>,
-    numbers: &[u32],
-    resources: &[ResourceId],
 ) -> Result<Option<Leader>, NoMemory>
-    requires numbers { numbers.now ≡ preferences engine.old.parts }
-    requires read { All (IsReadFrom engine.old.parts engine.old.state.slots) read.now }
-    requires ready { AreReady engine.old.parts resources.now engine.old.state.slots (tasks_of read.now) }
-    requires place { place < length read.now }
-    requires pairs { pairs.old ≡ flat_map (row engine.old.parts engine.old.state resources.now) (take place (tasks_of read.now)) }
+    requires numbers { reads.now.numbers.now ≡ preferences engine.old.parts }
+    requires read { All (IsReadFrom engine.old.parts engine.old.state.slots) reads.now.read.now }
+    requires ready { AreReady engine.old.parts reads.now.resources.now engine.old.state.slots (tasks_of reads.now.read.now) }
+    requires place { place < length reads.now.read.now }
+    requires pairs { pairs.old ≡ flat_map (row engine.old.parts engine.old.state reads.now.resources.now) (take place (tasks_of reads.now.read.now)) }
     requires small { All IsSmall pairs.old }
-    requires kept { IfSome kept (IsKept engine.old.parts engine.old.state resources.now) }
-    ensures pairs { OnOk result (pairs.new ≡ flat_map (row engine.old.parts engine.old.state resources.now) (take (place + 1) (tasks_of read.now))) }
+    requires kept { IfSome kept (IsKept engine.old.parts engine.old.state reads.now.resources.now) }
+    ensures pairs { OnOk result (pairs.new ≡ flat_map (row engine.old.parts engine.old.state reads.now.resources.now) (take (place + 1) (tasks_of reads.now.read.now))) }
     ensures small { All IsSmall pairs.new }
-    ensures kept { IfOk result (λ kept. IfSome kept (IsKept engine.old.parts engine.old.state resources.now)) }
+    ensures kept { IfOk result (λ kept. IfSome kept (IsKept engine.old.parts engine.old.state reads.now.resources.now)) }
     ensures same { engine.new ≡ engine.old }
 {
-    let first = first_like(read, place);
-    if is_led(first, place, resources) {
-        let leader = push_like(
-            alloc, engine, pairs, read, first, place, kept, numbers, resources,
-        )?;
+    let first = first_like(reads.read, place);
+    if is_led(first, place, reads.resources) {
+        let leader = push_like(alloc, engine, pairs, reads, first, place, kept)?;
         Ok(Some(leader))
     } else {
-        push_row(engine, pairs, read[place].task, resources)?;
+        push_row(engine, pairs, reads.read[place].task, reads.resources)?;
         Ok(kept)
     }
 }
@@ -209,23 +209,19 @@ fn push_task<F: Family>(
 fn pairs_with<F: Family>(
     alloc: Global,
     engine: &mut Engine<'_, F>,
-    read: &[Likeness],
-    numbers: &[u32],
-    resources: &[ResourceId],
+    reads: &Reads<'_>,
 ) -> Result<Seq<Totals>, NoMemory>
-    requires numbers { numbers.now ≡ preferences engine.old.parts }
-    requires read { All (IsReadFrom engine.old.parts engine.old.state.slots) read.now }
-    requires ready { AreReady engine.old.parts resources.now engine.old.state.slots (tasks_of read.now) }
-    ensures pairs { IfOk result (λ pairs. pairs ≡ flat_map (row engine.old.parts engine.old.state resources.now) (tasks_of read.now)) }
+    requires numbers { reads.now.numbers.now ≡ preferences engine.old.parts }
+    requires read { All (IsReadFrom engine.old.parts engine.old.state.slots) reads.now.read.now }
+    requires ready { AreReady engine.old.parts reads.now.resources.now engine.old.state.slots (tasks_of reads.now.read.now) }
+    ensures pairs { IfOk result (λ pairs. pairs ≡ flat_map (row engine.old.parts engine.old.state reads.now.resources.now) (tasks_of reads.now.read.now)) }
     ensures small { IfOk result (All IsSmall) }
     ensures same { engine.new ≡ engine.old }
 {
     let mut pairs = Seq::new(alloc);
     let mut kept = None;
-    for place in 0..read.len() {
-        kept = push_task(
-            alloc, engine, &mut pairs, read, place, kept, numbers, resources,
-        )?;
+    for place in 0..reads.read.len() {
+        kept = push_task(alloc, engine, &mut pairs, reads, place, kept)?;
     }
     Ok(pairs)
 }
@@ -251,7 +247,12 @@ fn pairs_of<F: Family>(
     let (read, numbers) = both(read, numbers)?;
     let known = read.as_slice();
     let wanted = numbers.as_slice();
-    pairs_with(alloc, engine, known, wanted, resources)
+    let reads = Reads {
+        read: known,
+        numbers: wanted,
+        resources,
+    };
+    pairs_with(alloc, engine, &reads)
 }
 
 /// A cost for each of so many tasks.

@@ -1,5 +1,5 @@
 -- The instance that is taken is that of the solution.
-use Rattle.std.proofs.Common.{◌≡◌, sym, subst, ◌∙◌}
+use Rattle.std.proofs.Common.{sym, subst, ◌∙◌}
 use Rattle.std.proofs.lemmas.Option.{same_Some, slice_get_within}
 use Rattle.archive_reading.specs.Starting.{start_of}
 use Rattle.khe_instance.specs.States.{IsValid}

@@ -9,12 +9,11 @@ kept_after-requires-clause-fits g c =
     (sym c.take.ensures.value ∙ c.in-Some.is) c.requires.rests
 
 pub returns-then-lines-eq18446744073709551615-clause-spent : goal.returns-then-lines-eq18446744073709551615-clause-spent
-returns-then-lines-eq18446744073709551615-clause-spent g c = λ is.
-    (
-      full_spent c.args.inst.now c.args.solution c.args.lines.now c.args.kept.now
-          c.if-lines-eq18446744073709551615.true,
-      refl,
-    )
+returns-then-lines-eq18446744073709551615-clause-spent g c = λ is. (
+  full_spent c.args.inst.now c.args.solution c.args.lines.now c.args.kept.now
+      c.if-lines-eq18446744073709551615.true,
+  refl,
+)
 
 pub returns-in-Ok-clause-rests : goal.returns-in-Ok-clause-rests
 returns-in-Ok-clause-rests g c =
@@ -42,8 +41,7 @@ returns-in-None-clause-rests g c =
 pub returns-in-None-clause-spent : goal.returns-in-None-clause-spent
 returns-in-None-clause-spent g c = λ is.
     let p = c.args.inst.now in
-    let none = sym c.take.ensures.value ∙ c.in-None.is in
-    (
+    let none = sym c.take.ensures.value ∙ c.in-None.is in (
       none_spent p c.args.solution c.args.lines.now c.args.kept.now none,
       none_same p c.args.solution c.args.lines.now c.args.kept.now c.take.new.self none c.take.ensures.after,
     )

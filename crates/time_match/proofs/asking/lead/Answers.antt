@@ -10,8 +10,8 @@ pub row_at-asked-requires : goal.row_at-asked-requires
 row_at-asked-requires g c =
     let p = c.args.engine.now.parts in
     let b = c.args.engine.now.state in
-    let rs = c.args.resources.now in
-    let read = c.args.read.now in
+    let rs = c.args.reads.now.resources.now in
+    let read = c.args.reads.now.read.now in
     wide_enough p b rs read c.args.place c.args.first c.args.pairs.now c.requires.place c.requires.first
     c.requires.pairs
 
@@ -19,8 +19,8 @@ pub leader_of-requires-clause-asked : goal.leader_of-requires-clause-asked
 leader_of-requires-clause-asked g c =
     let p = c.args.engine.now.parts in
     let b = c.args.engine.now.state in
-    let rs = c.args.resources.now in
-    let read = c.args.read.now in
+    let rs = c.args.reads.now.resources.now in
+    let read = c.args.reads.now.read.now in
     asked_is p b rs read c.args.place c.args.first c.args.pairs.now c.row_at-asked.result.now c.requires.place
     c.requires.first c.requires.pairs c.row_at-asked.ensures
 
@@ -38,12 +38,12 @@ pub leader_of-requires-clause-bare : goal.leader_of-requires-clause-bare
 leader_of-requires-clause-bare g c =
     let l = c.requires.place in
     let h = c.requires.first in
-    bare_at c.args.engine.now.parts c.args.resources.now c.args.engine.now.state.slots c.args.read.now c.args.first
+    bare_at c.args.engine.now.parts c.args.reads.now.resources.now c.args.engine.now.state.slots c.args.reads.now.read.now c.args.first
     c.requires.ready (omega (arith, l, h))
 
 pub leader_of-requires-clause-accepted : goal.leader_of-requires-clause-accepted
 leader_of-requires-clause-accepted g c =
     let l = c.requires.place in
     let h = c.requires.first in
-    may_at c.args.engine.now.parts c.args.resources.now c.args.engine.now.state.slots c.args.read.now c.args.first
+    may_at c.args.engine.now.parts c.args.reads.now.resources.now c.args.engine.now.state.slots c.args.reads.now.read.now c.args.first
     c.requires.ready (omega (arith, l, h))

@@ -9,8 +9,8 @@ use Rattle.time_match.proofs.asking.pairs_with.Given as goal
 abbrev pub invariant-loop-place : goal.invariant-loop-place
 invariant-loop-place g l = record {
   pairs : l.pairs
-      ≡ flat_map (row l.fn.engine.parts l.fn.engine.state l.resources) (take l.place (tasks_of l.read));
+      ≡ flat_map (row l.fn.engine.parts l.fn.engine.state l.fn.reads.resources.now) (take l.place (tasks_of l.fn.reads.read.now));
   small : All IsSmall l.pairs;
   same : l.engine ≡ l.fn.engine;
-  kept : IfSome l.kept (IsKept l.fn.engine.parts l.fn.engine.state l.resources);
+  kept : IfSome l.kept (IsKept l.fn.engine.parts l.fn.engine.state l.fn.reads.resources.now);
 }

@@ -9,20 +9,20 @@ push_led-requires-clause-like g c = c.requires.read c.args.place no_likeness c.r
 
 pub push_led-requires-clause-bare : goal.push_led-requires-clause-bare
 push_led-requires-clause-bare g c =
-    bare_at c.args.engine.now.parts c.args.resources.now c.args.engine.now.state.slots c.args.read.now c.args.place
+    bare_at c.args.engine.now.parts c.args.reads.now.resources.now c.args.engine.now.state.slots c.args.reads.now.read.now c.args.place
     c.requires.ready c.requires.place
 
 pub push_led-requires-clause-accepted : goal.push_led-requires-clause-accepted
 push_led-requires-clause-accepted g c =
-    may_at c.args.engine.now.parts c.args.resources.now c.args.engine.now.state.slots c.args.read.now c.args.place
+    may_at c.args.engine.now.parts c.args.reads.now.resources.now c.args.engine.now.state.slots c.args.reads.now.read.now c.args.place
     c.requires.ready c.requires.place
 
 pub push_led-requires-clause-exchanged : goal.push_led-requires-clause-exchanged
 push_led-requires-clause-exchanged g c =
     let p = c.args.engine.now.parts in
     let b = c.args.engine.now.state in
-    let rs = c.args.resources.now in
-    let read = c.args.read.now in
+    let rs = c.args.reads.now.resources.now in
+    let read = c.args.reads.now.read.now in
     let l = c.requires.place in
     let h = c.requires.first in
     let x = get_or read c.args.first no_likeness in
@@ -38,7 +38,7 @@ pub returns-clause-pairs : goal.returns-clause-pairs
 returns-clause-pairs g c =
     let p = c.args.engine.now.parts in
     let b = c.args.engine.now.state in
-    let rs = c.args.resources.now in
-    let read = c.args.read.now in
+    let rs = c.args.reads.now.resources.now in
+    let read = c.args.reads.now.read.now in
     row_next_at p b rs read c.args.place c.args.pairs.now c.push_led.new.pairs c.requires.place c.requires.pairs
     c.in_ok-push_led.ensures.row
