@@ -12,6 +12,7 @@ use Rattle.khe_app.specs.Ends.{Holdings, IsDecided, IsEnd, LacksOf, Written}
 use Rattle.khe_app.specs.Outcome.{IsOutcomeOf}
 use Rattle.archive_reading.specs.Starting.{Start, begins, barred, start_of}
 use Rattle.archive_reading.specs.Reading.{Reading, evaluable, refused}
+use Rattle.archive_reading.specs.Refusals.{refusal_line}
 use Rattle.khe_app.specs.Outcome.{IsRepairIn, IsRepairOf, IsRepairTo}
 use Rattle.khe_app.specs.Words.{repairing}
 use Rattle.khe_app.specs.declared.program.Answer.{Answer}
@@ -128,3 +129,20 @@ pub barred_text : (a : Archive) (number depth budget : ℕ) (s : Start) (status 
     → IsRepairOf a number depth budget (barred r) status text → IsRepairOf a number depth budget s status text
 barred_text a number depth budget s status text r e h =
     subst (λ x. IsRepairOf a number depth budget x status text) (sym e) h
+
+-- the line that refuses the solution
+pub barred_repair : (a : Archive) (number depth budget : ℕ) (s : Start) (before after : Option (List ℕ))
+    (sink sink2 result : ℕ)
+    → ((result ≡ 6) × (after ≡ before)) ⊎ ((why : Refusal) × (s ≡ barred why)
+    × Written before after sink sink2 (encode_utf8_all (refusal_line why)) 3 result)
+    → ((result ≡ 6) × (after ≡ before)) ⊎ ((status : ℕ) × (text : List ℕ)
+    × IsRepairOf a number depth budget s status text
+    × Written before after sink sink2 (encode_utf8_all text) status result)
+barred_repair a number depth budget s before after sink sink2 result (inl w) = inl w
+barred_repair a number depth budget s before after sink sink2 result (inr (why, is, w)) =
+    inr (
+      3,
+      refusal_line why,
+      subst (λ x. IsRepairOf a number depth budget x 3 (refusal_line why)) (sym is) (refl, refl),
+      w,
+    )

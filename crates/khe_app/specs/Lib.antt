@@ -3,5 +3,6 @@ pub mod Ends
 pub mod Lines
 pub mod Outcome
 pub mod Report
+pub mod ReportParts
 pub mod Requests
 pub mod Words

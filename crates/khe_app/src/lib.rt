@@ -4,11 +4,13 @@
 
 mod checking;
 mod constructing;
+mod crews;
 mod making;
 mod matching;
 mod outcomes;
 mod program;
 mod repairing;
+mod report_parts;
 mod reports;
 mod scripts;
 mod solving;

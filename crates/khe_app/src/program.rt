@@ -9,17 +9,20 @@ ghost use Rattle.khe_app.specs.Ends.{EndedBy, CutOff, Holdings, LacksArchive, La
 ghost use Rattle.khe_app.specs.Outcome.{status_of, text_of};
 ghost use Rattle.archive_reading.specs.Reading.{IsReadingOf};
 ghost use Rattle.archive_reading.specs.Refusals as refusals;
+ghost use Rattle.archive_reading.specs.Starting.{IsBarredBy, Start, barred};
+ghost use Rattle.archive_reading.specs.declared.refusals.Refusal.{Refusal as Why};
 ghost use Rattle.khe_app.specs.Lines as lines;
 ghost use Rattle.khe_app.specs.Words.{asked, evaluating, is_read, scripting};
 
 use crate::checking::check;
 use crate::constructing::construct;
+use crate::crews::Crew;
 use crate::making::{make, make_run};
 use crate::matching::{Wanted, match_tasks};
-use crate::repairing::repair;
+use crate::repairing::{Repairing, repair};
 use crate::reports::report;
 use crate::scripts::play_script;
-use crate::solving::solve;
+use crate::solving::{Solving, solve};
 use crate::starting::{Begun, start};
 use crate::words::{Request, request_of};
 use archive_reading::{ReadArchive, Refusal, Unread, read, refusal_line};
@@ -220,7 +223,10 @@ fn respond<R: Threads + Sync, S: Shelf, K: Sink, G: Gate>(
                 all,
                 workers,
             },
-        ) => evaluate(rt, alloc, shelf, out, gate, archive, all, workers),
+        ) => {
+            let crew = Crew { rt, gate, workers };
+            evaluate(alloc, shelf, out, &crew, archive, all)
+        }
         Some(
             Request::Script {
                 archive,
@@ -237,7 +243,14 @@ fn respond<R: Threads + Sync, S: Shelf, K: Sink, G: Gate>(
                 depth,
                 budget,
             },
-        ) => repair(alloc, shelf, out, archive, solution, depth, budget),
+        ) => {
+            let asked = Repairing {
+                solution,
+                depth,
+                budget,
+            };
+            repair(alloc, shelf, out, archive, asked)
+        }
         Some(
             Request::Solve {
                 archive,
@@ -247,9 +260,16 @@ fn respond<R: Threads + Sync, S: Shelf, K: Sink, G: Gate>(
                 jobs,
                 workers,
             },
-        ) => solve(
-            rt, alloc, shelf, out, gate, archive, solution, depth, budget, jobs, workers,
-        ),
+        ) => {
+            let crew = Crew { rt, gate, workers };
+            let asked = Solving {
+                solution,
+                depth,
+                budget,
+                jobs,
+            };
+            solve(alloc, shelf, out, &crew, archive, asked)
+        }
         Some(
             Request::Match {
                 archive,
@@ -278,6 +298,20 @@ fn respond<R: Threads + Sync, S: Shelf, K: Sink, G: Gate>(
         Some(Request::Make { seed, size }) => make(alloc, out, seed, size),
         Some(Request::Run { seed, size }) => make_run(alloc, out, seed, size),
         None => refuse_words(out),
+    }
+}
+
+/// Writes the line that refuses a solution; or nothing, where memory ran out before.
+pub(crate) fn put_unread<K: Sink>(alloc: Global, out: &mut K, unread: Unread) -> Status
+    requires { (s : Start) × IsBarredBy s unread }
+    ensures written { (s : Start) → IsBarredBy s unread → ((result.0 ≡ 6) × (K.taken out.new ≡ K.taken out.old)) ⊎ ((why : Why) × (s ≡ barred why)
+        × Written (K.taken out.old) (K.taken out.new) (K.faults out.old) (K.faults out.new) (encode_utf8_all (refusals.refusal_line why)) 3 result.0) }
+    ensures write_fault_ends { (result.0 ≡ 5) ⊎ (K.faults out.new ≡ K.faults out.old) }
+    ensures sink_faults { K.faults out.old ≤ K.faults out.new }
+{
+    match unread {
+        Unread::Refused(refusal) => put_refusal(alloc, out, refusal),
+        Unread::NoMemory => Status(6),
     }
 }
 
@@ -311,16 +345,14 @@ fn script_too_large() -> &'static [u8]
 /// end of a process.
 #[tactic(auto, using(crate::proofs::EndsLemmas::end_starved, crate::proofs::EndsLemmas::end_stopped, crate::proofs::EndsLemmas::report_lacks))]
 fn evaluate<R: Threads + Sync, S: Shelf, K: Sink, G: Gate>(
-    rt: &R,
     alloc: Global,
     shelf: &mut S,
     out: &mut K,
-    gate: &G,
+    crew: &Crew<'_, R, G>,
     name: &str,
     all: bool,
-    workers: u32,
 ) -> Status
-    requires { (1 ≤ workers) × (workers ≤ WORKERS) }
+    requires { (1 ≤ crew.now.workers) × (crew.now.workers ≤ WORKERS) }
     ensures end { IsEnd (Some (evaluating name.now all)) (S.holdings shelf.old) (S.is_sound shelf.old) (S.faults shelf.old) (S.faults shelf.new) (K.taken out.old) (K.taken out.new) (K.faults out.old) (K.faults out.new) result.0 }
     ensures status { result.0 ≡ 2 → ⊥ }
     ensures absent { IsTrue (S.is_sound shelf.old) → IsMissing (S.holdings shelf.old) name.now → result.0 ≡ 4 }
@@ -333,7 +365,7 @@ fn evaluate<R: Threads + Sync, S: Shelf, K: Sink, G: Gate>(
 {
     match answer_to(alloc, shelf, name) {
         Ok(answer) => {
-            let status = write(rt, alloc, out, gate, &answer, all, workers);
+            let status = write(alloc, out, crew, &answer, all);
 
             // The archive was needed up to here, where the run ends: to take it apart, text by text, would cost
             // some hundredths of the time of a run.
@@ -402,32 +434,21 @@ pub fn put_refusal<K: Sink>(alloc: Global, out: &mut K, refusal: Refusal) -> Sta
 
 /// Writes the report of an archive, by so many workers, or the line that refuses it.
 fn write<R: Threads + Sync, K: Sink, G: Gate>(
-    rt: &R,
     alloc: Global,
     out: &mut K,
-    gate: &G,
+    crew: &Crew<'_, R, G>,
     answer: &Answer,
     all: bool,
-    workers: u32,
 ) -> Status
     requires ready { IsReadyAnswer answer.now }
-    requires workers { (1 ≤ workers) × (workers ≤ WORKERS) }
+    requires workers { (1 ≤ crew.now.workers) × (crew.now.workers ≤ WORKERS) }
     ensures written { Written (K.taken out.old) (K.taken out.new) (K.faults out.old) (K.faults out.new) (encode_utf8_all (text_of all (reading_of answer.now))) (status_of (reading_of answer.now)) result.0 }
     ensures write_fault_ends { (result.0 ≡ 5) ⊎ (K.faults out.new ≡ K.faults out.old) }
     ensures sink_faults { K.faults out.old ≤ K.faults out.new }
 {
     match answer {
         Answer::Read(read) => {
-            match report(
-                rt,
-                alloc,
-                out,
-                &read.archive,
-                &read.resolved,
-                all,
-                workers,
-                gate,
-            ) {
+            match report(alloc, out, crew, &read.archive, &read.resolved, all) {
                 Ok(()) => Status(0),
                 Err(Cut::WriteFault) => Status(5),
                 Err(Cut::NoMemory) => Status(6),

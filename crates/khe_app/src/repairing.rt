@@ -14,8 +14,8 @@ ghost use Rattle.archive_reading.specs.Starting.{start_of};
 ghost use Rattle.archive_reading.specs.Ready.{IsReady};
 ghost use Rattle.khe_app.specs.Words.{repairing};
 
-use crate::program::{Answer, Status, Stop, answer_to, put_refusal};
-use archive_reading::{ReadArchive, Unread, begin, instance_numbered};
+use crate::program::{Answer, Status, Stop, answer_to, put_refusal, put_unread};
+use archive_reading::{ReadArchive, begin, instance_numbered};
 use khe_base::NoMemory;
 use khe_instance::{Instance, Plain};
 use khe_io::{Shelf, Sink};
@@ -25,6 +25,17 @@ use std::alloc::Global;
 use xhstt_shape::Archive;
 use xhstt_writer::SendFault;
 
+/// Which solution is repaired, and how.
+#[derive(Clone, Copy)]
+pub(crate) struct Repairing {
+    /// The number of the solution, over all groups.
+    pub solution: u32,
+    /// The greatest number of moves of a chain, 1 to 4.
+    pub depth: u32,
+    /// How many chains may be tried, 1 to 1,000,000,000.
+    pub budget: u32,
+}
+
 /// Writes the archive under a name with the solution of a number repaired, and the line on the repair; or
 /// the line that refuses the archive or the solution.
 #[tactic(auto, using(crate::proofs::EndsLemmas::end_starved, crate::proofs::EndsLemmas::end_stopped, crate::proofs::RepairEnds::repair_lacks))]
@@ -33,13 +44,11 @@ pub(crate) fn repair<S: Shelf, K: Sink>(
     shelf: &mut S,
     out: &mut K,
     name: &str,
-    number: u32,
-    depth: u32,
-    budget: u32,
+    asked: Repairing,
 ) -> Status
-    requires depth { (1 ≤ depth) × (depth ≤ CHAIN_MOVES) }
-    requires budget { 1 ≤ budget }
-    ensures end { IsEnd (Some (repairing name.now number depth budget)) (S.holdings shelf.old) (S.is_sound shelf.old) (S.faults shelf.old) (S.faults shelf.new) (K.taken out.old) (K.taken out.new) (K.faults out.old) (K.faults out.new) result.0 }
+    requires depth { (1 ≤ asked.depth) × (asked.depth ≤ CHAIN_MOVES) }
+    requires budget { 1 ≤ asked.budget }
+    ensures end { IsEnd (Some (repairing name.now asked.solution asked.depth asked.budget)) (S.holdings shelf.old) (S.is_sound shelf.old) (S.faults shelf.old) (S.faults shelf.new) (K.taken out.old) (K.taken out.new) (K.faults out.old) (K.faults out.new) result.0 }
     ensures status { result.0 ≡ 2 → ⊥ }
     ensures absent { IsTrue (S.is_sound shelf.old) → IsMissing (S.holdings shelf.old) name.now → result.0 ≡ 4 }
     ensures holdings { S.holdings shelf.new ≡ S.holdings shelf.old }
@@ -50,31 +59,24 @@ pub(crate) fn repair<S: Shelf, K: Sink>(
     ensures sink_faults { K.faults out.old ≤ K.faults out.new }
 {
     match answer_to(alloc, shelf, name) {
-        Ok(answer) => write_repair(alloc, out, answer, number, depth, budget),
+        Ok(answer) => write_repair(alloc, out, answer, asked),
         Err(Stop::ReadFault) => Status(4),
         Err(Stop::NoMemory) => Status(6),
     }
 }
 
 /// Writes an archive with a solution repaired, or the line that refuses it.
-fn write_repair<K: Sink>(
-    alloc: Global,
-    out: &mut K,
-    answer: Answer,
-    number: u32,
-    depth: u32,
-    budget: u32,
-) -> Status
+fn write_repair<K: Sink>(alloc: Global, out: &mut K, answer: Answer, asked: Repairing) -> Status
     requires ready { IsReadyAnswer answer }
-    requires depth { (1 ≤ depth) × (depth ≤ CHAIN_MOVES) }
-    requires budget { 1 ≤ budget }
-    ensures written { ((result.0 ≡ 6) × (K.taken out.new ≡ K.taken out.old)) ⊎ ((status : ℕ) × (text : List ℕ) × IsRepairIn number depth budget (reading_of answer) status text
+    requires depth { (1 ≤ asked.depth) × (asked.depth ≤ CHAIN_MOVES) }
+    requires budget { 1 ≤ asked.budget }
+    ensures written { ((result.0 ≡ 6) × (K.taken out.new ≡ K.taken out.old)) ⊎ ((status : ℕ) × (text : List ℕ) × IsRepairIn asked.solution asked.depth asked.budget (reading_of answer) status text
         × Written (K.taken out.old) (K.taken out.new) (K.faults out.old) (K.faults out.new) (encode_utf8_all text) status result.0) }
     ensures write_fault_ends { (result.0 ≡ 5) ⊎ (K.faults out.new ≡ K.faults out.old) }
     ensures sink_faults { K.faults out.old ≤ K.faults out.new }
 {
     match answer {
-        Answer::Read(mut read) => repair_in(alloc, out, &mut read, number, depth, budget),
+        Answer::Read(mut read) => repair_in(alloc, out, &mut read, asked),
         Answer::Refused(refusal) => put_refusal(alloc, out, refusal),
     }
 }
@@ -84,34 +86,22 @@ fn repair_in<K: Sink>(
     alloc: Global,
     out: &mut K,
     read: &mut ReadArchive,
-    number: u32,
-    depth: u32,
-    budget: u32,
+    asked: Repairing,
 ) -> Status
     requires ready { IsReady read.old.archive read.old.resolved }
-    requires depth { (1 ≤ depth) × (depth ≤ CHAIN_MOVES) }
-    requires budget { 1 ≤ budget }
-    ensures written { ((result.0 ≡ 6) × (K.taken out.new ≡ K.taken out.old)) ⊎ ((status : ℕ) × (text : List ℕ) × IsRepairOf read.old.archive number depth budget (start_of read.old.archive read.old.resolved number) status text
+    requires depth { (1 ≤ asked.depth) × (asked.depth ≤ CHAIN_MOVES) }
+    requires budget { 1 ≤ asked.budget }
+    ensures written { ((result.0 ≡ 6) × (K.taken out.new ≡ K.taken out.old)) ⊎ ((status : ℕ) × (text : List ℕ) × IsRepairOf read.old.archive asked.solution asked.depth asked.budget (start_of read.old.archive read.old.resolved asked.solution) status text
         × Written (K.taken out.old) (K.taken out.new) (K.faults out.old) (K.faults out.new) (encode_utf8_all text) status result.0) }
     ensures write_fault_ends { (result.0 ≡ 5) ⊎ (K.faults out.new ≡ K.faults out.old) }
     ensures sink_faults { K.faults out.old ≤ K.faults out.new }
 {
-    match begin(alloc, &read.archive, &read.resolved, number) {
+    match begin(alloc, &read.archive, &read.resolved, asked.solution) {
         Ok((instance, plain)) => {
             let inst = instance_numbered(&read.resolved, instance);
-            put_repair(
-                alloc,
-                out,
-                &mut read.archive,
-                inst,
-                &plain,
-                number,
-                depth,
-                budget,
-            )
+            put_repair(alloc, out, &mut read.archive, inst, &plain, asked)
         }
-        Err(Unread::Refused(refusal)) => put_refusal(alloc, out, refusal),
-        Err(Unread::NoMemory) => Status(6),
+        Err(unread) => put_unread(alloc, out, unread),
     }
 }
 
@@ -122,23 +112,21 @@ fn put_repair<K: Sink>(
     archive: &mut Archive,
     inst: &Instance,
     plain: &Plain,
-    number: u32,
-    depth: u32,
-    budget: u32,
+    asked: Repairing,
 ) -> Status
     requires formed { IsWellFormed archive.old }
     requires texts { HasSpellable inst.now }
     requires valid { IsValid inst.now plain.now }
-    requires depth { (1 ≤ depth) × (depth ≤ CHAIN_MOVES) }
-    requires budget { 1 ≤ budget }
-    ensures written { ((result.0 ≡ 6) × (K.taken out.new ≡ K.taken out.old)) ⊎ ((text : List ℕ) × IsRepairText archive.old number inst.now plain.now depth budget text
+    requires depth { (1 ≤ asked.depth) × (asked.depth ≤ CHAIN_MOVES) }
+    requires budget { 1 ≤ asked.budget }
+    ensures written { ((result.0 ≡ 6) × (K.taken out.new ≡ K.taken out.old)) ⊎ ((text : List ℕ) × IsRepairText archive.old asked.solution inst.now plain.now asked.depth asked.budget text
         × Written (K.taken out.old) (K.taken out.new) (K.faults out.old) (K.faults out.new) (encode_utf8_all text) 0 result.0) }
     ensures write_fault_ends { (result.0 ≡ 5) ⊎ (K.faults out.new ≡ K.faults out.old) }
     ensures sink_faults { K.faults out.old ≤ K.faults out.new }
 {
     inst.facts();
-    match mend::<Families>(alloc, inst, plain, depth, u64::from(budget)) {
-        Ok(mended) => put_mended(alloc, out, archive, inst, &mended, number),
+    match mend::<Families>(alloc, inst, plain, asked.depth, u64::from(asked.budget)) {
+        Ok(mended) => put_mended(alloc, out, archive, inst, &mended, asked.solution),
         Err(NoMemory) => Status(6),
     }
 }

@@ -4,6 +4,7 @@ ghost use Rattle.std.specs.Prelude.{◌≡◌, ◌≤◌, ◌<◌, ◌+◌, ◌+
 ghost use Rattle.khe_io.specs.Faults.{Rose, Took, TookFront};
 ghost use Rattle.khe_io.specs.Amid.{IsAmid};
 ghost use Rattle.khe_app.specs.Report as spec;
+ghost use Rattle.khe_app.specs.ReportParts.{AreOf};
 ghost use Rattle.archive_reading.specs.Ready.{IsReady};
 ghost use Rattle.evaluation_report.specs.Lines as lines;
 ghost use Rattle.resource_deviations.specs.Sets.{room_for};
@@ -14,7 +15,9 @@ ghost use Rattle.std.specs.List.{concat, flat_map};
 ghost use Rattle.khe_base.specs.declared.limits.TheConstants.{WORKERS};
 ghost use Rattle.xhstt_references.specs.References.{solutions_of};
 
+use crate::crews::Crew;
 use crate::outcomes::Outcomes;
+use crate::report_parts::ReportParts;
 use evaluation_report::header_line;
 use khe_base::limits::PIECE_BYTES;
 use khe_base::{NoMemory, Text};
@@ -79,27 +82,21 @@ fn write_texts<K: Sink>(
     Ok(())
 }
 
-/// Writes the texts of a window while the other workers make the next one, which begins with this solution, and
-/// then helps them.
+/// Writes the texts of a window while the other workers make the next one, and then helps them.
 fn write_beside<R: Threads + Sync, K: Sink, G: Gate>(
-    rt: &R,
     alloc: Global,
     out: &mut K,
     text: &mut Text,
-    resolved: &Resolved,
-    rooms: &[ResourceRoom],
-    raws: &[&RawSolution],
-    gate: &G,
-    windows: &WindowMaker,
-    job: &Outcomes,
+    crew: &Crew<'_, R, G>,
+    parts: &ReportParts<'_, '_>,
     next: usize,
     made: &[Text],
 ) -> (Result<Window<Text>, NoMemory>, Result<(), Cut>)
-    requires ones { AreOnes resolved.now 0 (map (λ x. x.now) raws.now) }
-    requires few { length raws.now < 2 ^ 32 }
-    requires rooms { rooms.now ≡ map room_for resolved.now.instances }
-    requires within { next ≤ length raws.now }
-    ensures next { IfOk result.0 (λ w. IsWindow (flat_map (spec.row_text job.now.all resolved.now (map (λ x. x.now) job.now.groups.now))) (map (λ x. x.now) raws.now) next w.next w.made.items) }
+    requires ones { AreOnes parts.now.resolved.now 0 (map (λ x. x.now) parts.now.raws.now) }
+    requires few { length parts.now.raws.now < 2 ^ 32 }
+    requires rooms { parts.now.rooms.now ≡ map room_for parts.now.resolved.now.instances }
+    requires within { next ≤ length parts.now.raws.now }
+    ensures next { IfOk result.0 (λ w. IsWindow (flat_map (spec.row_text parts.now.all parts.now.resolved.now (map (λ x. x.now) parts.now.groups.now))) (map (λ x. x.now) parts.now.raws.now) next w.next w.made.items) }
     ensures amid { (before : Option (List ℕ)) (rest whole : List ℕ) → IsAmid before (K.taken out.old) text.old (concat made.now ++ rest) whole → OnOk result.1 (IsAmid before (K.taken out.new) text.new rest whole) }
     ensures front { (before : Option (List ℕ)) (whole : List ℕ) → ((rest : List ℕ) × IsAmid before (K.taken out.old) text.old (concat made.now ++ rest) whole) → OnErr result.1 (TookFront before (K.taken out.new) (encode_utf8_all whole)) }
     ensures fault { IsErrOf result.1 Cut.WriteFault → Rose (K.faults out.old) (K.faults out.new) }
@@ -107,39 +104,67 @@ fn write_beside<R: Threads + Sync, K: Sink, G: Gate>(
     ensures faultless_starved { IsErrOf result.1 Cut.NoMemory → K.faults out.new ≡ K.faults out.old }
     ensures counted { K.faults out.old ≤ K.faults out.new }
 {
-    windows.make_beside(
-        rt,
+    let job = Outcomes {
+        all: parts.all,
+        groups: parts.groups,
+    };
+    parts.windows.make_beside(
+        crew.rt,
         alloc,
-        job,
-        resolved,
-        rooms,
-        raws,
-        gate,
+        &job,
+        parts.resolved,
+        parts.rooms,
+        parts.raws,
+        crew.gate,
         next,
         &mut || write_texts(alloc, out, text, made),
+    )
+}
+
+/// Makes the window that begins with this solution.
+fn make_window<R: Threads + Sync, G: Gate>(
+    alloc: Global,
+    crew: &Crew<'_, R, G>,
+    parts: &ReportParts<'_, '_>,
+    first: usize,
+) -> Result<Window<Text>, NoMemory>
+    requires ones { AreOnes parts.now.resolved.now 0 (map (λ x. x.now) parts.now.raws.now) }
+    requires few { length parts.now.raws.now < 2 ^ 32 }
+    requires rooms { parts.now.rooms.now ≡ map room_for parts.now.resolved.now.instances }
+    requires within { first ≤ length parts.now.raws.now }
+    ensures { IfOk result (λ w. IsWindow (flat_map (spec.row_text parts.now.all parts.now.resolved.now (map (λ x. x.now) parts.now.groups.now))) (map (λ x. x.now) parts.now.raws.now) first w.next w.made.items) }
+{
+    let job = Outcomes {
+        all: parts.all,
+        groups: parts.groups,
+    };
+    parts.windows.make(
+        crew.rt,
+        alloc,
+        &job,
+        parts.resolved,
+        parts.rooms,
+        parts.raws,
+        crew.gate,
+        first,
     )
 }
 
 /// Writes a window and answers the next one, which ends where it begins where no solution is left. Where this thread
 /// is the only worker, it makes the next window once this one is written and dropped, so that it holds one at a time.
 fn write_and_make<R: Threads + Sync, K: Sink, G: Gate>(
-    rt: &R,
     alloc: Global,
     out: &mut K,
     text: &mut Text,
-    resolved: &Resolved,
-    rooms: &[ResourceRoom],
-    raws: &[&RawSolution],
-    gate: &G,
-    windows: &WindowMaker,
-    job: &Outcomes,
+    crew: &Crew<'_, R, G>,
+    parts: &ReportParts<'_, '_>,
     window: Window<Text>,
 ) -> Result<Window<Text>, Cut>
-    requires ones { AreOnes resolved.now 0 (map (λ x. x.now) raws.now) }
-    requires few { length raws.now < 2 ^ 32 }
-    requires rooms { rooms.now ≡ map room_for resolved.now.instances }
-    requires within { window.next ≤ length raws.now }
-    ensures next { IfOk result (λ w. IsWindow (flat_map (spec.row_text job.now.all resolved.now (map (λ x. x.now) job.now.groups.now))) (map (λ x. x.now) raws.now) window.next w.next w.made.items) }
+    requires ones { AreOnes parts.now.resolved.now 0 (map (λ x. x.now) parts.now.raws.now) }
+    requires few { length parts.now.raws.now < 2 ^ 32 }
+    requires rooms { parts.now.rooms.now ≡ map room_for parts.now.resolved.now.instances }
+    requires within { window.next ≤ length parts.now.raws.now }
+    ensures next { IfOk result (λ w. IsWindow (flat_map (spec.row_text parts.now.all parts.now.resolved.now (map (λ x. x.now) parts.now.groups.now))) (map (λ x. x.now) parts.now.raws.now) window.next w.next w.made.items) }
     ensures amid { (before : Option (List ℕ)) (rest whole : List ℕ) → IsAmid before (K.taken out.old) text.old (concat window.made.items ++ rest) whole → OnOk result (IsAmid before (K.taken out.new) text.new rest whole) }
     ensures front { (before : Option (List ℕ)) (rest whole : List ℕ) → IsAmid before (K.taken out.old) text.old (concat window.made.items ++ rest) whole → OnErr result (TookFront before (K.taken out.new) (encode_utf8_all whole)) }
     ensures fault { IsErrOf result Cut.WriteFault → Rose (K.faults out.old) (K.faults out.new) }
@@ -148,16 +173,14 @@ fn write_and_make<R: Threads + Sync, K: Sink, G: Gate>(
     ensures counted { K.faults out.old ≤ K.faults out.new }
 {
     let Window { next, made } = window;
-    if windows.workers() == 1 {
+    if parts.windows.workers() == 1 {
         write_texts(alloc, out, text, made.as_slice())?;
         drop(made);
-        let later = windows.make(rt, alloc, job, resolved, rooms, raws, gate, next)?;
+        let later = make_window(alloc, crew, parts, next)?;
         return Ok(later);
     }
     let made = made.as_slice();
-    let (later, written) = write_beside(
-        rt, alloc, out, text, resolved, rooms, raws, gate, windows, job, next, made,
-    );
+    let (later, written) = write_beside(alloc, out, text, crew, parts, next, made);
     written?;
     let later = later?;
     Ok(later)
@@ -165,34 +188,27 @@ fn write_and_make<R: Threads + Sync, K: Sink, G: Gate>(
 
 /// Writes all solutions, window by window.
 fn write_windows<R: Threads + Sync, K: Sink, G: Gate>(
-    rt: &R,
     alloc: Global,
     out: &mut K,
     text: &mut Text,
-    resolved: &Resolved,
-    rooms: &[ResourceRoom],
-    raws: &[&RawSolution],
-    gate: &G,
-    windows: &WindowMaker,
-    job: &Outcomes,
+    crew: &Crew<'_, R, G>,
+    parts: &ReportParts<'_, '_>,
 ) -> Result<(), Cut>
-    requires ones { AreOnes resolved.now 0 (map (λ x. x.now) raws.now) }
-    requires few { length raws.now < 2 ^ 32 }
-    requires rooms { rooms.now ≡ map room_for resolved.now.instances }
-    ensures amid { (before : Option (List ℕ)) (whole : List ℕ) → IsAmid before (K.taken out.old) text.old (spec.left_text job.now.all resolved.now (map (λ x. x.now) job.now.groups.now) 0 (map (λ x. x.now) raws.now)) whole → OnOk result (IsAmid before (K.taken out.new) text.new [] whole) }
-    ensures front { (before : Option (List ℕ)) (whole : List ℕ) → IsAmid before (K.taken out.old) text.old (spec.left_text job.now.all resolved.now (map (λ x. x.now) job.now.groups.now) 0 (map (λ x. x.now) raws.now)) whole → OnErr result (TookFront before (K.taken out.new) (encode_utf8_all whole)) }
+    requires ones { AreOnes parts.now.resolved.now 0 (map (λ x. x.now) parts.now.raws.now) }
+    requires few { length parts.now.raws.now < 2 ^ 32 }
+    requires rooms { parts.now.rooms.now ≡ map room_for parts.now.resolved.now.instances }
+    ensures amid { (before : Option (List ℕ)) (whole : List ℕ) → IsAmid before (K.taken out.old) text.old (spec.left_text parts.now.all parts.now.resolved.now (map (λ x. x.now) parts.now.groups.now) 0 (map (λ x. x.now) parts.now.raws.now)) whole → OnOk result (IsAmid before (K.taken out.new) text.new [] whole) }
+    ensures front { (before : Option (List ℕ)) (whole : List ℕ) → IsAmid before (K.taken out.old) text.old (spec.left_text parts.now.all parts.now.resolved.now (map (λ x. x.now) parts.now.groups.now) 0 (map (λ x. x.now) parts.now.raws.now)) whole → OnErr result (TookFront before (K.taken out.new) (encode_utf8_all whole)) }
     ensures fault { IsErrOf result Cut.WriteFault → Rose (K.faults out.old) (K.faults out.new) }
     ensures faultless { OnOk result (K.faults out.new ≡ K.faults out.old) }
     ensures faultless_starved { IsErrOf result Cut.NoMemory → K.faults out.new ≡ K.faults out.old }
     ensures counted { K.faults out.old ≤ K.faults out.new }
 {
     let mut first = 0;
-    let mut window = windows.make(rt, alloc, job, resolved, rooms, raws, gate, first)?;
+    let mut window = make_window(alloc, crew, parts, first)?;
     while first < window.next {
         first = window.next;
-        window = write_and_make(
-            rt, alloc, out, text, resolved, rooms, raws, gate, windows, job, window,
-        )?;
+        window = write_and_make(alloc, out, text, crew, parts, window)?;
     }
     Ok(())
 }
@@ -207,6 +223,28 @@ fn header(alloc: Global, _archive: &Archive, resolved: &Resolved) -> Result<Text
     header_line(alloc, resolved.instances.len() as u32, solutions)
 }
 
+/// Writes the report of an archive of what its windows are made from.
+fn write_parts<R: Threads + Sync, K: Sink, G: Gate>(
+    alloc: Global,
+    out: &mut K,
+    crew: &Crew<'_, R, G>,
+    archive: &Archive,
+    parts: &ReportParts<'_, '_>,
+) -> Result<(), Cut>
+    requires ready { IsReady archive.now parts.now.resolved.now }
+    requires parts { AreOf archive.now parts.now }
+    ensures whole { OnOk result (Took (K.taken out.old) (K.taken out.new) (encode_utf8_all (spec.report parts.now.all archive.now parts.now.resolved.now))) }
+    ensures front { OnErr result (TookFront (K.taken out.old) (K.taken out.new) (encode_utf8_all (spec.report parts.now.all archive.now parts.now.resolved.now))) }
+    ensures fault { IsErrOf result Cut.WriteFault → Rose (K.faults out.old) (K.faults out.new) }
+    ensures faultless { OnOk result (K.faults out.new ≡ K.faults out.old) }
+    ensures faultless_starved { IsErrOf result Cut.NoMemory → K.faults out.new ≡ K.faults out.old }
+    ensures counted { K.faults out.old ≤ K.faults out.new }
+{
+    let mut text = header(alloc, archive, parts.resolved)?;
+    write_windows(alloc, out, &mut text, crew, parts)?;
+    flush(alloc, out, &mut text)
+}
+
 /// Writes the report of an archive: its header, and for each solution its line and what comes of it. The
 /// workers evaluate the solutions and make the text of what comes of them, window by window, and pass the gate
 /// before each of them with its number; this thread hands the texts on, which together are the same for every
@@ -218,17 +256,15 @@ fn header(alloc: Global, _archive: &Archive, resolved: &Resolved) -> Result<Text
 /// of the instances, two references for each solution, the texts of two windows, or of one batch where there is
 /// one worker, for each worker what evaluating one solution takes, and of the rest no more than a piece.
 pub(crate) fn report<R: Threads + Sync, K: Sink, G: Gate>(
-    rt: &R,
     alloc: Global,
     out: &mut K,
+    crew: &Crew<'_, R, G>,
     archive: &Archive,
     resolved: &Resolved,
     all: bool,
-    workers: u32,
-    gate: &G,
 ) -> Result<(), Cut>
     requires ready { IsReady archive.now resolved.now }
-    requires workers { (1 ≤ workers) × (workers ≤ WORKERS) }
+    requires workers { (1 ≤ crew.now.workers) × (crew.now.workers ≤ WORKERS) }
     ensures whole { OnOk result (Took (K.taken out.old) (K.taken out.new) (encode_utf8_all (spec.report all archive.now resolved.now))) }
     ensures front { OnErr result (TookFront (K.taken out.old) (K.taken out.new) (encode_utf8_all (spec.report all archive.now resolved.now))) }
     ensures fault { IsErrOf result Cut.WriteFault → Rose (K.faults out.old) (K.faults out.new) }
@@ -239,23 +275,13 @@ pub(crate) fn report<R: Threads + Sync, K: Sink, G: Gate>(
     let raws = all_solutions(alloc, archive)?;
     let groups = groups_of(alloc, archive)?;
     let rooms = rooms_of(alloc, resolved)?;
-    let mut text = header(alloc, archive, resolved)?;
-    let windows = WindowMaker::new(resolved, workers);
-    let job = Outcomes {
-        all,
-        groups: groups.as_slice(),
-    };
-    write_windows(
-        rt,
-        alloc,
-        out,
-        &mut text,
+    let parts = ReportParts {
         resolved,
-        rooms.as_slice(),
-        raws.as_slice(),
-        gate,
-        &windows,
-        &job,
-    )?;
-    flush(alloc, out, &mut text)
+        rooms: rooms.as_slice(),
+        raws: raws.as_slice(),
+        groups: groups.as_slice(),
+        all,
+        windows: WindowMaker::new(resolved, crew.workers),
+    };
+    write_parts(alloc, out, crew, archive, &parts)
 }

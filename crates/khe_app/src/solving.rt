@@ -10,16 +10,15 @@ ghost use Rattle.xhstt_entries.specs.Texts.{HasSpellable};
 ghost use Rattle.xhstt_shape.specs.WellFormed.{IsWellFormed};
 ghost use Rattle.khe_io.specs.Shelf.{IsMissing};
 ghost use Rattle.khe_app.specs.Answers.{reading_of, IsReadyAnswer};
-ghost use Rattle.archive_reading.specs.Starting.{IsBarredBy, Start, barred, start_of};
+ghost use Rattle.archive_reading.specs.Starting.{start_of};
 ghost use Rattle.khe_app.specs.Ends.{IsEnd, Written};
 ghost use Rattle.khe_app.specs.Outcome.{IsSolveIn, IsSolveOf};
 ghost use Rattle.archive_reading.specs.Ready.{IsReady};
-ghost use Rattle.archive_reading.specs.Refusals as refusals;
 ghost use Rattle.khe_app.specs.Words.{solving};
-ghost use Rattle.archive_reading.specs.declared.refusals.Refusal.{Refusal as Why};
 
-use crate::program::{Answer, Status, Stop, answer_to, put_refusal};
-use archive_reading::{ReadArchive, Unread, begin, instance_numbered};
+use crate::crews::Crew;
+use crate::program::{Answer, Status, Stop, answer_to, put_refusal, put_unread};
+use archive_reading::{ReadArchive, begin, instance_numbered};
 use khe_base::NoMemory;
 use khe_instance::{Instance, Plain};
 use khe_io::{Gate, Shelf, Sink};
@@ -31,27 +30,35 @@ use std::thread::Threads;
 use xhstt_shape::Archive;
 use xhstt_writer::SendFault;
 
+/// Which solution is solved, and how.
+#[derive(Clone, Copy)]
+pub(crate) struct Solving {
+    /// The number of the solution, over all groups.
+    pub solution: u32,
+    /// The greatest number of moves of a chain, 1 to 4.
+    pub depth: u32,
+    /// How many chains each job may try, 1 to 1,000,000,000.
+    pub budget: u32,
+    /// How many jobs there are, 1 to 10,000.
+    pub jobs: u32,
+}
+
 /// Writes the archive under a name with the least result of so many jobs in place of the solution of a
 /// number, and the line on its job; or the line that refuses the archive or the solution.
 #[tactic(auto, using(crate::proofs::EndsLemmas::end_starved, crate::proofs::EndsLemmas::end_stopped, crate::proofs::SolveEnds::solve_lacks))]
 pub(crate) fn solve<R: Threads + Sync, S: Shelf, K: Sink, G: Gate>(
-    rt: &R,
     alloc: Global,
     shelf: &mut S,
     out: &mut K,
-    gate: &G,
+    crew: &Crew<'_, R, G>,
     name: &str,
-    number: u32,
-    depth: u32,
-    budget: u32,
-    jobs: u32,
-    workers: u32,
+    asked: Solving,
 ) -> Status
-    requires depth { (1 ≤ depth) × (depth ≤ CHAIN_MOVES) }
-    requires budget { 1 ≤ budget }
-    requires jobs { (1 ≤ jobs) × (jobs ≤ JOBS) }
-    requires workers { (1 ≤ workers) × (workers ≤ WORKERS) }
-    ensures end { IsEnd (Some (solving name.now number depth budget jobs)) (S.holdings shelf.old) (S.is_sound shelf.old) (S.faults shelf.old) (S.faults shelf.new) (K.taken out.old) (K.taken out.new) (K.faults out.old) (K.faults out.new) result.0 }
+    requires depth { (1 ≤ asked.depth) × (asked.depth ≤ CHAIN_MOVES) }
+    requires budget { 1 ≤ asked.budget }
+    requires jobs { (1 ≤ asked.jobs) × (asked.jobs ≤ JOBS) }
+    requires workers { (1 ≤ crew.now.workers) × (crew.now.workers ≤ WORKERS) }
+    ensures end { IsEnd (Some (solving name.now asked.solution asked.depth asked.budget asked.jobs)) (S.holdings shelf.old) (S.is_sound shelf.old) (S.faults shelf.old) (S.faults shelf.new) (K.taken out.old) (K.taken out.new) (K.faults out.old) (K.faults out.new) result.0 }
     ensures status { result.0 ≡ 2 → ⊥ }
     ensures absent { IsTrue (S.is_sound shelf.old) → IsMissing (S.holdings shelf.old) name.now → result.0 ≡ 4 }
     ensures holdings { S.holdings shelf.new ≡ S.holdings shelf.old }
@@ -62,9 +69,7 @@ pub(crate) fn solve<R: Threads + Sync, S: Shelf, K: Sink, G: Gate>(
     ensures sink_faults { K.faults out.old ≤ K.faults out.new }
 {
     match answer_to(alloc, shelf, name) {
-        Ok(answer) => write_solve(
-            rt, alloc, out, gate, answer, number, depth, budget, jobs, workers,
-        ),
+        Ok(answer) => write_solve(alloc, out, crew, answer, asked),
         Err(Stop::ReadFault) => Status(4),
         Err(Stop::NoMemory) => Status(6),
     }
@@ -72,159 +77,111 @@ pub(crate) fn solve<R: Threads + Sync, S: Shelf, K: Sink, G: Gate>(
 
 /// Writes an archive with a solution replaced, or the line that refuses it.
 fn write_solve<R: Threads + Sync, K: Sink, G: Gate>(
-    rt: &R,
     alloc: Global,
     out: &mut K,
-    gate: &G,
+    crew: &Crew<'_, R, G>,
     answer: Answer,
-    number: u32,
-    depth: u32,
-    budget: u32,
-    jobs: u32,
-    workers: u32,
+    asked: Solving,
 ) -> Status
     requires ready { IsReadyAnswer answer }
-    requires depth { (1 ≤ depth) × (depth ≤ CHAIN_MOVES) }
-    requires budget { 1 ≤ budget }
-    requires jobs { (1 ≤ jobs) × (jobs ≤ JOBS) }
-    requires workers { (1 ≤ workers) × (workers ≤ WORKERS) }
-    ensures written { ((result.0 ≡ 6) × (K.taken out.new ≡ K.taken out.old)) ⊎ ((status : ℕ) × (text : List ℕ) × IsSolveIn number depth budget jobs (reading_of answer) status text
+    requires depth { (1 ≤ asked.depth) × (asked.depth ≤ CHAIN_MOVES) }
+    requires budget { 1 ≤ asked.budget }
+    requires jobs { (1 ≤ asked.jobs) × (asked.jobs ≤ JOBS) }
+    requires workers { (1 ≤ crew.now.workers) × (crew.now.workers ≤ WORKERS) }
+    ensures written { ((result.0 ≡ 6) × (K.taken out.new ≡ K.taken out.old)) ⊎ ((status : ℕ) × (text : List ℕ) × IsSolveIn asked.solution asked.depth asked.budget asked.jobs (reading_of answer) status text
         × Written (K.taken out.old) (K.taken out.new) (K.faults out.old) (K.faults out.new) (encode_utf8_all text) status result.0) }
     ensures write_fault_ends { (result.0 ≡ 5) ⊎ (K.faults out.new ≡ K.faults out.old) }
     ensures sink_faults { K.faults out.old ≤ K.faults out.new }
 {
     match answer {
-        Answer::Read(mut read) => solve_in(
-            rt, alloc, out, gate, &mut read, number, depth, budget, jobs, workers,
-        ),
+        Answer::Read(mut read) => solve_in(alloc, out, crew, &mut read, asked),
         Answer::Refused(refusal) => put_refusal(alloc, out, refusal),
     }
 }
 
 /// Writes an archive that is read with a solution replaced, or the line that refuses the solution.
 fn solve_in<R: Threads + Sync, K: Sink, G: Gate>(
-    rt: &R,
     alloc: Global,
     out: &mut K,
-    gate: &G,
+    crew: &Crew<'_, R, G>,
     read: &mut ReadArchive,
-    number: u32,
-    depth: u32,
-    budget: u32,
-    jobs: u32,
-    workers: u32,
+    asked: Solving,
 ) -> Status
     requires ready { IsReady read.old.archive read.old.resolved }
-    requires depth { (1 ≤ depth) × (depth ≤ CHAIN_MOVES) }
-    requires budget { 1 ≤ budget }
-    requires jobs { (1 ≤ jobs) × (jobs ≤ JOBS) }
-    requires workers { (1 ≤ workers) × (workers ≤ WORKERS) }
-    ensures written { ((result.0 ≡ 6) × (K.taken out.new ≡ K.taken out.old)) ⊎ ((status : ℕ) × (text : List ℕ) × IsSolveOf read.old.archive number depth budget jobs (start_of read.old.archive read.old.resolved number) status text
+    requires depth { (1 ≤ asked.depth) × (asked.depth ≤ CHAIN_MOVES) }
+    requires budget { 1 ≤ asked.budget }
+    requires jobs { (1 ≤ asked.jobs) × (asked.jobs ≤ JOBS) }
+    requires workers { (1 ≤ crew.now.workers) × (crew.now.workers ≤ WORKERS) }
+    ensures written { ((result.0 ≡ 6) × (K.taken out.new ≡ K.taken out.old)) ⊎ ((status : ℕ) × (text : List ℕ) × IsSolveOf read.old.archive asked.solution asked.depth asked.budget asked.jobs (start_of read.old.archive read.old.resolved asked.solution) status text
         × Written (K.taken out.old) (K.taken out.new) (K.faults out.old) (K.faults out.new) (encode_utf8_all text) status result.0) }
     ensures write_fault_ends { (result.0 ≡ 5) ⊎ (K.faults out.new ≡ K.faults out.old) }
     ensures sink_faults { K.faults out.old ≤ K.faults out.new }
 {
-    match begin(alloc, &read.archive, &read.resolved, number) {
+    match begin(alloc, &read.archive, &read.resolved, asked.solution) {
         Ok((instance, plain)) => {
             let inst = instance_numbered(&read.resolved, instance);
-            put_solve(
-                rt,
-                alloc,
-                out,
-                gate,
-                &mut read.archive,
-                inst,
-                &plain,
-                number,
-                depth,
-                budget,
-                jobs,
-                workers,
-            )
+            put_solve(alloc, out, crew, &mut read.archive, inst, &plain, asked)
         }
         Err(unread) => put_unread(alloc, out, unread),
-    }
-}
-
-/// Writes the line that refuses a solution; or nothing, where memory ran out before.
-fn put_unread<K: Sink>(alloc: Global, out: &mut K, unread: Unread) -> Status
-    requires { (s : Start) × IsBarredBy s unread }
-    ensures written { (s : Start) → IsBarredBy s unread → ((result.0 ≡ 6) × (K.taken out.new ≡ K.taken out.old)) ⊎ ((why : Why) × (s ≡ barred why)
-        × Written (K.taken out.old) (K.taken out.new) (K.faults out.old) (K.faults out.new) (encode_utf8_all (refusals.refusal_line why)) 3 result.0) }
-    ensures write_fault_ends { (result.0 ≡ 5) ⊎ (K.faults out.new ≡ K.faults out.old) }
-    ensures sink_faults { K.faults out.old ≤ K.faults out.new }
-{
-    match unread {
-        Unread::Refused(refusal) => put_refusal(alloc, out, refusal),
-        Unread::NoMemory => Status(6),
     }
 }
 
 /// Repairs a timetable by so many jobs, and writes the archive with the least result in place of the
 /// solution.
 fn put_solve<R: Threads + Sync, K: Sink, G: Gate>(
-    rt: &R,
     alloc: Global,
     out: &mut K,
-    gate: &G,
+    crew: &Crew<'_, R, G>,
     archive: &mut Archive,
     inst: &Instance,
     plain: &Plain,
-    number: u32,
-    depth: u32,
-    budget: u32,
-    jobs: u32,
-    workers: u32,
+    asked: Solving,
 ) -> Status
     requires formed { IsWellFormed archive.old }
     requires texts { HasSpellable inst.now }
     requires valid { IsValid inst.now plain.now }
-    requires depth { (1 ≤ depth) × (depth ≤ CHAIN_MOVES) }
-    requires budget { 1 ≤ budget }
-    requires jobs { (1 ≤ jobs) × (jobs ≤ JOBS) }
-    requires workers { (1 ≤ workers) × (workers ≤ WORKERS) }
-    ensures written { ((result.0 ≡ 6) × (K.taken out.new ≡ K.taken out.old)) ⊎ ((text : List ℕ) × IsSolveText archive.old number inst.now plain.now depth budget jobs text
+    requires depth { (1 ≤ asked.depth) × (asked.depth ≤ CHAIN_MOVES) }
+    requires budget { 1 ≤ asked.budget }
+    requires jobs { (1 ≤ asked.jobs) × (asked.jobs ≤ JOBS) }
+    requires workers { (1 ≤ crew.now.workers) × (crew.now.workers ≤ WORKERS) }
+    ensures written { ((result.0 ≡ 6) × (K.taken out.new ≡ K.taken out.old)) ⊎ ((text : List ℕ) × IsSolveText archive.old asked.solution inst.now plain.now asked.depth asked.budget asked.jobs text
         × Written (K.taken out.old) (K.taken out.new) (K.faults out.old) (K.faults out.new) (encode_utf8_all text) 0 result.0) }
     ensures write_fault_ends { (result.0 ≡ 5) ⊎ (K.faults out.new ≡ K.faults out.old) }
     ensures sink_faults { K.faults out.old ≤ K.faults out.new }
 {
     inst.facts();
-    match solve_jobs(rt, alloc, inst, plain, gate, depth, budget, jobs, workers) {
-        Ok(solved) => put_solved(alloc, out, archive, inst, &solved, number),
+    match solve_jobs(alloc, crew, inst, plain, asked) {
+        Ok(solved) => put_solved(alloc, out, archive, inst, &solved, asked.solution),
         Err(NoMemory) => Status(6),
     }
 }
 
 /// What so many repairs of a timetable come to, over all families.
 fn solve_jobs<R: Threads + Sync, G: Gate>(
-    rt: &R,
     alloc: Global,
+    crew: &Crew<'_, R, G>,
     inst: &Instance,
     plain: &Plain,
-    gate: &G,
-    depth: u32,
-    budget: u32,
-    jobs: u32,
-    workers: u32,
+    asked: Solving,
 ) -> Result<Solved, NoMemory>
     requires valid { IsValid inst.now plain.now }
-    requires depth { (1 ≤ depth) × (depth ≤ CHAIN_MOVES) }
-    requires budget { 1 ≤ budget }
-    requires jobs { (1 ≤ jobs) × (jobs ≤ JOBS) }
-    requires workers { (1 ≤ workers) × (workers ≤ WORKERS) }
-    ensures solved { IfOk result (λ s. IsSolved (job_answer inst.now plain.now depth budget) jobs s) }
+    requires depth { (1 ≤ asked.depth) × (asked.depth ≤ CHAIN_MOVES) }
+    requires budget { 1 ≤ asked.budget }
+    requires jobs { (1 ≤ asked.jobs) × (asked.jobs ≤ JOBS) }
+    requires workers { (1 ≤ crew.now.workers) × (crew.now.workers ≤ WORKERS) }
+    ensures solved { IfOk result (λ s. IsSolved (job_answer inst.now plain.now asked.depth asked.budget) asked.jobs s) }
     ensures valid { IfOk result (λ s. IsValid inst.now s.plain) }
 {
     parallel_repair::solve::<Families, R, G>(
-        rt,
+        crew.rt,
         alloc,
         inst,
         plain,
-        depth,
-        u64::from(budget),
-        u64::from(jobs),
-        workers,
-        gate,
+        asked.depth,
+        u64::from(asked.budget),
+        u64::from(asked.jobs),
+        crew.workers,
+        crew.gate,
     )
 }
 

@@ -3,6 +3,7 @@ pub mod Endings
 pub mod Escape
 pub mod Outcomes
 pub mod Pages
+pub mod Parts
 pub mod Pieces
 pub mod Reading
 pub mod Refusals

@@ -15,6 +15,7 @@ mod marking;
 mod naming;
 mod opening;
 mod outcomes;
+mod parts;
 mod program;
 mod refusing;
 mod sections;

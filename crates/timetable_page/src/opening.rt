@@ -48,32 +48,31 @@ fn push_title(
     push_between(page, "", whole_name(&archive.meta_data, id), after)
 }
 
-/// The beginning of the page: what archive it is, and how much it has.
-pub(crate) fn opening(
-    alloc: Global,
-    archive: &Archive,
-    solutions: usize,
-) -> Result<Text, NoMemory> {
-    let mut page = Text::new(alloc);
-    let unnamed = Text::from_str(alloc, "Timetables")?;
+/// Adds what comes before the heading, and the heading.
+fn push_heading(page: &mut Text, unnamed: &Text, archive: &Archive) -> Result<(), NoMemory> {
     page.push_literal("<!DOCTYPE html>\n<html lang=\"en\"><head><meta charset=\"utf-8\"><title>")?;
-    push_title(&mut page, &unnamed, archive, "</title>\n")?;
+    push_title(page, unnamed, archive, "</title>\n")?;
     page.push_literal(
         "<meta name=\"viewport\" content=\"width=device-width,initial-scale=1\">\n<style>\n",
     )?;
     page.push_str(STYLE)?;
     page.push_literal("</style></head><body><header><h1>")?;
-    push_title(&mut page, &unnamed, archive, "</h1>\n")?;
-    push_counted(
-        &mut page,
-        "<p>Instances: ",
-        archive.instances.len() as u128,
-        ", ",
-    )?;
-    push_counted(&mut page, "solutions: ", solutions as u128, ".</p>\n")?;
-    if let Some(meta_data) = &archive.meta_data {
-        push_meta_data(&mut page, meta_data)?;
+    push_title(page, unnamed, archive, "</h1>\n")
+}
+
+/// Adds how much the archive has, and what it says of itself.
+fn push_contents(page: &mut Text, archive: &Archive, solutions: usize) -> Result<(), NoMemory> {
+    let instances = archive.instances.len() as u128;
+    push_counted(page, "<p>Instances: ", instances, ", ")?;
+    push_counted(page, "solutions: ", solutions as u128, ".</p>\n")?;
+    match &archive.meta_data {
+        Some(meta_data) => push_meta_data(page, meta_data),
+        None => Ok(()),
     }
+}
+
+/// Adds the field to search by, and ends the header.
+fn push_search(page: &mut Text) -> Result<(), NoMemory> {
     page.push_literal("<search><label for=\"find\">Find a resource or an event</label>\n")?;
     page.push_literal(
         "<input id=\"find\" type=\"search\" autocomplete=\"off\"><ul id=\"found\" aria-live=\"polite\"></ul></search>\n",
@@ -81,30 +80,64 @@ pub(crate) fn opening(
     page.push_literal(
         "<noscript><p>Searching and sorting need scripts; all else works without.</p></noscript>\n",
     )?;
-    page.push_literal("</header><main>\n")?;
+    page.push_literal("</header><main>\n")
+}
+
+/// Adds the beginning of the page: what archive it is, and how much it has.
+fn push_opening(
+    page: &mut Text,
+    unnamed: &Text,
+    archive: &Archive,
+    solutions: usize,
+) -> Result<(), NoMemory> {
+    push_heading(page, unnamed, archive)?;
+    push_contents(page, archive, solutions)?;
+    push_search(page)
+}
+
+/// The beginning of the page: what archive it is, and how much it has.
+pub(crate) fn opening(
+    alloc: Global,
+    archive: &Archive,
+    solutions: usize,
+) -> Result<Text, NoMemory> {
+    let unnamed = Text::from_str(alloc, "Timetables")?;
+    let mut page = Text::new(alloc);
+    push_opening(&mut page, &unnamed, archive, solutions)?;
     Ok(page)
+}
+
+/// Adds that the timetables of the solutions from one on are not shown.
+fn push_not_shown(page: &mut Text, shown: u32, solutions: u32) -> Result<(), NoMemory> {
+    if shown >= solutions {
+        return Ok(());
+    }
+    push_counted(
+        page,
+        "<section><h2>Not shown</h2><p id=\"rest\">The timetables of solutions from ",
+        u128::from(shown),
+        " on ",
+    )?;
+    page.push_literal("are not shown, so that the page does not grow too large.</p>\n")?;
+    for number in shown..solutions {
+        push_counted(page, "<p id=\"s", u128::from(number), "\">Solution ")?;
+        push_counted(page, "", u128::from(number), " is not shown.</p>\n")?;
+    }
+    page.push_literal("</section>\n")
+}
+
+/// Ends the page.
+fn push_end(page: &mut Text) -> Result<(), NoMemory> {
+    page.push_literal("</main><script>\n")?;
+    page.push_str(SCRIPT)?;
+    page.push_literal("</script></body></html>\n")
 }
 
 /// The end of the page, where timetables from one solution on are not shown.
 pub(crate) fn closing(alloc: Global, shown: u32, solutions: usize) -> Result<Text, NoMemory> {
     let solutions = u32::try_from(solutions).unwrap_or(u32::MAX);
     let mut page = Text::new(alloc);
-    if shown < solutions {
-        push_counted(
-            &mut page,
-            "<section><h2>Not shown</h2><p id=\"rest\">The timetables of solutions from ",
-            u128::from(shown),
-            " on ",
-        )?;
-        page.push_literal("are not shown, so that the page does not grow too large.</p>\n")?;
-        for number in shown..solutions {
-            push_counted(&mut page, "<p id=\"s", u128::from(number), "\">Solution ")?;
-            push_counted(&mut page, "", u128::from(number), " is not shown.</p>\n")?;
-        }
-        page.push_literal("</section>\n")?;
-    }
-    page.push_literal("</main><script>\n")?;
-    page.push_str(SCRIPT)?;
-    page.push_literal("</script></body></html>\n")?;
+    push_not_shown(&mut page, shown, solutions)?;
+    push_end(&mut page)?;
     Ok(page)
 }

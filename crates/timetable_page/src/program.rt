@@ -11,12 +11,14 @@ ghost use Rattle.parallel_solve.specs.Verdicts.{numbered_verdict, parts_at, verd
 ghost use Rattle.resource_deviations.specs.Sets.{room_for};
 ghost use Rattle.timetable_page.specs.Endings.{AreAllSent, AreSent, IsPut, IsRefused, IsShown, IsStatus, Stands};
 ghost use Rattle.timetable_page.specs.Pages.{IsSection};
+ghost use Rattle.timetable_page.specs.Parts.{AreParts};
 ghost use Rattle.timetable_page.specs.Refusals as refusals;
 ghost use Rattle.timetable_page.specs.Words.{asked};
 ghost use Rattle.xhstt_completion.specs.Completed as completion;
 
 use crate::opening::{closing, opening};
 use crate::outcomes::outcomes;
+use crate::parts::{Parts, Spelled};
 use crate::refusing::refusal_page;
 use crate::sections::{invalid_section, valid_section};
 use crate::sending::pass_on;
@@ -32,7 +34,7 @@ use resource_deviations::ResourceRoom;
 use std::alloc::Global;
 use xhstt_completion::{SolutionFault, numbered_solution};
 use xhstt_resolve::Resolved;
-use xhstt_shape::{Archive, RawInstance, RawSolution};
+use xhstt_shape::{Archive, RawSolution};
 
 /// After so many bytes of sections no further solution is shown: 50 MB.
 pub const PAGE_BYTES: u64 = 50_000_000;
@@ -188,29 +190,26 @@ fn instance_of(resolved: &Resolved, number: u32) -> usize
     resolved.of.as_slice()[number as usize] as usize
 }
 
-/// The section of the solution with a number, of this instance, as it is spelled and as it is resolved.
+/// The section of a solution of this instance, as it is spelled and as it is resolved.
 fn section_of(
     alloc: Global,
     inst: &Instance,
     room: &ResourceRoom,
-    spelled: &RawInstance,
     resolved: &Resolved,
-    number: u32,
-    group: &Text,
-    raw: &RawSolution,
+    spelled: &Spelled<'_>,
 ) -> Result<Text, NoMemory>
-    requires one { IsOne resolved.now number raw.now }
-    requires instance { parts_at resolved.now number ≡ Some inst.now }
+    requires one { IsOne resolved.now spelled.now.number spelled.now.solution.now }
+    requires instance { parts_at resolved.now spelled.now.number ≡ Some inst.now }
     requires room { room.now ≡ room_for inst.now }
-    ensures { IfOk result (IsSection (verdict_of inst.now (completion.completed inst.now raw.now))) }
+    ensures { IfOk result (IsSection (verdict_of inst.now (completion.completed inst.now spelled.now.solution.now))) }
 {
-    match numbered_solution(alloc, inst, resolved, number, raw) {
+    match numbered_solution(alloc, inst, resolved, spelled.number, spelled.solution) {
         Ok(plain) => {
             let values = evaluate_in(alloc, inst, room, &plain)?;
-            valid_section(alloc, number, inst, spelled, group, raw, &plain, &values)
+            valid_section(alloc, spelled, inst, &plain, &values)
         }
         Err(SolutionFault::Invalid { cause, entry }) => {
-            invalid_section(alloc, number, spelled, group, raw, cause, entry)
+            invalid_section(alloc, spelled, cause, entry)
         }
         Err(SolutionFault::NoMemory) => Err(NoMemory),
     }
@@ -219,32 +218,26 @@ fn section_of(
 /// The section of the solution with a number.
 fn section(
     alloc: Global,
-    archive: &Archive,
-    resolved: &Resolved,
-    rooms: &[ResourceRoom],
-    groups: &[u32],
+    parts: &Parts<'_>,
     number: u32,
-    raw: &RawSolution,
+    solution: &RawSolution,
 ) -> Result<Text, NoMemory>
-    requires one { IsOne resolved.now number raw.now }
-    requires rooms { rooms.now ≡ map room_for resolved.now.instances }
-    requires same { length archive.now.instances ≡ length resolved.now.instances }
-    ensures { IfOk result (IsSection (numbered_verdict resolved.now (number, raw.now))) }
+    requires one { IsOne parts.now.resolved.now number solution.now }
+    requires rooms { parts.now.rooms.now ≡ map room_for parts.now.resolved.now.instances }
+    requires same { length parts.now.archive.now.instances ≡ length parts.now.resolved.now.instances }
+    ensures { IfOk result (IsSection (numbered_verdict parts.now.resolved.now (number, solution.now))) }
 {
-    let instance = instance_of(resolved, number);
-    let inst = &resolved.instances.as_slice()[instance];
-    let spelled = &archive.instances.as_slice()[instance];
-    let group = group_of(archive, groups, number, &spelled.id.text);
-    section_of(
-        alloc,
-        inst,
-        &rooms[instance],
-        spelled,
-        resolved,
+    let resolved = parts.resolved;
+    let place = instance_of(resolved, number);
+    let instance = &parts.archive.instances.as_slice()[place];
+    let spelled = Spelled {
         number,
-        group,
-        raw,
-    )
+        instance,
+        group: group_of(parts.archive, parts.groups, number, &instance.id.text),
+        solution,
+    };
+    let inst = &resolved.instances.as_slice()[place];
+    section_of(alloc, inst, &parts.rooms[place], resolved, &spelled)
 }
 
 /// What the group of the solution with a number is called.
@@ -264,23 +257,20 @@ fn write_section<K: Sink>(
     alloc: Global,
     out: &mut K,
     pending: &mut Text,
-    archive: &Archive,
-    resolved: &Resolved,
-    rooms: &[ResourceRoom],
-    groups: &[u32],
+    parts: &Parts<'_>,
     number: u32,
-    raw: &RawSolution,
+    solution: &RawSolution,
     sent: u64,
 ) -> Result<u64, Cut>
-    requires one { IsOne resolved.now number raw.now }
-    requires rooms { rooms.now ≡ map room_for resolved.now.instances }
-    requires same { length archive.now.instances ≡ length resolved.now.instances }
-    ensures sent { (before : Option (List ℕ)) (opening : List ℕ) (raws : List RawSolution) → slice_get raws number ≡ Some raw.now → AreSent resolved.now raws number sent before (K.taken out.old) pending.old opening → IfOk result (λ more. AreSent resolved.now raws (number + 1) more before (K.taken out.new) pending.new opening) }
+    requires one { IsOne parts.now.resolved.now number solution.now }
+    requires rooms { parts.now.rooms.now ≡ map room_for parts.now.resolved.now.instances }
+    requires same { length parts.now.archive.now.instances ≡ length parts.now.resolved.now.instances }
+    ensures sent { (before : Option (List ℕ)) (opening : List ℕ) (raws : List RawSolution) → slice_get raws number ≡ Some solution.now → AreSent parts.now.resolved.now raws number sent before (K.taken out.old) pending.old opening → IfOk result (λ more. AreSent parts.now.resolved.now raws (number + 1) more before (K.taken out.new) pending.new opening) }
     ensures fault { IsErrOf result Cut.WriteFault → Rose (K.faults out.old) (K.faults out.new) }
     ensures faultless { OnOk result (K.faults out.new ≡ K.faults out.old) }
     ensures faultless_starved { IsErrOf result Cut.NoMemory → K.faults out.new ≡ K.faults out.old }
 {
-    let text = section(alloc, archive, resolved, rooms, groups, number, raw)?;
+    let text = section(alloc, parts, number, solution)?;
     pass_on(alloc, out, pending, &text)?;
     Ok(sent.saturating_add(text.as_bytes().len() as u64))
 }
@@ -300,22 +290,19 @@ fn write_sections<K: Sink>(
     alloc: Global,
     out: &mut K,
     pending: &mut Text,
-    archive: &Archive,
-    resolved: &Resolved,
-    rooms: &[ResourceRoom],
-    groups: &[u32],
-    raws: &[&RawSolution],
+    parts: &Parts<'_>,
     most: u32,
 ) -> Result<u32, Cut>
-    requires ones { AreOnes resolved.now 0 (map (λ x. x.now) raws.now) }
-    requires rooms { rooms.now ≡ map room_for resolved.now.instances }
-    requires same { length archive.now.instances ≡ length resolved.now.instances }
-    ensures sent { (before : Option (List ℕ)) (opening : List ℕ) → IsAmid before (K.taken out.old) pending.old [] opening → IfOk result (λ n. AreAllSent resolved.now (map (λ x. x.now) raws.now) most n before (K.taken out.new) pending.new opening) }
+    requires ones { AreOnes parts.now.resolved.now 0 (map (λ x. x.now) parts.now.raws.now) }
+    requires rooms { parts.now.rooms.now ≡ map room_for parts.now.resolved.now.instances }
+    requires same { length parts.now.archive.now.instances ≡ length parts.now.resolved.now.instances }
+    ensures sent { (before : Option (List ℕ)) (opening : List ℕ) → IsAmid before (K.taken out.old) pending.old [] opening → IfOk result (λ n. AreAllSent parts.now.resolved.now (map (λ x. x.now) parts.now.raws.now) most n before (K.taken out.new) pending.new opening) }
     ensures fault { IsErrOf result Cut.WriteFault → Rose (K.faults out.old) (K.faults out.new) }
     ensures faultless { OnOk result (K.faults out.new ≡ K.faults out.old) }
     ensures faultless_starved { IsErrOf result Cut.NoMemory → K.faults out.new ≡ K.faults out.old }
 {
     let mut sent = 0u64;
+    let raws = parts.raws;
     let shown = shown_of(raws.len(), most);
     for number in 0..shown {
         if sent > PAGE_BYTES {
@@ -323,36 +310,68 @@ fn write_sections<K: Sink>(
         }
         let place = number as usize;
         let raw = raws[place];
-        sent = write_section(
-            alloc, out, pending, archive, resolved, rooms, groups, number, raw, sent,
-        )?;
+        sent = write_section(alloc, out, pending, parts, number, raw, sent)?;
     }
     Ok(shown)
 }
 
-/// The beginning of the page with the summary.
-fn first_part(
-    alloc: Global,
-    archive: &Archive,
-    resolved: &Resolved,
-    rooms: &[ResourceRoom],
-    groups: &[u32],
-    raws: &[&RawSolution],
-) -> Result<Text, NoMemory>
-    requires ones { AreOnes resolved.now 0 (map (λ x. x.now) raws.now) }
-    requires few { length raws.now < 2 ^ 32 }
-    requires rooms { rooms.now ≡ map room_for resolved.now.instances }
+/// Adds the summary of all solutions.
+fn push_results(alloc: Global, text: &mut Text, parts: &Parts<'_>) -> Result<(), NoMemory>
+    requires ones { AreOnes parts.now.resolved.now 0 (map (λ x. x.now) parts.now.raws.now) }
+    requires few { length parts.now.raws.now < 2 ^ 32 }
+    requires rooms { parts.now.rooms.now ≡ map room_for parts.now.resolved.now.instances }
 {
-    let mut text = opening(alloc, archive, raws.len())?;
-    let outcomes = outcomes(alloc, resolved, rooms, raws)?;
+    let outcomes = outcomes(alloc, parts.resolved, parts.rooms, parts.raws)?;
     let results = Results {
-        archive,
+        archive: parts.archive,
         outcomes: outcomes.as_slice(),
-        instances: resolved.of.as_slice(),
-        groups,
+        instances: parts.resolved.of.as_slice(),
+        groups: parts.groups,
     };
-    push_summary(alloc, &mut text, &results)?;
+    push_summary(alloc, text, &results)
+}
+
+/// The beginning of the page with the summary.
+fn first_part(alloc: Global, parts: &Parts<'_>) -> Result<Text, NoMemory>
+    requires ones { AreOnes parts.now.resolved.now 0 (map (λ x. x.now) parts.now.raws.now) }
+    requires few { length parts.now.raws.now < 2 ^ 32 }
+    requires rooms { parts.now.rooms.now ≡ map room_for parts.now.resolved.now.instances }
+{
+    let mut text = opening(alloc, parts.archive, parts.raws.len())?;
+    push_results(alloc, &mut text, parts)?;
     Ok(text)
+}
+
+/// Writes the sections and the end of a page whose beginning waits.
+fn write_rest<K: Sink>(
+    alloc: Global,
+    out: &mut K,
+    pending: &mut Text,
+    parts: &Parts<'_>,
+    most: u32,
+) -> Result<(), Cut>
+    requires { AreParts parts.now }
+    ensures put { (before : Option (List ℕ)) (opening : List ℕ) → IsAmid before (K.taken out.old) pending.old [] opening → OnOk result (IsPut parts.now.archive.now parts.now.resolved.now most before (K.taken out.new)) }
+    ensures fault { IsErrOf result Cut.WriteFault → Rose (K.faults out.old) (K.faults out.new) }
+    ensures faultless { OnOk result (K.faults out.new ≡ K.faults out.old) }
+    ensures faultless_starved { IsErrOf result Cut.NoMemory → K.faults out.new ≡ K.faults out.old }
+{
+    let shown = write_sections(alloc, out, pending, parts, most)?;
+    let end = closing(alloc, shown, parts.raws.len())?;
+    pass_on(alloc, out, pending, &end)?;
+    flush(alloc, out, pending)
+}
+
+/// Writes the page of an archive with what its sections look up.
+fn write_parts<K: Sink>(alloc: Global, out: &mut K, parts: &Parts<'_>, most: u32) -> Result<(), Cut>
+    requires { AreParts parts.now }
+    ensures put { OnOk result (IsPut parts.now.archive.now parts.now.resolved.now most (K.taken out.old) (K.taken out.new)) }
+    ensures fault { IsErrOf result Cut.WriteFault → Rose (K.faults out.old) (K.faults out.new) }
+    ensures faultless { OnOk result (K.faults out.new ≡ K.faults out.old) }
+    ensures faultless_starved { IsErrOf result Cut.NoMemory → K.faults out.new ≡ K.faults out.old }
+{
+    let mut pending = first_part(alloc, parts)?;
+    write_rest(alloc, out, &mut pending, parts, most)
 }
 
 /// Writes the page of an archive.
@@ -372,22 +391,12 @@ fn write<K: Sink>(
     let raws = all_solutions(alloc, archive)?;
     let groups = group_numbers(alloc, archive)?;
     let rooms = rooms_of(alloc, resolved)?;
-    let raws = raws.as_slice();
-    let rooms = rooms.as_slice();
-    let groups = groups.as_slice();
-    let mut pending = first_part(alloc, archive, resolved, rooms, groups, raws)?;
-    let shown = write_sections(
-        alloc,
-        out,
-        &mut pending,
+    let parts = Parts {
         archive,
         resolved,
-        rooms,
-        groups,
-        raws,
-        most,
-    )?;
-    let end = closing(alloc, shown, raws.len())?;
-    pass_on(alloc, out, &mut pending, &end)?;
-    flush(alloc, out, &mut pending)
+        rooms: rooms.as_slice(),
+        groups: groups.as_slice(),
+        raws: raws.as_slice(),
+    };
+    write_parts(alloc, out, &parts, most)
 }

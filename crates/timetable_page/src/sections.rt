@@ -14,27 +14,23 @@ use crate::grids::push_grids;
 use crate::layout::layout_of;
 use crate::marking::{push_between, push_counted, push_place, push_totals};
 use crate::naming::{constraint_name, instance_name};
+use crate::parts::Spelled;
 use crate::view::View;
 use fault_tables::cause_name;
 use khe_base::{CostFn, NoMemory, Seq, Text, Totals};
 use khe_instance::{Constraint, Instance, Plain, Rule};
 use plain_eval::Values;
 use std::alloc::Global;
-use xhstt_shape::{RawInstance, RawSolution};
+use xhstt_shape::RawInstance;
 
 /// The head of a section: the number of the solution, its instance and its group.
-fn push_head(
-    page: &mut Text,
-    number: u32,
-    raw: &RawInstance,
-    group: &Text,
-    solution: &RawSolution,
-) -> Result<(), NoMemory> {
-    let number = u128::from(number);
+fn push_head(page: &mut Text, spelled: &Spelled<'_>) -> Result<(), NoMemory> {
+    let number = u128::from(spelled.number);
     push_counted(page, "<section class=\"sol\" id=\"s", number, "\">")?;
     push_counted(page, "<h2>Solution ", number, ": ")?;
-    push_between(page, "", instance_name(raw), " ")?;
-    push_between(page, "<small>by ", group, "</small></h2>\n")?;
+    push_between(page, "", instance_name(spelled.instance), " ")?;
+    push_between(page, "<small>by ", spelled.group, "</small></h2>\n")?;
+    let solution = spelled.solution;
     if let Some(description) = &solution.description {
         push_between(page, "<p>", description, "</p>\n")?;
     }
@@ -45,15 +41,9 @@ fn push_head(
 }
 
 /// The head of a section, as a text of its own.
-fn head_of(
-    alloc: Global,
-    number: u32,
-    raw: &RawInstance,
-    group: &Text,
-    solution: &RawSolution,
-) -> Result<Text, NoMemory> {
+fn head_of(alloc: Global, spelled: &Spelled<'_>) -> Result<Text, NoMemory> {
     let mut page = Text::new(alloc);
-    push_head(&mut page, number, raw, group, solution)?;
+    push_head(&mut page, spelled)?;
     Ok(page)
 }
 
@@ -79,16 +69,13 @@ fn joined(head: Text, totals: Totals, rest: &Text) -> Result<Text, NoMemory>
 /// The section of an invalid solution.
 pub(crate) fn invalid_section(
     alloc: Global,
-    number: u32,
-    raw: &RawInstance,
-    group: &Text,
-    solution: &RawSolution,
+    spelled: &Spelled<'_>,
     cause: u32,
     entry: u32,
 ) -> Result<Text, NoMemory>
     ensures { IfOk result (IsSection (InvalidVerdict cause entry)) }
 {
-    let head = head_of(alloc, number, raw, group, solution)?;
+    let head = head_of(alloc, spelled)?;
     let mut page = head;
     push_cause(&mut page, cause, entry)?;
     Ok(page)
@@ -244,56 +231,84 @@ fn in_order(defects: &mut Seq<Seq<Defect>>) {
     }
 }
 
-/// What a section has below the totals: the costs by constraint, the timetables and the events.
-fn rest_of(
-    alloc: Global,
-    number: u32,
-    inst: &Instance,
-    raw: &RawInstance,
-    plain: &Plain,
-    values: &Values,
-) -> Result<Text, NoMemory>
+/// The defects of each constraint, the dearest first.
+fn defects_of(alloc: Global, inst: &Instance, values: &Values) -> Result<Seq<Seq<Defect>>, NoMemory>
     requires { (length values.now.deviations ≡ length inst.now.monitors) × (length values.now.costs ≡ length inst.now.monitors) }
 {
-    let mut page = Text::new(alloc);
     let PageSolution {
         totals: _,
         mut defects,
     } = page_solution(alloc, inst, values)?;
     in_order(&mut defects);
+    Ok(defects)
+}
+
+/// Adds what a section has below the totals: the costs by constraint, the timetables and the events.
+fn push_below(
+    alloc: Global,
+    page: &mut Text,
+    view: &View<'_>,
+    defects: &Seq<Seq<Defect>>,
+    deviations: &[u64],
+) -> Result<(), NoMemory> {
+    push_costs(alloc, page, view, defects)?;
+    push_grids(alloc, page, view, deviations)?;
+    push_events(page, view)?;
+    page.push_literal("</section>\n")
+}
+
+/// What a section has below the totals, as a text of its own.
+fn below(alloc: Global, view: &View<'_>, values: &Values) -> Result<Text, NoMemory>
+    requires { (length values.now.deviations ≡ length view.now.inst.now.monitors) × (length values.now.costs ≡ length view.now.inst.now.monitors) }
+{
+    let defects = defects_of(alloc, view.inst, values)?;
+    let mut page = Text::new(alloc);
+    push_below(
+        alloc,
+        &mut page,
+        view,
+        &defects,
+        values.deviations.as_slice(),
+    )?;
+    Ok(page)
+}
+
+/// What a section has below the totals, of the timetable of a solution.
+fn rest_of(
+    alloc: Global,
+    spelled: &Spelled<'_>,
+    inst: &Instance,
+    plain: &Plain,
+    values: &Values,
+) -> Result<Text, NoMemory>
+    requires { (length values.now.deviations ≡ length inst.now.monitors) × (length values.now.costs ≡ length inst.now.monitors) }
+{
     let table = timetable_of(alloc, inst, plain)?;
-    let layout = layout_of(alloc, raw)?;
+    let layout = layout_of(alloc, spelled.instance)?;
     let view = View {
-        number,
+        number: spelled.number,
         inst,
-        raw,
+        raw: spelled.instance,
         plain,
         table: &table,
         layout: &layout,
     };
-    push_costs(alloc, &mut page, &view, &defects)?;
-    push_grids(alloc, &mut page, &view, values.deviations.as_slice())?;
-    push_events(&mut page, &view)?;
-    page.push_literal("</section>\n")?;
-    Ok(page)
+    below(alloc, &view, values)
 }
 
 /// The section of a valid solution: its totals, its costs by constraint, its timetables and its events.
 pub(crate) fn valid_section(
     alloc: Global,
-    number: u32,
+    spelled: &Spelled<'_>,
     inst: &Instance,
-    raw: &RawInstance,
-    group: &Text,
-    solution: &RawSolution,
     plain: &Plain,
     values: &Values,
 ) -> Result<Text, NoMemory>
     requires { (length values.now.deviations ≡ length inst.now.monitors) × (length values.now.costs ≡ length inst.now.monitors) }
     ensures { IfOk result (IsSection (ValidVerdict values.now)) }
 {
-    let head = head_of(alloc, number, raw, group, solution)?;
-    let rest = rest_of(alloc, number, inst, raw, plain, values)?;
+    let head = head_of(alloc, spelled)?;
+    let rest = rest_of(alloc, spelled, inst, plain, values)?;
     let page = joined(head, values.totals, &rest)?;
     Ok(page)
 }

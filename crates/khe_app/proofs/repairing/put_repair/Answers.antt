@@ -10,13 +10,13 @@ pub returns-in-Ok-clause-written : goal.returns-in-Ok-clause-written
 returns-in-Ok-clause-written g c =
     let p = c.args.inst.now in
     let m = c.in-Ok.mended in
-    let t = repair_text c.args.archive.now c.requires.formed p c.requires.texts c.args.number m
+    let t = repair_text c.args.archive.now c.requires.formed p c.requires.texts c.args.asked.solution m
     (each_entry p m.plain c.facts.ensures c.in-Ok.ensures.valid.told) in
     inr (
       t.0,
       record {
         mended = m;
-        is = subst (λ b. IsMended p c.args.plain.now c.args.depth b m) c.from.ensures c.in-Ok.ensures.mended;
+        is = subst (λ b. IsMended p c.args.plain.now c.args.asked.depth b m) c.from.ensures c.in-Ok.ensures.mended;
         bytes_are = t.1;
       },
       subst (λ bytes. Written (g.K.Sink.taken c.args.out.now) (g.K.Sink.taken c.put_mended.new.out)

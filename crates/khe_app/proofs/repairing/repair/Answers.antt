@@ -4,9 +4,9 @@ use Rattle.khe_app.proofs.repairing.repair.Goals as goal
 
 pub returns-in-Ok-clause-end : goal.returns-in-Ok-clause-end
 returns-in-Ok-clause-end g c =
-    end_repaired (g.S.Shelf.holdings c.args.shelf.now) c.args.name.now c.args.number c.args.depth c.args.budget
+    end_repaired (g.S.Shelf.holdings c.args.shelf.now) c.args.name.now c.args.asked.solution c.args.asked.depth c.args.asked.budget
     c.in-Ok.answer _ _ _ _ _ _ _ c.write_repair.result.0 c.in-Ok.ensures.answer c.write_repair.ensures.written
 
 pub returns-in-Ok-clause-status : goal.returns-in-Ok-clause-status
-returns-in-Ok-clause-status g c = repair_not_two c.args.number c.args.depth c.args.budget c.in-Ok.answer _ _ _ _
+returns-in-Ok-clause-status g c = repair_not_two c.args.asked.solution c.args.asked.depth c.args.asked.budget c.in-Ok.answer _ _ _ _
     c.write_repair.result.0 c.write_repair.ensures.written

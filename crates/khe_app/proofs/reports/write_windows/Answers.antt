@@ -15,10 +15,10 @@ returns-in_err-window-clause-front g c = λ before whole h.
 
 pub returns-in_err-window-2-clause-front : goal.returns-in_err-window-2-clause-front
 returns-in_err-window-2-clause-front g c = λ before whole h.
-    let all = c.args.job.now.all in
-    let r = c.args.resolved.now in
-    let ids = map (λ (y : Bor Text). y.now) c.args.job.now.groups.now in
-    let raws = map (λ (y : Bor RawSolution). y.now) c.args.raws.now in
+    let all = c.args.parts.now.all in
+    let r = c.args.parts.now.resolved.now in
+    let ids = map (λ (y : Bor Text). y.now) c.args.parts.now.groups.now in
+    let raws = map (λ (y : Bor RawSolution). y.now) c.args.parts.now.raws.now in
     let w = c.loop-first.window in
     always-err c.from_residual-in_err-window-2.result
     (err-of c.write_and_make.result c.in_err-window-2.field-0.0 c.in_err-window-2.was
@@ -29,10 +29,10 @@ returns-in_err-window-2-clause-front g c = λ before whole h.
 
 pub loop-first-preserved : goal.loop-first-preserved
 loop-first-preserved g c =
-    let all = c.args.job.now.all in
-    let r = c.args.resolved.now in
-    let ids = map (λ (y : Bor Text). y.now) c.args.job.now.groups.now in
-    let raws = map (λ (y : Bor RawSolution). y.now) c.args.raws.now in
+    let all = c.args.parts.now.all in
+    let r = c.args.parts.now.resolved.now in
+    let ids = map (λ (y : Bor Text). y.now) c.args.parts.now.groups.now in
+    let raws = map (λ (y : Bor RawSolution). y.now) c.args.parts.now.raws.now in
     let w = c.loop-first.window in
     record {
       window = c.in_ok-window-2.ensures.next;
@@ -45,10 +45,10 @@ loop-first-preserved g c =
 
 pub returns-clause-amid : goal.returns-clause-amid
 returns-clause-amid g c = λ before whole h.
-    let all = c.args.job.now.all in
-    let r = c.args.resolved.now in
-    let ids = map (λ (y : Bor Text). y.now) c.args.job.now.groups.now in
-    let raws = map (λ (y : Bor RawSolution). y.now) c.args.raws.now in
+    let all = c.args.parts.now.all in
+    let r = c.args.parts.now.resolved.now in
+    let ids = map (λ (y : Bor Text). y.now) c.args.parts.now.groups.now in
+    let raws = map (λ (y : Bor RawSolution). y.now) c.args.parts.now.raws.now in
     let w = c.loop-first.window in
     subst (λ t. IsAmid before (g.K.Sink.taken c.loop-first.out) c.loop-first.text t whole)
     (none_left all r ids (flat_map (row_text all r ids)) raws c.loop-first.first w.next w.made.items

@@ -8,16 +8,16 @@ use Rattle.khe_app.proofs.reports.write_windows.Given as goal
 
 abbrev pub invariant-loop-first : goal.invariant-loop-first
 invariant-loop-first g l =
-    let groups = map (λ x. x.now) l.fn.job.groups.now in
-    let raws = map (λ x. x.now) l.fn.raws in
-    let all = l.fn.job.all in
+    let groups = map (λ x. x.now) l.fn.parts.groups.now in
+    let raws = map (λ x. x.now) l.fn.parts.raws.now in
+    let all = l.fn.parts.all in
     record {
-      window : IsWindow (flat_map (row_text all l.fn.resolved groups)) raws l.first l.window.next l.window.made.items;
+      window : IsWindow (flat_map (row_text all l.fn.parts.resolved.now groups)) raws l.first l.window.next l.window.made.items;
       amid : (before : Option (List ℕ)) (whole : List ℕ)
-          → IsAmid before (g.K.Sink.taken l.fn.out) l.fn.text (left_text all l.fn.resolved groups 0 raws) whole
-          → IsAmid before (g.K.Sink.taken l.out) l.text (left_text all l.fn.resolved groups l.first raws) whole;
+          → IsAmid before (g.K.Sink.taken l.fn.out) l.fn.text (left_text all l.fn.parts.resolved.now groups 0 raws) whole
+          → IsAmid before (g.K.Sink.taken l.out) l.text (left_text all l.fn.parts.resolved.now groups l.first raws) whole;
       faultless : g.K.Sink.faults l.out ≡ g.K.Sink.faults l.fn.out;
     }
 
 abbrev pub decreases-loop-first : goal.decreases-loop-first
-decreases-loop-first g l = length l.fn.raws - l.first
+decreases-loop-first g l = length l.fn.parts.raws.now - l.first

@@ -9,7 +9,7 @@ pub returns-in-Ok-clause-written : goal.returns-in-Ok-clause-written
 returns-in-Ok-clause-written g c =
     let p = c.args.inst.now in
     let s = c.in-Ok.solved in
-    let t = solve_text c.args.archive.now c.requires.formed p c.requires.texts c.args.number s
+    let t = solve_text c.args.archive.now c.requires.formed p c.requires.texts c.args.asked.solution s
     (each_entry p s.plain c.facts.ensures c.in-Ok.ensures.valid.told) in
     inr (
       t.0,

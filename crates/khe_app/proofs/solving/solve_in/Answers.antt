@@ -12,17 +12,17 @@ put_solve-requires-clause-texts g c = λ _ _.
 
 pub put_unread-requires : goal.put_unread-requires
 put_unread-requires g c =
-    (start_of c.args.read.now.archive c.args.read.now.resolved c.args.number, c.in-Err.ensures.barred)
+    (start_of c.args.read.now.archive c.args.read.now.resolved c.args.asked.solution, c.in-Err.ensures.barred)
 
 pub returns-in-Ok-clause-written : goal.returns-in-Ok-clause-written
 returns-in-Ok-clause-written g c =
     let b = c.in-Ok.ensures.begun in
-    begun_solve c.args.read.now.archive c.args.read.now.resolved c.args.number c.args.depth c.args.budget
-    c.args.jobs c.in-Ok.instance b.0 c.instance_numbered-inst.result.now c.in-Ok.plain _ _ _ _
+    begun_solve c.args.read.now.archive c.args.read.now.resolved c.args.asked.solution c.args.asked.depth c.args.asked.budget
+    c.args.asked.jobs c.in-Ok.instance b.0 c.instance_numbered-inst.result.now c.in-Ok.plain _ _ _ _
     c.put_solve.result.0 b.1 c.instance_numbered-inst.ensures b.3 c.put_solve.ensures.written
 
 pub returns-in-Err-clause-written : goal.returns-in-Err-clause-written
 returns-in-Err-clause-written g c =
-    let s = start_of c.args.read.now.archive c.args.read.now.resolved c.args.number in
-    barred_solve c.args.read.now.archive c.args.number c.args.depth c.args.budget c.args.jobs s _ _ _ _
+    let s = start_of c.args.read.now.archive c.args.read.now.resolved c.args.asked.solution in
+    barred_solve c.args.read.now.archive c.args.asked.solution c.args.asked.depth c.args.asked.budget c.args.asked.jobs s _ _ _ _
     c.put_unread.result.0 (c.put_unread.ensures.written s c.in-Err.ensures.barred)

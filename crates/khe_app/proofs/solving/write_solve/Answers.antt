@@ -12,7 +12,7 @@ returns-in-Refused-clause-written g c =
     inr (
       3,
       line,
-      subst (λ (a : Answer). IsSolveIn c.args.number c.args.depth c.args.budget c.args.jobs (reading_of a) 3 line)
+      subst (λ (a : Answer). IsSolveIn c.args.asked.solution c.args.asked.depth c.args.asked.budget c.args.asked.jobs (reading_of a) 3 line)
           (sym c.in-Refused.is) (refl, refl),
       c.put_refusal.ensures.written,
     )

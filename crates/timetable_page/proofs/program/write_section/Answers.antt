@@ -9,8 +9,8 @@ returns-clause-sent g c = λ before opening raws found h.
     let now = g.K.Sink.taken c.args.out.now in
     let bound : c.saturating_add.result ≤ c.args.sent + length (encode_utf8_all text) =
     omega (arith, c.saturating_add.ensures, ap length c.as_bytes.ensures) in
-    one_sent c.args.resolved.now raws c.args.number c.args.sent c.saturating_add.result before now
-    (g.K.Sink.taken c.pass_on.new.out) c.args.pending.now c.pass_on.new.pending opening text c.args.raw.now found
+    one_sent c.args.parts.now.resolved.now raws c.args.number c.args.sent c.saturating_add.result before now
+    (g.K.Sink.taken c.pass_on.new.out) c.args.pending.now c.pass_on.new.pending opening text c.args.solution.now found
     c.in_ok-text.ensures bound h
     (c.in_ok-pass_on.ensures.amid before [] ((opening ++ h.sections) ++ text)
     (amid_text before now c.args.pending.now (opening ++ h.sections) text h.amid))

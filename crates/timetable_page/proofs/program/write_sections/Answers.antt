@@ -11,16 +11,16 @@ use Rattle.xhstt_shape.specs.declared.records.RawSolution.{RawSolution}
 pub write_section-requires-clause-one : goal.write_section-requires-clause-one
 write_section-requires-clause-one g c =
     let now = λ (x : Bor RawSolution). x.now in
-    let xs = c.args.raws.now in
+    let xs = c.args.parts.now.raws.now in
     let n = c.loop-number.number in
     let x = c.index-raws-place.result in
     let lt : n < length xs = omega (arith, c.loop-number-test.true, c.shown_of-shown.ensures) in
-    subst (λ m. IsOne c.args.resolved.now m x.now) (zero-add n)
+    subst (λ m. IsOne c.args.parts.now.resolved.now m x.now) (zero-add n)
     (c.requires.ones n x.now (there_of now xs n x lt c.index-raws-place.is))
 
 pub loop-number-init : goal.loop-number-init
 loop-number-init g c = record {
-  sent = λ before opening h. none_sent c.args.resolved.now (map (λ (x : Bor RawSolution). x.now) c.args.raws.now) before
+  sent = λ before opening h. none_sent c.args.parts.now.resolved.now (map (λ (x : Bor RawSolution). x.now) c.args.parts.now.raws.now) before
       (g.K.Sink.taken c.args.out.now) c.args.pending.now opening h;
   faultless = search rules;
 }
@@ -28,7 +28,7 @@ loop-number-init g c = record {
 pub loop-number-preserved : goal.loop-number-preserved
 loop-number-preserved g c =
     let now = λ (x : Bor RawSolution). x.now in
-    let xs = c.args.raws.now in
+    let xs = c.args.parts.now.raws.now in
     let n = c.loop-number.number in
     let x = c.index-raws-place.result in
     let lt : n < length xs = omega (arith, c.loop-number-test.true, c.shown_of-shown.ensures) in
@@ -40,20 +40,20 @@ loop-number-preserved g c =
 
 pub returns-then-sent-gt-PAGE_BYTES-clause-sent : goal.returns-then-sent-gt-PAGE_BYTES-clause-sent
 returns-then-sent-gt-PAGE_BYTES-clause-sent g c = λ before opening h.
-    cut_sent c.args.resolved.now (map (λ (x : Bor RawSolution). x.now) c.args.raws.now) c.args.most c.loop-number.number
+    cut_sent c.args.parts.now.resolved.now (map (λ (x : Bor RawSolution). x.now) c.args.parts.now.raws.now) c.args.most c.loop-number.number
     c.loop-number.sent before (g.K.Sink.taken c.loop-number.out) c.loop-number.pending opening
     (omega (arith, c.if-sent-gt-PAGE_BYTES.true)) (c.loop-number.invariant.sent before opening h)
 
 pub returns-clause-sent : goal.returns-clause-sent
 returns-clause-sent g c = λ before opening h.
     let now = λ (x : Bor RawSolution). x.now in
-    let xs = c.args.raws.now in
+    let xs = c.args.parts.now.raws.now in
     let n = c.shown_of-shown.result in
     let end : c.loop-number.number ≡ n = omega (arith, c.loop-number-test.false, c.loop-number.auto.number-end) in
     let many : n ≡ min (length (map now xs)) c.args.most =
     c.shown_of-shown.ensures ∙ ap (λ k. min k c.args.most) (sym (length-map xs now)) in
-    all_sent c.args.resolved.now (map now xs) c.args.most n c.loop-number.sent before (g.K.Sink.taken c.loop-number.out)
+    all_sent c.args.parts.now.resolved.now (map now xs) c.args.most n c.loop-number.sent before (g.K.Sink.taken c.loop-number.out)
     c.loop-number.pending opening many
-    (subst (λ k. AreSent c.args.resolved.now (map now xs) k c.loop-number.sent before
+    (subst (λ k. AreSent c.args.parts.now.resolved.now (map now xs) k c.loop-number.sent before
     (g.K.Sink.taken c.loop-number.out) c.loop-number.pending opening) end
     (c.loop-number.invariant.sent before opening h))

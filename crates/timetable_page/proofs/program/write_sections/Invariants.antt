@@ -7,7 +7,7 @@ use Rattle.timetable_page.proofs.program.write_sections.Given as goal
 abbrev pub invariant-loop-number : goal.invariant-loop-number
 invariant-loop-number g l = record {
   sent : (before : Option (List ℕ)) (opening : List ℕ) → IsAmid before (g.K.Sink.taken l.fn.out) l.fn.pending [] opening
-      → AreSent l.fn.resolved (map (λ x. x.now) l.fn.raws) l.number l.sent before (g.K.Sink.taken l.out) l.pending
+      → AreSent l.fn.parts.resolved.now (map (λ x. x.now) l.fn.parts.raws.now) l.number l.sent before (g.K.Sink.taken l.out) l.pending
       opening;
   faultless : g.K.Sink.faults l.out ≡ g.K.Sink.faults l.fn.out;
 }

@@ -1,7 +1,7 @@
 -- The line names the refusal that the start has.
 use Rattle.std.proofs.Common.{inr}
 use Rattle.khe_app.proofs.SolveEnds.{barred_by}
-use Rattle.khe_app.proofs.solving.put_unread.Goals as goal
+use Rattle.khe_app.proofs.program.put_unread.Goals as goal
 
 pub returns-in-Refused-clause-written : goal.returns-in-Refused-clause-written
 returns-in-Refused-clause-written g c = λ s is.
