@@ -1,14 +1,15 @@
 //! What C calls, as `c/khe.h` says. Each call takes what the handle holds out of it, works on that, and puts it back;
 //! its answer is a status.
 
-ghost use Rattle.std.specs.Prelude.{◌≡◌, ◌<◌, ◌⊎◌, ◌↔◌, true, false, length, Some, None, MatchOption};
-ghost use Rattle.khe_c.specs.Calls.{IsDone, HasNoAnswer, status_of, HoldsSession, HoldsRefusal, HasTurned, session_of, answer_of, HasSpentAfter, totals_in, filled};
+ghost use Rattle.std.specs.Prelude.{◌≡◌, ◌<◌, ◌⊎◌, ◌↔◌, true, false, length, Some, None, IfOk, MatchOption};
+ghost use Rattle.khe_c.specs.Calls.{IsOpenedOn, IsRefusedOn, IsDone, HasNoAnswer, status_of, HoldsSession, HoldsRefusal, HasTurned, session_of, answer_of, HasSpentAfter, totals_in, filled};
 ghost use Rattle.khe_c.specs.Halves.{totals_of};
 
 use crate::costs::{Costs, costs_of};
 use crate::handles::{SessionHandle, closed, handle_of, held_by};
 use crate::held::{Held, Unanswered};
 use crate::statuses::{CLOSED, DONE, NO_MEMORY, NO_ROOM, REFUSED};
+use khe_base::NoMemory;
 use std::alloc::Global;
 use std::mem::replace;
 
@@ -46,6 +47,27 @@ fn copy_out(answer: &[u8], room: &mut [u8], answer_length: &mut u64) -> u32
     DONE
 }
 
+/// What an open handle on this archive is to hold: a session, or the line that refuses it. Its only error is want of
+/// memory.
+fn opened(alloc: Global, archive: &[u8], solution: u32) -> Result<Box<Held>, NoMemory>
+    ensures { IfOk result (λ b. IsOpenedOn archive.now solution b.value ⊎ IsRefusedOn archive.now solution b.value) }
+{
+    let held = Held::open(alloc, archive, solution)?;
+    Ok(Box::new(alloc, held)?)
+}
+
+/// Opens a handle on this, and says by the status whether it is a session.
+fn put_in(session: &mut SessionHandle, held: Box<Held>) -> u32
+    ensures open { session.new.is_open ≡ true }
+    ensures value { session.new.value ≡ Some held.value }
+    ensures refused { (result ≡ 3) ↔ (held.value.session ≡ None) }
+    ensures status { (result ≡ 0) ⊎ (result ≡ 3) }
+{
+    let status = if held.is_refused() { REFUSED } else { DONE };
+    *session = handle_of(held);
+    status
+}
+
 /// Opens a session on the solution of an archive with this number.
 ///
 /// Status 0: the handle holds the session. 3: the archive or the solution is refused, and the handle holds the line
@@ -69,16 +91,9 @@ pub extern "C" fn khe_open(
         *session = handle_of(held);
         return CLOSED;
     }
-    let Ok(held) = Held::open(alloc, archive, solution) else {
-        return NO_MEMORY;
-    };
-    let status = if held.is_refused() { REFUSED } else { DONE };
-    match Box::new(alloc, held) {
-        Ok(held) => {
-            *session = handle_of(held);
-            status
-        }
-        Err(_) => NO_MEMORY,
+    match opened(alloc, archive, solution) {
+        Ok(held) => put_in(session, held),
+        Err(NoMemory) => NO_MEMORY,
     }
 }
 

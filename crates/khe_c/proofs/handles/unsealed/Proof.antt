@@ -35,12 +35,11 @@ use Rattle.std.specs.declared.alloc.Global.{Global}
 use Rattle.std.specs.contracts.alloc.Global as heap
 use Rattle.std.proofs.alloc.Global.TheLaws as heap_laws
 use Rattle.std.specs.contracts.impls.GlobalAllocator.TheImpl.{ghosts}
-use Rattle.libc.specs.Heap.{chunk}
 use Rattle.std.specs.Box.Ownership.{box_owns}
 use Rattle.khe_c.specs.Kept.{Kept}
 use Rattle.khe_c.specs.contracts.held.Held as state
 use Rattle.loose.proofs.Values.{both, Loose, loose_good, loose_in}
-use Rattle.khe_c.specs.Holding.{holds}
+use Rattle.khe_c.specs.Holding.{holds, token}
 use Rattle.khe_c.specs.contracts.handles.SessionHandle as handle
 use Rattle.khe_c.proofs.Words.{word, made, handle_out}
 use Rattle.khe_c.specs.contracts.handles.unsealed.{ended, clauses}
@@ -136,7 +135,7 @@ module _ {M : Type 1} {𝓤 : Ura M} (𝓛 : Logic 𝓤) (𝓜 : Model 𝓤 𝓛
   each null_ptr true (Some x) = via 𝓤 (never 𝓤)
       (via 𝓤 (sem 𝓛 (holds true null_ptr (Some x)))
       (fst∗ 𝓤 (sem 𝓛 (holds true null_ptr (Some x))) (sem 𝓛 (Z.own_val a (h ∷ []))))
-      (fst∗ 𝓤 (never 𝓤) (sem 𝓛 (chunk (bare (lone R.mir)) null_ptr)))) (never_e 𝓤 _)
+      (fst∗ 𝓤 (never 𝓤) (sem 𝓛 (token (bare (lone R.mir)) null_ptr)))) (never_e 𝓤 _)
   each (block_ptr b o) true (Some x) = some b o x
 
 pub unsealed_spec : {M : Type 1} → statement M
