@@ -32,11 +32,11 @@ CALLERS = os.path.join(TOP, "crates/calling_examples")
 def copied():
     """The files that have a copy for the gate, each with its copy."""
     yield os.path.join(TOP, "docs/manual.md"), os.path.join(COPIES, "manual.md")
-    for folder, _, names in os.walk(os.path.join(TOP, "examples")):
+    for folder, folders, names in os.walk(os.path.join(TOP, "examples")):
+        folders[:] = [inside for inside in folders if inside not in ("c", "cluster", "python")]
         for name in names:
-            if not name.endswith((".py", ".pyc", ".sh", ".c")):
-                path = os.path.join(folder, name)
-                yield path, os.path.join(COPIES, os.path.relpath(path, TOP))
+            path = os.path.join(folder, name)
+            yield path, os.path.join(COPIES, os.path.relpath(path, TOP))
 
 
 def bytes_of(path):

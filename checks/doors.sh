@@ -82,6 +82,17 @@ if [ -n "${KHE_LIBRARY:-}" ]; then
   holds "and in four threads" '"$work/door_lines_strict" examples/school_week.xml 0 "$work/lines" 4 2> "$work/said" | cmp - "$work/answers" && [ ! -s "$work/said" ] || { cat "$work/said"; false; }'
   holds "and under valgrind" 'memcheck "$work/door_lines" examples/school_week.xml 0 "$work/lines" | cmp - "$work/answers" && [ "${PIPESTATUS[0]}" = 0 ]'
   holds "a refused archive from C under the sanitizers and valgrind" '[ "$("$work/door_lines_strict" examples/causes.xml 0 /dev/null; echo $?)" = $'"'khe: archive refused: 19 Invalid 1 TooLong entry 1\n3'"' ] && [ "$(memcheck "$work/door_lines" examples/causes.xml 0 /dev/null; echo $?)" = $'"'khe: archive refused: 19 Invalid 1 TooLong entry 1\n3'"' ]'
+  if [ -e c/out/libkhe.a ]; then
+    wrapped() { cc -Wall -Wextra -Werror -Ic "${@:2}" -Wl,--wrap=malloc,--wrap=realloc,--wrap=free -o "$work/$1" checks/door_statuses.c c/out/libkhe.a; }
+    week=(examples/school_week.xml examples/school_week.script)
+    "$KHE" script "${week[0]}" 0 "${week[1]}" > "$work/script"
+    holds "checks/door_statuses.c is compiled without a warning" 'wrapped statuses -O2 && wrapped statuses_strict "${strict[@]}"'
+    holds "statuses, rooms of each length, each allocation refused in turn" '"$work/statuses" "${week[@]}" | cmp - "$work/script" && [ "${PIPESTATUS[0]}" = 0 ]'
+    holds "the same under the sanitizers" '"$work/statuses_strict" "${week[@]}" | cmp - "$work/script" && [ "${PIPESTATUS[0]}" = 0 ]'
+    holds "the same under valgrind" 'memcheck "$work/statuses" "${week[@]}" | cmp - "$work/script" && [ "${PIPESTATUS[0]}" = 0 ]'
+  else
+    echo "not checked: statuses and refused memory from C, without c/out/libkhe.a"
+  fi
   for source in examples/c/*.c; do
     [ -e "$source" ] || { echo "not checked: examples/c, which is not there"; continue; }
     name=$(basename "$source" .c)

@@ -1,0 +1,39 @@
+-- A closed handle owns nothing.
+use Rattle.std.proofs.Common.{◌≡◌, [], ◌∷◌, refl, lit<, false}
+use Rattle.std.specs.Prelude.{None}
+use mir.Val.{Val}
+use base.Logic.{SProp, emp, id⊢}
+use base.Fml.{ftrue}
+use types.Kit.{‵, raw, ◌⊛◌, ◌$◌, ◌∵◌, !, qed, by, keep, split, use0, use1}
+use types.Run.{lit, false_lit, no_more, and_then, returns, enter}
+use types.ByLocal.{alloc_all, pass_all, free_all, look_at, sets}
+use types.Part.{agg}
+use contract.Monad.{fact, fact_i}
+use contract.Running.{tables}
+use denote.RawPtr.{null_ptr}
+use denote.Steps.{nothing}
+use denote.Triple.Entry.{alive}
+use denote.Triple.Walked.{walk_of}
+use Rattle.std.proofs.raw_atomic.Walks.{proved, leaves}
+use Rattle.khe_c.specs.Holding.{holds}
+use Rattle.khe_c.proofs.Words.{word, made, handle_in}
+use Rattle.khe_c.specs.contracts.handles.closed.{ended, clauses}
+use Rattle.khe_c.specs.contracts.handles.closed.Key.{name as #self}
+use Rattle.khe_c.proofs.handles.closed.Statement.{statement}
+use Rattle.khe_c.proofs.handles.closed.Code as code
+
+pub closed_spec : {M : Type 1} → statement M
+closed_spec 𝓤 𝓛 𝓜 𝓡 wired =
+    let H = 𝓛.H in let 𝓣 = tables 𝓤 H 𝓜 𝓡 𝓡.env in let En = ended in let c = clauses 𝓛 𝓜.mem 𝓡.returns in let fn =
+    code.function in
+    proved 𝓛 En tt c 𝓜 𝓡 tt #self fn (code.unfolded 𝓤 H 𝓜 𝓡 wired) (λ κs. tt) (λ κs. tt) (λ κs qs bounds a gh are.
+    let y : (walk_of 𝓛 En tt c).Ghost = ((κs, qs, bounds, a, tt), gh) in let Post : Val
+    → SProp 𝓤 = (walk_of 𝓛 En tt c).post y in
+    qed 𝓛 ((raw (alive 𝓛 En.signature κs qs) ⊛ ‵ ftrue) ∷ raw ((c κs a).requires gh) ∷ []) ∵ split ! $ keep ! (0 ∷ []) $
+    enter ! 𝓣.C 𝓣.Λ fn [] Post $ alloc_all ! (λ l. pass_all ! refl tt $
+    sets ! (agg ! (and_then ! (lit ! tt) (and_then ! (false_lit !) (no_more !)))) refl
+    (tt, (record { fits = lit< tt }, (tt, tt))) $
+    use0 𝓛 (raw (fact 𝓤 (false ≡ false))) (fact_i 𝓤 (false ≡ false) (emp 𝓤) refl) $
+    nothing ! $ use1 𝓛 (‵ (holds false null_ptr None)) (id⊢ 𝓤 _) $ handle_in ! null_ptr false None $ nothing ! $
+    returns ! (look_at ! 0 refl) $ free_all ! refl $ keep ! (3 ∷ 0 ∷ 1 ∷ 2 ∷ []) $ by !
+    (leaves 𝓛 En tt c y (word null_ptr false) (made null_ptr false None) tt tt)))
