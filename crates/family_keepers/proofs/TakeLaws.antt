@@ -1,6 +1,6 @@
 -- Slots that are taken over one by one: each state between is told, and the last is the one that was told.
 use Rattle.std.proofs.Common.{ℕ, ◌≡◌, ◌≢◌, ◌≤◌, ◌<◌, ◌+◌, ◌⊎◌, ◌∙◌, inl, inr, zero, suc, cond, Bool, true, false, List, []}
-use Rattle.std.proofs.Common.{◌∷◌, ◌++◌, length, map, get_or, slice_set, take, refl, sym, ap, subst, arith}
+use Rattle.std.proofs.Common.{◌∷◌, ◌++◌, length, map, get_or, slice_get, slice_set, take, refl, sym, ap, subst, arith}
 use Rattle.std.specs.Prelude.{◌==◌}
 use Rattle.std.proofs.Math.Dec.{eqb}
 use Rattle.std.proofs.Math.Seq.{map-set_same}
@@ -9,15 +9,16 @@ use Rattle.std.proofs.lemmas.Bool.Decides.{eqb_tells}
 use Rattle.std.proofs.lemmas.List.{get_or-set_other, get_or-set_same, length-map, length-set, take_more}
 use Rattle.std.proofs.lemmas.List.Elements.{All-get_or, All-set}
 use Rattle.std.proofs.lemmas.List.Sums.{sum_by-cons}
-use Rattle.khe_instance.specs.declared.parts.EventInfo.{EventInfo}
 use Rattle.khe_instance.specs.declared.parts.Parts.{Parts}
 use Rattle.khe_instance.specs.declared.rules.Kind.{Kind}
 use Rattle.khe_told.specs.Changes.{after, after_all, changed, meet_of}
 use Rattle.khe_told.specs.Fits.{AllFit, AreTold, IsSlot}
+use Rattle.khe_told.specs.Naming.{AreSameBut}
 use Rattle.khe_told.specs.Slots.{emptied, held, held_by, length_of, no_slot, slot_at}
 use Rattle.khe_told.specs.Turns.{AreWatchers, Watches, turn_to}
 use Rattle.khe_told.specs.Waits.{AreUnmoved, WaitOn}
 use Rattle.khe_told.specs.declared.changes.Change.{Change}
+use Rattle.khe_told.specs.declared.naming.Places.{Places}
 use Rattle.khe_told.specs.declared.slots.Slot.{Slot}
 use Rattle.family_keepers.specs.Takes.{AreWatchersAt, IsEither, IsMix, Mentions}
 use Rattle.family_keepers.proofs.WatchLaws.{emptied_at, slot_after}
@@ -182,6 +183,16 @@ taking_more p s t now cs served hears old waits new k h mentioned l told on unmo
     more i (inl w) = h.watchers i w
     more i (inr w) = inr (k, slot_at now k, mentioned, h.mix.each k, w)
 
+-- a place that is not named is given what it is in the second state, whatever slots are taken over
+pub same_but : (places : Places) (p : Parts) (s t now : List Slot) → IsMix p s t now
+    → ((k : ℕ) → AreSameBut places (slot_at s k).given (slot_at t k).given)
+    → (k : ℕ) → AreSameBut places (slot_at now k).given (slot_at t k).given
+same_but places p s t now mix h k j n = by (mix.each k)
+  where
+    by : IsEither s t k (slot_at now k) → slice_get (slot_at now k).given j ≡ slice_get (slot_at t k).given j
+    by (inl e) = ap (λ (x : Slot). slice_get x.given j) e ∙ h k j n
+    by (inr e) = ap (λ (x : Slot). slice_get x.given j) e
+
 -- where no slot is longer than in the second state, it stays so
 pub taken_short : (now t : List Slot) (k : ℕ) → k < length now
     → ((l : ℕ) → length_of (slot_at now l) ≤ length_of (slot_at t l))
@@ -312,3 +323,13 @@ watchers_joined p s t mid cs old between new mix a b i w = by (b i w)
         × Watches p (record { before = x; after = slot_at t k }) i)
     by (inl v) = a i v
     by (inr (k, x, m, e, v)) = inr (k, x, m, either k x e (mix.each k), v)
+
+-- who waits since the slot of one change was taken over
+pub watchers_one : (p : Parts) (s t : List Slot) (cs : List Change) (k : ℕ) (old new : ℕ → Bool) → Mentions cs k
+    → AreWatchers p (turn_to s t k) old new → AreWatchersAt p s t cs old new
+watchers_one p s t cs k old new mentioned h i w = by (h i w)
+  where
+    by : (old i ≡ true) ⊎ Watches p (turn_to s t k) i → (old i ≡ true)
+        ⊎ ((j : ℕ) × (x : Slot) × Mentions cs j × IsEither s t j x × Watches p (record { before = x; after = slot_at t j }) i)
+    by (inl v) = inl v
+    by (inr v) = inr (k, slot_at s k, mentioned, inl refl, v)

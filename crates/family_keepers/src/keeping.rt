@@ -3,6 +3,7 @@
 ghost use Rattle.std.specs.Prelude.{ℕ, ◌≡◌, ◌<◌, ◌≤◌, ◌⊎◌, length, slice_set, true, None, Some};
 ghost use Rattle.khe_told.specs.Changes.{after_all};
 ghost use Rattle.khe_told.specs.Fits.{AllFit, AreTold};
+ghost use Rattle.khe_told.specs.Naming.{AreSameBut};
 ghost use Rattle.khe_told.specs.Slots.{emptied, length_of, slot_at};
 ghost use Rattle.khe_told.specs.Turns.{AreWatchers, turn_to};
 ghost use Rattle.khe_told.specs.Waits.{AreUnmoved, WaitOn};
@@ -11,13 +12,15 @@ ghost use Rattle.family_keepers.specs.Takes.{AreTaken, AreWatchersAt, IsMix, Men
 use crate::keepers::Keeper;
 use khe_base::{MeetId, MonitorId, NoMemory};
 use khe_instance::{Instance, Kind};
-use khe_told::{Change, Family, Told, Waits};
+use khe_told::{Change, Family, Places, Told, Waits};
 use std::alloc::Global;
 
 /// The family of a keeper: what was told, in one place for all that the keeper is made of.
 ///
 /// The changes of an edit are told to a second state first, which is then taken over slot by slot: so the
-/// keeper follows each slot once, whatever the number of changes of it.
+/// keeper follows each slot once, whatever the number of changes of it. The slot of one change alone is taken
+/// over at once; of several changes those that make a meet shorter come first. Of a slot's places it looks at those
+/// that the changes name, and at all of them only where its meet is another.
 #[derive(Drop)]
 pub struct Keeping<K> {
     /// What the keeper follows.
@@ -27,13 +30,15 @@ pub struct Keeping<K> {
     keeper: K,
 }
 
-/// Takes a slot over from the state that was told, where it is another there.
+/// Takes a slot over from the state that was told, where it is another there, and other places than these are
+/// given the same.
 fn take<K: Keeper, W: Waits>(
     inst: &Instance,
     keeper: &mut K,
     told: &mut Told,
     ahead: &Told,
     meet: MeetId,
+    places: Places,
     waits: &mut W,
 )
     requires keeps { K.Keeps keeper.old inst.now told.old }
@@ -41,6 +46,7 @@ fn take<K: Keeper, W: Waits>(
     requires told { AreTold inst.now told.old }
     requires same { emptied (slot_at ahead.now meet.0) ≡ emptied (slot_at told.old meet.0) }
     requires later { AreTold inst.now (slice_set told.old meet.0 (slot_at ahead.now meet.0)) }
+    requires elsewhere { AreSameBut places (slot_at told.old meet.0).given (slot_at ahead.now meet.0).given }
     requires monitors { W.monitors waits.old ≡ length inst.now.monitors }
     ensures keeps { K.Keeps keeper.new inst.now told.new }
     ensures told { told.new ≡ slice_set told.old meet.0 (slot_at ahead.now meet.0) }
@@ -49,12 +55,12 @@ fn take<K: Keeper, W: Waits>(
     ensures kept { WaitOn (W.waits waits.old) (W.waits waits.new) }
     ensures watchers { AreWatchers inst.now (turn_to told.old ahead.now meet.0) (W.waits waits.old) (W.waits waits.new) }
 {
-    let turn = told.turn_to(ahead, meet);
+    let turn = told.turn_to(ahead, meet, places);
     if turn.is_still() {
         return;
     }
     keeper.turn(inst, told, &turn, waits);
-    told.follow(ahead, meet);
+    told.follow(ahead, meet, places);
 }
 
 /// The last two meets whose slots were taken over: of most edits, all.
@@ -100,6 +106,7 @@ fn take_new<K: Keeper, W: Waits>(
     told: &mut Told,
     ahead: &Told,
     meet: MeetId,
+    places: Places,
     taken: &mut Taken,
     waits: &mut W,
 )
@@ -108,6 +115,7 @@ fn take_new<K: Keeper, W: Waits>(
     requires told { AreTold inst.now told.old }
     requires same { emptied (slot_at ahead.now meet.0) ≡ emptied (slot_at told.old meet.0) }
     requires later { AreTold inst.now (slice_set told.old meet.0 (slot_at ahead.now meet.0)) }
+    requires elsewhere { AreSameBut places (slot_at told.old meet.0).given (slot_at ahead.now meet.0).given }
     requires monitors { W.monitors waits.old ≡ length inst.now.monitors }
     requires taken { AreTaken told.old ahead.now taken.old }
     ensures keeps { K.Keeps keeper.new inst.now told.new }
@@ -121,7 +129,7 @@ fn take_new<K: Keeper, W: Waits>(
     if taken.has(meet) {
         return;
     }
-    take(inst, keeper, told, ahead, meet, waits);
+    take(inst, keeper, told, ahead, meet, places, waits);
     *taken = taken.with(meet);
 }
 
@@ -133,12 +141,14 @@ fn take_shorter<K: Keeper, W: Waits>(
     told: &mut Told,
     ahead: &Told,
     changes: &[Change],
+    places: Places,
     waits: &mut W,
 )
     requires keeps { K.Keeps keeper.old inst.now told.old }
     requires told { AreTold inst.now told.old }
     requires ahead { AreTold inst.now ahead.now }
     requires there { (k : ℕ) → Mentions changes.now k → k < length told.old }
+    requires elsewhere { (k : ℕ) → AreSameBut places (slot_at told.old k).given (slot_at ahead.now k).given }
     requires monitors { W.monitors waits.old ≡ length inst.now.monitors }
     ensures keeps { K.Keeps keeper.new inst.now told.new }
     ensures mix { IsMix inst.now told.old ahead.now told.new }
@@ -151,7 +161,7 @@ fn take_shorter<K: Keeper, W: Waits>(
     for change in changes {
         let meet = change.meet();
         if ahead.duration(meet) < told.duration(meet) {
-            take(inst, keeper, told, ahead, meet, waits);
+            take(inst, keeper, told, ahead, meet, places, waits);
         }
     }
 }
@@ -163,12 +173,14 @@ fn take_all<K: Keeper, W: Waits>(
     told: &mut Told,
     ahead: &Told,
     changes: &[Change],
+    places: Places,
     waits: &mut W,
 )
     requires keeps { K.Keeps keeper.old inst.now told.old }
     requires told { AreTold inst.now told.old }
     requires ahead { AreTold inst.now ahead.now }
     requires there { (k : ℕ) → Mentions changes.now k → k < length told.old }
+    requires elsewhere { (k : ℕ) → AreSameBut places (slot_at told.old k).given (slot_at ahead.now k).given }
     requires shorter { (k : ℕ) → length_of (slot_at told.old k) ≤ length_of (slot_at ahead.now k) }
     requires monitors { W.monitors waits.old ≡ length inst.now.monitors }
     ensures keeps { K.Keeps keeper.new inst.now told.new }
@@ -181,7 +193,8 @@ fn take_all<K: Keeper, W: Waits>(
 {
     let mut taken = Taken::none();
     for change in changes {
-        take_new(inst, keeper, told, ahead, change.meet(), &mut taken, waits);
+        let meet = change.meet();
+        take_new(inst, keeper, told, ahead, meet, places, &mut taken, waits);
     }
 }
 
@@ -223,11 +236,24 @@ impl<K: Keeper + Drop> Family for Keeping<K> {
     }
 
     fn turn_all<W: Waits>(&mut self, inst: &Instance, changes: &[Change], waits: &mut W) {
+        let places = Places::of(changes);
         note_all(inst, &mut self.ahead, changes);
         let keeper = &mut self.keeper;
         let told = &mut self.told;
-        take_shorter(inst, keeper, told, &self.ahead, changes, waits);
-        take_all(inst, keeper, told, &self.ahead, changes, waits);
+        if changes.len() == 1 {
+            take(
+                inst,
+                keeper,
+                told,
+                &self.ahead,
+                changes[0].meet(),
+                places,
+                waits,
+            );
+            return;
+        }
+        take_shorter(inst, keeper, told, &self.ahead, changes, places, waits);
+        take_all(inst, keeper, told, &self.ahead, changes, places, waits);
     }
 
     fn deviation(&self, inst: &Instance, monitor: MonitorId) -> u64 {

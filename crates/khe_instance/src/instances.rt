@@ -8,14 +8,14 @@ ghost use Rattle.khe_instance.specs.Named.{time_named, resource_named, event_nam
 ghost use Rattle.khe_instance.specs.Slots.{HasSlot, all_tasks, first_task};
 ghost use Rattle.khe_instance.specs.WellMade.{AreWellMade};
 
-use crate::ids::names_of;
+use crate::ids::{Ids, ids_of};
 use crate::parts::{EventInfo, GroupInfo, Parts};
 use crate::points::Monitor;
 use crate::rules::Constraint;
 use crate::slots::{SlotTable, slot_table};
 use khe_base::{
-    EventId, IdSet, MeetId, MonitorId, Names, NoMemory, ResourceId, Seq, TaskId, Text, TimeId,
-    lends_to_threads, numbered,
+    EventId, IdSet, MeetId, MonitorId, NoMemory, ResourceId, Seq, TaskId, Text, TimeId,
+    lends_to_threads,
 };
 use std::alloc::Global;
 use std::marker::Model;
@@ -31,14 +31,13 @@ pub struct Instance {
     /// The members of each event group, ascending.
     members: Seq<Seq<u32>>,
     /// The Ids of the times, resources and events.
-    times: Names,
-    resources: Names,
-    events: Names,
+    ids: Ids,
 }
 
 impl Model for Instance {
     ghost use Rattle.khe_instance.specs.declared.parts.Parts.{Parts};
     ghost use Rattle.khe_base.specs.IdSet.{members_of};
+    ghost use Rattle.khe_instance.specs.Ids.{ids_of};
     ghost use Rattle.khe_instance.specs.SlotTables.{IsSlotTable};
     ghost use Rattle.khe_instance.specs.WellMade.{AreWellMade};
     ghost use Rattle.std.specs.Prelude.{◌≡◌, map};
@@ -47,8 +46,7 @@ impl Model for Instance {
 
     ghost view = { λ i. i.parts };
 
-    ghost invariant = { λ i. AreWellMade i.parts × IsSlotTable i.parts.events i.slots × (i.members ≡ map (λ g. members_of g.events) i.parts.groups)
-        × (i.times ≡ i.parts.times) × (i.resources ≡ map (λ r. r.id) i.parts.resources) × (i.events ≡ map (λ e. e.id) i.parts.events) };
+    ghost invariant = { λ i. AreWellMade i.parts × IsSlotTable i.parts.events i.slots × (i.members ≡ map (λ g. members_of g.events) i.parts.groups) × (i.ids ≡ ids_of i.parts) };
 }
 
 impl Instance {
@@ -61,18 +59,12 @@ impl Instance {
     {
         let slots = slot_table(alloc, parts.events.as_slice())?;
         let members = members_by_group(alloc, parts.groups.as_slice())?;
-        let Some(times) = numbered(alloc, parts.times.as_slice())? else {
-            unreachable!()
-        };
-        let resources = names_of(alloc, parts.resources.as_slice())?;
-        let events = names_of(alloc, parts.events.as_slice())?;
+        let ids = ids_of(alloc, &parts)?;
         Ok(Instance {
             parts,
             slots,
             members,
-            times,
-            resources,
-            events,
+            ids,
         })
     }
 
@@ -240,7 +232,7 @@ impl Instance {
     pub fn time_named(&self, id: &Text) -> Option<TimeId>
         ensures { result ≡ time_named self.now id.now }
     {
-        let number = self.times.number(id)?;
+        let number = self.ids.time(id)?;
         Some(TimeId(number as u32))
     }
 
@@ -249,7 +241,7 @@ impl Instance {
     pub fn resource_named(&self, id: &Text) -> Option<ResourceId>
         ensures { result ≡ resource_named self.now id.now }
     {
-        let number = self.resources.number(id)?;
+        let number = self.ids.resource(id)?;
         Some(ResourceId(number as u32))
     }
 
@@ -258,7 +250,7 @@ impl Instance {
     pub fn event_named(&self, id: &Text) -> Option<EventId>
         ensures { result ≡ event_named self.now id.now }
     {
-        let number = self.events.number(id)?;
+        let number = self.ids.event(id)?;
         Some(EventId(number as u32))
     }
 

@@ -3,6 +3,7 @@ pub mod FillingLaws
 pub mod FrameLaws
 pub mod FreeSlots
 pub mod ListingLaws
+pub mod NamingLaws
 pub mod OpeningLaws
 pub mod PlainLaws
 pub mod PuttingLaws

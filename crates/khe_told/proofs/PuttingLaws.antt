@@ -9,6 +9,7 @@ use Rattle.std.proofs.lemmas.Option.{get_or_from_slice_get, slice_get-get_or, sl
 use Rattle.khe_base.specs.declared.numbers.ResourceId.{ResourceId}
 use Rattle.khe_instance.specs.declared.states.Meet.{Meet}
 use Rattle.khe_instance.specs.declared.states.Task.{Task}
+use Rattle.khe_told.proofs.NamingLaws.{mixed}
 use Rattle.khe_told.proofs.SlotLaws.{set-there}
 use Rattle.khe_told.proofs.StoredLaws.{given_turned, length-slots_in, order_turned, slot_of_row, slot_stored}
 use Rattle.khe_told.proofs.StoredLaws.{span_turned}
@@ -92,6 +93,22 @@ put_more rows given s n y vs row k v h at =
           ∙ set-set s n (part x y vs k) (record (part x y vs k) { given = set (front ++ drop k x.given) k v })
           ∙ ap (λ g. set s n (record (part x y vs k) { given = g })) next;
     }
+
+-- places that are given the same already are passed over
+pub put_over : (rows : List Row) (given : List (Option ResourceId)) (s : List Slot) (n : ℕ) (y : Option Span)
+    (vs : List (Option ResourceId)) (row : Row) (k next : ℕ) → k ≤ next → IsPut rows given s n y vs row k
+    → ((j : ℕ) → k ≤ j → j < next → slice_get (slot_at s n).given j ≡ slice_get vs j)
+    → IsPut rows given s n y vs row next
+put_over rows given s n y vs row k next l h same = record {
+  order = h.order;
+  found = h.found;
+  few = h.few;
+  there = h.there;
+  many = h.many;
+  slots = h.slots
+      ∙ ap (λ g. set s n (record (slot_at s n) { span = y; given = g }))
+      (mixed vs (slot_at s n).given k next h.many l same);
+}
 
 pub put_done : (rows : List Row) (given : List (Option ResourceId)) (s : List Slot) (n : ℕ) (y : Option Span)
     (vs : List (Option ResourceId)) (row : Row) (k : ℕ) → length vs ≤ k → IsPut rows given s n y vs row k

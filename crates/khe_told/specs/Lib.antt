@@ -3,6 +3,7 @@ pub mod Changes
 pub mod Filled
 pub mod Fits
 pub mod Lists
+pub mod Naming
 pub mod Refusals
 pub mod Slots
 pub mod Stored

@@ -3,9 +3,11 @@
 ghost use Rattle.std.specs.Prelude.{◌≡◌, ◌<◌, length, slice_set};
 ghost use Rattle.khe_instance.specs.States.{IsTold};
 ghost use Rattle.khe_told.specs.Filled.{filled, AreFilled};
+ghost use Rattle.khe_told.specs.Naming.{AreSameBut};
 ghost use Rattle.khe_told.specs.Slots.{no_meets, slot_at};
 ghost use Rattle.khe_told.specs.Stored.{slots_in, AreInOrder};
 
+use crate::naming::Places;
 use crate::rows::Row;
 use crate::slots::Span;
 use khe_base::{MeetId, ResourceId};
@@ -57,24 +59,29 @@ fn put(rows: &mut Vec<Row>, given: &mut Vec<Option<ResourceId>>, meet: &Meet, ta
     }
 }
 
-/// Puts a meet, or none, and what its places are given into a slot.
+/// Puts a meet, or none, and what its places are given into a slot, where no other places than these are given
+/// something else.
 pub(crate) fn refill(
     rows: &mut Vec<Row>,
     given: &mut Vec<Option<ResourceId>>,
     meet: MeetId,
     span: Option<Span>,
     resources: &[Option<ResourceId>],
+    places: Places,
 )
     requires order { AreInOrder 0 (length given.old.items) rows.old.items }
     requires there { meet.0 < length rows.old.items }
     requires many { length resources.now ≡ length (slot_at (slots_in 0 rows.old.items given.old.items) meet.0).given }
+    requires elsewhere { AreSameBut places (slot_at (slots_in 0 rows.old.items given.old.items) meet.0).given resources.now }
     ensures order { AreInOrder 0 (length given.new.items) rows.new.items }
     ensures slots { slots_in 0 rows.new.items given.new.items ≡ slice_set (slots_in 0 rows.old.items given.old.items) meet.0 (record (slot_at (slots_in 0 rows.old.items given.old.items) meet.0) { span = span; given = resources.now }) }
 {
     let at = meet.0 as usize;
     let row = rows[at];
     rows[at] = Row { span, ..row };
-    for (place, resource) in resources.iter().enumerate() {
-        given[row.first_task as usize + place] = *resource;
+    let mut place = places.next(0);
+    while place < resources.len() {
+        given[row.first_task as usize + place] = resources[place];
+        place = places.next(place + 1);
     }
 }

@@ -4,6 +4,7 @@ ghost use Rattle.std.specs.Prelude.{◌≡◌, ◌<◌, ◌≤◌, length, slice
 ghost use Rattle.khe_instance.specs.States.{IsTold};
 ghost use Rattle.khe_told.specs.Slots.{emptied, length_of, no_meets, no_slot, slot_at};
 ghost use Rattle.khe_told.specs.Turns.{turn_to};
+ghost use Rattle.khe_told.specs.Naming.{AreSameBut};
 ghost use Rattle.khe_told.specs.Lists.{meet_in, meets_in, tasks_in};
 ghost use Rattle.khe_told.specs.Changes.{after};
 ghost use Rattle.khe_told.specs.Fits.{AreTold, Fits};
@@ -11,10 +12,11 @@ ghost use Rattle.khe_told.specs.Stored.{IsRowOf};
 
 use crate::changes::Change;
 use crate::filling::{put_all, refill};
+use crate::naming::Places;
 use crate::opening::{no_tasks, rows_of};
 use crate::rows::{Row, row_at, turn};
 use crate::slots::Span;
-use crate::turns::{Turn, is_same};
+use crate::turns::{Turn, differ};
 use khe_base::{EventId, MeetId, NoMemory, ResourceId, TaskId};
 use khe_instance::{Instance, Meet, Plain};
 use std::alloc::Global;
@@ -23,9 +25,8 @@ use std::marker::Model;
 /// The meets and tasks that were told. Contracts see the list of slots.
 ///
 /// It keeps one row for each meet slot and one entry for each task slot, a few bytes each. No call
-/// but `open` and `from_plain` takes memory. Each takes constant time, but for those two, for
-/// `turn_to` and `follow`, and for noting that a meet is added or dropped: these three go through the
-/// places of the meet's event.
+/// but `open` and `from_plain` takes memory. Each takes constant time, but for those two, and for
+/// `turn_to` and `follow`, which go through the places that they are given.
 #[derive(Drop)]
 pub struct Told {
     rows: Vec<Row>,
@@ -148,11 +149,12 @@ impl Told {
         self.given(task.meet)[task.place as usize]
     }
 
-    /// What becomes of a meet slot where it is taken over from another state. It takes the time of comparing
-    /// what its places are given.
-    pub fn turn_to<'a>(&'a self, next: &'a Told, meet: MeetId) -> Turn<'a>
+    /// What becomes of a meet slot where it is taken over from another state, which gives no other places than
+    /// these something else. It takes the time of comparing what these are given.
+    pub fn turn_to<'a>(&'a self, next: &'a Told, meet: MeetId, places: Places) -> Turn<'a>
         requires there { meet.0 < length self.now }
         requires same { emptied (slot_at next.now meet.0) ≡ emptied (slot_at self.now meet.0) }
+        requires elsewhere { AreSameBut places (slot_at self.now meet.0).given (slot_at next.now meet.0).given }
         ensures turn { result ≡ turn_to self.now next.now meet.0 }
         ensures number { result.before.meet ≡ meet }
     {
@@ -168,14 +170,17 @@ impl Told {
             after: next.span(meet),
             given_before,
             given_after,
-            gives_other: !is_same(given_before, given_after),
+            places,
+            gives_other: differ(given_before, given_after, places),
         }
     }
 
-    /// Takes over a meet slot from another state. It takes time in proportion to its places.
-    pub fn follow(&mut self, next: &Told, meet: MeetId)
+    /// Takes over a meet slot from another state, which gives no other places than these something else. It takes
+    /// time in proportion to these.
+    pub fn follow(&mut self, next: &Told, meet: MeetId, places: Places)
         requires there { meet.0 < length self.old }
         requires same { emptied (slot_at next.now meet.0) ≡ emptied (slot_at self.old meet.0) }
+        requires elsewhere { AreSameBut places (slot_at self.old meet.0).given (slot_at next.now meet.0).given }
         ensures { self.new ≡ slice_set self.old meet.0 (slot_at next.now meet.0) }
     {
         let given = next.given(meet);
@@ -185,6 +190,7 @@ impl Told {
             meet,
             next.span(meet),
             given,
+            places,
         );
     }
 

@@ -1,8 +1,10 @@
 //! What becomes of one meet slot at an edit, whatever changes lead there.
 
-ghost use Rattle.std.specs.Prelude.{◌≡◌, true, false};
+ghost use Rattle.std.specs.Prelude.{◌≡◌, ℕ, true, false, length, slice_get};
+ghost use Rattle.khe_told.specs.Naming.{AreSameBut, is_named};
 ghost use Rattle.khe_told.specs.Turns.{duration_of};
 
+use crate::naming::Places;
 use crate::slots::Span;
 use khe_base::{EventId, MeetId, ResourceId};
 use std::marker::Model;
@@ -17,12 +19,15 @@ pub struct Turn<'a> {
     pub(crate) after: Option<Span>,
     pub(crate) given_before: &'a [Option<ResourceId>],
     pub(crate) given_after: &'a [Option<ResourceId>],
+    /// The places that may be given something else.
+    pub(crate) places: Places,
     /// Whether a place is given something else.
     pub(crate) gives_other: bool,
 }
 
 impl<'a> Model for Turn<'a> {
     ghost use Rattle.std.specs.Prelude.{◌≡◌, false};
+    ghost use Rattle.khe_told.specs.Naming.{AreSameBut};
     ghost use Rattle.khe_told.specs.Turns.{SlotTurn};
 
     ghost Value = { SlotTurn };
@@ -32,7 +37,7 @@ impl<'a> Model for Turn<'a> {
       after = record { meet = t.meet; event = t.event; span = t.after; given = t.given_after.now };
     } };
 
-    ghost invariant = { λ t. t.gives_other ≡ false → t.given_before.now ≡ t.given_after.now };
+    ghost invariant = { λ t. (t.gives_other ≡ false → t.given_before.now ≡ t.given_after.now) × AreSameBut t.places t.given_before.now t.given_after.now };
 }
 
 impl<'a> Turn<'a> {
@@ -103,6 +108,17 @@ impl<'a> Turn<'a> {
         self.gives_other
     }
 
+    /// The places of which something is another: those that may be given something else, and all where the meet
+    /// is another.
+    pub fn altered(&self) -> Places
+        ensures { (j : ℕ) → is_named result j ≡ false → (slice_get self.now.before.given j ≡ slice_get self.now.after.given j) × (self.now.before.span ≡ self.now.after.span) }
+    {
+        if self.moves() {
+            return Places::All;
+        }
+        self.places
+    }
+
     /// Whether the slot becomes another at all.
     pub fn is_still(&self) -> bool
         ensures { result ≡ true → self.now.before ≡ self.now.after }
@@ -111,9 +127,25 @@ impl<'a> Turn<'a> {
     }
 }
 
-/// Whether two lists are the same.
-pub(crate) fn is_same(old: &[Option<ResourceId>], new: &[Option<ResourceId>]) -> bool
-    ensures { result ≡ true → old.now ≡ new.now }
+/// Whether one of these places is given something else, where all others are given the same.
+pub(crate) fn differ(old: &[Option<ResourceId>], new: &[Option<ResourceId>], places: Places) -> bool
+    requires many { length new.now ≡ length old.now }
+    requires elsewhere { AreSameBut places old.now new.now }
+    ensures { result ≡ false → old.now ≡ new.now }
 {
-    old == new
+    let mut place = places.next(0);
+    while place < old.len() {
+        if is_other(old[place], new[place]) {
+            return true;
+        }
+        place = places.next(place + 1);
+    }
+    false
+}
+
+/// Whether a place is given something else.
+fn is_other(old: Option<ResourceId>, new: Option<ResourceId>) -> bool
+    ensures { result ≡ false → old ≡ new }
+{
+    old != new
 }

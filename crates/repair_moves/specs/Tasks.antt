@@ -2,7 +2,11 @@
 use Rattle.std.specs.Prelude.{ℕ, ◌≡◌, ◌≤◌, ◌<◌, Bool, true, false, Option, MatchOption}
 use Rattle.khe_base.specs.declared.numbers.ResourceId.{ResourceId}
 use Rattle.khe_base.specs.declared.numbers.TaskId.{TaskId}
+use Rattle.khe_instance.specs.declared.parts.Parts.{Parts}
 use Rattle.khe_solution.specs.NextTask.{IsBefore, IsFrom}
+use Rattle.repair_moves.specs.Items.{task_at, task_slots}
+use Rattle.repair_moves.specs.Picked.{NonePass}
+use Rattle.repair_moves.specs.declared.items.TaskSlot.{TaskSlot}
 
 -- no task from one on passes; and none of those before another does
 abbrev pub NoTask : (TaskId → Bool) → TaskId → Type 0
@@ -14,6 +18,12 @@ NoTaskBefore test from t = (u : TaskId) → IsFrom from u → IsBefore u t → t
 abbrev pub IsFirstTask : (TaskId → Bool) → TaskId → Option TaskId → Type 0
 IsFirstTask test from result = MatchOption result (NoTask test from)
     (λ t. IsFrom from t × (test t ≡ true) × NoTaskBefore test from t)
+
+-- the first task slot from one on that passes, with its task
+abbrev pub IsFirstSlot : Parts → (ℕ → Bool) → ℕ → Option TaskSlot → Type 0
+IsFirstSlot p test from result = MatchOption result (NonePass test from (task_slots p))
+    (λ x. (from ≤ x.slot) × (x.slot < task_slots p) × (test x.slot ≡ true) × NonePass test from x.slot
+    × (x.task ≡ task_at p x.slot))
 
 -- the first place of a meet from one on whose task passes
 abbrev pub NoPlace : (TaskId → Bool) → ℕ → ℕ → Type 0

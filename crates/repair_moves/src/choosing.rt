@@ -1,14 +1,16 @@
 //! The choices that a part has for one of its meets or tasks.
 
 ghost use Rattle.std.specs.Prelude.{◌≡◌, ◌<◌, ◌+◌, ◌^◌, IfSome, true, not, length};
+ghost use Rattle.std.specs.Option.{option_map};
 ghost use Rattle.khe_solution.specs.Reading.{is_time};
 ghost use Rattle.khe_solution.specs.Refusing.{is_of_meets};
-ghost use Rattle.repair_moves.specs.Items.{meet_slots, task_slots};
+ghost use Rattle.repair_moves.specs.Items.{meet_slots, task_at};
 ghost use Rattle.repair_moves.specs.Moves.{choices, edit_of, is_choice, resource_of, task_move, time_move};
 ghost use Rattle.repair_moves.specs.Picked.{IsFirst};
+ghost use Rattle.repair_moves.specs.Tasks.{IsFirstSlot};
 ghost use Rattle.repair_moves.specs.declared.parts.Part.TheVariants as kinds;
 
-use crate::items::next_live_task;
+use crate::items::{TaskSlot, next_live_task};
 use crate::parts::Part;
 use crate::reads::{
     accepts, facts, has_type, is_fixed_event, is_fixed_place, live, resource_at, task_at,
@@ -28,7 +30,13 @@ fn time_move(solution: &Solution<'_>, meet: MeetId, time: TimeId) -> Edit
     }
 }
 
-fn task_move(inst: &Instance, solution: &Solution<'_>, task: TaskId, resource: ResourceId) -> Edit
+/// A task without a resource is given one, and one with a resource is given another.
+pub(crate) fn task_move(
+    inst: &Instance,
+    solution: &Solution<'_>,
+    task: TaskId,
+    resource: ResourceId,
+) -> Edit
     requires { solution.now.parts ≡ inst.now }
     ensures edit { result ≡ task_move solution.now.slots task resource.0 }
     ensures ours { is_of_meets result ≡ true }
@@ -217,18 +225,19 @@ fn next_join(
 
 /// The first resource from one on that a task can be given. It takes the time of the resources that
 /// it goes over, and each of another type takes constant time.
-fn next_resource(
+pub(crate) fn next_resource(
     inst: &Instance,
     solution: &Solution<'_>,
     point: Point,
     item: u32,
+    task: TaskId,
     from: u32,
 ) -> Option<u32>
-    requires { solution.now.parts ≡ inst.now }
+    requires of { solution.now.parts ≡ inst.now }
+    requires task { task ≡ task_at inst.now item }
     ensures next { IsFirst (is_choice inst.now solution.now.slots point kinds.TaskMoves item) from (length inst.now.resources) result }
     ensures small { IfSome result (λ k. k + 1 < 2 ^ 32) }
 {
-    let task = task_at(inst, item);
     let own = live(solution, task.meet.0)?;
     if is_fixed_place(inst, own.event, task.place) {
         return None;
@@ -246,21 +255,22 @@ fn next_resource(
     None
 }
 
-/// The first task from a task slot on with which a task can exchange its resource. It takes the time
+/// The first task from a task slot on with which a task can exchange its resource, with its slot. It takes the time
 /// of the tasks of live meets that it goes over.
-fn next_trade(
+pub(crate) fn next_trade(
     inst: &Instance,
     solution: &Solution<'_>,
     point: Point,
     item: u32,
+    task: TaskId,
     from: u32,
-) -> Option<u32>
-    requires { solution.now.parts ≡ inst.now }
-    ensures next { IsFirst (is_choice inst.now solution.now.slots point kinds.TradeMoves item) from (task_slots inst.now) result }
-    ensures small { IfSome result (λ k. k + 1 < 2 ^ 32) }
+) -> Option<TaskSlot>
+    requires of { solution.now.parts ≡ inst.now }
+    requires task { task ≡ task_at inst.now item }
+    ensures next { IsFirstSlot inst.now (is_choice inst.now solution.now.slots point kinds.TradeMoves item) from result }
+    ensures small { IfSome result (λ x. x.slot + 1 < 2 ^ 32) }
 {
     facts(inst, solution);
-    let task = task_at(inst, item);
     let own = live(solution, task.meet.0)?;
     if is_fixed_place(inst, own.event, task.place) {
         return None;
@@ -272,12 +282,12 @@ fn next_trade(
     while let Some(other) = next_live_task(inst, solution, next) {
         let edit = Edit::SwapTasks {
             a: task,
-            b: task_at(inst, other),
+            b: other.task,
         };
         if accepts(inst, solution, edit) {
             return Some(other);
         }
-        next = other + 1;
+        next = other.slot + 1;
     }
     None
 }
@@ -308,6 +318,16 @@ fn next_give(
     }
 }
 
+/// The slot of a task that was found.
+fn slot_of(found: Option<TaskSlot>) -> Option<u32>
+    ensures { result ≡ option_map (λ x. x.slot) found }
+{
+    match found {
+        Some(found) => Some(found.slot),
+        None => None,
+    }
+}
+
 /// The first choice from one on that is a move.
 #[tactic(auto, unfolding(crate::specs::Moves::choices))]
 pub(crate) fn next_choice(
@@ -327,8 +347,11 @@ pub(crate) fn next_choice(
         Part::SwapMoves => next_swap(inst, solution, point, item, from),
         Part::Cuts => next_cut(inst, solution, point, item, from),
         Part::Joins => next_join(inst, solution, point, item, from),
-        Part::TaskMoves => next_resource(inst, solution, point, item, from),
-        Part::TradeMoves => next_trade(inst, solution, point, item, from),
+        Part::TaskMoves => { next_resource(inst, solution, point, item, task_at(inst, item), from) }
+        Part::TradeMoves => {
+            let task = task_at(inst, item);
+            slot_of(next_trade(inst, solution, point, item, task, from))
+        }
         Part::Gives => next_give(inst, solution, point, item, from),
     }
 }

@@ -9,7 +9,7 @@ ghost use Rattle.repair_moves.specs.Items.{is_free_at, is_item, is_live_at, is_m
 ghost use Rattle.khe_instance.specs.Slots.{first_task};
 ghost use Rattle.repair_moves.specs.Named.{AreSlotsOf, AreWithin, NamesItsTasks, is_named, pair_at};
 ghost use Rattle.repair_moves.specs.Picked.{IsFirst};
-ghost use Rattle.repair_moves.specs.Tasks.{IsAlways, IsFirstPlace, IsFirstTask};
+ghost use Rattle.repair_moves.specs.Tasks.{IsAlways, IsFirstPlace, IsFirstSlot, IsFirstTask};
 ghost use Rattle.khe_instance.specs.declared.points.Point.TheVariants.{EventPair as AtPair, Resource as AtResource};
 
 use crate::parts::Part;
@@ -17,6 +17,13 @@ use crate::reads::{facts, has_type, live, place_at, task_at};
 use khe_base::{EventId, MeetId, ResourceId, TaskId, Text};
 use khe_instance::{EventPair, Instance, Point, Rule};
 use khe_solution::Solution;
+
+/// A task slot with its task.
+#[derive(Clone, Copy)]
+pub(crate) struct TaskSlot {
+    pub(crate) slot: u32,
+    pub(crate) task: TaskId,
+}
 
 /// The numbers from `start` to the one before `end`.
 #[derive(Clone, Copy)]
@@ -326,10 +333,14 @@ fn next_slot(
     Some(number_of(inst, task))
 }
 
-/// The first task slot from one on whose meet is live. It goes over the live meets alone.
-pub(crate) fn next_live_task(inst: &Instance, solution: &Solution<'_>, from: u32) -> Option<u32>
+/// The first task slot from one on whose meet is live, with its task. It goes over the live meets alone.
+pub(crate) fn next_live_task(
+    inst: &Instance,
+    solution: &Solution<'_>,
+    from: u32,
+) -> Option<TaskSlot>
     requires { solution.now.parts ≡ inst.now }
-    ensures { IsFirst (is_live_at inst.now solution.now.slots) from (task_slots inst.now) result }
+    ensures { IsFirstSlot inst.now (is_live_at inst.now solution.now.slots) from result }
 {
     facts(inst, solution);
     let mut slot = from;
@@ -339,7 +350,7 @@ pub(crate) fn next_live_task(inst: &Instance, solution: &Solution<'_>, from: u32
             return None;
         };
         if next.0 == task.meet.0 {
-            return Some(slot);
+            return Some(TaskSlot { slot, task });
         }
         slot = inst.first_task(next);
     }

@@ -4,13 +4,15 @@ ghost use Rattle.std.specs.Prelude.{◌≡◌, ◌<◌, ◌+◌, ◌^◌, None, 
 ghost use Rattle.khe_solution.specs.Refusing.{is_of_meets, refusal};
 ghost use Rattle.repair_moves.specs.Cursors.{left_of_part, ahead, IsCursor, IsNext};
 ghost use Rattle.repair_moves.specs.Moves.{moves as moves_at, part_from};
+ghost use Rattle.repair_moves.specs.declared.parts.Part.TheVariants.{TaskMoves, TradeMoves};
 ghost use Rattle.repair_moves.specs.Walks.{IsMove, IsNextIn, IsNextOf};
 
-use crate::choosing::{edit_of, next_choice};
+use crate::choosing::{edit_of, next_choice, next_resource, next_trade, task_move};
 use crate::cursors::{Cursor, Spot};
 use crate::items::next_item;
 use crate::parts::{Part, parts_of};
-use khe_base::MonitorId;
+use crate::reads::task_at;
+use khe_base::{MonitorId, ResourceId};
 use khe_instance::{Instance, Point, Rule};
 use khe_solution::Solution;
 use khe_told::Edit;
@@ -32,6 +34,55 @@ fn at_start() -> Spot
     }
 }
 
+/// The first move of a task to a resource, from a resource on. The task is looked up once.
+fn next_of_task(
+    inst: &Instance,
+    solution: &Solution<'_>,
+    point: Point,
+    item: u32,
+    from: u32,
+) -> Option<Found>
+    requires { solution.now.parts ≡ inst.now }
+    ensures next { IsNextOf inst.now solution.now.slots point TaskMoves item from result }
+    ensures moves { IfSome result (λ f. IsMove inst.now solution.now.slots f.edit) }
+{
+    let task = task_at(inst, item);
+    let choice = next_resource(inst, solution, point, item, task, from)?;
+    Some(Found {
+        edit: task_move(inst, solution, task, ResourceId(choice)),
+        spot: Spot {
+            item,
+            choice: Some(choice + 1),
+        },
+    })
+}
+
+/// The first trade of a task, from a task slot on. Both tasks are looked up once.
+fn next_of_trade(
+    inst: &Instance,
+    solution: &Solution<'_>,
+    point: Point,
+    item: u32,
+    from: u32,
+) -> Option<Found>
+    requires { solution.now.parts ≡ inst.now }
+    ensures next { IsNextOf inst.now solution.now.slots point TradeMoves item from result }
+    ensures moves { IfSome result (λ f. IsMove inst.now solution.now.slots f.edit) }
+{
+    let task = task_at(inst, item);
+    let other = next_trade(inst, solution, point, item, task, from)?;
+    Some(Found {
+        edit: Edit::SwapTasks {
+            a: task,
+            b: other.task,
+        },
+        spot: Spot {
+            item,
+            choice: Some(other.slot + 1),
+        },
+    })
+}
+
 /// The first move of a meet or task from a choice on.
 fn next_of_item(
     inst: &Instance,
@@ -45,6 +96,12 @@ fn next_of_item(
     ensures next { IsNextOf inst.now solution.now.slots point part item from result }
     ensures moves { IfSome result (λ f. IsMove inst.now solution.now.slots f.edit) }
 {
+    if let Part::TaskMoves = part {
+        return next_of_task(inst, solution, point, item, from);
+    }
+    if let Part::TradeMoves = part {
+        return next_of_trade(inst, solution, point, item, from);
+    }
     let choice = next_choice(inst, solution, point, part, item, from)?;
     Some(Found {
         edit: edit_of(inst, solution, point, part, item, choice),

@@ -1,8 +1,9 @@
 -- Places that are given something else, one after the other.
 use Rattle.std.proofs.Common.{ℕ, ◌≡◌, ◌≤◌, ◌<◌, ◌+◌, ◌-◌, ◌∙◌, ◌⊎◌, inl, inr, zero, suc, Bool, true, false, cond}
 use Rattle.std.proofs.Common.{Option}
-use Rattle.std.proofs.Common.{Some, None, List, [], ◌∷◌, take, get_or, length, refl, sym, ap, subst, arith}
+use Rattle.std.proofs.Common.{Some, None, List, [], ◌∷◌, take, get_or, length, slice_get, refl, sym, ap, subst, arith}
 use Rattle.std.proofs.Common.{zero-add}
+use Rattle.std.proofs.lemmas.Bool.{cases_lt}
 use Rattle.std.proofs.lemmas.List.{take_all}
 use Rattle.std.proofs.lemmas.List.Sums.{count_by-le-length, sum_by-cons, sum_by-take-le, sum_by_more}
 use Rattle.std.proofs.lemmas.Option.{same_Some, slice_get-get_or}
@@ -14,6 +15,7 @@ use Rattle.resource_monitors.specs.Cells.{given_to, in_run}
 use Rattle.resource_monitors.specs.Runs.{AreAtEither, AreAtMoved, AreAtRun, AreExchanged, CanTurn, IsAtMoved, IsAtRun}
 use Rattle.resource_monitors.specs.Runs.{Turned, cells_of}
 use Rattle.resource_monitors.specs.declared.runs.Run.{Run}
+use Rattle.resource_monitors.proofs.OverLaws.{passed_on}
 
 -- one place more
 given_more : (given : List (Option ResourceId)) (i q : ℕ) → i < length given
@@ -118,6 +120,23 @@ at_either p before later emptied filled old mid new moved first second i e = by 
     by (inl w) = earlier (first i w)
     by (inr w) = inr (moved, inr w)
 
+-- a place that is passed over
+pub passed_over : (emptied filled : Option Run) (o n : Option ResourceId) (f : ℕ → ℕ → ℕ) → emptied ≡ filled → o ≡ n
+    → AreExchanged emptied filled (o ∷ []) (n ∷ []) f f
+passed_over emptied filled o n f e s q t = λ i. f q t + cells_of (e i) (s i ∷ []) q t
+
+-- no place
+cells_none : (run : Option Run) (q t : ℕ) → cells_of run [] q t ≡ 0
+cells_none None q t = refl
+cells_none (Some run) q t = by (in_run run.start run.end t)
+  where
+    by : (b : Bool) → cond {A = ℕ} b 0 0 ≡ 0
+    by true = refl
+    by false = refl
+
+pub exchanged_none : (emptied filled : Option Run) (f : ℕ → ℕ → ℕ) → AreExchanged emptied filled [] [] f f
+exchanged_none emptied filled f q t = ap (λ n. f q t + n) (cells_none emptied q t ∙ sym (cells_none filled q t))
+
 -- all places
 module _ (emptied filled : Option Run) (before later : List (Option ResourceId)) where
   pub exchanged_last : (n : ℕ) (old new : ℕ → ℕ → ℕ) → length before ≤ n → length later ≡ length before
@@ -204,7 +223,25 @@ module _ (emptied filled : Option Run) (before later : List (Option ResourceId))
           own = w.1;
         })
 
--- a place that is passed over
-pub passed_over : (emptied filled : Option Run) (o n : Option ResourceId) (f : ℕ → ℕ → ℕ) → emptied ≡ filled → o ≡ n
-    → AreExchanged emptied filled (o ∷ []) (n ∷ []) f f
-passed_over emptied filled o n f e s q t = λ i. f q t + cells_of (e i) (s i ∷ []) q t
+  -- up to the next place that is altered
+  pub exchanged_over : (i next : ℕ) → i ≤ next → length later ≡ length before
+      → ((j : ℕ) → i ≤ j → j < next → (slice_get before j ≡ slice_get later j) × (emptied ≡ filled))
+      → (old new : ℕ → ℕ → ℕ) → AreExchanged emptied filled (take i before) (take i later) old new
+      → AreExchanged emptied filled (take next before) (take next later) old new
+  exchanged_over i next l same still old new h =
+      passed_on (λ n. AreExchanged emptied filled (take n before) (take n later) old new) i next l step h
+    where
+      step : (j : ℕ) → i ≤ j → j < next → AreExchanged emptied filled (take j before) (take j later) old new
+          → AreExchanged emptied filled (take (j + 1) before) (take (j + 1) later) old new
+      step j a b first = by (cases_lt j (length before))
+        where
+          by : (j < length before) ⊎ (length before ≤ j)
+              → AreExchanged emptied filled (take (j + 1) before) (take (j + 1) later) old new
+          by (inl c) = exchanged_more j c same old new new first
+              (passed_over emptied filled (get_or before j None) (get_or later j None) new (still j a b).1
+              (same_Some (get_or before j None) (get_or later j None) (sym (slice_get-get_or before j None c)
+              ∙ (still j a b).0 ∙ slice_get-get_or later j None (omega (arith, c, same)))))
+          by (inr c) = subst (λ xs. AreExchanged emptied filled xs (take (j + 1) later) old new)
+              (take_all j before c ∙ sym (take_all (j + 1) before (omega (arith, c))))
+              (subst (λ xs. AreExchanged emptied filled (take j before) xs old new)
+              (take_all j later (omega (arith, c, same)) ∙ sym (take_all (j + 1) later (omega (arith, c, same)))) first)

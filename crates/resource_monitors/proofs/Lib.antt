@@ -12,6 +12,7 @@ pub mod LoadStepLaws
 pub mod LoadValueLaws
 pub mod MeasureLaws
 pub mod OpenLaws
+pub mod OverLaws
 pub mod PlaceLaws
 pub mod PostLaws
 pub mod RunLaws

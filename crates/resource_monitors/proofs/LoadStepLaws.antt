@@ -2,9 +2,9 @@
 use Rattle.std.proofs.Common.{ℕ, ◌≡◌, ◌≤◌, ◌<◌, ◌+◌, ◌^◌, ◌∙◌, ◌⊎◌, inl, inr, Bool, true, false, cond, Option, Some}
 use Rattle.std.proofs.Common.{None}
 use Rattle.std.proofs.Common.{List, take, get_or, length, slice_get, slice_index, refl, sym, ap, subst, arith, zero-add}
-use Rattle.std.proofs.lemmas.Bool.{and_parts, cases_eq, eq-eqb, ne_eqb, true≢false}
+use Rattle.std.proofs.lemmas.Bool.{and_parts, cases_eq, cases_lt, eq-eqb, ne_eqb, true≢false}
 use Rattle.std.proofs.lemmas.List.{take_all}
-use Rattle.std.proofs.lemmas.Option.{slice_get-get_or, slice_get_within}
+use Rattle.std.proofs.lemmas.Option.{same_Some, slice_get-get_or, slice_get_within}
 use Rattle.khe_base.specs.declared.numbers.EventId.{EventId}
 use Rattle.khe_base.specs.declared.numbers.ResourceId.{ResourceId}
 use Rattle.khe_instance.specs.Watching.{is_at}
@@ -23,6 +23,7 @@ use Rattle.resource_monitors.specs.Loads.{AreOnMoved}
 use Rattle.resource_monitors.specs.Loads.{CanTurn, HasLoads, IsOnLoad, IsOnMoved, Turned, is_on_workload, part_of}
 use Rattle.resource_monitors.specs.Loads.{value_in, worth_at, worths_of}
 use Rattle.resource_monitors.proofs.LoadLaws.{worths_less, worths_more}
+use Rattle.resource_monitors.proofs.OverLaws.{passed_on}
 use Rattle.resource_monitors.proofs.LoadValueLaws.{IsOnWorkload, on_workload, value_is, value_same}
 
 -- the workload of another resource stays
@@ -215,3 +216,28 @@ module _ (p : Parts) (event : EventId) (less more : ℕ) (before later : List (O
           moved = w.0;
           own = w.1;
         })
+
+  -- up to the next place that is altered
+  pub exchanged_over : (i next : ℕ) → i ≤ next → length later ≡ length before
+      → ((j : ℕ) → i ≤ j → j < next → (slice_get before j ≡ slice_get later j) × (less ≡ more))
+      → (old new : List ℕ) → AreAllExchanged p event less more (take i before) (take i later) old new
+      → AreAllExchanged p event less more (take next before) (take next later) old new
+  exchanged_over i next l same still old new h =
+      passed_on (λ n. AreAllExchanged p event less more (take n before) (take n later) old new) i next l step h
+    where
+      step : (j : ℕ) → i ≤ j → j < next → AreAllExchanged p event less more (take j before) (take j later) old new
+          → AreAllExchanged p event less more (take (j + 1) before) (take (j + 1) later) old new
+      step j a b first = by (cases_lt j (length before))
+        where
+          by : (j < length before) ⊎ (length before ≤ j)
+              → AreAllExchanged p event less more (take (j + 1) before) (take (j + 1) later) old new
+          by (inl c) = exchanged_more j c same old new new first
+              (passed_over (get_or before j None) (get_or later j None) (worth_at p event less j)
+              (worth_at p event more j) new
+              (same_Some (get_or before j None) (get_or later j None) (sym (slice_get-get_or before j None c)
+              ∙ (still j a b).0 ∙ slice_get-get_or later j None (omega (arith, c, same))))
+              (ap (λ d. worth_at p event d j) (still j a b).1))
+          by (inr c) = subst (λ xs. AreAllExchanged p event less more xs (take (j + 1) later) old new)
+              (take_all j before c ∙ sym (take_all (j + 1) before (omega (arith, c))))
+              (subst (λ xs. AreAllExchanged p event less more (take j before) xs old new)
+              (take_all j later (omega (arith, c, same)) ∙ sym (take_all (j + 1) later (omega (arith, c, same)))) first)

@@ -39,9 +39,9 @@ pub struct Cells<K> {
 }
 
 /// Turns the counts where a slot becomes another, and lets the monitors wait that list one of the times. What
-/// was told is the state before. It takes time in proportion to the places times the times, and for each monitor
-/// at what a place is given time in proportion to the times at most; where the meet has no start before and none
-/// after it takes constant time.
+/// was told is the state before. It takes time in proportion to the altered places times the times, and for each
+/// monitor at what these are given time in proportion to the times at most; where the meet has no start before and
+/// none after it takes constant time.
 fn turn_cells<K: CellKinds, W: Waits>(
     inst: &Instance,
     told: &Told,
@@ -73,8 +73,9 @@ fn turn_cells<K: CellKinds, W: Waits>(
     }
     let before = turn.given_before();
     let later = turn.given_after();
+    let places = turn.altered();
     follow_all::<K, W>(
-        inst, sets, lists, before, later, emptied, filled, table, waits,
+        inst, sets, lists, before, later, places, emptied, filled, table, waits,
     );
 }
 

@@ -1,7 +1,8 @@
 //! Raising and lowering workloads where a slot becomes another.
 
-ghost use Rattle.std.specs.Prelude.{◌≡◌, ◌<◌, true, false, length, Some};
+ghost use Rattle.std.specs.Prelude.{◌≡◌, ◌<◌, ℕ, true, false, length, slice_get, Some};
 ghost use Rattle.khe_base.specs.declared.numbers.ResourceId.{ResourceId};
+ghost use Rattle.khe_told.specs.Naming.{is_named};
 ghost use Rattle.khe_told.specs.Turns.{AreWatchers, IsTurn, turned};
 ghost use Rattle.khe_told.specs.Waits.{AreUnmoved, WaitOn};
 ghost use Rattle.resource_monitors.specs.Posts.{AreLists};
@@ -12,7 +13,7 @@ use crate::loads::{length_of, turn_load, worth_of};
 use crate::posts::Post;
 use khe_base::{EventId, ResourceId, Seq};
 use khe_instance::Instance;
-use khe_told::{Told, Turn, Waits};
+use khe_told::{Places, Told, Turn, Waits};
 
 /// Raises the workload of the resource that a place is given, or lowers it, and lets the monitors on it wait.
 fn follow_place<W: Waits>(
@@ -96,6 +97,7 @@ fn follow_both<W: Waits>(
 }
 
 /// Lowers the workloads of what the places of a meet are given before, and raises those of what they are given after.
+/// It looks at these places alone: any other is given the same for the same duration.
 fn follow_all<W: Waits>(
     inst: &Instance,
     lists: &[Seq<Post>],
@@ -104,11 +106,13 @@ fn follow_all<W: Waits>(
     more: u32,
     before: &[Option<ResourceId>],
     later: &[Option<ResourceId>],
+    places: Places,
     loads: &mut Vec<u128>,
     waits: &mut W,
 )
     requires lists { AreLists is_on_workload (length inst.now.resources) inst.now.monitors lists.now }
     requires can { CanExchange inst.now event less more before.now later.now loads.old.items }
+    requires still { (j : ℕ) → is_named places j ≡ false → (slice_get before.now j ≡ slice_get later.now j) × (less ≡ more) }
     requires monitors { W.monitors waits.old ≡ length inst.now.monitors }
     ensures resources { length loads.new.items ≡ length loads.old.items }
     ensures loads { AreAllExchanged inst.now event less more before.now later.now loads.old.items loads.new.items }
@@ -117,17 +121,19 @@ fn follow_all<W: Waits>(
     ensures kept { WaitOn (W.waits waits.old) (W.waits waits.new) }
     ensures listed { AreOnMoved inst.now less more before.now later.now (W.waits waits.old) (W.waits waits.new) }
 {
-    for number in 0..before.len() {
+    let mut number = places.next(0);
+    while number < before.len() {
         let old = before[number];
         let new = later[number];
         follow_both(
             inst, lists, event, less, more, number, old, new, loads, waits,
         );
+        number = places.next(number + 1);
     }
 }
 
 /// Turns the workloads where a slot becomes another, and lets the monitors on them wait. It takes time in proportion
-/// to the places and the monitors on their workloads.
+/// to the places that are altered and the monitors on their workloads.
 pub(crate) fn turn_loads<W: Waits>(
     inst: &Instance,
     told: &Told,
@@ -153,5 +159,8 @@ pub(crate) fn turn_loads<W: Waits>(
     let more = length_of(turn.after());
     let before = turn.given_before();
     let later = turn.given_after();
-    follow_all(inst, lists, event, less, more, before, later, loads, waits);
+    let places = turn.altered();
+    follow_all(
+        inst, lists, event, less, more, before, later, places, loads, waits,
+    );
 }

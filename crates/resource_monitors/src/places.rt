@@ -1,8 +1,9 @@
 //! What becomes of the cells of a resource where a place of a meet is given another.
 
-ghost use Rattle.std.specs.Prelude.{◌≡◌, ◌≤◌, ◌+◌, ◌<◌, ◌∷◌, [], ℕ, true, false, length, Some};
+ghost use Rattle.std.specs.Prelude.{◌≡◌, ◌≤◌, ◌+◌, ◌<◌, ◌∷◌, [], ℕ, true, false, length, slice_get, Some};
 ghost use Rattle.khe_base.specs.declared.limits.TheConstants.{GREATEST_COUNT};
 ghost use Rattle.khe_base.specs.declared.numbers.ResourceId.{ResourceId};
+ghost use Rattle.khe_told.specs.Naming.{is_named};
 ghost use Rattle.khe_told.specs.Waits.{WaitOn};
 ghost use Rattle.timetables.specs.Counts.{count_at};
 ghost use Rattle.resource_monitors.specs.Cells.{AreMeasuredSame, HasRows};
@@ -20,7 +21,7 @@ use crate::runs::{Run, limit_for};
 use crate::tables::CellTable;
 use khe_base::{ResourceId, Seq};
 use khe_instance::Instance;
-use khe_told::Waits;
+use khe_told::{Places, Waits};
 
 /// Fills or empties the cells of the resource that a place is given, and lets the monitors at it wait that list one
 /// of the times.
@@ -112,13 +113,15 @@ fn follow_both<K: CellKinds, W: Waits>(
 }
 
 /// Empties the cells of what the places are given before, and fills those of what they are given after, and lets the
-/// monitors at them wait that list one of the times.
+/// monitors at them wait that list one of the times. It looks at these places alone: any other is given the same at
+/// the same times.
 pub(crate) fn follow_all<K: CellKinds, W: Waits>(
     inst: &Instance,
     sets: &TimeSets,
     lists: &[Seq<Post>],
     before: &[Option<ResourceId>],
     later: &[Option<ResourceId>],
+    places: Places,
     emptied: Option<Run>,
     filled: Option<Run>,
     table: &mut CellTable,
@@ -128,6 +131,7 @@ pub(crate) fn follow_all<K: CellKinds, W: Waits>(
     requires lists { AreLists K.serves_kind (length inst.now.resources) inst.now.monitors lists.now }
     requires rows { HasRows inst.now table.old }
     requires can { CanExchange inst.now emptied filled before.now later.now (count_at table.old) }
+    requires still { (j : ℕ) → is_named places j ≡ false → (slice_get before.now j ≡ slice_get later.now j) × (emptied ≡ filled) }
     requires monitors { W.monitors waits.old ≡ length inst.now.monitors }
     ensures rows { HasRows inst.now table.new }
     ensures counts { AreExchanged emptied filled before.now later.now (count_at table.old) (count_at table.new) }
@@ -136,9 +140,11 @@ pub(crate) fn follow_all<K: CellKinds, W: Waits>(
     ensures kept { WaitOn (W.waits waits.old) (W.waits waits.new) }
     ensures listed { AreAtMoved inst.now emptied filled before.now later.now (W.waits waits.old) (W.waits waits.new) }
 {
-    for place in 0..before.len() {
+    let mut place = places.next(0);
+    while place < before.len() {
         let old = before[place];
         let new = later[place];
         follow_both::<K, W>(inst, sets, lists, old, new, emptied, filled, table, waits);
+        place = places.next(place + 1);
     }
 }

@@ -1,7 +1,7 @@
 //! What the parts of an instance are called: by their names, and by their Ids where they have none.
 
 use khe_base::Text;
-use xhstt_shape::{MetaData, RawInstance};
+use xhstt_shape::{About, RawInstance};
 
 /// A name, or the Id where the name is missing.
 pub(crate) fn shown<'a>(name: &'a Text, id: &'a Text) -> &'a Text {
@@ -9,9 +9,9 @@ pub(crate) fn shown<'a>(name: &'a Text, id: &'a Text) -> &'a Text {
 }
 
 /// What an archive, an instance or a solution group is called.
-pub(crate) fn whole_name<'a>(meta_data: &'a Option<MetaData>, id: &'a Text) -> &'a Text {
+pub(crate) fn whole_name<'a>(meta_data: &'a Option<About>, id: &'a Text) -> &'a Text {
     match meta_data {
-        Some(meta_data) => shown(&meta_data.name, id),
+        Some(meta_data) => shown(&meta_data.said().name, id),
         None => id,
     }
 }

@@ -66,7 +66,7 @@ fn push_contents(page: &mut Text, archive: &Archive, solutions: usize) -> Result
     push_counted(page, "<p>Instances: ", instances, ", ")?;
     push_counted(page, "solutions: ", solutions as u128, ".</p>\n")?;
     match &archive.meta_data {
-        Some(meta_data) => push_meta_data(page, meta_data),
+        Some(meta_data) => push_meta_data(page, meta_data.said()),
         None => Ok(()),
     }
 }

@@ -4,13 +4,14 @@ use Rattle.std.proofs.Common.{if◌then◌else◌, get_or, List, [], ◌∷◌, 
 use Rattle.std.proofs.Common.{arith}
 use Rattle.std.specs.List.{filter, filter_map, flat_map, list_any, position_or_len, slice_get, cons_option}
 use Rattle.std.specs.Str.{bytes_eq}
-use Rattle.std.specs.Option.{is_some, option_and_then, option_map_or}
-use Rattle.std.proofs.lemmas.Option.{slice_get-get_or}
+use Rattle.std.specs.Option.{is_some, option_and_then, option_map, option_map_or}
+use Rattle.std.proofs.lemmas.Option.{slice_get-get_or, slice_get-map}
 use Rattle.std.proofs.lemmas.List.Quantifiers.{position-Some}
 use Rattle.std.proofs.lemmas.Bool.Decides.{nat_tests}
 use Rattle.khe_base.proofs.ListLemmas.{below_length, none_of}
 use Rattle.khe_base.specs.Names.{is_among_names, number_of}
 use Rattle.xhstt_references.specs.First.{noted, first_of}
+use Rattle.xhstt_references.specs.Directories.{named_in}
 use Rattle.xhstt_references.specs.References.{unknown, unknown_in_entry, unknown_in_solution, off_end_from}
 use Rattle.xhstt_references.proofs.FirstLemmas.{first_of_nil, first_of_one}
 use Rattle.xhstt_references.specs.declared.directories.Directory.{Directory}
@@ -37,6 +38,11 @@ pub not_known : (first : Option ℕ) (names : List (List ℕ)) (r : Ref) → is_
 not_known first names r h =
     sym (first_of_one first r.at)
     ∙ ap (λ b. first_of first (map (λ x. x.at) (cond (not b) (r ∷ []) []))) (sym h ∙ is_some_position _ names)
+
+-- whether there is a number does not depend on what is made of it
+pub is_some_map : {A B : Type 0} (f : A → B) (o : Option A) → is_some (option_map f o) ≡ is_some o
+is_some_map f None = refl
+is_some_map f (Some a) = refl
 
 -- references one by one
 pub unknown_each : (names : List (List ℕ)) (rs : List Ref)
@@ -110,6 +116,32 @@ module _ (ids : List (List ℕ)) (directories : List Directory) (s : RawSolution
       (sym (is_some_position _ ids) ∙ ap is_some is)
       ∙ ap (λ o. s.reference.at ∷ option_map_or (λ e. flat_map (unknown_in_entry e) s.events)
       (option_and_then (λ j. slice_get directories j) o) []) is
+
+  -- solutions name times, resources and events alone
+  pub solution_named : unknown_in_solution ids (map named_in directories) s ≡ unknown_in_solution ids directories s
+  solution_named = ap (λ places. unknown ids (s.reference ∷ []) ++ places) (by (number_of s.reference.id ids))
+    where
+      kept : (o : Option Directory)
+          → option_map_or (λ d. flat_map (unknown_in_entry d) s.events) (option_map named_in o) []
+          ≡ option_map_or (λ d. flat_map (unknown_in_entry d) s.events) o []
+      kept None = refl
+      kept (Some d) = refl
+
+      by : (n : Option ℕ) → option_map_or (λ d. flat_map (unknown_in_entry d) s.events)
+          (option_and_then (λ k. slice_get (map named_in directories) k) n) []
+          ≡ option_map_or (λ d. flat_map (unknown_in_entry d) s.events)
+          (option_and_then (λ k. slice_get directories k) n) []
+      by None = refl
+      by (Some k) = ap (λ o. option_map_or (λ d. flat_map (unknown_in_entry d) s.events) o [])
+          (slice_get-map named_in directories k)
+          ∙ kept (slice_get directories k)
+
+pub solutions_named : (ids : List (List ℕ)) (directories : List Directory) (ss : List RawSolution)
+    → flat_map (unknown_in_solution ids (map named_in directories)) ss
+    ≡ flat_map (unknown_in_solution ids directories) ss
+solutions_named ids directories [] = refl
+solutions_named ids directories (s ∷ ss) =
+    λ j. solution_named ids directories s j ++ solutions_named ids directories ss j
 
 -- where no reference of the solutions is unknown, each of them has a number
 pub all_numbered : (ids : List (List ℕ)) (directories : List Directory) (ss : List RawSolution)

@@ -10,8 +10,8 @@ ghost use Rattle.xhstt_references.specs.declared.directories.Directory.{Director
 use crate::directories::Directory;
 use crate::first::First;
 use xhstt_shape::{
-    RawApplies, RawConstraint, RawEntry, RawEvent, RawEventResource, RawGiven, RawInstance,
-    RawPair, RawResource, RawRule, RawSpread, ResourceGroup, Time,
+    RawApplies, RawConstraint, RawEvent, RawEventResource, RawInstance, RawPair, RawResource,
+    RawRule, RawSpread, ResourceGroup, Time,
 };
 
 /// What refers to an instance's parts.
@@ -190,23 +190,5 @@ impl Refer for RawConstraint {
     fn note_unknown(&self, directory: &Directory, first: &mut First) {
         self.applies.note_unknown(directory, first);
         self.rule.note_unknown(directory, first);
-    }
-}
-
-impl Refer for RawGiven {
-    ghost unknown = { spec.unknown_in_given };
-
-    fn note_unknown(&self, directory: &Directory, first: &mut First) {
-        first.note_unknown(&directory.resources, &self.reference);
-    }
-}
-
-impl Refer for RawEntry {
-    ghost unknown = { spec.unknown_in_entry };
-
-    fn note_unknown(&self, directory: &Directory, first: &mut First) {
-        first.note_unknown(&directory.events, &self.reference);
-        first.note_unknown_one(&directory.times, &self.time);
-        note_unknown_in(directory, self.resources.as_slice(), first);
     }
 }

@@ -1,40 +1,40 @@
 //! The instance of each solution, or the first reference of a solution that names nothing.
 
-ghost use Rattle.std.specs.Prelude.{◌≡◌, ◌<◌, ◌^◌, ◌++◌, Some, map, length, IfOk, OnOk};
+ghost use Rattle.std.specs.Prelude.{◌≡◌, ◌<◌, ◌^◌, ◌++◌, ◌∷◌, [], ℕ, List, Some, is_some, map, length, IfOk, OnOk};
 ghost use Rattle.std.specs.List.{filter_map, flat_map};
 ghost use Rattle.std.specs.Option.{option_to_list};
 ghost use Rattle.khe_base.specs.Names.{number_of};
-ghost use Rattle.xhstt_references.specs.Directories.{directory_of};
+ghost use Rattle.xhstt_references.specs.Directories.{directory_of, named_by, named_in};
 ghost use Rattle.xhstt_references.specs.Faults.{IsTold, fault_of_solutions};
 ghost use Rattle.xhstt_references.specs.First.{first_of};
 ghost use Rattle.xhstt_references.specs.Ids.{instance_ids};
 ghost use Rattle.xhstt_references.specs.References as spec;
 
-use crate::directories::Directory;
 use crate::faults::ReferenceFault;
 use crate::first::First;
-use crate::looking_up::note_unknown_in;
 use fault_tables::UNKNOWN_REFERENCE;
 use khe_base::{Names, NoMemory, Seq};
+use khe_instance::Instance;
 use std::alloc::Global;
-use xhstt_shape::{Archive, RawSolution, SolutionGroup};
+use xhstt_shape::{Archive, RawEntry, RawGiven, RawSolution, Ref, SolutionGroup};
 
 /// The number of each solution's instance, group by group, or the first reference of a solution
 /// that names nothing: to an instance, or to an event, a time or a resource of its instance.
 ///
-/// `instances` are the names of the archive's instances, and `directories` those of the parts of
-/// each. The fault is of the kind `UNKNOWN_REFERENCE`. Memory is taken in proportion to the number
-/// of solutions, and where it is refused, `NoMemory` comes. The time is linear in the text of the
-/// solutions on average, since each reference is looked up by its hash.
+/// `instances` are the names of the archive's instances, and `made` the instances, of which each knows
+/// the Ids of its own times, resources and events. The fault is of the kind `UNKNOWN_REFERENCE`. Memory
+/// is taken in proportion to the number of solutions, and where it is refused, `NoMemory` comes. The
+/// time is linear in the text of the solutions on average, since each reference is looked up by its
+/// hash.
 pub fn instances_of_solutions(
     alloc: Global,
     archive: &Archive,
     instances: &Names,
-    directories: &[Directory],
+    made: &[Instance],
 ) -> Result<Seq<u32>, ReferenceFault>
     requires few { length archive.now.instances < 2 ^ 32 }
     requires instances { instances.now ≡ instance_ids archive.now }
-    requires directories { directories.now ≡ map directory_of archive.now.instances }
+    requires made { map named_by made.now ≡ map (λ i. named_in (directory_of i)) archive.now.instances }
     ensures numbers { IfOk result (λ numbers. map Some numbers ≡ map (λ s. number_of s.reference.id (instance_ids archive.now)) (spec.solutions_of archive.now)) }
     ensures told { IsTold result (fault_of_solutions archive.now) }
 {
@@ -42,7 +42,7 @@ pub fn instances_of_solutions(
     let mut numbers = Seq::new(alloc);
     for group in archive.solution_groups.as_slice() {
         let solutions = group.solutions.as_slice();
-        add_numbers(instances, directories, solutions, &mut numbers, &mut first)?;
+        add_numbers(instances, made, solutions, &mut numbers, &mut first)?;
     }
     first.fault(UNKNOWN_REFERENCE)?;
     Ok(numbers)
@@ -52,18 +52,18 @@ pub fn instances_of_solutions(
 /// solutions' references that name nothing.
 fn add_numbers(
     instances: &Names,
-    directories: &[Directory],
+    made: &[Instance],
     solutions: &[RawSolution],
     numbers: &mut Seq<u32>,
     first: &mut First,
 ) -> Result<(), NoMemory>
     requires few { length instances.now < 2 ^ 32 }
-    requires same { length directories.now ≡ length instances.now }
+    requires same { length made.now ≡ length instances.now }
     ensures numbers { OnOk result (numbers.new ≡ numbers.old ++ filter_map (λ s. number_of s.reference.id instances.now) solutions.now) }
-    ensures first { OnOk result (first.new.at ≡ first_of first.old.at (flat_map (spec.unknown_in_solution instances.now directories.now) solutions.now)) }
+    ensures first { OnOk result (first.new.at ≡ first_of first.old.at (flat_map (spec.unknown_in_solution instances.now (map named_by made.now)) solutions.now)) }
 {
     for solution in solutions {
-        add_number(instances, directories, solution, numbers, first)?;
+        add_number(instances, made, solution, numbers, first)?;
     }
     Ok(())
 }
@@ -72,19 +72,19 @@ fn add_numbers(
 /// the solution's references that name nothing.
 fn add_number(
     instances: &Names,
-    directories: &[Directory],
+    made: &[Instance],
     solution: &RawSolution,
     numbers: &mut Seq<u32>,
     first: &mut First,
 ) -> Result<(), NoMemory>
     requires few { length instances.now < 2 ^ 32 }
-    requires same { length directories.now ≡ length instances.now }
+    requires same { length made.now ≡ length instances.now }
     ensures number { OnOk result (numbers.new ≡ numbers.old ++ option_to_list (number_of solution.now.reference.id instances.now)) }
-    ensures first { OnOk result (first.new.at ≡ first_of first.old.at (spec.unknown_in_solution instances.now directories.now solution.now)) }
+    ensures first { OnOk result (first.new.at ≡ first_of first.old.at (spec.unknown_in_solution instances.now (map named_by made.now) solution.now)) }
 {
     match instances.number(&solution.reference.id) {
         Some(number) => {
-            note_unknown_in(&directories[number], solution.events.as_slice(), first);
+            note_entries(&made[number], solution.events.as_slice(), first);
             numbers.push(number as u32)?;
             Ok(())
         }
@@ -92,5 +92,69 @@ fn add_number(
             first.note(solution.reference.at);
             Ok(())
         }
+    }
+}
+
+/// Notes the places of the references of some entries that name nothing in the instance.
+fn note_entries(instance: &Instance, entries: &[RawEntry], first: &mut First)
+    ensures { first.new.at ≡ first_of first.old.at (flat_map (spec.unknown_in_entry (named_by instance.now)) entries.now) }
+{
+    for entry in entries {
+        note_entry(instance, entry, first);
+    }
+}
+
+/// Notes the places of the references of an entry that name nothing in the instance.
+#[tactic(auto, using(crate::proofs::FirstLemmas::place_steps))]
+fn note_entry(instance: &Instance, entry: &RawEntry, first: &mut First)
+    ensures { first.new.at ≡ first_of first.old.at (spec.unknown_in_entry (named_by instance.now) entry.now) }
+{
+    note_event(instance, &entry.reference, first);
+    note_time(instance, &entry.time, first);
+    note_givens(instance, entry.resources.as_slice(), first);
+}
+
+/// Notes the places of the resources that an entry gives and that the instance does not have.
+fn note_givens(instance: &Instance, givens: &[RawGiven], first: &mut First)
+    ensures { first.new.at ≡ first_of first.old.at (flat_map (spec.unknown_in_given (named_by instance.now)) givens.now) }
+{
+    for given in givens {
+        note_resource(instance, &given.reference, first);
+    }
+}
+
+/// Notes the place of a reference to no event of the instance.
+fn note_event(instance: &Instance, reference: &Ref, first: &mut First)
+    ensures { first.new.at ≡ first_of first.old.at (spec.unknown (map (λ e. e.id) instance.now.events) (reference.now ∷ [])) }
+{
+    let known = instance.event_named(&reference.id).is_some();
+    note_unless(known, reference, first);
+}
+
+/// Notes the place of a reference to no resource of the instance.
+fn note_resource(instance: &Instance, reference: &Ref, first: &mut First)
+    ensures { first.new.at ≡ first_of first.old.at (spec.unknown (map (λ r. r.id) instance.now.resources) (reference.now ∷ [])) }
+{
+    let known = instance.resource_named(&reference.id).is_some();
+    note_unless(known, reference, first);
+}
+
+/// Notes the place of a reference, if there is one, to no time of the instance.
+#[tactic(auto, using(crate::proofs::FirstLemmas::first_of_nil))]
+fn note_time(instance: &Instance, reference: &Option<Ref>, first: &mut First)
+    ensures { first.new.at ≡ first_of first.old.at (spec.unknown_one instance.now.times reference.now) }
+{
+    if let Some(reference) = reference {
+        let known = instance.time_named(&reference.id).is_some();
+        note_unless(known, reference, first);
+    }
+}
+
+/// Notes the place of a reference, unless it is known.
+fn note_unless(known: bool, reference: &Ref, first: &mut First)
+    ensures { (names : List (List ℕ)) → known ≡ is_some (number_of reference.now.id names) → first.new.at ≡ first_of first.old.at (spec.unknown names (reference.now ∷ [])) }
+{
+    if !known {
+        first.note(reference.at);
     }
 }

@@ -2,7 +2,6 @@
 
 ghost use Rattle.std.specs.Prelude.{◌≡◌, ◌<◌, ◌≤◌, ◌∷◌, [], ◌^◌, All, None, Ok, length, map, IfOk, IfErr, OnOk, ◌++◌};
 ghost use Rattle.std.specs.Option.{option_map};
-ghost use Rattle.xhstt_references.specs.Directories.{directory_of};
 ghost use Rattle.xhstt_references.specs.Faults.{fault_of_solutions};
 ghost use Rattle.xhstt_references.specs.Ids.{instance_ids};
 ghost use Rattle.xhstt_references.specs.References as references;
@@ -16,10 +15,10 @@ ghost use Rattle.xhstt_shape.specs.WellFormed.{IsInForm, IsInstance};
 use crate::faults::ResolveFault;
 use crate::instances::{instance_of, within};
 use fault_tables::TOO_MANY_SOLUTIONS;
-use khe_base::{Names, NoMemory, Seq, beside, lends_to_threads};
+use khe_base::{Names, NoMemory, Seq, lends_to_threads};
 use khe_instance::Instance;
 use std::alloc::Global;
-use xhstt_references::{Directory, directory, instance_names, instances_of_solutions};
+use xhstt_references::{directory, instance_names, instances_of_solutions};
 use xhstt_shape::{Archive, RawInstance};
 
 /// The instances of an archive, and for each of its solutions, group by group, the number of its
@@ -51,60 +50,58 @@ pub fn resolve(alloc: Global, archive: &Archive) -> Result<Resolved, ResolveFaul
     ensures fault { IfErr result (IsFaultOf (spec.resolved archive.now)) }
 {
     let names = instance_names(alloc, archive)?;
-    let Made {
-        instances,
-        directories,
-    } = made_instances(alloc, archive.instances.as_slice())?;
-    let of = solution_instances(alloc, archive, &names, directories.as_slice())?;
+    let names = needed(alloc, archive, names);
+    let instances = made_instances(alloc, archive.instances.as_slice())?;
+    let of = solution_instances(alloc, archive, &names, instances.as_slice())?;
     Ok(Resolved { instances, of })
 }
 
-/// Instances with the names of their parts.
-#[derive(Drop)]
-struct Made {
-    pub instances: Seq<Instance>,
-    pub directories: Seq<Directory>,
+/// The Ids of an archive's instances, or none where it has no solution that would be looked up in them:
+/// then their memory is free for the instances.
+fn needed(alloc: Global, archive: &Archive, names: Names) -> Names
+    requires { names ≡ instance_ids archive.now }
+    ensures { 0 < length (references.solutions_of archive.now) → result ≡ instance_ids archive.now }
+{
+    if solution_count(archive) == 0 {
+        return Names::new(alloc);
+    }
+    names
 }
 
-/// Some instances, or the first fault of the first of them that has one.
-fn made_instances(alloc: Global, raws: &[RawInstance]) -> Result<Made, ResolveFault>
+/// Some instances in a list without room to spare, or the first fault of the first of them that has
+/// one.
+fn made_instances(alloc: Global, raws: &[RawInstance]) -> Result<Seq<Instance>, ResolveFault>
     requires { All IsInstance raws.now }
-    ensures instances { IfOk result (λ m. m.instances ≡ map parts_of raws.now) }
-    ensures directories { IfOk result (λ m. m.directories ≡ map directory_of raws.now) }
-    ensures sound { IfOk result (λ m. earliest (map spec.instance_fault raws.now) ≡ None) }
+    ensures instances { IfOk result (λ made. made ≡ map parts_of raws.now) }
+    ensures sound { IfOk result (λ made. earliest (map spec.instance_fault raws.now) ≡ None) }
     ensures fault { IfErr result (IsFirst (earliest (map spec.instance_fault raws.now))) }
 {
-    let mut made = Made {
-        instances: Seq::new(alloc),
-        directories: Seq::new(alloc),
-    };
+    let mut made = with_room(alloc, raws.len())?;
     for raw in raws {
-        let (instance, directory) = made_instance(alloc, raw)?;
-        keep(&mut made, instance, directory)?;
+        let instance = made_instance(alloc, raw)?;
+        made.push(instance)?;
     }
     Ok(made)
 }
 
-/// Keeps one more instance and its names.
-fn keep(made: &mut Made, instance: Instance, directory: Directory) -> Result<(), NoMemory>
-    ensures instances { OnOk result (made.new.instances ≡ made.old.instances ++ instance ∷ []) }
-    ensures directories { OnOk result (made.new.directories ≡ made.old.directories ++ directory ∷ []) }
+/// An empty list with room for so many instances.
+fn with_room(alloc: Global, count: usize) -> Result<Seq<Instance>, NoMemory>
+    ensures { IfOk result (λ list. list ≡ []) }
 {
-    let kept = made.instances.push(instance);
-    made.directories.push(directory)?;
-    kept
+    Ok(Seq {
+        items: Vec::with_capacity(alloc, count)?,
+    })
 }
 
-/// One instance with the names of its parts, or its first fault.
-fn made_instance(alloc: Global, raw: &RawInstance) -> Result<(Instance, Directory), ResolveFault>
+/// One instance, or its first fault. The names of its parts are kept no longer than this call.
+fn made_instance(alloc: Global, raw: &RawInstance) -> Result<Instance, ResolveFault>
     requires { IsInstance raw.now }
-    ensures instance { IfOk result (λ m. m.0 ≡ parts_of raw.now) }
-    ensures directory { IfOk result (λ m. m.1 ≡ directory_of raw.now) }
-    ensures sound { IfOk result (λ m. spec.instance_fault raw.now ≡ None) }
+    ensures instance { IfOk result (λ i. i ≡ parts_of raw.now) }
+    ensures sound { IfOk result (λ i. spec.instance_fault raw.now ≡ None) }
     ensures fault { IfErr result (IsFirst (spec.instance_fault raw.now)) }
 {
     let directory = directory(alloc, raw)?;
-    beside(instance_of(alloc, raw, &directory), directory)
+    instance_of(alloc, raw, &directory)
 }
 
 /// The instance of each solution, or that there are too many solutions, or their first reference that
@@ -113,18 +110,21 @@ fn solution_instances(
     alloc: Global,
     archive: &Archive,
     names: &Names,
-    directories: &[Directory],
+    made: &[Instance],
 ) -> Result<Seq<u32>, ResolveFault>
     requires few { length archive.now.instances < 2 ^ 32 }
-    requires names { names.now ≡ instance_ids archive.now }
-    requires directories { directories.now ≡ map directory_of archive.now.instances }
+    requires names { 0 < length (references.solutions_of archive.now) → names.now ≡ instance_ids archive.now }
+    requires made { made.now ≡ map parts_of archive.now.instances }
     ensures numbers { IfOk result (λ of. of ≡ spec.instances_of archive.now) }
     ensures sound { IfOk result (λ of. spec.solutions_fault archive.now ≡ None) }
     ensures fault { IfErr result (IsFirst (spec.solutions_fault archive.now)) }
 {
     let count = solution_count(archive);
     within(TOO_MANY_SOLUTIONS, count)?;
-    Ok(instances_of_solutions(alloc, archive, names, directories)?)
+    if count == 0 {
+        return Ok(Seq::new(alloc));
+    }
+    Ok(instances_of_solutions(alloc, archive, names, made)?)
 }
 
 /// How many solutions an archive has.

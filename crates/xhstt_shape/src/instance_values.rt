@@ -9,7 +9,7 @@ use crate::leaves::{
     attribute_text, duration, id, name, optional_reference, the_reference, workload,
 };
 use crate::records::{
-    EventGroup, GroupSort, MetaData, RawEvent, RawEventResource, RawInstance, RawResource,
+    About, EventGroup, GroupSort, MetaData, RawEvent, RawEventResource, RawInstance, RawResource,
     ResourceGroup, ResourceType, Time, TimeGroup, TimeSort,
 };
 use crate::words::{Label, Tag};
@@ -51,6 +51,14 @@ impl Build for MetaData {
             publication,
             remarks,
         })
+    }
+}
+
+impl Build for About {
+    ghost value = { spec.meta_data };
+
+    fn build(alloc: Global, element: &Element<'_, '_>) -> Result<About, NoMemory> {
+        About::new(alloc, MetaData::build(alloc, element)?)
     }
 }
 

@@ -22,9 +22,9 @@ mod words;
 pub use constraints::{RawApplies, RawConstraint, RawPair, RawRule, RawSpread};
 pub use faults::ShapeFault;
 pub use records::{
-    Archive, EventGroup, GroupSort, MetaData, Name, RawEntry, RawEvent, RawEventResource, RawGiven,
-    RawInstance, RawResource, RawSolution, Ref, ResourceGroup, ResourceType, SolutionGroup, Time,
-    TimeGroup, TimeSort,
+    About, Archive, EventGroup, GroupSort, MetaData, Name, RawEntry, RawEvent, RawEventResource,
+    RawGiven, RawInstance, RawResource, RawSolution, Ref, ResourceGroup, ResourceType,
+    SolutionGroup, Time, TimeGroup, TimeSort,
 };
 pub use schema::{AllowedAttribute, Child, Content, Mark, Row};
 pub use words::{Label, Tag};

@@ -1,7 +1,11 @@
 //! An archive as records: what its elements say, before any Id is looked up.
 
+ghost use Rattle.std.specs.Prelude.{◌≡◌, IfOk};
+
 use crate::constraints::RawConstraint;
-use khe_base::{Seq, Text};
+use khe_base::{NoMemory, Seq, Text};
+use std::alloc::Global;
+use std::marker::Model;
 
 /// A reference to something by its Id.
 #[derive(Drop)]
@@ -23,7 +27,7 @@ pub struct Name {
 #[derive(Drop)]
 pub struct Archive {
     pub id: Option<Name>,
-    pub meta_data: Option<MetaData>,
+    pub meta_data: Option<About>,
     pub instances: Seq<RawInstance>,
     pub solution_groups: Seq<SolutionGroup>,
 }
@@ -41,11 +45,44 @@ pub struct MetaData {
     pub remarks: Option<Text>,
 }
 
+/// What is said of a whole, in memory of its own: a whole of which nothing is said takes a few bytes for
+/// it. Contracts see what is said.
+#[derive(Drop)]
+pub struct About {
+    said: Box<MetaData>,
+}
+
+impl Model for About {
+    ghost use Rattle.xhstt_shape.specs.declared.records.MetaData.{MetaData};
+
+    ghost Value = { MetaData };
+
+    ghost view = { λ a. a.said.value };
+}
+
+impl About {
+    /// Moves what is said into memory of its own.
+    pub fn new(alloc: Global, said: MetaData) -> Result<About, NoMemory>
+        ensures { IfOk result (λ a. a ≡ said) }
+    {
+        Ok(About {
+            said: Box::new(alloc, said)?,
+        })
+    }
+
+    /// What is said, in constant time.
+    pub fn said(&self) -> &MetaData
+        ensures { result.now ≡ self.now }
+    {
+        &self.said
+    }
+}
+
 /// An instance. Each list is in the order of the text.
 #[derive(Drop)]
 pub struct RawInstance {
     pub id: Name,
-    pub meta_data: Option<MetaData>,
+    pub meta_data: Option<About>,
     /// The time groups, with the weeks and the days.
     pub time_groups: Seq<TimeGroup>,
     /// The times, in chronological order.
@@ -167,7 +204,7 @@ pub struct RawEventResource {
 #[derive(Drop)]
 pub struct SolutionGroup {
     pub id: Name,
-    pub meta_data: Option<MetaData>,
+    pub meta_data: Option<About>,
     pub solutions: Seq<RawSolution>,
 }
 

@@ -8,7 +8,7 @@ use Rattle.khe_told.specs.declared.changes.Change.{Change}
 use Rattle.khe_told.specs.declared.changes.Change.TheVariants.{Add}
 use Rattle.khe_told.specs.declared.slots.Slot.{Slot}
 use Rattle.family_keepers.specs.Takes.{Mentions}
-use Rattle.family_keepers.proofs.TakeLaws.{IsTaking, later_told, less_done, less_short, less_stays, mention_at, taken_least, taking_more}
+use Rattle.family_keepers.proofs.TakeLaws.{IsTaking, later_told, less_done, less_short, less_stays, mention_at, same_but, taken_least, taking_more}
 use Rattle.family_keepers.proofs.WatchLaws.{emptied_at}
 use Rattle.family_keepers.proofs.keeping.take_shorter.Goals.{then-duration, else-duration}
 use Rattle.family_keepers.proofs.keeping.take_shorter.Goals as goal
@@ -35,6 +35,10 @@ take-requires-clause-later g c =
     omega (arith, a, b, d) in
     later_told c.args.inst.now now t c.args.told.now k v.taking.mix.told c.requires.ahead c.requires.told l
     (less_short now t c.args.told.now k l less v.short)
+
+pub take-requires-clause-elsewhere : goal.take-requires-clause-elsewhere
+take-requires-clause-elsewhere g c = same_but c.args.places c.args.inst.now c.args.told.now c.args.ahead.now
+    c.loop-change.told c.loop-change.invariant.taking.mix c.requires.elsewhere c.meet-meet.result.0
 
 pub loop-change-preserved : goal.loop-change-preserved
 loop-change-preserved g c =

@@ -10,13 +10,13 @@ use Rattle.repair_moves.specs.Moves.{task_move}
 pub returns-in_err-own-clause-next : goal.returns-in_err-own-clause-next
 returns-in_err-own-clause-next c = rw c.from_residual.ensures
     (λ k a b. laws.place_dead c.args.inst.now c.args.solution.now.slots c.args.point c.args.item k
-    (laws.dead_at c.args.inst.now c.args.solution.now.slots c.args.item c.task_at-task.result c.task_at-task.ensures
+    (laws.dead_at c.args.inst.now c.args.solution.now.slots c.args.item c.args.task c.requires.task
     c.in_err-own.ensures))
 
 pub returns-then-is_fixed_place-clause-next : goal.returns-then-is_fixed_place-clause-next
 returns-then-is_fixed_place-clause-next c = λ k a b. laws.resource_fixed c.args.inst.now c.args.solution.now.slots
     c.args.point c.args.item k (laws.fixed_at c.args.inst.now c.args.solution.now.slots c.args.item
-    c.task_at-task.result c.in_ok-own.own.event true c.task_at-task.ensures c.in_ok-own.ensures.event
+    c.args.task c.in_ok-own.own.event true c.requires.task c.in_ok-own.ensures.event
     (sym c.is_fixed_place.ensures ∙ c.if-is_fixed_place.true))
 
 pub returns-then-accepts-clause-next : goal.returns-then-accepts-clause-next
@@ -28,7 +28,7 @@ returns-then-accepts-clause-next c =
       laws.TaskMoves_is c.args.inst.now c.args.solution.now.slots
           c.args.point c.args.item c.loop-number.number
           ∙ ap (λ t. is_accepted c.args.inst.now c.args.solution.now.slots
-          (task_move c.args.solution.now.slots t c.loop-number.number)) (sym c.task_at-task.ensures)
+          (task_move c.args.solution.now.slots t c.loop-number.number)) (sym c.requires.task)
           ∙ ap (is_accepted c.args.inst.now c.args.solution.now.slots) (sym c.task_move-edit.ensures.edit)
           ∙ sym c.accepts.ensures ∙ c.if-accepts.true,
       c.loop-number.invariant.none,
@@ -42,13 +42,13 @@ loop-number-preserved c = record {
         | then-has_type+else-accepts w ↦
             laws.TaskMoves_is c.args.inst.now c.args.solution.now.slots c.args.point c.args.item c.loop-number.number
             ∙ ap (λ t. is_accepted c.args.inst.now c.args.solution.now.slots
-            (task_move c.args.solution.now.slots t c.loop-number.number)) (sym c.task_at-task.ensures)
+            (task_move c.args.solution.now.slots t c.loop-number.number)) (sym c.requires.task)
             ∙ ap (is_accepted c.args.inst.now c.args.solution.now.slots) (sym w.task_move-edit.ensures.edit)
             ∙ sym w.accepts.ensures ∙ w.if-accepts.false
         | else-has_type w ↦
             laws.resource_typed c.args.inst.now c.args.solution.now.slots c.args.point c.args.item c.loop-number.number
-            (laws.typed_at c.args.inst.now c.args.solution.now.slots c.args.item c.loop-number.number c.task_at-task.result
-            c.in_ok-own.own.event false c.task_at-task.ensures c.in_ok-own.ensures.event
+            (laws.typed_at c.args.inst.now c.args.solution.now.slots c.args.item c.loop-number.number c.args.task
+            c.in_ok-own.own.event false c.requires.task c.in_ok-own.ensures.event
             (sym c.has_type.ensures ∙ w.if-has_type.false))
       ]);
 }

@@ -11,19 +11,19 @@ use Rattle.khe_told.specs.declared.edits.Edit.TheVariants.{SwapTasks}
 pub returns-in_err-own-clause-next : goal.returns-in_err-own-clause-next
 returns-in_err-own-clause-next c = rw c.from_residual.ensures
     (λ k a b. laws.trade_dead c.args.inst.now c.args.solution.now.slots c.args.point c.args.item k
-    (laws.dead_at c.args.inst.now c.args.solution.now.slots c.args.item c.task_at-task.result c.task_at-task.ensures
+    (laws.dead_at c.args.inst.now c.args.solution.now.slots c.args.item c.args.task c.requires.task
     c.in_err-own.ensures))
 
 pub returns-then-is_fixed_place-clause-next : goal.returns-then-is_fixed_place-clause-next
 returns-then-is_fixed_place-clause-next c = λ k a b. laws.trade_fixed c.args.inst.now c.args.solution.now.slots
     c.args.point c.args.item k (laws.fixed_at c.args.inst.now c.args.solution.now.slots c.args.item
-    c.task_at-task.result c.in_ok-own.own.event true c.task_at-task.ensures c.in_ok-own.ensures.event
+    c.args.task c.in_ok-own.own.event true c.requires.task c.in_ok-own.ensures.event
     (sym c.is_fixed_place.ensures ∙ c.if-is_fixed_place.true))
 
 pub returns-then-is_none-clause-next : goal.returns-then-is_none-clause-next
 returns-then-is_none-clause-next c = λ k a b. laws.trade_bare c.args.inst.now c.args.solution.now.slots c.args.point
-    c.args.item k (laws.bare_at c.args.inst.now c.args.solution.now.slots c.args.item c.task_at-task.result
-    c.resource_at.result c.task_at-task.ensures c.resource_at.ensures
+    c.args.item k (laws.bare_at c.args.inst.now c.args.solution.now.slots c.args.item c.args.task
+    c.resource_at.result c.requires.task c.resource_at.ensures
     (laws.none_unless c.resource_at.result (c.is_none.ensures ∙ ap not c.if-is_none.true)))
 
 pub returns-then-accepts-clause-next : goal.returns-then-accepts-clause-next
@@ -35,11 +35,12 @@ returns-then-accepts-clause-next c =
     let f = e.0 in (
       omega (arith, o, f),
       e.1,
-      laws.TradeMoves_is p s c.args.point c.args.item c.in-Some.other
-          ∙ (λ i. is_accepted p s (SwapTasks (sym c.task_at-task.ensures i) (sym c.task_at.ensures i)))
+      laws.TradeMoves_is p s c.args.point c.args.item c.in-Some.other.slot
+          ∙ (λ i. is_accepted p s (SwapTasks (sym c.requires.task i) (sym e.4 i)))
           ∙ sym c.accepts.ensures ∙ c.if-accepts.true,
-      none_on (is_choice p s c.args.point TradeMoves c.args.item) c.args.from c.loop-other.next c.in-Some.other
+      none_on (is_choice p s c.args.point TradeMoves c.args.item) c.args.from c.loop-other.next c.in-Some.other.slot
           c.loop-other.invariant.none (λ k a b. laws.trade_apart p s c.args.point c.args.item k (e.3 k a b)),
+      e.4,
     )
 
 pub returns-then-accepts-clause-small : goal.returns-then-accepts-clause-small
@@ -60,11 +61,11 @@ loop-other-preserved c =
     let f = e.0 in
     record {
       onward = omega (arith, o, f);
-      none = none_more test c.args.from c.in-Some.other
-          (none_on test c.args.from c.loop-other.next c.in-Some.other c.loop-other.invariant.none
+      none = none_more test c.args.from c.in-Some.other.slot
+          (none_on test c.args.from c.loop-other.next c.in-Some.other.slot c.loop-other.invariant.none
           (λ k a b. laws.trade_apart p s c.args.point c.args.item k (e.3 k a b)))
-          (laws.TradeMoves_is p s c.args.point c.args.item c.in-Some.other
-          ∙ (λ i. is_accepted p s (SwapTasks (sym c.task_at-task.ensures i) (sym c.task_at.ensures i)))
+          (laws.TradeMoves_is p s c.args.point c.args.item c.in-Some.other.slot
+          ∙ (λ i. is_accepted p s (SwapTasks (sym c.requires.task i) (sym e.4 i)))
           ∙ sym c.accepts.ensures ∙ c.if-accepts.false);
     }
 

@@ -1,4 +1,4 @@
-use Rattle.std.proofs.Common.{◌≡◌, ◌<◌, ◌≤◌, subst, sym, ◌∙◌, arith}
+use Rattle.std.proofs.Common.{◌≡◌, ◌<◌, subst, sym, ◌∙◌, arith}
 use Rattle.khe_solution.specs.TaskRows.{first_in}
 use Rattle.khe_solution.proofs.NumberLaws.{first_told}
 use Rattle.repair_moves.specs.Items.{is_live_at, task_slots}
@@ -27,6 +27,7 @@ returns-then-next-task c =
       live_here p s c.loop-slot.slot c.in-Some.next.0 c.task_at-task.result c.task_at-task.ensures
           c.if-next-task.true e.1,
       c.loop-slot.invariant.none,
+      c.task_at-task.ensures,
     )
 
 pub first_task-slot-requires : goal.first_task-slot-requires

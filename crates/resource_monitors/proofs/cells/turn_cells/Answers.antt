@@ -1,5 +1,6 @@
 -- A turn of a slot turns the counts, and who may have another deviation waits.
-use Rattle.std.proofs.Common.{◌∙◌, not, sym, ap, refl}
+use Rattle.std.proofs.Common.{◌∙◌, List, Option, not, slice_get, sym, ap, refl}
+use Rattle.khe_base.specs.declared.numbers.ResourceId.{ResourceId}
 use Rattle.khe_told.specs.Turns.{turned}
 use Rattle.resource_monitors.specs.Runs.{run_of}
 use Rattle.resource_monitors.proofs.FamilyLaws.{unmoved_by}
@@ -45,6 +46,15 @@ follow_all-requires-clause-can g c = can_exchange c.args.inst.now c.facts.ensure
       later = c.given_after-later.ensures i;
     })
     c.args.table.now c.requires.counts
+
+pub follow_all-requires-clause-still : goal.follow_all-requires-clause-still
+follow_all-requires-clause-still g c = λ j n.
+    (let same = c.altered-places.ensures j n in (
+      ap (λ (xs : List (Option ResourceId)). slice_get xs j) c.given_before-before.ensures ∙ same.0
+          ∙ sym (ap (λ (xs : List (Option ResourceId)). slice_get xs j) c.given_after-later.ensures),
+      (c.run_of-emptied.ensures ∙ ap run_of c.before-2.ensures) ∙ ap run_of same.1
+          ∙ sym (c.run_of-filled.ensures ∙ ap run_of c.after.ensures),
+    ))
 
 pub returns-clause-counts : goal.returns-clause-counts
 returns-clause-counts g c = counts_then c.args.inst.now c.facts.ensures c.args.told.now c.args.turn.now

@@ -1,4 +1,4 @@
-use Rattle.std.proofs.Common.{◌≡◌, length, take, true}
+use Rattle.std.proofs.Common.{◌≡◌, ◌-◌, length, take, true}
 use Rattle.khe_told.specs.Waits.{WaitOn}
 use Rattle.resource_monitors.specs.Loads.{AreAllExchanged, AreMeasuredSame, AreOnMoved}
 use Rattle.resource_monitors.proofs.load_turns.follow_all.Given as goal
@@ -15,3 +15,6 @@ invariant-loop-number g l =
       kept : WaitOn (g.W.Waits.waits l.fn.waits) (g.W.Waits.waits l.waits);
       listed : AreOnMoved l.inst l.less l.more l.before l.later (g.W.Waits.waits l.fn.waits) (g.W.Waits.waits l.waits);
     }
+
+abbrev pub decreases-loop-number : goal.decreases-loop-number
+decreases-loop-number g l = length l.before - l.number

@@ -1,11 +1,26 @@
--- Place by place.
-use Rattle.std.proofs.Common.{◌∙◌}
+-- Place by place, where those that are passed over are given the same at the same times.
+use Rattle.std.proofs.Common.{◌+◌, ◌∙◌, inl, refl}
 use Rattle.timetables.specs.Counts.{count_at}
 use Rattle.resource_monitors.specs.Cells.{value_in}
-use Rattle.resource_monitors.proofs.ExchangeLaws.{exchanged_last, exchanged_more, moved_here, room_here}
+use Rattle.resource_monitors.proofs.ExchangeLaws.{exchanged_last, exchanged_more, exchanged_none, exchanged_over}
+use Rattle.resource_monitors.proofs.ExchangeLaws.{moved_here, room_here}
 use Rattle.resource_monitors.proofs.ExchangeLaws.{some_here}
 use Rattle.resource_monitors.proofs.WaitLaws.{same_on}
 use Rattle.resource_monitors.proofs.places.follow_all.Goals as goal
+
+pub loop-place-init : goal.loop-place-init
+loop-place-init g c = record {
+  rows = c.requires.rows;
+  counts = exchanged_over c.args.emptied c.args.filled c.args.before.now c.args.later.now 0 c.next-place.result
+      c.next-place.ensures.from c.requires.can.places
+      (λ j a b. c.requires.still j (c.next-place.ensures.none j a b))
+      (count_at c.args.table.now) (count_at c.args.table.now)
+      (exchanged_none c.args.emptied c.args.filled (count_at c.args.table.now));
+  same = refl;
+  unmoved = λ hears i m there served idle. refl;
+  kept = λ k e. e;
+  listed = λ i e. inl e;
+}
 
 pub follow_both-requires-clause-some : goal.follow_both-requires-clause-some
 follow_both-requires-clause-some g c = some_here c.args.emptied c.args.filled c.args.before.now c.args.later.now
@@ -23,10 +38,14 @@ follow_both-requires-clause-room g c = room_here c.args.emptied c.args.filled c.
 pub loop-place-preserved : goal.loop-place-preserved
 loop-place-preserved g c = record {
   rows = c.follow_both.ensures.rows;
-  counts = exchanged_more c.args.emptied c.args.filled c.args.before.now c.args.later.now c.loop-place.place
+  counts = exchanged_over c.args.emptied c.args.filled c.args.before.now c.args.later.now (c.loop-place.place + 1)
+      c.next-place-in-loop-place.result c.next-place-in-loop-place.ensures.from c.requires.can.places
+      (λ j a b. c.requires.still j (c.next-place-in-loop-place.ensures.none j a b))
+      (count_at c.args.table.now) (count_at c.follow_both.new.table)
+      (exchanged_more c.args.emptied c.args.filled c.args.before.now c.args.later.now c.loop-place.place
       c.loop-place-test.true c.requires.can.places
       (count_at c.args.table.now) (count_at c.loop-place.table) (count_at c.follow_both.new.table)
-      c.loop-place.invariant.counts c.follow_both.ensures.counts;
+      c.loop-place.invariant.counts c.follow_both.ensures.counts);
   same = c.follow_both.ensures.monitors ∙ c.loop-place.invariant.same;
   unmoved = λ hears. same_on c.args.inst.now g.K.CellKinds.serves_kind
       (value_in c.args.inst.now c.args.table.now) (value_in c.args.inst.now c.loop-place.table)

@@ -1,4 +1,4 @@
-use Rattle.std.proofs.Common.{◌≡◌, take, true}
+use Rattle.std.proofs.Common.{◌≡◌, ◌-◌, length, take, true}
 use Rattle.khe_told.specs.Waits.{WaitOn}
 use Rattle.timetables.specs.Counts.{count_at}
 use Rattle.resource_monitors.specs.Cells.{AreMeasuredSame, HasRows}
@@ -18,3 +18,6 @@ invariant-loop-place g l =
       listed : AreAtMoved l.inst l.emptied l.filled l.before l.later (g.W.Waits.waits l.fn.waits)
           (g.W.Waits.waits l.waits);
     }
+
+abbrev pub decreases-loop-place : goal.decreases-loop-place
+decreases-loop-place g l = length l.before - l.place

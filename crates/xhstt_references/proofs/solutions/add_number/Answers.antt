@@ -1,15 +1,17 @@
 -- A solution of an instance that is there, and one of none.
-use Rattle.std.proofs.Common.{◌≡◌, ◌∙◌, ◌<◌, ap, sym, length, Some, arith}
+use Rattle.std.proofs.Common.{◌≡◌, ◌∙◌, ◌<◌, ap, sym, length, get_or, map, Some, arith}
 use Rattle.std.specs.List.{flat_map}
+use Rattle.std.proofs.lemmas.List.{get_or-map, length-map}
 use Rattle.khe_base.specs.Names.{number_of}
+use Rattle.xhstt_references.specs.Directories.{named_by}
 use Rattle.xhstt_references.specs.First.{first_of}
 use Rattle.xhstt_references.specs.References.{unknown_in_entry}
 use Rattle.xhstt_references.proofs.FirstLemmas.{first_of_one}
 use Rattle.xhstt_references.proofs.UnknownLemmas.{number_below, solution_known, solution_unknown}
 use Rattle.xhstt_references.proofs.solutions.add_number.Goals as goal
 
-pub bounds-directories-number : goal.bounds-directories-number
-bounds-directories-number c =
+pub bounds-made-number : goal.bounds-made-number
+bounds-made-number c =
     let below : c.in-Some.number < length c.args.instances.now =
     number_below c.args.solution.now.reference.id _ _ (sym c.number.ensures ∙ c.in-Some.is) in
     omega (arith, c.requires.same)
@@ -23,24 +25,28 @@ overflow_cast-number c =
 pub returns-in_ok-push-in-Some-clause-first : goal.returns-in_ok-push-in-Some-clause-first
 returns-in_ok-push-in-Some-clause-first c =
     let ids = c.args.instances.now in
-    let directories = c.args.directories.now in
+    let made = c.args.made.now in
+    let directories = map named_by made in
     let solution = c.args.solution.now in
     let n = c.in-Some.number in
-    let d = c.index-directories-number.result in
+    let p = c.index-made-number.result in
+    let d = named_by p in
     let found : number_of solution.reference.id ids ≡ Some n = sym c.number.ensures ∙ c.in-Some.is in
-    let below : n < length directories = omega (
+    let within : n < length made = omega (
       arith,
       number_below solution.reference.id ids n found,
       c.requires.same,
     ) in
-    c.note_unknown_in.ensures
+    let below : n < length directories = omega (arith, within, length-map made named_by) in
+    let at : d ≡ get_or directories n d = ap named_by c.index-made-number.is
+    ∙ sym (get_or-map named_by made n p d within) in
+    c.note_entries.ensures
     ∙ ap (λ es. first_of c.args.first.now.at (flat_map (unknown_in_entry d) es)) c.as_slice.ensures
-    ∙ ap (first_of c.args.first.now.at) (sym (solution_known ids directories solution n d found below
-    c.index-directories-number.is))
+    ∙ ap (first_of c.args.first.now.at) (sym (solution_known ids directories solution n d found below at))
 
 pub returns-in-None-clause-first : goal.returns-in-None-clause-first
 returns-in-None-clause-first c =
     c.note.ensures
     ∙ sym (first_of_one c.args.first.now.at c.args.solution.now.reference.at)
-    ∙ ap (first_of c.args.first.now.at) (sym (solution_unknown c.args.instances.now c.args.directories.now
+    ∙ ap (first_of c.args.first.now.at) (sym (solution_unknown c.args.instances.now (map named_by c.args.made.now)
     c.args.solution.now (sym c.number.ensures ∙ c.in-None.is)))

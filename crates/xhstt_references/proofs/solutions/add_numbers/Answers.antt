@@ -1,5 +1,7 @@
 -- Solutions one by one.
+use Rattle.std.proofs.Common.{map}
 use Rattle.khe_base.specs.Names.{number_of}
+use Rattle.xhstt_references.specs.Directories.{named_by}
 use Rattle.xhstt_references.specs.References.{unknown_in_solution}
 use Rattle.xhstt_references.proofs.FirstLemmas.{walk_step, walk_end}
 use Rattle.xhstt_references.proofs.SolutionsLemmas.{numbers_step, numbers_end}
@@ -9,7 +11,7 @@ pub loop-solution-preserved : goal.loop-solution-preserved
 loop-solution-preserved c = record {
   numbers = numbers_step (λ s. number_of s.reference.id c.args.instances.now) _ _ _ _ _ c.loop-solution-test.true
       c.solution-item.is c.in_ok-add_number.ensures.number c.loop-solution.invariant.numbers;
-  first = walk_step (unknown_in_solution c.args.instances.now c.args.directories.now) _ _ _ _ _ _
+  first = walk_step (unknown_in_solution c.args.instances.now (map named_by c.args.made.now)) _ _ _ _ _ _
       c.loop-solution-test.true c.solution-item.is c.in_ok-add_number.ensures.first c.loop-solution.invariant.first;
 }
 
@@ -18,5 +20,5 @@ returns-clause-numbers c = numbers_end (λ s. number_of s.reference.id c.args.in
     c.loop-solution-test.false c.loop-solution.invariant.numbers
 
 pub returns-clause-first : goal.returns-clause-first
-returns-clause-first c = walk_end (unknown_in_solution c.args.instances.now c.args.directories.now) _ _ _ _
+returns-clause-first c = walk_end (unknown_in_solution c.args.instances.now (map named_by c.args.made.now)) _ _ _ _
     c.loop-solution-test.false c.loop-solution.invariant.first

@@ -2,19 +2,20 @@
 use Rattle.std.proofs.Common.{◌≡◌, ◌∙◌, ◌++◌, ap, sym, ℕ, List, [], map, length, None, Some, Option, arith}
 use Rattle.std.specs.List.{filter_map, flat_map}
 use Rattle.std.proofs.lemmas.List.{length-map}
+use Rattle.std.proofs.lemmas.Simd.{map-map}
 use Rattle.khe_base.specs.Names.{number_of}
-use Rattle.xhstt_references.specs.Directories.{directory_of}
+use Rattle.xhstt_references.specs.Directories.{directory_of, named_by, named_in}
 use Rattle.xhstt_references.specs.Faults.{at_first}
 use Rattle.xhstt_references.specs.First.{first_of}
 use Rattle.xhstt_references.specs.Ids.{instance_ids}
 use Rattle.xhstt_references.specs.References.{unknown_in_solution, unknown_in_solutions, solutions_of}
-use Rattle.xhstt_references.specs.declared.directories.Directory.{Directory}
+use Rattle.khe_instance.specs.declared.parts.Parts.{Parts}
 use Rattle.fault_tables.specs.declared.faults.TheConstants.{UNKNOWN_REFERENCE}
 use Rattle.xhstt_shape.specs.declared.records.Archive.{Archive}
 use Rattle.xhstt_references.proofs.SolutionsLemmas.{groups_numbers_step, groups_numbers_end, groups_places_step}
 use Rattle.xhstt_references.proofs.SolutionsLemmas.{groups_places_end}
 use Rattle.xhstt_references.proofs.ToldLemmas.{passed, passed_on, refused}
-use Rattle.xhstt_references.proofs.UnknownLemmas.{all_numbered}
+use Rattle.xhstt_references.proofs.UnknownLemmas.{all_numbered, solutions_named}
 use Rattle.xhstt_references.proofs.solutions.instances_of_solutions.Goals as goal
 
 pub loop-group-init : goal.loop-group-init
@@ -22,13 +23,13 @@ loop-group-init c = record {
   numbers = λ j. c.new-numbers.ensures j ++ filter_map (λ s. number_of s.reference.id c.args.instances.now)
       (flat_map (λ g. g.solutions) (c.as_slice-group-items.ensures j));
   first = λ j. first_of (c.new-first.ensures j)
-      (flat_map (unknown_in_solution c.args.instances.now c.args.directories.now)
+      (flat_map (unknown_in_solution c.args.instances.now (map named_by c.args.made.now))
       (flat_map (λ g. g.solutions) (c.as_slice-group-items.ensures j)));
 }
 
 pub loop-group-preserved : goal.loop-group-preserved
 loop-group-preserved c =
-    let unknown = unknown_in_solution c.args.instances.now c.args.directories.now in
+    let unknown = unknown_in_solution c.args.instances.now (map named_by c.args.made.now) in
     record {
       numbers =
           groups_numbers_step (λ g. g.solutions) _ _ (λ s. number_of s.reference.id c.args.instances.now) _ _ _
@@ -50,24 +51,31 @@ add_numbers-requires c =
     ap length c.requires.instances ∙ length-map instances (λ i. i.id.text) in
     record {
       few = omega (arith, named, c.requires.few);
-      same = ap length c.requires.directories ∙ length-map instances directory_of ∙ sym named;
+      same = sym (length-map c.args.made.now named_by) ∙ ap length c.requires.made
+          ∙ length-map instances (λ i. named_in (directory_of i))
+          ∙ sym named;
     }
 
 -- what was noted is the first of all unknown references of the solutions
-first_is : (archive : Archive) (instances : List (List ℕ)) (directories : List Directory) (first : Option ℕ)
-    → instances ≡ instance_ids archive → directories ≡ map directory_of archive.instances
-    → first ≡ first_of None (flat_map (unknown_in_solution instances directories) (solutions_of archive))
+first_is : (archive : Archive) (instances : List (List ℕ)) (made : List Parts) (first : Option ℕ)
+    → instances ≡ instance_ids archive → map named_by made ≡ map (λ i. named_in (directory_of i)) archive.instances
+    → first ≡ first_of None (flat_map (unknown_in_solution instances (map named_by made)) (solutions_of archive))
     → first ≡ first_of None (unknown_in_solutions archive)
-first_is archive instances directories first named listed is =
-    is ∙ (λ j. first_of None (flat_map (unknown_in_solution (named j) (listed j)) (solutions_of archive)))
+first_is archive instances made first named listed is =
+    let same : map named_by made ≡ map named_in (map directory_of archive.instances) =
+    listed ∙ sym (map-map named_in directory_of archive.instances) in
+    is
+    ∙ (λ j. first_of None (flat_map (unknown_in_solution (named j) (same j)) (solutions_of archive)))
+    ∙ ap (first_of None) (solutions_named (instance_ids archive) (map directory_of archive.instances)
+    (solutions_of archive))
 
 pub returns : goal.returns
 returns c =
     let archive = c.args.archive.now in
-    let unknown = unknown_in_solution c.args.instances.now c.args.directories.now in
+    let unknown = unknown_in_solution c.args.instances.now (map named_by c.args.made.now) in
     let end = groups_places_end (λ g. g.solutions) _ _ unknown _ c.loop-group-test.false c.loop-group.invariant.first in
     let none : unknown_in_solutions archive ≡ [] =
-    passed _ _ _ (first_is archive _ _ _ c.requires.instances c.requires.directories end) c.in_ok-fault.ensures
+    passed _ _ _ (first_is archive _ _ _ c.requires.instances c.requires.made end) c.in_ok-fault.ensures
     in
     let numbers : c.loop-group.numbers ≡ filter_map (λ s. number_of s.reference.id (instance_ids archive))
     (solutions_of archive) =
@@ -84,8 +92,8 @@ returns c =
 pub returns-in_err-fault-clause-told : goal.returns-in_err-fault-clause-told
 returns-in_err-fault-clause-told c =
     let archive = c.args.archive.now in
-    let unknown = unknown_in_solution c.args.instances.now c.args.directories.now in
+    let unknown = unknown_in_solution c.args.instances.now (map named_by c.args.made.now) in
     let end = groups_places_end (λ g. g.solutions) _ _ unknown _ c.loop-group-test.false c.loop-group.invariant.first in
-    let noted = first_is archive _ _ _ c.requires.instances c.requires.directories end in
+    let noted = first_is archive _ _ _ c.requires.instances c.requires.made end in
     passed_on _ _ _ c.from_residual-in_err-fault.ensures.1
     (refused UNKNOWN_REFERENCE _ (unknown_in_solutions archive) None _ noted c.in_err-fault.ensures)

@@ -2,7 +2,6 @@
 use Rattle.std.proofs.Common.{◌≡◌, ◌∙◌, ◌+◌, ap, subst, sym, map, drop}
 use Rattle.std.specs.Option.{option_or}
 use Rattle.std.proofs.lemmas.List.Elements.{All-get_or}
-use Rattle.xhstt_references.specs.Directories.{directory_of}
 use Rattle.xhstt_resolve.specs.Answers.{IsFirst}
 use Rattle.xhstt_resolve.specs.Limits.{earliest}
 use Rattle.xhstt_resolve.specs.Parts.{parts_of}
@@ -27,7 +26,8 @@ returns-in_err-instance-clause-fault c =
     let same : option_or (instance_fault x) rest ≡ earliest (map instance_fault raws) =
     ap (λ ys. earliest (map instance_fault ys)) (sym (drop-next raws i x c.loop-raw-test.true c.raw-item.is))
     ∙ c.loop-raw.invariant.sound in
-    passed-first c.from_residual.result e (earliest (map instance_fault raws)) c.from_residual.ensures.1
+    passed-first c.from_residual-in_err-instance.result e (earliest (map instance_fault raws))
+    c.from_residual-in_err-instance.ensures.1
     (subst (λ o. IsFirst o e) same (this-first (instance_fault x) rest e c.in_err-instance.ensures.fault))
 
 pub loop-raw-preserved : goal.loop-raw-preserved
@@ -39,12 +39,9 @@ loop-raw-preserved c =
     let rest = earliest (map instance_fault after) in
     let left = drop-next raws i x c.loop-raw-test.true c.raw-item.is in
     record {
-      instances = pushed parts_of c.loop-raw.made.instances c.keep.new.made.instances (map parts_of raws) x
+      instances = pushed parts_of c.loop-raw.made c.push.new.self (map parts_of raws) x
           c.in_ok-instance.instance (drop i raws) after
-          c.in_ok-keep.ensures.instances c.in_ok-instance.ensures.instance left c.loop-raw.invariant.instances;
-      directories = pushed directory_of c.loop-raw.made.directories c.keep.new.made.directories (map directory_of raws)
-          x c.in_ok-instance.directory (drop i raws) after
-          c.in_ok-keep.ensures.directories c.in_ok-instance.ensures.directory left c.loop-raw.invariant.directories;
+          c.in_ok-push.ensures.ok c.in_ok-instance.ensures.instance left c.loop-raw.invariant.instances;
       sound = sym (ap (λ o. option_or o rest) c.in_ok-instance.ensures.sound)
           ∙ ap (λ ys. earliest (map instance_fault ys)) (sym left)
           ∙ c.loop-raw.invariant.sound;

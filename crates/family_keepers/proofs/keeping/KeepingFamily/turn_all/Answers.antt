@@ -1,13 +1,42 @@
--- The slots that get shorter are taken over, and then all others: then the state is the one that was told.
-use Rattle.std.proofs.Common.{◌≡◌, ◌∙◌, ◌+◌, ◌<◌, List, ap, arith, length, subst, sym}
+-- The slot of the only change is taken over; or those that get shorter are, and then all others: then the state is
+-- the one that was told.
+use Rattle.std.proofs.Common.{◌∙◌, List, ap, arith, slice_get, subst, sym}
 use Rattle.khe_told.specs.Changes.{after_all}
+use Rattle.khe_told.specs.declared.changes.Change.{Change}
+use Rattle.khe_told.specs.declared.changes.Change.TheVariants.{Add}
 use Rattle.khe_told.specs.Fits.{AreTold}
+use Rattle.khe_told.specs.Slots.{slot_at}
 use Rattle.khe_told.specs.declared.slots.Slot.{Slot}
 use Rattle.khe_told.proofs.SlotLaws.{told_after}
-use Rattle.family_keepers.proofs.TakeLaws.{all_short, mentioned_there, same_length, taken_over}
-use Rattle.family_keepers.proofs.TakeLaws.{watchers_joined}
+use Rattle.family_keepers.specs.Takes.{Mentions}
+use Rattle.family_keepers.proofs.TakeLaws.{all_short, mention_at, mentioned_there, same_but, same_length, taken_over}
+use Rattle.family_keepers.proofs.TakeLaws.{watchers_joined, watchers_one}
 use Rattle.family_keepers.proofs.WatchLaws.{watchers_of}
 use Rattle.family_keepers.proofs.keeping.KeepingFamily.turn_all.Goals as goal
+
+abbrev none : Change
+none = Add (record { 0 = 0 }) 0
+
+pub returns-then-changes-eq1-clause-watchers : goal.returns-then-changes-eq1-clause-watchers
+returns-then-changes-eq1-clause-watchers g c =
+    let p = c.args.inst.now in
+    let s = c.args.self.now.told in
+    let cs = c.args.changes.now in
+    let t = c.note_all.new.told in
+    let waits = g.W.Waits.waits in
+    let leads = c.note_all.ensures ∙ ap (λ (x : List Slot). after_all x cs) c.requires.of.1 in
+    let told = subst (AreTold p) (sym leads) (told_after p s cs c.requires.of.2 c.requires.fit) in
+    let one = c.if-changes-eq1.true in
+    watchers_of p s t cs (waits c.args.waits.now) (waits c.take.new.waits) c.requires.of.2 c.requires.fit leads
+    (λ k m. mentioned_there p s cs k c.requires.fit m) (told.whose ∙ sym c.requires.of.2.whose)
+    (watchers_one p s t cs c.meet.result.0 (waits c.args.waits.now) (waits c.take.new.waits)
+    (subst (Mentions cs) (sym c.meet.ensures) (mention_at cs 0 none (omega (arith, one)))) c.take.ensures.watchers)
+
+pub take-requires-clause-elsewhere : goal.take-requires-clause-elsewhere
+take-requires-clause-elsewhere g c = λ j n.
+    (let leads = c.note_all.ensures ∙ ap (λ (x : List Slot). after_all x c.args.changes.now) c.requires.of.1 in
+    c.of-places.ensures c.args.self.now.told c.meet.result.0 j n
+    ∙ ap (λ (x : List Slot). slice_get (slot_at x c.meet.result.0).given j) (sym leads))
 
 pub take_shorter-requires-clause-ahead : goal.take_shorter-requires-clause-ahead
 take_shorter-requires-clause-ahead g c =
@@ -20,6 +49,21 @@ take_shorter-requires-clause-ahead g c =
 pub take_shorter-requires-clause-there : goal.take_shorter-requires-clause-there
 take_shorter-requires-clause-there g c = λ k m.
     mentioned_there c.args.inst.now c.args.self.now.told c.args.changes.now k c.requires.fit m
+
+pub take_shorter-requires-clause-elsewhere : goal.take_shorter-requires-clause-elsewhere
+take_shorter-requires-clause-elsewhere g c = λ k j n.
+    (let leads = c.note_all.ensures ∙ ap (λ (x : List Slot). after_all x c.args.changes.now) c.requires.of.1 in
+    c.of-places.ensures c.args.self.now.told k j n
+    ∙ ap (λ (x : List Slot). slice_get (slot_at x k).given j) (sym leads))
+
+pub take_all-requires-clause-elsewhere : goal.take_all-requires-clause-elsewhere
+take_all-requires-clause-elsewhere g c =
+    let s = c.args.self.now.told in
+    let leads = c.note_all.ensures ∙ ap (λ (x : List Slot). after_all x c.args.changes.now) c.requires.of.1 in
+    same_but c.of-places.result c.args.inst.now s c.note_all.new.told c.take_shorter.new.told
+    c.take_shorter.ensures.mix
+    (λ k j n. c.of-places.ensures s k j n
+    ∙ ap (λ (x : List Slot). slice_get (slot_at x k).given j) (sym leads))
 
 pub take_all-requires-clause-ahead : goal.take_all-requires-clause-ahead
 take_all-requires-clause-ahead g c =

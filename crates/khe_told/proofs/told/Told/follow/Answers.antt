@@ -1,4 +1,6 @@
-use Rattle.std.proofs.Common.{ap, arith, sym, length, ◌∙◌}
+use Rattle.std.proofs.Common.{List, Option, ap, arith, slice_get, sym, length, ◌∙◌}
+use Rattle.khe_base.specs.declared.numbers.ResourceId.{ResourceId}
+use Rattle.khe_told.specs.declared.slots.Slot.{Slot}
 use Rattle.khe_told.proofs.StoredLaws.{length-slots_in}
 use Rattle.khe_told.proofs.TurnLaws.{places_same}
 use Rattle.khe_told.specs.Slots.{slot_at}
@@ -16,3 +18,8 @@ refill-requires-clause-many c =
     ap length c.given-given.ensures
     ∙ places_same (slot_at c.args.next.now c.args.meet.0) (slot_at c.args.self.now c.args.meet.0) c.requires.same
     ∙ ap (λ s. length (slot_at s c.args.meet.0).given) (sym c.self.view_is)
+
+pub refill-requires-clause-elsewhere : goal.refill-requires-clause-elsewhere
+refill-requires-clause-elsewhere c = λ j n.
+    ap (λ (s : List Slot). slice_get (slot_at s c.args.meet.0).given j) c.self.view_is ∙ c.requires.elsewhere j n
+    ∙ sym (ap (λ (xs : List (Option ResourceId)). slice_get xs j) c.given-given.ensures)

@@ -1,6 +1,20 @@
 -- The parts of both slots are read from their rows.
-use Rattle.khe_told.proofs.TurnLaws.{turn_made}
+use Rattle.std.proofs.Common.{List, Option, ap, length, slice_get, sym, ◌∙◌}
+use Rattle.khe_base.specs.declared.numbers.ResourceId.{ResourceId}
+use Rattle.khe_told.specs.Slots.{slot_at}
+use Rattle.khe_told.proofs.TurnLaws.{places_same, turn_made}
 use Rattle.khe_told.proofs.told.Told.turn_to.Goals as goal
+
+pub differ-requires-clause-many : goal.differ-requires-clause-many
+differ-requires-clause-many c =
+    ap length c.given-given_after.ensures
+    ∙ places_same (slot_at c.args.next.now c.args.meet.0) (slot_at c.args.self.now c.args.meet.0) c.requires.same
+    ∙ sym (ap length c.given-given_before.ensures)
+
+pub differ-requires-clause-elsewhere : goal.differ-requires-clause-elsewhere
+differ-requires-clause-elsewhere c = λ j n.
+    ap (λ (xs : List (Option ResourceId)). slice_get xs j) c.given-given_before.ensures ∙ c.requires.elsewhere j n
+    ∙ sym (ap (λ (xs : List (Option ResourceId)). slice_get xs j) c.given-given_after.ensures)
 
 pub returns-clause-turn : goal.returns-clause-turn
 returns-clause-turn c =

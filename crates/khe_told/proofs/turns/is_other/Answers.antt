@@ -1,14 +1,13 @@
--- Both are the same where each entry is.
-use Rattle.std.proofs.Common.{◌≡◌, Option, Some, None, sym, refl, ap}
+-- Both are the same where the test says so.
+use Rattle.std.proofs.Common.{◌≡◌, ◌∙◌, Bool, true, false, not, Option, Some, None, sym, refl, ap}
 use Rattle.std.specs.Bool.{Decides}
 use Rattle.std.specs.Option.{option_eq}
 use Rattle.std.proofs.lemmas.Bool.{true≢false}
 use Rattle.std.proofs.lemmas.Bool.Decides.{Decides-eqb}
 use Rattle.std.proofs.lemmas.Option.{none-some, same_Some}
-use Rattle.std.proofs.lemmas.Slice.Eq.{slice_eq-Decides}
 use Rattle.khe_base.specs.contracts.numbers.ResourceIdPartialEq.TheImpl.{eq-value}
 use Rattle.khe_base.specs.declared.numbers.ResourceId.{ResourceId}
-use Rattle.khe_told.proofs.turns.is_same.Goals as goal
+use Rattle.khe_told.proofs.turns.is_other.Goals as goal
 
 decide : (a b : Option ResourceId) → Decides (option_eq eq-value.it a b) (a ≡ b)
 decide None None = (λ h. refl, λ h. refl)
@@ -19,5 +18,9 @@ decide (Some a) (Some b) = (
   λ h. (Decides-eqb a.0 b.0).1 (ap (λ (r : ResourceId). r.0) (same_Some a b h)),
 )
 
+kept : (b : Bool) → not b ≡ false → b ≡ true
+kept true h = refl
+kept false h = absurd (true≢false h)
+
 pub returns : goal.returns
-returns c = (slice_eq-Decides decide _ _ _ c.eq.ensures).0
+returns c = λ same. (decide c.args.old c.args.new).0 (kept _ (sym c.ne.ensures ∙ same))

@@ -1,0 +1,12 @@
+-- What was noted so far, and then what the resources that are left give, is what all give.
+use Rattle.std.proofs.Common.{◌≡◌, drop}
+use Rattle.std.specs.List.{flat_map}
+use Rattle.xhstt_references.specs.Directories.{named_by}
+use Rattle.xhstt_references.specs.First.{first_of}
+use Rattle.xhstt_references.specs.References.{unknown_in_given}
+use Rattle.xhstt_references.proofs.solutions.note_givens.Given as goal
+
+abbrev pub invariant-loop-given : goal.invariant-loop-given
+invariant-loop-given l =
+    first_of l.first.at (flat_map (unknown_in_given (named_by l.instance)) (drop l.given-index l.givens))
+    ≡ first_of l.fn.first.at (flat_map (unknown_in_given (named_by l.instance)) l.givens)
