@@ -1,5 +1,6 @@
 -- Slots that are taken over one by one: each state between is told, and the last is the one that was told.
-use Rattle.std.proofs.Common.{ℕ, ◌≡◌, ◌≢◌, ◌≤◌, ◌<◌, ◌+◌, ◌⊎◌, ◌∙◌, inl, inr, zero, suc, cond, Bool, true, false, List, []}
+use Rattle.std.proofs.Common.{ℕ, ◌≡◌, ◌≢◌, ◌≤◌, ◌<◌, ◌+◌, ◌⊎◌, ◌∙◌, inl, inr, zero, suc, cond, Bool, true, false, List}
+use Rattle.std.proofs.Common.{[]}
 use Rattle.std.proofs.Common.{◌∷◌, ◌++◌, length, map, get_or, slice_get, slice_set, take, refl, sym, ap, subst, arith}
 use Rattle.std.specs.Prelude.{◌==◌}
 use Rattle.std.proofs.Math.Dec.{eqb}
@@ -38,7 +39,8 @@ elsewhere p s (c ∷ cs) k fit = by (slot_after s c k fit.0.there) (elsewhere p 
     by (inr e) (inr q) = inr (q ∙ e.1)
 
 -- the slots of changes that fit are there
-pub mentioned_there : (p : Parts) (s : List Slot) (cs : List Change) (k : ℕ) → AllFit p s cs → Mentions cs k → k < length s
+pub mentioned_there : (p : Parts) (s : List Slot) (cs : List Change) (k : ℕ) → AllFit p s cs → Mentions cs k
+    → k < length s
 mentioned_there p s [] k fit h = absurd h
 mentioned_there p s (c ∷ cs) k fit (inl e) = subst (λ n. n < length s) e fit.0.there
 mentioned_there p s (c ∷ cs) k fit (inr h) =
@@ -92,7 +94,8 @@ held_less e (x ∷ a) (y ∷ b) same h =
     drop_one [] = []
     drop_one (z ∷ zs) = zs
 
-    one : (f g : Bool) → f ≡ g → length_of x ≤ length_of y → cond {A = ℕ} f (length_of x) 0 ≤ cond {A = ℕ} g (length_of y) 0
+    one : (f g : Bool) → f ≡ g → length_of x ≤ length_of y
+        → cond {A = ℕ} f (length_of x) 0 ≤ cond {A = ℕ} g (length_of y) 0
     one true true q l = l
     one false false q l = omega arith
     one true false q l = absurd (true≢false q)
@@ -106,11 +109,13 @@ later_told p now t r k told after_it bound l h =
     let same = emptied_at now t k (after_it.whose ∙ sym told.whose) in
     let whose = map-set_same emptied now k (slot_at t k) no_slot same ∙ told.whose in
     let there : k < length t =
-    let a = ap length (after_it.whose ∙ sym told.whose) in let b = length-map t emptied in let c = length-map now emptied in
+    let a = ap length (after_it.whose ∙ sym told.whose) in let b = length-map t emptied in let c =
+    length-map now emptied in
     omega (arith, l, a, b, c) in
     record {
       whose = whose;
-      slots = All-set (IsSlot p) now k (slot_at t k) (All-get_or (IsSlot p) t k no_slot there after_it.slots) told.slots;
+      slots = All-set (IsSlot p) now k (slot_at t k) (All-get_or (IsSlot p) t k no_slot there after_it.slots)
+          told.slots;
       durations = λ e event g.
           (let a = held_less e (slice_set now k (slot_at t k)) r (whose ∙ sym bound.whose) h in
           let b = bound.durations e event g in
@@ -179,7 +184,8 @@ taking_more p s t now cs served hears old waits new k h mentioned l told on unmo
         go false a = a
 
     more : (i : ℕ) → (waits i ≡ true) ⊎ Watches p (turn_to now t k) i → (old i ≡ true)
-        ⊎ ((j : ℕ) × (x : Slot) × Mentions cs j × IsEither s t j x × Watches p (record { before = x; after = slot_at t j }) i)
+        ⊎ ((j : ℕ) × (x : Slot) × Mentions cs j × IsEither s t j x
+        × Watches p (record { before = x; after = slot_at t j }) i)
     more i (inl w) = h.watchers i w
     more i (inr w) = inr (k, slot_at now k, mentioned, h.mix.each k, w)
 
@@ -245,7 +251,8 @@ taken_done cs i d now t k l e there h j m = by (taken_at now t k j there) (menti
 -- and are no longer than they are to be
 pub less_done : (cs : List Change) (i : ℕ) (d : Change) (now new t : List Slot) → i < length cs
     → ((l : ℕ) → Mentions (take i cs) l → length_of (slot_at now l) ≤ length_of (slot_at t l))
-    → ((l : ℕ) → (length_of (slot_at now l) ≤ length_of (slot_at t l)) → length_of (slot_at new l) ≤ length_of (slot_at t l))
+    → ((l : ℕ) → (length_of (slot_at now l) ≤ length_of (slot_at t l))
+    → length_of (slot_at new l) ≤ length_of (slot_at t l))
     → length_of (slot_at new (meet_of (get_or cs i d))) ≤ length_of (slot_at t (meet_of (get_or cs i d)))
     → (l : ℕ) → Mentions (take (i + 1) cs) l → length_of (slot_at new l) ≤ length_of (slot_at t l)
 less_done cs i d now new t l h stays this j m = by (mention_more cs i d j l m)
@@ -330,6 +337,7 @@ pub watchers_one : (p : Parts) (s t : List Slot) (cs : List Change) (k : ℕ) (o
 watchers_one p s t cs k old new mentioned h i w = by (h i w)
   where
     by : (old i ≡ true) ⊎ Watches p (turn_to s t k) i → (old i ≡ true)
-        ⊎ ((j : ℕ) × (x : Slot) × Mentions cs j × IsEither s t j x × Watches p (record { before = x; after = slot_at t j }) i)
+        ⊎ ((j : ℕ) × (x : Slot) × Mentions cs j × IsEither s t j x
+        × Watches p (record { before = x; after = slot_at t j }) i)
     by (inl v) = inl v
     by (inr v) = inr (k, slot_at s k, mentioned, inl refl, v)

@@ -1,8 +1,9 @@
 -- Who watches what becomes of a slot watches one of the changes that lead there.
-use Rattle.std.proofs.Common.{ℕ, ◌≡◌, ◌≢◌, ◌≤◌, ◌<◌, ◌+◌, ◌*◌, ◌⊎◌, ◌∙◌, inl, inr, zero, suc, cond, Bool, true, false, Option, Some}
+use Rattle.std.proofs.Common.{ℕ, ◌≡◌, ◌≢◌, ◌≤◌, ◌<◌, ◌+◌, ◌*◌, ◌⊎◌, ◌∙◌, inl, inr, zero, suc, cond, Bool, true, false}
+use Rattle.std.proofs.Common.{Option, Some}
 use Rattle.std.proofs.Common.{None, List, [], ◌∷◌, length, replicate, slice_get, slice_set, refl, sym, ap, subst, arith}
 use Rattle.std.proofs.Common.{get_or, map}
-use Rattle.std.specs.List.{count_by, filter_map, list_any, sum_by}
+use Rattle.std.specs.List.{count_by, filter_map, list_any}
 use Rattle.std.specs.Prelude.{◌||◌}
 use Rattle.std.specs.Option.{option_map, option_map_or}
 use Rattle.std.proofs.Math.Dec.{eqb}
@@ -27,7 +28,7 @@ use Rattle.khe_told.specs.Changes.{after, after_all, changed, meet_of}
 use Rattle.khe_told.specs.Fits.{AllFit, AreTold, Fits, IsSlot, Suits}
 use Rattle.khe_told.specs.Slots.{IsBareIfFree, emptied, no_slot, slot_at}
 use Rattle.khe_told.specs.Turns.{HasCell, HasLoad, IsWatched, Watches, duration_of}
-use Rattle.khe_told.specs.Watchers.{covered, given_in, loaded_resources, times_of, touched_resources, touched_times}
+use Rattle.khe_told.specs.Watchers.{covered, given_in, times_of, touched_times}
 use Rattle.khe_told.specs.Watchers.{AreWatchersOf, watch_count, watch_counts, watches_with}
 use Rattle.khe_told.specs.declared.changes.Change.{Change}
 use Rattle.khe_told.specs.declared.changes.Change.TheVariants.{Add, Drop, Place as PlaceAt, Lift, Give, Take}
@@ -182,7 +183,8 @@ cell_step p x (Give t r) rule point j bare h = by (eqb_tells t.place j)
 
     by : ((eqb t.place j ≡ true) × (t.place ≡ j)) ⊎ ((eqb t.place j ≡ false) × (t.place ≢ j))
         → Alike x (changed x (Give t r)) j
-        ⊎ (HasCell rule point x j ⊎ HasCell rule point (changed x (Give t r)) j → 1 ≤ watches_with p x (Give t r) rule point)
+        ⊎ (HasCell rule point x j ⊎ HasCell rule point (changed x (Give t r)) j
+        → 1 ≤ watches_with p x (Give t r) rule point)
     by (inl e) = inr (at e.1)
     by (inr e) = inl (sym (get-other x.given t.place j (Some r) e.1), refl)
 cell_step p x (Take t r) rule point j bare h = by (eqb_tells t.place j)
@@ -203,7 +205,8 @@ cell_step p x (Take t r) rule point j bare h = by (eqb_tells t.place j)
 
     by : ((eqb t.place j ≡ true) × (t.place ≡ j)) ⊎ ((eqb t.place j ≡ false) × (t.place ≢ j))
         → Alike x (changed x (Take t r)) j
-        ⊎ (HasCell rule point x j ⊎ HasCell rule point (changed x (Take t r)) j → 1 ≤ watches_with p x (Take t r) rule point)
+        ⊎ (HasCell rule point x j ⊎ HasCell rule point (changed x (Take t r)) j
+        → 1 ≤ watches_with p x (Take t r) rule point)
     by (inl e) = inr (at e.1)
     by (inr e) = inl (sym (get-other x.given t.place j None e.1), refl)
 
@@ -226,12 +229,14 @@ load_step p x (Drop m d) rule point j bare h = inr by
 load_step p x (PlaceAt m t) rule point j bare h = inl (
   refl,
   ap (option_map (λ (y : Span). y.duration)) h.1
-      ∙ sym (ap (option_map (λ (y : Span). y.duration)) (ap (option_map (λ (z : Span). record z { start = Some t })) h.1)),
+      ∙ sym (ap (option_map (λ (y : Span). y.duration))
+      (ap (option_map (λ (z : Span). record z { start = Some t })) h.1)),
 )
 load_step p x (Lift m t) rule point j bare h = inl (
   refl,
   ap (option_map (λ (y : Span). y.duration)) h.1
-      ∙ sym (ap (option_map (λ (y : Span). y.duration)) (ap (option_map (λ (z : Span). record z { start = None })) h.1)),
+      ∙ sym (ap (option_map (λ (y : Span). y.duration))
+      (ap (option_map (λ (z : Span). record z { start = None })) h.1)),
 )
 load_step p x (Give t r) rule point j bare h = by (eqb_tells t.place j)
   where
@@ -251,7 +256,8 @@ load_step p x (Give t r) rule point j bare h = by (eqb_tells t.place j)
 
     by : ((eqb t.place j ≡ true) × (t.place ≡ j)) ⊎ ((eqb t.place j ≡ false) × (t.place ≢ j))
         → LoadedAlike x (changed x (Give t r)) j
-        ⊎ (HasLoad rule point x j ⊎ HasLoad rule point (changed x (Give t r)) j → 1 ≤ watches_with p x (Give t r) rule point)
+        ⊎ (HasLoad rule point x j ⊎ HasLoad rule point (changed x (Give t r)) j
+        → 1 ≤ watches_with p x (Give t r) rule point)
     by (inl e) = inr (at e.1)
     by (inr e) = inl (sym (get-other x.given t.place j (Some r) e.1), refl)
 load_step p x (Take t r) rule point j bare h = by (eqb_tells t.place j)
@@ -273,7 +279,8 @@ load_step p x (Take t r) rule point j bare h = by (eqb_tells t.place j)
 
     by : ((eqb t.place j ≡ true) × (t.place ≡ j)) ⊎ ((eqb t.place j ≡ false) × (t.place ≢ j))
         → LoadedAlike x (changed x (Take t r)) j
-        ⊎ (HasLoad rule point x j ⊎ HasLoad rule point (changed x (Take t r)) j → 1 ≤ watches_with p x (Take t r) rule point)
+        ⊎ (HasLoad rule point x j ⊎ HasLoad rule point (changed x (Take t r)) j
+        → 1 ≤ watches_with p x (Take t r) rule point)
     by (inl e) = inr (at e.1)
     by (inr e) = inl (sym (get-other x.given t.place j None e.1), refl)
 
@@ -291,7 +298,11 @@ slot_after s c k l = by (eqb_tells (meet_of c) k)
       ap (slot_at (after s c)) (sym e.1) ∙ get_or-set_same s (meet_of c) (changed (slot_at s (meet_of c)) c) no_slot l
           ∙ ap (λ n. changed (slot_at s n) c) e.1,
     )
-    by (inr e) = inr (e.1, get_or-set_other s (meet_of c) k (changed (slot_at s (meet_of c)) c) no_slot (λ q. e.1 (sym q)))
+    by (inr e) = inr (
+      e.1,
+      get_or-set_other s (meet_of c) k (changed (slot_at s (meet_of c)) c) no_slot
+          (λ q. e.1 (sym q)),
+    )
 
 -- slots of two states of an instance have the same events
 pub emptied_at : (s t : List Slot) (k : ℕ) → map emptied t ≡ map emptied s
@@ -323,7 +334,8 @@ module _ (p : Parts) (m : Monitor) (q : Constraint) (there : slice_get p.constra
       ap (λ b. cond {A = ℕ} b 1 0) (ap (λ j. names_event p q.rule m.point (slot_at s j).event.0) e ∙ named) in
       omega (arith, n, one)
   event_path s (c ∷ cs) k fit (inr h) named =
-      let r = event_path (after s c) cs k fit.1 h (ap (λ e. names_event p q.rule m.point e) (by (slot_after s c k fit.0.there))
+      let r = event_path (after s c) cs k fit.1 h (ap (λ e. names_event p q.rule m.point e)
+      (by (slot_after s c k fit.0.there))
       ∙ named) in
       omega (arith, r)
     where

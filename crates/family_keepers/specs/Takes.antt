@@ -1,10 +1,10 @@
 -- A told state whose slots are taken over, one by one, from another that changes lead to.
-use Rattle.std.specs.Prelude.{ℕ, ◌≡◌, ◌≤◌, ◌⊎◌, Bool, true, List, [], ◌∷◌, Some}
+use Rattle.std.specs.Prelude.{ℕ, ◌≡◌, ◌⊎◌, Bool, true, List, [], ◌∷◌, Some}
 use Rattle.khe_base.specs.declared.numbers.MeetId.{MeetId}
 use Rattle.khe_instance.specs.declared.parts.Parts.{Parts}
 use Rattle.khe_told.specs.Changes.{meet_of}
 use Rattle.khe_told.specs.Fits.{AreTold}
-use Rattle.khe_told.specs.Slots.{emptied, slot_at}
+use Rattle.khe_told.specs.Slots.{slot_at}
 use Rattle.khe_told.specs.Turns.{Watches}
 use Rattle.khe_told.specs.declared.changes.Change.{Change}
 use Rattle.khe_told.specs.declared.slots.Slot.{Slot}

@@ -53,7 +53,8 @@ fn take<K: Keeper, W: Waits>(
     ensures monitors { W.monitors waits.new ≡ W.monitors waits.old }
     ensures unmoved { W.hears ≡ true → AreUnmoved inst.now K.serves_kind (W.waits waits.new) told.old told.new }
     ensures kept { WaitOn (W.waits waits.old) (W.waits waits.new) }
-    ensures watchers { AreWatchers inst.now (turn_to told.old ahead.now meet.0) (W.waits waits.old) (W.waits waits.new) }
+    ensures watchers { AreWatchers inst.now (turn_to told.old ahead.now meet.0) (W.waits waits.old)
+        (W.waits waits.new) }
 {
     let turn = told.turn_to(ahead, meet, places);
     if turn.is_still() {
@@ -99,33 +100,42 @@ impl Taken {
     }
 }
 
+/// A meet slot that may be another, and the places of it that may be given something else.
+#[derive(Clone, Copy)]
+struct Altered {
+    meet: MeetId,
+    places: Places,
+}
+
 /// Takes a slot over as `take` does, where it is none of the last two: these are alike in both states.
 fn take_new<K: Keeper, W: Waits>(
     inst: &Instance,
     keeper: &mut K,
     told: &mut Told,
     ahead: &Told,
-    meet: MeetId,
-    places: Places,
+    altered: Altered,
     taken: &mut Taken,
     waits: &mut W,
 )
     requires keeps { K.Keeps keeper.old inst.now told.old }
-    requires there { meet.0 < length told.old }
+    requires there { altered.meet.0 < length told.old }
     requires told { AreTold inst.now told.old }
-    requires same { emptied (slot_at ahead.now meet.0) ≡ emptied (slot_at told.old meet.0) }
-    requires later { AreTold inst.now (slice_set told.old meet.0 (slot_at ahead.now meet.0)) }
-    requires elsewhere { AreSameBut places (slot_at told.old meet.0).given (slot_at ahead.now meet.0).given }
+    requires same { emptied (slot_at ahead.now altered.meet.0) ≡ emptied (slot_at told.old altered.meet.0) }
+    requires later { AreTold inst.now (slice_set told.old altered.meet.0 (slot_at ahead.now altered.meet.0)) }
+    requires elsewhere { AreSameBut altered.places (slot_at told.old altered.meet.0).given
+        (slot_at ahead.now altered.meet.0).given }
     requires monitors { W.monitors waits.old ≡ length inst.now.monitors }
     requires taken { AreTaken told.old ahead.now taken.old }
     ensures keeps { K.Keeps keeper.new inst.now told.new }
-    ensures told { told.new ≡ slice_set told.old meet.0 (slot_at ahead.now meet.0) }
+    ensures told { told.new ≡ slice_set told.old altered.meet.0 (slot_at ahead.now altered.meet.0) }
     ensures monitors { W.monitors waits.new ≡ W.monitors waits.old }
     ensures unmoved { W.hears ≡ true → AreUnmoved inst.now K.serves_kind (W.waits waits.new) told.old told.new }
     ensures kept { WaitOn (W.waits waits.old) (W.waits waits.new) }
-    ensures watchers { AreWatchers inst.now (turn_to told.old ahead.now meet.0) (W.waits waits.old) (W.waits waits.new) }
+    ensures watchers { AreWatchers inst.now (turn_to told.old ahead.now altered.meet.0) (W.waits waits.old)
+        (W.waits waits.new) }
     ensures taken { AreTaken told.new ahead.now taken.new }
 {
+    let Altered { meet, places } = altered;
     if taken.has(meet) {
         return;
     }
@@ -152,7 +162,8 @@ fn take_shorter<K: Keeper, W: Waits>(
     requires monitors { W.monitors waits.old ≡ length inst.now.monitors }
     ensures keeps { K.Keeps keeper.new inst.now told.new }
     ensures mix { IsMix inst.now told.old ahead.now told.new }
-    ensures shorter { (k : ℕ) → Mentions changes.now k → length_of (slot_at told.new k) ≤ length_of (slot_at ahead.now k) }
+    ensures shorter { (k : ℕ) → Mentions changes.now k
+        → length_of (slot_at told.new k) ≤ length_of (slot_at ahead.now k) }
     ensures monitors { W.monitors waits.new ≡ W.monitors waits.old }
     ensures unmoved { W.hears ≡ true → AreUnmoved inst.now K.serves_kind (W.waits waits.new) told.old told.new }
     ensures kept { WaitOn (W.waits waits.old) (W.waits waits.new) }
@@ -194,7 +205,8 @@ fn take_all<K: Keeper, W: Waits>(
     let mut taken = Taken::none();
     for change in changes {
         let meet = change.meet();
-        take_new(inst, keeper, told, ahead, meet, places, &mut taken, waits);
+        let altered = Altered { meet, places };
+        take_new(inst, keeper, told, ahead, altered, &mut taken, waits);
     }
 }
 

@@ -1,14 +1,14 @@
-use Rattle.std.proofs.Common.{ℕ, ◌≡◌, ◌≤◌, ◌<◌, ◌+◌, ◌∙◌, ap, arith, get_or, length, slice_set, subst, sym, take, true}
+use Rattle.std.proofs.Common.{ℕ, ◌≡◌, ◌≤◌, ◌<◌, ◌+◌, ◌∙◌, ap, arith, length, slice_set, subst, sym, take, true}
 use Rattle.std.specs.Prelude.{Bool, List}
 use Rattle.std.proofs.lemmas.List.{length-set}
-use Rattle.khe_told.specs.Changes.{meet_of}
 use Rattle.khe_told.specs.Slots.{length_of, slot_at}
 use Rattle.khe_told.specs.Waits.{AreUnmoved}
 use Rattle.khe_told.specs.declared.changes.Change.{Change}
 use Rattle.khe_told.specs.declared.changes.Change.TheVariants.{Add}
 use Rattle.khe_told.specs.declared.slots.Slot.{Slot}
 use Rattle.family_keepers.specs.Takes.{Mentions}
-use Rattle.family_keepers.proofs.TakeLaws.{IsTaking, later_told, less_done, less_short, less_stays, mention_at, same_but, taken_least, taking_more}
+use Rattle.family_keepers.proofs.TakeLaws.{IsTaking, later_told, less_done, less_short, less_stays, mention_at}
+use Rattle.family_keepers.proofs.TakeLaws.{same_but, taken_least, taking_more}
 use Rattle.family_keepers.proofs.WatchLaws.{emptied_at}
 use Rattle.family_keepers.proofs.keeping.take_shorter.Goals.{then-duration, else-duration}
 use Rattle.family_keepers.proofs.keeping.take_shorter.Goals as goal
@@ -53,7 +53,8 @@ loop-change-preserved g c =
     let served = g.K.Keeper.serves_kind in
     let hears = g.W.Waits.hears in
     let waits = g.W.Waits.waits in
-    let m : Mentions cs k = subst (Mentions cs) (sym c.meet-meet.ensures) (mention_at cs i none c.loop-change-test.true) in
+    let m : Mentions cs k = subst (Mentions cs) (sym c.meet-meet.ensures)
+    (mention_at cs i none c.loop-change-test.true) in
     let l : k < length now = let a = c.requires.there k m in let n = v.amount in omega (arith, a, n) in
     elim c.if-duration.branch [
       | then-duration w ↦
@@ -68,7 +69,8 @@ loop-change-preserved g c =
           record {
             keeps = subst (λ x. g.K.Keeper.Keeps x p c.if-duration.told) (sym w.keeper-is)
                 (subst (λ (u : List Slot). g.K.Keeper.Keeps w.take.new.keeper p u) (sym w.told-is) e.keeps);
-            taking = subst (λ (f : ℕ → Bool). IsTaking p first t c.if-duration.told cs served hears (waits c.args.waits.now) f)
+            taking = subst (λ (f : ℕ → Bool). IsTaking p first t c.if-duration.told cs served hears
+                (waits c.args.waits.now) f)
                 (sym wait)
                 (subst (λ (u : List Slot). IsTaking p first t u cs served hears (waits c.args.waits.now)
                 (waits w.take.new.waits)) (sym is)
@@ -94,7 +96,8 @@ loop-change-preserved g c =
           record {
             keeps = subst (λ x. g.K.Keeper.Keeps x p c.if-duration.told) (sym w.keeper-is)
                 (subst (λ (u : List Slot). g.K.Keeper.Keeps c.loop-change.keeper p u) (sym w.told-is) v.keeps);
-            taking = subst (λ (f : ℕ → Bool). IsTaking p first t c.if-duration.told cs served hears (waits c.args.waits.now) f)
+            taking = subst (λ (f : ℕ → Bool). IsTaking p first t c.if-duration.told cs served hears
+                (waits c.args.waits.now) f)
                 (sym (ap waits w.waits-is))
                 (subst (λ (u : List Slot). IsTaking p first t u cs served hears (waits c.args.waits.now)
                 (waits c.loop-change.waits)) (sym w.told-is) v.taking);
