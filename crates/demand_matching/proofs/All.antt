@@ -1,5 +1,5 @@
 -- As many that are reached as the set has that is kept are all of it.
-use Rattle.std.proofs.Common.{ℕ, ◌<◌, ◌≤◌, ◌≡◌, Bool, true, get_or, refl, sym, ap, ◌∙◌, arith}
+use Rattle.std.proofs.Common.{ℕ, ◌<◌, ◌≤◌, ◌≡◌, true, get_or, refl, sym, ap, ◌∙◌, arith}
 use Rattle.khe_base.specs.IdSet.{has_member}
 use Rattle.demand_matching.specs.declared.table.Table.{Table}
 use Rattle.demand_matching.specs.declared.order.Order.{Order}

@@ -18,7 +18,6 @@ use Rattle.demand_matching.specs.Matched.{IsMaximum}
 use Rattle.demand_matching.specs.Reach.{IsInAll, IsReached}
 use Rattle.demand_matching.specs.Table.{domains_of, may_take, supply_of, owner_of, demands_in, supplies_in}
 use Rattle.demand_matching.proofs.Duality.{HasLeftOut}
-use Rattle.demand_matching.proofs.Fences.{owner_below}
 use Rattle.demand_matching.proofs.Maxima.{bounded, saturated_exceeds, exceeds_left, exceeds_saturated}
 use Rattle.demand_matching.proofs.Picks.{members_hit, members_found}
 use Rattle.demand_matching.proofs.Shut.{kept_of, firsts_out}

@@ -1,6 +1,6 @@
 //! Which demands compete for the supplies of those that are left out.
 
-ghost use Rattle.std.specs.Prelude.{◌≡◌, ◌+◌, ◌*◌, ◌<◌, ◌≤◌, ℕ, true, length, slice_index, Some, IfOk, OnOk};
+ghost use Rattle.std.specs.Prelude.{◌≡◌, ◌+◌, ◌*◌, ◌<◌, ℕ, true, length, slice_index, Some, IfOk, OnOk};
 ghost use Rattle.khe_base.specs.IdSet.{has_member};
 ghost use Rattle.demand_matching.specs.Domains.{domain_of, is_present, is_picked};
 ghost use Rattle.demand_matching.specs.Listing.{IsListing};

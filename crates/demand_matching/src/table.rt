@@ -1,11 +1,13 @@
 //! The domains of demands, and who has which supply.
 
-ghost use Rattle.std.specs.Prelude.{◌≡◌, ◌≢◌, ◌+◌, ◌-◌, ◌*◌, ◌^◌, ◌<◌, ◌≤◌, ℕ, true, false, length, slice_index, Option, None, Some, IfSome, MatchOption};
+ghost use Rattle.std.specs.Prelude.{◌≡◌, ◌≢◌, ◌+◌, ◌-◌, ◌*◌, ◌^◌, ◌<◌, ◌≤◌, ℕ, true, false, length, slice_index};
+ghost use Rattle.std.specs.Prelude.{Option, None, Some, IfSome, MatchOption};
 ghost use Rattle.khe_base.specs.Bits.{has_bit, is_set};
 ghost use Rattle.demand_matching.specs.Domains.{IsInRange, is_picked, domain_of, with_domain};
 ghost use Rattle.demand_matching.specs.Members.{picked};
 ghost use Rattle.demand_matching.specs.Order.{IsOrder};
-ghost use Rattle.demand_matching.specs.Table.{IsTable, IsServed, domains_of, may_take, admits_supply, supply_of, owner_of, demands_in, supplies_in};
+ghost use Rattle.demand_matching.specs.Table.{IsTable, IsServed, domains_of, may_take, admits_supply, supply_of};
+ghost use Rattle.demand_matching.specs.Table.{owner_of, demands_in, supplies_in};
 ghost use Rattle.demand_matching.specs.Search.{IsSearch, IsReached, IsMarked, IsTaken, IsFreeFor, GoesOn, Ends};
 ghost use Rattle.demand_matching.specs.Listing.{ServesOne};
 
@@ -26,6 +28,14 @@ pub(crate) struct Table {
     pub(crate) supplies: Vec<Option<u32>>,
     pub(crate) owners: Vec<Option<u32>>,
     pub(crate) free: Vec<u64>,
+}
+
+/// How far a search has come: it began with the demands that stand in the order at `head` or later, and looks at what
+/// the one at `place` may have.
+#[derive(Clone, Copy)]
+struct Stage {
+    head: u32,
+    place: u32,
 }
 
 /// What a search ended with.
@@ -50,7 +60,9 @@ impl Table {
         requires table { IsTable self.now }
         requires domain { IsInRange (domains_of self.now) domain }
         requires picked { is_picked self.now.resources domain.resources resource ≡ true }
-        ensures { MatchOption result ((time : ℕ) → is_picked self.now.times domain.times time ≡ true → is_set self.now.free.items (resource * self.now.last + domain.shift + time) ≡ false) (IsFreeFor self.now domain) }
+        ensures { MatchOption result ((time : ℕ) → is_picked self.now.times domain.times time ≡ true
+            → is_set self.now.free.items (resource * self.now.last + domain.shift + time) ≡ false)
+            (IsFreeFor self.now domain) }
     {
         let row = self.row(domain, resource);
         let (first, end) = self.times.span(domain.times);
@@ -71,7 +83,10 @@ impl Table {
         requires table { IsTable self.now }
         requires domain { IsInRange (domains_of self.now) domain }
         requires end { end ≤ length (picked self.now.resources domain.resources) }
-        ensures { MatchOption result ((j time : ℕ) → first ≤ j → j < end → is_picked self.now.times domain.times time ≡ true → is_set self.now.free.items (slice_index (picked self.now.resources domain.resources) j * self.now.last + domain.shift + time) ≡ false) (IsFreeFor self.now domain) }
+        ensures { MatchOption result ((j time : ℕ) → first ≤ j → j < end
+            → is_picked self.now.times domain.times time ≡ true
+            → is_set self.now.free.items (slice_index (picked self.now.resources domain.resources)
+            j * self.now.last + domain.shift + time) ≡ false) (IsFreeFor self.now domain) }
     {
         for i in first..end {
             let resource = self.resources.number(domain.resources, i);
@@ -88,7 +103,8 @@ impl Table {
     fn free_in(&self, domain: Domain, demand: u32) -> Option<u32>
         requires table { IsTable self.now }
         requires domain { IsInRange (domains_of self.now) domain }
-        ensures { MatchOption result ((supply : ℕ) → admits_supply (domains_of self.now) domain supply ≡ true → owner_of self.now supply ≡ None → ⊥) (IsFreeFor self.now domain) }
+        ensures { MatchOption result ((supply : ℕ) → admits_supply (domains_of self.now) domain supply ≡ true
+            → owner_of self.now supply ≡ None → ⊥) (IsFreeFor self.now domain) }
     {
         let count = self.resources.count(domain.resources);
         if count == 0 {
@@ -107,20 +123,21 @@ impl Table {
         &self,
         order: &mut Order,
         unseen: &mut Vec<u64>,
-        head: u32,
+        stage: Stage,
         supply: u32,
-        place: u32,
         len: u32,
     ) -> u32
         requires table { IsTable self.now }
-        requires search { IsSearch self.now head order.old.demands.items order.old.spots.items order.old.met_from.items len }
+        requires search { IsSearch self.now stage.head order.old.demands.items order.old.spots.items
+            order.old.met_from.items len }
         requires marked { IsMarked self.now order.old.spots.items unseen.old.items len }
-        requires head { head ≤ place }
-        requires place { place < len }
+        requires head { stage.head ≤ stage.place }
+        requires place { stage.place < len }
         requires supply { supply < supplies_in self.now }
-        requires allowed { may_take (domains_of self.now) (slice_index order.old.demands.items place) supply ≡ true }
+        requires allowed { may_take (domains_of self.now) (slice_index order.old.demands.items stage.place) supply
+            ≡ true }
         requires taken { owner_of self.now supply ≡ None → ⊥ }
-        ensures goes_on { GoesOn self.now head order.old order.new unseen.new.items len result }
+        ensures goes_on { GoesOn self.now stage.head order.old order.new unseen.new.items len result }
         ensures reached { IsReached self.now order.new.spots.items result supply }
     {
         let Some(demand) = self.owners[supply as usize] else {
@@ -131,7 +148,7 @@ impl Table {
             return len;
         }
         order.put(demand, len);
-        order.met_from[demand as usize] = place;
+        order.met_from[demand as usize] = stage.place;
         len + 1
     }
 
@@ -140,29 +157,31 @@ impl Table {
         &self,
         order: &mut Order,
         unseen: &mut Vec<u64>,
-        head: u32,
+        stage: Stage,
         word: u64,
         from: usize,
-        place: u32,
         len: u32,
     ) -> u32
         requires table { IsTable self.now }
-        requires search { IsSearch self.now head order.old.demands.items order.old.spots.items order.old.met_from.items len }
+        requires search { IsSearch self.now stage.head order.old.demands.items order.old.spots.items
+            order.old.met_from.items len }
         requires marked { IsMarked self.now order.old.spots.items unseen.old.items len }
-        requires head { head ≤ place }
-        requires place { place < len }
+        requires head { stage.head ≤ stage.place }
+        requires place { stage.place < len }
         requires below { (i : ℕ) → i < 64 → has_bit word i ≡ true → from + i < supplies_in self.now }
-        requires allowed { (i : ℕ) → i < 64 → has_bit word i ≡ true → may_take (domains_of self.now) (slice_index order.old.demands.items place) (from + i) ≡ true }
-        requires taken { IsTaken self.now (slice_index order.old.demands.items place) }
-        ensures goes_on { GoesOn self.now head order.old order.new unseen.new.items len result }
-        ensures reached { (i : ℕ) → i < 64 → has_bit word i ≡ true → IsReached self.now order.new.spots.items result (from + i) }
+        requires allowed { (i : ℕ) → i < 64 → has_bit word i ≡ true
+            → may_take (domains_of self.now) (slice_index order.old.demands.items stage.place) (from + i) ≡ true }
+        requires taken { IsTaken self.now (slice_index order.old.demands.items stage.place) }
+        ensures goes_on { GoesOn self.now stage.head order.old order.new unseen.new.items len result }
+        ensures reached { (i : ℕ) → i < 64 → has_bit word i ≡ true
+            → IsReached self.now order.new.spots.items result (from + i) }
     {
         let mut met = len;
         if word != 0 {
             for i in 0..64u32 {
                 if has_bit(word, i) {
                     let supply = (from + i as usize) as u32;
-                    met = self.meet(order, unseen, head, supply, place, met);
+                    met = self.meet(order, unseen, stage, supply, met);
                 }
             }
         }
@@ -175,29 +194,31 @@ impl Table {
         &self,
         order: &mut Order,
         unseen: &mut Vec<u64>,
-        head: u32,
+        stage: Stage,
         domain: Domain,
         resource: u32,
-        place: u32,
         len: u32,
     ) -> u32
         requires table { IsTable self.now }
-        requires search { IsSearch self.now head order.old.demands.items order.old.spots.items order.old.met_from.items len }
+        requires search { IsSearch self.now stage.head order.old.demands.items order.old.spots.items
+            order.old.met_from.items len }
         requires marked { IsMarked self.now order.old.spots.items unseen.old.items len }
-        requires head { head ≤ place }
-        requires place { place < len }
-        requires domain { domain_of (domains_of self.now) (slice_index order.old.demands.items place) ≡ Some domain }
+        requires head { stage.head ≤ stage.place }
+        requires place { stage.place < len }
+        requires domain { domain_of (domains_of self.now) (slice_index order.old.demands.items stage.place)
+            ≡ Some domain }
         requires picked { is_picked self.now.resources domain.resources resource ≡ true }
-        requires taken { IsTaken self.now (slice_index order.old.demands.items place) }
-        ensures goes_on { GoesOn self.now head order.old order.new unseen.new.items len result }
-        ensures reached { (time : ℕ) → is_picked self.now.times domain.times time ≡ true → IsReached self.now order.new.spots.items result (resource * self.now.last + domain.shift + time) }
+        requires taken { IsTaken self.now (slice_index order.old.demands.items stage.place) }
+        ensures goes_on { GoesOn self.now stage.head order.old order.new unseen.new.items len result }
+        ensures reached { (time : ℕ) → is_picked self.now.times domain.times time ≡ true
+            → IsReached self.now order.new.spots.items result (resource * self.now.last + domain.shift + time) }
     {
         let row = self.row(domain, resource);
         let (first, end) = self.times.span(domain.times);
         let mut met = len;
         for k in first..end {
             let word = window(unseen.as_slice(), row + 64 * k) & self.times.word(domain.times, k);
-            met = self.meet_word(order, unseen, head, word, row + 64 * k, place, met);
+            met = self.meet_word(order, unseen, stage, word, row + 64 * k, met);
         }
         met
     }
@@ -208,25 +229,28 @@ impl Table {
         &self,
         order: &mut Order,
         unseen: &mut Vec<u64>,
-        head: u32,
+        stage: Stage,
         domain: Domain,
-        place: u32,
         len: u32,
     ) -> u32
         requires table { IsTable self.now }
-        requires search { IsSearch self.now head order.old.demands.items order.old.spots.items order.old.met_from.items len }
+        requires search { IsSearch self.now stage.head order.old.demands.items order.old.spots.items
+            order.old.met_from.items len }
         requires marked { IsMarked self.now order.old.spots.items unseen.old.items len }
-        requires head { head ≤ place }
-        requires place { place < len }
-        requires domain { domain_of (domains_of self.now) (slice_index order.old.demands.items place) ≡ Some domain }
-        requires taken { IsTaken self.now (slice_index order.old.demands.items place) }
-        ensures goes_on { GoesOn self.now head order.old order.new unseen.new.items len result }
-        ensures reached { (supply : ℕ) → may_take (domains_of self.now) (slice_index order.old.demands.items place) supply ≡ true → IsReached self.now order.new.spots.items result supply }
+        requires head { stage.head ≤ stage.place }
+        requires place { stage.place < len }
+        requires domain { domain_of (domains_of self.now) (slice_index order.old.demands.items stage.place)
+            ≡ Some domain }
+        requires taken { IsTaken self.now (slice_index order.old.demands.items stage.place) }
+        ensures goes_on { GoesOn self.now stage.head order.old order.new unseen.new.items len result }
+        ensures reached { (supply : ℕ) → may_take (domains_of self.now)
+            (slice_index order.old.demands.items stage.place) supply ≡ true
+            → IsReached self.now order.new.spots.items result supply }
     {
         let mut met = len;
         for i in 0..self.resources.count(domain.resources) {
             let resource = self.resources.number(domain.resources, i);
-            met = self.meet_at(order, unseen, head, domain, resource, place, met);
+            met = self.meet_at(order, unseen, stage, domain, resource, met);
         }
         met
     }
@@ -262,7 +286,8 @@ impl Table {
         left: u32,
     ) -> Found
         requires table { IsTable self.now }
-        requires search { IsSearch self.now head order.old.demands.items order.old.spots.items order.old.met_from.items left }
+        requires search { IsSearch self.now head order.old.demands.items order.old.spots.items order.old.met_from.items
+            left }
         requires marked { IsMarked self.now order.old.spots.items unseen.old.items left }
         requires head { head ≤ left }
         ensures { Ends self.now order.old order.new unseen.new.items head left result }
@@ -279,7 +304,7 @@ impl Table {
                     self.unmark(order, unseen, left, met);
                     return Found::Open(place, supply);
                 }
-                None => met = self.meet_all(order, unseen, head, domain, place, met),
+                None => met = self.meet_all(order, unseen, Stage { head, place }, domain, met),
             }
             place += 1;
         }
@@ -329,7 +354,8 @@ impl Table {
     pub(crate) fn shift(&mut self, order: &Order, head: u32, mut place: u32, mut supply: u32) -> u32
         requires table { IsTable self.old }
         requires head { head ≤ place }
-        requires search { IsSearch self.old head order.now.demands.items order.now.spots.items order.now.met_from.items (place + 1) }
+        requires search { IsSearch self.old head order.now.demands.items order.now.spots.items order.now.met_from.items
+            (place + 1) }
         requires supply { supply < supplies_in self.old }
         requires free { owner_of self.old supply ≡ None }
         requires allowed { may_take (domains_of self.old) (slice_index order.now.demands.items place) supply ≡ true }
@@ -389,7 +415,8 @@ impl Table {
         requires table { IsTable self.old }
         requires demand { demand < demands_in self.old }
         requires domain { IsInRange (domains_of self.old) domain }
-        requires supply { (supply : ℕ) → supply_of self.old demand ≡ Some supply → admits_supply (domains_of self.old) domain supply ≡ true }
+        requires supply { (supply : ℕ) → supply_of self.old demand ≡ Some supply
+            → admits_supply (domains_of self.old) domain supply ≡ true }
         ensures table { IsTable self.new }
         ensures domains { domains_of self.new ≡ with_domain (domains_of self.old) demand (Some domain) }
         ensures supplies { self.new.supplies ≡ self.old.supplies }

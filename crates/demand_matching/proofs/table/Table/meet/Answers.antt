@@ -58,7 +58,7 @@ returns-then-index-len c =
       c.if-index-len.true,
     ) in
     record {
-      goes_on = met_before t c.args.head c.args.order.now c.args.unseen.now.items c.clear_bit.new.words.items
+      goes_on = met_before t c.args.stage.head c.args.order.now c.args.unseen.now.items c.clear_bit.new.words.items
           c.args.supply c.in-Some.demand c.args.len c.requires.search c.requires.marked c.clear_bit.ensures.length
           c.clear_bit.ensures.bits owner near;
       reached = record { by = c.in-Some.demand; owner = owner; within = near };
@@ -81,10 +81,11 @@ returns c =
     ) in
     record {
       goes_on =
-          met_now t c.args.head c.args.order.now _ c.args.unseen.now.items c.clear_bit.new.words.items c.in-Some.demand
-          c.args.place c.args.len c.args.supply c.requires.table c.requires.search c.requires.marked
+          met_now t c.args.stage.head c.args.order.now _ c.args.unseen.now.items c.clear_bit.new.words.items
+          c.in-Some.demand
+          c.args.stage.place c.args.len c.args.supply c.requires.table c.requires.search c.requires.marked
           c.put.ensures.order c.put.ensures.change
-          (ap (λ v. set v.items c.in-Some.demand c.args.place) c.put.ensures.met_from) owner c.requires.head
+          (ap (λ v. set v.items c.in-Some.demand c.args.stage.place) c.put.ensures.met_from) owner c.requires.head
           c.requires.place far c.requires.allowed c.clear_bit.ensures.length c.clear_bit.ensures.bits;
       reached = record { by = c.in-Some.demand; owner = owner; within = omega (arith, c.put.ensures.change.moved) };
     }

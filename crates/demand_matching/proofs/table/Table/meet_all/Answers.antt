@@ -8,7 +8,7 @@ use Rattle.demand_matching.proofs.table.Table.meet_all.Goals as goal
 
 pub meet_at-met-requires-clause-domain : goal.meet_at-met-requires-clause-domain
 meet_at-met-requires-clause-domain c =
-    domain_kept c.args.self.now c.args.order.now c.loop-i.order c.args.place c.args.len c.args.domain
+    domain_kept c.args.self.now c.args.order.now c.loop-i.order c.args.stage.place c.args.len c.args.domain
     c.loop-i.invariant.goes_on.keeps c.requires.place c.requires.domain
 
 pub meet_at-met-requires-clause-picked : goal.meet_at-met-requires-clause-picked
@@ -19,7 +19,8 @@ meet_at-met-requires-clause-picked c =
 
 pub meet_at-met-requires-clause-taken : goal.meet_at-met-requires-clause-taken
 meet_at-met-requires-clause-taken c =
-    taken_kept c.args.self.now c.args.order.now c.loop-i.order c.args.place c.args.len c.loop-i.invariant.goes_on.keeps
+    taken_kept c.args.self.now c.args.order.now c.loop-i.order c.args.stage.place c.args.len
+    c.loop-i.invariant.goes_on.keeps
     c.requires.place c.requires.taken
 
 pub loop-i-preserved : goal.loop-i-preserved
@@ -28,7 +29,7 @@ loop-i-preserved c =
     let inv = c.loop-i.invariant in
     let g = c.meet_at-met.ensures.goes_on in
     record {
-      goes_on = goes_on_trans t c.args.head c.args.order.now c.loop-i.order c.meet_at-met.new.order
+      goes_on = goes_on_trans t c.args.stage.head c.args.order.now c.loop-i.order c.meet_at-met.new.order
           c.loop-i.unseen.items c.meet_at-met.new.unseen.items c.args.len c.loop-i.met c.meet_at-met.result
           c.requires.table inv.goes_on g;
       reached = λ j n l p. elim (cases_last j c.loop-i.i (omega arith)) [
@@ -42,5 +43,5 @@ loop-i-preserved c =
 pub returns-clause-reached : goal.returns-clause-reached
 returns-clause-reached c =
     λ s may. all_reached c.args.self.now c.loop-i.order.spots.items c.args.domain
-    (get_or c.args.order.now.demands.items c.args.place 0) c.loop-i.met c.loop-i.i s c.requires.domain
+    (get_or c.args.order.now.demands.items c.args.stage.place 0) c.loop-i.met c.loop-i.i s c.requires.domain
     (omega (arith, c.count-i-end.ensures)) c.loop-i.invariant.reached may

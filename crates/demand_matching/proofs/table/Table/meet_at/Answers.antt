@@ -8,7 +8,7 @@ use Rattle.demand_matching.proofs.table.Table.meet_at.Goals as goal
 pub meet_word-met-requires-clause-below : goal.meet_word-met-requires-clause-below
 meet_word-met-requires-clause-below c =
     let t = c.args.self.now in
-    let range = c.requires.table.in_range (get_or c.args.order.now.demands.items c.args.place 0) c.args.domain
+    let range = c.requires.table.in_range (get_or c.args.order.now.demands.items c.args.stage.place 0) c.args.domain
     c.requires.domain in
     λ i h e. common_below t c.args.domain c.loop-k.unseen.items c.args.resource c.row-row.result c.window.result
     c.word.result c.loop-k.k i range c.requires.picked c.row-row.ensures.is
@@ -18,11 +18,12 @@ meet_word-met-requires-clause-below c =
 pub meet_word-met-requires-clause-allowed : goal.meet_word-met-requires-clause-allowed
 meet_word-met-requires-clause-allowed c =
     let t = c.args.self.now in
-    let range = c.requires.table.in_range (get_or c.args.order.now.demands.items c.args.place 0) c.args.domain
+    let range = c.requires.table.in_range (get_or c.args.order.now.demands.items c.args.stage.place 0) c.args.domain
     c.requires.domain in
-    let its = domain_kept t c.args.order.now c.loop-k.order c.args.place c.args.len c.args.domain
+    let its = domain_kept t c.args.order.now c.loop-k.order c.args.stage.place c.args.len c.args.domain
     c.loop-k.invariant.goes_on.keeps c.requires.place c.requires.domain in
-    λ i h e. common_allowed t c.args.domain c.loop-k.unseen.items (get_or c.loop-k.order.demands.items c.args.place 0)
+    λ i h e. common_allowed t c.args.domain c.loop-k.unseen.items
+    (get_or c.loop-k.order.demands.items c.args.stage.place 0)
     c.args.resource c.row-row.result c.window.result c.word.result c.loop-k.k i range its c.requires.picked
     c.row-row.ensures.is
     (λ j h. c.window.ensures j h ∙ ap (λ xs. is_set xs (c.row-row.result + 64 * c.loop-k.k + j))
@@ -30,7 +31,8 @@ meet_word-met-requires-clause-allowed c =
 
 pub meet_word-met-requires-clause-taken : goal.meet_word-met-requires-clause-taken
 meet_word-met-requires-clause-taken c =
-    taken_kept c.args.self.now c.args.order.now c.loop-k.order c.args.place c.args.len c.loop-k.invariant.goes_on.keeps
+    taken_kept c.args.self.now c.args.order.now c.loop-k.order c.args.stage.place c.args.len
+    c.loop-k.invariant.goes_on.keeps
     c.requires.place c.requires.taken
 
 pub loop-k-preserved : goal.loop-k-preserved
@@ -38,14 +40,14 @@ loop-k-preserved c =
     let t = c.args.self.now in
     let inv = c.loop-k.invariant in
     let g = c.meet_word-met.ensures.goes_on in
-    let range = c.requires.table.in_range (get_or c.args.order.now.demands.items c.args.place 0) c.args.domain
+    let range = c.requires.table.in_range (get_or c.args.order.now.demands.items c.args.stage.place 0) c.args.domain
     c.requires.domain in
     record {
-      goes_on = goes_on_trans t c.args.head c.args.order.now c.loop-k.order c.meet_word-met.new.order
+      goes_on = goes_on_trans t c.args.stage.head c.args.order.now c.loop-k.order c.meet_word-met.new.order
           c.loop-k.unseen.items c.meet_word-met.new.unseen.items c.args.len c.loop-k.met c.meet_word-met.result
           c.requires.table inv.goes_on g;
       reached =
-          times_more t c.args.head c.args.domain c.loop-k.order c.meet_word-met.new.order c.loop-k.unseen.items
+          times_more t c.args.stage.head c.args.domain c.loop-k.order c.meet_word-met.new.order c.loop-k.unseen.items
           c.meet_word-met.new.unseen.items c.args.resource c.row-row.result c.window.result c.word.result c.loop-k.k
           c.loop-k.met c.meet_word-met.result range c.requires.picked c.row-row.ensures.is
           (λ j h. c.window.ensures j h ∙ ap (λ xs. is_set xs (c.row-row.result + 64 * c.loop-k.k + j))

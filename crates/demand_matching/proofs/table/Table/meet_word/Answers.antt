@@ -12,7 +12,8 @@ meet-met-requires-clause-supply c = c.requires.below c.loop-i.i (omega arith)
 
 pub meet-met-requires-clause-allowed : goal.meet-met-requires-clause-allowed
 meet-met-requires-clause-allowed c =
-    may_kept c.args.self.now c.args.order.now c.loop-i.order c.args.place c.args.len _ c.loop-i.invariant.goes_on.keeps
+    may_kept c.args.self.now c.args.order.now c.loop-i.order c.args.stage.place c.args.len _
+    c.loop-i.invariant.goes_on.keeps
     c.requires.place ∙ c.requires.allowed c.loop-i.i (omega arith) (sym c.has_bit.ensures ∙ c.if-has_bit.true)
 
 pub meet-met-requires-clause-taken : goal.meet-met-requires-clause-taken
@@ -27,7 +28,7 @@ loop-i-preserved c =
       | then-has_bit w ↦ rw (w.order-is, w.unseen-is, w.met-is) (
           let g = w.meet-met.ensures.goes_on in
           record {
-            goes_on = goes_on_trans t c.args.head c.args.order.now c.loop-i.order w.meet-met.new.order
+            goes_on = goes_on_trans t c.args.stage.head c.args.order.now c.loop-i.order w.meet-met.new.order
                 c.loop-i.unseen.items w.meet-met.new.unseen.items c.args.len c.loop-i.met w.meet-met.result
                 c.requires.table inv.goes_on g;
             reached = λ j l h. elim (cases_last j c.loop-i.i (omega arith)) [

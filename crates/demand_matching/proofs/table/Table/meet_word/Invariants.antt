@@ -5,6 +5,6 @@ use Rattle.demand_matching.proofs.table.Table.meet_word.Given as goal
 
 abbrev pub invariant-loop-i : goal.invariant-loop-i
 invariant-loop-i l = record {
-  goes_on : GoesOn l.self l.head l.fn.order l.order l.unseen.items l.len l.met;
+  goes_on : GoesOn l.self l.stage.head l.fn.order l.order l.unseen.items l.len l.met;
   reached : (j : ℕ) → j < l.i → has_bit l.word j ≡ true → IsReached l.self l.order.spots.items l.met (l.from + j);
 }
