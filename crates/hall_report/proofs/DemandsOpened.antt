@@ -53,7 +53,8 @@ opened p u picks starts resources cells w tasks times width count made units fir
         made = made;
         firsts = firsts;
         starts = subst (λ sets. AreStartSets p sets picks.starts.items) (sym wanted.sets.times) are_starts;
-        resources = subst (λ sets. AreResourceSets p sets picks.resources.items) (sym wanted.sets.resources) are_resources;
+        resources = subst (λ sets. AreResourceSets p sets picks.resources.items) (sym wanted.sets.resources)
+            are_resources;
         last = wanted.sets.last ∙ time_count;
         width = wanted.sets.width ∙ wide;
         amount = wanted.sets.amount ∙ length-replicate count None ∙ total ∙ ap (λ n. n + length cells) task_count;

@@ -73,7 +73,8 @@ greatest_at {A = A} value (x ∷ xs) l =
     by_order (cases_lt (value x) (greatest (map value xs))) (greatest_at value xs)
   where
     by_order : (value x < greatest (map value xs)) ⊎ (greatest (map value xs) ≤ value x)
-        → (0 < greatest (map value xs) → (y : A) × (value y ≡ greatest (map value xs))) → (y : A) × (value y ≡ greatest (map value (x ∷ xs)))
+        → (0 < greatest (map value xs) → (y : A) × (value y ≡ greatest (map value xs)))
+        → (y : A) × (value y ≡ greatest (map value (x ∷ xs)))
     by_order (inl less) rest = let it = rest (omega (arith, less)) in
         (it.0, (let e = it.1 in omega (arith, e, less)))
     by_order (inr more) rest = (x, omega (arith, more))
@@ -177,7 +178,11 @@ module _ (w : Domains) where
       by_order (inl some) =
           let it = greatest_at (excess_of w) (all_sets (length w.demands)) some in
           (has_member it.0, (let e = it.1 in omega (arith, e, some)))
-      by_order (inr none) = ((λ k. false), (let z = none_near in let b = no_more (λ k. false) in omega (arith, z, b, none)))
+      by_order (inr none) = (
+        (λ k. false),
+        (let z = none_near in let b = no_more (λ k. false) in
+            omega (arith, z, b, none)),
+      )
 
   -- what a set with the greatest excess has in common with all of a list that have it
   abbrev in_each : List (List Bool) → ℕ → Bool
@@ -195,7 +200,8 @@ module _ (w : Domains) where
   common_all (x ∷ xs) set e = by_case (has_greatest w x) refl (common_all xs)
     where
       by_case : (b : Bool) → has_greatest w x ≡ b
-          → ((c : ℕ → Bool) → Exceeds c → Exceeds (λ k. c k && in_each xs k)) → Exceeds (λ k. set k && in_each (x ∷ xs) k)
+          → ((c : ℕ → Bool) → Exceeds c → Exceeds (λ k. c k && in_each xs k))
+          → Exceeds (λ k. set k && in_each (x ∷ xs) k)
       by_case false h later =
           let same : (k : ℕ) → k < length w.demands → (set k && in_each (x ∷ xs) k) ≡ (set k && in_each xs k) =
           λ k l. ap (λ b. set k && ((not b || has_member x k) && in_each xs k)) h in

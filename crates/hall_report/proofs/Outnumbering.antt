@@ -85,7 +85,8 @@ chosen_any q test may m (d ∷ ds) h =
     any_alike (length ds) (λ k. test (m + 1 + k) && may (m + 1 + k)) (λ k. test (m + suc k) && may (m + suc k))
     (λ k. let s : m + 1 + k ≡ m + suc k = omega arith in ap (λ j. test j && may j) s) in
     let head : may m ≡ q d = ap may (sym z) ∙ h 0 d refl in
-    one_more (test m) (chosen test (m + 1) ds) ∙ ap (λ b. (test m && b) || list_any q (chosen test (m + 1) ds)) (sym head)
+    one_more (test m) (chosen test (m + 1) ds) ∙ ap (λ b. (test m && b) || list_any q (chosen test (m + 1) ds))
+    (sym head)
     ∙ ap (λ b. (test m && may m) || b) (rest ∙ moved)
     ∙ ap (λ j. (test j && may j) || any_below (length ds) (λ k. test (m + suc k) && may (m + suc k))) (sym z)
     ∙ sym (any_first (length ds) (λ k. test (m + k) && may (m + k)))

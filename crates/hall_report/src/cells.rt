@@ -1,10 +1,7 @@
 //! The times at which resources are to be free.
 
-ghost use Rattle.std.specs.Prelude.{◌≡◌, ◌<◌, ◌≤◌, ◌+◌, ◌*◌, ◌/◌, ◌%◌, ◌&&◌, ◌||◌, ◌==◌, ℕ, false, length, map, IfOk};
-ghost use Rattle.khe_base.specs.IdSet.{has_member};
+ghost use Rattle.std.specs.Prelude.{◌≡◌, ◌<◌, ◌≤◌, ◌+◌, ◌*◌, length, IfOk};
 ghost use Rattle.khe_base.specs.declared.limits.TheConstants.{CELLS};
-ghost use Rattle.hall_report.specs.Demands.{unavailable_demands};
-ghost use Rattle.hall_report.specs.Kept.{cell_demand};
 ghost use Rattle.hall_report.specs.Opening.{AreCells, AreCellsTo, AreMarkedTo, resource_of};
 
 use crate::start_sets::is_strict;

@@ -1,6 +1,6 @@
 //! The demands of a timetable, kept as it changes.
 
-ghost use Rattle.std.specs.Prelude.{◌≡◌, ◌==◌, ◌+◌, ◌*◌, ◌++◌, ◌<◌, ◌≤◌, ◌^◌, All, IfOk, OnOk, List, length, map};
+ghost use Rattle.std.specs.Prelude.{◌≡◌, ◌==◌, ◌+◌, ◌*◌, ◌++◌, ◌<◌, ◌≤◌, ◌^◌, All, IfOk, OnOk, length, map};
 ghost use Rattle.std.specs.List.{filter, list_any};
 ghost use Rattle.khe_base.specs.IdSet.{has_member};
 ghost use Rattle.demand_matching.specs.Excess.{IsHallSet};
@@ -19,7 +19,7 @@ use crate::Demand;
 use crate::cells::free_cells;
 use crate::listing::{list_cells, list_tasks};
 use crate::marks::marked;
-use crate::renewing::{Picks, renew};
+use crate::renewing::{Choices, Picks, renew};
 use crate::resource_sets::resource_sets;
 use crate::start_sets::start_sets;
 use crate::units::Units;
@@ -92,7 +92,8 @@ impl Demands {
     /// How many demands no assignment can serve: the greatest excess of a set of demands over the
     /// supplies that they may have. It takes constant time and no memory.
     pub fn deficit(&self) -> u32
-        ensures { (p : Parts) → AreOf p self.now.told self.now.units self.now.picks self.now.matching self.now.cells self.now.tasks self.now.times → IsDeficitOf p self.now.told result }
+        ensures { (p : Parts) → AreOf p self.now.told self.now.units self.now.picks self.now.matching self.now.cells
+            self.now.tasks self.now.times → IsDeficitOf p self.now.told result }
     {
         self.matching.deficit()
     }
@@ -103,7 +104,8 @@ impl Demands {
     /// takes memory for a mark for each demand, and time in proportion to the demands and to the
     /// supplies that those of the set may have.
     pub fn hall(&self) -> Result<Seq<Demand>, NoMemory>
-        ensures { (p : Parts) → AreOf p self.now.told self.now.units self.now.picks self.now.matching self.now.cells self.now.tasks self.now.times → IfOk result (λ hall. IsHallOf p self.now.told hall) }
+        ensures { (p : Parts) → AreOf p self.now.told self.now.units self.now.picks self.now.matching self.now.cells
+            self.now.tasks self.now.times → IfOk result (λ hall. IsHallOf p self.now.told hall) }
     {
         let numbers = self.matching.hall_set()?;
         if numbers.is_empty() {
@@ -115,7 +117,8 @@ impl Demands {
     // The demands of the Hall set, which has these numbers.
     fn hall_of(&self, numbers: &[u32]) -> Result<Seq<Demand>, NoMemory>
         requires { IsHallSet self.now.matching (λ j. list_any (λ m. m == j) numbers.now) }
-        ensures { (p : Parts) → AreOf p self.now.told self.now.units self.now.picks self.now.matching self.now.cells self.now.tasks self.now.times → IfOk result (λ hall. IsHallOf p self.now.told hall) }
+        ensures { (p : Parts) → AreOf p self.now.told self.now.units self.now.picks self.now.matching self.now.cells
+            self.now.tasks self.now.times → IfOk result (λ hall. IsHallOf p self.now.told hall) }
     {
         let marks = self.marks(numbers)?;
         let mut hall = Seq::new(self.alloc);
@@ -136,7 +139,9 @@ impl Demands {
 
     // Adds the marked demands.
     fn list(&self, hall: &mut Seq<Demand>, marks: &IdSet) -> Result<(), NoMemory>
-        ensures { OnOk result (hall.new ≡ (hall.old ++ filter (is_marked self.now.units marks.now) (task_demands self.now.told)) ++ chosen (λ i. has_member marks.now (self.now.tasks + i)) 0 (map (cell_demand self.now.times) self.now.cells)) }
+        ensures { OnOk result (hall.new ≡ (hall.old ++ filter (is_marked self.now.units marks.now)
+            (task_demands self.now.told)) ++ chosen (λ i. has_member marks.now (self.now.tasks + i)) 0
+            (map (cell_demand self.now.times) self.now.cells)) }
     {
         list_tasks(hall, &self.told, &self.units, marks)?;
         list_cells(hall, self.cells.as_slice(), self.times, self.tasks, marks)?;
@@ -155,19 +160,24 @@ impl Demands {
 
     // Follows a meet that comes into a free slot.
     fn come(&mut self, inst: &Instance, meet: MeetId, duration: u32)
-        requires of { AreOf inst.now self.old.told self.old.units self.old.picks self.old.matching self.old.cells self.old.tasks self.old.times }
+        requires of { AreOf inst.now self.old.told self.old.units self.old.picks self.old.matching self.old.cells
+            self.old.tasks self.old.times }
         requires fits { Fits inst.now self.old.told (Add meet duration) }
-        ensures of { AreOf inst.now self.new.told self.new.units self.new.picks self.new.matching self.new.cells self.new.tasks self.new.times }
+        ensures of { AreOf inst.now self.new.told self.new.units self.new.picks self.new.matching self.new.cells
+            self.new.tasks self.new.times }
         ensures told { self.new.told ≡ after self.old.told (Add meet duration) }
     {
         let event = self.told.event(meet);
         let places = self.told.given(meet).len() as u32;
         self.units.hold(event, meet, duration);
         self.told.note(inst, Change::Add { meet, duration });
-        renew(
+        let choices = Choices {
             inst,
-            &self.told,
-            &self.picks,
+            told: &self.told,
+            picks: &self.picks,
+        };
+        renew(
+            &choices,
             &self.units,
             &mut self.matching,
             meet,
@@ -179,18 +189,23 @@ impl Demands {
 
     // Follows a meet that leaves its slot free.
     fn go(&mut self, inst: &Instance, meet: MeetId, duration: u32)
-        requires of { AreOf inst.now self.old.told self.old.units self.old.picks self.old.matching self.old.cells self.old.tasks self.old.times }
+        requires of { AreOf inst.now self.old.told self.old.units self.old.picks self.old.matching self.old.cells
+            self.old.tasks self.old.times }
         requires fits { Fits inst.now self.old.told (Drop meet duration) }
-        ensures of { AreOf inst.now self.new.told self.new.units self.new.picks self.new.matching self.new.cells self.new.tasks self.new.times }
+        ensures of { AreOf inst.now self.new.told self.new.units self.new.picks self.new.matching self.new.cells
+            self.new.tasks self.new.times }
         ensures told { self.new.told ≡ after self.old.told (Drop meet duration) }
     {
         let event = self.told.event(meet);
         let places = self.told.given(meet).len() as u32;
         self.told.note(inst, Change::Drop { meet, duration });
-        renew(
+        let choices = Choices {
             inst,
-            &self.told,
-            &self.picks,
+            told: &self.told,
+            picks: &self.picks,
+        };
+        renew(
+            &choices,
             &self.units,
             &mut self.matching,
             meet,
@@ -203,19 +218,24 @@ impl Demands {
 
     // Follows a change of a meet that stays, which alters the demands at these places alone.
     fn turn(&mut self, inst: &Instance, change: Change, from: u32, end: u32)
-        requires of { AreOf inst.now self.old.told self.old.units self.old.picks self.old.matching self.old.cells self.old.tasks self.old.times }
+        requires of { AreOf inst.now self.old.told self.old.units self.old.picks self.old.matching self.old.cells
+            self.old.tasks self.old.times }
         requires fits { Fits inst.now self.old.told change }
         requires turns { IsTurn inst.now self.old.told change from end }
-        ensures of { AreOf inst.now self.new.told self.new.units self.new.picks self.new.matching self.new.cells self.new.tasks self.new.times }
+        ensures of { AreOf inst.now self.new.told self.new.units self.new.picks self.new.matching self.new.cells
+            self.new.tasks self.new.times }
         ensures told { self.new.told ≡ after self.old.told change }
     {
         let meet = change.meet();
         let duration = span_length(&self.told, meet);
         self.told.note(inst, change);
-        renew(
+        let choices = Choices {
             inst,
-            &self.told,
-            &self.picks,
+            told: &self.told,
+            picks: &self.picks,
+        };
+        renew(
+            &choices,
             &self.units,
             &mut self.matching,
             meet,
@@ -287,9 +307,11 @@ impl Watcher for Demands {
 impl Demands {
     /// Follows changes that fit one after the other, and the matching stays a maximum. It takes no memory.
     pub fn tell_all(&mut self, inst: &Instance, changes: &[Change])
-        requires of { AreOf inst.now self.old.told self.old.units self.old.picks self.old.matching self.old.cells self.old.tasks self.old.times }
+        requires of { AreOf inst.now self.old.told self.old.units self.old.picks self.old.matching self.old.cells
+            self.old.tasks self.old.times }
         requires fit { AllFit inst.now self.old.told changes.now }
-        ensures of { AreOf inst.now self.new.told self.new.units self.new.picks self.new.matching self.new.cells self.new.tasks self.new.times }
+        ensures of { AreOf inst.now self.new.told self.new.units self.new.picks self.new.matching self.new.cells
+            self.new.tasks self.new.times }
         ensures told { self.new.told ≡ after_all self.old.told changes.now }
     {
         for change in changes {
@@ -299,9 +321,11 @@ impl Demands {
 
     /// Follows a change that fits what was told, and the matching stays a maximum. It takes no memory.
     pub fn tell(&mut self, inst: &Instance, change: Change)
-        requires of { AreOf inst.now self.old.told self.old.units self.old.picks self.old.matching self.old.cells self.old.tasks self.old.times }
+        requires of { AreOf inst.now self.old.told self.old.units self.old.picks self.old.matching self.old.cells
+            self.old.tasks self.old.times }
         requires fits { Fits inst.now self.old.told change }
-        ensures of { AreOf inst.now self.new.told self.new.units self.new.picks self.new.matching self.new.cells self.new.tasks self.new.times }
+        ensures of { AreOf inst.now self.new.told self.new.units self.new.picks self.new.matching self.new.cells
+            self.new.tasks self.new.times }
         ensures told { self.new.told ≡ after self.old.told change }
     {
         match change {

@@ -1,6 +1,6 @@
 //! The demands whose numbers are marked, in order.
 
-ghost use Rattle.std.specs.Prelude.{◌≡◌, ◌<◌, ◌≤◌, ◌+◌, ◌++◌, ◌^◌, ◌∷◌, [], if◌then◌else◌, ℕ, length, map, OnOk};
+ghost use Rattle.std.specs.Prelude.{◌≡◌, ◌<◌, ◌+◌, ◌++◌, ◌^◌, ◌∷◌, [], if◌then◌else◌, length, map, OnOk};
 ghost use Rattle.std.specs.List.{filter, flat_map, range_with_len};
 ghost use Rattle.khe_base.specs.IdSet.{has_member};
 ghost use Rattle.khe_told.specs.Slots.{slot_at, length_of};

@@ -1,6 +1,6 @@
 //! A set of listed numbers.
 
-ghost use Rattle.std.specs.Prelude.{◌≡◌, ◌<◌, ◌==◌, ℕ, length, All, IfOk};
+ghost use Rattle.std.specs.Prelude.{◌≡◌, ◌<◌, ◌==◌, ℕ, All, IfOk};
 ghost use Rattle.std.specs.List.{list_any};
 ghost use Rattle.khe_base.specs.IdSet.{has_member};
 

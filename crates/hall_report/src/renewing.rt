@@ -3,11 +3,11 @@
 ghost use Rattle.std.specs.Prelude.{◌≡◌, ◌<◌, ◌≤◌, ◌+◌, ◌^◌, ℕ, length, Some};
 ghost use Rattle.khe_told.specs.Fits.{AreTold};
 ghost use Rattle.khe_told.specs.Slots.{slot_at};
-ghost use Rattle.khe_instance.specs.WellMade.{AreWellMade};
 ghost use Rattle.hall_report.specs.Kept.{number_of};
 ghost use Rattle.hall_report.specs.Listing.{IsReadable};
 ghost use Rattle.hall_report.specs.Picks.{domain_in, pick_starts, pick_resources};
-ghost use Rattle.hall_report.specs.Renewing.{IsSpanOf, IsRenewed, AreApart, AreWritable, HasStartEntries, HasResourceEntries};
+ghost use Rattle.hall_report.specs.Renewing.{IsSpanOf, IsRenewed, AreApart, AreWritable, HasStartEntries};
+ghost use Rattle.hall_report.specs.Renewing.{HasResourceEntries};
 
 use crate::resource_sets::first_entry;
 use crate::units::Units;
@@ -75,7 +75,8 @@ impl Picks {
         requires told { AreTold inst.now told.now }
         requires meet { meet.0 < length told.now }
         requires place { place < length (slot_at told.now meet.0).given }
-        ensures { result ≡ domain_in inst.now.events self.now.starts.items self.now.resources.items (slot_at told.now meet.0) place offset }
+        ensures { result ≡ domain_in inst.now.events self.now.starts.items self.now.resources.items
+            (slot_at told.now meet.0) place offset }
     {
         inst.facts();
         let event = told.event(meet);
@@ -90,13 +91,19 @@ impl Picks {
     }
 }
 
+/// What the domains of demands are chosen by: a timetable of an instance, and which sets belong to what.
+#[derive(Clone, Copy)]
+pub(crate) struct Choices<'a> {
+    pub(crate) inst: &'a Instance,
+    pub(crate) told: &'a Told,
+    pub(crate) picks: &'a Picks,
+}
+
 /// Gives the demands of a meet at these places their domains, or takes them away where its slot is
 /// free. It changes one domain for each place and each time that the meet lasts, and takes no
 /// memory.
 pub(crate) fn renew(
-    inst: &Instance,
-    told: &Told,
-    picks: &Picks,
+    choices: &Choices<'_>,
     units: &Units,
     matching: &mut Matching,
     meet: MeetId,
@@ -104,30 +111,32 @@ pub(crate) fn renew(
     from: u32,
     end: u32,
 )
-    requires starts { HasStartEntries inst.now picks.now.starts.items }
-    requires resources { HasResourceEntries inst.now picks.now.resources.items }
-    requires told { AreTold inst.now told.now }
-    requires meet { meet.0 < length told.now }
+    requires starts { HasStartEntries choices.now.inst.now choices.now.picks.now.starts.items }
+    requires resources { HasResourceEntries choices.now.inst.now choices.now.picks.now.resources.items }
+    requires told { AreTold choices.now.inst.now choices.now.told.now }
+    requires meet { meet.0 < length choices.now.told.now }
     requires places { from ≤ end }
-    requires end { end ≤ length (slot_at told.now meet.0).given }
+    requires end { end ≤ length (slot_at choices.now.told.now meet.0).given }
     requires readable { IsReadable units.now meet.0 end duration }
     requires apart { AreApart (number_of units.now meet.0) from end duration }
-    requires writable { AreWritable matching.old (number_of units.now meet.0) (domain_in inst.now.events picks.now.starts.items picks.now.resources.items (slot_at told.now meet.0)) from end duration }
-    ensures { IsRenewed matching.old matching.new (number_of units.now meet.0) (domain_in inst.now.events picks.now.starts.items picks.now.resources.items (slot_at told.now meet.0)) from end duration }
+    requires writable { AreWritable matching.old (number_of units.now meet.0)
+        (domain_in choices.now.inst.now.events choices.now.picks.now.starts.items choices.now.picks.now.resources.items
+        (slot_at choices.now.told.now meet.0)) from end duration }
+    ensures { IsRenewed matching.old matching.new (number_of units.now meet.0)
+        (domain_in choices.now.inst.now.events choices.now.picks.now.starts.items choices.now.picks.now.resources.items
+        (slot_at choices.now.told.now meet.0)) from end duration }
 {
     let mut unit = units.first(meet);
     for offset in 0..duration {
         let first = units.first_demand(unit);
-        renew_unit(inst, told, picks, matching, meet, first, offset, from, end);
+        renew_unit(choices, matching, meet, first, offset, from, end);
         unit = units.next(unit);
     }
 }
 
 // Those of one offset, of which the first has this number.
 fn renew_unit(
-    inst: &Instance,
-    told: &Told,
-    picks: &Picks,
+    choices: &Choices<'_>,
     matching: &mut Matching,
     meet: MeetId,
     first: u32,
@@ -135,18 +144,24 @@ fn renew_unit(
     from: u32,
     end: u32,
 )
-    requires starts { HasStartEntries inst.now picks.now.starts.items }
-    requires resources { HasResourceEntries inst.now picks.now.resources.items }
-    requires told { AreTold inst.now told.now }
-    requires meet { meet.0 < length told.now }
+    requires starts { HasStartEntries choices.now.inst.now choices.now.picks.now.starts.items }
+    requires resources { HasResourceEntries choices.now.inst.now choices.now.picks.now.resources.items }
+    requires told { AreTold choices.now.inst.now choices.now.told.now }
+    requires meet { meet.0 < length choices.now.told.now }
     requires places { from ≤ end }
-    requires end { end ≤ length (slot_at told.now meet.0).given }
+    requires end { end ≤ length (slot_at choices.now.told.now meet.0).given }
     requires number { (k : ℕ) → k < end → first + k < 2 ^ 32 }
-    requires writable { AreWritable matching.old (λ k o. first + k) (λ k o. domain_in inst.now.events picks.now.starts.items picks.now.resources.items (slot_at told.now meet.0) k offset) from end 1 }
-    ensures { IsRenewed matching.old matching.new (λ k o. first + k) (λ k o. domain_in inst.now.events picks.now.starts.items picks.now.resources.items (slot_at told.now meet.0) k offset) from end 1 }
+    requires writable { AreWritable matching.old (λ k o. first + k)
+        (λ k o. domain_in choices.now.inst.now.events choices.now.picks.now.starts.items
+        choices.now.picks.now.resources.items (slot_at choices.now.told.now meet.0) k offset) from end 1 }
+    ensures { IsRenewed matching.old matching.new (λ k o. first + k)
+        (λ k o. domain_in choices.now.inst.now.events choices.now.picks.now.starts.items
+        choices.now.picks.now.resources.items (slot_at choices.now.told.now meet.0) k offset) from end 1 }
 {
     for place in from..end {
-        let domain = picks.domain(inst, told, meet, place, offset);
+        let domain = choices
+            .picks
+            .domain(choices.inst, choices.told, meet, place, offset);
         matching.set_domain(first + place, domain);
     }
 }

@@ -1,6 +1,6 @@
 //! The resources that a task to which none is given may have.
 
-ghost use Rattle.std.specs.Prelude.{◌≡◌, ◌==◌, ◌++◌, ◌<◌, ◌≤◌, ◌+◌, ℕ, length, map, IfOk, OnOk};
+ghost use Rattle.std.specs.Prelude.{◌≡◌, ◌==◌, ◌++◌, ◌<◌, ◌+◌, ℕ, length, map, IfOk, OnOk};
 ghost use Rattle.khe_base.specs.IdSet.{has_member};
 ghost use Rattle.khe_instance.specs.Slots.{first_task};
 ghost use Rattle.hall_report.specs.Opening.{AreResourcesTo, AreTypeEntries, AreTypeSets, is_of_type, place_of};

@@ -1,6 +1,6 @@
 //! Sets that stand for entries of a table: many entries share a set until one of them is narrowed.
 
-ghost use Rattle.std.specs.Prelude.{◌≡◌, ◌≢◌, ◌<◌, ◌≤◌, ◌&&◌, ℕ, length, All, IfOk, OnOk};
+ghost use Rattle.std.specs.Prelude.{◌≡◌, ◌≢◌, ◌<◌, ◌&&◌, ℕ, length, IfOk, OnOk};
 ghost use Rattle.khe_base.specs.IdSet.{has_member};
 ghost use Rattle.hall_report.specs.Sets.{set_at, AreSets, has_both};
 

@@ -1,6 +1,6 @@
 //! What is short in a timetable.
 
-ghost use Rattle.std.specs.Prelude.{◌≡◌, IfOk};
+ghost use Rattle.std.specs.Prelude.{IfOk};
 ghost use Rattle.khe_instance.specs.declared.parts.Parts.{Parts};
 ghost use Rattle.hall_report.specs.Kept.{AreOf};
 ghost use Rattle.hall_report.specs.Shortages.{IsShortageOf};

@@ -11,8 +11,9 @@ loop-offset-init c = (
   c.first-unit.ensures ∙ sym (walk_zero c.args.units.now.next.items
       (get_or c.args.units.now.held.items c.args.meet.0 0)),
   none_offsets c.args.matching.now (number_of c.args.units.now c.args.meet.0)
-      (domain_in c.args.inst.now.events c.args.picks.now.starts.items c.args.picks.now.resources.items
-      (slot_at c.args.told.now c.args.meet.0)) c.args.from c.args.end,
+      (domain_in c.args.choices.now.inst.now.events c.args.choices.now.picks.now.starts.items
+      c.args.choices.now.picks.now.resources.items
+      (slot_at c.args.choices.now.told.now c.args.meet.0)) c.args.from c.args.end,
 )
 
 pub renew_unit-requires-clause-number : goal.renew_unit-requires-clause-number
@@ -27,8 +28,10 @@ renew_unit-requires-clause-writable c =
     let b = c.first_demand-first.ensures ∙ ap (λ v. get_or c.args.units.now.tasks.items v 0)
     c.loop-offset.invariant.0 in
     still_writable c.args.matching.now c.loop-offset.matching (number_of c.args.units.now c.args.meet.0)
-    (λ k o. c.first_demand-first.result + k) (domain_in c.args.inst.now.events c.args.picks.now.starts.items
-    c.args.picks.now.resources.items (slot_at c.args.told.now c.args.meet.0)) c.args.from c.args.end
+    (λ k o. c.first_demand-first.result + k) (domain_in c.args.choices.now.inst.now.events
+    c.args.choices.now.picks.now.starts.items
+    c.args.choices.now.picks.now.resources.items (slot_at c.args.choices.now.told.now c.args.meet.0)) c.args.from
+    c.args.end
     c.loop-offset.offset c.args.duration
     c.requires.writable c.loop-offset.invariant.1.same c.loop-offset-test.true (λ k l. ap (λ n. n + k) (sym b))
 
@@ -40,8 +43,10 @@ loop-offset-preserved c =
           ∙ sym (walk_next c.args.units.now.next.items (get_or c.args.units.now.held.items c.args.meet.0 0)
           c.loop-offset.offset),
       offset_renewed c.args.matching.now c.loop-offset.matching _ (number_of c.args.units.now c.args.meet.0)
-          (domain_in c.args.inst.now.events c.args.picks.now.starts.items c.args.picks.now.resources.items
-          (slot_at c.args.told.now c.args.meet.0)) c.args.from c.args.end c.loop-offset.offset c.args.duration
+          (domain_in c.args.choices.now.inst.now.events c.args.choices.now.picks.now.starts.items
+          c.args.choices.now.picks.now.resources.items
+          (slot_at c.args.choices.now.told.now c.args.meet.0)) c.args.from c.args.end c.loop-offset.offset
+          c.args.duration
           c.first_demand-first.result
           c.loop-offset.invariant.1 c.renew_unit.ensures (λ k l. ap (λ n. n + k) (sym b)) c.requires.apart
           c.loop-offset-test.true,

@@ -10,5 +10,6 @@ abbrev pub invariant-loop-offset : goal.invariant-loop-offset
 invariant-loop-offset l =
     (l.unit ≡ unit_at l.units.next.items l.units.held.items l.meet.0 l.offset)
     × IsRenewed l.fn.matching l.matching (number_of l.units l.meet.0)
-    (domain_in l.inst.events l.picks.starts.items l.picks.resources.items (slot_at l.told l.meet.0)) l.from l.end
+    (domain_in l.choices.inst.now.events l.choices.picks.now.starts.items l.choices.picks.now.resources.items
+    (slot_at l.choices.told.now l.meet.0)) l.from l.end
     l.offset

@@ -11,8 +11,10 @@ pub loop-place-init : goal.loop-place-init
 loop-place-init c = (
   omega arith,
   none_places c.args.matching.now (λ (k : ℕ) (o : ℕ). c.args.first + k)
-      (λ (k : ℕ) (o : ℕ). (λ (k : ℕ). domain_in c.args.inst.now.events c.args.picks.now.starts.items
-      c.args.picks.now.resources.items (slot_at c.args.told.now c.args.meet.0) k c.args.offset) k) c.args.from 1,
+      (λ (k : ℕ) (o : ℕ). (λ (k : ℕ). domain_in c.args.choices.now.inst.now.events
+      c.args.choices.now.picks.now.starts.items
+      c.args.choices.now.picks.now.resources.items (slot_at c.args.choices.now.told.now c.args.meet.0) k c.args.offset)
+      k) c.args.from 1,
 )
 
 pub set_domain-requires-clause-demand : goal.set_domain-requires-clause-demand
@@ -37,8 +39,9 @@ loop-place-preserved c =
     let low = c.loop-place.invariant.0 in (
       omega (arith, low),
       place_renewed c.args.matching.now c.loop-place.matching c.set_domain.new.self c.args.first
-          (λ (k : ℕ). domain_in c.args.inst.now.events c.args.picks.now.starts.items c.args.picks.now.resources.items
-          (slot_at c.args.told.now c.args.meet.0) k c.args.offset) c.args.from c.loop-place.place
+          (λ (k : ℕ). domain_in c.args.choices.now.inst.now.events c.args.choices.now.picks.now.starts.items
+          c.args.choices.now.picks.now.resources.items
+          (slot_at c.args.choices.now.told.now c.args.meet.0) k c.args.offset) c.args.from c.loop-place.place
           c.loop-place.invariant.1 c.loop-place.invariant.0 (omega (arith, a, b))
           (subst (λ o. c.set_domain.new.self ≡ with_domain c.loop-place.matching (c.args.first + c.loop-place.place) o)
           c.domain-domain.ensures c.set_domain.ensures),
@@ -50,6 +53,7 @@ returns c =
     let b = c.loop-place.auto.place-end c.requires.places in
     let e : c.loop-place.place ≡ c.args.end = omega (arith, a, b) in
     subst (λ n. IsRenewed c.args.matching.now c.loop-place.matching (λ (k : ℕ) (o : ℕ). c.args.first + k)
-    (λ (k : ℕ) (o : ℕ). domain_in c.args.inst.now.events c.args.picks.now.starts.items
-    c.args.picks.now.resources.items (slot_at c.args.told.now c.args.meet.0) k c.args.offset) c.args.from n 1) e
+    (λ (k : ℕ) (o : ℕ). domain_in c.args.choices.now.inst.now.events c.args.choices.now.picks.now.starts.items
+    c.args.choices.now.picks.now.resources.items (slot_at c.args.choices.now.told.now c.args.meet.0) k c.args.offset)
+    c.args.from n 1) e
     c.loop-place.invariant.1

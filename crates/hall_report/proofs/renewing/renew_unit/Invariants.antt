@@ -8,5 +8,6 @@ abbrev pub invariant-loop-place : goal.invariant-loop-place
 invariant-loop-place l =
     (l.from ≤ l.place)
     × IsRenewed l.fn.matching l.matching (λ k o. l.first + k)
-    (λ k o. domain_in l.inst.events l.picks.starts.items l.picks.resources.items (slot_at l.told l.meet.0) k
+    (λ k o. domain_in l.choices.inst.now.events l.choices.picks.now.starts.items l.choices.picks.now.resources.items
+    (slot_at l.choices.told.now l.meet.0) k
     l.offset) l.from l.place 1

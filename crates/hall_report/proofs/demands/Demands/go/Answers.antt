@@ -55,7 +55,8 @@ invariant_of-self c = record {
     c.args.inst.now,
     go_of c.args.inst.now c.args.self.now.told c.args.meet
         c.args.duration c.args.self.now.units c.args.self.now.picks c.args.self.now.matching c.args.self.now.cells
-        c.args.self.now.tasks c.args.self.now.times c.event-event.result c.requires.of c.event-event.ensures c.requires.fits
+        c.args.self.now.tasks c.args.self.now.times c.event-event.result c.requires.of c.event-event.ensures
+        c.requires.fits
         c.note.new.self c.note.ensures (length c.given.result.now) (ap length c.given.ensures) c.release.new.self
         (record {
           next = c.release.ensures.next;

@@ -42,7 +42,8 @@ invariant_of-self c = record {
     turn_of c.args.inst.now c.args.self.now.told c.args.change
         c.args.self.now.units c.args.self.now.picks c.args.self.now.matching c.args.self.now.cells c.args.self.now.tasks
         c.args.self.now.times c.meet-meet.result.0 c.args.from c.args.end c.span_length-duration.result c.requires.of
-        c.requires.fits c.requires.turns c.meet-meet.ensures c.span_length-duration.ensures c.note.new.self c.note.ensures
+        c.requires.fits c.requires.turns c.meet-meet.ensures c.span_length-duration.ensures c.note.new.self
+        c.note.ensures
         c.renew.new.matching c.renew.ensures,
   ) ∣₁;
 }
