@@ -1,9 +1,9 @@
 -- How many moves a list has at most.
 use Rattle.std.proofs.Common.{ℕ, zero, suc, ◌≡◌, ◌+◌, ◌-◌, ◌*◌, ◌<◌, ◌≤◌, ◌⊎◌, inl, inr, Bool, true, false, cond}
-use Rattle.std.proofs.Common.{Option, Some, None, List, [], ◌∷◌, ◌++◌, map, length, slice_get, refl, sym, ap, ◌∙◌}
+use Rattle.std.proofs.Common.{Option, Some, None, List, [], ◌∷◌, length, slice_get, refl, sym, ap, ◌∙◌}
 use Rattle.std.proofs.Common.{subst, arith}
 use Rattle.std.specs.Prelude.{◌==◌}
-use Rattle.std.specs.List.{filter, flat_map, range_with_len, sum_by}
+use Rattle.std.specs.List.{filter, flat_map, range_with_len}
 use Rattle.std.specs.Option.{option_map_or}
 use Rattle.std.proofs.Math.Nat.{mul-le-mul_right}
 use Rattle.std.proofs.lemmas.Bool.Decides.{nat_tests}
@@ -209,7 +209,8 @@ parts_most f b t n m times swaps joins tasks trades gives k cuts = by_kind k cut
         swaps with_tasks
 
     all : length (flat_map f
-        (TimeMoves ∷ SwapMoves ∷ TaskMoves ∷ TradeMoves ∷ Gives ∷ [])) ≤ b * n + (b * b + (t * m + (t * t + (t * 1 + 0))))
+        (TimeMoves ∷ SwapMoves ∷ TaskMoves ∷ TradeMoves ∷ Gives ∷ []))
+        ≤ b * n + (b * b + (t * m + (t * t + (t * 1 + 0))))
     all = more_most f TimeMoves (SwapMoves ∷ TaskMoves ∷ TradeMoves ∷ Gives ∷ []) (b * n)
         (b * b + (t * m + (t * t + (t * 1 + 0)))) times with_swaps
 

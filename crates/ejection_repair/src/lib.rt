@@ -6,6 +6,7 @@ mod asks;
 mod endings;
 mod examples;
 mod inside;
+mod lengths;
 mod lifting;
 mod looked;
 mod marking;

@@ -1,6 +1,6 @@
 //! A mark around each move.
 
-ghost use Rattle.std.specs.Prelude.{◌≡◌, ◌<◌, ◌≤◌, ◌+◌, None, true, length};
+ghost use Rattle.std.specs.Prelude.{◌≡◌, ◌<◌, ◌≤◌, None, true, length};
 ghost use Rattle.khe_base.specs.declared.limits.TheConstants.{MARKS};
 ghost use Rattle.khe_engine.specs.States.{edited};
 ghost use Rattle.khe_engine.specs.Worlds.{World, closed};

@@ -1,14 +1,16 @@
 //! What moves move, and whether it was moved before.
 
-ghost use Rattle.std.specs.Prelude.{◌≡◌, ◌≤◌, ◌<◌, ◌+◌, ◌++◌, ◌∷◌, [], true, None, length};
+ghost use Rattle.std.specs.Prelude.{◌≡◌, ◌≤◌, ◌<◌, ◌+◌, ◌++◌, ◌∷◌, [], true, None};
 ghost use Rattle.std.specs.List.{cons_option, list_any};
 ghost use Rattle.khe_told.specs.Slots.{slot_at};
 ghost use Rattle.khe_told.specs.declared.edits.Edit.TheVariants.{Split};
 ghost use Rattle.khe_solution.specs.Reading.{free_slot};
 ghost use Rattle.khe_solution.specs.Refusing.{is_of_meets, refusal};
 ghost use Rattle.repair_moves.specs.Moved.{moved_by};
+ghost use Rattle.ejection_repair.specs.declared.lengths.TheConstants.{TRAIL_ITEMS};
 ghost use Rattle.ejection_repair.specs.Trails as spec;
 
+use crate::lengths::TRAIL_ITEMS;
 use crate::trails::Trail;
 use khe_base::MeetId;
 use khe_solution::Solution;
@@ -29,7 +31,7 @@ pub(crate) fn no_trail() -> Trail
     ensures count { result.count ≡ 0 }
 {
     Trail {
-        items: [Moved::Meet(MeetId(0)); 8],
+        items: [Moved::Meet(MeetId(0)); TRAIL_ITEMS],
         count: 0,
     }
 }
@@ -144,7 +146,7 @@ pub(crate) fn is_fresh(trail: &Trail, solution: &Solution<'_>, edit: Edit) -> bo
 /// A trail with one meet or task more.
 #[tactic(auto, unfolding(crate::specs::Trails::moved_of))]
 fn push(trail: Trail, moved: Moved) -> Trail
-    requires { trail.count < 8 }
+    requires { trail.count < TRAIL_ITEMS }
     ensures moved { spec.moved_of result ≡ spec.moved_of trail ++ moved ∷ [] }
     ensures count { result.count ≡ trail.count + 1 }
 {
@@ -158,7 +160,7 @@ fn push(trail: Trail, moved: Moved) -> Trail
 
 /// What was moved once a move is made.
 pub(crate) fn longer(trail: Trail, solution: &Solution<'_>, edit: Edit) -> Trail
-    requires room { trail.count + 2 ≤ 8 }
+    requires room { trail.count + 2 ≤ TRAIL_ITEMS }
     requires ours { is_of_meets edit ≡ true }
     requires accepted { refusal solution.now.parts solution.now.slots edit ≡ None }
     ensures moved { spec.moved_of result ≡ spec.moved_of trail ++ moved_by solution.now.slots edit }

@@ -1,6 +1,6 @@
 //! Repairing the timetable of an engine.
 
-ghost use Rattle.std.specs.Prelude.{◌≡◌, ◌<◌, ◌≤◌, ◌+◌, ◌*◌, [], length, IfOk, OnErr, OnOk};
+ghost use Rattle.std.specs.Prelude.{◌≡◌, ◌<◌, ◌≤◌, ◌+◌, [], length, IfOk, OnErr, OnOk};
 ghost use Rattle.khe_base.specs.declared.limits.TheConstants.{CHAIN_MOVES, MARKS};
 ghost use Rattle.ejection_repair.specs.Bounds.{most_moves, IsWithin};
 ghost use Rattle.ejection_repair.specs.Kept.{IsKept, room};

@@ -1,6 +1,6 @@
 //! Walks round the moves of a monitor.
 
-ghost use Rattle.std.specs.Prelude.{◌≡◌, ◌<◌, ◌≤◌, length, drop, min, false, true, None, IfSome};
+ghost use Rattle.std.specs.Prelude.{◌≡◌, ◌<◌, length, drop, min, false, true, None, IfSome};
 ghost use Rattle.khe_solution.specs.Refusing.{is_of_meets, refusal};
 ghost use Rattle.repair_moves.specs.Cursors.{ahead, IsCursor, IsNext};
 ghost use Rattle.repair_moves.specs.Moves.{moves as moves_at};

@@ -3,6 +3,7 @@
 ghost use Rattle.std.specs.Prelude.{◌≡◌, ◌<◌, ◌≤◌, ◌+◌, ◌*◌, None, true, length};
 ghost use Rattle.khe_base.specs.declared.limits.TheConstants.{MARKS};
 ghost use Rattle.khe_solution.specs.Refusing.{is_of_meets, refusal};
+ghost use Rattle.ejection_repair.specs.declared.lengths.TheConstants.{TRAIL_ITEMS};
 ghost use Rattle.ejection_repair.specs.Chains.{extensions, further_at, onward, longer as longer_chain};
 ghost use Rattle.ejection_repair.specs.Kept.{IsKept, room};
 ghost use Rattle.ejection_repair.specs.Looks.{look, Looks, chain_at};
@@ -32,10 +33,12 @@ pub(crate) fn extend<F: Family, L: Ledger>(
     steps: &mut Steps<L>,
 ) -> Looked
     requires known { monitor.0 < length engine.old.parts.monitors }
-    requires trail { trail.now.count + 2 * more ≤ 8 }
+    requires trail { trail.now.count + 2 * more ≤ TRAIL_ITEMS }
     requires marks { length engine.old.saved + more + aim.now.spare_marks ≤ MARKS }
     requires room { more + aim.now.spare_marks ≤ engine.old.spare }
-    ensures looks { Looks result (look engine.old.parts aim.now.lowest left.old (extensions engine.old.parts engine.old.marked aim.now.diversifier more (chain_at trail.now engine.old) monitor.0)) engine.old engine.new left.new }
+    ensures looks { Looks result (look engine.old.parts aim.now.lowest left.old
+        (extensions engine.old.parts engine.old.marked aim.now.diversifier more (chain_at trail.now engine.old)
+        monitor.0)) engine.old engine.new left.new }
     ensures kept { IsKept engine.old engine.new }
     ensures room { room engine.old ≤ room engine.new }
 {
@@ -72,10 +75,12 @@ fn attempt<F: Family, L: Ledger>(
 ) -> Looked
     requires ours { is_of_meets edit ≡ true }
     requires accepted { refusal engine.old.parts engine.old.state.slots edit ≡ None }
-    requires trail { trail.now.count + 2 * more + 2 ≤ 8 }
+    requires trail { trail.now.count + 2 * more + 2 ≤ TRAIL_ITEMS }
     requires marks { length engine.old.saved + more + aim.now.spare_marks < MARKS }
     requires room { more + aim.now.spare_marks < engine.old.spare }
-    ensures looks { Looks result (look engine.old.parts aim.now.lowest left.old (onward engine.old.parts engine.old.marked aim.now.diversifier more (longer_chain (chain_at trail.now engine.old) edit))) engine.old engine.new left.new }
+    ensures looks { Looks result (look engine.old.parts aim.now.lowest left.old
+        (onward engine.old.parts engine.old.marked aim.now.diversifier more
+        (longer_chain (chain_at trail.now engine.old) edit))) engine.old engine.new left.new }
     ensures kept { IsKept engine.old engine.new }
     ensures room { room engine.old ≤ room engine.new }
 {
@@ -115,10 +120,12 @@ fn go_on<F: Family, L: Ledger>(
     left: &mut u64,
     steps: &mut Steps<L>,
 ) -> Looked
-    requires trail { trail.now.count + 2 * more ≤ 8 }
+    requires trail { trail.now.count + 2 * more ≤ TRAIL_ITEMS }
     requires marks { length engine.old.saved + more + aim.now.spare_marks ≤ MARKS }
     requires room { more + aim.now.spare_marks ≤ engine.old.spare }
-    ensures looks { Looks result (look engine.old.parts aim.now.lowest left.old (further_at engine.old.parts engine.old.marked aim.now.diversifier more (chain_at trail.now engine.old))) engine.old engine.new left.new }
+    ensures looks { Looks result (look engine.old.parts aim.now.lowest left.old
+        (further_at engine.old.parts engine.old.marked aim.now.diversifier more (chain_at trail.now engine.old)))
+        engine.old engine.new left.new }
     ensures kept { IsKept engine.old engine.new }
     ensures room { room engine.old ≤ room engine.new }
 {

@@ -2,6 +2,7 @@
 
 ghost use Rattle.std.specs.Prelude.{◌≡◌, ◌<◌, ◌≤◌, ◌+◌, ◌*◌, length, drop, min, false, IfSome};
 ghost use Rattle.khe_base.specs.declared.limits.TheConstants.{MARKS};
+ghost use Rattle.ejection_repair.specs.declared.lengths.TheConstants.{TRAIL_ITEMS};
 ghost use Rattle.ejection_repair.specs.Chains.{rotated, chains};
 ghost use Rattle.ejection_repair.specs.Kept.{IsKept, room};
 ghost use Rattle.ejection_repair.specs.Looks.{look, Looks};
@@ -28,7 +29,8 @@ struct PassedDefects {
 /// Goes past so many defects, or past all where there are fewer.
 fn pass_defects<F: Family>(engine: &Engine<'_, F>, count: u64) -> PassedDefects
     ensures count { result.count ≡ min count (length (defects (costs_at engine.now.parts engine.now.state))) }
-    ensures from { defects_from (costs_at engine.now.parts engine.now.state) result.from ≡ drop result.count (defects (costs_at engine.now.parts engine.now.state)) }
+    ensures from { defects_from (costs_at engine.now.parts engine.now.state) result.from
+        ≡ drop result.count (defects (costs_at engine.now.parts engine.now.state)) }
 {
     let mut from = 0;
     for done in 0..count {
@@ -42,7 +44,8 @@ fn pass_defects<F: Family>(engine: &Engine<'_, F>, count: u64) -> PassedDefects
 
 /// The defects, begun at the place of a number.
 fn round_of<F: Family>(engine: &Engine<'_, F>, diversifier: u64) -> DefectRound
-    ensures { defects_ahead (costs_at engine.now.parts engine.now.state) result ≡ rotated diversifier (defects (costs_at engine.now.parts engine.now.state)) }
+    ensures { defects_ahead (costs_at engine.now.parts engine.now.state) result
+        ≡ rotated diversifier (defects (costs_at engine.now.parts engine.now.state)) }
 {
     let passed = pass_defects(engine, diversifier);
     if passed.count < diversifier {
@@ -57,7 +60,8 @@ fn round_of<F: Family>(engine: &Engine<'_, F>, diversifier: u64) -> DefectRound
 /// So many defects, begun at the place of a number that is no less.
 fn begun_round<F: Family>(engine: &Engine<'_, F>, count: u64, diversifier: u64) -> DefectRound
     requires { length (defects (costs_at engine.now.parts engine.now.state)) ≡ count }
-    ensures { defects_ahead (costs_at engine.now.parts engine.now.state) result ≡ rotated diversifier (defects (costs_at engine.now.parts engine.now.state)) }
+    ensures { defects_ahead (costs_at engine.now.parts engine.now.state) result
+        ≡ rotated diversifier (defects (costs_at engine.now.parts engine.now.state)) }
 {
     if count == 0 {
         return begun_at(0, 0);
@@ -81,7 +85,8 @@ fn begun_at(from: u32, before: u64) -> DefectRound
 /// The next defect of a walk round the defects.
 #[tactic(auto, unfolding(crate::specs::Rounds::defects_ahead))]
 fn next_of<F: Family>(engine: &Engine<'_, F>, round: &mut DefectRound) -> Option<MonitorId>
-    ensures next { IsNextNumber result (defects_ahead (costs_at engine.now.parts engine.now.state) round.old) (defects_ahead (costs_at engine.now.parts engine.now.state) round.new) }
+    ensures next { IsNextNumber result (defects_ahead (costs_at engine.now.parts engine.now.state) round.old)
+        (defects_ahead (costs_at engine.now.parts engine.now.state) round.new) }
     ensures known { IfSome result (λ m. m.0 < length engine.now.parts.monitors) }
 {
     if !round.wrapped {
@@ -110,10 +115,11 @@ pub(crate) fn sweep<F: Family, L: Ledger>(
     steps: &mut Steps<L>,
 ) -> Looked
     requires marked { engine.old.marked ≡ costs_at engine.old.parts engine.old.state }
-    requires more { 2 * more ≤ 8 }
+    requires more { 2 * more ≤ TRAIL_ITEMS }
     requires marks { length engine.old.saved + more + aim.now.spare_marks ≤ MARKS }
     requires room { more + aim.now.spare_marks ≤ engine.old.spare }
-    ensures looks { Looks result (look engine.old.parts aim.now.lowest left.old (chains engine.old.parts engine.old.state aim.now.diversifier more)) engine.old engine.new left.new }
+    ensures looks { Looks result (look engine.old.parts aim.now.lowest left.old
+        (chains engine.old.parts engine.old.state aim.now.diversifier more)) engine.old engine.new left.new }
     ensures kept { IsKept engine.old engine.new }
     ensures room { room engine.old ≤ room engine.new }
 {

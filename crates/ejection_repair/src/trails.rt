@@ -1,13 +1,15 @@
 //! What the moves of a chain moved.
 
 ghost use Rattle.std.specs.Prelude.{◌≤◌};
+ghost use Rattle.ejection_repair.specs.declared.lengths.TheConstants.{TRAIL_ITEMS};
 
+use crate::lengths::TRAIL_ITEMS;
 use repair_moves::Moved;
 
-/// What the moves of a chain moved: at most four moves, each of which moves at most two.
+/// What the moves of a chain moved: two at most for each move.
 #[derive(Clone, Copy)]
 pub(crate) struct Trail {
-    pub(crate) items: [Moved; 8],
+    pub(crate) items: [Moved; TRAIL_ITEMS],
     pub(crate) count: usize,
-    ghost fits: { count ≤ 8 },
+    ghost fits: { count ≤ TRAIL_ITEMS },
 }
