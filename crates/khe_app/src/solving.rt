@@ -22,7 +22,7 @@ use archive_reading::{ReadArchive, begin, instance_numbered};
 use khe_base::NoMemory;
 use khe_instance::{Instance, Plain};
 use khe_io::{Gate, Shelf, Sink};
-use parallel_repair::Solved;
+use parallel_repair::{Effort, Solved};
 use repair_run::send_solved;
 use sixteen_families::Families;
 use std::alloc::Global;
@@ -58,7 +58,9 @@ pub(crate) fn solve<R: Threads + Sync, S: Shelf, K: Sink, G: Gate>(
     requires budget { 1 ≤ asked.budget }
     requires jobs { (1 ≤ asked.jobs) × (asked.jobs ≤ JOBS) }
     requires workers { (1 ≤ crew.now.workers) × (crew.now.workers ≤ WORKERS) }
-    ensures end { IsEnd (Some (solving name.now asked.solution asked.depth asked.budget asked.jobs)) (S.holdings shelf.old) (S.is_sound shelf.old) (S.faults shelf.old) (S.faults shelf.new) (K.taken out.old) (K.taken out.new) (K.faults out.old) (K.faults out.new) result.0 }
+    ensures end { IsEnd (Some (solving name.now asked.solution asked.depth asked.budget asked.jobs))
+        (S.holdings shelf.old) (S.is_sound shelf.old) (S.faults shelf.old) (S.faults shelf.new) (K.taken out.old)
+        (K.taken out.new) (K.faults out.old) (K.faults out.new) result.0 }
     ensures status { result.0 ≡ 2 → ⊥ }
     ensures absent { IsTrue (S.is_sound shelf.old) → IsMissing (S.holdings shelf.old) name.now → result.0 ≡ 4 }
     ensures holdings { S.holdings shelf.new ≡ S.holdings shelf.old }
@@ -88,8 +90,11 @@ fn write_solve<R: Threads + Sync, K: Sink, G: Gate>(
     requires budget { 1 ≤ asked.budget }
     requires jobs { (1 ≤ asked.jobs) × (asked.jobs ≤ JOBS) }
     requires workers { (1 ≤ crew.now.workers) × (crew.now.workers ≤ WORKERS) }
-    ensures written { ((result.0 ≡ 6) × (K.taken out.new ≡ K.taken out.old)) ⊎ ((status : ℕ) × (text : List ℕ) × IsSolveIn asked.solution asked.depth asked.budget asked.jobs (reading_of answer) status text
-        × Written (K.taken out.old) (K.taken out.new) (K.faults out.old) (K.faults out.new) (encode_utf8_all text) status result.0) }
+    ensures written { ((result.0 ≡ 6) × (K.taken out.new ≡ K.taken out.old))
+        ⊎ ((status : ℕ) × (text : List ℕ) × IsSolveIn asked.solution asked.depth asked.budget asked.jobs
+        (reading_of answer) status text
+        × Written (K.taken out.old) (K.taken out.new) (K.faults out.old) (K.faults out.new) (encode_utf8_all text)
+        status result.0) }
     ensures write_fault_ends { (result.0 ≡ 5) ⊎ (K.faults out.new ≡ K.faults out.old) }
     ensures sink_faults { K.faults out.old ≤ K.faults out.new }
 {
@@ -112,8 +117,11 @@ fn solve_in<R: Threads + Sync, K: Sink, G: Gate>(
     requires budget { 1 ≤ asked.budget }
     requires jobs { (1 ≤ asked.jobs) × (asked.jobs ≤ JOBS) }
     requires workers { (1 ≤ crew.now.workers) × (crew.now.workers ≤ WORKERS) }
-    ensures written { ((result.0 ≡ 6) × (K.taken out.new ≡ K.taken out.old)) ⊎ ((status : ℕ) × (text : List ℕ) × IsSolveOf read.old.archive asked.solution asked.depth asked.budget asked.jobs (start_of read.old.archive read.old.resolved asked.solution) status text
-        × Written (K.taken out.old) (K.taken out.new) (K.faults out.old) (K.faults out.new) (encode_utf8_all text) status result.0) }
+    ensures written { ((result.0 ≡ 6) × (K.taken out.new ≡ K.taken out.old))
+        ⊎ ((status : ℕ) × (text : List ℕ) × IsSolveOf read.old.archive asked.solution asked.depth asked.budget
+        asked.jobs (start_of read.old.archive read.old.resolved asked.solution) status text
+        × Written (K.taken out.old) (K.taken out.new) (K.faults out.old) (K.faults out.new) (encode_utf8_all text)
+        status result.0) }
     ensures write_fault_ends { (result.0 ≡ 5) ⊎ (K.faults out.new ≡ K.faults out.old) }
     ensures sink_faults { K.faults out.old ≤ K.faults out.new }
 {
@@ -144,8 +152,11 @@ fn put_solve<R: Threads + Sync, K: Sink, G: Gate>(
     requires budget { 1 ≤ asked.budget }
     requires jobs { (1 ≤ asked.jobs) × (asked.jobs ≤ JOBS) }
     requires workers { (1 ≤ crew.now.workers) × (crew.now.workers ≤ WORKERS) }
-    ensures written { ((result.0 ≡ 6) × (K.taken out.new ≡ K.taken out.old)) ⊎ ((text : List ℕ) × IsSolveText archive.old asked.solution inst.now plain.now asked.depth asked.budget asked.jobs text
-        × Written (K.taken out.old) (K.taken out.new) (K.faults out.old) (K.faults out.new) (encode_utf8_all text) 0 result.0) }
+    ensures written { ((result.0 ≡ 6) × (K.taken out.new ≡ K.taken out.old))
+        ⊎ ((text : List ℕ) × IsSolveText archive.old asked.solution inst.now plain.now asked.depth asked.budget
+        asked.jobs text
+        × Written (K.taken out.old) (K.taken out.new) (K.faults out.old) (K.faults out.new) (encode_utf8_all text) 0
+        result.0) }
     ensures write_fault_ends { (result.0 ≡ 5) ⊎ (K.faults out.new ≡ K.faults out.old) }
     ensures sink_faults { K.faults out.old ≤ K.faults out.new }
 {
@@ -172,17 +183,13 @@ fn solve_jobs<R: Threads + Sync, G: Gate>(
     ensures solved { IfOk result (λ s. IsSolved (job_answer inst.now plain.now asked.depth asked.budget) asked.jobs s) }
     ensures valid { IfOk result (λ s. IsValid inst.now s.plain) }
 {
-    parallel_repair::solve::<Families, R, G>(
-        crew.rt,
-        alloc,
-        inst,
-        plain,
-        asked.depth,
-        u64::from(asked.budget),
-        u64::from(asked.jobs),
-        crew.workers,
-        crew.gate,
-    )
+    let effort = Effort {
+        depth: asked.depth,
+        budget: u64::from(asked.budget),
+        jobs: u64::from(asked.jobs),
+        workers: crew.workers,
+    };
+    parallel_repair::solve::<Families, R, G>(crew.rt, alloc, inst, plain, effort, crew.gate)
 }
 
 /// Writes an archive with the least result of many repairs in place of a solution, and the line on its
@@ -196,7 +203,8 @@ fn put_solved<K: Sink>(
     number: u32,
 ) -> Status
     requires { IsTold inst.now solved.now.plain.meets solved.now.plain.tasks }
-    ensures written { Written (K.taken out.old) (K.taken out.new) (K.faults out.old) (K.faults out.new) (solve_bytes archive.old number inst.now solved.now) 0 result.0 }
+    ensures written { Written (K.taken out.old) (K.taken out.new) (K.faults out.old) (K.faults out.new)
+        (solve_bytes archive.old number inst.now solved.now) 0 result.0 }
     ensures write_fault_ends { (result.0 ≡ 5) ⊎ (K.faults out.new ≡ K.faults out.old) }
     ensures sink_faults { K.faults out.old ≤ K.faults out.new }
 {

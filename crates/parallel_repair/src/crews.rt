@@ -44,6 +44,13 @@ fn gather(board: &Board, mine: Found, theirs: Found) -> Result<Found, NoMemory>
     })
 }
 
+/// So many jobs, numbered from 0, and how many workers share them.
+#[derive(Clone, Copy)]
+pub(crate) struct Shared {
+    pub(crate) jobs: u64,
+    pub(crate) workers: u32,
+}
+
 /// Shares the jobs among so many workers, of which one is in a thread of its own and the others go on
 /// from this thread. Where no thread can be had, this one does the work of both.
 pub(crate) fn crew<R: Threads + Sync, W: Work, G: Gate>(
@@ -52,18 +59,19 @@ pub(crate) fn crew<R: Threads + Sync, W: Work, G: Gate>(
     board: &Board,
     work: &W,
     gate: &G,
-    jobs: u64,
-    workers: u32,
+    shared: Shared,
     mut seat: Seat,
 ) -> Result<Found, NoMemory>
     requires sound { W.IsSound work.now }
     requires seat { IsSeatOf board.now seat }
-    requires work { IsAtWork (W.answer work.now) jobs (budget (view seat)) (view seat) [] None }
-    requires left { workers ≤ (view seat).left }
+    requires work { IsAtWork (W.answer work.now) shared.jobs (budget (view seat)) (view seat) [] None }
+    requires left { shared.workers ≤ (view seat).left }
     ensures seat { IfOk result (λ r. IsSeatOf board.now r.seat) }
-    ensures ended { IfOk result (λ r. HasEnded (W.answer work.now) jobs (budget (view seat)) (view r.seat) r.rows.items r.best) }
+    ensures ended { IfOk result (λ r. HasEnded (W.answer work.now) shared.jobs (budget (view seat)) (view r.seat)
+        r.rows.items r.best) }
     ensures fit { IfOk result (λ r. IfSome r.best (λ b. W.IsFit work.now b.plain)) }
 {
+    let Shared { jobs, workers } = shared;
     if workers <= 1 {
         return work_on(alloc, board, work, gate, jobs, seat);
     }
@@ -72,17 +80,28 @@ pub(crate) fn crew<R: Threads + Sync, W: Work, G: Gate>(
     let (theirs, mine) = join(
         rt,
         move || -> Result<Found, NoMemory>
-            requires { IsSync W.row × IsSync G.row × W.IsSound work.now × IsSeatOf board.now other × IsAtWork (W.answer work.now) jobs (budget (view other)) (view other) [] None }
+            requires { IsSync W.row × IsSync G.row × W.IsSound work.now × IsSeatOf board.now other
+                × IsAtWork (W.answer work.now) jobs (budget (view other)) (view other) [] None }
             ensures seat { IfOk result (λ r. IsSeatOf board.entry.now r.seat) }
-            ensures ended { IfOk result (λ r. HasEnded (W.answer work.entry.now) jobs (budget (view other)) (view r.seat) r.rows.items r.best) }
+            ensures ended { IfOk result (λ r. HasEnded (W.answer work.entry.now) jobs (budget (view other))
+                (view r.seat) r.rows.items r.best) }
             ensures fit { IfOk result (λ r. IfSome r.best (λ b. W.IsFit work.entry.now b.plain)) }
         { work_on(alloc, board, work, gate, jobs, other) },
         move || -> Result<Found, NoMemory>
-            requires { IsSync R.row × IsSync W.row × IsSync G.row × W.IsSound work.now × IsSeatOf board.now seat × IsAtWork (W.answer work.now) jobs (budget (view seat)) (view seat) [] None × (fewer ≤ (view seat).left) }
+            requires { IsSync R.row × IsSync W.row × IsSync G.row × W.IsSound work.now × IsSeatOf board.now seat
+                × IsAtWork (W.answer work.now) jobs (budget (view seat)) (view seat) [] None
+                × (fewer ≤ (view seat).left) }
             ensures seat { IfOk result (λ r. IsSeatOf board.entry.now r.seat) }
-            ensures ended { IfOk result (λ r. HasEnded (W.answer work.entry.now) jobs (budget (view seat)) (view r.seat) r.rows.items r.best) }
+            ensures ended { IfOk result (λ r. HasEnded (W.answer work.entry.now) jobs (budget (view seat)) (view r.seat)
+                r.rows.items r.best) }
             ensures fit { IfOk result (λ r. IfSome r.best (λ b. W.IsFit work.entry.now b.plain)) }
-        { crew(rt, alloc, board, work, gate, jobs, fewer, seat) },
+        {
+            let shared = Shared {
+                jobs,
+                workers: fewer,
+            };
+            crew(rt, alloc, board, work, gate, shared, seat)
+        },
     );
     let mine = mine?;
     let theirs = theirs?;

@@ -17,5 +17,5 @@ mod works;
 
 pub use answers::{Answer, Fate, Solved};
 pub use pool::solved_by;
-pub use solving::solve;
+pub use solving::{Effort, solve};
 pub use works::Work;

@@ -7,7 +7,7 @@ ghost use Rattle.parallel_repair.specs.declared.answers.Answer.{Answer};
 ghost use Rattle.parallel_repair.specs.declared.answers.Solved.{Solved};
 
 use crate::answers::{Best, Solved};
-use crate::crews::crew;
+use crate::crews::{Shared, crew};
 use crate::fates::fates_of;
 use crate::workers::Found;
 use crate::works::Work;
@@ -44,7 +44,8 @@ pub fn solved_by<R: Threads + Sync, W: Work, G: Gate>(
 {
     let (board, seat) = Board::new(alloc, jobs)?;
     let workers = crew_size(workers, jobs);
-    let found = crew(rt, alloc, &board, work, gate, jobs, workers, seat)?;
+    let shared = Shared { jobs, workers };
+    let found = crew(rt, alloc, &board, work, gate, shared, seat)?;
     let Found { seat, rows, best } = found;
     let Closed { next: _, least } = board.close(seat);
     let fates = fates_of(alloc, jobs, rows.as_slice(), least.unwrap_or(0))?;
@@ -75,5 +76,6 @@ fn crew_size(workers: u32, jobs: u64) -> u32
 // proved of the definitions, and no program calls it.
 #[allow(dead_code)]
 fn result_is_one()
-    ensures { (answer : ℕ → Answer) (jobs : ℕ) (s t : Solved) → IsSolved answer jobs s → IsSolved answer jobs t → (s.job ≡ t.job) × (s.totals ≡ t.totals) × (s.plain ≡ t.plain) }
+    ensures { (answer : ℕ → Answer) (jobs : ℕ) (s t : Solved) → IsSolved answer jobs s → IsSolved answer jobs t
+        → (s.job ≡ t.job) × (s.totals ≡ t.totals) × (s.plain ≡ t.plain) }
 {}

@@ -21,7 +21,6 @@ pub(crate) struct Repairs<'a, F: Family> {
 }
 
 impl<'a, F: Family + Drop + Send + Sync> Work for Repairs<'a, F> {
-    ghost use Rattle.std.specs.Prelude.{◌≡◌, ◌≤◌};
     ghost use Rattle.khe_engine.specs.Values.{ServesAll};
     ghost use Rattle.khe_instance.specs.States.{IsValid};
     ghost use Rattle.parallel_repair.specs.Jobs.{IsDesk, IsRepair, job_answer};

@@ -18,6 +18,19 @@ use std::alloc::Global;
 use std::marker::PhantomData;
 use std::thread::Threads;
 
+/// How much many repairs of a timetable may do.
+#[derive(Clone, Copy)]
+pub struct Effort {
+    /// The greatest number of moves of a chain, 1 to 4.
+    pub depth: u32,
+    /// How many chains each job may try, at least 1.
+    pub budget: u64,
+    /// How many jobs there are, 1 to 10,000.
+    pub jobs: u64,
+    /// How many workers share them, 1 to 64.
+    pub workers: u32,
+}
+
 /// Many repairs of a valid timetable, by 1 to 64 workers: job `j`, of 1 to 10,000 that are numbered
 /// from 0, is `repair` from the timetable by this depth and budget with the diversifier `j`. The answer
 /// is the result of the job with the least totals, and with the lowest number among equal ones; and
@@ -34,22 +47,26 @@ pub fn solve<F: Family + Drop + Send + Sync, R: Threads + Sync, G: Gate>(
     alloc: Global,
     inst: &Instance,
     start: &Plain,
-    depth: u32,
-    budget: u64,
-    jobs: u64,
-    workers: u32,
+    effort: Effort,
     gate: &G,
 ) -> Result<Solved, NoMemory>
     requires joined { F.IsWellJoined }
     requires serves { ServesAll F.serves_kind }
     requires valid { IsValid inst.now start.now }
-    requires depth { (1 ≤ depth) × (depth ≤ CHAIN_MOVES) }
-    requires budget { 1 ≤ budget }
-    requires jobs { (1 ≤ jobs) × (jobs ≤ JOBS) }
-    requires workers { (1 ≤ workers) × (workers ≤ WORKERS) }
-    ensures solved { IfOk result (λ s. IsSolved (job_answer inst.now start.now depth budget) jobs s) }
+    requires depth { (1 ≤ effort.depth) × (effort.depth ≤ CHAIN_MOVES) }
+    requires budget { 1 ≤ effort.budget }
+    requires jobs { (1 ≤ effort.jobs) × (effort.jobs ≤ JOBS) }
+    requires workers { (1 ≤ effort.workers) × (effort.workers ≤ WORKERS) }
+    ensures solved { IfOk result (λ s. IsSolved (job_answer inst.now start.now effort.depth effort.budget) effort.jobs
+        s) }
     ensures valid { IfOk result (λ s. IsValid inst.now s.plain) }
 {
+    let Effort {
+        depth,
+        budget,
+        jobs,
+        workers,
+    } = effort;
     let work = Repairs::<F> {
         inst,
         start,

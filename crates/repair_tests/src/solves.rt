@@ -1,6 +1,5 @@
 //! What many repairs come to, by several workers.
 
-ghost use Rattle.std.specs.Prelude.{◌≤◌};
 ghost use Rattle.khe_engine.specs.Values.{ServesAll};
 ghost use Rattle.khe_instance.specs.States.{IsValid};
 
@@ -10,7 +9,7 @@ use khe_base::{NoMemory, Totals};
 use khe_instance::{Instance, Plain};
 use khe_io::Gate;
 use khe_told::Family;
-use parallel_repair::{Fate, Solved, solve};
+use parallel_repair::{Effort, Fate, Solved, solve};
 use program_runs::TWO_EVENTS;
 use sixteen_families::Families;
 use std::alloc::Global;
@@ -44,7 +43,13 @@ fn solved<F: Family + Drop + Send + Sync, R: Threads + Sync, G: Gate>(
     let budget = case.budget.max(1);
     let jobs = (case.fates.len() as u64).clamp(1, 10_000);
     let workers = case.workers.clamp(1, 64);
-    solve::<F, R, G>(rt, alloc, inst, start, 1, budget, jobs, workers, gate)
+    let effort = Effort {
+        depth: 1,
+        budget,
+        jobs,
+        workers,
+    };
+    solve::<F, R, G>(rt, alloc, inst, start, effort, gate)
 }
 
 /// Whether a solve came to what the case says.

@@ -11,7 +11,7 @@ use Rattle.parallel_repair.proofs.crews.+crew+fn-crew-join+arg3.Goals as goal
 pub returns-clause-ended : goal.returns-clause-ended
 returns-clause-ended g t c =
     let answer = g.W.Work.answer c.args.work.now in
-    let jobs = c.args.jobs in
+    let jobs = c.args.shared.jobs in
     let v = c.args.seat.me.0 in
     let w = c.split-other.new.seat.me.0 in
     let u = c.split-other.result.me.0 in
