@@ -1,14 +1,12 @@
 -- Told states: the one without meets, what the slots of others are given, and how many tasks run.
-use Rattle.std.proofs.Common.{ℕ, ◌≡◌, ◌≤◌, ◌<◌, ◌+◌, ◌∙◌, zero, suc, cond, Bool, true, false, Option, Some, None, List}
-use Rattle.std.proofs.Common.{[], ◌∷◌, ◌++◌, map, replicate, length, get_or, slice_get, refl, sym, ap, subst, arith}
-use Rattle.std.proofs.Common.{IfSome, length-append, set, sum_by}
-use Rattle.std.specs.Prelude.{◌==◌, ◌&&◌}
+use Rattle.std.proofs.Common.{ℕ, ◌≡◌, ◌≤◌, ◌<◌, ◌+◌, ◌∙◌, zero, suc, Option, Some, None, List}
+use Rattle.std.proofs.Common.{[], ◌∷◌, length, slice_get, refl, sym, ap, subst, arith}
+use Rattle.std.proofs.Common.{length-append, set, sum_by}
+use Rattle.std.specs.Prelude.{◌&&◌}
 use Rattle.std.specs.Option.{option_map_or}
-use Rattle.std.specs.List.{range_with_len}
-use Rattle.std.proofs.lemmas.List.{length-replicate}
 use Rattle.std.proofs.lemmas.List.Elements.{All-get_or}
 use Rattle.std.proofs.lemmas.List.Sums.{sum_by-cons, sum_by-set, count_by-le-length}
-use Rattle.std.proofs.lemmas.Option.{slice_get_within, same_Some, none-some}
+use Rattle.std.proofs.lemmas.Option.{slice_get_within, none-some}
 use Rattle.khe_base.specs.declared.limits.TheConstants.{TASKS}
 use Rattle.khe_base.specs.declared.numbers.ResourceId.{ResourceId}
 use Rattle.khe_instance.specs.Running.{is_resource, runs, running_tasks}
@@ -22,8 +20,7 @@ use Rattle.khe_instance.specs.declared.states.Meet.{Meet}
 use Rattle.khe_instance.proofs.DutiesLemmas.{are-duties, typed}
 use Rattle.khe_told.specs.Fits.{AreTold, IsSlot}
 use Rattle.khe_told.specs.Lists.{duties_in, duties_of, duties_with, meets_in, tasks_in}
-use Rattle.khe_told.specs.Slots.{no_meets, slots_from, slots_of_event, empty_slot, emptied, slot_at, no_slot, held}
-use Rattle.khe_told.specs.Slots.{held_by}
+use Rattle.khe_told.specs.Slots.{no_meets, slot_at, no_slot}
 use Rattle.khe_told.specs.declared.slots.Slot.{Slot}
 use Rattle.khe_told.specs.declared.slots.Span.{Span}
 use Rattle.khe_told.proofs.DutyLaws.{duties_listed}

@@ -4,17 +4,28 @@ ghost use Rattle.std.specs.Prelude.{◌≡◌, ◌≤◌, ◌<◌, ◌&&◌, ◌
 ghost use Rattle.khe_base.specs.declared.numbers.ResourceId.{ResourceId};
 ghost use Rattle.khe_instance.specs.WellMade.{IsMonitor};
 ghost use Rattle.timetables.specs.Counts.{row_of};
-ghost use Rattle.resource_monitors.specs.Cells.{HasRows, is_due, is_due_if, is_low, lists, lists_all, lists_any, may_differ};
+ghost use Rattle.resource_monitors.specs.Cells.{HasRows, is_due, is_due_if, is_low, lists, lists_all, lists_any};
+ghost use Rattle.resource_monitors.specs.Cells.{may_differ};
 ghost use Rattle.resource_monitors.specs.Posts.{ArePosts, AreLists, AreAdded, list_for};
 ghost use Rattle.resource_monitors.specs.Sets.{room_for};
 
 use crate::kinds::{CellKinds, is_by_busy};
 use crate::posts::Post;
 use crate::rooms::TimeSets;
+use crate::runs::Run;
 use crate::tables::CellTable;
 use khe_base::{ResourceId, Seq, TimeId};
 use khe_instance::{Instance, Kind, Monitor};
 use khe_told::Waits;
+
+/// Who may wait where the cells of a resource change: the monitors at each resource, with the times that their
+/// constraints list.
+#[derive(Clone, Copy)]
+pub(crate) struct Audience<'a> {
+    pub(crate) inst: &'a Instance,
+    pub(crate) sets: &'a TimeSets,
+    pub(crate) lists: &'a [Seq<Post>],
+}
 
 /// Whether a kind lists all times.
 fn lists_all(kind: Kind) -> bool
@@ -85,7 +96,8 @@ fn add_one<W: Waits>(
     requires monitor { IsMonitor inst.now post.monitor }
     requires known { post.number.0 < W.monitors waits.old }
     ensures monitors { W.monitors waits.new ≡ W.monitors waits.old }
-    ensures waits { (k : ℕ) → W.waits waits.new k ≡ (W.waits waits.old k || (is_due_if inst.now start end low post.monitor && nat_eq k post.number.0)) }
+    ensures waits { (k : ℕ) → W.waits waits.new k
+        ≡ (W.waits waits.old k || (is_due_if inst.now start end low post.monitor && nat_eq k post.number.0)) }
 {
     if is_due(inst, sets, post.monitor, start, end, low) {
         waits.add(post.number);
@@ -107,7 +119,8 @@ fn add_due<W: Waits>(
     requires posts { ArePosts inst.now list.now }
     requires monitors { W.monitors waits.old ≡ length inst.now.monitors }
     ensures monitors { W.monitors waits.new ≡ W.monitors waits.old }
-    ensures added { AreAdded (is_due_if inst.now start end low) list.now (length list.now) (W.waits waits.old) (W.waits waits.new) }
+    ensures added { AreAdded (is_due_if inst.now start end low) list.now (length list.now) (W.waits waits.old)
+        (W.waits waits.new) }
 {
     inst.facts();
     for post in list {
@@ -132,30 +145,39 @@ fn is_low(table: &CellTable, r: ResourceId, start: u32, end: u32, limit: u32) ->
 /// Lets those at what a place is given wait that list one of the times. Where the resource's counts are all above a
 /// limit, those that are measured by busy times alone are passed over.
 pub(crate) fn add_place<K: CellKinds, W: Waits>(
-    inst: &Instance,
-    sets: &TimeSets,
+    audience: &Audience<'_>,
     table: &CellTable,
-    start: u32,
-    end: u32,
+    run: Run,
     limit: u32,
     place: Option<ResourceId>,
-    lists: &[Seq<Post>],
     waits: &mut W,
 )
     requires hears { W.hears ≡ true }
-    requires sets { sets.now ≡ room_for inst.now }
-    requires rows { HasRows inst.now table.now }
-    requires times { end ≤ length inst.now.times }
-    requires lists { AreLists K.serves_kind (length inst.now.resources) inst.now.monitors lists.now }
-    requires resource { (r : ResourceId) → place ≡ Some r → r.0 < length inst.now.resources }
-    requires monitors { W.monitors waits.old ≡ length inst.now.monitors }
+    requires sets { audience.now.sets.now ≡ room_for audience.now.inst.now }
+    requires rows { HasRows audience.now.inst.now table.now }
+    requires times { run.end ≤ length audience.now.inst.now.times }
+    requires lists { AreLists K.serves_kind (length audience.now.inst.now.resources) audience.now.inst.now.monitors
+        audience.now.lists.now }
+    requires resource { (r : ResourceId) → place ≡ Some r → r.0 < length audience.now.inst.now.resources }
+    requires monitors { W.monitors waits.old ≡ length audience.now.inst.now.monitors }
     ensures monitors { W.monitors waits.new ≡ W.monitors waits.old }
-    ensures added { AreAdded (is_due inst.now table.now start end limit) (list_for K.serves_kind inst.now.monitors place) (length (list_for K.serves_kind inst.now.monitors place)) (W.waits waits.old) (W.waits waits.new) }
+    ensures added { AreAdded (is_due audience.now.inst.now table.now run.start run.end limit)
+        (list_for K.serves_kind audience.now.inst.now.monitors place)
+        (length (list_for K.serves_kind audience.now.inst.now.monitors place)) (W.waits waits.old) (W.waits waits.new) }
 {
     let Some(r) = place else {
         return;
     };
-    let low = is_low(table, r, start, end, limit);
+    let low = is_low(table, r, run.start, run.end, limit);
+    let lists = audience.lists;
     let list = lists[r.0 as usize].as_slice();
-    add_due(inst, sets, start, end, low, list, waits);
+    add_due(
+        audience.inst,
+        audience.sets,
+        run.start,
+        run.end,
+        low,
+        list,
+        waits,
+    );
 }

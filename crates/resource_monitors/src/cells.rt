@@ -11,9 +11,11 @@ ghost use Rattle.resource_monitors.specs.Posts.{AreLists};
 ghost use Rattle.resource_monitors.specs.Sets.{room_for};
 
 use crate::cell_values::value;
+use crate::cell_waits::Audience;
 use crate::kinds::CellKinds;
 use crate::places::follow_all;
 use crate::posts::{Post, lists_of};
+use crate::regiven::Regiven;
 use crate::rooms::TimeSets;
 use crate::runs::run_of;
 use crate::tables::CellTable;
@@ -60,7 +62,8 @@ fn turn_cells<K: CellKinds, W: Waits>(
     ensures rows { HasRows inst.now table.new }
     ensures counts { (r t : ℕ) → count_at table.new r t ≡ running_tasks (duties_in (turned told.now turn.now)) r t }
     ensures monitors { W.monitors waits.new ≡ W.monitors waits.old }
-    ensures unmoved { W.hears ≡ true → AreUnmoved inst.now K.serves_kind (W.waits waits.new) told.now (turned told.now turn.now) }
+    ensures unmoved { W.hears ≡ true → AreUnmoved inst.now K.serves_kind (W.waits waits.new) told.now
+        (turned told.now turn.now) }
     ensures kept { WaitOn (W.waits waits.old) (W.waits waits.new) }
     ensures watchers { AreWatchers inst.now turn.now (W.waits waits.old) (W.waits waits.new) }
 {
@@ -74,9 +77,13 @@ fn turn_cells<K: CellKinds, W: Waits>(
     let before = turn.given_before();
     let later = turn.given_after();
     let places = turn.altered();
-    follow_all::<K, W>(
-        inst, sets, lists, before, later, places, emptied, filled, table, waits,
-    );
+    let audience = Audience { inst, sets, lists };
+    let regiven = Regiven {
+        before,
+        later,
+        places,
+    };
+    follow_all::<K, W>(&audience, &regiven, emptied, filled, table, waits);
 }
 
 impl<K: CellKinds> Keeper for Cells<K> {

@@ -19,6 +19,7 @@ mod masks;
 mod measures;
 mod places;
 mod posts;
+mod regiven;
 mod resource_keepers;
 mod rooms;
 mod runs;

@@ -26,7 +26,6 @@ pub struct Workloads {
 }
 
 impl Keeper for Workloads {
-    ghost use Rattle.std.specs.Prelude.{◌≡◌};
     ghost use Rattle.resource_monitors.specs.Loads.{AreKept, is_on_workload};
 
     ghost serves_kind = { is_on_workload };

@@ -6,35 +6,61 @@ ghost use Rattle.khe_told.specs.Naming.{is_named};
 ghost use Rattle.khe_told.specs.Turns.{AreWatchers, IsTurn, turned};
 ghost use Rattle.khe_told.specs.Waits.{AreUnmoved, WaitOn};
 ghost use Rattle.resource_monitors.specs.Posts.{AreLists};
-ghost use Rattle.resource_monitors.specs.Loads.{AreAllExchanged, AreExchanged, AreMeasuredSame, AreOnEither, AreOnLoad, AreOnMoved, CanExchange, CanTurn, HasLoads, Turned, is_on_workload, worth_at};
+ghost use Rattle.resource_monitors.specs.Loads.{AreAllExchanged, AreExchanged, AreMeasuredSame, AreOnEither, AreOnLoad};
+ghost use Rattle.resource_monitors.specs.Loads.{AreOnMoved, CanExchange, CanTurn, HasLoads, Turned, is_on_workload};
+ghost use Rattle.resource_monitors.specs.Loads.{worth_at};
 
 use crate::load_waits::add_all;
 use crate::loads::{length_of, turn_load, worth_of};
 use crate::posts::Post;
+use crate::regiven::Regiven;
 use khe_base::{EventId, ResourceId, Seq};
 use khe_instance::Instance;
-use khe_told::{Places, Told, Turn, Waits};
+use khe_told::{Told, Turn, Waits};
+
+/// A task by which its resource has a workload: its event, how long its meet lasts, and its place.
+#[derive(Clone, Copy)]
+struct Task {
+    event: EventId,
+    duration: u32,
+    number: usize,
+}
+
+/// A meet of an event, with how long it lasts before and after.
+#[derive(Clone, Copy)]
+struct Resized {
+    event: EventId,
+    less: u32,
+    more: u32,
+}
+
+/// A place of a meet, with what it is given before and after.
+#[derive(Clone, Copy)]
+struct Handed {
+    number: usize,
+    before: Option<ResourceId>,
+    later: Option<ResourceId>,
+}
 
 /// Raises the workload of the resource that a place is given, or lowers it, and lets the monitors on it wait.
 fn follow_place<W: Waits>(
     inst: &Instance,
     lists: &[Seq<Post>],
-    event: EventId,
-    duration: u32,
-    number: usize,
+    task: Task,
     place: Option<ResourceId>,
     rises: bool,
     loads: &mut Vec<u128>,
     waits: &mut W,
 )
     requires lists { AreLists is_on_workload (length inst.now.resources) inst.now.monitors lists.now }
-    requires event { event.0 < length inst.now.events }
+    requires event { task.event.0 < length inst.now.events }
     requires resources { length loads.old.items ≡ length inst.now.resources }
     requires resource { (r : ResourceId) → place ≡ Some r → r.0 < length inst.now.resources }
-    requires can { CanTurn rises place (worth_at inst.now event duration number) loads.old.items }
+    requires can { CanTurn rises place (worth_at inst.now task.event task.duration task.number) loads.old.items }
     requires monitors { W.monitors waits.old ≡ length inst.now.monitors }
     ensures resources { length loads.new.items ≡ length loads.old.items }
-    ensures loads { Turned rises place (worth_at inst.now event duration number) loads.old.items loads.new.items }
+    ensures loads { Turned rises place (worth_at inst.now task.event task.duration task.number) loads.old.items
+        loads.new.items }
     ensures monitors { W.monitors waits.new ≡ W.monitors waits.old }
     ensures unmoved { W.hears ≡ true → AreMeasuredSame inst.now (W.waits waits.new) loads.old.items loads.new.items }
     ensures kept { WaitOn (W.waits waits.old) (W.waits waits.new) }
@@ -44,7 +70,7 @@ fn follow_place<W: Waits>(
     let Some(r) = place else {
         return;
     };
-    let worth = worth_of(inst, event, duration, number);
+    let worth = worth_of(inst, task.event, task.duration, task.number);
     turn_load(loads, r, worth, rises);
     let list = lists[r.0 as usize].as_slice();
     add_all(list, waits);
@@ -63,37 +89,51 @@ fn is_same(before: Option<ResourceId>, later: Option<ResourceId>, less: u32, mor
 fn follow_both<W: Waits>(
     inst: &Instance,
     lists: &[Seq<Post>],
-    event: EventId,
-    less: u32,
-    more: u32,
-    number: usize,
-    before: Option<ResourceId>,
-    later: Option<ResourceId>,
+    resized: Resized,
+    handed: Handed,
     loads: &mut Vec<u128>,
     waits: &mut W,
 )
     requires lists { AreLists is_on_workload (length inst.now.resources) inst.now.monitors lists.now }
-    requires event { event.0 < length inst.now.events }
+    requires event { resized.event.0 < length inst.now.events }
     requires resources { length loads.old.items ≡ length inst.now.resources }
-    requires before { (r : ResourceId) → before ≡ Some r → r.0 < length inst.now.resources }
-    requires later { (r : ResourceId) → later ≡ Some r → r.0 < length inst.now.resources }
-    requires some { CanTurn false before (worth_at inst.now event less number) loads.old.items }
-    requires room { CanTurn true later (worth_at inst.now event more number) loads.old.items }
+    requires before { (r : ResourceId) → handed.before ≡ Some r → r.0 < length inst.now.resources }
+    requires later { (r : ResourceId) → handed.later ≡ Some r → r.0 < length inst.now.resources }
+    requires some { CanTurn false handed.before (worth_at inst.now resized.event resized.less handed.number)
+        loads.old.items }
+    requires room { CanTurn true handed.later (worth_at inst.now resized.event resized.more handed.number)
+        loads.old.items }
     requires monitors { W.monitors waits.old ≡ length inst.now.monitors }
     ensures resources { length loads.new.items ≡ length loads.old.items }
-    ensures loads { AreExchanged before later (worth_at inst.now event less number) (worth_at inst.now event more number) loads.old.items loads.new.items }
+    ensures loads { AreExchanged handed.before handed.later (worth_at inst.now resized.event resized.less handed.number)
+        (worth_at inst.now resized.event resized.more handed.number) loads.old.items loads.new.items }
     ensures monitors { W.monitors waits.new ≡ W.monitors waits.old }
     ensures unmoved { W.hears ≡ true → AreMeasuredSame inst.now (W.waits waits.new) loads.old.items loads.new.items }
     ensures kept { WaitOn (W.waits waits.old) (W.waits waits.new) }
-    ensures listed { AreOnEither inst.now before later less more (W.waits waits.old) (W.waits waits.new) }
+    ensures listed { AreOnEither inst.now handed.before handed.later resized.less resized.more (W.waits waits.old)
+        (W.waits waits.new) }
 {
+    let Resized { event, less, more } = resized;
+    let Handed {
+        number,
+        before,
+        later,
+    } = handed;
     if is_same(before, later, less, more) {
         return;
     }
-    follow_place(
-        inst, lists, event, less, number, before, false, loads, waits,
-    );
-    follow_place(inst, lists, event, more, number, later, true, loads, waits);
+    let lost = Task {
+        event,
+        duration: less,
+        number,
+    };
+    follow_place(inst, lists, lost, before, false, loads, waits);
+    let gained = Task {
+        event,
+        duration: more,
+        number,
+    };
+    follow_place(inst, lists, gained, later, true, loads, waits);
 }
 
 /// Lowers the workloads of what the places of a meet are given before, and raises those of what they are given after.
@@ -101,34 +141,35 @@ fn follow_both<W: Waits>(
 fn follow_all<W: Waits>(
     inst: &Instance,
     lists: &[Seq<Post>],
-    event: EventId,
-    less: u32,
-    more: u32,
-    before: &[Option<ResourceId>],
-    later: &[Option<ResourceId>],
-    places: Places,
+    resized: Resized,
+    regiven: &Regiven<'_>,
     loads: &mut Vec<u128>,
     waits: &mut W,
 )
     requires lists { AreLists is_on_workload (length inst.now.resources) inst.now.monitors lists.now }
-    requires can { CanExchange inst.now event less more before.now later.now loads.old.items }
-    requires still { (j : ℕ) → is_named places j ≡ false → (slice_get before.now j ≡ slice_get later.now j) × (less ≡ more) }
+    requires can { CanExchange inst.now resized.event resized.less resized.more regiven.now.before.now
+        regiven.now.later.now loads.old.items }
+    requires still { (j : ℕ) → is_named regiven.now.places j ≡ false
+        → (slice_get regiven.now.before.now j ≡ slice_get regiven.now.later.now j) × (resized.less ≡ resized.more) }
     requires monitors { W.monitors waits.old ≡ length inst.now.monitors }
     ensures resources { length loads.new.items ≡ length loads.old.items }
-    ensures loads { AreAllExchanged inst.now event less more before.now later.now loads.old.items loads.new.items }
+    ensures loads { AreAllExchanged inst.now resized.event resized.less resized.more regiven.now.before.now
+        regiven.now.later.now loads.old.items loads.new.items }
     ensures monitors { W.monitors waits.new ≡ W.monitors waits.old }
     ensures unmoved { W.hears ≡ true → AreMeasuredSame inst.now (W.waits waits.new) loads.old.items loads.new.items }
     ensures kept { WaitOn (W.waits waits.old) (W.waits waits.new) }
-    ensures listed { AreOnMoved inst.now less more before.now later.now (W.waits waits.old) (W.waits waits.new) }
+    ensures listed { AreOnMoved inst.now resized.less resized.more regiven.now.before.now regiven.now.later.now
+        (W.waits waits.old) (W.waits waits.new) }
 {
-    let mut number = places.next(0);
-    while number < before.len() {
-        let old = before[number];
-        let new = later[number];
-        follow_both(
-            inst, lists, event, less, more, number, old, new, loads, waits,
-        );
-        number = places.next(number + 1);
+    let mut number = regiven.places.next(0);
+    while number < regiven.before.len() {
+        let handed = Handed {
+            number,
+            before: regiven.before[number],
+            later: regiven.later[number],
+        };
+        follow_both(inst, lists, resized, handed, loads, waits);
+        number = regiven.places.next(number + 1);
     }
 }
 
@@ -148,7 +189,8 @@ pub(crate) fn turn_loads<W: Waits>(
     requires monitors { W.monitors waits.old ≡ length inst.now.monitors }
     ensures loads { HasLoads inst.now (turned told.now turn.now) loads.new.items }
     ensures monitors { W.monitors waits.new ≡ W.monitors waits.old }
-    ensures unmoved { W.hears ≡ true → AreUnmoved inst.now is_on_workload (W.waits waits.new) told.now (turned told.now turn.now) }
+    ensures unmoved { W.hears ≡ true → AreUnmoved inst.now is_on_workload (W.waits waits.new) told.now
+        (turned told.now turn.now) }
     ensures kept { WaitOn (W.waits waits.old) (W.waits waits.new) }
     ensures watchers { AreWatchers inst.now turn.now (W.waits waits.old) (W.waits waits.new) }
 {
@@ -160,7 +202,11 @@ pub(crate) fn turn_loads<W: Waits>(
     let before = turn.given_before();
     let later = turn.given_after();
     let places = turn.altered();
-    follow_all(
-        inst, lists, event, less, more, before, later, places, loads, waits,
-    );
+    let resized = Resized { event, less, more };
+    let regiven = Regiven {
+        before,
+        later,
+        places,
+    };
+    follow_all(inst, lists, resized, &regiven, loads, waits);
 }

@@ -1,6 +1,6 @@
 //! What is counted in the timetable of a resource: busy and idle times, by sets of times.
 
-ghost use Rattle.std.specs.Prelude.{◌≡◌, ◌+◌, ◌*◌, ◌^◌, ◌<◌, ◌≤◌, nat_lt, length, All};
+ghost use Rattle.std.specs.Prelude.{◌≡◌, ◌+◌, ◌^◌, ◌<◌, ◌≤◌, nat_lt, length, All};
 ghost use Rattle.std.specs.List.{count_by, sum_by};
 ghost use Rattle.khe_base.specs.Bounds.{count_outside};
 ghost use Rattle.khe_base.specs.declared.limits.TheConstants.{LISTED, TIMES};

@@ -1,8 +1,8 @@
 //! Writing a whole archive.
 
-ghost use Rattle.std.specs.Prelude.{◌≡◌, [], ℕ, List, Bool, true, false};
+ghost use Rattle.std.specs.Prelude.{[], true, false};
 ghost use Rattle.xhstt_writer.specs.Archives as spec;
-ghost use Rattle.xhstt_writer.specs.Trees.{Trees, none, filled, head, spelled, attributes_spelled};
+ghost use Rattle.xhstt_writer.specs.Trees.{Trees, head, spelled};
 ghost use Rattle.xhstt_writer.specs.Parts as parts;
 ghost use Rattle.xhstt_writer.specs.Output.{Aim, Puts};
 

@@ -1,6 +1,6 @@
 //! Bytes in memory as an output.
 
-ghost use Rattle.std.specs.Prelude.{◌≡◌, ◌++◌, [], ℕ, List, false};
+ghost use Rattle.std.specs.Prelude.{◌≡◌, ◌++◌, false};
 
 use crate::output::Output;
 

@@ -1,6 +1,6 @@
 //! Writing constraints.
 
-ghost use Rattle.std.specs.Prelude.{◌≡◌, [], ◌∷◌, ℕ, List, Bool, true, false};
+ghost use Rattle.std.specs.Prelude.{◌≡◌, [], ◌∷◌, ℕ, List, true, false};
 ghost use Rattle.xhstt_shape.specs.declared.words.Tag.{Tag as AnyTag};
 ghost use Rattle.xhstt_writer.specs.Canonical as spec;
 ghost use Rattle.xhstt_writer.specs.Trees.{Trees, none, filled};
@@ -46,24 +46,15 @@ impl Write for RawSpread {
 
 /// Writes what a constraint applies to, into its open element.
 fn put_applies<O: Output>(out: &mut O, applies: &RawApplies) -> bool
-    ensures { (t : AnyTag) (rest : List ℕ) (whole : Aim) → O.said out.old (filled (parts.row (spec.applies_parts applies.now)) true t rest) whole → O.said out.new (filled none result t rest) whole }
+    ensures { (t : AnyTag) (rest : List ℕ) (whole : Aim)
+        → O.said out.old (filled (parts.row (spec.applies_parts applies.now)) true t rest) whole
+        → O.said out.new (filled none result t rest) whole }
 {
     match applies {
         RawApplies::Events {
             event_groups,
             events,
-        } => {
-            two_lists(
-                out,
-                true,
-                Tag::EventGroups,
-                Tag::EventGroup,
-                event_groups,
-                Tag::Events,
-                Tag::Event,
-                events,
-            )
-        }
+        } => event_lists(out, true, event_groups, events),
         RawApplies::Groups { event_groups } => list(
             out,
             true,
@@ -75,41 +66,53 @@ fn put_applies<O: Output>(out: &mut O, applies: &RawApplies) -> bool
         RawApplies::Resources {
             resource_groups,
             resources,
-        } => {
-            two_lists(
-                out,
-                true,
-                Tag::ResourceGroups,
-                Tag::ResourceGroup,
-                resource_groups,
-                Tag::Resources,
-                Tag::Resource,
-                resources,
-            )
-        }
+        } => resource_lists(out, true, resource_groups, resources),
     }
 }
 
-/// Writes two lists of references.
-fn two_lists<O: Output>(
+/// Writes a list of time groups and one of times.
+fn time_lists<O: Output>(out: &mut O, opened: bool, groups: &Seq<Ref>, times: &Seq<Ref>) -> bool
+    ensures { (more : Trees) (t : AnyTag) (rest : List ℕ) (whole : Aim)
+        → O.said out.old (filled (put_part (parts.references Tag.TimeGroups Tag.TimeGroup groups.now)
+        (put_part (parts.references Tag.Times Tag.Time times.now) more)) opened t rest) whole
+        → O.said out.new (filled more result t rest) whole }
+{
+    let inside = list(out, opened, Tag::TimeGroups, Tag::TimeGroup, groups);
+    list(out, inside, Tag::Times, Tag::Time, times)
+}
+
+/// Writes a list of resource groups and one of resources.
+fn resource_lists<O: Output>(
     out: &mut O,
     opened: bool,
-    outer: Tag,
-    inner: Tag,
-    first: &Seq<Ref>,
-    later: Tag,
-    own: Tag,
-    second: &Seq<Ref>,
+    groups: &Seq<Ref>,
+    resources: &Seq<Ref>,
 ) -> bool
-    ensures { (more : Trees) (t : AnyTag) (rest : List ℕ) (whole : Aim) → O.said out.old (filled (put_part (parts.references outer inner first.now) (put_part (parts.references later own second.now) more)) opened t rest) whole → O.said out.new (filled more result t rest) whole }
+    ensures { (more : Trees) (t : AnyTag) (rest : List ℕ) (whole : Aim)
+        → O.said out.old (filled (put_part (parts.references Tag.ResourceGroups Tag.ResourceGroup groups.now)
+        (put_part (parts.references Tag.Resources Tag.Resource resources.now) more)) opened t rest) whole
+        → O.said out.new (filled more result t rest) whole }
 {
-    let inside = list(out, opened, outer, inner, first);
-    list(out, inside, later, own, second)
+    let inside = list(out, opened, Tag::ResourceGroups, Tag::ResourceGroup, groups);
+    list(out, inside, Tag::Resources, Tag::Resource, resources)
+}
+
+/// Writes a list of event groups and one of events.
+fn event_lists<O: Output>(out: &mut O, opened: bool, groups: &Seq<Ref>, events: &Seq<Ref>) -> bool
+    ensures { (more : Trees) (t : AnyTag) (rest : List ℕ) (whole : Aim)
+        → O.said out.old (filled (put_part (parts.references Tag.EventGroups Tag.EventGroup groups.now)
+        (put_part (parts.references Tag.Events Tag.Event events.now) more)) opened t rest) whole
+        → O.said out.new (filled more result t rest) whole }
+{
+    let inside = list(out, opened, Tag::EventGroups, Tag::EventGroup, groups);
+    list(out, inside, Tag::Events, Tag::Event, events)
 }
 
 /// Writes the children of a constraint after those that each constraint has.
 fn put_rule<O: Output>(out: &mut O, rule: &RawRule) -> bool
-    ensures { (t : AnyTag) (rest : List ℕ) (whole : Aim) → O.said out.old (filled (parts.row (spec.rule_parts rule.now)) false t rest) whole → O.said out.new (filled none result t rest) whole }
+    ensures { (t : AnyTag) (rest : List ℕ) (whole : Aim)
+        → O.said out.old (filled (parts.row (spec.rule_parts rule.now)) false t rest) whole
+        → O.said out.new (filled none result t rest) whole }
 {
     match rule {
         RawRule::AssignTime | RawRule::LinkEvents | RawRule::OrderEvents | RawRule::AvoidClashes =>
@@ -141,16 +144,7 @@ fn put_rule<O: Output>(out: &mut O, rule: &RawRule) -> bool
             times,
             duration,
         } => {
-            let still = two_lists(
-                out,
-                false,
-                Tag::TimeGroups,
-                Tag::TimeGroup,
-                time_groups,
-                Tag::Times,
-                Tag::Time,
-                times,
-            );
+            let still = time_lists(out, false, time_groups, times);
             number_if(out, still, Tag::Duration, *duration)
         }
         RawRule::LimitWorkload { min, max } => {
@@ -189,32 +183,14 @@ fn put_rule<O: Output>(out: &mut O, rule: &RawRule) -> bool
             false
         }
         RawRule::AvoidUnavailableTimes { time_groups, times } => {
-            two_lists(
-                out,
-                false,
-                Tag::TimeGroups,
-                Tag::TimeGroup,
-                time_groups,
-                Tag::Times,
-                Tag::Time,
-                times,
-            )
+            time_lists(out, false, time_groups, times)
         }
         RawRule::PreferResources {
             resource_groups,
             resources,
             role: given,
         } => {
-            let still = two_lists(
-                out,
-                false,
-                Tag::ResourceGroups,
-                Tag::ResourceGroup,
-                resource_groups,
-                Tag::Resources,
-                Tag::Resource,
-                resources,
-            );
+            let still = resource_lists(out, false, resource_groups, resources);
             role(out, still, given);
             false
         }
@@ -222,14 +198,20 @@ fn put_rule<O: Output>(out: &mut O, rule: &RawRule) -> bool
 }
 
 fn put_bounds<O: Output>(out: &mut O, min: u32, max: u32)
-    ensures { (t : AnyTag) (rest : List ℕ) (whole : Aim) → O.said out.old (filled (parts.row (parts.one Tag.Minimum (parts.number min) ∷ (parts.one Tag.Maximum (parts.number max) ∷ []))) false t rest) whole → O.said out.new (filled none false t rest) whole }
+    ensures { (t : AnyTag) (rest : List ℕ) (whole : Aim)
+        → O.said out.old (filled (parts.row (parts.one Tag.Minimum
+        (parts.number min) ∷ (parts.one Tag.Maximum (parts.number max) ∷ []))) false t rest) whole
+        → O.said out.new (filled none false t rest) whole }
 {
     number(out, false, Tag::Minimum, min);
     number(out, false, Tag::Maximum, max);
 }
 
 fn put_bounded<O: Output>(out: &mut O, groups: &Seq<Ref>, min: u32, max: u32)
-    ensures { (t : AnyTag) (rest : List ℕ) (whole : Aim) → O.said out.old (filled (parts.row (parts.references Tag.TimeGroups Tag.TimeGroup groups.now ∷ (parts.one Tag.Minimum (parts.number min) ∷ (parts.one Tag.Maximum (parts.number max) ∷ [])))) false t rest) whole → O.said out.new (filled none false t rest) whole }
+    ensures { (t : AnyTag) (rest : List ℕ) (whole : Aim)
+        → O.said out.old (filled (parts.row (parts.references Tag.TimeGroups Tag.TimeGroup
+        groups.now ∷ (parts.one Tag.Minimum (parts.number min) ∷ (parts.one Tag.Maximum (parts.number max) ∷ []))))
+        false t rest) whole → O.said out.new (filled none false t rest) whole }
 {
     let inside = list(out, false, Tag::TimeGroups, Tag::TimeGroup, groups);
     number(out, inside, Tag::Minimum, min);
@@ -280,14 +262,16 @@ fn function_word(cost: CostFn) -> &'static [u8]
 
 /// Writes whether the cost is hard.
 fn put_required<O: Output>(out: &mut O, opened: bool, required: bool)
-    ensures { Writes (O.said out.old) opened (O.said out.new) false (parts.one Tag.Required (parts.text (spec.truth_word required))) }
+    ensures { Writes (O.said out.old) opened (O.said out.new) false
+        (parts.one Tag.Required (parts.text (spec.truth_word required))) }
 {
     plain(out, opened, Tag::Required, truth_word(required));
 }
 
 /// Writes the cost function.
 fn put_function<O: Output>(out: &mut O, cost: CostFn)
-    ensures { Writes (O.said out.old) false (O.said out.new) false (parts.one Tag.CostFunction (parts.text (spec.function_word cost))) }
+    ensures { Writes (O.said out.old) false (O.said out.new) false
+        (parts.one Tag.CostFunction (parts.text (spec.function_word cost))) }
 {
     plain(out, false, Tag::CostFunction, function_word(cost));
 }
@@ -295,7 +279,8 @@ fn put_function<O: Output>(out: &mut O, cost: CostFn)
 /// Writes the element that says what a constraint applies to.
 #[tactic(auto, unfolding(crate::specs::Parts::put_all))]
 fn put_applied<O: Output>(out: &mut O, applies: &RawApplies)
-    ensures { Writes (O.said out.old) false (O.said out.new) false (parts.one Tag.AppliesTo (parts.element [] (parts.row (spec.applies_parts applies.now)))) }
+    ensures { Writes (O.said out.old) false (O.said out.new) false
+        (parts.one Tag.AppliesTo (parts.element [] (parts.row (spec.applies_parts applies.now)))) }
 {
     begin(out, false, Tag::AppliesTo);
     let inside = put_applies(out, applies);
@@ -304,7 +289,9 @@ fn put_applied<O: Output>(out: &mut O, applies: &RawApplies)
 
 /// Writes the children that each constraint has, before those of its rule.
 fn put_common<O: Output>(out: &mut O, constraint: &RawConstraint)
-    ensures { (further : List Part) (t : AnyTag) (rest : List ℕ) (whole : Aim) → O.said out.old (filled (parts.row (spec.constraint_parts constraint.now further)) true t rest) whole → O.said out.new (filled (parts.row further) false t rest) whole }
+    ensures { (further : List Part) (t : AnyTag) (rest : List ℕ) (whole : Aim)
+        → O.said out.old (filled (parts.row (spec.constraint_parts constraint.now further)) true t rest) whole
+        → O.said out.new (filled (parts.row further) false t rest) whole }
 {
     let inside = name(out, true, &constraint.name);
     put_required(out, inside, constraint.required);

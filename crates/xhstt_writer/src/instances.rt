@@ -1,8 +1,7 @@
 //! Writing instances.
 
-ghost use Rattle.std.specs.Prelude.{◌≡◌, [], ℕ, List, Bool, true, false};
+ghost use Rattle.std.specs.Prelude.{◌≡◌, [], true, false};
 ghost use Rattle.xhstt_writer.specs.Archives as spec;
-ghost use Rattle.xhstt_writer.specs.Trees.{Trees, none, filled};
 ghost use Rattle.xhstt_writer.specs.Parts as parts;
 ghost use Rattle.xhstt_writer.specs.Output.{Writes, WritesOne};
 

@@ -1,8 +1,8 @@
 //! Writing lists, and what may be missing.
 
-ghost use Rattle.std.specs.Prelude.{◌≡◌, [], ℕ, List, Bool, true, false, map, length};
+ghost use Rattle.std.specs.Prelude.{◌≡◌, [], ℕ, List, true, false, map};
 ghost use Rattle.xhstt_shape.specs.declared.words.Tag.{Tag as AnyTag};
-ghost use Rattle.xhstt_writer.specs.Trees.{Trees, none, filled};
+ghost use Rattle.xhstt_writer.specs.Trees.{none, filled};
 ghost use Rattle.xhstt_writer.specs.Parts as parts;
 ghost use Rattle.xhstt_writer.specs.Parts.{Body};
 ghost use Rattle.xhstt_writer.specs.Output.{Aim, Writes, WritesOne};

@@ -1,8 +1,8 @@
 //! Writing tags, attributes and the line breaks between them.
 
-ghost use Rattle.std.specs.Prelude.{◌≡◌, ◌++◌, ◌∷◌, [], ℕ, List, Bool, true, false, Option, decimal, length, ◌<◌};
-ghost use Rattle.xhstt_shape.specs.Words.{word, label_word};
-ghost use Rattle.xhstt_writer.specs.Trees.{Labelled, Trees, none, filled, between, closed, leaf_end, attribute_spelled, attributes_spelled, value_bytes};
+ghost use Rattle.std.specs.Prelude.{◌≡◌, ◌++◌, ◌∷◌, [], ℕ, List, true, false, Option, decimal, length, ◌<◌};
+ghost use Rattle.xhstt_shape.specs.Words.{word};
+ghost use Rattle.xhstt_writer.specs.Trees.{none, filled, between, closed, leaf_end, attribute_spelled, attributes_spelled};
 ghost use Rattle.xhstt_writer.specs.Parts as parts;
 ghost use Rattle.xhstt_writer.specs.Output.{Aim, Puts, Writes};
 

@@ -1,9 +1,7 @@
 //! Writing solution groups and solutions.
 
-ghost use Rattle.std.specs.Prelude.{◌≡◌, ℕ, List, Bool, true, false};
+ghost use Rattle.std.specs.Prelude.{true};
 ghost use Rattle.xhstt_writer.specs.Archives as spec;
-ghost use Rattle.xhstt_writer.specs.Trees.{Trees, none, filled};
-ghost use Rattle.xhstt_writer.specs.Parts as parts;
 
 use crate::lists::{Write, items, list, write_if};
 use crate::output::Output;

@@ -8,7 +8,8 @@ use Rattle.resource_monitors.proofs.load_turns.follow_place.Goals as goal
 pub turn_load-requires-clause-can : goal.turn_load-requires-clause-can
 turn_load-requires-clause-can g c = subst (λ n. CanTurn c.args.rises (Some c.in-Some.r) n c.args.loads.now.items)
     (sym c.worth_of-worth.ensures)
-    (subst (λ o. CanTurn c.args.rises o (worth_at c.args.inst.now c.args.event c.args.duration c.args.number)
+    (subst (λ o. CanTurn c.args.rises o (worth_at c.args.inst.now c.args.task.event c.args.task.duration
+    c.args.task.number)
     c.args.loads.now.items) c.in-Some.is c.requires.can)
 
 pub add_all-requires : goal.add_all-requires
@@ -22,7 +23,8 @@ add_all-requires g c = record {
 
 pub returns-clause-loads : goal.returns-clause-loads
 returns-clause-loads g c =
-    subst (λ o. Turned c.args.rises o (worth_at c.args.inst.now c.args.event c.args.duration c.args.number)
+    subst (λ o. Turned c.args.rises o (worth_at c.args.inst.now c.args.task.event c.args.task.duration
+    c.args.task.number)
     c.args.loads.now.items c.turn_load.new.loads.items) (sym c.in-Some.is)
     (subst (λ n. Turned c.args.rises (Some c.in-Some.r) n c.args.loads.now.items c.turn_load.new.loads.items)
     c.worth_of-worth.ensures c.turn_load.ensures.loads)
@@ -46,4 +48,5 @@ returns-clause-listed g c = on_load c.args.inst.now c.facts.ensures c.in-Some.r 
 
 pub returns-in_default-clause-loads : goal.returns-in_default-clause-loads
 returns-in_default-clause-loads g c = turned_none c.args.rises c.args.place
-    (worth_at c.args.inst.now c.args.event c.args.duration c.args.number) c.args.loads.now.items c.in_default.is
+    (worth_at c.args.inst.now c.args.task.event c.args.task.duration c.args.task.number) c.args.loads.now.items
+    c.in_default.is

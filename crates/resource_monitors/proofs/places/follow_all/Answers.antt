@@ -11,7 +11,8 @@ use Rattle.resource_monitors.proofs.places.follow_all.Goals as goal
 pub loop-place-init : goal.loop-place-init
 loop-place-init g c = record {
   rows = c.requires.rows;
-  counts = exchanged_over c.args.emptied c.args.filled c.args.before.now c.args.later.now 0 c.next-place.result
+  counts = exchanged_over c.args.emptied c.args.filled c.args.regiven.now.before.now c.args.regiven.now.later.now 0
+      c.next-place.result
       c.next-place.ensures.from c.requires.can.places
       (λ j a b. c.requires.still j (c.next-place.ensures.none j a b))
       (count_at c.args.table.now) (count_at c.args.table.now)
@@ -23,13 +24,15 @@ loop-place-init g c = record {
 }
 
 pub follow_both-requires-clause-some : goal.follow_both-requires-clause-some
-follow_both-requires-clause-some g c = some_here c.args.emptied c.args.filled c.args.before.now c.args.later.now
+follow_both-requires-clause-some g c = some_here c.args.emptied c.args.filled c.args.regiven.now.before.now
+    c.args.regiven.now.later.now
     c.loop-place.place
     c.loop-place-test.true c.requires.can.places
     (count_at c.args.table.now) (count_at c.loop-place.table) c.requires.can.some c.loop-place.invariant.counts
 
 pub follow_both-requires-clause-room : goal.follow_both-requires-clause-room
-follow_both-requires-clause-room g c = room_here c.args.emptied c.args.filled c.args.before.now c.args.later.now
+follow_both-requires-clause-room g c = room_here c.args.emptied c.args.filled c.args.regiven.now.before.now
+    c.args.regiven.now.later.now
     c.loop-place.place
     c.loop-place-test.true c.requires.can.places
     (count_at c.args.table.now) (count_at c.loop-place.table) c.requires.can.few c.requires.can.room
@@ -38,29 +41,34 @@ follow_both-requires-clause-room g c = room_here c.args.emptied c.args.filled c.
 pub loop-place-preserved : goal.loop-place-preserved
 loop-place-preserved g c = record {
   rows = c.follow_both.ensures.rows;
-  counts = exchanged_over c.args.emptied c.args.filled c.args.before.now c.args.later.now (c.loop-place.place + 1)
+  counts = exchanged_over c.args.emptied c.args.filled c.args.regiven.now.before.now c.args.regiven.now.later.now
+      (c.loop-place.place + 1)
       c.next-place-in-loop-place.result c.next-place-in-loop-place.ensures.from c.requires.can.places
       (λ j a b. c.requires.still j (c.next-place-in-loop-place.ensures.none j a b))
       (count_at c.args.table.now) (count_at c.follow_both.new.table)
-      (exchanged_more c.args.emptied c.args.filled c.args.before.now c.args.later.now c.loop-place.place
+      (exchanged_more c.args.emptied c.args.filled c.args.regiven.now.before.now c.args.regiven.now.later.now
+      c.loop-place.place
       c.loop-place-test.true c.requires.can.places
       (count_at c.args.table.now) (count_at c.loop-place.table) (count_at c.follow_both.new.table)
       c.loop-place.invariant.counts c.follow_both.ensures.counts);
   same = c.follow_both.ensures.monitors ∙ c.loop-place.invariant.same;
-  unmoved = λ hears. same_on c.args.inst.now g.K.CellKinds.serves_kind
-      (value_in c.args.inst.now c.args.table.now) (value_in c.args.inst.now c.loop-place.table)
-      (value_in c.args.inst.now c.follow_both.new.table) (g.W.Waits.waits c.loop-place.waits)
+  unmoved = λ hears. same_on c.args.audience.now.inst.now g.K.CellKinds.serves_kind
+      (value_in c.args.audience.now.inst.now c.args.table.now)
+      (value_in c.args.audience.now.inst.now c.loop-place.table)
+      (value_in c.args.audience.now.inst.now c.follow_both.new.table) (g.W.Waits.waits c.loop-place.waits)
       (g.W.Waits.waits c.follow_both.new.waits)
       (c.loop-place.invariant.unmoved hears) c.follow_both.ensures.kept (c.follow_both.ensures.unmoved hears);
   kept = λ k e. c.follow_both.ensures.kept k (c.loop-place.invariant.kept k e);
-  listed = moved_here c.args.emptied c.args.filled c.args.before.now c.args.later.now c.loop-place.place
+  listed = moved_here c.args.emptied c.args.filled c.args.regiven.now.before.now c.args.regiven.now.later.now
+      c.loop-place.place
       c.loop-place-test.true c.requires.can.places
-      c.args.inst.now (g.W.Waits.waits c.args.waits.now) (g.W.Waits.waits c.loop-place.waits)
+      c.args.audience.now.inst.now (g.W.Waits.waits c.args.waits.now) (g.W.Waits.waits c.loop-place.waits)
       (g.W.Waits.waits c.follow_both.new.waits) c.loop-place.invariant.listed c.follow_both.ensures.listed;
 }
 
 pub returns-clause-counts : goal.returns-clause-counts
-returns-clause-counts g c = exchanged_last c.args.emptied c.args.filled c.args.before.now c.args.later.now
+returns-clause-counts g c = exchanged_last c.args.emptied c.args.filled c.args.regiven.now.before.now
+    c.args.regiven.now.later.now
     c.loop-place.place
     (count_at c.args.table.now) (count_at c.loop-place.table) c.loop-place-test.false c.requires.can.places
     c.loop-place.invariant.counts

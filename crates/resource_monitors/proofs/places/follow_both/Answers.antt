@@ -27,14 +27,16 @@ returns-clause-counts g c = exchanged_both c.args.before c.args.later c.args.emp
     c.follow_place.ensures.counts c.follow_place-2.ensures.counts
 
 pub returns-clause-unmoved : goal.returns-clause-unmoved
-returns-clause-unmoved g c = λ hears. same_on c.args.inst.now g.K.CellKinds.serves_kind
-    (value_in c.args.inst.now c.args.table.now) (value_in c.args.inst.now c.follow_place.new.table)
-    (value_in c.args.inst.now c.follow_place-2.new.table) (g.W.Waits.waits c.follow_place.new.waits)
+returns-clause-unmoved g c = λ hears. same_on c.args.audience.now.inst.now g.K.CellKinds.serves_kind
+    (value_in c.args.audience.now.inst.now c.args.table.now)
+    (value_in c.args.audience.now.inst.now c.follow_place.new.table)
+    (value_in c.args.audience.now.inst.now c.follow_place-2.new.table) (g.W.Waits.waits c.follow_place.new.waits)
     (g.W.Waits.waits c.follow_place-2.new.waits) (c.follow_place.ensures.unmoved hears)
     c.follow_place-2.ensures.kept (c.follow_place-2.ensures.unmoved hears)
 
 pub returns-clause-listed : goal.returns-clause-listed
-returns-clause-listed g c = at_either c.args.inst.now c.args.before c.args.later c.args.emptied c.args.filled
+returns-clause-listed g c = at_either c.args.audience.now.inst.now c.args.before c.args.later c.args.emptied
+    c.args.filled
     (g.W.Waits.waits c.args.waits.now) (g.W.Waits.waits c.follow_place.new.waits)
     (g.W.Waits.waits c.follow_place-2.new.waits) (c.is_same.ensures.differ c.if-is_same.false)
     c.follow_place.ensures.listed c.follow_place-2.ensures.listed

@@ -8,7 +8,7 @@ use Rattle.resource_monitors.proofs.places.follow_place.Goals as goal
 
 pub returns-then-hears-clause-unmoved : goal.returns-then-hears-clause-unmoved
 returns-then-hears-clause-unmoved g c = λ hears.
-    (let p = c.args.inst.now in
+    (let p = c.args.audience.now.inst.now in
     let served = g.K.CellKinds.serves_kind in
     let run = c.in-Some.run' in
     measured_after p served c.facts.ensures g.met.K.CellKinds.at_cells c.args.table.now c.turn_place.new.table
@@ -21,8 +21,8 @@ returns-then-hears-clause-unmoved g c = λ hears.
 
 pub returns-then-hears-clause-listed : goal.returns-then-hears-clause-listed
 returns-then-hears-clause-listed g c =
-    subst (λ o. AreAtRun c.args.inst.now c.args.place o (g.W.Waits.waits c.args.waits.now)
+    subst (λ o. AreAtRun c.args.audience.now.inst.now c.args.place o (g.W.Waits.waits c.args.waits.now)
     (g.W.Waits.waits c.add_place.new.waits)) (sym c.in-Some.is)
-    (at_run c.args.inst.now g.K.CellKinds.serves_kind c.facts.ensures g.met.K.CellKinds.at_cells
+    (at_run c.args.audience.now.inst.now g.K.CellKinds.serves_kind c.facts.ensures g.met.K.CellKinds.at_cells
     c.turn_place.new.table c.limit_for-limit.result c.args.place c.in-Some.run' (g.W.Waits.waits c.args.waits.now)
     (g.W.Waits.waits c.add_place.new.waits) c.add_place.ensures.added)
