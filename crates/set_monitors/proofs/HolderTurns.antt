@@ -1,7 +1,8 @@
 -- What is kept for a monitor on split assignments, while the places of a turned slot are followed.
 use Rattle.std.proofs.Common.{ℕ, ◌≡◌, ◌≤◌, ◌<◌, ◌+◌, ◌-◌, ◌==◌, ◌∙◌, ◌&&◌, ◌⊎◌, inl, inr, zero, suc, ltb, count_by}
 use Rattle.std.proofs.Common.{true}
-use Rattle.std.proofs.Common.{false, cond, Option, Some, None, List, [], ◌∷◌, length, set, get_or, slice_get, refl, sym, ap}
+use Rattle.std.proofs.Common.{false, cond, Option, Some, None, List, [], ◌∷◌, length, set, get_or, slice_get, refl, sym}
+use Rattle.std.proofs.Common.{ap}
 use Rattle.std.proofs.Common.{subst}
 use Rattle.std.proofs.Common.{add-one, arith, get_or-set_same}
 use Rattle.std.specs.Prelude.{IfSome, replicate}

@@ -115,7 +115,8 @@ unmoved_on p posts s s2 e waits made all same told i m there serves not =
   where
     by : (k : ℕ) → slice_get posts k ≡ Some (record { number = record { 0 = i }; monitor = m }) → (b : Bool)
         → names p e m ≡ b → deviation_in p s2 m ≡ deviation_in p s m
-    by k at true h = absurd (true≢false (sym (told k (record { number = record { 0 = i }; monitor = m }) at h refl) ∙ not))
+    by k at true h = absurd (true≢false (sym (told k (record { number = record { 0 = i }; monitor = m }) at h refl)
+        ∙ not))
     by k at false h = sym (value_stays p s s2 e m made (monitor_made p made i m there) serves same h)
 
 -- where the starts and ends are the same after a turn, so are all deviations

@@ -65,7 +65,8 @@ members_ascending p g members are = by (slice_get p.groups g) are
 role_among : (role : List ℕ) (places : List Place) (k : ℕ) (place : Place) → slice_get places k ≡ Some place
     → is_role role place.role ≡ true → is_among_names role (filter_map (λ (x : Place). x.role) places) ≡ true
 role_among role [] k place at is = absurd (none-some place at)
-role_among role (y ∷ ys) zero place at is = by y.role (ap (λ (x : Place). is_role role x.role) (same_Some y place at) ∙ is)
+role_among role (y ∷ ys) zero place at is = by y.role
+    (ap (λ (x : Place). is_role role x.role) (same_Some y place at) ∙ is)
   where
     by : (o : Option (List ℕ)) → is_role role o ≡ true
         → is_among_names role (cons_option o (filter_map (λ (x : Place). x.role) ys)) ≡ true
@@ -155,7 +156,8 @@ module _ (p : Parts) (m : Monitor) (monitor : IsMonitor p m)
 
   pub in_role_there : (k : ℕ) (q : Place) → slice_get event.places k ≡ Some q
       → in_role p m e k ≡ wants monitor.0.rule q.role
-  in_role_there k q here = in_role_is k ∙ ap (λ o. wants monitor.0.rule (option_and_then (λ (x : Place). x.role) o)) here
+  in_role_there k q here = in_role_is k ∙ ap (λ o. wants monitor.0.rule (option_and_then (λ (x : Place). x.role) o))
+      here
 
   pub in_role_beyond : (k : ℕ) → slice_get event.places k ≡ None → in_role p m e k ≡ false
   in_role_beyond k none = in_role_is k
@@ -234,7 +236,8 @@ last_or (y ∷ ys) x (suc n) a h = by (last_or ys x n a h)
     by (inl g) = inl (omega (arith, g.0), g.1)
     by (inr g) = inr (omega (arith, g.0), g.1)
 
-stays : {A : Type 0} (xs : List A) (x : A) (n : ℕ) (a : A) → slice_get xs n ≡ Some a → slice_get (xs ++ x ∷ []) n ≡ Some a
+stays : {A : Type 0} (xs : List A) (x : A) (n : ℕ) (a : A) → slice_get xs n ≡ Some a
+    → slice_get (xs ++ x ∷ []) n ≡ Some a
 stays [] x n a h = absurd (none-some a h)
 stays (y ∷ ys) x zero a h = h
 stays (y ∷ ys) x (suc n) a h = stays ys x n a h
@@ -242,7 +245,8 @@ stays (y ∷ ys) x (suc n) a h = stays ys x n a h
 pub coming_more : (p : Parts) (m : Monitor) (events : List ℕ) (old new : List RolePlace) (i e : ℕ)
     → AreAscending events → slice_get events i ≡ Some e → HasComeAt p m e old new → AreComing p m events old i
     → AreComing p m events new (i + 1)
-coming_more p m events old new i e ascending at (inl same) so = subst (λ list. AreComing p m events list (i + 1)) (sym same.0)
+coming_more p m events old new i e ascending at (inl same) so =
+    subst (λ list. AreComing p m events list (i + 1)) (sym same.0)
     (record {
       ordered = so.ordered;
       only = so.only;
@@ -256,7 +260,8 @@ coming_more p m events old new i e ascending at (inl same) so = subst (λ list. 
     by j f k x r (inr z) =
         let q : e ≡ f = same_Some e f (sym at ∙ ap (slice_get events) (sym z) ∙ x) in
         absurd (true≢false (sym r ∙ ap (λ c. in_role p m c k) (sym q) ∙ same.1 k))
-coming_more p m events old new i e ascending at (inr more) so = subst (λ list. AreComing p m events list (i + 1)) (sym more.1)
+coming_more p m events old new i e ascending at (inr more) so =
+    subst (λ list. AreComing p m events list (i + 1)) (sym more.1)
     (record {
       ordered = λ u v a b l x y. apart u v a b l (last_or old more.0 u a x) (last_or old more.0 v b y);
       only = λ n a x. only n a (last_or old more.0 n a x);
@@ -358,7 +363,8 @@ sought_up list e low end middle here order is less l so = record {
         let x = there list middle (omega (arith, l, w)) in
         let v = is x.value x.found in
         let q = at.2 in
-        let before : i < middle → ⊥ = λ b. (let o = order i middle at.0 x.value b at.1 x.found in omega (arith, o, v, q, less)) in
+        let before : i < middle → ⊥ = λ b. (let o = order i middle at.0 x.value b at.1 x.found in
+        omega (arith, o, v, q, less)) in
         let itself : i ≡ middle → ⊥ =
         λ z. (let o = is at.0 (ap (slice_get list) (sym z) ∙ at.1) in omega (arith, o, q, less)) in
         omega (arith, before, itself)
@@ -377,7 +383,8 @@ sought_down list e low end middle here order is more l so = record {
         let x = there list middle (omega (arith, l, w)) in
         let v = is x.value x.found in
         let q = at.2 in
-        let after : middle < i → ⊥ = λ b. (let o = order middle i x.value at.0 b x.found at.1 in omega (arith, o, v, q, more)) in
+        let after : middle < i → ⊥ = λ b. (let o = order middle i x.value at.0 b x.found at.1 in
+        omega (arith, o, v, q, more)) in
         omega (arith, after)
 
 pub sought_done : (list : List RolePlace) (e low end : ℕ) → end ≤ low → IsSoughtFrom list e low end
@@ -392,5 +399,6 @@ absent list e k only none i at = none-some at.0 (sym none ∙ ap (slice_get list
 pub other : (list : List RolePlace) (e k : ℕ) (a : RolePlace) → ((i : ℕ) → IsAt list e i → i ≡ k)
     → slice_get list k ≡ Some a → (a.event.0 ≡ e → ⊥) → (i : ℕ) → IsAt list e i → ⊥
 other list e k a only found apart i at =
-    apart (ap (λ (c : RolePlace). c.event.0) (same_Some a at.0 (sym found ∙ ap (slice_get list) (sym (only i at)) ∙ at.1))
+    apart (ap (λ (c : RolePlace). c.event.0) (same_Some a at.0
+    (sym found ∙ ap (slice_get list) (sym (only i at)) ∙ at.1))
     ∙ at.2)

@@ -1,6 +1,7 @@
 //! Avoid Split Assignments.
 
-ghost use Rattle.std.specs.Prelude.{◌≡◌, ◌≤◌, ◌+◌, ◌-◌, ℕ, true, false, None, Some, length, replicate, IfOk, IfSome, slice_get, slice_index_or};
+ghost use Rattle.std.specs.Prelude.{◌≡◌, ◌≤◌, ◌+◌, ◌-◌, ℕ, true, false, None, Some, length, replicate, IfOk, IfSome};
+ghost use Rattle.std.specs.Prelude.{slice_get, slice_index_or};
 ghost use Rattle.khe_base.specs.declared.limits.TheConstants.{RESOURCES};
 ghost use Rattle.khe_instance.specs.KindLaws.{is_kind};
 ghost use Rattle.khe_instance.specs.WellMade.{IsMonitor};
@@ -8,7 +9,8 @@ ghost use Rattle.khe_instance.specs.declared.rules.Kind.TheVariants as kind;
 ghost use Rattle.khe_told.specs.Slots.{no_meets};
 ghost use Rattle.khe_told.specs.Turns.{IsTurn, turned};
 ghost use Rattle.event_monitors.specs.Posts.{names};
-ghost use Rattle.set_monitors.specs.AvoidSplitAssignments.{AreAscending, AreHeld, AreWithin, IsListed, IsShared, is_first, is_last, with_one, without_one};
+ghost use Rattle.set_monitors.specs.AvoidSplitAssignments.{AreAscending, AreHeld, AreWithin, IsListed, IsShared};
+ghost use Rattle.set_monitors.specs.AvoidSplitAssignments.{is_first, is_last, with_one, without_one};
 ghost use Rattle.set_monitors.specs.RolePlaces.{AreRolePlaces};
 
 use crate::candidates::candidates;
@@ -45,7 +47,8 @@ impl Gauge for Holders {
     ghost use Rattle.std.specs.Prelude.{◌≡◌, ◌-◌, true};
     ghost use Rattle.khe_instance.specs.KindLaws.{is_kind};
     ghost use Rattle.khe_instance.specs.declared.rules.Kind.TheVariants as kind;
-    ghost use Rattle.set_monitors.specs.AvoidSplitAssignments.{IsShared, shared_elsewhere, shared_exact, shared_unheard};
+    ghost use Rattle.set_monitors.specs.AvoidSplitAssignments.{IsShared, shared_elsewhere, shared_exact};
+    ghost use Rattle.set_monitors.specs.AvoidSplitAssignments.{shared_unheard};
     ghost use Rattle.set_monitors.specs.RolePlaces.{AreRolePlaces};
 
     ghost serves_kind = { λ k. is_kind k kind.AvoidSplitAssignments };
@@ -79,16 +82,8 @@ impl Gauge for Holders {
         let before = self.above;
         let places = self.places.as_slice();
         let candidates = self.candidates.as_slice();
-        self.above = turned(
-            inst,
-            monitor,
-            told,
-            turn,
-            places,
-            candidates,
-            &mut self.counts,
-            before,
-        );
+        let role = Role { places, candidates };
+        self.above = turned(inst, monitor, told, turn, &role, &mut self.counts, before);
         self.above != before
     }
 
@@ -100,9 +95,13 @@ impl Gauge for Holders {
 
     ghost exact = { λ g p m s k. shared_exact p m s g.candidates g.counts.items g.above k.0 };
 
-    ghost deaf = { λ g p m s t h turns kept. (shared_unheard p m s t g.candidates g.counts.items g.above h turns kept.0, kept.1) };
+    ghost deaf = { λ g p m s t h turns kept. (
+      shared_unheard p m s t g.candidates g.counts.items g.above h turns kept.0,
+      kept.1,
+    ) };
 
-    ghost elsewhere = { λ g p m s k x l same named kept. (shared_elsewhere p m s k x g.candidates g.counts.items g.above l same named kept.0, kept.1) };
+    ghost elsewhere = { λ g p m s k x l same named kept.
+        (shared_elsewhere p m s k x g.candidates g.counts.items g.above l same named kept.0, kept.1) };
 }
 
 // The resources that may have a task in the role, and a count of none for each.
@@ -128,6 +127,13 @@ fn no_tasks(alloc: Global, size: usize) -> Result<Vec<u32>, NoMemory>
     Ok(vec![in alloc; 0; size]?)
 }
 
+/// Where a monitor looks: the places in the role of its events, and the resources that may have a task in it.
+#[derive(Clone, Copy)]
+struct Role<'a> {
+    places: &'a [RolePlace],
+    candidates: &'a [u32],
+}
+
 // Turns the counts of the resources before and after of the event's place in the role, where that is given
 // something else. What is returned is how many counts are above 0 then.
 fn turned(
@@ -135,27 +141,27 @@ fn turned(
     monitor: Monitor,
     told: &Told,
     turn: &Turn<'_>,
-    places: &[RolePlace],
-    candidates: &[u32],
+    role: &Role<'_>,
     counts: &mut Vec<u32>,
     above: u32,
 ) -> u32
-    requires keeps { IsShared inst.now monitor told.now candidates.now counts.old.items above }
-    requires places { AreRolePlaces inst.now monitor places.now }
+    requires keeps { IsShared inst.now monitor told.now role.now.candidates.now counts.old.items above }
+    requires places { AreRolePlaces inst.now monitor role.now.places.now }
     requires turns { IsTurn inst.now told.now turn.now }
     requires named { names inst.now turn.now.before.event.0 monitor ≡ true }
-    ensures keeps { IsShared inst.now monitor (turned told.now turn.now) candidates.now counts.new.items result }
+    ensures keeps { IsShared inst.now monitor (turned told.now turn.now) role.now.candidates.now counts.new.items
+        result }
 {
     let _ = told;
     inst.facts();
-    let Some(place) = place_of(places, turn.event()) else {
+    let Some(place) = place_of(role.places, turn.event()) else {
         return above;
     };
     let before = given_at(turn.given_before(), place);
     let after = given_at(turn.given_after(), place);
     if is_other(before, after) {
-        let above = rise(candidates, counts, above, after);
-        return fall(candidates, counts, above, before);
+        let above = rise(role.candidates, counts, above, after);
+        return fall(role.candidates, counts, above, before);
     }
     above
 }
@@ -186,7 +192,8 @@ fn rise(candidates: &[u32], counts: &mut Vec<u32>, above: u32, given: Option<Res
     requires within { AreWithin counts.old.items }
     requires above { above ≤ RESOURCES }
     ensures amount { length counts.new.items ≡ length candidates.now }
-    ensures counts { (f : ℕ → ℕ) → AreHeld f candidates.now counts.old.items → AreHeld (with_one f given) candidates.now counts.new.items }
+    ensures counts { (f : ℕ → ℕ) → AreHeld f candidates.now counts.old.items
+        → AreHeld (with_one f given) candidates.now counts.new.items }
     ensures above { (f : ℕ → ℕ) → AreHeld f candidates.now counts.old.items → result ≡ above + is_first f given }
 {
     let Some(resource) = given else {
@@ -204,7 +211,8 @@ fn fall(candidates: &[u32], counts: &mut Vec<u32>, above: u32, given: Option<Res
     requires listed { IfSome given (λ r. IsListed candidates.now r.0) }
     requires amount { length counts.old.items ≡ length candidates.now }
     ensures amount { length counts.new.items ≡ length candidates.now }
-    ensures counts { (f : ℕ → ℕ) → AreHeld f candidates.now counts.old.items → AreHeld (without_one f given) candidates.now counts.new.items }
+    ensures counts { (f : ℕ → ℕ) → AreHeld f candidates.now counts.old.items
+        → AreHeld (without_one f given) candidates.now counts.new.items }
     ensures above { (f : ℕ → ℕ) → AreHeld f candidates.now counts.old.items → result ≡ above - is_last f given }
 {
     let Some(resource) = given else {

@@ -1,6 +1,6 @@
 //! The gauge of Link Events.
 
-ghost use Rattle.std.specs.Prelude.{◌≡◌, ◌<◌, ◌≤◌, ◌+◌, ◌-◌, ◌^◌, length, replicate, slice_index, slice_set, if◌then◌else◌, IfOk};
+ghost use Rattle.std.specs.Prelude.{◌≡◌, ◌<◌, ◌≤◌, ◌+◌, ◌-◌, length, replicate, slice_index, slice_set, if◌then◌else◌, IfOk};
 ghost use Rattle.khe_base.specs.declared.limits.TheConstants.{GREATEST_COUNT, TIMES};
 ghost use Rattle.timetables.specs.Counts.{no_counts, count_at, with_count};
 ghost use Rattle.set_monitors.specs.LinkCounts.{is_apart, AreLinked};

@@ -1,6 +1,6 @@
 //! For each event the monitors that name it.
 
-ghost use Rattle.std.specs.Prelude.{ℕ, ◌≡◌, ◌<◌, ◌==◌, ◌||◌, [], true, length, replicate, IfOk, OnOk};
+ghost use Rattle.std.specs.Prelude.{◌≡◌, ◌<◌, ◌==◌, ◌||◌, [], true, length, replicate, IfOk, OnOk};
 ghost use Rattle.khe_instance.specs.WellMade.{IsMonitor};
 ghost use Rattle.event_monitors.specs.Lists.{AreAdded};
 ghost use Rattle.event_monitors.specs.Posts.{ArePosts, AreListed, names};

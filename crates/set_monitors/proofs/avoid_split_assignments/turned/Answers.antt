@@ -19,11 +19,12 @@ returns-in_default c =
     let s = c.args.told.now in
     let t = c.args.turn.now in
     let e : c.event.result.0 ≡ t.before.event.0 = ap (λ n. n.0) c.event.ensures in
-    let none = none_in_role p m c.args.places.now t.before.event.0 c.requires.places
+    let none = none_in_role p m c.args.role.now.places.now t.before.event.0 c.requires.places
     (turn_event p s t c.requires.turns) c.requires.named
-    (subst (λ (n : ℕ). (i : ℕ) → IsAt c.args.places.now n i → ⊥) e c.in_default.ensures) in
+    (subst (λ (n : ℕ). (i : ℕ) → IsAt c.args.role.now.places.now n i → ⊥) e c.in_default.ensures) in
     record {
-      keeps = turned_still p m s t c.requires.turns c.requires.named c.args.candidates.now c.args.counts.now.items
+      keeps = turned_still p m s t c.requires.turns c.requires.named c.args.role.now.candidates.now
+          c.args.counts.now.items
           c.args.above (λ j o new was is. inr (none j)) c.requires.keeps;
     }
 
@@ -35,20 +36,22 @@ rise-above-requires-clause-listed c =
     let t = c.args.turn.now in
     let k = c.in-Some.place in
     let e : c.event.result.0 ≡ t.before.event.0 = ap (λ n. n.0) c.event.ensures in
-    let only = place_only p m c.args.places.now t.before.event.0 k c.requires.places
-    (subst (λ (n : ℕ). IsPlaceAt c.args.places.now n k) e c.in-Some.ensures) in
+    let only = place_only p m c.args.role.now.places.now t.before.event.0 k c.requires.places
+    (subst (λ (n : ℕ). IsPlaceAt c.args.role.now.places.now n k) e c.in-Some.ensures) in
     let old = c.given_at-before.ensures ∙ ap (λ xs. get_or xs k None) c.given_before.ensures in
     let new = c.given_at-after.ensures ∙ ap (λ xs. get_or xs k None) c.given_after.ensures in
     let l : k < length t.after.given = within_other p m s t c.requires.turns c.requires.named k
     (λ h. c.is_other.ensures.differ c.if-is_other.true (old ∙ h ∙ sym new)) in
-    listed_after p m s t c.args.candidates.now c.args.counts.now.items c.args.above c.requires.keeps c.requires.turns
+    listed_after p m s t c.args.role.now.candidates.now c.args.counts.now.items c.args.above c.requires.keeps
+    c.requires.turns
     c.requires.named k c.given_at-after.result only.0
     (read_at c.given_after.result.now t.after.given k c.given_at-after.result c.given_after.ensures
     c.given_at-after.ensures l)
 
 pub rise-above-requires-clause-within : goal.rise-above-requires-clause-within
 rise-above-requires-clause-within c =
-    held_within (held c.args.inst.now c.args.monitor c.args.told.now) c.args.candidates.now c.args.counts.now.items
+    held_within (held c.args.inst.now c.args.monitor c.args.told.now) c.args.role.now.candidates.now
+    c.args.counts.now.items
     c.requires.keeps.amount c.requires.keeps.counts
     (λ q. held_few c.args.inst.now c.args.monitor c.args.told.now q c.facts.ensures c.requires.turns.told.whose)
 
@@ -66,15 +69,16 @@ fall-requires-clause-listed c =
     let t = c.args.turn.now in
     let k = c.in-Some.place in
     let e : c.event.result.0 ≡ t.before.event.0 = ap (λ n. n.0) c.event.ensures in
-    let only = place_only p m c.args.places.now t.before.event.0 k c.requires.places
-    (subst (λ (n : ℕ). IsPlaceAt c.args.places.now n k) e c.in-Some.ensures) in
+    let only = place_only p m c.args.role.now.places.now t.before.event.0 k c.requires.places
+    (subst (λ (n : ℕ). IsPlaceAt c.args.role.now.places.now n k) e c.in-Some.ensures) in
     let old = c.given_at-before.ensures ∙ ap (λ xs. get_or xs k None) c.given_before.ensures in
     let new = c.given_at-after.ensures ∙ ap (λ xs. get_or xs k None) c.given_after.ensures in
     let l : k < length t.after.given = within_other p m s t c.requires.turns c.requires.named k
     (λ h. c.is_other.ensures.differ c.if-is_other.true (old ∙ h ∙ sym new)) in
     let same = same_places p s t c.requires.turns in
     let l_old : k < length t.before.given = omega (arith, l, same) in
-    listed_before p m s t c.args.candidates.now c.args.counts.now.items c.args.above c.requires.keeps c.requires.turns
+    listed_before p m s t c.args.role.now.candidates.now c.args.counts.now.items c.args.above c.requires.keeps
+    c.requires.turns
     c.requires.named k c.given_at-before.result only.0
     (read_at c.given_before.result.now t.before.given k c.given_at-before.result c.given_before.ensures
     c.given_at-before.ensures l_old)
@@ -88,22 +92,23 @@ returns-then-is_other c =
     let turns = c.requires.turns in
     let named = c.requires.named in
     let kept = c.requires.keeps in
-    let numbers = c.args.candidates.now in
+    let numbers = c.args.role.now.candidates.now in
     let row = c.args.counts.now.items in
     let n = c.args.above in
     let k = c.in-Some.place in
     let o = c.given_at-before.result in
     let o_new = c.given_at-after.result in
     let e : c.event.result.0 ≡ t.before.event.0 = ap (λ n. n.0) c.event.ensures in
-    let only = place_only p m c.args.places.now t.before.event.0 k c.requires.places
-    (subst (λ (n : ℕ). IsPlaceAt c.args.places.now n k) e c.in-Some.ensures) in
+    let only = place_only p m c.args.role.now.places.now t.before.event.0 k c.requires.places
+    (subst (λ (n : ℕ). IsPlaceAt c.args.role.now.places.now n k) e c.in-Some.ensures) in
     let old = c.given_at-before.ensures ∙ ap (λ xs. get_or xs k None) c.given_before.ensures in
     let new = c.given_at-after.ensures ∙ ap (λ xs. get_or xs k None) c.given_after.ensures in
     let l : k < length t.after.given = within_other p m s t turns named k
     (λ h. c.is_other.ensures.differ c.if-is_other.true (old ∙ h ∙ sym new)) in
     let same = same_places p s t turns in
     let l_old : k < length t.before.given = omega (arith, l, same) in
-    let was = read_at c.given_before.result.now t.before.given k o c.given_before.ensures c.given_at-before.ensures l_old in
+    let was = read_at c.given_before.result.now t.before.given k o c.given_before.ensures c.given_at-before.ensures
+    l_old in
     let is = read_at c.given_after.result.now t.after.given k o_new c.given_after.ensures c.given_at-after.ensures l in
     let there_old = listed_within p m s numbers row n kept o
     (listed_before p m s t numbers row n kept turns named k o only.0 was) in
@@ -126,12 +131,13 @@ returns c =
     let t = c.args.turn.now in
     let k = c.in-Some.place in
     let e : c.event.result.0 ≡ t.before.event.0 = ap (λ n. n.0) c.event.ensures in
-    let only = place_only p m c.args.places.now t.before.event.0 k c.requires.places
-    (subst (λ (n : ℕ). IsPlaceAt c.args.places.now n k) e c.in-Some.ensures) in
+    let only = place_only p m c.args.role.now.places.now t.before.event.0 k c.requires.places
+    (subst (λ (n : ℕ). IsPlaceAt c.args.role.now.places.now n k) e c.in-Some.ensures) in
     let old = c.given_at-before.ensures ∙ ap (λ xs. get_or xs k None) c.given_before.ensures in
     let new = c.given_at-after.ensures ∙ ap (λ xs. get_or xs k None) c.given_after.ensures in
     record {
-      keeps = turned_still p m s t c.requires.turns c.requires.named c.args.candidates.now c.args.counts.now.items
+      keeps = turned_still p m s t c.requires.turns c.requires.named c.args.role.now.candidates.now
+          c.args.counts.now.items
           c.args.above
           (still_one p m s t c.requires.turns c.requires.named k
           (sym old ∙ c.is_other.ensures.same c.if-is_other.false ∙ new)

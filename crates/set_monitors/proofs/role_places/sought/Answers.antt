@@ -15,5 +15,6 @@ loop-low-preserved c =
     (omega (arith, c.if-here-event.false)) (omega (arith, c.loop-low-test.true)) c.loop-low.invariant
 
 pub returns : goal.returns
-returns c = sought_done c.args.list.now c.args.event.0 c.loop-low.low c.loop-low.end (omega (arith, c.loop-low-test.false))
+returns c = sought_done c.args.list.now c.args.event.0 c.loop-low.low c.loop-low.end
+    (omega (arith, c.loop-low-test.false))
     c.loop-low.invariant
