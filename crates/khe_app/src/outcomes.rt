@@ -15,9 +15,8 @@ use evaluation_report::{invalid_line, push_monitor_line, solution_line, total_li
 use khe_base::{MonitorId, NoMemory, Text};
 use khe_instance::{Instance, Plain};
 use khe_io::Gate;
-use parallel_solve::{SolutionJob, Verdict, numbered};
+use parallel_solve::{SolutionJob, Solutions, Verdict, numbered};
 use plain_eval::Values;
-use resource_deviations::ResourceRoom;
 use std::alloc::Global;
 use xhstt_resolve::Resolved;
 use xhstt_shape::RawSolution;
@@ -34,7 +33,8 @@ fn push_monitor(
     all: bool,
 ) -> Result<(), NoMemory>
     requires { number < length inst.now.monitors }
-    ensures { (s : Plain) (m : Monitor) → deviation ≡ deviation_in inst.now s m → cost ≡ cost_in inst.now s (number, m) → is_detached s number ≡ false
+    ensures { (s : Plain) (m : Monitor) → deviation ≡ deviation_in inst.now s m → cost ≡ cost_in inst.now s (number, m)
+        → is_detached s number ≡ false
         → OnOk result (text.new ≡ text.old ++ spec.monitor_text all inst.now s (number, m)) }
 {
     if !all && deviation == 0 {
@@ -52,8 +52,10 @@ fn push_evaluation(
     values: &Values,
     all: bool,
 ) -> Result<(), NoMemory>
-    requires { (length values.now.deviations ≡ length inst.now.monitors) × (length values.now.costs ≡ length inst.now.monitors) }
-    ensures { (s : Plain) → values.now ≡ values_of inst.now s → s.detached ≡ [] → OnOk result (text.new ≡ text.old ++ spec.evaluation all inst.now s) }
+    requires { (length values.now.deviations ≡ length inst.now.monitors)
+        × (length values.now.costs ≡ length inst.now.monitors) }
+    ensures { (s : Plain) → values.now ≡ values_of inst.now s → s.detached ≡ []
+        → OnOk result (text.new ≡ text.old ++ spec.evaluation all inst.now s) }
 {
     let deviations = values.deviations.as_slice();
     let costs = values.costs.as_slice();
@@ -75,7 +77,8 @@ fn push_outcome(
     all: bool,
 ) -> Result<(), NoMemory>
     requires { verdict.now ≡ verdict_of inst.now (completion.completed inst.now _solution.now) }
-    ensures { OnOk result (text.new ≡ text.old ++ spec.outcome_text all inst.now (completion.completed inst.now _solution.now)) }
+    ensures { OnOk result (text.new ≡ text.old ++ spec.outcome_text all inst.now
+        (completion.completed inst.now _solution.now)) }
 {
     match verdict {
         Verdict::Valid(values) => push_evaluation(alloc, text, inst, values, all),
@@ -96,19 +99,19 @@ pub(crate) fn instance_at(resolved: &Resolved, number: u32) -> &Instance
 fn push_solution(
     alloc: Global,
     text: &mut Text,
-    resolved: &Resolved,
-    rooms: &[ResourceRoom],
+    solutions: &Solutions<'_>,
     number: u32,
     group: &Text,
     raw: &RawSolution,
     all: bool,
 ) -> Result<(), NoMemory>
-    requires one { IsOne resolved.now number raw.now }
-    requires rooms { rooms.now ≡ map room_for resolved.now.instances }
-    ensures { OnOk result (text.new ≡ text.old ++ spec.numbered_text all resolved.now group.now (number, raw.now)) }
+    requires one { IsOne solutions.now.resolved.now number raw.now }
+    requires rooms { solutions.now.rooms.now ≡ map room_for solutions.now.resolved.now.instances }
+    ensures { OnOk result (text.new ≡ text.old ++ spec.numbered_text all solutions.now.resolved.now group.now
+        (number, raw.now)) }
 {
-    let verdict = numbered(alloc, resolved, rooms, number, raw)?;
-    let inst = instance_at(resolved, number);
+    let verdict = numbered(alloc, solutions.resolved, solutions.rooms, number, raw)?;
+    let inst = instance_at(solutions.resolved, number);
     let line = solution_line(alloc, number, group, inst.id())?;
     text.push_text(&line)?;
     push_outcome(alloc, text, inst, &verdict, raw, all)
@@ -132,13 +135,12 @@ impl<'a> SolutionJob for Outcomes<'a> {
     fn make<G: Gate>(
         &self,
         alloc: Global,
-        resolved: &Resolved,
-        rooms: &[ResourceRoom],
-        raws: &[&RawSolution],
+        solutions: &Solutions<'_>,
         first: usize,
         count: usize,
         gate: &G,
     ) -> Result<Text, NoMemory> {
+        let raws = solutions.raws;
         let mut text = Text::new(alloc);
         for number in first..first + count {
             gate.pass(number as u64);
@@ -147,8 +149,7 @@ impl<'a> SolutionJob for Outcomes<'a> {
                 push_solution(
                     alloc,
                     &mut text,
-                    resolved,
-                    rooms,
+                    solutions,
                     number as u32,
                     group,
                     raw,

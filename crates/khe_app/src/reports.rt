@@ -1,6 +1,7 @@
 //! The report of `evaluate`.
 
-ghost use Rattle.std.specs.Prelude.{◌≡◌, ◌≤◌, ◌<◌, ◌+◌, ◌++◌, ◌^◌, ℕ, List, [], Option, IfOk, length, map, OnOk, OnErr, IsErrOf, encode_utf8_all};
+ghost use Rattle.std.specs.Prelude.{◌≡◌, ◌≤◌, ◌<◌, ◌+◌, ◌++◌, ◌^◌, ℕ, List, [], Option, IfOk, length, map, OnOk, OnErr};
+ghost use Rattle.std.specs.Prelude.{IsErrOf, encode_utf8_all};
 ghost use Rattle.khe_io.specs.Faults.{Rose, Took, TookFront};
 ghost use Rattle.khe_io.specs.Amid.{IsAmid};
 ghost use Rattle.khe_app.specs.Report as spec;
@@ -22,7 +23,7 @@ use evaluation_report::header_line;
 use khe_base::limits::PIECE_BYTES;
 use khe_base::{NoMemory, Text};
 use khe_io::{Cut, Gate, Sink, flush, flush_long, put_all};
-use parallel_solve::{Window, WindowMaker, all_solutions, rooms_of};
+use parallel_solve::{Solutions, Window, WindowMaker, Work, all_solutions, rooms_of};
 use resource_deviations::ResourceRoom;
 use std::alloc::Global;
 use std::thread::Threads;
@@ -32,8 +33,12 @@ use xhstt_shape::{Archive, RawSolution};
 /// Adds a text to what waits, and gives that to the sink where it is long; a text that is long by itself goes
 /// there after what waits, without being copied.
 fn pass_on<K: Sink>(alloc: Global, out: &mut K, pending: &mut Text, text: &Text) -> Result<(), Cut>
-    ensures amid { (before : Option (List ℕ)) (rest whole : List ℕ) → IsAmid before (K.taken out.old) pending.old (text.now ++ rest) whole → OnOk result (IsAmid before (K.taken out.new) pending.new rest whole) }
-    ensures front { (before : Option (List ℕ)) (rest whole : List ℕ) → IsAmid before (K.taken out.old) pending.old (text.now ++ rest) whole → OnErr result (TookFront before (K.taken out.new) (encode_utf8_all whole)) }
+    ensures amid { (before : Option (List ℕ)) (rest whole : List ℕ)
+        → IsAmid before (K.taken out.old) pending.old (text.now ++ rest) whole
+        → OnOk result (IsAmid before (K.taken out.new) pending.new rest whole) }
+    ensures front { (before : Option (List ℕ)) (rest whole : List ℕ)
+        → IsAmid before (K.taken out.old) pending.old (text.now ++ rest) whole
+        → OnErr result (TookFront before (K.taken out.new) (encode_utf8_all whole)) }
     ensures fault { IsErrOf result Cut.WriteFault → Rose (K.faults out.old) (K.faults out.new) }
     ensures faultless { OnOk result (K.faults out.new ≡ K.faults out.old) }
     ensures faultless_starved { IsErrOf result Cut.NoMemory → K.faults out.new ≡ K.faults out.old }
@@ -69,8 +74,12 @@ fn write_texts<K: Sink>(
     text: &mut Text,
     made: &[Text],
 ) -> Result<(), Cut>
-    ensures amid { (before : Option (List ℕ)) (rest whole : List ℕ) → IsAmid before (K.taken out.old) text.old (concat made.now ++ rest) whole → OnOk result (IsAmid before (K.taken out.new) text.new rest whole) }
-    ensures front { (before : Option (List ℕ)) (whole : List ℕ) → ((rest : List ℕ) × IsAmid before (K.taken out.old) text.old (concat made.now ++ rest) whole) → OnErr result (TookFront before (K.taken out.new) (encode_utf8_all whole)) }
+    ensures amid { (before : Option (List ℕ)) (rest whole : List ℕ)
+        → IsAmid before (K.taken out.old) text.old (concat made.now ++ rest) whole
+        → OnOk result (IsAmid before (K.taken out.new) text.new rest whole) }
+    ensures front { (before : Option (List ℕ)) (whole : List ℕ)
+        → ((rest : List ℕ) × IsAmid before (K.taken out.old) text.old (concat made.now ++ rest) whole)
+        → OnErr result (TookFront before (K.taken out.new) (encode_utf8_all whole)) }
     ensures fault { IsErrOf result Cut.WriteFault → Rose (K.faults out.old) (K.faults out.new) }
     ensures faultless { OnOk result (K.faults out.new ≡ K.faults out.old) }
     ensures faultless_starved { IsErrOf result Cut.NoMemory → K.faults out.new ≡ K.faults out.old }
@@ -96,9 +105,15 @@ fn write_beside<R: Threads + Sync, K: Sink, G: Gate>(
     requires few { length parts.now.raws.now < 2 ^ 32 }
     requires rooms { parts.now.rooms.now ≡ map room_for parts.now.resolved.now.instances }
     requires within { next ≤ length parts.now.raws.now }
-    ensures next { IfOk result.0 (λ w. IsWindow (flat_map (spec.row_text parts.now.all parts.now.resolved.now (map (λ x. x.now) parts.now.groups.now))) (map (λ x. x.now) parts.now.raws.now) next w.next w.made.items) }
-    ensures amid { (before : Option (List ℕ)) (rest whole : List ℕ) → IsAmid before (K.taken out.old) text.old (concat made.now ++ rest) whole → OnOk result.1 (IsAmid before (K.taken out.new) text.new rest whole) }
-    ensures front { (before : Option (List ℕ)) (whole : List ℕ) → ((rest : List ℕ) × IsAmid before (K.taken out.old) text.old (concat made.now ++ rest) whole) → OnErr result.1 (TookFront before (K.taken out.new) (encode_utf8_all whole)) }
+    ensures next { IfOk result.0 (λ w. IsWindow (flat_map
+        (spec.row_text parts.now.all parts.now.resolved.now (map (λ x. x.now) parts.now.groups.now)))
+        (map (λ x. x.now) parts.now.raws.now) next w.next w.made.items) }
+    ensures amid { (before : Option (List ℕ)) (rest whole : List ℕ)
+        → IsAmid before (K.taken out.old) text.old (concat made.now ++ rest) whole
+        → OnOk result.1 (IsAmid before (K.taken out.new) text.new rest whole) }
+    ensures front { (before : Option (List ℕ)) (whole : List ℕ)
+        → ((rest : List ℕ) × IsAmid before (K.taken out.old) text.old (concat made.now ++ rest) whole)
+        → OnErr result.1 (TookFront before (K.taken out.new) (encode_utf8_all whole)) }
     ensures fault { IsErrOf result.1 Cut.WriteFault → Rose (K.faults out.old) (K.faults out.new) }
     ensures faultless { OnOk result.1 (K.faults out.new ≡ K.faults out.old) }
     ensures faultless_starved { IsErrOf result.1 Cut.NoMemory → K.faults out.new ≡ K.faults out.old }
@@ -108,14 +123,20 @@ fn write_beside<R: Threads + Sync, K: Sink, G: Gate>(
         all: parts.all,
         groups: parts.groups,
     };
+    let solutions = Solutions {
+        resolved: parts.resolved,
+        rooms: parts.rooms,
+        raws: parts.raws,
+    };
+    let work = Work {
+        job: &job,
+        solutions,
+        gate: crew.gate,
+    };
     parts.windows.make_beside(
         crew.rt,
         alloc,
-        &job,
-        parts.resolved,
-        parts.rooms,
-        parts.raws,
-        crew.gate,
+        &work,
         next,
         &mut || write_texts(alloc, out, text, made),
     )
@@ -132,22 +153,25 @@ fn make_window<R: Threads + Sync, G: Gate>(
     requires few { length parts.now.raws.now < 2 ^ 32 }
     requires rooms { parts.now.rooms.now ≡ map room_for parts.now.resolved.now.instances }
     requires within { first ≤ length parts.now.raws.now }
-    ensures { IfOk result (λ w. IsWindow (flat_map (spec.row_text parts.now.all parts.now.resolved.now (map (λ x. x.now) parts.now.groups.now))) (map (λ x. x.now) parts.now.raws.now) first w.next w.made.items) }
+    ensures { IfOk result (λ w. IsWindow (flat_map
+        (spec.row_text parts.now.all parts.now.resolved.now (map (λ x. x.now) parts.now.groups.now)))
+        (map (λ x. x.now) parts.now.raws.now) first w.next w.made.items) }
 {
     let job = Outcomes {
         all: parts.all,
         groups: parts.groups,
     };
-    parts.windows.make(
-        crew.rt,
-        alloc,
-        &job,
-        parts.resolved,
-        parts.rooms,
-        parts.raws,
-        crew.gate,
-        first,
-    )
+    let solutions = Solutions {
+        resolved: parts.resolved,
+        rooms: parts.rooms,
+        raws: parts.raws,
+    };
+    let work = Work {
+        job: &job,
+        solutions,
+        gate: crew.gate,
+    };
+    parts.windows.make(crew.rt, alloc, &work, first)
 }
 
 /// Writes a window and answers the next one, which ends where it begins where no solution is left. Where this thread
@@ -164,9 +188,15 @@ fn write_and_make<R: Threads + Sync, K: Sink, G: Gate>(
     requires few { length parts.now.raws.now < 2 ^ 32 }
     requires rooms { parts.now.rooms.now ≡ map room_for parts.now.resolved.now.instances }
     requires within { window.next ≤ length parts.now.raws.now }
-    ensures next { IfOk result (λ w. IsWindow (flat_map (spec.row_text parts.now.all parts.now.resolved.now (map (λ x. x.now) parts.now.groups.now))) (map (λ x. x.now) parts.now.raws.now) window.next w.next w.made.items) }
-    ensures amid { (before : Option (List ℕ)) (rest whole : List ℕ) → IsAmid before (K.taken out.old) text.old (concat window.made.items ++ rest) whole → OnOk result (IsAmid before (K.taken out.new) text.new rest whole) }
-    ensures front { (before : Option (List ℕ)) (rest whole : List ℕ) → IsAmid before (K.taken out.old) text.old (concat window.made.items ++ rest) whole → OnErr result (TookFront before (K.taken out.new) (encode_utf8_all whole)) }
+    ensures next { IfOk result (λ w. IsWindow (flat_map
+        (spec.row_text parts.now.all parts.now.resolved.now (map (λ x. x.now) parts.now.groups.now)))
+        (map (λ x. x.now) parts.now.raws.now) window.next w.next w.made.items) }
+    ensures amid { (before : Option (List ℕ)) (rest whole : List ℕ)
+        → IsAmid before (K.taken out.old) text.old (concat window.made.items ++ rest) whole
+        → OnOk result (IsAmid before (K.taken out.new) text.new rest whole) }
+    ensures front { (before : Option (List ℕ)) (rest whole : List ℕ)
+        → IsAmid before (K.taken out.old) text.old (concat window.made.items ++ rest) whole
+        → OnErr result (TookFront before (K.taken out.new) (encode_utf8_all whole)) }
     ensures fault { IsErrOf result Cut.WriteFault → Rose (K.faults out.old) (K.faults out.new) }
     ensures faultless { OnOk result (K.faults out.new ≡ K.faults out.old) }
     ensures faultless_starved { IsErrOf result Cut.NoMemory → K.faults out.new ≡ K.faults out.old }
@@ -197,8 +227,14 @@ fn write_windows<R: Threads + Sync, K: Sink, G: Gate>(
     requires ones { AreOnes parts.now.resolved.now 0 (map (λ x. x.now) parts.now.raws.now) }
     requires few { length parts.now.raws.now < 2 ^ 32 }
     requires rooms { parts.now.rooms.now ≡ map room_for parts.now.resolved.now.instances }
-    ensures amid { (before : Option (List ℕ)) (whole : List ℕ) → IsAmid before (K.taken out.old) text.old (spec.left_text parts.now.all parts.now.resolved.now (map (λ x. x.now) parts.now.groups.now) 0 (map (λ x. x.now) parts.now.raws.now)) whole → OnOk result (IsAmid before (K.taken out.new) text.new [] whole) }
-    ensures front { (before : Option (List ℕ)) (whole : List ℕ) → IsAmid before (K.taken out.old) text.old (spec.left_text parts.now.all parts.now.resolved.now (map (λ x. x.now) parts.now.groups.now) 0 (map (λ x. x.now) parts.now.raws.now)) whole → OnErr result (TookFront before (K.taken out.new) (encode_utf8_all whole)) }
+    ensures amid { (before : Option (List ℕ)) (whole : List ℕ)
+        → IsAmid before (K.taken out.old) text.old (spec.left_text parts.now.all parts.now.resolved.now
+        (map (λ x. x.now) parts.now.groups.now) 0 (map (λ x. x.now) parts.now.raws.now)) whole
+        → OnOk result (IsAmid before (K.taken out.new) text.new [] whole) }
+    ensures front { (before : Option (List ℕ)) (whole : List ℕ)
+        → IsAmid before (K.taken out.old) text.old (spec.left_text parts.now.all parts.now.resolved.now
+        (map (λ x. x.now) parts.now.groups.now) 0 (map (λ x. x.now) parts.now.raws.now)) whole
+        → OnErr result (TookFront before (K.taken out.new) (encode_utf8_all whole)) }
     ensures fault { IsErrOf result Cut.WriteFault → Rose (K.faults out.old) (K.faults out.new) }
     ensures faultless { OnOk result (K.faults out.new ≡ K.faults out.old) }
     ensures faultless_starved { IsErrOf result Cut.NoMemory → K.faults out.new ≡ K.faults out.old }
@@ -217,7 +253,8 @@ fn write_windows<R: Threads + Sync, K: Sink, G: Gate>(
 fn header(alloc: Global, _archive: &Archive, resolved: &Resolved) -> Result<Text, NoMemory>
     requires ready { solutions.IsReady _archive.now resolved.now }
     requires instances { length resolved.now.instances < 2 ^ 32 }
-    ensures { IfOk result (λ text. text ≡ lines.header_line (length resolved.now.instances) (length (solutions_of _archive.now))) }
+    ensures { IfOk result (λ text. text ≡ lines.header_line (length resolved.now.instances)
+        (length (solutions_of _archive.now))) }
 {
     let solutions = resolved.of.len() as u32;
     header_line(alloc, resolved.instances.len() as u32, solutions)
@@ -233,8 +270,10 @@ fn write_parts<R: Threads + Sync, K: Sink, G: Gate>(
 ) -> Result<(), Cut>
     requires ready { IsReady archive.now parts.now.resolved.now }
     requires parts { AreOf archive.now parts.now }
-    ensures whole { OnOk result (Took (K.taken out.old) (K.taken out.new) (encode_utf8_all (spec.report parts.now.all archive.now parts.now.resolved.now))) }
-    ensures front { OnErr result (TookFront (K.taken out.old) (K.taken out.new) (encode_utf8_all (spec.report parts.now.all archive.now parts.now.resolved.now))) }
+    ensures whole { OnOk result (Took (K.taken out.old) (K.taken out.new)
+        (encode_utf8_all (spec.report parts.now.all archive.now parts.now.resolved.now))) }
+    ensures front { OnErr result (TookFront (K.taken out.old) (K.taken out.new)
+        (encode_utf8_all (spec.report parts.now.all archive.now parts.now.resolved.now))) }
     ensures fault { IsErrOf result Cut.WriteFault → Rose (K.faults out.old) (K.faults out.new) }
     ensures faultless { OnOk result (K.faults out.new ≡ K.faults out.old) }
     ensures faultless_starved { IsErrOf result Cut.NoMemory → K.faults out.new ≡ K.faults out.old }
@@ -265,8 +304,10 @@ pub(crate) fn report<R: Threads + Sync, K: Sink, G: Gate>(
 ) -> Result<(), Cut>
     requires ready { IsReady archive.now resolved.now }
     requires workers { (1 ≤ crew.now.workers) × (crew.now.workers ≤ WORKERS) }
-    ensures whole { OnOk result (Took (K.taken out.old) (K.taken out.new) (encode_utf8_all (spec.report all archive.now resolved.now))) }
-    ensures front { OnErr result (TookFront (K.taken out.old) (K.taken out.new) (encode_utf8_all (spec.report all archive.now resolved.now))) }
+    ensures whole { OnOk result (Took (K.taken out.old) (K.taken out.new)
+        (encode_utf8_all (spec.report all archive.now resolved.now))) }
+    ensures front { OnErr result (TookFront (K.taken out.old) (K.taken out.new)
+        (encode_utf8_all (spec.report all archive.now resolved.now))) }
     ensures fault { IsErrOf result Cut.WriteFault → Rose (K.faults out.old) (K.faults out.new) }
     ensures faultless { OnOk result (K.faults out.new ≡ K.faults out.old) }
     ensures faultless_starved { IsErrOf result Cut.NoMemory → K.faults out.new ≡ K.faults out.old }

@@ -1,6 +1,7 @@
 -- Batches of solutions that follow one another, and what is made of them.
 use Rattle.std.proofs.Common.{◌≡◌, ℕ, zero, suc, ◌+◌, ◌<◌, ◌≤◌, List, [], ◌∷◌, ◌++◌, length, take, drop, refl, sym, ap}
-use Rattle.std.proofs.Common.{◌∙◌, ◌-◌, Some, Result, Ok, Err, IfOk, arith, append_assoc, length-drop, length-take-le, map, slice_get, subst}
+use Rattle.std.proofs.Common.{◌∙◌, ◌-◌, Some, Result, Ok, Err, IfOk, arith, append_assoc, length-drop, length-take-le}
+use Rattle.std.proofs.Common.{map, slice_get, subst}
 use Rattle.std.proofs.Math.Seq.{take-suc}
 use Rattle.std.proofs.lemmas.List.{map-append, take-append-drop}
 use Rattle.std.proofs.lemmas.Option.{get_or_from_slice_get, slice_get_within}
@@ -106,7 +107,8 @@ module _ {B : Type 0} (f : List (ℕ × RawSolution) → List B) (raws : List Ra
 pub window_of : {M E : Type 0} (f : List (ℕ × RawSolution) → M) (raws : List RawSolution) (first : ℕ) (span : Span)
     (made : Result (Window M) E)
     → span.first ≡ first → span.end ≤ length raws → (first < length raws → first < span.sure)
-    → IfOk made (λ w. IsMade f raws span w.next w.made.items) → IfOk made (λ w. IsWindow f raws first w.next w.made.items)
+    → IfOk made (λ w. IsMade f raws span w.next w.made.items)
+    → IfOk made (λ w. IsWindow f raws first w.next w.made.items)
 window_of f raws first span (Ok w) is le some made = record {
   within = omega (arith, made.within, le);
   some = λ left. omega (arith, some left, made.sure);

@@ -9,6 +9,7 @@ ghost use Rattle.xhstt_shape.specs.WellFormed.{IsInForm};
 ghost use Rattle.parallel_solve.specs.Verdicts.{numbered_verdict};
 
 use crate::draws::made_beside;
+use crate::jobs::{Solutions, Work};
 use crate::spans::Span;
 use crate::verdicts::{Judging, Verdict, rooms_of};
 use crate::windows::batch_for;
@@ -41,11 +42,11 @@ pub fn all_solutions(alloc: Global, archive: &Archive) -> Result<Vec<&RawSolutio
 /// The only error is want of memory. It takes the time of evaluating all solutions, divided among
 /// the workers that run at the same time, and that of `rooms_of`; and memory in proportion to the
 /// monitors of all solutions, that of `rooms_of`, and for each worker that of evaluating one.
-pub fn evaluate_all<R: Threads + Sync, G: Gate>(
+pub fn evaluate_all<'a, R: Threads + Sync, G: Gate>(
     rt: &R,
     alloc: Global,
-    archive: &Archive,
-    resolved: &Resolved,
+    archive: &'a Archive,
+    resolved: &'a Resolved,
     workers: u32,
     gate: &G,
 ) -> Result<Seq<Verdict>, NoMemory>
@@ -65,18 +66,17 @@ pub fn evaluate_all<R: Threads + Sync, G: Gate>(
         batch: batch_for(raws.len(), workers),
         most: usize::MAX,
     };
-    let (window, ()) = made_beside(
-        rt,
-        alloc,
-        &Judging,
+    let solutions = Solutions {
         resolved,
         rooms,
         raws,
+    };
+    let work = Work {
+        job: &Judging,
+        solutions,
         gate,
-        span,
-        workers,
-        &mut || (),
-    );
+    };
+    let (window, ()) = made_beside(rt, alloc, &work, span, workers, &mut || ());
     let verdicts = joined(alloc, window?.made)?;
     Ok(verdicts)
 }

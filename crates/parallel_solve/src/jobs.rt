@@ -14,6 +14,24 @@ use std::alloc::Global;
 use xhstt_resolve::Resolved;
 use xhstt_shape::RawSolution;
 
+/// The solutions of an archive that is resolved, with what evaluations need of each instance alone.
+#[derive(Clone, Copy)]
+pub struct Solutions<'a> {
+    pub resolved: &'a Resolved,
+    /// What evaluations need of each instance, in the order of the instances: `rooms_of` makes it.
+    pub rooms: &'a [ResourceRoom],
+    /// The solutions, over all groups in order: `all_solutions` lists them.
+    pub raws: &'a [&'a RawSolution],
+}
+
+/// A job, the solutions that it is done for, and the gate that is passed before each of them.
+#[derive(Clone, Copy)]
+pub struct Work<'a, 'b, J: SolutionJob, G: Gate> {
+    pub job: &'a J,
+    pub solutions: Solutions<'b>,
+    pub gate: &'a G,
+}
+
 /// What is done for solutions of an archive that follow one another: for a batch of them. What it makes
 /// depends on the solutions alone, and not on who does it or when.
 pub trait SolutionJob: Sync {
@@ -23,24 +41,22 @@ pub trait SolutionJob: Sync {
     /// What it makes of the solutions of a batch with their numbers.
     ghost made: { Self → Resolved → List (ℕ × RawSolution) → Self.Made };
 
-    /// Does it for so many of all solutions from a first one on, with what evaluations need of each
-    /// instance alone. It passes the gate before each of them, with its number. The only error is want
-    /// of memory.
+    /// Does it for so many of all solutions from a first one on. It passes the gate before each of them, with its
+    /// number. The only error is want of memory.
     fn make<G: Gate>(
         &self,
         alloc: Global,
-        resolved: &Resolved,
-        rooms: &[ResourceRoom],
-        raws: &[&RawSolution],
+        solutions: &Solutions<'_>,
         first: usize,
         count: usize,
         gate: &G,
     ) -> Result<Self::Made, NoMemory>
-        requires ones { AreOnes resolved.now 0 (map (λ x. x.now) raws.now) }
-        requires few { length raws.now < 2 ^ 32 }
-        requires rooms { rooms.now ≡ map room_for resolved.now.instances }
-        requires within { first + count ≤ length raws.now }
-        ensures { IfOk result (λ m. m ≡ made self.now resolved.now (batch_of first count (map (λ x. x.now) raws.now))) };
+        requires ones { AreOnes solutions.now.resolved.now 0 (map (λ x. x.now) solutions.now.raws.now) }
+        requires few { length solutions.now.raws.now < 2 ^ 32 }
+        requires rooms { solutions.now.rooms.now ≡ map room_for solutions.now.resolved.now.instances }
+        requires within { first + count ≤ length solutions.now.raws.now }
+        ensures { IfOk result (λ m. m ≡ made self.now solutions.now.resolved.now
+            (batch_of first count (map (λ x. x.now) solutions.now.raws.now))) };
 
     /// About how many bytes of memory something takes that it made: a window ends once its batches come to enough. No
     /// answer changes what is made of a batch.

@@ -10,6 +10,6 @@ mod verdicts;
 mod windows;
 
 pub use evaluating::{all_solutions, evaluate_all};
-pub use jobs::{SolutionJob, Window};
+pub use jobs::{SolutionJob, Solutions, Window, Work};
 pub use verdicts::{Judging, Verdict, numbered, rooms_of};
 pub use windows::WindowMaker;

@@ -1,6 +1,6 @@
 //! The batches of solutions that workers share.
 
-ghost use Rattle.std.specs.Prelude.{◌≡◌, ◌+◌, ◌≤◌, IfSome};
+ghost use Rattle.std.specs.Prelude.{◌+◌, ◌≤◌, IfSome};
 
 use std::sync::atomic::{AtomicUsize, Ordering};
 

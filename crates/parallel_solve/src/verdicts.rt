@@ -6,7 +6,7 @@ ghost use Rattle.xhstt_completion.specs.Completed as completion;
 ghost use Rattle.parallel_solve.specs.Verdicts.{verdict_of, numbered_verdict, parts_at};
 ghost use Rattle.parallel_solve.specs.Ready.{IsOne};
 
-use crate::jobs::SolutionJob;
+use crate::jobs::{SolutionJob, Solutions};
 use khe_base::{NoMemory, Seq, lends_to_threads};
 use khe_instance::Instance;
 use khe_io::Gate;
@@ -125,13 +125,16 @@ impl SolutionJob for Judging {
     fn make<G: Gate>(
         &self,
         alloc: Global,
-        resolved: &Resolved,
-        rooms: &[ResourceRoom],
-        raws: &[&RawSolution],
+        solutions: &Solutions<'_>,
         first: usize,
         count: usize,
         gate: &G,
     ) -> Result<Seq<Verdict>, NoMemory> {
+        let Solutions {
+            resolved,
+            rooms,
+            raws,
+        } = *solutions;
         let mut told = Vec::with_capacity(alloc, count)?;
         for number in first..first + count {
             gate.pass(number as u64);

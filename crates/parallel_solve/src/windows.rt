@@ -1,22 +1,19 @@
 //! A window over the solutions: as many batches as keep its memory small.
 
-ghost use Rattle.std.specs.Prelude.{◌≡◌, ◌+◌, ◌<◌, ◌≤◌, ◌^◌, ℕ, List, IfOk, map, length};
+ghost use Rattle.std.specs.Prelude.{◌≡◌, ◌+◌, ◌<◌, ◌≤◌, ◌^◌, IfOk, map, length};
 ghost use Rattle.khe_base.specs.declared.limits.TheConstants.{WORKERS};
 ghost use Rattle.resource_deviations.specs.Sets.{room_for};
 ghost use Rattle.parallel_solve.specs.Ready.{AreOnes};
-ghost use Rattle.parallel_solve.specs.Batches.{AreBatches, IsWindow};
-ghost use Rattle.xhstt_shape.specs.declared.records.RawSolution.{RawSolution};
+ghost use Rattle.parallel_solve.specs.Batches.{IsWindow};
 
 use crate::draws::made_beside;
-use crate::jobs::{SolutionJob, Window};
+use crate::jobs::{SolutionJob, Window, Work};
 use crate::spans::Span;
 use khe_base::NoMemory;
 use khe_io::Gate;
-use resource_deviations::ResourceRoom;
 use std::alloc::Global;
 use std::thread::Threads;
 use xhstt_resolve::Resolved;
-use xhstt_shape::RawSolution;
 
 /// How many bytes what is made of a window takes for each of its workers when no more is drawn. The batches that were
 /// drawn by then come to it.
@@ -112,8 +109,7 @@ impl WindowMaker {
     }
 
     /// Makes the window that begins with this solution. It reaches no further only where no solution is left from
-    /// there on. The workers do the job with the rooms of all instances, and pass the gate before each solution,
-    /// with its number.
+    /// there on. The workers do the job, and pass the gate before each solution, with its number.
     ///
     /// The only error is want of memory. It takes the time and memory of the job for the window's solutions,
     /// divided among the workers that run at the same time.
@@ -121,30 +117,17 @@ impl WindowMaker {
         &self,
         rt: &R,
         alloc: Global,
-        job: &J,
-        resolved: &Resolved,
-        rooms: &[ResourceRoom],
-        raws: &[&RawSolution],
-        gate: &G,
+        work: &Work<'_, '_, J, G>,
         first: usize,
     ) -> Result<Window<J::Made>, NoMemory>
-        requires ones { AreOnes resolved.now 0 (map (λ x. x.now) raws.now) }
-        requires few { length raws.now < 2 ^ 32 }
-        requires rooms { rooms.now ≡ map room_for resolved.now.instances }
-        requires within { first ≤ length raws.now }
-        ensures { IfOk result (λ w. IsWindow (J.made job.now resolved.now) (map (λ x. x.now) raws.now) first w.next w.made.items) }
+        requires ones { AreOnes work.now.solutions.resolved.now 0 (map (λ x. x.now) work.now.solutions.raws.now) }
+        requires few { length work.now.solutions.raws.now < 2 ^ 32 }
+        requires rooms { work.now.solutions.rooms.now ≡ map room_for work.now.solutions.resolved.now.instances }
+        requires within { first ≤ length work.now.solutions.raws.now }
+        ensures { IfOk result (λ w. IsWindow (J.made work.now.job.now work.now.solutions.resolved.now)
+            (map (λ x. x.now) work.now.solutions.raws.now) first w.next w.made.items) }
     {
-        let (window, ()) = self.make_beside(
-            rt,
-            alloc,
-            job,
-            resolved,
-            rooms,
-            raws,
-            gate,
-            first,
-            &mut || (),
-        );
+        let (window, ()) = self.make_beside(rt, alloc, work, first, &mut || ());
         window
     }
 
@@ -154,26 +137,21 @@ impl WindowMaker {
         &self,
         rt: &R,
         alloc: Global,
-        job: &J,
-        resolved: &Resolved,
-        rooms: &[ResourceRoom],
-        raws: &[&RawSolution],
-        gate: &G,
+        work: &Work<'_, '_, J, G>,
         first: usize,
         beside: &mut B,
     ) -> (Result<Window<J::Made>, NoMemory>, T)
-        requires ones { AreOnes resolved.now 0 (map (λ x. x.now) raws.now) }
-        requires few { length raws.now < 2 ^ 32 }
-        requires rooms { rooms.now ≡ map room_for resolved.now.instances }
-        requires within { first ≤ length raws.now }
+        requires ones { AreOnes work.now.solutions.resolved.now 0 (map (λ x. x.now) work.now.solutions.raws.now) }
+        requires few { length work.now.solutions.raws.now < 2 ^ 32 }
+        requires rooms { work.now.solutions.rooms.now ≡ map room_for work.now.solutions.resolved.now.instances }
+        requires within { first ≤ length work.now.solutions.raws.now }
         requires beside { B.pre beside.old }
-        ensures window { IfOk result.0 (λ w. IsWindow (J.made job.now resolved.now) (map (λ x. x.now) raws.now) first w.next w.made.items) }
+        ensures window { IfOk result.0 (λ w. IsWindow (J.made work.now.job.now work.now.solutions.resolved.now)
+            (map (λ x. x.now) work.now.solutions.raws.now) first w.next w.made.items) }
         ensures beside { B.step beside.old result.1 beside.new }
     {
-        let span = self.span(first, raws.len());
+        let span = self.span(first, work.solutions.raws.len());
         let workers = self.workers;
-        made_beside(
-            rt, alloc, job, resolved, rooms, raws, gate, span, workers, beside,
-        )
+        made_beside(rt, alloc, work, span, workers, beside)
     }
 }

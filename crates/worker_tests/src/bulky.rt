@@ -5,11 +5,8 @@ ghost use Rattle.parallel_solve.specs.Verdicts.{numbered_verdict};
 
 use khe_base::{NoMemory, Seq};
 use khe_io::Gate;
-use parallel_solve::{Judging, SolutionJob, Verdict};
-use resource_deviations::ResourceRoom;
+use parallel_solve::{Judging, SolutionJob, Solutions, Verdict};
 use std::alloc::Global;
-use xhstt_resolve::Resolved;
-use xhstt_shape::RawSolution;
 
 /// The job of evaluating, which says of each batch that it is as large as a window may be: so a worker makes one
 /// batch of a window at most.
@@ -23,14 +20,12 @@ impl SolutionJob for Bulky {
     fn make<G: Gate>(
         &self,
         alloc: Global,
-        resolved: &Resolved,
-        rooms: &[ResourceRoom],
-        raws: &[&RawSolution],
+        solutions: &Solutions<'_>,
         first: usize,
         count: usize,
         gate: &G,
     ) -> Result<Seq<Verdict>, NoMemory> {
-        Judging.make(alloc, resolved, rooms, raws, first, count, gate)
+        Judging.make(alloc, solutions, first, count, gate)
     }
 
     fn size(&self, _made: &Seq<Verdict>) -> usize {

@@ -1,6 +1,6 @@
 //! Workers that draw jobs from a board.
 
-ghost use Rattle.std.specs.Prelude.{◌≡◌, ℕ, ◌+◌, ◌<◌, ◌≤◌, IfOk};
+ghost use Rattle.std.specs.Prelude.{◌≡◌, ◌+◌, ◌<◌, ◌≤◌, IfOk};
 ghost use Rattle.std.specs.Thread.{IsSync};
 ghost use Rattle.solve_board.specs.Seats.{view, IsSeatOf};
 ghost use Rattle.worker_tests.specs.Drawing.{IsDrawing, HasDrawn, budget};

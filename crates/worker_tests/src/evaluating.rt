@@ -7,7 +7,9 @@ use crate::archives::{ReadArchive, read_archive, text_of};
 use crate::bulky::Bulky;
 use khe_base::NoMemory;
 use khe_io::{Gate, OpenGate};
-use parallel_solve::{Verdict, WindowMaker, all_solutions, evaluate_all, rooms_of};
+use parallel_solve::{
+    Solutions, Verdict, WindowMaker, Work, all_solutions, evaluate_all, rooms_of,
+};
 use std::alloc::Global;
 use std::test::Fail;
 use std::thread::Threads;
@@ -65,12 +67,22 @@ fn in_turn<R: Threads + Sync, G: Gate>(
     let raws = raws.as_slice();
     let rooms = rooms_of(alloc, resolved)?;
     let rooms = rooms.as_slice();
+    let solutions = Solutions {
+        resolved,
+        rooms,
+        raws,
+    };
+    let work = Work {
+        job: &Bulky,
+        solutions,
+        gate,
+    };
     let windows = WindowMaker::new(resolved, workers);
     let mut all = Vec::new(alloc);
     let mut count = 0_usize;
     let mut first = 0;
     while first < raws.len() {
-        let window = windows.make(rt, alloc, &Bulky, resolved, rooms, raws, gate, first)?;
+        let window = windows.make(rt, alloc, &work, first)?;
         for run in window.made.as_slice() {
             for verdict in run.as_slice() {
                 all.push(told_of(verdict))?;

@@ -1,6 +1,6 @@
 //! A worker that looks for what another offers.
 
-ghost use Rattle.std.specs.Prelude.{◌≡◌, ◌<◌};
+ghost use Rattle.std.specs.Prelude.{◌<◌};
 ghost use Rattle.solve_board.specs.Counts.{IsAmong};
 ghost use Rattle.solve_board.specs.Seats.{view, IsSeatOf};
 ghost use Rattle.worker_tests.specs.Looking.{HasLooked};

@@ -15,21 +15,21 @@ use Rattle.khe_app.proofs.outcomes.OutcomesSolutionJob.make.Goals.{in-Some+in_ok
 pub push_solution-requires-clause-one : goal.push_solution-requires-clause-one
 push_solution-requires-clause-one g c =
     let now = λ (y : Bor RawSolution). y.now in
-    let xs = c.args.raws.now in
+    let xs = c.args.solutions.now.raws.now in
     let n = c.loop-number.number in
     let lt : n < length xs = omega (arith, c.requires.within, c.loop-number-test.true) in
-    one_at c.args.resolved.now (map now xs) n c.index-raws-number.result.now c.requires.ones
+    one_at c.args.solutions.now.resolved.now (map now xs) n c.index-raws-number.result.now c.requires.ones
     (found_at now xs n c.index-raws-number.result lt c.index-raws-number.is)
 
 pub loop-number-preserved : goal.loop-number-preserved
 loop-number-preserved g c =
     let all = c.args.self.now.all in
-    let r = c.args.resolved.now in
+    let r = c.args.solutions.now.resolved.now in
     let id = λ (y : Bor Text). y.now in
     let gs = c.args.self.now.groups.now in
     let ids = map id gs in
     let now = λ (y : Bor RawSolution). y.now in
-    let xs = c.args.raws.now in
+    let xs = c.args.solutions.now.raws.now in
     let n = c.loop-number.number in
     let end = c.args.first + c.args.count in
     let before : n < end = omega (arith, c.loop-number-test.true) in

@@ -7,7 +7,7 @@ use Rattle.khe_app.proofs.outcomes.OutcomesSolutionJob.make.Given as goal
 
 abbrev pub invariant-loop-number : goal.invariant-loop-number
 invariant-loop-number g l =
-    let row = row_text l.fn.self.all l.fn.resolved (map (λ x. x.now) l.fn.self.groups.now) in
-    let raws = map (λ x. x.now) l.fn.raws in
+    let row = row_text l.fn.self.all l.fn.solutions.resolved.now (map (λ x. x.now) l.fn.self.groups.now) in
+    let raws = map (λ x. x.now) l.fn.solutions.raws.now in
     l.text ++ flat_map row (batch_of l.number ((l.fn.first + l.fn.count) - l.number) raws)
     ≡ flat_map row (batch_of l.fn.first l.fn.count raws)

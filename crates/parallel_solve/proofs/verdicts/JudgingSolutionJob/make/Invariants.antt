@@ -8,6 +8,6 @@ abbrev pub invariant-loop-number : goal.invariant-loop-number
 invariant-loop-number g l = record {
   begun : l.fn.first ≤ l.number;
   within : l.number ≤ l.fn.first + l.fn.count;
-  told : l.told.items ≡ map (numbered_verdict l.fn.resolved)
-      (batch_of l.fn.first (l.number - l.fn.first) (map (λ x. x.now) l.fn.raws));
+  told : l.told.items ≡ map (numbered_verdict l.fn.solutions.resolved.now)
+      (batch_of l.fn.first (l.number - l.fn.first) (map (λ x. x.now) l.fn.solutions.raws.now));
 }
