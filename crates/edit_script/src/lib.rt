@@ -4,13 +4,13 @@
 mod commands;
 #[allow(dead_code)]
 mod examples;
-mod keywords;
+mod forms;
 mod lines;
 mod numbers;
 mod reading;
 mod words;
 
-pub use commands::{Command, LineFault};
+pub use commands::{Command, LineFault, Question, Subject};
 pub use lines::first_line;
 pub use numbers::numbers_of;
 pub use reading::{asks_deficit, read_line};

@@ -1,7 +1,8 @@
 -- What a script answers to `deficit`.
 use Rattle.std.specs.Prelude.{ℕ, ◌≡◌, ◌+◌, Bool, List, length}
 use Rattle.hall_report.specs.Shortages.{supplies_of}
-use Rattle.edit_script.specs.declared.commands.Command.TheVariants.{Deficit}
+use Rattle.edit_script.specs.declared.commands.Command.TheVariants.{Ask}
+use Rattle.edit_script.specs.declared.commands.Question.TheVariants.{Deficit}
 use Rattle.hall_report.specs.Demands.{chosen, demands}
 use Rattle.hall_report.specs.declared.demand.Demand.{Demand}
 use Rattle.khe_instance.specs.declared.parts.Parts.{Parts}
@@ -20,4 +21,4 @@ pub record IsShortageText (p : Parts) (s : List Slot) (text : List ℕ) : Type 0
 
 -- so does the answer in any state, and so each answer of a script
 abbrev pub DeficitsOutnumber : Type 0
-DeficitsOutnumber = (p : Parts) (w : Play) → IsShortageText p w.state.slots (answer p w Deficit)
+DeficitsOutnumber = (p : Parts) (w : Play) → IsShortageText p w.state.slots (answer p w (Ask Deficit))

@@ -1,20 +1,17 @@
 -- What the calls of a timetable with ties say of the play that it stands for.
 use Rattle.std.proofs.Common.{ℕ, ◌≡◌, ◌↔◌, ◌<◌, ◌≤◌, ◌⊎◌, true, Option, Some, None, Result, Ok, Err, List, [], ◌∷◌}
-use Rattle.std.proofs.Common.{drop, length, refl, sym, ap, ◌∙◌, slice_get}
+use Rattle.std.proofs.Common.{drop, length, refl, sym, ap, ◌∙◌}
 use Rattle.std.specs.Prelude.{OnOk, OnErr, IfErr}
 use Rattle.khe_base.specs.declared.limits.TheConstants.{MARKS}
 use Rattle.khe_instance.specs.declared.parts.Parts.{Parts}
 use Rattle.khe_told.specs.declared.refusals.Refusal.{Refusal}
 use Rattle.khe_told.specs.declared.refusals.Refusal.TheVariants.{NoMark, MarksFull}
-use Rattle.khe_engine.specs.Values.{totals}
 use Rattle.khe_engine.specs.States.{State}
 use Rattle.khe_engine.specs.Worlds.{World}
-use Rattle.hall_report.specs.Shortages.{deficit_of, hall_of}
 use Rattle.evaluation_report.specs.Answers.{ok_line}
-use Rattle.evaluation_report.specs.Lines.{total_line}
 use Rattle.edit_script.specs.declared.commands.Command.{Command}
 use Rattle.edit_script.specs.declared.commands.Command.TheVariants as command
-use Rattle.script_run.specs.Answers.{answer, group_answer, monitor_answer, monitors_text, outcome_line, refusal_of, shortage_text, show_text}
+use Rattle.script_run.specs.Answers.{answer, outcome_line, question_answer, refusal_of, subject_answer}
 use Rattle.script_run.specs.Plays.{is_question, play_of, unless}
 use Rattle.script_run.proofs.MarkLaws.{full_answer, full_mapped, marked_begin, marked_end, marked_number, marked_undo, none_answer, none_mapped, number_answer, number_mapped}
 use Rattle.followers.specs.Tables.{edited, made, refusal}
@@ -40,12 +37,8 @@ asked_played p w command.End h = let z : ⊥ = cc in absurd z
 asked_played p w command.Undo h = let z : ⊥ = cc in absurd z
 asked_played p w (command.UndoTo k) h = let z : ⊥ = cc in absurd z
 asked_played p w command.Nothing h = refl
-asked_played p w (command.Monitor n) h = refl
-asked_played p w command.Monitors h = refl
-asked_played p w (command.GroupCost n) h = refl
-asked_played p w command.Total h = refl
-asked_played p w command.Deficit h = refl
-asked_played p w command.Show h = refl
+asked_played p w (command.Ask q) h = refl
+asked_played p w (command.AskAbout x n) h = refl
 
 pub asked_answer : (p q : Parts) (a : World) (w : TiedPlay) (c : Command) → is_question c ≡ true → q ≡ p
     → a.state ≡ w.state.state → answer q (play_of a) c ≡ tied_answer p w (Base c)
@@ -56,13 +49,8 @@ asked_answer p q a w command.End h e f = let z : ⊥ = cc in absurd z
 asked_answer p q a w command.Undo h e f = let z : ⊥ = cc in absurd z
 asked_answer p q a w (command.UndoTo k) h e f = let z : ⊥ = cc in absurd z
 asked_answer p q a w command.Nothing h e f = refl
-asked_answer p q a w (command.Monitor n) h e f = λ i. monitor_answer (e i) (f i) n (slice_get (e i).monitors n)
-asked_answer p q a w command.Monitors h e f = λ i. monitors_text (e i) (f i)
-asked_answer p q a w (command.GroupCost n) h e f = λ i. group_answer (e i) (f i) n
-asked_answer p q a w command.Total h e f = λ i. total_line (totals (e i) (f i))
-asked_answer p q a w command.Deficit h e f = λ i.
-    shortage_text (deficit_of (e i) (f i).slots) (hall_of (e i) (f i).slots)
-asked_answer p q a w command.Show h e f = λ i. show_text (e i) (f i).slots
+asked_answer p q a w (command.Ask x) h e f = λ i. question_answer (e i) (f i) x
+asked_answer p q a w (command.AskAbout x n) h e f = λ i. subject_answer (e i) (f i) x n
 
 same_play : (a : TiedWorld) (s : TiedState) (xs : List TiedState) → a.now ≡ s → a.saved ≡ xs
     → tied_play_of a ≡ record { state = s; saved = xs }

@@ -1,12 +1,14 @@
 //! What a line with each keyword of a script asks for. Each function's contract is an example: it is proved, and nothing
 //! calls it.
 #![allow(dead_code)]
-#![tactic(auto, unfolding(edit_script::specs::Keywords::command_by, edit_script::specs::Keywords::keyword_among, edit_script::specs::Keywords::row_of, edit_script::specs::Reading::reading, edit_script::specs::Words::words, khe_base::specs::Digits::number_of))]
+#![tactic(auto, unfolding(edit_script::specs::Forms::command_at, edit_script::specs::Forms::edit_at, edit_script::specs::Forms::form_among, edit_script::specs::Forms::form_of, edit_script::specs::Reading::reading, edit_script::specs::Words::words, khe_base::specs::Digits::number_of))]
 
 ghost use Rattle.std.specs.Prelude.{◌≡◌, Ok, Err, codes};
 ghost use Rattle.edit_script.specs.Reading.{reading};
 ghost use Rattle.edit_script.specs.declared.commands.Command.TheVariants as command;
 ghost use Rattle.edit_script.specs.declared.commands.LineFault.TheVariants as fault;
+ghost use Rattle.edit_script.specs.declared.commands.Question.TheVariants as question;
+ghost use Rattle.edit_script.specs.declared.commands.Subject.TheVariants as subject;
 ghost use Rattle.khe_told.specs.declared.edits.Edit.TheVariants as edit;
 ghost use Rattle.worked_examples.specs.School.{group, meet, monitor, resource, second_task, task, time};
 
@@ -40,12 +42,12 @@ fn monitors_and_marks_are_edited()
 
 // The questions; and a word that only begins as a keyword is none.
 fn values_are_asked_for()
-    ensures monitor { reading (codes "monitor 7") ≡ Ok (command.Monitor 7) }
-    ensures monitors { reading (codes "monitors") ≡ Ok command.Monitors }
-    ensures group_cost { reading (codes "groupcost 1") ≡ Ok (command.GroupCost 1) }
-    ensures total { reading (codes "total") ≡ Ok command.Total }
-    ensures deficit { reading (codes "deficit") ≡ Ok command.Deficit }
-    ensures show { reading (codes "show") ≡ Ok command.Show }
+    ensures monitor { reading (codes "monitor 7") ≡ Ok (command.AskAbout subject.Monitor 7) }
+    ensures monitors { reading (codes "monitors") ≡ Ok (command.Ask question.Monitors) }
+    ensures group_cost { reading (codes "groupcost 1") ≡ Ok (command.AskAbout subject.GroupCost 1) }
+    ensures total { reading (codes "total") ≡ Ok (command.Ask question.Total) }
+    ensures deficit { reading (codes "deficit") ≡ Ok (command.Ask question.Deficit) }
+    ensures show { reading (codes "show") ≡ Ok (command.Ask question.Show) }
     ensures longer { reading (codes "shows") ≡ Err fault.UnknownCommand }
     ensures shorter { reading (codes "undot 2") ≡ Err fault.UnknownCommand }
 {}

@@ -1,6 +1,6 @@
 -- Both sides compute.
 use Rattle.std.proofs.Common.{refl}
-use Rattle.edit_script.specs.Keywords.{command_by, keyword_among, row_of}
+use Rattle.edit_script.specs.Forms.{command_at, edit_at, form_among, form_of}
 use Rattle.edit_script.specs.Lines.{lines}
 use Rattle.khe_base.specs.Digits.{number_of}
 use Rattle.edit_script.specs.Reading.{reading}
@@ -15,5 +15,5 @@ use Rattle.tied_run.specs.Plays.{tied_played}
 use Rattle.tied_run.proofs.examples.tied_script.Goals as goal
 
 pub returns : goal.returns
-unfolding lines words reading row_of keyword_among command_by number_of tied.row_of tied.tied_reading base_refusal refusal edited made engine.edited engine.made meets.edited meets.made answer tied_answer tied_played
+unfolding lines words reading command_at edit_at form_among form_of number_of tied.row_of tied.tied_reading base_refusal refusal edited made engine.edited engine.made meets.edited meets.made answer tied_answer tied_played
 returns c = record { first = refl; second = refl; back = refl }
