@@ -7,7 +7,7 @@ use Rattle.khe_app.specs.Ends.{Written}
 use Rattle.archive_reading.specs.Starting.{Start, begins}
 use Rattle.khe_app.specs.declared.program.Answer.{Answer}
 use Rattle.khe_io.specs.Faults.{Rose, Took, TookFront}
-use Rattle.talk_app.specs.Ends.{IsEnd, IsWritten, Wrote, status_after}
+use Rattle.talk_app.specs.Ends.{IsEnd, Wrote, status_after}
 use Rattle.khe_engine.specs.Openings.{IsStateOf}
 use Rattle.khe_engine.specs.Worlds.{Saved, World}
 use Rattle.khe_instance.specs.declared.parts.Parts.{Parts}

@@ -22,7 +22,7 @@ use std::io::BufRead;
 use talk_run::{Speaker, TalkFault, talk};
 use xhstt_shape::Archive;
 
-/// Talks on the solution with this number, or writes the line that refuses it.
+/// Talks on the solution with this number, or writes the line that refuses it, with demands that are kept or not.
 pub(crate) fn talk_on<R: BufRead, K: Sink>(
     alloc: Global,
     reader: &mut R,
@@ -32,7 +32,31 @@ pub(crate) fn talk_on<R: BufRead, K: Sink>(
     demands: bool,
 ) -> Status
     requires { IsReady read.archive read.resolved }
-    ensures end { IsEnd (IsTalkOf read.archive solution (start_of read.archive read.resolved solution)) (R.remaining reader.old) (K.taken out.old) (K.taken out.new) (K.faults out.old) (K.faults out.new) result.0 }
+    ensures end { IsEnd (IsTalkOf read.archive solution (start_of read.archive read.resolved solution))
+        (R.remaining reader.old) (K.taken out.old) (K.taken out.new) (K.faults out.old) (K.faults out.new) result.0 }
+    ensures write_fault_ends { (result.0 ≡ 5) ⊎ (K.faults out.new ≡ K.faults out.old) }
+    ensures sink_faults { K.faults out.old ≤ K.faults out.new }
+{
+    if demands {
+        talk_with::<R, K, WithDemands<Families>>(alloc, reader, out, read, solution)
+    } else {
+        talk_with::<R, K, Families>(alloc, reader, out, read, solution)
+    }
+}
+
+/// Talks on the solution with this number with these families, or writes the line that refuses it.
+fn talk_with<R: BufRead, K: Sink, F: Shortages + Drop>(
+    alloc: Global,
+    reader: &mut R,
+    out: &mut K,
+    read: ReadArchive,
+    solution: u32,
+) -> Status
+    requires ready { IsReady read.archive read.resolved }
+    requires joined { F.IsWellJoined }
+    requires serves { ServesAll F.serves_kind }
+    ensures end { IsEnd (IsTalkOf read.archive solution (start_of read.archive read.resolved solution))
+        (R.remaining reader.old) (K.taken out.old) (K.taken out.new) (K.faults out.old) (K.faults out.new) result.0 }
     ensures write_fault_ends { (result.0 ≡ 5) ⊎ (K.faults out.new ≡ K.faults out.old) }
     ensures sink_faults { K.faults out.old ≤ K.faults out.new }
 {
@@ -40,33 +64,10 @@ pub(crate) fn talk_on<R: BufRead, K: Sink>(
         Ok((instance, plain)) => {
             let ReadArchive { archive, resolved } = read;
             let inst = instance_numbered(&resolved, instance);
-            talk_with(alloc, reader, out, inst, &plain, archive, solution, demands)
+            talk_by::<R, K, F>(alloc, reader, out, inst, &plain, archive, solution)
         }
         Err(Unread::Refused(refusal)) => put_refusal(alloc, out, refusal),
         Err(Unread::NoMemory) => Status(6),
-    }
-}
-
-/// Talks on a timetable, with demands that are kept or not.
-fn talk_with<R: BufRead, K: Sink>(
-    alloc: Global,
-    reader: &mut R,
-    out: &mut K,
-    inst: &Instance,
-    plain: &Plain,
-    archive: Archive,
-    solution: u32,
-    demands: bool,
-) -> Status
-    requires valid { IsValid inst.now plain.now }
-    ensures end { IsEnd (IsTalkOn archive solution inst.now plain.now) (R.remaining reader.old) (K.taken out.old) (K.taken out.new) (K.faults out.old) (K.faults out.new) result.0 }
-    ensures write_fault_ends { (result.0 ≡ 5) ⊎ (K.faults out.new ≡ K.faults out.old) }
-    ensures sink_faults { K.faults out.old ≤ K.faults out.new }
-{
-    if demands {
-        talk_by::<R, K, WithDemands<Families>>(alloc, reader, out, inst, plain, archive, solution)
-    } else {
-        talk_by::<R, K, Families>(alloc, reader, out, inst, plain, archive, solution)
     }
 }
 
@@ -83,7 +84,8 @@ fn talk_by<R: BufRead, K: Sink, F: Shortages + Drop>(
     requires joined { F.IsWellJoined }
     requires serves { ServesAll F.serves_kind }
     requires valid { IsValid inst.now plain.now }
-    ensures end { IsEnd (IsTalkOn archive solution inst.now plain.now) (R.remaining reader.old) (K.taken out.old) (K.taken out.new) (K.faults out.old) (K.faults out.new) result.0 }
+    ensures end { IsEnd (IsTalkOn archive solution inst.now plain.now) (R.remaining reader.old) (K.taken out.old)
+        (K.taken out.new) (K.faults out.old) (K.faults out.new) result.0 }
     ensures write_fault_ends { (result.0 ≡ 5) ⊎ (K.faults out.new ≡ K.faults out.old) }
     ensures sink_faults { K.faults out.old ≤ K.faults out.new }
 {

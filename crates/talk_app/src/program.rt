@@ -5,7 +5,6 @@ ghost use Rattle.khe_app.specs.Answers.{IsReadyAnswer, reading_of};
 ghost use Rattle.khe_io.specs.Faults.{Rose, Took, TookFront};
 ghost use Rattle.talk_app.specs.Ends.{IsEnd};
 ghost use Rattle.talk_app.specs.Outcome.{IsOutcome, IsTalkIn, IsTalkTo, not_understood_line};
-ghost use Rattle.talk_app.specs.Requests.{asked_of};
 ghost use Rattle.talk_app.specs.Words.{asked};
 
 use crate::opening::talk_on;

@@ -4,7 +4,7 @@ use Rattle.archive_reading.specs.Starting.{IsBarredBy, Start, start_of}
 use Rattle.archive_reading.specs.Refusals.{refusal_line}
 use Rattle.talk_app.specs.Outcome.{IsTalkOf}
 use Rattle.talk_app.proofs.EndLaws.{begun_end, line_end}
-use Rattle.talk_app.proofs.opening.talk_on.Goals as goal
+use Rattle.talk_app.proofs.opening.talk_with.Goals as goal
 
 pub returns-in-Ok-clause-end : goal.returns-in-Ok-clause-end
 returns-in-Ok-clause-end g c =
@@ -12,9 +12,9 @@ returns-in-Ok-clause-end g c =
     let b = c.in-Ok.ensures.begun in
     begun_end read.archive c.args.solution (start_of read.archive read.resolved c.args.solution)
     (slice_get read.resolved.instances c.in-Ok.instance) b.0 c.instance_numbered-inst.result.now c.in-Ok.plain
-    (g.R.Read.remaining c.args.reader.now) (g.K.Sink.taken c.args.out.now) (g.K.Sink.taken c.talk_with.new.out)
-    (g.K.Sink.faults c.args.out.now) (g.K.Sink.faults c.talk_with.new.out) c.talk_with.result.0 b.1
-    c.instance_numbered-inst.ensures b.3 c.talk_with.ensures.end
+    (g.R.Read.remaining c.args.reader.now) (g.K.Sink.taken c.args.out.now) (g.K.Sink.taken c.talk_by.new.out)
+    (g.K.Sink.faults c.args.out.now) (g.K.Sink.faults c.talk_by.new.out) c.talk_by.result.0 b.1
+    c.instance_numbered-inst.ensures b.3 c.talk_by.ensures.end
 
 pub returns-in-Err-Refused-clause-end : goal.returns-in-Err-Refused-clause-end
 returns-in-Err-Refused-clause-end g c =
