@@ -22,7 +22,7 @@ use std::sync::ledger::Ledger;
 /// does or as many were looked at as the budget allows. The diversifier says where each list of
 /// defects and of moves is begun, modulo its length.
 ///
-/// The depth is 1 to 4, and the budget, a number of chains, at least 1. Memory is taken first, for a
+/// The depth is 1 to `CHAIN_MOVES`, and the budget, a number of chains, at least 1. Memory is taken first, for a
 /// record of each move of a chain and one more; where it is refused the timetable stays as it was.
 /// What was spare before is spare afterwards too, and so is what was taken.
 ///

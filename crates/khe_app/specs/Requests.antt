@@ -16,13 +16,13 @@ asked_of (Construct archive instance chains) = constructing archive.now instance
 asked_of (Make seed size) = making seed size
 asked_of (Run seed size) = running seed size
 
--- of a repair that may follow, the moves of a chain are 1 to 4, and one chain at least may be tried
+-- of a repair that may follow, the moves of a chain are 1 to CHAIN_MOVES, and one chain at least may be tried
 abbrev pub AreChains : Option (ℕ × ℕ) → Type 0
 AreChains None = Unit {0}
 AreChains (Some c) = (1 ≤ c.0) × (c.0 ≤ CHAIN_MOVES) × (1 ≤ c.1)
 
--- workers are 1 to 64, the moves of a chain 1 to 4, one chain at least may be tried, and jobs are 1 to 10,000;
--- the events that are made are 1 to 2,000
+-- workers are 1 to WORKERS, the moves of a chain 1 to CHAIN_MOVES, one chain at least may be tried, and jobs are 1
+-- to JOBS; the events that are made are 1 to MADE_EVENTS
 abbrev pub IsFit : Request → Type 0
 IsFit (Evaluate archive all workers) = (1 ≤ workers) × (workers ≤ WORKERS)
 IsFit (Script archive solution script tied) = Unit {0}

@@ -219,7 +219,7 @@ archive_by command name more =
     else if bytes_eq (codes "solve") command then solve_by name more
     else placed_by command name more
 
--- a seed and a number of events, at most 2,000
+-- a seed and a number of events, at most MADE_EVENTS
 unfoldable pub job_by : List ℕ → List ℕ → Option (ℕ × ℕ)
 job_by seed size = option_and_then (λ s. option_map (λ n. (s, n)) (number_to MADE_EVENTS size)) (long_number_of seed)
 

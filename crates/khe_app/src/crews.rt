@@ -8,6 +8,6 @@ use std::thread::Threads;
 pub(crate) struct Crew<'a, R: Threads + Sync, G: Gate> {
     pub rt: &'a R,
     pub gate: &'a G,
-    /// How many workers share the work, 1 to 64.
+    /// How many workers share the work, 1 to `WORKERS`.
     pub workers: u32,
 }

@@ -105,8 +105,9 @@ impl From<NoMemory> for Stop {
 /// | `match ARCHIVE SOLUTION TIME TYPE` | the archive with a time's tasks matched, and lines on it |
 /// | `make SEED EVENTS [--run]` | an archive made by a seed, or a line on a run of many edits on it |
 ///
-/// Options stand in any order after the rest, each once. N is 1 to 64 workers, J 1 to 10,000 repairs, D 1 to 4 moves of
-/// a chain at most, B 1 to 1,000,000,000 chains that may be tried, EVENTS 1 to 2,000, and SEED has up to 18 digits. The answer is a status, as in `Status`. What was written before a status of 4 is
+/// Options stand in any order after the rest, each once. N is 1 to `WORKERS` workers, J 1 to `JOBS` repairs, D 1 to
+/// `CHAIN_MOVES` moves of a chain at most, B 1 to `BUDGET` chains that may be tried, EVENTS 1 to `MADE_EVENTS`, and SEED
+/// has up to `DIGITS` digits. The answer is a status, as in `Status`. What was written before a status of 4 is
 /// nothing, and before a status of 5 or 6 a first part of the text. The text does not depend on the number of workers,
 /// who pass the gate before each solution that they evaluate and before each job that they run, with its number.
 ///

@@ -30,9 +30,9 @@ use xhstt_writer::SendFault;
 pub(crate) struct Repairing {
     /// The number of the solution, over all groups.
     pub solution: u32,
-    /// The greatest number of moves of a chain, 1 to 4.
+    /// The greatest number of moves of a chain, 1 to `CHAIN_MOVES`.
     pub depth: u32,
-    /// How many chains may be tried, 1 to 1,000,000,000.
+    /// How many chains may be tried, 1 to `BUDGET`.
     pub budget: u32,
 }
 

@@ -35,11 +35,11 @@ use xhstt_writer::SendFault;
 pub(crate) struct Solving {
     /// The number of the solution, over all groups.
     pub solution: u32,
-    /// The greatest number of moves of a chain, 1 to 4.
+    /// The greatest number of moves of a chain, 1 to `CHAIN_MOVES`.
     pub depth: u32,
-    /// How many chains each job may try, 1 to 1,000,000,000.
+    /// How many chains each job may try, 1 to `BUDGET`.
     pub budget: u32,
-    /// How many jobs there are, 1 to 10,000.
+    /// How many jobs there are, 1 to `JOBS`.
     pub jobs: u32,
 }
 

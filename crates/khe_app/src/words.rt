@@ -18,7 +18,7 @@ pub(crate) enum Request<'a> {
         archive: &'a str,
         /// Whether the report is to have all monitors, also those without a deviation.
         all: bool,
-        /// How many workers evaluate, 1 to 64.
+        /// How many workers evaluate, 1 to `WORKERS`.
         workers: u32,
     },
     /// The answers to a script.
@@ -43,9 +43,9 @@ pub(crate) enum Request<'a> {
         archive: &'a str,
         /// The number of the solution, over all groups.
         solution: u32,
-        /// The greatest number of moves of a chain, 1 to 4.
+        /// The greatest number of moves of a chain, 1 to `CHAIN_MOVES`.
         depth: u32,
-        /// How many chains may be tried, 1 to 1,000,000,000.
+        /// How many chains may be tried, 1 to `BUDGET`.
         budget: u32,
     },
     /// An archive with one of its solutions replaced by the least result of many repairs of it.
@@ -54,13 +54,13 @@ pub(crate) enum Request<'a> {
         archive: &'a str,
         /// The number of the solution, over all groups.
         solution: u32,
-        /// The greatest number of moves of a chain, 1 to 4.
+        /// The greatest number of moves of a chain, 1 to `CHAIN_MOVES`.
         depth: u32,
-        /// How many chains each job may try, 1 to 1,000,000,000.
+        /// How many chains each job may try, 1 to `BUDGET`.
         budget: u32,
-        /// How many jobs there are, 1 to 10,000.
+        /// How many jobs there are, 1 to `JOBS`.
         jobs: u32,
-        /// How many workers do them, 1 to 64.
+        /// How many workers do them, 1 to `WORKERS`.
         workers: u32,
     },
     /// An archive with the tasks of one time of one of its solutions matched.
@@ -80,22 +80,22 @@ pub(crate) enum Request<'a> {
         archive: &'a str,
         /// The number of the instance.
         instance: u32,
-        /// Where the timetable is repaired, the greatest number of moves of a chain, 1 to 4, and how many chains
-        /// may be tried, 1 to 1,000,000,000.
+        /// Where the timetable is repaired, the greatest number of moves of a chain, 1 to `CHAIN_MOVES`, and how
+        /// many chains may be tried, 1 to `BUDGET`.
         chains: Option<(u32, u32)>,
     },
     /// An archive that is made.
     Make {
-        /// The seed of what is drawn, below 10^18.
+        /// The seed of what is drawn, of at most `DIGITS` digits.
         seed: u64,
-        /// How many events it has, 1 to 2,000.
+        /// How many events it has, 1 to `MADE_EVENTS`.
         size: u32,
     },
     /// The run of a job that is made.
     Run {
-        /// The seed of what is drawn, below 10^18.
+        /// The seed of what is drawn, of at most `DIGITS` digits.
         seed: u64,
-        /// How many events it has, 1 to 2,000.
+        /// How many events it has, 1 to `MADE_EVENTS`.
         size: u32,
     },
 }
@@ -260,7 +260,7 @@ fn workers_by(all: bool, option: &str, value: &str) -> Option<(bool, u32)>
     None
 }
 
-/// The number of workers that a word writes, 1 to 64.
+/// The number of workers that a word writes, 1 to `WORKERS`.
 #[tactic(auto, unfolding(crate::specs::Words::workers_of))]
 fn workers_of(word: &str) -> Option<u32>
     ensures workers { result ≡ workers_of word.now }

@@ -17,7 +17,7 @@ use solve_board::{Board, Closed};
 use std::alloc::Global;
 use std::thread::Threads;
 
-/// What the jobs below a number come to, 1 to 10,000 of them, by 1 to 64 workers, each in a thread of
+/// What the jobs below a number come to, 1 to `JOBS` of them, by 1 to `WORKERS` workers, each in a thread of
 /// its own: the result of the job with the least totals, and of the lowest number among equal ones;
 /// and what became of each job. A worker takes the lowest job that none has taken, and passes the gate
 /// before it runs it. A job whose timetable costs nothing ends what is left: further jobs with a higher

@@ -21,24 +21,24 @@ use std::thread::Threads;
 /// How much many repairs of a timetable may do.
 #[derive(Clone, Copy)]
 pub struct Effort {
-    /// The greatest number of moves of a chain, 1 to 4.
+    /// The greatest number of moves of a chain, 1 to `CHAIN_MOVES`.
     pub depth: u32,
     /// How many chains each job may try, at least 1.
     pub budget: u64,
-    /// How many jobs there are, 1 to 10,000.
+    /// How many jobs there are, 1 to `JOBS`.
     pub jobs: u64,
-    /// How many workers share them, 1 to 64.
+    /// How many workers share them, 1 to `WORKERS`.
     pub workers: u32,
 }
 
-/// Many repairs of a valid timetable, by 1 to 64 workers: job `j`, of 1 to 10,000 that are numbered
+/// Many repairs of a valid timetable, by 1 to `WORKERS` workers: job `j`, of 1 to `JOBS` that are numbered
 /// from 0, is `repair` from the timetable by this depth and budget with the diversifier `j`. The answer
 /// is the result of the job with the least totals, and with the lowest number among equal ones; and
 /// what became of each job. A worker passes the gate before each job that it runs, with its number. A
 /// job without a cost lets higher ones be left out. The answer is the same for every number of workers
 /// and all their turns; which jobs are left out isn't.
 ///
-/// The depth is 1 to 4, and the budget at least 1. The only error is want of memory. It takes the time
+/// The depth is 1 to `CHAIN_MOVES`, and the budget at least 1. The only error is want of memory. It takes the time
 /// of the jobs that are run, divided among the workers that run at the same time, and for each worker
 /// that of opening one engine, which is led back to the timetable by an undo after each job. It takes
 /// memory for an engine and two timetables for each worker, and a row for each job.

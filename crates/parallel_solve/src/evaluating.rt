@@ -34,7 +34,7 @@ pub fn all_solutions(alloc: Global, archive: &Archive) -> Result<Vec<&RawSolutio
     Ok(all)
 }
 
-/// What comes of each solution of a resolved archive, in order, by 1 to 64 workers, who draw batches
+/// What comes of each solution of a resolved archive, in order, by 1 to `WORKERS` workers, who draw batches
 /// of solutions in threads of their own. A worker passes the gate before each solution, with
 /// its number. What comes does not depend on the number of workers, nor on their turns: a valid
 /// solution's values are the definitions', and an invalid one has its first cause.

@@ -65,7 +65,7 @@ pub(crate) fn batch_for(left: usize, workers: u32) -> usize
 }
 
 impl WindowMaker {
-    /// Windows that are made by 1 to 64 workers. It takes time in proportion to the instances, and no memory.
+    /// Windows that are made by 1 to `WORKERS` workers. It takes time in proportion to the instances, and no memory.
     pub fn new(resolved: &Resolved, workers: u32) -> WindowMaker
         requires { (1 ≤ workers) × (workers ≤ WORKERS) }
     {

@@ -28,7 +28,7 @@ pub struct Mended {
     pub plain: Plain,
 }
 
-/// Repairs a timetable by chains of at most so many moves, 1 to 4, of which so many may be tried, at
+/// Repairs a timetable by chains of at most so many moves, 1 to `CHAIN_MOVES`, of which so many may be tried, at
 /// least 1. Each list of defects and of moves is begun at its first.
 ///
 /// Its only error is want of memory. It opens an engine on the timetable, which it takes no longer than

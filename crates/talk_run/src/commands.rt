@@ -10,9 +10,9 @@ use khe_base::limits::{BUDGET, CHAIN_MOVES};
 /// Of which chains a repair is made.
 #[derive(Clone, Copy, Debug, PartialEq, Eq)]
 pub struct Chains {
-    /// The greatest number of moves of a chain, 1 to 4.
+    /// The greatest number of moves of a chain, 1 to `CHAIN_MOVES`.
     pub depth: u32,
-    /// How many chains may be tried, 1 to 1,000,000,000.
+    /// How many chains may be tried, 1 to `BUDGET`.
     pub budget: u32,
     /// Where each list of defects and of moves is begun, modulo its length.
     pub diversifier: u32,
@@ -33,8 +33,8 @@ pub enum TalkCommand {
 /// scripts has its first word, a repair by the word `repair` and three numbers, or the archive by the word `archive`
 /// alone.
 ///
-/// The errors are those of scripts, in the same order. A depth that is not from 1 to 4 and a budget that is not from 1 to
-/// 1,000,000,000 are no such numbers (`BadNumber`). It takes no memory, and time linear in the line.
+/// The errors are those of scripts, in the same order. A depth that is not from 1 to `CHAIN_MOVES` and a
+/// budget that is not from 1 to `BUDGET` are no such numbers (`BadNumber`). It takes no memory, and time linear in the line.
 #[tactic(auto, unfolding(crate::specs::Lines::talk_reading))]
 pub fn read_talk_line(line: &[u8]) -> Result<TalkCommand, LineFault>
     ensures reading { result ≡ talk_reading line.now }
