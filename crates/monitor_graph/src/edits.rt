@@ -108,7 +108,8 @@ impl Graph {
 
     /// Makes an edit of monitors and groups. It answers the number of the group that it made, if
     /// any, or the edit's refusal, and then nothing has changed. Deviations stay. An AddChild needs a
-    /// seat in its group. What it takes in time is what `undo` says.
+    /// seat in its group. A RemoveChild looks for its child as `back` does, and moves the children of
+    /// its group that stand behind it; the others take constant time.
     pub fn edit(&mut self, edit: Edit) -> Result<Option<u32>, Refusal>
         requires ours { is_of_groups edit ≡ true }
         requires room { adds_child edit ≡ true → HasSeat self.old.groups self.old.seats (adds_to edit) }
@@ -121,7 +122,9 @@ impl Graph {
         Ok(self.apply(edit))
     }
 
-    /// The record that leads back from an accepted edit.
+    /// The record that leads back from an accepted edit. The place of a child that is removed is found
+    /// in logarithmic time where its group's children came in the order in which they first came into
+    /// any group, and by going through the group elsewhere.
     pub fn back(&self, edit: &Edit) -> Back
         requires ours { is_of_groups edit.now ≡ true }
         requires accepted { refusal (grouping_of self.now) edit.now ≡ None }
@@ -134,8 +137,8 @@ impl Graph {
     }
 
     /// Undoes the edit that a record leads back from. Deviations stay. A RemoveChild that is undone
-    /// needs a seat in its group. A child that comes or goes moves those of its group that stand behind
-    /// it; all else takes constant time, but that a child that goes is looked for.
+    /// needs a seat in its group, and moves the children of its group that then stand behind the child;
+    /// an AddChild that is undone takes what a RemoveChild takes, and the others constant time.
     pub fn undo(&mut self, back: Back)
         requires leads { CanUndo (grouping_of self.old) back }
         requires room { inserts_child back ≡ true → HasSeat self.old.groups self.old.seats (inserts_to back) }

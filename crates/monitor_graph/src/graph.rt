@@ -232,7 +232,8 @@ impl Graph {
     }
 
     /// Makes room for this many children more in the group of a number, whether it is there or not.
-    /// Where memory is refused, all stays as it was.
+    /// Where memory is refused, all stays as it was. Room for one at a time is made in constant time on
+    /// average.
     pub fn room(&mut self, group: GroupId, n: u32) -> Result<(), NoMemory>
         ensures lines { self.new.lines ≡ self.old.lines }
         ensures groups { self.new.groups ≡ self.old.groups }

@@ -5,7 +5,7 @@ ghost use Rattle.std.specs.List.{insert, position_or_len};
 ghost use Rattle.khe_base.specs.declared.limits.TheConstants.{GROUPS, MONITORS};
 ghost use Rattle.monitor_graph.specs.Groups.{AreGroups, has_group, children_at, has_child, place_of, without, free_number, seats_at, HasSeat, HaveRoom, HaveAsMany};
 ghost use Rattle.monitor_graph.specs.Opened.{groups_in};
-ghost use Rattle.monitor_graph.specs.Seating.{Sitting, groups_on};
+ghost use Rattle.monitor_graph.specs.Seating.{groups_on};
 
 use crate::benches::Bench;
 use khe_base::bits::{clear_bit, is_set, no_bits, set_bit};
@@ -208,8 +208,8 @@ impl Groups {
         self.insert(group, child, place);
     }
 
-    /// Takes a child out of a group. The children behind it in its group move by one; it is found as
-    /// `place` does.
+    /// Takes a child out of a group. It is looked for by `place`, and the children behind it in its
+    /// group move by one.
     pub(crate) fn remove(&mut self, group: GroupId, child: MonitorId)
         requires there { has_child self.old.groups group.0 child.0 ≡ true }
         ensures groups { self.new.groups ≡ slice_set self.old.groups group.0 (Some (without child.0 (children_at self.old.groups group.0))) }
@@ -259,7 +259,7 @@ impl Groups {
 fn no_benches(alloc: Global) -> Result<Vec<Bench>, NoMemory>
     ensures { IfOk result (λ benches. benches.items ≡ replicate GROUPS (record { group = None; seats = 0 })) }
 {
-    let mut benches = Vec::new(alloc);
+    let mut benches = Vec::with_capacity(alloc, GROUPS as usize)?;
     for _ in 0..GROUPS {
         benches.push(Bench::new(alloc))?;
     }
