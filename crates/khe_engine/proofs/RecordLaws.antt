@@ -13,6 +13,7 @@ use Rattle.khe_told.proofs.WatcherLaws.{watchers_both}
 use Rattle.khe_solution.specs.Backs as backs
 use Rattle.khe_solution.proofs.EditLaws.{undo_after}
 use Rattle.monitor_graph.specs.Edits as groups
+use Rattle.monitor_graph.specs.Groups.{seats_at, HaveAsMany}
 use Rattle.undo_paths.specs.Stack.{with_record, without_mark, dropped, inner, outer}
 use Rattle.khe_engine.specs.States.{State, is_back_of_groups, undone, undone_changes}
 use Rattle.khe_engine.specs.Worlds.{Saved, grown, closed, kept, last_cost}
@@ -30,7 +31,7 @@ saved_edit s s2 b cs (bs ∷ rest) u c = λ i. record
     more : (n : ℕ) → suc n ≡ n + 1
     more n = omega arith
 
-lead_edit : (p : Parts) (seats : ℕ) (s s2 : State) (b : Back) (since : List (List Back)) → undone s2 b ≡ s
+lead_edit : (p : Parts) (seats : List ℕ) (s s2 : State) (b : Back) (since : List (List Back)) → undone s2 b ≡ s
     → Leads p seats s2 b → MarksLead p seats s since → MarksLead p seats s2 (with_record b since)
 lead_edit p seats s s2 b [] u l a = tt
 lead_edit p seats s s2 b (bs ∷ rest) u l a = (
@@ -40,33 +41,36 @@ lead_edit p seats s s2 b (bs ∷ rest) u l a = (
 )
 
 -- more seats
-lead_one : (t : Bool) (p : Parts) (m n : ℕ) (s : State) (b : Back) → m ≤ n → LeadsBy t p m s b → LeadsBy t p n s b
-lead_one true p m n s b l h = (h.0, λ i. let k = h.1 i in omega (arith, k, l))
+pub as_many : (m n : List ℕ) → n ≡ m → HaveAsMany m n
+as_many m n e g = let same = ap (λ x. seats_at x g) e in omega (arith, same)
+
+lead_one : (t : Bool) (p : Parts) (m n : List ℕ) (s : State) (b : Back) → HaveAsMany m n → LeadsBy t p m s b → LeadsBy t p n s b
+lead_one true p m n s b l h = (h.0, λ i g. let k = h.1 i g in let more = l (groups.inserts_to b) in omega (arith, k, more))
 lead_one false p m n s b l h = h
 
-lead_more : (p : Parts) (m n : ℕ) (s : State) (bs : List Back) → m ≤ n → AllLead p m s bs → AllLead p n s bs
+lead_more : (p : Parts) (m n : List ℕ) (s : State) (bs : List Back) → HaveAsMany m n → AllLead p m s bs → AllLead p n s bs
 lead_more p m n s [] l h = tt
 lead_more p m n s (b ∷ bs) l h = (lead_one (is_back_of_groups b) p m n s b l h.0, lead_more p m n (undone s b) bs l h.1)
 
-pub marks_more : (p : Parts) (m n : ℕ) (s : State) (since : List (List Back)) → m ≤ n → MarksLead p m s since
+pub marks_more : (p : Parts) (m n : List ℕ) (s : State) (since : List (List Back)) → HaveAsMany m n → MarksLead p m s since
     → MarksLead p n s since
 marks_more p m n s [] l h = tt
 marks_more p m n s (bs ∷ rest) l h = (lead_more p m n s bs l h.0, marks_more p m n (undone_all s bs) rest l h.1)
 
 -- the same state and records, and no fewer seats
-pub marks_same : (p : Parts) (m n : ℕ) (s s2 : State) (since since2 : List (List Back)) → s2 ≡ s → since2 ≡ since
-    → m ≤ n → MarksLead p m s since → MarksLead p n s2 since2
+pub marks_same : (p : Parts) (m n : List ℕ) (s s2 : State) (since since2 : List (List Back)) → s2 ≡ s → since2 ≡ since
+    → HaveAsMany m n → MarksLead p m s since → MarksLead p n s2 since2
 marks_same p m n s s2 since since2 e f l h = subst (MarksLead p n s2) (sym f)
     (subst (λ x. MarksLead p n x since) (sym e) (marks_more p m n s since l h))
 
 -- what an edit makes of the saved states
-pub recorded_saved : (p : Parts) (seats : ℕ) (cs : List Change) (s s2 : State) (since since2 : List (List Back))
+pub recorded_saved : (p : Parts) (seats : List ℕ) (cs : List Change) (s s2 : State) (since since2 : List (List Back))
     → IsRecorded p seats cs s s2 since since2 → saved_of s2 since2 ≡ grown cs (saved_of s since)
 recorded_saved p seats cs s s2 since since2 r =
     ap (saved_of s2) r.kept ∙ saved_edit s s2 r.back cs since r.before r.list
 
-pub recorded_lead : (p : Parts) (m seats : ℕ) (cs : List Change) (s s2 : State) (since since2 : List (List Back))
-    → IsRecorded p seats cs s s2 since since2 → m ≤ seats → MarksLead p m s since → MarksLead p seats s2 since2
+pub recorded_lead : (p : Parts) (m seats : List ℕ) (cs : List Change) (s s2 : State) (since since2 : List (List Back))
+    → IsRecorded p seats cs s s2 since since2 → HaveAsMany m seats → MarksLead p m s since → MarksLead p seats s2 since2
 recorded_lead p m seats cs s s2 since since2 r l a =
     subst (MarksLead p seats s2) (sym r.kept) (lead_edit p seats s s2 r.back since r.before r.leads
     (marks_more p m seats s since l a))
@@ -82,7 +86,7 @@ trail_both s [] bs = sym (append-nil (trail_of s bs))
 trail_both s (a ∷ as_) bs = ap (λ x. x ++ undone_changes s a) (trail_both (undone s a) as_ bs)
     ∙ append_assoc (trail_of (undone_all (undone s a) as_) bs) (trail_of (undone s a) as_) (undone_changes s a)
 
-lead_both : (p : Parts) (seats : ℕ) (s : State) (as_ bs : List Back) → AllLead p seats s as_
+lead_both : (p : Parts) (seats : List ℕ) (s : State) (as_ bs : List Back) → AllLead p seats s as_
     → AllLead p seats (undone_all s as_) bs → AllLead p seats s (as_ ++ bs)
 lead_both p seats s [] bs a b = b
 lead_both p seats s (x ∷ xs) bs a b = (a.0, lead_both p seats (undone s x) xs bs a.1 b)
@@ -97,7 +101,7 @@ saved_close s (as_ ∷ bs ∷ rest) = λ i. record
     sum_is : length (as_ ++ bs) ≡ length bs + length as_
     sum_is = let h = length-append as_ bs in omega (arith, h)
 
-pub lead_close : (p : Parts) (seats : ℕ) (s : State) (since : List (List Back)) → MarksLead p seats s since
+pub lead_close : (p : Parts) (seats : List ℕ) (s : State) (since : List (List Back)) → MarksLead p seats s since
     → MarksLead p seats s (without_mark since)
 lead_close p seats s [] a = tt
 lead_close p seats s (as_ ∷ []) a = tt
@@ -108,7 +112,7 @@ lead_close p seats s (as_ ∷ bs ∷ rest) a = (
 )
 
 -- the trail leads from the saved state to the present one, so undoing costs what the trail does
-forth_one : (t : Bool) (p : Parts) (seats : ℕ) (s : State) (b : Back) → t ≡ is_back_of_groups b → LeadsBy t p seats s b
+forth_one : (t : Bool) (p : Parts) (seats : List ℕ) (s : State) (b : Back) → t ≡ is_back_of_groups b → LeadsBy t p seats s b
     → s.slots ≡ after_all (undone s b).slots (undone_changes s b)
 unfolding undone undone_changes
 forth_one true p seats s b e h = (λ i. after_all
@@ -118,7 +122,7 @@ forth_one false p seats s b e h = undo_after p s.slots b h
     ∙ (λ i. after_all (cond (e i) (record s { grouping = groups.undone s.grouping b })
     (record s { slots = backs.undone s.slots b })).slots (cond (e i) [] (backs.undone_changes s.slots b)))
 
-forth : (p : Parts) (seats : ℕ) (s : State) (bs : List Back) → AllLead p seats s bs
+forth : (p : Parts) (seats : List ℕ) (s : State) (bs : List Back) → AllLead p seats s bs
     → s.slots ≡ after_all (undone_all s bs).slots (trail_of s bs)
 forth p seats s [] h = refl
 forth p seats s (b ∷ bs) h =
@@ -126,7 +130,7 @@ forth p seats s (b ∷ bs) h =
     ∙ ap (λ x. after_all x (undone_changes s b)) (forth p seats (undone s b) bs h.1)
     ∙ sym (after_both (undone_all s (b ∷ bs)).slots (trail_of (undone s b) bs) (undone_changes s b))
 
-cost_is : (p : Parts) (seats : ℕ) (s : State) (bs : List Back) → AllLead p seats s bs
+cost_is : (p : Parts) (seats : List ℕ) (s : State) (bs : List Back) → AllLead p seats s bs
     → undo_cost p s bs ≡ watcher_counts p (undone_all s bs).slots (trail_of s bs)
 cost_is p seats s [] h = refl
 cost_is p seats s (b ∷ bs) h =
@@ -135,13 +139,13 @@ cost_is p seats s (b ∷ bs) h =
     let d = ap (λ x. watcher_counts p x (undone_changes s b)) (forth p seats (undone s b) bs h.1) in
     omega (arith, a, c, d)
 
-pub last_cost_is : (p : Parts) (n : ℕ) (s : State) (since : List (List Back)) → MarksLead p n s since
+pub last_cost_is : (p : Parts) (n : List ℕ) (s : State) (since : List (List Back)) → MarksLead p n s since
     → undo_cost p s (inner since) ≡ last_cost p (saved_of s since)
 last_cost_is p n s [] a = refl
 last_cost_is p n s (bs ∷ rest) a = cost_is p n s bs a.0
 
 -- one record goes
-pub pop_lead : (p : Parts) (n : ℕ) (s : State) (since since2 : List (List Back)) (b : Back)
+pub pop_lead : (p : Parts) (n : List ℕ) (s : State) (since since2 : List (List Back)) (b : Back)
     → since ≡ (b ∷ inner since2) ∷ outer since2 → since2 ≡ inner since2 ∷ outer since2 → MarksLead p n s since
     → Leads p n s b × MarksLead p n (undone s b) since2
 pop_lead p n s since since2 b e f a =

@@ -1,13 +1,12 @@
 -- Edits and records by their two sorts: those of monitors and groups, and those of meets and tasks.
-use Rattle.std.proofs.Common.{ℕ, ◌≡◌, ◌<◌, ◌≤◌, true, false, cond, Option, Some, None, List, [], length, map, refl, sym}
+use Rattle.std.proofs.Common.{ℕ, ◌≡◌, true, false, cond, Option, Some, None, List, [], length, map, refl, sym}
 use Rattle.std.proofs.Common.{ap, subst, ◌∙◌, arith}
 use Rattle.std.specs.Option.{option_map_or}
 use Rattle.std.specs.Prelude.{Result}
 use Rattle.std.proofs.lemmas.Bool.{both_ways}
 use Rattle.std.proofs.lemmas.List.Edits.{length-remove}
-use Rattle.std.proofs.lemmas.List.Sums.{sum_by-set}
-use Rattle.std.proofs.lemmas.Option.{get_or_from_slice_get, slice_get_within}
-use Rattle.khe_base.specs.declared.numbers.MonitorId.{MonitorId}
+use Rattle.std.proofs.lemmas.Option.{slice_get_within}
+use Rattle.khe_base.proofs.ListLemmas.{get-set}
 use Rattle.khe_base.specs.declared.numbers.ResourceId.{ResourceId}
 use Rattle.khe_base.specs.declared.numbers.TimeId.{TimeId}
 use Rattle.khe_instance.specs.declared.parts.Parts.{Parts}
@@ -27,9 +26,9 @@ use Rattle.khe_solution.specs.Reading.{resource_at}
 use Rattle.khe_solution.specs.Refusing as refusing
 use Rattle.monitor_graph.specs.Boards.{Board, Grouping}
 use Rattle.monitor_graph.specs.Edits as groups
-use Rattle.monitor_graph.specs.Groups.{children_at, place_of, seated, without}
+use Rattle.monitor_graph.specs.Groups.{children_at, place_of, without, HasSeat, HaveRoom}
 use Rattle.monitor_graph.proofs.EditLaws.{remove_known}
-use Rattle.monitor_graph.proofs.SeatLaws.{child_in_group, child_place, group_is}
+use Rattle.monitor_graph.proofs.SeatLaws.{child_in_group, child_place, group_is, listed}
 use Rattle.monitor_graph.specs.declared.lines.Line.{Line}
 use Rattle.undo_paths.specs.Stack.{with_record}
 use Rattle.khe_engine.specs.States.{State, state_of, refusal, edited, made, changes, is_back_of_groups, undone}
@@ -163,11 +162,11 @@ pub list_meets : (s : State) (b : Back) → is_back_of_groups b ≡ false
 unfolding undone_changes
 list_meets s b h = ap (λ t. cond t [] (backs.undone_changes s.slots b)) h
 
-pub leads_groups : (p : Parts) (seats : ℕ) (s : State) (b : Back) → is_back_of_groups b ≡ true → Leads p seats s b
+pub leads_groups : (p : Parts) (seats : List ℕ) (s : State) (b : Back) → is_back_of_groups b ≡ true → Leads p seats s b
     → LeadsBy true p seats s b
 leads_groups p seats s b h l = subst (λ t. LeadsBy t p seats s b) h l
 
-pub leads_meets : (p : Parts) (seats : ℕ) (s : State) (b : Back) → is_back_of_groups b ≡ false → Leads p seats s b
+pub leads_meets : (p : Parts) (seats : List ℕ) (s : State) (b : Back) → is_back_of_groups b ≡ false → Leads p seats s b
     → LeadsBy false p seats s b
 leads_meets p seats s b h l = subst (λ t. LeadsBy t p seats s b) h l
 
@@ -220,17 +219,18 @@ back_of_meets s (AddChild g m) h = h
 back_of_meets s (RemoveChild g m) h = h
 
 -- a child that was removed leaves a seat
-seat_left : (s : Grouping) (e : Edit) (seats : ℕ) → groups.refusal s e ≡ None → seated s.groups ≤ seats
-    → groups.inserts_child (groups.back_of s e) ≡ true → seated (groups.edited s e).groups < seats
+seat_left : (s : Grouping) (e : Edit) (seats : List ℕ) → groups.refusal s e ≡ None → HaveRoom s.groups seats
+    → groups.inserts_child (groups.back_of s e) ≡ true
+    → HasSeat (groups.edited s e).groups seats (groups.inserts_to (groups.back_of s e))
 seat_left s (RemoveChild g m) seats h l i =
     let k = remove_known s g m h in
     let cs = children_at s.groups g.0 in
     let at = group_is s.groups g.0 (child_in_group s.groups g.0 m.0 k.1) in
-    let size : Option (List MonitorId) → ℕ = λ o. option_map_or length o 0 in
     let shorter = length-remove cs (place_of m.0 cs) (child_place cs m.0 m k.1).0 in
-    let got = ap size (get_or_from_slice_get s.groups g.0 (Some cs) None at) in
-    let sum = sum_by-set size s.groups g.0 (Some (without m.0 cs)) None (slice_get_within s.groups g.0 (Some cs) at) in
-    omega (arith, l, shorter, got, sum)
+    let left = ap (λ x. length (listed x)) (get-set s.groups g.0 (Some (without m.0 cs))
+    (slice_get_within s.groups g.0 (Some cs) at)) in
+    let room = l g.0 in
+    λ number. omega (arith, left, shorter, room)
 seat_left s (Attach m) seats h l i = absurd (both_ways false refl i)
 seat_left s (Detach m) seats h l i = absurd (both_ways false refl i)
 seat_left s MakeGroup seats h l i = absurd (both_ways false refl i)
@@ -248,11 +248,11 @@ seat_left s (Regive a b) seats h l i = absurd (both_ways false refl i)
 seat_left s (SwapTasks a b) seats h l i = absurd (both_ways false refl i)
 
 -- an edit of each sort is recorded
-pub recorded_groups : (p : Parts) (seats : ℕ) (s s2 : State) (e : Edit) (b : Back) (since since2 : List (List Back))
+pub recorded_groups : (p : Parts) (seats : List ℕ) (s s2 : State) (e : Edit) (b : Back) (since since2 : List (List Back))
     → groups.is_of_groups e ≡ true → groups.refusal s.grouping e ≡ None
     → b ≡ groups.back_of s.grouping e → groups.CanUndo (groups.edited s.grouping e) b
     → groups.undone (groups.edited s.grouping e) b ≡ s.grouping
-    → seated s.grouping.groups ≤ seats → s2 ≡ record s { grouping = groups.edited s.grouping e }
+    → HaveRoom s.grouping.groups seats → s2 ≡ record s { grouping = groups.edited s.grouping e }
     → since2 ≡ with_record b since → IsRecorded p seats (changes s e) s s2 since since2
 recorded_groups p seats s s2 e b since since2 o h r l u n t k =
     let a : State = record s { grouping = groups.edited s.grouping e } in
@@ -261,13 +261,16 @@ recorded_groups p seats s s2 e b since since2 o h r l u n t k =
       back = b;
       kept = k;
       leads = subst (λ x. Leads p seats x b) (sym t)
-          (subst (λ x. LeadsBy x p seats a b) (sym sort)
-          (l, λ i. seat_left s.grouping e seats h n (ap groups.inserts_child (sym r) ∙ i)));
+          (subst (λ x. LeadsBy x p seats a b) (sym sort) (
+            l,
+            λ i. subst (λ x. HasSeat a.grouping.groups seats (groups.inserts_to x)) (sym r)
+                (seat_left s.grouping e seats h n (ap groups.inserts_child (sym r) ∙ i)),
+          ));
       before = ap (λ x. undone x b) t ∙ undone_groups a b sort ∙ (λ i. record s { grouping = u i });
       list = list_groups s2 b sort ∙ sym (changes_groups s e o);
     }
 
-pub recorded_meets : (p : Parts) (seats : ℕ) (s s2 : State) (e : Edit) (b : Back) (since since2 : List (List Back))
+pub recorded_meets : (p : Parts) (seats : List ℕ) (s s2 : State) (e : Edit) (b : Back) (since since2 : List (List Back))
     → groups.is_of_groups e ≡ false
     → b ≡ backs.back_of s.slots e → backs.LeadsBack p (editing.edited s.slots e) b
     → backs.undone (editing.edited s.slots e) b ≡ s.slots

@@ -1,5 +1,5 @@
 -- How records that lead back, kept for each open mark, stand for whole saved states.
-use Rattle.std.specs.Prelude.{ℕ, ◌≡◌, ◌+◌, ◌<◌, Bool, true, false, List, [], ◌∷◌, ◌++◌, length}
+use Rattle.std.specs.Prelude.{ℕ, ◌≡◌, ◌+◌, Bool, true, false, List, [], ◌∷◌, ◌++◌, length}
 use Rattle.std.specs.List.{sum_by}
 use Rattle.khe_instance.specs.declared.parts.Parts.{Parts}
 use Rattle.khe_told.specs.Watchers.{watcher_counts}
@@ -7,7 +7,7 @@ use Rattle.khe_told.specs.declared.changes.Change.{Change}
 use Rattle.khe_told.specs.declared.edits.Back.{Back}
 use Rattle.khe_solution.specs.Backs as backs
 use Rattle.monitor_graph.specs.Edits as groups
-use Rattle.monitor_graph.specs.Groups.{seated}
+use Rattle.monitor_graph.specs.Groups.{HasSeat}
 use Rattle.undo_paths.specs.Stack.{with_record}
 use Rattle.khe_engine.specs.States.{State, is_back_of_groups, undone, undone_changes}
 use Rattle.khe_engine.specs.Worlds.{Saved}
@@ -27,26 +27,26 @@ saved_of s [] = []
 saved_of s (bs ∷ rest) = record { state = undone_all s bs; trail = trail_of s bs; records = length bs } ∷ saved_of
     (undone_all s bs) rest
 
--- a record leads back from a state, with so many seats for children
-abbrev pub LeadsBy : Bool → Parts → ℕ → State → Back → Type 0
+-- a record leads back from a state, with room for so many children at each group number
+abbrev pub LeadsBy : Bool → Parts → List ℕ → State → Back → Type 0
 LeadsBy true p seats s b = groups.CanUndo s.grouping b
-    × (groups.inserts_child b ≡ true → seated s.grouping.groups < seats)
+    × (groups.inserts_child b ≡ true → HasSeat s.grouping.groups seats (groups.inserts_to b))
 LeadsBy false p seats s b = backs.LeadsBack p s.slots b
 
-abbrev pub Leads : Parts → ℕ → State → Back → Type 0
+abbrev pub Leads : Parts → List ℕ → State → Back → Type 0
 Leads p seats s b = LeadsBy (is_back_of_groups b) p seats s b
 
 -- each record of a mark leads back from where those after it lead to, and so for all marks
-abbrev pub AllLead : Parts → ℕ → State → List Back → Type 0
+abbrev pub AllLead : Parts → List ℕ → State → List Back → Type 0
 AllLead p seats s [] = Unit {0}
 AllLead p seats s (b ∷ bs) = Leads p seats s b × AllLead p seats (undone s b) bs
 
-abbrev pub MarksLead : Parts → ℕ → State → List (List Back) → Type 0
+abbrev pub MarksLead : Parts → List ℕ → State → List (List Back) → Type 0
 MarksLead p seats s [] = Unit {0}
 MarksLead p seats s (bs ∷ rest) = AllLead p seats s bs × MarksLead p seats (undone_all s bs) rest
 
 -- an edit with these changes led from one state to another, and its record is kept if a mark is open
-pub record IsRecorded (p : Parts) (seats : ℕ) (cs : List Change) (s s2 : State) (since since2 : List (List Back)) : Type
+pub record IsRecorded (p : Parts) (seats : List ℕ) (cs : List Change) (s s2 : State) (since since2 : List (List Back)) : Type
     0 where
   pub back : Back
   pub kept : since2 ≡ with_record back since

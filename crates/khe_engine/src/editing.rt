@@ -1,12 +1,12 @@
 //! Edits over the parts of an engine: refusals first, then memory, then the changes. The instance is
 //! that of the timetable.
 
-ghost use Rattle.std.specs.Prelude.{ℕ, ◌≡◌, ◌≢◌, ◌<◌, ◌≤◌, ◌+◌, [], true, false, None, Some, length, IfErr, IfOk, IsOk, OnErr, OnOk};
+ghost use Rattle.std.specs.Prelude.{ℕ, ◌≡◌, ◌≢◌, ◌≤◌, ◌+◌, [], true, false, None, Some, length, IfErr, IfOk, IsOk, OnErr, OnOk};
 ghost use Rattle.khe_told.specs.Watchers.{watcher_counts};
 ghost use Rattle.undo_paths.specs.Stack.{with_record};
 ghost use Rattle.monitor_graph.specs.Boards.{grouping_of};
 ghost use Rattle.monitor_graph.specs.Edits as groups;
-ghost use Rattle.monitor_graph.specs.Groups.{seated};
+ghost use Rattle.monitor_graph.specs.Groups.{HasSeat, HaveAsMany};
 ghost use Rattle.khe_engine.specs.States.{state_of, refusal, edited, made, changes};
 ghost use Rattle.khe_engine.specs.Values.{HasValues, ServesAll};
 ghost use Rattle.khe_engine.specs.Settled.{IsIdle};
@@ -50,18 +50,18 @@ fn room_for_record(journal: &mut Journal<Back>) -> Result<(), NoMemory>
     Ok(())
 }
 
-/// A seat for the child that an edit adds, where it adds one.
+/// A seat for the child that an edit adds, where it adds one, in its group.
 fn room_for_child(graph: &mut Graph, edit: &Edit) -> Result<(), NoMemory>
     ensures lines { graph.new.lines ≡ graph.old.lines }
     ensures groups { graph.new.groups ≡ graph.old.groups }
     ensures marked { graph.new.marked ≡ graph.old.marked }
-    ensures seats { graph.old.seats ≤ graph.new.seats }
-    ensures ok { OnOk result (groups.adds_child edit.now ≡ true → seated graph.new.groups < graph.new.seats) }
+    ensures seats { HaveAsMany graph.old.seats graph.new.seats }
+    ensures ok { OnOk result (groups.adds_child edit.now ≡ true → HasSeat graph.new.groups graph.new.seats (groups.adds_to edit.now)) }
     ensures err { OnErr result (graph.new ≡ graph.old) }
     ensures there { groups.adds_child edit.now ≡ false → IsOk result }
 {
-    if matches!(edit, Edit::AddChild { .. }) {
-        graph.room(1)?;
+    if let Edit::AddChild { group, .. } = *edit {
+        graph.room(group, 1)?;
     }
     Ok(())
 }
@@ -90,7 +90,7 @@ fn edit_meets<F: Family, L: Ledger>(
     requires sort { groups.is_of_groups edit ≡ false }
     requires accepted { refusal inst.now (state_of solution.old.slots listeners.old.graph) edit ≡ None }
     requires room { journal.old.since ≢ [] → journal.old.spare ≢ 0 }
-    requires seat { groups.adds_child edit ≡ true → seated listeners.old.graph.groups < listeners.old.graph.seats }
+    requires seat { groups.adds_child edit ≡ true → HasSeat listeners.old.graph.groups listeners.old.graph.seats (groups.adds_to edit) }
     requires parts { solution.old.parts ≡ inst.now }
     requires of { F.IsOf listeners.old.families inst.now }
     requires serves { ServesAll F.serves_kind }
@@ -103,7 +103,7 @@ fn edit_meets<F: Family, L: Ledger>(
     ensures values { HasValues inst.now solution.new.slots listeners.new.graph }
     ensures idle { IsIdle inst.now listeners.new.waiting }
     ensures marked { listeners.new.graph.marked ≡ listeners.old.graph.marked }
-    ensures seats { listeners.old.graph.seats ≤ listeners.new.graph.seats }
+    ensures seats { listeners.new.graph.seats ≡ listeners.old.graph.seats }
     ensures made { result ≡ made (state_of solution.old.slots listeners.old.graph) edit }
     ensures state { (state_of solution.new.slots listeners.new.graph) ≡ edited (state_of solution.old.slots listeners.old.graph) edit }
     ensures record_ { IsRecorded inst.now listeners.new.graph.seats (changes (state_of solution.old.slots listeners.old.graph) edit) (state_of solution.old.slots listeners.old.graph) (state_of solution.new.slots listeners.new.graph) journal.old.since journal.new.since }
@@ -132,7 +132,7 @@ fn edit_groups<F: Family, L: Ledger>(
     requires sort { groups.is_of_groups edit ≡ true }
     requires accepted { refusal inst.now (state_of solution.old.slots listeners.old.graph) edit ≡ None }
     requires room { journal.old.since ≢ [] → journal.old.spare ≢ 0 }
-    requires seat { groups.adds_child edit ≡ true → seated listeners.old.graph.groups < listeners.old.graph.seats }
+    requires seat { groups.adds_child edit ≡ true → HasSeat listeners.old.graph.groups listeners.old.graph.seats (groups.adds_to edit) }
     requires parts { solution.old.parts ≡ inst.now }
     requires of { F.IsOf listeners.old.families inst.now }
     requires serves { ServesAll F.serves_kind }
@@ -145,7 +145,7 @@ fn edit_groups<F: Family, L: Ledger>(
     ensures values { HasValues inst.now solution.new.slots listeners.new.graph }
     ensures idle { IsIdle inst.now listeners.new.waiting }
     ensures marked { listeners.new.graph.marked ≡ listeners.old.graph.marked }
-    ensures seats { listeners.old.graph.seats ≤ listeners.new.graph.seats }
+    ensures seats { listeners.new.graph.seats ≡ listeners.old.graph.seats }
     ensures made { result ≡ made (state_of solution.old.slots listeners.old.graph) edit }
     ensures state { (state_of solution.new.slots listeners.new.graph) ≡ edited (state_of solution.old.slots listeners.old.graph) edit }
     ensures record_ { IsRecorded inst.now listeners.new.graph.seats (changes (state_of solution.old.slots listeners.old.graph) edit) (state_of solution.old.slots listeners.old.graph) (state_of solution.new.slots listeners.new.graph) journal.old.since journal.new.since }
@@ -175,7 +175,7 @@ pub(crate) fn make<F: Family, L: Ledger>(
 ) -> Option<u32>
     requires accepted { refusal inst.now (state_of solution.old.slots listeners.old.graph) edit ≡ None }
     requires room { journal.old.since ≢ [] → journal.old.spare ≢ 0 }
-    requires seat { groups.adds_child edit ≡ true → seated listeners.old.graph.groups < listeners.old.graph.seats }
+    requires seat { groups.adds_child edit ≡ true → HasSeat listeners.old.graph.groups listeners.old.graph.seats (groups.adds_to edit) }
     requires parts { solution.old.parts ≡ inst.now }
     requires of { F.IsOf listeners.old.families inst.now }
     requires serves { ServesAll F.serves_kind }
@@ -188,7 +188,7 @@ pub(crate) fn make<F: Family, L: Ledger>(
     ensures values { HasValues inst.now solution.new.slots listeners.new.graph }
     ensures idle { IsIdle inst.now listeners.new.waiting }
     ensures marked { listeners.new.graph.marked ≡ listeners.old.graph.marked }
-    ensures seats { listeners.old.graph.seats ≤ listeners.new.graph.seats }
+    ensures seats { listeners.new.graph.seats ≡ listeners.old.graph.seats }
     ensures made { result ≡ made (state_of solution.old.slots listeners.old.graph) edit }
     ensures state { (state_of solution.new.slots listeners.new.graph) ≡ edited (state_of solution.old.slots listeners.old.graph) edit }
     ensures record_ { IsRecorded inst.now listeners.new.graph.seats (changes (state_of solution.old.slots listeners.old.graph) edit) (state_of solution.old.slots listeners.old.graph) (state_of solution.new.slots listeners.new.graph) journal.old.since journal.new.since }
@@ -212,12 +212,12 @@ pub(crate) fn prepare(
     ensures lines { graph.new.lines ≡ graph.old.lines }
     ensures groups { graph.new.groups ≡ graph.old.groups }
     ensures marked { graph.new.marked ≡ graph.old.marked }
-    ensures seats { graph.old.seats ≤ graph.new.seats }
+    ensures seats { HaveAsMany graph.old.seats graph.new.seats }
     ensures since { journal.new.since ≡ journal.old.since }
     ensures kept { journal.old.spare ≤ journal.new.spare }
     ensures accepted { OnOk result (refusal solution.now.parts (state_of solution.now.slots graph.old) edit.now ≡ None) }
     ensures room { OnOk result (journal.new.since ≢ [] → journal.new.spare ≢ 0) }
-    ensures seat { OnOk result (groups.adds_child edit.now ≡ true → seated graph.new.groups < graph.new.seats) }
+    ensures seat { OnOk result (groups.adds_child edit.now ≡ true → HasSeat graph.new.groups graph.new.seats (groups.adds_to edit.now)) }
     ensures fault { IfErr result (IsFaultOf (refusal solution.now.parts (state_of solution.now.slots graph.old) edit.now)) }
     ensures spare { refusal solution.now.parts (state_of solution.now.slots graph.old) edit.now ≡ None → groups.adds_child edit.now ≡ false → 1 ≤ journal.old.spare → IsOk result }
     ensures unmarked { refusal solution.now.parts (state_of solution.now.slots graph.old) edit.now ≡ None → groups.adds_child edit.now ≡ false → journal.old.since ≡ [] → IsOk result }
@@ -251,7 +251,7 @@ pub(crate) fn edit_any<F: Family, L: Ledger>(
     ensures values { HasValues inst.now solution.new.slots listeners.new.graph }
     ensures idle { IsIdle inst.now listeners.new.waiting }
     ensures marked { listeners.new.graph.marked ≡ listeners.old.graph.marked }
-    ensures seats { listeners.old.graph.seats ≤ listeners.new.graph.seats }
+    ensures seats { HaveAsMany listeners.old.graph.seats listeners.new.graph.seats }
     ensures leads { MarksLead inst.now listeners.new.graph.seats (state_of solution.new.slots listeners.new.graph) journal.new.since }
     ensures accepted { OnOk result (refusal inst.now (state_of solution.old.slots listeners.old.graph) edit ≡ None) }
     ensures fault { IfErr result (IsFaultOf (refusal inst.now (state_of solution.old.slots listeners.old.graph) edit)) }

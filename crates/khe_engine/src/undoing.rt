@@ -1,6 +1,6 @@
 //! Undoing over the parts of an engine. The instance is that of the timetable.
 
-ghost use Rattle.std.specs.Prelude.{ℕ, ◌≡◌, ◌↔◌, ◌≤◌, ◌+◌, ◌-◌, ◌∷◌, [], Err, IfErr, length};
+ghost use Rattle.std.specs.Prelude.{ℕ, List, ◌≡◌, ◌↔◌, ◌≤◌, ◌+◌, ◌-◌, ◌∷◌, [], Err, IfErr, length};
 ghost use Rattle.khe_told.specs.Watchers.{watcher_counts};
 ghost use Rattle.undo_paths.specs.Stack.{inner, outer};
 ghost use Rattle.monitor_graph.specs.Edits as groups;
@@ -67,7 +67,7 @@ fn revert<F: Family, L: Ledger>(
     ensures values { HasValues inst.now solution.new.slots listeners.new.graph }
     ensures idle { IsIdle inst.now listeners.new.waiting }
     ensures marked { listeners.new.graph.marked ≡ listeners.old.graph.marked }
-    ensures seats { listeners.old.graph.seats ≤ listeners.new.graph.seats }
+    ensures seats { listeners.new.graph.seats ≡ listeners.old.graph.seats }
     ensures state { (state_of solution.new.slots listeners.new.graph) ≡ undone (state_of solution.old.slots listeners.old.graph) back }
     ensures steps { steps.new ≤ steps.old + watcher_counts inst.now solution.new.slots (undone_changes (state_of solution.old.slots listeners.old.graph) back) }
 {
@@ -100,7 +100,7 @@ pub(crate) fn unwind<F: Family, L: Ledger>(
     ensures values { HasValues inst.now solution.new.slots listeners.new.graph }
     ensures idle { IsIdle inst.now listeners.new.waiting }
     ensures marked { listeners.new.graph.marked ≡ listeners.old.graph.marked }
-    ensures seats { listeners.old.graph.seats ≤ listeners.new.graph.seats }
+    ensures seats { listeners.new.graph.seats ≡ listeners.old.graph.seats }
     ensures leads { MarksLead inst.now listeners.new.graph.seats (state_of solution.new.slots listeners.new.graph) journal.new.since }
     ensures state { (state_of solution.new.slots listeners.new.graph) ≡ undone_all (state_of solution.old.slots listeners.old.graph) (inner journal.old.since) }
     ensures inner { inner journal.new.since ≡ [] }
@@ -119,7 +119,7 @@ pub(crate) fn unwind<F: Family, L: Ledger>(
 pub(crate) fn close(journal: &mut Journal<Back>) -> Result<(), Refusal>
     ensures refused { (s : State) → (result ≡ Err NoMark) ↔ (saved_of s journal.old.since ≡ []) }
     ensures only { IfErr result (λ r. r ≡ NoMark) }
-    ensures leads { (p : Parts) (n : ℕ) (s : State) → MarksLead p n s journal.old.since → MarksLead p n s journal.new.since }
+    ensures leads { (p : Parts) (n : List ℕ) (s : State) → MarksLead p n s journal.old.since → MarksLead p n s journal.new.since }
     ensures saved { (s : State) → saved_of s journal.new.since ≡ closed (saved_of s journal.old.since) }
     ensures spare { journal.old.spare + records journal.old.since ≤ journal.new.spare + records journal.new.since }
 {
@@ -158,7 +158,7 @@ fn fall<F: Family, L: Ledger>(
     ensures values { HasValues inst.now solution.new.slots listeners.new.graph }
     ensures idle { IsIdle inst.now listeners.new.waiting }
     ensures marked { listeners.new.graph.marked ≡ listeners.old.graph.marked }
-    ensures seats { listeners.old.graph.seats ≤ listeners.new.graph.seats }
+    ensures seats { listeners.new.graph.seats ≡ listeners.old.graph.seats }
     ensures leads { MarksLead inst.now listeners.new.graph.seats (state_of solution.new.slots listeners.new.graph) journal.new.since }
     ensures saved { saved_of (state_of solution.new.slots listeners.new.graph) journal.new.since ≡ around (saved_of (state_of solution.old.slots listeners.old.graph) journal.old.since) }
     ensures marks { length journal.new.since + 1 ≡ length journal.old.since }
@@ -193,7 +193,7 @@ pub(crate) fn unwind_to<F: Family, L: Ledger>(
     ensures values { HasValues inst.now solution.new.slots listeners.new.graph }
     ensures idle { IsIdle inst.now listeners.new.waiting }
     ensures marked { listeners.new.graph.marked ≡ listeners.old.graph.marked }
-    ensures seats { listeners.old.graph.seats ≤ listeners.new.graph.seats }
+    ensures seats { listeners.new.graph.seats ≡ listeners.old.graph.seats }
     ensures leads { MarksLead inst.now listeners.new.graph.seats (state_of solution.new.slots listeners.new.graph) journal.new.since }
     ensures state { (state_of solution.new.slots listeners.new.graph) ≡ last_saved (state_of solution.old.slots listeners.old.graph) (from_mark k (saved_of (state_of solution.old.slots listeners.old.graph) journal.old.since)) }
     ensures saved { saved_of (state_of solution.new.slots listeners.new.graph) journal.new.since ≡ fresh (state_of solution.new.slots listeners.new.graph) ∷ around (from_mark k (saved_of (state_of solution.old.slots listeners.old.graph) journal.old.since)) }

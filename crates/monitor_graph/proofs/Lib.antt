@@ -1,9 +1,9 @@
 pub mod AloneLaws
+pub mod BenchLaws
 pub mod DearerLaws
 pub mod DefectLaws
 pub mod EditLaws
 pub mod GroupCostLaws
-pub mod JoinedLaws
 pub mod LeftLaws
 pub mod LineLaws
 pub mod ListLaws

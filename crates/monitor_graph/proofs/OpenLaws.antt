@@ -14,7 +14,7 @@ use Rattle.std.proofs.lemmas.List.Elements.{All-get_or, All-cons, All-from_get_o
 use Rattle.std.proofs.lemmas.List.Folds.{find-append, list_any_none}
 use Rattle.std.proofs.lemmas.List.FromFn.{get_or-map-range_with_len, length-map-range_with_len}
 use Rattle.std.proofs.lemmas.List.Kept.{AllPairs-from_increasing}
-use Rattle.std.proofs.lemmas.List.Sums.{sum_by-cons, sum_by-set, sum-map}
+use Rattle.std.proofs.lemmas.List.Sums.{sum_by-cons, sum-map}
 use Rattle.std.proofs.lemmas.Option.{get_or_from_slice_get, slice_get-get_or, slice_get_past, slice_get_within}
 use Rattle.khe_base.proofs.BitsLemmas.{is_set-zeros}
 use Rattle.khe_base.proofs.ListLemmas.{all-there, get-set}
@@ -33,15 +33,15 @@ use Rattle.khe_instance.specs.declared.rules.Constraint.{Constraint}
 use Rattle.khe_instance.specs.declared.states.Group.{Group}
 use Rattle.khe_instance.specs.declared.states.Plain.{Plain}
 use Rattle.monitor_graph.proofs.DearerLaws.{marked_now}
-use Rattle.monitor_graph.proofs.SeatLaws.{seating, listed}
+use Rattle.monitor_graph.proofs.SeatLaws.{listed}
 use Rattle.monitor_graph.specs.Boards.{rate_of}
 use Rattle.monitor_graph.specs.Dearer.{AreCompared}
 use Rattle.monitor_graph.specs.Defects.{AreDefects}
-use Rattle.monitor_graph.specs.Groups.{Groups, children_at, is_among, occurs, seated}
+use Rattle.monitor_graph.specs.Groups.{Groups, children_at, is_among, occurs, seated, HaveRoom}
 use Rattle.monitor_graph.specs.Lines.{line_cost, hard_cost, soft_cost, line_costs, is_defect_at, IsLine, AreTotalled}
 use Rattle.monitor_graph.specs.Opened.{IsFresh, IsGroupOf, attached_in, line_for, line_of, lines_in, no_line}
 use Rattle.monitor_graph.specs.Opened.{numbered_groups, rates_in}
-use Rattle.monitor_graph.specs.Seating.{joined, sizes_of, bit_of, IsSeating}
+use Rattle.monitor_graph.specs.Seating.{Sitting, groups_on, bit_of, AreSeated}
 use Rattle.monitor_graph.specs.declared.lines.Line.{Line}
 
 -- no groups
@@ -49,14 +49,6 @@ pub none_at : (n g : ℕ) → children_at (replicate n None) g ≡ []
 none_at zero g = refl
 none_at (suc n) zero = refl
 none_at (suc n) (suc g) = none_at n g
-
-none_joined : (n : ℕ) → joined (replicate n None) ≡ []
-none_joined zero = refl
-none_joined (suc n) = none_joined n
-
-none_sizes : (n : ℕ) → replicate n None ≡ sizes_of (replicate n None)
-none_sizes zero = refl
-none_sizes (suc n) = ap (λ xs. None ∷ xs) (none_sizes n)
 
 none_from : (a n : ℕ) → map (λ (g : ℕ). option_map (λ (x : Group). x.children) (find (λ x. x.group.0 == g) []))
     (range_with_len a n) ≡ replicate n None
@@ -67,21 +59,42 @@ pub none_numbered : (n : ℕ) → numbered_groups n [] ≡ replicate n None
 unfolding numbered_groups
 none_numbered n = none_from 0 n
 
-pub opened : (n monitors : ℕ) (sizes : List (Option ℕ)) (children : List MonitorId) (held : List ℕ) → n ≡ GROUPS
-    → monitors ≤ MONITORS → sizes ≡ replicate n None → children ≡ [] → held ≡ replicate (4 * monitors) 0
-    → IsSeating (numbered_groups n []) monitors sizes children held
-opened n monitors sizes children held all few a b c =
-    subst (λ gs. IsSeating gs monitors sizes children held) (sym (none_numbered n))
-    (seating (replicate n None) monitors sizes children held record {
+none_benches : (n : ℕ) → groups_on (replicate n (record { group = None; seats = 0 })) ≡ replicate n None
+none_benches zero = refl
+none_benches (suc n) = ap (λ xs. None ∷ xs) (none_benches n)
+
+none_seated : (n : ℕ) → seated (replicate n None) ≡ 0
+none_seated zero = refl
+none_seated (suc n) =
+    let e = none_seated n in
+    let a = sum_by-cons (λ (o : Option (List MonitorId)). option_map_or length o 0) None (replicate n None) in
+    omega (arith, a, e)
+
+-- benches that no one sits on are seen as no groups
+pub opened_groups : (n : ℕ) (benches : List Sitting) → benches ≡ replicate n (record { group = None; seats = 0 })
+    → groups_on benches ≡ numbered_groups n []
+opened_groups n benches e = ap groups_on e ∙ none_benches n ∙ sym (none_numbered n)
+
+pub opened : (n monitors : ℕ) (benches : List Sitting) (held : List ℕ) → n ≡ GROUPS → monitors ≤ MONITORS
+    → benches ≡ replicate n (record { group = None; seats = 0 }) → held ≡ replicate (4 * monitors) 0
+    → AreSeated (groups_on benches) monitors 0 held
+opened n monitors benches held all few a c =
+    subst (λ gs. AreSeated gs monitors 0 held) (sym (ap groups_on a ∙ none_benches n))
+    record {
       few = few;
       numbers = length-replicate n None ∙ all;
       known = λ g m h. absurd (both_ways false refl (sym (ap (is_among m) (none_at n g)) ∙ h));
       bits = λ g m l. ap (occurs m) (none_at n g) ∙ ap (λ t. cond t 1 0)
           (sym (ap (λ w. is_set w (bit_of m g)) c ∙ is_set-zeros (4 * monitors) (bit_of m g)));
       room = (let l = ap length c ∙ length-replicate (4 * monitors) 0 in omega (arith, l));
-      sizes_ = a ∙ none_sizes n;
-      children_ = b ∙ sym (none_joined n);
-    })
+      counted = sym (none_seated n);
+    }
+
+pub opened_room : (n : ℕ) (benches : List Sitting) (seats : List ℕ)
+    → benches ≡ replicate n (record { group = None; seats = 0 }) → HaveRoom (groups_on benches) seats
+opened_room n benches seats a g =
+    let e = ap (λ gs. length (children_at gs g)) (ap groups_on a ∙ none_benches n) ∙ ap length (none_at n g) in
+    omega (arith, e)
 
 -- fresh lines cost nothing
 no_cost : (f : CostFn) (w : ℕ) → cost_of f w 0 ≡ 0
@@ -181,15 +194,6 @@ put_at gs g xs h = get-set gs g (Some xs) (slice_get_within gs g (Some []) h)
 pub put_children : (gs : Groups) (g : ℕ) (xs : List MonitorId) → slice_get gs g ≡ Some (Some [])
     → children_at (set gs g (Some xs)) g ≡ xs
 put_children gs g xs h = ap listed (put_at gs g xs h)
-
-pub put_seated : (gs : Groups) (g : ℕ) (xs : List MonitorId) → slice_get gs g ≡ Some (Some [])
-    → seated (set gs g (Some xs)) ≡ seated gs + length xs
-put_seated gs g xs h =
-    let a = sum_by-set (λ (o : Option (List MonitorId)). option_map_or length o 0) gs g (Some xs) None
-    (slice_get_within gs g (Some []) h) in
-    let b = ap (λ (o : Option (List MonitorId)). option_map_or length o 0)
-    (get_or_from_slice_get gs g (Some []) None h) in
-    omega (arith, a, b)
 
 pub put_fresh : (xs : List MonitorId) (i : ℕ) (d : MonitorId) → AllPairs (λ x y. x ≢ y) xs → i < length xs
     → is_among (get_or xs i d).0 (take i xs) ≡ false
@@ -317,11 +321,6 @@ next_made many groups i d h l low =
         or_none None = refl
         or_none (Some y) = refl
 
--- a copy of nothing is nothing
-pub none_clone : {X : Type 0} (P : Option X → Type 0) → ((x : X) → P (Some x) → ⊥) → (y : Option X) → P y → y ≡ None
-none_clone P never None h = refl
-none_clone P never (Some x) h = absurd (never x h)
-
 -- the line of a monitor whose constraint is there
 pub line_there : (p : Parts) (t : Bool) (m : Monitor) (c : Constraint) → slice_get p.constraints m.constraint ≡ Some c
     → line_of p t m ≡ line_for t c
@@ -415,11 +414,3 @@ groups_valid p groups monitors e h = All-weaker (IsGroup p) (IsGroupOf monitors)
           subst (λ n. All (λ (m : MonitorId). m.0 < n) g.children) e v.children;
       once = v.once;
     }) groups h
-
--- a group that is made has no children yet
-pub made_seated : (gs : Groups) (g : ℕ) → slice_get gs g ≡ Some None → seated (set gs g (Some [])) ≡ seated gs
-made_seated gs g h =
-    let a = sum_by-set (λ (o : Option (List MonitorId)). option_map_or length o 0) gs g (Some []) None
-    (slice_get_within gs g None h) in
-    let b = ap (λ (o : Option (List MonitorId)). option_map_or length o 0) (get_or_from_slice_get gs g None None h) in
-    omega (arith, a, b)

@@ -1,29 +1,26 @@
 -- What is kept of groups when one of them changes.
-use Rattle.std.proofs.Common.{ℕ, ◌≡◌, ◌+◌, ◌-◌, ◌<◌, ◌≤◌, zero, suc, nat_eq, nat_lt, nat_le, Bool, true, false, cond, Option, Some}
+use Rattle.std.proofs.Common.{ℕ, ◌≡◌, ◌+◌, ◌-◌, ◌*◌, ◌<◌, ◌≤◌, zero, suc, nat_eq, nat_lt, Bool, true, false, cond, Option, Some}
 use Rattle.std.proofs.Common.{None, List, [], ◌∷◌, length, map, get_or, set, slice_get, refl, sym, ap, ◌∙◌, arith}
-use Rattle.std.proofs.Common.{subst, take, drop, inl, inr}
-use Rattle.std.specs.Prelude.{◌==◌, ◌||◌, not, is_none, is_some, MatchOption}
-use Rattle.std.specs.List.{AllByRecursion, IsDistinct, insert, list_any, remove, position_or_len, sum_by}
-use Rattle.std.specs.Option.{option_and_then, option_map, option_map_or}
-use Rattle.std.proofs.lemmas.Bool.{eqb-true, eqb-false, eq-eqb, ne_eqb, both_ways, lt-ltb, ltb-true, le-leb, cases_lt}
-use Rattle.std.proofs.lemmas.List.{length-set, length-map, map-set}
+use Rattle.std.proofs.Common.{subst, inl, inr}
+use Rattle.std.specs.Prelude.{◌==◌, ◌||◌, not, is_none, is_some}
+use Rattle.std.specs.List.{AllByRecursion, IsDistinct, insert, list_any, remove, position_or_len}
+use Rattle.std.specs.Option.{option_and_then, option_map_or}
+use Rattle.std.proofs.lemmas.Bool.{eqb-true, eqb-false, eq-eqb, ne_eqb, both_ways, lt-ltb, ltb-true, cases_lt}
+use Rattle.std.proofs.lemmas.List.{length-map, length-set}
 use Rattle.std.proofs.lemmas.List.Edits.{length-insert, length-remove}
-use Rattle.std.proofs.lemmas.List.Sums.{sum_by-cons, sum_by-insert, sum_by-remove, passes_at_first}
+use Rattle.std.proofs.lemmas.List.Sums.{get_or-le-sum_by, sum_by-cons, sum_by-insert, sum_by-le, sum_by-remove, sum_by-set, passes_at_first}
 use Rattle.std.proofs.Math.Dec.{eqb}
 use Rattle.std.proofs.lemmas.List.Folds.{list_any_at}
 use Rattle.std.proofs.lemmas.Map.Steps.{length-le_from_distinct_below}
-use Rattle.std.proofs.lemmas.Option.{same_Some, slice_get-get_or, slice_get-map, slice_get_past, slice_get_within}
+use Rattle.std.proofs.lemmas.Option.{slice_get-get_or, slice_get_past, slice_get_within}
 use Rattle.khe_base.proofs.ListLemmas.{below_length, get-set}
 use Rattle.khe_base.specs.Bits.{is_set}
-use Rattle.khe_base.specs.declared.limits.TheConstants.{GROUPS}
-use Rattle.khe_base.specs.declared.numbers.GroupId.{GroupId}
+use Rattle.khe_base.specs.declared.limits.TheConstants.{GROUPS, MONITORS}
 use Rattle.khe_base.specs.declared.numbers.MonitorId.{MonitorId}
-use Rattle.monitor_graph.proofs.JoinedLaws.{groups_of-joined, joined-insert, joined-remove, joined-make, joined-drop}
-use Rattle.monitor_graph.proofs.JoinedLaws.{joined-part, length-joined, sum_sizes, free_sizes, not_none}
 use Rattle.monitor_graph.proofs.ListLaws.{get-set_other}
-use Rattle.monitor_graph.specs.Groups.{Groups, AreGroups, children_at, has_group, has_child, group_at, is_among, occurs}
-use Rattle.monitor_graph.specs.Groups.{place_of, free_number, seated}
-use Rattle.monitor_graph.specs.Seating.{Seating, groups_of, sizes_of, joined, start_of, bit_of, AreSeated, IsSeating}
+use Rattle.monitor_graph.specs.Groups.{Groups, AreGroups, children_at, has_group, has_child, is_among, occurs}
+use Rattle.monitor_graph.specs.Groups.{place_of, free_number, seated, seats_at, HaveRoom}
+use Rattle.monitor_graph.specs.Seating.{bit_of, AreSeated}
 
 -- how often a monitor is among children
 pub among-occurs : (m : ℕ) (xs : List MonitorId) → is_among m xs ≡ nat_lt 0 (occurs m xs)
@@ -117,32 +114,50 @@ known_set gs g monitors o there old new k m h = at_group (nat_eq k g) refl
         ∙ ap (λ x. is_among m (listed x)) (get-set gs g o there)) ∙ h)
     at_group false f = old k m (sym (ap (λ x. is_among m (listed x)) (get-set_other gs g k o (eqb-false k g f))) ∙ h)
 
--- what is kept of groups is what the fields stand for
-pub seating : (gs : Groups) (monitors : ℕ) (sizes : List (Option ℕ)) (children : List MonitorId) (held : List ℕ)
-    → AreSeated gs monitors sizes children held → IsSeating gs monitors sizes children held
-seating gs monitors sizes children held s =
-    let a = s.sizes_ in
-    let b = s.children_ in
-    let v : groups_of sizes children ≡ gs = (λ i. groups_of (a i) (b i)) ∙ groups_of-joined gs in
-    record { view = v; kept = subst (λ x. AreSeated x monitors sizes children held) (sym v) s }
+-- how many children there are when one group changes
+pub size_of : (o : Option (List MonitorId)) → option_map_or length o 0 ≡ length (listed (Some o))
+size_of None = refl
+size_of (Some xs) = refl
+
+pub seated_set : (gs : Groups) (g : ℕ) (o : Option (List MonitorId)) → g < length gs
+    → seated (set gs g o) + length (children_at gs g) ≡ seated gs + length (listed (Some o))
+seated_set gs g o l =
+    let size : Option (List MonitorId) → ℕ = λ o. option_map_or length o 0 in
+    let a = sum_by-set size gs g o None l in
+    let b = size_of (get_or gs g None) ∙ ap (λ x. length (listed x)) (sym (slice_get-get_or gs g None l)) in
+    let c = size_of o in
+    omega (arith, a, b, c)
+
+-- and whether there is room for them
+pub room_set : (gs : Groups) (seats : List ℕ) (g : ℕ) (o : Option (List MonitorId)) → g < length gs
+    → HaveRoom gs seats → length (listed (Some o)) ≤ seats_at seats g → HaveRoom (set gs g o) seats
+room_set gs seats g o there old new k = go (nat_eq k g) refl
+  where
+    go : (t : Bool) → nat_eq k g ≡ t → length (children_at (set gs g o) k) ≤ seats_at seats k
+    go true f =
+        let same = eqb-true k g f in
+        let a = ap (λ j. length (children_at (set gs g o) j)) same ∙ ap (λ x. length (listed x)) (get-set gs g o there) in
+        let b = ap (seats_at seats) same in
+        omega (arith, a, b, new)
+    go false f =
+        let a = ap (λ x. length (listed x)) (get-set_other gs g k o (eqb-false k g f)) in
+        let b = old k in
+        omega (arith, a, b)
 
 -- a child more
-pub inserted : (gs : Groups) (monitors : ℕ) (sizes : List (Option ℕ)) (children : List MonitorId) (held held2 : List ℕ)
-    (g k : ℕ) (v : MonitorId) (xs : List MonitorId)
-    → AreSeated gs monitors sizes children held → slice_get gs g ≡ Some (Some xs) → k ≤ length xs → v.0 < monitors
+pub inserted : (gs : Groups) (monitors many : ℕ) (held held2 : List ℕ) (g k : ℕ) (v : MonitorId) (xs : List MonitorId)
+    → AreSeated gs monitors many held → slice_get gs g ≡ Some (Some xs) → k ≤ length xs → v.0 < monitors
     → is_among v.0 xs ≡ false → length held2 ≡ length held
     → ((n : ℕ) → is_set held2 n ≡ cond (nat_eq n (bit_of v.0 g)) true (is_set held n))
-    → IsSeating (set gs g (Some (insert xs k v))) monitors (set sizes g (Some (length xs + 1)))
-    (insert children (start_of g sizes + k) v) held2
-inserted gs monitors sizes children held held2 g k v xs s h l low fresh long new =
+    → AreSeated (set gs g (Some (insert xs k v))) monitors (many + 1) held2
+inserted gs monitors many held held2 g k v xs s h l low fresh long new =
     let there : g < length gs = slice_get_within gs g (Some xs) h in
     let small : g < 256 = (let e = s.numbers in omega (arith, there, e)) in
     let none = among_no v.0 xs fresh in
     let count : (m : ℕ) → occurs m (insert xs k v) ≡ occurs m xs + cond (v.0 == m) 1 0 =
     λ m. sum_by-insert (λ (c : MonitorId). cond (c.0 == m) 1 0) xs k v in
     let at_group = ap listed h in
-    seating (set gs g (Some (insert xs k v))) monitors (set sizes g (Some (length xs + 1)))
-    (insert children (start_of g sizes + k) v) held2 record {
+    record {
       few = s.few;
       numbers = length-set gs g (Some (insert xs k v)) ∙ s.numbers;
       known = known_set gs g monitors (Some (insert xs k v)) there s.known
@@ -153,10 +168,9 @@ inserted gs monitors sizes children held held2 g k v xs s h l low fresh long new
           ∙ (let z : occurs m xs + 0 ≡ occurs m xs = omega arith in z) ∙ ap (occurs m) (sym at_group))
           new;
       room = (let r = s.room in omega (arith, r, long));
-      sizes_ = ap (λ x. set x g (Some (length xs + 1))) s.sizes_
-          ∙ ap (λ n. set (sizes_of gs) g (Some n)) (sym (length-insert xs k v l))
-          ∙ sym (map-set (option_map length) gs g (Some (insert xs k v)));
-      children_ = (λ i. insert (s.children_ i) (start_of g (s.sizes_ i) + k) v) ∙ sym (joined-insert gs g k xs v h l);
+      counted =
+          (let a = seated_set gs g (Some (insert xs k v)) there in let b = length-insert xs k v l in
+          let c = ap length at_group in let n = s.counted in omega (arith, a, b, c, n));
     }
   where
     low_or : (m : ℕ) (t : Bool) → (v.0 == m) ≡ t → 0 < occurs m (insert xs k v)
@@ -167,27 +181,23 @@ inserted gs monitors sizes children held held2 g k v xs s h l low fresh long new
         s.known g m (ap (λ x. is_among m (listed x)) h ∙ yes_among m xs (omega (arith, a, d)))
 
 -- a child fewer
-pub removed : (gs : Groups) (monitors : ℕ) (sizes : List (Option ℕ)) (children : List MonitorId) (held held2 : List ℕ)
-    (g k v : ℕ) (d : MonitorId) (xs : List MonitorId)
-    → AreSeated gs monitors sizes children held → slice_get gs g ≡ Some (Some xs) → k < length xs
+pub removed : (gs : Groups) (monitors many : ℕ) (held held2 : List ℕ) (g k v : ℕ) (d : MonitorId) (xs : List MonitorId)
+    → AreSeated gs monitors many held → slice_get gs g ≡ Some (Some xs) → k < length xs
     → (get_or xs k d).0 ≡ v → length held2 ≡ length held
     → ((n : ℕ) → is_set held2 n ≡ cond (nat_eq n (bit_of v g)) false (is_set held n))
-    → IsSeating (set gs g (Some (remove xs k))) monitors (set sizes g (Some (length xs - 1)))
-    (remove children (start_of g sizes + k)) held2
-removed gs monitors sizes children held held2 g k v d xs s h l at_place long new =
+    → AreSeated (set gs g (Some (remove xs k))) monitors (many - 1) held2
+removed gs monitors many held held2 g k v d xs s h l at_place long new =
     let there : g < length gs = slice_get_within gs g (Some xs) h in
     let small : g < 256 = (let e = s.numbers in omega (arith, there, e)) in
     let count : (m : ℕ) → occurs m (remove xs k) + cond (v == m) 1 0 ≡ occurs m xs =
     λ m. ap (λ x. occurs m (remove xs k) + cond (x == m) 1 0) (sym at_place)
     ∙ sum_by-remove (λ (c : MonitorId). cond (c.0 == m) 1 0) xs k d l in
     let at_group = ap listed h in
-    let shorter : length (remove xs k) ≡ length xs - 1 = (let e = length-remove xs k l in omega (arith, e)) in
     let once : occurs v xs ≤ 1 = subst (λ x. occurs v x ≤ 1) at_group
     (subst (λ n. n ≤ 1) (sym (s.bits g v small)) (bit_small (is_set held (bit_of v g)))) in
     let mine : occurs v (remove xs k) ≡ 0 = (let c : occurs v (remove xs k) + 1 ≡ occurs v xs =
     ap (λ t. occurs v (remove xs k) + cond t 1 0) (sym (eq-eqb v v refl)) ∙ count v in omega (arith, c, once)) in
-    seating (set gs g (Some (remove xs k))) monitors (set sizes g (Some (length xs - 1)))
-    (remove children (start_of g sizes + k)) held2 record {
+    record {
       few = s.few;
       numbers = length-set gs g (Some (remove xs k)) ∙ s.numbers;
       known = known_set gs g monitors (Some (remove xs k)) there s.known
@@ -199,9 +209,9 @@ removed gs monitors sizes children held held2 g k v d xs s h l at_place long new
           ∙ ap (occurs m) (sym at_group))
           new;
       room = (let r = s.room in omega (arith, r, long));
-      sizes_ = ap (λ x. set x g (Some (length xs - 1))) s.sizes_ ∙ ap (λ n. set (sizes_of gs) g (Some n)) (sym shorter)
-          ∙ sym (map-set (option_map length) gs g (Some (remove xs k)));
-      children_ = (λ i. remove (s.children_ i) (start_of g (s.sizes_ i) + k)) ∙ sym (joined-remove gs g k xs h l);
+      counted =
+          (let a = seated_set gs g (Some (remove xs k)) there in let b = length-remove xs k l in
+          let c = ap length at_group in let n = s.counted in omega (arith, a, b, c, n, l));
     }
   where
     bit_small : (t : Bool) → cond t 1 0 ≤ 1
@@ -219,167 +229,59 @@ same_children gs g o a b there k = go (nat_eq k g) refl
         ∙ ap (children_at gs) (sym same)
     go false f = ap listed (get-set_other gs g k o (eqb-false k g f))
 
-turned : (gs : Groups) (monitors : ℕ) (sizes : List (Option ℕ)) (children : List MonitorId) (held : List ℕ) (g : ℕ)
-    (o : Option (List MonitorId))
-    → AreSeated gs monitors sizes children held → g < length gs → listed (Some o) ≡ [] → children_at gs g ≡ []
-    → joined (set gs g o) ≡ joined gs
-    → IsSeating (set gs g o) monitors (set sizes g (option_map length o)) children held
-turned gs monitors sizes children held g o s there a b j =
+pub turned : (gs : Groups) (monitors many : ℕ) (held : List ℕ) (g : ℕ) (o : Option (List MonitorId))
+    → AreSeated gs monitors many held → g < length gs → listed (Some o) ≡ [] → children_at gs g ≡ []
+    → AreSeated (set gs g o) monitors many held
+turned gs monitors many held g o s there a b =
     let same = same_children gs g o a b there in
-    seating (set gs g o) monitors (set sizes g (option_map length o)) children held record {
+    record {
       few = s.few;
       numbers = length-set gs g o ∙ s.numbers;
       known = λ k m h. s.known k m (ap (is_among m) (sym (same k)) ∙ h);
       bits = λ k m l. ap (occurs m) (same k) ∙ s.bits k m l;
       room = s.room;
-      sizes_ = ap (λ x. set x g (option_map length o)) s.sizes_ ∙ sym (map-set (option_map length) gs g o);
-      children_ = s.children_ ∙ sym j;
+      counted =
+          (let e = seated_set gs g o there in let c = ap length a in let d = ap length b in let n = s.counted in
+          omega (arith, e, c, d, n));
     }
 
-pub made : (gs : Groups) (monitors : ℕ) (sizes : List (Option ℕ)) (children : List MonitorId) (held : List ℕ) (g : ℕ)
-    → AreSeated gs monitors sizes children held → slice_get gs g ≡ Some None
-    → IsSeating (set gs g (Some [])) monitors (set sizes g (Some 0)) children held
-made gs monitors sizes children held g s h =
-    turned gs monitors sizes children held g (Some []) s (slice_get_within gs g None h) refl (ap listed h)
-    (joined-make gs g h)
+pub made : (gs : Groups) (monitors many : ℕ) (held : List ℕ) (g : ℕ) → AreSeated gs monitors many held
+    → slice_get gs g ≡ Some None → AreSeated (set gs g (Some [])) monitors many held
+made gs monitors many held g s h = turned gs monitors many held g (Some []) s (slice_get_within gs g None h) refl
+    (ap listed h)
 
-pub dropped : (gs : Groups) (monitors : ℕ) (sizes : List (Option ℕ)) (children : List MonitorId) (held : List ℕ) (g : ℕ)
-    → AreSeated gs monitors sizes children held → slice_get gs g ≡ Some (Some [])
-    → IsSeating (set gs g None) monitors (set sizes g None) children held
-dropped gs monitors sizes children held g s h =
-    turned gs monitors sizes children held g None s (slice_get_within gs g (Some []) h) refl (ap listed h)
-    (joined-drop gs g h)
-
--- a size
-pub size_is : (gs : Groups) (sizes : List (Option ℕ)) (g : ℕ) → sizes ≡ sizes_of gs
-    → option_and_then (λ x. x) (slice_get sizes g) ≡ option_map length (group_at gs g)
-size_is gs sizes g e = ap (λ s. option_and_then (λ x. x) (slice_get s g)) e
-    ∙ ap (option_and_then (λ x. x)) (slice_get-map (option_map length) gs g) ∙ go (slice_get gs g)
-  where
-    go : (o : Option (Option (List MonitorId))) → option_and_then (λ x. x) (option_map (option_map length) o)
-        ≡ option_map length (option_and_then (λ x. x) o)
-    go None = refl
-    go (Some None) = refl
-    go (Some (Some xs)) = refl
-
-pub sizes_long : (gs : Groups) (sizes : List (Option ℕ)) → sizes ≡ sizes_of gs → length sizes ≡ length gs
-sizes_long gs sizes e = ap length e ∙ length-map gs (option_map length)
+pub dropped : (gs : Groups) (monitors many : ℕ) (held : List ℕ) (g : ℕ) → AreSeated gs monitors many held
+    → slice_get gs g ≡ Some (Some []) → AreSeated (set gs g None) monitors many held
+dropped gs monitors many held g s h = turned gs monitors many held g None s (slice_get_within gs g (Some []) h) refl
+    (ap listed h)
 
 -- whether it has a child, by its bit; beyond the numbers of groups there are no children
-pub bit_tells : (gs : Groups) (monitors : ℕ) (sizes : List (Option ℕ)) (children : List MonitorId) (held : List ℕ)
-    (g m : ℕ)
-    → AreSeated gs monitors sizes children held → g < length sizes → is_set held (bit_of m g) ≡ has_child gs g m
-bit_tells gs monitors sizes children held g m s l =
-    go (is_set held (bit_of m g)) ∙ ap (nat_lt 0)
-    (sym (s.bits g m (let e = sizes_long gs sizes s.sizes_ in let f = s.numbers in omega (arith, l, e, f))))
+pub bit_tells : (gs : Groups) (monitors many : ℕ) (held : List ℕ) (g m : ℕ) → AreSeated gs monitors many held
+    → g < length gs → is_set held (bit_of m g) ≡ has_child gs g m
+bit_tells gs monitors many held g m s l =
+    go (is_set held (bit_of m g)) ∙ ap (nat_lt 0) (sym (s.bits g m (let f = s.numbers in omega (arith, l, f))))
     ∙ sym (among-occurs m (children_at gs g))
   where
     go : (t : Bool) → t ≡ nat_lt 0 (cond t 1 0)
     go true = refl
     go false = refl
 
-pub no_child : (gs : Groups) (sizes : List (Option ℕ)) (g m : ℕ) → sizes ≡ sizes_of gs → length sizes ≤ g
-    → has_child gs g m ≡ false
-no_child gs sizes g m e l = ap (λ x. is_among m (listed x))
-    (slice_get_past gs g (let f = sizes_long gs sizes e in omega (arith, l, f)))
-
--- a group with its size
-pub record HasPart (gs : Groups) (sizes : List (Option ℕ)) (children : List MonitorId) (g n : ℕ) : Type 0 where
-  pub there : slice_get gs g ≡ Some (Some (children_at gs g))
-  pub size : n ≡ length (children_at gs g)
-  pub part : take n (drop (start_of g sizes) children) ≡ children_at gs g
-  pub ends : start_of g sizes + n ≤ length children
-  pub known : g < length sizes
-  pub number : g < GROUPS
-
-pub part_is : (gs : Groups) (monitors : ℕ) (sizes : List (Option ℕ)) (children : List MonitorId) (held : List ℕ)
-    (g n : ℕ)
-    → AreSeated gs monitors sizes children held → Some n ≡ option_map length (group_at gs g)
-    → HasPart gs sizes children g n
-part_is gs monitors sizes children held g n s h =
-    let there : slice_get gs g ≡ Some (Some (children_at gs g)) = found (slice_get gs g) h in
-    let size : n ≡ length (children_at gs g) = long (slice_get gs g) h in
-    let p = joined-part gs g (children_at gs g) there in
-    let P : ℕ → Type 0 = λ k. (take k (drop (start_of g sizes) children) ≡ children_at gs g)
-    × (start_of g sizes + k ≤ length children) in
-    let Q : List (Option ℕ) → Type 0 = λ z. (take (length (children_at gs g)) (drop (start_of g z) children)
-    ≡ children_at gs g) × (start_of g z + length (children_at gs g) ≤ length children) in
-    let R : List MonitorId → Type 0 = λ c. (take (length (children_at gs g)) (drop (start_of g (sizes_of gs)) c)
-    ≡ children_at gs g) × (start_of g (sizes_of gs) + length (children_at gs g) ≤ length c) in
-    let q : P n = subst P (sym size) (subst Q (sym s.sizes_) (subst R (sym s.children_) p)) in
-    record {
-      there = there;
-      size = size;
-      part = q.0;
-      ends = q.1;
-      known =
-          (let l = slice_get_within gs g (Some (children_at gs g)) there in let e = sizes_long gs sizes s.sizes_ in
-          omega (arith, l, e));
-      number = (let l = slice_get_within gs g (Some (children_at gs g)) there in let e =
-          s.numbers in omega (arith, l, e));
-    }
-  where
-    found : (o : Option (Option (List MonitorId))) → Some n ≡ option_map length (option_and_then (λ x. x) o)
-        → o ≡ Some (Some (listed o))
-    found None h = absurd (not_none n (sym h))
-    found (Some None) h = absurd (not_none n (sym h))
-    found (Some (Some xs)) h = refl
-
-    long : (o : Option (Option (List MonitorId))) → Some n ≡ option_map length (option_and_then (λ x. x) o)
-        → n ≡ length (listed o)
-    long None h = absurd (not_none n (sym h))
-    long (Some None) h = absurd (not_none n (sym h))
-    long (Some (Some xs)) h = same_Some n (length xs) h
-
--- how many children there are
-pub seated_is : (gs : Groups) (monitors : ℕ) (sizes : List (Option ℕ)) (children : List MonitorId) (held : List ℕ)
-    → AreSeated gs monitors sizes children held → seated gs ≡ length children
-seated_is gs monitors sizes children held s = sym (length-joined gs) ∙ ap length (sym s.children_)
-
-pub sizes_sum : (gs : Groups) (monitors : ℕ) (sizes : List (Option ℕ)) (children : List MonitorId) (held : List ℕ)
-    → AreSeated gs monitors sizes children held
-    → sum_by (λ (o : Option ℕ). option_map_or (λ n. n) o 0) sizes ≡ length children
-sizes_sum gs monitors sizes children held s =
-    ap (sum_by (λ (o : Option ℕ). option_map_or (λ n. n) o 0)) s.sizes_ ∙ sum_sizes gs ∙ ap length (sym s.children_)
+pub no_child : (gs : Groups) (g m : ℕ) → length gs ≤ g → has_child gs g m ≡ false
+no_child gs g m l = ap (λ x. is_among m (listed x)) (slice_get_past gs g l)
 
 -- the first number of no group
-pub free_is : (gs : Groups) (sizes : List (Option ℕ)) (g : ℕ) → sizes ≡ sizes_of gs → g ≡ position_or_len is_none sizes
-    → g < length sizes → (g ≡ free_number gs) × (slice_get gs g ≡ Some None)
-free_is gs sizes g e p l =
-    let same : g ≡ free_number gs = p ∙ ap (position_or_len is_none) e ∙ free_sizes gs in
-    let low : g < length gs = (let f = sizes_long gs sizes e in omega (arith, l, f)) in
-    (same, at_free gs g same low)
+pub free_is : (gs : Groups) (g : ℕ) → g ≡ free_number gs → g < length gs
+    → (g ≡ free_number gs) × (slice_get gs g ≡ Some None)
+free_is gs g same low = (
+  same,
+  (let there : position_or_len is_none gs < length gs = subst (λ n. n < length gs) same low in
+      slice_get-get_or gs g None low ∙ ap Some (at_none (get_or gs g None)
+      (ap (λ n. is_none (get_or gs n None)) same ∙ passes_at_first is_none gs None there))),
+)
   where
     at_none : (o : Option (List MonitorId)) → is_none o ≡ true → o ≡ None
     at_none None h = refl
     at_none (Some xs) h = absurd (both_ways false refl h)
-
-    at_free : (gs : Groups) (g : ℕ) → g ≡ free_number gs → g < length gs → slice_get gs g ≡ Some None
-    at_free gs g same low =
-        let there : position_or_len is_none gs < length gs = subst (λ n. n < length gs) same low in
-        slice_get-get_or gs g None low ∙ ap Some (at_none (get_or gs g None)
-        (ap (λ n. is_none (get_or gs n None)) same ∙ passes_at_first is_none gs None there))
-
-pub none_free : (gs : Groups) (sizes : List (Option ℕ)) → sizes ≡ sizes_of gs
-    → length sizes ≤ position_or_len is_none sizes → nat_le (length gs) (free_number gs) ≡ true
-none_free gs sizes e l = le-leb (length gs) (free_number gs)
-    (let a = sizes_long gs sizes e in let b : position_or_len is_none sizes ≡ free_number gs =
-    ap (position_or_len is_none) e ∙ free_sizes gs in omega (arith, l, a, b))
-
--- the same, of the groups that are seen
-pub kept_as : (v w : Seating) (monitors : ℕ) (sizes : List (Option ℕ)) (children : List MonitorId) (held : List ℕ)
-    → v ≡ w
-    → AreSeated v.groups monitors sizes children held → AreSeated w.groups monitors sizes children held
-kept_as v w monitors sizes children held e s =
-    subst (λ (x : Seating). AreSeated x.groups monitors sizes children held) e s
-
-pub free_answer : (gs : Groups) (sizes : List (Option ℕ)) (r : Option GroupId) → sizes ≡ sizes_of gs
-    → MatchOption r (length sizes ≤ position_or_len is_none sizes)
-    (λ g. (g.0 ≡ position_or_len is_none sizes) × (g.0 < length sizes))
-    → MatchOption r (nat_le (length gs) (free_number gs) ≡ true)
-    (λ g. (g.0 ≡ free_number gs) × (slice_get gs g.0 ≡ Some None))
-free_answer gs sizes None e h = none_free gs sizes e h
-free_answer gs sizes (Some g) e h = free_is gs sizes g.0 e h.0 h.1
 
 -- the place of a child
 pub child_place : (xs : List MonitorId) (m : ℕ) (d : MonitorId) → is_among m xs ≡ true
@@ -408,18 +310,10 @@ only_place (x ∷ xs) m (suc k) d l e h =
     go true f c r = let t = there in absurd (omega (arith, h, c, t))
     go false f c r = let q = r (omega (arith, h, c)) in omega (arith, q)
 
--- the same fields, said otherwise
-pub seating_as : (gs : Groups) (monitors : ℕ) (sizes sizes2 : List (Option ℕ)) (children children2 : List MonitorId)
-    (held : List ℕ)
-    → IsSeating gs monitors sizes children held → sizes ≡ sizes2 → children ≡ children2
-    → IsSeating gs monitors sizes2 children2 held
-seating_as gs monitors sizes sizes2 children children2 held h a b =
-    subst (λ x. IsSeating gs monitors sizes2 x held) b (subst (λ x. IsSeating gs monitors x children held) a h)
-
 -- what callers may know
-pub valid_is : (gs : Groups) (monitors : ℕ) (sizes : List (Option ℕ)) (children : List MonitorId) (held : List ℕ)
-    → AreSeated gs monitors sizes children held → AreGroups monitors gs
-valid_is gs monitors sizes children held s = record { numbers = s.numbers; known = s.known; once = once }
+pub valid_is : (gs : Groups) (monitors many : ℕ) (held : List ℕ) → AreSeated gs monitors many held
+    → AreGroups monitors gs
+valid_is gs monitors many held s = record { numbers = s.numbers; known = s.known; once = once }
   where
     small : (t : Bool) → cond t 1 0 ≤ 1
     small true = omega arith
@@ -482,3 +376,33 @@ child_known gs monitors g k d v l =
     let xs = children_at gs g in
     let x = get_or xs k d in
     v.known g x.0 (list_any_at (λ (c : MonitorId). c.0 == x.0) xs k d l (eq-eqb x.0 x.0 refl))
+
+-- all groups together have no more children than each monitor can be one of
+pub seated_few : (gs : Groups) (n : ℕ) → ((g : ℕ) → length (children_at gs g) ≤ n) → seated gs ≤ length gs * n
+seated_few gs n h = sum_by-le (λ (o : Option (List MonitorId)). option_map_or length o 0) n gs each
+  where
+    each : (k : ℕ) (d : Option (List MonitorId)) → k < length gs → option_map_or length (get_or gs k d) 0 ≤ n
+    each k d l =
+        let a = size_of (get_or gs k d) ∙ ap (λ x. length (listed x)) (sym (slice_get-get_or gs k d l)) in
+        let b = h k in
+        omega (arith, a, b)
+
+pub many_few : (gs : Groups) (monitors many : ℕ) (held : List ℕ) → AreSeated gs monitors many held
+    → many ≤ GROUPS * MONITORS
+many_few gs monitors many held s =
+    let few = s.few in
+    let a = seated_few gs MONITORS (λ g. let b = few_is gs monitors g (valid_is gs monitors many held s) in
+    omega (arith, b, few)) in
+    let b : seated gs ≤ GROUPS * MONITORS = subst (λ n. seated gs ≤ n * MONITORS) s.numbers a in
+    let c = s.counted in
+    omega (arith, b, c)
+
+pub seated_at : (gs : Groups) (g : ℕ) → length (children_at gs g) ≤ seated gs
+seated_at gs g = elim (cases_lt g (length gs)) [
+  | inl l ↦
+      (let size : Option (List MonitorId) → ℕ = λ o. option_map_or length o 0 in
+      let a = get_or-le-sum_by size gs g None l in
+      let b = size_of (get_or gs g None) ∙ ap (λ x. length (listed x)) (sym (slice_get-get_or gs g None l)) in
+      omega (arith, a, b))
+  | inr past ↦ (let e = ap (λ x. length (listed x)) (slice_get_past gs g past) in omega (arith, e))
+]

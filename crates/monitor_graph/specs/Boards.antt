@@ -4,13 +4,13 @@ use Rattle.khe_base.specs.declared.numbers.MonitorId.{MonitorId}
 use Rattle.monitor_graph.specs.Groups.{Groups}
 use Rattle.monitor_graph.specs.declared.lines.Line.{Line}
 
--- a line for each monitor, the groups, the costs that were marked, and how many children there is
--- room for
+-- a line for each monitor, the groups, the costs that were marked, and for how many children there is
+-- room at each group number
 pub record Board : Type 0 where
   pub lines : List Line
   pub groups : Groups
   pub marked : List ℕ
-  pub seats : ℕ
+  pub seats : List ℕ
 
 -- which monitors are attached, and the groups: what six of the edits change
 pub record Grouping : Type 0 where

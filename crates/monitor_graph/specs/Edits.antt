@@ -22,14 +22,22 @@ is_of_groups (AddChild g m) = true
 is_of_groups (RemoveChild g m) = true
 is_of_groups _ = false
 
--- it needs a seat
+-- it needs a seat, and in which group
 abbrev pub adds_child : Edit → Bool
 adds_child (AddChild g m) = true
 adds_child _ = false
 
+abbrev pub adds_to : Edit → ℕ
+adds_to (AddChild g m) = g.0
+adds_to _ = 0
+
 abbrev pub inserts_child : Back → Bool
 inserts_child (Insert g m k) = true
 inserts_child _ = false
+
+abbrev pub inserts_to : Back → ℕ
+inserts_to (Insert g m k) = g.0
+inserts_to _ = 0
 
 abbrev pub is_attached : Grouping → ℕ → Bool
 is_attached s m = slice_index_or s.attached m false

@@ -1,6 +1,6 @@
 -- Groups of monitors: for each group number the children of the group, in the order in which they
 -- were added, or none where there is no such group.
-use Rattle.std.specs.Prelude.{ℕ, ◌≡◌, ◌==◌, ◌<◌, ◌≤◌, Bool, true, Option, is_none, is_some, List, [], length, slice_get}
+use Rattle.std.specs.Prelude.{ℕ, ◌≡◌, ◌==◌, ◌<◌, ◌≤◌, Bool, true, Option, is_none, is_some, List, [], length, slice_get, slice_index_or}
 use Rattle.std.specs.List.{count_by, list_any, position_or_len, remove, sum_by}
 use Rattle.std.specs.Option.{option_and_then, option_map_or}
 use Rattle.khe_base.specs.declared.limits.TheConstants.{GROUPS}
@@ -47,6 +47,21 @@ free_number groups = position_or_len is_none groups
 -- how many children all groups together have
 abbrev pub seated : Groups → ℕ
 seated groups = sum_by (λ o. option_map_or length o 0) groups
+
+-- for how many children there is room at a group number, by a list with a number for each; that there
+-- is room for one child more, where the number is one of a group; that there is room for the children
+-- that there are; and that there is no less room than before at any number
+abbrev pub seats_at : List ℕ → ℕ → ℕ
+seats_at seats g = slice_index_or seats g 0
+
+abbrev pub HasSeat : Groups → List ℕ → ℕ → Type 0
+HasSeat groups seats g = g < GROUPS → length (children_at groups g) < seats_at seats g
+
+abbrev pub HaveRoom : Groups → List ℕ → Type 0
+HaveRoom groups seats = (g : ℕ) → length (children_at groups g) ≤ seats_at seats g
+
+abbrev pub HaveAsMany : List ℕ → List ℕ → Type 0
+HaveAsMany before after = (g : ℕ) → seats_at before g ≤ seats_at after g
 
 -- groups of these monitors: each child is one of them, and stands in a group at most once
 pub record AreGroups (monitors : ℕ) (groups : Groups) : Type 0 where

@@ -4,8 +4,8 @@ ghost use Rattle.std.specs.Prelude.{◌≡◌, ◌<◌, [], true, false, None, S
 ghost use Rattle.std.specs.List.{insert};
 ghost use Rattle.khe_told.specs.declared.edits.Edit.TheVariants.{Attach, Detach, MakeGroup, DropGroup, AddChild, RemoveChild};
 ghost use Rattle.monitor_graph.specs.Boards.{KeepsValues, grouping_of, regrouped};
-ghost use Rattle.monitor_graph.specs.Edits.{is_of_groups, adds_child, inserts_child, refusal, edited, made, back_of, undone, CanUndo, CanInsert, checked, answer};
-ghost use Rattle.monitor_graph.specs.Groups.{children_at, free_number, has_child, place_of, seated};
+ghost use Rattle.monitor_graph.specs.Edits.{is_of_groups, adds_child, adds_to, inserts_child, inserts_to, refusal, edited, made, back_of, undone, CanUndo, CanInsert, checked, answer};
+ghost use Rattle.monitor_graph.specs.Groups.{children_at, free_number, has_child, place_of, HasSeat};
 
 use crate::graph::Graph;
 use crate::lines::Line;
@@ -108,10 +108,11 @@ impl Graph {
 
     /// Makes an edit of monitors and groups. It answers the number of the group that it made, if
     /// any, or the edit's refusal, and then nothing has changed. Deviations stay. An AddChild needs a
-    /// seat.
+    /// seat in its group. A RemoveChild looks for its child as `back` does, and moves the children of
+    /// its group that stand behind it; the others take constant time.
     pub fn edit(&mut self, edit: Edit) -> Result<Option<u32>, Refusal>
         requires ours { is_of_groups edit ≡ true }
-        requires room { adds_child edit ≡ true → seated self.old.groups < self.old.seats }
+        requires room { adds_child edit ≡ true → HasSeat self.old.groups self.old.seats (adds_to edit) }
         ensures answer { result ≡ answer (refusal (grouping_of self.old) edit) (made (grouping_of self.old) edit) }
         ensures grouping { OnOk result (grouping_of self.new ≡ edited (grouping_of self.old) edit) }
         ensures rest { KeepsValues self.old self.new }
@@ -121,7 +122,9 @@ impl Graph {
         Ok(self.apply(edit))
     }
 
-    /// The record that leads back from an accepted edit.
+    /// The record that leads back from an accepted edit. The place of a child that is removed is found
+    /// in logarithmic time where its group's children came in the order in which they first came into
+    /// any group, and by going through the group elsewhere.
     pub fn back(&self, edit: &Edit) -> Back
         requires ours { is_of_groups edit.now ≡ true }
         requires accepted { refusal (grouping_of self.now) edit.now ≡ None }
@@ -134,10 +137,11 @@ impl Graph {
     }
 
     /// Undoes the edit that a record leads back from. Deviations stay. A RemoveChild that is undone
-    /// needs a seat.
+    /// needs a seat in its group, and moves the children of its group that then stand behind the child;
+    /// an AddChild that is undone takes what a RemoveChild takes, and the others constant time.
     pub fn undo(&mut self, back: Back)
         requires leads { CanUndo (grouping_of self.old) back }
-        requires room { inserts_child back ≡ true → seated self.old.groups < self.old.seats }
+        requires room { inserts_child back ≡ true → HasSeat self.old.groups self.old.seats (inserts_to back) }
         ensures grouping { grouping_of self.new ≡ undone (grouping_of self.old) back }
         ensures rest { KeepsValues self.old self.new }
     {
@@ -159,7 +163,7 @@ impl Graph {
     /// Makes an edit that is accepted.
     fn apply(&mut self, edit: Edit) -> Option<u32>
         requires ours { is_of_groups edit ≡ true }
-        requires room { adds_child edit ≡ true → seated self.old.groups < self.old.seats }
+        requires room { adds_child edit ≡ true → HasSeat self.old.groups self.old.seats (adds_to edit) }
         requires accepted { refusal (grouping_of self.old) edit ≡ None }
         ensures made { result ≡ made (grouping_of self.old) edit }
         ensures grouping { grouping_of self.new ≡ edited (grouping_of self.old) edit }
@@ -270,7 +274,7 @@ impl Graph {
     }
 
     fn add_child(&mut self, group: GroupId, child: MonitorId)
-        requires room { seated self.old.groups < self.old.seats }
+        requires room { HasSeat self.old.groups self.old.seats group.0 }
         requires accepted { refusal (grouping_of self.old) (AddChild group child) ≡ None }
         ensures grouping { grouping_of self.new ≡ edited (grouping_of self.old) (AddChild group child) }
         ensures rest { KeepsValues self.old self.new }
@@ -281,7 +285,7 @@ impl Graph {
     }
 
     fn insert_child(&mut self, group: GroupId, child: MonitorId, place: usize)
-        requires room { seated self.old.groups < self.old.seats }
+        requires room { HasSeat self.old.groups self.old.seats group.0 }
         requires fits { CanInsert (grouping_of self.old) group.0 child.0 place }
         ensures grouping { grouping_of self.new ≡ regrouped self.old group.0 (Some (insert (children_at self.old.groups group.0) place child)) }
         ensures rest { KeepsValues self.old self.new }

@@ -1,12 +1,12 @@
 //! The graph of monitors: deviations, costs, totals and groups.
 
 ghost use Rattle.std.specs.Prelude.{◌≡◌, ◌<◌, ◌≤◌, ◌+◌, ℕ, List, [], true, length, slice_index, slice_set, replicate, All, IfOk, IsOk, OnOk, OnErr};
-ghost use Rattle.khe_base.specs.declared.limits.TheConstants.{GREATEST_DEVIATION, MONITORS};
+ghost use Rattle.khe_base.specs.declared.limits.TheConstants.{GREATEST_DEVIATION, GROUPS, MONITORS};
 ghost use Rattle.khe_instance.specs.Costs.{totals_of};
 ghost use Rattle.khe_instance.specs.declared.parts.Parts.{Parts};
 ghost use Rattle.monitor_graph.specs.Boards.{grouping_of, deviations_of, HaveSameRest};
 ghost use Rattle.monitor_graph.specs.Edits.{is_attached};
-ghost use Rattle.monitor_graph.specs.Groups.{AreGroups, has_group, child_at, seated};
+ghost use Rattle.monitor_graph.specs.Groups.{AreGroups, has_group, children_at, child_at, seats_at, HaveRoom, HaveAsMany};
 ghost use Rattle.monitor_graph.specs.Lines.{IsLine};
 ghost use Rattle.monitor_graph.specs.Opened.{IsFresh, groups_in};
 ghost use Rattle.monitor_graph.specs.Trials.{AreTotalsWith, IsStill};
@@ -26,8 +26,8 @@ use std::sync::ledger::Ledger;
 
 /// The deviations of all monitors, which of them are attached, and groups of monitors; and what
 /// follows from these: costs, totals, defects, and which monitors cost more than when the costs were
-/// marked. Contracts see the first three, the costs that were marked, and how many children there is
-/// room for. A graph has the definitions' values where it is of an instance (`IsOf`), as `open` gives
+/// marked. Contracts see the first three, the costs that were marked, and for how many children there
+/// is room at each group number. A graph has the definitions' values where it is of an instance (`IsOf`), as `open` gives
 /// it.
 ///
 /// A change of a deviation takes constant time, and so do all values but the next defect. Only `open`, `of_lines` and `room` take memory.
@@ -104,7 +104,7 @@ impl Graph {
     pub fn facts(&self)
         ensures monitors { length self.now.lines ≤ MONITORS }
         ensures groups { AreGroups (length self.now.lines) self.now.groups }
-        ensures seats { seated self.now.groups ≤ self.now.seats }
+        ensures seats { HaveRoom self.now.groups self.now.seats }
     {
         let _ = &self.lines;
         self.groups.facts();
@@ -231,17 +231,19 @@ impl Graph {
         self.costs.of(group)
     }
 
-    /// Makes room for this many children more. Where memory is refused, all stays as it was.
-    pub fn room(&mut self, n: u32) -> Result<(), NoMemory>
+    /// Makes room for this many children more in the group of a number, whether it is there or not.
+    /// Where memory is refused, all stays as it was. Room for one at a time is made in constant time on
+    /// average.
+    pub fn room(&mut self, group: GroupId, n: u32) -> Result<(), NoMemory>
         ensures lines { self.new.lines ≡ self.old.lines }
         ensures groups { self.new.groups ≡ self.old.groups }
         ensures marked { self.new.marked ≡ self.old.marked }
-        ensures kept { self.old.seats ≤ self.new.seats }
-        ensures ok { OnOk result (seated self.new.groups + n ≤ self.new.seats) }
+        ensures kept { HaveAsMany self.old.seats self.new.seats }
+        ensures ok { OnOk result (group.0 < GROUPS → length (children_at self.new.groups group.0) + n ≤ seats_at self.new.seats group.0) }
         ensures err { OnErr result (self.new ≡ self.old) }
-        ensures there { seated self.old.groups + n ≤ self.old.seats → IsOk result }
+        ensures there { length (children_at self.old.groups group.0) + n ≤ seats_at self.old.seats group.0 → IsOk result }
     {
-        self.groups.reserve(n as usize)
+        self.groups.reserve(group, n as usize)
     }
 
     /// Changes the deviation of a monitor, and what it costs, in constant time, and takes one step. A

@@ -1,13 +1,13 @@
 //! Groups of monitors, each with its children in order.
 
-ghost use Rattle.std.specs.Prelude.{ℕ, ◌≡◌, ◌<◌, ◌≤◌, ◌+◌, ◌^◌, [], true, false, Option, Some, None, is_none, drop, length, slice_get, slice_index_or, slice_set, take, All, AllPairs, ◌≢◌, IfOk, IsOk, OnOk, OnErr, MatchOption, nat_le};
-ghost use Rattle.std.specs.List.{insert, sum_by, position_or_len};
-ghost use Rattle.std.specs.Option.{option_map, option_map_or};
+ghost use Rattle.std.specs.Prelude.{ℕ, ◌≡◌, ◌<◌, ◌≤◌, ◌+◌, ◌^◌, [], true, false, Some, None, is_none, length, replicate, slice_get, slice_index_or, slice_set, All, AllPairs, ◌≢◌, IfOk, IsOk, OnOk, OnErr, MatchOption, nat_le};
+ghost use Rattle.std.specs.List.{insert, position_or_len};
 ghost use Rattle.khe_base.specs.declared.limits.TheConstants.{GROUPS, MONITORS};
-ghost use Rattle.monitor_graph.specs.Groups.{AreGroups, group_at, has_group, children_at, has_child, place_of, without, free_number, seated};
+ghost use Rattle.monitor_graph.specs.Groups.{AreGroups, has_group, children_at, has_child, place_of, without, free_number, seats_at, HasSeat, HaveRoom, HaveAsMany};
 ghost use Rattle.monitor_graph.specs.Opened.{groups_in};
-ghost use Rattle.monitor_graph.specs.Seating.{start_of};
+ghost use Rattle.monitor_graph.specs.Seating.{groups_on};
 
+use crate::benches::Bench;
 use khe_base::bits::{clear_bit, is_set, no_bits, set_bit};
 use khe_base::limits::GROUPS;
 use khe_base::{GroupId, MonitorId, NoMemory};
@@ -19,21 +19,19 @@ const BITS: usize = 256;
 
 /// Groups of monitors, each with its children in the order in which they were added.
 ///
-/// The children of all groups stand in one list, so that there is room for so many more in
-/// whichever groups they come to be. A bit for each monitor and group number tells in constant time
-/// whether a monitor is in a group.
+/// Each group number has a list of its own, so that a child that comes or goes moves children of its
+/// group alone. A bit for each monitor and group number tells in constant time whether a monitor is
+/// in a group.
 #[derive(Drop)]
 pub(crate) struct Groups {
-    /// How many children each group has; none where no group has the number.
-    sizes: Vec<Option<usize>>,
-    /// The children of all groups, group by group.
-    children: Vec<MonitorId>,
+    /// For each group number its group and the room for its children.
+    benches: Vec<Bench>,
+    /// How many children all groups together have.
+    many: usize,
     /// For each monitor the groups that it is in.
     held: Vec<u64>,
     /// Of how many monitors these are groups.
     monitors: usize,
-    /// How many children there is room for.
-    seats: usize,
     /// For each monitor how many had come before it when it last came into a group while it was in
     /// none. The search for a child goes by these; whatever they are, it finds the child.
     came: Vec<u32>,
@@ -42,20 +40,20 @@ pub(crate) struct Groups {
 }
 
 impl Model for Groups {
-    ghost use Rattle.std.specs.Prelude.{◌≤◌, vec_len, vec_capacity};
-    ghost use Rattle.monitor_graph.specs.Seating.{Seating, groups_of, AreSeated};
+    ghost use Rattle.monitor_graph.specs.Groups.{HaveRoom};
+    ghost use Rattle.monitor_graph.specs.Seating.{Seating, groups_on, seats_on, AreSeated};
 
     ghost Value = { Seating };
 
-    ghost view = { λ g. record { groups = groups_of g.sizes.items g.children.items; monitors = g.monitors; seats = g.seats } };
+    ghost view = { λ g. record { groups = groups_on g.benches.items; monitors = g.monitors; seats = seats_on g.benches.items } };
 
-    ghost invariant = { λ g. AreSeated (groups_of g.sizes.items g.children.items) g.monitors g.sizes.items g.children.items g.held.items
-        × (vec_len g.children ≤ g.seats) × (g.seats ≤ vec_capacity g.children) };
+    ghost invariant = { λ g. AreSeated (groups_on g.benches.items) g.monitors g.many g.held.items
+        × HaveRoom (groups_on g.benches.items) (seats_on g.benches.items) };
 }
 
 impl Groups {
-    /// No groups of so many monitors, with no seats. It takes time and memory in proportion to the
-    /// monitors.
+    /// No groups of so many monitors, without room for children. It takes time and
+    /// memory in proportion to the monitors.
     pub(crate) fn open(alloc: Global, monitors: usize) -> Result<Groups, NoMemory>
         requires { monitors ≤ MONITORS }
         ensures groups { IfOk result (λ g. g.groups ≡ groups_in []) }
@@ -63,9 +61,8 @@ impl Groups {
     {
         Ok(Groups {
             monitors,
-            seats: 0,
-            children: Vec::new(alloc),
-            sizes: vec![in alloc; None; GROUPS as usize]?,
+            many: 0,
+            benches: no_benches(alloc)?,
             held: no_bits(alloc, BITS / 64 * monitors)?,
             came: vec![in alloc; 0; monitors]?,
             arrivals: 0,
@@ -77,7 +74,7 @@ impl Groups {
         requires empty { slice_get self.old.groups group.0 ≡ Some (Some []) }
         requires known { All (λ m. m.0 < self.old.monitors) children.now }
         requires once { AllPairs (λ x y. x ≢ y) children.now }
-        requires room { seated self.old.groups + length children.now ≤ self.old.seats }
+        requires room { group.0 < GROUPS → length children.now ≤ seats_at self.old.seats group.0 }
         ensures groups { self.new.groups ≡ slice_set self.old.groups group.0 (Some children.now) }
         ensures monitors { self.new.monitors ≡ self.old.monitors }
         ensures seats { self.new.seats ≡ self.old.seats }
@@ -92,39 +89,33 @@ impl Groups {
     pub(crate) fn facts(&self)
         ensures valid { AreGroups self.now.monitors self.now.groups }
         ensures few { (g : ℕ) → length (children_at self.now.groups g) ≤ self.now.monitors }
-        ensures seats { seated self.now.groups ≤ self.now.seats }
+        ensures seats { HaveRoom self.now.groups self.now.seats }
     {
-        let _ = &self.children;
-    }
-
-    /// How many children a group has, in constant time; `None` where no group has the number.
-    fn size(&self, group: GroupId) -> Option<usize>
-        ensures { result ≡ option_map length (group_at self.now.groups group.0) }
-    {
-        let place = group.0 as usize;
-        if place < self.sizes.len() {
-            self.sizes[place]
-        } else {
-            None
-        }
+        let _ = &self.benches;
     }
 
     /// Whether a group has this number, in constant time.
     pub(crate) fn has(&self, group: GroupId) -> bool
         ensures { result ≡ has_group self.now.groups group.0 }
     {
-        self.size(group).is_some()
+        let place = group.0 as usize;
+        if place < self.benches.len() {
+            self.benches[place].is_taken()
+        } else {
+            false
+        }
     }
 
-    /// The children of a group, in their order; none where no group has the number.
+    /// The children of a group, in their order, in constant time; none where no group has the number.
     pub(crate) fn children(&self, group: GroupId) -> &[MonitorId]
         ensures { result.now ≡ children_at self.now.groups group.0 }
     {
-        let Some(size) = self.size(group) else {
-            return &[];
-        };
-        let start = start(self.sizes.as_slice(), group.0 as usize);
-        part(self.children.as_slice(), start, size)
+        let place = group.0 as usize;
+        if place < self.benches.len() {
+            self.benches[place].children()
+        } else {
+            &[]
+        }
     }
 
     /// Whether a monitor is a child of a group, in constant time.
@@ -132,14 +123,14 @@ impl Groups {
         ensures { result ≡ has_child self.now.groups group.0 child.0 }
     {
         let group = group.0 as usize;
-        group < self.sizes.len() && is_set(self.held.as_slice(), BITS * child.0 as usize + group)
+        group < self.benches.len() && is_set(self.held.as_slice(), BITS * child.0 as usize + group)
     }
 
     /// Whether a monitor is in no group, in constant time.
     pub(crate) fn is_alone(&self, child: MonitorId) -> bool
         ensures { result ≡ true → (g : ℕ) → has_child self.now.groups g child.0 ≡ false }
     {
-        if self.children.is_empty() {
+        if self.many == 0 {
             return true;
         }
         is_clear(self.held.as_slice(), BITS / 64 * child.0 as usize)
@@ -151,7 +142,7 @@ impl Groups {
             (nat_le (length self.now.groups) (free_number self.now.groups) ≡ true)
             (λ g. (g.0 ≡ free_number self.now.groups) × (slice_get self.now.groups g.0 ≡ Some None)) }
     {
-        first_none(self.sizes.as_slice())
+        first_none(self.benches.as_slice())
     }
 
     /// Makes a group without children, of a number that no group has.
@@ -161,7 +152,7 @@ impl Groups {
         ensures monitors { self.new.monitors ≡ self.old.monitors }
         ensures seats { self.new.seats ≡ self.old.seats }
     {
-        self.sizes[group.0 as usize] = Some(0);
+        self.benches[group.0 as usize].take();
     }
 
     /// Drops a group without children.
@@ -171,7 +162,7 @@ impl Groups {
         ensures monitors { self.new.monitors ≡ self.old.monitors }
         ensures seats { self.new.seats ≡ self.old.seats }
     {
-        self.sizes[group.0 as usize] = None;
+        self.benches[group.0 as usize].leave();
     }
 
     /// Notes that a monitor comes into a group, where it is in none so far.
@@ -185,25 +176,20 @@ impl Groups {
         }
     }
 
-    /// Puts a child at a place of a group. The children of later groups move by one.
+    /// Puts a child at a place of a group. The children behind it in its group move by one.
     pub(crate) fn insert(&mut self, group: GroupId, child: MonitorId, place: usize)
         requires there { has_group self.old.groups group.0 ≡ true }
         requires known { child.0 < self.old.monitors }
         requires place { place ≤ length (children_at self.old.groups group.0) }
         requires fresh { has_child self.old.groups group.0 child.0 ≡ false }
-        requires room { seated self.old.groups < self.old.seats }
+        requires room { HasSeat self.old.groups self.old.seats group.0 }
         ensures groups { self.new.groups ≡ slice_set self.old.groups group.0 (Some (insert (children_at self.old.groups group.0) place child)) }
         ensures monitors { self.new.monitors ≡ self.old.monitors }
         ensures seats { self.new.seats ≡ self.old.seats }
     {
-        let Some(size) = self.size(group) else {
-            unreachable!()
-        };
-        let start = start(self.sizes.as_slice(), group.0 as usize);
-        let Ok(()) = self.children.insert(start + place, child) else {
-            unreachable!()
-        };
-        self.sizes[group.0 as usize] = Some(size + 1);
+        self.facts();
+        self.benches[group.0 as usize].insert(child, place);
+        self.many += 1;
         set_bit(&mut self.held, BITS * child.0 as usize + group.0 as usize);
     }
 
@@ -213,7 +199,7 @@ impl Groups {
         requires known { child.0 < self.old.monitors }
         requires place { place ≤ length (children_at self.old.groups group.0) }
         requires fresh { has_child self.old.groups group.0 child.0 ≡ false }
-        requires room { seated self.old.groups < self.old.seats }
+        requires room { HasSeat self.old.groups self.old.seats group.0 }
         ensures groups { self.new.groups ≡ slice_set self.old.groups group.0 (Some (insert (children_at self.old.groups group.0) place child)) }
         ensures monitors { self.new.monitors ≡ self.old.monitors }
         ensures seats { self.new.seats ≡ self.old.seats }
@@ -222,7 +208,8 @@ impl Groups {
         self.insert(group, child, place);
     }
 
-    /// Takes a child out of a group. The children of later groups move by one.
+    /// Takes a child out of a group. It is looked for by `place`, and the children behind it in its
+    /// group move by one.
     pub(crate) fn remove(&mut self, group: GroupId, child: MonitorId)
         requires there { has_child self.old.groups group.0 child.0 ≡ true }
         ensures groups { self.new.groups ≡ slice_set self.old.groups group.0 (Some (without child.0 (children_at self.old.groups group.0))) }
@@ -230,12 +217,8 @@ impl Groups {
         ensures seats { self.new.seats ≡ self.old.seats }
     {
         let place = self.place(group, child);
-        let Some(size) = self.size(group) else {
-            unreachable!()
-        };
-        let start = start(self.sizes.as_slice(), group.0 as usize);
-        let _ = self.children.remove(start + place);
-        self.sizes[group.0 as usize] = Some(size - 1);
+        self.benches[group.0 as usize].remove(place);
+        self.many -= 1;
         clear_bit(&mut self.held, BITS * child.0 as usize + group.0 as usize);
     }
 
@@ -254,45 +237,33 @@ impl Groups {
         }
     }
 
-    /// Makes room for this many children more. Where memory is refused, all stays as it was.
-    pub(crate) fn reserve(&mut self, n: usize) -> Result<(), NoMemory>
+    /// Makes room for this many children more in the group of a number, whether it is there or not.
+    /// Where memory is refused, all stays as it was.
+    pub(crate) fn reserve(&mut self, group: GroupId, n: usize) -> Result<(), NoMemory>
         ensures groups { self.new.groups ≡ self.old.groups }
         ensures monitors { self.new.monitors ≡ self.old.monitors }
-        ensures kept { self.old.seats ≤ self.new.seats }
-        ensures ok { OnOk result (seated self.new.groups + n ≤ self.new.seats) }
+        ensures kept { HaveAsMany self.old.seats self.new.seats }
+        ensures ok { OnOk result (group.0 < GROUPS → length (children_at self.new.groups group.0) + n ≤ seats_at self.new.seats group.0) }
         ensures err { OnErr result (self.new ≡ self.old) }
-        ensures there { seated self.old.groups + n ≤ self.old.seats → IsOk result }
+        ensures there { length (children_at self.old.groups group.0) + n ≤ seats_at self.old.seats group.0 → IsOk result }
     {
-        let taken = self.children.len();
-        if self.seats - taken < n {
-            self.children.reserve(n)?;
-            self.seats = taken + n;
+        let place = group.0 as usize;
+        if place < self.benches.len() {
+            self.benches[place].reserve(n)?;
         }
         Ok(())
     }
 }
 
-/// How many children stand before those of a group, in time in proportion to its number.
-fn start(sizes: &[Option<usize>], group: usize) -> usize
-    requires there { group ≤ length sizes.now }
-    requires few { sum_by (λ o. option_map_or (λ n. n) o 0) sizes.now < 2 ^ 64 }
-    ensures { result ≡ start_of group sizes.now }
+/// A bench for each group number, without groups and without room.
+fn no_benches(alloc: Global) -> Result<Vec<Bench>, NoMemory>
+    ensures { IfOk result (λ benches. benches.items ≡ replicate GROUPS (record { group = None; seats = 0 })) }
 {
-    let mut total = 0;
-    for place in 0..group {
-        if let Some(size) = sizes[place] {
-            total += size;
-        }
+    let mut benches = Vec::with_capacity(alloc, GROUPS as usize)?;
+    for _ in 0..GROUPS {
+        benches.push(Bench::new(alloc))?;
     }
-    total
-}
-
-/// So many children from a place on.
-fn part(children: &[MonitorId], start: usize, size: usize) -> &[MonitorId]
-    requires { start + size ≤ length children.now }
-    ensures { result.now ≡ take size (drop start children.now) }
-{
-    &children[start..start + size]
+    Ok(benches)
 }
 
 /// Whether no bit is set in the words of a monitor, from this one on.
@@ -309,14 +280,14 @@ fn is_clear(held: &[u64], first: usize) -> bool
 }
 
 /// The first number of no group.
-fn first_none(sizes: &[Option<usize>]) -> Option<GroupId>
-    requires { length sizes.now < 2 ^ 32 }
+fn first_none(benches: &[Bench]) -> Option<GroupId>
+    requires { length benches.now < 2 ^ 32 }
     ensures { MatchOption result
-        (length sizes.now ≤ position_or_len is_none sizes.now)
-        (λ g. (g.0 ≡ position_or_len is_none sizes.now) × (g.0 < length sizes.now)) }
+        (length benches.now ≤ position_or_len is_none (groups_on benches.now))
+        (λ g. (g.0 ≡ position_or_len is_none (groups_on benches.now)) × (g.0 < length benches.now)) }
 {
-    for place in 0..sizes.len() {
-        if sizes[place].is_none() {
+    for place in 0..benches.len() {
+        if !benches[place].is_taken() {
             return Some(GroupId(place as u32));
         }
     }

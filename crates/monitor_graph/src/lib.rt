@@ -2,6 +2,7 @@
 //! numbers, the monitors that became dearer, and groups of monitors.
 #![tactic(auto)]
 
+mod benches;
 mod dearer;
 mod edits;
 mod graph;

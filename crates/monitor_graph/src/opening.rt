@@ -72,7 +72,7 @@ impl Graph {
         ensures lines { self.new.lines ≡ self.old.lines }
         ensures marked { self.new.marked ≡ self.old.marked }
     {
-        self.groups.reserve(group.children.len())?;
+        self.groups.reserve(group.group, group.children.len())?;
         self.groups.make(group.group);
         self.groups.put_all(group.group, group.children.as_slice());
         self.costs

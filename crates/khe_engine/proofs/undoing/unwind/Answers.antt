@@ -3,7 +3,7 @@ use Rattle.khe_told.specs.Watchers.{watcher_counts}
 use Rattle.undo_paths.specs.Stack.{inner, outer}
 use Rattle.khe_engine.specs.States.{state_of, undone, undone_changes}
 use Rattle.khe_engine.specs.Records.{undone_all, MarksLead, undo_cost}
-use Rattle.khe_engine.proofs.RecordLaws.{pop_lead, pop_marks, pop_records, marks_more}
+use Rattle.khe_engine.proofs.RecordLaws.{pop_lead, pop_marks, pop_records}
 use Rattle.khe_engine.proofs.undoing.unwind.Goals as goal
 
 pub loop-back-preserved : goal.loop-back-preserved
@@ -24,8 +24,7 @@ loop-back-preserved g c =
     record {
       parts = r.parts;
       state = ap (λ x. undone_all x (inner j1)) st ∙ sym (ap (undone_all s0) first) ∙ v.state;
-      leads = marks_more p n c.revert.new.listeners.graph.seats s1 j1 r.seats
-          (subst (λ x. MarksLead p n x j1) (sym st) l.1);
+      leads = subst (λ x. MarksLead p x s1 j1) (sym r.seats) (subst (λ x. MarksLead p n x j1) (sym st) l.1);
       outer = sym (ap outer e.0) ∙ v.outer;
       marks = pop_marks j0 j1 b e.0 e.1 ∙ v.marks;
       spare = let a = pop_records j0 j1 b e.0 e.1 in let f = v.spare in let d = e.2 in omega (arith, a, f, d);
@@ -34,7 +33,7 @@ loop-back-preserved g c =
       values = r.values;
       idle = r.idle;
       marked = r.marked ∙ v.marked;
-      seats = let a = v.seats in let f = r.seats in omega (arith, a, f);
+      seats = r.seats ∙ v.seats;
       steps =
           let a = v.steps in
           let f = r.steps in

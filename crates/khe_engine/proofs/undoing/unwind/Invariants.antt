@@ -23,7 +23,7 @@ invariant-loop-back g l =
       values : HasValues p l.solution.slots l.listeners.graph;
       idle : IsIdle p l.listeners.waiting;
       marked : l.listeners.graph.marked ≡ l.fn.listeners.graph.marked;
-      seats : l.fn.listeners.graph.seats ≤ l.listeners.graph.seats;
+      seats : l.listeners.graph.seats ≡ l.fn.listeners.graph.seats;
       steps : l.steps + undo_cost p now (inner l.journal.since) ≤ l.fn.steps + undo_cost p then
           (inner l.fn.journal.since);
     }

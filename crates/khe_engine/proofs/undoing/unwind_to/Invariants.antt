@@ -21,7 +21,7 @@ invariant-loop-solution g l =
       values : HasValues p l.solution.slots l.listeners.graph;
       idle : IsIdle p l.listeners.waiting;
       marked : l.listeners.graph.marked ≡ l.fn.listeners.graph.marked;
-      seats : l.fn.listeners.graph.seats ≤ l.listeners.graph.seats;
+      seats : l.listeners.graph.seats ≡ l.fn.listeners.graph.seats;
       spare : l.fn.journal.spare + records l.fn.journal.since ≤ l.journal.spare + records l.journal.since;
       steps : l.steps + trails_cost p (length l.journal.since + 1 - l.k)
           (saved_of now l.journal.since) ≤ l.fn.steps + trails_cost p (length l.fn.journal.since + 1 - l.k)

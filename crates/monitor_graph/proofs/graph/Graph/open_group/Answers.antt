@@ -3,22 +3,16 @@ use Rattle.std.proofs.lemmas.List.{length-set}
 use Rattle.std.proofs.lemmas.Option.{slice_get_within}
 use Rattle.monitor_graph.specs.Boards.{Board}
 use Rattle.monitor_graph.specs.GroupCosts.{AreGroupCosts}
-use Rattle.monitor_graph.specs.Groups.{Groups, has_group, seated}
+use Rattle.monitor_graph.specs.Groups.{Groups, has_group, seats_at}
 use Rattle.monitor_graph.proofs.GroupCostLaws.{set_there}
-use Rattle.monitor_graph.proofs.OpenLaws.{made_seated}
 use Rattle.monitor_graph.proofs.graph.Graph.open_group.Goals as goal
 
 pub put_all-requires-clause-room : goal.put_all-requires-clause-room
-put_all-requires-clause-room c =
-    let g = c.args.group.now.group.0 in
-    let same : c.reserve.new.self.groups ≡ c.args.self.now.groups =
-    c.in_ok-reserve.ensures.groups ∙ ap (λ (b : Board). b.groups) c.self.view_is in
-    let free = subst (λ (gs : Groups). slice_get gs g ≡ Some None) (sym same) c.requires.free in
-    let made = ap seated c.make.ensures.groups ∙ made_seated c.reserve.new.self.groups g free in
-    let room = c.in_ok-reserve.ensures.ok in
-    let seats = c.make.ensures.seats in
+put_all-requires-clause-room c number =
+    let room = c.in_ok-reserve.ensures.ok number in
+    let seats = ap (λ x. seats_at x c.args.group.now.group.0) c.make.ensures.seats in
     let long = ap length c.as_slice.ensures in
-    omega (arith, made, room, seats, long)
+    omega (arith, room, seats, long)
 
 pub returns-clause-groups : goal.returns-clause-groups
 returns-clause-groups c =

@@ -1,111 +1,71 @@
-use Rattle.std.proofs.Common.{◌≡◌, ◌+◌, ◌<◌, Some, length, set, subst, sym, ap, ◌∙◌, arith}
+use Rattle.std.proofs.Common.{Some, set, subst, sym, ap, ◌∙◌, arith}
 use Rattle.std.specs.List.{insert}
-use Rattle.monitor_graph.specs.Groups.{children_at, seated}
-use Rattle.monitor_graph.specs.Seating.{Seating, start_of}
-use Rattle.monitor_graph.proofs.SeatLaws.{kept_as, part_is, seated_is, inserted, seating_as}
+use Rattle.monitor_graph.specs.Groups.{children_at}
+use Rattle.monitor_graph.specs.Seating.{Seating, groups_on}
+use Rattle.monitor_graph.proofs.BenchLaws.{CanSit, benches_long, known_bench, sits}
+use Rattle.monitor_graph.proofs.SeatLaws.{many_few}
 use Rattle.monitor_graph.proofs.groups.Groups.insert.Goals as goal
 
-pub overflow_add-start : goal.overflow_add-start
-overflow_add-start c =
-    let a = kept_as _ _ c.self.inside.monitors c.self.inside.sizes.items c.self.inside.children.items
-    c.self.inside.held.items c.self.view_is c.self.invariant.0 in
-    let p = part_is c.args.self.now.groups c.self.inside.monitors c.self.inside.sizes.items c.self.inside.children.items
-    c.self.inside.held.items c.args.group.0 c.in-Some.size a (sym c.in-Some.is ∙ c.size.ensures) in
-    let start : c.start-start.result ≡ start_of c.args.group.0 c.self.inside.sizes.items =
-    c.start-start.ensures ∙ ap (start_of c.args.group.0) c.as_slice.ensures.value in
-    omega (arith, p, start, c.requires.place)
-
-pub insert-requires : goal.insert-requires
-insert-requires c =
-    let a = kept_as _ _ c.self.inside.monitors c.self.inside.sizes.items c.self.inside.children.items
-    c.self.inside.held.items c.self.view_is c.self.invariant.0 in
-    let p = part_is c.args.self.now.groups c.self.inside.monitors c.self.inside.sizes.items c.self.inside.children.items
-    c.self.inside.held.items c.args.group.0 c.in-Some.size a (sym c.in-Some.is ∙ c.size.ensures) in
-    let start : c.start-start.result ≡ start_of c.args.group.0 c.self.inside.sizes.items =
-    c.start-start.ensures ∙ ap (start_of c.args.group.0) c.as_slice.ensures.value in
-    omega (arith, p, start, c.requires.place)
-
-pub unreachable-requires-in_default-insert : goal.unreachable-requires-in_default-insert
-unreachable-requires-in_default-insert c =
-    let a = kept_as _ _ c.self.inside.monitors c.self.inside.sizes.items c.self.inside.children.items
-    c.self.inside.held.items c.self.view_is c.self.invariant.0 in
-    let many : seated c.args.self.now.groups ≡ length c.self.inside.children.items =
-    seated_is c.args.self.now.groups c.self.inside.monitors c.self.inside.sizes.items c.self.inside.children.items
-    c.self.inside.held.items a in
-    let seats : c.self.inside.seats ≡ c.args.self.now.seats = ap (λ (v : Seating). v.seats) c.self.view_is in
-    let full = c.in_default-insert.ensures.full in
-    omega (arith, many, seats, full, c.requires.room)
-
-pub overflow_add-size : goal.overflow_add-size
-overflow_add-size c =
-    let a = kept_as _ _ c.self.inside.monitors c.self.inside.sizes.items c.self.inside.children.items
-    c.self.inside.held.items c.self.view_is c.self.invariant.0 in
-    let p = part_is c.args.self.now.groups c.self.inside.monitors c.self.inside.sizes.items c.self.inside.children.items
-    c.self.inside.held.items c.args.group.0 c.in-Some.size a (sym c.in-Some.is ∙ c.size.ensures) in
-    omega (arith, p)
-
-pub index_mut-requires : goal.index_mut-requires
-index_mut-requires c =
-    let a = kept_as _ _ c.self.inside.monitors c.self.inside.sizes.items c.self.inside.children.items
-    c.self.inside.held.items c.self.view_is c.self.invariant.0 in
-    let p = part_is c.args.self.now.groups c.self.inside.monitors c.self.inside.sizes.items c.self.inside.children.items
-    c.self.inside.held.items c.args.group.0 c.in-Some.size a (sym c.in-Some.is ∙ c.size.ensures) in
-    omega (arith, p)
+pub overflow_add-self : goal.overflow_add-self
+overflow_add-self c =
+    let s = c.self.inside in
+    let few = many_few (groups_on s.benches.items) s.monitors s.many s.held.items c.self.invariant.0 in
+    omega (arith, few)
 
 pub set_bit-requires : goal.set_bit-requires
 set_bit-requires c =
-    let a = kept_as _ _ c.self.inside.monitors c.self.inside.sizes.items c.self.inside.children.items
-    c.self.inside.held.items c.self.view_is c.self.invariant.0 in
-    let p = part_is c.args.self.now.groups c.self.inside.monitors c.self.inside.sizes.items c.self.inside.children.items
-    c.self.inside.held.items c.args.group.0 c.in-Some.size a (sym c.in-Some.is ∙ c.size.ensures) in
-    let low : c.args.child.0 < c.self.inside.monitors =
-    subst (λ (v : Seating). c.args.child.0 < v.monitors) (sym c.self.view_is) c.requires.known in
-    let r = a.room in
-    omega (arith, p, low, r)
+    let s = c.self.inside in
+    let low = known_bench s.benches.items c.args.self.now.groups c.args.group.0
+    (ap (λ (v : Seating). v.groups) c.self.view_is) c.requires.there in
+    let long = benches_long s.benches.items in
+    let numbers = c.self.invariant.0.numbers in
+    let room = c.self.invariant.0.room in
+    let monitors = ap (λ (v : Seating). v.monitors) c.self.view_is in
+    let known = c.requires.known in
+    omega (arith, low, long, numbers, room, monitors, known)
 
 pub invariant_of-self : goal.invariant_of-self
 invariant_of-self c =
-    let a = kept_as _ _ c.self.inside.monitors c.self.inside.sizes.items c.self.inside.children.items
-    c.self.inside.held.items c.self.view_is c.self.invariant.0 in
-    let p = part_is c.args.self.now.groups c.self.inside.monitors c.self.inside.sizes.items c.self.inside.children.items
-    c.self.inside.held.items c.args.group.0 c.in-Some.size a (sym c.in-Some.is ∙ c.size.ensures) in
-    let start : c.start-start.result ≡ start_of c.args.group.0 c.self.inside.sizes.items =
-    c.start-start.ensures ∙ ap (start_of c.args.group.0) c.as_slice.ensures.value in
-    let low : c.args.child.0 < c.self.inside.monitors =
-    subst (λ (v : Seating). c.args.child.0 < v.monitors) (sym c.self.view_is) c.requires.known in
-    let many : seated c.args.self.now.groups ≡ length c.self.inside.children.items =
-    seated_is c.args.self.now.groups c.self.inside.monitors c.self.inside.sizes.items c.self.inside.children.items
-    c.self.inside.held.items a in
-    let seats : c.self.inside.seats ≡ c.args.self.now.seats = ap (λ (v : Seating). v.seats) c.self.view_is in
-    let is_seated = seating_as _ _ _ _ _ _ _
-    (inserted c.args.self.now.groups c.self.inside.monitors c.self.inside.sizes.items c.self.inside.children.items
-    c.self.inside.held.items c.set_bit.new.words.items c.args.group.0 c.args.place c.args.child
-    (children_at c.args.self.now.groups c.args.group.0)
-    a p.there c.requires.place low c.requires.fresh c.set_bit.ensures.length c.set_bit.ensures.bits)
-    (ap (λ n. set c.self.inside.sizes.items c.args.group.0 (Some (n + 1))) (sym p.size))
-    (ap (λ n. insert c.self.inside.children.items (n + c.args.place) c.args.child) (sym start)
-    ∙ sym c.in-Ok.ensures.items) in (
-      is_seated.kept,
-      (let e = c.in-Ok.ensures.len in omega (arith, many, seats, c.requires.room, e)),
-      (let e = c.insert.ensures.capacity in omega (arith, e)),
-    )
+    let s = c.self.inside in
+    let can = subst (λ v. CanSit v c.args.group.0 c.args.place c.args.child) (sym c.self.view_is) (record {
+      there = c.requires.there;
+      known = c.requires.known;
+      place = c.requires.place;
+      fresh = c.requires.fresh;
+      room = c.requires.room;
+    }) in
+    let t = sits s.benches.items c.args.group.0 c.args.place c.args.child c.index_mut.result.now c.insert.new.self
+    s.monitors s.many s.held.items c.set_bit.new.words.items c.self.invariant.0 c.self.invariant.1 can
+    c.index_mut.ensures.value c.insert.ensures c.set_bit.ensures.length c.set_bit.ensures.bits in
+    (t.kept, t.room)
 
 pub returns-clause-groups : goal.returns-clause-groups
 returns-clause-groups c =
-    let a = kept_as _ _ c.self.inside.monitors c.self.inside.sizes.items c.self.inside.children.items
-    c.self.inside.held.items c.self.view_is c.self.invariant.0 in
-    let p = part_is c.args.self.now.groups c.self.inside.monitors c.self.inside.sizes.items c.self.inside.children.items
-    c.self.inside.held.items c.args.group.0 c.in-Some.size a (sym c.in-Some.is ∙ c.size.ensures) in
-    let start : c.start-start.result ≡ start_of c.args.group.0 c.self.inside.sizes.items =
-    c.start-start.ensures ∙ ap (start_of c.args.group.0) c.as_slice.ensures.value in
-    let low : c.args.child.0 < c.self.inside.monitors =
-    subst (λ (v : Seating). c.args.child.0 < v.monitors) (sym c.self.view_is) c.requires.known in
-    let is_seated = seating_as _ _ _ _ _ _ _
-    (inserted c.args.self.now.groups c.self.inside.monitors c.self.inside.sizes.items c.self.inside.children.items
-    c.self.inside.held.items c.set_bit.new.words.items c.args.group.0 c.args.place c.args.child
-    (children_at c.args.self.now.groups c.args.group.0)
-    a p.there c.requires.place low c.requires.fresh c.set_bit.ensures.length c.set_bit.ensures.bits)
-    (ap (λ n. set c.self.inside.sizes.items c.args.group.0 (Some (n + 1))) (sym p.size))
-    (ap (λ n. insert c.self.inside.children.items (n + c.args.place) c.args.child) (sym start)
-    ∙ sym c.in-Ok.ensures.items) in
-    is_seated.view
+    let s = c.self.inside in
+    let can = subst (λ v. CanSit v c.args.group.0 c.args.place c.args.child) (sym c.self.view_is) (record {
+      there = c.requires.there;
+      known = c.requires.known;
+      place = c.requires.place;
+      fresh = c.requires.fresh;
+      room = c.requires.room;
+    }) in
+    (sits s.benches.items c.args.group.0 c.args.place c.args.child c.index_mut.result.now c.insert.new.self
+    s.monitors s.many s.held.items c.set_bit.new.words.items c.self.invariant.0 c.self.invariant.1 can
+    c.index_mut.ensures.value c.insert.ensures c.set_bit.ensures.length c.set_bit.ensures.bits).groups
+    ∙ ap (λ (v : Seating). set v.groups c.args.group.0
+    (Some (insert (children_at v.groups c.args.group.0) c.args.place c.args.child))) c.self.view_is
+
+pub returns-clause-seats : goal.returns-clause-seats
+returns-clause-seats c =
+    let s = c.self.inside in
+    let can = subst (λ v. CanSit v c.args.group.0 c.args.place c.args.child) (sym c.self.view_is) (record {
+      there = c.requires.there;
+      known = c.requires.known;
+      place = c.requires.place;
+      fresh = c.requires.fresh;
+      room = c.requires.room;
+    }) in
+    (sits s.benches.items c.args.group.0 c.args.place c.args.child c.index_mut.result.now c.insert.new.self
+    s.monitors s.many s.held.items c.set_bit.new.words.items c.self.invariant.0 c.self.invariant.1 can
+    c.index_mut.ensures.value c.insert.ensures c.set_bit.ensures.length c.set_bit.ensures.bits).seats
+    ∙ ap (λ (v : Seating). v.seats) c.self.view_is

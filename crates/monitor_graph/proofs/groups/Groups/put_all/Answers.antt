@@ -4,8 +4,8 @@ use Rattle.std.specs.List.{insert}
 use Rattle.std.specs.Option.{option_and_then}
 use Rattle.std.proofs.lemmas.List.{length-take}
 use Rattle.khe_base.specs.declared.numbers.MonitorId.{MonitorId}
-use Rattle.monitor_graph.specs.Groups.{Groups, children_at, has_group, has_child, is_among, seated}
-use Rattle.monitor_graph.proofs.OpenLaws.{put_none, put_at, put_children, put_seated, put_fresh, put_more}
+use Rattle.monitor_graph.specs.Groups.{Groups, children_at, has_group, has_child, is_among, seats_at}
+use Rattle.monitor_graph.proofs.OpenLaws.{put_none, put_at, put_children, put_fresh, put_more}
 use Rattle.monitor_graph.proofs.groups.Groups.put_all.Goals as goal
 
 pub loop-place-init : goal.loop-place-init
@@ -47,14 +47,14 @@ append-requires-clause-fresh c =
     ∙ put_fresh xs k first c.requires.once c.loop-place-test.true
 
 pub append-requires-clause-room : goal.append-requires-clause-room
-append-requires-clause-room c =
+append-requires-clause-room c number =
     let xs = c.args.children.now in
     let k = c.loop-place.place in
-    let e = ap seated c.loop-place.invariant.groups
-    ∙ put_seated c.args.self.now.groups c.args.group.0 (take k xs) c.requires.empty in
+    let e = ap (λ (gs : Groups). length (children_at gs c.args.group.0)) c.loop-place.invariant.groups
+    ∙ ap length (put_children c.args.self.now.groups c.args.group.0 (take k xs) c.requires.empty) in
     let long = length-take k xs in
-    let seats = c.loop-place.invariant.seats in
-    let room = c.requires.room in
+    let seats = ap (λ x. seats_at x c.args.group.0) c.loop-place.invariant.seats in
+    let room = c.requires.room number in
     omega (arith, e, long, seats, room)
 
 pub loop-place-preserved : goal.loop-place-preserved

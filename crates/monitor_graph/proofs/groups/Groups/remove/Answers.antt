@@ -1,119 +1,83 @@
-use Rattle.std.proofs.Common.{◌≡◌, ◌+◌, ◌-◌, Some, set, sym, ap, ◌∙◌, arith}
-use Rattle.std.specs.List.{remove, sum_by}
-use Rattle.std.specs.Option.{option_map_or}
-use Rattle.monitor_graph.specs.Groups.{children_at, place_of}
-use Rattle.monitor_graph.specs.Seating.{start_of}
-use Rattle.monitor_graph.proofs.SeatLaws.{kept_as, part_is, sizes_sum, removed, child_place, seating_as}
+use Rattle.std.proofs.Common.{◌≡◌, Some, true, length, set, subst, sym, ap, ◌∙◌, arith}
+use Rattle.monitor_graph.specs.Groups.{children_at, has_child, without}
+use Rattle.monitor_graph.specs.Seating.{Seating, groups_on}
+use Rattle.monitor_graph.proofs.BenchLaws.{known_bench, leaves, left_by, sitting_at}
+use Rattle.monitor_graph.proofs.SeatLaws.{child_in_group, child_place, seated_at}
 use Rattle.monitor_graph.proofs.groups.Groups.remove.Goals as goal
 
-pub start-start-requires-clause-few : goal.start-start-requires-clause-few
-start-start-requires-clause-few c =
-    let a = kept_as _ _ c.self.inside.monitors c.self.inside.sizes.items c.self.inside.children.items
-    c.self.inside.held.items c.self.view_is c.self.invariant.0 in
-    let sum = sizes_sum c.args.self.now.groups c.self.inside.monitors c.self.inside.sizes.items
-    c.self.inside.children.items c.self.inside.held.items a in
-    let same = ap (sum_by (λ (o : _). option_map_or (λ n. n) o 0)) c.as_slice.ensures.value in
-    omega (arith, sum, same)
-
-pub overflow_add-start : goal.overflow_add-start
-overflow_add-start c =
-    let a = kept_as _ _ c.self.inside.monitors c.self.inside.sizes.items c.self.inside.children.items
-    c.self.inside.held.items c.self.view_is c.self.invariant.0 in
-    let p = part_is c.args.self.now.groups c.self.inside.monitors c.self.inside.sizes.items c.self.inside.children.items
-    c.self.inside.held.items c.args.group.0 c.in-Some.size a (sym c.in-Some.is ∙ c.size.ensures) in
-    let start : c.start-start.result ≡ start_of c.args.group.0 c.self.inside.sizes.items =
-    c.start-start.ensures ∙ ap (start_of c.args.group.0) c.as_slice.ensures.value in
-    let among = child_place (children_at c.args.self.now.groups c.args.group.0) c.args.child.0 c.args.child
-    c.requires.there in
+pub remove-requires-clause-place : goal.remove-requires-clause-place
+remove-requires-clause-place c =
+    let s = c.self.inside in
+    let gs = c.args.self.now.groups in
+    let g = c.args.group.0 in
+    let seen = ap (λ (v : Seating). v.groups) c.self.view_is in
+    let low = known_bench s.benches.items gs g seen (child_in_group gs g c.args.child.0 c.requires.there) in
+    let same = ap length (sitting_at s.benches.items gs g c.index_mut.result.now seen low c.index_mut.ensures.value) in
+    let at = (child_place (children_at gs g) c.args.child.0 c.args.child c.requires.there).0 in
     let place = c.place-place.ensures in
-    let before = among.0 in
-    omega (arith, p, start, place, before)
+    omega (arith, same, at, place)
 
-pub remove-requires : goal.remove-requires
-remove-requires c =
-    let a = kept_as _ _ c.self.inside.monitors c.self.inside.sizes.items c.self.inside.children.items
-    c.self.inside.held.items c.self.view_is c.self.invariant.0 in
-    let p = part_is c.args.self.now.groups c.self.inside.monitors c.self.inside.sizes.items c.self.inside.children.items
-    c.self.inside.held.items c.args.group.0 c.in-Some.size a (sym c.in-Some.is ∙ c.size.ensures) in
-    let start : c.start-start.result ≡ start_of c.args.group.0 c.self.inside.sizes.items =
-    c.start-start.ensures ∙ ap (start_of c.args.group.0) c.as_slice.ensures.value in
-    let among = child_place (children_at c.args.self.now.groups c.args.group.0) c.args.child.0 c.args.child
+pub overflow_sub-self : goal.overflow_sub-self
+overflow_sub-self c =
+    let s = c.self.inside in
+    let g = c.args.group.0 in
+    let there = subst (λ (v : Seating). has_child v.groups g c.args.child.0 ≡ true) (sym c.self.view_is)
     c.requires.there in
-    let place = c.place-place.ensures in
-    let before = among.0 in
-    omega (arith, p, start, place, before)
-
-pub overflow_sub-size : goal.overflow_sub-size
-overflow_sub-size c =
-    let a = kept_as _ _ c.self.inside.monitors c.self.inside.sizes.items c.self.inside.children.items
-    c.self.inside.held.items c.self.view_is c.self.invariant.0 in
-    let p = part_is c.args.self.now.groups c.self.inside.monitors c.self.inside.sizes.items c.self.inside.children.items
-    c.self.inside.held.items c.args.group.0 c.in-Some.size a (sym c.in-Some.is ∙ c.size.ensures) in
-    let among = child_place (children_at c.args.self.now.groups c.args.group.0) c.args.child.0 c.args.child
-    c.requires.there in
-    let place = c.place-place.ensures in
-    let before = among.0 in
-    omega (arith, p, place, before)
-
-pub index_mut-requires : goal.index_mut-requires
-index_mut-requires c =
-    let a = kept_as _ _ c.self.inside.monitors c.self.inside.sizes.items c.self.inside.children.items
-    c.self.inside.held.items c.self.view_is c.self.invariant.0 in
-    let p = part_is c.args.self.now.groups c.self.inside.monitors c.self.inside.sizes.items c.self.inside.children.items
-    c.self.inside.held.items c.args.group.0 c.in-Some.size a (sym c.in-Some.is ∙ c.size.ensures) in
-    omega (arith, p)
-
-pub clear_bit-requires : goal.clear_bit-requires
-clear_bit-requires c =
-    let a = kept_as _ _ c.self.inside.monitors c.self.inside.sizes.items c.self.inside.children.items
-    c.self.inside.held.items c.self.view_is c.self.invariant.0 in
-    let p = part_is c.args.self.now.groups c.self.inside.monitors c.self.inside.sizes.items c.self.inside.children.items
-    c.self.inside.held.items c.args.group.0 c.in-Some.size a (sym c.in-Some.is ∙ c.size.ensures) in
-    let low = a.known c.args.group.0 c.args.child.0 c.requires.there in
-    let r = a.room in
-    omega (arith, p, low, r)
+    let at = (child_place (children_at (groups_on s.benches.items) g) c.args.child.0 c.args.child there).0 in
+    let many = seated_at (groups_on s.benches.items) g in
+    let counted = c.self.invariant.0.counted in
+    omega (arith, at, many, counted)
 
 pub invariant_of-self : goal.invariant_of-self
 invariant_of-self c =
-    let a = kept_as _ _ c.self.inside.monitors c.self.inside.sizes.items c.self.inside.children.items
-    c.self.inside.held.items c.self.view_is c.self.invariant.0 in
-    let p = part_is c.args.self.now.groups c.self.inside.monitors c.self.inside.sizes.items c.self.inside.children.items
-    c.self.inside.held.items c.args.group.0 c.in-Some.size a (sym c.in-Some.is ∙ c.size.ensures) in
-    let start : c.start-start.result ≡ start_of c.args.group.0 c.self.inside.sizes.items =
-    c.start-start.ensures ∙ ap (start_of c.args.group.0) c.as_slice.ensures.value in
-    let among = child_place (children_at c.args.self.now.groups c.args.group.0) c.args.child.0 c.args.child
+    let s = c.self.inside in
+    let g = c.args.group.0 in
+    let there = subst (λ (v : Seating). has_child v.groups g c.args.child.0 ≡ true) (sym c.self.view_is)
     c.requires.there in
-    let place = c.place-place.ensures in
-    let is_seated = seating_as _ _ _ _ _ _ _
-    (removed c.args.self.now.groups c.self.inside.monitors c.self.inside.sizes.items c.self.inside.children.items
-    c.self.inside.held.items c.clear_bit.new.words.items c.args.group.0
-    (place_of c.args.child.0 (children_at c.args.self.now.groups c.args.group.0)) c.args.child.0 c.args.child
-    (children_at c.args.self.now.groups c.args.group.0)
-    a p.there among.0 among.1 c.clear_bit.ensures.length c.clear_bit.ensures.bits)
-    (ap (λ n. set c.self.inside.sizes.items c.args.group.0 (Some (n - 1))) (sym p.size))
-    (sym (λ i. remove c.self.inside.children.items (start i + place i)) ∙ sym c.remove.ensures.items) in (
-      is_seated.kept,
-      (let e = c.remove.ensures.len in omega (arith, e)),
-      (let e = c.remove.ensures.capacity in omega (arith, e)),
-    )
+    let seen = ap (λ (v : Seating). v.groups) c.self.view_is in
+    let low = known_bench s.benches.items c.args.self.now.groups g seen
+    (child_in_group c.args.self.now.groups g c.args.child.0 c.requires.there) in
+    let same = sitting_at s.benches.items c.args.self.now.groups g c.index_mut.result.now seen low
+    c.index_mut.ensures.value in
+    let left = left_by c.index_mut.result.now c.remove.new.self c.place-place.result c.args.child.0
+    (children_at c.args.self.now.groups g) same c.place-place.ensures c.remove.ensures in
+    let t = leaves s.benches.items g c.args.child c.index_mut.result.now c.remove.new.self s.monitors s.many
+    s.held.items c.clear_bit.new.words.items c.self.invariant.0 c.self.invariant.1 there
+    c.index_mut.ensures.value left c.clear_bit.ensures.length c.clear_bit.ensures.bits in
+    (t.kept, t.room)
 
 pub returns-clause-groups : goal.returns-clause-groups
 returns-clause-groups c =
-    let a = kept_as _ _ c.self.inside.monitors c.self.inside.sizes.items c.self.inside.children.items
-    c.self.inside.held.items c.self.view_is c.self.invariant.0 in
-    let p = part_is c.args.self.now.groups c.self.inside.monitors c.self.inside.sizes.items c.self.inside.children.items
-    c.self.inside.held.items c.args.group.0 c.in-Some.size a (sym c.in-Some.is ∙ c.size.ensures) in
-    let start : c.start-start.result ≡ start_of c.args.group.0 c.self.inside.sizes.items =
-    c.start-start.ensures ∙ ap (start_of c.args.group.0) c.as_slice.ensures.value in
-    let among = child_place (children_at c.args.self.now.groups c.args.group.0) c.args.child.0 c.args.child
+    let s = c.self.inside in
+    let g = c.args.group.0 in
+    let there = subst (λ (v : Seating). has_child v.groups g c.args.child.0 ≡ true) (sym c.self.view_is)
     c.requires.there in
-    let place = c.place-place.ensures in
-    let is_seated = seating_as _ _ _ _ _ _ _
-    (removed c.args.self.now.groups c.self.inside.monitors c.self.inside.sizes.items c.self.inside.children.items
-    c.self.inside.held.items c.clear_bit.new.words.items c.args.group.0
-    (place_of c.args.child.0 (children_at c.args.self.now.groups c.args.group.0)) c.args.child.0 c.args.child
-    (children_at c.args.self.now.groups c.args.group.0)
-    a p.there among.0 among.1 c.clear_bit.ensures.length c.clear_bit.ensures.bits)
-    (ap (λ n. set c.self.inside.sizes.items c.args.group.0 (Some (n - 1))) (sym p.size))
-    (sym (λ i. remove c.self.inside.children.items (start i + place i)) ∙ sym c.remove.ensures.items) in
-    is_seated.view
+    let seen = ap (λ (v : Seating). v.groups) c.self.view_is in
+    let low = known_bench s.benches.items c.args.self.now.groups g seen
+    (child_in_group c.args.self.now.groups g c.args.child.0 c.requires.there) in
+    let same = sitting_at s.benches.items c.args.self.now.groups g c.index_mut.result.now seen low
+    c.index_mut.ensures.value in
+    let left = left_by c.index_mut.result.now c.remove.new.self c.place-place.result c.args.child.0
+    (children_at c.args.self.now.groups g) same c.place-place.ensures c.remove.ensures in
+    (leaves s.benches.items g c.args.child c.index_mut.result.now c.remove.new.self s.monitors s.many
+    s.held.items c.clear_bit.new.words.items c.self.invariant.0 c.self.invariant.1 there
+    c.index_mut.ensures.value left c.clear_bit.ensures.length c.clear_bit.ensures.bits).groups
+    ∙ ap (λ (v : Seating). set v.groups g (Some (without c.args.child.0 (children_at v.groups g)))) c.self.view_is
+
+pub returns-clause-seats : goal.returns-clause-seats
+returns-clause-seats c =
+    let s = c.self.inside in
+    let g = c.args.group.0 in
+    let there = subst (λ (v : Seating). has_child v.groups g c.args.child.0 ≡ true) (sym c.self.view_is)
+    c.requires.there in
+    let seen = ap (λ (v : Seating). v.groups) c.self.view_is in
+    let low = known_bench s.benches.items c.args.self.now.groups g seen
+    (child_in_group c.args.self.now.groups g c.args.child.0 c.requires.there) in
+    let same = sitting_at s.benches.items c.args.self.now.groups g c.index_mut.result.now seen low
+    c.index_mut.ensures.value in
+    let left = left_by c.index_mut.result.now c.remove.new.self c.place-place.result c.args.child.0
+    (children_at c.args.self.now.groups g) same c.place-place.ensures c.remove.ensures in
+    (leaves s.benches.items g c.args.child c.index_mut.result.now c.remove.new.self s.monitors s.many
+    s.held.items c.clear_bit.new.words.items c.self.invariant.0 c.self.invariant.1 there
+    c.index_mut.ensures.value left c.clear_bit.ensures.length c.clear_bit.ensures.bits).seats
+    ∙ ap (λ (v : Seating). v.seats) c.self.view_is
