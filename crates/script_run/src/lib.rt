@@ -5,7 +5,9 @@ mod answering;
 mod asking;
 mod commands;
 mod faults;
+mod onward;
 mod players;
+mod questions;
 mod running;
 mod shortages;
 
@@ -13,6 +15,8 @@ pub use answering::{push_answer, push_mark, push_ok};
 pub use asking::asks_often;
 pub use commands::answer_command;
 pub use faults::fault_line;
+pub use onward::Onward;
 pub use players::Player;
+pub use questions::push_question_answer;
 pub use running::run;
 pub use shortages::Shortages;

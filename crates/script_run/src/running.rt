@@ -61,7 +61,7 @@ fn run_counting<P: Player, K: Sink, L: Ledger>(
     while let Some((line, after)) = first_line(rest) {
         number += 1;
         rest = after;
-        if !player.play_line(alloc, line, number, &mut text, &mut steps)? {
+        if !player.play_line(alloc, line, number, &mut text, out, &mut steps)? {
             flush(alloc, out, &mut text)?;
             return Ok(false);
         }

@@ -11,6 +11,7 @@ use Rattle.khe_engine.specs.Worlds.{World}
 use Rattle.evaluation_report.specs.Answers.{ok_line}
 use Rattle.edit_script.specs.declared.commands.Command.{Command}
 use Rattle.edit_script.specs.declared.commands.Command.TheVariants as command
+use Rattle.edit_script.specs.declared.commands.Question.{Question}
 use Rattle.script_run.specs.Answers.{answer, outcome_line, question_answer, refusal_of, subject_answer}
 use Rattle.script_run.specs.Plays.{is_question, play_of, unless}
 use Rattle.script_run.proofs.MarkLaws.{full_answer, full_mapped, marked_begin, marked_end, marked_number, marked_undo, none_answer, none_mapped, number_answer, number_mapped}
@@ -51,6 +52,14 @@ asked_answer p q a w (command.UndoTo k) h e f = let z : ⊥ = cc in absurd z
 asked_answer p q a w command.Nothing h e f = refl
 asked_answer p q a w (command.Ask x) h e f = λ i. question_answer (e i) (f i) x
 asked_answer p q a w (command.AskAbout x n) h e f = λ i. subject_answer (e i) (f i) x n
+
+pub question_played : (p : Parts) (w : TiedPlay) (x : Question) → w ≡ tied_played p w (Base (command.Ask x))
+question_played p w x = asked_played p w (command.Ask x) refl
+
+pub question_asked : (p q : Parts) (a : World) (w : TiedPlay) (x : Question) → q ≡ p → a.state ≡ w.state.state
+    → question_answer q a.state x ≡ tied_answer p w (Base (command.Ask x))
+unfolding answer tied_answer
+question_asked p q a w x e f = λ i. question_answer (e i) (f i) x
 
 same_play : (a : TiedWorld) (s : TiedState) (xs : List TiedState) → a.now ≡ s → a.saved ≡ xs
     → tied_play_of a ≡ record { state = s; saved = xs }

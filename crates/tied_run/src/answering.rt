@@ -1,36 +1,48 @@
 //! What one command makes of a timetable with ties, and what it answers.
 
-ghost use Rattle.std.specs.Prelude.{◌≡◌, ◌++◌, true, OnOk};
+ghost use Rattle.std.specs.Prelude.{◌≡◌, ◌≤◌, ◌++◌, true, IsErrOf, OnErr, OnOk};
 ghost use Rattle.edit_script.specs.declared.commands.Command.TheVariants as base;
+ghost use Rattle.khe_io.specs.Faults.{Rose};
+ghost use Rattle.script_run.specs.Added.{IsAdded, IsCutOff};
 ghost use Rattle.script_run.specs.Plays.{is_question};
 ghost use Rattle.followers.specs.declared.lines.TiedCommand.TheVariants as tied_command;
 ghost use Rattle.tied_run.specs.Answers as spec;
 ghost use Rattle.tied_run.specs.Plays.{by_edit, tied_play_of, tied_played};
 
 use crate::ties::{push_ties, tied_refused_line};
-use edit_script::Command;
+use edit_script::{Command, Question};
 use followers::{Tied, TiedCommand, TiedEdit, TiedFault, TiedRefusal};
 use khe_base::{MeetId, NoMemory, Text};
+use khe_io::Cut;
 use khe_told::Steps;
-use script_run::{Shortages, push_answer, push_mark, push_ok};
+use script_run::{Onward, Shortages, push_answer, push_mark, push_ok, push_question_answer};
 use std::alloc::Global;
 use std::sync::ledger::Ledger;
 
-/// Carries a command out, and adds its answer. It takes the time of the edit or of the answer.
-#[tactic(auto, unfolding(crate::specs::Answers::tied_answer, crate::specs::Plays::tied_played))]
-pub(crate) fn carry_out<F: Shortages, L: Ledger>(
+/// Carries a command out, and adds its answer, which goes on while it grows where it is long. It takes the time of the
+/// edit or of the answer.
+#[tactic(auto, using(script_run::proofs::AddedLaws::added_text, script_run::proofs::AddedLaws::cut_none), unfolding(crate::specs::Answers::tied_answer, crate::specs::Plays::tied_played))]
+pub(crate) fn carry_out<F: Shortages, L: Ledger, G: Onward>(
     alloc: Global,
     tied: &mut Tied<'_, F>,
     command: TiedCommand,
     text: &mut Text,
+    onward: &mut G,
     steps: &mut Steps<L>,
-) -> Result<(), NoMemory>
+) -> Result<(), Cut>
     ensures parts { tied.new.parts ≡ tied.old.parts }
     ensures played { OnOk result (tied_play_of tied.new ≡ tied_played tied.old.parts (tied_play_of tied.old) command) }
-    ensures text { OnOk result (text.new ≡ text.old ++ spec.tied_answer tied.old.parts (tied_play_of tied.old) command) }
+    ensures added { OnOk result (IsAdded (G.taken onward.old) (G.taken onward.new) text.old (spec.tied_answer tied.old.parts (tied_play_of tied.old) command) text.new) }
+    ensures front { OnErr result (IsCutOff (G.taken onward.old) (G.taken onward.new) text.old (spec.tied_answer tied.old.parts (tied_play_of tied.old) command)) }
+    ensures fault { IsErrOf result Cut.WriteFault → Rose (G.faults onward.old) (G.faults onward.new) }
+    ensures faultless { OnOk result (G.faults onward.new ≡ G.faults onward.old) }
+    ensures faultless_starved { IsErrOf result Cut.NoMemory → G.faults onward.new ≡ G.faults onward.old }
+    ensures counted { G.faults onward.old ≤ G.faults onward.new }
 {
     match command {
-        TiedCommand::Base(command) => carry_out_base(alloc, tied, command, text, steps),
+        TiedCommand::Base(command) => {
+            carry_out_onward(alloc, tied, command, text, onward, steps)
+        }
         TiedCommand::Tie {
             follower,
             leader,
@@ -41,19 +53,64 @@ pub(crate) fn carry_out<F: Shortages, L: Ledger>(
                 leader: MeetId(leader),
                 offset,
             };
-            carry_out_edit(alloc, tied, edit, text, steps)
+            Ok(carry_out_edit(alloc, tied, edit, text, steps)?)
         }
         TiedCommand::Untie { follower } => {
             let edit = TiedEdit::Untie {
                 follower: MeetId(follower),
             };
-            carry_out_edit(alloc, tied, edit, text, steps)
+            Ok(carry_out_edit(alloc, tied, edit, text, steps)?)
         }
-        TiedCommand::Ties => push_ties(alloc, tied.ties(), text),
+        TiedCommand::Ties => push_ties(alloc, tied.ties(), text, onward),
     }
 }
 
-/// Carries out a command of scripts without ties.
+/// Carries out a command of scripts without ties, and adds its answer, which goes on while it grows where it is long.
+#[tactic(auto, using(script_run::proofs::AddedLaws::added_text, script_run::proofs::AddedLaws::cut_none))]
+fn carry_out_onward<F: Shortages, L: Ledger, G: Onward>(
+    alloc: Global,
+    tied: &mut Tied<'_, F>,
+    command: Command,
+    text: &mut Text,
+    onward: &mut G,
+    steps: &mut Steps<L>,
+) -> Result<(), Cut>
+    ensures parts { tied.new.parts ≡ tied.old.parts }
+    ensures played { OnOk result (tied_play_of tied.new ≡ tied_played tied.old.parts (tied_play_of tied.old) (tied_command.Base command)) }
+    ensures added { OnOk result (IsAdded (G.taken onward.old) (G.taken onward.new) text.old (spec.tied_answer tied.old.parts (tied_play_of tied.old) (tied_command.Base command)) text.new) }
+    ensures front { OnErr result (IsCutOff (G.taken onward.old) (G.taken onward.new) text.old (spec.tied_answer tied.old.parts (tied_play_of tied.old) (tied_command.Base command))) }
+    ensures fault { IsErrOf result Cut.WriteFault → Rose (G.faults onward.old) (G.faults onward.new) }
+    ensures faultless { OnOk result (G.faults onward.new ≡ G.faults onward.old) }
+    ensures faultless_starved { IsErrOf result Cut.NoMemory → G.faults onward.new ≡ G.faults onward.old }
+    ensures counted { G.faults onward.old ≤ G.faults onward.new }
+{
+    match command {
+        Command::Ask(question) => ask_question(alloc, tied, question, text, onward),
+        _ => Ok(carry_out_base(alloc, tied, command, text, steps)?),
+    }
+}
+
+/// Adds the answer to a question, which goes on while it grows where it is long.
+#[tactic(auto, using(crate::proofs::PlayLaws::question_played))]
+fn ask_question<F: Shortages, G: Onward>(
+    alloc: Global,
+    tied: &Tied<'_, F>,
+    question: Question,
+    text: &mut Text,
+    onward: &mut G,
+) -> Result<(), Cut>
+    ensures played { tied_play_of tied.now ≡ tied_played tied.now.parts (tied_play_of tied.now) (tied_command.Base (base.Ask question)) }
+    ensures added { OnOk result (IsAdded (G.taken onward.old) (G.taken onward.new) text.old (spec.tied_answer tied.now.parts (tied_play_of tied.now) (tied_command.Base (base.Ask question))) text.new) }
+    ensures front { OnErr result (IsCutOff (G.taken onward.old) (G.taken onward.new) text.old (spec.tied_answer tied.now.parts (tied_play_of tied.now) (tied_command.Base (base.Ask question)))) }
+    ensures fault { IsErrOf result Cut.WriteFault → Rose (G.faults onward.old) (G.faults onward.new) }
+    ensures faultless { OnOk result (G.faults onward.new ≡ G.faults onward.old) }
+    ensures faultless_starved { IsErrOf result Cut.NoMemory → G.faults onward.new ≡ G.faults onward.old }
+    ensures counted { G.faults onward.old ≤ G.faults onward.new }
+{
+    push_question_answer(alloc, tied.engine(), question, text, onward)
+}
+
+/// The same, where the whole answer waits.
 #[tactic(auto, unfolding(crate::specs::Answers::tied_answer, crate::specs::Plays::tied_played))]
 fn carry_out_base<F: Shortages, L: Ledger>(
     alloc: Global,

@@ -6,9 +6,10 @@ ghost use Rattle.tied_run.specs.Scripts as spec;
 
 use crate::answering::carry_out;
 use followers::{Tied, read_tied_line};
-use khe_base::{NoMemory, Text};
+use khe_base::Text;
+use khe_io::Cut;
 use khe_told::Steps;
-use script_run::{Player, Shortages, fault_line};
+use script_run::{Onward, Player, Shortages, fault_line};
 use std::alloc::Global;
 use std::sync::ledger::Ledger;
 
@@ -25,17 +26,18 @@ impl<'i, F: Shortages> Player for TiedPlayer<'i, F> {
 
     ghost ends = { λ t number. refl };
 
-    fn play_line<L: Ledger>(
+    fn play_line<L: Ledger, G: Onward>(
         &mut self,
         alloc: Global,
         line: &[u8],
         number: u32,
         text: &mut Text,
+        onward: &mut G,
         steps: &mut Steps<L>,
-    ) -> Result<bool, NoMemory> {
+    ) -> Result<bool, Cut> {
         match read_tied_line(line) {
             Ok(command) => {
-                carry_out(alloc, &mut self.tied, command, text, steps)?;
+                carry_out(alloc, &mut self.tied, command, text, onward, steps)?;
                 Ok(true)
             }
             Err(fault) => {

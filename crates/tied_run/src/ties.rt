@@ -1,11 +1,15 @@
 //! The lines that speak of ties.
 
-ghost use Rattle.std.specs.Prelude.{◌≡◌, ◌++◌, OnOk, IfOk, is_some};
+ghost use Rattle.std.specs.Prelude.{◌≡◌, ◌≤◌, ◌++◌, IfOk, IsErrOf, OnErr, OnOk, is_some};
 ghost use Rattle.std.specs.List.{count_by};
+ghost use Rattle.khe_io.specs.Faults.{Rose};
+ghost use Rattle.script_run.specs.Added.{IsAdded, IsCutOff};
 ghost use Rattle.tied_run.specs.Answers as spec;
 
 use followers::{Tie, TiedRefusal};
 use khe_base::{NoMemory, Text};
+use khe_io::Cut;
+use script_run::Onward;
 use std::alloc::Global;
 
 /// The line that says why something is refused: `refused NUMBER NAME`.
@@ -69,25 +73,50 @@ fn push_tie(
     }
 }
 
-/// Adds how many ties there are, and the line of each, ascending by the follower. It takes time in proportion to the
-/// meet slots.
-pub(crate) fn push_ties(
+/// Adds how many ties there are, and the line of each, ascending by the follower, which go on while they grow. It takes
+/// time in proportion to the meet slots.
+#[tactic(auto, using(script_run::proofs::AddedLaws::push_added, script_run::proofs::AddedLaws::push_cut, script_run::proofs::AddedLaws::cut_none))]
+pub(crate) fn push_ties<G: Onward>(
     alloc: Global,
     ties: &[Option<Tie>],
     text: &mut Text,
-) -> Result<(), NoMemory>
-    ensures { OnOk result (text.new ≡ text.old ++ spec.ties_text ties.now) }
+    onward: &mut G,
+) -> Result<(), Cut>
+    ensures added { OnOk result (IsAdded (G.taken onward.old) (G.taken onward.new) text.old (spec.ties_text ties.now) text.new) }
+    ensures front { OnErr result (IsCutOff (G.taken onward.old) (G.taken onward.new) text.old (spec.ties_text ties.now)) }
+    ensures fault { IsErrOf result Cut.WriteFault → Rose (G.faults onward.old) (G.faults onward.new) }
+    ensures faultless { OnOk result (G.faults onward.new ≡ G.faults onward.old) }
+    ensures faultless_starved { IsErrOf result Cut.NoMemory → G.faults onward.new ≡ G.faults onward.old }
+    ensures counted { G.faults onward.old ≤ G.faults onward.new }
 {
-    text.push_text(&count_line(alloc, count_ties(ties))?)?;
-    push_lines(alloc, ties, text)
+    push_count(alloc, ties, text)?;
+    push_lines(alloc, ties, text, onward)
+}
+
+/// Adds how many ties there are.
+fn push_count(alloc: Global, ties: &[Option<Tie>], text: &mut Text) -> Result<(), NoMemory>
+    ensures { OnOk result (text.new ≡ text.old ++ spec.count_line (count_by is_some ties.now)) }
+{
+    text.push_text(&count_line(alloc, count_ties(ties))?)
 }
 
 /// Adds the lines of ties.
-fn push_lines(alloc: Global, ties: &[Option<Tie>], text: &mut Text) -> Result<(), NoMemory>
-    ensures { OnOk result (text.new ≡ text.old ++ spec.tie_lines ties.now) }
+fn push_lines<G: Onward>(
+    alloc: Global,
+    ties: &[Option<Tie>],
+    text: &mut Text,
+    onward: &mut G,
+) -> Result<(), Cut>
+    ensures added { OnOk result (IsAdded (G.taken onward.old) (G.taken onward.new) text.old (spec.tie_lines ties.now) text.new) }
+    ensures front { OnErr result (IsCutOff (G.taken onward.old) (G.taken onward.new) text.old (spec.tie_lines ties.now)) }
+    ensures fault { IsErrOf result Cut.WriteFault → Rose (G.faults onward.old) (G.faults onward.new) }
+    ensures faultless { OnOk result (G.faults onward.new ≡ G.faults onward.old) }
+    ensures faultless_starved { IsErrOf result Cut.NoMemory → G.faults onward.new ≡ G.faults onward.old }
+    ensures counted { G.faults onward.old ≤ G.faults onward.new }
 {
     for number in 0..ties.len() {
         push_tie(alloc, number, ties[number], text)?;
+        onward.pass(alloc, text)?;
     }
     Ok(())
 }

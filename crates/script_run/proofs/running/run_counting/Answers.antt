@@ -1,17 +1,20 @@
 -- Each line's answer leaves what is left and joins what was written or waits.
-use Rattle.std.proofs.Common.{◌+◌, [], cond}
+use Rattle.std.proofs.Common.{◌+◌, ◌∙◌, [], arith, cond}
+use Rattle.std.specs.List.{list_all}
 use Rattle.edit_script.specs.Lines.{lines}
-use Rattle.khe_io.proofs.AmidLemmas.{always-err, amid-cut, amid-stop}
-use Rattle.script_run.proofs.RunLemmas.{all_taken, last_line, next_line, no_line}
+use Rattle.khe_io.proofs.AmidLemmas.{always-err, amid-cut}
+use Rattle.script_run.proofs.RunLemmas.{all_taken, cut_line, last_line, more_lines, next_line, no_line, read_more}
 use Rattle.script_run.proofs.running.run_counting.Goals as goal
 
 pub returns-in_err-play_line-clause-front : goal.returns-in_err-play_line-clause-front
 returns-in_err-play_line-clause-front g c =
     let answers = g.P.Player.answers in
+    let more = lines c.in-Some.after.now in
     always-err c.from_residual.result
-    (amid-stop (g.K.Sink.taken c.args.out.now) (g.K.Sink.taken c.loop-line.out) c.loop-line.text
-    (answers c.loop-line.player (c.loop-line.number + 1) (lines c.loop-line.rest.now))
-    (answers c.args.player.now 1 (lines c.args.script.now)) c.loop-line.invariant.amid)
+    (cut_line (answers c.loop-line.player (c.loop-line.number + 1)) (g.K.Sink.taken c.args.out.now)
+    (g.K.Sink.taken c.loop-line.out) (g.K.Sink.taken c.play_line.new.onward) c.loop-line.text
+    (answers c.args.player.now 1 (lines c.args.script.now)) (lines c.loop-line.rest.now) c.in-Some.line.now more
+    c.in-Some.ensures.lines (c.in_err-play_line.ensures.front more) c.loop-line.invariant.amid)
 
 pub returns-in_err-flush-clause-front : goal.returns-in_err-flush-clause-front
 returns-in_err-flush-clause-front g c =
@@ -23,13 +26,14 @@ returns-in_err-flush-clause-front g c =
     let reads = g.P.Player.reads c.in-Some.line.now in
     let more = lines c.in-Some.after.now in
     let rest = answers c.play_line.new.self (n + 1) more in
-    let amid = next_line (answers c.loop-line.player n) before now c.loop-line.text c.play_line.new.text
+    let on = g.K.Sink.taken c.play_line.new.onward in
+    let amid = next_line (answers c.loop-line.player n) before now on c.loop-line.text c.play_line.new.text
     (cond reads rest []) whole (lines c.loop-line.rest.now) c.in-Some.line.now more c.in-Some.ensures.lines
     (c.in_ok-play_line.ensures.answered more) c.loop-line.invariant.amid in
-    let last = last_line before now c.play_line.new.text rest whole c.in_ok-play_line.field-0 reads
+    let last = last_line before on c.play_line.new.text rest whole c.in_ok-play_line.field-0 reads
     c.in_ok-play_line.ensures.read c.if-not-branch.true amid in
     always-err c.from_residual-in_err-flush.result
-    (amid-cut before now (g.K.Sink.taken c.flush.new.out) c.play_line.new.text [] whole last c.in_err-flush.ensures.front)
+    (amid-cut before on (g.K.Sink.taken c.flush.new.out) c.play_line.new.text [] whole last c.in_err-flush.ensures.front)
 
 pub returns-then-not-branch-clause-whole : goal.returns-then-not-branch-clause-whole
 returns-then-not-branch-clause-whole g c =
@@ -41,12 +45,13 @@ returns-then-not-branch-clause-whole g c =
     let reads = g.P.Player.reads c.in-Some.line.now in
     let more = lines c.in-Some.after.now in
     let rest = answers c.play_line.new.self (n + 1) more in
-    let amid = next_line (answers c.loop-line.player n) before now c.loop-line.text c.play_line.new.text
+    let on = g.K.Sink.taken c.play_line.new.onward in
+    let amid = next_line (answers c.loop-line.player n) before now on c.loop-line.text c.play_line.new.text
     (cond reads rest []) whole (lines c.loop-line.rest.now) c.in-Some.line.now more c.in-Some.ensures.lines
     (c.in_ok-play_line.ensures.answered more) c.loop-line.invariant.amid in
-    let last = last_line before now c.play_line.new.text rest whole c.in_ok-play_line.field-0 reads
+    let last = last_line before on c.play_line.new.text rest whole c.in_ok-play_line.field-0 reads
     c.in_ok-play_line.ensures.read c.if-not-branch.true amid in
-    all_taken before now (g.K.Sink.taken c.flush.new.out) c.play_line.new.text whole last c.in_ok-flush.ensures.taken
+    all_taken before on (g.K.Sink.taken c.flush.new.out) c.play_line.new.text whole last c.in_ok-flush.ensures.taken
 
 pub returns-in_err-flush_long-clause-front : goal.returns-in_err-flush_long-clause-front
 returns-in_err-flush_long-clause-front g c =
@@ -58,12 +63,39 @@ returns-in_err-flush_long-clause-front g c =
     let reads = g.P.Player.reads c.in-Some.line.now in
     let more = lines c.in-Some.after.now in
     let rest = answers c.play_line.new.self (n + 1) more in
-    let amid = next_line (answers c.loop-line.player n) before now c.loop-line.text c.play_line.new.text
+    let on = g.K.Sink.taken c.play_line.new.onward in
+    let amid = next_line (answers c.loop-line.player n) before now on c.loop-line.text c.play_line.new.text
     (cond reads rest []) whole (lines c.loop-line.rest.now) c.in-Some.line.now more c.in-Some.ensures.lines
     (c.in_ok-play_line.ensures.answered more) c.loop-line.invariant.amid in
     always-err c.from_residual-in_err-flush_long.result
-    (amid-cut before now (g.K.Sink.taken c.flush_long.new.out) c.play_line.new.text (cond reads rest []) whole amid
+    (amid-cut before on (g.K.Sink.taken c.flush_long.new.out) c.play_line.new.text (cond reads rest []) whole amid
     c.in_err-flush_long.ensures.front)
+
+pub loop-line-preserved : goal.loop-line-preserved
+loop-line-preserved g c =
+    let answers = g.P.Player.answers in
+    let before = g.K.Sink.taken c.args.out.now in
+    let now = g.K.Sink.taken c.loop-line.out in
+    let whole = answers c.args.player.now 1 (lines c.args.script.now) in
+    let n = c.loop-line.number + 1 in
+    let reads = g.P.Player.reads c.in-Some.line.now in
+    let more = lines c.in-Some.after.now in
+    let rest = answers c.play_line.new.self (n + 1) more in
+    let on = g.K.Sink.taken c.play_line.new.onward in
+    let amid = next_line (answers c.loop-line.player n) before now on c.loop-line.text c.play_line.new.text
+    (cond reads rest []) whole (lines c.loop-line.rest.now) c.in-Some.line.now more c.in-Some.ensures.lines
+    (c.in_ok-play_line.ensures.answered more) c.loop-line.invariant.amid in
+    record {
+      amid = c.in_ok-flush_long.ensures.amid before rest whole
+          (more_lines before on c.play_line.new.text rest whole c.in_ok-play_line.field-0 reads
+          c.in_ok-play_line.ensures.read c.if-not-branch.false amid);
+      read = read_more g.P.Player.reads (lines c.loop-line.rest.now) c.in-Some.line.now more c.in_ok-play_line.field-0
+          (list_all g.P.Player.reads (lines c.args.script.now)) c.in-Some.ensures.lines c.in_ok-play_line.ensures.read
+          c.if-not-branch.false c.loop-line.invariant.read;
+      few = omega (arith, c.in-Some.ensures.shorter, c.loop-line.invariant.few);
+      faultless = c.in_ok-flush_long.ensures.faultless ∙ c.in_ok-play_line.ensures.faultless
+          ∙ c.loop-line.invariant.faultless;
+    }
 
 pub returns-in_err-flush-2-clause-front : goal.returns-in_err-flush-2-clause-front
 returns-in_err-flush-2-clause-front g c =
