@@ -19,10 +19,22 @@ fn is_first(byte: u8) -> bool
     (b'a' <= byte && byte <= b'z') || (b'A' <= byte && byte <= b'Z') || byte == b'_'
 }
 
+// Each byte that goes on in a name stands at its own place, and a comma at every other place. A third of all bytes of
+// an archive are looked up here, each by one load.
+static NAMES: [u8; 256] = *b"\
+    ,,,,,,,,,,,,,,,,,,,,,,,,,,,,,,,,\
+    ,,,,,,,,,,,,,-.,0123456789,,,,,,\
+    ,ABCDEFGHIJKLMNOPQRSTUVWXYZ,,,,_\
+    ,abcdefghijklmnopqrstuvwxyz,,,,,\
+    ,,,,,,,,,,,,,,,,,,,,,,,,,,,,,,,,\
+    ,,,,,,,,,,,,,,,,,,,,,,,,,,,,,,,,\
+    ,,,,,,,,,,,,,,,,,,,,,,,,,,,,,,,,\
+    ,,,,,,,,,,,,,,,,,,,,,,,,,,,,,,,,";
+
 fn is_name(byte: u8) -> bool
     ensures { result ≡ is_name byte }
 {
-    is_first(byte) || (b'0' <= byte && byte <= b'9') || byte == b'-' || byte == b'.'
+    NAMES[byte as usize] != b','
 }
 
 pub fn is_text(byte: u8) -> bool

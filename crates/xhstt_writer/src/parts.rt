@@ -1,8 +1,8 @@
 //! Writing tags, attributes and the line breaks between them.
 
 ghost use Rattle.std.specs.Prelude.{◌≡◌, ◌++◌, ◌∷◌, [], ℕ, List, true, false, Option, decimal, length, ◌<◌};
-ghost use Rattle.xhstt_shape.specs.Words.{word};
-ghost use Rattle.xhstt_writer.specs.Trees.{none, filled, between, closed, leaf_end, attribute_spelled, attributes_spelled};
+ghost use Rattle.xhstt_shape.specs.Words.{word, label_word};
+ghost use Rattle.xhstt_writer.specs.Trees.{none, filled, between, closed, leaf_end, attribute_spelled, attributes_spelled, value_bytes};
 ghost use Rattle.xhstt_writer.specs.Parts as parts;
 ghost use Rattle.xhstt_writer.specs.Output.{Aim, Puts, Writes};
 
@@ -12,32 +12,43 @@ use itoa::Buffer;
 use khe_base::{Seq, Text};
 use xhstt_shape::{Label, Name, Ref, Tag};
 
-/// Ends the start tag of the element around, where it is open.
-fn put_between<O: Output>(out: &mut O, opened: bool)
-    ensures { (rest : List ℕ) (whole : Aim) → O.said out.old (between opened rest) whole → O.said out.new rest whole }
-{
-    if opened {
-        out.put(b">\n");
-    }
-}
-
-/// Begins a start tag.
+/// Begins a start tag, and ends that of the element around before it, where it is open.
 pub(crate) fn begin<O: Output>(out: &mut O, opened: bool, tag: Tag)
     ensures { (rest : List ℕ) (whole : Aim) → O.said out.old (between opened (60 ∷ (word tag ++ rest))) whole → O.said out.new rest whole }
 {
-    put_between(out, opened);
-    out.put(b"<");
+    if opened {
+        out.put(b">\n<");
+    } else {
+        out.put(b"<");
+    }
     out.put(tag.word());
+}
+
+/// What stands before an attribute's value: a space, the name, `=` and a quote, in one piece.
+#[tactic(auto, unfolding(xhstt_shape::specs::Words::label_word))]
+fn before_value(label: Label) -> &'static [u8]
+    ensures { result.now ≡ 32 ∷ (label_word label ++ (61 ∷ 34 ∷ [])) }
+{
+    match label {
+        Label::Id => b" Id=\"",
+        Label::Reference => b" Reference=\"",
+        Label::Color => b" Color=\"",
+    }
+}
+
+/// Writes an attribute up to its last quote.
+fn unquoted<O: Output>(out: &mut O, label: Label, text: &Text)
+    ensures { (rest : List ℕ) (whole : Aim) → O.said out.old (32 ∷ (label_word label ++ (61 ∷ 34 ∷ (value_bytes text.now ++ rest)))) whole → O.said out.new rest whole }
+{
+    out.put(before_value(label));
+    put_value(out, text);
 }
 
 /// Writes an attribute.
 pub(crate) fn attribute<O: Output>(out: &mut O, label: Label, text: &Text)
     ensures { (rest : List ℕ) (whole : Aim) → O.said out.old (attribute_spelled label text.now rest) whole → O.said out.new rest whole }
 {
-    out.put(b" ");
-    out.put(label.word());
-    out.put(b"=\"");
-    put_value(out, text);
+    unquoted(out, label, text);
     out.put(b"\"");
 }
 
@@ -176,8 +187,8 @@ pub(crate) fn reference<O: Output>(out: &mut O, opened: bool, tag: Tag, referenc
     ensures { Writes (O.said out.old) opened (O.said out.new) false (parts.one tag (parts.reference reference.now)) }
 {
     begin(out, opened, tag);
-    attribute(out, Label::Reference, &reference.id);
-    end(out, true, tag);
+    unquoted(out, Label::Reference, &reference.id);
+    out.put(b"\"/>\n");
 }
 
 /// Writes a reference, where it is there.
