@@ -1,8 +1,9 @@
 //! A graph by hand: calls that look first whether they may be made.
 
-ghost use Rattle.std.specs.Prelude.{◌≡◌, ◌<◌, IfOk};
+ghost use Rattle.std.specs.Prelude.{◌≡◌, ◌<◌, true, IfOk, OnOk};
 ghost use Rattle.engine_tests.specs.HandGraphs.{AreFresh};
-ghost use Rattle.monitor_graph.specs.Edits.{is_of_groups};
+ghost use Rattle.monitor_graph.specs.Edits.{is_of_groups, adds_child, adds_to};
+ghost use Rattle.monitor_graph.specs.Groups.{HasSeat};
 
 use khe_base::limits::{GREATEST_DEVIATION, MONITORS, WEIGHT};
 use khe_base::{CostFn, GroupId, MonitorId, NoMemory, Totals};
@@ -81,12 +82,22 @@ fn is_of_groups(edit: &Edit) -> bool
     }
 }
 
+/// A seat for the child that an edit adds, where it adds one, in its group.
+fn seat(graph: &mut Graph, edit: &Edit) -> Result<(), NoMemory>
+    ensures { OnOk result (adds_child edit.now ≡ true → HasSeat graph.new.groups graph.new.seats (adds_to edit.now)) }
+{
+    if let Edit::AddChild { group, .. } = *edit {
+        graph.room(group, 1)?;
+    }
+    Ok(())
+}
+
 /// Makes an edit of monitors and groups, with a seat for a child.
 pub(crate) fn edit(
     graph: &mut Graph,
     edit: Edit,
 ) -> Result<Result<Option<u32>, Refusal>, NoMemory> {
-    graph.room(1)?;
+    seat(graph, &edit)?;
     if is_of_groups(&edit) {
         Ok(graph.edit(edit))
     } else {
