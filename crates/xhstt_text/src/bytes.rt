@@ -19,8 +19,8 @@ fn is_first(byte: u8) -> bool
     (b'a' <= byte && byte <= b'z') || (b'A' <= byte && byte <= b'Z') || byte == b'_'
 }
 
-// Each byte that goes on in a name stands at its own place, and a comma at every other place. A third of all bytes of
-// an archive are looked up here, each by one load.
+// Each byte that goes on in a name stands at its own place, and a comma at every other place. More than half of the
+// bytes of an archive are looked up here, each by one load.
 static NAMES: [u8; 256] = *b"\
     ,,,,,,,,,,,,,,,,,,,,,,,,,,,,,,,,\
     ,,,,,,,,,,,,,-.,0123456789,,,,,,\
