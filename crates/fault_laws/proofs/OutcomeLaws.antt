@@ -5,13 +5,16 @@ use Rattle.khe_base.specs.declared.limits.TheConstants.{ARCHIVE_BYTES}
 use Rattle.fault_laws.proofs.RowLaws.{by_machines, by_rows, faulty, no_tree}
 use Rattle.fault_laws.specs.Told.{ComesOf, IsFaultLine, IsOutcomeByRows, Shelf, TellsLeastFault}
 use Rattle.text_fault_laws.specs.Rows.{IsLeastFault}
-use Rattle.khe_app.specs.Outcome.{IsAnswerTo, IsAnswered, IsConstructTo, IsConstructed, IsMatchTo, IsMatchedFrom}
-use Rattle.khe_app.specs.Outcome.{IsOutcomeOf, IsPlayTo, IsPlayed, IsRepairTo, IsRepaired, IsRespelled, IsSolveTo}
-use Rattle.khe_app.specs.Outcome.{IsSolvedFrom, IsSpellingTo}
+use Rattle.khe_app.specs.Outcome.{IsConstructTo, IsConstructed, IsMatchTo, IsMatchedFrom}
+use Rattle.reading_commands.specs.Outcome.{IsAnswerTo, IsAnswered}
+use Rattle.khe_app.specs.Outcome.{IsOutcomeOf, IsPlayTo, IsPlayed, IsRepairTo, IsRepaired, IsSolveTo}
+use Rattle.reading_commands.specs.Outcome.{IsRespelled}
+use Rattle.khe_app.specs.Outcome.{IsSolvedFrom}
+use Rattle.reading_commands.specs.Outcome.{IsSpellingTo}
 use Rattle.archive_reading.specs.Reading.{refused}
 use Rattle.archive_reading.specs.Refusals.{refusal_line}
-use Rattle.khe_app.specs.Words.{Asked, archive_of, checking, constructing, evaluating, making, matching, repairing}
-use Rattle.khe_app.specs.Words.{running, scripting, solving}
+use Rattle.reading_commands.specs.Words.{Asked, archive_of, checking, constructing, evaluating, making, matching, repairing}
+use Rattle.reading_commands.specs.Words.{running, scripting, solving}
 use Rattle.archive_reading.specs.declared.refusals.Refusal.{Refusal}
 use Rattle.archive_reading.specs.declared.refusals.Refusal.TheVariants.{Fault}
 use Rattle.xhstt_text.specs.Document.{Spelled}

@@ -5,12 +5,13 @@ use Rattle.fault_laws.specs.Readings.{IsReadingByRows}
 use Rattle.text_fault_laws.specs.Rows.{IsLeastFault}
 use Rattle.khe_app.specs.Outcome.{IsConstructIn, IsMatchIn, IsOutcome, IsOutcomeOf, IsRepairIn, IsScripted}
 use Rattle.archive_reading.specs.Reading.{IsReadingOf}
-use Rattle.khe_app.specs.Outcome.{IsSolveIn, spelling_of, status_of, text_of}
+use Rattle.khe_app.specs.Outcome.{IsSolveIn}
+use Rattle.reading_commands.specs.Outcome.{spelling_of, status_of, text_of}
 use Rattle.archive_reading.specs.Starting.{start_in}
 use Rattle.archive_reading.specs.Reading.{Reading}
 use Rattle.archive_reading.specs.Refusals.{refusal_line}
-use Rattle.khe_app.specs.Words.{Asked, archive_of, asked, checking, constructing, evaluating, making, matching}
-use Rattle.khe_app.specs.Words.{repairing, running, scripting, solving}
+use Rattle.reading_commands.specs.Words.{Asked, archive_of, asked, checking, constructing, evaluating, making, matching}
+use Rattle.reading_commands.specs.Words.{repairing, running, scripting, solving}
 use Rattle.archive_reading.specs.declared.refusals.Refusal.TheVariants.{Fault}
 use Rattle.xhstt_text.specs.Document.{Spelled}
 use Rattle.xhstt_text.specs.Forest.{Forest}

@@ -4,13 +4,15 @@ use Rattle.std.proofs.Common.{encode_utf8_all}
 use Rattle.std.specs.Str.{IsUtf8, chars}
 use Rattle.std.proofs.lemmas.Str.{encodes-chars, IsUtf8-encode}
 use Rattle.khe_io.specs.Shelf.{IsMissing}
-use Rattle.khe_app.specs.Answers.{reading_of, IsAnswerOf, IsReadyAnswer}
-use Rattle.khe_app.specs.Ends.{Holdings, IsEnd, LacksOf, Written}
-use Rattle.khe_app.specs.Outcome.{IsOutcomeOf, IsSpellingTo, spelling_of, status_of}
+use Rattle.reading_commands.specs.Answers.{reading_of, IsAnswerOf, IsReadyAnswer}
+use Rattle.khe_app.specs.Ends.{IsEnd, LacksOf}
+use Rattle.reading_commands.specs.Ends.{Holdings, Written}
+use Rattle.khe_app.specs.Outcome.{IsOutcomeOf}
+use Rattle.reading_commands.specs.Outcome.{IsSpellingTo, spelling_of, status_of}
 use Rattle.archive_reading.specs.Refusals.{refusal_line}
-use Rattle.khe_app.specs.Words.{checking}
-use Rattle.khe_app.specs.declared.program.Answer.{Answer}
-use Rattle.khe_app.specs.declared.program.Answer.TheVariants.{Read, Refused}
+use Rattle.reading_commands.specs.Words.{checking}
+use Rattle.reading_commands.specs.declared.answers.Answer.{Answer}
+use Rattle.reading_commands.specs.declared.answers.Answer.TheVariants.{Read, Refused}
 use Rattle.khe_app.proofs.EndsLemmas.{end_written, not_four, status-decided}
 use Rattle.xhstt_shape.specs.WellFormed.{IsWellFormed}
 use Rattle.xhstt_shape.specs.declared.records.Archive.{Archive}

@@ -5,13 +5,14 @@ use Rattle.std.proofs.lemmas.Option.{slice_get_within}
 use Rattle.construct_run.specs.Constructs.{IsBuiltText, IsConstructText, IsMendedText}
 use Rattle.khe_instance.specs.declared.parts.Parts.{Parts}
 use Rattle.khe_io.specs.Shelf.{IsMissing}
-use Rattle.khe_app.specs.Answers.{reading_of, IsAnswerOf}
-use Rattle.khe_app.specs.Ends.{Holdings, IsEnd, LacksOf, Written}
+use Rattle.reading_commands.specs.Answers.{reading_of, IsAnswerOf}
+use Rattle.khe_app.specs.Ends.{IsEnd, LacksOf}
+use Rattle.reading_commands.specs.Ends.{Holdings, Written}
 use Rattle.khe_app.specs.Outcome.{IsOutcomeOf}
 use Rattle.archive_reading.specs.Reading.{Reading, evaluable, refused}
 use Rattle.khe_app.specs.Outcome.{IsConstructIn, IsConstructOf, IsConstructTo}
-use Rattle.khe_app.specs.Words.{constructing}
-use Rattle.khe_app.specs.declared.program.Answer.{Answer}
+use Rattle.reading_commands.specs.Words.{constructing}
+use Rattle.reading_commands.specs.declared.answers.Answer.{Answer}
 use Rattle.khe_app.proofs.EndsLemmas.{end_starved, end_written, not_two}
 use Rattle.khe_app.proofs.RepairEnds.{decided, four_apart, two_apart}
 use Rattle.xhstt_resolve.specs.declared.resolving.Resolved.{Resolved}

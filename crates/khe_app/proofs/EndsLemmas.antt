@@ -4,24 +4,15 @@ use Rattle.std.proofs.Common.{◌∙◌, refl, encode_utf8_all, arith, true, fal
 use Rattle.std.specs.Prelude.{IsSomeAnd}
 use Rattle.std.proofs.lemmas.List.{append-nil}
 use Rattle.khe_io.specs.Faults.{Rose, Took, TookFront}
-use Rattle.khe_io.specs.Shelf.{IsMissing, StandsUnder}
-use Rattle.khe_app.specs.Answers.{reading_of, IsAnswerOf, IsOnlyAnswerOf}
-use Rattle.khe_app.specs.Ends.{Holdings, EndedOf, CutOffOf, LacksArchiveOf, LacksOf, IsDecided, IsEnd, Written}
-use Rattle.khe_app.specs.Outcome.{IsAnswerTo, IsOutcomeOf, status_of, text_of}
-use Rattle.archive_reading.specs.Reading.{Reading, evaluable, refused, IsReadingOf}
-use Rattle.khe_app.specs.Words.{Asked, archive_of, asked, evaluating, is_read}
-use Rattle.khe_app.specs.declared.program.Answer.{Answer}
-
--- what stands under a name leads to the answer
-pub stands-answer : (h : Holdings) (name bytes : List ℕ) (answer : Answer) → StandsUnder h name bytes
-    → IsReadingOf bytes (reading_of answer) → IfSome h (λ under. IsAnswerOf (under name) answer)
-stands-answer None name bytes answer stands is = tt
-stands-answer (Some under) name bytes answer stands is = subst (λ o. IsAnswerOf o answer) (sym stands) is
-
-pub stands-only : (h : Holdings) (name bytes : List ℕ) (answer : Answer) → StandsUnder h name bytes
-    → IsOnlyAnswerOf (Some bytes) answer → IfSome h (λ under. IsOnlyAnswerOf (under name) answer)
-stands-only None name bytes answer stands is = tt
-stands-only (Some under) name bytes answer stands is = subst (λ o. IsOnlyAnswerOf o answer) (sym stands) is
+use Rattle.khe_io.specs.Shelf.{IsMissing}
+use Rattle.reading_commands.specs.Answers.{reading_of, IsAnswerOf}
+use Rattle.khe_app.specs.Ends.{EndedOf, CutOffOf, LacksArchiveOf, LacksOf, IsEnd}
+use Rattle.reading_commands.specs.Ends.{Holdings, IsDecided, Written}
+use Rattle.khe_app.specs.Outcome.{IsOutcomeOf}
+use Rattle.reading_commands.specs.Outcome.{IsAnswerTo, status_of, text_of}
+use Rattle.archive_reading.specs.Reading.{Reading, evaluable, refused}
+use Rattle.reading_commands.specs.Words.{Asked, archive_of, asked, evaluating, is_read}
+use Rattle.reading_commands.specs.declared.answers.Answer.{Answer}
 
 -- where something is read, nothing is said of what stays where nothing is
 pub not_unread : {P : Type 0} (o : Option Asked) (a : Asked) → o ≡ Some a → is_read (Some a) ≡ true

@@ -3,12 +3,8 @@ pub mod ConstructEnds
 pub mod EndsLemmas
 pub mod MakeEnds
 pub mod MatchEnds
-pub mod OutcomeLemmas
 pub mod PlayEnds
 pub mod RepairEnds
-pub mod ReportLemmas
 pub mod ScriptEnds
 pub mod SolveEnds
 pub mod TakenScripts
-pub mod ValueLemmas
-pub mod WindowLemmas

@@ -14,9 +14,10 @@ use Rattle.generator_laws.specs.Starts.{HasStart}
 use Rattle.generator_laws.proofs.MadeLaws.{has_start, made_resolved}
 use Rattle.made_run.specs.Runs.{IsRunLine}
 use Rattle.archive_reading.specs.Starting.{IsBarredBy, Start, begins, barred, start_by, start_of}
-use Rattle.khe_app.specs.Ends.{Holdings, IsEnd, LacksOf, Written}
+use Rattle.khe_app.specs.Ends.{IsEnd, LacksOf}
+use Rattle.reading_commands.specs.Ends.{Holdings, Written}
 use Rattle.khe_app.specs.Outcome.{IsOutcomeOf, IsRunTo}
-use Rattle.khe_app.specs.Words.{making, running}
+use Rattle.reading_commands.specs.Words.{making, running}
 use Rattle.archive_reading.specs.declared.reading.Unread.{Unread}
 use Rattle.archive_reading.specs.declared.reading.Unread.TheVariants as unread
 use Rattle.archive_reading.specs.declared.refusals.Refusal.{Refusal}

@@ -5,17 +5,19 @@ use Rattle.std.specs.Option.{option_map_or}
 use Rattle.khe_instance.specs.States.{IsValid}
 use Rattle.khe_instance.specs.declared.parts.Parts.{Parts}
 use Rattle.khe_io.specs.Shelf.{IsMissing}
-use Rattle.khe_app.specs.Answers.{IsAnswerOf, IsBegun, IsOnlyAnswerOf, IsPlayAnswer, IsPlayOf, IsReadyPlay, IsScriptOf}
+use Rattle.khe_app.specs.Answers.{IsBegun, IsPlayAnswer, IsPlayOf, IsReadyPlay, IsScriptOf}
+use Rattle.reading_commands.specs.Answers.{IsAnswerOf, IsOnlyAnswerOf}
 use Rattle.khe_app.specs.Answers.{IsTextOf, IsWith}
-use Rattle.khe_app.specs.Ends.{Holdings, LacksOf, IsDecided, IsEnd, Written}
+use Rattle.khe_app.specs.Ends.{LacksOf, IsEnd}
+use Rattle.reading_commands.specs.Ends.{Holdings, IsDecided, Written}
 use Rattle.khe_app.specs.Outcome.{IsOutcomeOf, IsPlayTo}
 use Rattle.archive_reading.specs.Starting.{Start, barred, start_in, start_of}
 use Rattle.archive_reading.specs.Reading.{Reading, evaluable, refused}
 use Rattle.khe_app.specs.Outcome.{IsRunOf, IsRunOr, IsScripted, is_understood}
 use Rattle.archive_reading.specs.Reading.{IsReadingOf}
-use Rattle.khe_app.specs.Words.{scripting}
+use Rattle.reading_commands.specs.Words.{scripting}
 use Rattle.khe_app.proofs.EndsLemmas.{end_starved, end_written, not_two}
-use Rattle.khe_app.specs.declared.program.Answer.TheVariants.{Read, Refused}
+use Rattle.reading_commands.specs.declared.answers.Answer.TheVariants.{Read, Refused}
 use Rattle.khe_app.specs.declared.program.Play.{Play}
 use Rattle.khe_app.specs.declared.program.Play.TheVariants as play
 use Rattle.archive_reading.specs.declared.reading.ReadArchive.{ReadArchive}

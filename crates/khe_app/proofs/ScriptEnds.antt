@@ -15,7 +15,8 @@ use Rattle.tied_run.specs.Plays.{tied_play_of, untied}
 use Rattle.tied_run.specs.Scripts.{is_tied_script, tied_text}
 use Rattle.khe_io.specs.declared.pieces.Cut.{Cut}
 use Rattle.khe_io.specs.declared.pieces.Cut.TheVariants.{WriteFault, NoMemory}
-use Rattle.khe_app.specs.Ends.{Written, status_after}
+use Rattle.khe_app.specs.Ends.{status_after}
+use Rattle.reading_commands.specs.Ends.{Written}
 use Rattle.khe_app.specs.Outcome.{IsRunOf, answers_of, is_understood}
 
 -- the text of a world without marks

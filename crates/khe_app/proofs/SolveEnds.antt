@@ -6,15 +6,16 @@ use Rattle.khe_instance.specs.declared.parts.Parts.{Parts}
 use Rattle.khe_instance.specs.declared.states.Plain.{Plain}
 use Rattle.khe_io.specs.Shelf.{IsMissing}
 use Rattle.repair_run.specs.Solves.{IsSolveText}
-use Rattle.khe_app.specs.Answers.{reading_of, IsAnswerOf}
+use Rattle.reading_commands.specs.Answers.{reading_of, IsAnswerOf}
 use Rattle.archive_reading.specs.Starting.{IsBarredBy, Start, begins, barred, start_of}
-use Rattle.khe_app.specs.Ends.{Holdings, IsEnd, LacksOf, Written}
+use Rattle.khe_app.specs.Ends.{IsEnd, LacksOf}
+use Rattle.reading_commands.specs.Ends.{Holdings, Written}
 use Rattle.khe_app.specs.Outcome.{IsOutcomeOf}
 use Rattle.archive_reading.specs.Reading.{Reading, evaluable, refused}
 use Rattle.khe_app.specs.Outcome.{IsSolveIn, IsSolveOf, IsSolveTo}
 use Rattle.archive_reading.specs.Refusals.{refusal_line}
-use Rattle.khe_app.specs.Words.{solving}
-use Rattle.khe_app.specs.declared.program.Answer.{Answer}
+use Rattle.reading_commands.specs.Words.{solving}
+use Rattle.reading_commands.specs.declared.answers.Answer.{Answer}
 use Rattle.archive_reading.specs.declared.reading.Unread.{Unread}
 use Rattle.archive_reading.specs.declared.reading.Unread.TheVariants.{Refused}
 use Rattle.archive_reading.specs.declared.refusals.Refusal.{Refusal}

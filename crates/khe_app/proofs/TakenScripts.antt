@@ -2,7 +2,7 @@
 use Rattle.std.proofs.Common.{ℕ, ◌≤◌, Some, None, IfSome, List, length, sym, subst, refl}
 use Rattle.khe_io.specs.Shelf.{StandsUnder}
 use Rattle.khe_app.specs.Answers.{IsScriptOf}
-use Rattle.khe_app.specs.Ends.{Holdings}
+use Rattle.reading_commands.specs.Ends.{Holdings}
 use Rattle.khe_app.specs.declared.program.Play.TheVariants as play
 use Rattle.khe_base.specs.declared.limits.TheConstants.{SCRIPT_BYTES}
 use Rattle.khe_app.specs.declared.starting.Begun.{Begun}

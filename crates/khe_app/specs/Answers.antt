@@ -2,42 +2,18 @@
 use Rattle.std.specs.Prelude.{ℕ, ◌≡◌, ◌<◌, ◌≤◌, Bool, Option, Some, None, List, [], length, slice_get, encode_utf8_all}
 use Rattle.khe_instance.specs.States.{IsValid}
 use Rattle.khe_instance.specs.declared.parts.Parts.{Parts}
-use Rattle.khe_app.specs.Ends.{Written}
+use Rattle.reading_commands.specs.Ends.{Written}
 use Rattle.khe_app.specs.Outcome.{IsRunOf, IsScripted}
 use Rattle.archive_reading.specs.Starting.{Start, begins, barred, start_in}
-use Rattle.archive_reading.specs.Reading.{Reading, evaluable, refused, IsReadingOf}
-use Rattle.archive_reading.specs.Ready.{IsReady}
+use Rattle.archive_reading.specs.Reading.{Reading, IsReadingOf}
 use Rattle.archive_reading.specs.Refusals.{refusal_line}
 use Rattle.khe_app.specs.Lines.{script_too_large_line}
-use Rattle.khe_app.specs.declared.program.Answer.{Answer}
-use Rattle.khe_app.specs.declared.program.Answer.TheVariants.{Read, Refused}
 use Rattle.khe_app.specs.declared.program.Play.{Play}
 use Rattle.khe_app.specs.declared.program.Play.TheVariants as play
 use Rattle.archive_reading.specs.declared.reading.Unread.{Unread}
 use Rattle.archive_reading.specs.declared.reading.Unread.TheVariants as unread
 use Rattle.khe_base.specs.declared.limits.TheConstants.{SCRIPT_BYTES}
 use Rattle.khe_app.specs.declared.starting.Begun.{Begun}
-use Rattle.xhstt_resolve.specs.declared.resolving.Resolved.{Resolved}
-use Rattle.xhstt_shape.specs.declared.records.Archive.{Archive}
-
-abbrev pub reading_of : Answer → Reading
-reading_of (Read r) = evaluable r.archive r.resolved
-reading_of (Refused refusal) = refused refusal
-
--- the answer is that of the bytes, which stand there, and these have no other
-abbrev pub IsAnswerOf : Option (List ℕ) → Answer → Type 0
-IsAnswerOf None answer = ⊥
-IsAnswerOf (Some bytes) answer = IsReadingOf bytes (reading_of answer)
-
-abbrev pub IsOnlyAnswerOf : Option (List ℕ) → Answer → Type 0
-IsOnlyAnswerOf None answer = ⊥
-IsOnlyAnswerOf (Some bytes) (Read r) = (x : Reading) → IsReadingOf bytes x → x ≡ evaluable r.archive r.resolved
-IsOnlyAnswerOf (Some bytes) (Refused refusal) = (a : Archive) (r : Resolved) → IsReadingOf bytes (evaluable a r) → ⊥
-
--- where there is a report to write, its solutions have their instances
-abbrev pub IsReadyAnswer : Answer → Type 0
-IsReadyAnswer (Read r) = IsReady r.archive r.resolved
-IsReadyAnswer (Refused refusal) = Unit {0}
 
 -- a start that is held: the instance stands among those of the archive, and the timetable is valid
 pub record IsBegun (s : Start) (b : Begun) : Type 0 where

@@ -6,13 +6,10 @@ use Rattle.std.specs.Prelude.{encode_utf8_all}
 use Rattle.khe_io.specs.Faults.{Rose, Took, TookFront}
 use Rattle.khe_io.specs.Shelf.{IsMissing}
 use Rattle.khe_app.specs.Outcome.{IsOutcomeOf}
-use Rattle.khe_app.specs.Words.{Asked, archive_of, asked}
+use Rattle.reading_commands.specs.Ends.{Holdings, IsDecided, IsStatus}
+use Rattle.reading_commands.specs.Words.{Asked, archive_of, asked}
 use Rattle.khe_io.specs.declared.pieces.Cut.{Cut}
 use Rattle.khe_io.specs.declared.pieces.Cut.TheVariants.{WriteFault, NoMemory}
-
--- what a shelf holds under its names, where it tells it
-abbrev pub Holdings : Type 0
-Holdings = Option (List ℕ → Option (List ℕ))
 
 -- the run ended by the outcome with this status, and the sink took the outcome's whole text
 abbrev pub EndedOf : Option Asked → Holdings → Option (List ℕ) → Option (List ℕ) → ℕ → Type 0
@@ -47,27 +44,11 @@ LacksName words = LacksOf (asked words)
 abbrev pub LacksArchive : List (List ℕ) → Holdings → Type 0
 LacksArchive words = LacksArchiveOf (asked words)
 
--- the statuses of a run that was neither cut off by a device nor for want of memory
-abbrev pub IsDecided : ℕ → Type 0
-IsDecided status = (status ≡ 0) ⊎ (status ≡ 2) ⊎ (status ≡ 3) ⊎ (status ≡ 7)
-
--- all statuses
-abbrev pub IsStatus : ℕ → Type 0
-IsStatus status = IsDecided status ⊎ (status ≡ 4) ⊎ (status ≡ 5) ⊎ (status ≡ 6)
-
 -- the status after a run of a script: it was read to its end or not, or its text was cut off
 abbrev pub status_after : Result Bool Cut → ℕ
 status_after (Ok read) = if read then 0 else 7
 status_after (Err WriteFault) = 5
 status_after (Err NoMemory) = 6
-
--- what came of writing bytes before a status: all was taken; or the sink refused a call after some; or
--- memory ran out after some
-abbrev pub Written : Option (List ℕ) → Option (List ℕ) → ℕ → ℕ → List ℕ → ℕ → ℕ → Type 0
-Written before after faults_before faults_after bytes status result =
-    ((result ≡ status) × Took before after bytes)
-    ⊎ ((result ≡ 5) × Rose faults_before faults_after × TookFront before after bytes)
-    ⊎ ((result ≡ 6) × TookFront before after bytes)
 
 -- a run of what is asked for ended with this status: a shelf that is sound or not with its faults before
 -- and after, what a sink had taken before and after, and its faults

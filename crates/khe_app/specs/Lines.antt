@@ -1,9 +1,5 @@
--- The lines on words and scripts. Each ends with a line feed.
+-- The line on scripts. It ends with a line feed.
 use Rattle.std.specs.Prelude.{ℕ, List, codes}
-
--- what is written where the words have no reading
-abbrev pub not_understood_line : List ℕ
-not_understood_line = codes "khe: words not understood\n"
 
 -- what is written in place of a script's answers where it is too large
 abbrev pub script_too_large_line : List ℕ

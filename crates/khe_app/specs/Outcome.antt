@@ -23,34 +23,14 @@ use Rattle.xhstt_resolve.specs.Resolved.{resolved}
 use Rattle.xhstt_resolve.specs.declared.resolving.Resolved.{Resolved}
 use Rattle.xhstt_writer.specs.Archives.{canonical}
 use Rattle.archive_reading.specs.Refusals.{refusal_line}
-use Rattle.khe_app.specs.Lines.{not_understood_line, script_too_large_line}
-use Rattle.khe_app.specs.Report.{report}
-use Rattle.khe_app.specs.Words.{Asked, asked, evaluating, scripting, checking, repairing, solving, matching, making, running}
+use Rattle.khe_app.specs.Lines.{script_too_large_line}
+use Rattle.reading_commands.specs.Outcome.{IsAnswerTo, IsSpellingTo}
+use Rattle.reading_commands.specs.Lines.{not_understood_line}
+use Rattle.reading_commands.specs.Words.{Asked, asked, evaluating, scripting, checking, repairing, solving, matching, making, running}
 use Rattle.khe_base.specs.declared.limits.TheConstants.{SCRIPT_BYTES}
 use Rattle.archive_reading.specs.declared.refusals.Refusal.{Refusal}
 use Rattle.archive_reading.specs.declared.refusals.Refusal.TheVariants.{NoSuchTime, NoSuchType, TooManyTasks, NoSuchInstance}
-use Rattle.khe_app.specs.Words.{constructing}
-
--- the status and the text of a reading
-abbrev pub status_of : Reading → ℕ
-status_of (evaluable a r) = 0
-status_of (refused refusal) = 3
-
-abbrev pub text_of : Bool → Reading → List ℕ
-text_of all (evaluable a r) = report all a r
-text_of all (refused refusal) = refusal_line refusal
-
--- a reading of the bytes with this status and this text
-pub record IsAnswered (all : Bool) (bytes : List ℕ) (status : ℕ) (text : List ℕ) : Type 0 where
-  pub reading : Reading
-  pub is : IsReadingOf bytes reading
-  pub status_is : status ≡ status_of reading
-  pub text_is : text ≡ text_of all reading
-
--- what the bytes under the archive's name lead to; where nothing stands there, status 4 and no text
-abbrev pub IsAnswerTo : Bool → Option (List ℕ) → ℕ → List ℕ → Type 0
-IsAnswerTo all None status text = (status ≡ 4) × (text ≡ [])
-IsAnswerTo all (Some bytes) status text = IsAnswered all bytes status text
+use Rattle.reading_commands.specs.Words.{constructing}
 
 -- what a script answers on a state without ties, and whether it is read to its end: by the lines of scripts, or by
 -- the wider table of lines that may speak of ties
@@ -92,24 +72,6 @@ pub record IsPlayed (tied : Bool) (number : ℕ) (bytes : List ℕ) (script : Op
 abbrev pub IsPlayTo : Bool → ℕ → Option (List ℕ) → Option (List ℕ) → ℕ → List ℕ → Type 0
 IsPlayTo tied number None script status text = (status ≡ 4) × (text ≡ [])
 IsPlayTo tied number (Some bytes) script status text = IsPlayed tied number bytes script status text
-
--- the bytes of a reading: the canonical spelling of an archive that is read, and the line that refuses one
-abbrev pub spelling_of : Reading → List ℕ
-spelling_of (evaluable a r) = canonical a
-spelling_of (refused refusal) = encode_utf8_all (refusal_line refusal)
-
--- a reading of the bytes with this status, and a text that its bytes spell
-pub record IsRespelled (bytes : List ℕ) (status : ℕ) (text : List ℕ) : Type 0 where
-  pub reading : Reading
-  pub is : IsReadingOf bytes reading
-  pub status_is : status ≡ status_of reading
-  pub bytes_are : encode_utf8_all text ≡ spelling_of reading
-
--- what the bytes under the archive's name are respelled as; where nothing stands there, status 4 and no
--- text
-abbrev pub IsSpellingTo : Option (List ℕ) → ℕ → List ℕ → Type 0
-IsSpellingTo None status text = (status ≡ 4) × (text ≡ [])
-IsSpellingTo (Some bytes) status text = IsRespelled bytes status text
 
 -- what comes of a start: the archive in which the repair of its timetable takes the place of the solution,
 -- and the line on the repair

@@ -1,19 +1,13 @@
 //! Archives in their canonical spelling.
 
 ghost use Rattle.std.specs.Prelude.{◌≡◌, ◌≤◌, ◌⊎◌, Some, IsTrue};
-ghost use Rattle.xhstt_shape.specs.WellFormed.{IsWellFormed};
-ghost use Rattle.xhstt_writer.specs.Archives.{canonical};
 ghost use Rattle.khe_io.specs.Shelf.{IsMissing};
-ghost use Rattle.khe_app.specs.Answers.{reading_of, IsReadyAnswer};
-ghost use Rattle.khe_app.specs.Ends.{IsEnd, Written};
-ghost use Rattle.khe_app.specs.Outcome.{spelling_of, status_of};
-ghost use Rattle.khe_app.specs.Words.{checking};
+ghost use Rattle.khe_app.specs.Ends.{IsEnd};
+ghost use Rattle.reading_commands.specs.Words.{checking};
 
-use crate::program::{Answer, Status, Stop, answer_to, put_refusal};
 use khe_io::{Shelf, Sink};
+use reading_commands::{Status, Stop, answer_to, write_spelling};
 use std::alloc::Global;
-use xhstt_shape::Archive;
-use xhstt_writer::{SendFault, send};
 
 /// Writes the archive under a name in its canonical spelling, or the line that refuses it.
 #[tactic(auto, using(crate::proofs::EndsLemmas::end_starved, crate::proofs::EndsLemmas::end_stopped, crate::proofs::CheckEnds::check_lacks))]
@@ -37,31 +31,5 @@ pub(crate) fn check<S: Shelf, K: Sink>(
         Ok(answer) => write_spelling(alloc, out, &answer),
         Err(Stop::ReadFault) => Status(4),
         Err(Stop::NoMemory) => Status(6),
-    }
-}
-
-/// Writes an archive in its canonical spelling, or the line that refuses it.
-fn write_spelling<K: Sink>(alloc: Global, out: &mut K, answer: &Answer) -> Status
-    requires { IsReadyAnswer answer.now }
-    ensures written { Written (K.taken out.old) (K.taken out.new) (K.faults out.old) (K.faults out.new) (spelling_of (reading_of answer.now)) (status_of (reading_of answer.now)) result.0 }
-    ensures write_fault_ends { (result.0 ≡ 5) ⊎ (K.faults out.new ≡ K.faults out.old) }
-    ensures sink_faults { K.faults out.old ≤ K.faults out.new }
-{
-    match answer {
-        Answer::Read(read) => put_spelling(alloc, out, &read.archive),
-        Answer::Refused(refusal) => put_refusal(alloc, out, *refusal),
-    }
-}
-
-/// Writes an archive in its canonical spelling, in pieces.
-pub(crate) fn put_spelling<K: Sink>(alloc: Global, out: &mut K, archive: &Archive) -> Status
-    ensures written { Written (K.taken out.old) (K.taken out.new) (K.faults out.old) (K.faults out.new) (canonical archive.now) 0 result.0 }
-    ensures write_fault_ends { (result.0 ≡ 5) ⊎ (K.faults out.new ≡ K.faults out.old) }
-    ensures sink_faults { K.faults out.old ≤ K.faults out.new }
-{
-    match send(alloc, archive, out) {
-        Ok(()) => Status(0),
-        Err(SendFault::WriteFault) => Status(5),
-        Err(SendFault::NoMemory) => Status(6),
     }
 }

@@ -4,17 +4,13 @@
 
 mod checking;
 mod constructing;
-mod crews;
 mod making;
 mod matching;
-mod outcomes;
 mod program;
 mod repairing;
-mod report_parts;
-mod reports;
 mod scripts;
 mod solving;
 mod starting;
-mod words;
 
-pub use program::{Answer, Status, Stop, answer_to, khe, put_refusal};
+pub use program::khe;
+pub use reading_commands::{Answer, Status, Stop, answer_to, put_refusal};

@@ -1,61 +1,38 @@
 //! The program: what its words ask for, and the status that it ends with.
 
 ghost use Rattle.std.specs.Prelude.{◌≡◌, ◌<◌, ◌≤◌, ◌⊎◌, ◌↔◌, ℕ, Bool, false, List, None, Some, map, IsTrue, IfOk, IfSome, IsErrOf, OnOk, length, slice_get, string_bytes, encode_utf8_all};
-ghost use Rattle.khe_base.specs.declared.limits.TheConstants.{ARCHIVE_BYTES, WORKERS};
+ghost use Rattle.khe_base.specs.declared.limits.TheConstants.{WORKERS};
 ghost use Rattle.khe_io.specs.Faults.{Rose, Took, TookFront};
 ghost use Rattle.khe_io.specs.Shelf.{IsMissing};
-ghost use Rattle.khe_app.specs.Answers.{reading_of, IsAnswerOf, IsOnlyAnswerOf, IsReadyAnswer, IsPlayAnswer, IsReadyPlay, IsScriptOf, IsTextOf, IsWith};
-ghost use Rattle.khe_app.specs.Ends.{EndedBy, CutOff, Holdings, LacksArchive, LacksName, LacksOf, IsDecided, IsEnd, IsStatus, Written};
-ghost use Rattle.khe_app.specs.Outcome.{status_of, text_of};
-ghost use Rattle.archive_reading.specs.Reading.{IsReadingOf};
+ghost use Rattle.khe_app.specs.Answers.{IsPlayAnswer, IsReadyPlay, IsScriptOf, IsTextOf, IsWith};
+ghost use Rattle.khe_app.specs.Ends.{EndedBy, CutOff, LacksArchive, LacksName, LacksOf, IsEnd};
+ghost use Rattle.reading_commands.specs.Ends.{Holdings, IsDecided, IsStatus, Written};
 ghost use Rattle.archive_reading.specs.Refusals as refusals;
 ghost use Rattle.archive_reading.specs.Starting.{IsBarredBy, Start, barred};
 ghost use Rattle.archive_reading.specs.declared.refusals.Refusal.{Refusal as Why};
-ghost use Rattle.khe_app.specs.Lines as lines;
-ghost use Rattle.khe_app.specs.Words.{asked, evaluating, is_read, scripting};
+ghost use Rattle.reading_commands.specs.Lines.{not_understood_line};
+ghost use Rattle.khe_app.specs.Lines.{script_too_large_line};
+ghost use Rattle.reading_commands.specs.Words.{asked, evaluating, is_read, scripting};
 
 use crate::checking::check;
 use crate::constructing::construct;
-use crate::crews::Crew;
 use crate::making::{make, make_run};
 use crate::matching::{Wanted, match_tasks};
 use crate::repairing::{Repairing, repair};
-use crate::reports::report;
 use crate::scripts::play_script;
 use crate::solving::{Solving, solve};
 use crate::starting::{Begun, start};
-use crate::words::{Request, request_of};
-use archive_reading::{ReadArchive, Refusal, Unread, read, refusal_line};
-use khe_base::{NoMemory, Seq, limits};
+use archive_reading::{Refusal, Unread};
+use khe_base::{Seq, limits};
 use khe_instance::Instance;
-use khe_io::{Cut, Gate, Shelf, Sink, TakeFault, put_all, take_all};
+use khe_io::{Gate, Shelf, Sink, TakeFault, take_all};
+use reading_commands::{
+    Answer, Crew, Request, Status, Stop, answer_to, not_understood, put, put_refusal, request_of,
+    write_report,
+};
 use std::alloc::Global;
 use std::mem::ManuallyDrop;
 use std::thread::Threads;
-use thiserror::Error;
-
-/// The status that a run ends with.
-///
-/// | Status | Meaning |
-/// |---|---|
-/// | 0 | the archive was evaluated, written, repaired, solved, constructed, matched or made, the script was read to its end, or the job was run |
-/// | 2 | the words were not understood |
-/// | 3 | the archive was refused, or the solution that a command begins with, the instance that is constructed, or the time, the type or the tasks of a matching |
-/// | 4 | the archive or the script could not be read |
-/// | 5 | the text could not be written |
-/// | 6 | memory ran out |
-/// | 7 | a line of the script was not understood, or the script is too large |
-#[derive(Clone, Copy, Debug, PartialEq, Eq)]
-pub struct Status(pub u8);
-
-/// What an archive leads to.
-#[derive(Drop)]
-pub enum Answer {
-    /// It is read.
-    Read(ReadArchive),
-    /// It is refused.
-    Refused(Refusal),
-}
 
 /// What a script on a solution of an archive leads to.
 #[derive(Drop)]
@@ -66,28 +43,6 @@ pub enum Play {
     TooLarge,
     /// It is to be run.
     Run(Begun, Seq<u8>),
-}
-
-/// Why there is no answer: what was to be read could not be, or memory ran out.
-#[derive(Clone, Copy, Debug, PartialEq, Eq, Error)]
-pub enum Stop {
-    /// The shelf refused a call.
-    #[error("a file could not be read")]
-    ReadFault,
-    /// Memory was refused.
-    #[error("out of memory")]
-    NoMemory,
-}
-
-impl From<NoMemory> for Stop {
-    ghost use Rattle.std.specs.Prelude.{◌≡◌};
-    ghost use Rattle.khe_app.specs.declared.program.Stop.TheVariants.{NoMemory as OutOfMemory};
-
-    ghost from_gives = { λ _ stop. stop ≡ OutOfMemory };
-
-    fn from(_error: NoMemory) -> Stop {
-        Stop::NoMemory
-    }
 }
 
 /// Runs the program on these words: reads the archive that they name from the shelf, if they name one, and
@@ -155,8 +110,8 @@ pub fn khe<R: Threads + Sync, S: Shelf, K: Sink, G: Gate>(
     ensures not_understood { result.0 ≡ 2 → asked (map string_bytes words.now) ≡ None }
 
     // Their line is the text also over a shelf that keeps its content to itself.
-    ensures line { result.0 ≡ 2 → Took (K.taken out.old) (K.taken out.new) (encode_utf8_all lines.not_understood_line) }
-    ensures line_cut_off { asked (map string_bytes words.now) ≡ None → result.0 ≡ 5 → TookFront (K.taken out.old) (K.taken out.new) (encode_utf8_all lines.not_understood_line) }
+    ensures line { result.0 ≡ 2 → Took (K.taken out.old) (K.taken out.new) (encode_utf8_all not_understood_line) }
+    ensures line_cut_off { asked (map string_bytes words.now) ≡ None → result.0 ≡ 5 → TookFront (K.taken out.old) (K.taken out.new) (encode_utf8_all not_understood_line) }
 
     // Status 4 comes by a fault of the shelf and always where it counted one, so no call is made
     // again after it. On a sound shelf it comes exactly where nothing stands under a name whose
@@ -206,8 +161,8 @@ fn respond<R: Threads + Sync, S: Shelf, K: Sink, G: Gate>(
     ensures end { IsEnd (asked (map string_bytes words.now)) (S.holdings shelf.old) (S.is_sound shelf.old) (S.faults shelf.old) (S.faults shelf.new) (K.taken out.old) (K.taken out.new) (K.faults out.old) (K.faults out.new) result.0 }
     ensures no_reading { asked (map string_bytes words.now) ≡ None → ((result.0 ≡ 2) ⊎ (result.0 ≡ 5)) × (shelf.new ≡ shelf.old) }
     ensures not_understood { result.0 ≡ 2 → asked (map string_bytes words.now) ≡ None }
-    ensures line { result.0 ≡ 2 → Took (K.taken out.old) (K.taken out.new) (encode_utf8_all lines.not_understood_line) }
-    ensures line_cut_off { asked (map string_bytes words.now) ≡ None → result.0 ≡ 5 → TookFront (K.taken out.old) (K.taken out.new) (encode_utf8_all lines.not_understood_line) }
+    ensures line { result.0 ≡ 2 → Took (K.taken out.old) (K.taken out.new) (encode_utf8_all not_understood_line) }
+    ensures line_cut_off { asked (map string_bytes words.now) ≡ None → result.0 ≡ 5 → TookFront (K.taken out.old) (K.taken out.new) (encode_utf8_all not_understood_line) }
     ensures absent { IsTrue (S.is_sound shelf.old) → LacksArchive (map string_bytes words.now) (S.holdings shelf.old) → result.0 ≡ 4 }
     ensures unread { is_read (asked (map string_bytes words.now)) ≡ false → shelf.new ≡ shelf.old }
     ensures holdings { S.holdings shelf.new ≡ S.holdings shelf.old }
@@ -320,24 +275,17 @@ pub(crate) fn put_unread<K: Sink>(alloc: Global, out: &mut K, unread: Unread) ->
 fn refuse_words<K: Sink>(out: &mut K) -> Status
     ensures end { (h : Holdings) (sound : Bool) (faults : ℕ) → IsEnd None h sound faults faults (K.taken out.old) (K.taken out.new) (K.faults out.old) (K.faults out.new) result.0 }
     ensures status { (result.0 ≡ 2) ⊎ (result.0 ≡ 5) }
-    ensures line { result.0 ≡ 2 → Took (K.taken out.old) (K.taken out.new) (encode_utf8_all lines.not_understood_line) }
-    ensures line_cut_off { result.0 ≡ 5 → TookFront (K.taken out.old) (K.taken out.new) (encode_utf8_all lines.not_understood_line) }
+    ensures line { result.0 ≡ 2 → Took (K.taken out.old) (K.taken out.new) (encode_utf8_all not_understood_line) }
+    ensures line_cut_off { result.0 ≡ 5 → TookFront (K.taken out.old) (K.taken out.new) (encode_utf8_all not_understood_line) }
     ensures write_fault_ends { (result.0 ≡ 5) ⊎ (K.faults out.new ≡ K.faults out.old) }
     ensures sink_faults { K.faults out.old ≤ K.faults out.new }
 {
     put(out, 2, not_understood())
 }
 
-/// The line for words without a reading.
-fn not_understood() -> &'static [u8]
-    ensures { result.now ≡ encode_utf8_all lines.not_understood_line }
-{
-    b"khe: words not understood\n"
-}
-
 /// The line in place of the answers to a script that is too large.
 fn script_too_large() -> &'static [u8]
-    ensures { result.now ≡ encode_utf8_all lines.script_too_large_line }
+    ensures { result.now ≡ encode_utf8_all script_too_large_line }
 {
     b"script fault 4 TooLarge\n"
 }
@@ -366,7 +314,7 @@ fn evaluate<R: Threads + Sync, S: Shelf, K: Sink, G: Gate>(
 {
     match answer_to(alloc, shelf, name) {
         Ok(answer) => {
-            let status = write(alloc, out, crew, &answer, all);
+            let status = write_report(alloc, out, crew, &answer, all);
 
             // The archive was needed up to here, where the run ends: to take it apart, text by text, would cost
             // some hundredths of the time of a run.
@@ -406,59 +354,6 @@ fn run_script<S: Shelf, K: Sink>(
     }
 }
 
-/// Writes a text, and answers the status that stands before it, or 5 where it was not written
-/// whole.
-pub(crate) fn put<K: Sink>(out: &mut K, status: u8, bytes: &[u8]) -> Status
-    ensures written { Written (K.taken out.old) (K.taken out.new) (K.faults out.old) (K.faults out.new) bytes.now status result.0 }
-    ensures ample { (result.0 ≡ status) ⊎ (result.0 ≡ 5) }
-    ensures write_fault_ends { (result.0 ≡ 5) ⊎ (K.faults out.new ≡ K.faults out.old) }
-    ensures sink_faults { K.faults out.old ≤ K.faults out.new }
-{
-    match put_all(out, bytes) {
-        Ok(()) => Status(status),
-        Err(_) => Status(5),
-    }
-}
-
-/// Writes the line that refuses an archive or a solution, and answers status 3, or 5 where the sink refused a call after
-/// some first bytes of it, or 6 where memory ran out. It takes constant time and memory.
-pub fn put_refusal<K: Sink>(alloc: Global, out: &mut K, refusal: Refusal) -> Status
-    ensures written { Written (K.taken out.old) (K.taken out.new) (K.faults out.old) (K.faults out.new) (encode_utf8_all (refusals.refusal_line refusal)) 3 result.0 }
-    ensures write_fault_ends { (result.0 ≡ 5) ⊎ (K.faults out.new ≡ K.faults out.old) }
-    ensures sink_faults { K.faults out.old ≤ K.faults out.new }
-{
-    match refusal_line(alloc, refusal) {
-        Ok(line) => put(out, 3, line.as_bytes()),
-        Err(NoMemory) => Status(6),
-    }
-}
-
-/// Writes the report of an archive, by so many workers, or the line that refuses it.
-fn write<R: Threads + Sync, K: Sink, G: Gate>(
-    alloc: Global,
-    out: &mut K,
-    crew: &Crew<'_, R, G>,
-    answer: &Answer,
-    all: bool,
-) -> Status
-    requires ready { IsReadyAnswer answer.now }
-    requires workers { (1 ≤ crew.now.workers) × (crew.now.workers ≤ WORKERS) }
-    ensures written { Written (K.taken out.old) (K.taken out.new) (K.faults out.old) (K.faults out.new) (encode_utf8_all (text_of all (reading_of answer.now))) (status_of (reading_of answer.now)) result.0 }
-    ensures write_fault_ends { (result.0 ≡ 5) ⊎ (K.faults out.new ≡ K.faults out.old) }
-    ensures sink_faults { K.faults out.old ≤ K.faults out.new }
-{
-    match answer {
-        Answer::Read(read) => {
-            match report(alloc, out, crew, &read.archive, &read.resolved, all) {
-                Ok(()) => Status(0),
-                Err(Cut::WriteFault) => Status(5),
-                Err(Cut::NoMemory) => Status(6),
-            }
-        }
-        Answer::Refused(refusal) => put_refusal(alloc, out, *refusal),
-    }
-}
-
 /// Writes the answers to a script, or the line in their place.
 fn write_play<K: Sink>(alloc: Global, out: &mut K, play: &Play, tied: bool) -> Status
     requires { IsReadyPlay play.now }
@@ -483,44 +378,6 @@ fn instance_of(begun: &Begun) -> &Instance
     ensures { slice_get begun.now.resolved.instances begun.now.instance ≡ Some result.now }
 {
     &begun.resolved.instances.as_slice()[begun.instance]
-}
-
-/// What the archive under a name leads to: it is read with its instances, or it is refused, also where it is too large.
-///
-/// `ReadFault` comes only with a fault that the shelf counted, and on a sound shelf exactly where the name is missing.
-/// After any answer the shelf holds what it held. It takes what reading an archive takes.
-pub fn answer_to<S: Shelf>(alloc: Global, shelf: &mut S, name: &str) -> Result<Answer, Stop>
-    ensures answer { IfOk result (λ a. IfSome (S.holdings shelf.old) (λ under. IsAnswerOf (under name.now) a)) }
-    ensures only { IfOk result (λ a. IfSome (S.holdings shelf.old) (λ under. IsOnlyAnswerOf (under name.now) a)) }
-    ensures ready { IfOk result IsReadyAnswer }
-    ensures fault { IsErrOf result Stop.ReadFault → Rose (S.faults shelf.old) (S.faults shelf.new) }
-    ensures faultless { OnOk result (S.faults shelf.new ≡ S.faults shelf.old) }
-    ensures faultless_starved { IsErrOf result Stop.NoMemory → S.faults shelf.new ≡ S.faults shelf.old }
-    ensures missing { IsTrue (S.is_sound shelf.old) → (IsErrOf result Stop.ReadFault ↔ IsMissing (S.holdings shelf.old) name.now) }
-    ensures unchanged { S.holdings shelf.new ≡ S.holdings shelf.old }
-    ensures counted { S.faults shelf.old ≤ S.faults shelf.new }
-    ensures stays_sound { IsTrue (S.is_sound shelf.old) → IsTrue (S.is_sound shelf.new) }
-{
-    match take_all(alloc, shelf, name, limits::ARCHIVE_BYTES) {
-        Ok(bytes) => Ok(answer_of(alloc, bytes)?),
-        Err(TakeFault::TooLarge) => Ok(Answer::Refused(Refusal::TooLarge)),
-        Err(TakeFault::ReadFault) => Err(Stop::ReadFault),
-        Err(TakeFault::NoMemory) => Err(Stop::NoMemory),
-    }
-}
-
-/// What the bytes of an archive lead to.
-fn answer_of(alloc: Global, bytes: Seq<u8>) -> Result<Answer, NoMemory>
-    requires { length bytes ≤ ARCHIVE_BYTES }
-    ensures answer { IfOk result (λ a. IsReadingOf bytes (reading_of a)) }
-    ensures only { IfOk result (IsOnlyAnswerOf (Some bytes)) }
-    ensures ready { IfOk result IsReadyAnswer }
-{
-    match read(alloc, bytes) {
-        Ok(read) => Ok(Answer::Read(read)),
-        Err(Unread::Refused(refusal)) => Ok(Answer::Refused(refusal)),
-        Err(Unread::NoMemory) => Err(NoMemory),
-    }
 }
 
 /// What a script on a solution of the archive under a name leads to: the archive is read first, then its

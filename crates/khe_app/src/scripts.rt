@@ -4,16 +4,17 @@ ghost use Rattle.std.specs.Prelude.{◌≡◌, ◌≤◌, ◌⊎◌, ℕ, true, 
 ghost use Rattle.khe_base.specs.declared.limits.TheConstants.{SCRIPT_BYTES};
 ghost use Rattle.khe_engine.specs.Values.{ServesAll};
 ghost use Rattle.khe_instance.specs.States.{IsValid};
-ghost use Rattle.khe_app.specs.Ends.{Written, status_after};
+ghost use Rattle.khe_app.specs.Ends.{status_after};
+ghost use Rattle.reading_commands.specs.Ends.{Written};
 ghost use Rattle.khe_app.specs.Outcome.{IsRunOf};
 
-use crate::program::Status;
 use followers::Tied;
 use hall_report::WithDemands;
 use khe_base::NoMemory;
 use khe_engine::Engine;
 use khe_instance::{Instance, Plain};
 use khe_io::{Cut, Sink};
+use reading_commands::Status;
 use script_run::{Shortages, asks_often, run};
 use sixteen_families::Families;
 use std::alloc::Global;

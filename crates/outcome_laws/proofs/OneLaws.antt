@@ -4,13 +4,15 @@ use Rattle.std.proofs.Common.{[], ◌++◌, refl, sym, ap, subst, arith, encode_
 use Rattle.ejection_repair.specs.Repaired.{repaired}
 use Rattle.archive_generator.proofs.WellFormed.{made_fits}
 use Rattle.archive_generator.specs.Made.{made}
-use Rattle.khe_app.specs.Outcome.{IsAnswerTo, IsPlayTo, IsRepairIn}
+use Rattle.khe_app.specs.Outcome.{IsPlayTo, IsRepairIn}
+use Rattle.reading_commands.specs.Outcome.{IsAnswerTo}
 use Rattle.archive_reading.specs.Reading.{IsReadingOf}
 use Rattle.khe_app.specs.Outcome.{IsRepairOf, IsRepairTo, IsRunOf, IsRunOr, IsRunTo, IsScripted, IsSolveIn, IsSolveOf}
-use Rattle.khe_app.specs.Outcome.{IsSolveTo, IsSpellingTo, spelling_of}
+use Rattle.khe_app.specs.Outcome.{IsSolveTo}
+use Rattle.reading_commands.specs.Outcome.{IsSpellingTo, spelling_of}
 use Rattle.archive_reading.specs.Starting.{Start, barred, begins, start_in, start_of}
 use Rattle.archive_reading.specs.Reading.{Reading, evaluable, refused}
-use Rattle.khe_app.specs.Outcome.{status_of, text_of}
+use Rattle.reading_commands.specs.Outcome.{status_of, text_of}
 use Rattle.khe_engine.specs.Openings.{IsStateOf}
 use Rattle.khe_engine.specs.States.{State}
 use Rattle.khe_engine.specs.Values as engine

@@ -3,11 +3,12 @@ use Rattle.std.proofs.Common.{ℕ, ◌≡◌, ◌∙◌, Option, Some, None, Lis
 use Rattle.std.proofs.Common.{encode_utf8_all}
 use Rattle.khe_app.specs.Outcome.{IsOutcomeOf, IsRepairIn, IsRepairOf, IsRepairTo, IsSolveIn}
 use Rattle.archive_reading.specs.Reading.{IsReadingOf}
-use Rattle.khe_app.specs.Outcome.{IsSolveOf, IsSolveTo, IsSpellingTo}
+use Rattle.khe_app.specs.Outcome.{IsSolveOf, IsSolveTo}
+use Rattle.reading_commands.specs.Outcome.{IsSpellingTo}
 use Rattle.archive_reading.specs.Starting.{Start, barred, begins, start_of}
 use Rattle.archive_reading.specs.Reading.{Reading, evaluable, refused}
-use Rattle.khe_app.specs.Outcome.{spelling_of, status_of}
-use Rattle.khe_app.specs.Words.{checking, repairing, solving}
+use Rattle.reading_commands.specs.Outcome.{spelling_of, status_of}
+use Rattle.reading_commands.specs.Words.{checking, repairing, solving}
 use Rattle.text_laws.specs.Read.{IsArchiveOf}
 use Rattle.text_laws.proofs.RepairedLaws.{read_again, repair_no_dearer, solve_no_dearer}
 use Rattle.xhstt_resolve.specs.declared.resolving.Resolved.{Resolved}

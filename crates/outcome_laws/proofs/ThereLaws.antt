@@ -14,11 +14,13 @@ use Rattle.ejection_repair.specs.Repaired.{repaired}
 use Rattle.fault_tables.specs.declared.faults.TheConstants.{NOT_UTF8}
 use Rattle.khe_app.specs.Outcome.{IsMadeTo, IsRunTo}
 use Rattle.archive_reading.specs.Starting.{start_by, Start, barred, begins, start_in, start_of}
-use Rattle.khe_app.specs.Outcome.{IsAnswerTo, IsPlayTo, IsRepairIn, IsRepairOf, IsRepairTo, IsRunOr}
+use Rattle.khe_app.specs.Outcome.{IsPlayTo, IsRepairIn, IsRepairOf, IsRepairTo, IsRunOr}
+use Rattle.reading_commands.specs.Outcome.{IsAnswerTo}
 use Rattle.archive_reading.specs.Reading.{IsRead, IsReadingOf}
-use Rattle.khe_app.specs.Outcome.{IsScripted, IsSolveIn, IsSolveOf, IsSolveTo, IsSpellingTo}
+use Rattle.khe_app.specs.Outcome.{IsScripted, IsSolveIn, IsSolveOf, IsSolveTo}
+use Rattle.reading_commands.specs.Outcome.{IsSpellingTo}
 use Rattle.archive_reading.specs.Reading.{IsShaped, Reading}
-use Rattle.khe_app.specs.Outcome.{spelling_of, status_of, text_of}
+use Rattle.reading_commands.specs.Outcome.{spelling_of, status_of, text_of}
 use Rattle.archive_reading.specs.Reading.{evaluable, refused}
 use Rattle.archive_reading.specs.Refusals.{refusal_line}
 use Rattle.khe_app.specs.Lines.{script_too_large_line}

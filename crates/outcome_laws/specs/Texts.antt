@@ -3,9 +3,10 @@ use Rattle.std.specs.Prelude.{ℕ, ◌≡◌, ◌≤◌, Option, Some, List, len
 use Rattle.khe_base.specs.declared.limits.TheConstants.{ARCHIVE_BYTES}
 use Rattle.khe_instance.specs.declared.parts.Parts.{Parts}
 use Rattle.khe_instance.specs.declared.states.Plain.{Plain}
-use Rattle.khe_app.specs.Outcome.{IsOutcomeOf, IsRespelled}
+use Rattle.khe_app.specs.Outcome.{IsOutcomeOf}
+use Rattle.reading_commands.specs.Outcome.{IsRespelled}
 use Rattle.archive_reading.specs.Reading.{IsReadingOf, evaluable}
-use Rattle.khe_app.specs.Words.{checking, repairing, solving}
+use Rattle.reading_commands.specs.Words.{checking, repairing, solving}
 use Rattle.text_laws.specs.Read.{IsTimetableOf}
 use Rattle.text_laws.specs.Repaired.{IsReadRepaired, IsReadSolved}
 use Rattle.text_laws.specs.Rewritten.{IsReadAgain}

@@ -2,10 +2,10 @@
 use Rattle.std.proofs.Common.{ℕ, ◌≡◌, ◌⊎◌, Option, None, Some, Result, Ok, Err, OnOk, OnErr, IfSome, List, [], inl, inr, refl, sym, ap, map, subst, ◌∙◌}
 use Rattle.std.specs.Result.{IsErrOf}
 use Rattle.edit_script.specs.Lines.{lines}
-use Rattle.khe_app.specs.Answers.{IsAnswerOf, reading_of}
-use Rattle.khe_app.specs.Ends.{Written}
+use Rattle.reading_commands.specs.Answers.{IsAnswerOf, reading_of}
+use Rattle.reading_commands.specs.Ends.{Written}
 use Rattle.archive_reading.specs.Starting.{Start, begins}
-use Rattle.khe_app.specs.declared.program.Answer.{Answer}
+use Rattle.reading_commands.specs.declared.answers.Answer.{Answer}
 use Rattle.khe_io.specs.Faults.{Rose, Took, TookFront}
 use Rattle.talk_app.specs.Ends.{IsEnd, Wrote, status_after}
 use Rattle.khe_engine.specs.Openings.{IsStateOf}

@@ -1,7 +1,7 @@
 //! A talk by the words of the command line.
 
 ghost use Rattle.std.specs.Prelude.{◌≡◌, ◌≤◌, ◌⊎◌, None, Some, IfSome, IsTrue, map, string_bytes};
-ghost use Rattle.khe_app.specs.Answers.{IsReadyAnswer, reading_of};
+ghost use Rattle.reading_commands.specs.Answers.{IsReadyAnswer, reading_of};
 ghost use Rattle.khe_io.specs.Faults.{Rose, Took, TookFront};
 ghost use Rattle.talk_app.specs.Ends.{IsEnd};
 ghost use Rattle.talk_app.specs.Outcome.{IsOutcome, IsTalkIn, IsTalkTo, not_understood_line};

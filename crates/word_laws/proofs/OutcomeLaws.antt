@@ -1,8 +1,8 @@
 -- The outcome of words is that of their reading by the table.
 use Rattle.std.proofs.Common.{ℕ, ◌≡◌, Option, Some, None, List, inl, inr, refl, sym, subst}
 use Rattle.khe_app.specs.Outcome.{IsOutcome, IsOutcomeOf}
-use Rattle.khe_app.specs.Lines.{not_understood_line}
-use Rattle.khe_app.specs.Words.{Asked, asked}
+use Rattle.reading_commands.specs.Lines.{not_understood_line}
+use Rattle.reading_commands.specs.Words.{Asked, asked}
 use Rattle.word_laws.specs.Outcomes.{IsOutcomeByTable}
 use Rattle.word_laws.specs.Table.{HasNoReading}
 use Rattle.word_laws.proofs.ReadLaws.{read_by_table}

@@ -1,8 +1,8 @@
 -- The outcome of words by the table of commands.
 use Rattle.std.specs.Prelude.{ℕ, ◌≡◌, ◌⊎◌, ◌↔◌, Option, Some, List}
 use Rattle.khe_app.specs.Outcome.{IsOutcome, IsOutcomeOf}
-use Rattle.khe_app.specs.Lines.{not_understood_line}
-use Rattle.khe_app.specs.Words.{Asked}
+use Rattle.reading_commands.specs.Lines.{not_understood_line}
+use Rattle.reading_commands.specs.Words.{Asked}
 use Rattle.word_laws.specs.Table.{HasNoReading, IsReading}
 
 -- the words ask for something by the table, and this is its outcome

@@ -1,5 +1,5 @@
 -- What was written, or why nothing was.
-use Rattle.khe_app.specs.Answers.{reading_of}
+use Rattle.reading_commands.specs.Answers.{reading_of}
 use Rattle.khe_app.proofs.CheckEnds.{end_respelled}
 use Rattle.khe_app.proofs.EndsLemmas.{not_two, reading_not_two}
 use Rattle.khe_app.proofs.checking.check.Goals as goal

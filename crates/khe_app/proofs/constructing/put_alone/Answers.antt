@@ -2,7 +2,7 @@
 use Rattle.std.proofs.Common.{sym, subst}
 use Rattle.construct_run.proofs.TextLaws.{built_text}
 use Rattle.xhstt_entries.proofs.EntryLaws.{each_entry}
-use Rattle.khe_app.specs.Ends.{Written}
+use Rattle.reading_commands.specs.Ends.{Written}
 use Rattle.khe_app.proofs.constructing.put_alone.Goals as goal
 
 pub returns-clause-written : goal.returns-clause-written

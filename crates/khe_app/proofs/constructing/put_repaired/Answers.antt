@@ -3,7 +3,7 @@ use Rattle.std.proofs.Common.{inr, sym, subst}
 use Rattle.construct_run.proofs.TextLaws.{mended_text}
 use Rattle.repair_run.specs.Repairs.{IsMended}
 use Rattle.xhstt_entries.proofs.EntryLaws.{each_entry}
-use Rattle.khe_app.specs.Ends.{Written}
+use Rattle.reading_commands.specs.Ends.{Written}
 use Rattle.khe_app.proofs.constructing.put_repaired.Goals as goal
 
 pub returns-in-Ok-clause-written : goal.returns-in-Ok-clause-written

@@ -1,6 +1,6 @@
 -- The line is the whole text.
 use Rattle.std.proofs.Common.{inr, subst}
-use Rattle.khe_app.specs.Ends.{Written}
+use Rattle.reading_commands.specs.Ends.{Written}
 use Rattle.khe_app.proofs.making.put_run.Goals as goal
 
 pub returns-in-Ok-clause-written : goal.returns-in-Ok-clause-written

@@ -3,7 +3,7 @@ use Rattle.std.proofs.Common.{inr, refl, subst, sym, encode_utf8_all}
 use Rattle.khe_base.proofs.ListLemmas.{all-there}
 use Rattle.xhstt_entries.specs.Texts.{HasSpellable}
 use Rattle.archive_reading.specs.Starting.{IsBarredBy, Start, start_of}
-use Rattle.khe_app.specs.Ends.{Written}
+use Rattle.reading_commands.specs.Ends.{Written}
 use Rattle.archive_reading.specs.declared.refusals.Refusal.{Refusal}
 use Rattle.khe_app.specs.Outcome.{IsMatchOf}
 use Rattle.archive_reading.specs.Refusals.{refusal_line}

@@ -1,6 +1,6 @@
 -- The choice is certified, and the bytes are those of a text.
 use Rattle.std.proofs.Common.{ℕ, inl, inr, refl, sym, subst, encode_utf8_all}
-use Rattle.khe_app.specs.Ends.{Written}
+use Rattle.reading_commands.specs.Ends.{Written}
 use Rattle.archive_reading.specs.Refusals.{refusal_line}
 use Rattle.archive_reading.specs.declared.refusals.Refusal.TheVariants.{TooManyTasks}
 use Rattle.match_run.specs.Found.{IsFaultOf}

@@ -1,11 +1,12 @@
 -- The archive, then its solution, then the script.
 use Rattle.std.proofs.Common.{IfSome, subst}
 use Rattle.std.proofs.lemmas.Result.{IfOk-weaker}
-use Rattle.khe_app.specs.Answers.{IsAnswerOf, IsOnlyAnswerOf, IsPlayAnswer, IsReadyPlay, IsScriptOf, IsWith}
+use Rattle.khe_app.specs.Answers.{IsPlayAnswer, IsReadyPlay, IsScriptOf, IsWith}
+use Rattle.reading_commands.specs.Answers.{IsAnswerOf, IsOnlyAnswerOf}
 use Rattle.archive_reading.specs.Starting.{IsBarredBy, start_of}
-use Rattle.khe_app.specs.Ends.{Holdings}
-use Rattle.khe_app.specs.declared.program.Answer.{Answer}
-use Rattle.khe_app.specs.declared.program.Answer.TheVariants.{Read}
+use Rattle.reading_commands.specs.Ends.{Holdings}
+use Rattle.reading_commands.specs.declared.answers.Answer.{Answer}
+use Rattle.reading_commands.specs.declared.answers.Answer.TheVariants.{Read}
 use Rattle.khe_app.proofs.PlayEnds.{barred_as, play_script, with_ready}
 use Rattle.khe_app.proofs.program.play_of.Goals as goal
 

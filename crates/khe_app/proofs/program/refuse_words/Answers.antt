@@ -1,8 +1,8 @@
 -- The line is the whole text.
 use Rattle.std.proofs.Common.{None, arith, inl, inr, refl, subst}
 use Rattle.khe_io.specs.Faults.{Took, TookFront}
-use Rattle.khe_app.specs.Ends.{Written}
-use Rattle.khe_app.specs.Lines.{not_understood_line}
+use Rattle.reading_commands.specs.Ends.{Written}
+use Rattle.reading_commands.specs.Lines.{not_understood_line}
 use Rattle.khe_app.proofs.EndsLemmas.{end_written, unread, unread-there, written_front, written_whole}
 use Rattle.khe_app.proofs.program.refuse_words.Goals as goal
 

@@ -1,7 +1,7 @@
 -- The line in place of the answers is the whole text.
 use Rattle.std.proofs.Common.{inr, refl, subst, sym}
 use Rattle.khe_app.specs.Answers.{IsTextOf}
-use Rattle.khe_app.specs.Ends.{Written}
+use Rattle.reading_commands.specs.Ends.{Written}
 use Rattle.archive_reading.specs.Refusals.{refusal_line}
 use Rattle.khe_app.specs.Lines.{script_too_large_line}
 use Rattle.khe_app.specs.declared.program.Play.{Play}

@@ -1,7 +1,7 @@
 -- The bytes are those of a text.
 use Rattle.std.proofs.Common.{inr, sym, subst}
 use Rattle.repair_run.specs.Repairs.{IsMended}
-use Rattle.khe_app.specs.Ends.{Written}
+use Rattle.reading_commands.specs.Ends.{Written}
 use Rattle.khe_app.proofs.repairing.put_repair.Goals as goal
 use Rattle.repair_run.proofs.TextLaws.{repair_text}
 use Rattle.xhstt_entries.proofs.EntryLaws.{each_entry}

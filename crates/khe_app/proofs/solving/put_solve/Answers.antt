@@ -1,6 +1,6 @@
 -- The bytes are those of a text.
 use Rattle.std.proofs.Common.{inr, sym, subst}
-use Rattle.khe_app.specs.Ends.{Written}
+use Rattle.reading_commands.specs.Ends.{Written}
 use Rattle.khe_app.proofs.solving.put_solve.Goals as goal
 use Rattle.repair_run.proofs.TextLaws.{solve_text}
 use Rattle.xhstt_entries.proofs.EntryLaws.{each_entry}

@@ -1,9 +1,9 @@
 -- The line that refuses the archive is the whole text.
 use Rattle.std.proofs.Common.{inr, refl, subst, sym}
-use Rattle.khe_app.specs.Answers.{reading_of}
+use Rattle.reading_commands.specs.Answers.{reading_of}
 use Rattle.khe_app.specs.Outcome.{IsSolveIn}
 use Rattle.archive_reading.specs.Refusals.{refusal_line}
-use Rattle.khe_app.specs.declared.program.Answer.{Answer}
+use Rattle.reading_commands.specs.declared.answers.Answer.{Answer}
 use Rattle.khe_app.proofs.solving.write_solve.Goals as goal
 
 pub returns-in-Refused-clause-written : goal.returns-in-Refused-clause-written

@@ -1,8 +1,8 @@
 -- The line that refuses the archive stands in place of all answers.
 use Rattle.std.proofs.Common.{encode_utf8_all, refl, subst, sym}
-use Rattle.khe_app.specs.Answers.{reading_of}
+use Rattle.reading_commands.specs.Answers.{reading_of}
 use Rattle.archive_reading.specs.Refusals.{refusal_line}
-use Rattle.khe_app.specs.declared.program.Answer.{Answer}
+use Rattle.reading_commands.specs.declared.answers.Answer.{Answer}
 use Rattle.talk_app.specs.Outcome.{IsTalkIn}
 use Rattle.talk_app.proofs.EndLaws.{line_end}
 use Rattle.talk_app.proofs.program.talk_after.Goals as goal

@@ -1,0 +1,4 @@
+pub mod AnswerLemmas
+pub mod OutcomeLemmas
+pub mod ValueLemmas
+pub mod WindowLemmas

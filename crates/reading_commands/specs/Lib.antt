@@ -1,0 +1,8 @@
+pub mod Answers
+pub mod Ends
+pub mod Lines
+pub mod Outcome
+pub mod Report
+pub mod ReportParts
+pub mod Requests
+pub mod Words
