@@ -8,8 +8,10 @@ ghost use Rattle.reading_commands.specs.Words.{checking};
 use khe_io::{Shelf, Sink};
 use reading_commands::{Status, Stop, answer_to, write_spelling};
 use std::alloc::Global;
+use std::mem::ManuallyDrop;
 
-/// Writes the archive under a name in its canonical spelling, or the line that refuses it.
+/// Writes the archive under a name in its canonical spelling, or the line that refuses it. The archive stays in memory, as
+/// for a report: a run is the end of a process.
 #[tactic(auto, using(crate::proofs::EndsLemmas::end_starved, crate::proofs::EndsLemmas::end_stopped, crate::proofs::CheckEnds::check_lacks))]
 pub(crate) fn check<S: Shelf, K: Sink>(
     alloc: Global,
@@ -28,7 +30,11 @@ pub(crate) fn check<S: Shelf, K: Sink>(
     ensures sink_faults { K.faults out.old ≤ K.faults out.new }
 {
     match answer_to(alloc, shelf, name) {
-        Ok(answer) => write_spelling(alloc, out, &answer),
+        Ok(answer) => {
+            let status = write_spelling(alloc, out, &answer);
+            let _left = ManuallyDrop::new(answer);
+            status
+        }
         Err(Stop::ReadFault) => Status(4),
         Err(Stop::NoMemory) => Status(6),
     }

@@ -23,10 +23,12 @@ use made_run::{Job, run_line};
 use reading_commands::{Status, put, put_spelling};
 use sixteen_families::Families;
 use std::alloc::Global;
+use std::mem::ManuallyDrop;
 use xhstt_resolve::{ResolveFault, Resolved, resolve};
 use xhstt_shape::Archive;
 
-/// Writes the archive that is made from a seed, with so many events.
+/// Writes the archive that is made from a seed, with so many events. It stays in memory, as what is read for a report does:
+/// a run is the end of a process.
 pub(crate) fn make<K: Sink>(alloc: Global, out: &mut K, seed: u64, size: u32) -> Status
     ensures end { (h : Holdings) (sound : Bool) (faults : ℕ) → IsEnd (Some (making seed size)) h sound faults faults (K.taken out.old) (K.taken out.new) (K.faults out.old) (K.faults out.new) result.0 }
     ensures status { result.0 ≡ 2 → ⊥ }
@@ -34,7 +36,11 @@ pub(crate) fn make<K: Sink>(alloc: Global, out: &mut K, seed: u64, size: u32) ->
     ensures sink_faults { K.faults out.old ≤ K.faults out.new }
 {
     match generate(alloc, &mut Draws::new(seed), size) {
-        Ok(archive) => put_spelling(alloc, out, &archive),
+        Ok(archive) => {
+            let status = put_spelling(alloc, out, &archive);
+            let _left = ManuallyDrop::new(archive);
+            status
+        }
         Err(NoMemory) => Status(6),
     }
 }
@@ -49,7 +55,11 @@ pub(crate) fn make_run<K: Sink>(alloc: Global, out: &mut K, seed: u64, size: u32
 {
     let mut draws = Draws::new(seed);
     match generate(alloc, &mut draws, size) {
-        Ok(archive) => run_made(alloc, out, &archive, &mut draws, seed, size),
+        Ok(archive) => {
+            let status = run_made(alloc, out, &archive, &mut draws, seed, size);
+            let _left = ManuallyDrop::new(archive);
+            status
+        }
         Err(NoMemory) => Status(6),
     }
 }

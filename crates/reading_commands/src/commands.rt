@@ -115,7 +115,11 @@ fn check<S: Shelf, K: Sink>(alloc: Global, shelf: &mut S, out: &mut K, name: &st
     ensures sink_faults { K.faults out.old ≤ K.faults out.new }
 {
     match answer_to(alloc, shelf, name) {
-        Ok(answer) => write_spelling(alloc, out, &answer),
+        Ok(answer) => {
+            let status = write_spelling(alloc, out, &answer);
+            let _left = ManuallyDrop::new(answer);
+            status
+        }
         Err(Stop::ReadFault) => Status(4),
         Err(Stop::NoMemory) => Status(6),
     }
