@@ -1,9 +1,9 @@
 //! The walk over a tree that finds its first fault against the table of elements.
 
-ghost use Rattle.std.specs.Prelude.{◌≡◌, ◌≤◌, ◌<◌, ℕ, List, [], true, if◌then◌else◌, length, nat_eq};
+ghost use Rattle.std.specs.Prelude.{◌≡◌, ◌≤◌, ◌<◌, ℕ, List, [], true, if◌then◌else◌, length, nat_eq, IsTrue};
 ghost use Rattle.std.specs.List.{position};
 ghost use Rattle.khe_base.specs.Bits.{has_bit};
-ghost use Rattle.xhstt_shape.specs.Faults.{IsTold};
+ghost use Rattle.xhstt_shape.specs.Faults.{IsTold, fine};
 ghost use Rattle.xhstt_shape.specs.Seen.{IsRuleOf, IsSeen, is_named};
 ghost use Rattle.xhstt_shape.specs.Walk as spec;
 ghost use Rattle.xhstt_shape.specs.declared.words.Tag.{Tag};
@@ -135,6 +135,9 @@ fn look_at_attributes(
 ) -> Result<(), ShapeFault>
     ensures { result ≡ spec.all_attributes_fault allowed.now element.now.info }
 {
+    if has_the_one(allowed, element) {
+        return Ok(());
+    }
     let mut rest = element.attributes();
     while let Some(next) = rest.next() {
         unless(is_label(allowed, next.name), UNKNOWN_ELEMENT, next.name_at)?;
@@ -144,6 +147,21 @@ fn look_at_attributes(
         MISSING_CHILD,
         element.at(),
     )
+}
+
+/// Whether the table has one attribute there and the element that one alone, as in most elements that have any: then
+/// its name is compared once, and not once more as one that may be missing.
+fn has_the_one(allowed: &[AllowedAttribute], element: &Element<'_, '_>) -> bool
+    ensures { IsTrue result → spec.all_attributes_fault allowed.now element.now.info ≡ fine }
+{
+    let [one] = allowed else {
+        return false;
+    };
+    let mut rest = element.attributes();
+    match rest.next() {
+        Some(found) => rest.len() == 0 && is_word(one.label.word(), found.name),
+        None => false,
+    }
 }
 
 /// Whether the table has an attribute of this name.
@@ -202,24 +220,22 @@ fn look_at_value(
 ) -> Result<(), ShapeFault>
     ensures { IsTold result (spec.value_fault content element.now.info) }
 {
-    let value = element.value();
-    let at = element.value_at();
     match content {
         Content::Number { least, greatest } => {
-            let number = number_text(alloc, least, greatest, value)?;
-            unless(number.is_some(), BAD_NUMBER, at)
+            let number = number_text(alloc, least, greatest, element.value())?;
+            unless(number.is_some(), BAD_NUMBER, element.value_at())
         }
         Content::Truth => {
-            let truth = truth_text(alloc, value)?;
-            unless(truth.is_some(), BAD_WORD, at)
+            let truth = truth_text(alloc, element.value())?;
+            unless(truth.is_some(), BAD_WORD, element.value_at())
         }
         Content::Function => {
-            let function = function_text(alloc, value)?;
-            unless(function.is_some(), BAD_WORD, at)
+            let function = function_text(alloc, element.value())?;
+            unless(function.is_some(), BAD_WORD, element.value_at())
         }
         Content::Role => {
-            let has_role = is_role(alloc, value)?;
-            unless(has_role, BAD_WORD, at)
+            let has_role = is_role(alloc, element.value())?;
+            unless(has_role, BAD_WORD, element.value_at())
         }
         _ => Ok(()),
     }
