@@ -1,10 +1,11 @@
 //! The two commands that only read an archive, as one call.
 
-ghost use Rattle.std.specs.Prelude.{◌≡◌, ◌≤◌, ◌⊎◌, ◌↔◌, map, IsTrue, string_bytes};
+ghost use Rattle.std.specs.Prelude.{◌≡◌, ◌≤◌, ◌⊎◌, ◌↔◌, map, IsTrue, string_bytes, encode_utf8_all};
 ghost use Rattle.khe_base.specs.declared.limits.TheConstants.{WORKERS};
 ghost use Rattle.khe_io.specs.Faults.{Rose};
 ghost use Rattle.khe_io.specs.Shelf.{IsMissing};
-ghost use Rattle.reading_commands.specs.Ends.{IsCommandEnd, IsReadEnd};
+ghost use Rattle.reading_commands.specs.Ends.{IsCommandEnd, IsReadEnd, Written};
+ghost use Rattle.reading_commands.specs.Lines.{not_understood_line};
 ghost use Rattle.reading_commands.specs.Outcome.{bytes_of, spelling_of};
 ghost use Rattle.reading_commands.specs.Words.{asked};
 
@@ -66,8 +67,18 @@ pub fn read_command<R: Threads + Sync, S: Shelf, K: Sink, G: Gate>(
             evaluate(alloc, shelf, out, &crew, archive, all)
         }
         Some(Request::Check { archive }) => check(alloc, shelf, out, archive),
-        _ => put(out, 2, not_understood()),
+        _ => refuse_words(out),
     }
+}
+
+/// Refuses words that ask for neither.
+fn refuse_words<K: Sink>(out: &mut K) -> Status
+    ensures written { Written (K.taken out.old) (K.taken out.new) (K.faults out.old) (K.faults out.new) (encode_utf8_all not_understood_line) 2 result.0 }
+    ensures status { (result.0 ≡ 2) ⊎ (result.0 ≡ 5) }
+    ensures write_fault_ends { (result.0 ≡ 5) ⊎ (K.faults out.new ≡ K.faults out.old) }
+    ensures sink_faults { K.faults out.old ≤ K.faults out.new }
+{
+    put(out, 2, not_understood())
 }
 
 /// Writes the report of the archive under a name, by so many workers. The archive stays in memory: a run is the
