@@ -212,46 +212,66 @@ fn push_show<G: Onward>(
     solution.facts();
     let mut next = MeetId(0);
     while let Some(meet) = solution.next_meet(next) {
-        push_slot(alloc, inst, solution, meet, text)?;
-        onward.pass(alloc, text)?;
+        push_slot(alloc, inst, solution, meet, text, onward)?;
         next = MeetId(meet.0 + 1);
     }
     Ok(())
 }
 
 /// Adds the meet of a slot and its tasks, if it has one.
-fn push_slot(
+#[tactic(auto, using(crate::proofs::AddedLaws::cut_none))]
+fn push_slot<G: Onward>(
     alloc: Global,
     inst: &Instance,
     solution: &Solution<'_>,
     number: MeetId,
     text: &mut Text,
-) -> Result<(), NoMemory>
+    onward: &mut G,
+) -> Result<(), Cut>
     requires parts { solution.now.parts ≡ inst.now }
     requires there { number.0 < length solution.now.slots }
-    ensures { OnOk result (text.new ≡ text.old ++ spec.slot_text inst.now (slot_at solution.now.slots number.0)) }
+    ensures added { OnOk result (IsAdded (G.taken onward.old) (G.taken onward.new) text.old (spec.slot_text inst.now (slot_at solution.now.slots number.0)) text.new) }
+    ensures front { OnErr result (IsCutOff (G.taken onward.old) (G.taken onward.new) text.old (spec.slot_text inst.now (slot_at solution.now.slots number.0))) }
+    ensures fault { IsErrOf result Cut.WriteFault → Rose (G.faults onward.old) (G.faults onward.new) }
+    ensures faultless { OnOk result (G.faults onward.new ≡ G.faults onward.old) }
+    ensures faultless_starved { IsErrOf result Cut.NoMemory → G.faults onward.new ≡ G.faults onward.old }
+    ensures counted { G.faults onward.old ≤ G.faults onward.new }
 {
     solution.facts();
     let Some(meet) = solution.meet(number) else {
         return Ok(());
     };
-    text.push_text(&meet_line(alloc, inst, &meet)?)?;
-    push_tasks(alloc, inst, solution, number, meet, text)
+    push_meet(alloc, inst, &meet, text)?;
+    push_tasks(alloc, inst, solution, number, meet, text, onward)
+}
+
+/// Adds the line of a meet.
+fn push_meet(alloc: Global, inst: &Instance, meet: &Meet, text: &mut Text) -> Result<(), NoMemory>
+    requires { meet.now.event.0 < length inst.now.events }
+    ensures { OnOk result (text.new ≡ text.old ++ lines.meet_line inst.now meet.now) }
+{
+    text.push_text(&meet_line(alloc, inst, meet)?)
 }
 
 /// Adds the tasks of a meet.
-fn push_tasks(
+fn push_tasks<G: Onward>(
     alloc: Global,
     inst: &Instance,
     solution: &Solution<'_>,
     number: MeetId,
     meet: Meet,
     text: &mut Text,
-) -> Result<(), NoMemory>
+    onward: &mut G,
+) -> Result<(), Cut>
     requires parts { solution.now.parts ≡ inst.now }
     requires there { number.0 < length solution.now.slots }
     requires meet { meet_in (slot_at solution.now.slots number.0) ≡ Some meet }
-    ensures { OnOk result (text.new ≡ text.old ++ flat_map lines.task_line (tasks_of (slot_at solution.now.slots number.0))) }
+    ensures added { OnOk result (IsAdded (G.taken onward.old) (G.taken onward.new) text.old (flat_map lines.task_line (tasks_of (slot_at solution.now.slots number.0))) text.new) }
+    ensures front { OnErr result (IsCutOff (G.taken onward.old) (G.taken onward.new) text.old (flat_map lines.task_line (tasks_of (slot_at solution.now.slots number.0)))) }
+    ensures fault { IsErrOf result Cut.WriteFault → Rose (G.faults onward.old) (G.faults onward.new) }
+    ensures faultless { OnOk result (G.faults onward.new ≡ G.faults onward.old) }
+    ensures faultless_starved { IsErrOf result Cut.NoMemory → G.faults onward.new ≡ G.faults onward.old }
+    ensures counted { G.faults onward.old ≤ G.faults onward.new }
 {
     inst.facts();
     solution.facts();
@@ -264,7 +284,15 @@ fn push_tasks(
             meet: meet.meet,
             place,
         };
-        text.push_text(&task_line(alloc, &Task { task, resource })?)?;
+        push_task(alloc, &Task { task, resource }, text)?;
+        onward.pass(alloc, text)?;
     }
     Ok(())
+}
+
+/// Adds the line of a task.
+fn push_task(alloc: Global, task: &Task, text: &mut Text) -> Result<(), NoMemory>
+    ensures { OnOk result (text.new ≡ text.old ++ lines.task_line task.now) }
+{
+    text.push_text(&task_line(alloc, task)?)
 }
