@@ -7,12 +7,12 @@ use Rattle.khe_app.proofs.making.make.Goals as goal
 
 pub returns-in-Ok-clause-end : goal.returns-in-Ok-clause-end
 returns-in-Ok-clause-end g c = λ h sound faults.
-    end_making h c.args.seed c.args.size c.in-Ok.archive sound faults _ _ _ _ c.put_spelling.result.0
+    end_making h c.args.seed c.args.size c.in-Ok.archive sound faults _ _ _ _ c.put_spelling-status.result.0
     (c.in-Ok.ensures.made ∙ ap (λ seed. made seed c.args.size) c.new.ensures) c.in-Ok.ensures.well_formed
-    c.put_spelling.ensures.written
+    c.put_spelling-status.ensures.written
 
 pub returns-in-Ok-clause-status : goal.returns-in-Ok-clause-status
-returns-in-Ok-clause-status g c = not_two _ _ _ _ _ _ c.put_spelling.result.0 c.put_spelling.ensures.written zero_two
+returns-in-Ok-clause-status g c = not_two _ _ _ _ _ _ c.put_spelling-status.result.0 c.put_spelling-status.ensures.written zero_two
 
 pub returns-in-Err-clause-end : goal.returns-in-Err-clause-end
 returns-in-Err-clause-end g c = λ h sound faults. end_starved _ h sound faults faults _ _ _ _ _ refl refl

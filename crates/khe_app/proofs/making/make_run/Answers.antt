@@ -6,11 +6,11 @@ use Rattle.khe_app.proofs.making.make_run.Goals as goal
 
 pub returns-in-Ok-clause-end : goal.returns-in-Ok-clause-end
 returns-in-Ok-clause-end g c = λ h sound faults.
-    end_running h c.args.seed c.args.size sound faults _ _ _ _ c.run_made.result.0 c.run_made.ensures.written
+    end_running h c.args.seed c.args.size sound faults _ _ _ _ c.run_made-status.result.0 c.run_made-status.ensures.written
 
 pub returns-in-Ok-clause-status : goal.returns-in-Ok-clause-status
-returns-in-Ok-clause-status g c = running_not_two c.args.seed c.args.size _ _ _ _ c.run_made.result.0
-    c.run_made.ensures.written
+returns-in-Ok-clause-status g c = running_not_two c.args.seed c.args.size _ _ _ _ c.run_made-status.result.0
+    c.run_made-status.ensures.written
 
 pub returns-in-Err-clause-end : goal.returns-in-Err-clause-end
 returns-in-Err-clause-end g c = λ h sound faults. end_starved _ h sound faults faults _ _ _ _ _ refl refl
