@@ -73,6 +73,16 @@ members_ascend marks =
           (length marks) (k + 1) 0 (omega arith),
     ))
 
+-- the marks are such a set
+pub hall_marked : (t : Table) (o : Order) (left met : ℕ) (marks : List Bool) → IsMaximum t o left met
+    → IsReached t marks → IsHallSet (domains_of t) (has_member marks)
+hall_marked t o left met marks max is =
+    least_is t o left met (has_member marks) max is.there is.all is.left_out
+    (λ d s l h below may.
+    let inside = kept_of t o left met d max (is.all d h) in
+    let r = max.shut.saturated d s l (firsts_out t o.spots.items met d inside).1 below may in
+    (r.by, r.owner, is.owners d s r.by h may r.owner))
+
 pub hall_is : (t : Table) (o : Order) (left met : ℕ) (marks : List Bool) → IsMaximum t o left met → IsReached t marks
     → IsHallSet (domains_of t) (λ d. list_any (λ m. eqb m d) (members_of marks))
 hall_is t o left met marks max is =

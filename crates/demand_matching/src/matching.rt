@@ -4,6 +4,7 @@ ghost use Rattle.std.specs.Prelude.{◌≡◌, ◌<◌, ◌==◌, ℕ, true, fal
 ghost use Rattle.std.specs.List.Sorted.{IsStrictlyIncreasing};
 ghost use Rattle.std.specs.Option.{ForSome};
 ghost use Rattle.std.specs.List.{list_any};
+ghost use Rattle.khe_base.specs.IdSet.{has_member};
 ghost use Rattle.demand_matching.specs.Domains.{Domains, IsInRange, domain_of, with_domain, no_domains};
 ghost use Rattle.demand_matching.specs.Excess.{IsDeficit, IsHallSet, IsAssignment};
 
@@ -159,6 +160,21 @@ impl Matching {
         }
         let marks = reached_from(self.alloc, &self.table, &self.order, self.left, self.met)?;
         marks.members(self.alloc)
+    }
+
+    /// The least set of present demands whose excess is the deficit: it is contained in each set that
+    /// has this excess. It has a mark for each demand, and none is marked where the deficit is 0.
+    ///
+    /// It fails where memory is refused; the matching stays as it was in any case. It takes memory for
+    /// a mark of one bit for each demand and for the demands of the set, and time in proportion to
+    /// these, to a 64th of all demands, and to the supplies that the demands may have which are
+    /// followed: first those that are left out, and none any more once all demands of the kept set
+    /// were met.
+    pub fn hall_marks(&self) -> Result<IdSet, NoMemory>
+        ensures size { IfOk result (λ marks. length marks ≡ length self.now.demands) }
+        ensures least { IfOk result (λ marks. IsHallSet self.now (has_member marks)) }
+    {
+        reached_from(self.alloc, &self.table, &self.order, self.left, self.met)
     }
 
     /// Writes the domain, where the demand stands outside of the set that is kept and has a supply

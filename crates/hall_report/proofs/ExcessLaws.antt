@@ -165,7 +165,7 @@ module _ (w : Domains) where
         omega (arith, x, y, size, near, most, less)
 
   -- a set has it
-  none_near : neighbours_of w (λ k. false) ≡ 0
+  pub none_near : neighbours_of w (λ k. false) ≡ 0
   none_near = sum_none w.width (λ r. count_below w.last (λ t. is_neighbour w (λ k. false) r t))
       (λ r. count_none w.last (λ t. is_neighbour w (λ k. false) r t)
       (λ t. any_none (length w.demands) (λ k. false && may_have w k r t) (λ k. refl)))

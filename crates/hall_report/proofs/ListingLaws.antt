@@ -65,6 +65,16 @@ places_more test new list old f n h g =
     ∙ ap (λ xs. old ++ filter test xs) (sym (ap (flat_map f) (range_next 0 n ∙ ap (λ k. range_with_len 0 n ++ k ∷ []) e)
     ∙ flat_more f (range_with_len 0 n) n))
 
+-- the next place of a meet that lasts one time
+pub single_more : (test : Demand → Bool) (new list old : List Demand) (meet : MeetId) (n : ℕ) (b : Bool)
+    → list ≡ old ++ filter test (flat_map (λ k. map (λ o. Task meet k o) (range_with_len 0 1)) (range_with_len 0 n))
+    → b ≡ test (Task meet n 0) → new ≡ list ++ cond b (Task meet n 0 ∷ []) []
+    → new ≡ old ++ filter test (flat_map (λ k. map (λ o. Task meet k o) (range_with_len 0 1))
+    (range_with_len 0 (n + 1)))
+single_more test new list old meet n b h t g =
+    places_more test new list old (λ k. map (λ o. Task meet k o) (range_with_len 0 1)) n h
+    (g ∙ ap (λ v. list ++ cond v (Task meet n 0 ∷ []) []) t)
+
 -- the next slot of a state
 pub slots_more : (test : Demand → Bool) (new list old : List Demand) (s : List Slot) (n : ℕ) → n < length s
     → list ≡ old ++ filter test (task_demands (take n s)) → new ≡ list ++ filter test (slot_demands (slot_at s n))

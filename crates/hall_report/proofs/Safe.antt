@@ -1,21 +1,15 @@
 -- Demands that were opened can be listed.
-use Rattle.std.proofs.Common.{ℕ, ◌<◌, ◌≡◌, List, length, get_or, refl, sym, ap, ◌∙◌, arith}
-use Rattle.std.specs.Prelude.{All, ◌==◌}
-use Rattle.std.specs.List.{list_any}
+use Rattle.std.proofs.Common.{ℕ, List, length, sym, ap, ◌∙◌, arith}
 use Rattle.std.proofs.Props.{props}
 use Rattle.std.proofs.Math.Logic.{∥∥₁_elim}
-use Rattle.std.proofs.lemmas.Bool.{eq-eqb}
 use Rattle.std.proofs.lemmas.List.{length-map}
-use Rattle.std.proofs.lemmas.List.Folds.{list_any_at}
 use Rattle.khe_instance.specs.declared.parts.Parts.{Parts}
 use Rattle.khe_told.proofs.OpeningLaws.{slots_amount}
 use Rattle.khe_told.specs.Slots.{emptied}
 use Rattle.khe_told.specs.declared.slots.Slot.{Slot}
 use Rattle.demand_matching.specs.Domains.{Domains}
-use Rattle.demand_matching.specs.Excess.{IsHallSet}
 use Rattle.hall_report.proofs.Noting.{readable_is}
 use Rattle.hall_report.proofs.Numbers.{slot_is}
-use Rattle.hall_report.proofs.Renaming.{present_below}
 use Rattle.hall_report.specs.Kept.{AreOf, AreOfSome}
 use Rattle.hall_report.specs.Listing.{IsSafe}
 use Rattle.hall_report.specs.declared.renewing.Picks.{Picks}
@@ -45,10 +39,3 @@ pub safe : (s : List Slot) (u : Units) (picks : Picks) (w : Domains) (cells : Li
 safe s u picks w cells tasks times h = ∥∥₁_elim h (hlevel props) (λ x. safe_of x.0 s u picks w cells tasks times x.1)
 
 -- the numbers of a Hall set are those of demands
-pub hall_below : (w : Domains) (numbers : List ℕ) (n : ℕ) → IsHallSet w (λ j. list_any (λ m. m == j) numbers)
-    → length w.demands ≡ n → All (λ m. m < n) numbers
-hall_below w numbers n is many = λ k d l.
-    let x : ℕ = get_or numbers k d in
-    let there = is.present x (list_any_at (λ m. m == x) numbers k d l (eq-eqb x x refl)) in
-    let below = present_below w x there in
-    omega (arith, below, many)

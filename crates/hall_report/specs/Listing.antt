@@ -1,8 +1,6 @@
 -- What it takes to list the demands whose numbers are marked.
-use Rattle.std.specs.Prelude.{ℕ, ◌+◌, ◌^◌, ◌<◌, ◌≡◌, ◌==◌, Bool, List, length}
-use Rattle.std.specs.List.{list_any}
+use Rattle.std.specs.Prelude.{ℕ, ◌+◌, ◌^◌, ◌<◌, ◌≡◌, Bool, List, length}
 use Rattle.demand_matching.specs.Domains.{Domains}
-use Rattle.demand_matching.specs.Excess.{IsHallSet}
 use Rattle.khe_base.specs.IdSet.{has_member}
 use Rattle.khe_told.specs.Slots.{slot_at, length_of}
 use Rattle.khe_told.specs.declared.slots.Slot.{Slot}
@@ -41,9 +39,3 @@ pub record IsSafe (s : List Slot) (u : Units) (w : Domains) (cells : List ℕ) (
   pub timed : 0 < length cells → 0 < times
   pub few : length s < 2 ^ 32
   pub readable : AreReadable u s
-
--- the marks are those of the numbers of the Hall set
-abbrev pub AreMarks : Domains → List Bool → Type 0
-AreMarks w marks =
-    (numbers : List ℕ) × IsHallSet w (λ j. list_any (λ m. m == j) numbers)
-    × ((n : ℕ) → has_member marks n ≡ list_any (λ m. m == n) numbers)

@@ -1,10 +1,9 @@
 //! The demands of a timetable, kept as it changes.
 
 ghost use Rattle.std.specs.Prelude.{◌≡◌, ◌==◌, ◌+◌, ◌*◌, ◌++◌, ◌<◌, ◌≤◌, ◌^◌, All, IfOk, OnOk, length, map};
-ghost use Rattle.std.specs.List.{filter, list_any};
+ghost use Rattle.std.specs.List.{filter};
 ghost use Rattle.khe_base.specs.IdSet.{has_member};
-ghost use Rattle.demand_matching.specs.Excess.{IsHallSet};
-ghost use Rattle.hall_report.specs.Listing.{AreMarks, is_marked};
+ghost use Rattle.hall_report.specs.Listing.{is_marked};
 ghost use Rattle.khe_instance.specs.declared.parts.Parts.{Parts};
 ghost use Rattle.khe_told.specs.Slots.{no_meets, slot_at, length_of};
 ghost use Rattle.khe_told.specs.Changes.{after, after_all};
@@ -18,7 +17,6 @@ ghost use Rattle.hall_report.specs.Demands.{IsDeficitOf, IsHallOf, chosen, task_
 use crate::Demand;
 use crate::cells::free_cells;
 use crate::listing::{list_cells, list_tasks};
-use crate::marks::marked;
 use crate::renewing::{Choices, Picks, renew};
 use crate::resource_sets::resource_sets;
 use crate::start_sets::start_sets;
@@ -107,34 +105,13 @@ impl Demands {
         ensures { (p : Parts) → AreOf p self.now.told self.now.units self.now.picks self.now.matching self.now.cells
             self.now.tasks self.now.times → IfOk result (λ hall. IsHallOf p self.now.told hall) }
     {
-        let numbers = self.matching.hall_set()?;
-        if numbers.is_empty() {
-            return Ok(Seq::new(self.alloc));
-        }
-        self.hall_of(numbers.as_slice())
-    }
-
-    // The demands of the Hall set, which has these numbers.
-    fn hall_of(&self, numbers: &[u32]) -> Result<Seq<Demand>, NoMemory>
-        requires { IsHallSet self.now.matching (λ j. list_any (λ m. m == j) numbers.now) }
-        ensures { (p : Parts) → AreOf p self.now.told self.now.units self.now.picks self.now.matching self.now.cells
-            self.now.tasks self.now.times → IfOk result (λ hall. IsHallOf p self.now.told hall) }
-    {
-        let marks = self.marks(numbers)?;
         let mut hall = Seq::new(self.alloc);
+        if self.matching.deficit() == 0 {
+            return Ok(hall);
+        }
+        let marks = self.matching.hall_marks()?;
         self.list(&mut hall, &marks)?;
         Ok(hall)
-    }
-
-    // Marks the numbers of the Hall set.
-    fn marks(&self, numbers: &[u32]) -> Result<IdSet, NoMemory>
-        requires { IsHallSet self.now.matching (λ j. list_any (λ m. m == j) numbers.now) }
-        ensures { IfOk result (λ marks. AreMarks self.now.matching marks) }
-    {
-        let cells = self.cells.as_slice().len() as u32;
-        let count = self.tasks + cells;
-        let marks = marked(self.alloc, count, numbers)?;
-        Ok(marks)
     }
 
     // Adds the marked demands.

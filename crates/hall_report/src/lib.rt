@@ -9,7 +9,6 @@ mod demand;
 mod demand_keepers;
 mod demands;
 mod listing;
-mod marks;
 mod renewing;
 mod resource_sets;
 mod sets;

@@ -63,8 +63,36 @@ fn list_meet(
     requires { IsReadable units.now meet.0 places duration }
     ensures { OnOk result (list.new ≡ list.old ++ filter (is_marked units.now marks.now) (flat_map (λ k. map (λ o. Task meet k o) (range_with_len 0 duration)) (range_with_len 0 places))) }
 {
+    if duration == 1 {
+        return list_single(list, units, marks, meet, places);
+    }
     for place in 0..places {
         list_place(list, units, marks, meet, place, duration)?;
+    }
+    Ok(())
+}
+
+// Those of a meet that lasts one time: they are in a row, one for each place.
+fn list_single(
+    list: &mut Seq<Demand>,
+    units: &Units,
+    marks: &IdSet,
+    meet: MeetId,
+    places: u32,
+) -> Result<(), NoMemory>
+    requires { IsReadable units.now meet.0 places 1 }
+    ensures { OnOk result (list.new ≡ list.old ++ filter (is_marked units.now marks.now)
+        (flat_map (λ k. map (λ o. Task meet k o) (range_with_len 0 1)) (range_with_len 0 places))) }
+{
+    let first = units.first_demand(units.first(meet));
+    for place in 0..places {
+        if marks.has(first + place) {
+            list.push(Demand::Task {
+                meet,
+                place,
+                offset: 0,
+            })?;
+        }
     }
     Ok(())
 }
