@@ -101,7 +101,9 @@ fn made_instance(alloc: Global, raw: &RawInstance) -> Result<Instance, ResolveFa
     ensures fault { IfErr result (IsFirst (spec.instance_fault raw.now)) }
 {
     let directory = directory(alloc, raw)?;
-    instance_of(alloc, raw, &directory)
+    let made = instance_of(alloc, raw, &directory);
+    drop(directory);
+    made
 }
 
 /// The instance of each solution, or that there are too many solutions, or their first reference that
