@@ -56,11 +56,7 @@ pub(crate) fn instance_of(
 
 /// The parts with these names of an instance, or the first limit that it is above. What its Ids lead to
 /// is kept no longer than this call.
-fn parts_named(
-    alloc: Global,
-    raw: &RawInstance,
-    names: &Directory,
-) -> Result<Parts, ResolveFault>
+fn parts_named(alloc: Global, raw: &RawInstance, names: &Directory) -> Result<Parts, ResolveFault>
     requires names { IsDirectoryOf raw.now names.now }
     requires formed { IsInstance raw.now }
     ensures made { IfOk result (λ p. p ≡ parts.parts_of raw.now) }
@@ -93,11 +89,7 @@ fn parts_within(alloc: Global, lookup: &Lookup<'_>) -> Result<Parts, ResolveFaul
 
 /// The parts of an instance of which the monitors, the watches and the unit alone are left to be
 /// looked at, or the first of these limits that it is above.
-fn parts_by_roles(
-    alloc: Global,
-    lookup: &Lookup<'_>,
-    roles: &Roles,
-) -> Result<Parts, ResolveFault>
+fn parts_by_roles(alloc: Global, lookup: &Lookup<'_>, roles: &Roles) -> Result<Parts, ResolveFault>
     requires lookup { IsLookup lookup.now }
     requires formed { IsInstance lookup.now.instance.now }
     requires places { HasFewPlaces lookup.now.instance.now }
@@ -150,11 +142,7 @@ fn sums_within(lookup: &Lookup<'_>) -> Result<(), ResolveFault>
 
 /// The unit of an instance that keeps the limits before those of monitors and watches, or the first of
 /// these two and that of the unit that it is above.
-fn monitors_within(
-    alloc: Global,
-    lookup: &Lookup<'_>,
-    roles: &Roles,
-) -> Result<u64, ResolveFault>
+fn monitors_within(alloc: Global, lookup: &Lookup<'_>, roles: &Roles) -> Result<u64, ResolveFault>
     requires lookup { IsLookup lookup.now }
     requires formed { IsInstance lookup.now.instance.now }
     requires places { HasFewPlaces lookup.now.instance.now }

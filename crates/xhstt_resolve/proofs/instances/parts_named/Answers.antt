@@ -1,7 +1,6 @@
 -- What a lookup leads to is that of its own instance.
-use Rattle.std.proofs.Common.{◌≡◌, ◌∙◌, ap, subst, sym, IfOk, IfErr, None}
+use Rattle.std.proofs.Common.{◌≡◌, subst, IfOk, IfErr, None}
 use Rattle.xhstt_resolve.specs.Answers.{IsFirst}
-use Rattle.xhstt_resolve.specs.LaterLimits.{later_fault}
 use Rattle.xhstt_resolve.specs.Limits.{limit_fault}
 use Rattle.xhstt_resolve.specs.Parts.{parts_of}
 use Rattle.xhstt_resolve.proofs.instances.parts_named.Goals as goal
