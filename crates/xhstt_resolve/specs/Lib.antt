@@ -4,6 +4,7 @@ pub mod Faults
 pub mod Followed
 pub mod GroupedSets
 pub mod Joined
+pub mod LaterLimits
 pub mod Limits
 pub mod Members
 pub mod Parts

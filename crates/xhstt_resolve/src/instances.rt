@@ -1,14 +1,15 @@
 //! One instance, or the first limit that it is above.
 
 ghost use Rattle.std.specs.Prelude.{◌≡◌, ◌≤◌, ◌*◌, ◌^◌, ◌<◌, None, length, map, IfOk, IfErr};
-ghost use Rattle.khe_base.specs.declared.limits.TheConstants.{RESOURCES, TIMES};
+ghost use Rattle.khe_base.specs.declared.limits.TheConstants.{DURATION, RESOURCES, TASKS, TIMES};
 ghost use Rattle.xhstt_references.specs.Directories.{IsDirectoryOf};
 ghost use Rattle.xhstt_references.specs.Faults.{fault_of_instance};
 ghost use Rattle.xhstt_resolve.specs.Answers.{IsFirst};
+ghost use Rattle.xhstt_resolve.specs.LaterLimits.{last_fault, later_fault};
 ghost use Rattle.xhstt_resolve.specs.Limits as spec;
 ghost use Rattle.xhstt_resolve.specs.Parts as parts;
 ghost use Rattle.xhstt_resolve.specs.Roles.{AreRolesOf};
-ghost use Rattle.xhstt_resolve.specs.Tables.{IsLookup};
+ghost use Rattle.xhstt_resolve.specs.Tables.{HasFewPlaces, HasKeptCounts, IsLookup};
 ghost use Rattle.xhstt_resolve.specs.Units.{unit_of};
 ghost use Rattle.xhstt_shape.specs.WellFormed.{IsInstance};
 ghost use Rattle.fault_tables.specs.declared.limits.TheConstants.{TOO_GREAT_UNIT, TOO_MANY_LISTED};
@@ -26,7 +27,7 @@ use fault_tables::{
     TOO_MANY_RESOURCE_GROUPS, TOO_MANY_RESOURCE_TYPES, TOO_MANY_RESOURCES, TOO_MANY_TASKS,
     TOO_MANY_TIME_GROUPS, TOO_MANY_TIMES, TOO_MANY_WATCHES, limit_numbered,
 };
-use khe_instance::Instance;
+use khe_instance::{Instance, Parts};
 use std::alloc::Global;
 use xhstt_references::Directory;
 use xhstt_shape::RawInstance;
@@ -49,37 +50,64 @@ pub(crate) fn instance_of(
     ensures within { IfOk result (λ i. spec.limit_fault raw.now ≡ None) }
     ensures fault { IfErr result (IsFirst (spec.limit_fault raw.now)) }
 {
-    let Kept {
-        lookup,
-        roles,
-        unit,
-    } = kept_limits(alloc, raw, names)?;
-    let parts = parts_of(alloc, &lookup, &roles, unit)?;
+    let parts = parts_named(alloc, raw, names)?;
     Ok(Instance::new(alloc, parts)?)
 }
 
-/// An instance that keeps its limits, with its event resources by their roles and its unit.
-#[derive(Drop)]
-struct Kept<'a> {
-    lookup: Lookup<'a>,
-    roles: Roles,
-    unit: u64,
-}
-
-/// The lookup, the roles and the unit of an instance that keeps its limits, or the first of them, in
-/// the order of their numbers, that it is above.
-fn kept_limits<'a>(
-    alloc: Global,
-    raw: &'a RawInstance,
-    names: &'a Directory,
-) -> Result<Kept<'a>, ResolveFault>
+/// The parts with these names of an instance, or the first limit that it is above. What its Ids lead to
+/// is kept no longer than this call.
+fn parts_named(alloc: Global, raw: &RawInstance, names: &Directory) -> Result<Parts, ResolveFault>
     requires names { IsDirectoryOf raw.now names.now }
     requires formed { IsInstance raw.now }
-    ensures lookup { IfOk result (λ k. IsLookup k.lookup) }
-    ensures instance { IfOk result (λ k. k.lookup.instance.now ≡ raw.now) }
-    ensures roles { IfOk result (λ k. AreRolesOf raw.now k.roles) }
-    ensures unit { IfOk result (λ k. k.unit ≡ unit_of (map (λ e. e.duration) raw.now.events)) }
-    ensures within { IfOk result (λ k. spec.limit_fault raw.now ≡ None) }
+    ensures made { IfOk result (λ p. p ≡ parts.parts_of raw.now) }
+    ensures within { IfOk result (λ p. spec.limit_fault raw.now ≡ None) }
+    ensures fault { IfErr result (IsFirst (spec.limit_fault raw.now)) }
+{
+    counts_within(raw)?;
+    let lookup = lookup_of(alloc, raw, names)?;
+    let made = parts_within(alloc, &lookup);
+    drop(lookup);
+    made
+}
+
+/// The parts of an instance whose counts keep their limits, or the first of the other limits, in the
+/// order of their numbers, that it is above.
+fn parts_within(alloc: Global, lookup: &Lookup<'_>) -> Result<Parts, ResolveFault>
+    requires lookup { IsLookup lookup.now }
+    requires formed { IsInstance lookup.now.instance.now }
+    requires earlier { spec.limit_fault lookup.now.instance.now ≡ later_fault lookup.now.instance.now }
+    ensures made { IfOk result (λ p. p ≡ parts.parts_of lookup.now.instance.now) }
+    ensures within { IfOk result (λ p. spec.limit_fault lookup.now.instance.now ≡ None) }
+    ensures fault { IfErr result (IsFirst (spec.limit_fault lookup.now.instance.now)) }
+{
+    sums_within(lookup)?;
+    let roles = roles_of(alloc, lookup.instance)?;
+    let made = parts_by_roles(alloc, lookup, &roles);
+    drop(roles);
+    made
+}
+
+/// The parts of an instance of which the monitors, the watches and the unit alone are left to be
+/// looked at, or the first of these limits that it is above.
+fn parts_by_roles(alloc: Global, lookup: &Lookup<'_>, roles: &Roles) -> Result<Parts, ResolveFault>
+    requires lookup { IsLookup lookup.now }
+    requires formed { IsInstance lookup.now.instance.now }
+    requires places { HasFewPlaces lookup.now.instance.now }
+    requires roles { AreRolesOf lookup.now.instance.now roles.now }
+    requires duration { spec.total_duration lookup.now.instance.now ≤ DURATION }
+    requires earlier { spec.limit_fault lookup.now.instance.now ≡ last_fault lookup.now.instance.now }
+    ensures made { IfOk result (λ p. p ≡ parts.parts_of lookup.now.instance.now) }
+    ensures within { IfOk result (λ p. spec.limit_fault lookup.now.instance.now ≡ None) }
+    ensures fault { IfErr result (IsFirst (spec.limit_fault lookup.now.instance.now)) }
+{
+    let unit = monitors_within(alloc, lookup, roles)?;
+    Ok(parts_of(alloc, lookup, roles, unit)?)
+}
+
+/// A count of an instance's parts that is above its limit is a fault.
+fn counts_within(raw: &RawInstance) -> Result<(), ResolveFault>
+    ensures kept { IfOk result (λ u. HasKeptCounts raw.now) }
+    ensures within { IfOk result (λ u. spec.limit_fault raw.now ≡ later_fault raw.now) }
     ensures fault { IfErr result (IsFirst (spec.limit_fault raw.now)) }
 {
     within(TOO_MANY_TIMES, raw.times.len() as u128)?;
@@ -90,21 +118,45 @@ fn kept_limits<'a>(
     within(TOO_MANY_EVENTS, raw.events.len() as u128)?;
     within(TOO_MANY_EVENT_GROUPS, raw.event_groups.len() as u128)?;
     within(TOO_MANY_CONSTRAINTS, raw.constraints.len() as u128)?;
-    let lookup = lookup_of(alloc, raw, names)?;
-    within(TOO_LONG_DURATION, u128::from(total_duration(raw)))?;
-    within(TOO_MANY_TASKS, task_count(&lookup))?;
-    within(TOO_MANY_CELLS, cells(raw))?;
-    listed_within(raw)?;
-    let roles = roles_of(alloc, raw)?;
-    let counts = counts_of(alloc, &lookup, &roles)?;
+    Ok(())
+}
+
+/// Durations, tasks, cells or a listing above their limits are a fault, where the counts keep theirs.
+fn sums_within(lookup: &Lookup<'_>) -> Result<(), ResolveFault>
+    requires lookup { IsLookup lookup.now }
+    requires earlier { spec.limit_fault lookup.now.instance.now ≡ later_fault lookup.now.instance.now }
+    ensures duration { IfOk result (λ u. spec.total_duration lookup.now.instance.now ≤ DURATION) }
+    ensures tasks { IfOk result (λ u. spec.task_count lookup.now.instance.now ≤ TASKS) }
+    ensures within { IfOk result (λ u. spec.limit_fault lookup.now.instance.now ≡ last_fault lookup.now.instance.now) }
+    ensures fault { IfErr result (IsFirst (spec.limit_fault lookup.now.instance.now)) }
+{
+    within(
+        TOO_LONG_DURATION,
+        u128::from(total_duration(lookup.instance)),
+    )?;
+    within(TOO_MANY_TASKS, task_count(lookup))?;
+    within(TOO_MANY_CELLS, cells(lookup.instance))?;
+    listed_within(lookup.instance)?;
+    Ok(())
+}
+
+/// The unit of an instance that keeps the limits before those of monitors and watches, or the first of
+/// these two and that of the unit that it is above.
+fn monitors_within(alloc: Global, lookup: &Lookup<'_>, roles: &Roles) -> Result<u64, ResolveFault>
+    requires lookup { IsLookup lookup.now }
+    requires formed { IsInstance lookup.now.instance.now }
+    requires places { HasFewPlaces lookup.now.instance.now }
+    requires roles { AreRolesOf lookup.now.instance.now roles.now }
+    requires earlier { spec.limit_fault lookup.now.instance.now ≡ last_fault lookup.now.instance.now }
+    ensures unit { IfOk result (λ u. u ≡ unit_of (map (λ e. e.duration) lookup.now.instance.now.events)) }
+    ensures within { IfOk result (λ u. spec.limit_fault lookup.now.instance.now ≡ None) }
+    ensures fault { IfErr result (IsFirst (spec.limit_fault lookup.now.instance.now)) }
+{
+    let counts = counts_of(alloc, lookup, roles)?;
     within(TOO_MANY_MONITORS, counts.monitors)?;
     within(TOO_MANY_WATCHES, counts.watches)?;
-    let unit = unit_within(raw)?;
-    Ok(Kept {
-        lookup,
-        roles,
-        unit,
-    })
+    let unit = unit_within(lookup.instance)?;
+    Ok(unit)
 }
 
 /// The unit of an instance, or the fault that it is too great.

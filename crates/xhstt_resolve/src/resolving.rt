@@ -2,7 +2,7 @@
 
 ghost use Rattle.std.specs.Prelude.{◌≡◌, ◌<◌, ◌≤◌, ◌∷◌, [], ◌^◌, All, None, Ok, length, map, IfOk, IfErr, OnOk, ◌++◌};
 ghost use Rattle.std.specs.Option.{option_map};
-ghost use Rattle.xhstt_references.specs.Faults.{fault_of_solutions};
+ghost use Rattle.xhstt_references.specs.Faults.{fault_of_ids, fault_of_solutions};
 ghost use Rattle.xhstt_references.specs.Ids.{instance_ids};
 ghost use Rattle.xhstt_references.specs.References as references;
 ghost use Rattle.xhstt_resolve.specs.Answers.{IsFirst, IsFaultOf};
@@ -51,8 +51,23 @@ pub fn resolve(alloc: Global, archive: &Archive) -> Result<Resolved, ResolveFaul
 {
     let names = instance_names(alloc, archive)?;
     let names = needed(alloc, archive, names);
+    let made = resolved_by(alloc, archive, &names);
+    drop(names);
+    made
+}
+
+/// The instances of an archive whose Ids come once, and each solution's instance, which is looked up by
+/// these names; or the archive's first fault.
+fn resolved_by(alloc: Global, archive: &Archive, names: &Names) -> Result<Resolved, ResolveFault>
+    requires formed { IsInForm archive.now }
+    requires ids { fault_of_ids archive.now ≡ None }
+    requires few { length archive.now.instances < 2 ^ 32 }
+    requires names { 0 < length (references.solutions_of archive.now) → names.now ≡ instance_ids archive.now }
+    ensures exact { IfOk result (λ r. spec.resolved archive.now ≡ Ok r) }
+    ensures fault { IfErr result (IsFaultOf (spec.resolved archive.now)) }
+{
     let instances = made_instances(alloc, archive.instances.as_slice())?;
-    let of = solution_instances(alloc, archive, &names, instances.as_slice())?;
+    let of = solution_instances(alloc, archive, names, instances.as_slice())?;
     Ok(Resolved { instances, of })
 }
 
@@ -101,7 +116,9 @@ fn made_instance(alloc: Global, raw: &RawInstance) -> Result<Instance, ResolveFa
     ensures fault { IfErr result (IsFirst (spec.instance_fault raw.now)) }
 {
     let directory = directory(alloc, raw)?;
-    instance_of(alloc, raw, &directory)
+    let made = instance_of(alloc, raw, &directory);
+    drop(directory);
+    made
 }
 
 /// The instance of each solution, or that there are too many solutions, or their first reference that

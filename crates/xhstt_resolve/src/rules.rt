@@ -7,7 +7,7 @@ ghost use Rattle.xhstt_resolve.specs.Rules.{group_set, group_sets, spread_of, ev
 ghost use Rattle.xhstt_resolve.specs.Tables.{IsLookup};
 
 use crate::tables::Lookup;
-use khe_base::{EventId, IdSet, NoMemory, Seq};
+use khe_base::{EventId, IdSet, NoMemory, Seq, both};
 use khe_instance::{Constraint, EventPair, Rule, Spread};
 use std::alloc::Global;
 use xhstt_shape::{RawApplies, RawConstraint, RawPair, RawRule, RawSpread, Ref};
@@ -93,15 +93,16 @@ fn rule_of(
             resource_groups,
             resources,
             role,
-        } => Rule::PreferResources {
-            resources: resource_set(
+        } => {
+            let resources = resource_set(
                 alloc,
                 lookup,
                 resource_groups.as_slice(),
                 resources.as_slice(),
-            )?,
-            role: role.text.copy(alloc)?,
-        },
+            );
+            let (resources, role) = both(resources, role.text.copy(alloc))?;
+            Rule::PreferResources { resources, role }
+        }
         RawRule::AvoidSplitAssignments { role } => Rule::AvoidSplitAssignments {
             role: role.text.copy(alloc)?,
         },

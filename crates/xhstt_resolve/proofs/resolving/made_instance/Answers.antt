@@ -15,5 +15,5 @@ faultless (Err e) x y none more = tt
 
 pub returns-clause-sound : goal.returns-clause-sound
 returns-clause-sound c =
-    faultless c.instance_of.result (option_map as_fault (fault_of_instance c.args.raw.now)) (limit_fault c.args.raw.now)
-    (reference-none (fault_of_instance c.args.raw.now) c.in_ok-directory.ensures.told) c.instance_of.ensures.within
+    faultless c.instance_of-made.result (option_map as_fault (fault_of_instance c.args.raw.now)) (limit_fault c.args.raw.now)
+    (reference-none (fault_of_instance c.args.raw.now) c.in_ok-directory.ensures.told) c.instance_of-made.ensures.within
