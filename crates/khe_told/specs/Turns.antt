@@ -36,6 +36,10 @@ pub record IsTurn (p : Parts) (s : List Slot) (t : SlotTurn) : Type 0 where
   pub told : AreTold p s
   pub later : AreTold p (turned s t)
 
+-- how long a meet is, where there is one
+abbrev pub duration_in : Option Span → Option ℕ
+duration_in span = option_map (λ (y : Span). y.duration) span
+
 -- how long a slot's meet is, where it has one
 abbrev pub duration_of : Slot → Option ℕ
 duration_of x = option_map (λ (y : Span). y.duration) x.span

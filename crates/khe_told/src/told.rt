@@ -16,7 +16,7 @@ use crate::naming::Places;
 use crate::opening::{no_tasks, rows_of};
 use crate::rows::{Row, row_at, turn};
 use crate::slots::Span;
-use crate::turns::{Turn, differ};
+use crate::turns::{Turn, differ, is_moved, is_resized};
 use khe_base::{EventId, MeetId, NoMemory, ResourceId, TaskId};
 use khe_instance::{Instance, Meet, Plain};
 use std::alloc::Global;
@@ -163,11 +163,15 @@ impl Told {
         };
         let given_before = self.given(meet);
         let given_after = next.given(meet);
+        let before = row.span;
+        let after = next.span(meet);
         Turn {
             meet,
             event: row.event,
-            before: row.span,
-            after: next.span(meet),
+            before,
+            after,
+            moves: is_moved(before, after),
+            resizes: is_resized(before, after),
             given_before,
             given_after,
             places,

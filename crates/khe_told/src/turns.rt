@@ -2,7 +2,7 @@
 
 ghost use Rattle.std.specs.Prelude.{◌≡◌, ℕ, true, false, length, slice_get};
 ghost use Rattle.khe_told.specs.Naming.{AreSameBut, is_named};
-ghost use Rattle.khe_told.specs.Turns.{duration_of};
+ghost use Rattle.khe_told.specs.Turns.{duration_in, duration_of};
 
 use crate::naming::Places;
 use crate::slots::Span;
@@ -23,12 +23,16 @@ pub struct Turn<'a> {
     pub(crate) places: Places,
     /// Whether a place is given something else.
     pub(crate) gives_other: bool,
+    /// Whether the meet is another. This and the next are asked by each keeper, and so looked at once.
+    pub(crate) moves: bool,
+    /// Whether the meet comes or goes, or lasts longer or shorter.
+    pub(crate) resizes: bool,
 }
 
 impl<'a> Model for Turn<'a> {
     ghost use Rattle.std.specs.Prelude.{◌≡◌, false};
     ghost use Rattle.khe_told.specs.Naming.{AreSameBut};
-    ghost use Rattle.khe_told.specs.Turns.{SlotTurn};
+    ghost use Rattle.khe_told.specs.Turns.{SlotTurn, duration_in};
 
     ghost Value = { SlotTurn };
 
@@ -37,7 +41,9 @@ impl<'a> Model for Turn<'a> {
       after = record { meet = t.meet; event = t.event; span = t.after; given = t.given_after.now };
     } };
 
-    ghost invariant = { λ t. (t.gives_other ≡ false → t.given_before.now ≡ t.given_after.now) × AreSameBut t.places t.given_before.now t.given_after.now };
+    ghost invariant = { λ t. (t.gives_other ≡ false → t.given_before.now ≡ t.given_after.now)
+        × AreSameBut t.places t.given_before.now t.given_after.now × (t.moves ≡ false → t.before ≡ t.after)
+        × (t.resizes ≡ false → duration_in t.before ≡ duration_in t.after) };
 }
 
 impl<'a> Turn<'a> {
@@ -87,18 +93,14 @@ impl<'a> Turn<'a> {
     pub fn moves(&self) -> bool
         ensures { result ≡ false → self.now.before.span ≡ self.now.after.span }
     {
-        self.before != self.after
+        self.moves
     }
 
     /// Whether the meet comes or goes, or lasts longer or shorter.
     pub fn resizes(&self) -> bool
         ensures { result ≡ false → duration_of self.now.before ≡ duration_of self.now.after }
     {
-        match (self.before, self.after) {
-            (Some(before), Some(after)) => before.duration != after.duration,
-            (None, None) => false,
-            _ => true,
-        }
+        self.resizes
     }
 
     /// Whether a place is given something else.
@@ -125,6 +127,24 @@ impl<'a> Turn<'a> {
     {
         !self.gives_other && !self.moves()
     }
+}
+
+/// Whether a meet comes or goes, or lasts longer or shorter.
+pub(crate) fn is_resized(before: Option<Span>, after: Option<Span>) -> bool
+    ensures { result ≡ false → duration_in before ≡ duration_in after }
+{
+    match (before, after) {
+        (Some(before), Some(after)) => before.duration != after.duration,
+        (None, None) => false,
+        _ => true,
+    }
+}
+
+/// Whether a meet is another.
+pub(crate) fn is_moved(before: Option<Span>, after: Option<Span>) -> bool
+    ensures { result ≡ false → before ≡ after }
+{
+    before != after
 }
 
 /// Whether one of these places is given something else, where all others are given the same.
