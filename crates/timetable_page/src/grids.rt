@@ -202,12 +202,34 @@ fn push_grid(
         return page.push_literal("<p class=\"nothing\">has no meets</p></div>\n");
     }
     let cells = cells_of(alloc, view.inst.times(), runs)?;
-    let marks = marks_of(
-        alloc,
-        view.inst,
-        list_at(&view.table.watched, resource),
-        &cells,
-    )?;
+    let pushed = push_busy(alloc, page, view, resource, &cells);
+    drop(cells);
+    pushed
+}
+
+/// Adds the timetable of a resource that has meets, whose cells these are.
+fn push_busy(
+    alloc: Global,
+    page: &mut Text,
+    view: &View<'_>,
+    resource: u32,
+    cells: &Seq<Seq<u32>>,
+) -> Result<(), NoMemory> {
+    let watched = list_at(&view.table.watched, resource);
+    let marks = marks_of(alloc, view.inst, watched, cells)?;
+    let pushed = push_table(page, view, resource, cells, &marks);
+    drop(marks);
+    pushed
+}
+
+/// Adds its table, with the marks of the times.
+fn push_table(
+    page: &mut Text,
+    view: &View<'_>,
+    resource: u32,
+    cells: &Seq<Seq<u32>>,
+    marks: &Marks,
+) -> Result<(), NoMemory> {
     push_between(
         page,
         "<table class=\"grid\"><caption>",
@@ -216,7 +238,7 @@ fn push_grid(
     )?;
     push_column_heads(page, view)?;
     for row in 0..view.layout.height {
-        push_row(page, view, resource, row, &cells, &marks)?;
+        push_row(page, view, resource, row, cells, marks)?;
     }
     page.push_literal("</tbody></table></div>\n")
 }

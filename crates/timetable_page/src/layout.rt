@@ -2,7 +2,7 @@
 //! no days, or else one row of all times.
 
 use crate::naming::{shown, time_name};
-use khe_base::{Names, NoMemory, Seq, Text};
+use khe_base::{Names, NoMemory, Seq, Text, beside};
 use std::alloc::Global;
 use xhstt_shape::{RawInstance, Ref, Time, TimeSort};
 
@@ -83,17 +83,41 @@ fn filled_columns(
     sort: TimeSort,
 ) -> Result<Seq<Column>, NoMemory> {
     let names = group_names(alloc, raw)?;
+    let columns = columns_of(alloc, raw, &names, sort);
+    drop(names);
+    columns
+}
+
+/// The same with the names of the time groups.
+fn columns_of(
+    alloc: Global,
+    raw: &RawInstance,
+    names: &Names,
+    sort: TimeSort,
+) -> Result<Seq<Column>, NoMemory> {
     let mut columns = empty_columns(alloc, names.len())?;
+    let filled = fill(&mut columns, raw, names, sort);
+    let ((), columns) = beside(filled, columns)?;
+    Ok(columns)
+}
+
+/// Adds each time to the column of its day or week.
+fn fill(
+    columns: &mut Seq<Column>,
+    raw: &RawInstance,
+    names: &Names,
+    sort: TimeSort,
+) -> Result<(), NoMemory> {
     let mut number = 0u32;
     for time in raw.times.as_slice() {
         let column = match reference_of(time, sort) {
             Some(reference) => names.number(&reference.id).unwrap_or(names.len()),
             None => names.len(),
         };
-        add(&mut columns, column, number)?;
+        add(columns, column, number)?;
         number = number.saturating_add(1);
     }
-    Ok(columns)
+    Ok(())
 }
 
 /// The columns that have a time.

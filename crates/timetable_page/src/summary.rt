@@ -175,9 +175,21 @@ fn push_instance_row(
     page.push_literal("</tr>\n")
 }
 
-/// Adds a table with a row for each instance and a column for each solution group.
+/// Adds a table with a row for each instance and a column for each solution group. The list of each instance is dropped
+/// before the one exit, so that no `?` has to drop it.
 fn push_matrix(alloc: Global, page: &mut Text, results: &Results<'_>) -> Result<(), NoMemory> {
     let lists = by_instance(alloc, results)?;
+    let pushed = push_rows(page, results, &lists);
+    drop(lists);
+    pushed
+}
+
+/// Adds it with the solutions of each instance.
+fn push_rows(
+    page: &mut Text,
+    results: &Results<'_>,
+    lists: &Seq<Seq<u32>>,
+) -> Result<(), NoMemory> {
     page.push_literal(
         "<table class=\"sorts\"><thead><tr><th scope=\"col\"><button type=\"button\">Instance</button></th>",
     )?;
@@ -187,7 +199,7 @@ fn push_matrix(alloc: Global, page: &mut Text, results: &Results<'_>) -> Result<
     page.push_literal("</tr></thead><tbody>\n")?;
     let mut number = 0u32;
     for raw in results.archive.instances.as_slice() {
-        push_instance_row(page, results, raw, list_at(&lists, number))?;
+        push_instance_row(page, results, raw, list_at(lists, number))?;
         number = number.saturating_add(1);
     }
     page.push_literal("</tbody></table>\n")
