@@ -47,8 +47,8 @@ def bytes_of(path):
 
 
 def copy():
-    """Makes the copies anew."""
-    shutil.rmtree(COPIES, ignore_errors=True)
+    """Makes the copies anew. What else lies there stays: the pages of `checks/page_reference.py` with their reports."""
+    shutil.rmtree(os.path.join(COPIES, "examples"), ignore_errors=True)
     for path, other in copied():
         os.makedirs(os.path.dirname(other), exist_ok=True)
         shutil.copyfile(path, other)

@@ -1,2 +1,3 @@
+pub mod DemandLemmas
 pub mod MonitorsLemmas
 pub mod PlainIds

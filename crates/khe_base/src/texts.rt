@@ -124,12 +124,16 @@ impl Text {
     }
 
     /// Adds a number in decimal digits at the end, with no leading zero. Where memory is refused,
-    /// the text stays as it was.
+    /// the text stays as it was. A number that fits 64 bits is written as one, since a division of
+    /// 64 bits takes a fraction of what one of 128 bits takes.
     pub fn push_number(&mut self, number: u128) -> Result<(), NoMemory>
         ensures ok { OnOk result (self.new ≡ self.old ++ decimal number) }
         ensures err { OnErr result (self.new ≡ self.old) }
     {
         let mut digits = Buffer::new();
-        self.push_str(digits.format(number))
+        if number > u128::from(u64::MAX) {
+            return self.push_str(digits.format(number));
+        }
+        self.push_str(digits.format(number as u64))
     }
 }

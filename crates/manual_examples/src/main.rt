@@ -1,20 +1,44 @@
-//! Runs the examples of the manual: each command by `khe` on the files that lie beside it, and compares what comes
-//! with what stands below the command. Copies of the manual and of the example files lie in this crate's `data/`,
-//! where the program is run by the gate; `checks/documents.py` makes and compares them. It prints each example that differs, and how
-//! many examples, refusals and scripts there are and how many differ.
+//! Compares what comes of the programs with what is to come, on the files that lie in this crate's `data/`, where the
+//! gate runs it: the examples of the manual, each command by `khe`; pages and reports beside those that programs
+//! gave which were written apart from this one; the manual's talk; and statuses. `checks/documents.py --copy` copies
+//! the manual and the example files there, and `checks/page_reference.py` makes the pages. It prints each example that
+//! differs, and how many there are and how many differ.
 #![tactic(auto)]
 
 mod comparing;
+mod ends;
 mod examples;
 mod faults;
+mod pages;
 mod playing;
+mod reading;
+mod talks;
 
 use comparing::{Tally, compare_manual};
+use faults::Fault;
+use pages::compare_pages;
+use reading::compare_reading;
+use std::alloc::Global;
 use std::process::ExitCode;
+use std::rt::Files;
+use std::thread::Threads;
+use talks::compare_talks;
+
+/// Compares all that comes with what is to come.
+fn compare_all<R: Threads + Files + Print + Alloc + Sync>(
+    rt: &R,
+    alloc: Global,
+    tally: &mut Tally,
+) -> Result<(), Fault> {
+    compare_manual(rt, alloc, tally)?;
+    compare_pages(rt, alloc, tally)?;
+    compare_talks(rt, alloc, tally)?;
+    compare_reading(rt, alloc, tally)
+}
 
 fn main(rt: HostRuntime) -> ExitCode {
     let mut tally = Tally::default();
-    let status = match compare_manual(&rt, rt.alloc(), &mut tally) {
+    let status = match compare_all(&rt, rt.alloc(), &mut tally) {
         Ok(()) => 0,
         Err(_) => 1,
     };

@@ -12,7 +12,7 @@ use std::rt::Files;
 use std::thread::Threads;
 
 /// More bytes than any example writes.
-const ROOM: u64 = 1_000_000;
+pub(crate) const ROOM: u64 = 1_000_000;
 
 /// Adds what the commands of a line write to a text.
 pub(crate) fn came_of<R: Threads + Files + Sync>(
@@ -94,7 +94,7 @@ fn run_to_file<R: Threads + Files + Sync>(
 }
 
 /// The text of bytes.
-fn text_of(bytes: &[u8]) -> &str {
+pub(crate) fn text_of(bytes: &[u8]) -> &str {
     match std::str::from_utf8(bytes) {
         Ok(text) => text,
         Err(_) => "bytes that are no text",
@@ -148,7 +148,7 @@ fn run<R: Threads + Files + Sync>(
 }
 
 /// The words of a command after its first one.
-fn words_of(alloc: Global, command: &str) -> Result<Seq<String>, NoMemory> {
+pub(crate) fn words_of(alloc: Global, command: &str) -> Result<Seq<String>, NoMemory> {
     let mut words = Seq::new(alloc);
     let pushed = push_words(alloc, &mut words, command);
     pushed.and(Ok(words))

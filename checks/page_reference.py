@@ -1,0 +1,399 @@
+#!/usr/bin/env python3
+"""Prints the page that `khe-page` is to write for an archive.
+
+    checks/page_reference.py ARCHIVE REPORT [SOLUTIONS]
+
+It was written apart from `khe-page`, from what docs/manual.md and the specs of timetable_page say, and runs nothing of
+khe. Costs and verdicts are those of REPORT: the text of `evaluate ARCHIVE --all` as a reference program gives it that
+was written apart from this one. From timetable_page come the style sheet and the script, which are copied from its
+file, and the wording of markup, headings and phrases. With SOLUTIONS only the timetables of so many solutions are
+shown. Of an archive that the report refuses it prints the page that says so.
+
+The expected pages in crates/manual_examples/data/pages are what it prints. It leaves out what comes after 20,000 cells,
+1,000 monitors, 40 cells of a monitor or 50 MB. Monitors of a constraint that cost the same stand in their own order.
+"""
+
+import html, os, re, sys
+import xml.etree.ElementTree as tree
+from collections import namedtuple
+
+STYLE_FILE = os.path.join(os.path.dirname(os.path.abspath(__file__)), "../crates/timetable_page/src/style.rt")
+
+# What is wrong with what a monitor watches, by the kind of its constraint. The deviation follows.
+PHRASES = {
+    "AssignTime": "has no time; times missing:",
+    "AssignResource": "has no resource; times without one:",
+    "SplitEvents": "is split into parts of other lengths or numbers than wanted, by",
+    "DistributeSplitEvents": "has too many or too few parts of one length, by",
+    "PreferTimes": "starts at a time that is not preferred; times:",
+    "PreferResources": "has a resource that is not preferred; times:",
+    "AvoidSplitAssignments": "is shared out to too many resources, by",
+    "SpreadEvents": "is not spread over the time groups as wanted, by",
+    "LinkEvents": "does not run at the same times; times apart:",
+    "OrderEvents": "are not in order or too near or too far apart, by",
+    "AvoidClashes": "is busy more than once at a time; meets too many:",
+    "AvoidUnavailableTimes": "is busy when it is to be free; times:",
+    "LimitIdleTimes": "has too many or too few idle times, by",
+    "ClusterBusyTimes": "is busy in too many or too few time groups, by",
+    "LimitBusyTimes": "is too busy or not busy enough in time groups, by",
+    "LimitWorkload": "has too much or too little to do, by",
+}
+WITH_CELLS = ("AvoidClashes", "AvoidUnavailableTimes", "LimitIdleTimes")
+ESCAPED = str.maketrans({"&": "&amp;", "<": "&lt;", ">": "&gt;", '"': "&quot;", "'": "&#39;"})
+
+# A part of an event: the numbers of its event and of its first time, and of the resource at each place, or None.
+Meet = namedtuple("Meet", "event duration start given")
+
+
+def escaped(text):
+    return text.translate(ESCAPED)
+
+
+def fixed_text(name):
+    """The style sheet or the script, as the crate's file spells it."""
+    source = open(STYLE_FILE, encoding="utf-8").read()
+    return re.search(r'%s: &str = r(#+)"(.*?)"\1;' % name, source, re.S).group(2)
+
+
+def shown(element):
+    """What a part of an archive is called, escaped: by its name, or by its Id where it has none."""
+    return escaped(element.findtext("Name") or element.get("Id"))
+
+
+def titled(element, unnamed=""):
+    """The same of what has its name in its meta data: an archive, an instance or a solution group."""
+    return escaped(element.findtext("MetaData/Name") or element.get("Id") or unnamed)
+
+
+def references(element, path):
+    return [one.get("Reference") for one in element.findall(path)]
+
+
+class Numbered:
+    """The parts of one sort: what each is called, and its number by its Id."""
+    def __init__(self, elements):
+        self.elements = list(elements)
+        self.names = [shown(one) for one in self.elements]
+        self.number = {one.get("Id"): place for place, one in enumerate(self.elements)}
+
+
+class Constraint:
+    def __init__(self, element, instance):
+        self.id, self.name = element.get("Id"), shown(element)
+        self.kind = element.tag.removesuffix("Constraint")
+        self.counts = "hard" if element.findtext("Required").strip() == "true" else "soft"
+        self.weight = "%d %s" % (int(element.findtext("Weight")), element.findtext("CostFunction").strip().lower())
+        self.groups = [instance.times_of(group) for group in references(element, "TimeGroups/TimeGroup")]
+        self.times = {instance.times.number[time] for time in references(element, "Times/Time")}.union(*self.groups)
+
+
+class Instance:
+    def __init__(self, root):
+        self.name = titled(root)
+        self.times = Numbered(root.findall("Times/Time"))
+        self.types = Numbered(root.findall("Resources/ResourceTypes/ResourceType"))
+        self.resources = Numbered(root.findall("Resources/Resource"))
+        self.events = Numbered(root.findall("Events/Event"))
+        self.groups = Numbered(root.findall("Events/EventGroups/*"))
+        self.type_of = [references(one, "ResourceType")[0] for one in self.resources.elements]
+        self.constraints = [Constraint(one, self) for one in root.findall("Constraints/*")]
+        self.constraint = {one.id: one for one in self.constraints}
+        self.places = [self.places_of(event) for event in self.events.elements]
+        self.columns, self.grouped = self.layout(Numbered(root.findall("Times/TimeGroups/*")))
+
+    def times_of(self, group):
+        """The times of a time group: those whose week, day or time group it is."""
+        paths = ("Week", "Day", "TimeGroups/TimeGroup")
+        of = [sum((references(time, path) for path in paths), []) for time in self.times.elements]
+        return {number for number, groups in enumerate(of) if group in groups}
+
+    def places_of(self, event):
+        """What an event wants: a role and a resource for each place, either of which may be missing."""
+        places = []
+        for one in event.findall("Resources/Resource"):
+            places.append((one.findtext("Role", "").strip() or None, self.resources.number.get(one.get("Reference"))))
+        for group in references(event, "ResourceGroups/ResourceGroup"):
+            of = [references(resource, "ResourceGroups/ResourceGroup") for resource in self.resources.elements]
+            places += [(None, number) for number, groups in enumerate(of) if group in groups]
+        return places
+
+    def layout(self, groups):
+        """The columns of the grids, each with its head: by days, by weeks, or one for each time."""
+        for sort in ("Day", "Week"):
+            of = [(references(time, sort) or [None])[0] for time in self.times.elements]
+            if any(of):
+                heads = [*zip(groups.number, groups.names), (None, "other times")]
+                columns = [(name, [number for number, one in enumerate(of) if one == head]) for head, name in heads]
+                return [column for column in columns if column[1]], True
+        return [(name, [number]) for number, name in enumerate(self.times.names)], False
+
+
+def meets_of(instance, solution):
+    """The meets of a valid solution: of each event its entries in order, and one more of what they fall short of."""
+    meets = []
+    for event, raw in enumerate(instance.events.elements):
+        whole = int(raw.findtext("Duration"))
+        own = references(raw, "Time")
+        entries = [one for one in solution.findall("Events/Event") if one.get("Reference") == raw.get("Id")]
+        parts = [(int(one.findtext("Duration") or whole), references(one, "Time") or own, one) for one in entries]
+        missing = whole - sum(duration for duration, _, _ in parts)
+        if missing:
+            parts.append((missing, own, tree.Element("Event")))
+        for duration, time, entry in parts:
+            told = [(one.findtext("Role", "").strip(), one.get("Reference")) for one in entry.findall("Resources/Resource")]
+            given = {role: instance.resources.number[resource] for role, resource in told}
+            resources = [given.get(role) if fixed is None else fixed for role, fixed in instance.places[event]]
+            meets.append(Meet(event, duration, instance.times.number[time[0]] if time else None, resources))
+    return meets
+
+
+class Monitor:
+    """A line of the report on a monitor."""
+
+    FORM = r'monitor (\d+) (\w+) "([^"]*)" (\w+) "([^"]*)"(?: (?:role )?"([^"]*)")? deviation (\d+) (?:hard|soft) (\d+)'
+
+    def __init__(self, line):
+        number, self.kind, constraint, self.point, subject, other, deviation, cost = re.fullmatch(self.FORM, line).groups()
+        self.number, self.deviation, self.cost = int(number), int(deviation), int(cost)
+        self.constraint, self.subject = html.unescape(constraint), html.unescape(subject)
+        self.other = other and html.unescape(other)
+
+
+class Verdict:
+    """What the report says of a solution: its totals with its monitors, or why it is invalid."""
+    def __init__(self, text):
+        self.monitors = [Monitor(line) for line in text.splitlines() if line.startswith("monitor ")]
+        total = re.search(r"^total hard (\d+) soft (\d+)$", text, re.M)
+        self.totals = tuple(map(int, total.groups())) if total else None
+        cause = re.search(r"^invalid \d+ (\w+) entry (\d+)$", text, re.M)
+        self.said = "hard <b>%d</b> soft <b>%d</b>" % self.totals if total else "invalid: %s at entry %s" % cause.groups()
+
+
+class Section:
+    """The section of a valid solution below its totals."""
+    def __init__(self, number, instance, solution, verdict):
+        self.number, self.instance, self.monitors = number, instance, verdict.monitors
+        self.meets = meets_of(instance, solution)
+        self.cells = [{} for _ in instance.resources.names]
+        self.watched = [[] for _ in instance.resources.names]
+        for meet in (one for one in self.meets if one.start is not None):
+            for resource in (one for one in meet.given if one is not None):
+                for time in range(meet.start, meet.start + meet.duration):
+                    self.cells[resource].setdefault(time, []).append(meet)
+        for monitor in (one for one in self.monitors if one.point == "resource"):
+            self.watched[instance.resources.number[monitor.subject]].append(monitor)
+
+    def link(self, letter, number, text):
+        return '<a href="#s%d%s%d">%s</a>' % (self.number, letter, number, text)
+
+    def resource(self, number):
+        return self.link("r", number, self.instance.resources.names[number])
+
+    def event(self, number):
+        return self.link("e", number, self.instance.events.names[number])
+
+    def closed(self, monitor):
+        """The times at which a monitor wants its resource free."""
+        is_such = monitor.kind == "AvoidUnavailableTimes"
+        return self.instance.constraint[monitor.constraint].times if is_such else set()
+
+    def idle(self, monitor):
+        """The idle times that a monitor counts: not busy, but before and after in the time group."""
+        busy = self.cells[self.instance.resources.number[monitor.subject]]
+        found = set()
+        for group in self.instance.constraint[monitor.constraint].groups if monitor.kind == "LimitIdleTimes" else ():
+            at = [time for time in group if time in busy]
+            found |= {time for time in group if time not in busy and min(at, default=time) < time < max(at, default=time)}
+        return found
+
+    def watches(self, monitor):
+        if monitor.point == "resource":
+            return self.resource(self.instance.resources.number[monitor.subject])
+        if monitor.point == "group":
+            return self.instance.groups.names[self.instance.groups.number[monitor.subject]]
+        first = self.event(self.instance.events.number[monitor.subject])
+        if monitor.point == "events":
+            return first + " and " + self.event(self.instance.events.number[monitor.other])
+        return first + (" (%s)" % escaped(monitor.other) if monitor.other else "")
+
+    def where(self, monitor):
+        """The cells that a monitor is about, where its kind has some."""
+        if monitor.kind not in WITH_CELLS:
+            return ""
+        resource = self.instance.resources.number[monitor.subject]
+        cells, said = self.cells[resource], ", at"
+        clashes = {time for time in cells if len(cells[time]) > 1}
+        at = clashes if monitor.kind == "AvoidClashes" else self.closed(monitor) & cells.keys() | self.idle(monitor)
+        for time in sorted(at):
+            busy = len(cells.get(time, ()))
+            said += " " + self.link("r%dt" % resource, time, self.instance.times.names[time])
+            said += "" if busy < 2 else " (twice)" if busy == 2 else " (%d times)" % busy
+        return said
+
+    def costs(self):
+        text = '<details open><summary>Costs by constraint</summary><div class="wide"><table class="costs"><thead><tr>'
+        heads = ("Kind", "Constraint", "Counts as", "Weight", "Deviate", "Cost")
+        text += "".join('<th scope="col">%s</th>' % head for head in heads) + "</tr></thead><tbody>\n"
+        deviating, fine = "", ""
+        for number, constraint in enumerate(self.instance.constraints):
+            found = [one for one in self.monitors if one.constraint == constraint.id and one.deviation > 0]
+            row = '<tr id="s%dc%d"><td>%s</td>' % (self.number, number, constraint.kind)
+            row += '<th scope="row">%s</th><td>%s</td>' % (constraint.name, constraint.counts)
+            row += '<td class="num">%s</td><td class="num">%d</td>' % (constraint.weight, len(found))
+            row += '<td class="num">%d</td></tr>\n' % sum(one.cost for one in found)
+            deviating += row + self.defects(sorted(found, key=lambda one: -one.cost)) if found else ""
+            fine += "" if found else row
+        return text + deviating + '</tbody><tbody class="fine">\n' + fine + "</tbody></table></div></details>\n"
+
+    def defects(self, found):
+        text = '<tr class="why"><td colspan="6"><details><summary>Monitors that deviate: %d</summary><ul>\n' % len(found)
+        for one in found:
+            text += '<li id="s%dm%d"><b>%d</b> %s ' % (self.number, one.number, one.cost, self.watches(one))
+            text += "%s %d%s</li>\n" % (PHRASES[one.kind], one.deviation, self.where(one))
+        return text + "</ul></details></td></tr>\n"
+
+    def cell(self, resource, time, closed, idle):
+        meets = self.cells[resource].get(time, [])
+        words = ["clash"] * (len(meets) > 1) + ["unavailable"] * (bool(meets) and time in closed)
+        words = words or ["idle"] * (time in idle)
+        text = '<td class="off">off' if time in closed else "<td>"
+        if words:
+            sort, place = "idle" if words == ["idle"] else "bad", "s%dr%d" % (self.number, resource)
+            text = '<td class="%s" id="%st%d"><a class="mark" href="#%s">%s</a>' % (sort, place, time, place, ", ".join(words))
+        for meet in meets:
+            others = [" " + self.resource(other) for other in meet.given if other not in (None, resource)]
+            text += "<div>%s%s</div>" % (self.event(meet.event), "".join(others))
+        return text + "</td>"
+
+    def grid(self, resource):
+        name, watched, columns = self.instance.resources.names[resource], self.watched[resource], self.instance.columns
+        text = '<div class="one" id="s%dr%d"><h4 class="n">%s</h4>\n' % (self.number, resource, name)
+        links = [self.link("m", one.number, self.instance.constraint[one.constraint].name) for one in watched if one.deviation]
+        text += "<p>Defects: %s</p>\n" % ", ".join(links) if links else ""
+        if not self.cells[resource]:
+            return text + '<p class="nothing">has no meets</p></div>\n'
+        closed, idle = (set().union(*map(times, watched)) for times in (self.closed, self.idle))
+        corner = "<td></td>" if self.instance.grouped else ""
+        text += '<table class="grid"><caption>%s</caption><thead><tr>%s' % (name, corner)
+        text += "".join('<th scope="col">%s</th>' % head for head, _ in columns) + "</tr></thead><tbody>\n"
+        for row in range(max(len(times) for _, times in columns)):
+            text += "<tr>" + ('<th scope="row">%d</th>' % (row + 1) if self.instance.grouped else "")
+            for _, times in columns:
+                text += self.cell(resource, times[row], closed, idle) if row < len(times) else '<td class="none"></td>'
+            text += "</tr>\n"
+        return text + "</tbody></table></div>\n"
+
+    def grids(self):
+        text = '<details open><summary>Timetables</summary>\n<p class="legend">Marks: <b>clash</b>, more than one meet at '
+        text += "the time; <b>unavailable</b>, a meet at a time to be kept free; <b>idle</b>, a gap between meets; <b>off</b>, "
+        text += "a time to be kept free.</p>\n"
+        for sort, name in zip(self.instance.types.elements, self.instance.types.names):
+            text += "<h3>%s</h3>\n" % name
+            for resource, of in enumerate(self.instance.type_of):
+                text += self.grid(resource) if of == sort.get("Id") else ""
+        return text + "</details>\n"
+
+    def part(self, meet):
+        none = meet.start is None
+        text = '<div><strong class="bad">no time</strong>' if none else "<div><b>%s</b>" % self.instance.times.names[meet.start]
+        text += " for %d times:" % meet.duration if meet.duration > 1 else ":"
+        for (role, _), resource in zip(self.instance.places[meet.event], meet.given):
+            nobody = ' <strong class="bad">%s</strong>' % ("no " + escaped(role) if role else "nobody")
+            text += nobody if resource is None else " " + self.resource(resource)
+        return text + "</div>"
+
+    def events(self):
+        text = "<details><summary>Events</summary>\n"
+        lack_time = sorted({meet.event for meet in self.meets if meet.start is None})
+        lack_resource = sorted({meet.event for meet in self.meets if None in meet.given})
+        for what, found in (("time", lack_time), ("resource", lack_resource)):
+            links = ", ".join(map(self.event, found))
+            text += '<p class="lack">Without a %s: %s</p>\n' % (what, links) if found else ""
+        text += '<div class="wide"><table class="events"><thead><tr><th scope="col">Event</th>'
+        text += '<th scope="col">When and with whom</th></tr></thead><tbody>\n'
+        for number, name in enumerate(self.instance.events.names):
+            parts = "".join(self.part(meet) for meet in self.meets if meet.event == number)
+            text += '<tr id="s%de%d"><th scope="row" class="n">%s</th><td>%s</td></tr>\n' % (self.number, number, name, parts)
+        return text + "</tbody></table></div></details>\n"
+
+
+def section_of(number, instance, group, solution, verdict):
+    head = '<section class="sol" id="s%d"><h2>Solution %d: %s <small>by %s</small></h2>\n'
+    text = head % (number, number, instance.name, group)
+    for before, what in (("", "Description"), ("Running time: ", "RunningTime")):
+        if solution.find(what) is not None:
+            text += "<p>%s%s</p>\n" % (before, escaped(solution.findtext(what)))
+    if verdict.totals is None:
+        return text + '<p class="bad">%s</p></section>\n' % verdict.said
+    section = Section(number, instance, solution, verdict)
+    text += '<p class="totals">%s</p>\n' % verdict.said
+    return text + section.costs() + section.grids() + section.events() + "</section>\n"
+
+
+def summary_of(archive, solutions):
+    """The table of the instances by the solution groups. A solution is its group's and instance's places and verdict."""
+    head = '<th scope="col"><button type="button">%s</button></th>'
+    groups = archive.findall("SolutionGroups/SolutionGroup")
+    text = '<section id="summary"><h2>Summary</h2>\n<p>Lower costs are better, and hard ones count before soft ones.</p>\n'
+    text += '<div class="wide">\n<table class="sorts"><thead><tr>' + head % "Instance"
+    text += "".join(head % titled(group) for group in groups) + "</tr></thead><tbody>\n"
+    for row, instance in enumerate(archive.findall("Instances/Instance")):
+        text += '<tr><th scope="row">%s</th>' % titled(instance)
+        best = min((verdict.totals for _, of, verdict in solutions if of == row and verdict.totals), default=None)
+        for column in range(len(groups)):
+            here = [(number, one) for number, (group, of, one) in enumerate(solutions) if (group, of) == (column, row)]
+            least = min((verdict.totals for _, verdict in here if verdict.totals), default=None)
+            text += '<td data-v="%d %d">' % least if least else "<td>"
+            for number, verdict in here:
+                star = ' <span class="best">&#9733; best</span>' if best and verdict.totals == best else ""
+                text += '<div><a href="#s%d">%s</a>%s</div>' % (number, verdict.said, star)
+            text += "</td>"
+        text += "</tr>\n"
+    return text + "</tbody></table>\n</div></section>\n"
+
+
+def opening_of(archive, solutions):
+    title = titled(archive, "Timetables")
+    text = '<!DOCTYPE html>\n<html lang="en"><head><meta charset="utf-8"><title>%s</title>\n' % title
+    text += '<meta name="viewport" content="width=device-width,initial-scale=1">\n<style>\n%s</style></head>' % fixed_text("STYLE")
+    instances = len(archive.findall("Instances/Instance"))
+    text += "<body><header><h1>%s</h1>\n<p>Instances: %d, solutions: %d.</p>\n" % (title, instances, solutions)
+    if archive.find("MetaData") is not None:
+        heads = ("Contributor", "Date", "Country", "Description", "Publication", "Remarks")
+        said = [(one, archive.findtext("MetaData/" + one)) for one in heads]
+        lines = ["<dt>%s</dt><dd>%s</dd>\n" % (what, escaped(one)) for what, one in said if one is not None]
+        text += "<dl>\n%s</dl>\n" % "".join(lines)
+    text += '<search><label for="find">Find a resource or an event</label>\n<input id="find" type="search" '
+    text += 'autocomplete="off"><ul id="found" aria-live="polite"></ul></search>\n<noscript><p>Searching and sorting need '
+    return text + "scripts; all else works without.</p></noscript>\n</header><main>\n"
+
+
+def page_of(archive, report, most):
+    elements = archive.findall("Instances/Instance")
+    numbers = {one.get("Id"): number for number, one in enumerate(elements)}
+    verdicts = map(Verdict, re.split(r"^solution .*$", report, flags=re.M)[1:])
+    solutions, sections = [], []
+    for place, group in enumerate(archive.findall("SolutionGroups/SolutionGroup")):
+        for solution in group.findall("Solution"):
+            number, of, verdict = len(solutions), numbers[solution.get("Reference")], next(verdicts)
+            solutions.append((place, of, verdict))
+            if most is None or number < most:
+                sections.append(section_of(number, Instance(elements[of]), titled(group), solution, verdict))
+    text = opening_of(archive, len(solutions)) + summary_of(archive, solutions) + "".join(sections)
+    left = range(len(sections), len(solutions))
+    if left:
+        text += '<section><h2>Not shown</h2><p id="rest">The timetables of solutions from %d on are not shown, so that ' % left[0]
+        text += "the page does not grow too large.</p>\n"
+        text += "".join('<p id="s%d">Solution %d is not shown.</p>\n' % (one, one) for one in left) + "</section>\n"
+    return text + "</main><script>\n%s</script></body></html>\n" % fixed_text("SCRIPT")
+
+
+def main():
+    report = open(sys.argv[2], encoding="utf-8").read()
+    text = '<!DOCTYPE html>\n<html lang="en"><meta charset="utf-8"><title>Refused</title>\n<p>%s</p></html>\n' % report
+    if not report.startswith("khe: archive refused: "):
+        text = page_of(tree.parse(sys.argv[1]).getroot(), report, int(sys.argv[3]) if sys.argv[3:] else None)
+    sys.stdout.buffer.write(text.encode())
+
+
+main()
