@@ -45,6 +45,14 @@ pub(crate) fn compare_pages<R: Files + Print + Alloc>(
         rt,
         alloc,
         tally,
+        "khe-page pages/own_cells.xml",
+        0,
+        "pages/own_cells.html",
+    )?;
+    compare_made(
+        rt,
+        alloc,
+        tally,
         "khe-page examples/faults/02_bad_markup.xml",
         3,
         "pages/refused.html",

@@ -3,12 +3,12 @@
 ghost use Rattle.std.specs.Prelude.{IsTrue};
 ghost use Rattle.khe_base.specs.Text.{is_ascii};
 
-use crate::busy::{cells_of, has_cells, list_at, marks_of};
+use crate::busy::{Marks, cells_of, has_cells, list_at, marks_of};
 use crate::costs::Defect;
 use crate::marking::{push_between, push_counted, push_place};
 use crate::naming::{event_name, group_name, resource_name, time_name};
 use crate::view::View;
-use khe_base::{EventId, MonitorId, NoMemory, Text};
+use khe_base::{EventId, MonitorId, NoMemory, Seq, Text, beside};
 use khe_instance::{EventPair, Kind, Point, Rule};
 use std::alloc::Global;
 
@@ -142,28 +142,38 @@ fn is_cell(kind: Kind, busy: usize, closed: bool, idle: bool) -> bool {
     }
 }
 
-/// Adds links to the cells of a resource that a monitor is about.
+/// Adds links to the cells of a resource that the monitor with a number is about: the times of its own constraint, and
+/// not those of other monitors of the resource.
 fn push_cells(
     alloc: Global,
     page: &mut Text,
     view: &View<'_>,
+    number: u32,
     kind: Kind,
     resource: u32,
 ) -> Result<(), NoMemory> {
-    let cells = cells_of(
-        alloc,
-        view.inst.times(),
-        list_at(&view.table.runs, resource),
-    )?;
-    let marks = marks_of(
-        alloc,
-        view.inst,
-        list_at(&view.table.watched, resource),
-        &cells,
-    )?;
+    let runs = list_at(&view.table.runs, resource);
+    let cells = cells_of(alloc, view.inst.times(), runs)?;
+    let marks = marks_of(alloc, view.inst, &[number], &cells);
+    let (marks, cells) = beside(marks, cells)?;
+    let pushed = push_cell_links(page, view, kind, resource, &cells, &marks);
+    drop(marks);
+    drop(cells);
+    pushed
+}
+
+/// Adds the links by what happens at each time, and by what the monitor says of it.
+fn push_cell_links(
+    page: &mut Text,
+    view: &View<'_>,
+    kind: Kind,
+    resource: u32,
+    cells: &Seq<Seq<u32>>,
+    marks: &Marks,
+) -> Result<(), NoMemory> {
     let mut listed = 0u32;
     for time in 0..view.inst.times() {
-        let busy = list_at(&cells, time).len();
+        let busy = list_at(cells, time).len();
         let closed = marks.closed.get(time as usize).copied().unwrap_or(false);
         let idle = marks.idle.get(time as usize).copied().unwrap_or(false);
         if is_cell(kind, busy, closed, idle) {
@@ -196,7 +206,7 @@ fn push_defect(
     if has_cells(monitor.kind) {
         if let Point::Resource(resource) = monitor.point {
             page.push_literal(", at")?;
-            push_cells(alloc, page, view, monitor.kind, resource.0)?;
+            push_cells(alloc, page, view, defect.number, monitor.kind, resource.0)?;
         }
     }
     page.push_literal("</li>\n")
