@@ -76,7 +76,11 @@ fn write_construct<K: Sink>(
     ensures sink_faults { K.faults out.old ≤ K.faults out.new }
 {
     match answer {
-        Answer::Read(mut read) => construct_in(alloc, out, &mut read, number, chains),
+        Answer::Read(mut read) => {
+            let status = construct_in(alloc, out, &mut read, number, chains);
+            drop(read);
+            status
+        }
         Answer::Refused(refusal) => put_refusal(alloc, out, refusal),
     }
 }
@@ -121,7 +125,11 @@ fn put_construct<K: Sink>(
     ensures sink_faults { K.faults out.old ≤ K.faults out.new }
 {
     match build::<Families>(alloc, inst) {
-        Ok(built) => put_with(alloc, out, archive, inst, &built, chains),
+        Ok(built) => {
+            let status = put_with(alloc, out, archive, inst, &built, chains);
+            drop(built);
+            status
+        }
         Err(NoMemory) => Status(6),
     }
 }
@@ -198,7 +206,11 @@ fn put_repaired<K: Sink>(
 {
     inst.facts();
     match mend::<Families>(alloc, inst, &built.plain, depth, u64::from(budget)) {
-        Ok(mended) => put_both(alloc, out, archive, inst, built, &mended),
+        Ok(mended) => {
+            let status = put_both(alloc, out, archive, inst, built, &mended);
+            drop(mended);
+            status
+        }
         Err(NoMemory) => Status(6),
     }
 }

@@ -88,7 +88,11 @@ fn run_made<K: Sink>(
         slots: slot_count(archive, seed, size),
     };
     match resolve(alloc, archive) {
-        Ok(resolved) => run_resolved(alloc, out, archive, &resolved, draws, job),
+        Ok(resolved) => {
+            let status = run_resolved(alloc, out, archive, &resolved, draws, job);
+            drop(resolved);
+            status
+        }
         Err(fault) => not_resolved(fault),
     }
 }
@@ -126,7 +130,9 @@ fn run_resolved<K: Sink>(
     match begin(alloc, archive, resolved, 0) {
         Ok((instance, plain)) => {
             let inst = instance_numbered(resolved, instance);
-            put_run(alloc, out, inst, &plain, draws, job)
+            let status = put_run(alloc, out, inst, &plain, draws, job);
+            drop(plain);
+            status
         }
         Err(unread) => not_begun(unread),
     }

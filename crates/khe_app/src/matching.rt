@@ -76,7 +76,11 @@ fn write_match<K: Sink>(alloc: Global, out: &mut K, answer: Answer, wanted: Want
     ensures sink_faults { K.faults out.old ≤ K.faults out.new }
 {
     match answer {
-        Answer::Read(mut read) => match_in(alloc, out, &mut read, wanted),
+        Answer::Read(mut read) => {
+            let status = match_in(alloc, out, &mut read, wanted);
+            drop(read);
+            status
+        }
         Answer::Refused(refusal) => put_refusal(alloc, out, refusal),
     }
 }
@@ -92,7 +96,9 @@ fn match_in<K: Sink>(alloc: Global, out: &mut K, read: &mut ReadArchive, wanted:
     match begin(alloc, &read.archive, &read.resolved, wanted.solution) {
         Ok((instance, plain)) => {
             let inst = instance_numbered(&read.resolved, instance);
-            put_match(alloc, out, &mut read.archive, inst, &plain, wanted)
+            let status = put_match(alloc, out, &mut read.archive, inst, &plain, wanted);
+            drop(plain);
+            status
         }
         Err(Unread::Refused(refusal)) => put_refusal(alloc, out, refusal),
         Err(Unread::NoMemory) => Status(6),
@@ -144,7 +150,11 @@ fn put_choice<K: Sink>(
 {
     inst.facts();
     match find::<Families>(alloc, inst, plain, TimeId(wanted.time), wanted.rtype) {
-        Ok(found) => put_found(alloc, out, archive, inst, &found, wanted.solution),
+        Ok(found) => {
+            let status = put_found(alloc, out, archive, inst, &found, wanted.solution);
+            drop(found);
+            status
+        }
         Err(MatchFault::TooManyTasks(tasks)) => {
             put_refusal(alloc, out, Refusal::TooManyTasks { tasks })
         }

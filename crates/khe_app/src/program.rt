@@ -348,7 +348,11 @@ fn run_script<S: Shelf, K: Sink>(
     ensures sink_faults { K.faults out.old ≤ K.faults out.new }
 {
     match play_of(alloc, shelf, name, number, script, tied) {
-        Ok(play) => write_play(alloc, out, &play, tied),
+        Ok(play) => {
+            let status = write_play(alloc, out, &play, tied);
+            drop(play);
+            status
+        }
         Err(Stop::ReadFault) => Status(4),
         Err(Stop::NoMemory) => Status(6),
     }
@@ -432,8 +436,17 @@ fn script_under<S: Shelf>(
 {
     match take_all(alloc, shelf, script, limits::SCRIPT_BYTES) {
         Ok(bytes) => Ok(Play::Run(begun, bytes)),
-        Err(TakeFault::TooLarge) => Ok(Play::TooLarge),
-        Err(TakeFault::ReadFault) => Err(Stop::ReadFault),
-        Err(TakeFault::NoMemory) => Err(Stop::NoMemory),
+        Err(TakeFault::TooLarge) => {
+            drop(begun);
+            Ok(Play::TooLarge)
+        }
+        Err(TakeFault::ReadFault) => {
+            drop(begun);
+            Err(Stop::ReadFault)
+        }
+        Err(TakeFault::NoMemory) => {
+            drop(begun);
+            Err(Stop::NoMemory)
+        }
     }
 }

@@ -78,7 +78,11 @@ fn write_repair<K: Sink>(alloc: Global, out: &mut K, answer: Answer, asked: Repa
     ensures sink_faults { K.faults out.old ≤ K.faults out.new }
 {
     match answer {
-        Answer::Read(mut read) => repair_in(alloc, out, &mut read, asked),
+        Answer::Read(mut read) => {
+            let status = repair_in(alloc, out, &mut read, asked);
+            drop(read);
+            status
+        }
         Answer::Refused(refusal) => put_refusal(alloc, out, refusal),
     }
 }
@@ -101,7 +105,9 @@ fn repair_in<K: Sink>(
     match begin(alloc, &read.archive, &read.resolved, asked.solution) {
         Ok((instance, plain)) => {
             let inst = instance_numbered(&read.resolved, instance);
-            put_repair(alloc, out, &mut read.archive, inst, &plain, asked)
+            let status = put_repair(alloc, out, &mut read.archive, inst, &plain, asked);
+            drop(plain);
+            status
         }
         Err(unread) => put_unread(alloc, out, unread),
     }

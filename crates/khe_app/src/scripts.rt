@@ -88,7 +88,11 @@ fn play_on<K: Sink, F: Shortages + Drop>(
     ensures sink_faults { K.faults out.old ≤ K.faults out.new }
 {
     match Engine::<F>::open(alloc, inst, plain) {
-        Ok(mut engine) => status_after(run(alloc, &mut engine, script, out)),
+        Ok(mut engine) => {
+            let ended = run(alloc, &mut engine, script, out);
+            drop(engine);
+            status_after(ended)
+        }
         Err(NoMemory) => Status(6),
     }
 }
@@ -113,7 +117,9 @@ fn play_tied<K: Sink, F: Shortages + Drop>(
     match Tied::<F>::open(alloc, inst, plain) {
         Ok(tied) => {
             let mut player = TiedPlayer { tied };
-            status_after(run(alloc, &mut player, script, out))
+            let ended = run(alloc, &mut player, script, out);
+            drop(player);
+            status_after(ended)
         }
         Err(NoMemory) => Status(6),
     }

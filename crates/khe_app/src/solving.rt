@@ -100,7 +100,11 @@ fn write_solve<R: Threads + Sync, K: Sink, G: Gate>(
     ensures sink_faults { K.faults out.old ≤ K.faults out.new }
 {
     match answer {
-        Answer::Read(mut read) => solve_in(alloc, out, crew, &mut read, asked),
+        Answer::Read(mut read) => {
+            let status = solve_in(alloc, out, crew, &mut read, asked);
+            drop(read);
+            status
+        }
         Answer::Refused(refusal) => put_refusal(alloc, out, refusal),
     }
 }
@@ -129,7 +133,9 @@ fn solve_in<R: Threads + Sync, K: Sink, G: Gate>(
     match begin(alloc, &read.archive, &read.resolved, asked.solution) {
         Ok((instance, plain)) => {
             let inst = instance_numbered(&read.resolved, instance);
-            put_solve(alloc, out, crew, &mut read.archive, inst, &plain, asked)
+            let status = put_solve(alloc, out, crew, &mut read.archive, inst, &plain, asked);
+            drop(plain);
+            status
         }
         Err(unread) => put_unread(alloc, out, unread),
     }
@@ -163,7 +169,11 @@ fn put_solve<R: Threads + Sync, K: Sink, G: Gate>(
 {
     inst.facts();
     match solve_jobs(alloc, crew, inst, plain, asked) {
-        Ok(solved) => put_solved(alloc, out, archive, inst, &solved, asked.solution),
+        Ok(solved) => {
+            let status = put_solved(alloc, out, archive, inst, &solved, asked.solution);
+            drop(solved);
+            status
+        }
         Err(NoMemory) => Status(6),
     }
 }

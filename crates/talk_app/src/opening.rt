@@ -64,10 +64,20 @@ fn talk_with<R: BufRead, K: Sink, F: Shortages + Drop>(
         Ok((instance, plain)) => {
             let ReadArchive { archive, resolved } = read;
             let inst = instance_numbered(&resolved, instance);
-            talk_by::<R, K, F>(alloc, reader, out, inst, &plain, archive, solution)
+            let status = talk_by::<R, K, F>(alloc, reader, out, inst, &plain, archive, solution);
+            drop(resolved);
+            drop(plain);
+            status
         }
-        Err(Unread::Refused(refusal)) => put_refusal(alloc, out, refusal),
-        Err(Unread::NoMemory) => Status(6),
+        Err(Unread::Refused(refusal)) => {
+            let status = put_refusal(alloc, out, refusal);
+            drop(read);
+            status
+        }
+        Err(Unread::NoMemory) => {
+            drop(read);
+            Status(6)
+        }
     }
 }
 
@@ -96,9 +106,14 @@ fn talk_by<R: BufRead, K: Sink, F: Shortages + Drop>(
                 archive,
                 solution,
             };
-            status_after(talk(alloc, &mut speaker, reader, out))
+            let ended = talk(alloc, &mut speaker, reader, out);
+            drop(speaker);
+            status_after(ended)
         }
-        Err(NoMemory) => Status(6),
+        Err(NoMemory) => {
+            drop(archive);
+            Status(6)
+        }
     }
 }
 

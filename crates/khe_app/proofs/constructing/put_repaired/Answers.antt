@@ -22,7 +22,7 @@ returns-in-Ok-clause-written g c =
         repair = subst (λ x. IsMended p b.plain c.args.depth x m) c.from.ensures c.in-Ok.ensures.mended;
         bytes_are = t.1;
       },
-      subst (λ bytes. Written (g.K.Sink.taken c.args.out.now) (g.K.Sink.taken c.put_both.new.out)
-          (g.K.Sink.faults c.args.out.now) (g.K.Sink.faults c.put_both.new.out) bytes 0 c.put_both.result.0)
-          (sym t.1) c.put_both.ensures.written,
+      subst (λ bytes. Written (g.K.Sink.taken c.args.out.now) (g.K.Sink.taken c.put_both-status.new.out)
+          (g.K.Sink.faults c.args.out.now) (g.K.Sink.faults c.put_both-status.new.out) bytes 0 c.put_both-status.result.0)
+          (sym t.1) c.put_both-status.ensures.written,
     )

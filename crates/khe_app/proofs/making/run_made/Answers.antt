@@ -6,8 +6,8 @@ use Rattle.khe_app.proofs.making.run_made.Goals as goal
 pub resolve-requires-clause-few : goal.resolve-requires-clause-few
 resolve-requires-clause-few g c = made_few c.args.seed c.args.size c.args.archive.now c.requires.made
 
-pub run_resolved-requires-clause-ready : goal.run_resolved-requires-clause-ready
-run_resolved-requires-clause-ready g c =
+pub run_resolved-status-requires-clause-ready : goal.run_resolved-status-requires-clause-ready
+run_resolved-status-requires-clause-ready g c =
     ready c.args.archive.now c.in-Ok.resolved c.in-Ok.ensures.exact c.requires.formed
     (made_few c.args.seed c.args.size c.args.archive.now c.requires.made)
 

@@ -7,8 +7,8 @@ pub returns-in-Ok-clause-written : goal.returns-in-Ok-clause-written
 returns-in-Ok-clause-written g c =
     let b = c.in-Ok.ensures.begun in
     run_of_start c.args.job.seed c.args.job.size c.args.archive.now c.args.resolved.now c.in-Ok.instance b.0
-    c.instance_numbered-inst.result.now c.in-Ok.plain _ _ _ _ c.put_run.result.0 c.requires.made
-    c.requires.ready.resolved_is b.1 c.instance_numbered-inst.ensures b.3 c.put_run.ensures.written
+    c.instance_numbered-inst.result.now c.in-Ok.plain _ _ _ _ c.put_run-status.result.0 c.requires.made
+    c.requires.ready.resolved_is b.1 c.instance_numbered-inst.ensures b.3 c.put_run-status.ensures.written
 
 pub not_begun-requires : goal.not_begun-requires
 not_begun-requires g c =

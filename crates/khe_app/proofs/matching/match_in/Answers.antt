@@ -10,8 +10,8 @@ use Rattle.archive_reading.specs.Refusals.{refusal_line}
 use Rattle.khe_app.proofs.MatchEnds.{begun_text}
 use Rattle.khe_app.proofs.matching.match_in.Goals as goal
 
-pub put_match-requires-clause-texts : goal.put_match-requires-clause-texts
-put_match-requires-clause-texts g c =
+pub put_match-status-requires-clause-texts : goal.put_match-status-requires-clause-texts
+put_match-status-requires-clause-texts g c =
     all-there HasSpellable c.args.read.now.resolved.instances c.in-Ok.instance c.instance_numbered-inst.result.now
     c.requires.ready.texts c.instance_numbered-inst.ensures
 
@@ -20,8 +20,8 @@ returns-in-Ok-clause-written g c =
     let b = c.in-Ok.ensures.begun in
     let w = c.args.wanted in
     begun_text c.args.read.now.archive c.args.read.now.resolved w.solution w.time w.rtype c.in-Ok.instance b.0
-    c.instance_numbered-inst.result.now c.in-Ok.plain _ _ _ _ c.put_match.result.0 b.1 c.instance_numbered-inst.ensures
-    b.3 c.put_match.ensures.written
+    c.instance_numbered-inst.result.now c.in-Ok.plain _ _ _ _ c.put_match-status.result.0 b.1 c.instance_numbered-inst.ensures
+    b.3 c.put_match-status.ensures.written
 
 pub returns-in-Err-Refused-clause-written : goal.returns-in-Err-Refused-clause-written
 returns-in-Err-Refused-clause-written g c =

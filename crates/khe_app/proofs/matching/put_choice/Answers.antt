@@ -9,8 +9,8 @@ use Rattle.xhstt_entries.proofs.EntryLaws.{each_entry}
 use Rattle.time_match.specs.declared.outcomes.MatchFault.{MatchFault}
 use Rattle.khe_app.proofs.matching.put_choice.Goals as goal
 
-pub put_found-requires-clause-certified : goal.put_found-requires-clause-certified
-put_found-requires-clause-certified g c =
+pub put_found-status-requires-clause-certified : goal.put_found-status-requires-clause-certified
+put_found-status-requires-clause-certified g c =
     certified_for c.args.inst.now c.args.plain.now c.args.wanted.time c.args.wanted.rtype c.in-Ok.found
     c.in-Ok.ensures.found
 
@@ -24,9 +24,9 @@ returns-in-Ok-clause-written g c =
       0,
       t.0,
       inr (refl, record { found = f; is = c.in-Ok.ensures.found; bytes_are = t.1 }),
-      subst (λ bytes. Written (g.K.Sink.taken c.args.out.now) (g.K.Sink.taken c.put_found.new.out)
-          (g.K.Sink.faults c.args.out.now) (g.K.Sink.faults c.put_found.new.out) bytes 0 c.put_found.result.0)
-          (sym t.1) c.put_found.ensures.written,
+      subst (λ bytes. Written (g.K.Sink.taken c.args.out.now) (g.K.Sink.taken c.put_found-status.new.out)
+          (g.K.Sink.faults c.args.out.now) (g.K.Sink.faults c.put_found-status.new.out) bytes 0 c.put_found-status.result.0)
+          (sym t.1) c.put_found-status.ensures.written,
     )
 
 pub returns-in-Err-TooManyTasks-clause-written : goal.returns-in-Err-TooManyTasks-clause-written

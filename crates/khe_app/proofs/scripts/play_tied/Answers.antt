@@ -5,13 +5,13 @@ use Rattle.khe_app.proofs.scripts.play_tied.Goals as goal
 
 pub returns-in-Ok-clause-written : goal.returns-in-Ok-clause-written
 returns-in-Ok-clause-written g c =
-    inr (tied_written c.args.inst.now c.args.plain.now c.in-Ok.tied c.args.script.now c.run.result
-    (g.K.Sink.taken c.args.out.now) (g.K.Sink.taken c.run.new.out) (g.K.Sink.faults c.args.out.now)
-    (g.K.Sink.faults c.run.new.out) c.status_after.result.0 c.in-Ok.ensures.parts c.in-Ok.ensures.state
-    c.in-Ok.ensures.saved c.in-Ok.ensures.ties c.run.ensures.read c.run.ensures.whole c.run.ensures.front c.run.ensures.fault
+    inr (tied_written c.args.inst.now c.args.plain.now c.in-Ok.tied c.args.script.now c.run-ended.result
+    (g.K.Sink.taken c.args.out.now) (g.K.Sink.taken c.run-ended.new.out) (g.K.Sink.faults c.args.out.now)
+    (g.K.Sink.faults c.run-ended.new.out) c.status_after.result.0 c.in-Ok.ensures.parts c.in-Ok.ensures.state
+    c.in-Ok.ensures.saved c.in-Ok.ensures.ties c.run-ended.ensures.read c.run-ended.ensures.whole c.run-ended.ensures.front c.run-ended.ensures.fault
     c.status_after.ensures)
 
 pub returns-in-Ok-clause-write_fault_ends : goal.returns-in-Ok-clause-write_fault_ends
 returns-in-Ok-clause-write_fault_ends g c =
-    run_faultless c.run.result (g.K.Sink.faults c.args.out.now) (g.K.Sink.faults c.run.new.out)
-    c.status_after.result.0 c.run.ensures.faultless c.run.ensures.faultless_starved c.status_after.ensures
+    run_faultless c.run-ended.result (g.K.Sink.faults c.args.out.now) (g.K.Sink.faults c.run-ended.new.out)
+    c.status_after.result.0 c.run-ended.ensures.faultless c.run-ended.ensures.faultless_starved c.status_after.ensures

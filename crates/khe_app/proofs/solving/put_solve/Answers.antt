@@ -14,7 +14,7 @@ returns-in-Ok-clause-written g c =
     inr (
       t.0,
       record { solved = s; is = c.in-Ok.ensures.solved; bytes_are = t.1 },
-      subst (λ bytes. Written (g.K.Sink.taken c.args.out.now) (g.K.Sink.taken c.put_solved.new.out)
-          (g.K.Sink.faults c.args.out.now) (g.K.Sink.faults c.put_solved.new.out) bytes 0 c.put_solved.result.0)
-          (sym t.1) c.put_solved.ensures.written,
+      subst (λ bytes. Written (g.K.Sink.taken c.args.out.now) (g.K.Sink.taken c.put_solved-status.new.out)
+          (g.K.Sink.faults c.args.out.now) (g.K.Sink.faults c.put_solved-status.new.out) bytes 0 c.put_solved-status.result.0)
+          (sym t.1) c.put_solved-status.ensures.written,
     )

@@ -5,8 +5,8 @@ use Rattle.archive_reading.specs.Starting.{start_of}
 use Rattle.khe_app.proofs.SolveEnds.{barred_solve, begun_solve}
 use Rattle.khe_app.proofs.solving.solve_in.Goals as goal
 
-pub put_solve-requires-clause-texts : goal.put_solve-requires-clause-texts
-put_solve-requires-clause-texts g c = λ _ _.
+pub put_solve-status-requires-clause-texts : goal.put_solve-status-requires-clause-texts
+put_solve-status-requires-clause-texts g c = λ _ _.
     all-there HasSpellable c.args.read.now.resolved.instances c.in-Ok.instance c.instance_numbered-inst.result.now
     c.requires.ready.texts c.instance_numbered-inst.ensures
 
@@ -19,7 +19,7 @@ returns-in-Ok-clause-written g c =
     let b = c.in-Ok.ensures.begun in
     begun_solve c.args.read.now.archive c.args.read.now.resolved c.args.asked.solution c.args.asked.depth c.args.asked.budget
     c.args.asked.jobs c.in-Ok.instance b.0 c.instance_numbered-inst.result.now c.in-Ok.plain _ _ _ _
-    c.put_solve.result.0 b.1 c.instance_numbered-inst.ensures b.3 c.put_solve.ensures.written
+    c.put_solve-status.result.0 b.1 c.instance_numbered-inst.ensures b.3 c.put_solve-status.ensures.written
 
 pub returns-in-Err-clause-written : goal.returns-in-Err-clause-written
 returns-in-Err-clause-written g c =

@@ -12,9 +12,9 @@ returns-in-Ok-clause-end g c =
     let b = c.in-Ok.ensures.begun in
     begun_end read.archive c.args.solution (start_of read.archive read.resolved c.args.solution)
     (slice_get read.resolved.instances c.in-Ok.instance) b.0 c.instance_numbered-inst.result.now c.in-Ok.plain
-    (g.R.Read.remaining c.args.reader.now) (g.K.Sink.taken c.args.out.now) (g.K.Sink.taken c.talk_by.new.out)
-    (g.K.Sink.faults c.args.out.now) (g.K.Sink.faults c.talk_by.new.out) c.talk_by.result.0 b.1
-    c.instance_numbered-inst.ensures b.3 c.talk_by.ensures.end
+    (g.R.Read.remaining c.args.reader.now) (g.K.Sink.taken c.args.out.now) (g.K.Sink.taken c.talk_by-status.new.out)
+    (g.K.Sink.faults c.args.out.now) (g.K.Sink.faults c.talk_by-status.new.out) c.talk_by-status.result.0 b.1
+    c.instance_numbered-inst.ensures b.3 c.talk_by-status.ensures.end
 
 pub returns-in-Err-Refused-clause-end : goal.returns-in-Err-Refused-clause-end
 returns-in-Err-Refused-clause-end g c =
@@ -23,7 +23,7 @@ returns-in-Err-Refused-clause-end g c =
     let line = encode_utf8_all (refusal_line c.in-Err-Refused.refusal) in
     let bar = subst (IsBarredBy s) c.in-Err-Refused.field-0-is c.in-Err-Refused.ensures.barred in
     line_end (IsTalkOf read.archive c.args.solution s) (g.R.Read.remaining c.args.reader.now)
-    (g.K.Sink.taken c.args.out.now) (g.K.Sink.taken c.put_refusal.new.out) (g.K.Sink.faults c.args.out.now)
-    (g.K.Sink.faults c.put_refusal.new.out) line 3 c.put_refusal.result.0
+    (g.K.Sink.taken c.args.out.now) (g.K.Sink.taken c.put_refusal-status.new.out) (g.K.Sink.faults c.args.out.now)
+    (g.K.Sink.faults c.put_refusal-status.new.out) line 3 c.put_refusal-status.result.0
     (λ input. subst (λ (x : Start). IsTalkOf read.archive c.args.solution x input 3 line) (sym bar) (refl, refl))
-    c.put_refusal.ensures.written
+    c.put_refusal-status.ensures.written
