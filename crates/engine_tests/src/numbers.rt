@@ -7,7 +7,7 @@ ghost use Rattle.xhstt_shape.specs.WellFormed.{IsInForm};
 
 use crate::worked::{Worked, read};
 use khe_base::TimeId;
-use khe_instance::Instance;
+use khe_instance::{Instance, Plain};
 use std::alloc::Global;
 use std::test::Fail;
 use xhstt_completion::solution;
@@ -51,17 +51,32 @@ fn starts_at(alloc: Global, worked: &Worked, number: u32, start: Option<TimeId>)
     let Ok(plain) = solution(alloc, inst, &worked.archive, &worked.resolved, number) else {
         return false;
     };
+    let is_so = has_one_meet_at(&plain, start);
+    drop(plain);
+    is_so
+}
+
+/// Whether a state has one meet, which starts so.
+fn has_one_meet_at(plain: &Plain, start: Option<TimeId>) -> bool {
     match plain.meets.as_slice() {
         [meet] => meet.start == start,
         _ => false,
     }
 }
 
+/// Whether the solution of the archive of two groups with this number starts so, or nothing where the
+/// archive has a fault.
+fn starts_in_groups_at(alloc: Global, number: u32, start: Option<TimeId>) -> Option<bool> {
+    let worked = read(alloc, GROUPS)?;
+    let is_so = starts_at(alloc, &worked, number, start);
+    drop(worked);
+    Some(is_so)
+}
+
 #[test]
 fn solutions_are_counted_over_groups(rt: HostRuntime) -> Result<(), Fail> {
-    let worked = read(rt.alloc(), GROUPS).ok_or("a fault")?;
-    assert!(rt; starts_at(rt.alloc(), &worked, 0, Some(TimeId(2))));
-    assert!(rt; starts_at(rt.alloc(), &worked, 1, Some(TimeId(1))));
-    assert!(rt; starts_at(rt.alloc(), &worked, 2, None));
+    assert!(rt; starts_in_groups_at(rt.alloc(), 0, Some(TimeId(2))).ok_or("a fault")?);
+    assert!(rt; starts_in_groups_at(rt.alloc(), 1, Some(TimeId(1))).ok_or("a fault")?);
+    assert!(rt; starts_in_groups_at(rt.alloc(), 2, None).ok_or("a fault")?);
     Ok(())
 }

@@ -44,7 +44,9 @@ pub(crate) fn first_wrong(alloc: Global, play: &Play) -> Result<Option<usize>, N
     let Some(worked) = read(alloc, play.archive) else {
         return Ok(Some(play.steps.len()));
     };
-    wrong_in(alloc, &worked, play)
+    let wrong = wrong_in(alloc, &worked, play);
+    drop(worked);
+    wrong
 }
 
 fn wrong_in(alloc: Global, worked: &Worked, play: &Play) -> Result<Option<usize>, NoMemory> {
@@ -63,7 +65,9 @@ fn wrong_on(
     let Some(plain) = state_of(alloc, inst, raw) else {
         return Ok(Some(play.steps.len()));
     };
-    let mut hand = Hand::open(alloc, inst, &plain)?;
+    let hand = Hand::open(alloc, inst, &plain);
+    drop(plain);
+    let mut hand = hand?;
     Ok(wrong_of::<Brand>(&mut hand, play, Blank::new(1)))
 }
 

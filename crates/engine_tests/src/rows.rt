@@ -15,7 +15,7 @@ const SHORT: Sight = (3, 1, 1, None, &[None]);
 const EMPTY: &[Sight] = &[(0, 0, 3, None, &[None]), SHORT];
 
 /// A meet with a start is cut, and its parts are joined once they have the same resources.
-const CUT_AND_JOINED: Play = Play {
+const CUT_AND_JOINED: &Play = &Play {
     archive: SMALL,
     solution: 0,
     start: EMPTY,
@@ -96,7 +96,7 @@ const CUT_AND_JOINED: Play = Play {
 };
 
 /// Refusals of many causes, and parts of which one alone has a start.
-const REFUSED: Play = Play {
+const REFUSED: &Play = &Play {
     archive: SMALL,
     solution: 0,
     start: EMPTY,
@@ -130,7 +130,7 @@ const REFUSED: Play = Play {
 };
 
 /// A state with starts and resources from the first on, of which meets of two events are not joined.
-const FULL: Play = Play {
+const FULL: &Play = &Play {
     archive: SMALL,
     solution: 1,
     start: &[
@@ -141,7 +141,7 @@ const FULL: Play = Play {
 };
 
 /// A meet without a start and without resources is cut.
-const CUT: Play = Play {
+const CUT: &Play = &Play {
     archive: SMALL,
     solution: 0,
     start: EMPTY,
@@ -170,7 +170,7 @@ const H_PLACED: Sight = (8, 3, 1, Some(4), &[Some(2)]);
 const MIXED_EMPTY: &[Sight] = &[(0, 0, 4, None, &[None, None]), F, G, H];
 
 /// Resources of one meet and of two: given, exchanged and taken.
-const RESOURCES: Play = Play {
+const RESOURCES: &Play = &Play {
     archive: MIXED,
     solution: 0,
     start: MIXED_EMPTY,
@@ -263,7 +263,7 @@ const RESOURCES: Play = Play {
 };
 
 /// Starts of meets, of which one is cut and joined again while the order of its parts changes.
-const STARTS: Play = Play {
+const STARTS: &Play = &Play {
     archive: MIXED,
     solution: 0,
     start: MIXED_EMPTY,
@@ -585,26 +585,26 @@ const STARTS: Play = Play {
 
 #[test]
 fn meets_are_cut_and_joined(rt: HostRuntime) -> Result<(), Fail> {
-    assert_eq!(rt; first_wrong(rt.alloc(), &CUT_AND_JOINED)?, None);
-    assert_eq!(rt; first_wrong(rt.alloc(), &CUT)?, None);
+    assert_eq!(rt; first_wrong(rt.alloc(), CUT_AND_JOINED)?, None);
+    assert_eq!(rt; first_wrong(rt.alloc(), CUT)?, None);
     Ok(())
 }
 
 #[test]
 fn edits_are_refused(rt: HostRuntime) -> Result<(), Fail> {
-    assert_eq!(rt; first_wrong(rt.alloc(), &REFUSED)?, None);
-    assert_eq!(rt; first_wrong(rt.alloc(), &FULL)?, None);
+    assert_eq!(rt; first_wrong(rt.alloc(), REFUSED)?, None);
+    assert_eq!(rt; first_wrong(rt.alloc(), FULL)?, None);
     Ok(())
 }
 
 #[test]
 fn resources_are_given_and_taken(rt: HostRuntime) -> Result<(), Fail> {
-    assert_eq!(rt; first_wrong(rt.alloc(), &RESOURCES)?, None);
+    assert_eq!(rt; first_wrong(rt.alloc(), RESOURCES)?, None);
     Ok(())
 }
 
 #[test]
 fn starts_are_given_and_taken(rt: HostRuntime) -> Result<(), Fail> {
-    assert_eq!(rt; first_wrong(rt.alloc(), &STARTS)?, None);
+    assert_eq!(rt; first_wrong(rt.alloc(), STARTS)?, None);
     Ok(())
 }

@@ -36,10 +36,13 @@ fn archive_of(alloc: Global, text: &str) -> Option<Archive>
     let Ok(tree) = elements(alloc, bytes) else {
         return None;
     };
-    let Ok(found) = archive(alloc, &tree) else {
+    let found = archive(alloc, &tree);
+    drop(tree);
+    let Ok(found) = found else {
         return None;
     };
     if found.instances.len() > 1 {
+        drop(found);
         return None;
     }
     Some(found)
@@ -52,6 +55,7 @@ pub(crate) fn read(alloc: Global, text: &str) -> Option<Worked>
 {
     let archive = archive_of(alloc, text)?;
     let Ok(resolved) = resolve(alloc, &archive) else {
+        drop(archive);
         return None;
     };
     Some(Worked { archive, resolved })

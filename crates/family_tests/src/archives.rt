@@ -34,14 +34,26 @@ const TAIL: &str = "</Constraints>\n</Instance></Instances>\n</HighSchoolTimetab
 pub(crate) type Texts = (&'static str, &'static str);
 
 /// The text of an archive of an instance with these events and constraints.
-fn text_of(alloc: Global, (events, rules): Texts) -> Result<String, NoMemory> {
+fn text_of(alloc: Global, texts: Texts) -> Result<String, NoMemory> {
     let mut text = String::new(alloc);
+    let pushed = push_all(&mut text, texts);
+    handed(pushed, text)
+}
+
+/// Pushes the text of an archive of an instance with these events and constraints.
+fn push_all(text: &mut String, (events, rules): Texts) -> Result<(), NoMemory> {
     text.push_str(HEAD)?;
     text.push_str(events)?;
     text.push_str(MIDDLE)?;
     text.push_str(rules)?;
     text.push_str(TAIL)?;
-    Ok(text)
+    Ok(())
+}
+
+/// What was made, where nothing was refused.
+fn handed<T: Drop>(done: Result<(), NoMemory>, made: T) -> Result<T, NoMemory> {
+    done?;
+    Ok(made)
 }
 
 /// The archive that a text spells, if it has no fault.
@@ -56,10 +68,13 @@ fn archive_of(alloc: Global, text: &str) -> Option<Archive>
     let Ok(tree) = elements(alloc, bytes) else {
         return None;
     };
-    let Ok(found) = archive(alloc, &tree) else {
+    let found = archive(alloc, &tree);
+    drop(tree);
+    let Ok(found) = found else {
         return None;
     };
     if found.instances.len() > 1 {
+        drop(found);
         return None;
     }
     Some(found)
@@ -67,12 +82,11 @@ fn archive_of(alloc: Global, text: &str) -> Option<Archive>
 
 /// The instances of the archive with these events and constraints, if it has no fault.
 pub(crate) fn resolved_of(alloc: Global, texts: Texts) -> Option<Resolved> {
-    let Ok(text) = text_of(alloc, texts) else {
-        return None;
-    };
-    let archive = archive_of(alloc, text.as_str())?;
-    let Ok(resolved) = resolve(alloc, &archive) else {
-        return None;
-    };
-    Some(resolved)
+    let text = text_of(alloc, texts).ok()?;
+    let archive = archive_of(alloc, text.as_str());
+    drop(text);
+    let archive = archive?;
+    let resolved = resolve(alloc, &archive).ok();
+    drop(archive);
+    resolved
 }

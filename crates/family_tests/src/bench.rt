@@ -10,7 +10,7 @@ ghost use Rattle.family_tests.specs.Benches.{AreHeld, IsAwaited, IsBench, IsSetF
 
 use crate::fitting::fits;
 use crate::marks::{Marks, no_marks};
-use khe_base::{EventId, MeetId, MonitorId, NoMemory, ResourceId};
+use khe_base::{EventId, MeetId, MonitorId, NoMemory, ResourceId, both};
 use khe_instance::Instance;
 use khe_told::{Change, Family, Span, Told, Waiting};
 use std::alloc::Global;
@@ -153,11 +153,13 @@ impl<'i, F: Family + Drop> Bench<'i, F> {
     pub fn open(alloc: Global, inst: &'i Instance) -> Result<Bench<'i, F>, NoMemory>
         requires { F.IsWellJoined }
     {
-        let family = F::open(alloc, inst)?;
-        let told = Told::open(alloc, inst)?;
-        let held = zeros(alloc, inst.events())?;
-        let waits = Waiting::open(alloc, inst.monitors())?;
-        let mut marks = no_marks(alloc, inst.monitors())?;
+        let family = both(F::open(alloc, inst), Told::open(alloc, inst));
+        let slots = both(
+            zeros(alloc, inst.events()),
+            Waiting::open(alloc, inst.monitors()),
+        );
+        let marks = no_marks(alloc, inst.monitors());
+        let ((family, told), ((held, waits), mut marks)) = both(family, both(slots, marks))?;
         set_all(inst, &family, &mut marks);
         Ok(Bench {
             inst,
