@@ -124,8 +124,8 @@ impl Text {
     }
 
     /// Adds a number in decimal digits at the end, with no leading zero. Where memory is refused,
-    /// the text stays as it was. A number that fits 64 bits is written as one, since a division of
-    /// 64 bits takes a fraction of what one of 128 bits takes.
+    /// the text stays as it was. Few numbers are beyond 64 bits, and those that are not are written by
+    /// the shorter way.
     pub fn push_number(&mut self, number: u128) -> Result<(), NoMemory>
         ensures ok { OnOk result (self.new ≡ self.old ++ decimal number) }
         ensures err { OnErr result (self.new ≡ self.old) }
