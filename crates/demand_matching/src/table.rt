@@ -18,7 +18,6 @@ use crate::windows::window;
 use khe_base::bits::{clear_bit, has_bit, set_bit};
 
 /// The domains of the demands, who has which supply, and the bits of the supplies that are free.
-#[derive(Drop)]
 pub(crate) struct Table {
     pub(crate) times: Sets,
     pub(crate) resources: Sets,
@@ -28,6 +27,22 @@ pub(crate) struct Table {
     pub(crate) supplies: Vec<Option<u32>>,
     pub(crate) owners: Vec<Option<u32>>,
     pub(crate) free: Vec<u64>,
+}
+
+// By hand: an exit of a caller then has one call to prove, and not a drop for each field.
+impl Drop for Table {
+    fn drop(self) {
+        let Table {
+            times: _times,
+            resources: _resources,
+            last: _last,
+            width: _width,
+            demands: _demands,
+            supplies: _supplies,
+            owners: _owners,
+            free: _free,
+        } = self;
+    }
 }
 
 /// How far a search has come: it began with the demands that stand in the order at `head` or later, and looks at what

@@ -19,7 +19,6 @@ use std::marker::Model;
 /// The room that looks at event groups take: a mark for each resource, and two for each time. It is
 /// made once for an instance, and serves any timetable of it. Contracts see for how many resources
 /// and times it is.
-#[derive(Drop)]
 pub struct EventRoom {
     /// The resources that a look met.
     resources: Marks,
@@ -27,6 +26,17 @@ pub struct EventRoom {
     some: Marks,
     /// How many of the first events of a group all run at a time.
     leading: Marks,
+}
+
+// By hand: an exit of a caller then has one call to prove, and not a drop for each field.
+impl Drop for EventRoom {
+    fn drop(self) {
+        let EventRoom {
+            resources: _resources,
+            some: _some,
+            leading: _leading,
+        } = self;
+    }
 }
 
 impl Model for EventRoom {

@@ -14,10 +14,19 @@ use std::alloc::Global;
 ///
 /// A slot that becomes another turns the gauges of the monitors that name its event, and no other; where
 /// there are none, or where they hear no such turn, it takes constant time.
-#[derive(Drop)]
 pub struct Counted<G> {
     index: Index,
     gauges: Vec<G>,
+}
+
+// By hand: an exit of a caller then has one call to prove, and not a drop for each field.
+impl<G: Drop> Drop for Counted<G> {
+    fn drop(self) {
+        let Counted {
+            index: _index,
+            gauges: _gauges,
+        } = self;
+    }
 }
 
 impl<G: Gauge + Drop> Keeper for Counted<G> {

@@ -21,13 +21,23 @@ use std::alloc::Global;
 /// keeper follows each slot once, whatever the number of changes of it. The slot of one change alone is taken
 /// over at once; of several changes those that make a meet shorter come first. Of a slot's places it looks at those
 /// that the changes name, and at all of them only where its meet is another.
-#[derive(Drop)]
 pub struct Keeping<K> {
     /// What the keeper follows.
     told: Told,
     /// What was told; the same between calls.
     ahead: Told,
     keeper: K,
+}
+
+// By hand: an exit of a caller then has one call to prove, and not a drop for each field.
+impl<K: Drop> Drop for Keeping<K> {
+    fn drop(self) {
+        let Keeping {
+            told: _told,
+            ahead: _ahead,
+            keeper: _keeper,
+        } = self;
+    }
 }
 
 /// Takes a slot over from the state that was told, where it is another there, and other places than these are

@@ -13,7 +13,6 @@ use std::marker::Model;
 ///
 /// The followers of a meet are linked to one another, so that they are found without a look at others, and a meet is
 /// tied or untied in constant time.
-#[derive(Drop)]
 pub(crate) struct Ties {
     ties: Vec<Option<Tie>>,
     /// The first follower of each meet, or the number of all slots.
@@ -24,6 +23,19 @@ pub(crate) struct Ties {
     prev: Vec<u32>,
     /// How many followers each meet has.
     counts: Vec<u32>,
+}
+
+// By hand: an exit of a caller then has one call to prove, and not a drop for each field.
+impl Drop for Ties {
+    fn drop(self) {
+        let Ties {
+            ties: _ties,
+            first: _first,
+            next: _next,
+            prev: _prev,
+            counts: _counts,
+        } = self;
+    }
 }
 
 impl Model for Ties {

@@ -28,12 +28,22 @@ use undo_paths::Journal;
 /// its ties, and the whole states with theirs that were saved at the open marks.
 ///
 /// No call but `open` and `edit` takes memory.
-#[derive(Drop)]
 pub struct Tied<'i, F: Family> {
     engine: Engine<'i, F>,
     ties: Ties,
     /// A record for each Tie and Untie since the outermost mark.
     journal: Journal<Before>,
+}
+
+// By hand: an exit of a caller then has one call to prove, and not a drop for each field.
+impl<'i, F: Family + Drop> Drop for Tied<'i, F> {
+    fn drop(self) {
+        let Tied {
+            engine: _engine,
+            ties: _ties,
+            journal: _journal,
+        } = self;
+    }
 }
 
 impl<'i, F: Family> Model for Tied<'i, F> {

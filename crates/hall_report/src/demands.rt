@@ -32,7 +32,6 @@ use std::sync::ledger::Ledger;
 /// and a maximum matching of them.
 ///
 /// It takes memory in proportion to the task slots of the instance, its cells, and its sets.
-#[derive(Drop)]
 pub struct Demands {
     told: Told,
     units: Units,
@@ -45,6 +44,22 @@ pub struct Demands {
     times: u32,
     alloc: Global,
     ghost opened: { AreOfSome told units picks matching cells tasks times },
+}
+
+// By hand: an exit of a caller then has one call to prove, and not a drop for each field.
+impl Drop for Demands {
+    fn drop(self) {
+        let Demands {
+            told: _told,
+            units: _units,
+            picks: _picks,
+            matching: _matching,
+            cells: _cells,
+            tasks: _tasks,
+            times: _times,
+            alloc: _alloc,
+        } = self;
+    }
 }
 
 impl Demands {

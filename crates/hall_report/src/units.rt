@@ -13,7 +13,6 @@ use std::alloc::Global;
 
 /// Which units each meet holds. A unit has the number of a meet slot of its event; the units of a
 /// meet follow one another, and so do the free ones of an event.
-#[derive(Drop)]
 pub(crate) struct Units {
     /// Which unit follows each unit.
     next: Vec<u32>,
@@ -23,6 +22,18 @@ pub(crate) struct Units {
     free: Vec<u32>,
     /// The number of the first demand of each unit: one for each place follows.
     tasks: Vec<u32>,
+}
+
+// By hand: an exit of a caller then has one call to prove, and not a drop for each field.
+impl Drop for Units {
+    fn drop(self) {
+        let Units {
+            next: _next,
+            held: _held,
+            free: _free,
+            tasks: _tasks,
+        } = self;
+    }
 }
 
 impl Units {

@@ -11,10 +11,19 @@ use std::alloc::Global;
 
 /// Families that keep the demands of the timetable beside them: each change is told to both. They
 /// serve the kinds of the families.
-#[derive(Drop)]
 pub struct WithDemands<F> {
     families: F,
     demands: Demands,
+}
+
+// By hand: an exit of a caller then has one call to prove, and not a drop for each field.
+impl<F: Drop> Drop for WithDemands<F> {
+    fn drop(self) {
+        let WithDemands {
+            families: _families,
+            demands: _demands,
+        } = self;
+    }
 }
 
 impl<F: Family + Drop> Family for WithDemands<F> {

@@ -7,6 +7,7 @@ ghost use Rattle.khe_solution.specs.Refusing.{is_of_meets, refusal as meets_refu
 ghost use Rattle.khe_told.specs.Watchers.{watcher_counts};
 ghost use Rattle.khe_told.specs.declared.refusals.Refusal.TheVariants.{NoMark, MarksFull};
 ghost use Rattle.monitor_graph.specs.Edits.{adds_child};
+ghost use Rattle.khe_engine.specs.Resting.{FitsIn, world_of};
 ghost use Rattle.khe_engine.specs.States.{refusal, edited, made, changes};
 ghost use Rattle.khe_engine.specs.Values.{totals};
 ghost use Rattle.khe_engine.specs.Worlds.{Saved, IsFaultOf, around, closed, fresh, from_mark, grown, kept, last_cost, last_saved, trails_cost};
@@ -14,6 +15,7 @@ ghost use Rattle.khe_engine.specs.Worlds.{Saved, IsFaultOf, around, closed, fres
 use crate::editing::edit_any;
 use crate::faults::EditFault;
 use crate::listeners::Listeners;
+use crate::resting::Resting;
 use crate::trials::{is_lower_after, totals_after};
 use crate::undoing::{close, marks_of, unwind, unwind_to};
 use khe_base::{NoMemory, Totals};
@@ -29,7 +31,6 @@ use undo_paths::Journal;
 /// saved at the open marks.
 ///
 /// An edit touches what watches its changes and nothing else.
-#[derive(Drop)]
 pub struct Engine<'i, F: Family> {
     pub(crate) inst: &'i Instance,
     pub(crate) solution: Solution<'i>,
@@ -38,6 +39,19 @@ pub struct Engine<'i, F: Family> {
     pub(crate) journal: Journal<Back>,
     /// The changes of an edit that is only tried.
     pub(crate) list: Vec<Change>,
+}
+
+// By hand: an exit of a caller then has one call to prove, and not a drop for each field.
+impl<'i, F: Family + Drop> Drop for Engine<'i, F> {
+    fn drop(self) {
+        let Engine {
+            inst: _inst,
+            solution: _solution,
+            listeners: _listeners,
+            journal: _journal,
+            list: _list,
+        } = self;
+    }
 }
 
 impl<'i, F: Family> Model for Engine<'i, F> {
@@ -258,5 +272,27 @@ impl<'i, F: Family> Engine<'i, F> {
             steps,
         );
         Ok(())
+    }
+}
+
+impl<'i, F: Family> Engine<'i, F> {
+    /// Lets go of the instance. It takes constant time and no memory.
+    pub fn rest(self) -> Resting<F>
+        ensures fits { FitsIn F.IsOf F.told self.entry.parts result }
+        ensures same { world_of self.entry.parts result ≡ self.entry }
+    {
+        let Engine {
+            inst: _,
+            solution,
+            listeners,
+            journal,
+            list,
+        } = self;
+        Resting {
+            solution: solution.rest(),
+            listeners,
+            journal,
+            list,
+        }
     }
 }

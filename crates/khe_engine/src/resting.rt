@@ -14,12 +14,23 @@ use undo_paths::Journal;
 
 /// What an engine keeps while its instance is elsewhere: all but the instance. So a value can own both: it lets the
 /// engine rest between two calls, and wakes it on its instance for each.
-#[derive(Drop)]
 pub struct Resting<F: Family> {
-    solution: RestingSolution,
-    listeners: Listeners<F>,
-    journal: Journal<Back>,
-    list: Vec<Change>,
+    pub(crate) solution: RestingSolution,
+    pub(crate) listeners: Listeners<F>,
+    pub(crate) journal: Journal<Back>,
+    pub(crate) list: Vec<Change>,
+}
+
+// By hand: an exit of a caller then has one call to prove, and not a drop for each field.
+impl<F: Family + Drop> Drop for Resting<F> {
+    fn drop(self) {
+        let Resting {
+            solution: _solution,
+            listeners: _listeners,
+            journal: _journal,
+            list: _list,
+        } = self;
+    }
 }
 
 impl<F: Family> Model for Resting<F> {
@@ -36,28 +47,6 @@ impl<F: Family> Model for Resting<F> {
       journal = r.journal;
       room = vec_capacity r.list;
     } };
-}
-
-impl<'i, F: Family> Engine<'i, F> {
-    /// Lets go of the instance. It takes constant time and no memory.
-    pub fn rest(self) -> Resting<F>
-        ensures fits { FitsIn F.IsOf F.told self.entry.parts result }
-        ensures same { world_of self.entry.parts result ≡ self.entry }
-    {
-        let Engine {
-            inst: _,
-            solution,
-            listeners,
-            journal,
-            list,
-        } = self;
-        Resting {
-            solution: solution.rest(),
-            listeners,
-            journal,
-            list,
-        }
-    }
 }
 
 impl<F: Family> Resting<F> {

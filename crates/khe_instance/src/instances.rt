@@ -24,7 +24,6 @@ use std::marker::Model;
 ///
 /// No call but `new` takes memory, and each takes constant time but for those that look an Id up,
 /// and `task`.
-#[derive(Drop)]
 pub struct Instance {
     parts: Parts,
     slots: SlotTable,
@@ -32,6 +31,18 @@ pub struct Instance {
     members: Seq<Seq<u32>>,
     /// The Ids of the times, resources and events.
     ids: Ids,
+}
+
+// By hand: an exit of a caller then has one call to prove, and not a drop for each field.
+impl Drop for Instance {
+    fn drop(self) {
+        let Instance {
+            parts: _parts,
+            slots: _slots,
+            members: _members,
+            ids: _ids,
+        } = self;
+    }
 }
 
 impl Model for Instance {

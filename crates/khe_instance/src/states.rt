@@ -37,11 +37,23 @@ pub struct Group {
 }
 
 /// A timetable as plain lists, each ascending in its number.
-#[derive(Debug, Drop)]
+#[derive(Debug)]
 pub struct Plain {
     pub meets: Seq<Meet>,
     pub tasks: Seq<Task>,
     /// The monitors that cost nothing whatever their deviation.
     pub detached: Seq<MonitorId>,
     pub groups: Seq<Group>,
+}
+
+// By hand: an exit of a caller then has one call to prove, and not a drop for each field.
+impl Drop for Plain {
+    fn drop(self) {
+        let Plain {
+            meets: _meets,
+            tasks: _tasks,
+            detached: _detached,
+            groups: _groups,
+        } = self;
+    }
 }

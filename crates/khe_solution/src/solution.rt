@@ -36,12 +36,22 @@ use std::sync::ledger::Ledger;
 /// instance and its slots, which are valid.
 ///
 /// No call but `open` takes memory. An edit takes time in proportion to the places of its meets.
-#[derive(Drop)]
 pub struct Solution<'i> {
     inst: &'i Instance,
     slots: Slots,
     /// The changes of one edit.
     list: Vec<Change>,
+}
+
+// By hand: an exit of a caller then has one call to prove, and not a drop for each field.
+impl Drop for Solution<'_> {
+    fn drop(self) {
+        let Solution {
+            inst: _inst,
+            slots: _slots,
+            list: _list,
+        } = self;
+    }
 }
 
 impl<'i> Model for Solution<'i> {

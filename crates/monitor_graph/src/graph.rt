@@ -31,7 +31,6 @@ use std::sync::ledger::Ledger;
 /// it.
 ///
 /// A change of a deviation takes constant time, and so do all values but the next defect. Only `open`, `of_lines` and `room` take memory.
-#[derive(Drop)]
 pub struct Graph {
     pub(crate) lines: Vec<Line>,
     hard: u128,
@@ -50,6 +49,26 @@ pub struct Graph {
     numbers: u64,
     pub(crate) groups: Groups,
     pub(crate) costs: GroupCosts,
+}
+
+// By hand: an exit of a caller then has one call to prove, and not a drop for each field.
+impl Drop for Graph {
+    fn drop(self) {
+        let Graph {
+            lines: _lines,
+            hard: _hard,
+            soft: _soft,
+            words: _words,
+            summary: _summary,
+            marked: _marked,
+            changed: _changed,
+            changed_words: _changed_words,
+            dearer: _dearer,
+            numbers: _numbers,
+            groups: _groups,
+            costs: _costs,
+        } = self;
+    }
 }
 
 impl Model for Graph {

@@ -28,12 +28,23 @@ pub(crate) struct Label {
 
 /// The labels of the tasks, which of them wait, which are closed, and the cheapest resources of
 /// blocks.
-#[derive(Drop)]
 pub(crate) struct Search {
     pub(crate) labels: Vec<Label>,
     pub(crate) waiting: Vec<bool>,
     pub(crate) closed: Vec<bool>,
     pub(crate) ways: Vec<Exit>,
+}
+
+// By hand: an exit of a caller then has one call to prove, and not a drop for each field.
+impl Drop for Search {
+    fn drop(self) {
+        let Search {
+            labels: _labels,
+            waiting: _waiting,
+            closed: _closed,
+            ways: _ways,
+        } = self;
+    }
 }
 
 /// The cheapest way out that was found so far: the task at the end of the path, what it is given,

@@ -32,12 +32,23 @@ use std::marker::PhantomData;
 /// monitors at it. A slot that becomes another turns the counts of the cells that are emptied or filled, and
 /// then the monitors at their resources wait that list one of the times. Monitors that are measured by busy
 /// times alone are passed over where no resource may have become busy or free.
-#[derive(Drop)]
 pub struct Cells<K> {
     table: CellTable,
     sets: TimeSets,
     lists: Vec<Seq<Post>>,
     kinds: PhantomData<K>,
+}
+
+// By hand: an exit of a caller then has one call to prove, and not a drop for each field.
+impl<K> Drop for Cells<K> {
+    fn drop(self) {
+        let Cells {
+            table: _table,
+            sets: _sets,
+            lists: _lists,
+            kinds: _kinds,
+        } = self;
+    }
 }
 
 /// Turns the counts where a slot becomes another, and lets the monitors wait that list one of the times. What

@@ -4,7 +4,6 @@ use khe_base::{NoMemory, ResourceId, Seq, TaskId, Totals};
 use resource_match::choices::Cheapest;
 
 /// What a matching of the tasks of one time comes to.
-#[derive(Drop)]
 pub struct Matched {
     /// The tasks, in the order of their numbers: at most 200.
     pub tasks: Seq<TaskId>,
@@ -16,6 +15,19 @@ pub struct Matched {
     pub sum: Totals,
     /// Whether the choice was made, since the timetable then costs less than before.
     pub taken: bool,
+}
+
+// By hand: an exit of a caller then has one call to prove, and not a drop for each field.
+impl Drop for Matched {
+    fn drop(self) {
+        let Matched {
+            tasks: _tasks,
+            resources: _resources,
+            cheapest: _cheapest,
+            sum: _sum,
+            taken: _taken,
+        } = self;
+    }
 }
 
 /// Why there is no matching. The timetable is as it was.

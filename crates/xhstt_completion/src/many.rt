@@ -18,7 +18,6 @@ use std::alloc::Global;
 use xhstt_shape::RawGiven;
 
 /// By what the places of an event are found for the resources of an entry.
-#[derive(Drop)]
 pub(crate) struct Wanted {
     /// The roles that the resources are given for.
     roles: RoleTable,
@@ -26,6 +25,17 @@ pub(crate) struct Wanted {
     places: RoleTable,
     /// The resources that are preassigned to places without a role.
     unnamed: IdSet,
+}
+
+// By hand: an exit of a caller then has one call to prove, and not a drop for each field.
+impl Drop for Wanted {
+    fn drop(self) {
+        let Wanted {
+            roles: _roles,
+            places: _places,
+            unnamed: _unnamed,
+        } = self;
+    }
 }
 
 /// The first cause at the many resources that an entry gives, which have these numbers, for an event

@@ -6,7 +6,6 @@ use khe_base::Names;
 ///
 /// Weeks and days are time groups, and courses are event groups; those that are have names of their
 /// own besides.
-#[derive(Drop)]
 pub struct Directory {
     pub time_groups: Names,
     pub weeks: Names,
@@ -18,4 +17,22 @@ pub struct Directory {
     pub event_groups: Names,
     pub courses: Names,
     pub events: Names,
+}
+
+// By hand: an exit of a caller then has one call to prove, and not a drop for each field.
+impl Drop for Directory {
+    fn drop(self) {
+        let Directory {
+            time_groups: _time_groups,
+            weeks: _weeks,
+            days: _days,
+            times: _times,
+            resource_types: _resource_types,
+            resource_groups: _resource_groups,
+            resources: _resources,
+            event_groups: _event_groups,
+            courses: _courses,
+            events: _events,
+        } = self;
+    }
 }

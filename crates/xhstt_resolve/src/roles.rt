@@ -22,12 +22,21 @@ pub(crate) struct RolePlace {
 }
 
 /// The event resources of all events by their roles.
-#[derive(Drop)]
 pub(crate) struct Roles {
     /// The roles, each once.
     pub names: Names,
     /// The event resources with each role, by the role's number, in the order of the events.
     pub places: Seq<Seq<RolePlace>>,
+}
+
+// By hand: an exit of a caller then has one call to prove, and not a drop for each field.
+impl Drop for Roles {
+    fn drop(self) {
+        let Roles {
+            names: _names,
+            places: _places,
+        } = self;
+    }
 }
 
 /// The event resources of an instance by their roles. It takes time and memory in proportion to the

@@ -33,7 +33,6 @@ pub(crate) struct Tables<'a> {
 }
 
 /// An instance with what its Ids lead to.
-#[derive(Drop)]
 pub(crate) struct Lookup<'a> {
     pub instance: &'a RawInstance,
     pub names: &'a Directory,
@@ -41,6 +40,18 @@ pub(crate) struct Lookup<'a> {
     /// each resource, not at each place that the resource takes.
     pub types: Seq<u32>,
     pub tables: Tables<'a>,
+}
+
+// By hand: an exit of a caller then has one call to prove, and not a drop for each field.
+impl Drop for Lookup<'_> {
+    fn drop(self) {
+        let Lookup {
+            instance: _instance,
+            names: _names,
+            types: _types,
+            tables: _tables,
+        } = self;
+    }
 }
 
 /// The lookup of an instance. It takes time and memory in proportion to the references to groups of

@@ -5,7 +5,6 @@ use khe_base::{CostFn, Seq, Text};
 
 /// A constraint. In all of them the lower bounds are at most 1,000,000, and 0 where they are
 /// missing; the upper bounds are at most 2,147,483,647, which they are where they are missing.
-#[derive(Drop)]
 pub struct RawConstraint {
     pub id: Name,
     /// Empty where it is missing.
@@ -17,6 +16,21 @@ pub struct RawConstraint {
     pub cost: CostFn,
     pub applies: RawApplies,
     pub rule: RawRule,
+}
+
+// By hand: an exit of a caller then has one call to prove, and not a drop for each field.
+impl Drop for RawConstraint {
+    fn drop(self) {
+        let RawConstraint {
+            id: _id,
+            name: _name,
+            required: _required,
+            weight: _weight,
+            cost: _cost,
+            applies: _applies,
+            rule: _rule,
+        } = self;
+    }
 }
 
 /// What a constraint applies to. The form follows from its kind.

@@ -24,7 +24,6 @@ pub struct Name {
 }
 
 /// An archive of instances and their solutions.
-#[derive(Drop)]
 pub struct Archive {
     pub id: Option<Name>,
     pub meta_data: Option<About>,
@@ -32,8 +31,19 @@ pub struct Archive {
     pub solution_groups: Seq<SolutionGroup>,
 }
 
+// By hand: an exit of a caller then has one call to prove, and not a drop for each field.
+impl Drop for Archive {
+    fn drop(self) {
+        let Archive {
+            id: _id,
+            meta_data: _meta_data,
+            instances: _instances,
+            solution_groups: _solution_groups,
+        } = self;
+    }
+}
+
 /// What is said of an archive, an instance or a solution group as a whole.
-#[derive(Drop)]
 pub struct MetaData {
     /// Empty where it is missing.
     pub name: Text,
@@ -43,6 +53,21 @@ pub struct MetaData {
     pub description: Option<Text>,
     pub publication: Option<Text>,
     pub remarks: Option<Text>,
+}
+
+// By hand: an exit of a caller then has one call to prove, and not a drop for each field.
+impl Drop for MetaData {
+    fn drop(self) {
+        let MetaData {
+            name: _name,
+            contributor: _contributor,
+            date: _date,
+            country: _country,
+            description: _description,
+            publication: _publication,
+            remarks: _remarks,
+        } = self;
+    }
 }
 
 /// What is said of a whole, in memory of its own: a whole of which nothing is said takes a few bytes for
@@ -79,7 +104,6 @@ impl About {
 }
 
 /// An instance. Each list is in the order of the text.
-#[derive(Drop)]
 pub struct RawInstance {
     pub id: Name,
     pub meta_data: Option<About>,
@@ -94,6 +118,24 @@ pub struct RawInstance {
     pub event_groups: Seq<EventGroup>,
     pub events: Seq<RawEvent>,
     pub constraints: Seq<RawConstraint>,
+}
+
+// By hand: an exit of a caller then has one call to prove, and not a drop for each field.
+impl Drop for RawInstance {
+    fn drop(self) {
+        let RawInstance {
+            id: _id,
+            meta_data: _meta_data,
+            time_groups: _time_groups,
+            times: _times,
+            resource_types: _resource_types,
+            resource_groups: _resource_groups,
+            resources: _resources,
+            event_groups: _event_groups,
+            events: _events,
+            constraints: _constraints,
+        } = self;
+    }
 }
 
 /// By which element a time group is given.
@@ -169,7 +211,6 @@ pub struct EventGroup {
 }
 
 /// An event.
-#[derive(Drop)]
 pub struct RawEvent {
     pub id: Name,
     pub color: Option<Text>,
@@ -187,6 +228,24 @@ pub struct RawEvent {
     pub resource_groups: Seq<Ref>,
     /// The event groups that it is in, besides its course.
     pub event_groups: Seq<Ref>,
+}
+
+// By hand: an exit of a caller then has one call to prove, and not a drop for each field.
+impl Drop for RawEvent {
+    fn drop(self) {
+        let RawEvent {
+            id: _id,
+            color: _color,
+            name: _name,
+            duration: _duration,
+            workload: _workload,
+            course: _course,
+            time: _time,
+            resources: _resources,
+            resource_groups: _resource_groups,
+            event_groups: _event_groups,
+        } = self;
+    }
 }
 
 /// A place of an event for one resource.
@@ -209,13 +268,24 @@ pub struct SolutionGroup {
 }
 
 /// A solution.
-#[derive(Drop)]
 pub struct RawSolution {
     /// A reference to its instance.
     pub reference: Ref,
     pub description: Option<Text>,
     pub running_time: Option<Text>,
     pub events: Seq<RawEntry>,
+}
+
+// By hand: an exit of a caller then has one call to prove, and not a drop for each field.
+impl Drop for RawSolution {
+    fn drop(self) {
+        let RawSolution {
+            reference: _reference,
+            description: _description,
+            running_time: _running_time,
+            events: _events,
+        } = self;
+    }
 }
 
 /// What a solution says of one event, or of a part of it.
