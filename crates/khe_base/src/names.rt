@@ -12,15 +12,9 @@ use std::marker::Model;
 /// the names in that order, each the list of its characters.
 ///
 /// It keeps a copy of each name, and finds one by its hash.
+#[derive(Drop)]
 pub struct Names {
     names: IndexSet<String>,
-}
-
-// By hand: an exit of a caller then has one call to prove, and not a drop for each field.
-impl Drop for Names {
-    fn drop(self) {
-        let Names { names: _names } = self;
-    }
 }
 
 impl Model for Names {
