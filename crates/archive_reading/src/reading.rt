@@ -27,7 +27,7 @@ pub struct ReadArchive {
 }
 
 /// Why an archive is not read.
-#[derive(Clone, Copy, Debug, PartialEq, Eq)]
+#[derive(Clone, Copy, PartialEq, Eq)]
 pub enum Unread {
     /// It is refused.
     Refused(Refusal),

@@ -13,7 +13,7 @@ use khe_base::{NoMemory, Text};
 use std::alloc::Global;
 
 /// Why an archive is refused.
-#[derive(Clone, Copy, Debug, PartialEq, Eq)]
+#[derive(Clone, Copy, PartialEq, Eq)]
 pub enum Refusal {
     /// A fault of this kind at this byte: of the text, kinds 1 to 6; of the shape of the elements,
     /// kinds 7 to 11; of names and references, kinds 12 to 15.

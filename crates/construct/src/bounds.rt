@@ -6,7 +6,7 @@ ghost use Rattle.construct.specs.Cuts as spec;
 use khe_instance::Rule;
 
 /// How long each meet of an event may be, and how many there may be.
-#[derive(Clone, Copy, Debug, PartialEq, Eq)]
+#[derive(Clone, Copy, PartialEq, Eq)]
 pub(crate) struct Bounds {
     pub min_duration: u32,
     pub max_duration: u32,

@@ -1,7 +1,7 @@
 //! The supplies that a demand may have.
 
 /// Some numbers: one, or those of a set that was given at the start.
-#[derive(Clone, Copy, Debug, PartialEq, Eq)]
+#[derive(Clone, Copy, PartialEq, Eq)]
 pub enum Pick {
     /// This number alone.
     One(u32),
@@ -11,7 +11,7 @@ pub enum Pick {
 
 /// The supplies that a demand may have: each resource of the pick, at each time of the pick
 /// moved on by the shift.
-#[derive(Clone, Copy, Debug, PartialEq, Eq)]
+#[derive(Clone, Copy, PartialEq, Eq)]
 pub struct Domain {
     /// The times before they are moved on.
     pub times: Pick,

@@ -1,7 +1,7 @@
 //! How a repair ended.
 
 /// How a repair ended.
-#[derive(Clone, Copy, Debug, PartialEq, Eq)]
+#[derive(Clone, Copy, PartialEq, Eq)]
 pub enum Outcome {
     /// No chain of at most so many moves as were asked for leaves lower totals.
     Done {

@@ -8,14 +8,14 @@ use khe_base::MeetId;
 use khe_told::{Edit, Refusal};
 
 /// What a follower is tied to: it starts so much later than its leader.
-#[derive(Clone, Copy, Debug, PartialEq, Eq)]
+#[derive(Clone, Copy, PartialEq, Eq)]
 pub struct Tie {
     pub leader: MeetId,
     pub offset: u32,
 }
 
 /// An edit of a timetable with ties.
-#[derive(Clone, Copy, Debug, PartialEq, Eq)]
+#[derive(Clone, Copy, PartialEq, Eq)]
 pub enum TiedEdit {
     /// One of the engine's edits. The followers of a meet that gets another start go with it.
     Base(Edit),
@@ -32,7 +32,7 @@ pub enum TiedEdit {
 }
 
 /// Why an edit of a timetable with ties is refused.
-#[derive(Clone, Copy, Debug, PartialEq, Eq)]
+#[derive(Clone, Copy, PartialEq, Eq)]
 pub enum TiedRefusal {
     /// For a cause of the engine's table.
     Base(Refusal),
@@ -79,7 +79,7 @@ impl TiedRefusal {
 }
 
 /// Why an edit of a timetable with ties was not made.
-#[derive(Clone, Copy, Debug, PartialEq, Eq)]
+#[derive(Clone, Copy, PartialEq, Eq)]
 pub enum TiedFault {
     /// The state does not allow it.
     Refused(TiedRefusal),

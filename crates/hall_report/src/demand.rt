@@ -4,7 +4,7 @@ use khe_base::{MeetId, ResourceId, TimeId};
 
 /// What wants one supply, a resource at a time, for itself. The order is that of the variants, and
 /// of one variant by its fields.
-#[derive(Clone, Copy, Debug, PartialEq, Eq)]
+#[derive(Clone, Copy, PartialEq, Eq)]
 pub enum Demand {
     /// A task, at one of the times of its meet: the offset, from 0, says at the how manieth.
     Task {

@@ -11,7 +11,7 @@ use khe_base::{NoMemory, Seq};
 
 /// What is short in a timetable: how many demands no assignment can serve, and the demands that
 /// compete, which outnumber their supplies by just that number, in their order.
-#[derive(Debug, Drop)]
+#[derive(Drop)]
 pub struct Shortage {
     pub deficit: u32,
     pub demands: Seq<Demand>,

@@ -10,7 +10,7 @@ const WORD: u128 = 18_446_744_073_709_551_616;
 
 /// A hard and a soft total, each in two words: the first times 2^64 and the second.
 #[repr(C)]
-#[derive(Clone, Copy, Debug, PartialEq, Eq)]
+#[derive(Clone, Copy, PartialEq, Eq)]
 pub struct Costs {
     pub hard_high: u64,
     pub hard_low: u64,

@@ -25,7 +25,7 @@ impl Model for Held {
 }
 
 /// Why there is no answer.
-#[derive(Clone, Copy, Debug, PartialEq, Eq)]
+#[derive(Clone, Copy, PartialEq, Eq)]
 pub(crate) enum Unanswered {
     /// The archive or the solution was refused.
     Refused,

@@ -7,7 +7,7 @@ use khe_base::NoMemory;
 use khe_told::Refusal;
 
 /// Why an edit was not made.
-#[derive(Clone, Copy, Debug, PartialEq, Eq)]
+#[derive(Clone, Copy, PartialEq, Eq)]
 pub enum EditFault {
     /// The state does not allow it.
     Refused(Refusal),

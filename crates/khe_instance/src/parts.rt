@@ -5,7 +5,7 @@ use crate::rules::Constraint;
 use khe_base::{IdSet, ResourceId, Seq, Text, TimeId};
 
 /// A resource: a teacher, a class or a room.
-#[derive(Debug, Drop)]
+#[derive(Drop)]
 pub struct ResourceInfo {
     pub id: Text,
     /// The number of its type.
@@ -13,7 +13,7 @@ pub struct ResourceInfo {
 }
 
 /// A group of events, of which a course is one.
-#[derive(Debug, Drop)]
+#[derive(Drop)]
 pub struct GroupInfo {
     pub id: Text,
     /// As large as the instance has events.
@@ -21,7 +21,7 @@ pub struct GroupInfo {
 }
 
 /// One of the resources that an event wants.
-#[derive(Debug, Drop)]
+#[derive(Drop)]
 pub struct Place {
     /// What the resource is to be in the event. Without one the place is preassigned.
     pub role: Option<Text>,
@@ -34,7 +34,7 @@ pub struct Place {
 }
 
 /// An event: something that is held for a number of times, with resources.
-#[derive(Debug, Drop)]
+#[derive(Drop)]
 pub struct EventInfo {
     pub id: Text,
     /// In times, at least 1.
@@ -47,7 +47,6 @@ pub struct EventInfo {
 }
 
 /// The parts of an instance, each list in the order of its numbers.
-#[derive(Debug)]
 pub struct Parts {
     pub id: Text,
     /// The Ids of the times, in chronological order.

@@ -4,7 +4,7 @@ use crate::rules::Kind;
 use khe_base::{EventId, ResourceId};
 
 /// What a monitor watches.
-#[derive(Clone, Copy, Debug, PartialEq, Eq)]
+#[derive(Clone, Copy, PartialEq, Eq)]
 pub enum Point {
     Event(EventId),
     EventResource { event: EventId, place: u32 },
@@ -16,7 +16,7 @@ pub enum Point {
 }
 
 /// A constraint at one of its points: the smallest thing that has a deviation and a cost.
-#[derive(Clone, Copy, Debug, PartialEq, Eq)]
+#[derive(Clone, Copy, PartialEq, Eq)]
 pub struct Monitor {
     pub kind: Kind,
     /// The number of its constraint.

@@ -3,7 +3,7 @@
 use khe_base::{CostFn, EventId, IdSet, Seq, Text};
 
 /// The sixteen kinds of constraints of the XHSTT format.
-#[derive(Clone, Copy, Debug, PartialEq, Eq)]
+#[derive(Clone, Copy, PartialEq, Eq)]
 pub enum Kind {
     AssignTime,
     AssignResource,
@@ -24,7 +24,7 @@ pub enum Kind {
 }
 
 /// A time group with bounds on how many meets start in it.
-#[derive(Debug, Drop)]
+#[derive(Drop)]
 pub struct Spread {
     pub group: IdSet,
     pub min: u32,
@@ -33,7 +33,7 @@ pub struct Spread {
 
 /// Two events of which the first is to end before the second begins, with bounds on the times
 /// between them.
-#[derive(Clone, Copy, Debug, PartialEq, Eq)]
+#[derive(Clone, Copy, PartialEq, Eq)]
 pub struct EventPair {
     pub first: EventId,
     pub second: EventId,
@@ -43,7 +43,7 @@ pub struct EventPair {
 
 /// What a constraint asks for, by its kind. Sets of times are as large as the instance has times,
 /// sets of resources as it has resources.
-#[derive(Debug, Drop)]
+#[derive(Drop)]
 pub enum Rule {
     AssignTime,
     AssignResource {
@@ -104,7 +104,6 @@ pub enum Rule {
 }
 
 /// A constraint of an instance.
-#[derive(Debug)]
 pub struct Constraint {
     pub id: Text,
     /// Whether its cost is hard.

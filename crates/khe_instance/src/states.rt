@@ -3,7 +3,7 @@
 use khe_base::{EventId, GroupId, MeetId, MonitorId, ResourceId, Seq, TaskId, TimeId};
 
 /// A meet: a part of an event that is held without a break.
-#[derive(Clone, Copy, Debug, PartialEq, Eq)]
+#[derive(Clone, Copy, PartialEq, Eq)]
 pub struct Meet {
     pub meet: MeetId,
     pub event: EventId,
@@ -13,14 +13,14 @@ pub struct Meet {
 }
 
 /// A task: what one place of a meet's event is given in this meet.
-#[derive(Clone, Copy, Debug, PartialEq, Eq)]
+#[derive(Clone, Copy, PartialEq, Eq)]
 pub struct Task {
     pub task: TaskId,
     pub resource: Option<ResourceId>,
 }
 
 /// A task with its meet: what one resource has to do when the meet runs.
-#[derive(Clone, Copy, Debug, PartialEq, Eq)]
+#[derive(Clone, Copy, PartialEq, Eq)]
 pub struct Duty {
     pub meet: Meet,
     /// The number of the place of the meet's event.
@@ -29,7 +29,7 @@ pub struct Duty {
 }
 
 /// A group of monitors whose costs are added up.
-#[derive(Debug, Drop)]
+#[derive(Drop)]
 pub struct Group {
     pub group: GroupId,
     /// In the order in which they were added.
@@ -37,7 +37,6 @@ pub struct Group {
 }
 
 /// A timetable as plain lists, each ascending in its number.
-#[derive(Debug)]
 pub struct Plain {
     pub meets: Seq<Meet>,
     pub tasks: Seq<Task>,

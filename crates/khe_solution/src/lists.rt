@@ -7,7 +7,7 @@ use khe_base::{MeetId, ResourceId, TaskId, TimeId};
 use khe_told::Change;
 
 /// A meet that is there before or after an edit.
-#[derive(Clone, Copy, Debug, PartialEq, Eq)]
+#[derive(Clone, Copy, PartialEq, Eq)]
 pub(crate) struct Part {
     pub(crate) meet: MeetId,
     pub(crate) duration: u32,

@@ -8,7 +8,7 @@ use khe_base::{MeetId, ResourceId, TaskId, TimeId};
 
 /// A change of the meets and tasks: the smallest step of an edit, and what those that listen are
 /// told. Add and Drop, Place and Lift, and Give and Take are inverses.
-#[derive(Clone, Copy, Debug, PartialEq, Eq)]
+#[derive(Clone, Copy, PartialEq, Eq)]
 pub enum Change {
     /// A meet of this duration, at least 1, comes into a free slot, without a start and with a
     /// task without a resource for each place.

@@ -3,7 +3,7 @@
 use khe_base::{GroupId, MeetId, MonitorId, ResourceId, TaskId, TimeId};
 
 /// An edit of a timetable: ten of its meets and tasks, six of its monitors and their groups.
-#[derive(Clone, Copy, Debug, PartialEq, Eq)]
+#[derive(Clone, Copy, PartialEq, Eq)]
 pub enum Edit {
     /// Gives a meet without a start this one.
     Assign { meet: MeetId, time: TimeId },
@@ -42,7 +42,7 @@ pub enum Edit {
 }
 
 /// The record that leads back from an edit.
-#[derive(Clone, Copy, Debug, PartialEq, Eq)]
+#[derive(Clone, Copy, PartialEq, Eq)]
 pub enum Back {
     /// This edit leads back.
     By(Edit),

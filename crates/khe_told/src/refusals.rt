@@ -5,7 +5,7 @@ ghost use Rattle.khe_base.specs.Text.{is_ascii};
 ghost use Rattle.khe_told.specs.Refusals.{row_of};
 
 /// Why an edit or a mark is refused.
-#[derive(Clone, Copy, Debug, PartialEq, Eq)]
+#[derive(Clone, Copy, PartialEq, Eq)]
 pub enum Refusal {
     /// It is no live meet.
     NoSuchMeet,

@@ -3,7 +3,7 @@
 use khe_base::{EventId, MeetId, ResourceId, Seq, TimeId};
 
 /// How long a live meet is, and when it starts.
-#[derive(Clone, Copy, Debug, PartialEq, Eq)]
+#[derive(Clone, Copy, PartialEq, Eq)]
 pub struct Span {
     /// In times, at least 1.
     pub duration: u32,

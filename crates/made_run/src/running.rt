@@ -24,7 +24,7 @@ use std::marker::Brand;
 use std::sync::ledger::Ledger;
 
 /// What a job was made from.
-#[derive(Clone, Copy, Debug, PartialEq, Eq)]
+#[derive(Clone, Copy, PartialEq, Eq)]
 pub struct Job {
     /// The seed that its draws began with.
     pub seed: u64,
@@ -35,7 +35,7 @@ pub struct Job {
 }
 
 /// How many edits of a run were accepted and how many refused.
-#[derive(Clone, Copy, Debug, PartialEq, Eq)]
+#[derive(Clone, Copy, PartialEq, Eq)]
 pub struct Counts {
     /// How many were made.
     pub accepted: u32,

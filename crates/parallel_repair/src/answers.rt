@@ -4,14 +4,14 @@ use khe_base::{Seq, Totals};
 use khe_instance::Plain;
 
 /// What one job comes to: a timetable, and what it costs.
-#[derive(Debug, Drop)]
+#[derive(Drop)]
 pub struct Answer {
     pub totals: Totals,
     pub plain: Plain,
 }
 
 /// What became of a job.
-#[derive(Clone, Copy, Debug, PartialEq, Eq)]
+#[derive(Clone, Copy, PartialEq, Eq)]
 pub enum Fate {
     /// It ran, and came to these totals.
     Ran(Totals),
@@ -20,7 +20,7 @@ pub enum Fate {
 }
 
 /// What all jobs together come to.
-#[derive(Debug, Drop)]
+#[derive(Drop)]
 pub struct Solved {
     /// The job with the least totals, and the lowest number among those with equal totals.
     pub job: u64,
@@ -33,14 +33,14 @@ pub struct Solved {
 }
 
 /// A job that ran, and its totals.
-#[derive(Clone, Copy, Debug)]
+#[derive(Clone, Copy)]
 pub(crate) struct Row {
     pub(crate) job: u64,
     pub(crate) totals: Totals,
 }
 
 /// The least result of some jobs.
-#[derive(Debug, Drop)]
+#[derive(Drop)]
 pub(crate) struct Best {
     pub(crate) job: u64,
     pub(crate) totals: Totals,

@@ -21,7 +21,7 @@ use std::alloc::Global;
 /// | 5 | the text could not be written |
 /// | 6 | memory ran out |
 /// | 7 | a line of the script was not understood, or the script is too large |
-#[derive(Clone, Copy, Debug, PartialEq, Eq)]
+#[derive(Clone, Copy, PartialEq, Eq)]
 pub struct Status(pub u8);
 
 /// The line for words without a reading. It takes constant time.

@@ -3,7 +3,7 @@
 use khe_base::MonitorId;
 
 /// A place inside a part of a list of moves.
-#[derive(Clone, Copy, Debug, PartialEq, Eq)]
+#[derive(Clone, Copy, PartialEq, Eq)]
 pub struct Spot {
     /// The meet slot or task slot of the part's meet or task, or the one from which on a meet or task
     /// is looked for.
@@ -14,7 +14,7 @@ pub struct Spot {
 
 /// A place in the list of a monitor's moves. It borrows nothing: what stands there is read in the
 /// state that it is used with.
-#[derive(Clone, Copy, Debug, PartialEq, Eq)]
+#[derive(Clone, Copy, PartialEq, Eq)]
 pub struct Cursor {
     pub monitor: MonitorId,
     /// The place of the part in the row of the monitor's kind.

@@ -3,7 +3,7 @@
 use khe_base::{MeetId, TaskId};
 
 /// What a move moves.
-#[derive(Clone, Copy, Debug, PartialEq, Eq)]
+#[derive(Clone, Copy, PartialEq, Eq)]
 pub enum Moved {
     Meet(MeetId),
     Task(TaskId),

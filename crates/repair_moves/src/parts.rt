@@ -7,7 +7,7 @@ use khe_instance::Kind;
 
 /// A part of a list of moves. Each is taken for all its meets or tasks in the order of their numbers,
 /// each once, before the next part begins.
-#[derive(Clone, Copy, Debug, PartialEq, Eq)]
+#[derive(Clone, Copy, PartialEq, Eq)]
 pub enum Part {
     /// A meet goes to each time in order.
     TimeMoves,

@@ -8,7 +8,7 @@ pub const MATCHED_TASKS: u32 = 200;
 
 /// What each task costs with no resource, and with each resource. A cost has a hard and a soft part, each at most
 /// `GREATEST_TOTAL` where a matching is asked for; costs compare by hard first, then by soft.
-#[derive(Debug, Drop)]
+#[derive(Drop)]
 pub struct Costs {
     /// How many tasks there are, at most `MATCHED_TASKS` where a matching is asked for.
     pub tasks: u32,
@@ -21,7 +21,7 @@ pub struct Costs {
 }
 
 /// A choice, and the prices that bound what any choice costs.
-#[derive(Debug, Drop)]
+#[derive(Drop)]
 pub struct Cheapest {
     /// The resource of each task, or none. No resource stands twice.
     pub chosen: Seq<Option<u32>>,

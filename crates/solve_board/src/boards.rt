@@ -40,7 +40,7 @@ impl Drop for Board {
 }
 
 /// What a board had come to when it was closed.
-#[derive(Clone, Copy, Debug, PartialEq, Eq)]
+#[derive(Clone, Copy, PartialEq, Eq)]
 pub struct Closed {
     /// Each number below it was claimed once, and no other number was.
     pub next: u64,

@@ -3,7 +3,7 @@
 use khe_base::Seq;
 
 /// A board as plain data, without threads: what `board_step` leads on from.
-#[derive(Debug, Drop)]
+#[derive(Drop)]
 pub struct BoardState {
     /// The number that is claimed next.
     pub next: u64,
@@ -14,7 +14,7 @@ pub struct BoardState {
 }
 
 /// A step of one worker on a board as plain data. A worker is named by its place in the lists.
-#[derive(Clone, Copy, Debug, PartialEq, Eq)]
+#[derive(Clone, Copy, PartialEq, Eq)]
 pub enum BoardStep {
     /// The worker claims the next number.
     Claim { worker: u32 },

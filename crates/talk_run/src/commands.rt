@@ -8,7 +8,7 @@ use edit_script::{Command, LineFault, count_words, first_word, numbers_of, read_
 use khe_base::limits::{BUDGET, CHAIN_MOVES};
 
 /// Of which chains a repair is made.
-#[derive(Clone, Copy, Debug, PartialEq, Eq)]
+#[derive(Clone, Copy, PartialEq, Eq)]
 pub struct Chains {
     /// The greatest number of moves of a chain, 1 to `CHAIN_MOVES`.
     pub depth: u32,
@@ -19,7 +19,7 @@ pub struct Chains {
 }
 
 /// What a line of a talk asks for.
-#[derive(Clone, Copy, Debug, PartialEq, Eq)]
+#[derive(Clone, Copy, PartialEq, Eq)]
 pub enum TalkCommand {
     /// What it asks for in a script.
     Base(Command),

@@ -10,7 +10,7 @@ use std::io;
 use std::io::{BufRead, ErrorKind};
 
 /// What was read.
-#[derive(Clone, Copy, Debug, PartialEq, Eq)]
+#[derive(Clone, Copy, PartialEq, Eq)]
 pub enum Found {
     /// A line that a line feed ends.
     Line,

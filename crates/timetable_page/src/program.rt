@@ -49,7 +49,7 @@ pub const PAGE_BYTES: u64 = 50_000_000;
 /// | 4 | the archive could not be read |
 /// | 5 | the page could not be written |
 /// | 6 | memory ran out |
-#[derive(Clone, Copy, Debug, PartialEq, Eq)]
+#[derive(Clone, Copy, PartialEq, Eq)]
 pub struct Status(pub u8);
 
 /// Reads the archive that the words name from the shelf, and writes its page to the sink; or a page with the line that

@@ -15,7 +15,7 @@ use std::marker::Model;
 /// see a list with one entry for each time, true where it is a member.
 ///
 /// It keeps one bit for each time, 64 in a word, and the range of the words that have one set.
-#[derive(Debug, Drop)]
+#[derive(Drop)]
 pub struct Mask {
     words: Vec<u64>,
     first: usize,
@@ -36,7 +36,7 @@ impl Model for Mask {
 }
 
 /// The numbers of unbusy times of a set before its first busy time and before its last one.
-#[derive(Clone, Copy, Debug)]
+#[derive(Clone, Copy)]
 struct Span {
     before_first: u32,
     before_last: u32,

@@ -13,7 +13,7 @@ use std::marker::Model;
 
 /// The counts of one resource at each time, and a bit for each time, set where the count is
 /// above 0. Contracts see the list of the counts.
-#[derive(Debug, Drop)]
+#[derive(Drop)]
 pub struct Row {
     counts: Vec<u32>,
     busy: Vec<u64>,

@@ -16,7 +16,7 @@ use std::marker::Model;
 ///
 /// Beside the counts it keeps a bit for each resource and time, set where the count is above 0,
 /// 64 times in a word.
-#[derive(Debug, Drop)]
+#[derive(Drop)]
 pub struct Timetable {
     rows: Vec<Row>,
 }
