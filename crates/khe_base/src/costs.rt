@@ -5,7 +5,7 @@ ghost use Rattle.khe_base.specs.Costs.{cost_of};
 ghost use Rattle.khe_base.specs.declared.limits.TheConstants.{GREATEST_COST, GREATEST_DEVIATION, WEIGHT};
 
 /// How the cost of a deviation grows: the `CostFunction` of a constraint.
-#[derive(Clone, Copy, PartialEq, Eq)]
+#[derive(Clone, Copy, Debug, PartialEq, Eq)]
 pub enum CostFn {
     /// The weight for each unit of deviation.
     Linear,

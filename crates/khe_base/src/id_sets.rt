@@ -14,7 +14,7 @@ use std::marker::Model;
 /// entry for each number below the size, true where it is a member.
 ///
 /// It keeps one bit for each number, 64 in a word.
-#[derive(Drop)]
+#[derive(Debug, Drop)]
 pub struct IdSet {
     words: Vec<u64>,
     size: u32,

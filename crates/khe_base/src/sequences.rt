@@ -7,7 +7,7 @@ use std::alloc::Global;
 use std::marker::Model;
 
 /// A list in one block of memory. Contracts see the list of its elements.
-#[derive(Drop)]
+#[derive(Debug, Drop)]
 pub struct Seq<T> {
     pub items: Vec<T>,
 }

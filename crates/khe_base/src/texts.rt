@@ -10,7 +10,7 @@ use std::alloc::Global;
 use std::marker::Model;
 
 /// A text. Contracts see the list of its characters.
-#[derive(Drop)]
+#[derive(Debug, Drop)]
 pub struct Text {
     pub items: String,
 }
