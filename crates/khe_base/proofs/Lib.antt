@@ -3,6 +3,7 @@ pub mod Characters
 pub mod IdSetLemmas
 pub mod ListLemmas
 pub mod MembersLemmas
+pub mod NameTableLemmas
 pub mod NamesLemmas
 pub mod ResultLemmas
 pub mod TextLemmas

@@ -1,57 +1,28 @@
--- Names among names, and the texts that stand for them.
-use Rattle.std.proofs.Common.{◌≡◌, ◌∙◌, sym, ap, ℕ, ◌+◌, ◌<◌, Bool, true, false, not, cond, ◌||◌, List, [], ◌∷◌, ◌++◌}
-use Rattle.std.proofs.Common.{map, length, take, drop, get_or, Some, None, refl, drop-cons, suc, inl, inr, ◌⊎◌}
-use Rattle.std.proofs.Common.{if◌then◌else◌, position, string_bytes, String, ltb}
-use Rattle.std.specs.List.{list_any, position_or_len}
-use Rattle.std.specs.Str.{bytes_eq, IsUtf8}
-use Rattle.std.specs.String.{string_eq}
+-- Names among names.
+use Rattle.std.proofs.Common.{◌≡◌, ◌∙◌, sym, ap, ℕ, ◌<◌, Bool, true, false, not, cond, ◌||◌, List, [], ◌∷◌, ◌++◌}
+use Rattle.std.proofs.Common.{length, take, drop, get_or, Some, None, is_some, refl, drop-cons, suc, inl, inr, ◌⊎◌}
+use Rattle.std.proofs.Common.{if◌then◌else◌, ltb}
+use Rattle.std.specs.List.{position_or_len}
+use Rattle.std.specs.Str.{bytes_eq}
 use Rattle.std.proofs.lemmas.Bool.{true≢false, or_cases, or_parts, or_right, and_parts, and_from, and_left, and_right}
 use Rattle.std.proofs.lemmas.Bool.{not_from_true}
-use Rattle.std.proofs.lemmas.List.{map-append, length-map, take-append-drop}
+use Rattle.std.proofs.lemmas.List.{take-append-drop}
 use Rattle.std.proofs.lemmas.List.Folds.{list_any-append}
 use Rattle.std.proofs.lemmas.Slice.Eq.{bytes_eq-Decides}
-use Rattle.std.proofs.lemmas.Str.{IsUtf8-string_bytes}
 use Rattle.khe_base.specs.Names.{is_among_names, number_of, with_name, are_distinct}
-use Rattle.khe_base.specs.Text.{characters}
-use Rattle.khe_base.proofs.TextLemmas.{bytes_eq-characters}
+use Rattle.khe_base.proofs.ListLemmas.{below_length}
 
--- the names that these texts stand for
-abbrev pub names_of : {Y : Type 0} → List (String Y) → List (List ℕ)
-names_of keys = map (λ k. characters (string_bytes k)) keys
-
-module _ {Y : Type 0} (bs : List ℕ) (u : IsUtf8 bs) where
-  -- a name is among the names exactly where its bytes are among the texts
-  pub is_among_names-characters : (keys : List (String Y))
-      → is_among_names (characters bs) (names_of keys) ≡ list_any (λ k. bytes_eq bs (string_bytes k)) keys
-  is_among_names-characters [] = refl
-  is_among_names-characters (k ∷ keys) = λ i. bytes_eq-characters bs (string_bytes k) u (IsUtf8-string_bytes k) i ||
-      is_among_names-characters keys i
-
-  -- and it is first found at the same place
-  place-characters : (keys : List (String Y)) → position_or_len (λ n. bytes_eq (characters bs) n) (names_of keys)
-      ≡ position_or_len (λ k. bytes_eq bs (string_bytes k)) keys
-  place-characters [] = refl
-  place-characters (k ∷ keys) = λ i. cond (not (bytes_eq-characters bs (string_bytes k) u (IsUtf8-string_bytes k) i))
-      (1 + place-characters keys i) 0
-
-  pub number_of-characters : (keys : List (String Y))
-      → number_of (characters bs) (names_of keys) ≡ position (λ k. bytes_eq bs (string_bytes k)) keys
-  number_of-characters keys = λ i. cond (ltb (place-characters keys i)
-      (length-map keys (λ k. characters (string_bytes k)) i)) (Some (place-characters keys i)) None
-
--- a text that is inserted where no text has its bytes is a name that is added where it is new
-pub names_of-insert : {Y : Type 0} (k : String Y) (keys : List (String Y))
-    → names_of (if list_any (string_eq k) keys then keys else keys ++ k ∷ [])
-    ≡ with_name (characters (string_bytes k)) (names_of keys)
-names_of-insert k keys =
-    by (list_any (string_eq k) keys) ∙ ap (λ b. if b then names_of keys else names_of keys
-    ++ characters (string_bytes k) ∷ []) (sym (is_among_names-characters (string_bytes k) (IsUtf8-string_bytes k)
-    keys))
+-- a name has a number exactly where it is among the names
+pub number_is_some : (name : List ℕ) (names : List (List ℕ))
+    → is_some (number_of name names) ≡ is_among_names name names
+number_is_some name names = by (ltb first (length names)) ∙ below_length (λ n. bytes_eq name n) names
   where
-    by : (b : Bool) → names_of (if b then keys else keys ++ k ∷ [])
-        ≡ (if b then names_of keys else names_of keys ++ characters (string_bytes k) ∷ [])
+    first : ℕ
+    first = position_or_len (λ n. bytes_eq name n) names
+
+    by : (b : Bool) → is_some (cond b (Some first) None) ≡ b
     by true = refl
-    by false = map-append _ keys (k ∷ [])
+    by false = refl
 
 -- a name that differs from n differs from it the other way round too
 differs : (x n : List ℕ) → bytes_eq n x ≡ false → bytes_eq x n ≡ false
