@@ -1,11 +1,9 @@
 -- A table of names: its chains lead to each name of a bucket, from the last one to the first.
-use Rattle.std.proofs.Common.{◌≡◌, ◌≢◌, ◌∙◌, sym, ap, subst, refl, ℕ, ◌+◌, ◌-◌, ◌<◌, ◌≤◌, zero, suc, add-one, Bool, true, false}
-use Rattle.std.proofs.Common.{if◌then◌else◌, cond, eqb, ltb, ◌⊎◌, inl, inr, List, [], ◌∷◌, ◌++◌, length, take, get_or, set}
-use Rattle.std.proofs.Common.{Some, None, arith, below_more}
-use Rattle.std.specs.Str.{bytes_eq}
-use Rattle.std.proofs.Common.{length-append, encode_utf8_all, ◌/◌, ◌^◌}
+use Rattle.std.proofs.Common.{◌≡◌, ◌≢◌, ◌∙◌, sym, ap, subst, refl, ℕ, ◌+◌, ◌-◌, ◌/◌, ◌^◌, ◌<◌, ◌≤◌, zero, suc, add-one}
+use Rattle.std.proofs.Common.{Bool, true, false, if◌then◌else◌, cond, eqb, ltb, ◌⊎◌, inl, inr, Some, None, arith}
+use Rattle.std.proofs.Common.{List, [], ◌∷◌, ◌++◌, length, length-append, take, get_or, set, encode_utf8_all, below_more}
 use Rattle.std.specs.List.{position_or_len}
-use Rattle.std.proofs.lemmas.Nat.{and_le_r}
+use Rattle.std.specs.Str.{bytes_eq}
 use Rattle.std.proofs.Math.Seq.{get_or-append_seam}
 use Rattle.std.proofs.lemmas.Bool.{true≢false, ltb-true, ltb-false, lt-ltb, le-ltb, false_from_ne_true}
 use Rattle.std.proofs.lemmas.Bool.Decides.{eqb_tells}
@@ -13,13 +11,14 @@ use Rattle.std.proofs.lemmas.List.{length-set, get_or-set_same, get_or-set_other
 use Rattle.std.proofs.lemmas.List.{length-take-le, get_or_default}
 use Rattle.std.proofs.lemmas.List.Folds.{list_any_at}
 use Rattle.std.proofs.lemmas.List.Sums.{position_or_len_is}
+use Rattle.std.proofs.lemmas.Nat.{and_le_r}
 use Rattle.std.proofs.lemmas.Slice.Eq.{bytes_eq-Decides}
 use Rattle.khe_base.specs.Names.{is_among_names, number_of, are_distinct}
 use Rattle.khe_base.specs.NameTable.{hash_after, bucket, bucket_at, last_below, IsLinked, IsTable}
 use Rattle.khe_base.proofs.NamesLemmas.{are_distinct-repeated, are_distinct-push}
 
 -- a bucket is one of so many
-pub bucket-within : (size : ℕ) (name : List ℕ) → 0 < size → bucket size name < size
+bucket-within : (size : ℕ) (name : List ℕ) → 0 < size → bucket size name < size
 unfolding bucket
 bucket-within size name some =
     let h = and_le_r (hash_after 0 (encode_utf8_all name) / 2 ^ 32) (size - 1) in omega (arith, h)
@@ -209,6 +208,7 @@ link_lower names heads nexts i table l =
     let f = bucket_at (length heads) names in
     subst (λ n. n ≤ i) (sym (table.linked.before i l)) (last_within f (f i) i)
 
+-- it begins at the head of the bucket, and goes on at the link of the name that it stands at
 pub walk_start : (names : List (List ℕ)) (heads nexts : List ℕ) (name : List ℕ)
     → 0 < length heads → IsTable names heads nexts
     → IsWalked names (length heads) name (get_or heads (bucket (length heads) name) 0)

@@ -11,8 +11,8 @@ use std::marker::Model;
 /// Names, each once, numbered from 0 in the order in which they came. Contracts see the list of
 /// the names in that order, each the list of its characters.
 ///
-/// It keeps a copy of each name, and finds one by its hash. The table is its own, since a general
-/// map would be loaded anew in the check of each crate above.
+/// It keeps a copy of each name, and finds one by its hash. The table of hashes is written here,
+/// since the check of each crate above would load all that a general map is proved with.
 pub struct Names {
     // Each name, by its number.
     names: Vec<Text>,
@@ -213,8 +213,8 @@ fn clear(row: &mut Vec<usize>)
     ensures length { length row.new.items ≡ length row.old.items }
     ensures zero { (k : ℕ) → k < length row.old.items → slice_index row.new.items k ≡ 0 }
 {
-    for k in 0..row.len() {
-        row[k] = 0;
+    for number in row.iter_mut() {
+        *number = 0;
     }
 }
 
