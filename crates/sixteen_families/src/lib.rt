@@ -4,10 +4,10 @@
 use event_monitors::{
     Counted, Misfilled, Misplaced, OfDuration, OneOf, Split, Sum, Unfilled, Unplaced,
 };
-use family_keepers::{Keeping, TwoKeepers};
-use khe_base::NoMemory;
-use khe_instance::Instance;
-use khe_told::Family;
+use family_keepers::{Keeper, Keeping, TwoKeepers};
+use khe_base::{MonitorId, NoMemory};
+use khe_instance::{Instance, Kind};
+use khe_told::{Family, Told, Turn, Waits};
 use resource_monitors::ResourceKeepers;
 use set_monitors::{Holders, Links, OrderEdges, Starts};
 use std::alloc::Global;
@@ -25,8 +25,49 @@ type OfMeets = Counted<OneOf<OneOf<Starts, Links>, OneOf<Sum<Unplaced>, Sum<Misp
 /// list of an event's monitors, which is looked up once for each change.
 type OfEvents = TwoKeepers<OfMeets, TwoKeepers<OfTasks, TwoKeepers<OfDurations, OrderEdges>>>;
 
+/// The keepers of all kinds.
+type AllKeepers = TwoKeepers<OfEvents, ResourceKeepers>;
+
+/// The keepers of all kinds as one keeper. It is a struct, and not a name for what it is made of: so who names the
+/// families names one type, and its check does not go through the sixteen.
+pub struct SixteenKeepers {
+    all: AllKeepers,
+}
+
+// By hand: an exit of a caller then has one call to prove, and not a drop for each field.
+impl Drop for SixteenKeepers {
+    fn drop(self) {
+        let SixteenKeepers { all: _all } = self;
+    }
+}
+
+impl Keeper for SixteenKeepers {
+    ghost serves_kind = { ⟦<AllKeepers as Keeper>⟧.serves_kind };
+
+    ghost IsWellJoined = { ⟦<AllKeepers as Keeper>⟧.IsWellJoined };
+
+    ghost Keeps = { λ k p s. ⟦<AllKeepers as Keeper>⟧.Keeps k.all p s };
+
+    fn open(alloc: Global, inst: &Instance) -> Result<SixteenKeepers, NoMemory> {
+        let all = AllKeepers::open(alloc, inst)?;
+        Ok(SixteenKeepers { all })
+    }
+
+    fn serves(&self, kind: Kind) -> bool {
+        self.all.serves(kind)
+    }
+
+    fn turn<W: Waits>(&mut self, inst: &Instance, told: &Told, turn: &Turn<'_>, waits: &mut W) {
+        self.all.turn(inst, told, turn, waits);
+    }
+
+    fn deviation(&self, inst: &Instance, monitor: MonitorId) -> u64 {
+        self.all.deviation(inst, monitor)
+    }
+}
+
 /// All of them, over one told state. They are well joined.
-pub type Families = Keeping<TwoKeepers<OfEvents, ResourceKeepers>>;
+pub type Families = Keeping<SixteenKeepers>;
 
 /// Opens them: that they are well joined is what this call requires. No program calls it.
 #[allow(dead_code)]
