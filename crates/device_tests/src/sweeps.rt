@@ -10,7 +10,7 @@ use std::test::Fail;
 use std::thread::Threads;
 
 /// Which device fails.
-#[derive(Clone, Copy)]
+#[derive(Clone, Copy, Debug)]
 enum Device {
     Shelf,
     Sink,
