@@ -29,9 +29,9 @@ def seconds_of(pid):
     return (int(fields[11]) + int(fields[12])) / TICK
 
 
-def sort_of(words):
-    text = " ".join(words)
-    if "/rt-edits-" in text or "/must-fail" in text:
+def sort_of(words, folder):
+    # an edit is tried on a copy of its crate
+    if "/rt-edit-" in folder or any("/rt-edits-" in it for it in words):
         return "edits"
     if "--test" in words:
         return "tests"
@@ -44,10 +44,11 @@ def seen(under):
             words = words_of(pid)
             if "rattle" not in os.path.basename(words[0]) or "--crate-name" not in words:
                 continue
-            if under and not os.readlink(f"/proc/{pid}/cwd").startswith(under):
+            folder = os.readlink(f"/proc/{pid}/cwd")
+            if under and not folder.startswith(under):
                 continue
             crate = words[words.index("--crate-name") + 1]
-            yield pid, crate, sort_of(words), seconds_of(pid)
+            yield pid, crate, sort_of(words, folder), seconds_of(pid)
         except (OSError, IndexError, ValueError):
             continue
 
