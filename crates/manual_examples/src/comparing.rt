@@ -1,7 +1,6 @@
 //! What the manual shows beside what comes.
 
 use crate::examples::{Example, example_of, is_shown};
-use crate::faults::Fault;
 use crate::playing::{came_of, refusal_of};
 use khe_base::Text;
 use std::alloc::Global;
@@ -9,11 +8,18 @@ use std::fs;
 use std::rt::Files;
 use std::thread::Threads;
 
-/// How much was compared, and how much of it differed.
+/// How much was compared, how much of it differed, and how much could not be run and so was not compared.
 #[derive(Clone, Copy, Default)]
 pub(crate) struct Tally {
     pub(crate) compared: u32,
     pub(crate) differing: u32,
+    pub(crate) unrun: u32,
+}
+
+/// Notes in a tally that something could not be run, and prints what.
+pub(crate) fn note_unrun<R: Print>(rt: &R, tally: &mut Tally, what: &str) {
+    tally.unrun = tally.unrun.saturating_add(1);
+    let _ = println!(rt; "{} could not be run", what);
 }
 
 /// Notes in a tally whether what came is what is shown, and prints what is not.
@@ -30,10 +36,10 @@ pub(crate) fn compare_manual<R: Threads + Files + Print + Alloc + Sync>(
     rt: &R,
     alloc: Global,
     tally: &mut Tally,
-) -> Result<(), Fault> {
-    let manual = fs::read_to_string(rt, "manual.md")?;
-    compare_blocks(rt, alloc, tally, manual.as_str())?;
-    compare_refusals(rt, alloc, tally, manual.as_str())
+    manual: &str,
+) {
+    compare_blocks(rt, alloc, tally, manual);
+    compare_refusals(rt, alloc, tally, manual);
 }
 
 /// Compares the blocks of a document. Every second piece between fences is one.
@@ -42,18 +48,17 @@ fn compare_blocks<R: Threads + Files + Print + Alloc + Sync>(
     alloc: Global,
     tally: &mut Tally,
     document: &str,
-) -> Result<(), Fault> {
+) {
     let mut before = None;
     for piece in document.split("\n```") {
         before = match before {
             Some(text) => {
-                compare_block(rt, alloc, tally, text, piece)?;
+                compare_block(rt, alloc, tally, text, piece);
                 None
             }
             None => Some(piece),
         };
     }
-    Ok(())
 }
 
 /// Compares a block with what comes of its commands. A block without commands after the name of a file in a
@@ -64,13 +69,12 @@ fn compare_block<R: Threads + Files + Print + Alloc + Sync>(
     tally: &mut Tally,
     before: &str,
     block: &str,
-) -> Result<(), Fault> {
+) {
     for text in block.split("\n$ ").skip(1) {
-        compare_example(rt, alloc, tally, example_of(text))?;
+        compare_example(rt, alloc, tally, example_of(text));
     }
-    match file_of(before) {
-        Some(file) => compare_file(rt, tally, file, block),
-        None => Ok(()),
+    if let Some(file) = file_of(before) {
+        compare_file(rt, tally, file, block);
     }
 }
 
@@ -81,15 +85,11 @@ fn file_of(text: &str) -> Option<&str> {
 }
 
 /// Compares a block with the file that it shows.
-fn compare_file<R: Files + Print + Alloc>(
-    rt: &R,
-    tally: &mut Tally,
-    file: &str,
-    block: &str,
-) -> Result<(), Fault> {
-    let text = fs::read_to_string(rt, file)?;
-    note(rt, tally, file, text.as_str(), example_of(block).shown);
-    Ok(())
+fn compare_file<R: Files + Print + Alloc>(rt: &R, tally: &mut Tally, file: &str, block: &str) {
+    match fs::read_to_string(rt, file) {
+        Ok(text) => note(rt, tally, file, text.as_str(), example_of(block).shown),
+        Err(_) => note_unrun(rt, tally, file),
+    }
 }
 
 /// Compares an example with what comes of its command.
@@ -98,11 +98,12 @@ fn compare_example<R: Threads + Files + Print + Sync>(
     alloc: Global,
     tally: &mut Tally,
     example: Example<'_>,
-) -> Result<(), Fault> {
+) {
     let mut came = Text::new(alloc);
-    came_of(rt, alloc, example, &mut came)?;
-    note(rt, tally, example.command, came.as_str(), example.shown);
-    Ok(())
+    match came_of(rt, alloc, example, &mut came) {
+        Ok(()) => note(rt, tally, example.command, came.as_str(), example.shown),
+        Err(_) => note_unrun(rt, tally, example.command),
+    }
 }
 
 /// Compares the rows of the table of refusals with what comes of their files.
@@ -111,13 +112,12 @@ fn compare_refusals<R: Threads + Files + Print + Sync>(
     alloc: Global,
     tally: &mut Tally,
     document: &str,
-) -> Result<(), Fault> {
+) {
     for line in document.lines() {
         if let Some((refusal, file)) = refusal_in(line) {
-            compare_refusal(rt, alloc, tally, refusal, file)?;
+            compare_refusal(rt, alloc, tally, refusal, file);
         }
     }
-    Ok(())
 }
 
 /// The refusal and the file, without its ending, of a row of the table of refusals.
@@ -134,9 +134,10 @@ fn compare_refusal<R: Threads + Files + Print + Sync>(
     tally: &mut Tally,
     refusal: &str,
     file: &str,
-) -> Result<(), Fault> {
+) {
     let mut came = Text::new(alloc);
-    refusal_of(rt, alloc, file, &mut came)?;
-    note(rt, tally, file, came.as_str(), refusal);
-    Ok(())
+    match refusal_of(rt, alloc, file, &mut came) {
+        Ok(()) => note(rt, tally, file, came.as_str(), refusal),
+        Err(_) => note_unrun(rt, tally, file),
+    }
 }

@@ -1,6 +1,9 @@
 //! What runs of programs end with, beside what they are to end with.
 
-use crate::comparing::Tally;
+use crate::comparing::{Tally, note_unrun};
+use crate::playing::text_of;
+use khe_base::NoMemory;
+use khe_io::MemorySink;
 
 /// The status of a run, and all that it writes before.
 #[derive(Clone, Copy)]
@@ -9,14 +12,31 @@ pub(crate) struct End<'a> {
     pub(crate) text: &'a str,
 }
 
-/// Notes in a tally whether a run ended as it should, and prints where it did not.
-pub(crate) fn note_end<R: Print>(
+/// What a run came to: its status and what its sink took.
+pub(crate) type Ran = Result<(u8, MemorySink), NoMemory>;
+
+/// Notes in a tally whether a run ended as it should, or that it could not be run.
+pub(crate) fn note_run<R: Print>(
     rt: &R,
     tally: &mut Tally,
     what: &str,
-    came: End<'_>,
+    ran: &Ran,
     wanted: End<'_>,
 ) {
+    match ran {
+        Ok((status, sink)) => {
+            let came = End {
+                status: *status,
+                text: text_of(sink.taken()),
+            };
+            note_end(rt, tally, what, came, wanted);
+        }
+        Err(_) => note_unrun(rt, tally, what),
+    }
+}
+
+/// Notes in a tally whether a run ended as it should, and prints where it did not.
+fn note_end<R: Print>(rt: &R, tally: &mut Tally, what: &str, came: End<'_>, wanted: End<'_>) {
     tally.compared = tally.compared.saturating_add(1);
     if came.status != wanted.status || came.text != wanted.text {
         tally.differing = tally.differing.saturating_add(1);

@@ -1,9 +1,8 @@
 //! Talks beside what they are to come to.
 
-use crate::comparing::Tally;
-use crate::ends::{End, note_end};
-use crate::faults::Fault;
-use crate::playing::{ROOM, text_of, words_of};
+use crate::comparing::{Tally, note_unrun};
+use crate::ends::{End, Ran, note_run};
+use crate::playing::{ROOM, words_of};
 use khe_base::{NoMemory, Seq, Text};
 use khe_io::{FileShelf, MemorySink};
 use std::alloc::Global;
@@ -15,45 +14,77 @@ use talk_app::talk_by_words;
 /// The command of the talk that the manual shows.
 const SHOWN: &str = "khe-talk examples/first.xml 0";
 
+/// The same where demands are kept from the beginning.
+const WITH_DEMANDS: &str = "khe-talk examples/first.xml 0 --demands";
+
 /// What stands in the manual between the lines of that talk and its answers.
 const BETWEEN: &str = "' | ./khe-talk examples/first.xml 0\n```\n\nwrites\n\n```\n";
+
+/// Commands that are refused, with the status and what is written.
+const REFUSED: &[(&str, u8, &str)] = &[
+    (
+        "khe-talk examples/first.xml",
+        2,
+        "khe-talk: words not understood\n",
+    ),
+    (
+        "khe-talk examples/first.xml 99",
+        3,
+        "khe: archive refused: 18 NoSuchSolution\n",
+    ),
+    ("khe-talk nothing 0", 4, ""),
+];
 
 /// Compares what comes of talks with what is to come.
 pub(crate) fn compare_talks<R: Files + Print + Alloc>(
     rt: &R,
     alloc: Global,
     tally: &mut Tally,
-) -> Result<(), Fault> {
-    let manual = fs::read_to_string(rt, "manual.md")?;
-    compare_shown(rt, alloc, tally, manual.as_str())?;
-    compare_unread(rt, alloc, tally)?;
-    compare_refused(rt, alloc, tally)?;
-    Ok(())
+    manual: &str,
+) {
+    compare_shown(rt, alloc, tally, manual);
+    compare_unread(rt, alloc, tally);
+    for (command, status, text) in REFUSED {
+        let wanted = End {
+            status: *status,
+            text,
+        };
+        compare(rt, alloc, tally, command, b"total", ROOM, wanted);
+    }
 }
 
 /// Compares the talk that the manual shows, with demands that are kept and without, and cut off after five bytes.
-fn compare_shown<R: Files + Print>(
+fn compare_shown<R: Files + Print>(rt: &R, alloc: Global, tally: &mut Tally, manual: &str) {
+    let (spelled, answers) = talk_in(manual).unwrap_or(("", ""));
+    let mut lines = Text::new(alloc);
+    match push_lines(&mut lines, spelled) {
+        Ok(()) => {
+            let lines = without_end(lines.as_str()).as_bytes();
+            compare_lines(rt, alloc, tally, lines, answers);
+        }
+        Err(_) => note_unrun(rt, tally, SHOWN),
+    }
+}
+
+/// Compares what comes of these lines with their answers.
+fn compare_lines<R: Files + Print>(
     rt: &R,
     alloc: Global,
     tally: &mut Tally,
-    manual: &str,
-) -> Result<(), NoMemory> {
-    let (spelled, answers) = talk_in(manual).unwrap_or(("", ""));
-    let mut lines = Text::new(alloc);
-    push_lines(&mut lines, spelled)?;
-    let lines = without_end(lines.as_str()).as_bytes();
-    compare(rt, alloc, tally, SHOWN, lines, ROOM, 0, answers)?;
-    compare(
-        rt,
-        alloc,
-        tally,
-        "khe-talk examples/first.xml 0 --demands",
-        lines,
-        ROOM,
-        0,
-        answers,
-    )?;
-    compare(rt, alloc, tally, SHOWN, lines, 5, 5, "total")
+    lines: &[u8],
+    answers: &str,
+) {
+    let whole = End {
+        status: 0,
+        text: answers,
+    };
+    let cut_off = End {
+        status: 5,
+        text: "total",
+    };
+    compare(rt, alloc, tally, SHOWN, lines, ROOM, whole);
+    compare(rt, alloc, tally, WITH_DEMANDS, lines, ROOM, whole);
+    compare(rt, alloc, tally, SHOWN, lines, 5, cut_off);
 }
 
 /// The lines of the talk that the manual shows, as they are spelled there, and its answers.
@@ -77,56 +108,28 @@ fn without_end(text: &str) -> &str {
     text.strip_suffix('\n').unwrap_or(text)
 }
 
-/// Compares what comes where words, the archive or the solution are refused.
-fn compare_refused<R: Files + Print>(
-    rt: &R,
-    alloc: Global,
-    tally: &mut Tally,
-) -> Result<(), NoMemory> {
-    let lines = b"total";
-    compare(
-        rt,
-        alloc,
-        tally,
-        "khe-talk examples/first.xml",
-        lines,
-        ROOM,
-        2,
-        "khe-talk: words not understood\n",
-    )?;
-    compare(
-        rt,
-        alloc,
-        tally,
-        "khe-talk examples/first.xml 99",
-        lines,
-        ROOM,
-        3,
-        "khe: archive refused: 18 NoSuchSolution\n",
-    )?;
-    compare(rt, alloc, tally, "khe-talk nothing 0", lines, ROOM, 4, "")
-}
-
 /// Compares what comes where a line cannot be read: a folder can be opened, but has no bytes.
-fn compare_unread<R: Files + Print>(rt: &R, alloc: Global, tally: &mut Tally) -> Result<(), Fault> {
-    let folder = fs::open(rt, "examples")?;
-    let mut reader = BufReader::new(alloc, folder)?;
-    compare_reader(
-        rt,
-        alloc,
-        tally,
-        SHOWN,
-        &mut reader,
-        ROOM,
-        End {
-            status: 4,
-            text: "",
-        },
-    )?;
-    Ok(())
+fn compare_unread<R: Files + Print>(rt: &R, alloc: Global, tally: &mut Tally) {
+    let wanted = End {
+        status: 4,
+        text: "",
+    };
+    let ran = run_unread(rt, alloc);
+    note_run(rt, tally, SHOWN, &ran, wanted);
 }
 
-/// Compares what comes of a talk of these lines where so many bytes can be written with a status and a text.
+/// Talks with a reader that cannot be read.
+fn run_unread<R: Files>(rt: &R, alloc: Global) -> Ran {
+    let Ok(folder) = fs::open(rt, "examples") else {
+        return Err(NoMemory);
+    };
+    match BufReader::new(alloc, folder) {
+        Ok(mut reader) => run(rt, alloc, SHOWN, &mut reader, ROOM),
+        Err(_) => Err(NoMemory),
+    }
+}
+
+/// Compares what comes of a talk of these lines where so many bytes can be written with what is to come.
 fn compare<R: Files + Print>(
     rt: &R,
     alloc: Global,
@@ -134,38 +137,11 @@ fn compare<R: Files + Print>(
     command: &str,
     lines: &[u8],
     room: u64,
-    status: u8,
-    text: &str,
-) -> Result<(), NoMemory> {
-    let mut reader = lines;
-    compare_reader(
-        rt,
-        alloc,
-        tally,
-        command,
-        &mut reader,
-        room,
-        End { status, text },
-    )
-}
-
-/// Compares what comes of a talk of the lines of a reader.
-fn compare_reader<R: Files + Print, B: BufRead>(
-    rt: &R,
-    alloc: Global,
-    tally: &mut Tally,
-    command: &str,
-    reader: &mut B,
-    room: u64,
     wanted: End<'_>,
-) -> Result<(), NoMemory> {
-    let (status, sink) = run(rt, alloc, command, reader, room)?;
-    let came = End {
-        status,
-        text: text_of(sink.taken()),
-    };
-    note_end(rt, tally, command, came, wanted);
-    Ok(())
+) {
+    let mut reader = lines;
+    let ran = run(rt, alloc, command, &mut reader, room);
+    note_run(rt, tally, command, &ran, wanted);
 }
 
 /// Talks as a command asks for, with a sink that has room for so many bytes.
@@ -175,7 +151,7 @@ fn run<R: Files, B: BufRead>(
     command: &str,
     reader: &mut B,
     room: u64,
-) -> Result<(u8, MemorySink), NoMemory> {
+) -> Ran {
     let words = words_of(alloc, command)?;
     let mut sink = MemorySink::new(alloc, room, 1_000_000, Seq::new(alloc))?;
     let mut shelf = FileShelf::new(rt);

@@ -18,6 +18,8 @@ use std::alloc::Global;
 
 /// The deviations of all monitors of a timetable, with what depends on its instance alone. What looks
 /// at event groups mark is small beside the timetable itself, and made anew.
+///
+/// This and the next three open one thing each and lend it: so no exit has more than one to drop.
 pub(crate) fn deviations_of(
     alloc: Global,
     inst: &Instance,
@@ -30,20 +32,78 @@ pub(crate) fn deviations_of(
     ensures small { IfOk result (λ ds. All (λ d. d ≤ GREATEST_DEVIATION) ds) }
 {
     let meets = plain.meets.as_slice();
-    let tasks = plain.tasks.as_slice();
-    let owned = duties(alloc, inst, meets, tasks)?;
-    let duties = owned.as_slice();
+    let duties = duties(alloc, inst, meets, plain.tasks.as_slice())?;
+    let deviations = by_duties(alloc, inst, meets, duties.as_slice(), resource_room);
+    drop(duties);
+    deviations
+}
+
+/// The deviations of all monitors by the meets and the tasks with their meets.
+fn by_duties(
+    alloc: Global,
+    inst: &Instance,
+    meets: &[Meet],
+    duties: &[Duty],
+    resource_room: &ResourceRoom,
+) -> Result<Seq<u64>, NoMemory>
+    requires state { AreOfState inst.now meets.now duties.now }
+    requires resource_room { resource_room.now ≡ room_of_resources inst.now }
+    ensures exact { IfOk result (λ ds. ds ≡ deviations_by inst.now meets.now duties.now) }
+    ensures small { IfOk result (λ ds. All (λ d. d ≤ GREATEST_DEVIATION) ds) }
+{
     let events = EventDeviations::open(alloc, inst, meets, duties)?;
+    let deviations = by_events(alloc, inst, &events, duties, resource_room);
+    drop(events);
+    deviations
+}
+
+/// The deviations of all monitors, those at events by what was opened for them.
+fn by_events(
+    alloc: Global,
+    inst: &Instance,
+    events: &EventDeviations<'_>,
+    duties: &[Duty],
+    resource_room: &ResourceRoom,
+) -> Result<Seq<u64>, NoMemory>
+    requires state { AreOfState inst.now events.now.meets duties.now }
+    requires events { events.now.parts ≡ inst.now }
+    requires duties { duties.now ≡ events.now.duties }
+    requires resource_room { resource_room.now ≡ room_of_resources inst.now }
+    ensures exact { IfOk result (λ ds. ds ≡ deviations_by inst.now events.now.meets events.now.duties) }
+    ensures small { IfOk result (λ ds. All (λ d. d ≤ GREATEST_DEVIATION) ds) }
+{
     let resources = ResourceDeviations::open(alloc, inst, duties)?;
+    let deviations = by_both(alloc, inst, events, &resources, resource_room);
+    drop(resources);
+    deviations
+}
+
+/// The deviations of all monitors by what was opened for those at events and for those at resources.
+fn by_both(
+    alloc: Global,
+    inst: &Instance,
+    events: &EventDeviations<'_>,
+    resources: &ResourceDeviations<'_>,
+    resource_room: &ResourceRoom,
+) -> Result<Seq<u64>, NoMemory>
+    requires events { events.now.parts ≡ inst.now }
+    requires resources { resources.now.inst.now ≡ inst.now }
+    requires duties { resources.now.duties.now ≡ events.now.duties }
+    requires resource_room { resource_room.now ≡ room_of_resources inst.now }
+    ensures exact { IfOk result (λ ds. ds ≡ deviations_by inst.now events.now.meets events.now.duties) }
+    ensures small { IfOk result (λ ds. All (λ d. d ≤ GREATEST_DEVIATION) ds) }
+{
     let mut event_room = EventRoom::open(alloc, inst)?;
-    listed(
+    let deviations = listed(
         alloc,
         inst,
-        &events,
-        &resources,
+        events,
+        resources,
         &mut event_room,
         resource_room,
-    )
+    );
+    drop(event_room);
+    deviations
 }
 
 /// The deviations of all monitors, in the order of their numbers.
