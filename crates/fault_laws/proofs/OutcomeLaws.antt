@@ -13,8 +13,8 @@ use Rattle.khe_app.specs.Outcome.{IsSolvedFrom}
 use Rattle.reading_commands.specs.Outcome.{IsSpellingTo}
 use Rattle.archive_reading.specs.Reading.{refused}
 use Rattle.archive_reading.specs.Refusals.{refusal_line}
-use Rattle.reading_commands.specs.Words.{Asked, archive_of, checking, constructing, evaluating, making, matching, repairing}
-use Rattle.reading_commands.specs.Words.{running, scripting, solving}
+use Rattle.command_words.specs.Words.{Asked, archive_of, checking, constructing, evaluating, making, matching, repairing}
+use Rattle.command_words.specs.Words.{running, scripting, solving}
 use Rattle.archive_reading.specs.declared.refusals.Refusal.{Refusal}
 use Rattle.archive_reading.specs.declared.refusals.Refusal.TheVariants.{Fault}
 use Rattle.xhstt_text.specs.Document.{Spelled}

@@ -10,8 +10,8 @@ use Rattle.reading_commands.specs.Outcome.{spelling_of, status_of, text_of}
 use Rattle.archive_reading.specs.Starting.{start_in}
 use Rattle.archive_reading.specs.Reading.{Reading}
 use Rattle.archive_reading.specs.Refusals.{refusal_line}
-use Rattle.reading_commands.specs.Words.{Asked, archive_of, asked, checking, constructing, evaluating, making, matching}
-use Rattle.reading_commands.specs.Words.{repairing, running, scripting, solving}
+use Rattle.command_words.specs.Words.{Asked, archive_of, asked, checking, constructing, evaluating, making, matching}
+use Rattle.command_words.specs.Words.{repairing, running, scripting, solving}
 use Rattle.archive_reading.specs.declared.refusals.Refusal.TheVariants.{Fault}
 use Rattle.xhstt_text.specs.Document.{Spelled}
 use Rattle.xhstt_text.specs.Forest.{Forest}

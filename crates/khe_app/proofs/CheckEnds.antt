@@ -10,7 +10,7 @@ use Rattle.reading_commands.specs.Ends.{Holdings, Written}
 use Rattle.khe_app.specs.Outcome.{IsOutcomeOf}
 use Rattle.reading_commands.specs.Outcome.{IsSpellingTo, spelling_of, status_of}
 use Rattle.archive_reading.specs.Refusals.{refusal_line}
-use Rattle.reading_commands.specs.Words.{checking}
+use Rattle.command_words.specs.Words.{checking}
 use Rattle.reading_commands.specs.declared.answers.Answer.{Answer}
 use Rattle.reading_commands.specs.declared.answers.Answer.TheVariants.{Read, Refused}
 use Rattle.khe_app.proofs.EndsLemmas.{end_written, not_four, status-decided}

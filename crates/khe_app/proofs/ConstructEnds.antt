@@ -11,7 +11,7 @@ use Rattle.reading_commands.specs.Ends.{Holdings, Written}
 use Rattle.khe_app.specs.Outcome.{IsOutcomeOf}
 use Rattle.archive_reading.specs.Reading.{Reading, evaluable, refused}
 use Rattle.khe_app.specs.Outcome.{IsConstructIn, IsConstructOf, IsConstructTo}
-use Rattle.reading_commands.specs.Words.{constructing}
+use Rattle.command_words.specs.Words.{constructing}
 use Rattle.reading_commands.specs.declared.answers.Answer.{Answer}
 use Rattle.khe_app.proofs.EndsLemmas.{end_starved, end_written, not_two}
 use Rattle.khe_app.proofs.RepairEnds.{decided, four_apart, two_apart}

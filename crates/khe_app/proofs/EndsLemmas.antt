@@ -11,7 +11,7 @@ use Rattle.reading_commands.specs.Ends.{Holdings, IsDecided, Written}
 use Rattle.khe_app.specs.Outcome.{IsOutcomeOf}
 use Rattle.reading_commands.specs.Outcome.{IsAnswerTo, status_of, text_of}
 use Rattle.archive_reading.specs.Reading.{Reading, evaluable, refused}
-use Rattle.reading_commands.specs.Words.{Asked, archive_of, asked, evaluating, is_read}
+use Rattle.command_words.specs.Words.{Asked, archive_of, asked, evaluating, is_read}
 use Rattle.reading_commands.specs.declared.answers.Answer.{Answer}
 
 -- where something is read, nothing is said of what stays where nothing is

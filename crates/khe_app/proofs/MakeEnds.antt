@@ -17,7 +17,7 @@ use Rattle.archive_reading.specs.Starting.{IsBarredBy, Start, begins, barred, st
 use Rattle.khe_app.specs.Ends.{IsEnd, LacksOf}
 use Rattle.reading_commands.specs.Ends.{Holdings, Written}
 use Rattle.khe_app.specs.Outcome.{IsOutcomeOf, IsRunTo}
-use Rattle.reading_commands.specs.Words.{making, running}
+use Rattle.command_words.specs.Words.{making, running}
 use Rattle.archive_reading.specs.declared.reading.Unread.{Unread}
 use Rattle.archive_reading.specs.declared.reading.Unread.TheVariants as unread
 use Rattle.archive_reading.specs.declared.refusals.Refusal.{Refusal}

@@ -13,7 +13,7 @@ use Rattle.khe_app.specs.Outcome.{IsOutcomeOf}
 use Rattle.archive_reading.specs.Starting.{Start, begins, barred, start_of}
 use Rattle.archive_reading.specs.Reading.{Reading, evaluable, refused}
 use Rattle.khe_app.specs.Outcome.{IsMatchIn, IsMatchOf, IsMatchTo, IsMatchedAt}
-use Rattle.reading_commands.specs.Words.{matching}
+use Rattle.command_words.specs.Words.{matching}
 use Rattle.reading_commands.specs.declared.answers.Answer.{Answer}
 use Rattle.archive_reading.specs.declared.refusals.Refusal.{Refusal}
 use Rattle.khe_app.proofs.EndsLemmas.{end_starved, end_written, not_two}

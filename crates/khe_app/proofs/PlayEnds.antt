@@ -15,7 +15,7 @@ use Rattle.archive_reading.specs.Starting.{Start, barred, start_in, start_of}
 use Rattle.archive_reading.specs.Reading.{Reading, evaluable, refused}
 use Rattle.khe_app.specs.Outcome.{IsRunOf, IsRunOr, IsScripted, is_understood}
 use Rattle.archive_reading.specs.Reading.{IsReadingOf}
-use Rattle.reading_commands.specs.Words.{scripting}
+use Rattle.command_words.specs.Words.{scripting}
 use Rattle.khe_app.proofs.EndsLemmas.{end_starved, end_written, not_two}
 use Rattle.reading_commands.specs.declared.answers.Answer.TheVariants.{Read, Refused}
 use Rattle.khe_app.specs.declared.program.Play.{Play}

@@ -15,7 +15,7 @@ use Rattle.archive_reading.specs.Starting.{Start, begins, barred, start_of}
 use Rattle.archive_reading.specs.Reading.{Reading, evaluable, refused}
 use Rattle.archive_reading.specs.Refusals.{refusal_line}
 use Rattle.khe_app.specs.Outcome.{IsRepairIn, IsRepairOf, IsRepairTo}
-use Rattle.reading_commands.specs.Words.{repairing}
+use Rattle.command_words.specs.Words.{repairing}
 use Rattle.reading_commands.specs.declared.answers.Answer.{Answer}
 use Rattle.archive_reading.specs.declared.refusals.Refusal.{Refusal}
 use Rattle.khe_app.proofs.EndsLemmas.{end_starved, end_written, not_two}

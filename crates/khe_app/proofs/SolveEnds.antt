@@ -14,7 +14,7 @@ use Rattle.khe_app.specs.Outcome.{IsOutcomeOf}
 use Rattle.archive_reading.specs.Reading.{Reading, evaluable, refused}
 use Rattle.khe_app.specs.Outcome.{IsSolveIn, IsSolveOf, IsSolveTo}
 use Rattle.archive_reading.specs.Refusals.{refusal_line}
-use Rattle.reading_commands.specs.Words.{solving}
+use Rattle.command_words.specs.Words.{solving}
 use Rattle.reading_commands.specs.declared.answers.Answer.{Answer}
 use Rattle.archive_reading.specs.declared.reading.Unread.{Unread}
 use Rattle.archive_reading.specs.declared.reading.Unread.TheVariants.{Refused}

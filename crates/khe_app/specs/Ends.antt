@@ -7,7 +7,7 @@ use Rattle.khe_io.specs.Faults.{Rose, Took, TookFront}
 use Rattle.khe_io.specs.Shelf.{IsMissing}
 use Rattle.khe_app.specs.Outcome.{IsOutcomeOf}
 use Rattle.reading_commands.specs.Ends.{Holdings, IsDecided, IsStatus}
-use Rattle.reading_commands.specs.Words.{Asked, archive_of, asked}
+use Rattle.command_words.specs.Words.{Asked, archive_of, asked}
 use Rattle.khe_io.specs.declared.pieces.Cut.{Cut}
 use Rattle.khe_io.specs.declared.pieces.Cut.TheVariants.{WriteFault, NoMemory}
 

@@ -26,11 +26,11 @@ use Rattle.archive_reading.specs.Refusals.{refusal_line}
 use Rattle.khe_app.specs.Lines.{script_too_large_line}
 use Rattle.reading_commands.specs.Outcome.{IsAnswerTo, IsSpellingTo}
 use Rattle.reading_commands.specs.Lines.{not_understood_line}
-use Rattle.reading_commands.specs.Words.{Asked, asked, evaluating, scripting, checking, repairing, solving, matching, making, running}
+use Rattle.command_words.specs.Words.{Asked, asked, evaluating, scripting, checking, repairing, solving, matching, making, running}
 use Rattle.khe_base.specs.declared.limits.TheConstants.{SCRIPT_BYTES}
 use Rattle.archive_reading.specs.declared.refusals.Refusal.{Refusal}
 use Rattle.archive_reading.specs.declared.refusals.Refusal.TheVariants.{NoSuchTime, NoSuchType, TooManyTasks, NoSuchInstance}
-use Rattle.reading_commands.specs.Words.{constructing}
+use Rattle.command_words.specs.Words.{constructing}
 
 -- what a script answers on a state without ties, and whether it is read to its end: by the lines of scripts, or by
 -- the wider table of lines that may speak of ties

@@ -3,7 +3,7 @@
 ghost use Rattle.std.specs.Prelude.{◌≡◌, ◌≤◌, ◌⊎◌, Some, IsTrue};
 ghost use Rattle.khe_io.specs.Shelf.{IsMissing};
 ghost use Rattle.khe_app.specs.Ends.{IsEnd};
-ghost use Rattle.reading_commands.specs.Words.{checking};
+ghost use Rattle.command_words.specs.Words.{checking};
 
 use khe_io::{Shelf, Sink};
 use reading_commands::{Status, Stop, answer_to, write_spelling};

@@ -14,8 +14,8 @@ ghost use Rattle.khe_app.specs.Ends.{IsEnd};
 ghost use Rattle.reading_commands.specs.Ends.{Written};
 ghost use Rattle.khe_app.specs.Outcome.{IsConstructIn, IsConstructOf};
 ghost use Rattle.archive_reading.specs.Ready.{IsReady};
-ghost use Rattle.reading_commands.specs.Requests.{AreChains};
-ghost use Rattle.reading_commands.specs.Words.{constructing};
+ghost use Rattle.command_words.specs.Requests.{AreChains};
+ghost use Rattle.command_words.specs.Words.{constructing};
 ghost use Rattle.std.specs.Prelude.{slice_get};
 
 use archive_reading::{ReadArchive, Refusal, instance_numbered};

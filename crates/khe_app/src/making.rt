@@ -10,7 +10,7 @@ ghost use Rattle.khe_app.specs.Ends.{IsEnd};
 ghost use Rattle.reading_commands.specs.Ends.{Holdings, Written};
 ghost use Rattle.khe_app.specs.Outcome.{IsRunTo};
 ghost use Rattle.archive_reading.specs.Ready.{IsReady};
-ghost use Rattle.reading_commands.specs.Words.{making, running};
+ghost use Rattle.command_words.specs.Words.{making, running};
 ghost use Rattle.archive_reading.specs.declared.reading.Unread.TheVariants as unread_by;
 ghost use Rattle.xhstt_resolve.specs.declared.faults.ResolveFault.TheVariants as resolve_fault;
 

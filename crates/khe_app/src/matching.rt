@@ -15,7 +15,7 @@ ghost use Rattle.reading_commands.specs.Ends.{Written};
 ghost use Rattle.khe_app.specs.Outcome.{IsMatchIn, IsMatchOf, IsMatched, IsMatchedAt};
 ghost use Rattle.archive_reading.specs.Starting.{start_of};
 ghost use Rattle.archive_reading.specs.Ready.{IsReady};
-ghost use Rattle.reading_commands.specs.Words.{matching};
+ghost use Rattle.command_words.specs.Words.{matching};
 
 use archive_reading::{ReadArchive, Refusal, Unread, begin, instance_numbered};
 use khe_base::TimeId;

@@ -12,7 +12,7 @@ ghost use Rattle.archive_reading.specs.Starting.{IsBarredBy, Start, barred};
 ghost use Rattle.archive_reading.specs.declared.refusals.Refusal.{Refusal as Why};
 ghost use Rattle.reading_commands.specs.Lines.{not_understood_line};
 ghost use Rattle.khe_app.specs.Lines.{script_too_large_line};
-ghost use Rattle.reading_commands.specs.Words.{asked, evaluating, is_read, scripting};
+ghost use Rattle.command_words.specs.Words.{asked, evaluating, is_read, scripting};
 
 use crate::checking::check;
 use crate::constructing::construct;
@@ -23,12 +23,12 @@ use crate::scripts::play_script;
 use crate::solving::{Solving, solve};
 use crate::starting::{Begun, start};
 use archive_reading::{Refusal, Unread};
+use command_words::{Request, request_of};
 use khe_base::{Seq, limits};
 use khe_instance::Instance;
 use khe_io::{Gate, Shelf, Sink, TakeFault, take_all};
 use reading_commands::{
-    Answer, Crew, Request, Status, Stop, answer_to, not_understood, put, put_refusal, request_of,
-    write_report,
+    Answer, Crew, Status, Stop, answer_to, not_understood, put, put_refusal, write_report,
 };
 use std::alloc::Global;
 use std::mem::ManuallyDrop;

@@ -13,7 +13,7 @@ ghost use Rattle.reading_commands.specs.Ends.{Written};
 ghost use Rattle.khe_app.specs.Outcome.{IsRepairIn, IsRepairOf};
 ghost use Rattle.archive_reading.specs.Starting.{start_of};
 ghost use Rattle.archive_reading.specs.Ready.{IsReady};
-ghost use Rattle.reading_commands.specs.Words.{repairing};
+ghost use Rattle.command_words.specs.Words.{repairing};
 
 use crate::program::put_unread;
 use archive_reading::{ReadArchive, begin, instance_numbered};

@@ -15,7 +15,7 @@ ghost use Rattle.khe_app.specs.Ends.{IsEnd};
 ghost use Rattle.reading_commands.specs.Ends.{Written};
 ghost use Rattle.khe_app.specs.Outcome.{IsSolveIn, IsSolveOf};
 ghost use Rattle.archive_reading.specs.Ready.{IsReady};
-ghost use Rattle.reading_commands.specs.Words.{solving};
+ghost use Rattle.command_words.specs.Words.{solving};
 
 use crate::program::put_unread;
 use archive_reading::{ReadArchive, begin, instance_numbered};

@@ -1,4 +1,3 @@
 pub mod AnswerLemmas
 pub mod OutcomeLemmas
-pub mod ValueLemmas
 pub mod WindowLemmas

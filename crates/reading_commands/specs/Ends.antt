@@ -4,7 +4,7 @@ use Rattle.archive_reading.specs.Reading.{Reading, IsReadingOf}
 use Rattle.khe_io.specs.Faults.{Rose, Took, TookFront}
 use Rattle.reading_commands.specs.Lines.{not_understood_line}
 use Rattle.reading_commands.specs.Outcome.{bytes_of, spelling_of, status_of}
-use Rattle.reading_commands.specs.Words.{Asked, checking, evaluating}
+use Rattle.command_words.specs.Words.{Asked, checking, evaluating}
 
 -- what a shelf holds under its names, where it tells it
 abbrev pub Holdings : Type 0

@@ -4,5 +4,3 @@ pub mod Lines
 pub mod Outcome
 pub mod Report
 pub mod ReportParts
-pub mod Requests
-pub mod Words

@@ -7,14 +7,14 @@ ghost use Rattle.khe_io.specs.Shelf.{IsMissing};
 ghost use Rattle.reading_commands.specs.Ends.{IsCommandEnd, IsReadEnd, Written};
 ghost use Rattle.reading_commands.specs.Lines.{not_understood_line};
 ghost use Rattle.reading_commands.specs.Outcome.{bytes_of, spelling_of};
-ghost use Rattle.reading_commands.specs.Words.{asked};
+ghost use Rattle.command_words.specs.Words.{asked};
 
 use crate::answers::{Stop, answer_to};
 use crate::crews::Crew;
 use crate::reports::write_report;
 use crate::spellings::write_spelling;
 use crate::statuses::{Status, not_understood, put};
-use crate::words::{Request, request_of};
+use command_words::{Request, request_of};
 use khe_io::{Gate, Shelf, Sink};
 use std::alloc::Global;
 use std::mem::ManuallyDrop;

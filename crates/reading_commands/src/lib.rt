@@ -11,7 +11,6 @@ mod report_parts;
 mod reports;
 mod spellings;
 mod statuses;
-mod words;
 
 pub use answers::{Answer, Stop, answer_to};
 pub use commands::read_command;
@@ -19,4 +18,3 @@ pub use crews::Crew;
 pub use reports::write_report;
 pub use spellings::{put_spelling, write_spelling};
 pub use statuses::{Status, not_understood, put, put_refusal};
-pub use words::{Request, request_of};

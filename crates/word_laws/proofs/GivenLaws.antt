@@ -3,7 +3,7 @@ use Rattle.std.proofs.Common.{ℕ, suc, zero, ◌≡◌, ◌+◌, ◌∙◌, Boo
 use Rattle.std.proofs.Common.{length, refl, sym, ap, subst, arith}
 use Rattle.std.proofs.lemmas.Slice.Eq.{bytes_eq-Decides}
 use Rattle.std.specs.Str.{bytes_eq}
-use Rattle.reading_commands.specs.Words.{value_of}
+use Rattle.command_words.specs.Words.{value_of}
 use Rattle.word_laws.specs.Commands.{Choice, Said}
 use Rattle.word_laws.specs.Table.{AreGiven, Given, SaysValue, given_words, with_value}
 

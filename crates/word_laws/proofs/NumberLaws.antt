@@ -11,7 +11,7 @@ use Rattle.std.proofs.lemmas.Option.{option_and_then_some}
 use Rattle.std.proofs.lemmas.Slice.Eq.{bytes_eq-Decides}
 use Rattle.khe_base.specs.Digits.{number_of}
 use Rattle.khe_base.specs.declared.limits.TheConstants.{DIGITS}
-use Rattle.reading_commands.specs.Words.{number_by, number_to}
+use Rattle.command_words.specs.Words.{number_by, number_to}
 use Rattle.word_laws.specs.Commands.{Choice, Said, must, number, up_to}
 use Rattle.word_laws.specs.Table.{AreGiven, Given, SaysValue, given_words}
 use Rattle.word_laws.proofs.GivenLaws.{AllOf, Fits, HasValue, Lacks, each, found, found_there, left}

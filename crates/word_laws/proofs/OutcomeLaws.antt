@@ -2,7 +2,7 @@
 use Rattle.std.proofs.Common.{ℕ, ◌≡◌, Option, Some, None, List, inl, inr, refl, sym, subst}
 use Rattle.khe_app.specs.Outcome.{IsOutcome, IsOutcomeOf}
 use Rattle.reading_commands.specs.Lines.{not_understood_line}
-use Rattle.reading_commands.specs.Words.{Asked, asked}
+use Rattle.command_words.specs.Words.{Asked, asked}
 use Rattle.word_laws.specs.Outcomes.{IsOutcomeByTable}
 use Rattle.word_laws.specs.Table.{HasNoReading}
 use Rattle.word_laws.proofs.ReadLaws.{read_by_table}

@@ -1,10 +1,10 @@
 -- The lines of the examples are read, or not, by computing.
 use Rattle.std.proofs.Common.{ℕ, ◌≡◌, Some, None, List, [], ◌∷◌, refl}
 use Rattle.khe_base.specs.Digits.{long_number_of, number_of}
-use Rattle.reading_commands.specs.Words.{after_by, all_by, archive_by, asked, asked_by, both_by, budget_by, chains_by}
-use Rattle.reading_commands.specs.Words.{construct_with, crew_by, depth_by, job_by, jobs_by, made_by, match_with, number_by}
-use Rattle.reading_commands.specs.Words.{number_to, placed_by, repair_with, run_by, scripted_by, shares_by, solve_with, told_by}
-use Rattle.reading_commands.specs.Words.{value_of, workers_by, workers_of}
+use Rattle.command_words.specs.Words.{after_by, all_by, archive_by, asked, asked_by, both_by, budget_by, chains_by}
+use Rattle.command_words.specs.Words.{construct_with, crew_by, depth_by, job_by, jobs_by, made_by, match_with, number_by}
+use Rattle.command_words.specs.Words.{number_to, placed_by, repair_with, run_by, scripted_by, shares_by, solve_with, told_by}
+use Rattle.command_words.specs.Words.{value_of, workers_by, workers_of}
 use Rattle.word_laws.specs.Examples.{AreNotRead, AreRead, Row, checks, constructions, makings, matchings, missing, others}
 use Rattle.word_laws.specs.Examples.{out_of_form, out_of_range, repairs, reports, scripts, solves, twice, unknown, words_of}
 use Rattle.word_laws.proofs.ReadLaws.{read_by_table}

@@ -9,12 +9,12 @@ use Rattle.std.proofs.lemmas.Option.{none-some, same_Some}
 use Rattle.std.proofs.lemmas.Slice.Eq.{bytes_eq-Decides}
 use Rattle.khe_base.specs.Digits.{long_number_of, number_of}
 use Rattle.khe_base.specs.declared.limits.TheConstants.{BUDGET, CHAIN_MOVES, DIGITS, JOBS, MADE_EVENTS, WORKERS}
-use Rattle.reading_commands.specs.Words.{Asked, after_by, all_by, archive_by, asked, asked_by, both_by, budget_by, chains_by}
-use Rattle.reading_commands.specs.Words.{check_by, construct_by, construct_with, constructing, crew_by, depth_by}
-use Rattle.reading_commands.specs.Words.{evaluating, job_by, jobs_by, made_by, make_by, making, match_by, match_with, matching}
-use Rattle.reading_commands.specs.Words.{number_to, options_by, placed_by, repair_by, repair_with, repairing, run_by}
-use Rattle.reading_commands.specs.Words.{running, script_by, scripted_by, scripting, shares_by, solve_by, solve_with, solving}
-use Rattle.reading_commands.specs.Words.{told_by, workers_by, workers_of}
+use Rattle.command_words.specs.Words.{Asked, after_by, all_by, archive_by, asked, asked_by, both_by, budget_by, chains_by}
+use Rattle.command_words.specs.Words.{check_by, construct_by, construct_with, constructing, crew_by, depth_by}
+use Rattle.command_words.specs.Words.{evaluating, job_by, jobs_by, made_by, make_by, making, match_by, match_with, matching}
+use Rattle.command_words.specs.Words.{number_to, options_by, placed_by, repair_by, repair_with, repairing, run_by}
+use Rattle.command_words.specs.Words.{running, script_by, scripted_by, scripting, shares_by, solve_by, solve_with, solving}
+use Rattle.command_words.specs.Words.{told_by, workers_by, workers_of}
 use Rattle.word_laws.specs.Commands.{Said, asks_evaluate, check, construct, construct_repaired, evaluate, flag}
 use Rattle.word_laws.specs.Commands.{make, match_tasks, number, repair, scripted, solve, text}
 use Rattle.word_laws.specs.Table.{AreGiven, Given, HasNoReading, IsOf, IsReading, given_words}

@@ -6,11 +6,11 @@ use Rattle.std.specs.Option.{option_and_then, option_map}
 use Rattle.std.proofs.lemmas.Option.{none-some}
 use Rattle.khe_base.specs.Digits.{long_number_of, number_of}
 use Rattle.khe_base.specs.declared.limits.TheConstants.{BUDGET, CHAIN_MOVES, DIGITS, JOBS, MADE_EVENTS, WORKERS}
-use Rattle.reading_commands.specs.Words.{Asked, after_by, all_by, archive_by, asked, asked_by, both_by, budget_by, chains_by}
-use Rattle.reading_commands.specs.Words.{checking, construct_with, constructing, crew_by, depth_by, evaluating, job_by, jobs_by}
-use Rattle.reading_commands.specs.Words.{made_by, making, match_with, matching, number_to, options_by, placed_by, repair_with}
-use Rattle.reading_commands.specs.Words.{repairing, run_by, running, scripted_by, scripting, shares_by, solve_with, solving}
-use Rattle.reading_commands.specs.Words.{told_by, workers_by, workers_of}
+use Rattle.command_words.specs.Words.{Asked, after_by, all_by, archive_by, asked, asked_by, both_by, budget_by, chains_by}
+use Rattle.command_words.specs.Words.{checking, construct_with, constructing, crew_by, depth_by, evaluating, job_by, jobs_by}
+use Rattle.command_words.specs.Words.{made_by, making, match_with, matching, number_to, options_by, placed_by, repair_with}
+use Rattle.command_words.specs.Words.{repairing, run_by, running, scripted_by, scripting, shares_by, solve_with, solving}
+use Rattle.command_words.specs.Words.{told_by, workers_by, workers_of}
 use Rattle.word_laws.specs.Commands.{Form, Said, any, asks_check, asks_construct, asks_evaluate, asks_make, asks_match}
 use Rattle.word_laws.specs.Commands.{asks_repair, asks_script, asks_solve, below, check, construct, construct_repaired}
 use Rattle.word_laws.specs.Commands.{digits, evaluate, make, match_tasks, number, repair, script, solve, text, tied}

@@ -1,8 +1,8 @@
 -- The table of commands: for each its word, what stands after it in order, its options, and what is asked for.
 use Rattle.std.specs.Prelude.{ℕ, Bool, true, false, Option, Some, None, List, [], ◌∷◌, codes}
 use Rattle.khe_base.specs.declared.limits.TheConstants.{BUDGET, CHAIN_MOVES, JOBS, MADE_EVENTS, WORKERS}
-use Rattle.reading_commands.specs.Words.{Asked, checking, constructing, evaluating, making, matching, repairing, running}
-use Rattle.reading_commands.specs.Words.{scripting, solving}
+use Rattle.command_words.specs.Words.{Asked, checking, constructing, evaluating, making, matching, repairing, running}
+use Rattle.command_words.specs.Words.{scripting, solving}
 
 -- the form of a word: any word; a number of 1 to 18 digits, below 2^32; a number of 1 to 18 digits; or a number of
 -- 1 to 18 digits, from 1 to a greatest one

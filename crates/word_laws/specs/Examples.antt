@@ -1,7 +1,7 @@
 -- Lines of words with what they ask for, and lines that are not read.
 use Rattle.std.specs.Prelude.{ℕ, ◌==◌, Bool, true, false, Some, None, List, [], ◌∷◌, codes}
-use Rattle.reading_commands.specs.Words.{Asked, checking, constructing, evaluating, making, matching, repairing, running}
-use Rattle.reading_commands.specs.Words.{scripting, solving}
+use Rattle.command_words.specs.Words.{Asked, checking, constructing, evaluating, making, matching, repairing, running}
+use Rattle.command_words.specs.Words.{scripting, solving}
 use Rattle.word_laws.specs.Table.{HasNoReading, IsReading}
 
 -- a byte before words: one in their first, or a blank before it

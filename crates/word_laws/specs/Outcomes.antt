@@ -2,7 +2,7 @@
 use Rattle.std.specs.Prelude.{ℕ, ◌≡◌, ◌⊎◌, ◌↔◌, Option, Some, List}
 use Rattle.khe_app.specs.Outcome.{IsOutcome, IsOutcomeOf}
 use Rattle.reading_commands.specs.Lines.{not_understood_line}
-use Rattle.reading_commands.specs.Words.{Asked}
+use Rattle.command_words.specs.Words.{Asked}
 use Rattle.word_laws.specs.Table.{HasNoReading, IsReading}
 
 -- the words ask for something by the table, and this is its outcome

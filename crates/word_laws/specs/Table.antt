@@ -2,7 +2,7 @@
 use Rattle.std.specs.Prelude.{ℕ, ◌≡◌, ◌≤◌, ◌⊎◌, ◌↔◌, false, Option, Some, None, List, [], ◌∷◌, ◌++◌}
 use Rattle.khe_base.specs.Digits.{long_number_of, number_of}
 use Rattle.khe_base.specs.declared.limits.TheConstants.{DIGITS}
-use Rattle.reading_commands.specs.Words.{Asked, asked}
+use Rattle.command_words.specs.Words.{Asked, asked}
 use Rattle.word_laws.specs.Commands.{Choice, Command, Form, Said, any, below, commands, digits, flag, number, text, up_to}
 
 -- a word in form says this

@@ -2,7 +2,7 @@
 use Rattle.std.proofs.Common.{Some}
 use Rattle.reading_commands.specs.Answers.{reading_of}
 use Rattle.reading_commands.specs.Outcome.{status_of, text_of}
-use Rattle.reading_commands.specs.Words.{evaluating}
+use Rattle.command_words.specs.Words.{evaluating}
 use Rattle.khe_app.proofs.EndsLemmas.{end_written, not_two, reading_not_two, reported, reported-there, status-decided}
 use Rattle.khe_app.proofs.program.evaluate.Goals as goal
 

@@ -1,8 +1,8 @@
 -- Words without a reading, and those that name no archive.
 use Rattle.std.proofs.Common.{None, Some, map, string_bytes, ap, ◌∙◌, refl}
-use Rattle.reading_commands.specs.Requests.{asked_of}
-use Rattle.reading_commands.specs.Words.{asked, making, running}
-use Rattle.reading_commands.specs.declared.words.Request.{Request}
+use Rattle.command_words.specs.Requests.{asked_of}
+use Rattle.command_words.specs.Words.{asked, making, running}
+use Rattle.command_words.specs.declared.words.Request.{Request}
 use Rattle.khe_app.proofs.EndsLemmas.{archive_lacked, by_words, no_archive, not_unread}
 use Rattle.khe_app.proofs.program.respond.Goals as goal
 

@@ -2,9 +2,9 @@
 use Rattle.std.proofs.Common.{◌≡◌, ◌∙◌, Some, true, false, map, drop, string_bytes, sym, ap}
 use Rattle.std.specs.Str.{bytes_eq}
 use Rattle.std.proofs.lemmas.List.{take_rest}
-use Rattle.reading_commands.specs.Words.{value_of}
-use Rattle.reading_commands.proofs.ValueLemmas.{two_of, value_here, value_none, value_past}
-use Rattle.reading_commands.proofs.words.value_of.Goals as goal
+use Rattle.command_words.specs.Words.{value_of}
+use Rattle.command_words.proofs.ValueLemmas.{two_of, value_here, value_none, value_past}
+use Rattle.command_words.proofs.words.value_of.Goals as goal
 
 pub returns-then-eq : goal.returns-then-eq
 returns-then-eq c =

@@ -1,9 +1,9 @@
 -- What a request stands for.
 use Rattle.std.specs.Prelude.{ℕ, ◌≤◌, Option, Some, None}
 use Rattle.khe_base.specs.declared.limits.TheConstants.{CHAIN_MOVES, JOBS, WORKERS, MADE_EVENTS}
-use Rattle.reading_commands.specs.Words.{Asked, evaluating, scripting, checking, repairing, solving, matching, making, running, constructing}
-use Rattle.reading_commands.specs.declared.words.Request.{Request}
-use Rattle.reading_commands.specs.declared.words.Request.TheVariants.{Evaluate, Script, Check, Repair, Solve, Match, Make, Run, Construct}
+use Rattle.command_words.specs.Words.{Asked, evaluating, scripting, checking, repairing, solving, matching, making, running, constructing}
+use Rattle.command_words.specs.declared.words.Request.{Request}
+use Rattle.command_words.specs.declared.words.Request.TheVariants.{Evaluate, Script, Check, Repair, Solve, Match, Make, Run, Construct}
 
 abbrev pub asked_of : Request → Asked
 asked_of (Evaluate archive all workers) = evaluating archive.now all

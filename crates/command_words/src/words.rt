@@ -1,8 +1,8 @@
 //! The words of the command line.
 
 ghost use Rattle.std.specs.Prelude.{◌≡◌, ◌≤◌, None, Some, map, IfSome, MatchOption, string_bytes};
-ghost use Rattle.reading_commands.specs.Requests.{IsFit, asked_of, workers_in, AreChains};
-ghost use Rattle.reading_commands.specs.Words.{all_by, archive_by, asked, asked_by, both_by, budget_by, chains_by, check_by, crew_by, depth_by, evaluating, job_by, jobs_by, made_by, make_by, match_by, match_with, placed_by, number_by, number_to, options_by, repair_by, repair_with, run_by, script_by, scripted_by, shares_by, solve_by, solve_with, told_by, value_of, workers_by, workers_of, after_by, construct_by, construct_with};
+ghost use Rattle.command_words.specs.Requests.{IsFit, asked_of, workers_in, AreChains};
+ghost use Rattle.command_words.specs.Words.{all_by, archive_by, asked, asked_by, both_by, budget_by, chains_by, check_by, crew_by, depth_by, evaluating, job_by, jobs_by, made_by, make_by, match_by, match_with, placed_by, number_by, number_to, options_by, repair_by, repair_with, run_by, script_by, scripted_by, shares_by, solve_by, solve_with, told_by, value_of, workers_by, workers_of, after_by, construct_by, construct_with};
 ghost use Rattle.std.specs.Option.{option_map};
 ghost use Rattle.khe_base.specs.declared.limits.TheConstants.{CHAIN_MOVES, JOBS, WORKERS, MADE_EVENTS};
 

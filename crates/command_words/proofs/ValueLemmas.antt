@@ -2,7 +2,7 @@
 use Rattle.std.proofs.Common.{ℕ, ◌≡◌, ◌<◌, ◌≤◌, Bool, true, false, if◌then◌else◌, Option, Some, None, List, [], ◌∷◌}
 use Rattle.std.proofs.Common.{length, map, drop, take, get_or, sym, ap, ◌∙◌, refl, arith}
 use Rattle.std.specs.Str.{bytes_eq}
-use Rattle.reading_commands.specs.Words.{value_of}
+use Rattle.command_words.specs.Words.{value_of}
 
 pub value_here : (name option value : List ℕ) (more : List (List ℕ)) → bytes_eq name option ≡ true
     → value_of name (option ∷ value ∷ more) ≡ Some value

@@ -1,7 +1,7 @@
 -- The value stands in the words that are left.
 use Rattle.std.proofs.Common.{◌≡◌, length, map, string_bytes}
-use Rattle.reading_commands.specs.Words.{value_of}
-use Rattle.reading_commands.proofs.words.value_of.Given as goal
+use Rattle.command_words.specs.Words.{value_of}
+use Rattle.command_words.proofs.words.value_of.Given as goal
 
 abbrev pub invariant-loop-rest : goal.invariant-loop-rest
 invariant-loop-rest l = value_of l.name (map string_bytes l.rest) ≡ value_of l.name (map string_bytes l.initial.rest)
