@@ -2,17 +2,15 @@
 //! `khe_app::khe`, shows on a terminal how far long work is, and ends with the status.
 #![tactic(auto)]
 
-mod progress;
-
 use khe_app::{Status, khe};
 use khe_io::{FileShelf, StdSink};
-use progress::{Cleared, Progress, Terminals, work_of};
 use std::io::IsTerminal;
 use std::process::ExitCode;
 use std::rt::{Env, Files};
 use std::thread::Threads;
 use std::time::Clock;
 use std::{env, io};
+use terminal_progress::{Cleared, Progress, Terminals, work_of};
 
 /// The words after the program's name. A word that is not UTF-8 leaves none of them, since such
 /// words have no reading.

@@ -1,6 +1,6 @@
 //! The commands that only read an archive, `evaluate` and `check`, for the program that has all commands and for one
-//! that has these two alone: the words of the command line, what an archive under a name leads to, the report on its
-//! solutions and its canonical spelling, and the status that a run ends with.
+//! that has these two alone: what an archive under a name leads to, the report on its solutions and its canonical
+//! spelling, and the status that a run ends with.
 #![tactic(auto)]
 
 mod answers;

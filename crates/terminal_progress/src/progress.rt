@@ -14,16 +14,16 @@ const CLEAR: &str = "\r\x1b[K";
 
 /// Which of the two outputs are terminals.
 #[derive(Clone, Copy)]
-pub(crate) struct Terminals {
+pub struct Terminals {
     /// Whether standard output is one.
-    pub(crate) output: bool,
+    pub output: bool,
     /// Whether standard error is one.
-    pub(crate) errors: bool,
+    pub errors: bool,
 }
 
 /// What the workers pass the gate with.
 #[derive(Clone, Copy)]
-pub(crate) enum Work<'a> {
+pub enum Work<'a> {
     /// The numbers of jobs, of which there are so many, as the words write it.
     Jobs(&'a str),
     /// The numbers of solutions.
@@ -32,7 +32,7 @@ pub(crate) enum Work<'a> {
 
 /// What the workers pass the gate with where these words have a reading: jobs with `solve`, as many as the word
 /// after `--jobs` says, and solutions with all other commands.
-pub(crate) fn work_of(words: &[String]) -> Work<'_> {
+pub fn work_of(words: &[String]) -> Work<'_> {
     let [command, _, _, options @ ..] = words else {
         return Work::Solutions;
     };
@@ -68,7 +68,7 @@ fn is_shown(work: Work<'_>, terminals: Terminals) -> bool
 /// A gate that lets every worker through at once. On a terminal it shows, some times a second at most, which number
 /// a worker passes with, and how many seconds it is since the program began.
 #[derive(Drop)]
-pub(crate) struct Progress<'a, R> {
+pub struct Progress<'a, R> {
     system: &'a R,
     work: Work<'a>,
     /// When the program began; `None` where nothing is shown.
@@ -82,7 +82,7 @@ pub(crate) struct Progress<'a, R> {
 impl<'a, R: Clock + Eprint> Progress<'a, R> {
     /// No line stands on the terminal. None will be shown where standard error isn't a terminal or the clock can't be
     /// read.
-    pub(crate) fn new(system: &'a R, work: Work<'a>, terminals: Terminals) -> Progress<'a, R>
+    pub fn new(system: &'a R, work: Work<'a>, terminals: Terminals) -> Progress<'a, R>
         ensures hidden { terminals.errors ≡ false → result.start ≡ None }
     {
         let start = if is_shown(work, terminals) {
@@ -133,7 +133,7 @@ impl<'a, R: Clock + Eprint> Progress<'a, R> {
     }
 
     /// Clears the line, if one stands on the terminal.
-    pub(crate) fn clear(&self) {
+    pub fn clear(&self) {
         if self.stands.swap(false, Ordering::SeqCst) {
             let _cleared = eprint!(self.system; "{CLEAR}");
         }
@@ -150,9 +150,9 @@ impl<'a, R: Clock + Eprint + Sync> Gate for Progress<'a, R> {
 
 /// A sink before which the line is cleared whenever it takes a piece.
 #[derive(Drop)]
-pub(crate) struct Cleared<'a, K, R> {
-    pub(crate) out: K,
-    pub(crate) progress: &'a Progress<'a, R>,
+pub struct Cleared<'a, K, R> {
+    pub out: K,
+    pub progress: &'a Progress<'a, R>,
 }
 
 impl<'a, K: Sink, R: Clock + Eprint> Sink for Cleared<'a, K, R> {
