@@ -8,7 +8,7 @@ use crate::lists::{roomy, to_each, to_one};
 use crate::names::{name, numbered_name, to, to_numbered};
 use crate::sizes::{halves, pair_count};
 use crate::times::{DAYS, days};
-use khe_base::{CostFn, NoMemory, Seq, Text, both};
+use khe_base::{CostFn, NoMemory, Seq, Text, beside, both};
 use std::alloc::Global;
 use xhstt_shape::{RawApplies, RawConstraint, RawPair, RawRule, RawSpread, Ref};
 
@@ -46,8 +46,9 @@ fn constraint(
 ) -> Result<RawConstraint, NoMemory>
     ensures { IfOk result (λ c. c ≡ spec.constraint number charge.required charge.weight charge.cost applies rule) }
 {
+    let (id, (applies, rule)) = beside(numbered_name(alloc, "x", number), (applies, rule))?;
     Ok(RawConstraint {
-        id: numbered_name(alloc, "x", number)?,
+        id,
         name: Text::new(alloc),
         required: charge.required,
         weight: charge.weight,
@@ -93,10 +94,18 @@ fn all_groups(alloc: Global) -> Result<Seq<Ref>, NoMemory>
     ensures { IfOk result (λ groups. groups ≡ spec.all_groups) }
 {
     let mut groups = roomy(alloc, 3)?;
+    let pushed = push_groups(alloc, &mut groups);
+    let ((), groups) = beside(pushed, groups)?;
+    Ok(groups)
+}
+
+/// Adds the groups of all resources to a list.
+fn push_groups(alloc: Global, groups: &mut Seq<Ref>) -> Result<(), NoMemory>
+    ensures { OnOk result (groups.new ≡ groups.old ++ spec.all_groups) }
+{
     groups.push(to(alloc, "gp")?)?;
     groups.push(to(alloc, "gc")?)?;
-    groups.push(to(alloc, "gq")?)?;
-    Ok(groups)
+    groups.push(to(alloc, "gq")?)
 }
 
 /// A pair of events in order.
@@ -173,13 +182,14 @@ fn assign_resource(alloc: Global) -> Result<RawConstraint, NoMemory>
 fn split_events(alloc: Global) -> Result<RawConstraint, NoMemory>
     ensures { IfOk result (λ c. c ≡ spec.split_events) }
 {
+    let applies = all_events(alloc)?;
     let rule = RawRule::SplitEvents {
         min_duration: 1,
         max_duration: 2,
         min_amount: 1,
         max_amount: 2,
     };
-    constraint(alloc, 2, SOFT, all_events(alloc)?, rule)
+    constraint(alloc, 2, SOFT, applies, rule)
 }
 
 /// Events have at most one part of duration 2.
@@ -187,17 +197,18 @@ fn split_events(alloc: Global) -> Result<RawConstraint, NoMemory>
 fn distribute(alloc: Global) -> Result<RawConstraint, NoMemory>
     ensures { IfOk result (λ c. c ≡ spec.distribute) }
 {
-    let rule = RawRule::DistributeSplitEvents {
-        duration: 2,
-        min: 0,
-        max: 1,
-    };
     let charge = Charge {
         required: false,
         weight: 1,
         cost: CostFn::Step,
     };
-    constraint(alloc, 3, charge, all_events(alloc)?, rule)
+    let applies = all_events(alloc)?;
+    let rule = RawRule::DistributeSplitEvents {
+        duration: 2,
+        min: 0,
+        max: 1,
+    };
+    constraint(alloc, 3, charge, applies, rule)
 }
 
 /// Parts of duration 1 are at the first times of the days.
@@ -365,8 +376,9 @@ fn limit_busy(alloc: Global) -> Result<RawConstraint, NoMemory>
 fn limit_workload(alloc: Global) -> Result<RawConstraint, NoMemory>
     ensures { IfOk result (λ c. c ≡ spec.limit_workload) }
 {
+    let applies = group(alloc, "gp")?;
     let rule = RawRule::LimitWorkload { min: 0, max: 12 };
-    constraint(alloc, 15, SOFT, group(alloc, "gp")?, rule)
+    constraint(alloc, 15, SOFT, applies, rule)
 }
 
 /// Adds the constraints of events.
