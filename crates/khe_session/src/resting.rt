@@ -22,7 +22,6 @@ pub struct Kept<F: Family> {
 }
 
 /// A session over some families. It owns its instance, and wakes its engine on it for each call.
-#[derive(Drop)]
 pub struct SessionOn<F: Family> {
     pub(crate) instance: Instance,
     /// The number of the solution, over all groups.
@@ -31,6 +30,18 @@ pub struct SessionOn<F: Family> {
     pub(crate) lines: u64,
     /// `None` once memory was refused to a line.
     pub(crate) kept: Option<Kept<F>>,
+}
+
+// By hand: an exit of a caller then has one call to prove, and not a drop for each field.
+impl<F: Family + Drop> Drop for SessionOn<F> {
+    fn drop(self) {
+        let SessionOn {
+            instance: _instance,
+            solution: _solution,
+            lines: _lines,
+            kept: _kept,
+        } = self;
+    }
 }
 
 impl<F: Family> Model for SessionOn<F> {
