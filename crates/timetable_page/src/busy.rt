@@ -3,7 +3,7 @@
 ghost use Rattle.std.specs.Prelude.{◌≡◌, [], IfOk, OnOk, replicate};
 ghost use Rattle.timetable_page.specs.Costs.{with_item};
 
-use khe_base::{IdSet, MonitorId, NoMemory, ResourceId, Seq, TimeId};
+use khe_base::{IdSet, MonitorId, NoMemory, ResourceId, Seq, TimeId, beside, both};
 use khe_instance::{Instance, Kind, Meet, Plain, Point, Rule};
 use std::alloc::Global;
 
@@ -95,16 +95,14 @@ fn add_runs(
     Ok(())
 }
 
-/// When each resource is busy, and what each meet is given, by the tasks of a timetable.
-fn taken(
-    alloc: Global,
-    inst: &Instance,
+/// Adds what each task says: what its meet is given, and when its resource is busy.
+fn take(
+    given: &mut Seq<Seq<Given>>,
+    runs: &mut Seq<Seq<Run>>,
     plain: &Plain,
-) -> Result<(Seq<Seq<Given>>, Seq<Seq<Run>>), NoMemory> {
+    places: &[u32],
+) -> Result<(), NoMemory> {
     let meets = plain.meets.as_slice();
-    let places = places_of(alloc, inst.meet_slots(), meets)?;
-    let mut given = empty_lists(alloc, meets.len())?;
-    let mut runs = empty_lists(alloc, inst.resources() as usize)?;
     for task in plain.tasks.as_slice() {
         let meet = match places.get(task.task.meet.0 as usize) {
             Some(place) => *place,
@@ -114,7 +112,7 @@ fn taken(
             continue;
         };
         add(
-            &mut given,
+            given,
             meet,
             Given {
                 place: task.task.place,
@@ -123,11 +121,26 @@ fn taken(
         )?;
         if let Some(resource) = task.resource {
             if let Some(start) = held.start {
-                add_runs(&mut runs, resource, start, held.duration, meet)?;
+                add_runs(runs, resource, start, held.duration, meet)?;
             }
         }
     }
-    Ok((given, runs))
+    Ok(())
+}
+
+/// When each resource is busy, and what each meet is given, by the tasks of a timetable.
+fn taken(
+    alloc: Global,
+    inst: &Instance,
+    plain: &Plain,
+) -> Result<(Seq<Seq<Given>>, Seq<Seq<Run>>), NoMemory> {
+    let meets = plain.meets.as_slice();
+    let places = places_of(alloc, inst.meet_slots(), meets)?;
+    let given = empty_lists(alloc, meets.len());
+    let runs = empty_lists(alloc, inst.resources() as usize);
+    let (mut given, mut runs) = both(given, runs)?;
+    let took = take(&mut given, &mut runs, plain, places.as_slice());
+    took.and(Ok((given, runs)))
 }
 
 /// The numbers of the monitors on each resource.
@@ -159,9 +172,9 @@ pub(crate) fn timetable_of(
     inst: &Instance,
     plain: &Plain,
 ) -> Result<Timetable, NoMemory> {
-    let (given, runs) = taken(alloc, inst, plain)?;
-    let watched = watched_by(alloc, inst)?;
-    let parts = parts_of(alloc, inst, plain.meets.as_slice())?;
+    let watched = watched_by(alloc, inst);
+    let parts = parts_of(alloc, inst, plain.meets.as_slice());
+    let ((given, runs), (watched, parts)) = both(taken(alloc, inst, plain), both(watched, parts))?;
     Ok(Timetable {
         given,
         runs,
@@ -171,7 +184,7 @@ pub(crate) fn timetable_of(
 }
 
 /// The meets of a resource at each time, by their places.
-pub(crate) fn cells_of(alloc: Global, times: u32, runs: &[Run]) -> Result<Seq<Seq<u32>>, NoMemory> {
+fn cells_of(alloc: Global, times: u32, runs: &[Run]) -> Result<Seq<Seq<u32>>, NoMemory> {
     let mut cells = empty_lists(alloc, times as usize)?;
     for run in runs {
         add(&mut cells, run.time, run.meet)?;
@@ -197,13 +210,18 @@ fn mark_idle(
     cells: &Seq<Seq<u32>>,
 ) -> Result<(), NoMemory> {
     let members = group.members(alloc)?;
-    let times = members.as_slice();
+    mark_between(idle, members.as_slice(), cells);
+    Ok(())
+}
+
+/// Marks those of some times that have no meets, between the first and the last that have.
+fn mark_between(idle: &mut Vec<bool>, times: &[u32], cells: &Seq<Seq<u32>>) {
     let busy = |time: &&u32| !list_at(cells, **time).is_empty();
     let Some(first) = times.iter().find(busy) else {
-        return Ok(());
+        return;
     };
     let Some(last) = times.iter().rev().find(busy) else {
-        return Ok(());
+        return;
     };
     for time in times {
         let place = *time as usize;
@@ -211,7 +229,6 @@ fn mark_idle(
             idle[place] = true;
         }
     }
-    Ok(())
 }
 
 /// The times at which a resource is to be free, and those at which it is idle.
@@ -222,35 +239,40 @@ pub(crate) struct Marks {
 }
 
 /// What the constraints of a resource say of its times, by the numbers of its monitors.
-pub(crate) fn marks_of(
+fn marks_of(
     alloc: Global,
     inst: &Instance,
     monitors: &[u32],
     cells: &Seq<Seq<u32>>,
 ) -> Result<Marks, NoMemory> {
-    let mut closed = vec![in alloc; false; cells.len()]?;
-    let mut idle = vec![in alloc; false; cells.len()]?;
+    let closed = vec![in alloc; false; cells.len()]?;
+    let idle = vec![in alloc; false; cells.len()]?;
+    let mut marks = Marks { closed, idle };
+    let marked = mark(alloc, &mut marks, inst, monitors, cells);
+    marked.and(Ok(marks))
+}
+
+/// Marks what the constraints of these monitors say.
+fn mark(
+    alloc: Global,
+    marks: &mut Marks,
+    inst: &Instance,
+    monitors: &[u32],
+    cells: &Seq<Seq<u32>>,
+) -> Result<(), NoMemory> {
     for number in monitors {
         if *number < inst.monitors() {
-            let monitor = inst.monitor(MonitorId(*number));
-            mark_by(
-                alloc,
-                &mut closed,
-                &mut idle,
-                inst,
-                monitor.constraint,
-                cells,
-            )?;
+            let constraint = inst.monitor(MonitorId(*number)).constraint;
+            mark_by(alloc, marks, inst, constraint, cells)?;
         }
     }
-    Ok(Marks { closed, idle })
+    Ok(())
 }
 
 /// Marks what one constraint says of a resource's times.
 fn mark_by(
     alloc: Global,
-    closed: &mut Vec<bool>,
-    idle: &mut Vec<bool>,
+    marks: &mut Marks,
     inst: &Instance,
     constraint: u32,
     cells: &Seq<Seq<u32>>,
@@ -259,15 +281,27 @@ fn mark_by(
         return Ok(());
     }
     match &inst.constraint(constraint).rule {
-        Rule::AvoidUnavailableTimes { times } => mark_closed(closed, times),
+        Rule::AvoidUnavailableTimes { times } => mark_closed(&mut marks.closed, times),
         Rule::LimitIdleTimes { groups, .. } => {
             for group in groups.as_slice() {
-                mark_idle(alloc, idle, group, cells)?;
+                mark_idle(alloc, &mut marks.idle, group, cells)?;
             }
         }
         _ => {}
     }
     Ok(())
+}
+
+/// The meets of a resource at each time, by their places, and what these monitors say of its times.
+pub(crate) fn marked_cells(
+    alloc: Global,
+    inst: &Instance,
+    runs: &[Run],
+    monitors: &[u32],
+) -> Result<(Marks, Seq<Seq<u32>>), NoMemory> {
+    let cells = cells_of(alloc, inst.times(), runs)?;
+    let marks = marks_of(alloc, inst, monitors, &cells);
+    beside(marks, cells)
 }
 
 /// The kind of a monitor that cares for when a resource is busy: its cells are listed with it.

@@ -3,13 +3,13 @@
 ghost use Rattle.std.specs.Prelude.{IsTrue};
 ghost use Rattle.khe_base.specs.Text.{is_ascii};
 
-use crate::busy::{Marks, cells_of, has_cells, list_at, marks_of};
+use crate::busy::{Marks, has_cells, list_at, marked_cells};
 use crate::costs::Defect;
-use crate::marking::{push_between, push_counted, push_place};
+use crate::draft::Draft;
 use crate::naming::{event_name, group_name, resource_name, time_name};
 use crate::view::View;
-use khe_base::{EventId, MonitorId, NoMemory, Seq, Text, beside};
-use khe_instance::{EventPair, Kind, Point, Rule};
+use khe_base::{EventId, MonitorId, NoMemory, Seq, Text};
+use khe_instance::{Kind, Point, Rule};
 use std::alloc::Global;
 
 /// How many monitors of a constraint are listed at most.
@@ -19,23 +19,15 @@ const LISTED_MONITORS: usize = 1_000;
 const LISTED_CELLS: u32 = 40;
 
 /// Adds a link to a resource's timetable, with its name.
-pub(crate) fn push_resource_link(
-    page: &mut Text,
-    view: &View<'_>,
-    resource: u32,
-) -> Result<(), NoMemory> {
-    push_place(page, "<a href=\"#s", view.number, "r", resource, "\">")?;
-    push_between(page, "", resource_name(view.raw, resource), "</a>")
+pub(crate) fn push_resource_link(page: &mut Draft, view: &View<'_>, resource: u32) {
+    page.push_place("<a href=\"#s", view.number, "r", resource, "\">");
+    page.push_between("", resource_name(view.raw, resource), "</a>");
 }
 
 /// Adds a link to an event's row, with its name.
-pub(crate) fn push_event_link(
-    page: &mut Text,
-    view: &View<'_>,
-    event: u32,
-) -> Result<(), NoMemory> {
-    push_place(page, "<a href=\"#s", view.number, "e", event, "\">")?;
-    push_between(page, "", event_name(view.raw, event), "</a>")
+pub(crate) fn push_event_link(page: &mut Draft, view: &View<'_>, event: u32) {
+    page.push_place("<a href=\"#s", view.number, "e", event, "\">");
+    page.push_between("", event_name(view.raw, event), "</a>");
 }
 
 /// The role of a place of an event, where it has one.
@@ -54,36 +46,28 @@ pub(crate) fn role_of<'a>(view: &'a View<'a>, event: EventId, place: u32) -> Opt
 }
 
 /// Adds the two events of a pair.
-fn push_pair(page: &mut Text, view: &View<'_>, rule: &Rule, number: u32) -> Result<(), NoMemory> {
+fn push_pair(page: &mut Draft, view: &View<'_>, rule: &Rule, number: u32) {
     let Rule::OrderEvents { pairs } = rule else {
-        return Ok(());
+        return;
     };
-    let pair: EventPair = match pairs.as_slice().get(number as usize) {
-        Some(pair) => *pair,
-        None => return Ok(()),
-    };
-    push_event_link(page, view, pair.first.0)?;
-    page.push_literal(" and ")?;
-    push_event_link(page, view, pair.second.0)
+    if let Some(pair) = pairs.as_slice().get(number as usize) {
+        push_event_link(page, view, pair.first.0);
+        page.push_literal(" and ");
+        push_event_link(page, view, pair.second.0);
+    }
 }
 
 /// Adds what a monitor watches.
-fn push_subject(
-    page: &mut Text,
-    view: &View<'_>,
-    rule: &Rule,
-    point: Point,
-) -> Result<(), NoMemory> {
+fn push_subject(page: &mut Draft, view: &View<'_>, rule: &Rule, point: Point) {
     match point {
         Point::Event(event) => push_event_link(page, view, event.0),
         Point::EventResource { event, place } => {
-            push_event_link(page, view, event.0)?;
-            match role_of(view, event, place) {
-                Some(role) => push_between(page, " (", role, ")"),
-                None => Ok(()),
+            push_event_link(page, view, event.0);
+            if let Some(role) = role_of(view, event, place) {
+                page.push_between(" (", role, ")");
             }
         }
-        Point::EventGroup(group) => push_between(page, "", group_name(view.raw, group), ""),
+        Point::EventGroup(group) => page.push_between("", group_name(view.raw, group), ""),
         Point::EventPair(number) => push_pair(page, view, rule, number),
         Point::Resource(resource) => push_resource_link(page, view, resource.0),
     }
@@ -114,23 +98,16 @@ fn phrase(kind: Kind) -> &'static str
 }
 
 /// Adds a link to a cell of a resource's timetable, with what happens there.
-fn push_cell_link(
-    page: &mut Text,
-    view: &View<'_>,
-    resource: u32,
-    time: u32,
-    busy: usize,
-) -> Result<(), NoMemory> {
-    push_place(page, " <a href=\"#s", view.number, "r", resource, "")?;
-    push_counted(page, "t", u128::from(time), "\">")?;
-    push_between(page, "", time_name(view.raw, time), "</a>")?;
+fn push_cell_link(page: &mut Draft, view: &View<'_>, resource: u32, time: u32, busy: usize) {
+    page.push_place(" <a href=\"#s", view.number, "r", resource, "");
+    page.push_counted("t", u128::from(time), "\">");
+    page.push_between("", time_name(view.raw, time), "</a>");
     if busy == 2 {
-        page.push_literal(" (twice)")?;
+        page.push_literal(" (twice)");
     }
     if busy > 2 {
-        push_counted(page, " (", busy as u128, " times)")?;
+        page.push_counted(" (", busy as u128, " times)");
     }
-    Ok(())
 }
 
 /// Whether a cell is one of those that a monitor of this kind is about.
@@ -146,31 +123,28 @@ fn is_cell(kind: Kind, busy: usize, closed: bool, idle: bool) -> bool {
 /// not those of other monitors of the resource.
 fn push_cells(
     alloc: Global,
-    page: &mut Text,
+    page: &mut Draft,
     view: &View<'_>,
     number: u32,
     kind: Kind,
     resource: u32,
-) -> Result<(), NoMemory> {
+) {
     let runs = list_at(&view.table.runs, resource);
-    let cells = cells_of(alloc, view.inst.times(), runs)?;
-    let marks = marks_of(alloc, view.inst, &[number], &cells);
-    let (marks, cells) = beside(marks, cells)?;
-    let pushed = push_cell_links(page, view, kind, resource, &cells, &marks);
-    drop(marks);
-    drop(cells);
-    pushed
+    match marked_cells(alloc, view.inst, runs, &[number]) {
+        Ok((marks, cells)) => push_cell_links(page, view, kind, resource, &cells, &marks),
+        Err(NoMemory) => page.refuse(),
+    }
 }
 
 /// Adds the links by what happens at each time, and by what the monitor says of it.
 fn push_cell_links(
-    page: &mut Text,
+    page: &mut Draft,
     view: &View<'_>,
     kind: Kind,
     resource: u32,
     cells: &Seq<Seq<u32>>,
     marks: &Marks,
-) -> Result<(), NoMemory> {
+) {
     let mut listed = 0u32;
     for time in 0..view.inst.times() {
         let busy = list_at(cells, time).len();
@@ -178,65 +152,57 @@ fn push_cell_links(
         let idle = marks.idle.get(time as usize).copied().unwrap_or(false);
         if is_cell(kind, busy, closed, idle) {
             if listed >= LISTED_CELLS {
-                return page.push_literal(" and at more times");
+                page.push_literal(" and at more times");
+                return;
             }
             listed = listed.saturating_add(1);
-            push_cell_link(page, view, resource, time, busy)?;
+            push_cell_link(page, view, resource, time, busy);
         }
     }
-    Ok(())
 }
 
 /// Adds one monitor: its cost, what it watches, what is wrong and where.
-fn push_defect(
-    alloc: Global,
-    page: &mut Text,
-    view: &View<'_>,
-    rule: &Rule,
-    defect: &Defect,
-) -> Result<(), NoMemory> {
+fn push_defect(alloc: Global, page: &mut Draft, view: &View<'_>, rule: &Rule, defect: &Defect) {
     if defect.number >= view.inst.monitors() {
-        return Ok(());
+        return;
     }
     let monitor = view.inst.monitor(MonitorId(defect.number));
-    push_place(page, "<li id=\"s", view.number, "m", defect.number, "\">")?;
-    push_counted(page, "<b>", defect.cost, "</b> ")?;
-    push_subject(page, view, rule, monitor.point)?;
-    push_counted(page, phrase(monitor.kind), u128::from(defect.deviation), "")?;
+    page.push_place("<li id=\"s", view.number, "m", defect.number, "\">");
+    page.push_counted("<b>", defect.cost, "</b> ");
+    push_subject(page, view, rule, monitor.point);
+    page.push_counted(phrase(monitor.kind), u128::from(defect.deviation), "");
     if has_cells(monitor.kind) {
         if let Point::Resource(resource) = monitor.point {
-            page.push_literal(", at")?;
-            push_cells(alloc, page, view, defect.number, monitor.kind, resource.0)?;
+            page.push_literal(", at");
+            push_cells(alloc, page, view, defect.number, monitor.kind, resource.0);
         }
     }
-    page.push_literal("</li>\n")
+    page.push_literal("</li>\n");
 }
 
 /// Adds the row of a constraint's monitors that deviate.
 pub(crate) fn push_defects(
     alloc: Global,
-    page: &mut Text,
+    page: &mut Draft,
     view: &View<'_>,
     rule: &Rule,
     defects: &[Defect],
-) -> Result<(), NoMemory> {
-    page.push_literal("<tr class=\"why\"><td colspan=\"6\"><details><summary>")?;
-    push_counted(
-        page,
+) {
+    page.push_literal("<tr class=\"why\"><td colspan=\"6\"><details><summary>");
+    page.push_counted(
         "Monitors that deviate: ",
         defects.len() as u128,
         "</summary><ul>\n",
-    )?;
+    );
     for defect in defects.iter().take(LISTED_MONITORS) {
-        push_defect(alloc, page, view, rule, defect)?;
+        push_defect(alloc, page, view, rule, defect);
     }
     if defects.len() > LISTED_MONITORS {
-        push_counted(
-            page,
+        page.push_counted(
             "<li>Only the ",
             LISTED_MONITORS as u128,
             " dearest are listed.</li>",
-        )?;
+        );
     }
-    page.push_literal("</ul></details></td></tr>\n")
+    page.push_literal("</ul></details></td></tr>\n");
 }

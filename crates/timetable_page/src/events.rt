@@ -2,43 +2,37 @@
 
 use crate::busy::list_at;
 use crate::defects::{push_event_link, push_resource_link, role_of};
-use crate::marking::{push_between, push_counted, push_place};
+use crate::draft::Draft;
 use crate::naming::{event_name, time_name};
 use crate::view::View;
-use khe_base::{NoMemory, Text};
 use khe_instance::Meet;
 
 /// Adds one resource of a meet, or that its place has none.
-fn push_given(
-    page: &mut Text,
-    view: &View<'_>,
-    meet: &Meet,
-    place: u32,
-    resource: Option<u32>,
-) -> Result<(), NoMemory> {
+fn push_given(page: &mut Draft, view: &View<'_>, meet: &Meet, place: u32, resource: Option<u32>) {
     if let Some(resource) = resource {
-        page.push_literal(" ")?;
-        return push_resource_link(page, view, resource);
+        page.push_literal(" ");
+        push_resource_link(page, view, resource);
+        return;
     }
     match role_of(view, meet.event, place) {
-        Some(role) => push_between(page, " <strong class=\"bad\">no ", role, "</strong>"),
+        Some(role) => page.push_between(" <strong class=\"bad\">no ", role, "</strong>"),
         None => page.push_literal(" <strong class=\"bad\">nobody</strong>"),
     }
 }
 
 /// Adds one meet: its time, how long it lasts, and its resources.
-fn push_part(page: &mut Text, view: &View<'_>, number: u32) -> Result<(), NoMemory> {
+fn push_part(page: &mut Draft, view: &View<'_>, number: u32) {
     let Some(meet) = view.plain.meets.as_slice().get(number as usize) else {
-        return Ok(());
+        return;
     };
     match meet.start {
-        Some(time) => push_between(page, "<div><b>", time_name(view.raw, time.0), "</b>")?,
-        None => page.push_literal("<div><strong class=\"bad\">no time</strong>")?,
+        Some(time) => page.push_between("<div><b>", time_name(view.raw, time.0), "</b>"),
+        None => page.push_literal("<div><strong class=\"bad\">no time</strong>"),
     }
     if meet.duration > 1 {
-        push_counted(page, " for ", u128::from(meet.duration), " times")?;
+        page.push_counted(" for ", u128::from(meet.duration), " times");
     }
-    page.push_literal(":")?;
+    page.push_literal(":");
     for given in list_at(&view.table.given, number) {
         push_given(
             page,
@@ -46,24 +40,23 @@ fn push_part(page: &mut Text, view: &View<'_>, number: u32) -> Result<(), NoMemo
             meet,
             given.place,
             given.resource.map(|resource| resource.0),
-        )?;
+        );
     }
-    page.push_literal("</div>")
+    page.push_literal("</div>");
 }
 
 /// Adds the row of an event.
-fn push_event(page: &mut Text, view: &View<'_>, event: u32) -> Result<(), NoMemory> {
-    push_place(page, "<tr id=\"s", view.number, "e", event, "\">")?;
-    push_between(
-        page,
+fn push_event(page: &mut Draft, view: &View<'_>, event: u32) {
+    page.push_place("<tr id=\"s", view.number, "e", event, "\">");
+    page.push_between(
         "<th scope=\"row\" class=\"n\">",
         event_name(view.raw, event),
         "</th><td>",
-    )?;
+    );
     for number in list_at(&view.table.parts, event) {
-        push_part(page, view, *number)?;
+        push_part(page, view, *number);
     }
-    page.push_literal("</td></tr>\n")
+    page.push_literal("</td></tr>\n");
 }
 
 /// Whether a part of an event has no time.
@@ -86,7 +79,7 @@ fn lacks_resource(view: &View<'_>, event: u32) -> bool {
 }
 
 /// Adds a list of the events that lack a time, or of those that lack a resource.
-fn push_lacking(page: &mut Text, view: &View<'_>, times: bool) -> Result<(), NoMemory> {
+fn push_lacking(page: &mut Draft, view: &View<'_>, times: bool) {
     let mut any = false;
     for event in 0..view.inst.events() {
         let lacks = if times {
@@ -96,35 +89,34 @@ fn push_lacking(page: &mut Text, view: &View<'_>, times: bool) -> Result<(), NoM
         };
         if lacks {
             if any {
-                page.push_literal(", ")?;
+                page.push_literal(", ");
             } else {
                 page.push_str(if times {
                     "<p class=\"lack\">Without a time: "
                 } else {
                     "<p class=\"lack\">Without a resource: "
-                })?;
+                });
             }
-            push_event_link(page, view, event)?;
+            push_event_link(page, view, event);
             any = true;
         }
     }
     if any {
-        page.push_literal("</p>\n")?;
+        page.push_literal("</p>\n");
     }
-    Ok(())
 }
 
 /// Adds the events of a solution.
-pub(crate) fn push_events(page: &mut Text, view: &View<'_>) -> Result<(), NoMemory> {
-    page.push_literal("<details><summary>Events</summary>\n")?;
-    push_lacking(page, view, true)?;
-    push_lacking(page, view, false)?;
+pub(crate) fn push_events(page: &mut Draft, view: &View<'_>) {
+    page.push_literal("<details><summary>Events</summary>\n");
+    push_lacking(page, view, true);
+    push_lacking(page, view, false);
     page.push_literal(
         "<div class=\"wide\"><table class=\"events\"><thead><tr><th scope=\"col\">Event</th>",
-    )?;
-    page.push_literal("<th scope=\"col\">When and with whom</th></tr></thead><tbody>\n")?;
+    );
+    page.push_literal("<th scope=\"col\">When and with whom</th></tr></thead><tbody>\n");
     for event in 0..view.inst.events() {
-        push_event(page, view, event)?;
+        push_event(page, view, event);
     }
-    page.push_literal("</tbody></table></div></details>\n")
+    page.push_literal("</tbody></table></div></details>\n");
 }

@@ -5,6 +5,7 @@
 mod busy;
 mod costs;
 mod defects;
+mod draft;
 mod escaping;
 mod events;
 mod grids;

@@ -1,12 +1,13 @@
-//! The pieces that the page is put together from: literal markup with a text, a number or totals between.
+//! The pieces that the page is put together from: literal markup with a text, a number, totals or a cause between.
 
 ghost use Rattle.std.specs.Prelude.{◌≡◌, ◌++◌, OnOk, IsTrue};
 ghost use Rattle.std.specs.Fmt.{decimal};
 ghost use Rattle.khe_base.specs.Text.{is_ascii};
 ghost use Rattle.timetable_page.specs.Escape.{escaped};
-ghost use Rattle.timetable_page.specs.Pieces.{totals_text};
+ghost use Rattle.timetable_page.specs.Pieces.{invalid_text, name_of_cause, totals_text};
 
 use crate::escaping::push_escaped;
+use fault_tables::cause_name;
 use khe_base::{NoMemory, Text, Totals};
 
 /// Adds a text of the archive, escaped, between two pieces of markup.
@@ -49,19 +50,20 @@ pub(crate) fn push_totals(page: &mut Text, totals: Totals) -> Result<(), NoMemor
     push_counted(page, "soft <b>", totals.soft, "</b>")
 }
 
-/// Adds a place of the page: the solution with a number, and in it what a letter and a number name.
-pub(crate) fn push_place(
-    page: &mut Text,
-    before: &str,
-    solution: u32,
-    letter: &str,
-    number: u32,
-    after: &str,
-) -> Result<(), NoMemory>
-    requires before { IsTrue (is_ascii before.now) }
-    requires letter { IsTrue (is_ascii letter.now) }
-    requires after { IsTrue (is_ascii after.now) }
+/// Adds why and at which entry a solution is invalid.
+pub(crate) fn push_invalid(page: &mut Text, cause: u32, entry: u32) -> Result<(), NoMemory>
+    ensures { OnOk result (page.new ≡ page.old ++ invalid_text cause entry) }
 {
-    push_counted(page, before, u128::from(solution), letter)?;
-    push_counted(page, "", u128::from(number), after)
+    page.push_literal("invalid: ")?;
+    page.push_literal(name_of(cause))?;
+    push_counted(page, " at entry ", u128::from(entry), "")
+}
+
+/// The name of a cause.
+#[tactic(auto, unfolding(crate::specs::Pieces::name_of_cause))]
+fn name_of(cause: u32) -> &'static str
+    ensures name { result.now ≡ name_of_cause cause }
+    ensures ascii { IsTrue (is_ascii result.now) }
+{
+    cause_name(cause).unwrap_or("")
 }

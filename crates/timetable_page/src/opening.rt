@@ -3,7 +3,7 @@
 ghost use Rattle.std.specs.Prelude.{IsTrue};
 ghost use Rattle.khe_base.specs.Text.{is_ascii};
 
-use crate::marking::{push_between, push_counted};
+use crate::draft::Draft;
 use crate::naming::whole_name;
 use crate::style::{SCRIPT, STYLE};
 use khe_base::{NoMemory, Text};
@@ -11,133 +11,111 @@ use std::alloc::Global;
 use xhstt_shape::{Archive, MetaData};
 
 /// Adds a line on the archive, where it has one.
-fn push_said(page: &mut Text, before: &str, text: &Option<Text>) -> Result<(), NoMemory>
+fn push_said(page: &mut Draft, before: &str, text: &Option<Text>)
     requires { IsTrue (is_ascii before.now) }
 {
-    match text {
-        Some(text) => push_between(page, before, text, "</dd>\n"),
-        None => Ok(()),
+    if let Some(text) = text {
+        page.push_between(before, text, "</dd>\n");
     }
 }
 
 /// Adds what an archive says of itself.
-fn push_meta_data(page: &mut Text, meta_data: &MetaData) -> Result<(), NoMemory> {
-    page.push_literal("<dl>\n")?;
-    push_said(page, "<dt>Contributor</dt><dd>", &meta_data.contributor)?;
-    push_said(page, "<dt>Date</dt><dd>", &meta_data.date)?;
-    push_said(page, "<dt>Country</dt><dd>", &meta_data.country)?;
-    push_said(page, "<dt>Description</dt><dd>", &meta_data.description)?;
-    push_said(page, "<dt>Publication</dt><dd>", &meta_data.publication)?;
-    push_said(page, "<dt>Remarks</dt><dd>", &meta_data.remarks)?;
-    page.push_literal("</dl>\n")
+fn push_meta_data(page: &mut Draft, meta_data: &MetaData) {
+    page.push_literal("<dl>\n");
+    push_said(page, "<dt>Contributor</dt><dd>", &meta_data.contributor);
+    push_said(page, "<dt>Date</dt><dd>", &meta_data.date);
+    push_said(page, "<dt>Country</dt><dd>", &meta_data.country);
+    push_said(page, "<dt>Description</dt><dd>", &meta_data.description);
+    push_said(page, "<dt>Publication</dt><dd>", &meta_data.publication);
+    push_said(page, "<dt>Remarks</dt><dd>", &meta_data.remarks);
+    page.push_literal("</dl>\n");
 }
 
 /// What an archive is called.
-fn push_title(
-    page: &mut Text,
-    unnamed: &Text,
-    archive: &Archive,
-    after: &str,
-) -> Result<(), NoMemory>
+fn push_title(page: &mut Draft, unnamed: &Text, archive: &Archive, after: &str)
     requires { IsTrue (is_ascii after.now) }
 {
     let id = match &archive.id {
         Some(id) => &id.text,
         None => unnamed,
     };
-    push_between(page, "", whole_name(&archive.meta_data, id), after)
+    page.push_between("", whole_name(&archive.meta_data, id), after);
 }
 
 /// Adds what comes before the heading, and the heading.
-fn push_heading(page: &mut Text, unnamed: &Text, archive: &Archive) -> Result<(), NoMemory> {
-    page.push_literal("<!DOCTYPE html>\n<html lang=\"en\"><head><meta charset=\"utf-8\"><title>")?;
-    push_title(page, unnamed, archive, "</title>\n")?;
+fn push_heading(page: &mut Draft, unnamed: &Text, archive: &Archive) {
+    page.push_literal("<!DOCTYPE html>\n<html lang=\"en\"><head><meta charset=\"utf-8\"><title>");
+    push_title(page, unnamed, archive, "</title>\n");
     page.push_literal(
         "<meta name=\"viewport\" content=\"width=device-width,initial-scale=1\">\n<style>\n",
-    )?;
-    page.push_str(STYLE)?;
-    page.push_literal("</style></head><body><header><h1>")?;
-    push_title(page, unnamed, archive, "</h1>\n")
+    );
+    page.push_str(STYLE);
+    page.push_literal("</style></head><body><header><h1>");
+    push_title(page, unnamed, archive, "</h1>\n");
 }
 
 /// Adds how much the archive has, and what it says of itself.
-fn push_contents(page: &mut Text, archive: &Archive, solutions: usize) -> Result<(), NoMemory> {
+fn push_contents(page: &mut Draft, archive: &Archive, solutions: usize) {
     let instances = archive.instances.len() as u128;
-    push_counted(page, "<p>Instances: ", instances, ", ")?;
-    push_counted(page, "solutions: ", solutions as u128, ".</p>\n")?;
-    match &archive.meta_data {
-        Some(meta_data) => push_meta_data(page, meta_data.said()),
-        None => Ok(()),
+    page.push_counted("<p>Instances: ", instances, ", ");
+    page.push_counted("solutions: ", solutions as u128, ".</p>\n");
+    if let Some(meta_data) = &archive.meta_data {
+        push_meta_data(page, meta_data.said());
     }
 }
 
 /// Adds the field to search by, and ends the header.
-fn push_search(page: &mut Text) -> Result<(), NoMemory> {
-    page.push_literal("<search><label for=\"find\">Find a resource or an event</label>\n")?;
+fn push_search(page: &mut Draft) {
+    page.push_literal("<search><label for=\"find\">Find a resource or an event</label>\n");
     page.push_literal(
         "<input id=\"find\" type=\"search\" autocomplete=\"off\"><ul id=\"found\" aria-live=\"polite\"></ul></search>\n",
-    )?;
+    );
     page.push_literal(
         "<noscript><p>Searching and sorting need scripts; all else works without.</p></noscript>\n",
-    )?;
-    page.push_literal("</header><main>\n")
+    );
+    page.push_literal("</header><main>\n");
 }
 
 /// Adds the beginning of the page: what archive it is, and how much it has.
-fn push_opening(
-    page: &mut Text,
-    unnamed: &Text,
-    archive: &Archive,
-    solutions: usize,
-) -> Result<(), NoMemory> {
-    push_heading(page, unnamed, archive)?;
-    push_contents(page, archive, solutions)?;
-    push_search(page)
-}
-
-/// The beginning of the page: what archive it is, and how much it has.
-pub(crate) fn opening(
-    alloc: Global,
-    archive: &Archive,
-    solutions: usize,
-) -> Result<Text, NoMemory> {
-    let unnamed = Text::from_str(alloc, "Timetables")?;
-    let mut page = Text::new(alloc);
-    push_opening(&mut page, &unnamed, archive, solutions)?;
-    Ok(page)
+pub(crate) fn push_opening(alloc: Global, page: &mut Draft, archive: &Archive, solutions: usize) {
+    match Text::from_str(alloc, "Timetables") {
+        Ok(unnamed) => push_heading(page, &unnamed, archive),
+        Err(NoMemory) => page.refuse(),
+    }
+    push_contents(page, archive, solutions);
+    push_search(page);
 }
 
 /// Adds that the timetables of the solutions from one on are not shown.
-fn push_not_shown(page: &mut Text, shown: u32, solutions: u32) -> Result<(), NoMemory> {
+fn push_not_shown(page: &mut Draft, shown: u32, solutions: u32) {
     if shown >= solutions {
-        return Ok(());
+        return;
     }
-    push_counted(
-        page,
+    page.push_counted(
         "<section><h2>Not shown</h2><p id=\"rest\">The timetables of solutions from ",
         u128::from(shown),
         " on ",
-    )?;
-    page.push_literal("are not shown, so that the page does not grow too large.</p>\n")?;
+    );
+    page.push_literal("are not shown, so that the page does not grow too large.</p>\n");
     for number in shown..solutions {
-        push_counted(page, "<p id=\"s", u128::from(number), "\">Solution ")?;
-        push_counted(page, "", u128::from(number), " is not shown.</p>\n")?;
+        page.push_counted("<p id=\"s", u128::from(number), "\">Solution ");
+        page.push_counted("", u128::from(number), " is not shown.</p>\n");
     }
-    page.push_literal("</section>\n")
+    page.push_literal("</section>\n");
 }
 
 /// Ends the page.
-fn push_end(page: &mut Text) -> Result<(), NoMemory> {
-    page.push_literal("</main><script>\n")?;
-    page.push_str(SCRIPT)?;
-    page.push_literal("</script></body></html>\n")
+fn push_end(page: &mut Draft) {
+    page.push_literal("</main><script>\n");
+    page.push_str(SCRIPT);
+    page.push_literal("</script></body></html>\n");
 }
 
 /// The end of the page, where timetables from one solution on are not shown.
 pub(crate) fn closing(alloc: Global, shown: u32, solutions: usize) -> Result<Text, NoMemory> {
     let solutions = u32::try_from(solutions).unwrap_or(u32::MAX);
-    let mut page = Text::new(alloc);
-    push_not_shown(&mut page, shown, solutions)?;
-    push_end(&mut page)?;
-    Ok(page)
+    let mut page = Draft::new(alloc);
+    push_not_shown(&mut page, shown, solutions);
+    push_end(&mut page);
+    page.into_text()
 }

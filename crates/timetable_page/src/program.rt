@@ -16,7 +16,8 @@ ghost use Rattle.timetable_page.specs.Refusals as refusals;
 ghost use Rattle.timetable_page.specs.Words.{asked};
 ghost use Rattle.xhstt_completion.specs.Completed as completion;
 
-use crate::opening::{closing, opening};
+use crate::draft::Draft;
+use crate::opening::{closing, push_opening};
 use crate::outcomes::outcomes;
 use crate::parts::{Parts, Spelled};
 use crate::refusing::refusal_page;
@@ -315,8 +316,8 @@ fn write_sections<K: Sink>(
     Ok(shown)
 }
 
-/// Adds the summary of all solutions.
-fn push_results(alloc: Global, text: &mut Text, parts: &Parts<'_>) -> Result<(), NoMemory>
+/// The beginning of the page with the summary.
+fn first_part(alloc: Global, parts: &Parts<'_>) -> Result<Text, NoMemory>
     requires ones { AreOnes parts.now.resolved.now 0 (map (λ x. x.now) parts.now.raws.now) }
     requires few { length parts.now.raws.now < 2 ^ 32 }
     requires rooms { parts.now.rooms.now ≡ map room_for parts.now.resolved.now.instances }
@@ -328,18 +329,10 @@ fn push_results(alloc: Global, text: &mut Text, parts: &Parts<'_>) -> Result<(),
         instances: parts.resolved.of.as_slice(),
         groups: parts.groups,
     };
-    push_summary(alloc, text, &results)
-}
-
-/// The beginning of the page with the summary.
-fn first_part(alloc: Global, parts: &Parts<'_>) -> Result<Text, NoMemory>
-    requires ones { AreOnes parts.now.resolved.now 0 (map (λ x. x.now) parts.now.raws.now) }
-    requires few { length parts.now.raws.now < 2 ^ 32 }
-    requires rooms { parts.now.rooms.now ≡ map room_for parts.now.resolved.now.instances }
-{
-    let mut text = opening(alloc, parts.archive, parts.raws.len())?;
-    push_results(alloc, &mut text, parts)?;
-    Ok(text)
+    let mut page = Draft::new(alloc);
+    push_opening(alloc, &mut page, parts.archive, parts.raws.len());
+    push_summary(alloc, &mut page, &results);
+    page.into_text()
 }
 
 /// Writes the sections and the end of a page whose beginning waits.

@@ -1,22 +1,21 @@
 //! The part of the page on one solution.
 
-ghost use Rattle.std.specs.Prelude.{◌≡◌, ◌++◌, OnOk, IfOk, IsTrue, length, map};
-ghost use Rattle.khe_base.specs.Text.{is_ascii};
+ghost use Rattle.std.specs.Prelude.{◌≡◌, ◌++◌, OnOk, IfOk, length, map};
 ghost use Rattle.parallel_solve.specs.declared.verdicts.Verdict.TheVariants.{Valid as ValidVerdict, Invalid as InvalidVerdict};
 ghost use Rattle.timetable_page.specs.Pages.{IsSection};
 ghost use Rattle.timetable_page.specs.Pieces as spec;
 
 use crate::busy::{list_at, timetable_of};
-use crate::costs::{Defect, PageSolution, cost_of, dearest_first, page_solution, push_spent};
+use crate::costs::{Defect, PageSolution, cost_of, dearest_first, page_solution};
 use crate::defects::push_defects;
+use crate::draft::Draft;
 use crate::events::push_events;
 use crate::grids::push_grids;
 use crate::layout::layout_of;
-use crate::marking::{push_between, push_counted, push_place, push_totals};
+use crate::marking::{push_invalid, push_totals};
 use crate::naming::{constraint_name, instance_name};
 use crate::parts::Spelled;
 use crate::view::View;
-use fault_tables::cause_name;
 use khe_base::{CostFn, NoMemory, Seq, Text, Totals};
 use khe_instance::{Constraint, Instance, Plain, Rule};
 use plain_eval::Values;
@@ -24,27 +23,26 @@ use std::alloc::Global;
 use xhstt_shape::RawInstance;
 
 /// The head of a section: the number of the solution, its instance and its group.
-fn push_head(page: &mut Text, spelled: &Spelled<'_>) -> Result<(), NoMemory> {
+fn push_head(page: &mut Draft, spelled: &Spelled<'_>) {
     let number = u128::from(spelled.number);
-    push_counted(page, "<section class=\"sol\" id=\"s", number, "\">")?;
-    push_counted(page, "<h2>Solution ", number, ": ")?;
-    push_between(page, "", instance_name(spelled.instance), " ")?;
-    push_between(page, "<small>by ", spelled.group, "</small></h2>\n")?;
+    page.push_counted("<section class=\"sol\" id=\"s", number, "\">");
+    page.push_counted("<h2>Solution ", number, ": ");
+    page.push_between("", instance_name(spelled.instance), " ");
+    page.push_between("<small>by ", spelled.group, "</small></h2>\n");
     let solution = spelled.solution;
     if let Some(description) = &solution.description {
-        push_between(page, "<p>", description, "</p>\n")?;
+        page.push_between("<p>", description, "</p>\n");
     }
     if let Some(running_time) = &solution.running_time {
-        push_between(page, "<p>Running time: ", running_time, "</p>\n")?;
+        page.push_between("<p>Running time: ", running_time, "</p>\n");
     }
-    Ok(())
 }
 
 /// The head of a section, as a text of its own.
 fn head_of(alloc: Global, spelled: &Spelled<'_>) -> Result<Text, NoMemory> {
-    let mut page = Text::new(alloc);
-    push_head(&mut page, spelled)?;
-    Ok(page)
+    let mut page = Draft::new(alloc);
+    push_head(&mut page, spelled);
+    page.into_text()
 }
 
 /// Adds what a section says of the totals of a valid solution.
@@ -90,24 +88,6 @@ fn push_cause(page: &mut Text, cause: u32, entry: u32) -> Result<(), NoMemory>
     page.push_literal("</p></section>\n")
 }
 
-/// Adds why and at which entry a solution is invalid.
-pub(crate) fn push_invalid(page: &mut Text, cause: u32, entry: u32) -> Result<(), NoMemory>
-    ensures { OnOk result (page.new ≡ page.old ++ spec.invalid_text cause entry) }
-{
-    page.push_literal("invalid: ")?;
-    page.push_literal(name_of(cause))?;
-    push_counted(page, " at entry ", u128::from(entry), "")
-}
-
-/// The name of a cause.
-#[tactic(auto, unfolding(crate::specs::Pieces::name_of_cause))]
-fn name_of(cause: u32) -> &'static str
-    ensures name { result.now ≡ spec.name_of_cause cause }
-    ensures ascii { IsTrue (is_ascii result.now) }
-{
-    cause_name(cause).unwrap_or("")
-}
-
 /// The name of a kind of constraints.
 pub(crate) fn kind_name(rule: &Rule) -> &'static str {
     match rule {
@@ -147,81 +127,73 @@ fn cost_function(cost: CostFn) -> &'static str {
 /// Adds the row of a constraint: its kind, its name, whether it is required, its weight, how many monitors deviate,
 /// and what they cost together.
 fn push_constraint_row(
-    page: &mut Text,
+    page: &mut Draft,
     number: u32,
     raw: &RawInstance,
     which: u32,
     constraint: &Constraint,
     defects: &[Defect],
-) -> Result<(), NoMemory> {
-    push_place(page, "<tr id=\"s", number, "c", which, "\"><td>")?;
-    page.push_str(kind_name(&constraint.rule))?;
-    push_between(
-        page,
+) {
+    page.push_place("<tr id=\"s", number, "c", which, "\"><td>");
+    page.push_str(kind_name(&constraint.rule));
+    page.push_between(
         "</td><th scope=\"row\">",
         constraint_name(raw, which),
         "</th><td>",
-    )?;
-    page.push_str(hardness(constraint.required))?;
-    push_counted(
-        page,
+    );
+    page.push_str(hardness(constraint.required));
+    page.push_counted(
         "</td><td class=\"num\">",
         u128::from(constraint.weight),
         " ",
-    )?;
-    page.push_str(cost_function(constraint.cost))?;
-    push_spent(page, defects.len(), cost_of(defects))
+    );
+    page.push_str(cost_function(constraint.cost));
+    page.push_spent(defects.len(), cost_of(defects));
 }
 
 /// Adds the row of one constraint, and below it the monitors that deviate.
 fn push_constraint(
     alloc: Global,
-    page: &mut Text,
+    page: &mut Draft,
     view: &View<'_>,
     which: u32,
     defects: &[Defect],
-) -> Result<(), NoMemory> {
+) {
     if which >= view.inst.constraints() {
-        return Ok(());
+        return;
     }
     let constraint = view.inst.constraint(which);
-    push_constraint_row(page, view.number, view.raw, which, constraint, defects)?;
+    push_constraint_row(page, view.number, view.raw, which, constraint, defects);
     if !defects.is_empty() {
-        push_defects(alloc, page, view, &constraint.rule, defects)?;
+        push_defects(alloc, page, view, &constraint.rule, defects);
     }
-    Ok(())
 }
 
 /// Adds the table of what the solution costs by constraint, in the order of the instance, those first of which a
 /// monitor deviates.
-fn push_costs(
-    alloc: Global,
-    page: &mut Text,
-    view: &View<'_>,
-    defects: &Seq<Seq<Defect>>,
-) -> Result<(), NoMemory> {
+fn push_costs(alloc: Global, page: &mut Draft, view: &View<'_>, defects: &Seq<Seq<Defect>>) {
     page.push_literal(
         "<details open><summary>Costs by constraint</summary><div class=\"wide\"><table class=\"costs\">",
-    )?;
-    page.push_literal("<thead><tr><th scope=\"col\">Kind</th><th scope=\"col\">Constraint</th>")?;
-    page.push_literal("<th scope=\"col\">Counts as</th><th scope=\"col\">Weight</th>")?;
+    );
+    page.push_literal("<thead><tr><th scope=\"col\">Kind</th><th scope=\"col\">Constraint</th>");
+    page.push_literal("<th scope=\"col\">Counts as</th><th scope=\"col\">Weight</th>");
     page.push_literal(
         "<th scope=\"col\">Deviate</th><th scope=\"col\">Cost</th></tr></thead><tbody>\n",
-    )?;
+    );
     for which in 0..view.inst.constraints() {
         let list = list_at(defects, which);
         if !list.is_empty() {
-            push_constraint(alloc, page, view, which, list)?;
+            push_constraint(alloc, page, view, which, list);
         }
     }
-    page.push_literal("</tbody><tbody class=\"fine\">\n")?;
+    page.push_literal("</tbody><tbody class=\"fine\">\n");
     for which in 0..view.inst.constraints() {
         let list = list_at(defects, which);
         if list.is_empty() {
-            push_constraint(alloc, page, view, which, list)?;
+            push_constraint(alloc, page, view, which, list);
         }
     }
-    page.push_literal("</tbody></table></div></details>\n")
+    page.push_literal("</tbody></table></div></details>\n");
 }
 
 /// Puts the defects of each constraint in order, the dearest first.
@@ -246,15 +218,15 @@ fn defects_of(alloc: Global, inst: &Instance, values: &Values) -> Result<Seq<Seq
 /// Adds what a section has below the totals: the costs by constraint, the timetables and the events.
 fn push_below(
     alloc: Global,
-    page: &mut Text,
+    page: &mut Draft,
     view: &View<'_>,
     defects: &Seq<Seq<Defect>>,
     deviations: &[u64],
-) -> Result<(), NoMemory> {
-    push_costs(alloc, page, view, defects)?;
-    push_grids(alloc, page, view, deviations)?;
-    push_events(page, view)?;
-    page.push_literal("</section>\n")
+) {
+    push_costs(alloc, page, view, defects);
+    push_grids(alloc, page, view, deviations);
+    push_events(page, view);
+    page.push_literal("</section>\n");
 }
 
 /// What a section has below the totals, as a text of its own.
@@ -262,15 +234,15 @@ fn below(alloc: Global, view: &View<'_>, values: &Values) -> Result<Text, NoMemo
     requires { (length values.now.deviations ≡ length view.now.inst.now.monitors) × (length values.now.costs ≡ length view.now.inst.now.monitors) }
 {
     let defects = defects_of(alloc, view.inst, values)?;
-    let mut page = Text::new(alloc);
+    let mut page = Draft::new(alloc);
     push_below(
         alloc,
         &mut page,
         view,
         &defects,
         values.deviations.as_slice(),
-    )?;
-    Ok(page)
+    );
+    page.into_text()
 }
 
 /// What a section has below the totals, of the timetable of a solution.
