@@ -1,3 +1,4 @@
+mod Claimed
 pub mod FreshLaws
 pub mod MatchingLemmas
 pub mod PlaceLaws

@@ -1,2 +1,4 @@
+pub mod Drawing
 pub mod HandGraphs
+pub mod Looking
 pub mod Matchings
