@@ -78,7 +78,6 @@ fn keep(journal: &mut Journal<Back>, back: Back)
 }
 
 /// Makes an accepted edit of meets and tasks, for which there is room.
-#[tactic(auto, using(crate::proofs::StateLaws::other_sort, crate::proofs::StateLaws::refusal_meets, crate::proofs::StateLaws::edited_meets, crate::proofs::StateLaws::made_meets, crate::proofs::StateLaws::changes_meets, crate::proofs::StateLaws::recorded_meets))]
 fn edit_meets<F: Family, L: Ledger>(
     inst: &Instance,
     solution: &mut Solution<'_>,
@@ -120,7 +119,6 @@ fn edit_meets<F: Family, L: Ledger>(
 }
 
 /// Makes an accepted edit of monitors and groups, for which there is room.
-#[tactic(auto, using(crate::proofs::StateLaws::refusal_groups, crate::proofs::StateLaws::edited_groups, crate::proofs::StateLaws::made_groups, crate::proofs::StateLaws::changes_groups, crate::proofs::StateLaws::recorded_groups, crate::proofs::ValueLaws::values_kept))]
 fn edit_groups<F: Family, L: Ledger>(
     inst: &Instance,
     solution: &mut Solution<'_>,
