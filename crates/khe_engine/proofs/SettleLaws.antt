@@ -4,7 +4,7 @@ use Rattle.std.proofs.Common.{ℕ, ◌≡◌, ◌<◌, ◌≤◌, ◌⊎◌, ◌
 use Rattle.std.proofs.Common.{length, get_or, set, slice_get, refl, sym, ap, ◌∙◌, subst, arith, ◌+◌, zero, suc}
 use Rattle.std.specs.List.{count_by, sum_by}
 use Rattle.std.specs.Option.{option_map}
-use Rattle.std.specs.Prelude.{IfOk, Result, Ok, Err, replicate}
+use Rattle.std.specs.Prelude.{IfOk, IfSome, Option, None, Result, Ok, Err, replicate}
 use Rattle.std.proofs.Math.Dec.{eqb}
 use Rattle.std.proofs.lemmas.Bool.{both_ways}
 use Rattle.std.proofs.lemmas.Bool.Decides.{eqb_tells}
@@ -35,6 +35,12 @@ pub left_measured : (p : Parts) (served : Kind → Bool) (waits : ℕ → Bool) 
 left_measured p served waits s t b all h unmoved i m at w = value_at p s b i m h at
     ∙ ap Some (sym (unmoved i m at (all m.kind) w))
 
+-- where every kind is served, that of each monitor is
+pub served_all : (served : Kind → Bool) (o : Option Monitor) → ServesAll served
+    → IfSome o (λ (m : Monitor). served m.kind ≡ true)
+served_all served None all = tt
+served_all served (Some m) all = all m.kind
+
 -- one that waits is measured
 pub value_of : (p : Parts) (s : List Slot) (m : Monitor) (k r : ℕ) → slice_get p.monitors k ≡ Some m
     → option_map (deviation_in p s) (slice_get p.monitors k) ≡ Some r → Some r ≡ Some (deviation_in p s m)
@@ -53,6 +59,20 @@ measured_one p s ds flags k r long l e h i m at w = go (eqb_tells k i)
         ∙ value_of p s m k r (ap (slice_get p.monitors) a.1 ∙ at) e
     go (inr b) = get-other ds k i r b.1
         ∙ h i m at (sym (get_or-set_other flags k i false false (λ q. b.1 (sym q))) ∙ w)
+
+-- one more is measured, in the order of their numbers
+pub set_more : (p : Parts) (s : List Slot) (ds : List ℕ) (n r : ℕ) → length ds ≡ length p.monitors → n < length p.monitors
+    → option_map (deviation_in p s) (slice_get p.monitors n) ≡ Some r
+    → ((i : ℕ) (m : Monitor) → i < n → slice_get p.monitors i ≡ Some m → slice_get ds i ≡ Some (deviation_in p s m))
+    → (i : ℕ) (m : Monitor) → i < n + 1 → slice_get p.monitors i ≡ Some m
+    → slice_get (set ds n r) i ≡ Some (deviation_in p s m)
+set_more p s ds n r long l e h i m below at = go (eqb_tells n i)
+  where
+    go : ((eqb n i ≡ true) × (n ≡ i)) ⊎ ((eqb n i ≡ false) × (n ≢ i))
+        → slice_get (set ds n r) i ≡ Some (deviation_in p s m)
+    go (inl a) = ap (slice_get (set ds n r)) (sym a.1) ∙ get-set ds n r (omega (arith, l, long))
+        ∙ value_of p s m n r (ap (slice_get p.monitors) a.1 ∙ at) e
+    go (inr b) = get-other ds n i r b.1 ∙ h i m (let other = b.1 in omega (arith, below, other)) at
 
 -- who waits after that is another
 pub another_waits : (flags : List Bool) (k i : ℕ) → k < length flags → get_or (set flags k false) i false ≡ true

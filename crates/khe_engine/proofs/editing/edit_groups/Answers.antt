@@ -1,4 +1,4 @@
-use Rattle.std.proofs.Common.{◌≡◌, None, Ok, sym, ap, subst, refl, ◌∙◌, arith}
+use Rattle.std.proofs.Common.{◌≡◌, None, Ok, sym, ap, subst, ◌∙◌, arith}
 use Rattle.monitor_graph.specs.Boards.{grouping_of}
 use Rattle.monitor_graph.specs.Edits as groups
 use Rattle.khe_engine.specs.Records.{IsRecorded}
@@ -25,9 +25,9 @@ pub unreachable-requires : goal.unreachable-requires
 unreachable-requires g c =
     let s = state_of c.args.solution.now.slots c.args.listeners.now.graph in
     let accepted : groups.refusal s.grouping c.args.edit ≡ None =
-        sym (refusal_groups c.args.inst.now s c.args.edit c.requires.sort) ∙ c.requires.accepted in
+    sym (refusal_groups c.args.inst.now s c.args.edit c.requires.sort) ∙ c.requires.accepted in
     let ok : c.edit.result ≡ Ok (groups.made s.grouping c.args.edit) =
-        c.edit.ensures.answer ∙ ap (λ o. groups.answer o (groups.made s.grouping c.args.edit)) accepted in
+    c.edit.ensures.answer ∙ ap (λ o. groups.answer o (groups.made s.grouping c.args.edit)) accepted in
     c.in_default.not-Ok (groups.made s.grouping c.args.edit) ok
 
 pub returns : goal.returns
@@ -42,9 +42,9 @@ returns g c =
     let since2 = c.keep.new.journal.since in
     let rest = c.edit.ensures.rest in
     let accepted : groups.refusal s.grouping e ≡ None =
-        sym (refusal_groups p s e c.requires.sort) ∙ c.requires.accepted in
+    sym (refusal_groups p s e c.requires.sort) ∙ c.requires.accepted in
     let ok : c.edit.result ≡ Ok (groups.made s.grouping e) =
-        c.edit.ensures.answer ∙ ap (λ o. groups.answer o (groups.made s.grouping e)) accepted in
+    c.edit.ensures.answer ∙ ap (λ o. groups.answer o (groups.made s.grouping e)) accepted in
     let made : c.in-Ok.made ≡ groups.made s.grouping e = cc ok in
     let there : grouping_of new ≡ groups.edited s.grouping e = c.in-Ok.ensures.grouping in
     let now : s2 ≡ record s { grouping = groups.edited s.grouping e } = λ i. record {

@@ -43,8 +43,8 @@ pub unreachable-requires : goal.unreachable-requires
 unreachable-requires g c =
     let s = state_of c.args.solution.now.slots c.args.listeners.now.graph in
     let accepted : refusing.refusal c.args.solution.now.parts s.slots c.args.edit ≡ None =
-        ap (λ (q : Parts). refusing.refusal q s.slots c.args.edit) c.requires.parts
-        ∙ sym (refusal_meets c.args.inst.now s c.args.edit c.requires.sort) ∙ c.requires.accepted in
+    ap (λ (q : Parts). refusing.refusal q s.slots c.args.edit) c.requires.parts
+    ∙ sym (refusal_meets c.args.inst.now s c.args.edit c.requires.sort) ∙ c.requires.accepted in
     c.in_default.not-Ok (editing.made s.slots c.args.edit)
     (c.edit.ensures.answer ∙ ap (λ o. editing.answer o (editing.made s.slots c.args.edit)) accepted)
 
@@ -62,23 +62,23 @@ returns g c =
     let s2 = state_of after new in
     let said = c.in-Ok.ensures in
     let accepted : refusing.refusal c.args.solution.now.parts slots e ≡ None =
-        ap (λ (q : Parts). refusing.refusal q slots e) c.requires.parts
-        ∙ sym (refusal_meets p s e sort) ∙ c.requires.accepted in
+    ap (λ (q : Parts). refusing.refusal q slots e) c.requires.parts
+    ∙ sym (refusal_meets p s e sort) ∙ c.requires.accepted in
     let ok : c.edit.result ≡ Ok (editing.made slots e) =
-        c.edit.ensures.answer ∙ ap (λ o. editing.answer o (editing.made slots e)) accepted in
+    c.edit.ensures.answer ∙ ap (λ o. editing.answer o (editing.made slots e)) accepted in
     let made : c.in-Ok.made ≡ editing.made slots e = cc ok in
     let of : g.F.Family.IsOf fs p × ServesAll g.F.Family.serves_kind × HasValues p (g.F.Family.told fs) new
-        × IsIdle p c.edit.new.watcher.waiting =
-        subst (λ (q : Parts). g.F.Family.IsOf fs q × ServesAll g.F.Family.serves_kind
-        × HasValues q (g.F.Family.told fs) new × IsIdle q c.edit.new.watcher.waiting) c.requires.parts said.of in
+    × IsIdle p c.edit.new.watcher.waiting =
+    subst (λ (q : Parts). g.F.Family.IsOf fs q × ServesAll g.F.Family.serves_kind
+    × HasValues q (g.F.Family.told fs) new × IsIdle q c.edit.new.watcher.waiting) c.requires.parts said.of in
     let now : s2 ≡ record s { slots = editing.edited slots e } = λ i. record {
       slots = said.slots i;
       grouping = sym said.rest.grouping i;
     } in
     let counts : watcher_counts c.args.solution.now.parts slots (changing.changes slots e)
-        ≡ watcher_counts p slots (changes s e) =
-        ap (λ (q : Parts). watcher_counts q slots (changing.changes slots e)) c.requires.parts
-        ∙ ap (watcher_counts p slots) (sym (changes_meets s e sort)) in
+    ≡ watcher_counts p slots (changes s e) =
+    ap (λ (q : Parts). watcher_counts q slots (changing.changes slots e)) c.requires.parts
+    ∙ ap (watcher_counts p slots) (sym (changes_meets s e sort)) in
     record {
       parts = said.parts ∙ c.requires.parts;
       of = of.0;

@@ -2,7 +2,7 @@
 use Rattle.std.proofs.Common.{◌<◌, get_or, length, slice_get, length-set, sym, ap, ◌∙◌, arith}
 use Rattle.std.specs.Prelude.{Bool, List, ℕ, false}
 use Rattle.monitor_graph.specs.Boards.{deviations_of}
-use Rattle.khe_engine.proofs.SettleLaws.{measured_one}
+use Rattle.khe_engine.proofs.SettleLaws.{measured_one, served_all}
 use Rattle.khe_engine.proofs.ValueLaws.{all_set}
 use Rattle.khe_engine.proofs.settling.settle.Goals as goal
 
@@ -11,6 +11,13 @@ returns-clause-values g c =
     let v = c.loop-monitor.invariant in
     all_set c.args.inst.now (g.F.Family.told c.args.families.now) c.args.graph.now c.loop-monitor.graph c.requires.rates
     v.rest v.many (λ i m at. v.others i m at (c.in_default.ensures.2 i))
+
+pub deviation-deviation-requires : goal.deviation-deviation-requires
+deviation-deviation-requires g c = record {
+  of = c.requires.of;
+  known = let a = c.in-Some.ensures.0 in let b = c.loop-monitor.invariant.monitors in omega (arith, a, b);
+  served = served_all g.F.Family.serves_kind (slice_get c.args.inst.now.monitors c.in-Some.monitor.0) c.requires.serves;
+}
 
 pub set-requires : goal.set-requires
 set-requires g c = record {

@@ -1,13 +1,47 @@
 -- What waits still costs nothing now, or was measured.
-use Rattle.std.proofs.Common.{◌<◌, ◌∙◌, length, length-set, subst, sym, ap, arith}
+use Rattle.std.proofs.Common.{◌<◌, ◌∙◌, length, length-set, slice_get, subst, sym, ap, arith}
 use Rattle.std.specs.Prelude.{Bool, List, false}
 use Rattle.khe_base.specs.Totals.{is_lower}
 use Rattle.khe_base.specs.declared.sums.Totals.{Totals}
 use Rattle.khe_told.specs.Waits.{waits_in}
+use Rattle.monitor_graph.proofs.ValueLaws.{as_many}
 use Rattle.khe_engine.specs.Lower.{AreOpen}
 use Rattle.std.proofs.Common.{get_or}
 use Rattle.khe_engine.proofs.LowerLaws.{open_done, open_least, open_more, open_passed}
+use Rattle.khe_engine.proofs.SettleLaws.{served_all}
 use Rattle.khe_engine.proofs.trials.is_lower_measured.Goals as goal
+
+pub deviation-requires : goal.deviation-requires
+deviation-requires g c =
+    let a = c.in-Some.ensures.0 in
+    let b = c.loop-lowest.invariant.monitors in
+    let n = as_many c.args.graph.now c.args.inst.now c.requires.rates in
+    omega (arith, a, b, n)
+
+pub deviation-deviation-requires : goal.deviation-deviation-requires
+deviation-deviation-requires g c = record {
+  of = c.requires.of;
+  known = let a = c.in-Some.ensures.0 in let b = c.loop-lowest.invariant.monitors in omega (arith, a, b);
+  served = served_all g.F.Family.serves_kind (slice_get c.args.inst.now.monitors c.in-Some.monitor.0) c.requires.serves;
+}
+
+pub shift-requires : goal.shift-requires
+shift-requires g c =
+    let e = c.in-Some.ensures in
+    let h = c.loop-lowest.invariant.open_ in
+    record {
+      known =
+          let a = e.0 in
+          let b = c.loop-lowest.invariant.monitors in
+          let n = as_many c.args.graph.now c.args.inst.now c.requires.rates in
+          omega (arith, a, b, n);
+      small = c.deviation-deviation.ensures.small;
+      before = (
+        h.ds,
+        h.totals_,
+        h.still c.in-Some.monitor.0 e.1 (sym c.deviation.ensures ∙ c.if-deviation-eq0.true),
+      );
+    }
 
 pub loop-lowest-preserved : goal.loop-lowest-preserved
 loop-lowest-preserved g c =

@@ -1,5 +1,5 @@
 -- The list has each once, so what is at its place was not measured before.
-use Rattle.std.proofs.Common.{◌+◌, List, take, get_or, subst, sym, inl, arith}
+use Rattle.std.proofs.Common.{◌+◌, List, slice_get, take, get_or, subst, sym, inl, arith}
 use Rattle.std.proofs.lemmas.List.{take_all, take_more}
 use Rattle.khe_base.specs.declared.sums.Totals.{Totals}
 use Rattle.khe_base.specs.declared.numbers.MonitorId.{MonitorId}
@@ -7,6 +7,7 @@ use Rattle.khe_told.proofs.WaitingLaws.{within}
 use Rattle.monitor_graph.proofs.ValueLaws.{as_many}
 use Rattle.khe_engine.specs.Lower.{AreBegun}
 use Rattle.khe_engine.proofs.LowerLaws.{begun_more, begun_passed, begun_start, listed_waits, not_before, open_start}
+use Rattle.khe_engine.proofs.SettleLaws.{served_all}
 use Rattle.khe_engine.proofs.trials.measure_defects.Goals as goal
 use Rattle.khe_engine.proofs.trials.measure_defects.Goals.{then-deviation-gt0, else-deviation-gt0}
 
@@ -21,6 +22,32 @@ loop-monitor-init g c = record {
 
 pub deviation-requires : goal.deviation-requires
 deviation-requires g c =
+    let list = c.as_slice-monitor-items.result.now in
+    let k = c.loop-monitor.monitor-index in
+    let flags = c.args.waiting.now.flags in
+    let l = within flags (get_or list k none).0
+    (listed_waits list flags k none c.as_slice-monitor-items.ensures c.loop-monitor-test.true) in
+    let m = c.requires.monitors in
+    let n = as_many c.args.graph.now c.args.inst.now c.requires.rates in
+    omega (arith, l, m, n)
+
+pub deviation-deviation-requires : goal.deviation-deviation-requires
+deviation-deviation-requires g c =
+    let list = c.as_slice-monitor-items.result.now in
+    let k = c.loop-monitor.monitor-index in
+    let flags = c.args.waiting.now.flags in
+    let l = within flags (get_or list k none).0
+    (listed_waits list flags k none c.as_slice-monitor-items.ensures c.loop-monitor-test.true) in
+    let m = c.requires.monitors in
+    record {
+      of = c.requires.of;
+      known = omega (arith, l, m);
+      served = served_all g.F.Family.serves_kind (slice_get c.args.inst.now.monitors (get_or list k none).0)
+          c.requires.serves;
+    }
+
+pub shift-requires-clause-known : goal.shift-requires-clause-known
+shift-requires-clause-known g c =
     let list = c.as_slice-monitor-items.result.now in
     let k = c.loop-monitor.monitor-index in
     let flags = c.args.waiting.now.flags in
