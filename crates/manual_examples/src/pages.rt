@@ -78,7 +78,7 @@ fn compare_made<R: Files + Print + Alloc>(
         Ok(text) => {
             let wanted = End {
                 status,
-                text: front_of(text.as_str(), room as usize),
+                text: front_of(text.as_str(), usize::try_from(room).unwrap_or(usize::MAX)),
             };
             let ran = run(rt, alloc, command, room);
             note_run(rt, tally, command, &ran, wanted);
