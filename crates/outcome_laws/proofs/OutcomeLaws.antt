@@ -2,8 +2,8 @@
 use Rattle.std.proofs.Common.{ℕ, ◌≡◌, ◌∙◌, refl, sym, true, false, Option, Some, None, IfSome, List, arith}
 use Rattle.khe_app.specs.Outcome.{IsOutcome, IsOutcomeOf}
 use Rattle.reading_commands.specs.Lines.{not_understood_line}
-use Rattle.reading_commands.specs.Words.{Asked, asked, checking, constructing, evaluating, is_read, making, matching, repairing, running}
-use Rattle.reading_commands.specs.Words.{scripting, solving}
+use Rattle.command_words.specs.Words.{Asked, asked, checking, constructing, evaluating, is_read, making, matching, repairing, running}
+use Rattle.command_words.specs.Words.{scripting, solving}
 use Rattle.outcome_laws.specs.Outcomes.{AreOne, HasOneOutcome, Shelf, leaves_choice}
 use Rattle.outcome_laws.proofs.AnswerLaws.{Answer, both}
 use Rattle.outcome_laws.proofs.ConstructLaws.{construct_there, constructs}

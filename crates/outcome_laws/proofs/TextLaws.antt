@@ -8,7 +8,7 @@ use Rattle.reading_commands.specs.Outcome.{IsSpellingTo}
 use Rattle.archive_reading.specs.Starting.{Start, barred, begins, start_of}
 use Rattle.archive_reading.specs.Reading.{Reading, evaluable, refused}
 use Rattle.reading_commands.specs.Outcome.{spelling_of, status_of}
-use Rattle.reading_commands.specs.Words.{checking, repairing, solving}
+use Rattle.command_words.specs.Words.{checking, repairing, solving}
 use Rattle.text_laws.specs.Read.{IsArchiveOf}
 use Rattle.text_laws.proofs.RepairedLaws.{read_again, repair_no_dearer, solve_no_dearer}
 use Rattle.xhstt_resolve.specs.declared.resolving.Resolved.{Resolved}

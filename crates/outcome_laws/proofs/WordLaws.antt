@@ -6,13 +6,13 @@ use Rattle.std.specs.Str.{bytes_eq}
 use Rattle.std.proofs.lemmas.Bool.Decides.{nat_tests}
 use Rattle.khe_base.specs.Digits.{long_number_of, number_of}
 use Rattle.khe_base.specs.declared.limits.TheConstants.{DIGITS, JOBS, MADE_EVENTS}
-use Rattle.reading_commands.specs.Words.{after_by, construct_by, construct_with, constructing}
-use Rattle.reading_commands.specs.Words.{scripted_by}
-use Rattle.reading_commands.specs.Words.{Asked, archive_by, asked, asked_by, budget_by, chains_by, depth_by, check_by, checking, crew_by, evaluating}
-use Rattle.reading_commands.specs.Words.{match_by, match_with, matching, placed_by}
-use Rattle.reading_commands.specs.Words.{job_by, jobs_by, made_by, make_by, making, number_by, number_to, options_by, repair_by}
-use Rattle.reading_commands.specs.Words.{repair_with, repairing, run_by, running, script_by, scripting, shares_by}
-use Rattle.reading_commands.specs.Words.{solve_by, solve_with, solving, told_by, value_of}
+use Rattle.command_words.specs.Words.{after_by, construct_by, construct_with, constructing}
+use Rattle.command_words.specs.Words.{scripted_by}
+use Rattle.command_words.specs.Words.{Asked, archive_by, asked, asked_by, budget_by, chains_by, depth_by, check_by, checking, crew_by, evaluating}
+use Rattle.command_words.specs.Words.{match_by, match_with, matching, placed_by}
+use Rattle.command_words.specs.Words.{job_by, jobs_by, made_by, make_by, making, number_by, number_to, options_by, repair_by}
+use Rattle.command_words.specs.Words.{repair_with, repairing, run_by, running, script_by, scripting, shares_by}
+use Rattle.command_words.specs.Words.{solve_by, solve_with, solving, told_by, value_of}
 
 abbrev pub IsAskable : Asked → Type 0
 IsAskable (evaluating archive all) = Unit {0}

@@ -1,7 +1,7 @@
 -- How many outcomes there are.
 use Rattle.std.specs.Prelude.{ℕ, ◌≡◌, Bool, true, false, Option, Some, List, encode_utf8_all}
 use Rattle.khe_app.specs.Outcome.{IsOutcome}
-use Rattle.reading_commands.specs.Words.{Asked, asked, is_read, matching}
+use Rattle.command_words.specs.Words.{Asked, asked, is_read, matching}
 
 -- what stands under each name
 abbrev pub Shelf : Type 0

@@ -6,7 +6,7 @@ use Rattle.khe_instance.specs.declared.states.Plain.{Plain}
 use Rattle.khe_app.specs.Outcome.{IsOutcomeOf}
 use Rattle.reading_commands.specs.Outcome.{IsRespelled}
 use Rattle.archive_reading.specs.Reading.{IsReadingOf, evaluable}
-use Rattle.reading_commands.specs.Words.{checking, repairing, solving}
+use Rattle.command_words.specs.Words.{checking, repairing, solving}
 use Rattle.text_laws.specs.Read.{IsTimetableOf}
 use Rattle.text_laws.specs.Repaired.{IsReadRepaired, IsReadSolved}
 use Rattle.text_laws.specs.Rewritten.{IsReadAgain}
