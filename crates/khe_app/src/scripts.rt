@@ -15,7 +15,7 @@ use khe_engine::Engine;
 use khe_instance::{Instance, Plain};
 use khe_io::{Cut, Sink};
 use reading_commands::Status;
-use script_run::{Shortages, asks_often, run};
+use script_run::{PutOff, Shortages, asks_often, run};
 use sixteen_families::Families;
 use std::alloc::Global;
 use tied_run::TiedPlayer;
@@ -88,9 +88,10 @@ fn play_on<K: Sink, F: Shortages + Drop>(
     ensures sink_faults { K.faults out.old ≤ K.faults out.new }
 {
     match Engine::<F>::open(alloc, inst, plain) {
-        Ok(mut engine) => {
-            let ended = run(alloc, &mut engine, script, out);
-            drop(engine);
+        Ok(engine) => {
+            let mut player = PutOff::new(engine);
+            let ended = run(alloc, &mut player, script, out);
+            drop(player);
             status_after(ended)
         }
         Err(NoMemory) => Status(6),

@@ -1,4 +1,5 @@
 pub mod CostLaws
+pub mod LateLaws
 pub mod ListedLaws
 pub mod LowerLaws
 pub mod MarkLaws

@@ -170,7 +170,7 @@ told_held e (suc k) (x ∷ s) =
     let c = told_held e k s in
     omega (arith, a, b, c)
 
-told_so_far : (p : Parts) (k : ℕ) (s : List Slot) → AreTold p s → AreTold p (told_to k s)
+pub told_so_far : (p : Parts) (k : ℕ) (s : List Slot) → AreTold p s → AreTold p (told_to k s)
 told_so_far p k s t = record {
   whose = told_whose k s ∙ t.whose;
   slots = told_slots p k s t.slots;

@@ -1,3 +1,4 @@
+pub mod Late
 pub mod Lower
 pub mod Openings
 pub mod Records

@@ -4,22 +4,19 @@
 ghost use Rattle.std.specs.Prelude.{ℕ, ◌≡◌, ◌≢◌, ◌≤◌, ◌+◌, [], true, false, None, Some, length, IfErr, IfOk, IsOk, OnErr, OnOk};
 ghost use Rattle.khe_told.specs.Watchers.{watcher_counts};
 ghost use Rattle.undo_paths.specs.Stack.{with_record};
-ghost use Rattle.monitor_graph.specs.Boards.{grouping_of};
 ghost use Rattle.monitor_graph.specs.Edits as groups;
 ghost use Rattle.monitor_graph.specs.Groups.{HasSeat, HaveAsMany};
 ghost use Rattle.khe_engine.specs.States.{state_of, refusal, edited, made, changes};
-ghost use Rattle.khe_engine.specs.Values.{HasValues, ServesAll};
-ghost use Rattle.khe_engine.specs.Settled.{IsIdle};
 ghost use Rattle.khe_engine.specs.Worlds.{IsCheck, IsFaultOf, grown};
 ghost use Rattle.khe_engine.specs.Records.{IsRecorded, MarksLead, records, saved_of};
 
 use crate::faults::EditFault;
-use crate::listeners::Listeners;
+use crate::regrouping::GraphWatcher;
 use crate::undoing::is_of_groups;
 use khe_base::NoMemory;
 use khe_instance::Instance;
 use khe_solution::Solution;
-use khe_told::{Back, Edit, Family, Refusal, Steps};
+use khe_told::{Back, Edit, Refusal, Steps};
 use monitor_graph::Graph;
 use std::sync::ledger::Ledger;
 use undo_paths::Journal;
@@ -51,17 +48,23 @@ fn room_for_record(journal: &mut Journal<Back>) -> Result<(), NoMemory>
 }
 
 /// A seat for the child that an edit adds, where it adds one, in its group.
-fn room_for_child(graph: &mut Graph, edit: &Edit) -> Result<(), NoMemory>
-    ensures lines { graph.new.lines ≡ graph.old.lines }
-    ensures groups { graph.new.groups ≡ graph.old.groups }
-    ensures marked { graph.new.marked ≡ graph.old.marked }
-    ensures seats { HaveAsMany graph.old.seats graph.new.seats }
-    ensures ok { OnOk result (groups.adds_child edit.now ≡ true → HasSeat graph.new.groups graph.new.seats (groups.adds_to edit.now)) }
-    ensures err { OnErr result (graph.new ≡ graph.old) }
+fn room_for_child<N: GraphWatcher>(
+    inst: &Instance,
+    listeners: &mut N,
+    edit: &Edit,
+) -> Result<(), NoMemory>
+    requires of { N.IsOf listeners.old inst.now }
+    ensures of { N.IsOf listeners.new inst.now }
+    ensures told { N.told listeners.new ≡ N.told listeners.old }
+    ensures lines { (N.board listeners.new).lines ≡ (N.board listeners.old).lines }
+    ensures groups { (N.board listeners.new).groups ≡ (N.board listeners.old).groups }
+    ensures marked { (N.board listeners.new).marked ≡ (N.board listeners.old).marked }
+    ensures seats { HaveAsMany (N.board listeners.old).seats (N.board listeners.new).seats }
+    ensures ok { OnOk result (groups.adds_child edit.now ≡ true → HasSeat (N.board listeners.new).groups (N.board listeners.new).seats (groups.adds_to edit.now)) }
     ensures there { groups.adds_child edit.now ≡ false → IsOk result }
 {
     if let Edit::AddChild { group, .. } = *edit {
-        graph.room(group, 1)?;
+        listeners.room(inst, group, 1)?;
     }
     Ok(())
 }
@@ -78,36 +81,31 @@ fn keep(journal: &mut Journal<Back>, back: Back)
 }
 
 /// Makes an accepted edit of meets and tasks, for which there is room.
-fn edit_meets<F: Family, L: Ledger>(
+fn edit_meets<N: GraphWatcher, L: Ledger>(
     inst: &Instance,
     solution: &mut Solution<'_>,
-    listeners: &mut Listeners<F>,
+    listeners: &mut N,
     journal: &mut Journal<Back>,
     edit: Edit,
     steps: &mut Steps<L>,
 ) -> Option<u32>
     requires sort { groups.is_of_groups edit ≡ false }
-    requires accepted { refusal inst.now (state_of solution.old.slots listeners.old.graph) edit ≡ None }
+    requires accepted { refusal inst.now (state_of solution.old.slots (N.board listeners.old)) edit ≡ None }
     requires room { journal.old.since ≢ [] → journal.old.spare ≢ 0 }
-    requires seat { groups.adds_child edit ≡ true → HasSeat listeners.old.graph.groups listeners.old.graph.seats (groups.adds_to edit) }
+    requires seat { groups.adds_child edit ≡ true → HasSeat (N.board listeners.old).groups (N.board listeners.old).seats (groups.adds_to edit) }
     requires parts { solution.old.parts ≡ inst.now }
-    requires of { F.IsOf listeners.old.families inst.now }
-    requires serves { ServesAll F.serves_kind }
-    requires told { F.told listeners.old.families ≡ solution.old.slots }
-    requires values { HasValues inst.now solution.old.slots listeners.old.graph }
-    requires idle { IsIdle inst.now listeners.old.waiting }
+    requires of { N.IsOf listeners.old inst.now }
+    requires told { N.told listeners.old ≡ solution.old.slots }
     ensures parts { solution.new.parts ≡ inst.now }
-    ensures of { F.IsOf listeners.new.families inst.now }
-    ensures told { F.told listeners.new.families ≡ solution.new.slots }
-    ensures values { HasValues inst.now solution.new.slots listeners.new.graph }
-    ensures idle { IsIdle inst.now listeners.new.waiting }
-    ensures marked { listeners.new.graph.marked ≡ listeners.old.graph.marked }
-    ensures seats { listeners.new.graph.seats ≡ listeners.old.graph.seats }
-    ensures made { result ≡ made (state_of solution.old.slots listeners.old.graph) edit }
-    ensures state { (state_of solution.new.slots listeners.new.graph) ≡ edited (state_of solution.old.slots listeners.old.graph) edit }
-    ensures record_ { IsRecorded inst.now listeners.new.graph.seats (changes (state_of solution.old.slots listeners.old.graph) edit) (state_of solution.old.slots listeners.old.graph) (state_of solution.new.slots listeners.new.graph) journal.old.since journal.new.since }
+    ensures of { N.IsOf listeners.new inst.now }
+    ensures told { N.told listeners.new ≡ solution.new.slots }
+    ensures marked { (N.board listeners.new).marked ≡ (N.board listeners.old).marked }
+    ensures seats { (N.board listeners.new).seats ≡ (N.board listeners.old).seats }
+    ensures made { result ≡ made (state_of solution.old.slots (N.board listeners.old)) edit }
+    ensures state { (state_of solution.new.slots (N.board listeners.new)) ≡ edited (state_of solution.old.slots (N.board listeners.old)) edit }
+    ensures record_ { IsRecorded inst.now (N.board listeners.new).seats (changes (state_of solution.old.slots (N.board listeners.old)) edit) (state_of solution.old.slots (N.board listeners.old)) (state_of solution.new.slots (N.board listeners.new)) journal.old.since journal.new.since }
     ensures spare { journal.new.spare + records journal.new.since ≡ journal.old.spare + records journal.old.since }
-    ensures steps { steps.new ≤ steps.old + watcher_counts inst.now solution.old.slots (changes (state_of solution.old.slots listeners.old.graph) edit) }
+    ensures steps { steps.new ≤ steps.old + watcher_counts inst.now solution.old.slots (changes (state_of solution.old.slots (N.board listeners.old)) edit) }
 {
     let _ = inst;
     let back = solution.back(&edit);
@@ -119,79 +117,66 @@ fn edit_meets<F: Family, L: Ledger>(
 }
 
 /// Makes an accepted edit of monitors and groups, for which there is room.
-fn edit_groups<F: Family, L: Ledger>(
+fn edit_groups<N: GraphWatcher, L: Ledger>(
     inst: &Instance,
     solution: &mut Solution<'_>,
-    listeners: &mut Listeners<F>,
+    listeners: &mut N,
     journal: &mut Journal<Back>,
     edit: Edit,
     steps: &mut Steps<L>,
 ) -> Option<u32>
     requires sort { groups.is_of_groups edit ≡ true }
-    requires accepted { refusal inst.now (state_of solution.old.slots listeners.old.graph) edit ≡ None }
+    requires accepted { refusal inst.now (state_of solution.old.slots (N.board listeners.old)) edit ≡ None }
     requires room { journal.old.since ≢ [] → journal.old.spare ≢ 0 }
-    requires seat { groups.adds_child edit ≡ true → HasSeat listeners.old.graph.groups listeners.old.graph.seats (groups.adds_to edit) }
+    requires seat { groups.adds_child edit ≡ true → HasSeat (N.board listeners.old).groups (N.board listeners.old).seats (groups.adds_to edit) }
     requires parts { solution.old.parts ≡ inst.now }
-    requires of { F.IsOf listeners.old.families inst.now }
-    requires serves { ServesAll F.serves_kind }
-    requires told { F.told listeners.old.families ≡ solution.old.slots }
-    requires values { HasValues inst.now solution.old.slots listeners.old.graph }
-    requires idle { IsIdle inst.now listeners.old.waiting }
+    requires of { N.IsOf listeners.old inst.now }
+    requires told { N.told listeners.old ≡ solution.old.slots }
     ensures parts { solution.new.parts ≡ inst.now }
-    ensures of { F.IsOf listeners.new.families inst.now }
-    ensures told { F.told listeners.new.families ≡ solution.new.slots }
-    ensures values { HasValues inst.now solution.new.slots listeners.new.graph }
-    ensures idle { IsIdle inst.now listeners.new.waiting }
-    ensures marked { listeners.new.graph.marked ≡ listeners.old.graph.marked }
-    ensures seats { listeners.new.graph.seats ≡ listeners.old.graph.seats }
-    ensures made { result ≡ made (state_of solution.old.slots listeners.old.graph) edit }
-    ensures state { (state_of solution.new.slots listeners.new.graph) ≡ edited (state_of solution.old.slots listeners.old.graph) edit }
-    ensures record_ { IsRecorded inst.now listeners.new.graph.seats (changes (state_of solution.old.slots listeners.old.graph) edit) (state_of solution.old.slots listeners.old.graph) (state_of solution.new.slots listeners.new.graph) journal.old.since journal.new.since }
+    ensures of { N.IsOf listeners.new inst.now }
+    ensures told { N.told listeners.new ≡ solution.new.slots }
+    ensures marked { (N.board listeners.new).marked ≡ (N.board listeners.old).marked }
+    ensures seats { (N.board listeners.new).seats ≡ (N.board listeners.old).seats }
+    ensures made { result ≡ made (state_of solution.old.slots (N.board listeners.old)) edit }
+    ensures state { (state_of solution.new.slots (N.board listeners.new)) ≡ edited (state_of solution.old.slots (N.board listeners.old)) edit }
+    ensures record_ { IsRecorded inst.now (N.board listeners.new).seats (changes (state_of solution.old.slots (N.board listeners.old)) edit) (state_of solution.old.slots (N.board listeners.old)) (state_of solution.new.slots (N.board listeners.new)) journal.old.since journal.new.since }
     ensures spare { journal.new.spare + records journal.new.since ≡ journal.old.spare + records journal.old.since }
-    ensures steps { steps.new ≤ steps.old + watcher_counts inst.now solution.old.slots (changes (state_of solution.old.slots listeners.old.graph) edit) }
+    ensures steps { steps.new ≤ steps.old + watcher_counts inst.now solution.old.slots (changes (state_of solution.old.slots (N.board listeners.old)) edit) }
 {
-    let _ = inst;
     let _ = solution;
     let _ = steps;
-    listeners.graph.facts();
-    let back = listeners.graph.back(&edit);
+    let graph = listeners.graph();
+    graph.facts();
+    let back = graph.back(&edit);
     keep(journal, back);
-    let Ok(made) = listeners.graph.edit(edit) else {
-        unreachable!()
-    };
-    made
+    listeners.regroup(inst, edit)
 }
 
 /// Makes an accepted edit, for which there is room.
-pub(crate) fn make<F: Family, L: Ledger>(
+pub(crate) fn make<N: GraphWatcher, L: Ledger>(
     inst: &Instance,
     solution: &mut Solution<'_>,
-    listeners: &mut Listeners<F>,
+    listeners: &mut N,
     journal: &mut Journal<Back>,
     edit: Edit,
     steps: &mut Steps<L>,
 ) -> Option<u32>
-    requires accepted { refusal inst.now (state_of solution.old.slots listeners.old.graph) edit ≡ None }
+    requires accepted { refusal inst.now (state_of solution.old.slots (N.board listeners.old)) edit ≡ None }
     requires room { journal.old.since ≢ [] → journal.old.spare ≢ 0 }
-    requires seat { groups.adds_child edit ≡ true → HasSeat listeners.old.graph.groups listeners.old.graph.seats (groups.adds_to edit) }
+    requires seat { groups.adds_child edit ≡ true → HasSeat (N.board listeners.old).groups (N.board listeners.old).seats (groups.adds_to edit) }
     requires parts { solution.old.parts ≡ inst.now }
-    requires of { F.IsOf listeners.old.families inst.now }
-    requires serves { ServesAll F.serves_kind }
-    requires told { F.told listeners.old.families ≡ solution.old.slots }
-    requires values { HasValues inst.now solution.old.slots listeners.old.graph }
-    requires idle { IsIdle inst.now listeners.old.waiting }
+    requires of { N.IsOf listeners.old inst.now }
+    requires told { N.told listeners.old ≡ solution.old.slots }
     ensures parts { solution.new.parts ≡ inst.now }
-    ensures of { F.IsOf listeners.new.families inst.now }
-    ensures told { F.told listeners.new.families ≡ solution.new.slots }
-    ensures values { HasValues inst.now solution.new.slots listeners.new.graph }
-    ensures idle { IsIdle inst.now listeners.new.waiting }
-    ensures marked { listeners.new.graph.marked ≡ listeners.old.graph.marked }
-    ensures seats { listeners.new.graph.seats ≡ listeners.old.graph.seats }
-    ensures made { result ≡ made (state_of solution.old.slots listeners.old.graph) edit }
-    ensures state { (state_of solution.new.slots listeners.new.graph) ≡ edited (state_of solution.old.slots listeners.old.graph) edit }
-    ensures record_ { IsRecorded inst.now listeners.new.graph.seats (changes (state_of solution.old.slots listeners.old.graph) edit) (state_of solution.old.slots listeners.old.graph) (state_of solution.new.slots listeners.new.graph) journal.old.since journal.new.since }
+    ensures of { N.IsOf listeners.new inst.now }
+    ensures told { N.told listeners.new ≡ solution.new.slots }
+    ensures marked { (N.board listeners.new).marked ≡ (N.board listeners.old).marked }
+    ensures seats { (N.board listeners.new).seats ≡ (N.board listeners.old).seats }
+    ensures made { result ≡ made (state_of solution.old.slots (N.board listeners.old)) edit }
+    ensures state { (state_of solution.new.slots (N.board listeners.new)) ≡ edited (state_of solution.old.slots (N.board listeners.old)) edit }
+    ensures record_ { IsRecorded inst.now (N.board listeners.new).seats (changes (state_of solution.old.slots (N.board listeners.old)) edit) (state_of solution.old.slots (N.board listeners.old)) (state_of solution.new.slots (N.board listeners.new)) journal.old.since journal.new.since }
     ensures spare { journal.new.spare + records journal.new.since ≡ journal.old.spare + records journal.old.since }
-    ensures steps { steps.new ≤ steps.old + watcher_counts inst.now solution.old.slots (changes (state_of solution.old.slots listeners.old.graph) edit) }
+    ensures steps { steps.new ≤ steps.old + watcher_counts inst.now solution.old.slots (changes (state_of solution.old.slots (N.board listeners.old)) edit) }
 {
     if is_of_groups(&edit) {
         edit_groups(inst, solution, listeners, journal, edit, steps)
@@ -201,67 +186,66 @@ pub(crate) fn make<F: Family, L: Ledger>(
 }
 
 /// Whether an edit can be made: it is accepted, and there is room for its record and its child.
-pub(crate) fn prepare(
+pub(crate) fn prepare<N: GraphWatcher>(
+    inst: &Instance,
     solution: &Solution<'_>,
-    graph: &mut Graph,
+    listeners: &mut N,
     journal: &mut Journal<Back>,
     edit: &Edit,
 ) -> Result<(), EditFault>
-    ensures lines { graph.new.lines ≡ graph.old.lines }
-    ensures groups { graph.new.groups ≡ graph.old.groups }
-    ensures marked { graph.new.marked ≡ graph.old.marked }
-    ensures seats { HaveAsMany graph.old.seats graph.new.seats }
+    requires of { N.IsOf listeners.old inst.now }
+    ensures of { N.IsOf listeners.new inst.now }
+    ensures told { N.told listeners.new ≡ N.told listeners.old }
+    ensures lines { (N.board listeners.new).lines ≡ (N.board listeners.old).lines }
+    ensures groups { (N.board listeners.new).groups ≡ (N.board listeners.old).groups }
+    ensures marked { (N.board listeners.new).marked ≡ (N.board listeners.old).marked }
+    ensures seats { HaveAsMany (N.board listeners.old).seats (N.board listeners.new).seats }
     ensures since { journal.new.since ≡ journal.old.since }
     ensures kept { journal.old.spare ≤ journal.new.spare }
-    ensures accepted { OnOk result (refusal solution.now.parts (state_of solution.now.slots graph.old) edit.now ≡ None) }
+    ensures accepted { OnOk result (refusal solution.now.parts (state_of solution.now.slots (N.board listeners.old)) edit.now ≡ None) }
     ensures room { OnOk result (journal.new.since ≢ [] → journal.new.spare ≢ 0) }
-    ensures seat { OnOk result (groups.adds_child edit.now ≡ true → HasSeat graph.new.groups graph.new.seats (groups.adds_to edit.now)) }
-    ensures fault { IfErr result (IsFaultOf (refusal solution.now.parts (state_of solution.now.slots graph.old) edit.now)) }
-    ensures spare { refusal solution.now.parts (state_of solution.now.slots graph.old) edit.now ≡ None → groups.adds_child edit.now ≡ false → 1 ≤ journal.old.spare → IsOk result }
-    ensures unmarked { refusal solution.now.parts (state_of solution.now.slots graph.old) edit.now ≡ None → groups.adds_child edit.now ≡ false → journal.old.since ≡ [] → IsOk result }
+    ensures seat { OnOk result (groups.adds_child edit.now ≡ true → HasSeat (N.board listeners.new).groups (N.board listeners.new).seats (groups.adds_to edit.now)) }
+    ensures fault { IfErr result (IsFaultOf (refusal solution.now.parts (state_of solution.now.slots (N.board listeners.old)) edit.now)) }
+    ensures spare { refusal solution.now.parts (state_of solution.now.slots (N.board listeners.old)) edit.now ≡ None → groups.adds_child edit.now ≡ false → 1 ≤ journal.old.spare → IsOk result }
+    ensures unmarked { refusal solution.now.parts (state_of solution.now.slots (N.board listeners.old)) edit.now ≡ None → groups.adds_child edit.now ≡ false → journal.old.since ≡ [] → IsOk result }
 {
-    check(solution, graph, edit)?;
+    check(solution, listeners.graph(), edit)?;
     room_for_record(journal)?;
-    room_for_child(graph, edit)?;
+    room_for_child(inst, listeners, edit)?;
     Ok(())
 }
 
 /// Makes an edit, or says why not; then the timetable, the listeners' state and the records stay.
 #[tactic(auto, using(crate::proofs::RecordLaws::recorded_lead, crate::proofs::RecordLaws::recorded_saved, crate::proofs::RecordLaws::kept_records, crate::proofs::ValueLaws::values_same, crate::proofs::StateLaws::same_state))]
-pub(crate) fn edit_any<F: Family, L: Ledger>(
+pub(crate) fn edit_any<N: GraphWatcher, L: Ledger>(
     inst: &Instance,
     solution: &mut Solution<'_>,
-    listeners: &mut Listeners<F>,
+    listeners: &mut N,
     journal: &mut Journal<Back>,
     edit: Edit,
     steps: &mut Steps<L>,
 ) -> Result<Option<u32>, EditFault>
-    requires leads { MarksLead inst.now listeners.old.graph.seats (state_of solution.old.slots listeners.old.graph) journal.old.since }
+    requires leads { MarksLead inst.now (N.board listeners.old).seats (state_of solution.old.slots (N.board listeners.old)) journal.old.since }
     requires parts { solution.old.parts ≡ inst.now }
-    requires of { F.IsOf listeners.old.families inst.now }
-    requires serves { ServesAll F.serves_kind }
-    requires told { F.told listeners.old.families ≡ solution.old.slots }
-    requires values { HasValues inst.now solution.old.slots listeners.old.graph }
-    requires idle { IsIdle inst.now listeners.old.waiting }
+    requires of { N.IsOf listeners.old inst.now }
+    requires told { N.told listeners.old ≡ solution.old.slots }
     ensures parts { solution.new.parts ≡ inst.now }
-    ensures of { F.IsOf listeners.new.families inst.now }
-    ensures told { F.told listeners.new.families ≡ solution.new.slots }
-    ensures values { HasValues inst.now solution.new.slots listeners.new.graph }
-    ensures idle { IsIdle inst.now listeners.new.waiting }
-    ensures marked { listeners.new.graph.marked ≡ listeners.old.graph.marked }
-    ensures seats { HaveAsMany listeners.old.graph.seats listeners.new.graph.seats }
-    ensures leads { MarksLead inst.now listeners.new.graph.seats (state_of solution.new.slots listeners.new.graph) journal.new.since }
-    ensures accepted { OnOk result (refusal inst.now (state_of solution.old.slots listeners.old.graph) edit ≡ None) }
-    ensures fault { IfErr result (IsFaultOf (refusal inst.now (state_of solution.old.slots listeners.old.graph) edit)) }
-    ensures made { IfOk result (λ n. n ≡ made (state_of solution.old.slots listeners.old.graph) edit) }
-    ensures state { OnOk result ((state_of solution.new.slots listeners.new.graph) ≡ edited (state_of solution.old.slots listeners.old.graph) edit) }
-    ensures saved { OnOk result (saved_of (state_of solution.new.slots listeners.new.graph) journal.new.since ≡ grown (changes (state_of solution.old.slots listeners.old.graph) edit) (saved_of (state_of solution.old.slots listeners.old.graph) journal.old.since)) }
-    ensures steps { OnOk result (steps.new ≤ steps.old + watcher_counts inst.now solution.old.slots (changes (state_of solution.old.slots listeners.old.graph) edit)) }
-    ensures err { OnErr result (((state_of solution.new.slots listeners.new.graph) ≡ (state_of solution.old.slots listeners.old.graph)) × (journal.new.since ≡ journal.old.since) × (steps.new ≡ steps.old)) }
+    ensures of { N.IsOf listeners.new inst.now }
+    ensures told { N.told listeners.new ≡ solution.new.slots }
+    ensures marked { (N.board listeners.new).marked ≡ (N.board listeners.old).marked }
+    ensures seats { HaveAsMany (N.board listeners.old).seats (N.board listeners.new).seats }
+    ensures leads { MarksLead inst.now (N.board listeners.new).seats (state_of solution.new.slots (N.board listeners.new)) journal.new.since }
+    ensures accepted { OnOk result (refusal inst.now (state_of solution.old.slots (N.board listeners.old)) edit ≡ None) }
+    ensures fault { IfErr result (IsFaultOf (refusal inst.now (state_of solution.old.slots (N.board listeners.old)) edit)) }
+    ensures made { IfOk result (λ n. n ≡ made (state_of solution.old.slots (N.board listeners.old)) edit) }
+    ensures state { OnOk result ((state_of solution.new.slots (N.board listeners.new)) ≡ edited (state_of solution.old.slots (N.board listeners.old)) edit) }
+    ensures saved { OnOk result (saved_of (state_of solution.new.slots (N.board listeners.new)) journal.new.since ≡ grown (changes (state_of solution.old.slots (N.board listeners.old)) edit) (saved_of (state_of solution.old.slots (N.board listeners.old)) journal.old.since)) }
+    ensures steps { OnOk result (steps.new ≤ steps.old + watcher_counts inst.now solution.old.slots (changes (state_of solution.old.slots (N.board listeners.old)) edit)) }
+    ensures err { OnErr result (((state_of solution.new.slots (N.board listeners.new)) ≡ (state_of solution.old.slots (N.board listeners.old))) × (journal.new.since ≡ journal.old.since) × (steps.new ≡ steps.old)) }
     ensures spare { journal.old.spare + records journal.old.since ≤ journal.new.spare + records journal.new.since }
-    ensures room { refusal inst.now (state_of solution.old.slots listeners.old.graph) edit ≡ None → groups.adds_child edit ≡ false → 1 ≤ journal.old.spare → IsOk result }
-    ensures unmarked { refusal inst.now (state_of solution.old.slots listeners.old.graph) edit ≡ None → groups.adds_child edit ≡ false → journal.old.since ≡ [] → IsOk result }
+    ensures room { refusal inst.now (state_of solution.old.slots (N.board listeners.old)) edit ≡ None → groups.adds_child edit ≡ false → 1 ≤ journal.old.spare → IsOk result }
+    ensures unmarked { refusal inst.now (state_of solution.old.slots (N.board listeners.old)) edit ≡ None → groups.adds_child edit ≡ false → journal.old.since ≡ [] → IsOk result }
 {
-    prepare(solution, &mut listeners.graph, journal, &edit)?;
+    prepare(inst, solution, listeners, journal, &edit)?;
     Ok(make(inst, solution, listeners, journal, edit, steps))
 }

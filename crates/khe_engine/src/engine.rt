@@ -12,8 +12,10 @@ ghost use Rattle.khe_engine.specs.States.{refusal, edited, made, changes};
 ghost use Rattle.khe_engine.specs.Values.{totals};
 ghost use Rattle.khe_engine.specs.Worlds.{Saved, IsFaultOf, around, closed, fresh, from_mark, grown, kept, last_cost, last_saved, trails_cost};
 
+use crate::behind::Behind;
 use crate::editing::edit_any;
 use crate::faults::EditFault;
+use crate::late::Late;
 use crate::listeners::Listeners;
 use crate::resting::Resting;
 use crate::trials::{is_lower_after, totals_after};
@@ -293,6 +295,32 @@ impl<'i, F: Family> Engine<'i, F> {
             listeners,
             journal,
             list,
+        }
+    }
+}
+
+impl<'i, F: Family> Engine<'i, F> {
+    /// The same, which measures nothing until it has caught up. It takes constant time and no memory.
+    pub fn put_off(self) -> Behind<'i, F>
+        ensures { result ≡ self.entry }
+    {
+        let Engine {
+            inst,
+            solution,
+            listeners,
+            journal,
+            mut list,
+        } = self;
+        list.clear();
+        let late = Late {
+            listeners,
+            changes: list,
+        };
+        Behind {
+            inst,
+            solution,
+            late,
+            journal,
         }
     }
 }

@@ -2,12 +2,16 @@
 //! monitors, marks, and the way back to each mark.
 #![tactic(auto)]
 
+mod behind;
+mod edited;
 mod editing;
 mod engine;
 mod faults;
+mod late;
 mod listeners;
 mod listing;
 mod opening;
+mod regrouping;
 mod resting;
 mod settling;
 mod shortages;
@@ -16,6 +20,8 @@ mod trials;
 mod undoing;
 mod values;
 
+pub use behind::Behind;
+pub use edited::Edited;
 pub use engine::Engine;
 pub use faults::EditFault;
 pub use resting::Resting;

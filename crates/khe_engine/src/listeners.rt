@@ -1,8 +1,10 @@
 //! Who is notified of each change: the families, and through them the graph.
 
+use crate::regrouping::GraphWatcher;
 use crate::settling::settle;
+use khe_base::{GroupId, NoMemory};
 use khe_instance::Instance;
-use khe_told::{Change, Family, Steps, Waiting, Watcher};
+use khe_told::{Back, Change, Edit, Family, Steps, Waiting, Watcher};
 use monitor_graph::Graph;
 use std::sync::ledger::Ledger;
 
@@ -53,4 +55,32 @@ impl<F: Family> Watcher for Listeners<F> {
     ghost same_rest_refl = { λ x. record { grouping = refl; marked = refl; seats = refl } };
 
     ghost same_rest_trans = { λ x y z a b. record { grouping = a.grouping ∙ b.grouping; marked = a.marked ∙ b.marked; seats = a.seats ∙ b.seats } };
+}
+
+impl<F: Family> GraphWatcher for Listeners<F> {
+    ghost board = { λ x. x.graph };
+
+    fn graph(&self) -> &Graph {
+        &self.graph
+    }
+
+    fn room(&mut self, inst: &Instance, group: GroupId, n: u32) -> Result<(), NoMemory> {
+        let _ = inst;
+        self.graph.room(group, n)
+    }
+
+    fn regroup(&mut self, inst: &Instance, edit: Edit) -> Option<u32> {
+        let _ = inst;
+        let Ok(made) = self.graph.edit(edit) else {
+            unreachable!()
+        };
+        made
+    }
+
+    fn undo_grouping(&mut self, inst: &Instance, back: Back) {
+        let _ = inst;
+        self.graph.undo(back);
+    }
+
+    ghost same_groups = { λ x y h. h };
 }

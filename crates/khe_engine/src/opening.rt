@@ -1,6 +1,7 @@
 //! An engine of a timetable.
 
-ghost use Rattle.std.specs.Prelude.{ℕ, ◌≡◌, ◌+◌, ◌<◌, [], Some, length, slice_get, IfOk};
+ghost use Rattle.std.specs.Prelude.{ℕ, ◌≡◌, ◌+◌, ◌<◌, [], Some, length, slice_get, IfOk, vec_capacity};
+ghost use Rattle.khe_solution.specs.Timetables.{HasRoom};
 ghost use Rattle.khe_instance.specs.States.{IsValid};
 ghost use Rattle.khe_told.specs.Agreement.{deviation_in};
 ghost use Rattle.khe_told.specs.Slots.{no_meets};
@@ -11,17 +12,21 @@ ghost use Rattle.khe_engine.specs.Settled.{IsIdle};
 ghost use Rattle.khe_engine.specs.Values.{HasValues, ServesAll};
 
 use crate::engine::Engine;
+use crate::late::Late;
 use crate::listeners::Listeners;
 use crate::telling::tell_all;
 use khe_base::{MonitorId, NoMemory, both};
 use khe_instance::{Instance, Plain};
 use khe_solution::{Solution, room_for};
-use khe_told::{Blank, Family, Steps, Waiting};
+use khe_told::{Blank, Change, Family, Steps, Waiting};
 use monitor_graph::Graph;
 use std::alloc::Global;
 use std::marker::Brand;
 use std::sync::ledger::Ledger;
 use undo_paths::Journal;
+
+/// How many changes an engine that is put off has room for at least.
+const PUT_OFF: usize = 1 << 10;
 
 impl<'i, F: Family + Drop> Engine<'i, F> {
     /// An engine of a valid timetable, without marks. It takes time and memory in proportion to the
@@ -40,25 +45,35 @@ impl<'i, F: Family + Drop> Engine<'i, F> {
         let families = F::open(alloc, inst);
         let graph = Graph::open(alloc, inst, plain);
         let waiting = waiting_of(alloc, inst);
-        let list = room_for(alloc, inst);
+        let list = list_of(alloc, inst);
         let (((solution, list), journal), ((families, graph), waiting)) = both(
             both(both(solution, list), journal),
             both(both(families, graph), waiting),
         )?;
-        let mut listeners = Listeners {
+        let listeners = Listeners {
             families,
             graph,
             waiting,
         };
-        listen::<F, Brand>(inst, &solution, &mut listeners, Blank::new(1));
+        let late = listen::<F, Brand>(inst, &solution, listeners, list, Blank::new(1));
+        let Late { listeners, changes } = late;
         Ok(Engine {
             inst,
             solution,
             listeners,
             journal,
-            list,
+            list: changes,
         })
     }
+}
+
+/// An empty list with room for the changes of one edit, and for those of many where an engine is put off.
+fn list_of(alloc: Global, inst: &Instance) -> Result<Vec<Change>, NoMemory>
+    ensures { IfOk result (λ list. HasRoom inst.now (vec_capacity list)) }
+{
+    let mut list = room_for(alloc, inst)?;
+    list.reserve(PUT_OFF)?;
+    Ok(list)
 }
 
 /// None of the instance's monitors. It takes time and memory in proportion to them.
@@ -68,33 +83,41 @@ fn waiting_of(alloc: Global, inst: &Instance) -> Result<Waiting, NoMemory>
     Waiting::open(alloc, inst.monitors())
 }
 
-/// The families, which were told of no meets, are told of a timetable, and the graph has the
+/// The families, which were told of no meets, are told of a timetable, many changes at a time, and the graph has the
 /// deviations that they tell.
 fn listen<F: Family, L: Ledger>(
     inst: &Instance,
     solution: &Solution<'_>,
-    listeners: &mut Listeners<F>,
+    mut listeners: Listeners<F>,
+    mut changes: Vec<Change>,
     blank: Blank,
-)
+) -> Late<F>
     requires name { blank.name ≡ L.name }
     requires shares { blank.parts ≡ L.parts }
     requires some { 0 < blank.parts }
     requires parts { solution.now.parts ≡ inst.now }
-    requires of { F.IsOf listeners.old.families inst.now }
+    requires of { F.IsOf listeners.families inst.now }
     requires serves { ServesAll F.serves_kind }
-    requires none { F.told listeners.old.families ≡ no_meets inst.now }
-    requires rates { IsOf listeners.old.graph inst.now }
-    requires many { length (deviations_of listeners.old.graph) ≡ length inst.now.monitors }
-    requires idle { IsIdle inst.now listeners.old.waiting }
-    ensures of { F.IsOf listeners.new.families inst.now }
-    ensures told { F.told listeners.new.families ≡ solution.now.slots }
-    ensures values { HasValues inst.now solution.now.slots listeners.new.graph }
-    ensures idle { IsIdle inst.now listeners.new.waiting }
-    ensures grouping { grouping_of listeners.new.graph ≡ grouping_of listeners.old.graph }
+    requires none { F.told listeners.families ≡ no_meets inst.now }
+    requires rates { IsOf listeners.graph inst.now }
+    requires many { length (deviations_of listeners.graph) ≡ length inst.now.monitors }
+    requires idle { IsIdle inst.now listeners.waiting }
+    requires room { HasRoom inst.now (vec_capacity changes) }
+    ensures of { F.IsOf result.listeners.families inst.now }
+    ensures told { F.told result.listeners.families ≡ solution.now.slots }
+    ensures values { HasValues inst.now solution.now.slots result.listeners.graph }
+    ensures idle { IsIdle inst.now result.listeners.waiting }
+    ensures grouping { grouping_of result.listeners.graph ≡ grouping_of listeners.graph }
+    ensures room { HasRoom inst.now (vec_capacity result.changes) }
 {
     let mut steps = Steps::<L>::new(blank);
     set_all(inst, &listeners.families, &mut listeners.graph, &mut steps);
-    tell_all(inst, solution, listeners, &mut steps);
+    changes.clear();
+    let mut late = Late { listeners, changes };
+    solution.facts();
+    tell_all(inst, solution, &mut late, &mut steps);
+    late.catch_up(inst);
+    late
 }
 
 /// Sets every deviation to that of the state that the families were told, with a step for each monitor.

@@ -7,15 +7,13 @@ ghost use Rattle.monitor_graph.specs.Edits as groups;
 ghost use Rattle.khe_engine.specs.States.{State, state_of, is_back_of_groups, undone, undone_changes};
 ghost use Rattle.khe_instance.specs.declared.parts.Parts.{Parts};
 ghost use Rattle.khe_told.specs.declared.refusals.Refusal.TheVariants.{NoMark};
-ghost use Rattle.khe_engine.specs.Values.{HasValues, ServesAll};
-ghost use Rattle.khe_engine.specs.Settled.{IsIdle};
 ghost use Rattle.khe_engine.specs.Worlds.{around, closed, from_mark, fresh, last_cost, last_saved, trails_cost};
 ghost use Rattle.khe_engine.specs.Records.{Leads, MarksLead, records, saved_of, undo_cost, undone_all};
 
-use crate::listeners::Listeners;
+use crate::regrouping::GraphWatcher;
 use khe_instance::Instance;
 use khe_solution::Solution;
-use khe_told::{Back, Edit, Family, Refusal, Steps};
+use khe_told::{Back, Edit, Refusal, Steps};
 use std::sync::ledger::Ledger;
 use undo_paths::Journal;
 
@@ -47,67 +45,56 @@ fn is_back_of_groups(back: &Back) -> bool
 }
 
 /// Undoes one record.
-fn revert<F: Family, L: Ledger>(
+fn revert<N: GraphWatcher, L: Ledger>(
     inst: &Instance,
     solution: &mut Solution<'_>,
-    listeners: &mut Listeners<F>,
+    listeners: &mut N,
     back: Back,
     steps: &mut Steps<L>,
 )
-    requires leads { Leads inst.now listeners.old.graph.seats (state_of solution.old.slots listeners.old.graph) back }
+    requires leads { Leads inst.now (N.board listeners.old).seats (state_of solution.old.slots (N.board listeners.old)) back }
     requires parts { solution.old.parts ≡ inst.now }
-    requires of { F.IsOf listeners.old.families inst.now }
-    requires serves { ServesAll F.serves_kind }
-    requires told { F.told listeners.old.families ≡ solution.old.slots }
-    requires values { HasValues inst.now solution.old.slots listeners.old.graph }
-    requires idle { IsIdle inst.now listeners.old.waiting }
+    requires of { N.IsOf listeners.old inst.now }
+    requires told { N.told listeners.old ≡ solution.old.slots }
     ensures parts { solution.new.parts ≡ inst.now }
-    ensures of { F.IsOf listeners.new.families inst.now }
-    ensures told { F.told listeners.new.families ≡ solution.new.slots }
-    ensures values { HasValues inst.now solution.new.slots listeners.new.graph }
-    ensures idle { IsIdle inst.now listeners.new.waiting }
-    ensures marked { listeners.new.graph.marked ≡ listeners.old.graph.marked }
-    ensures seats { listeners.new.graph.seats ≡ listeners.old.graph.seats }
-    ensures state { (state_of solution.new.slots listeners.new.graph) ≡ undone (state_of solution.old.slots listeners.old.graph) back }
-    ensures steps { steps.new ≤ steps.old + watcher_counts inst.now solution.new.slots (undone_changes (state_of solution.old.slots listeners.old.graph) back) }
+    ensures of { N.IsOf listeners.new inst.now }
+    ensures told { N.told listeners.new ≡ solution.new.slots }
+    ensures marked { (N.board listeners.new).marked ≡ (N.board listeners.old).marked }
+    ensures seats { (N.board listeners.new).seats ≡ (N.board listeners.old).seats }
+    ensures state { (state_of solution.new.slots (N.board listeners.new)) ≡ undone (state_of solution.old.slots (N.board listeners.old)) back }
+    ensures steps { steps.new ≤ steps.old + watcher_counts inst.now solution.new.slots (undone_changes (state_of solution.old.slots (N.board listeners.old)) back) }
 {
-    let _ = inst;
     if is_back_of_groups(&back) {
-        listeners.graph.undo(back);
+        listeners.undo_grouping(inst, back);
     } else {
         solution.undo(back, listeners, steps);
     }
 }
 
 /// Undoes the records since the innermost mark, the newest first.
-pub(crate) fn unwind<F: Family, L: Ledger>(
+pub(crate) fn unwind<N: GraphWatcher, L: Ledger>(
     inst: &Instance,
     solution: &mut Solution<'_>,
-    listeners: &mut Listeners<F>,
+    listeners: &mut N,
     journal: &mut Journal<Back>,
     steps: &mut Steps<L>,
 )
-    requires leads { MarksLead inst.now listeners.old.graph.seats (state_of solution.old.slots listeners.old.graph) journal.old.since }
+    requires leads { MarksLead inst.now (N.board listeners.old).seats (state_of solution.old.slots (N.board listeners.old)) journal.old.since }
     requires parts { solution.old.parts ≡ inst.now }
-    requires of { F.IsOf listeners.old.families inst.now }
-    requires serves { ServesAll F.serves_kind }
-    requires told { F.told listeners.old.families ≡ solution.old.slots }
-    requires values { HasValues inst.now solution.old.slots listeners.old.graph }
-    requires idle { IsIdle inst.now listeners.old.waiting }
+    requires of { N.IsOf listeners.old inst.now }
+    requires told { N.told listeners.old ≡ solution.old.slots }
     ensures parts { solution.new.parts ≡ inst.now }
-    ensures of { F.IsOf listeners.new.families inst.now }
-    ensures told { F.told listeners.new.families ≡ solution.new.slots }
-    ensures values { HasValues inst.now solution.new.slots listeners.new.graph }
-    ensures idle { IsIdle inst.now listeners.new.waiting }
-    ensures marked { listeners.new.graph.marked ≡ listeners.old.graph.marked }
-    ensures seats { listeners.new.graph.seats ≡ listeners.old.graph.seats }
-    ensures leads { MarksLead inst.now listeners.new.graph.seats (state_of solution.new.slots listeners.new.graph) journal.new.since }
-    ensures state { (state_of solution.new.slots listeners.new.graph) ≡ undone_all (state_of solution.old.slots listeners.old.graph) (inner journal.old.since) }
+    ensures of { N.IsOf listeners.new inst.now }
+    ensures told { N.told listeners.new ≡ solution.new.slots }
+    ensures marked { (N.board listeners.new).marked ≡ (N.board listeners.old).marked }
+    ensures seats { (N.board listeners.new).seats ≡ (N.board listeners.old).seats }
+    ensures leads { MarksLead inst.now (N.board listeners.new).seats (state_of solution.new.slots (N.board listeners.new)) journal.new.since }
+    ensures state { (state_of solution.new.slots (N.board listeners.new)) ≡ undone_all (state_of solution.old.slots (N.board listeners.old)) (inner journal.old.since) }
     ensures inner { inner journal.new.since ≡ [] }
     ensures outer { outer journal.new.since ≡ outer journal.old.since }
     ensures marks { length journal.new.since ≡ length journal.old.since }
     ensures spare { journal.new.spare + records journal.new.since ≡ journal.old.spare + records journal.old.since }
-    ensures steps { steps.new ≤ steps.old + undo_cost inst.now (state_of solution.old.slots listeners.old.graph) (inner journal.old.since) }
+    ensures steps { steps.new ≤ steps.old + undo_cost inst.now (state_of solution.old.slots (N.board listeners.old)) (inner journal.old.since) }
 {
     while let Some(back) = journal.pop() {
         revert(inst, solution, listeners, back, steps);
@@ -137,33 +124,28 @@ pub(crate) fn marks_of(journal: &Journal<Back>) -> u32
 
 /// Undoes to the innermost mark, and closes it.
 #[tactic(auto, using(crate::proofs::MarkLaws::fall_saved, crate::proofs::MarkLaws::fall_marks, crate::proofs::RecordLaws::lead_close, crate::proofs::RecordLaws::spare_close, crate::proofs::RecordLaws::last_cost_is))]
-fn fall<F: Family, L: Ledger>(
+fn fall<N: GraphWatcher, L: Ledger>(
     inst: &Instance,
     solution: &mut Solution<'_>,
-    listeners: &mut Listeners<F>,
+    listeners: &mut N,
     journal: &mut Journal<Back>,
     steps: &mut Steps<L>,
 )
     requires two { 2 ≤ length journal.old.since }
-    requires leads { MarksLead inst.now listeners.old.graph.seats (state_of solution.old.slots listeners.old.graph) journal.old.since }
+    requires leads { MarksLead inst.now (N.board listeners.old).seats (state_of solution.old.slots (N.board listeners.old)) journal.old.since }
     requires parts { solution.old.parts ≡ inst.now }
-    requires of { F.IsOf listeners.old.families inst.now }
-    requires serves { ServesAll F.serves_kind }
-    requires told { F.told listeners.old.families ≡ solution.old.slots }
-    requires values { HasValues inst.now solution.old.slots listeners.old.graph }
-    requires idle { IsIdle inst.now listeners.old.waiting }
+    requires of { N.IsOf listeners.old inst.now }
+    requires told { N.told listeners.old ≡ solution.old.slots }
     ensures parts { solution.new.parts ≡ inst.now }
-    ensures of { F.IsOf listeners.new.families inst.now }
-    ensures told { F.told listeners.new.families ≡ solution.new.slots }
-    ensures values { HasValues inst.now solution.new.slots listeners.new.graph }
-    ensures idle { IsIdle inst.now listeners.new.waiting }
-    ensures marked { listeners.new.graph.marked ≡ listeners.old.graph.marked }
-    ensures seats { listeners.new.graph.seats ≡ listeners.old.graph.seats }
-    ensures leads { MarksLead inst.now listeners.new.graph.seats (state_of solution.new.slots listeners.new.graph) journal.new.since }
-    ensures saved { saved_of (state_of solution.new.slots listeners.new.graph) journal.new.since ≡ around (saved_of (state_of solution.old.slots listeners.old.graph) journal.old.since) }
+    ensures of { N.IsOf listeners.new inst.now }
+    ensures told { N.told listeners.new ≡ solution.new.slots }
+    ensures marked { (N.board listeners.new).marked ≡ (N.board listeners.old).marked }
+    ensures seats { (N.board listeners.new).seats ≡ (N.board listeners.old).seats }
+    ensures leads { MarksLead inst.now (N.board listeners.new).seats (state_of solution.new.slots (N.board listeners.new)) journal.new.since }
+    ensures saved { saved_of (state_of solution.new.slots (N.board listeners.new)) journal.new.since ≡ around (saved_of (state_of solution.old.slots (N.board listeners.old)) journal.old.since) }
     ensures marks { length journal.new.since + 1 ≡ length journal.old.since }
     ensures spare { journal.old.spare + records journal.old.since ≤ journal.new.spare + records journal.new.since }
-    ensures steps { steps.new ≤ steps.old + last_cost inst.now (saved_of (state_of solution.old.slots listeners.old.graph) journal.old.since) }
+    ensures steps { steps.new ≤ steps.old + last_cost inst.now (saved_of (state_of solution.old.slots (N.board listeners.old)) journal.old.since) }
 {
     unwind(inst, solution, listeners, journal, steps);
     let _ = journal.unmark();
@@ -171,34 +153,29 @@ fn fall<F: Family, L: Ledger>(
 
 /// Undoes to a mark, counted from 1 at the outermost, and closes the marks inside it.
 #[tactic(auto, using(crate::proofs::MarkLaws::from_more, crate::proofs::MarkLaws::trails_more, crate::proofs::MarkLaws::to_state, crate::proofs::MarkLaws::to_saved, crate::proofs::RecordLaws::last_cost_is, crate::proofs::RecordLaws::length_saved))]
-pub(crate) fn unwind_to<F: Family, L: Ledger>(
+pub(crate) fn unwind_to<N: GraphWatcher, L: Ledger>(
     inst: &Instance,
     solution: &mut Solution<'_>,
-    listeners: &mut Listeners<F>,
+    listeners: &mut N,
     journal: &mut Journal<Back>,
     k: u32,
     steps: &mut Steps<L>,
 )
     requires mark { (1 ≤ k) × (k ≤ length journal.old.since) }
-    requires leads { MarksLead inst.now listeners.old.graph.seats (state_of solution.old.slots listeners.old.graph) journal.old.since }
+    requires leads { MarksLead inst.now (N.board listeners.old).seats (state_of solution.old.slots (N.board listeners.old)) journal.old.since }
     requires parts { solution.old.parts ≡ inst.now }
-    requires of { F.IsOf listeners.old.families inst.now }
-    requires serves { ServesAll F.serves_kind }
-    requires told { F.told listeners.old.families ≡ solution.old.slots }
-    requires values { HasValues inst.now solution.old.slots listeners.old.graph }
-    requires idle { IsIdle inst.now listeners.old.waiting }
+    requires of { N.IsOf listeners.old inst.now }
+    requires told { N.told listeners.old ≡ solution.old.slots }
     ensures parts { solution.new.parts ≡ inst.now }
-    ensures of { F.IsOf listeners.new.families inst.now }
-    ensures told { F.told listeners.new.families ≡ solution.new.slots }
-    ensures values { HasValues inst.now solution.new.slots listeners.new.graph }
-    ensures idle { IsIdle inst.now listeners.new.waiting }
-    ensures marked { listeners.new.graph.marked ≡ listeners.old.graph.marked }
-    ensures seats { listeners.new.graph.seats ≡ listeners.old.graph.seats }
-    ensures leads { MarksLead inst.now listeners.new.graph.seats (state_of solution.new.slots listeners.new.graph) journal.new.since }
-    ensures state { (state_of solution.new.slots listeners.new.graph) ≡ last_saved (state_of solution.old.slots listeners.old.graph) (from_mark k (saved_of (state_of solution.old.slots listeners.old.graph) journal.old.since)) }
-    ensures saved { saved_of (state_of solution.new.slots listeners.new.graph) journal.new.since ≡ fresh (state_of solution.new.slots listeners.new.graph) ∷ around (from_mark k (saved_of (state_of solution.old.slots listeners.old.graph) journal.old.since)) }
+    ensures of { N.IsOf listeners.new inst.now }
+    ensures told { N.told listeners.new ≡ solution.new.slots }
+    ensures marked { (N.board listeners.new).marked ≡ (N.board listeners.old).marked }
+    ensures seats { (N.board listeners.new).seats ≡ (N.board listeners.old).seats }
+    ensures leads { MarksLead inst.now (N.board listeners.new).seats (state_of solution.new.slots (N.board listeners.new)) journal.new.since }
+    ensures state { (state_of solution.new.slots (N.board listeners.new)) ≡ last_saved (state_of solution.old.slots (N.board listeners.old)) (from_mark k (saved_of (state_of solution.old.slots (N.board listeners.old)) journal.old.since)) }
+    ensures saved { saved_of (state_of solution.new.slots (N.board listeners.new)) journal.new.since ≡ fresh (state_of solution.new.slots (N.board listeners.new)) ∷ around (from_mark k (saved_of (state_of solution.old.slots (N.board listeners.old)) journal.old.since)) }
     ensures spare { journal.old.spare + records journal.old.since ≤ journal.new.spare + records journal.new.since }
-    ensures steps { steps.new ≤ steps.old + trails_cost inst.now (length journal.old.since + 1 - k) (saved_of (state_of solution.old.slots listeners.old.graph) journal.old.since) }
+    ensures steps { steps.new ≤ steps.old + trails_cost inst.now (length journal.old.since + 1 - k) (saved_of (state_of solution.old.slots (N.board listeners.old)) journal.old.since) }
 {
     while journal.marks() > k {
         fall(inst, solution, listeners, journal, steps);

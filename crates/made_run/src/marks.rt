@@ -6,13 +6,13 @@ ghost use Rattle.made_run.specs.Commands as spec;
 ghost use Rattle.made_run.specs.Courses.{after, course, course_of};
 ghost use Rattle.made_run.specs.declared.running.Counts.{Counts as Counted};
 
-use khe_engine::Engine;
+use khe_engine::Behind;
 use khe_told::{Family, Steps};
 use std::sync::ledger::Ledger;
 
 /// Begins the mark that is begun before an edit, if there is one.
 #[tactic(auto, using(crate::proofs::CourseLaws::begins_one, crate::proofs::CourseLaws::begins_none))]
-pub(crate) fn begin_before<F: Family>(engine: &mut Engine<'_, F>, number: u32)
+pub(crate) fn begin_before<F: Family>(engine: &mut Behind<'_, F>, number: u32)
     ensures parts { engine.new.parts ≡ engine.old.parts }
     ensures course { (n : Counted) → course_of engine.new n ≡ course engine.old.parts (course_of engine.old n) (spec.begins number) }
 {
@@ -24,7 +24,7 @@ pub(crate) fn begin_before<F: Family>(engine: &mut Engine<'_, F>, number: u32)
 /// Undoes the edits since the mark, where they are undone after this edit.
 #[tactic(auto, using(crate::proofs::CourseLaws::undoes_one, crate::proofs::CourseLaws::undoes_none))]
 pub(crate) fn undo_after<F: Family, L: Ledger>(
-    engine: &mut Engine<'_, F>,
+    engine: &mut Behind<'_, F>,
     number: u32,
     steps: &mut Steps<L>,
 )
@@ -38,7 +38,7 @@ pub(crate) fn undo_after<F: Family, L: Ledger>(
 
 /// Ends the mark, where it is ended after this edit.
 #[tactic(auto, using(crate::proofs::CourseLaws::ends_one, crate::proofs::CourseLaws::ends_none))]
-pub(crate) fn end_after<F: Family>(engine: &mut Engine<'_, F>, number: u32)
+pub(crate) fn end_after<F: Family>(engine: &mut Behind<'_, F>, number: u32)
     ensures parts { engine.new.parts ≡ engine.old.parts }
     ensures course { (n : Counted) → course_of engine.new n ≡ course engine.old.parts (course_of engine.old n) (spec.ends number) }
 {
@@ -48,7 +48,7 @@ pub(crate) fn end_after<F: Family>(engine: &mut Engine<'_, F>, number: u32)
 }
 
 /// Begins a mark.
-fn begin<F: Family>(engine: &mut Engine<'_, F>)
+fn begin<F: Family>(engine: &mut Behind<'_, F>)
     ensures parts { engine.new.parts ≡ engine.old.parts }
     ensures course { (n : Counted) → course_of engine.new n ≡ after engine.old.parts (course_of engine.old n) command.Begin }
 {
@@ -56,7 +56,7 @@ fn begin<F: Family>(engine: &mut Engine<'_, F>)
 }
 
 /// Undoes the edits since the innermost mark.
-fn undo<F: Family, L: Ledger>(engine: &mut Engine<'_, F>, steps: &mut Steps<L>)
+fn undo<F: Family, L: Ledger>(engine: &mut Behind<'_, F>, steps: &mut Steps<L>)
     ensures parts { engine.new.parts ≡ engine.old.parts }
     ensures course { (n : Counted) → course_of engine.new n ≡ after engine.old.parts (course_of engine.old n) command.Undo }
 {
@@ -64,7 +64,7 @@ fn undo<F: Family, L: Ledger>(engine: &mut Engine<'_, F>, steps: &mut Steps<L>)
 }
 
 /// Ends the innermost mark.
-fn end<F: Family>(engine: &mut Engine<'_, F>)
+fn end<F: Family>(engine: &mut Behind<'_, F>)
     ensures parts { engine.new.parts ≡ engine.old.parts }
     ensures course { (n : Counted) → course_of engine.new n ≡ after engine.old.parts (course_of engine.old n) command.End }
 {

@@ -16,7 +16,7 @@ use crate::lines::{push_counts, push_deficit, push_instance, push_job, push_tota
 use crate::marks::{begin_before, end_after, undo_after};
 use archive_generator::Draws;
 use khe_base::{NoMemory, Text};
-use khe_engine::{EditFault, Engine};
+use khe_engine::{Behind, EditFault, Engine};
 use khe_instance::{Instance, Plain};
 use khe_told::{Blank, Edit, Family, Steps};
 use std::alloc::Global;
@@ -64,14 +64,14 @@ pub fn run_line<F: Family + Drop>(
     requires drawn { draws.old.state ≡ state_after job.seed job.size }
     ensures { IfOk result (IsRunLine job.seed job.size inst.now plain.now) }
 {
-    let mut engine = Engine::<F>::open(alloc, inst, plain)?;
-    run_on::<F, Brand>(alloc, &mut engine, draws, job, Blank::new(1))
+    let engine = Engine::<F>::open(alloc, inst, plain)?;
+    run_on::<F, Brand>(alloc, engine.put_off(), draws, job, Blank::new(1))
 }
 
 /// Runs the edits of a job on an engine, and forms the line.
-fn run_on<F: Family, L: Ledger>(
+fn run_on<F: Family + Drop, L: Ledger>(
     alloc: Global,
-    engine: &mut Engine<'_, F>,
+    mut engine: Behind<'_, F>,
     draws: &mut Draws,
     job: Job,
     blank: Blank,
@@ -79,19 +79,20 @@ fn run_on<F: Family, L: Ledger>(
     requires name { blank.name ≡ L.name }
     requires shares { blank.parts ≡ L.parts }
     requires some { 0 < blank.parts }
-    requires marks { engine.old.saved ≡ [] }
+    requires marks { engine.saved ≡ [] }
     requires small { job.size < 2 ^ 28 }
     requires slots { 1 ≤ job.slots }
-    ensures { IfOk result (λ t. t ≡ made_line job.seed job.size engine.old.parts (course engine.old.parts (started engine.old.state) (spec.drawn_commands job.size job.slots draws.old.state))) }
+    ensures { IfOk result (λ t. t ≡ made_line job.seed job.size engine.entry.parts (course engine.entry.parts (started engine.entry.state) (spec.drawn_commands job.size job.slots draws.old.state))) }
 {
     let mut steps = Steps::<L>::new(blank);
-    let counts = run_all(engine, draws, job, &mut steps)?;
-    line_on(alloc, engine, job, counts)
+    let counts = run_all(&mut engine, draws, job, &mut steps)?;
+    let engine = engine.caught_up();
+    line_on(alloc, &engine, job, counts)
 }
 
 /// Carries out all edits and marks of a job, and counts the edits.
 fn run_all<F: Family, L: Ledger>(
-    engine: &mut Engine<'_, F>,
+    engine: &mut Behind<'_, F>,
     draws: &mut Draws,
     job: Job,
     steps: &mut Steps<L>,
@@ -116,7 +117,7 @@ fn run_all<F: Family, L: Ledger>(
 /// Draws the edit with a number and carries it out, with the marks before and after it.
 #[tactic(auto, unfolding(crate::specs::Commands::step))]
 fn step<F: Family, L: Ledger>(
-    engine: &mut Engine<'_, F>,
+    engine: &mut Behind<'_, F>,
     draws: &mut Draws,
     job: Job,
     number: u32,
@@ -141,7 +142,7 @@ fn step<F: Family, L: Ledger>(
 /// Carries out an edit, and counts it.
 #[tactic(auto, using(crate::proofs::CourseLaws::accepted_course, crate::proofs::CourseLaws::refused_course))]
 fn carry_out<F: Family, L: Ledger>(
-    engine: &mut Engine<'_, F>,
+    engine: &mut Behind<'_, F>,
     edit: Edit,
     counts: &mut Counts,
     steps: &mut Steps<L>,

@@ -74,3 +74,9 @@ is_question command.End = false
 is_question command.Undo = false
 is_question (command.UndoTo k) = false
 is_question _ = true
+
+-- a command that asks for something
+abbrev pub asks : Command → Bool
+asks (command.Ask question) = true
+asks (command.AskAbout subject number) = true
+asks _ = false

@@ -1,13 +1,14 @@
 -- What a whole script answers.
-use Rattle.std.specs.Prelude.{ℕ, ◌+◌, Bool, Result, Ok, Err, List, [], ◌∷◌, ◌++◌, is_ok}
+use Rattle.std.specs.Prelude.{ℕ, ◌+◌, Bool, Option, Some, None, Result, Ok, Err, List, [], ◌∷◌, ◌++◌, is_ok}
 use Rattle.std.specs.List.{list_all}
 use Rattle.script_run.specs.Faults.{fault_line}
 use Rattle.khe_instance.specs.declared.parts.Parts.{Parts}
+use Rattle.khe_engine.specs.Worlds.{World}
 use Rattle.edit_script.specs.Lines.{lines}
 use Rattle.edit_script.specs.Reading.{reading}
 use Rattle.edit_script.specs.declared.commands.LineFault.{LineFault}
 use Rattle.script_run.specs.Answers.{answer}
-use Rattle.script_run.specs.Plays.{Play, played}
+use Rattle.script_run.specs.Plays.{Play, play_of, played}
 
 -- what comes of a reading: the answer to a command, or the line that says why there is none
 abbrev pub by_reading : {C : Type 0} → Result C LineFault → (C → List ℕ) → (LineFault → List ℕ) → List ℕ
@@ -24,6 +25,12 @@ answers_by read says makes w number (line ∷ more) = by_reading (read line)
 
 abbrev pub answers : Parts → Play → ℕ → List (List ℕ) → List ℕ
 answers p = answers_by reading (answer p) (played p)
+
+-- the same of an engine, and nothing where there is none
+abbrev pub answers_of : Option World → ℕ → List (List ℕ) → List ℕ
+answers_of o number [] = []
+answers_of None number (line ∷ more) = []
+answers_of (Some w) number (line ∷ more) = answers w.parts (play_of w) number (line ∷ more)
 
 -- whether a line has a reading, and whether every line has one
 abbrev pub reads : List ℕ → Bool

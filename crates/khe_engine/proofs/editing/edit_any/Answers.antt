@@ -7,15 +7,14 @@ use Rattle.khe_engine.specs.States.{State, state_of, refusal, edited, made, chan
 use Rattle.khe_engine.specs.Worlds.{grown}
 use Rattle.khe_engine.proofs.RecordLaws.{as_many, marks_same, recorded_lead, recorded_saved}
 use Rattle.khe_engine.proofs.StateLaws.{same_state}
-use Rattle.khe_engine.proofs.ValueLaws.{values_same}
 use Rattle.khe_engine.proofs.editing.edit_any.Goals as goal
 
 pub make-requires : goal.make-requires
 make-requires g c =
     let p = c.args.inst.now in
     let slots = c.args.solution.now.slots in
-    let b = c.args.listeners.now.graph in
-    let b1 = c.prepare.new.graph in
+    let b = g.N.GraphWatcher.board c.args.listeners.now in
+    let b1 = g.N.GraphWatcher.board c.prepare.new.listeners in
     let e = c.prepare.ensures in
     let ok = c.in_ok-prepare.ensures in
     record {
@@ -24,23 +23,15 @@ make-requires g c =
       room = ok.room;
       seat = ok.seat;
       parts = c.requires.parts;
-      of = c.requires.of;
-      serves = c.requires.serves;
-      told = c.requires.told;
-      values = values_same p slots b b1 c.requires.values e.lines;
-      idle = c.requires.idle;
+      of = e.of;
+      told = e.told ∙ c.requires.told;
     }
-
-pub returns-in_err-prepare-clause-values : goal.returns-in_err-prepare-clause-values
-returns-in_err-prepare-clause-values g c =
-    values_same c.args.inst.now c.args.solution.now.slots c.args.listeners.now.graph c.prepare.new.graph c.requires.values
-    c.prepare.ensures.lines
 
 pub returns-in_err-prepare-clause-leads : goal.returns-in_err-prepare-clause-leads
 returns-in_err-prepare-clause-leads g c =
     let e = c.prepare.ensures in
-    let b = c.args.listeners.now.graph in
-    let b1 = c.prepare.new.graph in
+    let b = g.N.GraphWatcher.board c.args.listeners.now in
+    let b1 = g.N.GraphWatcher.board c.prepare.new.listeners in
     marks_same c.args.inst.now b.seats b1.seats (state_of c.args.solution.now.slots b)
     (state_of c.args.solution.now.slots b1) c.args.journal.now.since c.prepare.new.journal.since
     (same_state c.args.solution.now.slots b b1 e.lines e.groups) e.since e.seats c.requires.leads
@@ -55,9 +46,9 @@ pub returns : goal.returns
 returns g c =
     let p = c.args.inst.now in
     let slots = c.args.solution.now.slots in
-    let b = c.args.listeners.now.graph in
-    let b1 = c.prepare.new.graph in
-    let b2 = c.make.new.listeners.graph in
+    let b = g.N.GraphWatcher.board c.args.listeners.now in
+    let b1 = g.N.GraphWatcher.board c.prepare.new.listeners in
+    let b2 = g.N.GraphWatcher.board c.make.new.listeners in
     let e = c.prepare.ensures in
     let m = c.make.ensures in
     let s = state_of slots b in
@@ -72,8 +63,6 @@ returns g c =
       parts = m.parts;
       of = m.of;
       told = m.told;
-      values = m.values;
-      idle = m.idle;
       marked = m.marked ∙ e.marked;
       seats = λ k. let a = e.seats k in let n = ap (λ x. seats_at x k) m.seats in omega (arith, a, n);
       leads = recorded_lead p b1.seats b2.seats cs s1 s2 since1 since2 m.record_ (as_many b1.seats b2.seats m.seats)

@@ -1,20 +1,17 @@
 use Rattle.std.proofs.Common.{ℕ, ◌≡◌, ◌+◌, ◌≤◌, None, Ok, List, sym, ap, subst, ◌∙◌}
 use Rattle.khe_instance.specs.declared.parts.Parts.{Parts}
 use Rattle.khe_told.specs.Watchers.{watcher_counts}
-use Rattle.khe_told.specs.declared.slots.Slot.{Slot}
 use Rattle.khe_solution.specs.Backs as backs
 use Rattle.khe_solution.specs.Changing as changing
 use Rattle.khe_solution.specs.Editing as editing
 use Rattle.khe_solution.specs.Refusing as refusing
-use Rattle.khe_engine.specs.Settled.{IsIdle}
 use Rattle.khe_engine.specs.States.{state_of, changes}
-use Rattle.khe_engine.specs.Values.{HasValues, ServesAll}
 use Rattle.khe_engine.proofs.StateLaws.{other_sort, refusal_meets, edited_meets, made_meets, changes_meets, recorded_meets}
 use Rattle.khe_engine.proofs.editing.edit_meets.Goals as goal
 
 pub back-back-requires : goal.back-back-requires
 back-back-requires g c =
-    let s = state_of c.args.solution.now.slots c.args.listeners.now.graph in
+    let s = state_of c.args.solution.now.slots (g.N.GraphWatcher.board c.args.listeners.now) in
     record {
       ours = other_sort c.args.edit c.requires.sort;
       accepted = ap (λ (q : Parts). refusing.refusal q s.slots c.args.edit) c.requires.parts
@@ -27,21 +24,13 @@ keep-requires g c = record { room = c.requires.room }
 pub edit-requires : goal.edit-requires
 edit-requires g c = record {
   ours = other_sort c.args.edit c.requires.sort;
-  of = subst (λ (q : Parts). g.F.Family.IsOf c.args.listeners.now.families q × ServesAll g.F.Family.serves_kind
-      × HasValues q (g.F.Family.told c.args.listeners.now.families) c.args.listeners.now.graph
-      × IsIdle q c.args.listeners.now.waiting) (sym c.requires.parts) (
-        c.requires.of,
-        c.requires.serves,
-        subst (λ (ss : List Slot). HasValues c.args.inst.now ss c.args.listeners.now.graph) (sym c.requires.told)
-            c.requires.values,
-        c.requires.idle,
-      );
+  of = subst (g.N.Watcher.IsOf c.args.listeners.now) (sym c.requires.parts) c.requires.of;
   told = c.requires.told;
 }
 
 pub unreachable-requires : goal.unreachable-requires
 unreachable-requires g c =
-    let s = state_of c.args.solution.now.slots c.args.listeners.now.graph in
+    let s = state_of c.args.solution.now.slots (g.N.GraphWatcher.board c.args.listeners.now) in
     let accepted : refusing.refusal c.args.solution.now.parts s.slots c.args.edit ≡ None =
     ap (λ (q : Parts). refusing.refusal q s.slots c.args.edit) c.requires.parts
     ∙ sym (refusal_meets c.args.inst.now s c.args.edit c.requires.sort) ∙ c.requires.accepted in
@@ -55,9 +44,8 @@ returns g c =
     let sort = c.requires.sort in
     let slots = c.args.solution.now.slots in
     let after = c.edit.new.self.slots in
-    let old = c.args.listeners.now.graph in
-    let fs = c.edit.new.watcher.families in
-    let new = c.edit.new.watcher.graph in
+    let old = g.N.GraphWatcher.board c.args.listeners.now in
+    let new = g.N.GraphWatcher.board c.edit.new.watcher in
     let s = state_of slots old in
     let s2 = state_of after new in
     let said = c.in-Ok.ensures in
@@ -67,13 +55,10 @@ returns g c =
     let ok : c.edit.result ≡ Ok (editing.made slots e) =
     c.edit.ensures.answer ∙ ap (λ o. editing.answer o (editing.made slots e)) accepted in
     let made : c.in-Ok.made ≡ editing.made slots e = cc ok in
-    let of : g.F.Family.IsOf fs p × ServesAll g.F.Family.serves_kind × HasValues p (g.F.Family.told fs) new
-    × IsIdle p c.edit.new.watcher.waiting =
-    subst (λ (q : Parts). g.F.Family.IsOf fs q × ServesAll g.F.Family.serves_kind
-    × HasValues q (g.F.Family.told fs) new × IsIdle q c.edit.new.watcher.waiting) c.requires.parts said.of in
+    let rest = g.met.N.GraphWatcher.same_groups c.args.listeners.now c.edit.new.watcher said.rest in
     let now : s2 ≡ record s { slots = editing.edited slots e } = λ i. record {
       slots = said.slots i;
-      grouping = sym said.rest.grouping i;
+      grouping = sym rest.grouping i;
     } in
     let counts : watcher_counts c.args.solution.now.parts slots (changing.changes slots e)
     ≡ watcher_counts p slots (changes s e) =
@@ -81,12 +66,10 @@ returns g c =
     ∙ ap (watcher_counts p slots) (sym (changes_meets s e sort)) in
     record {
       parts = said.parts ∙ c.requires.parts;
-      of = of.0;
+      of = subst (g.N.Watcher.IsOf c.edit.new.watcher) c.requires.parts said.of;
       told = said.told;
-      values = subst (λ (ss : List Slot). HasValues p ss new) said.told of.2;
-      idle = of.3;
-      marked = sym said.rest.marked;
-      seats = sym said.rest.seats;
+      marked = sym rest.marked;
+      seats = sym rest.seats;
       made = made ∙ sym (made_meets s e sort);
       state = now ∙ sym (edited_meets s e sort);
       record_ = recorded_meets p new.seats s s2 e c.back-back.result c.args.journal.now.since c.keep.new.journal.since sort

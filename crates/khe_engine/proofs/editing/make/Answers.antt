@@ -9,10 +9,7 @@ edit_groups-requires g c = record {
   seat = c.requires.seat;
   parts = c.requires.parts;
   of = c.requires.of;
-  serves = c.requires.serves;
   told = c.requires.told;
-  values = c.requires.values;
-  idle = c.requires.idle;
 }
 
 pub returns-then-is_of_groups : goal.returns-then-is_of_groups
@@ -22,8 +19,6 @@ returns-then-is_of_groups g c =
       parts = m.parts;
       of = m.of;
       told = m.told;
-      values = m.values;
-      idle = m.idle;
       marked = m.marked;
       seats = m.seats;
       made = m.made;
@@ -41,10 +36,7 @@ edit_meets-requires g c = record {
   seat = c.requires.seat;
   parts = c.requires.parts;
   of = c.requires.of;
-  serves = c.requires.serves;
   told = c.requires.told;
-  values = c.requires.values;
-  idle = c.requires.idle;
 }
 
 pub returns-else-is_of_groups : goal.returns-else-is_of_groups
@@ -54,8 +46,6 @@ returns-else-is_of_groups g c =
       parts = m.parts;
       of = m.of;
       told = m.told;
-      values = m.values;
-      idle = m.idle;
       marked = m.marked;
       seats = m.seats;
       made = m.made;

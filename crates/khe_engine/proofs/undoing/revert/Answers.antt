@@ -7,26 +7,27 @@ use Rattle.khe_engine.proofs.undoing.revert.Goals as goal
 
 pub returns-then-is_back_of_groups-clause-state : goal.returns-then-is_back_of_groups-clause-state
 returns-then-is_back_of_groups-clause-state g c =
-    let s = state_of c.args.solution.now.slots c.args.listeners.now.graph in
+    let s = state_of c.args.solution.now.slots (g.N.GraphWatcher.board c.args.listeners.now) in
     let sort : is_back_of_groups c.args.back ≡ true = sym c.is_back_of_groups.ensures ∙ c.if-is_back_of_groups.true in
-    (λ i. record { slots = c.args.solution.now.slots; grouping = c.undo.ensures.grouping i })
+    (λ i. record { slots = c.args.solution.now.slots; grouping = c.undo_grouping.ensures.grouping i })
     ∙ sym (undone_groups s c.args.back sort)
 
 pub returns-else-is_back_of_groups-clause-state : goal.returns-else-is_back_of_groups-clause-state
 returns-else-is_back_of_groups-clause-state g c =
-    let s = state_of c.args.solution.now.slots c.args.listeners.now.graph in
+    let s = state_of c.args.solution.now.slots (g.N.GraphWatcher.board c.args.listeners.now) in
     let sort : is_back_of_groups c.args.back ≡ false = sym c.is_back_of_groups.ensures ∙ c.if-is_back_of_groups.false in
-    let u = c.undo-else-is_back_of_groups.ensures in
-    (λ i. record { slots = u.slots i; grouping = sym u.rest.grouping i }) ∙ sym (undone_meets s c.args.back sort)
+    let u = c.undo.ensures in
+    let rest = g.met.N.GraphWatcher.same_groups c.args.listeners.now c.undo.new.watcher u.rest in
+    (λ i. record { slots = u.slots i; grouping = sym rest.grouping i }) ∙ sym (undone_meets s c.args.back sort)
 
 pub returns-else-is_back_of_groups-clause-steps : goal.returns-else-is_back_of_groups-clause-steps
 returns-else-is_back_of_groups-clause-steps g c =
-    let s = state_of c.args.solution.now.slots c.args.listeners.now.graph in
+    let s = state_of c.args.solution.now.slots (g.N.GraphWatcher.board c.args.listeners.now) in
     let sort : is_back_of_groups c.args.back ≡ false = sym c.is_back_of_groups.ensures ∙ c.if-is_back_of_groups.false in
-    let taken = c.undo-else-is_back_of_groups.ensures.steps in
-    let same : watcher_counts c.args.solution.now.parts c.undo-else-is_back_of_groups.new.self.slots
+    let taken = c.undo.ensures.steps in
+    let same : watcher_counts c.args.solution.now.parts c.undo.new.self.slots
     (backs.undone_changes c.args.solution.now.slots c.args.back)
-    ≡ watcher_counts c.args.inst.now c.undo-else-is_back_of_groups.new.self.slots (undone_changes s c.args.back) =
-    λ i. watcher_counts (c.requires.parts i) c.undo-else-is_back_of_groups.new.self.slots
+    ≡ watcher_counts c.args.inst.now c.undo.new.self.slots (undone_changes s c.args.back) =
+    λ i. watcher_counts (c.requires.parts i) c.undo.new.self.slots
     (sym (list_meets s c.args.back sort) i) in
     omega (arith, taken, same)

@@ -10,9 +10,9 @@ pub loop-back-preserved : goal.loop-back-preserved
 loop-back-preserved g c =
     let v = c.loop-back.invariant in
     let p = c.args.inst.now in
-    let n = c.loop-back.listeners.graph.seats in
-    let s0 = state_of c.loop-back.solution.slots c.loop-back.listeners.graph in
-    let s1 = state_of c.revert.new.solution.slots c.revert.new.listeners.graph in
+    let n = (g.N.GraphWatcher.board c.loop-back.listeners).seats in
+    let s0 = state_of c.loop-back.solution.slots (g.N.GraphWatcher.board c.loop-back.listeners) in
+    let s1 = state_of c.revert.new.solution.slots (g.N.GraphWatcher.board c.revert.new.listeners) in
     let j0 = c.loop-back.journal.since in
     let j1 = c.pop.new.self.since in
     let b = c.in-Some.back in
@@ -30,8 +30,6 @@ loop-back-preserved g c =
       spare = let a = pop_records j0 j1 b e.0 e.1 in let f = v.spare in let d = e.2 in omega (arith, a, f, d);
       of = r.of;
       told = r.told;
-      values = r.values;
-      idle = r.idle;
       marked = r.marked ∙ v.marked;
       seats = r.seats ∙ v.seats;
       steps =
