@@ -1,5 +1,5 @@
 -- What is put into a list of changes leads where it leads after them.
-use Rattle.std.proofs.Common.{ℕ, ◌≡◌, ◌≤◌, arith, refl, ◌⊎◌, inl, inr, List, [], ◌∷◌, ◌++◌, sym, ap, subst, ◌∙◌}
+use Rattle.std.proofs.Common.{ℕ, ◌≡◌, ◌≤◌, ◌⊎◌, inl, inr, List, [], ◌∷◌, ◌++◌, refl, sym, ap, subst, ◌∙◌, arith}
 use Rattle.khe_instance.specs.declared.parts.Parts.{Parts}
 use Rattle.khe_solution.specs.Timetables.{HasRoom}
 use Rattle.khe_told.proofs.SlotLaws.{after_back, after_both, all_fit_both, told_after}

@@ -21,11 +21,13 @@ use std::sync::ledger::Ledger;
 use undo_paths::Journal;
 
 /// An engine of which nobody asks what the timetable costs for a while. It is edited, and has marks, as an engine has,
-/// and answers as that does; but its monitors are measured only once it has caught up, each once however many edits
-/// it watched, and not at all for what was undone in between. Contracts see the world of an engine.
+/// and answers as that does; but its families follow, and its monitors are measured, only once it has caught up: each
+/// slot and each monitor once, whatever the number of edits that it was in, and for what was undone before not at all.
+/// Contracts see the world of an engine.
 ///
-/// An edit takes the time of its check and of its changes alone. From time to time, where many edits wait, one takes
-/// that of all of them; an edit's watchers are looked at no more often than by an engine.
+/// An edit takes the time of its check and of its changes. Some hundred changes are kept; the edit that finds no room
+/// for its own takes the time of all of them. The steps that are counted in a ledger are those of an engine that
+/// measures at once: what is measured later is counted nowhere.
 pub struct Behind<'i, F: Family> {
     pub(crate) inst: &'i Instance,
     pub(crate) solution: Solution<'i>,
@@ -67,10 +69,14 @@ impl<'i, F: Family> Model for Behind<'i, F> {
     } };
 
     ghost invariant = { λ e. (e.solution.parts ≡ e.inst.now)
-        × ((F.IsOf e.late.listeners.families e.inst.now × ServesAll F.serves_kind × HasValues e.inst.now (F.told e.late.listeners.families) e.late.listeners.graph × IsIdle e.inst.now e.late.listeners.waiting)
-        × IsBehind e.inst.now (F.told e.late.listeners.families) e.late.changes.items × HasRoom e.inst.now (vec_capacity e.late.changes))
+        × ((F.IsOf e.late.listeners.families e.inst.now × ServesAll F.serves_kind
+            × HasValues e.inst.now (F.told e.late.listeners.families) e.late.listeners.graph
+            × IsIdle e.inst.now e.late.listeners.waiting)
+          × IsBehind e.inst.now (F.told e.late.listeners.families) e.late.changes.items
+          × HasRoom e.inst.now (vec_capacity e.late.changes))
         × (after_all (F.told e.late.listeners.families) e.late.changes.items ≡ e.solution.slots)
-        × MarksLead e.inst.now e.late.listeners.graph.seats (state_of e.solution.slots e.late.listeners.graph) e.journal.since };
+        × MarksLead e.inst.now e.late.listeners.graph.seats
+          (state_of e.solution.slots e.late.listeners.graph) e.journal.since };
 }
 
 impl<'i, F: Family> Behind<'i, F> {
