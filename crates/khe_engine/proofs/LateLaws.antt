@@ -1,13 +1,13 @@
 -- What is put into a list of changes leads where it leads after them.
-use Rattle.std.proofs.Common.{ℕ, ◌≡◌, ◌≤◌, ◌⊎◌, inl, inr, List, [], ◌∷◌, ◌++◌, refl, sym, ap, subst, ◌∙◌, arith}
+use Rattle.std.proofs.Common.{ℕ, ◌≡◌, ◌≤◌, inl, inr, List, [], ◌∷◌, ◌++◌, refl, sym, ap, subst, ◌∙◌, arith}
 use Rattle.khe_instance.specs.declared.parts.Parts.{Parts}
 use Rattle.khe_solution.specs.Timetables.{HasRoom}
 use Rattle.khe_told.proofs.SlotLaws.{after_back, after_both, all_fit_both, told_after}
-use Rattle.khe_told.specs.Changes.{after, after_all, inverse}
-use Rattle.khe_told.specs.Fits.{AllFit, AreTold, Fits}
+use Rattle.khe_told.specs.Changes.{after, after_all}
+use Rattle.khe_told.specs.Fits.{AllFit, Fits}
 use Rattle.khe_told.specs.declared.changes.Change.{Change}
 use Rattle.khe_told.specs.declared.slots.Slot.{Slot}
-use Rattle.khe_engine.specs.Late.{IsBehind, IsPut, LeadAlike}
+use Rattle.khe_engine.specs.Late.{IsPut, LeadAlike}
 
 -- the first of some changes that fit, and the others after them
 fit_front : (p : Parts) (s : List Slot) (cs ds : List Change) → AllFit p s (cs ++ ds) → AllFit p s cs

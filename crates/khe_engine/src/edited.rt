@@ -6,13 +6,13 @@ ghost use Rattle.khe_told.specs.declared.refusals.Refusal.TheVariants.{NoMark, M
 ghost use Rattle.khe_engine.specs.States.{refusal, edited, made, changes};
 ghost use Rattle.khe_engine.specs.Worlds.{Saved, World, IsFaultOf, around, closed, fresh, from_mark, grown, last_saved};
 
-use crate::behind::Behind;
 use crate::engine::Engine;
 use crate::faults::EditFault;
 use khe_told::{Edit, Family, Refusal, Steps};
 use std::sync::ledger::Ledger;
 
-/// What is edited and has marks: an engine, or one that is behind. Each call says of its world what the engine's does.
+/// What is edited and has marks: an engine, or one that is put off. Each call says of its world what the engine's
+/// call of that name says, and where an error comes that is as there.
 pub trait Edited {
     /// What it stands for.
     ghost world: { Self → World };
@@ -91,33 +91,5 @@ impl<'i, F: Family> Edited for Engine<'i, F> {
 
     fn undo_to<L: Ledger>(&mut self, k: u32, steps: &mut Steps<L>) -> Result<(), Refusal> {
         Engine::undo_to(self, k, steps)
-    }
-}
-
-impl<'i, F: Family> Edited for Behind<'i, F> {
-    ghost world = { λ e. e };
-
-    fn edit<L: Ledger>(
-        &mut self,
-        edit: Edit,
-        steps: &mut Steps<L>,
-    ) -> Result<Option<u32>, EditFault> {
-        Behind::edit(self, edit, steps)
-    }
-
-    fn begin(&mut self) -> Result<(), Refusal> {
-        Behind::begin(self)
-    }
-
-    fn end(&mut self) -> Result<(), Refusal> {
-        Behind::end(self)
-    }
-
-    fn undo<L: Ledger>(&mut self, steps: &mut Steps<L>) -> Result<(), Refusal> {
-        Behind::undo(self, steps)
-    }
-
-    fn undo_to<L: Ledger>(&mut self, k: u32, steps: &mut Steps<L>) -> Result<(), Refusal> {
-        Behind::undo_to(self, k, steps)
     }
 }

@@ -133,7 +133,7 @@ impl<F: Family> Watcher for Late<F> {
     ghost told = { λ x. after_all (F.told x.listeners.families) x.changes.items };
 
     ghost IsOf = { λ x p. (F.IsOf x.listeners.families p × ServesAll F.serves_kind
-          × HasValues p (F.told x.listeners.families) x.listeners.graph × IsIdle p x.listeners.waiting)
+        × HasValues p (F.told x.listeners.families) x.listeners.graph × IsIdle p x.listeners.waiting)
         × IsBehind p (F.told x.listeners.families) x.changes.items × HasRoom p (vec_capacity x.changes) };
 
     ghost noted = { λ x. None };

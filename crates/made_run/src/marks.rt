@@ -6,7 +6,7 @@ ghost use Rattle.made_run.specs.Commands as spec;
 ghost use Rattle.made_run.specs.Courses.{after, course, course_of};
 ghost use Rattle.made_run.specs.declared.running.Counts.{Counts as Counted};
 
-use khe_engine::Behind;
+use khe_engine::{Behind, Edited};
 use khe_told::{Family, Steps};
 use std::sync::ledger::Ledger;
 

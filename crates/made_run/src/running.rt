@@ -16,7 +16,7 @@ use crate::lines::{push_counts, push_deficit, push_instance, push_job, push_tota
 use crate::marks::{begin_before, end_after, undo_after};
 use archive_generator::Draws;
 use khe_base::{NoMemory, Text};
-use khe_engine::{Behind, EditFault, Engine};
+use khe_engine::{Behind, EditFault, Edited, Engine};
 use khe_instance::{Instance, Plain};
 use khe_told::{Blank, Edit, Family, Steps};
 use std::alloc::Global;

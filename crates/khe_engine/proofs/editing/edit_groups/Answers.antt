@@ -1,11 +1,10 @@
-use Rattle.std.proofs.Common.{◌≡◌, None, Ok, sym, ap, subst, ◌∙◌, arith}
+use Rattle.std.proofs.Common.{◌≡◌, None, sym, ap, subst, ◌∙◌, arith}
 use Rattle.monitor_graph.specs.Boards.{Board, grouping_of}
 use Rattle.monitor_graph.specs.Groups.{HaveRoom}
 use Rattle.monitor_graph.specs.Edits as groups
 use Rattle.khe_engine.specs.Records.{IsRecorded}
 use Rattle.khe_engine.specs.States.{state_of, changes}
 use Rattle.khe_engine.proofs.StateLaws.{refusal_groups, edited_groups, made_groups, recorded_groups}
-use Rattle.khe_engine.proofs.ValueLaws.{values_kept}
 use Rattle.khe_engine.proofs.editing.edit_groups.Goals as goal
 
 pub back-back-requires : goal.back-back-requires

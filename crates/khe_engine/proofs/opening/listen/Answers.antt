@@ -1,5 +1,5 @@
 -- The families are told of no meets, and then of all. No call touches what is attached or the groups.
-use Rattle.std.proofs.Common.{◌≡◌, ◌≤◌, ◌∙◌, ap, arith, subst, sym}
+use Rattle.std.proofs.Common.{◌∙◌, ap, arith, subst, sym}
 use Rattle.khe_instance.specs.declared.parts.Parts.{Parts}
 use Rattle.khe_told.specs.Changes.{after_all}
 use Rattle.khe_told.specs.Fits.{AllFit, AreTold}

@@ -1,8 +1,7 @@
-use Rattle.std.proofs.Common.{◌≡◌, List, [], ap, subst, sym, ◌∙◌}
+use Rattle.std.proofs.Common.{◌≡◌, ap, subst, sym, ◌∙◌}
 use Rattle.khe_told.proofs.SlotLaws.{told_after}
 use Rattle.khe_told.specs.Changes.{after_all}
 use Rattle.khe_told.specs.Fits.{AllFit, AreTold}
-use Rattle.khe_told.specs.declared.changes.Change.{Change}
 use Rattle.khe_engine.proofs.LateLaws.{roomier}
 use Rattle.khe_engine.proofs.late.LateWatcher.note_all.Goals as goal
 
