@@ -22,7 +22,8 @@ use undo_paths::Journal;
 /// before not at all. Contracts see the world of an engine.
 ///
 /// An edit takes the time of its check and of its changes. A thousand changes are kept; the edit that finds no room
-/// for its own takes the time of all of them. A ledger counts the steps of engines that measure at once: what is
+/// for its own takes the time of all of them. Where an event has more than 64 places each edit is followed at once: of
+/// many changes all places of their meets are looked at, of one edit's those that it names. A ledger counts the steps of engines that measure at once: what is
 /// measured later is counted in none.
 pub struct Behind<'i, F: Family> {
     pub(crate) inst: &'i Instance,
@@ -88,13 +89,18 @@ impl<'i, F: Family> Behind<'i, F> {
             journal,
         } = self;
         late.catch_up(inst);
-        let Late { listeners, changes } = late;
+        let Late {
+            listeners,
+            changes,
+            defers,
+        } = late;
         Engine {
             inst,
             solution,
             listeners,
             journal,
             list: changes,
+            defers,
         }
     }
 }

@@ -41,6 +41,8 @@ pub struct Engine<'i, F: Family> {
     pub(crate) journal: Journal<Back>,
     /// The changes of an edit that is only tried.
     pub(crate) list: Vec<Change>,
+    /// Whether changes are kept for later where the engine is put off.
+    pub(crate) defers: bool,
 }
 
 // By hand: an exit of a caller then has one call to prove, and not a drop for each field.
@@ -52,6 +54,7 @@ impl<'i, F: Family + Drop> Drop for Engine<'i, F> {
             listeners: _listeners,
             journal: _journal,
             list: _list,
+            defers: _defers,
         } = self;
     }
 }
@@ -289,12 +292,14 @@ impl<'i, F: Family> Engine<'i, F> {
             listeners,
             journal,
             list,
+            defers,
         } = self;
         Resting {
             solution: solution.rest(),
             listeners,
             journal,
             list,
+            defers,
         }
     }
 }
@@ -310,11 +315,13 @@ impl<'i, F: Family> Engine<'i, F> {
             listeners,
             journal,
             mut list,
+            defers,
         } = self;
         list.clear();
         let late = Late {
             listeners,
             changes: list,
+            defers,
         };
         Behind {
             inst,

@@ -27,6 +27,8 @@ pub(crate) struct Late<F: Family> {
     pub(crate) listeners: Listeners<F>,
     /// What was not told yet, the oldest first.
     pub(crate) changes: Vec<Change>,
+    /// Whether anything is kept for later.
+    pub(crate) defers: bool,
 }
 
 /// Tells the families changes that fit one after the other. The steps are counted by themselves: the edits that
@@ -148,12 +150,13 @@ impl<F: Family> Watcher for Late<F> {
 
     fn note_all<L: Ledger>(&mut self, inst: &Instance, changes: &[Change], steps: &mut Steps<L>) {
         let _ = steps;
-        if self.changes.capacity() - self.changes.len() < changes.len() {
-            self.catch_up(inst);
-            follow::<F, Brand>(inst, &mut self.listeners, changes, Blank::new(1));
+        let room = self.changes.capacity() - self.changes.len();
+        if self.defers && changes.len() <= room {
+            put_all(&mut self.changes, changes);
             return;
         }
-        put_all(&mut self.changes, changes);
+        self.catch_up(inst);
+        follow::<F, Brand>(inst, &mut self.listeners, changes, Blank::new(1));
     }
 
     ghost same_rest_refl = { λ x. record { grouping = refl; marked = refl; seats = refl } };

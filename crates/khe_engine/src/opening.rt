@@ -15,7 +15,7 @@ use crate::engine::Engine;
 use crate::late::Late;
 use crate::listeners::Listeners;
 use crate::telling::tell_all;
-use khe_base::{MonitorId, NoMemory, both};
+use khe_base::{EventId, MonitorId, NoMemory, both};
 use khe_instance::{Instance, Plain};
 use khe_solution::{Solution, room_for};
 use khe_told::{Blank, Change, Family, Steps, Waiting};
@@ -27,6 +27,9 @@ use undo_paths::Journal;
 
 /// How many changes an engine that is put off has room for at least.
 const PUT_OFF: usize = 1 << 10;
+
+/// How many places an event has at most where changes are kept for later.
+const FEW_PLACES: usize = 64;
 
 impl<'i, F: Family + Drop> Engine<'i, F> {
     /// An engine of a valid timetable, without marks. It takes time and memory in proportion to the
@@ -55,16 +58,37 @@ impl<'i, F: Family + Drop> Engine<'i, F> {
             graph,
             waiting,
         };
-        let late = listen::<F, Brand>(inst, &solution, listeners, list, Blank::new(1));
-        let Late { listeners, changes } = late;
+        let late = Late {
+            listeners,
+            changes: list,
+            defers: has_few_places(inst),
+        };
+        let late = listen::<F, Brand>(inst, &solution, late, Blank::new(1));
+        let Late {
+            listeners,
+            changes,
+            defers,
+        } = late;
         Ok(Engine {
             inst,
             solution,
             listeners,
             journal,
             list: changes,
+            defers,
         })
     }
+}
+
+/// Whether no event has many places. It takes time in proportion to the events.
+fn has_few_places(inst: &Instance) -> bool {
+    inst.facts();
+    for number in 0..inst.events() {
+        if inst.event(EventId(number)).places.len() > FEW_PLACES {
+            return false;
+        }
+    }
+    true
 }
 
 /// An empty list with room for the changes of one edit, and for those of many where an engine is put off.
@@ -88,32 +112,31 @@ fn waiting_of(alloc: Global, inst: &Instance) -> Result<Waiting, NoMemory>
 fn listen<F: Family, L: Ledger>(
     inst: &Instance,
     solution: &Solution<'_>,
-    mut listeners: Listeners<F>,
-    mut changes: Vec<Change>,
+    mut late: Late<F>,
     blank: Blank,
 ) -> Late<F>
     requires name { blank.name ≡ L.name }
     requires shares { blank.parts ≡ L.parts }
     requires some { 0 < blank.parts }
     requires parts { solution.now.parts ≡ inst.now }
-    requires of { F.IsOf listeners.families inst.now }
+    requires of { F.IsOf late.listeners.families inst.now }
     requires serves { ServesAll F.serves_kind }
-    requires none { F.told listeners.families ≡ no_meets inst.now }
-    requires rates { IsOf listeners.graph inst.now }
-    requires many { length (deviations_of listeners.graph) ≡ length inst.now.monitors }
-    requires idle { IsIdle inst.now listeners.waiting }
-    requires room { HasRoom inst.now (vec_capacity changes) }
+    requires none { F.told late.listeners.families ≡ no_meets inst.now }
+    requires rates { IsOf late.listeners.graph inst.now }
+    requires many { length (deviations_of late.listeners.graph) ≡ length inst.now.monitors }
+    requires idle { IsIdle inst.now late.listeners.waiting }
+    requires room { HasRoom inst.now (vec_capacity late.changes) }
     ensures of { F.IsOf result.listeners.families inst.now }
     ensures told { F.told result.listeners.families ≡ solution.now.slots }
     ensures values { HasValues inst.now solution.now.slots result.listeners.graph }
     ensures idle { IsIdle inst.now result.listeners.waiting }
-    ensures grouping { grouping_of result.listeners.graph ≡ grouping_of listeners.graph }
+    ensures grouping { grouping_of result.listeners.graph ≡ grouping_of late.listeners.graph }
     ensures room { HasRoom inst.now (vec_capacity result.changes) }
 {
     let mut steps = Steps::<L>::new(blank);
+    let listeners = &mut late.listeners;
     set_all(inst, &listeners.families, &mut listeners.graph, &mut steps);
-    changes.clear();
-    let mut late = Late { listeners, changes };
+    late.changes.clear();
     solution.facts();
     tell_all(inst, solution, &mut late, &mut steps);
     late.catch_up(inst);

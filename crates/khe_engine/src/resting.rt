@@ -19,6 +19,7 @@ pub struct Resting<F: Family> {
     pub(crate) listeners: Listeners<F>,
     pub(crate) journal: Journal<Back>,
     pub(crate) list: Vec<Change>,
+    pub(crate) defers: bool,
 }
 
 // By hand: an exit of a caller then has one call to prove, and not a drop for each field.
@@ -29,6 +30,7 @@ impl<F: Family + Drop> Drop for Resting<F> {
             listeners: _listeners,
             journal: _journal,
             list: _list,
+            defers: _defers,
         } = self;
     }
 }
@@ -62,6 +64,7 @@ impl<F: Family> Resting<F> {
             listeners,
             journal,
             list,
+            defers,
         } = self;
         Engine {
             inst,
@@ -69,6 +72,7 @@ impl<F: Family> Resting<F> {
             listeners,
             journal,
             list,
+            defers,
         }
     }
 }

@@ -12,7 +12,7 @@ pub tell_all-requires : goal.tell_all-requires
 tell_all-requires g c =
     let p = c.args.inst.now in
     let slots = c.args.solution.now.slots in
-    let base = g.F.Family.told c.args.listeners.families in
+    let base = g.F.Family.told c.args.late.listeners.families in
     let empty = c.clear.ensures in
     let told : AreTold p slots = subst (λ (q : Parts). AreTold q slots) c.requires.parts c.facts.ensures.told in
     record {
@@ -31,4 +31,4 @@ tell_all-requires g c =
 pub returns-clause-grouping : goal.returns-clause-grouping
 returns-clause-grouping g c =
     sym c.catch_up.ensures.rest.grouping ∙ sym c.tell_all.ensures.rest.grouping
-    ∙ sym (same_groups c.args.listeners.graph c.set_all.new.graph c.set_all.ensures.rest).grouping
+    ∙ sym (same_groups c.args.late.listeners.graph c.set_all.new.graph c.set_all.ensures.rest).grouping

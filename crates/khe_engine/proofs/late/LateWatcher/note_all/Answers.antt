@@ -5,8 +5,8 @@ use Rattle.khe_told.specs.Fits.{AllFit, AreTold}
 use Rattle.khe_engine.proofs.LateLaws.{roomier}
 use Rattle.khe_engine.proofs.late.LateWatcher.note_all.Goals as goal
 
-pub returns-then-capacity-len-clause-of : goal.returns-then-capacity-len-clause-of
-returns-then-capacity-len-clause-of g c =
+pub returns-clause-of : goal.returns-clause-of
+returns-clause-of g c =
     let p = c.args.inst.now in
     let base = g.F.Family.told c.args.self.now.listeners.families in
     let late = c.args.self.now.changes.items in
