@@ -26,6 +26,11 @@ answers_by read says makes w number (line ∷ more) = by_reading (read line)
 abbrev pub answers : Parts → Play → ℕ → List (List ℕ) → List ℕ
 answers p = answers_by reading (answer p) (played p)
 
+-- the engine of two places that is there: one that measures at once, or one that is put off
+abbrev pub either : Option World → Option World → Option World
+either None behind = behind
+either (Some w) behind = Some w
+
 -- the same of an engine, and nothing where there is none
 abbrev pub answers_of : Option World → ℕ → List (List ℕ) → List ℕ
 answers_of o number [] = []

@@ -1,11 +1,12 @@
 //! A script on an engine that catches up only where a line asks for something.
 
-ghost use Rattle.std.specs.Prelude.{◌≡◌, ◌≤◌, ◌++◌, Some, true, false, OnOk, OnErr, IsErrOf, is_some};
+ghost use Rattle.std.specs.Prelude.{◌≡◌, ◌≤◌, ◌++◌, None, Some, true, false, OnOk, OnErr, IsErrOf, is_some};
 ghost use Rattle.khe_io.specs.Faults.{Rose};
 ghost use Rattle.khe_engine.specs.Worlds.{World};
 ghost use Rattle.script_run.specs.Added.{IsAdded, IsCutOff};
 ghost use Rattle.script_run.specs.Answers as said;
 ghost use Rattle.script_run.specs.Plays.{asks, is_question, play_of, played};
+ghost use Rattle.script_run.specs.Scripts.{either};
 
 use crate::answering::{asks, play_change, push_answer};
 use crate::faults::fault_line;
@@ -21,21 +22,53 @@ use khe_told::{Family, Steps};
 use std::alloc::Global;
 use std::sync::ledger::Ledger;
 
-/// An engine on which a script is run, and whose monitors are measured only where a line asks for something.
+/// How many commands that ask nothing come one after the other before the engine is put off: where a script asks
+/// after each of a few edits it never is, since that takes time too.
+const IN_A_ROW: u32 = 4;
+
+/// An engine on which a script is run. It measures at once, or, where many edits come in a row, it is put off and
+/// catches up once a line asks for something.
 #[derive(Drop)]
 pub struct PutOff<'i, F: Family> {
-    /// There is one between two lines.
-    engine: Option<Behind<'i, F>>,
-    ghost there: { is_some engine ≡ true },
+    /// The engine while it measures at once.
+    settled: Option<Engine<'i, F>>,
+    /// The engine while it is put off.
+    behind: Option<Behind<'i, F>>,
+    /// How many commands that ask nothing came since the last one that did.
+    in_a_row: u32,
+    ghost there: { is_some (either settled behind) ≡ true },
+    ghost apart: { is_some behind ≡ true → settled ≡ None },
 }
 
 impl<'i, F: Shortages + Drop> PutOff<'i, F> {
     /// A script runs on this engine. It takes constant time and no memory.
     pub fn new(engine: Engine<'i, F>) -> PutOff<'i, F>
-        ensures { result.engine ≡ Some engine.entry }
+        ensures { either result.settled result.behind ≡ Some engine.entry }
     {
         PutOff {
-            engine: Some(engine.put_off()),
+            settled: Some(engine),
+            behind: None,
+            in_a_row: 0,
+        }
+    }
+
+    /// Lets the engine catch up, if it is put off.
+    fn settle(&mut self)
+        ensures settled { self.new.settled ≡ either self.old.settled self.old.behind }
+        ensures behind { self.new.behind ≡ None }
+    {
+        self.in_a_row = 0;
+        if let Some(behind) = self.behind.take() {
+            self.settled = Some(behind.caught_up());
+        }
+    }
+
+    /// Puts the engine off, unless it is.
+    fn put_off(&mut self)
+        ensures { either self.new.settled self.new.behind ≡ either self.old.settled self.old.behind }
+    {
+        if let Some(engine) = self.settled.take() {
+            self.behind = Some(engine.put_off());
         }
     }
 }
@@ -65,7 +98,7 @@ fn answer<F: Shortages, G: Onward>(
 }
 
 impl<'i, F: Shortages + Drop> PutOff<'i, F> {
-    /// Lets the engine catch up, and adds the answer to a question.
+    /// Adds the answer to a question, once the engine has caught up.
     fn ask<G: Onward>(
         &mut self,
         alloc: Global,
@@ -74,25 +107,23 @@ impl<'i, F: Shortages + Drop> PutOff<'i, F> {
         onward: &mut G,
     ) -> Result<(), Cut>
         requires question { is_question command ≡ true }
-        ensures same { self.new.engine ≡ self.old.engine }
-        ensures played { (w : World) → self.old.engine ≡ Some w → play_of w ≡ played w.parts (play_of w) command }
-        ensures added { (w : World) → self.old.engine ≡ Some w → OnOk result (IsAdded (G.taken onward.old) (G.taken onward.new) text.old (said.answer w.parts (play_of w) command) text.new) }
-        ensures front { (w : World) → self.old.engine ≡ Some w → OnErr result (IsCutOff (G.taken onward.old) (G.taken onward.new) text.old (said.answer w.parts (play_of w) command)) }
+        ensures same { either self.new.settled self.new.behind ≡ either self.old.settled self.old.behind }
+        ensures played { (w : World) → either self.old.settled self.old.behind ≡ Some w → play_of w ≡ played w.parts (play_of w) command }
+        ensures added { (w : World) → either self.old.settled self.old.behind ≡ Some w → OnOk result (IsAdded (G.taken onward.old) (G.taken onward.new) text.old (said.answer w.parts (play_of w) command) text.new) }
+        ensures front { (w : World) → either self.old.settled self.old.behind ≡ Some w → OnErr result (IsCutOff (G.taken onward.old) (G.taken onward.new) text.old (said.answer w.parts (play_of w) command)) }
         ensures fault { IsErrOf result Cut.WriteFault → Rose (G.faults onward.old) (G.faults onward.new) }
         ensures faultless { OnOk result (G.faults onward.new ≡ G.faults onward.old) }
         ensures faultless_starved { IsErrOf result Cut.NoMemory → G.faults onward.new ≡ G.faults onward.old }
         ensures counted { G.faults onward.old ≤ G.faults onward.new }
     {
-        let Some(behind) = self.engine.take() else {
+        self.settle();
+        let Some(engine) = self.settled.as_ref() else {
             unreachable!()
         };
-        let engine = behind.caught_up();
-        let told = answer(alloc, &engine, command, text, onward);
-        self.engine = Some(engine.put_off());
-        told
+        answer(alloc, engine, command, text, onward)
     }
 
-    /// Carries out a command that asks nothing, and adds its answer.
+    /// Carries out a command that asks nothing on the engine as it is, and adds its answer.
     fn change<L: Ledger>(
         &mut self,
         alloc: Global,
@@ -101,10 +132,13 @@ impl<'i, F: Shortages + Drop> PutOff<'i, F> {
         steps: &mut Steps<L>,
     ) -> Result<(), NoMemory>
         requires change { asks command ≡ false }
-        ensures played { (w : World) → self.old.engine ≡ Some w → (v : World) × (self.new.engine ≡ Some v) × (v.parts ≡ w.parts) × OnOk result (play_of v ≡ played w.parts (play_of w) command) }
-        ensures text { (w : World) → self.old.engine ≡ Some w → OnOk result (text.new ≡ text.old ++ said.answer w.parts (play_of w) command) }
+        ensures played { (w : World) → either self.old.settled self.old.behind ≡ Some w → (v : World) × (either self.new.settled self.new.behind ≡ Some v) × (v.parts ≡ w.parts) × OnOk result (play_of v ≡ played w.parts (play_of w) command) }
+        ensures text { (w : World) → either self.old.settled self.old.behind ≡ Some w → OnOk result (text.new ≡ text.old ++ said.answer w.parts (play_of w) command) }
     {
-        let Some(behind) = self.engine.as_mut() else {
+        if let Some(engine) = self.settled.as_mut() {
+            return play_change(alloc, engine, command, text, steps);
+        }
+        let Some(behind) = self.behind.as_mut() else {
             unreachable!()
         };
         play_change(alloc, behind, command, text, steps)
@@ -119,9 +153,9 @@ impl<'i, F: Shortages + Drop> PutOff<'i, F> {
         onward: &mut G,
         steps: &mut Steps<L>,
     ) -> Result<(), Cut>
-        ensures played { (w : World) → self.old.engine ≡ Some w → (v : World) × (self.new.engine ≡ Some v) × (v.parts ≡ w.parts) × OnOk result (play_of v ≡ played w.parts (play_of w) command) }
-        ensures added { (w : World) → self.old.engine ≡ Some w → OnOk result (IsAdded (G.taken onward.old) (G.taken onward.new) text.old (said.answer w.parts (play_of w) command) text.new) }
-        ensures front { (w : World) → self.old.engine ≡ Some w → OnErr result (IsCutOff (G.taken onward.old) (G.taken onward.new) text.old (said.answer w.parts (play_of w) command)) }
+        ensures played { (w : World) → either self.old.settled self.old.behind ≡ Some w → (v : World) × (either self.new.settled self.new.behind ≡ Some v) × (v.parts ≡ w.parts) × OnOk result (play_of v ≡ played w.parts (play_of w) command) }
+        ensures added { (w : World) → either self.old.settled self.old.behind ≡ Some w → OnOk result (IsAdded (G.taken onward.old) (G.taken onward.new) text.old (said.answer w.parts (play_of w) command) text.new) }
+        ensures front { (w : World) → either self.old.settled self.old.behind ≡ Some w → OnErr result (IsCutOff (G.taken onward.old) (G.taken onward.new) text.old (said.answer w.parts (play_of w) command)) }
         ensures fault { IsErrOf result Cut.WriteFault → Rose (G.faults onward.old) (G.faults onward.new) }
         ensures faultless { OnOk result (G.faults onward.new ≡ G.faults onward.old) }
         ensures faultless_starved { IsErrOf result Cut.NoMemory → G.faults onward.new ≡ G.faults onward.old }
@@ -129,6 +163,11 @@ impl<'i, F: Shortages + Drop> PutOff<'i, F> {
     {
         if asks(command) {
             return self.ask(alloc, command, text, onward);
+        }
+        if self.in_a_row >= IN_A_ROW {
+            self.put_off();
+        } else {
+            self.in_a_row += 1;
         }
         Ok(self.change(alloc, command, text, steps)?)
     }
@@ -138,7 +177,7 @@ impl<'i, F: Shortages + Drop> Player for PutOff<'i, F> {
     ghost use Rattle.std.specs.Prelude.{refl};
     ghost use Rattle.script_run.specs.Scripts as spec;
 
-    ghost answers = { λ e. spec.answers_of e.engine };
+    ghost answers = { λ e. spec.answers_of (spec.either e.settled e.behind) };
 
     ghost reads = { spec.reads };
 

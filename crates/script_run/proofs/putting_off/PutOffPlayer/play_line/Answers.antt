@@ -4,6 +4,7 @@ use Rattle.std.specs.Prelude.{OnErr}
 use Rattle.script_run.specs.Added.{IsCutOff}
 use Rattle.script_run.specs.Answers as said
 use Rattle.script_run.specs.Plays.{play_of}
+use Rattle.script_run.specs.Scripts.{either}
 use Rattle.script_run.proofs.ScriptLaws.{answers_there, line_cut, on_err, one_there}
 use Rattle.script_run.proofs.putting_off.PutOffPlayer.play_line.Goals as goal
 
@@ -12,13 +13,13 @@ returns-in_err-carry_out-in-Ok-clause-front g c more =
     let n = c.args.number in
     let line = c.args.line.now in
     let command = c.in-Ok.command in
-    let there = one_there c.args.self.now.engine c.args.self.now.there in
+    let there = one_there (either c.args.self.now.settled c.args.self.now.behind) c.args.self.now.there in
     let w = there.0 in
     let before = g.G.Onward.taken c.args.onward.now in
     let now = g.G.Onward.taken c.carry_out.new.onward in
     let cut = subst (λ r. OnErr r (IsCutOff before now c.args.text.now (said.answer w.parts (play_of w) command)))
     c.in_err-carry_out-in-Ok.was (c.carry_out.ensures.front w there.1) in
     on_err c.from_residual.result (subst (IsCutOff before now c.args.text.now)
-    (sym (answers_there c.args.self.now.engine w n (line ∷ more) there.1))
+    (sym (answers_there (either c.args.self.now.settled c.args.self.now.behind) w n (line ∷ more) there.1))
     (line_cut w.parts (play_of w) n line more command before now c.args.text.now
     (sym c.read_line.ensures ∙ c.in-Ok.is) cut))
