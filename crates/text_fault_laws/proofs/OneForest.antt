@@ -1,5 +1,5 @@
 -- The rows of a document stand for its forest, and what bytes spell is one forest.
-use Rattle.std.proofs.Common.{◌≡◌, ℕ, ◌+◌, List, ◌++◌, length, None}
+use Rattle.std.proofs.Common.{◌≡◌, ℕ, ◌+◌, List, ◌++◌, length}
 use Rattle.std.proofs.Common.{ap, subst, ◌∙◌, sym, refl, zero-add}
 use Rattle.xhstt_text.specs.Forest.{Forest}
 use Rattle.xhstt_text.specs.FlatTable.{FlatTable, Stands}
@@ -25,13 +25,13 @@ document-stands d t bytes nodes attributes =
     (length mark + length declaration) refl marked in
     let rooted = Holds-rest t.bytes (length mark + length declaration) before (root ++ after) (root_at d) refl body in
     let c : Content = d.body.root in
-    let stands = content-stands c t None 0 0 (root_at d) (record {
+    let stands = content-stands c t 0 0 (root_at d) (record {
       text_at = Holds-first t.bytes (root_at d) root after rooted;
-      nodes_at = Holds-whole t.nodes (rows None 0 0 (root_at d) c) nodes;
+      nodes_at = Holds-whole t.nodes (rows 0 0 (root_at d) c) nodes;
       attributes_at = Holds-whole t.attributes (attribute_rows (root_at d) c) attributes;
     }) in
     subst (λ b. Stands t 0 (forest_at (root_at d) c) b)
-    (zero-add (length (rows None 0 0 (root_at d) c)) ∙ ap length (sym nodes)) stands
+    (zero-add (length (rows 0 0 (root_at d) c)) ∙ ap length (sym nodes)) stands
 
 pub one_forest : (bytes : List ℕ) (f g : Forest) → Spelled bytes f → Spelled bytes g → f ≡ g
 one_forest bytes f g (d, h, p) (e, k, q) =

@@ -10,7 +10,6 @@ const ROWS: &[Node] = &[
     Node {
         at: 0,
         name: Span { from: 1, to: 2 },
-        parent: None,
         end: 3,
         attributes: Span { from: 0, to: 1 },
         value: Span { from: 9, to: 23 },
@@ -19,7 +18,6 @@ const ROWS: &[Node] = &[
     Node {
         at: 9,
         name: Span { from: 10, to: 11 },
-        parent: Some(0),
         end: 2,
         attributes: Span { from: 1, to: 1 },
         value: Span { from: 13, to: 13 },
@@ -28,7 +26,6 @@ const ROWS: &[Node] = &[
     Node {
         at: 14,
         name: Span { from: 15, to: 16 },
-        parent: Some(0),
         end: 3,
         attributes: Span { from: 1, to: 1 },
         value: Span { from: 17, to: 19 },
@@ -43,7 +40,6 @@ fn is_span(found: Span, span: Span) -> bool {
 fn is_row(found: &Node, row: &Node) -> bool {
     found.at == row.at
         && is_span(found.name, row.name)
-        && found.parent == row.parent
         && found.end == row.end
         && is_span(found.attributes, row.attributes)
         && is_span(found.value, row.value)
@@ -63,8 +59,7 @@ fn are_rows(found: &[Row], rows: &[Node]) -> bool {
 fn is_the_attribute(found: &[Attribute]) -> bool {
     match found {
         [attribute] => {
-            attribute.at == 3
-                && is_span(attribute.name, Span { from: 3, to: 4 })
+            is_span(attribute.name, Span { from: 3, to: 4 })
                 && is_span(attribute.value, Span { from: 6, to: 7 })
         }
         _ => false,

@@ -21,7 +21,7 @@ use Rattle.xhstt_text.specs.Machine.{in_value, in_text, in_quotes, reference, wi
 use Rattle.xhstt_text.specs.Machine.{declared_open, question, in_declaration, closed, Frame, Read, Tag, content, ended}
 use Rattle.xhstt_text.specs.Machine.{Region, early, late, phase_of, bang, bang_dash, in_comment, opened, start_name}
 use Rattle.xhstt_text.specs.Machine.{valued, in_tag, slash, shut_begin, shut, shut_gap, Step, state, first_loose, noted}
-use Rattle.xhstt_text.specs.Machine.{resume, parent_of, open_element, add_node, opened_row, closed_row, close_element}
+use Rattle.xhstt_text.specs.Machine.{resume, open_element, add_node, opened_row, closed_row, close_element}
 use Rattle.xhstt_text.specs.Machine.{attribute_row, with_name, start_of, step, step_content, step_opened, step_valued}
 use Rattle.xhstt_text.specs.Machine.{and_then, run, Outcome, outcome_of}
 use Rattle.xhstt_text.specs.Units.{Piece, piece_text}
@@ -200,7 +200,7 @@ run_start s r at b rest e c d h =
 
 row_is : (s : Start) (r : Read) (at from : ℕ)
     → opened_row (tag_of s at r) (read_after s at r) from
-    ≡ row (parent_of r.frames) at s (length r.attributes) (length r.nodes + 1) (span from from) None
+    ≡ row at s (length r.attributes) (length r.nodes + 1) (span from from) None
 row_is s r at from =
     let e : length (r.attributes ++ attributes_of (at + 1 + length s.name) s.attributes)
     ≡ length r.attributes + count s.attributes = simp length-append
@@ -211,7 +211,7 @@ row_is s r at from =
 abbrev after_short : Start → Read → ℕ → ℕ → ℕ → Read
 after_short s r at number first = let to = at + start_length s + 2 in record {
   frames = r.frames;
-  nodes = r.nodes ++ row (parent_of r.frames) at s first (number + 1) (span to to) None ∷ [];
+  nodes = r.nodes ++ row at s first (number + 1) (span to to) None ∷ [];
   attributes = r.attributes ++ attributes_of (at + 1 + length s.name) s.attributes;
 }
 
@@ -233,7 +233,7 @@ run_short s r at number first rest e1 e2 d h =
     ∙ by_step (valued t) q i 47 (62 ∷ rest) (slash t) q refl
     ∙ by_step (slash t) q (i + 1) 62 rest (resume r.frames) (add_node q (opened_row t q (i + 1 + 1))) refl
     ∙ ap (λ (x : Node). run (resume r.frames) (add_node q x) (i + 1 + 1) rest) (row_is s r at (i + 1 + 1))
-    ∙ ap (λ n. run (resume r.frames) (add_node q (row (parent_of r.frames) at s (length r.attributes)
+    ∙ ap (λ n. run (resume r.frames) (add_node q (row at s (length r.attributes)
     (length r.nodes + 1) (span n n) None)) n rest) (add_assoc i 1 1))
 
 -- the end tag
@@ -309,18 +309,18 @@ abbrev RunsOver : Content → Type 0
 RunsOver c = (f : Frame) (fs : List Frame) (nodes : List Node) (attributes : List Attribute) (at number first : ℕ)
     (rest : List ℕ) → number ≡ length nodes → first ≡ length attributes → IsContent (length (f ∷ fs)) c
     → run content (read_of (f ∷ fs) nodes attributes) at (text c ++ rest)
-    ≡ run content (read_of (with_loose f (loose_in at c) ∷ fs) (nodes ++ rows (Some f.number) number first at c)
+    ≡ run content (read_of (with_loose f (loose_in at c) ∷ fs) (nodes ++ rows number first at c)
     (attributes ++ attribute_rows at c)) (at + length (text c)) rest
 
 -- what is known after an element with content
 abbrev after_long : Start → Content → Read → ℕ → ℕ → ℕ → Read
 after_long s inner r at number first =
     let from = at + start_length s + 1 in
-    let inside = rows (Some number) (number + 1) (first + count s.attributes) from inner in
+    let inside = rows (number + 1) (first + count s.attributes) from inner in
     let to = from + length (text inner) in
     record {
       frames = r.frames;
-      nodes = r.nodes ++ row (parent_of r.frames) at s first (number + 1 + length inside) (span from to)
+      nodes = r.nodes ++ row at s first (number + 1 + length inside) (span from to)
           (loose_in from inner) ∷ inside;
       attributes = r.attributes ++ (attributes_of (at + 1 + length s.name) s.attributes ++ attribute_rows from inner);
     }
@@ -336,13 +336,13 @@ frame_of s r at = record {
 
 closed_is : (s : Start) (r : Read) (at to last : ℕ) (loose : Option ℕ)
     → closed_row (with_loose (frame_of s r at) loose).node to last
-    ≡ row (parent_of r.frames) at s (length r.attributes) last (span (at + start_length s + 1) to) loose
+    ≡ row at s (length r.attributes) last (span (at + start_length s + 1) to) loose
 closed_is s r at to last loose = ap (λ (x : Node). record x
     { end = last; value = span (at + start_length s + 1) to; loose = loose }) (row_is s r at (at + start_length s + 1))
 
 after_long_is : (s : Start) (inner : Content) (r : Read) (at : ℕ) →
     let from = at + start_length s + 1 in
-    let inside = rows (Some (length r.nodes)) (length r.nodes + 1) (length r.attributes + count s.attributes) from
+    let inside = rows (length r.nodes + 1) (length r.attributes + count s.attributes) from
     inner in
     let f = frame_of s r at in
     close_element (with_loose f (loose_in from inner)) r.frames
@@ -351,7 +351,7 @@ after_long_is : (s : Start) (inner : Content) (r : Read) (at : ℕ) →
     (from + length (text inner)) ≡ after_long s inner r at (length r.nodes) (length r.attributes)
 after_long_is s inner r at =
     let from : ℕ = at + start_length s + 1 in
-    let inside : List Node = rows (Some (length r.nodes)) (length r.nodes + 1)
+    let inside : List Node = rows (length r.nodes + 1)
     (length r.attributes + count s.attributes) from inner in
     let f : Frame = frame_of s r at in
     let loose : Option ℕ = loose_in from inner in
@@ -360,7 +360,7 @@ after_long_is s inner r at =
     let last_is : length ((r.nodes ++ f.node ∷ []) ++ inside) ≡ last = simp length-append (omega arith) in
     let nodes_are : set ((r.nodes ++ f.node ∷ []) ++ inside) (length r.nodes)
     (closed_row (with_loose f loose).node to (length ((r.nodes ++ f.node ∷ []) ++ inside))) ≡ r.nodes
-    ++ row (parent_of r.frames) at s (length r.attributes) last (span from to) loose ∷ inside =
+    ++ row at s (length r.attributes) last (span from to) loose ∷ inside =
     close_rows r.nodes inside f.node (closed_row (with_loose f loose).node to
     (length ((r.nodes ++ f.node ∷ []) ++ inside)))
     ∙ ap (λ n. r.nodes ++ closed_row (with_loose f loose).node to n ∷ inside) last_is
@@ -368,7 +368,7 @@ after_long_is s inner r at =
     ap (λ (x : List Node). read_of r.frames x ((r.attributes ++ attributes_of (at + 1 + length s.name) s.attributes)
     ++ attribute_rows from inner)) nodes_are
     ∙ ap (λ (x : List Attribute). read_of r.frames
-    (r.nodes ++ row (parent_of r.frames) at s (length r.attributes) last (span from to) loose ∷ inside) x)
+    (r.nodes ++ row at s (length r.attributes) last (span from to) loose ∷ inside) x)
     (append_assoc r.attributes (attributes_of (at + 1 + length s.name) s.attributes) (attribute_rows from inner))
 
 run_long : (s : Start) (inner : Content) (name w : List ℕ) (r : Read) (at number first : ℕ) (rest : List ℕ)
@@ -388,7 +388,7 @@ run_long s inner name w r at number first rest over e1 e2 d h ih same hw =
     let more_attributes : length q.attributes ≡ length r.attributes + count s.attributes =
     simp length-append (ap (λ n. length r.attributes + n)
     (length_attributes s.attributes (at + 1 + length s.name))) in
-    let inside : List Node = rows (Some (length r.nodes)) (length r.nodes + 1)
+    let inside : List Node = rows (length r.nodes + 1)
     (length r.attributes + count s.attributes) (i + 1) inner in
     let g : Frame = with_loose f (loose_in (i + 1) inner) in
     let ends : ℕ = to + 2 + length name + length w + 1 in
@@ -475,10 +475,10 @@ run_content (byte b c) f fs nodes attributes at number first rest e1 e2 h =
     (read_of (noted f at b ∷ fs) nodes attributes) (rw (h.0, text_isnt_tag b h.0) refl)
     ∙ run_content c (noted f at b) fs nodes attributes (at + 1) number first rest e1 e2 h.1
     ∙ ap (λ (o : Option ℕ). run content (read_of (record f { node = record f.node { loose = o } } ∷ fs)
-    (nodes ++ rows (Some f.number) number first (at + 1) c) (attributes ++ attribute_rows (at + 1) c))
+    (nodes ++ rows number first (at + 1) c) (attributes ++ attribute_rows (at + 1) c))
     (at + 1 + length (text c)) rest) (more_loose f.node.loose at b (loose_in (at + 1) c))
     ∙ ap (λ n. run content (read_of (with_loose f (loose_in at (byte b c)) ∷ fs)
-    (nodes ++ rows (Some f.number) number first (at + 1) c) (attributes ++ attribute_rows (at + 1) c)) n rest)
+    (nodes ++ rows number first (at + 1) c) (attributes ++ attribute_rows (at + 1) c)) n rest)
     (omega arith)
 run_content (piece u c) f fs nodes attributes at number first rest e1 e2 h =
     let r : Read = read_of (f ∷ fs) nodes attributes in
@@ -494,9 +494,9 @@ run_content (piece u c) f fs nodes attributes at number first rest e1 e2 h =
     (loose_at f.node.loose at 239 refl)) u (text c ++ rest) h.0
     ∙ run_content c g fs nodes attributes to number first rest e1 e2 h.1
     ∙ ap (λ (o : Option ℕ). run content (read_of (record f { node = record f.node { loose = o } } ∷ fs)
-    (nodes ++ rows (Some f.number) number first to c) (attributes ++ attribute_rows to c)) (to + length (text c))
+    (nodes ++ rows number first to c) (attributes ++ attribute_rows to c)) (to + length (text c))
     rest) (loose_stays f.node.loose at (loose_in to c))
-    ∙ ap (λ n. run content (read_of (g ∷ fs) (nodes ++ rows (Some f.number) number first to c)
+    ∙ ap (λ n. run content (read_of (g ∷ fs) (nodes ++ rows number first to c)
     (attributes ++ attribute_rows to c)) n rest) (omega (arith, length-append (piece_text u) (text c)))
 run_content (comment inner c) f fs nodes attributes at number first rest e1 e2 h =
     let r : Read = read_of (f ∷ fs) nodes attributes in
@@ -506,12 +506,12 @@ run_content (comment inner c) f fs nodes attributes at number first rest e1 e2 h
     ∙ ap (λ n. run content r n (text c ++ rest)) (let e : at + 1 + 1 + 2 + length inner + 1 ≡ to = omega arith in e)
     ∙ run_content c f fs nodes attributes to number first rest e1 e2 h.1
     ∙ ap (λ n. run content (read_of (with_loose f (loose_in to c) ∷ fs)
-    (nodes ++ rows (Some f.number) number first to c) (attributes ++ attribute_rows to c)) n rest)
+    (nodes ++ rows number first to c) (attributes ++ attribute_rows to c)) n rest)
     (omega (arith, comment_length inner c))
 run_content (short s c) f fs nodes attributes at number first rest e1 e2 h =
     let r : Read = read_of (f ∷ fs) nodes attributes in
     let to : ℕ = at + start_length s + 2 in
-    let x : Node = row (Some f.number) at s first (number + 1) (span to to) None in
+    let x : Node = row at s first (number + 1) (span to to) None in
     let ours : List Attribute = attributes_of (at + 1 + length s.name) s.attributes in
     let e3 : number + 1 ≡ length (nodes ++ x ∷ []) = simp length-append (omega arith) in
     let e4 : first + count s.attributes ≡ length (attributes ++ ours) =
@@ -523,19 +523,19 @@ run_content (short s c) f fs nodes attributes at number first rest e1 e2 h =
     h.2
     ∙ ap (λ (l : List Node). run content (read_of (g ∷ fs) l ((attributes ++ ours) ++ attribute_rows to c))
     (to + length (text c)) rest) (append_assoc nodes (x ∷ [])
-    (rows (Some f.number) (number + 1) (first + count s.attributes) to c))
+    (rows (number + 1) (first + count s.attributes) to c))
     ∙ ap (λ (l : List Attribute). run content (read_of (g ∷ fs)
-    (nodes ++ rows (Some f.number) number first at (short s c)) l) (to + length (text c)) rest)
+    (nodes ++ rows number first at (short s c)) l) (to + length (text c)) rest)
     (append_assoc attributes ours (attribute_rows to c))
-    ∙ ap (λ n. run content (read_of (g ∷ fs) (nodes ++ rows (Some f.number) number first at (short s c))
+    ∙ ap (λ n. run content (read_of (g ∷ fs) (nodes ++ rows number first at (short s c))
     (attributes ++ attribute_rows at (short s c))) n rest) (omega (arith, short_length s c))
 run_content (long s inner name w c) f fs nodes attributes at number first rest e1 e2 h =
     let r : Read = read_of (f ∷ fs) nodes attributes in
     let from : ℕ = at + start_length s + 1 in
     let to : ℕ = from + length (text inner) in
     let ends : ℕ = to + 2 + length name + length w + 1 in
-    let inside : List Node = rows (Some number) (number + 1) (first + count s.attributes) from inner in
-    let x : Node = row (Some f.number) at s first (number + 1 + length inside) (span from to) (loose_in from inner) in
+    let inside : List Node = rows (number + 1) (first + count s.attributes) from inner in
+    let x : Node = row at s first (number + 1 + length inside) (span from to) (loose_in from inner) in
     let ours : List Attribute = attributes_of (at + 1 + length s.name) s.attributes ++ attribute_rows from inner in
     let last : ℕ = number + 1 + length inside in
     let last_attribute : ℕ = first + count s.attributes + length (attribute_rows from inner) in
@@ -548,14 +548,14 @@ run_content (long s inner name w c) f fs nodes attributes at number first rest e
     ∙ run_content c f fs (nodes ++ x ∷ inside) (attributes ++ ours) ends last last_attribute rest e3 e4 h.5
     ∙ ap (λ (l : List Node). run content (read_of (g ∷ fs) l ((attributes ++ ours) ++ attribute_rows ends c))
     (ends + length (text c)) rest) (append_assoc nodes (x ∷ inside)
-    (rows (Some f.number) last last_attribute ends c))
+    (rows last last_attribute ends c))
     ∙ ap (λ (l : List Attribute). run content (read_of (g ∷ fs)
-    (nodes ++ rows (Some f.number) number first at (long s inner name w c)) l) (ends + length (text c)) rest)
+    (nodes ++ rows number first at (long s inner name w c)) l) (ends + length (text c)) rest)
     (append_assoc attributes ours (attribute_rows ends c)
     ∙ ap (λ (l : List Attribute). attributes ++ l)
     (append_assoc (attributes_of (at + 1 + length s.name) s.attributes) (attribute_rows from inner)
     (attribute_rows ends c)))
-    ∙ ap (λ n. run content (read_of (g ∷ fs) (nodes ++ rows (Some f.number) number first at (long s inner name w c))
+    ∙ ap (λ n. run content (read_of (g ∷ fs) (nodes ++ rows number first at (long s inner name w c))
     (attributes ++ attribute_rows at (long s inner name w c))) n rest) (omega (arith, long_length s inner name w c))
 
 pub white_isnt_tag : (b : ℕ) → is_white b ≡ true → eqb b 60 ≡ false
@@ -592,7 +592,7 @@ abbrev outcome : List Node → List Attribute → Outcome
 outcome nodes attributes = Ok (record { nodes = nodes; attributes = attributes })
 
 run_root : (c : Content) (at : ℕ) (m : Content) → IsElement c → IsContent 0 c → IsSpace m
-    → run content (read_of [] [] []) at (text c ++ text m) ≡ outcome (rows None 0 0 at c) (attribute_rows at c)
+    → run content (read_of [] [] []) at (text c ++ text m) ≡ outcome (rows 0 0 at c) (attribute_rows at c)
 run_root nothing at w h k hw = absurd h
 run_root (byte b c) at w h k hw = absurd h
 run_root (comment inner c) at w h k hw = absurd h
@@ -612,26 +612,26 @@ run_root (short s nothing) at w h k hw =
     ap (run content r at) (append_assoc (start_text s) (47 ∷ 62 ∷ []) (text w))
     ∙ run_short s r at 0 0 (text w) refl refl k.0 k.1
     ∙ run_after (after_short s r at 0 0).nodes (after_short s r at 0 0).attributes w (at + start_length s + 2) hw
-    ∙ ap (outcome (rows None 0 0 at (short s nothing)))
+    ∙ ap (outcome (rows 0 0 at (short s nothing)))
     (sym (append-nil (attributes_of (at + 1 + length s.name) s.attributes)))
 run_root (long s inner name v nothing) at w h k hw =
     let r : Read = read_of [] [] [] in
     let x : Read = after_long s inner r at 0 0 in
     let ends : ℕ = at + start_length s + 1 + length (text inner) + 2 + length name + length v + 1 in
     let from : ℕ = at + start_length s + 1 in
-    let inside : List Node = rows (Some 0) 1 (count s.attributes) from inner in
+    let inside : List Node = rows 1 (count s.attributes) from inner in
     ap (run content r at) (long_shape s inner name v nothing (text w))
     ∙ run_long s inner name v r at 0 0 (text w) (run_content inner) refl refl k.0 k.1 k.2 k.3 k.4
     ∙ run_after x.nodes x.attributes w ends hw
     ∙ cc (
-      append-nil (rows (Some 0) (0 + 1) (0 + count s.attributes) from inner),
+      append-nil (rows (0 + 1) (0 + count s.attributes) from inner),
       append-nil
           (attribute_rows from inner),
     )
 
 -- the outermost element and what stands around it
 run_body : (y : Body) (at : ℕ) → IsBody y → run content (read_of [] [] []) at (body_text y)
-    ≡ outcome (rows None 0 0 (at + length (text y.before)) y.root) (attribute_rows (at + length (text y.before)) y.root)
+    ≡ outcome (rows 0 0 (at + length (text y.before)) y.root) (attribute_rows (at + length (text y.before)) y.root)
 run_body y at h =
     run_space early (read_of [] [] []) (λ at b q. rw (white_isnt_tag b q, q) refl) (λ at rest. refl) y.before at
     (text y.root ++ text y.after) h.0

@@ -1,5 +1,5 @@
 -- The table of a document keeps the bounds of a table, and stands for the document's forest.
-use Rattle.std.proofs.Common.{◌≡◌, ℕ, suc, ◌+◌, ◌<◌, ◌^◌, cond, List, [], ◌∷◌, ◌++◌, length, map, Option, Some, None}
+use Rattle.std.proofs.Common.{◌≡◌, ℕ, suc, ◌+◌, ◌<◌, ◌^◌, cond, List, [], ◌∷◌, ◌++◌, length, map, Option, None}
 use Rattle.std.proofs.Common.{All, ap, subst, ◌∙◌, sym, refl, arith, length-append, zero-add}
 use Rattle.std.specs.Prelude.{nat_lt}
 use Rattle.std.proofs.lemmas.Bool.{lt-ltb, le-ltb}
@@ -103,9 +103,9 @@ count-attributes (attribute gap name before after quote value more) at = ap suc 
 
 -- content stands in a table: its text from a place on, its rows from a number on, and the rows of
 -- its attributes from a number on
-pub record StandsAt (t : FlatTable) (parent : Option ℕ) (number first at : ℕ) (c : Content) : Type 0 where
+pub record StandsAt (t : FlatTable) (number first at : ℕ) (c : Content) : Type 0 where
   pub text_at : Holds t.bytes at (text c)
-  pub nodes_at : Holds t.nodes number (rows parent number first at c)
+  pub nodes_at : Holds t.nodes number (rows number first at c)
   pub attributes_at : Holds t.attributes first (attribute_rows at c)
 
 -- where the parts of a start tag stand
@@ -122,11 +122,11 @@ start-attributes bytes at s h =
     (Holds-rest bytes (at + 1) s.name (attributes_text s.attributes ++ s.white) (at + 1 + length s.name) refl named)
 
 -- the element of a row whose parts stand in a table says what its start tag says
-start-info : (t : FlatTable) (parent : Option ℕ) (number first at : ℕ) (s : Start) (last : ℕ) (value : Span)
+start-info : (t : FlatTable) (number first at : ℕ) (s : Start) (last : ℕ) (value : Span)
     (loose : Option ℕ) (shown : List ℕ)
     → Holds t.bytes at (start_text s) → Holds t.attributes first (attributes_of (at + 1 + length s.name) s.attributes)
     → cond (nat_lt (number + 1) last) [] (piece t.bytes value) ≡ shown
-    → info_of t number (row parent at s first last value loose)
+    → info_of t number (row at s first last value loose)
     ≡ record {
       at = at;
       name = s.name;
@@ -136,7 +136,7 @@ start-info : (t : FlatTable) (parent : Option ℕ) (number first at : ℕ) (s : 
       value = shown;
       loose = loose;
     }
-start-info t parent number first at s last value loose shown h a v =
+start-info t number first at s last value loose shown h a v =
     let name_is = Holds-range t.bytes (at + 1) s.name (at + 1 + length s.name) refl (start-name t.bytes at s h) in
     let given_is = Holds-range t.attributes first (attributes_of (at + 1 + length s.name) s.attributes)
     (first + count s.attributes) (ap (λ n. first + n)
@@ -145,11 +145,11 @@ start-info t parent number first at s last value loose shown h a v =
     rw (name_is, given_is, infos_are, v) refl
 
 -- the spans of such a row lie within the text and the attributes
-start-within : (t : FlatTable) (parent : Option ℕ) (first at : ℕ) (s : Start) (last : ℕ) (value : Span)
+start-within : (t : FlatTable) (first at : ℕ) (s : Start) (last : ℕ) (value : Span)
     (loose : Option ℕ)
     → Holds t.bytes at (start_text s) → Holds t.attributes first (attributes_of (at + 1 + length s.name) s.attributes)
-    → IsWithin (length t.bytes) value → IsNodeOf t (row parent at s first last value loose)
-start-within t parent first at s last value loose h a v = record {
+    → IsWithin (length t.bytes) value → IsNodeOf t (row at s first last value loose)
+start-within t first at s last value loose h a v = record {
   name = held-span t.bytes (at + 1) s.name (at + 1 + length s.name) refl (start-name t.bytes at s h);
   value = v;
   attributes = held-span t.attributes first (attributes_of (at + 1 + length s.name) s.attributes)
@@ -158,9 +158,9 @@ start-within t parent first at s last value loose h a v = record {
 }
 
 -- content after a byte
-after-byte : (t : FlatTable) (parent : Option ℕ) (number first at b : ℕ) (c : Content)
-    → StandsAt t parent number first at (byte b c) → StandsAt t parent number first (at + 1) c
-after-byte t parent number first at b c h =
+after-byte : (t : FlatTable) (number first at b : ℕ) (c : Content)
+    → StandsAt t number first at (byte b c) → StandsAt t number first (at + 1) c
+after-byte t number first at b c h =
     record {
       text_at = Holds-next t.bytes at b (text c) h.text_at;
       nodes_at = h.nodes_at;
@@ -169,9 +169,9 @@ after-byte t parent number first at b c h =
     }
 
 -- content after a piece
-after-piece : (t : FlatTable) (parent : Option ℕ) (number first at : ℕ) (u : Piece) (c : Content)
-    → StandsAt t parent number first at (unit u c) → StandsAt t parent number first (at + length (piece_text u)) c
-after-piece t parent number first at u c h =
+after-piece : (t : FlatTable) (number first at : ℕ) (u : Piece) (c : Content)
+    → StandsAt t number first at (unit u c) → StandsAt t number first (at + length (piece_text u)) c
+after-piece t number first at u c h =
     record {
       text_at = Holds-rest t.bytes at (piece_text u) (text c) (at + length (piece_text u)) refl h.text_at;
       nodes_at = h.nodes_at;
@@ -179,9 +179,9 @@ after-piece t parent number first at u c h =
     }
 
 -- content after a comment
-after-comment : (t : FlatTable) (parent : Option ℕ) (number first at : ℕ) (inner : List ℕ) (c : Content)
-    → StandsAt t parent number first at (comment inner c) → StandsAt t parent number first (at + 4 + length inner + 1) c
-after-comment t parent number first at inner c h =
+after-comment : (t : FlatTable) (number first at : ℕ) (inner : List ℕ) (c : Content)
+    → StandsAt t number first at (comment inner c) → StandsAt t number first (at + 4 + length inner + 1) c
+after-comment t number first at inner c h =
     let opened = Holds-rest t.bytes at (60 ∷ 33 ∷ 45 ∷ 45 ∷ []) (inner ++ (62 ∷ text c)) (at + 4) refl h.text_at in
     let closing = Holds-rest t.bytes (at + 4) inner (62 ∷ text c) (at + 4 + length inner) refl opened in
     record {
@@ -191,14 +191,14 @@ after-comment t parent number first at inner c h =
     }
 
 -- an element without content: its start tag, and what follows it
-record ShortAt (t : FlatTable) (parent : Option ℕ) (number first at : ℕ) (s : Start) (c : Content) : Type 0 where
+record ShortAt (t : FlatTable) (number first at : ℕ) (s : Start) (c : Content) : Type 0 where
   start_at : Holds t.bytes at (start_text s)
   given_at : Holds t.attributes first (attributes_of (at + 1 + length s.name) s.attributes)
-  others : StandsAt t parent (number + 1) (first + count s.attributes) (at + start_length s + 2) c
+  others : StandsAt t (number + 1) (first + count s.attributes) (at + start_length s + 2) c
 
-short-at : (t : FlatTable) (parent : Option ℕ) (number first at : ℕ) (s : Start) (c : Content)
-    → StandsAt t parent number first at (short s c) → ShortAt t parent number first at s c
-short-at t parent number first at s c h =
+short-at : (t : FlatTable) (number first at : ℕ) (s : Start) (c : Content)
+    → StandsAt t number first at (short s c) → ShortAt t number first at s c
+short-at t number first at s c h =
     let after : ℕ = at + start_length s + 2 in
     let shut = Holds-rest t.bytes at (start_text s) (47 ∷ 62 ∷ text c) (at + start_length s) refl h.text_at in
     let given : List Attribute = attributes_of (at + 1 + length s.name) s.attributes in
@@ -207,34 +207,34 @@ short-at t parent number first at s c h =
       given_at = Holds-first t.attributes first given (attribute_rows after c) h.attributes_at;
       others = record {
         text_at = Holds-rest t.bytes (at + start_length s) (47 ∷ 62 ∷ []) (text c) after refl shut;
-        nodes_at = Holds-next t.nodes number (row parent at s first (number + 1) (span after after) None)
-            (rows parent (number + 1) (first + count s.attributes) after c) h.nodes_at;
+        nodes_at = Holds-next t.nodes number (row at s first (number + 1) (span after after) None)
+            (rows (number + 1) (first + count s.attributes) after c) h.nodes_at;
         attributes_at = Holds-rest t.attributes first given (attribute_rows after c) (first + count s.attributes)
             (ap (λ n. first + n) (sym (count-attributes s.attributes (at + 1 + length s.name)))) h.attributes_at;
       };
     }
 
 -- an element with content: its start tag, its content, and what follows it
-record LongAt (t : FlatTable) (parent : Option ℕ) (number first at : ℕ) (s : Start) (inner : Content)
+record LongAt (t : FlatTable) (number first at : ℕ) (s : Start) (inner : Content)
     (shut white : List ℕ) (c : Content) : Type 0 where
   start_at : Holds t.bytes at (start_text s)
   given_at : Holds t.attributes first (attributes_of (at + 1 + length s.name) s.attributes)
-  kids : StandsAt t (Some number) (number + 1) (first + count s.attributes) (at + start_length s + 1) inner
-  others : StandsAt t parent (number + 1 + length
-      (rows (Some number) (number + 1) (first + count s.attributes) (at + start_length s + 1) inner))
+  kids : StandsAt t (number + 1) (first + count s.attributes) (at + start_length s + 1) inner
+  others : StandsAt t (number + 1 + length
+      (rows (number + 1) (first + count s.attributes) (at + start_length s + 1) inner))
       (first + count s.attributes + length (attribute_rows (at + start_length s + 1) inner))
       (at + start_length s + 1 + length (text inner) + 2 + length shut + length white + 1) c
 
-long-at : (t : FlatTable) (parent : Option ℕ) (number first at : ℕ) (s : Start) (inner : Content) (shut white : List ℕ)
-    (c : Content) → StandsAt t parent number first at (long s inner shut white c)
-    → LongAt t parent number first at s inner shut white c
-long-at t parent number first at s inner shut white c h =
+long-at : (t : FlatTable) (number first at : ℕ) (s : Start) (inner : Content) (shut white : List ℕ)
+    (c : Content) → StandsAt t number first at (long s inner shut white c)
+    → LongAt t number first at s inner shut white c
+long-at t number first at s inner shut white c h =
     let from : ℕ = at + start_length s + 1 in
     let to : ℕ = from + length (text inner) in
     let next : ℕ = to + 2 + length shut + length white + 1 in
     let given : List Attribute = attributes_of (at + 1 + length s.name) s.attributes in
     let within : ℕ = first + count s.attributes in
-    let inside : List Node = rows (Some number) (number + 1) within from inner in
+    let inside : List Node = rows (number + 1) within from inner in
     let last : ℕ = number + 1 + length inside in
     let after : ℕ = within + length (attribute_rows from inner) in
     let ending : List ℕ = 60 ∷ 47 ∷ (shut ++ (white ++ (62 ∷ text c))) in
@@ -246,8 +246,8 @@ long-at t parent number first at s inner shut white c h =
     let end_white = Holds-rest t.bytes (to + 2) shut (white ++ (62 ∷ text c)) (to + 2 + length shut) refl end_name in
     let end_last = Holds-rest t.bytes (to + 2 + length shut) white (62 ∷ text c) (to + 2 + length shut + length white)
     refl end_white in
-    let below = Holds-next t.nodes number (row parent at s first last (span from to) (loose_in from inner))
-    (inside ++ rows parent last after next c) h.nodes_at in
+    let below = Holds-next t.nodes number (row at s first last (span from to) (loose_in from inner))
+    (inside ++ rows last after next c) h.nodes_at in
     let given_next = Holds-rest t.attributes first given (attribute_rows from inner ++ attribute_rows next c) within
     (ap (λ n. first + n) (sym (count-attributes s.attributes (at + 1 + length s.name)))) h.attributes_at in
     record {
@@ -256,26 +256,26 @@ long-at t parent number first at s inner shut white c h =
           h.attributes_at;
       kids = record {
         text_at = Holds-first t.bytes from (text inner) ending content;
-        nodes_at = Holds-first t.nodes (number + 1) inside (rows parent last after next c) below;
+        nodes_at = Holds-first t.nodes (number + 1) inside (rows last after next c) below;
         attributes_at = Holds-first t.attributes within (attribute_rows from inner) (attribute_rows next c) given_next;
       };
       others = record {
         text_at = Holds-next t.bytes (to + 2 + length shut + length white) 62 (text c) end_last;
-        nodes_at = Holds-rest t.nodes (number + 1) inside (rows parent last after next c) last refl below;
+        nodes_at = Holds-rest t.nodes (number + 1) inside (rows last after next c) last refl below;
         attributes_at = Holds-rest t.attributes within (attribute_rows from inner) (attribute_rows next c) after refl
             given_next;
       };
     }
 
 -- content has rows where it has an element
-filled : (k : ℕ) (parent : Option ℕ) (number first at : ℕ) (c : Content)
-    → nat_lt k (k + length (rows parent number first at c)) ≡ has_element c
-filled k parent number first at nothing = le-ltb k (k + 0) (omega arith)
-filled k parent number first at (byte b c) = filled k parent number first (at + 1) c
-filled k parent number first at (unit u c) = filled k parent number first (at + length (piece_text u)) c
-filled k parent number first at (comment inner c) = filled k parent number first (at + 4 + length inner + 1) c
-filled k parent number first at (short s c) = lt-ltb k _ (omega arith)
-filled k parent number first at (long s inner shut white c) = lt-ltb k _ (omega arith)
+filled : (k : ℕ) (number first at : ℕ) (c : Content)
+    → nat_lt k (k + length (rows number first at c)) ≡ has_element c
+filled k number first at nothing = le-ltb k (k + 0) (omega arith)
+filled k number first at (byte b c) = filled k number first (at + 1) c
+filled k number first at (unit u c) = filled k number first (at + length (piece_text u)) c
+filled k number first at (comment inner c) = filled k number first (at + 4 + length inner + 1) c
+filled k number first at (short s c) = lt-ltb k _ (omega arith)
+filled k number first at (long s inner shut white c) = lt-ltb k _ (omega arith)
 
 -- rows that begin with a known row stand for an element
 Stands-node : (t : FlatTable) (a : ℕ) (n : Node) (info : Info) (kids others : Forest) (b : ℕ)
@@ -289,46 +289,46 @@ Stands-node t a n info kids others b e i k o = (
 )
 
 -- the rows of content stand for its elements
-pub content-stands : (c : Content) (t : FlatTable) (parent : Option ℕ) (number first at : ℕ)
-    → StandsAt t parent number first at c
-    → Stands t number (forest_at at c) (number + length (rows parent number first at c))
-content-stands nothing t parent number first at h = omega arith
-content-stands (byte b c) t parent number first at h =
-    content-stands c t parent number first (at + 1) (after-byte t parent number first at b c h)
-content-stands (unit u c) t parent number first at h =
-    content-stands c t parent number first (at + length (piece_text u)) (after-piece t parent number first at u c h)
-content-stands (comment inner c) t parent number first at h =
-    content-stands c t parent number first (at + 4 + length inner + 1)
-    (after-comment t parent number first at inner c h)
-content-stands (short s c) t parent number first at h =
-    let p = short-at t parent number first at s c h in
+pub content-stands : (c : Content) (t : FlatTable) (number first at : ℕ)
+    → StandsAt t number first at c
+    → Stands t number (forest_at at c) (number + length (rows number first at c))
+content-stands nothing t number first at h = omega arith
+content-stands (byte b c) t number first at h =
+    content-stands c t number first (at + 1) (after-byte t number first at b c h)
+content-stands (unit u c) t number first at h =
+    content-stands c t number first (at + length (piece_text u)) (after-piece t number first at u c h)
+content-stands (comment inner c) t number first at h =
+    content-stands c t number first (at + 4 + length inner + 1)
+    (after-comment t number first at inner c h)
+content-stands (short s c) t number first at h =
+    let p = short-at t number first at s c h in
     let after : ℕ = at + start_length s + 2 in
-    let n : Node = row parent at s first (number + 1) (span after after) None in
-    let later : List Node = rows parent (number + 1) (first + count s.attributes) after c in
+    let n : Node = row at s first (number + 1) (span after after) None in
+    let later : List Node = rows (number + 1) (first + count s.attributes) after c in
     let none_shown : cond (nat_lt (number + 1) (number + 1)) [] (piece t.bytes (span after after)) ≡ [] =
     rw (le-ltb (number + 1) (number + 1) (omega arith))
     (Holds-range t.bytes after [] after (omega arith) (Holds-first t.bytes after [] (text c) p.others.text_at)) in
     Stands-node t number n _ empty (forest_at after c) (number + length (n ∷ later))
     (Holds-get t.nodes number n later no_node h.nodes_at)
-    (start-info t parent number first at s (number + 1) (span after after) None [] p.start_at p.given_at none_shown)
+    (start-info t number first at s (number + 1) (span after after) None [] p.start_at p.given_at none_shown)
     refl
     (subst (λ b. Stands t (number + 1) (forest_at after c) b) (omega arith)
-    (content-stands c t parent (number + 1) (first + count s.attributes) after p.others))
-content-stands (long s inner shut white c) t parent number first at h =
-    let p = long-at t parent number first at s inner shut white c h in
+    (content-stands c t (number + 1) (first + count s.attributes) after p.others))
+content-stands (long s inner shut white c) t number first at h =
+    let p = long-at t number first at s inner shut white c h in
     let from : ℕ = at + start_length s + 1 in
     let to : ℕ = from + length (text inner) in
     let next : ℕ = to + 2 + length shut + length white + 1 in
     let within : ℕ = first + count s.attributes in
-    let inside : List Node = rows (Some number) (number + 1) within from inner in
+    let inside : List Node = rows (number + 1) within from inner in
     let last : ℕ = number + 1 + length inside in
     let after : ℕ = within + length (attribute_rows from inner) in
-    let n : Node = row parent at s first last (span from to) (loose_in from inner) in
-    let later : List Node = rows parent last after next c in
+    let n : Node = row at s first last (span from to) (loose_in from inner) in
+    let later : List Node = rows last after next c in
     let shown : cond (nat_lt (number + 1) last) [] (piece t.bytes (span from to))
     ≡ cond (has_element inner) [] (text inner) =
     rw (
-      filled (number + 1) (Some number) (number + 1) within from inner,
+      filled (number + 1) (number + 1) within from inner,
       Holds-range t.bytes from (text inner) to refl
           p.kids.text_at,
     ) refl in
@@ -336,63 +336,63 @@ content-stands (long s inner shut white c) t parent number first at h =
     omega (arith, length-append inside later) in
     Stands-node t number n _ (forest_at from inner) (forest_at next c) (number + length (n ∷ (inside ++ later)))
     (Holds-get t.nodes number n (inside ++ later) no_node h.nodes_at)
-    (start-info t parent number first at s last (span from to) (loose_in from inner)
+    (start-info t number first at s last (span from to) (loose_in from inner)
     (cond (has_element inner) [] (text inner)) p.start_at p.given_at shown)
-    (content-stands inner t (Some number) (number + 1) within from p.kids)
-    (subst (λ b. Stands t last (forest_at next c) b) total (content-stands c t parent last after next p.others))
+    (content-stands inner t (number + 1) within from p.kids)
+    (subst (λ b. Stands t last (forest_at next c) b) total (content-stands c t last after next p.others))
 
 -- the spans of content's rows lie within the text and the attributes
-content-nodes : (c : Content) (t : FlatTable) (parent : Option ℕ) (number first at : ℕ)
-    → StandsAt t parent number first at c → All (IsNodeOf t) (rows parent number first at c)
-content-nodes nothing t parent number first at h = All-nil (IsNodeOf t)
-content-nodes (byte b c) t parent number first at h =
-    content-nodes c t parent number first (at + 1) (after-byte t parent number first at b c h)
-content-nodes (unit u c) t parent number first at h =
-    content-nodes c t parent number first (at + length (piece_text u)) (after-piece t parent number first at u c h)
-content-nodes (comment inner c) t parent number first at h =
-    content-nodes c t parent number first (at + 4 + length inner + 1) (after-comment t parent number first at inner c h)
-content-nodes (short s c) t parent number first at h =
-    let p = short-at t parent number first at s c h in
+content-nodes : (c : Content) (t : FlatTable) (number first at : ℕ)
+    → StandsAt t number first at c → All (IsNodeOf t) (rows number first at c)
+content-nodes nothing t number first at h = All-nil (IsNodeOf t)
+content-nodes (byte b c) t number first at h =
+    content-nodes c t number first (at + 1) (after-byte t number first at b c h)
+content-nodes (unit u c) t number first at h =
+    content-nodes c t number first (at + length (piece_text u)) (after-piece t number first at u c h)
+content-nodes (comment inner c) t number first at h =
+    content-nodes c t number first (at + 4 + length inner + 1) (after-comment t number first at inner c h)
+content-nodes (short s c) t number first at h =
+    let p = short-at t number first at s c h in
     let after : ℕ = at + start_length s + 2 in
     let value : IsWithin (length t.bytes) (span after after) =
     held-span t.bytes after [] after (omega arith) (Holds-first t.bytes after [] (text c) p.others.text_at) in
-    All-cons (IsNodeOf t) _ _ (start-within t parent first at s (number + 1) (span after after) None p.start_at
-    p.given_at value) (content-nodes c t parent (number + 1) (first + count s.attributes) after p.others)
-content-nodes (long s inner shut white c) t parent number first at h =
-    let p = long-at t parent number first at s inner shut white c h in
+    All-cons (IsNodeOf t) _ _ (start-within t first at s (number + 1) (span after after) None p.start_at
+    p.given_at value) (content-nodes c t (number + 1) (first + count s.attributes) after p.others)
+content-nodes (long s inner shut white c) t number first at h =
+    let p = long-at t number first at s inner shut white c h in
     let from : ℕ = at + start_length s + 1 in
     let to : ℕ = from + length (text inner) in
     let value : IsWithin (length t.bytes) (span from to) = held-span t.bytes from (text inner) to refl p.kids.text_at in
-    All-cons (IsNodeOf t) _ _ (start-within t parent first at s _ (span from to) (loose_in from inner) p.start_at
+    All-cons (IsNodeOf t) _ _ (start-within t first at s _ (span from to) (loose_in from inner) p.start_at
     p.given_at value)
-    (All-append (IsNodeOf t) _ _ (content-nodes inner t (Some number) (number + 1) (first + count s.attributes) from
-    p.kids) (content-nodes c t parent _ _ _ p.others))
+    (All-append (IsNodeOf t) _ _ (content-nodes inner t (number + 1) (first + count s.attributes) from
+    p.kids) (content-nodes c t _ _ _ p.others))
 
 -- and those of its attributes' rows within the text
-content-attributes : (c : Content) (t : FlatTable) (parent : Option ℕ) (number first at : ℕ)
-    → StandsAt t parent number first at c → All (IsAttributeOf t.bytes) (attribute_rows at c)
-content-attributes nothing t parent number first at h = All-nil (IsAttributeOf t.bytes)
-content-attributes (byte b c) t parent number first at h =
-    content-attributes c t parent number first (at + 1) (after-byte t parent number first at b c h)
-content-attributes (unit u c) t parent number first at h =
-    content-attributes c t parent number first (at + length (piece_text u)) (after-piece t parent number first at u c h)
-content-attributes (comment inner c) t parent number first at h =
-    content-attributes c t parent number first (at + 4 + length inner + 1)
-    (after-comment t parent number first at inner c h)
-content-attributes (short s c) t parent number first at h =
-    let p = short-at t parent number first at s c h in
+content-attributes : (c : Content) (t : FlatTable) (number first at : ℕ)
+    → StandsAt t number first at c → All (IsAttributeOf t.bytes) (attribute_rows at c)
+content-attributes nothing t number first at h = All-nil (IsAttributeOf t.bytes)
+content-attributes (byte b c) t number first at h =
+    content-attributes c t number first (at + 1) (after-byte t number first at b c h)
+content-attributes (unit u c) t number first at h =
+    content-attributes c t number first (at + length (piece_text u)) (after-piece t number first at u c h)
+content-attributes (comment inner c) t number first at h =
+    content-attributes c t number first (at + 4 + length inner + 1)
+    (after-comment t number first at inner c h)
+content-attributes (short s c) t number first at h =
+    let p = short-at t number first at s c h in
     All-append (IsAttributeOf t.bytes) _ _ (attributes-within s.attributes t.bytes (at + 1 + length s.name)
-    (start-attributes t.bytes at s p.start_at)) (content-attributes c t parent _ _ _ p.others)
-content-attributes (long s inner shut white c) t parent number first at h =
-    let p = long-at t parent number first at s inner shut white c h in
+    (start-attributes t.bytes at s p.start_at)) (content-attributes c t _ _ _ p.others)
+content-attributes (long s inner shut white c) t number first at h =
+    let p = long-at t number first at s inner shut white c h in
     All-append (IsAttributeOf t.bytes) _ _ (attributes-within s.attributes t.bytes (at + 1 + length s.name)
     (start-attributes t.bytes at s p.start_at))
-    (All-append (IsAttributeOf t.bytes) _ _ (content-attributes inner t _ _ _ _ p.kids)
-    (content-attributes c t parent _ _ _ p.others))
+    (All-append (IsAttributeOf t.bytes) _ _ (content-attributes inner t _ _ _ p.kids)
+    (content-attributes c t _ _ _ p.others))
 
 -- the rows of a single element stand for it, and keep the bounds of a table
-element-table : (c : Content) (t : FlatTable) (at : ℕ) → IsElement c → StandsAt t None 0 0 at c
-    → t.nodes ≡ rows None 0 0 at c → t.attributes ≡ attribute_rows at c → length t.bytes < 2 ^ 32
+element-table : (c : Content) (t : FlatTable) (at : ℕ) → IsElement c → StandsAt t 0 0 at c
+    → t.nodes ≡ rows 0 0 at c → t.attributes ≡ attribute_rows at c → length t.bytes < 2 ^ 32
     → IsFlatTable t × (forest t 0 (length t.nodes) ≡ forest_at at c)
 element-table nothing t at one h nodes attributes few = absurd one
 element-table (byte b c) t at one h nodes attributes few = absurd one
@@ -401,10 +401,10 @@ element-table (comment inner c) t at one h nodes attributes few = absurd one
 element-table (short s nothing) t at one h nodes attributes few =
     let c : Content = short s nothing in
     let stands : Stands t 0 (forest_at at c) (length t.nodes) =
-    subst (λ b. Stands t 0 (forest_at at c) b) (zero-add (length (rows None 0 0 at c)) ∙ ap length (sym nodes))
-    (content-stands c t None 0 0 at h) in (
-      IsFlatTable-stands t _ empty stands few (subst (All (IsNodeOf t)) (sym nodes) (content-nodes c t None 0 0 at h))
-          (subst (All (IsAttributeOf t.bytes)) (sym attributes) (content-attributes c t None 0 0 at h)),
+    subst (λ b. Stands t 0 (forest_at at c) b) (zero-add (length (rows 0 0 at c)) ∙ ap length (sym nodes))
+    (content-stands c t 0 0 at h) in (
+      IsFlatTable-stands t _ empty stands few (subst (All (IsNodeOf t)) (sym nodes) (content-nodes c t 0 0 at h))
+          (subst (All (IsAttributeOf t.bytes)) (sym attributes) (content-attributes c t 0 0 at h)),
       forest-stands t 0 (forest_at at c) (length t.nodes) stands,
     )
 element-table (short s (byte b c)) t at one h nodes attributes few = absurd one
@@ -415,11 +415,11 @@ element-table (short s (long r inner shut white c)) t at one h nodes attributes 
 element-table (long s inner shut white nothing) t at one h nodes attributes few =
     let c : Content = long s inner shut white nothing in
     let stands : Stands t 0 (forest_at at c) (length t.nodes) =
-    subst (λ b. Stands t 0 (forest_at at c) b) (zero-add (length (rows None 0 0 at c)) ∙ ap length (sym nodes))
-    (content-stands c t None 0 0 at h) in (
+    subst (λ b. Stands t 0 (forest_at at c) b) (zero-add (length (rows 0 0 at c)) ∙ ap length (sym nodes))
+    (content-stands c t 0 0 at h) in (
       IsFlatTable-stands t _ (forest_at (at + start_length s + 1) inner) stands few
-          (subst (All (IsNodeOf t)) (sym nodes) (content-nodes c t None 0 0 at h))
-          (subst (All (IsAttributeOf t.bytes)) (sym attributes) (content-attributes c t None 0 0 at h)),
+          (subst (All (IsNodeOf t)) (sym nodes) (content-nodes c t 0 0 at h))
+          (subst (All (IsAttributeOf t.bytes)) (sym attributes) (content-attributes c t 0 0 at h)),
       forest-stands t 0 (forest_at at c) (length t.nodes) stands,
     )
 element-table (long s inner shut white (byte b c)) t at one h nodes attributes few = absurd one
@@ -446,7 +446,7 @@ document-table d t form bytes nodes attributes few =
     element-table d.body.root t (root_at d) form.1.1
     (record {
       text_at = Holds-first t.bytes (root_at d) root after rooted;
-      nodes_at = Holds-whole t.nodes (rows None 0 0 (root_at d) d.body.root) nodes;
+      nodes_at = Holds-whole t.nodes (rows 0 0 (root_at d) d.body.root) nodes;
       attributes_at = Holds-whole t.attributes (attribute_rows (root_at d) d.body.root) attributes;
     })
     nodes attributes few

@@ -130,11 +130,11 @@ pub over_attribute : (t : Tag) (r : Read) (at : ℕ) (bs : List ℕ) (at1 : ℕ)
     → TakesName at1 bs1 name at2 bs2 → (at1 ≡ at → ⊥)
     → run (attribute_name t at1 name) r at2 bs2 ≡ run (valued (with_name t name))
     (record r { attributes = r.attributes ++ attribute_row at1 name value.from value.to ∷ [] }) at3 bs3
-    → rows ≡ r.attributes ++ record { at = at1; name = span at1 at2; value = value } ∷ []
+    → rows ≡ r.attributes ++ record { name = span at1 at2; value = value } ∷ []
     → run (valued t) r at bs ≡ run (valued (with_name t name)) (record r { attributes = rows }) at3 bs3
 over_attribute t r at bs at1 bs1 name at2 bs2 value at3 bs3 rows h k e over same =
     over_attribute_name t r at bs at1 bs1 name at2 bs2 h k e
     ∙ over
     ∙ ap (λ n. run (valued (with_name t name)) (record r
-    { attributes = r.attributes ++ record { at = at1; name = span at1 n; value = value } ∷ [] }) at3 bs3) (sym k.2)
+    { attributes = r.attributes ++ record { name = span at1 n; value = value } ∷ [] }) at3 bs3) (sym k.2)
     ∙ ap (λ (x : List Attribute). run (valued (with_name t name)) (record r { attributes = x }) at3 bs3) (sym same)

@@ -185,12 +185,8 @@ attributes_of at none = []
 attributes_of at (attribute gap name before after quote value more) =
     let from = at + length gap in
     let opened = from + length name + length before + 1 + length after + 1 in
-    record {
-      at = from;
-      name = span from (from + length name);
-      value =
-          span opened (opened + length (value_text value));
-    } ∷ attributes_of (opened + length (value_text value) + 1) more
+    record { name = span from (from + length name); value = span opened (opened + length (value_text value)) }
+    ∷ attributes_of (opened + length (value_text value) + 1) more
 
 -- the rows of all attributes in content that begins at a place
 abbrev pub attribute_rows : ℕ → Content → List Attribute
@@ -216,38 +212,35 @@ loose_in at (short s c) = loose_in (at + start_length s + 2) c
 loose_in at (long s inner shut white c) =
     loose_in (at + start_length s + 1 + length (text inner) + 2 + length shut + length white + 1) c
 
--- the row of an element: the number of the element around it, its place, its start tag, the number
--- of its first attribute, the number after its last descendant, the range of its content, and its
--- loose text
-abbrev pub row : Option ℕ → ℕ → Start → ℕ → ℕ → Span → Option ℕ → Node
-row parent at s first last value loose = record {
+-- the row of an element: its place, its start tag, the number of its first attribute, the number
+-- after its last descendant, the range of its content, and its loose text
+abbrev pub row : ℕ → Start → ℕ → ℕ → Span → Option ℕ → Node
+row at s first last value loose = record {
   at = at;
   name = span (at + 1) (at + 1 + length s.name);
-  parent = parent;
   end = last;
   attributes = span first (first + count s.attributes);
   value = value;
   loose = loose;
 }
 
--- the rows of all elements in content: the number of the element around it, the number of the next
--- element, the number of the next attribute, and the place where the content begins
-abbrev pub rows : Option ℕ → ℕ → ℕ → ℕ → Content → List Node
-rows parent number first at nothing = []
-rows parent number first at (byte b c) = rows parent number first (at + 1) c
-rows parent number first at (piece u c) = rows parent number first (at + length (piece_text u)) c
-rows parent number first at (comment inner c) = rows parent number first (at + 4 + length inner + 1) c
-rows parent number first at (short s c) =
+-- the rows of all elements in content: the number of the next element, the number of the next
+-- attribute, and the place where the content begins
+abbrev pub rows : ℕ → ℕ → ℕ → Content → List Node
+rows number first at nothing = []
+rows number first at (byte b c) = rows number first (at + 1) c
+rows number first at (piece u c) = rows number first (at + length (piece_text u)) c
+rows number first at (comment inner c) = rows number first (at + 4 + length inner + 1) c
+rows number first at (short s c) =
     let after = at + start_length s + 2 in
-    row parent at s first (number + 1) (span after after) None ∷ rows parent (number + 1) (first + count s.attributes)
-    after c
-rows parent number first at (long s inner shut white c) =
+    row at s first (number + 1) (span after after) None ∷ rows (number + 1) (first + count s.attributes) after c
+rows number first at (long s inner shut white c) =
     let from = at + start_length s + 1 in
     let to = from + length (text inner) in
-    let inside = rows (Some number) (number + 1) (first + count s.attributes) from inner in
+    let inside = rows (number + 1) (first + count s.attributes) from inner in
     let last = number + 1 + length inside in
-    row parent at s first last (span from to) (loose_in from inner) ∷ (inside
-    ++ rows parent last (first + count s.attributes + length (attribute_rows from inner))
+    row at s first last (span from to) (loose_in from inner) ∷ (inside
+    ++ rows last (first + count s.attributes + length (attribute_rows from inner))
     (to + 2 + length shut + length white + 1) c)
 
 -- the rows of the elements and of the attributes of a text
@@ -262,7 +255,7 @@ root_at d = length (mark_text d.mark) + length (declaration_text d.declaration) 
 -- what a document says
 abbrev pub table : Document → Rows
 table d = record {
-  nodes = rows None 0 0 (root_at d) d.body.root;
+  nodes = rows 0 0 (root_at d) d.body.root;
   attributes = attribute_rows (root_at d) d.body.root;
 }
 

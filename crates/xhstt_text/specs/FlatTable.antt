@@ -26,8 +26,7 @@ no_span = record { from = 0; to = 0 }
 
 -- what is read past the end of the table
 abbrev pub no_node : Node
-no_node =
-    record { at = 0; name = no_span; parent = None; end = 0; attributes = no_span; value = no_span; loose = None }
+no_node = record { at = 0; name = no_span; end = 0; attributes = no_span; value = no_span; loose = None }
 
 -- the row of an element by its number
 abbrev pub node_at : FlatTable → ℕ → Node
@@ -35,7 +34,7 @@ node_at t n = slice_index_or t.nodes n no_node
 
 abbrev pub attribute_info : List ℕ → Attribute → AttributeInfo
 attribute_info bytes a =
-    record { at = a.at; name = piece bytes a.name; value_at = a.value.from; value = piece bytes a.value }
+    record { at = a.name.from; name = piece bytes a.name; value_at = a.value.from; value = piece bytes a.value }
 
 -- what the element of a row says of itself; it has children where its row is not the last of its
 -- own part

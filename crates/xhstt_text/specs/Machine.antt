@@ -112,10 +112,6 @@ abbrev pub resume : List Frame → Phase
 resume [] = ended
 resume (f ∷ fs) = content
 
-abbrev pub parent_of : List Frame → Option ℕ
-parent_of [] = None
-parent_of (f ∷ fs) = Some f.number
-
 -- where reading goes on after a comment
 abbrev pub phase_of : Region → Phase
 phase_of early = content
@@ -131,7 +127,6 @@ abbrev pub opened_row : Tag → Read → ℕ → Node
 opened_row t r from = record {
   at = t.at;
   name = span (t.at + 1) (t.at + 1 + length t.name);
-  parent = parent_of r.frames;
   end = length r.nodes + 1;
   attributes = span t.first (length r.attributes);
   value = span from from;
@@ -232,7 +227,7 @@ step_named t place name r at b =
 
 -- the row of an attribute whose value ends at a place
 abbrev pub attribute_row : ℕ → List ℕ → ℕ → ℕ → Attribute
-attribute_row place name from to = record { at = place; name = span place (place + length name); value = span from to }
+attribute_row place name from to = record { name = span place (place + length name); value = span from to }
 
 abbrev pub with_name : Tag → List ℕ → Tag
 with_name t name = record t { names = name ∷ t.names }

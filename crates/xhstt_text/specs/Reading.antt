@@ -137,7 +137,6 @@ abbrev pub row_from : StartTag → ℕ → ℕ → ℕ → Node
 row_from tag number attributes from = record {
   at = tag.at;
   name = span (tag.at + 1) (tag.at + 1 + length tag.name.now);
-  parent = tag.parent;
   end = number + 1;
   attributes = span tag.first attributes;
   value = span from from;

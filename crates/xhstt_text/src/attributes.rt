@@ -67,7 +67,7 @@ impl<'t, 'a> Attributes<'t, 'a> {
             [] => None,
             [first, rest @ ..] => {
                 let attribute = AttributeText {
-                    name_at: u64::from(first.at),
+                    name_at: u64::from(first.name.from),
                     name: piece_of(self.bytes, first.name),
                     value_at: u64::from(first.value.from),
                     value: piece_of(self.bytes, first.value),

@@ -24,4 +24,4 @@ pub use faults::TextFault;
 pub use handles::{Children, Element};
 pub use reader::elements;
 pub use tree::{Attribute, Node, Row, Span, Tree};
-pub use unescaping::{plain, text_or_empty, unescape};
+pub use unescaping::{as_it_stands, plain, text_or_empty, unescape};

@@ -27,8 +27,6 @@ pub struct StartTag<'a> {
     pub name_to: u32,
     /// The number of its first attribute.
     pub first: u32,
-    /// The number of the element around it.
-    pub parent: Option<Place>,
 }
 
 /// What was read so far: the rows, and the open elements, the innermost last.
@@ -53,7 +51,6 @@ impl<'a> Table<'a> {
         let row = Row {
             at: tag.at,
             name_to: tag.name_to,
-            parent: PackedPlace::of(tag.parent),
             end: self.nodes.len() as u32 + 1,
             attributes: Span {
                 from: tag.first,

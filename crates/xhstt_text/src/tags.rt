@@ -3,7 +3,7 @@
 ghost use Rattle.std.specs.Prelude.{◌≡◌, ◌<◌, ◌≤◌, ◌+◌, ◌∷◌, ◌++◌, ◌^◌, ℕ, List, true, false, length, IfOk, MatchOption, [], set, Option, Some};
 ghost use Rattle.xhstt_text.specs.Bytes.{is_first, is_name, is_text, is_white, is_quote, is_quoted};
 ghost use Rattle.xhstt_text.specs.Document.{has_name};
-ghost use Rattle.xhstt_text.specs.Machine.{Frame, Tag, Read, run, content, opened, valued, attribute_name, in_value, equals, shut_begin, with_name, attribute_row, resume, close_element, parent_of, opened_row, Outcome, refused};
+ghost use Rattle.xhstt_text.specs.Machine.{Frame, Tag, Read, run, content, opened, valued, attribute_name, in_value, equals, shut_begin, with_name, attribute_row, resume, close_element, opened_row, Outcome, refused};
 ghost use Rattle.xhstt_text.specs.Reading.{Leads, Skips, begins, is_byte, read_of, bare, frame_of, frames_of, NoOtherTag, NoPiece, is_loose_text, trailing, unopened, with_loose_text};
 ghost use Rattle.xhstt_text.specs.declared.tree.Attribute.{Attribute};
 ghost use Rattle.xhstt_text.specs.declared.tree.Node.{Node};
@@ -117,7 +117,6 @@ fn attributes<'a>(
         }
         let (value, end) = value(after)?;
         rows.push(Attribute {
-            at: start.at,
             name: Span {
                 from: start.at,
                 to: after.at,
@@ -223,11 +222,9 @@ fn start_tag<'a>(
     alloc: Global,
     at: u32,
     inside: Cursor<'a>,
-    parent: Option<Place>,
     table: &mut Table<'a>,
 ) -> Result<Cursor<'a>, TextFault>
     requires place { inside.at ≡ at + 1 }
-    requires parent { parent ≡ parent_of (frames_of table.old.stack.items) }
     requires start { NoOtherTag (frames_of table.old.stack.items) inside.rest.now }
     requires count { length table.old.nodes.items ≤ at }
     requires few { length table.old.attributes.items ≤ at }
@@ -253,7 +250,6 @@ fn start_tag<'a>(
         name: found,
         name_to: after.at,
         first: first as u32,
-        parent,
     };
     let last = attributes(alloc, after, &mut table.attributes)?;
     end_of_start(last, &tag, table)
@@ -266,7 +262,6 @@ fn end_of_start<'a>(
     table: &mut Table<'a>,
 ) -> Result<Cursor<'a>, TextFault>
     requires name { tag.now.name_to ≡ tag.now.at + 1 + length tag.now.name.now }
-    requires parent { tag.now.parent ≡ parent_of (frames_of table.old.stack.items) }
     requires count { length table.old.nodes.items + 1 < 2 ^ 32 }
     requires few { length table.old.attributes.items < 2 ^ 32 }
     requires ends { (begins is_first here.rest.now ≡ false) × (begins is_white here.rest.now ≡ false) }
@@ -327,7 +322,7 @@ pub fn next_tag<'a>(
             table.stack.push(inner)?;
             match past(inside, b'!') {
                 Some(bang) => comment(tag.at, bang),
-                None => start_tag(alloc, tag.at, inside, Some(number), table),
+                None => start_tag(alloc, tag.at, inside, table),
             }
         }
     }
@@ -352,7 +347,7 @@ pub fn root<'a>(
     let Some(inside) = past(tag, b'<') else {
         return Err(bad_markup(tag.at));
     };
-    start_tag(alloc, tag.at, inside, None, table)
+    start_tag(alloc, tag.at, inside, table)
 }
 
 /// The fault of bytes after the outermost element that begin neither white nor a comment.

@@ -22,8 +22,6 @@ pub struct Node {
     pub at: u32,
     /// The bytes of its name.
     pub name: Span,
-    /// The number of the element around it; none for the outermost.
-    pub parent: Option<u32>,
     /// The number after its last descendant.
     pub end: u32,
     /// The numbers of its attributes.
@@ -34,7 +32,7 @@ pub struct Node {
     pub loose: Option<u32>,
 }
 
-/// One element of a text as a table has it, in 36 bytes: what follows from the rest is left out. Contracts see the
+/// One element of a text as a table has it, in 32 bytes: what follows from the rest is left out. Contracts see the
 /// element.
 #[derive(Drop)]
 pub struct Row {
@@ -42,7 +40,6 @@ pub struct Row {
     pub(crate) at: Place,
     /// The place after its name.
     pub(crate) name_to: u32,
-    pub(crate) parent: PackedPlace,
     pub(crate) end: u32,
     pub(crate) attributes: Span,
     pub(crate) value: Span,
@@ -56,7 +53,7 @@ impl Model for Row {
 
     ghost Value = { Node };
 
-    ghost view = { λ r. record { at = r.at; name = record { from = r.at + 1; to = r.name_to }; parent = r.parent; end = r.end; attributes = r.attributes; value = r.value; loose = r.loose } };
+    ghost view = { λ r. record { at = r.at; name = record { from = r.at + 1; to = r.name_to }; end = r.end; attributes = r.attributes; value = r.value; loose = r.loose } };
 }
 
 impl Row {
@@ -71,7 +68,6 @@ impl Row {
                 from: at + 1,
                 to: self.name_to,
             },
-            parent: self.parent.number(),
             end: self.end,
             attributes: self.attributes,
             value: self.value,
@@ -86,7 +82,6 @@ impl Row {
         Row {
             at: self.at,
             name_to: self.name_to,
-            parent: self.parent.again(),
             end: self.end,
             attributes: self.attributes,
             value: self.value,
@@ -108,7 +103,6 @@ impl Row {
         Row {
             at: self.at,
             name_to: self.name_to,
-            parent: self.parent.again(),
             end: self.end,
             attributes: self.attributes,
             value: self.value,
@@ -123,7 +117,6 @@ impl Row {
         Row {
             at: self.at,
             name_to: self.name_to,
-            parent: self.parent.again(),
             end,
             attributes: self.attributes,
             value: Span {
@@ -135,11 +128,9 @@ impl Row {
     }
 }
 
-/// One attribute of an element.
+/// One attribute of an element, in 16 bytes. It begins where its name does.
 #[derive(Clone, Copy)]
 pub struct Attribute {
-    /// The place of the first byte of its name.
-    pub at: u32,
     /// The bytes of its name.
     pub name: Span,
     /// The bytes between its quotes.

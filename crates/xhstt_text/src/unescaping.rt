@@ -3,7 +3,7 @@
 ghost use Rattle.std.specs.Prelude.{◌≡◌, ℕ, List, Some, [], ◌++◌, ◌≤◌, nat_lt, OnOk, IfOk, IfSome, unwrap_or, encode_utf8_all};
 ghost use Rattle.std.specs.List.{list_all};
 ghost use Rattle.std.specs.Option.{option_and_then};
-ghost use Rattle.khe_base.specs.Text.{text_of};
+ghost use Rattle.khe_base.specs.Text.{characters, text_of};
 ghost use Rattle.xhstt_text.specs.Bytes.{AllAre};
 ghost use Rattle.xhstt_text.specs.Document.{Content, Spelled, Value};
 ghost use Rattle.xhstt_text.specs.Forest.{Forest};
@@ -72,6 +72,21 @@ pub fn plain<'a>(span: &'a [u8]) -> Option<&'a [u8]>
         Some(span)
     } else {
         None
+    }
+}
+
+/// The text between two tags or two quotes, where each of its characters stands for itself; `None` where there is a
+/// reference or a comment. What is returned is what `unescape` would make. It takes time linear in the bytes, and no
+/// memory.
+pub fn as_it_stands<'a>(span: &'a [u8]) -> Option<&'a str>
+    ensures { IfSome result (λ text. characters text.now ≡ unescaped span.now) }
+{
+    if !are_plain(span) {
+        return None;
+    }
+    match str::from_utf8(span) {
+        Ok(text) => Some(text),
+        Err(_) => None,
     }
 }
 
