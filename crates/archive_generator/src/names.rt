@@ -34,18 +34,12 @@ fn numbered(alloc: Global, word: &str, number: u32) -> Result<Text, NoMemory>
     requires { IsTrue (is_ascii word.now) }
     ensures { IfOk result (λ t. t ≡ spec.numbered word.now number) }
 {
-    let mut text = roomy_text(alloc, word.len() + digits(number))?;
-    text.push_literal(word)?;
-    text.push_number(number as u128)?;
-    Ok(text)
-}
-
-/// How many digits a number has.
-fn digits(number: u32) -> usize
-    ensures { result < 2 ^ 32 }
-{
     let mut buffer = Buffer::new();
-    buffer.format(number).len()
+    let digits = buffer.format(number);
+    let mut text = roomy_text(alloc, word.len().saturating_add(digits.len()))?;
+    text.push_literal(word)?;
+    text.push_str(digits)?;
+    Ok(text)
 }
 
 /// An Id or a role.

@@ -9,7 +9,7 @@ use crate::lists::roomy;
 use crate::names::{name, to, to_numbered, to_time};
 use khe_base::{NoMemory, Seq, both};
 use std::alloc::Global;
-use xhstt_shape::{RawEntry, RawGiven, RawSolution};
+use xhstt_shape::{Entries, RawEntry, RawGiven, RawSolution};
 
 /// A resource for a role.
 fn given(alloc: Global, role: &str, word: &str, number: u32) -> Result<RawGiven, NoMemory>
@@ -67,12 +67,13 @@ fn entry(alloc: Global, drawn: DrawnEntry) -> Result<RawEntry, NoMemory>
 
 /// The entries of a solution.
 #[tactic(auto, using(crate::proofs::ListLemmas::one_of))]
-fn entries(alloc: Global, drawn: &[DrawnEntry]) -> Result<Seq<RawEntry>, NoMemory>
+fn entries(alloc: Global, drawn: &[DrawnEntry]) -> Result<Entries, NoMemory>
     ensures { IfOk result (λ list. list ≡ map spec.entry drawn.now) }
 {
-    let mut list = roomy(alloc, drawn.len())?;
+    let mut list = Entries::new(alloc);
     for one in drawn {
-        list.push(entry(alloc, *one)?)?;
+        let made = entry(alloc, *one)?;
+        list.push(&made)?;
     }
     Ok(list)
 }

@@ -9,7 +9,7 @@ use khe_base::{NoMemory, Seq, Text};
 use khe_instance::{Instance, Plain};
 use std::alloc::Global;
 use xhstt_entries::spell;
-use xhstt_shape::{Archive, Name, RawSolution, Ref, SolutionGroup};
+use xhstt_shape::{Archive, Entries, Name, RawSolution, Ref, SolutionGroup};
 
 /// Puts one group with the Id `constructed` in place of all solution groups of an archive. Its only solution is the
 /// timetable of the instance, without a description and a running time.
@@ -85,6 +85,6 @@ fn blank(alloc: Global, inst: &Instance) -> Result<RawSolution, NoMemory>
         },
         description: None,
         running_time: None,
-        events: Seq::new(alloc),
+        events: Entries::new(alloc),
     })
 }

@@ -1,7 +1,7 @@
 -- What stands at a place of a list, and lists that are joined, for the proofs of all layers.
 use Rattle.std.proofs.Common.{ℕ, ◌≡◌, ◌+◌, ◌<◌, Bool, true, false, not, cond, ◌||◌, Some, List, [], ◌∷◌, ◌++◌, length}
 use Rattle.std.proofs.Common.{get_or, if◌then◌else◌, drop, map, map-id, refl, sym, ap, subst, ◌∙◌, add-one, zero-add}
-use Rattle.std.proofs.Common.{arith, drop-cons, zero, suc, slice_get, option_map, ltb, set, All, flat_map}
+use Rattle.std.proofs.Common.{arith, drop-cons, zero, suc, slice_get, option_map, ltb, set, All, flat_map, take, ◌≤◌}
 use Rattle.std.specs.Option.{option_map_or}
 use Rattle.std.specs.List.{enumerate_from, filter, list_any, position_or_len, range_with_len, sum_by}
 use Rattle.std.proofs.lemmas.Bool.Decides.{nat_tests}
@@ -130,3 +130,30 @@ filter-none test (x ∷ xs) h =
     let first = All-head (λ y. test y ≡ false) x xs h in
     let rest = filter-none test xs (All-tail (λ y. test y ≡ false) x xs h) in
     λ i. if first i then x ∷ rest i else rest i
+
+-- a piece of a list stays where it is when the list gets longer
+take-longer : {A : Type 0} (k : ℕ) (xs more : List A) → k ≤ length xs → take k (xs ++ more) ≡ take k xs
+take-longer zero xs more l = refl
+take-longer (suc k) [] more l = absurd (omega arith)
+take-longer (suc k) (x ∷ xs) more l = ap (λ ys. x ∷ ys) (take-longer k xs more (omega arith))
+
+pub piece-longer : {A : Type 0} (from k : ℕ) (xs more : List A) → from + k ≤ length xs
+    → take k (drop from (xs ++ more)) ≡ take k (drop from xs)
+piece-longer zero k xs more l = take-longer k xs more (omega arith)
+piece-longer (suc from) zero [] more l = absurd (omega arith)
+piece-longer (suc from) (suc k) [] more l = absurd (omega arith)
+piece-longer (suc from) k (x ∷ xs) more l = piece-longer from k xs more (omega arith)
+
+-- what was added last
+pub take-whole : {A : Type 0} (xs : List A) → take (length xs) xs ≡ xs
+take-whole [] = refl
+take-whole (x ∷ xs) = ap (λ ys. x ∷ ys) (take-whole xs)
+
+pub piece-last : {A : Type 0} (xs more : List A) → take (length more) (drop (length xs) (xs ++ more)) ≡ more
+piece-last [] more = take-whole more
+piece-last (x ∷ xs) more = piece-last xs more
+
+-- a list that was written over a whole one
+pub front-whole : {A : Type 0} (n : ℕ) (new rest : List A) → n ≡ length new → take n (new ++ rest) ≡ new
+front-whole n new rest is =
+    ap (λ k. take k (new ++ rest)) is ∙ take-longer (length new) new rest (omega arith) ∙ take-whole new

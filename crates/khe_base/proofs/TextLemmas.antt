@@ -35,3 +35,8 @@ text_of-IsUtf8 bs u = sym (ap (λ b. if b then Some (characters bs) else None) (
 pub text_of-not_utf8 : (bs : List ℕ) → (IsUtf8 bs → ⊥) → None ≡ text_of bs
 text_of-not_utf8 bs h =
     sym (ap (λ b. if b then Some (characters bs) else None) (false_from_ne_true _ (λ e. h (IsUtf8-from_is_utf8 bs e))))
+
+-- the order of the two does not matter
+pub bytes_eq-turned : (xs ys : List ℕ) → bytes_eq xs ys ≡ bytes_eq ys xs
+bytes_eq-turned xs ys = same_from_decides _ _
+    (Decides-like _ (λ e. sym e) (λ e. sym e) (bytes_eq-Decides xs ys)) (bytes_eq-Decides ys xs)

@@ -1,8 +1,9 @@
 //! Names, each once, with the number of each.
 
-ghost use Rattle.std.specs.Prelude.{◌≡◌, ◌+◌, ◌++◌, ◌∷◌, ◌<◌, ◌≤◌, ℕ, [], length, true, not, set, slice_index, OnOk, OnErr, IfOk, Some, None, if◌then◌else◌};
+ghost use Rattle.std.specs.Prelude.{◌≡◌, ◌+◌, ◌++◌, ◌∷◌, ◌<◌, ◌≤◌, ℕ, [], length, true, not, set, slice_index, OnOk, OnErr, IfOk, Some, None, if◌then◌else◌, encode_utf8_all};
 ghost use Rattle.khe_base.specs.Names.{is_among_names, number_of, with_name, are_distinct};
 ghost use Rattle.khe_base.specs.NameTable.{hash_after, bucket, IsLinked, IsTable};
+ghost use Rattle.khe_base.specs.Text.{characters};
 
 use crate::{NoMemory, Text};
 use std::alloc::Global;
@@ -87,6 +88,17 @@ impl Names {
     pub fn number(&self, name: &Text) -> Option<usize>
         ensures { result ≡ number_of name.now self.now }
     {
+        self.number_spelled(name.spelling())
+    }
+
+    /// The number of the name that these bytes spell, or `None` where it is not among the names: for a
+    /// name that is kept elsewhere, and no text by itself.
+    ///
+    /// It takes the time of a hash of the name on average, whatever the number of names, and no
+    /// memory.
+    pub fn number_spelled(&self, name: &str) -> Option<usize>
+        ensures { result ≡ number_of (characters name.now) self.now }
+    {
         place_of(
             self.names.as_slice(),
             self.heads.as_slice(),
@@ -112,9 +124,9 @@ pub fn numbered(alloc: Global, names: &[Text]) -> Result<Option<Names>, NoMemory
 }
 
 // The place of a name in a table, in the time of a hash of the name on average.
-fn place_of(names: &[Text], heads: &[usize], nexts: &[usize], name: &Text) -> Option<usize>
+fn place_of(names: &[Text], heads: &[usize], nexts: &[usize], name: &str) -> Option<usize>
     requires { IsTable names.now heads.now nexts.now }
-    ensures { result ≡ number_of name.now names.now }
+    ensures { result ≡ number_of (characters name.now) names.now }
 {
     if heads.is_empty() {
         return None;
@@ -122,7 +134,7 @@ fn place_of(names: &[Text], heads: &[usize], nexts: &[usize], name: &Text) -> Op
     let mut at = heads[bucket_of(name, heads.len())];
     while at > 0 {
         let place = at - 1;
-        if name.is_same(&names[place]) {
+        if names[place].is_spelled(name) {
             return Some(place);
         }
         at = nexts[place];
@@ -225,7 +237,7 @@ fn link(heads: &mut Vec<usize>, nexts: &mut Vec<usize>, place: usize, name: &Tex
     ensures heads { heads.new.items ≡ set heads.old.items (bucket (length heads.old.items) name.now) (place + 1) }
     ensures nexts { nexts.new.items ≡ set nexts.old.items place (slice_index heads.old.items (bucket (length heads.old.items) name.now)) }
 {
-    let bucket = bucket_of(name, heads.len());
+    let bucket = bucket_of(name.spelling(), heads.len());
     nexts[place] = heads[bucket];
     heads[bucket] = place + 1;
 }
@@ -233,12 +245,19 @@ fn link(heads: &mut Vec<usize>, nexts: &mut Vec<usize>, place: usize, name: &Tex
 // The bucket of a name, of so many, which are best a power of 2. It takes time in proportion to
 // the name.
 #[tactic(auto, unfolding(crate::specs::NameTable::bucket))]
-fn bucket_of(name: &Text, size: usize) -> usize
+fn bucket_of(name: &str, size: usize) -> usize
     requires { 0 < size }
-    ensures is { result ≡ bucket size name.now }
+    ensures is { result ≡ bucket size (characters name.now) }
     ensures within { result < size }
 {
-    (hash_of(name.as_bytes()) >> 32) as usize & (size - 1)
+    (hash_of_name(name) >> 32) as usize & (size - 1)
+}
+
+// A hash of a name, in time in proportion to it.
+fn hash_of_name(name: &str) -> u64
+    ensures { result ≡ hash_after 0 (encode_utf8_all (characters name.now)) }
+{
+    hash_of(name.as_bytes())
 }
 
 // A hash of bytes, of which the upper half is best. It takes time in proportion to the bytes.

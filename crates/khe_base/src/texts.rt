@@ -71,6 +71,13 @@ impl Text {
         self.items.as_str()
     }
 
+    /// Its bytes in UTF-8, by the characters that they spell. It takes constant time.
+    pub fn spelling(&self) -> &str
+        ensures { characters result.now ≡ self.now }
+    {
+        self.items.as_str()
+    }
+
     /// Its bytes in UTF-8, as a list of bytes. It takes constant time.
     pub fn as_bytes(&self) -> &[u8]
         ensures { result.now ≡ encode_utf8_all self.now }
@@ -84,6 +91,15 @@ impl Text {
         ensures { result ≡ bytes_eq self.now other.now }
     {
         self.items.as_str() == other.items.as_str()
+    }
+
+    /// Whether it has the characters that these bytes spell. It takes at most time in proportion to the shorter of
+    /// the two, and no memory.
+    pub fn is_spelled(&self, spelling: &str) -> bool
+        ensures by { result ≡ bytes_eq (characters spelling.now) self.now }
+        ensures is { result ≡ bytes_eq self.now (characters spelling.now) }
+    {
+        spelling == self.items.as_str()
     }
 
     /// Adds a text at the end. Where memory is refused, the text stays as it was.

@@ -2,6 +2,7 @@
 
 ghost use Rattle.std.specs.Prelude.{◌≡◌, true, [], List, ℕ, map, IfOk};
 ghost use Rattle.khe_base.specs.Names.{are_distinct, number_of};
+ghost use Rattle.khe_base.specs.Text.{characters};
 ghost use Rattle.khe_instance.specs.Ids.{ids_of};
 ghost use Rattle.khe_instance.specs.WellMade.{AreWellMade};
 
@@ -49,32 +50,32 @@ impl Model for Ids {
 }
 
 impl Ids {
-    /// The number of the time with an Id, in the time of a hash of it on average.
-    pub(crate) fn time(&self, id: &Text) -> Option<usize>
-        ensures { result ≡ number_of id.now self.now.times }
+    /// The number of the time with the Id that these bytes spell, in the time of a hash of it on average.
+    pub(crate) fn time(&self, id: &str) -> Option<usize>
+        ensures { result ≡ number_of (characters id.now) self.now.times }
     {
         match &self.tables {
-            Some(tables) => tables.times.number(id),
+            Some(tables) => tables.times.number_spelled(id),
             None => None,
         }
     }
 
-    /// The number of the resource with an Id, in the time of a hash of it on average.
-    pub(crate) fn resource(&self, id: &Text) -> Option<usize>
-        ensures { result ≡ number_of id.now self.now.resources }
+    /// The number of the resource with the Id that these bytes spell, in the time of a hash of it on average.
+    pub(crate) fn resource(&self, id: &str) -> Option<usize>
+        ensures { result ≡ number_of (characters id.now) self.now.resources }
     {
         match &self.tables {
-            Some(tables) => tables.resources.number(id),
+            Some(tables) => tables.resources.number_spelled(id),
             None => None,
         }
     }
 
-    /// The number of the event with an Id, in the time of a hash of it on average.
-    pub(crate) fn event(&self, id: &Text) -> Option<usize>
-        ensures { result ≡ number_of id.now self.now.events }
+    /// The number of the event with the Id that these bytes spell, in the time of a hash of it on average.
+    pub(crate) fn event(&self, id: &str) -> Option<usize>
+        ensures { result ≡ number_of (characters id.now) self.now.events }
     {
         match &self.tables {
-            Some(tables) => tables.events.number(id),
+            Some(tables) => tables.events.number_spelled(id),
             None => None,
         }
     }

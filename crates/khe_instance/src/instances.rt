@@ -4,6 +4,7 @@ ghost use Rattle.std.specs.Prelude.{◌≡◌, ◌<◌, ◌*◌, Some, length, m
 ghost use Rattle.std.specs.Option.{option_map};
 ghost use Rattle.std.specs.List.{sum_by};
 ghost use Rattle.khe_base.specs.IdSet.{members_of};
+ghost use Rattle.khe_base.specs.Text.{characters};
 ghost use Rattle.khe_instance.specs.Named.{time_named, resource_named, event_named};
 ghost use Rattle.khe_instance.specs.Slots.{HasSlot, all_tasks, first_task};
 ghost use Rattle.khe_instance.specs.WellMade.{AreWellMade};
@@ -243,6 +244,13 @@ impl Instance {
     pub fn time_named(&self, id: &Text) -> Option<TimeId>
         ensures { result ≡ time_named self.now id.now }
     {
+        self.time_spelled(id.spelling())
+    }
+
+    /// The time with the Id that these bytes spell, as `time_named` finds it.
+    pub fn time_spelled(&self, id: &str) -> Option<TimeId>
+        ensures { result ≡ time_named self.now (characters id.now) }
+    {
         let number = self.ids.time(id)?;
         Some(TimeId(number as u32))
     }
@@ -252,6 +260,13 @@ impl Instance {
     pub fn resource_named(&self, id: &Text) -> Option<ResourceId>
         ensures { result ≡ resource_named self.now id.now }
     {
+        self.resource_spelled(id.spelling())
+    }
+
+    /// The resource with the Id that these bytes spell, as `resource_named` finds it.
+    pub fn resource_spelled(&self, id: &str) -> Option<ResourceId>
+        ensures { result ≡ resource_named self.now (characters id.now) }
+    {
         let number = self.ids.resource(id)?;
         Some(ResourceId(number as u32))
     }
@@ -260,6 +275,13 @@ impl Instance {
     /// Id on average, whatever the number of events.
     pub fn event_named(&self, id: &Text) -> Option<EventId>
         ensures { result ≡ event_named self.now id.now }
+    {
+        self.event_spelled(id.spelling())
+    }
+
+    /// The event with the Id that these bytes spell, as `event_named` finds it.
+    pub fn event_spelled(&self, id: &str) -> Option<EventId>
+        ensures { result ≡ event_named self.now (characters id.now) }
     {
         let number = self.ids.event(id)?;
         Some(EventId(number as u32))

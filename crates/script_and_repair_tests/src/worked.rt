@@ -71,7 +71,10 @@ impl Worked {
 pub(crate) fn state_of(alloc: Global, inst: &Instance, raw: &RawSolution) -> Option<Plain>
     ensures { IfSome result (IsValid inst.now) }
 {
-    if !is_solution(inst, raw.events.as_slice()) {
+    let Ok(entries) = raw.events.unpacked(alloc) else {
+        return None;
+    };
+    if !is_solution(inst, entries.as_slice()) {
         return None;
     }
     let Ok(plain) = completed(alloc, inst, raw) else {

@@ -10,7 +10,7 @@ use Rattle.std.proofs.lemmas.List.Elements.{All-head, All-tail}
 use Rattle.std.proofs.lemmas.List.Quantifiers.{position-Some}
 use Rattle.std.proofs.lemmas.Option.{none-some, slice_get_within, slice_get_read, slice_get-get_or, same_Some}
 use Rattle.std.proofs.lemmas.Option.{slice_get_cases}
-use Rattle.khe_base.proofs.ListLemmas.{there}
+use Rattle.khe_base.proofs.ListLemmas.{there, piece-longer, piece-last}
 use Rattle.std.specs.Str.{bytes_eq}
 use Rattle.std.specs.List.{cons_option}
 use Rattle.khe_base.specs.Names.{number_of}
@@ -54,33 +54,6 @@ resource-below p id r is =
     let same : n.0 ≡ r.0 = ap (λ (x : ResourceId). x.0) n.2 in
     let below = number-below id (map (λ (x : ResourceInfo). x.id) p.resources) n.0 n.1 in
     omega (arith, same, below, length-map p.resources (λ (x : ResourceInfo). x.id))
-
--- a piece of a list stays where it is when the list gets longer
-take-longer : {A : Type 0} (k : ℕ) (xs more : List A) → k ≤ length xs → take k (xs ++ more) ≡ take k xs
-take-longer zero xs more l = refl
-take-longer (suc k) [] more l = absurd (omega arith)
-take-longer (suc k) (x ∷ xs) more l = ap (λ ys. x ∷ ys) (take-longer k xs more (omega arith))
-
-pub piece-longer : {A : Type 0} (from k : ℕ) (xs more : List A) → from + k ≤ length xs
-    → take k (drop from (xs ++ more)) ≡ take k (drop from xs)
-piece-longer zero k xs more l = take-longer k xs more (omega arith)
-piece-longer (suc from) zero [] more l = absurd (omega arith)
-piece-longer (suc from) (suc k) [] more l = absurd (omega arith)
-piece-longer (suc from) k (x ∷ xs) more l = piece-longer from k xs more (omega arith)
-
--- what was added last
-pub take-whole : {A : Type 0} (xs : List A) → take (length xs) xs ≡ xs
-take-whole [] = refl
-take-whole (x ∷ xs) = ap (λ ys. x ∷ ys) (take-whole xs)
-
-piece-last : {A : Type 0} (xs more : List A) → take (length more) (drop (length xs) (xs ++ more)) ≡ more
-piece-last [] more = take-whole more
-piece-last (x ∷ xs) more = piece-last xs more
-
--- a list that was written over a whole one
-pub front-whole : {A : Type 0} (n : ℕ) (new rest : List A) → n ≡ length new → take n (new ++ rest) ≡ new
-front-whole n new rest is =
-    ap (λ k. take k (new ++ rest)) is ∙ take-longer (length new) new rest (omega arith) ∙ take-whole new
 
 -- all of them name a resource
 mapped-some : {A B : Type 0} (f : A → Option B) (xs : List A) → All (λ x. IsSome (f x)) xs

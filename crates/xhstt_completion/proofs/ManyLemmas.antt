@@ -155,6 +155,11 @@ unnamed-known p event r made = by (find (is_place_for (Some r) None) event.place
 
 -- ---- roles that resources are given for
 
+-- what a table answers that is asked by the spelling of a role
+pub asked : (given : List RawGiven) (role spelled : List ℕ) (answer : Option ℕ) → spelled ≡ role
+    → answer ≡ position (is_role spelled) (map role_of given) → answer ≡ position (is_role role) (map role_of given)
+asked given role spelled answer same is = is ∙ ap (λ r. position (is_role r) (map role_of given)) same
+
 -- a role that is found is one that a resource is given for
 pub given-found : (given : List RawGiven) (role : List ℕ)
     → is_some (position (is_role role) (map role_of given)) ≡ is_given given role

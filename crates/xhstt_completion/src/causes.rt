@@ -3,6 +3,7 @@
 ghost use Rattle.std.specs.Prelude.{◌≡◌, ◌<◌, [], length, map, Some, find, IfOk};
 ghost use Rattle.std.specs.List.{list_any};
 ghost use Rattle.std.specs.Option.{option_copied};
+ghost use Rattle.khe_base.specs.Text.{characters};
 ghost use Rattle.khe_instance.specs.Lookups.{is_role};
 ghost use Rattle.khe_instance.specs.Running.{is_resource};
 ghost use Rattle.khe_instance.specs.WellMade.{IsEvent};
@@ -15,20 +16,20 @@ use crate::tables::are_few;
 use fault_tables::{
     BAD_ROLE, FIXED_RESOURCE, FIXED_TIME, OFF_END, SPLIT_FIXED, TOO_LONG, WRONG_TYPE,
 };
-use khe_base::{NoMemory, ResourceId, Text, TimeId};
+use khe_base::{NoMemory, ResourceId, TimeId};
 use khe_instance::{EventInfo, Instance, Place};
 use std::alloc::Global;
-use xhstt_shape::{RawEntry, RawGiven};
+use xhstt_shape::{EntryView, GivenView};
 
 /// The first cause at an entry of an event, of which earlier entries used so much, by the time and the
 /// resources that it names. It takes time in proportion to the resources of the entry and the places
-/// of the event, on average, and memory in that proportion only where both are many.
+/// of the event, on average, and memory in proportion to the resources, and to both where both are many.
 pub(crate) fn cause_in(
     alloc: Global,
     inst: &Instance,
     event: &EventInfo,
     used: u32,
-    entry: &RawEntry,
+    entry: &EntryView<'_>,
     time: Option<TimeId>,
     resources: &[ResourceId],
 ) -> Result<Option<u32>, NoMemory>
@@ -49,7 +50,8 @@ pub(crate) fn cause_in(
     if ends_late(inst, event, entry, time) {
         return Ok(Some(OFF_END));
     }
-    cause_in_given(alloc, inst, event, entry.resources.as_slice(), resources)
+    let given = entry.resources().listed(alloc)?;
+    cause_in_given(alloc, inst, event, given.as_slice(), resources)
 }
 
 /// The first cause at the resources that an entry gives, which have these numbers.
@@ -57,7 +59,7 @@ fn cause_in_given(
     alloc: Global,
     inst: &Instance,
     event: &EventInfo,
-    given: &[RawGiven],
+    given: &[GivenView<'_>],
     resources: &[ResourceId],
 ) -> Result<Option<u32>, NoMemory>
     requires event { IsEvent inst.now event.now }
@@ -72,7 +74,7 @@ fn cause_in_given(
 }
 
 /// Whether an entry, with those of its event before it, lasts longer than the event.
-fn is_too_long(event: &EventInfo, used: u32, entry: &RawEntry) -> bool
+fn is_too_long(event: &EventInfo, used: u32, entry: &EntryView<'_>) -> bool
     ensures { result ≡ is_too_long event.now used entry.now }
 {
     let together = u64::from(used) + u64::from(duration_of(event, entry));
@@ -80,7 +82,7 @@ fn is_too_long(event: &EventInfo, used: u32, entry: &RawEntry) -> bool
 }
 
 /// Whether an entry splits an event with a preassigned time.
-fn splits_fixed(event: &EventInfo, entry: &RawEntry) -> bool
+fn splits_fixed(event: &EventInfo, entry: &EntryView<'_>) -> bool
     ensures { result ≡ splits_fixed event.now entry.now }
 {
     event.fixed.is_some() && duration_of(event, entry) < event.duration
@@ -97,7 +99,12 @@ fn differ_in_time(x: Option<TimeId>, y: Option<TimeId>) -> bool
 }
 
 /// Whether an entry ends after the last time.
-fn ends_late(inst: &Instance, event: &EventInfo, entry: &RawEntry, time: Option<TimeId>) -> bool
+fn ends_late(
+    inst: &Instance,
+    event: &EventInfo,
+    entry: &EntryView<'_>,
+    time: Option<TimeId>,
+) -> bool
     requires { time_of inst.now entry.now ≡ time }
     ensures { result ≡ ends_late inst.now event.now entry.now }
 {
@@ -115,7 +122,7 @@ fn ends_late(inst: &Instance, event: &EventInfo, entry: &RawEntry, time: Option<
 fn first_given_cause(
     inst: &Instance,
     event: &EventInfo,
-    given: &[RawGiven],
+    given: &[GivenView<'_>],
     resources: &[ResourceId],
 ) -> Option<u32>
     requires { map (resource_of inst.now) given.now ≡ map Some resources.now }
@@ -136,8 +143,8 @@ fn first_given_cause(
 fn given_cause(
     inst: &Instance,
     event: &EventInfo,
-    before: &[RawGiven],
-    given: &RawGiven,
+    before: &[GivenView<'_>],
+    given: &GivenView<'_>,
     resource: ResourceId,
 ) -> Option<u32>
     requires { resource_of inst.now given.now ≡ Some resource }
@@ -177,7 +184,11 @@ fn differ_in_resource(x: Option<ResourceId>, y: Option<ResourceId>) -> bool
 }
 
 /// The place that a resource is given for, if the event has it.
-fn place_for<'a>(event: &'a EventInfo, resource: ResourceId, given: &RawGiven) -> Option<&'a Place>
+fn place_for<'a>(
+    event: &'a EventInfo,
+    resource: ResourceId,
+    given: &GivenView<'_>,
+) -> Option<&'a Place>
     ensures { option_copied result ≡ find (is_place_for (Some resource) (role_of given.now)) event.now.places }
 {
     let places = event.places.as_slice();
@@ -190,21 +201,21 @@ fn place_for<'a>(event: &'a EventInfo, resource: ResourceId, given: &RawGiven) -
 }
 
 /// Whether a resource is given for this place.
-fn is_place_for(resource: ResourceId, given: &RawGiven, place: &Place) -> bool
+fn is_place_for(resource: ResourceId, given: &GivenView<'_>, place: &Place) -> bool
     ensures { result ≡ is_place_for (Some resource) (role_of given.now) place.now }
 {
-    match &given.role {
-        Some(name) => has_role(place, &name.text),
+    match given.role() {
+        Some(name) => has_role(place, name.text),
         None => place.role.is_none() && has_resource(place, resource),
     }
 }
 
 /// Whether a place has this role.
-fn has_role(place: &Place, role: &Text) -> bool
-    ensures { result ≡ is_role role.now place.now.role }
+fn has_role(place: &Place, role: &str) -> bool
+    ensures { result ≡ is_role (characters role.now) place.now.role }
 {
     match &place.role {
-        Some(own) => role.is_same(own),
+        Some(own) => own.is_spelled(role),
         None => false,
     }
 }
@@ -220,18 +231,18 @@ fn has_resource(place: &Place, resource: ResourceId) -> bool
 }
 
 /// Whether the role of a resource came before in its entry.
-fn came_before(before: &[RawGiven], given: &RawGiven) -> bool
+fn came_before(before: &[GivenView<'_>], given: &GivenView<'_>) -> bool
     ensures { result ≡ came_before before.now given.now }
 {
-    match &given.role {
-        Some(name) => is_any_given_for(before, &name.text),
+    match given.role() {
+        Some(name) => is_any_given_for(before, name.text),
         None => false,
     }
 }
 
 /// Whether one of some resources is given for this role.
-fn is_any_given_for(given: &[RawGiven], role: &Text) -> bool
-    ensures { result ≡ list_any (λ other. is_role role.now (role_of other)) given.now }
+fn is_any_given_for(given: &[GivenView<'_>], role: &str) -> bool
+    ensures { result ≡ list_any (λ other. is_role (characters role.now) (role_of other)) given.now }
 {
     for other in given {
         if is_given_for(other, role) {

@@ -9,7 +9,7 @@ use crate::lookups::Named;
 use khe_base::NoMemory;
 use khe_instance::Instance;
 use std::alloc::Global;
-use xhstt_shape::RawEntry;
+use xhstt_shape::EntryView;
 
 /// For each event the number of its first entry, and for each entry the number of the next one of the
 /// same event. The number of all entries stands for none.
@@ -24,7 +24,7 @@ pub(crate) struct Chains {
 pub(crate) fn chained(
     alloc: Global,
     inst: &Instance,
-    entries: &[RawEntry],
+    entries: &[EntryView<'_>],
     named: &[Named],
 ) -> Result<Chains, NoMemory>
     requires many { length named.now ≡ length entries.now }
@@ -46,7 +46,7 @@ pub(crate) fn chained(
 /// Links the entries from the last one back, each before those of its event that follow it.
 fn link(
     _inst: &Instance,
-    _entries: &[RawEntry],
+    _entries: &[EntryView<'_>],
     named: &[Named],
     firsts: &mut [usize],
     nexts: &mut [usize],

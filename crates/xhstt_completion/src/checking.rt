@@ -12,7 +12,7 @@ use crate::lookups::{Found, named_at, resources_at};
 use khe_base::{EventId, NoMemory};
 use khe_instance::Instance;
 use std::alloc::Global;
-use xhstt_shape::RawEntry;
+use xhstt_shape::EntryView;
 
 /// The first cause of the first entry that has one, by what the entries name, or `None` where each
 /// entry can stand.
@@ -22,7 +22,7 @@ use xhstt_shape::RawEntry;
 pub(crate) fn first_cause(
     alloc: Global,
     inst: &Instance,
-    entries: &[RawEntry],
+    entries: &[EntryView<'_>],
     found: &Found,
 ) -> Result<Option<Cause>, NoMemory>
     requires entries { All (IsEntry inst.now) entries.now }

@@ -21,7 +21,7 @@ use khe_base::Seq;
 use khe_instance::{Instance, Plain};
 use std::alloc::Global;
 use xhstt_resolve::Resolved;
-use xhstt_shape::{Archive, RawSolution};
+use xhstt_shape::{Archive, EntryView, RawSolution};
 
 /// The state that a solution says, completed as KHE completes a solution that it reads: the entries
 /// of an event are its meets in order, an entry without a duration lasts as long as its event, one
@@ -42,26 +42,29 @@ pub fn completed(alloc: Global, inst: &Instance, raw: &RawSolution) -> Result<Pl
     ensures valid { IfOk result (IsValid inst.now) }
     ensures plain { IfOk result (λ plain. (plain.detached ≡ []) × (plain.groups ≡ [])) }
 {
-    let found = looked_up(alloc, inst, raw.events.as_slice())?;
-    completed_by(alloc, inst, raw, &found)
+    let list = raw.events.listed(alloc)?;
+    let entries = list.as_slice();
+    let found = looked_up(alloc, inst, entries)?;
+    completed_by(alloc, inst, raw, entries, &found)
 }
 
-/// The state that a solution says, by what its entries name.
+/// The state that a solution with these entries says, by what they name.
 fn completed_by(
     alloc: Global,
     inst: &Instance,
-    raw: &RawSolution,
+    _raw: &RawSolution,
+    entries: &[EntryView<'_>],
     found: &Found,
 ) -> Result<Plain, SolutionFault>
-    requires solution { IsSolution inst.now raw.now }
-    requires many { length found.now.named.items ≡ length raw.now.events }
-    requires each { AreFound inst.now raw.now.events found.now.named.items found.now.given.items }
-    ensures exact { IfOk result (λ plain. completed inst.now raw.now ≡ Ok plain) }
-    ensures invalid { IfErr result (IsFaultOf (completed inst.now raw.now)) }
+    requires solution { IsSolution inst.now _raw.now }
+    requires entries { entries.now ≡ _raw.now.events }
+    requires many { length found.now.named.items ≡ length entries.now }
+    requires each { AreFound inst.now entries.now found.now.named.items found.now.given.items }
+    ensures exact { IfOk result (λ plain. completed inst.now _raw.now ≡ Ok plain) }
+    ensures invalid { IfErr result (IsFaultOf (completed inst.now _raw.now)) }
     ensures valid { IfOk result (IsValid inst.now) }
     ensures plain { IfOk result (λ plain. (plain.detached ≡ []) × (plain.groups ≡ [])) }
 {
-    let entries = raw.events.as_slice();
     if let Some(Cause { cause, entry }) = first_cause(alloc, inst, entries, found)? {
         return Err(SolutionFault::Invalid { cause, entry });
     }

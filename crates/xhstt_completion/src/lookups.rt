@@ -11,7 +11,7 @@ use crate::entries::{event_of, resource_of, time_of};
 use khe_base::{EventId, NoMemory, ResourceId, TimeId};
 use khe_instance::Instance;
 use std::alloc::Global;
-use xhstt_shape::{RawEntry, RawGiven};
+use xhstt_shape::{EntryView, GivenViews};
 
 /// What an entry names: its event, the time that it gives, and where its resources begin among those
 /// of all entries.
@@ -34,7 +34,7 @@ pub(crate) struct Found {
 pub(crate) fn looked_up(
     alloc: Global,
     inst: &Instance,
-    entries: &[RawEntry],
+    entries: &[EntryView<'_>],
 ) -> Result<Found, NoMemory>
     requires { All (IsEntry inst.now) entries.now }
     ensures many { IfOk result (λ found. length found.named.items ≡ length entries.now) }
@@ -51,7 +51,7 @@ pub(crate) fn looked_up(
 }
 
 /// Adds what one more entry names.
-fn look_up(found: &mut Found, inst: &Instance, entry: &RawEntry) -> Result<(), NoMemory>
+fn look_up(found: &mut Found, inst: &Instance, entry: &EntryView<'_>) -> Result<(), NoMemory>
     requires { IsEntry inst.now entry.now }
     ensures given { OnOk result (found.new.given.items ≡ found.old.given.items ++ filter_map (resource_of inst.now) entry.now.resources) }
     ensures named { OnOk result ((n : Named) × (found.new.named.items ≡ found.old.named.items ++ n ∷ []) × IsFound inst.now found.new.given.items entry.now n) }
@@ -59,8 +59,7 @@ fn look_up(found: &mut Found, inst: &Instance, entry: &RawEntry) -> Result<(), N
     let event = event_of(inst, entry);
     let time = time_of(inst, entry);
     let first = found.given.len();
-    let resources = entry.resources.as_slice();
-    push_resources(&mut found.given, inst, resources)?;
+    push_resources(&mut found.given, inst, entry.resources())?;
     found.named.push(Named { event, time, first })?;
     Ok(())
 }
@@ -69,13 +68,14 @@ fn look_up(found: &mut Found, inst: &Instance, entry: &RawEntry) -> Result<(), N
 fn push_resources(
     numbers: &mut Vec<ResourceId>,
     inst: &Instance,
-    given: &[RawGiven],
+    given: GivenViews<'_>,
 ) -> Result<(), NoMemory>
-    requires { All (λ one. IsSome (resource_named inst.now one.reference.id)) given.now }
-    ensures { OnOk result (numbers.new.items ≡ numbers.old.items ++ filter_map (resource_of inst.now) given.now) }
+    requires { All (λ one. IsSome (resource_named inst.now one.reference.id)) given }
+    ensures { OnOk result (numbers.new.items ≡ numbers.old.items ++ filter_map (resource_of inst.now) given.entry) }
 {
-    for one in given {
-        numbers.push(resource_of(inst, one))?;
+    let mut rest = given;
+    while let Some(one) = rest.next() {
+        numbers.push(resource_of(inst, &one))?;
     }
     Ok(())
 }
@@ -83,7 +83,7 @@ fn push_resources(
 /// What the entry with this number names.
 pub(crate) fn named_at(
     _inst: &Instance,
-    _entries: &[RawEntry],
+    _entries: &[EntryView<'_>],
     found: &Found,
     number: usize,
 ) -> Named
@@ -100,10 +100,10 @@ pub(crate) fn named_at(
 pub(crate) fn resources_at<'a>(
     given: &'a [ResourceId],
     named: Named,
-    entry: &RawEntry,
+    entry: &EntryView<'_>,
 ) -> &'a [ResourceId]
     requires { named.first + length entry.now.resources ≤ length given.now }
     ensures { result.now ≡ take (length entry.now.resources) (drop named.first given.now) }
 {
-    &given[named.first..named.first + entry.resources.len()]
+    &given[named.first..named.first + entry.resources().len()]
 }

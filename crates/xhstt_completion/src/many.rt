@@ -3,6 +3,7 @@
 ghost use Rattle.std.specs.Prelude.{◌≡◌, ◌<◌, ◌≤◌, ◌||◌, ℕ, [], true, length, map, take, find, All, IfOk, Some, None, slice_get};
 ghost use Rattle.std.specs.Option.{option_copied};
 ghost use Rattle.khe_base.specs.IdSet.{has_member};
+ghost use Rattle.khe_base.specs.Text.{characters};
 ghost use Rattle.khe_instance.specs.Lookups.{is_role};
 ghost use Rattle.khe_instance.specs.WellMade.{IsEvent, IsPlace};
 ghost use Rattle.xhstt_completion.specs.Causes.{given_cause, first_given_cause, is_place_for};
@@ -15,7 +16,7 @@ use fault_tables::BAD_ROLE;
 use khe_base::{IdSet, NoMemory, ResourceId, Text, beside, both};
 use khe_instance::{EventInfo, Instance, Place};
 use std::alloc::Global;
-use xhstt_shape::RawGiven;
+use xhstt_shape::GivenView;
 
 /// By what the places of an event are found for the resources of an entry.
 pub(crate) struct Wanted {
@@ -45,7 +46,7 @@ pub(crate) fn first_of_many(
     alloc: Global,
     inst: &Instance,
     event: &EventInfo,
-    given: &[RawGiven],
+    given: &[GivenView<'_>],
     resources: &[ResourceId],
 ) -> Result<Option<u32>, NoMemory>
     requires event { IsEvent inst.now event.now }
@@ -61,7 +62,7 @@ fn wants_of(
     alloc: Global,
     inst: &Instance,
     event: &EventInfo,
-    given: &[RawGiven],
+    given: &[GivenView<'_>],
 ) -> Result<Wanted, NoMemory>
     requires { IsEvent inst.now event.now }
     ensures { IfOk result (λ w. IsWanted inst.now given.now event.now.places w) }
@@ -81,7 +82,7 @@ fn wants_by(
     alloc: Global,
     inst: &Instance,
     event: &EventInfo,
-    given: &[RawGiven],
+    given: &[GivenView<'_>],
     roles: &RoleTable,
 ) -> Result<(RoleTable, IdSet), NoMemory>
     requires event { IsEvent inst.now event.now }
@@ -99,7 +100,7 @@ fn wants_by(
 /// The roles of places for which resources are given, each at its place.
 fn roles_wanted(
     alloc: Global,
-    given: &[RawGiven],
+    given: &[GivenView<'_>],
     roles: &RoleTable,
     places: &[Place],
 ) -> Result<RoleTable, NoMemory>
@@ -114,12 +115,16 @@ fn roles_wanted(
 }
 
 /// The role of a place, where a resource is given for it.
-fn wanted_role<'a>(_given: &[RawGiven], roles: &RoleTable, place: &'a Place) -> Option<&'a Text>
+fn wanted_role<'a>(
+    _given: &[GivenView<'_>],
+    roles: &RoleTable,
+    place: &'a Place,
+) -> Option<&'a Text>
     requires { Finds roles.now (map role_of _given.now) }
     ensures { option_copied result ≡ wanted_role _given.now place.now.role }
 {
     let role = place.role.as_ref()?;
-    if roles.find(role).is_none() {
+    if roles.find(role.spelling()).is_none() {
         return None;
     }
     Some(role)
@@ -153,7 +158,7 @@ fn note(_inst: &Instance, unnamed: &mut IdSet, place: &Place)
 fn first_at(
     inst: &Instance,
     event: &EventInfo,
-    given: &[RawGiven],
+    given: &[GivenView<'_>],
     resources: &[ResourceId],
     wanted: &Wanted,
 ) -> Option<u32>
@@ -176,9 +181,9 @@ fn first_at(
 fn cause_at(
     inst: &Instance,
     event: &EventInfo,
-    given: &[RawGiven],
+    given: &[GivenView<'_>],
     number: usize,
-    one: &RawGiven,
+    one: &GivenView<'_>,
     resource: ResourceId,
     wanted: &Wanted,
 ) -> Option<u32>
@@ -188,8 +193,8 @@ fn cause_at(
     requires wanted { IsWanted inst.now given.now event.now.places wanted.now }
     ensures { result ≡ given_cause inst.now event.now (take number given.now) one.now }
 {
-    match &one.role {
-        Some(role) => named_cause(inst, event, given, number, &role.text, resource, wanted),
+    match one.role() {
+        Some(role) => named_cause(inst, event, given, number, role.text, resource, wanted),
         None => unnamed_cause(inst, event, given, resource, wanted),
     }
 }
@@ -198,17 +203,17 @@ fn cause_at(
 fn named_cause(
     inst: &Instance,
     event: &EventInfo,
-    given: &[RawGiven],
+    given: &[GivenView<'_>],
     number: usize,
-    role: &Text,
+    role: &str,
     resource: ResourceId,
     wanted: &Wanted,
 ) -> Option<u32>
     requires resource { resource.0 < length inst.now.resources }
-    requires role { is_given given.now role.now ≡ true }
+    requires role { is_given given.now (characters role.now) ≡ true }
     requires number { number ≤ length given.now }
     requires wanted { IsWanted inst.now given.now event.now.places wanted.now }
-    ensures { result ≡ named_cause inst.now event.now (take number given.now) role.now (Some resource) }
+    ensures { result ≡ named_cause inst.now event.now (take number given.now) (characters role.now) (Some resource) }
 {
     let Some(place) = place_of(inst, event, given, role, wanted) else {
         return Some(BAD_ROLE);
@@ -223,13 +228,13 @@ fn named_cause(
 fn place_of<'a>(
     _inst: &Instance,
     event: &'a EventInfo,
-    _given: &[RawGiven],
-    role: &Text,
+    _given: &[GivenView<'_>],
+    role: &str,
     wanted: &Wanted,
 ) -> Option<&'a Place>
-    requires role { is_given _given.now role.now ≡ true }
+    requires role { is_given _given.now (characters role.now) ≡ true }
     requires wanted { IsWanted _inst.now _given.now event.now.places wanted.now }
-    ensures { option_copied result ≡ find (λ place. is_role role.now place.role) event.now.places }
+    ensures { option_copied result ≡ find (λ place. is_role (characters role.now) place.role) event.now.places }
 {
     let places = event.places.as_slice();
     match wanted.places.find(role) {
@@ -239,10 +244,10 @@ fn place_of<'a>(
 }
 
 /// Whether one of the first resources of an entry, so many, is given for a role.
-fn came_earlier(_given: &[RawGiven], number: usize, role: &Text, roles: &RoleTable) -> bool
+fn came_earlier(_given: &[GivenView<'_>], number: usize, role: &str, roles: &RoleTable) -> bool
     requires number { number ≤ length _given.now }
     requires roles { Finds roles.now (map role_of _given.now) }
-    ensures { result ≡ is_given (take number _given.now) role.now }
+    ensures { result ≡ is_given (take number _given.now) (characters role.now) }
 {
     match roles.find(role) {
         Some(first) => first < number,
@@ -255,7 +260,7 @@ fn came_earlier(_given: &[RawGiven], number: usize, role: &Text, roles: &RoleTab
 fn unnamed_cause(
     _inst: &Instance,
     _event: &EventInfo,
-    _given: &[RawGiven],
+    _given: &[GivenView<'_>],
     resource: ResourceId,
     wanted: &Wanted,
 ) -> Option<u32>

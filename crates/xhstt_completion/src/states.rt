@@ -19,7 +19,7 @@ use crate::tables::{RoleTable, are_few, roles_given};
 use khe_base::{EventId, MeetId, NoMemory, ResourceId, Seq, TaskId, Text};
 use khe_instance::{EventInfo, Instance, Meet, Place, Plain, Task};
 use std::alloc::Global;
-use xhstt_shape::{RawEntry, RawGiven};
+use xhstt_shape::{EntryView, GivenView};
 
 /// The meets and the tasks that are made so far.
 #[derive(Drop)]
@@ -33,7 +33,7 @@ struct Timetable {
 pub(crate) fn state_of(
     alloc: Global,
     inst: &Instance,
-    entries: &[RawEntry],
+    entries: &[EntryView<'_>],
     found: &Found,
 ) -> Result<Plain, NoMemory>
     requires entries { All (IsEntry inst.now) entries.now }
@@ -78,7 +78,7 @@ fn push_event(
     timetable: &mut Timetable,
     inst: &Instance,
     number: EventId,
-    entries: &[RawEntry],
+    entries: &[EntryView<'_>],
     found: &Found,
     chains: &Chains,
 ) -> Result<(), NoMemory>
@@ -108,8 +108,7 @@ fn push_event(
             start: start_of(event, named.time),
         };
         let given = resources_at(found.given.as_slice(), named, entry);
-        let resources = entry.resources.as_slice();
-        push_meet(alloc, timetable, inst, event, meet, resources, given)?;
+        push_entry(alloc, timetable, inst, event, meet, entry, given)?;
         slot += 1;
         left -= meet.duration;
         at = chains.nexts[at];
@@ -144,6 +143,33 @@ fn push_rest(
     push_meet(alloc, timetable, inst, event, meet, &[], &[])
 }
 
+/// Adds a meet of an event, for which an entry gives the resources with these numbers, and its tasks.
+fn push_entry(
+    alloc: Global,
+    timetable: &mut Timetable,
+    inst: &Instance,
+    event: &EventInfo,
+    meet: Meet,
+    entry: &EntryView<'_>,
+    resources: &[ResourceId],
+) -> Result<(), NoMemory>
+    requires few { length event.now.places ≤ TASKS }
+    requires resources { map (resource_of inst.now) entry.now.resources ≡ map Some resources.now }
+    ensures meets { OnOk result (timetable.new.meets ≡ timetable.old.meets ++ meet ∷ []) }
+    ensures tasks { OnOk result (timetable.new.tasks ≡ timetable.old.tasks ++ map (task_of inst.now meet.meet.0 entry.now.resources) (enumerate_from 0 event.now.places)) }
+{
+    let given = entry.resources().listed(alloc)?;
+    push_meet(
+        alloc,
+        timetable,
+        inst,
+        event,
+        meet,
+        given.as_slice(),
+        resources,
+    )
+}
+
 /// Adds a meet of an event, for which these resources with these numbers are given, and its tasks.
 fn push_meet(
     alloc: Global,
@@ -151,7 +177,7 @@ fn push_meet(
     inst: &Instance,
     event: &EventInfo,
     meet: Meet,
-    given: &[RawGiven],
+    given: &[GivenView<'_>],
     resources: &[ResourceId],
 ) -> Result<(), NoMemory>
     requires few { length event.now.places ≤ TASKS }
@@ -184,7 +210,7 @@ fn push_tasks(
     inst: &Instance,
     places: &[Place],
     meet: MeetId,
-    given: &[RawGiven],
+    given: &[GivenView<'_>],
     resources: &[ResourceId],
     roles: Option<&RoleTable>,
 ) -> Result<(), NoMemory>
@@ -207,7 +233,7 @@ fn push_tasks(
 /// The resource at a place: the preassigned one, or else that which is given for its role.
 fn resource_at(
     inst: &Instance,
-    given: &[RawGiven],
+    given: &[GivenView<'_>],
     resources: &[ResourceId],
     roles: Option<&RoleTable>,
     place: &Place,
@@ -225,7 +251,7 @@ fn resource_at(
 /// The resource that is given for a role.
 fn given_for(
     inst: &Instance,
-    given: &[RawGiven],
+    given: &[GivenView<'_>],
     resources: &[ResourceId],
     roles: Option<&RoleTable>,
     role: &Text,
@@ -243,7 +269,7 @@ fn given_for(
 /// The resource that is given for a role, looked for among all.
 fn given_among(
     _inst: &Instance,
-    given: &[RawGiven],
+    given: &[GivenView<'_>],
     resources: &[ResourceId],
     role: &Text,
 ) -> Option<ResourceId>
@@ -251,7 +277,7 @@ fn given_among(
     ensures { result ≡ given_for _inst.now given.now role.now }
 {
     for (number, one) in given.iter().enumerate() {
-        if is_given_for(one, role) {
+        if is_given_for(one, role.spelling()) {
             return Some(resources[number]);
         }
     }
@@ -261,7 +287,7 @@ fn given_among(
 /// The resource that is given for a role, by the table of all roles that resources are given for.
 fn given_by(
     _inst: &Instance,
-    _given: &[RawGiven],
+    _given: &[GivenView<'_>],
     resources: &[ResourceId],
     roles: &RoleTable,
     role: &Text,
@@ -270,7 +296,7 @@ fn given_by(
     requires roles { Finds roles.now (map role_of _given.now) }
     ensures { result ≡ given_for _inst.now _given.now role.now }
 {
-    match roles.find(role) {
+    match roles.find(role.spelling()) {
         Some(number) => Some(resources[number]),
         None => None,
     }

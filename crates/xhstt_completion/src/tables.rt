@@ -3,13 +3,14 @@
 ghost use Rattle.std.specs.Prelude.{◌≡◌, ◌++◌, ◌∷◌, [], ℕ, List, Option, Some, None, length, map, min, nat_le, position, IfOk, OnOk, slice_get};
 ghost use Rattle.std.specs.Option.{option_and_then, option_copied};
 ghost use Rattle.khe_base.specs.Names.{number_of};
+ghost use Rattle.khe_base.specs.Text.{characters};
 ghost use Rattle.khe_instance.specs.Lookups.{is_role};
 ghost use Rattle.xhstt_completion.specs.Entries.{role_of};
 ghost use Rattle.xhstt_completion.specs.Tables.{Finds};
 
 use khe_base::{Names, NoMemory, Text};
 use std::alloc::Global;
-use xhstt_shape::RawGiven;
+use xhstt_shape::GivenView;
 
 /// Up to so many resources of an entry, or places of its event, are few: each resource is then looked
 /// for among all places, and each place among all resources, which takes time in proportion to both
@@ -82,20 +83,20 @@ impl RoleTable {
 
     /// The first place of a role, if it has one. It takes the time of a hash of the role on average,
     /// and constant time where the role is longer than all of the table.
-    pub fn find(&self, role: &Text) -> Option<usize>
-        ensures { (roles : List (Option (List ℕ))) → Finds self.now roles → result ≡ position (is_role role.now) roles }
+    pub fn find(&self, role: &str) -> Option<usize>
+        ensures { (roles : List (Option (List ℕ))) → Finds self.now roles → result ≡ position (is_role (characters role.now)) roles }
     {
-        if self.longest < role.as_bytes().len() {
+        if self.longest < role.len() {
             return None;
         }
         self.first(role)
     }
 
     /// The first place of a role, if it has one, by a hash.
-    fn first(&self, role: &Text) -> Option<usize>
-        ensures { result ≡ option_and_then (λ n. slice_get self.now.firsts.items n) (number_of role.now self.now.names) }
+    fn first(&self, role: &str) -> Option<usize>
+        ensures { result ≡ option_and_then (λ n. slice_get self.now.firsts.items n) (number_of (characters role.now) self.now.names) }
     {
-        match self.names.number(role) {
+        match self.names.number_spelled(role) {
             Some(number) => self.firsts.as_slice().get(number).copied(),
             None => None,
         }
@@ -104,22 +105,27 @@ impl RoleTable {
 
 /// The roles for which resources are given, each at the place of the resource. It takes time and memory
 /// in proportion to the resources and their roles, on average.
-pub(crate) fn roles_given(alloc: Global, given: &[RawGiven]) -> Result<RoleTable, NoMemory>
+pub(crate) fn roles_given(alloc: Global, given: &[GivenView<'_>]) -> Result<RoleTable, NoMemory>
     ensures { IfOk result (λ table. Finds table (map role_of given.now)) }
 {
     let mut table = RoleTable::new(alloc);
     for (number, one) in given.iter().enumerate() {
-        table.push(role_of(one), number)?;
+        push_given(alloc, &mut table, one, number)?;
     }
     Ok(table)
 }
 
-/// The role that a resource is given for.
-fn role_of(one: &RawGiven) -> Option<&Text>
-    ensures { option_copied result ≡ role_of one.now }
+/// Adds the role that the resource at the next place is given for, if it is given for one.
+fn push_given(
+    alloc: Global,
+    table: &mut RoleTable,
+    one: &GivenView<'_>,
+    place: usize,
+) -> Result<(), NoMemory>
+    ensures { OnOk result ((roles : List (Option (List ℕ))) → length roles ≡ place → Finds table.old roles → Finds table.new (roles ++ role_of one.now ∷ [])) }
 {
-    match &one.role {
-        Some(name) => Some(&name.text),
-        None => None,
+    match one.role() {
+        Some(name) => table.add(&Text::from_str(alloc, name.text)?, place),
+        None => Ok(()),
     }
 }

@@ -10,24 +10,25 @@ ghost use Rattle.xhstt_entries.specs.Spelled as spec;
 
 use crate::entries::entry;
 use event_deviations::duties;
-use khe_base::{NoMemory, Seq, Text};
+use khe_base::{NoMemory, Text};
 use khe_instance::{Instance, Plain};
 use std::alloc::Global;
-use xhstt_shape::{RawEntry, RawSolution, Ref};
+use xhstt_shape::{Entries, RawSolution, Ref};
 
 /// The entries of a timetable, one for each meet in the order of their numbers.
-fn entries(alloc: Global, inst: &Instance, plain: &Plain) -> Result<Seq<RawEntry>, NoMemory>
+fn entries(alloc: Global, inst: &Instance, plain: &Plain) -> Result<Entries, NoMemory>
     requires { IsTold inst.now plain.now.meets plain.now.tasks }
     ensures { IfOk result (λ es. es ≡ spec.entries_of inst.now plain.now) }
 {
     let meets = plain.meets.as_slice();
     let owned = duties(alloc, inst, meets, plain.tasks.as_slice())?;
-    let mut entries = Seq::new(alloc);
+    let mut entries = Entries::new(alloc);
     let mut rest = owned.as_slice();
     for meet in meets {
         let places = inst.event(meet.event).places.len();
         let (own, later) = rest.split_at(places);
-        entries.push(entry(alloc, inst, *meet, own)?)?;
+        let made = entry(alloc, inst, *meet, own)?;
+        entries.push(&made)?;
         rest = later;
     }
     Ok(entries)

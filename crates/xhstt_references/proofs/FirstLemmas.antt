@@ -47,3 +47,17 @@ module _ {X : Type 0} (f : X → List ℕ) (xs : List X) (i : ℕ) where
       → first ≡ whole
   walk_end first whole h old = sym (first_of_nil first)
       ∙ ap (λ r. first_of first (flat_map f r)) (sym (drop_all i xs h)) ∙ old
+
+module _ {X : Type 0} (f : X → List ℕ) (rest : List X) where
+  -- the places of the next element, and then those of the rest after it
+  pub view_step : (x : X) (more : List X) (before after whole : Option ℕ) → rest ≡ x ∷ more → after ≡ first_of before (f x)
+      → first_of before (flat_map f rest) ≡ whole → first_of after (flat_map f more) ≡ whole
+  view_step x more before after whole at is old =
+      ap (λ y. first_of y (flat_map f more)) is
+      ∙ sym (first_of_append before (f x) (flat_map f more))
+      ∙ ap (λ r. first_of before (flat_map f r)) (sym at)
+      ∙ old
+
+  -- none is left
+  pub view_end : (first whole : Option ℕ) → rest ≡ [] → first_of first (flat_map f rest) ≡ whole → first ≡ whole
+  view_end first whole none old = sym (first_of_nil first) ∙ ap (λ r. first_of first (flat_map f r)) (sym none) ∙ old

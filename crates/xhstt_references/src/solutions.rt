@@ -2,13 +2,14 @@
 
 ghost use Rattle.std.specs.Prelude.{◌≡◌, ◌<◌, ◌^◌, ◌++◌, ◌∷◌, [], ℕ, List, Some, is_some, map, length, IfOk, OnOk};
 ghost use Rattle.std.specs.List.{filter_map, flat_map};
-ghost use Rattle.std.specs.Option.{option_to_list};
+ghost use Rattle.std.specs.Option.{option_map, option_to_list};
 ghost use Rattle.khe_base.specs.Names.{number_of};
 ghost use Rattle.xhstt_references.specs.Directories.{directory_of, named_by, named_in};
 ghost use Rattle.xhstt_references.specs.Faults.{IsTold, fault_of_solutions};
 ghost use Rattle.xhstt_references.specs.First.{first_of};
 ghost use Rattle.xhstt_references.specs.Ids.{instance_ids};
 ghost use Rattle.xhstt_references.specs.References as spec;
+ghost use Rattle.xhstt_shape.specs.Views.{seen_reference};
 
 use crate::faults::ReferenceFault;
 use crate::first::First;
@@ -16,7 +17,7 @@ use fault_tables::UNKNOWN_REFERENCE;
 use khe_base::{Names, NoMemory, Seq};
 use khe_instance::Instance;
 use std::alloc::Global;
-use xhstt_shape::{Archive, RawEntry, RawGiven, RawSolution, Ref, SolutionGroup};
+use xhstt_shape::{Archive, Entries, EntryView, GivenViews, NameView, RawSolution, SolutionGroup};
 
 /// The number of each solution's instance, group by group, or the first reference of a solution
 /// that names nothing: to an instance, or to an event, a time or a resource of its instance.
@@ -84,7 +85,7 @@ fn add_number(
 {
     match instances.number(&solution.reference.id) {
         Some(number) => {
-            note_entries(&made[number], solution.events.as_slice(), first);
+            note_entries(&made[number], &solution.events, first);
             numbers.push(number as u32)?;
             Ok(())
         }
@@ -96,63 +97,65 @@ fn add_number(
 }
 
 /// Notes the places of the references of some entries that name nothing in the instance.
-fn note_entries(instance: &Instance, entries: &[RawEntry], first: &mut First)
+fn note_entries(instance: &Instance, entries: &Entries, first: &mut First)
     ensures { first.new.at ≡ first_of first.old.at (flat_map (spec.unknown_in_entry (named_by instance.now)) entries.now) }
 {
-    for entry in entries {
-        note_entry(instance, entry, first);
+    let mut rest = entries.views();
+    while let Some(entry) = rest.next() {
+        note_entry(instance, &entry, first);
     }
 }
 
 /// Notes the places of the references of an entry that name nothing in the instance.
 #[tactic(auto, using(crate::proofs::FirstLemmas::place_steps))]
-fn note_entry(instance: &Instance, entry: &RawEntry, first: &mut First)
+fn note_entry(instance: &Instance, entry: &EntryView<'_>, first: &mut First)
     ensures { first.new.at ≡ first_of first.old.at (spec.unknown_in_entry (named_by instance.now) entry.now) }
 {
-    note_event(instance, &entry.reference, first);
-    note_time(instance, &entry.time, first);
-    note_givens(instance, entry.resources.as_slice(), first);
+    note_event(instance, entry.reference(), first);
+    note_time(instance, entry.time(), first);
+    note_givens(instance, entry.resources(), first);
 }
 
 /// Notes the places of the resources that an entry gives and that the instance does not have.
-fn note_givens(instance: &Instance, givens: &[RawGiven], first: &mut First)
-    ensures { first.new.at ≡ first_of first.old.at (flat_map (spec.unknown_in_given (named_by instance.now)) givens.now) }
+fn note_givens(instance: &Instance, givens: GivenViews<'_>, first: &mut First)
+    ensures { first.new.at ≡ first_of first.old.at (flat_map (spec.unknown_in_given (named_by instance.now)) givens.entry) }
 {
-    for given in givens {
-        note_resource(instance, &given.reference, first);
+    let mut rest = givens;
+    while let Some(given) = rest.next() {
+        note_resource(instance, given.reference(), first);
     }
 }
 
 /// Notes the place of a reference to no event of the instance.
-fn note_event(instance: &Instance, reference: &Ref, first: &mut First)
-    ensures { first.new.at ≡ first_of first.old.at (spec.unknown (map (λ e. e.id) instance.now.events) (reference.now ∷ [])) }
+fn note_event(instance: &Instance, reference: NameView<'_>, first: &mut First)
+    ensures { first.new.at ≡ first_of first.old.at (spec.unknown (map (λ e. e.id) instance.now.events) (seen_reference reference.entry ∷ [])) }
 {
-    let known = instance.event_named(&reference.id).is_some();
+    let known = instance.event_spelled(reference.text).is_some();
     note_unless(known, reference, first);
 }
 
 /// Notes the place of a reference to no resource of the instance.
-fn note_resource(instance: &Instance, reference: &Ref, first: &mut First)
-    ensures { first.new.at ≡ first_of first.old.at (spec.unknown (map (λ r. r.id) instance.now.resources) (reference.now ∷ [])) }
+fn note_resource(instance: &Instance, reference: NameView<'_>, first: &mut First)
+    ensures { first.new.at ≡ first_of first.old.at (spec.unknown (map (λ r. r.id) instance.now.resources) (seen_reference reference.entry ∷ [])) }
 {
-    let known = instance.resource_named(&reference.id).is_some();
+    let known = instance.resource_spelled(reference.text).is_some();
     note_unless(known, reference, first);
 }
 
 /// Notes the place of a reference, if there is one, to no time of the instance.
 #[tactic(auto, using(crate::proofs::FirstLemmas::first_of_nil))]
-fn note_time(instance: &Instance, reference: &Option<Ref>, first: &mut First)
-    ensures { first.new.at ≡ first_of first.old.at (spec.unknown_one instance.now.times reference.now) }
+fn note_time(instance: &Instance, reference: Option<NameView<'_>>, first: &mut First)
+    ensures { first.new.at ≡ first_of first.old.at (spec.unknown_one instance.now.times (option_map seen_reference reference.entry)) }
 {
     if let Some(reference) = reference {
-        let known = instance.time_named(&reference.id).is_some();
+        let known = instance.time_spelled(reference.text).is_some();
         note_unless(known, reference, first);
     }
 }
 
 /// Notes the place of a reference, unless it is known.
-fn note_unless(known: bool, reference: &Ref, first: &mut First)
-    ensures { (names : List (List ℕ)) → known ≡ is_some (number_of reference.now.id names) → first.new.at ≡ first_of first.old.at (spec.unknown names (reference.now ∷ [])) }
+fn note_unless(known: bool, reference: NameView<'_>, first: &mut First)
+    ensures { (names : List (List ℕ)) → known ≡ is_some (number_of (seen_reference reference.entry).id names) → first.new.at ≡ first_of first.old.at (spec.unknown names (seen_reference reference.entry ∷ [])) }
 {
     if !known {
         first.note(reference.at);

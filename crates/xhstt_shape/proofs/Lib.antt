@@ -1,5 +1,6 @@
 pub mod Fine
 pub mod InForm
+pub mod PackedLemmas
 pub mod Present
 pub mod SeenLaws
 pub mod Spellable

@@ -2,12 +2,14 @@ pub mod Characters
 pub mod Contents
 pub mod Examples
 pub mod Faults
+pub mod Packed
 pub mod Places
 pub mod Present
 pub mod Schema
 pub mod Seen
 pub mod Shape
 pub mod Values
+pub mod Views
 pub mod Walk
 pub mod WellFormed
 pub mod Words

@@ -6,12 +6,16 @@ mod building;
 mod constraint_values;
 mod constraints;
 mod contents;
+mod entries;
 mod examples;
 mod faults;
 mod finding;
 mod instance_values;
 mod laws;
 mod leaves;
+mod packed;
+mod packing;
+mod packing_elements;
 pub mod reading;
 mod records;
 mod schema;
@@ -20,6 +24,7 @@ mod walk;
 mod words;
 
 pub use constraints::{RawApplies, RawConstraint, RawPair, RawRule, RawSpread};
+pub use entries::{Entries, EntryView, EntryViews, GivenView, GivenViews, NameView};
 pub use faults::ShapeFault;
 pub use records::{
     About, Archive, EventGroup, GroupSort, MetaData, Name, RawEntry, RawEvent, RawEventResource,

@@ -3,6 +3,7 @@
 ghost use Rattle.std.specs.Prelude.{◌≡◌, IfOk};
 
 use crate::constraints::RawConstraint;
+use crate::entries::Entries;
 use khe_base::{NoMemory, Seq, Text};
 use std::alloc::Global;
 use std::marker::Model;
@@ -273,7 +274,7 @@ pub struct RawSolution {
     pub reference: Ref,
     pub description: Option<Text>,
     pub running_time: Option<Text>,
-    pub events: Seq<RawEntry>,
+    pub events: Entries,
 }
 
 // By hand: an exit of a caller then has one call to prove, and not a drop for each field.

@@ -1,40 +1,18 @@
 //! Building solution groups, solutions and their events from elements.
 
+ghost use Rattle.std.specs.Prelude.{◌≡◌, IfOk, map};
 ghost use Rattle.xhstt_shape.specs.Values as spec;
+ghost use Rattle.xhstt_shape.specs.declared.words.Tag.TheVariants as tag;
 
-use crate::building::{Build, all, every, optional};
-use crate::leaves::{id, optional_duration, optional_name};
-use crate::records::{Archive, RawEntry, RawGiven, RawSolution, SolutionGroup};
+use crate::building::{Build, all, count, every, optional};
+use crate::entries::Entries;
+use crate::finding::child;
+use crate::leaves::{id, optional_name};
+use crate::records::{Archive, RawSolution, SolutionGroup};
 use crate::words::{Label, Tag};
 use khe_base::{NoMemory, both};
 use std::alloc::Global;
 use xhstt_text::Element;
-
-impl Build for RawGiven {
-    ghost value = { spec.given };
-
-    #[tactic(auto, unfolding(crate::specs::Values::given))]
-    fn build(alloc: Global, element: &Element<'_, '_>) -> Result<RawGiven, NoMemory> {
-        Ok(RawGiven {
-            reference: Build::build(alloc, element)?,
-            role: optional(alloc, Tag::Role, element)?,
-        })
-    }
-}
-
-impl Build for RawEntry {
-    ghost value = { spec.entry };
-
-    #[tactic(auto, unfolding(crate::specs::Values::entry))]
-    fn build(alloc: Global, element: &Element<'_, '_>) -> Result<RawEntry, NoMemory> {
-        Ok(RawEntry {
-            reference: Build::build(alloc, element)?,
-            duration: optional_duration(alloc, element)?,
-            time: optional(alloc, Tag::Time, element)?,
-            resources: every(alloc, Tag::Resources, element)?,
-        })
-    }
-}
 
 impl Build for RawSolution {
     ghost value = { spec.solution };
@@ -45,9 +23,33 @@ impl Build for RawSolution {
             reference: Build::build(alloc, element)?,
             description: optional(alloc, Tag::Description, element)?,
             running_time: optional(alloc, Tag::RunningTime, element)?,
-            events: every(alloc, Tag::Events, element)?,
+            events: entries(alloc, element)?,
         })
     }
+}
+
+/// The entries of a solution's element.
+#[tactic(auto, unfolding(crate::specs::Values::every))]
+fn entries(alloc: Global, element: &Element<'_, '_>) -> Result<Entries, NoMemory>
+    ensures { IfOk result (λ list. list ≡ map spec.entry (spec.every tag.Events element.now)) }
+{
+    match child(Tag::Events, element) {
+        Some(found) => entries_in(alloc, &found),
+        None => Ok(Entries::new(alloc)),
+    }
+}
+
+/// The entries that the children of an element say, without room to spare.
+fn entries_in(alloc: Global, element: &Element<'_, '_>) -> Result<Entries, NoMemory>
+    ensures { IfOk result (λ list. list ≡ map spec.entry (spec.elements element.now.kids)) }
+{
+    let mut list = Entries::with_room(alloc, count(element))?;
+    let mut rest = element.children();
+    while let Some(next) = rest.next() {
+        list.push_element(alloc, &next)?;
+    }
+    list.shrink();
+    Ok(list)
 }
 
 impl Build for SolutionGroup {

@@ -2,7 +2,7 @@
 use Rattle.std.proofs.Common.{arith}
 use Rattle.xhstt_completion.specs.Entries.{entries_of}
 use Rattle.xhstt_completion.proofs.ChainLemmas.{same-chain}
-use Rattle.xhstt_completion.proofs.FoundLemmas.{front-whole}
+use Rattle.khe_base.proofs.ListLemmas.{front-whole}
 use Rattle.xhstt_completion.proofs.chains.chained.Goals as goal
 
 pub returns-clause-chains : goal.returns-clause-chains

@@ -22,5 +22,5 @@ returns-clause-named c =
           (c.len-first.ensures ∙ c.args.found.now.given.ok.0)
           c.requires.resources
           (c.in_ok-push_resources.ensures
-          ∙ ap (λ xs. given ++ filter_map (resource_of p) xs) c.as_slice-resources.ensures),
+          ∙ ap (λ xs. given ++ filter_map (resource_of p) xs) c.resources.ensures),
     )

@@ -14,7 +14,7 @@ returns-then-is_given_for c =
     let role = c.args.role.now in
     let i = c.loop-number.number in
     let one = c.index-given-number.result in
-    let mine : is_role role (role_of one) ≡ true = sym c.is_given_for.ensures ∙ c.if-is_given_for.true in
+    let mine : is_role role (role_of one) ≡ true = ap (λ r. is_role r (role_of one)) (sym c.spelling.ensures) ∙ sym c.is_given_for.ensures ∙ c.if-is_given_for.true in
     sym (given-taken p given c.args.resources.now i one (record { 0 = 0 }) c.requires c.loop-number-test.true
     c.index-given-number.is)
     ∙ sym (given-first p one (drop (i + 1) given) role mine)

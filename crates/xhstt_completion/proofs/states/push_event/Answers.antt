@@ -8,7 +8,7 @@ use Rattle.std.proofs.lemmas.Option.{same_Some}
 use Rattle.khe_instance.specs.declared.states.Meet.{Meet}
 use Rattle.xhstt_completion.specs.Chains.{IsChain}
 use Rattle.xhstt_completion.specs.Completed.{part_of, meet_of, task_of, meets_at, tasks_at}
-use Rattle.xhstt_completion.specs.Entries.{IsEntry, duration_of, start_of, entries_of, resource_of}
+use Rattle.xhstt_completion.specs.Entries.{IsEntry, duration_of, start_of, entries_of}
 use Rattle.xhstt_completion.proofs.CausesLemmas.{unwrap_or-positive}
 use Rattle.xhstt_completion.proofs.EventLemmas.{IsLeft, here, left-more, left-all, next-fits, all-meets, all-tasks}
 use Rattle.xhstt_completion.proofs.FoundLemmas.{found-there}
@@ -16,8 +16,8 @@ use Rattle.xhstt_completion.proofs.WellMadeLemmas.{event-made, places-few, slots
 use Rattle.xhstt_completion.proofs.states.push_event.Goals as goal
 use Rattle.xhstt_shape.specs.declared.records.RawEntry.{RawEntry}
 
-pub push_meet-requires-clause-few : goal.push_meet-requires-clause-few
-push_meet-requires-clause-few c = places-few c.args.inst.now c.args.number.0 c.event-event.result.now c.facts.ensures
+pub push_entry-requires-clause-few : goal.push_entry-requires-clause-few
+push_entry-requires-clause-few c = places-few c.args.inst.now c.args.number.0 c.event-event.result.now c.facts.ensures
     c.event-event.ensures
 
 pub push_rest-requires : goal.push_rest-requires
@@ -52,15 +52,15 @@ resources_at-given-requires c =
     c.index-entries-at.is c.index-named.ensures in
     omega (arith, is.within, ap length c.as_slice.ensures.value)
 
-pub push_meet-requires-clause-resources : goal.push_meet-requires-clause-resources
-push_meet-requires-clause-resources c =
+pub push_entry-requires-clause-resources : goal.push_entry-requires-clause-resources
+push_entry-requires-clause-resources c =
     let p = c.args.inst.now in
     let entry = c.index-entries-at.result in
     let n = c.index-named.result.now in
     let is = found-there p c.args.entries.now c.args.found.now.named.items c.args.found.now.given.items c.loop-at.at
     entry
     n c.requires.each c.requires.many c.loop-at-test.true c.index-entries-at.is c.index-named.ensures in
-    ap (map (resource_of p)) c.as_slice-resources.ensures ∙ is.resources
+    is.resources
     ∙ ap (map (λ x. Some x)) (sym (c.resources_at-given.ensures
     ∙ ap (λ xs. take (length entry.resources) (drop n.first xs)) c.as_slice.ensures.value))
 
@@ -113,20 +113,19 @@ loop-at-preserved c =
     let meet_is : meet_of e (slot, part_of p event is.next.entry) ≡ meet =
     λ k. record { meet = record { 0 = slot }; event = record { 0 = e }; duration = lasts k; start = starts k }
     in
-    let given : c.as_slice-resources.result.now ≡ is.next.entry.resources =
-    c.as_slice-resources.ensures ∙ ap (λ (x : RawEntry). x.resources) (sym is.same) in
+    let given : entry.resources ≡ is.next.entry.resources = ap (λ (x : RawEntry). x.resources) (sym is.same) in
     let room : at < length nexts = omega (arith, c.loop-at-test.true, c.requires.nexts) in
     let next : c.index-at-in-loop-at.result.now ≡ get_or nexts at 0 =
     c.index-at-in-loop-at.ensures ∙ get_or_default nexts at c.index-at-in-loop-at.result.now 0 room in
-    let more = left-more p entries nexts event e at slot left meets c.push_meet.new.timetable.meets tasks
-    c.push_meet.new.timetable.tasks old.tasks old.meets inv is.next positive
-    (c.in_ok-push_meet.ensures.meets ∙ ap (λ m. meets ++ m ∷ []) (sym meet_is))
-    (c.in_ok-push_meet.ensures.tasks ∙ ap (λ g. tasks ++ map (task_of p slot g) (enumerate_from 0 event.places)) given)
+    let more = left-more p entries nexts event e at slot left meets c.push_entry.new.timetable.meets tasks
+    c.push_entry.new.timetable.tasks old.tasks old.meets inv is.next positive
+    (c.in_ok-push_entry.ensures.meets ∙ ap (λ m. meets ++ m ∷ []) (sym meet_is))
+    (c.in_ok-push_entry.ensures.tasks ∙ ap (λ g. tasks ++ map (task_of p slot g) (enumerate_from 0 event.places)) given)
     in
-    subst (λ n. IsLeft p entries nexts event e n (slot + 1) (left - d) c.push_meet.new.timetable.meets
-    c.push_meet.new.timetable.tasks old.meets old.tasks) (sym next)
+    subst (λ n. IsLeft p entries nexts event e n (slot + 1) (left - d) c.push_entry.new.timetable.meets
+    c.push_entry.new.timetable.tasks old.meets old.tasks) (sym next)
     (subst (λ k. IsLeft p entries nexts event e (get_or nexts at 0) (slot + 1) (left - k)
-    c.push_meet.new.timetable.meets c.push_meet.new.timetable.tasks old.meets old.tasks) lasts more)
+    c.push_entry.new.timetable.meets c.push_entry.new.timetable.tasks old.meets old.tasks) lasts more)
 
 pub loop-at-smaller : goal.loop-at-smaller
 loop-at-smaller c =

@@ -1,5 +1,5 @@
 -- One more role, or none.
-use Rattle.std.proofs.Common.{◌++◌, ◌∷◌, [], subst, sym, map, take, ap, ◌∙◌}
+use Rattle.std.proofs.Common.{subst, sym, map, take}
 use Rattle.xhstt_completion.specs.Entries.{role_of}
 use Rattle.xhstt_completion.specs.Tables.{Finds}
 use Rattle.xhstt_completion.proofs.TableLemmas.{mapped-next, mapped-long}
@@ -11,7 +11,6 @@ loop-number-preserved c =
     let i = c.loop-number.number in
     let one = c.index-given-number.result in
     let before = map role_of (take i given) in
-    subst (Finds c.push.new.self)
-    (ap (λ r. before ++ r ∷ []) c.role_of.ensures
-    ∙ sym (mapped-next role_of given i one c.loop-number-test.true c.index-given-number.is))
-    (c.in_ok-push.ensures before (mapped-long role_of given i c.loop-number-test.true) c.loop-number.invariant)
+    subst (Finds c.push_given.new.table)
+    (sym (mapped-next role_of given i one c.loop-number-test.true c.index-given-number.is))
+    (c.in_ok-push_given.ensures before (mapped-long role_of given i c.loop-number-test.true) c.loop-number.invariant)

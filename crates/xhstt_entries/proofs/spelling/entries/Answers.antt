@@ -77,7 +77,7 @@ loop-meet-preserved c =
     let here = drop_more xs i _ c.loop-meet-test.true in
     let places = places_there p.events _ _ c.event.result.now c.event.ensures c.len-places.ensures in
     record {
-      made = rw (c.in_ok-push.ensures.ok, c.in_ok-entry.ensures, c.split_at.ensures.front, c.split_at.ensures.back)
+      made = rw (c.in_ok-push.ensures.ok, c.in_ok-made.ensures, c.split_at.ensures.front, c.split_at.ensures.back)
           (one_more p xs i _ rest here c.loop-meet.invariant.stands _ places _ _ c.loop-meet.invariant.made);
       stands = rw c.split_at.ensures.back (stands_on p xs i _ rest here c.loop-meet.invariant.stands _ places);
       given = rw c.split_at.ensures.back (All-drop (IsGiven p) c.len-places.result rest c.loop-meet.invariant.given);

@@ -1,11 +1,9 @@
 -- A solution of an instance that is there, and one of none.
 use Rattle.std.proofs.Common.{◌≡◌, ◌∙◌, ◌<◌, ap, sym, length, get_or, map, Some, arith}
-use Rattle.std.specs.List.{flat_map}
 use Rattle.std.proofs.lemmas.List.{get_or-map, length-map}
 use Rattle.khe_base.specs.Names.{number_of}
 use Rattle.xhstt_references.specs.Directories.{named_by}
 use Rattle.xhstt_references.specs.First.{first_of}
-use Rattle.xhstt_references.specs.References.{unknown_in_entry}
 use Rattle.xhstt_references.proofs.FirstLemmas.{first_of_one}
 use Rattle.xhstt_references.proofs.UnknownLemmas.{number_below, solution_known, solution_unknown}
 use Rattle.xhstt_references.proofs.solutions.add_number.Goals as goal
@@ -41,7 +39,6 @@ returns-in_ok-push-in-Some-clause-first c =
     let at : d ≡ get_or directories n d = ap named_by c.index-made-number.is
     ∙ sym (get_or-map named_by made n p d within) in
     c.note_entries.ensures
-    ∙ ap (λ es. first_of c.args.first.now.at (flat_map (unknown_in_entry d) es)) c.as_slice.ensures
     ∙ ap (first_of c.args.first.now.at) (sym (solution_known ids directories solution n d found below at))
 
 pub returns-in-None-clause-first : goal.returns-in-None-clause-first

@@ -1,5 +1,5 @@
 -- What was noted so far, and then what the entries that are left give, is what all give.
-use Rattle.std.proofs.Common.{◌≡◌, drop}
+use Rattle.std.proofs.Common.{◌≡◌, length}
 use Rattle.std.specs.List.{flat_map}
 use Rattle.xhstt_references.specs.Directories.{named_by}
 use Rattle.xhstt_references.specs.First.{first_of}
@@ -8,5 +8,8 @@ use Rattle.xhstt_references.proofs.solutions.note_entries.Given as goal
 
 abbrev pub invariant-loop-entry : goal.invariant-loop-entry
 invariant-loop-entry l =
-    first_of l.first.at (flat_map (unknown_in_entry (named_by l.instance)) (drop l.entry-index l.entries))
+    first_of l.first.at (flat_map (unknown_in_entry (named_by l.instance)) l.rest)
     ≡ first_of l.fn.first.at (flat_map (unknown_in_entry (named_by l.instance)) l.entries)
+
+abbrev pub decreases-loop-entry : goal.decreases-loop-entry
+decreases-loop-entry l = length l.rest

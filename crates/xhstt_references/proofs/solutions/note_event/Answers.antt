@@ -6,4 +6,4 @@ use Rattle.xhstt_references.proofs.solutions.note_event.Goals as goal
 
 pub returns : goal.returns
 returns c = c.note_unless.ensures (map (λ e. e.id) c.args.instance.now.events)
-    (c.is_some-known.ensures ∙ ap is_some c.event_named.ensures ∙ is_some_map _ _)
+    (c.is_some-known.ensures ∙ ap is_some c.event_spelled.ensures ∙ is_some_map _ _)

@@ -6,4 +6,4 @@ use Rattle.xhstt_references.proofs.solutions.note_resource.Goals as goal
 
 pub returns : goal.returns
 returns c = c.note_unless.ensures (map (λ r. r.id) c.args.instance.now.resources)
-    (c.is_some-known.ensures ∙ ap is_some c.resource_named.ensures ∙ is_some_map _ _)
+    (c.is_some-known.ensures ∙ ap is_some c.resource_spelled.ensures ∙ is_some_map _ _)
