@@ -1,4 +1,5 @@
--- What an archive that was read begins with: one of its solutions, completed, or why there is none.
+-- What a script or a repair begins with: the completed solution with a number and its instance, or why there is
+-- none.
 use Rattle.std.specs.Prelude.{ℕ, ◌≡◌, Result, Ok, Err, slice_get}
 use Rattle.std.specs.Option.{option_map_or}
 use Rattle.archive_reading.specs.Reading.{Reading, evaluable, refused}

@@ -1,4 +1,5 @@
--- What a caller knows of an engine on a timetable.
+-- What a caller knows of an engine on a timetable: the totals of the state that it lists, and that others are no
+-- lower.
 use Rattle.std.specs.Prelude.{◌≡◌, ◌∷◌, List, false}
 use Rattle.khe_base.specs.Totals.{is_lower}
 use Rattle.khe_base.specs.declared.sums.Totals.{Totals}

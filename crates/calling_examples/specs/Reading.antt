@@ -1,4 +1,5 @@
--- What a caller knows of an archive that it read, and of what a solution costs.
+-- What a caller knows of an archive that it read: the one that the bytes spell, its first fault, and the totals of a
+-- solution.
 use Rattle.std.specs.Prelude.{ℕ, ◌≡◌, Some, Ok, List, slice_get}
 use Rattle.calling_examples.specs.declared.faults.ReadFault.{ReadFault}
 use Rattle.calling_examples.specs.declared.faults.ReadFault.TheVariants as told

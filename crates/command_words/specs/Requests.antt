@@ -1,4 +1,4 @@
--- What a request stands for.
+-- What a request stands for, and the ranges that its numbers keep.
 use Rattle.std.specs.Prelude.{ℕ, ◌≤◌, Option, Some, None}
 use Rattle.khe_base.specs.declared.limits.TheConstants.{CHAIN_MOVES, JOBS, WORKERS, MADE_EVENTS}
 use Rattle.command_words.specs.Words.{Asked, evaluating, scripting, checking, repairing, solving, matching, making, running, constructing}

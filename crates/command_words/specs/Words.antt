@@ -1,4 +1,5 @@
--- The words of the command line.
+-- What the words of the command line ask for: a command with its names, numbers and options, each number in its
+-- range and each option at most once. Other words ask for nothing.
 use Rattle.std.specs.Prelude.{ℕ, ◌&&◌, ◌==◌, Bool, true, false, if◌then◌else◌, nat_le, nat_lt, Option, Some}
 use Rattle.std.specs.Prelude.{None, List, [], ◌∷◌}
 use Rattle.std.specs.Prelude.{codes, length}

@@ -1,4 +1,4 @@
--- Tables by event: the bounds to its meets, and how many meets it has.
+-- Tables by event: the bounds to its meets, and how many meets it gets.
 use Rattle.std.specs.Prelude.{ℕ, ◌≡◌, Some, List, drop, length, slice_get}
 use Rattle.std.specs.List.{filter_map, fold}
 use Rattle.std.specs.Option.{option_map, option_map_or}

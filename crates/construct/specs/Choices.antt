@@ -1,4 +1,4 @@
--- Which of some edits leaves the least totals.
+-- The first of some accepted edits that leaves the least totals, if these are lower than the present ones.
 use Rattle.std.specs.Prelude.{ℕ, ◌≡◌, Bool, true, is_none, if◌then◌else◌, Option, Some, None, List, [], ◌∷◌, map, length}
 use Rattle.std.specs.List.{filter, range_with_len}
 use Rattle.std.specs.Option.{option_and_then, option_map_or}

@@ -1,4 +1,5 @@
--- The timetable that is constructed.
+-- The timetable that is constructed: each meet in turn takes its best start, then each task its best resource, each
+-- in the state that the turns before it leave.
 use Rattle.std.specs.Prelude.{ℕ, ◌≡◌, List}
 use Rattle.std.specs.List.{fold}
 use Rattle.construct.specs.Begun.{begun}

@@ -1,4 +1,5 @@
--- Into how many meets an event is cut, and how long each of them is.
+-- An event without a preassigned time is cut into the least number of meets with which durations can keep the bounds
+-- of all its Split Events constraints, the longer first; where there is none it stays whole.
 use Rattle.std.specs.Prelude.{ℕ, ◌+◌, ◌*◌, ◌/◌, ◌%◌, ◌==◌, Bool, false, ◌&&◌, nat_le, nat_lt, min, max, if◌then◌else◌}
 use Rattle.std.specs.Prelude.{◌≤◌, Option, Some, None, is_some, List, map, slice_get, length, All}
 use Rattle.std.specs.List.{filter_map, find, fold, range_with_len}

@@ -1,4 +1,5 @@
--- What a construction is written as, and what a repair of it is.
+-- The text of a construction: the archive with the timetable as its only solution, and the line on it; and the same
+-- of a repair of it.
 use Rattle.std.specs.Prelude.{ℕ, ◌≡◌, Option, Some, None, List, ◌++◌, length, encode_utf8_all}
 use Rattle.construct.specs.Constructed.{IsBuilt}
 use Rattle.construct.specs.declared.built.Built.{Built}

@@ -1,4 +1,4 @@
--- Which demand has which supply.
+-- Which demand has which supply: an assignment gives demands supplies of their own, and leaves some demands out.
 use Rattle.std.specs.Prelude.{ℕ, ◌<◌, ◌≡◌, Bool, true, Option, Some}
 
 -- demands below n and supplies below m, which supplies a demand may have, and who has which: each

@@ -1,4 +1,4 @@
--- How many numbers below a bound pass a test, and whether one does.
+-- How many numbers below a bound pass a test.
 use Rattle.std.specs.Prelude.{ℕ, ◌+◌, zero, suc, Bool, false, ◌||◌, if◌then◌else◌}
 
 -- how many of the numbers below n pass the test

@@ -1,4 +1,5 @@
--- The supplies that a demand may have: a supply is a resource at a time.
+-- A supply is a resource at a time. A demand may have the supplies of its domain: a resource or a set of them, at a
+-- time or at a set of them moved by a shift.
 use Rattle.std.specs.Prelude.{ℕ, ◌-◌, ◌<◌, ◌==◌, nat_le, length, Bool, false, ◌&&◌, List, [], Option, Some, None}
 use Rattle.std.specs.Prelude.{is_some, slice_index_or, slice_set, IsTrue, replicate}
 use Rattle.demand_matching.specs.declared.domains.Pick.{Pick}

@@ -1,4 +1,5 @@
--- How far sets of demands exceed their supplies. A set of demands is a test of their numbers.
+-- The excess of a set of demands is how many they are less how many supplies any of them may have. The deficit is
+-- the greatest excess. A Hall set has that excess and is contained in each set that has it.
 use Rattle.std.specs.Prelude.{ℕ, ◌+◌, ◌≤◌, ◌≡◌, length, Bool, ◌&&◌, Option, Some, is_none, IsTrue}
 use Rattle.demand_matching.specs.Counts.{count_below, any_below, sum_below}
 use Rattle.demand_matching.specs.Domains.{Domains, is_present, may_have}

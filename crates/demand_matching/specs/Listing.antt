@@ -1,4 +1,4 @@
--- The demands that are left out come first in an order.
+-- An order of the demands in which those left out come first.
 use Rattle.std.specs.Prelude.{ℕ, ◌<◌, ◌≤◌, ◌≡◌, ◌≢◌, true, false, length, None, is_none, slice_index}
 use Rattle.demand_matching.specs.declared.table.Table.{Table}
 use Rattle.demand_matching.specs.declared.order.Order.{Order}

@@ -1,4 +1,4 @@
--- What holds of a matching whenever it is not at work: it is a maximum.
+-- A matching at rest is a maximum: no more demands could be served.
 use Rattle.std.specs.Prelude.{ℕ, ◌<◌, ◌≤◌, ◌≡◌, true, List, slice_index}
 use Rattle.demand_matching.specs.declared.table.Table.{Table}
 use Rattle.demand_matching.specs.declared.order.Order.{Order}

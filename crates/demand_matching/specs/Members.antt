@@ -1,4 +1,4 @@
--- The numbers of a pick, in order, and in words of 64.
+-- The numbers below a bound that pass a test, in order.
 use Rattle.std.specs.Prelude.{ℕ, ◌+◌, ◌/◌, Bool, List, [], ◌∷◌, length, slice_index_or}
 use Rattle.khe_base.specs.Bits.{words_for}
 use Rattle.khe_base.specs.IdSet.{members_of}

@@ -1,4 +1,4 @@
--- The demands in an order, and at which place of it each stands.
+-- The demands in an order, and the place of each in it.
 use Rattle.std.specs.Prelude.{ℕ, ◌<◌, ◌≡◌, ◌≢◌, List, length, slice_index, Bool, ◌&&◌, nat_lt}
 
 -- the order has each number below n once, and the spots say at which place each stands

@@ -1,4 +1,4 @@
--- The demands that are reached from those left out: one from another that may have its supply.
+-- The demands that are reached from those left out, from one to another that has a supply which it may have.
 use Rattle.std.specs.Prelude.{ℕ, ◌<◌, ◌≤◌, ◌≡◌, ◌≢◌, Bool, true, length, List, None, Some, slice_index}
 use Rattle.khe_base.specs.IdSet.{has_member}
 use Rattle.demand_matching.specs.declared.reach.Reach.{Reach}

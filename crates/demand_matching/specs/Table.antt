@@ -1,4 +1,4 @@
--- The domains of a table, and who has which supply in it.
+-- The domains of all demands, and which demand has which supply.
 use Rattle.std.specs.Prelude.{ℕ, ◌*◌, ◌/◌, ◌%◌, ◌^◌, ◌<◌, ◌≤◌, ◌≡◌, Bool, true, length, is_none, Option, Some, None}
 use Rattle.std.specs.Prelude.{slice_index_or}
 use Rattle.khe_base.specs.Bits.{is_set}

@@ -1,5 +1,5 @@
--- The forms of lines: which one a first word names, and what its lines ask for with the numbers after it. The table
--- of the forms is the constant FORMS, beside the commands.
+-- The form of lines that a first word names: how many numbers follow it, and what the line asks for. The table is
+-- the constant FORMS of the code, which code and definitions both read.
 use Rattle.std.specs.Prelude.{ℕ, ◌==◌, Bool, if◌then◌else◌, Option, List, [], ◌∷◌, get_or}
 use Rattle.std.specs.List.{find}
 use Rattle.std.specs.Str.{bytes_eq}

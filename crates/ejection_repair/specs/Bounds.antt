@@ -1,4 +1,4 @@
--- How many chains there are at most.
+-- The most moves of a list, the most chains up to a length, and the bound on tries that follows.
 use Rattle.std.specs.Prelude.{ℕ, zero, suc, ◌+◌, ◌*◌, ◌≤◌, length}
 use Rattle.khe_instance.specs.declared.parts.Parts.{Parts}
 use Rattle.repair_moves.specs.Items.{meet_slots, task_slots}

@@ -1,4 +1,5 @@
--- Chains of moves, in the order in which they are tried.
+-- All chains of at most some moves, in the order in which they are tried: a chain before its extensions, otherwise
+-- by defects and then by moves, each list begun at the diversifier's place and taken round.
 use Rattle.std.specs.Prelude.{ℕ, zero, suc, ◌%◌, List, [], ◌∷◌, ◌++◌, length, take, drop}
 use Rattle.std.specs.List.{filter, flat_map}
 use Rattle.std.specs.Option.{option_map_or}

@@ -1,4 +1,4 @@
--- Moves of one meet, or of one task, that are tried while it is lifted.
+-- Moves of one meet or task that are tried while it is lifted.
 use Rattle.std.specs.Prelude.{ℕ, ◌≡◌, ◌≤◌, true, Option, Some, None, List, [], ◌++◌, All, length, take}
 use Rattle.std.specs.List.{filter}
 use Rattle.khe_instance.specs.declared.parts.Parts.{Parts}

@@ -1,4 +1,4 @@
--- Looking at chains in order, for the first that leaves lower totals.
+-- A look at chains in order, for the first that leaves lower totals.
 use Rattle.std.specs.Prelude.{ℕ, zero, suc, ◌≡◌, if◌then◌else◌, List, [], ◌∷◌}
 use Rattle.khe_base.specs.declared.sums.Totals.{Totals}
 use Rattle.khe_instance.specs.declared.parts.Parts.{Parts}

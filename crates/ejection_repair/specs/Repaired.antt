@@ -1,4 +1,5 @@
--- What repair comes to.
+-- What a repair comes to. The first chain that leaves lower totals is taken, and the trials begin again; it ends
+-- where none does, or where one more than the budget would be tried.
 use Rattle.std.specs.Prelude.{ℕ, zero, suc, ◌≡◌, ◌+◌, ◌-◌, ◌≤◌, ◌<◌, if◌then◌else◌, List, [], ◌∷◌, ◌++◌, map}
 use Rattle.khe_instance.specs.declared.parts.Parts.{Parts}
 use Rattle.khe_engine.specs.States.{State}

@@ -1,4 +1,5 @@
--- What is true of a repaired state.
+-- A state is settled to a length where no chain of at most that many moves leaves lower totals, whatever the order.
+-- And what an outcome of a repair says of its state.
 use Rattle.std.specs.Prelude.{ℕ, ◌≡◌, ◌<◌, ◌≤◌, ◌⊎◌, true, false, List, [], ◌∷◌, length, Option, Some, None}
 use Rattle.khe_instance.specs.declared.parts.Parts.{Parts}
 use Rattle.khe_told.specs.declared.edits.Edit.{Edit}

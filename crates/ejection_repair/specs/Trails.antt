@@ -1,4 +1,4 @@
--- The meets and tasks that the moves of a chain moved.
+-- The meets and tasks that a chain moved; none may be moved twice.
 use Rattle.std.specs.Prelude.{◌==◌, ◌&&◌, Bool, false, not, List, take}
 use Rattle.std.specs.List.{list_any}
 use Rattle.khe_told.specs.declared.edits.Edit.{Edit}

@@ -1,4 +1,4 @@
--- What a state costs, and its defects.
+-- The totals of a state, and its defects in order.
 use Rattle.std.specs.Prelude.{ℕ, Bool, List, length}
 use Rattle.khe_base.specs.Totals.{is_lower}
 use Rattle.khe_base.specs.declared.sums.Totals.{Totals}

@@ -1,4 +1,4 @@
--- What states cost at most. The greatest values are those of khe_base, which the limits give.
+-- The greatest costs, totals and group costs that a state may have, which the limits give.
 use Rattle.std.specs.Prelude.{ℕ, ◌≤◌, List, slice_index}
 use Rattle.khe_base.specs.declared.limits.TheConstants.{GREATEST_COST, GREATEST_DEVIATION, GREATEST_TOTAL}
 use Rattle.khe_base.specs.declared.sums.Totals.{Totals}

@@ -1,4 +1,4 @@
--- What the tests keep of a matching.
+-- What the tests keep of a matching, as plain lists.
 use Rattle.std.specs.Prelude.{ℕ, ◌≡◌, length}
 use Rattle.demand_matching.specs.Domains.{Domains}
 

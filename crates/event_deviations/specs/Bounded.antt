@@ -1,5 +1,4 @@
--- What bounds the deviations at an event: its meets last no longer together than it does, and each
--- stands within the times.
+-- Bounds on what is at an event: its meets together last no longer than it does, and each stands within the times.
 use Rattle.std.specs.Prelude.{ℕ, ◌+◌, ◌≤◌, List, All, IfSome}
 use Rattle.std.specs.List.{sum_by}
 use Rattle.khe_instance.specs.declared.states.Meet.{Meet}

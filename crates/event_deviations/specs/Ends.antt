@@ -1,4 +1,4 @@
--- The greatest and the least of a list.
+-- The greatest and the least number of a list.
 use Rattle.std.specs.Prelude.{ℕ, max, min, Option, Some, None, List, [], ◌∷◌}
 use Rattle.std.specs.List.{fold}
 

@@ -1,4 +1,4 @@
--- The deviations at an event group by the list of its events.
+-- The deviations at an event group, by the list of its events.
 use Rattle.std.specs.Prelude.{ℕ, Bool, not, ◌&&◌, List, count_by}
 use Rattle.std.specs.List.{list_any, list_all, sum_by, range_with_len}
 use Rattle.khe_base.specs.Bounds.{count_outside}

@@ -1,4 +1,4 @@
--- How marks of times tell at which times events run.
+-- Marks of times that tell when the events of a group run.
 use Rattle.std.specs.Prelude.{ℕ, ◌+◌, ◌≡◌, ◌==◌, Bool, ◌&&◌, ◌||◌, nat_le, nat_lt, List, slice_index, count_by}
 use Rattle.std.specs.Prelude.{if◌then◌else◌}
 use Rattle.event_deviations.specs.Marked.{is_marked}

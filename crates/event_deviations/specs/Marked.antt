@@ -1,4 +1,4 @@
--- Counts of numbers, and which of them were marked.
+-- Counts of numbers, and which of the numbers were marked.
 use Rattle.std.specs.Prelude.{ℕ, ◌≡◌, ◌<◌, ◌==◌, Bool, true, nat_lt, if◌then◌else◌, List, length, slice_index}
 use Rattle.std.specs.Prelude.{All, count_by}
 use Rattle.std.specs.List.{list_any, sum_by, range_with_len}

@@ -1,4 +1,4 @@
--- What the room for looks at groups is made for.
+-- The room that is lent for looking at event groups: how many resources and how many times it serves.
 use Rattle.std.specs.Prelude.{ℕ, length}
 use Rattle.khe_instance.specs.declared.parts.Parts.{Parts}
 

@@ -1,4 +1,4 @@
--- What a short list has: nothing, one item, or the items of a longer list.
+-- A list of nothing, of one item, or of more, as it is kept.
 use Rattle.std.specs.Prelude.{List, [], ◌∷◌}
 use Rattle.event_deviations.specs.declared.short_lists.Kept.{Kept}
 use Rattle.event_deviations.specs.declared.short_lists.Kept.TheVariants.{Nothing, One, More}

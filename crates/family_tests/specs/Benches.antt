@@ -1,4 +1,4 @@
--- What the benches of the tests keep.
+-- A family beside the deviations that were measured, so that a test can ask whether a change fits.
 use Rattle.std.specs.Prelude.{ℕ, ◌≡◌, ◌<◌, Bool, true, false, Option, Some, None, List, length, slice_get, slice_index}
 use Rattle.khe_base.specs.declared.numbers.ResourceId.{ResourceId}
 use Rattle.khe_base.specs.declared.numbers.TimeId.{TimeId}

@@ -1,4 +1,4 @@
--- What the bytes of an archive lead to, by the rows of faults and by the grammar of texts.
+-- What the bytes of an archive lead to, by the rows of faults and by what the grammar says that each text means.
 use Rattle.std.specs.Prelude.{ℕ, ◌≡◌, ◌<◌, ◌≤◌, ◌⊎◌, ◌↔◌, Some, List, length}
 use Rattle.khe_base.specs.Text.{text_of}
 use Rattle.khe_base.specs.declared.limits.TheConstants.{ARCHIVE_BYTES}

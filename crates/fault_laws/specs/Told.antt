@@ -1,4 +1,4 @@
--- What the program tells, by the rows of faults and by the grammar of texts.
+-- What each command makes of such a reading, in one table.
 use Rattle.std.specs.Prelude.{ℕ, ◌≡◌, ◌≤◌, ◌↔◌, Option, Some, List, length, encode_utf8_all}
 use Rattle.khe_base.specs.declared.limits.TheConstants.{ARCHIVE_BYTES}
 use Rattle.fault_laws.specs.Readings.{IsReadingByRows}

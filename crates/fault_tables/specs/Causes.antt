@@ -1,4 +1,4 @@
--- The causes for which an entry of a solution is invalid.
+-- The seven causes for which a solution is invalid, each with its number and its name.
 use Rattle.std.specs.Prelude.{ℕ, Option, List, [], ◌∷◌, codes}
 use Rattle.fault_tables.specs.Tables.{said_of}
 use Rattle.fault_tables.specs.declared.causes.TheConstants.{TOO_LONG, SPLIT_FIXED, FIXED_TIME, OFF_END, BAD_ROLE}

@@ -1,5 +1,5 @@
--- The kinds of faults for which an archive is refused: those at a byte of its text, of the shape of its
--- elements and of its names and references, and those of the whole.
+-- The kinds of faults for which an archive is refused, each with its number and its name: of the text, of the
+-- elements, of names and references, and of the whole.
 use Rattle.std.specs.Prelude.{ℕ, Option, List, [], ◌∷◌, codes}
 use Rattle.fault_tables.specs.Tables.{said_of}
 use Rattle.fault_tables.specs.declared.faults.TheConstants.{NOT_UTF8, BAD_MARKUP, MISMATCHED_END, BAD_REFERENCE}

@@ -1,4 +1,4 @@
--- The limits on the sizes of an archive, in the order of their numbers.
+-- The limits on the sizes of an archive, each with its number, its name, and the greatest value that keeps it.
 use Rattle.std.specs.Prelude.{ℕ, Option, List, [], ◌∷◌, codes}
 use Rattle.std.specs.Option.{option_map}
 use Rattle.khe_base.specs.declared.limits.TheConstants.{TIMES, TIME_GROUPS, RESOURCE_TYPES, RESOURCES, RESOURCE_GROUPS}

@@ -1,4 +1,4 @@
--- What an error tells where memory may be refused.
+-- An error tells exactly what stands, unless it only tells that memory was refused.
 use Rattle.std.specs.Prelude.{Option, IfSome}
 
 -- exact unless memory ran out: what an error tells stands, and it tells nothing where memory was refused

@@ -1,4 +1,4 @@
--- Why ties refuse an edit of live meets, whatever else would refuse it.
+-- What ties alone refuse of an edit, whatever else would refuse it.
 use Rattle.std.specs.Prelude.{◌&&◌, Bool, if◌then◌else◌, Option, None, List, [], ◌∷◌}
 use Rattle.khe_base.specs.declared.numbers.MeetId.{MeetId}
 use Rattle.khe_told.specs.Slots.{is_live, slot_at}

@@ -1,4 +1,4 @@
--- Meets that get a start, one after the other.
+-- Followers that get the starts that their ties give them, one after the other.
 use Rattle.std.specs.Prelude.{ℕ, ◌≡◌, ◌≢◌, ◌+◌, ◌==◌, ◌≤◌, true, false, if◌then◌else◌, Option, Some, None, List, length, IfSome}
 use Rattle.khe_base.specs.declared.numbers.TimeId.{TimeId}
 use Rattle.khe_instance.specs.declared.parts.Parts.{Parts}

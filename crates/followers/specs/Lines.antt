@@ -1,4 +1,4 @@
--- What a line of a script with ties says: that of a script without them, but for three commands more.
+-- What a line of a script with ties says: one of three commands on ties, or what it says in a script without them.
 use Rattle.std.specs.Prelude.{ℕ, ◌==◌, Bool, if◌then◌else◌, Option, Some, None, Result, Ok, Err, List, [], ◌∷◌, codes, get_or, length}
 use Rattle.std.specs.Option.{option_map_or}
 use Rattle.std.specs.Str.{bytes_eq}

@@ -1,4 +1,4 @@
--- How the followers of a meet are found one after the other.
+-- The followers of a meet as a row in which each leads to the next and back to the one before.
 use Rattle.std.specs.Prelude.{ℕ, ◌≡◌, ◌+◌, ◌<◌, ◌==◌, true, if◌then◌else◌, Option, List, [], ◌∷◌, length, slice_index_or}
 use Rattle.followers.specs.Ties.{is_to, tie_at}
 use Rattle.followers.specs.declared.edits.Tie.{Tie}

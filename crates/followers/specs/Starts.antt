@@ -1,4 +1,4 @@
--- The three edits that give one meet another start, or take it.
+-- The three edits that give one meet another start, or take it away.
 use Rattle.std.specs.Prelude.{◌≡◌, Option, Some, None, Result, Ok, Err}
 use Rattle.khe_base.specs.declared.numbers.MeetId.{MeetId}
 use Rattle.khe_base.specs.declared.numbers.TimeId.{TimeId}

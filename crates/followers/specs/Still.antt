@@ -1,4 +1,4 @@
--- The edits that move no meet: where they are accepted, those that follow or lead stay as they are.
+-- Edits that move no meet leave followers and leaders where they are.
 use Rattle.std.specs.Prelude.{Bool, true, false}
 use Rattle.khe_told.specs.declared.edits.Edit.{Edit}
 use Rattle.khe_told.specs.declared.edits.Edit.TheVariants.{Assign, Unassign, MoveTo, SwapMeets}

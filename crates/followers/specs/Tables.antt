@@ -1,5 +1,5 @@
--- Why an edit of a tied state is refused, and what an accepted one makes of it: what the engine's table
--- says, with the tests of ties in the rows of seven edits, and then each follower at its place.
+-- Edits of a tied state: why each is refused, by the engine's row with the tests of ties put in, and the state after
+-- it, which is the engine's with each follower then at its place.
 use Rattle.std.specs.Prelude.{ℕ, ◌+◌, ◌==◌, Bool, not, nat_lt, if◌then◌else◌, Option, Some, None, List, [], ◌∷◌, ◌++◌}
 use Rattle.std.specs.Prelude.{drop, map, slice_set, take}
 use Rattle.std.specs.Option.{option_map}

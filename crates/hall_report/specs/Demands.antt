@@ -1,5 +1,6 @@
--- The demands of a told state, in order, and the supplies that each may have. A supply is a resource
--- at a time.
+-- The demands of a told state: one for each task and each time of its meet, by meet, place and offset, and then one
+-- for each resource and each time at which it is to be free. A task's demand may have what is given to it, or else
+-- all that the strict constraints leave open.
 use Rattle.std.specs.Prelude.{ℕ, ◌-◌, ◌+◌, ◌==◌, ◌≡◌, Bool, false, ◌&&◌, nat_le, if◌then◌else◌, Option, Some, List, []}
 use Rattle.std.specs.Prelude.{◌∷◌, ◌++◌, map, length, slice_get}
 use Rattle.std.specs.List.{filter, flat_map, range_with_len}

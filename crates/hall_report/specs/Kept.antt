@@ -1,4 +1,4 @@
--- What demands keep beside the told state: the domain of each demand under its number.
+-- How demands are kept beside the told state: the domain of each under its number.
 use Rattle.std.specs.Prelude.{ℕ, ◌+◌, ◌/◌, ◌%◌, ◌≡◌, ◌<◌, ◌≤◌, true, Some, List, map, length, slice_index_or}
 use Rattle.khe_base.specs.declared.limits.TheConstants.{CELLS}
 use Rattle.khe_instance.specs.WellMade.{AreWellMade}

@@ -1,4 +1,4 @@
--- What it takes to list the demands whose numbers are marked.
+-- The demands whose numbers are marked, as they are listed.
 use Rattle.std.specs.Prelude.{ℕ, ◌+◌, ◌^◌, ◌<◌, ◌≡◌, Bool, List, length}
 use Rattle.demand_matching.specs.Domains.{Domains}
 use Rattle.khe_base.specs.IdSet.{has_member}

@@ -1,4 +1,4 @@
--- What the tables of a state without meets have while they are made.
+-- The tables of a state without meets, while they are made.
 use Rattle.std.specs.Prelude.{ℕ, ◌+◌, ◌-◌, ◌*◌, ◌≡◌, ◌==◌, ◌<◌, ◌≤◌, ◌⊎◌, Bool, false, ◌&&◌, ◌||◌, nat_le, Option, None}
 use Rattle.std.specs.Prelude.{Some, List, [], length, map, take, All, slice_get, slice_index_or}
 use Rattle.std.specs.List.{list_all, list_any}

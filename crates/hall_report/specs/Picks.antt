@@ -1,4 +1,4 @@
--- Which sets stand for the starts and the resources of demands, and the domains that name them.
+-- The sets of starts and of resources that domains name.
 use Rattle.std.specs.Prelude.{ℕ, ◌+◌, ◌-◌, ◌/◌, ◌%◌, ◌≡◌, ◌<◌, ◌≤◌, Bool, ◌&&◌, nat_le, Option, Some, List, length}
 use Rattle.std.specs.Prelude.{slice_get, slice_index_or}
 use Rattle.std.specs.Option.{option_map, option_map_or}

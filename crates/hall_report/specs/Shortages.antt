@@ -1,5 +1,5 @@
--- What is short in a told state: the greatest excess of a set of demands over the supplies that they
--- may have, over all sets, and the demands that are in every set which has it.
+-- What is short in a state. The deficit is the greatest excess over all sets of its demands, and the demands that
+-- compete are those in every set that has it. Where the deficit is 0 none compete.
 use Rattle.std.specs.Prelude.{ℕ, zero, suc, ◌+◌, ◌-◌, ◌==◌, ◌≡◌, ◌<◌, ◌^◌, max, Bool, true, false, not, ◌&&◌, ◌||◌, List, []}
 use Rattle.std.specs.Prelude.{◌∷◌, ◌++◌, map, length}
 use Rattle.std.specs.List.{list_all, list_any}

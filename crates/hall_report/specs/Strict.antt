@@ -1,5 +1,6 @@
--- What strict constraints leave open: a constraint is strict where it is required and has a weight
--- above 0. Which of its monitors are detached does not matter.
+-- What the strict constraints leave open: at which times a meet may start, which resources a place may be given, and
+-- when a resource is to be free. A constraint is strict where it is required and has a weight above 0, whether or
+-- not its monitors are detached.
 use Rattle.std.specs.Prelude.{ℕ, Bool, true, false, ◌&&◌, ◌==◌, nat_lt, if◌then◌else◌, Option, None, Some, slice_get}
 use Rattle.std.specs.List.{list_all, list_any}
 use Rattle.std.specs.Option.{option_and_then, option_map_or}

@@ -1,5 +1,5 @@
--- Units: an event has as many as times of its duration, with the numbers of its meet slots. A meet
--- holds one for each of its offsets, and the others are free.
+-- An event has as many units as times of its duration. A meet holds one for each of its times, and the others are
+-- free, so demands keep their numbers.
 use Rattle.std.specs.Prelude.{ℕ, zero, suc, ◌+◌, ◌*◌, ◌≡◌, ◌≢◌, ◌<◌, Some, List, length, slice_get, slice_index_or}
 use Rattle.std.specs.List.{sum_by}
 use Rattle.khe_instance.specs.Slots.{HasSlot, first_task}

@@ -1,4 +1,4 @@
--- What each call makes of what a handle keeps, and its status.
+-- What each call of `c/khe.h` makes of what a handle keeps, and its status.
 use Rattle.std.specs.Prelude.{◌≡◌, ◌++◌, ◌≤◌, ◌<◌, ◌⊎◌, ℕ, List, [], drop, length, encode_utf8_all, Option, None, Some}
 use Rattle.khe_base.specs.declared.limits.TheConstants.{ARCHIVE_BYTES}
 use Rattle.khe_base.specs.declared.sums.Totals.{Totals}

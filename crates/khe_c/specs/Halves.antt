@@ -1,4 +1,4 @@
--- Numbers of 128 bits as two words.
+-- A number of 128 bits as two words of 64.
 use Rattle.std.specs.Prelude.{◌+◌, ◌*◌, ◌^◌, ℕ}
 use Rattle.khe_base.specs.declared.sums.Totals.{Totals}
 use Rattle.khe_c.specs.declared.costs.Costs.{Costs}

@@ -1,4 +1,4 @@
--- What an open handle keeps.
+-- What an open handle keeps: a session, or none where it was refused, and the last answer.
 use Rattle.std.specs.Prelude.{ℕ, List, Option}
 use Rattle.khe_session.specs.States.{SessionState}
 

@@ -1,4 +1,5 @@
--- The numbers of the calls that fail, of a device in memory, and its counts.
+-- A device in memory fails at the calls whose numbers are listed; calls are counted from 1. Counts of calls and
+-- faults stop at the greatest value.
 use Rattle.std.specs.Prelude.{ℕ, ◌+◌, ◌-◌, ◌^◌, ◌==◌, List, Bool, ◌&&◌, if◌then◌else◌, min, nat_le, nat_lt}
 use Rattle.std.specs.List.{list_all, list_any}
 

@@ -1,4 +1,5 @@
--- What the clauses of shelves and sinks say of their counts of faults, and of what a sink took.
+-- A fault was counted where the count grew, or stood at its last value already. A sink took bytes where what it
+-- tells is what it told before and then these bytes.
 use Rattle.std.specs.Prelude.{◌≡◌, ℕ, ◌-◌, ◌^◌, ◌<◌, List, ◌++◌, Option, ◌⊎◌}
 use Rattle.std.specs.Option.{option_map}
 

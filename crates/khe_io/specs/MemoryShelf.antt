@@ -1,4 +1,5 @@
--- A shelf in memory as a value, and what each call answers and makes of it.
+-- A shelf in memory as a value: its files, its piece, the calls that fail, its counts, and what is left of the open
+-- file. And what each call answers and makes of it.
 use Rattle.std.specs.Prelude.{ℕ, Bool, ◌||◌, if◌then◌else◌, List, ◌++◌, length, take, drop, min, Option, None}
 use Rattle.std.specs.Prelude.{Some, is_none, is_some, IsTrue, IsSome, refl}
 use Rattle.std.specs.Option.{option_map, option_map_or}

@@ -1,5 +1,5 @@
--- What stands under the names of a shelf, and what a read gives. What a shelf holds is a function
--- from the bytes of a name to the bytes under it, or is not told at all.
+-- What a shelf holds is a function from the bytes of a name to the bytes under it, or is not told at all. A name is
+-- missing where the shelf tells that nothing stands under it.
 use Rattle.std.specs.Prelude.{◌≡◌, ℕ, ◌<◌, List, [], ◌++◌, length, Option, None, Some, IfSome, IsSomeAnd, ◌↔◌}
 use Rattle.std.specs.Option.{option_map}
 

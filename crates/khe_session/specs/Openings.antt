@@ -1,4 +1,4 @@
--- What a session begins with, and why there is none.
+-- The state that a session begins with, or the line that says why there is none.
 use Rattle.std.specs.Prelude.{ℕ, ◌≡◌, Option, None, Some, List, encode_utf8_all}
 use Rattle.archive_reading.specs.Reading.{IsReadingOf, Reading, evaluable}
 use Rattle.archive_reading.specs.Refusals.{refusal_line}

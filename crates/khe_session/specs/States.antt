@@ -1,4 +1,5 @@
--- What a session stands for, and what a line makes of it.
+-- What a session stands for: the archive without the solution's timetable, the instance, a play, and how many lines
+-- were answered. It stands for nothing once memory was refused.
 use Rattle.std.specs.Prelude.{ℕ, ◌≡◌, ◌+◌, ◌-◌, ◌^◌, Option, None, Some, List, [], ◌∷◌, slice_get}
 use Rattle.std.specs.Option.{option_map, option_and_then}
 use Rattle.khe_base.specs.declared.sums.Totals.{Totals}

@@ -1,4 +1,4 @@
--- How a run goes: what it plays on, and how many of its edits were accepted and how many refused.
+-- How a run goes: the state that it comes to, and how many of its edits were accepted and how many refused.
 use Rattle.std.specs.Prelude.{ℕ, ◌+◌, Option, Some, None, List, [], ◌∷◌}
 use Rattle.edit_script.specs.declared.commands.Command.{Command}
 use Rattle.edit_script.specs.declared.commands.Command.TheVariants as command

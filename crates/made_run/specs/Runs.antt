@@ -1,4 +1,4 @@
--- The run of a job on a timetable of its instance.
+-- The line on a run, by the commands drawn and the state that they leave.
 use Rattle.std.specs.Prelude.{ℕ, ◌≡◌, ◌≤◌, ◌<◌, ◌^◌, List}
 use Rattle.archive_generator.specs.Job.{slots}
 use Rattle.khe_engine.specs.Openings.{IsStateOf}

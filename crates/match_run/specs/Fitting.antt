@@ -1,4 +1,4 @@
--- A matching whose lists are as long as its costs say.
+-- A matching whose lists are as long as its costs.
 use Rattle.std.specs.Prelude.{◌≡◌, length}
 use Rattle.resource_match.specs.declared.choices.Costs.{Costs}
 use Rattle.time_match.specs.declared.outcomes.Matched.{Matched}

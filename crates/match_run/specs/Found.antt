@@ -1,4 +1,5 @@
--- What a matching of the tasks of one time leaves of a timetable.
+-- What a matching leaves: a certified choice with its prices, the timetable, and what that costs; or how many tasks
+-- are too many.
 use Rattle.std.specs.Prelude.{ℕ, ◌≡◌, ◌<◌, ◌≤◌, length}
 use Rattle.khe_engine.specs.Openings.{IsStateOf}
 use Rattle.khe_engine.specs.States.{State}

@@ -1,4 +1,5 @@
--- What a matching of the tasks of one time of a solution is written as.
+-- The text of a matching: the archive with what it leaves in place of the solution, and the lines with the choice
+-- and the prices. Any certified choice makes such a text.
 use Rattle.std.specs.Prelude.{ℕ, ◌≡◌, List, ◌++◌, encode_utf8_all}
 use Rattle.khe_instance.specs.declared.parts.Parts.{Parts}
 use Rattle.khe_instance.specs.declared.states.Plain.{Plain}

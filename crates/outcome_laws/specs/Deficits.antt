@@ -1,4 +1,4 @@
--- What a script answers to `deficit`.
+-- An answer to `deficit` that names demands which outnumber their supplies by just its number.
 use Rattle.std.specs.Prelude.{ℕ, ◌≡◌, ◌+◌, Bool, List, length}
 use Rattle.hall_report.specs.Shortages.{supplies_of}
 use Rattle.edit_script.specs.declared.commands.Command.TheVariants.{Ask}

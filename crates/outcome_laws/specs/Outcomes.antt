@@ -1,4 +1,5 @@
--- How many outcomes there are.
+-- Outcomes are one where their statuses and the bytes of their texts are the same. All words have one outcome but
+-- those of `match`, which leave a choice.
 use Rattle.std.specs.Prelude.{ℕ, ◌≡◌, Bool, true, false, Option, Some, List, encode_utf8_all}
 use Rattle.khe_app.specs.Outcome.{IsOutcome}
 use Rattle.command_words.specs.Words.{Asked, asked, is_read, matching}

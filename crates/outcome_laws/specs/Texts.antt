@@ -1,4 +1,4 @@
--- What is read of the texts that the program writes.
+-- What is read of the texts that `check`, `repair` and `solve` write.
 use Rattle.std.specs.Prelude.{ℕ, ◌≡◌, ◌≤◌, Option, Some, List, length, encode_utf8_all}
 use Rattle.khe_base.specs.declared.limits.TheConstants.{ARCHIVE_BYTES}
 use Rattle.khe_instance.specs.declared.parts.Parts.{Parts}

@@ -1,4 +1,4 @@
--- What the jobs of a solve come to.
+-- What job j of a solve comes to: a repair from the start with diversifier j.
 use Rattle.std.specs.Prelude.{ℕ, ◌≡◌, ◌≤◌, [], ◌∷◌}
 use Rattle.khe_base.specs.declared.limits.TheConstants.{CHAIN_MOVES}
 use Rattle.ejection_repair.specs.Repaired.{repaired}

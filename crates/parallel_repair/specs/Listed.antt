@@ -1,4 +1,4 @@
--- A state and its timetable as functions of each other.
+-- The state of a timetable and the timetable of a state, as functions of each other.
 use Rattle.std.specs.Prelude.{◌==◌, if◌then◌else◌, Some, List, [], ◌∷◌, map, length, take, drop}
 use Rattle.khe_engine.specs.Openings.{grouping_in}
 use Rattle.khe_engine.specs.States.{State}

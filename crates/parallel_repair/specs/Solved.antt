@@ -1,4 +1,4 @@
--- What all jobs come to.
+-- Each job ran, or was left out for a lower one that costs nothing; the answer is the result that comes first.
 use Rattle.std.specs.Prelude.{ℕ, ◌≡◌, ◌<◌, ◌⊎◌, false, List, length, slice_get, Some}
 use Rattle.parallel_repair.specs.Ranks.{is_before, CostsNothing}
 use Rattle.parallel_repair.specs.declared.answers.Answer.{Answer}

@@ -1,4 +1,4 @@
--- A worker's seat while it takes one number after another.
+-- A worker's seat while it takes one job after another.
 use Rattle.std.specs.Prelude.{ℕ, ◌≡◌, ◌+◌, ◌<◌, ◌≤◌, Bool, true, false, Option, List, [], ◌∷◌, ◌++◌, if◌then◌else◌}
 use Rattle.std.specs.Prelude.{length}
 use Rattle.solve_board.specs.Counts.{IsAmong}

@@ -1,4 +1,5 @@
--- Batches of solutions: some that follow one another, with their numbers.
+-- A batch is some solutions that follow one another, with their numbers. A window has the results of batches, each
+-- of which begins where the one before it ends.
 use Rattle.std.specs.Prelude.{ℕ, ◌≡◌, ◌+◌, ◌≤◌, ◌<◌, List, [], ◌∷◌, length, take, drop}
 use Rattle.std.specs.List.{enumerate_from}
 use Rattle.xhstt_shape.specs.declared.records.RawSolution.{RawSolution}

@@ -1,4 +1,4 @@
--- What comes of the solutions of an archive.
+-- What comes of a solution: the deviations, costs and totals of its state, or its first cause.
 use Rattle.std.specs.Prelude.{ℕ, Result, Ok, Err}
 use Rattle.std.specs.Option.{option_map_or}
 use Rattle.khe_instance.specs.Evaluated.{deviations, costs, totals}

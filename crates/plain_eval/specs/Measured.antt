@@ -1,4 +1,4 @@
--- The deviations of all monitors by meets and tasks.
+-- The deviations of all monitors, in their order, by meets and tasks.
 use Rattle.std.specs.Prelude.{ℕ, List, map}
 use Rattle.khe_instance.specs.Deviation.{deviation}
 use Rattle.khe_instance.specs.declared.parts.Parts.{Parts}

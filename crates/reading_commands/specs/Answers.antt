@@ -1,4 +1,4 @@
--- What is held of an archive before anything is written.
+-- What is held of an archive between reading and writing.
 use Rattle.std.specs.Prelude.{ℕ, ◌≡◌, Option, Some, None, List}
 use Rattle.archive_reading.specs.Reading.{Reading, evaluable, refused, IsReadingOf}
 use Rattle.archive_reading.specs.Ready.{IsReady}

@@ -1,4 +1,4 @@
--- What comes of an archive that is read: a status and a text, by what stands under its name.
+-- The status and the text of `evaluate` and of `check`, by what stands under the archive's name.
 use Rattle.std.specs.Prelude.{ℕ, ◌≡◌, Bool, Option, Some, None, List, [], encode_utf8_all}
 use Rattle.archive_reading.specs.Reading.{Reading, evaluable, refused, IsReadingOf}
 use Rattle.archive_reading.specs.Refusals.{refusal_line}

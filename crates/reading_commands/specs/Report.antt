@@ -1,4 +1,4 @@
--- The report of an archive.
+-- The report of an archive: the header, and for each solution its lines.
 use Rattle.std.specs.Prelude.{ℕ, ◌==◌, Bool, not, ◌&&◌, if◌then◌else◌, Result, Ok, Err, List, [], ◌∷◌, ◌++◌, length}
 use Rattle.std.specs.Prelude.{map}
 use Rattle.std.specs.Prelude.{◌+◌, slice_get}

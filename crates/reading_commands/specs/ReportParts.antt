@@ -1,4 +1,4 @@
--- What the windows of a report are made from.
+-- The parts that the windows of a report are made from.
 use Rattle.std.specs.Prelude.{◌≡◌, ◌<◌, ◌^◌, length, map}
 use Rattle.reading_commands.specs.Report.{group_ids}
 use Rattle.reading_commands.specs.declared.report_parts.ReportParts.{ReportParts}

@@ -1,4 +1,4 @@
--- What stands in a list of moves from a cursor's place on.
+-- What is left of a monitor's list of moves from a cursor on, in any state.
 use Rattle.std.specs.Prelude.{ℕ, ◌+◌, ◌^◌, ◌<◌, ◌≡◌, Option, Some, None, List, [], ◌∷◌, ◌++◌, drop, length, slice_get}
 use Rattle.std.specs.List.{flat_map}
 use Rattle.std.specs.Option.{option_map_or}

@@ -1,5 +1,4 @@
--- The meets and tasks that the moves of a monitor are of. Meets go by their slots, and tasks by task
--- slots, which ascend by meet slot and then by place.
+-- The meets and tasks that the moves of a monitor are of, in the order of their slots, each once.
 use Rattle.std.specs.Prelude.{ℕ, ◌*◌, ◌==◌, Bool, false, ◌&&◌, Option, None, List, length, slice_index_or}
 use Rattle.std.specs.List.{sum_by, list_any}
 use Rattle.khe_base.specs.declared.numbers.ResourceId.{ResourceId}

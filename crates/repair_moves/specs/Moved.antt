@@ -1,4 +1,4 @@
--- What an edit of meets and tasks moves, in the state before it.
+-- What an edit moves: a meet or a task, two of them, or a meet that is cut with its new one.
 use Rattle.std.specs.Prelude.{List, [], ◌∷◌}
 use Rattle.khe_told.specs.Slots.{slot_at}
 use Rattle.khe_told.specs.declared.edits.Edit.{Edit}

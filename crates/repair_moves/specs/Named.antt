@@ -1,4 +1,4 @@
--- The meets of the events that a point names, and the meet slots among which they are.
+-- The meets of the events that a point names.
 use Rattle.std.specs.Prelude.{ℕ, ◌≡◌, ◌+◌, ◌≤◌, Bool, true, ◌&&◌, Option, Some, None, List, slice_get}
 use Rattle.khe_base.specs.declared.numbers.ResourceId.{ResourceId}
 use Rattle.khe_instance.specs.Watching.{names_event}

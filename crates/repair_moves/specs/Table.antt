@@ -1,4 +1,5 @@
--- The table of the lists of moves: the parts of a kind, in the order in which they are tried.
+-- The parts of the list of moves of each kind, in order: times and swaps, cuts and joins, gives and trades, and the
+-- gives of a resource.
 use Rattle.std.specs.Prelude.{List, [], ◌∷◌}
 use Rattle.khe_instance.specs.declared.rules.Kind.{Kind}
 use Rattle.khe_instance.specs.declared.rules.Kind.TheVariants.{AssignTime, AssignResource, SplitEvents}

@@ -1,4 +1,4 @@
--- The first move of a meet or task and of a part, and what is left after it.
+-- How a list of moves is walked by one.
 use Rattle.std.specs.Prelude.{ℕ, ◌≡◌, true, Option, Some, None, List, [], ◌∷◌, MatchOption}
 use Rattle.khe_instance.specs.declared.parts.Parts.{Parts}
 use Rattle.khe_instance.specs.declared.points.Point.{Point}

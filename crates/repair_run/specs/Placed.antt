@@ -1,4 +1,4 @@
--- An archive in which a timetable takes the place of a solution.
+-- An archive with a timetable in place of one of its solutions.
 use Rattle.std.specs.Prelude.{ℕ, ◌≡◌, ◌<◌, ◌-◌, if◌then◌else◌, nat_lt, Some, List, [], ◌∷◌, length, slice_get}
 use Rattle.std.specs.Prelude.{slice_set}
 use Rattle.std.specs.List.{flat_map}

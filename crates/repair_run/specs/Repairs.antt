@@ -1,4 +1,5 @@
--- What a repair of a solution is written as.
+-- The text of a repair: the archive in its canonical spelling with the repaired timetable in place of the solution,
+-- and the line on the repair.
 use Rattle.std.specs.Prelude.{ℕ, ◌≡◌, List, ◌++◌, encode_utf8_all}
 use Rattle.ejection_repair.specs.Repaired.{repaired}
 use Rattle.khe_engine.specs.Openings.{IsStateOf}

@@ -1,4 +1,4 @@
--- What many repairs of a solution are written as.
+-- The text of many repairs: the archive with their least result in place of the solution, and the line on its job.
 use Rattle.std.specs.Prelude.{ℕ, ◌≡◌, List, ◌++◌, encode_utf8_all}
 use Rattle.khe_instance.specs.declared.parts.Parts.{Parts}
 use Rattle.khe_instance.specs.declared.states.Plain.{Plain}

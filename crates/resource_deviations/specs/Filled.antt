@@ -1,5 +1,4 @@
--- What is added up of the tasks of each resource, in the rows of a table in which only resources with a task
--- have a row of their own.
+-- The tasks of each resource, added up in the rows of a table in which only resources with a task have a row.
 use Rattle.std.specs.Prelude.{ℕ, ◌≡◌, ◌+◌, ◌*◌, ◌<◌, ◌≤◌, if◌then◌else◌, ◌&&◌, List, length, slice_index}
 use Rattle.khe_base.specs.declared.limits.TheConstants.{NUMBER, TASKS}
 use Rattle.khe_instance.specs.ResourceDeviation.{workload_of, workload_in}

@@ -1,4 +1,4 @@
--- The rows of a table in which only resources with a task have a row of their own.
+-- The table in which only resources with a task have a row of their own; all others share one without counts.
 use Rattle.std.specs.Prelude.{ℕ, ◌≡◌, ◌<◌, List, IfSome, slice_index}
 use Rattle.khe_instance.specs.declared.states.Duty.{Duty}
 

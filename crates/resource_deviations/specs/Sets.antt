@@ -1,4 +1,4 @@
--- Monitors at resources, and the sets of times that a rule names for a resource.
+-- The sets of times that a rule at a resource names.
 use Rattle.std.specs.Prelude.{Bool, true, false, List, [], ◌∷◌, map}
 use Rattle.khe_instance.specs.declared.parts.Parts.{Parts}
 use Rattle.khe_instance.specs.declared.points.Point.{Point}

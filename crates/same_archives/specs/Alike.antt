@@ -1,4 +1,4 @@
--- What archives that are the same have in common.
+-- What archives that are equal but for places have in common: instances, completed solutions and spelling.
 use Rattle.std.specs.Prelude.{◌≡◌, Result, Ok, Err, ℕ, slice_get}
 use Rattle.std.specs.Option.{option_map}
 use Rattle.khe_instance.specs.declared.parts.Parts.{Parts}

@@ -1,4 +1,4 @@
--- What each step on a word tells: of the step, the seat before, the word that was found, and the seat after.
+-- What a step on a word of the board tells: the seat before, the word found, and the seat after.
 use Rattle.std.specs.Prelude.{◌≡◌, ℕ, ◌≤◌, length}
 use Rattle.atomic_table.specs.Table.{Me, Step}
 use Rattle.solve_board.specs.Counts.{times, IsAmong}

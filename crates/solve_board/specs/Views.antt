@@ -1,4 +1,4 @@
--- What a seat knows: at first, and after each kind of step.
+-- What a seat knows: its claims, offers and looks, and the least offer that it has seen.
 use Rattle.std.specs.Prelude.{ℕ, ◌+◌, ◌-◌, ◌^◌, min, nat_lt, if◌then◌else◌, [], ◌∷◌, ◌++◌}
 use Rattle.solve_board.specs.declared.views.BoardView.{BoardView}
 

@@ -1,4 +1,4 @@
--- What bytes up to a line feed or to the end are.
+-- The bytes of a line, up to a line feed or to the end.
 use Rattle.std.specs.Prelude.{ℕ, ◌≡◌, ◌==◌, ◌<◌, false, List, [], ◌∷◌, ◌++◌, length, All}
 use Rattle.talk_run.specs.declared.reading.Found.{Found}
 use Rattle.talk_run.specs.declared.reading.Found.TheVariants as found

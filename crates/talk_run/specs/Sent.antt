@@ -1,4 +1,4 @@
--- Archives that differ in the entries of one solution alone.
+-- Archives that differ in the entries of one solution alone are written alike with a timetable in its place.
 use Rattle.std.specs.Prelude.{ℕ, ◌≡◌}
 use Rattle.khe_instance.specs.declared.parts.Parts.{Parts}
 use Rattle.khe_instance.specs.declared.states.Plain.{Plain}

@@ -1,4 +1,4 @@
--- What the lines of a talk are answered, one after the other.
+-- The answers to the lines of a talk, one after the other, each with its full stop.
 use Rattle.std.specs.Prelude.{ℕ, ◌+◌, List, [], ◌∷◌, ◌++◌}
 use Rattle.std.specs.List.{flat_map}
 use Rattle.khe_engine.specs.States.{State}

@@ -1,4 +1,5 @@
--- What some text begins with, and what may be wrong in bytes whose beginning some text has.
+-- A front is what some text begins with. Bytes are begun where they are a front, or would be with another name in
+-- their last end tag or another number in their last reference: nothing in them is wrong by itself.
 use Rattle.std.specs.Prelude.{ℕ, List, [], ◌∷◌, ◌++◌, ◌≡◌, ◌⊎◌, ◌+◌, ◌≤◌, length, true, false}
 use Rattle.khe_base.specs.declared.limits.TheConstants.{DEPTH}
 use Rattle.xhstt_text.specs.Bytes.{is_first, is_name, is_white, IsName, IsWhite}

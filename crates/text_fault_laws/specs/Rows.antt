@@ -1,4 +1,5 @@
--- The faults of bytes, a row for each kind, and which of them is the first.
+-- The table of the faults of bytes, a row for each kind, told by what the bytes spell at a place and what could
+-- follow. The first fault is the row at the least place; at one byte Unsupported comes before BadMarkup.
 use Rattle.std.specs.Prelude.{ℕ, List, ◌≡◌, ◌⊎◌, ◌≤◌}
 use Rattle.std.specs.Str.{IsUtf8, IsValidUpTo}
 use Rattle.fault_tables.specs.declared.faults.TheConstants.{NOT_UTF8, BAD_MARKUP, MISMATCHED_END, BAD_REFERENCE}

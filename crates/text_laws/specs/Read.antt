@@ -1,4 +1,5 @@
--- Archives and their solutions as they are read.
+-- Bytes that spell an archive with its instances, the timetable that a solution of it says, and archives that are
+-- the same but for one solution.
 use Rattle.std.specs.Prelude.{ℕ, ◌≡◌, Some, Ok, List, [], slice_get}
 use Rattle.std.specs.Option.{option_map_or}
 use Rattle.khe_instance.specs.declared.parts.Parts.{Parts}

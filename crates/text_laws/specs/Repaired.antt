@@ -1,4 +1,5 @@
--- What a repair and a solve are written as, read again.
+-- What a repair and a solve are written as, read again: the same archive but for one solution, which costs what the
+-- line says.
 use Rattle.std.specs.Prelude.{ℕ, ◌≡◌, ◌<◌, ◌⊎◌, true, List, ◌++◌, encode_utf8_all}
 use Rattle.ejection_repair.specs.Settled.{accepted_of}
 use Rattle.ejection_repair.specs.declared.outcome.Outcome.{Outcome}

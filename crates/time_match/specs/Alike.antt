@@ -1,4 +1,5 @@
--- Tasks that are the same to the monitors of each resource, and the monitors that tell a task's resources apart.
+-- Tasks are alike where they run at the same times, are worth the same and stand in no group whose resources are
+-- counted together.
 use Rattle.std.specs.Prelude.{ℕ, ◌≡◌, ◌==◌, ◌&&◌, Bool, true, false, Option, None, List, slice_get}
 use Rattle.std.specs.Option.{option_map_or}
 use Rattle.khe_base.specs.IdSet.{has_member}

@@ -1,5 +1,5 @@
--- The state in which tasks have no resources, what each then costs with none and with each, and the state that a
--- choice leaves.
+-- The state in which the matched tasks have no resources, what each then costs with none and with each, and the
+-- state that a choice leaves.
 use Rattle.std.specs.Prelude.{ℕ, if◌then◌else◌, is_some, Option, Some, None, List, [], ◌∷◌, map, length, replicate}
 use Rattle.std.specs.Prelude.{slice_index_or}
 use Rattle.std.specs.List.{flat_map}

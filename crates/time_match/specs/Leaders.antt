@@ -1,4 +1,4 @@
--- What is read of a task to find one that is alike, and what the costs of one then say of those of the other.
+-- The first of tasks that are alike, and what its costs say of those of the others.
 use Rattle.std.specs.Prelude.{ℕ, ◌≡◌, ◌+◌, ◌*◌, ◌/◌, Bool, true, false, None, List, All, map, slice_get}
 use Rattle.std.specs.List.{filter}
 use Rattle.std.specs.Option.{option_map_or}

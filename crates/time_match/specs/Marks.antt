@@ -1,4 +1,4 @@
--- The only mark, around what is tried.
+-- The one mark that a matching has open around what it tries.
 use Rattle.std.specs.Prelude.{ℕ, ◌≡◌, ◌+◌, ◌≤◌, List, [], ◌∷◌}
 use Rattle.khe_engine.specs.Worlds.{World}
 use Rattle.khe_told.specs.declared.changes.Change.{Change}

@@ -1,4 +1,5 @@
--- A matching of the tasks of one time with the resources of one type.
+-- A matching of the tasks of one time with the resources of one type: a certified choice, and the timetable with it
+-- where that costs less.
 use Rattle.std.specs.Prelude.{ℕ, ◌≡◌, ◌<◌, ◌≤◌, if◌then◌else◌, Option, List}
 use Rattle.khe_base.specs.Totals.{is_lower}
 use Rattle.khe_engine.specs.States.{State}

@@ -1,4 +1,4 @@
--- The tasks of one time that are to have a resource of one type, and the resources of that type.
+-- The tasks that run at a time at places for a type, none preassigned, and the resources of that type.
 use Rattle.std.specs.Prelude.{ℕ, ◌==◌, ◌&&◌, Bool, false, is_none, List, map, length, slice_get}
 use Rattle.std.specs.List.{filter, range_with_len}
 use Rattle.std.specs.Option.{option_map_or}

@@ -1,4 +1,4 @@
--- How a run ends, and what a sink took of a page.
+-- What the sink took of a page, by the status.
 use Rattle.std.specs.Prelude.{ℕ, ◌≡◌, ◌<◌, ◌≤◌, ◌⊎◌, Option, List, [], ◌++◌, length, min, encode_utf8_all}
 use Rattle.std.specs.Prelude.{IfSome, IsSomeAnd}
 use Rattle.archive_reading.specs.Reading.{IsReadingOf, evaluable, refused}

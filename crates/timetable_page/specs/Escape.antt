@@ -1,4 +1,4 @@
--- How a text of the archive is written on the page.
+-- How a text of the archive is escaped on the page.
 use Rattle.std.specs.Prelude.{ℕ, List, [], ◌∷◌, ◌==◌, if◌then◌else◌, codes}
 use Rattle.std.specs.List.{flat_map}
 

@@ -1,4 +1,4 @@
--- What the summary has of each solution.
+-- What comes of each solution, as the summary has it.
 use Rattle.parallel_solve.specs.declared.verdicts.Verdict.{Verdict}
 use Rattle.parallel_solve.specs.declared.verdicts.Verdict.TheVariants as verdict
 use Rattle.timetable_page.specs.declared.outcomes.Outcome.{Outcome}

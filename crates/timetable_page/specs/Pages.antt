@@ -1,4 +1,4 @@
--- The page of an archive: its sections, one for each solution that is shown, each with what comes of it.
+-- A page: an opening, a section for each of the first solutions with what comes of it, and a closing.
 use Rattle.std.specs.Prelude.{ℕ, zero, suc, ◌≡◌, Some, List, [], ◌++◌, slice_get}
 use Rattle.parallel_solve.specs.Verdicts.{numbered_verdict}
 use Rattle.parallel_solve.specs.declared.verdicts.Verdict.{Verdict}

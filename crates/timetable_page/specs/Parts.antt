@@ -1,4 +1,4 @@
--- What the sections of a page are made from.
+-- The parts that the sections of a page are made from.
 use Rattle.std.specs.Prelude.{◌≡◌, ◌<◌, ◌^◌, length, map}
 use Rattle.parallel_solve.specs.Ready.{AreOnes}
 use Rattle.resource_deviations.specs.Sets.{room_for}

@@ -1,4 +1,4 @@
--- What the page says of costs, as characters.
+-- The words of a page on totals and on a cause.
 use Rattle.std.specs.Prelude.{ℕ, unwrap_or, List, [], ◌++◌, codes}
 use Rattle.std.specs.Fmt.{decimal}
 use Rattle.fault_tables.specs.Causes.{cause_name}

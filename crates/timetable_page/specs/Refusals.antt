@@ -1,4 +1,4 @@
--- The page on an archive that is refused.
+-- The page that refuses an archive.
 use Rattle.std.specs.Prelude.{ℕ, List, ◌++◌, codes}
 use Rattle.archive_reading.specs.Refusals.{refusal_words}
 use Rattle.archive_reading.specs.declared.refusals.Refusal.{Refusal}

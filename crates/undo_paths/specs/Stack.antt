@@ -1,4 +1,5 @@
--- A stack of records with marks.
+-- A stack of records with marks: the records since each open mark, the innermost mark first. Closing a mark adds its
+-- records to those of the mark around it.
 use Rattle.std.specs.Prelude.{ℕ, List, [], ◌∷◌, ◌++◌, length, reverse, take, drop}
 
 -- what a journal stands for

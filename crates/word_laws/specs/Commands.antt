@@ -1,4 +1,5 @@
--- The table of commands: for each its word, what stands after it in order, its options, and what is asked for.
+-- The table of commands: for each its word, the forms of the words after it, its options with their ranges, and what
+-- is asked for.
 use Rattle.std.specs.Prelude.{ℕ, Bool, true, false, Option, Some, None, List, [], ◌∷◌, codes}
 use Rattle.khe_base.specs.declared.limits.TheConstants.{BUDGET, CHAIN_MOVES, JOBS, MADE_EVENTS, WORKERS}
 use Rattle.command_words.specs.Words.{Asked, checking, constructing, evaluating, making, matching, repairing, running}

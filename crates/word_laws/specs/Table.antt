@@ -1,4 +1,5 @@
--- How words are read by a table of commands.
+-- How words are read by a table of commands: the word, words in their forms, and options in any order, each at most
+-- once.
 use Rattle.std.specs.Prelude.{ℕ, ◌≡◌, ◌≤◌, ◌⊎◌, ◌↔◌, false, Option, Some, None, List, [], ◌∷◌, ◌++◌}
 use Rattle.khe_base.specs.Digits.{long_number_of, number_of}
 use Rattle.khe_base.specs.declared.limits.TheConstants.{DIGITS}

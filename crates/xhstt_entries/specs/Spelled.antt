@@ -1,4 +1,5 @@
--- The entries that a timetable is written as.
+-- The entries of a timetable: one for each meet, with its event, its duration, its start, and the resources that its
+-- tasks are given, but for what is preassigned. A solution with them keeps its description and its running time.
 use Rattle.std.specs.Prelude.{ℕ, ◌==◌, Option, Some, None, List, [], ◌∷◌, map, slice_get}
 use Rattle.std.specs.List.{filter, flat_map}
 use Rattle.std.specs.Option.{option_map, option_map_or}

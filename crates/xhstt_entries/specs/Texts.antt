@@ -1,4 +1,4 @@
--- Instances whose texts can be written.
+-- Instances whose Ids and roles can be written.
 use Rattle.std.specs.Prelude.{ℕ, IfSome, List, All}
 use Rattle.khe_instance.specs.declared.parts.EventInfo.{EventInfo}
 use Rattle.khe_instance.specs.declared.parts.Parts.{Parts}

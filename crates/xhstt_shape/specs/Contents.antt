@@ -1,4 +1,4 @@
--- What the bytes of an element without children say: a text, a number, a word or a role.
+-- The text, number, word or role that the bytes of an element without children say.
 use Rattle.std.specs.Prelude.{ℕ, ◌+◌, ◌-◌, ◌*◌, ◌==◌, ◌&&◌, Bool, true, false, if◌then◌else◌, nat_lt, nat_le, Option}
 use Rattle.std.specs.Prelude.{Some, None, unwrap_or, List, [], ◌∷◌, length, codes, encode_utf8_all}
 use Rattle.std.specs.List.{list_all}

@@ -1,5 +1,5 @@
--- The table of elements of an archive: the attributes and children of each, how often a child may
--- stand there, and what stands in an element.
+-- The format's table of elements: for each its attributes, its children with how often each may stand, and what it
+-- holds.
 use Rattle.std.specs.Prelude.{true, false, List, [], ◌∷◌}
 use Rattle.khe_base.specs.declared.limits.TheConstants.{NUMBER, GREATEST_BOUND}
 use Rattle.khe_instance.specs.declared.rules.Kind.{Kind}

@@ -1,4 +1,4 @@
--- What is seen of a reference or a role as it is kept.
+-- The reference or the role that readers see as borrowed text and a place.
 use Rattle.khe_base.specs.Text.{characters}
 use Rattle.xhstt_shape.specs.declared.entries.NameView.{NameView}
 use Rattle.xhstt_shape.specs.declared.records.Name.{Name}

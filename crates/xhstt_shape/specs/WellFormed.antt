@@ -1,4 +1,5 @@
--- Archives that can be written and read back.
+-- An archive is in form where its numbers are in their ranges, durations are at least 1, and roles are neither empty
+-- nor white at their ends. It is well formed where besides each of its texts can be written.
 use Rattle.std.specs.Prelude.{ℕ, ◌≡◌, ◌≤◌, false, None, IsSome, IfSome, All, encode_utf8_all}
 use Rattle.khe_base.specs.declared.limits.TheConstants.{NUMBER, GREATEST_BOUND}
 use Rattle.xhstt_shape.specs.declared.constraints.RawApplies.{RawApplies}

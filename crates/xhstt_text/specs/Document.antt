@@ -1,5 +1,6 @@
--- The grammar of a text: the parts of a document, how they are spelled, which of them are allowed,
--- and the table and the forest that a document stands for.
+-- The grammar: a document is UTF-8 with an optional byte order mark and declaration, then white and comments, one
+-- element, white and comments. A constructor for each row says how it is spelled. A document stands for a table of
+-- its elements and for a forest.
 use Rattle.std.specs.Prelude.{ℕ, suc, ◌≡◌, ◌+◌, ◌<◌, Bool, true, false, ◌||◌, if◌then◌else◌, List, [], ◌∷◌, ◌++◌}
 use Rattle.std.specs.Prelude.{length, Option, Some, None}
 use Rattle.std.specs.Str.{IsUtf8, bytes_eq}

@@ -1,4 +1,4 @@
--- The faults of a text: each is a kind and a place.
+-- A fault of a text is a kind and a place, a byte of the text.
 use Rattle.std.specs.Prelude.{ℕ, ◌==◌, if◌then◌else◌, List, [], ◌∷◌}
 use Rattle.xhstt_text.specs.declared.faults.TextFault.{TextFault}
 use Rattle.xhstt_text.specs.declared.faults.TextFault.TheVariants.{Bad}

@@ -1,4 +1,5 @@
--- The first fault of bytes.
+-- The first fault of bytes: NotUtf8 at the first byte that is no part of a character, wherever it stands; else the
+-- fault that ends the reading from left to right. It is proved to be the least row of the table of faults.
 use Rattle.std.specs.Prelude.{ℕ, List, ◌++◌, ◌≡◌, ◌⊎◌, Err}
 use Rattle.std.specs.Str.{IsUtf8, IsValidUpTo}
 use Rattle.xhstt_text.specs.Document.{Document, IsSpellingOf}

@@ -1,4 +1,4 @@
--- What stands in the rows of a table.
+-- The rows of a tree as they are stored in few bytes.
 use Rattle.std.specs.Prelude.{ℕ, ◌-◌, ◌==◌, if◌then◌else◌, Option, Some, None}
 use Rattle.xhstt_text.specs.declared.tree.Node.{Node}
 

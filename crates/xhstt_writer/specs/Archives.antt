@@ -1,5 +1,5 @@
--- The canonical spelling of an archive: the elements of its instances and its solutions, and the whole
--- text.
+-- The canonical spelling of an archive: the declaration, the elements of its instances and its solutions, each on a
+-- line. And what it is for bytes to be read as an archive.
 use Rattle.std.specs.Prelude.{ℕ, ◌≡◌, List, [], ◌∷◌, Ok}
 use Rattle.std.specs.Option.{option_map}
 use Rattle.xhstt_text.specs.Document.{Spelled}

@@ -1,4 +1,5 @@
--- The elements that an archive is written as.
+-- The elements that each record of an archive is written as, children in the order of the format's table. A number
+-- with a default is written, an empty name is not.
 use Rattle.std.specs.Prelude.{ℕ, Bool, if◌then◌else◌, List, [], ◌∷◌, codes}
 use Rattle.std.specs.Option.{option_map}
 use Rattle.khe_base.specs.declared.costs.CostFn.{CostFn}
