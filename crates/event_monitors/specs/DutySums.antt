@@ -1,4 +1,4 @@
--- Sums over the tasks at a place of an event, by slots.
+-- Sums over the tasks at a place of an event, slot by slot.
 use Rattle.std.proofs.Common.{ℕ, ◌≡◌, ◌+◌, ◌<◌, ◌==◌, ◌&&◌, ◌∙◌, zero, suc, Bool, true, false, cond, Option, Some, None}
 use Rattle.std.proofs.Common.{List, [], ◌∷◌, slice_get, refl, sym, ap, arith, zero-add, filter, sum_by}
 use Rattle.std.specs.Option.{option_map_or}

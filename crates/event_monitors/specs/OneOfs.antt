@@ -1,4 +1,4 @@
--- A gauge of one of two sorts: what it keeps and what is read from it, and its laws.
+-- A gauge of one of two sorts: what it keeps and what is read from it.
 use Rattle.std.proofs.Common.{ℕ, ◌≡◌, ◌<◌, false, List, length}
 use Rattle.std.specs.Prelude.{slice_set}
 use Rattle.khe_instance.specs.declared.parts.Parts.{Parts}

@@ -1,4 +1,4 @@
--- The monitors that a keeper serves, and which of them watch an event.
+-- The monitors that a keeper serves, each with its place among them, and by events.
 use Rattle.std.specs.Prelude.{ℕ, ◌≡◌, ◌<◌, ◌≤◌, Bool, true, false, Some, List, length, slice_get}
 use Rattle.std.specs.List.{filter, range_with_len}
 use Rattle.std.specs.Option.{option_map_or}

@@ -1,4 +1,5 @@
--- Sums over the slots of the event that a monitor names, of what each slot counts for.
+-- What each slot counts for in the sum of a monitor at an event. A turn that leaves what a share is read from leaves
+-- the sum.
 use Rattle.std.specs.Prelude.{ℕ, ◌≡◌, ◌+◌, ◌*◌, if◌then◌else◌, Option, Some, None, List, slice_get}
 use Rattle.std.specs.List.{sum_by}
 use Rattle.std.specs.Option.{option_map_or}

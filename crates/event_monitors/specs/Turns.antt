@@ -1,4 +1,5 @@
--- Gauges that are turned one by one, and the monitors that wait since.
+-- Gauges that are turned one by one: those still to come are as they were, and a gauge whose value changed has its
+-- monitor waiting.
 use Rattle.std.specs.Prelude.{ℕ, ◌≡◌, ◌⊎◌, ◌==◌, Bool, true, false, Some, List, length, slice_get}
 use Rattle.std.specs.List.{list_any}
 use Rattle.khe_instance.specs.declared.parts.Parts.{Parts}

@@ -1,4 +1,5 @@
--- A told state whose slots are taken over, one by one, from another that changes lead to.
+-- A told state whose slots are taken over one by one from a later state: each slot is that of the one or of the
+-- other.
 use Rattle.std.specs.Prelude.{ℕ, ◌≡◌, ◌⊎◌, Bool, true, List, [], ◌∷◌, Some}
 use Rattle.khe_base.specs.declared.numbers.MeetId.{MeetId}
 use Rattle.khe_instance.specs.declared.parts.Parts.{Parts}

@@ -1,4 +1,4 @@
--- What the program holds before it writes.
+-- What the program holds between reading and writing, and of which outcome that is.
 use Rattle.std.specs.Prelude.{ℕ, ◌≡◌, ◌<◌, ◌≤◌, Bool, Option, Some, None, List, [], length, slice_get, encode_utf8_all}
 use Rattle.khe_instance.specs.States.{IsValid}
 use Rattle.khe_instance.specs.declared.parts.Parts.{Parts}

@@ -1,4 +1,4 @@
--- The line on scripts. It ends with a line feed.
+-- The line in place of the answers to a script that is too large.
 use Rattle.std.specs.Prelude.{ℕ, List, codes}
 
 -- what is written in place of a script's answers where it is too large

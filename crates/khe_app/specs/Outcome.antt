@@ -1,4 +1,5 @@
--- What `khe` is to answer: a status and a text, by the words and by what stands under the names.
+-- The outcome of a run of `khe`: a status and a text, by the words and by what stands under the names, with a row
+-- for each command.
 use Rattle.std.specs.Prelude.{ℕ, ◌≡◌, ◌<◌, ◌≤◌, ◌⊎◌, Bool, true, false, if◌then◌else◌, Option, Some, None, Ok, List, []}
 use Rattle.std.specs.Prelude.{length, slice_get, encode_utf8_all}
 use Rattle.archive_reading.specs.Reading.{Reading, evaluable, refused, IsReadingOf}

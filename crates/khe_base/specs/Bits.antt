@@ -1,4 +1,4 @@
--- Bits of words, and rows of bits, 64 in each word.
+-- Bits of a word, and rows of words as rows of bits, 64 in each word. Beyond its words no bit of a row is set.
 use Rattle.std.specs.Prelude.{ℕ, ◌+◌, ◌/◌, ◌%◌, Bool, List, nat_eq, slice_index}
 use Rattle.std.specs.Int.{bit_at}
 

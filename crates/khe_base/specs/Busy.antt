@@ -1,5 +1,6 @@
--- The times of a set at which something is busy or idle. A set of times is a list with one entry for
--- each time, true where it is a member; what is busy when is a test on times.
+-- The busy times of a set are those at which a test holds. The idle ones are those at which it does not, though it
+-- holds at an earlier and at a later time of the set. A set of times is a list with one entry for each time, true
+-- where it is a member.
 use Rattle.std.specs.Prelude.{ℕ, ◌+◌, ◌-◌, Bool, not, ◌&&◌, List, length, count_by}
 use Rattle.std.specs.List.{range_with_len, list_any}
 use Rattle.khe_base.specs.IdSet.{has_member}

@@ -1,4 +1,5 @@
--- What a deviation costs.
+-- What a deviation costs under a weight: the product (Linear), the weight times the square (Quadratic), or the
+-- weight where the deviation is above 0 (Step).
 use Rattle.std.specs.Prelude.{ℕ, ◌*◌, nat_lt, if◌then◌else◌}
 use Rattle.khe_base.specs.declared.costs.CostFn.{CostFn}
 use Rattle.khe_base.specs.declared.costs.CostFn.TheVariants.{Linear, Quadratic, Step}

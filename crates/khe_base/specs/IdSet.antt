@@ -1,4 +1,5 @@
--- A set of numbers below a size: a list with one entry for each number, true where it is a member.
+-- A set of numbers below a size is a list with one entry for each number, true where it is a member. Its members are
+-- listed in ascending order.
 use Rattle.std.specs.Prelude.{ℕ, ◌≡◌, ◌^◌, ◌<◌, List, Bool, true, false, count_by, length, replicate, slice_index_or}
 use Rattle.std.specs.Prelude.{slice_set}
 use Rattle.std.specs.List.{filter, range_with_len}

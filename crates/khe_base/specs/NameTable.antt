@@ -1,5 +1,5 @@
--- A table that finds names by their hashes: each bucket has a chain of the names in it, from the
--- last one to the first.
+-- The table in memory that finds names by their hashes: each bucket has a chain of its names, from the last one to
+-- the first.
 use Rattle.std.specs.Prelude.{ℕ, ◌≡◌, ◌+◌, ◌-◌, ◌*◌, ◌/◌, ◌%◌, ◌^◌, ◌<◌, ◌≤◌, ◌==◌, true, if◌then◌else◌}
 use Rattle.std.specs.Prelude.{List, [], ◌∷◌, length, slice_index, slice_index_or, encode_utf8_all, zero, suc}
 use Rattle.std.specs.Int.Bits.{bit_and}

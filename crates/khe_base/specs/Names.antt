@@ -1,4 +1,5 @@
--- Names, each the list of its characters, numbered in the order in which they come.
+-- Names, each the list of its characters, are numbered in the order in which they come. The number of a name is its
+-- place; names are distinct where none comes twice.
 use Rattle.std.specs.Prelude.{ℕ, List, [], ◌∷◌, ◌++◌, Bool, true, not, ◌&&◌, Option, position, if◌then◌else◌}
 use Rattle.std.specs.List.{list_any}
 use Rattle.std.specs.Str.{bytes_eq}

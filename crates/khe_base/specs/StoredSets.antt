@@ -1,4 +1,4 @@
--- What stands in memory for a set of numbers: a row of bits, 64 in each word.
+-- A set of numbers as it is stored: a row of bits, 64 in each word.
 use Rattle.std.specs.Prelude.{ℕ, ◌≡◌, ◌+◌, ◌≤◌, List, Bool, false, length, map}
 use Rattle.std.specs.List.{filter, range_with_len}
 use Rattle.khe_base.specs.Bits.{has_bit, is_set, words_for}

@@ -1,4 +1,4 @@
--- A text is the list of its characters.
+-- A text is the list of its characters. Bytes are a text where they are well-formed UTF-8.
 use Rattle.std.specs.Prelude.{ℕ, List, Bool, Option, Some, None, if◌then◌else◌, nat_lt}
 use Rattle.std.specs.List.{list_all}
 use Rattle.std.specs.Str.{chars, is_utf8}

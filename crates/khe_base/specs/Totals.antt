@@ -1,4 +1,4 @@
--- The order of totals.
+-- Totals are lower than others by the hard cost, and by the soft cost where the hard costs are equal.
 use Rattle.std.specs.Prelude.{◌==◌, Bool, ◌&&◌, ◌||◌, nat_lt}
 use Rattle.khe_base.specs.declared.sums.Totals.{Totals}
 

@@ -1,4 +1,5 @@
--- The least number that a list of durations divides.
+-- The unit of some durations is their least common multiple: it is above 0, each duration divides it, and it divides
+-- every number that all of them divide.
 use Rattle.std.specs.Prelude.{ℕ, ◌<◌, List, All}
 use Prim.Native.Nat.{◌∣◌}
 

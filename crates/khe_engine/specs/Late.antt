@@ -1,4 +1,4 @@
--- Changes that the families are told later.
+-- Changes that an engine that is put off has yet to tell its families.
 use Rattle.std.specs.Prelude.{◌≡◌, ◌⊎◌, List, [], ◌∷◌, ◌++◌}
 use Rattle.khe_instance.specs.declared.parts.Parts.{Parts}
 use Rattle.khe_told.specs.Changes.{after_all, inverse}

@@ -1,4 +1,4 @@
--- How far those that wait are measured where only lower totals are asked for.
+-- How far queued monitors are measured where only lower totals are asked for.
 use Rattle.std.specs.Prelude.{ℕ, ◌≡◌, ◌≢◌, ◌⊎◌, Bool, true, Some, List, length, nat_eq, slice_get, slice_index}
 use Rattle.std.specs.List.{count_by}
 use Rattle.khe_base.specs.declared.numbers.MonitorId.{MonitorId}

@@ -1,5 +1,5 @@
--- The slots of a timetable while those who listen are told of its meets, one meet after the other; and
--- what an engine of a timetable begins with.
+-- The state that a timetable lists, which an engine on it begins with; and the slots while listeners are told of its
+-- meets one after the other.
 use Rattle.std.specs.Prelude.{ℕ, zero, suc, ◌≡◌, Option, None, List, [], ◌∷◌, map, length, replicate}
 use Rattle.std.specs.Option.{option_map}
 use Rattle.khe_base.specs.declared.numbers.ResourceId.{ResourceId}

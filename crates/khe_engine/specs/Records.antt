@@ -1,4 +1,5 @@
--- How records that lead back, kept for each open mark, stand for whole saved states.
+-- Records of edits, kept for each open mark, stand for whole saved states: each record leads back from the state
+-- that the later ones lead to.
 use Rattle.std.specs.Prelude.{ℕ, ◌≡◌, ◌+◌, Bool, true, false, List, [], ◌∷◌, ◌++◌, length}
 use Rattle.std.specs.List.{sum_by}
 use Rattle.khe_instance.specs.declared.parts.Parts.{Parts}

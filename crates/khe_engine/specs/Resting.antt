@@ -1,4 +1,4 @@
--- What an engine keeps while its instance is elsewhere.
+-- What an engine keeps while it has no instance at hand.
 use Rattle.std.specs.Prelude.{ℕ, ◌≡◌, List}
 use Rattle.khe_instance.specs.declared.parts.Parts.{Parts}
 use Rattle.khe_told.specs.Waits.{Waiters}

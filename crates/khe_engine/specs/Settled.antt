@@ -1,4 +1,4 @@
--- Monitors that wait to be measured, and the deviations of all others.
+-- Each monitor that is not queued has its deviation, and between two calls none is queued.
 use Rattle.std.specs.Prelude.{ℕ, ◌≡◌, Bool, false, Some, List, length, slice_get}
 use Rattle.khe_instance.specs.declared.parts.Parts.{Parts}
 use Rattle.khe_instance.specs.declared.points.Monitor.{Monitor}

@@ -1,4 +1,5 @@
--- A state of an engine, and what the sixteen edits make of it.
+-- A state of the engine: slots, which monitors are attached, and the groups. For each of the sixteen edits its
+-- refusal, the state after it, the number that it makes and its changes.
 use Rattle.std.specs.Prelude.{ℕ, ◌≡◌, Bool, true, false, if◌then◌else◌, Option, List, []}
 use Rattle.khe_instance.specs.declared.parts.Parts.{Parts}
 use Rattle.khe_told.specs.declared.changes.Change.{Change}

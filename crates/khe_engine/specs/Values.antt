@@ -1,4 +1,4 @@
--- The values of a state, by the definitions that evaluation cites.
+-- The deviations, costs, totals and group costs of a state, by the definitions that evaluation cites.
 use Rattle.std.specs.Prelude.{ℕ, ◌≡◌, Bool, true, not, Option, List, map}
 use Rattle.std.specs.Option.{option_map}
 use Rattle.khe_base.specs.declared.numbers.MonitorId.{MonitorId}

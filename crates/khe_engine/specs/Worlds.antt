@@ -1,4 +1,5 @@
--- What an engine stands for: a state, and the whole states that were saved at its open marks.
+-- What an engine stands for: the instance's parts, the present state, and for each open mark the whole state that
+-- was saved there with the changes since.
 use Rattle.std.specs.Prelude.{ℕ, ◌≡◌, ◌+◌, ◌-◌, Option, Some, None, Result, Ok, Err, List, [], ◌∷◌, ◌++◌, drop, take}
 use Rattle.std.specs.Prelude.{length}
 use Rattle.std.specs.List.{sum_by}

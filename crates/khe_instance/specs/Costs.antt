@@ -1,5 +1,5 @@
--- What monitors cost by their deviations, whatever timetable these are of: costs, defects, and the
--- totals of all monitors or of some.
+-- What monitors cost by their deviations, whatever timetable these are of: the cost of each, which are defects, and
+-- the totals of all or of some. A detached monitor costs nothing.
 use Rattle.std.specs.Prelude.{ℕ, Bool, false, nat_lt, if◌then◌else◌, List, map, length, slice_get, slice_index}
 use Rattle.std.specs.List.{sum_by, range_with_len}
 use Rattle.std.specs.Option.{option_map_or}

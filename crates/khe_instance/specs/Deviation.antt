@@ -1,4 +1,5 @@
--- The deviation of a monitor.
+-- The deviation of a monitor in a state, by the definition of its kind: at an event, a place, a group or a pair by
+-- its meets and tasks, at a resource by its tasks.
 use Rattle.std.specs.Prelude.{ℕ, Bool, List, length, slice_get}
 use Rattle.std.specs.Option.{option_map_or}
 use Rattle.khe_instance.specs.EventDeviation as event

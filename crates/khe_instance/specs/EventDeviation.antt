@@ -1,7 +1,7 @@
--- The deviations of the kinds whose points are events, event resources, event groups and pairs of
--- events. Each is the page of its kind in the XHSTT format, over lists of meets and of tasks with
--- their meets. A kind at an event is a sum over the event's own meets, and one at a place a sum over
--- that place's tasks.
+-- The deviations of the ten kinds at events, event resources, event groups and pairs of events, each after the page
+-- of its kind in the XHSTT format. A kind at an event is a sum over the event's own meets, and one at a place a sum
+-- over that place's tasks. An order of two events deviates by 0 while either has no start; a time group that is
+-- listed twice counts twice.
 use Rattle.std.specs.Prelude.{ℕ, ◌+◌, ◌-◌, ◌==◌, pos, ◌-ℤ◌, Bool, true, false, not, ◌&&◌, ◌||◌, nat_lt, min, max}
 use Rattle.std.specs.Prelude.{if◌then◌else◌, Option, Some, None, is_none, List, [], ◌∷◌, count_by}
 use Rattle.std.specs.List.{filter, filter_map, fold, list_any, list_all, sum_by, range_with_len}

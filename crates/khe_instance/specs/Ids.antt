@@ -1,4 +1,4 @@
--- The Ids of an instance's times, resources and events.
+-- The Ids of an instance's times, resources and events, as tables for looking them up.
 use Rattle.std.specs.Prelude.{map}
 use Rattle.khe_instance.specs.declared.ids.IdTables.{IdTables}
 use Rattle.khe_instance.specs.declared.parts.Parts.{Parts}

@@ -1,4 +1,4 @@
--- The kind of a rule.
+-- The kind of a rule, one of sixteen.
 use Rattle.khe_instance.specs.declared.rules.Kind.{Kind}
 use Rattle.khe_instance.specs.declared.rules.Kind.TheVariants as kind
 use Rattle.khe_instance.specs.declared.rules.Rule.{Rule}

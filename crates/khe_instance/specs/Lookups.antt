@@ -1,4 +1,4 @@
--- What stands under the numbers of events and of their places.
+-- The duration and the places of the event with a number, and the role of a place.
 use Rattle.std.specs.Prelude.{ℕ, Bool, false, Option, Some, None, List, length, slice_get}
 use Rattle.std.specs.Option.{option_and_then, option_map_or}
 use Rattle.std.specs.Str.{bytes_eq}

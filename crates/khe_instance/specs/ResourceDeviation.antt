@@ -1,6 +1,6 @@
--- The deviations of the kinds whose points are resources. Each is the page of its kind in the XHSTT
--- format: Limit Workload is of the resource's workload, and the five others are of how many of its
--- tasks run at each time.
+-- The deviations of the six kinds at resources, each after the page of its kind in the XHSTT format. Limit Workload
+-- is of the resource's workload, rounded up once; the others are of how many of its tasks run at each time. Two
+-- tasks of one meet with one resource clash.
 use Rattle.std.specs.Prelude.{ℕ, ◌+◌, ◌-◌, ◌*◌, ◌/◌, Bool, nat_lt, if◌then◌else◌, List, count_by, slice_get}
 use Rattle.std.specs.List.{sum_by, range_with_len}
 use Rattle.std.specs.Option.{option_map_or}

@@ -1,4 +1,5 @@
--- Which meets and events run when, and when resources are busy.
+-- A meet with a start runs from then on for its duration, and a task with its meet is a duty. A resource is busy at
+-- a time where a duty of it runs then.
 use Rattle.std.specs.Prelude.{ℕ, ◌+◌, ◌==◌, Bool, false, ◌&&◌, nat_lt, nat_le, Option, Some, None, List}
 use Rattle.std.specs.List.{filter, flat_map, list_any, count_by}
 use Rattle.std.specs.Prelude.{map}

@@ -1,4 +1,4 @@
--- What stands in memory for the slots of events.
+-- The tables in memory of which event has a meet slot and with which task slot an event's tasks begin.
 use Rattle.std.specs.Prelude.{ℕ, ◌+◌, ◌*◌, ◌≡◌, ◌≤◌, ◌<◌, List, map, take, length, get_or}
 use Rattle.std.specs.List.{sum_by, range_with_len}
 use Rattle.khe_instance.specs.Slots.{slots_from}

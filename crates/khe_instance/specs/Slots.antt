@@ -1,5 +1,5 @@
--- The meet slots of events: as many as the event's duration, one event after the other. And the task
--- slots: one for each place of the event of each meet slot, by meet slot and then place.
+-- Meet slots are numbered over the events, as many for each as its duration. Task slots are numbered by meet slot
+-- and then by place of its event.
 use Rattle.std.specs.Prelude.{ℕ, ◌+◌, ◌≤◌, ◌<◌, ◌≡◌, Some, List, [], ◌∷◌, ◌++◌, map, take, replicate, slice_get}
 use Rattle.std.specs.List.{sum_by, range_with_len}
 use Rattle.khe_base.specs.declared.numbers.TaskId.{TaskId}

@@ -1,5 +1,6 @@
--- Which timetables are states of an instance: what a solver may hold while it works, and what a
--- timetable is that stands whole.
+-- The states of an instance: meets in slots of their events, and for each meet one task at each place. A state is
+-- told while the meets of no event last longer than the event, as while a solver works. It is valid where besides
+-- every event is placed whole and what is preassigned is kept.
 use Rattle.std.specs.Prelude.{ℕ, ◌≡◌, ◌+◌, ◌<◌, ◌≤◌, Option, Some, List, [], ◌∷◌, map, length, All, AllPairs, ◌≢◌}
 use Rattle.std.specs.Prelude.{IfSome, slice_get}
 use Rattle.std.specs.List.{sum_by, flat_map}

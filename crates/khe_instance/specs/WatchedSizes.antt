@@ -1,4 +1,4 @@
--- How much monitors watch, by the sizes of what their rules and points name.
+-- How much a monitor watches, by the sizes of what its rule and its point name.
 use Rattle.std.specs.Prelude.{ℕ, ◌==◌, Bool, if◌then◌else◌, length, slice_get}
 use Rattle.std.specs.List.{sum_by}
 use Rattle.std.specs.Option.{option_map_or}

@@ -1,5 +1,5 @@
--- What monitors watch: the events whose changes reach them, and for a monitor at a resource the times
--- that its rule lists.
+-- What a monitor watches: the events that it names, or for a monitor at a resource the times that its rule lists.
+-- The limit on watches counts these, and the watchers of a change are found by them.
 use Rattle.std.specs.Prelude.{ℕ, ◌+◌, ◌==◌, Bool, true, false, ◌||◌, nat_lt, if◌then◌else◌, length, count_by, slice_get}
 use Rattle.std.specs.List.{sum_by, range_with_len}
 use Rattle.std.specs.Option.{option_map_or}

@@ -1,4 +1,4 @@
--- What leads back from an edit of meets and tasks.
+-- The record of an edit, the slots that it leads back to, and the changes that undo the edit.
 use Rattle.std.specs.Prelude.{ℕ, ◌≡◌, true, Some, None, List, [], ◌++◌}
 use Rattle.std.specs.Option.{option_map_or}
 use Rattle.khe_base.specs.declared.numbers.MeetId.{MeetId}

@@ -1,4 +1,5 @@
--- The changes that make up an edit of meets and tasks, in their order.
+-- The changes that an edit of meets and tasks is made of: what is lifted and taken, then what is dropped and added,
+-- then what is given and placed.
 use Rattle.std.specs.Prelude.{ℕ, ◌+◌, ◌-◌, Option, Some, None, List, [], ◌∷◌, ◌++◌}
 use Rattle.std.specs.Option.{option_map_or}
 use Rattle.khe_base.specs.declared.numbers.MeetId.{MeetId}

@@ -1,4 +1,5 @@
--- The slots after an edit of meets and tasks that is not refused.
+-- The slots after an accepted edit of meets and tasks. A cut divides a meet between its slot and the event's lowest
+-- free one; a merge writes both durations in the first slot and frees the second.
 use Rattle.std.specs.Prelude.{ℕ, ◌+◌, ◌-◌, Option, Some, None, Result, Ok, Err, List, slice_set}
 use Rattle.std.specs.Option.{option_map}
 use Rattle.khe_base.specs.declared.numbers.MeetId.{MeetId}

@@ -1,5 +1,5 @@
--- What an edit reads of a slot, and of the event that the slot belongs to. All of it is total: a
--- slot beyond the last one reads as one without a meet and without a place.
+-- What an edit reads of a slot and of its event. A slot beyond the last one reads as one without a meet and without
+-- a place, so every test can be asked.
 use Rattle.std.specs.Prelude.{ℕ, ◌≡◌, ◌+◌, ◌==◌, Bool, true, false, ◌&&◌, nat_lt, Option, Some, None, is_none, is_some}
 use Rattle.std.specs.Prelude.{List, [], ◌∷◌, length, slice_get}
 use Rattle.std.specs.List.{position_or_len}

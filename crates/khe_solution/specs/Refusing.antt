@@ -1,4 +1,5 @@
--- Why an edit of meets and tasks is refused: the first refusal of its row whose test holds.
+-- The causes for which each edit of meets and tasks is refused, in order. An edit is refused for the first that
+-- holds.
 use Rattle.std.specs.Prelude.{ℕ, ◌==◌, Bool, true, false, not, ◌&&◌, nat_le, if◌then◌else◌, Option, Some, None, is_none}
 use Rattle.std.specs.Prelude.{is_some, Result, Ok, Err, List, [], ◌∷◌, length}
 use Rattle.khe_base.specs.declared.numbers.MeetId.{MeetId}

@@ -1,4 +1,4 @@
--- What a timetable keeps while its instance is elsewhere.
+-- What a timetable keeps while it has no instance at hand.
 use Rattle.std.specs.Prelude.{ℕ, List}
 use Rattle.khe_instance.specs.declared.parts.Parts.{Parts}
 use Rattle.khe_told.specs.Valid.{AreValid}

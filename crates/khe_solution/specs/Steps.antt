@@ -1,4 +1,4 @@
--- Several edits, one after the other.
+-- Edits one after the other, each accepted.
 use Rattle.std.specs.Prelude.{◌≡◌, None, List, [], ◌∷◌}
 use Rattle.khe_instance.specs.declared.parts.Parts.{Parts}
 use Rattle.khe_told.specs.declared.slots.Slot.{Slot}

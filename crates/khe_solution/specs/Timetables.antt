@@ -1,4 +1,4 @@
--- What a solution is seen as: the parts of its instance, and its slots.
+-- What contracts see of a solution: the parts of its instance and its slots.
 use Rattle.std.specs.Prelude.{ℕ, ◌≡◌, ◌+◌, ◌*◌, ◌^◌, ◌<◌, ◌≤◌, Some, List, length, slice_get, IfSome}
 use Rattle.khe_base.specs.declared.numbers.MeetId.{MeetId}
 use Rattle.khe_instance.specs.declared.parts.EventInfo.{EventInfo}

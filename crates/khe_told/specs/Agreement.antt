@@ -1,4 +1,4 @@
--- Deviations in a told state.
+-- The deviation of a monitor in a told state, and lists of deviations that agree with the state on some kinds.
 use Rattle.std.specs.Prelude.{ℕ, ◌≡◌, Bool, true, false, Some, List, slice_get}
 use Rattle.khe_instance.specs.Deviation.{deviation}
 use Rattle.khe_instance.specs.declared.parts.Parts.{Parts}

@@ -1,4 +1,5 @@
--- The changes of a told state.
+-- The six changes of one slot: a meet comes or goes, gets or loses its start, and a task gets or loses its resource.
+-- Each has an inverse.
 use Rattle.std.specs.Prelude.{ℕ, Option, Some, None, List, [], ◌∷◌, ◌++◌, slice_set}
 use Rattle.std.specs.Option.{option_map}
 use Rattle.khe_base.specs.declared.numbers.ResourceId.{ResourceId}

@@ -1,4 +1,4 @@
--- What it takes to fill the slots of an instance with the meets and tasks of a state.
+-- The slots of an instance filled with the meets and tasks of a state.
 use Rattle.std.specs.Prelude.{◌≡◌, Some, List, map, All}
 use Rattle.khe_instance.specs.declared.parts.Parts.{Parts}
 use Rattle.khe_instance.specs.declared.states.Meet.{Meet}

@@ -1,4 +1,6 @@
--- Which lists of slots are told states of an instance, and which changes can be told of them.
+-- Slots are told where they are the instance's, each meet ends with the last time or before, what is given has the
+-- right types, and the meets of no event last longer than the event. A change fits where its slot is as the change
+-- finds it and the state after it is told.
 use Rattle.std.specs.Prelude.{ℕ, ◌≡◌, ◌<◌, ◌≤◌, ◌+◌, Some, None, List, [], ◌∷◌, map, length, All, IfSome, replicate}
 use Rattle.std.specs.Prelude.{slice_get}
 use Rattle.khe_base.specs.declared.numbers.ResourceId.{ResourceId}

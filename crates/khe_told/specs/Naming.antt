@@ -1,4 +1,4 @@
--- Which places of meets are given something else.
+-- Which places of a meet changes may give another resource: none, two, or all.
 use Rattle.std.specs.Prelude.{ℕ, ◌≡◌, ◌==◌, ◌||◌, Bool, true, false, Option, List, slice_get}
 use Rattle.khe_base.specs.declared.numbers.ResourceId.{ResourceId}
 use Rattle.khe_told.specs.declared.changes.Change.{Change}

@@ -1,4 +1,5 @@
--- The told state: a list of slots, one for each meet slot of the instance, in order.
+-- A told state is a list of slots, one for each meet slot of the instance: its event, the duration and start of its
+-- meet if there is one, and what each place is given.
 use Rattle.std.specs.Prelude.{ℕ, ◌≡◌, ◌+◌, ◌==◌, Bool, if◌then◌else◌, Option, None, is_some, List, [], ◌∷◌, ◌++◌, map}
 use Rattle.std.specs.Prelude.{length, replicate, slice_index_or}
 use Rattle.std.specs.List.{sum_by, range_with_len}

@@ -1,5 +1,4 @@
--- How a told state is stored: a row for each meet slot, and what is given to each task slot. Task
--- slots are numbered by meet slot and then by place.
+-- How a told state is stored: a row for each meet slot, and one entry for each task slot.
 use Rattle.std.specs.Prelude.{ℕ, ◌≡◌, ◌<◌, ◌+◌, Option, Some, None, List, [], ◌∷◌, take, drop, replicate, slice_set}
 use Rattle.khe_base.specs.declared.numbers.ResourceId.{ResourceId}
 use Rattle.khe_told.specs.Changes.{span_after}

@@ -1,4 +1,5 @@
--- Which lists of slots are timetables that stand whole.
+-- Slots are valid where every event is placed whole, an event with a preassigned time has one meet that starts then,
+-- and a place with a preassigned resource has it.
 use Rattle.std.specs.Prelude.{ℕ, ◌≡◌, ◌<◌, true, Some, List, length, map, slice_get, All}
 use Rattle.std.specs.List.Sorted.{IsStrictlyIncreasing}
 use Rattle.khe_base.specs.declared.numbers.ResourceId.{ResourceId}

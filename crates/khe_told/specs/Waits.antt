@@ -1,4 +1,5 @@
--- Monitors that wait to be measured anew, since a change may have changed their deviations.
+-- Monitors that wait are to be measured anew, since a change may have changed their deviations. A monitor that does
+-- not wait has the deviation that it had.
 use Rattle.std.specs.Prelude.{ℕ, ◌≡◌, Bool, true, false, Some, List, length, nat_eq, if◌then◌else◌, slice_get}
 use Rattle.std.specs.Prelude.{slice_index_or}
 use Rattle.std.specs.List.{count_by}

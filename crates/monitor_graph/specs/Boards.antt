@@ -1,4 +1,5 @@
--- What a graph stands for.
+-- A graph stands for a board: for each monitor its cost function, weight, hardness, attachment and deviation; the
+-- groups; the marked costs; and the room for children at each group number.
 use Rattle.std.specs.Prelude.{ℕ, ◌≡◌, Bool, false, Option, List, map, slice_set}
 use Rattle.khe_base.specs.declared.numbers.MonitorId.{MonitorId}
 use Rattle.monitor_graph.specs.Groups.{Groups}

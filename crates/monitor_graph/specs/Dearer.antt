@@ -1,4 +1,4 @@
--- Which monitors cost more than they did when the costs were marked.
+-- The monitors that cost more than when the costs were marked.
 use Rattle.std.specs.Prelude.{ℕ, ◌+◌, ◌*◌, ◌≡◌, ◌≤◌, nat_lt, if◌then◌else◌, Option, Some, None, List, [], ◌∷◌, length}
 use Rattle.std.specs.Prelude.{sum}
 use Rattle.khe_base.specs.declared.limits.TheConstants.{MONITORS}

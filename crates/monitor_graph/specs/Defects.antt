@@ -1,4 +1,4 @@
--- The row of the defects.
+-- The defects as a row of bits.
 use Rattle.std.specs.Prelude.{ℕ, ◌≡◌, ◌*◌, ◌^◌, ◌<◌, ◌≤◌, List, length}
 use Rattle.khe_base.specs.Bits.{is_set}
 use Rattle.monitor_graph.specs.Lines.{is_defect_at}

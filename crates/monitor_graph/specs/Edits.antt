@@ -1,4 +1,5 @@
--- The six edits of monitors and groups: when each is refused, what it leaves, and what leads back.
+-- The six edits of monitors and groups: the causes for which each is refused, what it leaves, the number that it
+-- makes, and the record that leads back.
 use Rattle.std.specs.Prelude.{ℕ, ◌≡◌, ◌<◌, ◌≤◌, Bool, true, false, not, nat_lt, nat_le, if◌then◌else◌, Option, Some}
 use Rattle.std.specs.Prelude.{None, Result, Ok, Err, List, [], ◌∷◌, ◌++◌, length, slice_get, slice_set, slice_index_or}
 use Rattle.std.specs.List.{insert}

@@ -1,4 +1,4 @@
--- What groups cost, as two rows with a place for each group number.
+-- What each group costs, kept in two rows by group number.
 use Rattle.std.specs.Prelude.{ℕ, ◌≡◌, ◌<◌, ◌≤◌, ◌*◌, List, length, slice_get, slice_index_or}
 use Rattle.std.specs.List.{sum_by}
 use Rattle.std.specs.Option.{option_map_or}

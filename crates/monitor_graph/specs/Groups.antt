@@ -1,5 +1,5 @@
--- Groups of monitors: for each group number the children of the group, in the order in which they
--- were added, or none where there is no such group.
+-- Groups of monitors: for each group number below 200 its children in the order in which they were added, or none
+-- where there is no group. A monitor is in a group at most once.
 use Rattle.std.specs.Prelude.{ℕ, ◌≡◌, ◌==◌, ◌<◌, ◌≤◌, Bool, true, Option, is_none, is_some, List, [], length, slice_get, slice_index_or}
 use Rattle.std.specs.List.{count_by, list_any, position_or_len, remove, sum_by}
 use Rattle.std.specs.Option.{option_and_then, option_map_or}

@@ -1,4 +1,4 @@
--- The monitors whose costs may be others than those that were marked, as a row of bits.
+-- The monitors whose costs may differ from the marked ones, as a row of bits.
 use Rattle.std.specs.Prelude.{ℕ, ◌≡◌, ◌*◌, ◌^◌, ◌<◌, ◌≤◌, true, false, List, length, slice_index_or}
 use Rattle.khe_base.specs.Bits.{is_set}
 use Rattle.monitor_graph.specs.Rows.{AreSummed}

@@ -1,4 +1,4 @@
--- What each monitor has, and what it costs.
+-- What is kept of one monitor, and what it costs.
 use Rattle.std.specs.Prelude.{ℕ, ◌≡◌, ◌≤◌, Bool, false, if◌then◌else◌, List, map, length, nat_lt, slice_get, All}
 use Rattle.std.specs.List.{sum_by}
 use Rattle.std.specs.Option.{option_map_or}

@@ -1,5 +1,4 @@
--- A grouping as plain lists: the monitors that are detached, and the groups, each in the order of its
--- numbers.
+-- The detached monitors and the groups as plain lists, each in the order of its numbers.
 use Rattle.std.specs.Prelude.{ℕ, ◌+◌, Bool, true, false, Some, None, List, [], ◌∷◌}
 use Rattle.khe_base.specs.declared.numbers.MonitorId.{MonitorId}
 use Rattle.khe_instance.specs.declared.states.Group.{Group}

@@ -1,4 +1,4 @@
--- The lines and groups of a timetable before any deviation is known.
+-- A board before any deviation is known.
 use Rattle.std.specs.Prelude.{ℕ, ◌≡◌, ◌≢◌, ◌==◌, ◌<◌, ◌≤◌, Bool, true, false, not, List, length, map, slice_get, All}
 use Rattle.std.specs.Prelude.{AllPairs}
 use Rattle.std.specs.List.{find, range_with_len}

@@ -1,4 +1,4 @@
--- Rows of bits with a summary: a second row, with a bit for each word of the first.
+-- Rows of bits with a summary: a second row with a bit for each word of the first.
 use Rattle.std.specs.Prelude.{ℕ, ◌≡◌, ◌<◌, ◌≤◌, ◌/◌, true, false, List}
 use Rattle.khe_base.specs.Bits.{is_set}
 

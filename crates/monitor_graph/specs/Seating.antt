@@ -1,5 +1,5 @@
--- How groups are kept: a bench for each group number, with the children of its group, and a row of
--- bits with one for each monitor and group number.
+-- How groups are kept: for each group number its children with room for more, and bits that say which monitors are
+-- in it.
 use Rattle.std.specs.Prelude.{ℕ, ◌≡◌, true, ◌+◌, ◌*◌, ◌<◌, ◌≤◌, if◌then◌else◌, Option, List, [], length, map}
 use Rattle.std.specs.Option.{option_map_or}
 use Rattle.khe_base.specs.Bits.{is_set}

@@ -1,4 +1,4 @@
--- Totals as they would be with other deviations.
+-- The totals of a board with other deviations than its own.
 use Rattle.std.specs.Prelude.{ℕ, ◌≡◌, List, map, slice_index}
 use Rattle.khe_base.specs.declared.sums.Totals.{Totals}
 use Rattle.monitor_graph.specs.Boards.{fixed_of}

@@ -1,4 +1,4 @@
--- The values of a graph, by the definitions that evaluation cites.
+-- The costs, totals, defects and group costs of a board, by khe_instance's definitions.
 use Rattle.std.specs.Prelude.{ℕ, ◌≡◌, ◌<◌, ◌≤◌, Bool, true, false, not, Option, Some, None, List, map}
 use Rattle.std.specs.Option.{option_map}
 use Rattle.khe_base.specs.declared.numbers.MonitorId.{MonitorId}

@@ -1,4 +1,4 @@
--- How many tasks of a resource run at a time beyond one, at all times together.
+-- How many tasks of a resource run at a time beyond one, summed over all times.
 use Rattle.std.specs.Prelude.{ℕ, ◌≡◌, ◌≤◌, ◌-◌, List, length, slice_index}
 use Rattle.std.specs.List.{sum_by}
 use Rattle.khe_base.specs.declared.limits.TheConstants.{GREATEST_COUNT, TIMES}

@@ -1,4 +1,4 @@
--- What a keeper of cells keeps.
+-- What a keeper of cells has: the counts of a told state, sets of times as masks, and its monitors.
 use Rattle.std.specs.Prelude.{ℕ, ◌≡◌, Bool, List, length}
 use Rattle.khe_instance.specs.Running.{running_tasks}
 use Rattle.khe_instance.specs.declared.parts.Parts.{Parts}

@@ -1,4 +1,4 @@
--- Each of the five kinds is one that is measured at cells.
+-- Each of the five kinds at cells is measured by a resource's counts.
 use Rattle.std.proofs.Common.{◌≡◌, ◌∙◌, true, refl, ap}
 use Rattle.khe_instance.specs.KindLaws.{is_kind, same_kind}
 use Rattle.khe_instance.specs.declared.rules.Kind.{Kind}

@@ -1,4 +1,5 @@
--- Workloads by resource, and the monitors on them.
+-- The load of a resource is what its tasks are worth together, in whole parts of one over the instance's unit. A
+-- task is worth its place's workload for its meet's share of the event's duration.
 use Rattle.std.specs.Prelude.{ℕ, ◌≡◌, ◌≤◌, ◌<◌, ◌+◌, ◌^◌, ◌⊎◌, Bool, true, false, if◌then◌else◌, Option, Some, None}
 use Rattle.std.specs.Prelude.{List, []}
 use Rattle.std.specs.Prelude.{◌∷◌, length, slice_get, slice_index}

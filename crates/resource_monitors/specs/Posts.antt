@@ -1,4 +1,4 @@
--- The monitors that a keeper serves, for each resource.
+-- The monitors that a keeper serves, listed for each resource.
 use Rattle.std.specs.Prelude.{ℕ, ◌≡◌, ◌<◌, ◌+◌, ◌&&◌, ◌⊎◌, Bool, true, false, if◌then◌else◌, Option, Some, List, []}
 use Rattle.std.specs.Prelude.{◌∷◌, length}
 use Rattle.std.specs.Prelude.{slice_get, slice_index_or}

@@ -1,4 +1,4 @@
--- Monitors at resources, and the sets of times that a rule names for a resource.
+-- The sets of times that a rule at a resource names, as masks.
 use Rattle.std.specs.Prelude.{ℕ, ◌≡◌, Bool, List, [], ◌∷◌, map, nat_lt, count_by}
 use Rattle.khe_base.specs.IdSet.{has_member}
 use Rattle.khe_instance.specs.declared.parts.Parts.{Parts}

@@ -1,4 +1,4 @@
--- A text that grows by an answer, while a sink may take what waits.
+-- An answer that joined what waits, of which a sink may have taken something meanwhile, or that was cut off.
 use Rattle.std.specs.Prelude.{ℕ, Option, List, [], ◌++◌, encode_utf8_all}
 use Rattle.khe_io.specs.Amid.{IsAmid}
 use Rattle.khe_io.specs.Faults.{TookFront}

@@ -1,5 +1,5 @@
--- What a script plays on: a state, and the whole states that were saved at the open marks. Each command
--- makes of it what the tables of edits and marks say.
+-- A play is a state with the states that were saved at the open marks, and each command makes of it what the tables
+-- say. An undo makes the saved state the present one again.
 use Rattle.std.specs.Prelude.{ℕ, ◌-◌, ◌==◌, nat_lt, ◌||◌, Bool, true, false, if◌then◌else◌, Option, Some, None, List}
 use Rattle.std.specs.Prelude.{[], ◌∷◌, drop, length, map}
 use Rattle.khe_base.specs.declared.limits.TheConstants.{MARKS}

@@ -1,4 +1,4 @@
--- What a whole script answers.
+-- The answers to all lines of a script in order, up to the first line without a reading and the line that says why.
 use Rattle.std.specs.Prelude.{ℕ, ◌+◌, Bool, Option, Some, None, Result, Ok, Err, List, [], ◌∷◌, ◌++◌, is_ok}
 use Rattle.std.specs.List.{list_all}
 use Rattle.script_run.specs.Faults.{fault_line}

@@ -1,4 +1,4 @@
--- Which resources may have a task in a monitor's role: those with the types of its places.
+-- The resources that may have a task in a monitor's role: those with the type of such a place.
 use Rattle.std.specs.Prelude.{ℕ, ◌≡◌, ◌<◌, Bool, true, Some, List, slice_get}
 use Rattle.khe_base.specs.IdSet.{has_member}
 use Rattle.khe_instance.specs.declared.parts.EventInfo.{EventInfo}

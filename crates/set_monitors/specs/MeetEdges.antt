@@ -1,4 +1,4 @@
--- When the meets of an event start and end, by the event's slots.
+-- When the meet of each slot of an event starts and ends, as keys whose least is the first start and the last end.
 use Rattle.std.specs.Prelude.{ℕ, ◌≡◌, ◌≢◌, ◌≤◌, ◌+◌, ◌-◌, ◌==◌, Option, Some, None, List, [], All, map, length}
 use Rattle.std.specs.Prelude.{slice_get, slice_index_or, IfSome}
 use Rattle.std.specs.List.{filter}

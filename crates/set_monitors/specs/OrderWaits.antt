@@ -1,4 +1,4 @@
--- Monitors that wait while those at a list of places are let wait, one by one.
+-- Monitors at a list of places that are queued one by one.
 use Rattle.std.specs.Prelude.{ℕ, ◌≡◌, Bool, false, true, Some, List, slice_get}
 use Rattle.khe_instance.specs.declared.parts.Parts.{Parts}
 use Rattle.event_monitors.specs.Posts.{names}

@@ -1,4 +1,4 @@
--- The places in the role of a monitor's events, one of an event at most.
+-- The places in a monitor's role, at most one for each of its events.
 use Rattle.std.specs.Prelude.{ℕ, ◌≡◌, ◌<◌, ◌++◌, ◌∷◌, [], ◌⊎◌, true, false, Some, List, length, slice_get}
 use Rattle.khe_instance.specs.declared.parts.Parts.{Parts}
 use Rattle.khe_instance.specs.declared.points.Monitor.{Monitor}

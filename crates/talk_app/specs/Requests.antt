@@ -1,4 +1,4 @@
--- What a request asks for.
+-- What a request of `khe-talk` asks for.
 use Rattle.talk_app.specs.Words.{Asked}
 use Rattle.talk_app.specs.declared.words.Request.{Request}
 

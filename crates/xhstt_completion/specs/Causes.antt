@@ -1,4 +1,4 @@
--- Why a solution is invalid: the first cause of its first entry that has one.
+-- Why a solution is invalid: the first cause, of seven, of its first entry that has one.
 use Rattle.std.specs.Prelude.{ℕ, ◌+◌, ◌==◌, Bool, false, not, ◌&&◌, ◌||◌, nat_lt, if◌then◌else◌, Option, Some, None}
 use Rattle.std.specs.Prelude.{is_some, is_none, List, [], ◌∷◌, ◌++◌, find, length, slice_get}
 use Rattle.std.specs.List.{list_any, sum_by}

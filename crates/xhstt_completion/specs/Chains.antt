@@ -1,4 +1,4 @@
--- Chains of the numbers of entries.
+-- Chains of the numbers of entries, one for each event, in the order of the entries.
 use Rattle.std.specs.Prelude.{ℕ, ◌≡◌, ◌+◌, ◌≤◌, Some, List, [], ◌∷◌, length, get_or, slice_get}
 use Rattle.xhstt_shape.specs.declared.records.RawEntry.{RawEntry}
 

@@ -1,4 +1,5 @@
--- The state that a solution of an archive says, completed as KHE completes a solution that it reads.
+-- The state that a solution says. The meets of an event are its entries in order and, where they fall short of its
+-- duration, one more of what is missing. Preassigned times and resources are given without being told.
 use Rattle.std.specs.Prelude.{ℕ, ◌≡◌, ◌-◌, ◌==◌, if◌then◌else◌, Option, Some, None, List, [], ◌∷◌, ◌++◌, map, find}
 use Rattle.std.specs.Prelude.{Result, Ok, Err}
 use Rattle.std.specs.List.{flat_map, enumerate_from}

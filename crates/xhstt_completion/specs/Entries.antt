@@ -1,5 +1,4 @@
--- What the entries of a solution say: of which event, for how long, from when on, with which
--- resources.
+-- What an entry of a solution says: of which event, for how long, from when on, and which resource for which role.
 use Rattle.std.specs.Prelude.{ℕ, ◌==◌, Bool, false, Option, Some, None, IsSome, IfSome, unwrap_or, List, All}
 use Rattle.std.specs.List.{filter}
 use Rattle.std.specs.Option.{option_map, option_or, option_and_then}

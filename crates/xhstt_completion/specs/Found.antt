@@ -1,4 +1,4 @@
--- What the entries of a solution name, once it was looked up.
+-- The event, the time and the resources that an entry names, once they were looked up.
 use Rattle.std.specs.Prelude.{ℕ, ◌≡◌, ◌+◌, ◌≤◌, Some, List, map, length, take, drop, slice_get}
 use Rattle.khe_base.specs.declared.numbers.ResourceId.{ResourceId}
 use Rattle.khe_instance.specs.Named.{event_named}

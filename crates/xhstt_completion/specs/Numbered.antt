@@ -1,4 +1,4 @@
--- The solutions of an archive that was resolved, by their numbers.
+-- The solution with a number, counted over all groups of an archive that was resolved, and its instance.
 use Rattle.std.specs.Prelude.{ℕ, ◌≡◌, Option, Some, Ok, slice_get}
 use Rattle.std.specs.Option.{option_and_then}
 use Rattle.khe_instance.specs.declared.parts.Parts.{Parts}

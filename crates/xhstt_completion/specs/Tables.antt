@@ -1,4 +1,4 @@
--- Tables of the roles for which an entry gives resources.
+-- Tables of the places of roles, for entries that give many resources.
 use Rattle.std.specs.Prelude.{ℕ, ◌≡◌, ◌≤◌, Bool, true, if◌then◌else◌, Option, Some, None, List, length, map, position}
 use Rattle.std.specs.Prelude.{slice_get, encode_utf8_all, false, is_none, ◌||◌, find}
 use Rattle.std.specs.List.{list_any}

@@ -1,5 +1,5 @@
--- The first fault of an archive's names and references: the kinds in their order, and of one kind
--- the first place in the text.
+-- The first fault of an archive's names and references: the kinds in their order, and of one kind the first place in
+-- the text.
 use Rattle.std.specs.Prelude.{ℕ, ◌≡◌, min, Option, Some, None, Result, Ok, Err, List, [], ◌∷◌, map}
 use Rattle.std.specs.List.{fold}
 use Rattle.fault_tables.specs.Told.{Tells}

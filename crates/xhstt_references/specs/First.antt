@@ -1,4 +1,4 @@
--- The first of some places: the least of those that are noted one after the other.
+-- The least of some places, noted one after the other.
 use Rattle.std.specs.Prelude.{ℕ, min, Option, Some, None, List}
 use Rattle.std.specs.List.{fold}
 

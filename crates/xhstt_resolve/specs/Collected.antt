@@ -1,4 +1,4 @@
--- How numbers are collected, each at its first mention.
+-- Numbers in the order of their first mention, each once.
 use Rattle.std.specs.Prelude.{ℕ, if◌then◌else◌, [], ◌∷◌, ◌++◌}
 use Rattle.khe_base.specs.IdSet.{has_member, with_member, no_members}
 use Rattle.xhstt_resolve.specs.declared.collecting.Mentions.{Mentions}

@@ -1,4 +1,4 @@
--- A fault of references as a fault of resolving.
+-- A fault of references, told as a fault of resolving.
 use Rattle.xhstt_references.specs.declared.faults.ReferenceFault.{ReferenceFault}
 use Rattle.xhstt_references.specs.declared.faults.ReferenceFault.TheVariants as reference
 use Rattle.xhstt_resolve.specs.declared.faults.ResolveFault.{ResolveFault}

@@ -1,4 +1,4 @@
--- The set of some numbers that may be kept beside them.
+-- The members of a group as a set that is kept beside them.
 use Rattle.std.specs.Prelude.{ℕ, ◌≡◌, Bool, Option, Some, List, length}
 use Rattle.xhstt_resolve.specs.Members.{set_of}
 

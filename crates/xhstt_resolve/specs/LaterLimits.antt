@@ -1,4 +1,4 @@
--- What is left of the limits after some of them were found to be kept.
+-- What is left of the row of limits once some were found to be kept.
 use Rattle.std.specs.Prelude.{◌*◌, Option, [], ◌∷◌, length}
 use Rattle.xhstt_resolve.specs.Limits.{above, earliest, first_above, listings, task_count, total_duration, units}
 use Rattle.xhstt_resolve.specs.Limits.{watch_count}

@@ -1,5 +1,5 @@
--- The limits on the sizes of an instance, in the order of their numbers, each with the value that is
--- above it.
+-- The fifteen limits on an instance in the order of their numbers, each with the value that is counted. The first
+-- that is above its greatest value is told.
 use Rattle.std.specs.Prelude.{ℕ, ◌*◌, ◌==◌, if◌then◌else◌, nat_lt, Option, Some, None, List, [], ◌∷◌, map, length, find}
 use Rattle.std.specs.Prelude.{slice_get}
 use Rattle.std.specs.List.{sum_by}

@@ -1,5 +1,5 @@
--- Who is in a group, and what a list of references lists: groups followed out into their members,
--- and then single items. All of it in lists of numbers.
+-- The members of a group in the order of the archive, and what a list of references lists: its groups followed out,
+-- and then its single items.
 use Rattle.std.specs.Prelude.{ℕ, ◌+◌, ◌==◌, Bool, not, if◌then◌else◌, List, [], ◌∷◌, ◌++◌, map, length}
 use Rattle.std.specs.List.{filter, filter_map, flat_map, fold}
 use Rattle.std.specs.Option.{option_to_list}

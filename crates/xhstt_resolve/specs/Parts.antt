@@ -1,5 +1,6 @@
--- The parts of an instance, with its references followed. It is total: a reference that names nothing
--- leads to the first of its sort, which the faults of references exclude.
+-- The parts of an instance, with its references followed. The places of an event are its resources and then one for
+-- each member of each resource group that it names. A workload that is missing is the event's, else its duration.
+-- References that name nothing lead to the first of their sort; the faults of references exclude them.
 use Rattle.std.specs.Prelude.{ℕ, ◌+◌, Option, Some, None, unwrap_or, List, [], ◌∷◌, ◌++◌, map, length, slice_get}
 use Rattle.std.specs.List.{flat_map}
 use Rattle.std.specs.Option.{option_map, option_map_or}

@@ -1,5 +1,5 @@
--- The points of constraints, and the monitors: constraints in the order of the archive, each followed
--- out into its points.
+-- The points of a constraint: the members of its groups, group by group, then those listed one by one, each once.
+-- Monitors are constraints at their points, in the order of the archive.
 use Rattle.std.specs.Prelude.{ℕ, Bool, false, Option, Some, None, List, [], map, length, slice_get}
 use Rattle.std.specs.List.{enumerate_from, flat_map, range_with_len}
 use Rattle.std.specs.Option.{option_map_or}

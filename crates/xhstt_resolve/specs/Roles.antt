@@ -1,4 +1,4 @@
--- The event resources of an instance by their roles.
+-- The places of an instance's events, listed by their roles.
 use Rattle.std.specs.Prelude.{ℕ, ◌≡◌, ◌+◌, ◌==◌, Bool, List, [], ◌∷◌, ◌++◌, map, slice_index_or}
 use Rattle.std.specs.Option.{option_map_or}
 use Rattle.khe_base.specs.Names.{number_of}

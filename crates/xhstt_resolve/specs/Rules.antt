@@ -1,4 +1,4 @@
--- What a constraint asks for, with its references followed.
+-- The rule of a constraint, with its references followed.
 use Rattle.std.specs.Prelude.{Bool, unwrap_or, List, [], map}
 use Rattle.khe_base.specs.Names.{number_of}
 use Rattle.khe_base.specs.declared.numbers.EventId.{EventId}

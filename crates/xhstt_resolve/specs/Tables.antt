@@ -1,4 +1,4 @@
--- A table of one sort of items with the groups of them, and when tables are those of an instance.
+-- A table of one sort of items with the groups of them.
 use Rattle.std.specs.Prelude.{ℕ, ◌≡◌, ◌<◌, ◌≤◌, ◌^◌, List, [], ◌++◌, length, map, slice_index_or, All}
 use Rattle.std.specs.List.{flat_map}
 use Rattle.std.specs.Option.{option_map_or}

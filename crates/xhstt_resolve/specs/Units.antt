@@ -1,4 +1,4 @@
--- The least common multiple of the durations of events.
+-- The least common multiple of the durations of events, as a running multiple that stops above the limit.
 use Rattle.std.specs.Prelude.{ℕ, ◌*◌, ◌%◌, ◌==◌, List, [], ◌∷◌, find}
 use Rattle.std.specs.List.{fold, range_with_len}
 use Rattle.std.specs.Option.{option_map_or}
