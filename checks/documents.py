@@ -1,19 +1,26 @@
 #!/usr/bin/env python3
-"""Runs every example of README.md and docs/manual.md, and compares what they show with what comes.
+"""Compares the documents with what they speak of: with files, and with what the program prints.
 
+    checks/documents.py
     checks/documents.py KHE
-    checks/documents.py --page
+    checks/documents.py --definitions
     checks/documents.py --copy
 
-KHE is the program, say ./khe or a proved build; with `--page` only docs/khe.1 and docs/CALLING.md are compared, and
-nothing is run. A block of text whose lines begin with `$ ` shows commands with their output. They are run in order in
-a folder that has examples/ and the program, as `khe` and as `./khe`. A command `cat NAME` of a file that isn't there
-shows that file: it is made so. A block without commands after a paragraph that names a file of examples/ shows that
-file. The copies of the manual and of examples/ on which the gate runs the manual's examples are compared with them;
-`--copy` makes these copies anew. The page docs/khe.1 has the synopsis and the statuses of the manual, and examples
-that stand there. The code that docs/CALLING.md shows stands in crates/calling_examples, which the gate proves. It
-prints a line for each difference, then how many commands, files and parts it compared, and ends with status 1 where
-one differed.
+Without a program nothing is run, and these are compared: the copies of the manual and of examples/ on which the gate
+runs the manual's examples; docs/khe.1, which has the synopsis and the statuses of the manual, and examples that stand
+there; the code that docs/CALLING.md shows, which stands in crates/calling_examples, where the gate proves it;
+docs/definitions.md with the first comments of the spec files; and the links of all documents with the files that they
+lead to.
+
+KHE is the program, say ./khe or a proved build. With it the examples of README.md and docs/manual.md are run as well.
+A block of text whose lines begin with `$ ` shows commands with their output. They are run in order in a folder that
+has examples/ and the program, as `khe` and as `./khe`. A command `cat NAME` of a file that isn't there shows that
+file: it is made so. A block without commands after a paragraph that names a file of examples/ shows that file.
+
+`--definitions` prints docs/definitions.md, and `--copy` makes the gate's copies anew.
+
+It prints a line for each difference, then how many commands, files and parts it compared, and ends with status 1
+where one differed.
 """
 
 import os
@@ -25,6 +32,17 @@ import tempfile
 
 TOP = os.path.dirname(os.path.dirname(os.path.abspath(__file__)))
 DOCUMENTS = ["README.md", "docs/manual.md"]
+ABOUT_DEFINITIONS = """# Definitions
+
+For the reader who asks where a rule stands. What the program answers is defined apart from how it computes it, in the
+spec files of the crates. This page has the first comment of each, in the order of `crates.txt`, the lowest crate
+first; `checks/documents.py --definitions` prints it. Start at [Outcome](../crates/khe_app/specs/Outcome.antt), which
+says what a run of `khe` is to answer, and follow its `use` lines down. [glossary.md](glossary.md) has the words,
+[DECISIONS.md](DECISIONS.md) the choices and the sources, [claims.md](claims.md) the clauses that cite these files.
+
+Files of laws, lemmas and examples are left out. Not all files define something of the subject: some say how it is
+kept in memory or how far a search has come, and only private clauses and proofs cite these.
+"""
 COPIES = os.path.join(TOP, "crates/manual_examples/data")
 CALLERS = os.path.join(TOP, "crates/calling_examples")
 
@@ -37,6 +55,56 @@ def copied():
         for name in names:
             path = os.path.join(folder, name)
             yield path, os.path.join(COPIES, os.path.relpath(path, TOP))
+
+
+def first_comment(path):
+    """The first comment of a spec file, as one line."""
+    said = []
+    with open(path, encoding="utf-8") as file:
+        for line in file:
+            if not line.startswith("-- "):
+                break
+            said.append(line[3:].strip())
+    return " ".join(said)
+
+
+def definitions():
+    """The text of docs/definitions.md: the first comments of the spec files, crate by crate."""
+    parts, layer = [ABOUT_DEFINITIONS], None
+    with open(os.path.join(TOP, "crates.txt"), encoding="utf-8") as file:
+        lines = file.read().split("\n")
+    for line in lines:
+        if line.startswith("# "):
+            layer = line[2:]
+        crate = re.match(r"(\w+)( staticlib)?:", line)
+        specs = os.path.join("crates", crate.group(1), "specs") if crate else ""
+        if layer == "Tests" or not os.path.isdir(os.path.join(TOP, specs or "none")):
+            continue
+        names = [name[:-5] for name in sorted(os.listdir(os.path.join(TOP, specs))) if name.endswith(".antt")]
+        told = [name for name in names if not re.search(r"^Lib$|(Laws|Lemmas|Examples)$", name)]
+        if not told:
+            continue
+        if layer:
+            parts.append("\n## %s\n" % layer)
+            layer = ""
+        parts.append("\n### %s\n\n" % crate.group(1))
+        for name in told:
+            path = os.path.join(specs, name + ".antt")
+            parts.append("- [%s](../%s). %s\n" % (name, path, first_comment(os.path.join(TOP, path))))
+    return "".join(parts)
+
+
+def documents():
+    """The documents of the repository."""
+    for folder in (".", "docs", "bench", "drafts"):
+        for name in sorted(os.listdir(os.path.join(TOP, folder))):
+            if name.endswith(".md"):
+                yield os.path.normpath(os.path.join(folder, name))
+
+
+def slug(heading):
+    """The name by which a link leads to a heading."""
+    return re.sub(r"[^\w -]", "", heading.strip().lower()).replace(" ", "-")
 
 
 def bytes_of(path):
@@ -160,6 +228,47 @@ class Comparison:
             stands = any(lines_of(block) in one for one in proved)
             self.compare("docs/CALLING.md:%d" % first, block[0], "a proved file", "a proved file" if stands else "none")
 
+    def copies(self):
+        """Compares the gate's copies with the files themselves."""
+        for path, other in copied():
+            self.compare(path, "its copy for the gate", bytes_of(path), bytes_of(other))
+
+    def definitions(self):
+        """Compares docs/definitions.md with the first comments of the spec files."""
+        with open(os.path.join(TOP, "docs/definitions.md"), encoding="utf-8") as file:
+            shown = file.read().split("\n")
+        came = definitions().split("\n")
+        lines = [(a, b) for a, b in zip(shown, came) if a != b] or [(str(len(shown)), str(len(came)))]
+        self.compare("docs/definitions.md", "made by --definitions", lines[0][0] + "\n", lines[0][1] + "\n")
+
+    def links(self):
+        """Looks for the file, and for the heading, that each link of a document leads to."""
+        for name in documents():
+            with open(os.path.join(TOP, name), encoding="utf-8") as file:
+                text = file.read()
+            lost = []
+            for link in re.findall(r"\]\(([^)\s]+)\)", re.sub(r"(?ms)^```.*?^```", "", text)):
+                if re.match(r"\w+:", link):
+                    continue
+                to, _, heading = link.partition("#")
+                path = os.path.join(TOP, os.path.dirname(name), to) if to else os.path.join(TOP, name)
+                if not os.path.exists(path):
+                    lost.append(link)
+                elif heading:
+                    with open(path, encoding="utf-8") as file:
+                        headings = re.findall(r"(?m)^#+ (.*)$", file.read())
+                    if heading not in [slug(one) for one in headings]:
+                        lost.append(link)
+            self.compare(name, "its links", [], lost)
+
+    def files(self):
+        """Compares all that needs no program."""
+        self.copies()
+        self.page()
+        self.callers()
+        self.definitions()
+        self.links()
+
     def document(self, name):
         with open(os.path.join(TOP, name), encoding="utf-8") as file:
             text = file.read()
@@ -174,15 +283,21 @@ class Comparison:
 
 
 def main():
-    if sys.argv[1] == "--copy":
+    words = sys.argv[1:]
+    if words == ["--copy"]:
         copy()
-        return
-    if sys.argv[1] == "--page":
+    elif words == ["--definitions"]:
+        sys.stdout.write(definitions())
+    elif not words or words == ["--page"]:
         comparison = Comparison(TOP)
-        comparison.page()
-        comparison.callers()
+        comparison.files()
         comparison.end()
-    program = os.path.abspath(sys.argv[1])
+    else:
+        run(os.path.abspath(words[0]))
+
+
+def run(program):
+    """Runs the examples of the documents by the program, and compares all else."""
     with tempfile.TemporaryDirectory() as folder:
         shutil.copytree(os.path.join(TOP, "examples"), os.path.join(folder, "examples"))
         os.mkdir(os.path.join(folder, "bin"))
@@ -193,10 +308,7 @@ def main():
         comparison = Comparison(folder)
         for name in DOCUMENTS:
             comparison.document(name)
-        for path, other in copied():
-            comparison.compare(path, "its copy for the gate", bytes_of(path), bytes_of(other))
-        comparison.page()
-        comparison.callers()
+        comparison.files()
     comparison.end()
 
 
