@@ -231,7 +231,8 @@ class Comparison:
     def copies(self):
         """Compares the gate's copies with the files themselves."""
         for path, other in copied():
-            self.compare(path, "its copy for the gate", bytes_of(path), bytes_of(other))
+            found = "the same bytes" if bytes_of(path) == bytes_of(other) else "others"
+            self.compare(os.path.relpath(path, TOP), "its copy for the gate", "the same bytes", found)
 
     def definitions(self):
         """Compares docs/definitions.md with the first comments of the spec files."""
@@ -312,4 +313,5 @@ def run(program):
     comparison.end()
 
 
-main()
+if __name__ == "__main__":
+    main()
