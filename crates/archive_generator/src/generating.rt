@@ -88,7 +88,7 @@ fn archive(alloc: Global, size: u32, drawn: &DrawnJob) -> Result<Archive, NoMemo
     })
 }
 
-/// An archive of one instance of so many events, with a constraint of each kind and four solutions.
+/// An archive of one instance with the given number of events, a constraint of each kind and four solutions.
 ///
 /// What varies is drawn: the durations of events and some preassigned times, and then, for each
 /// solution, which events are cut in two, and most times, teachers and rooms. The draws of the archive

@@ -9,7 +9,7 @@ use khe_base::{NoMemory, Seq};
 use std::alloc::Global;
 use xhstt_shape::Ref;
 
-/// An empty list with room for so many elements.
+/// An empty list with room for the given number of elements.
 pub(crate) fn roomy<T>(alloc: Global, count: usize) -> Result<Seq<T>, NoMemory>
     ensures { IfOk result (λ list. list ≡ []) }
 {

@@ -20,7 +20,7 @@ fn text(alloc: Global, word: &str) -> Result<Text, NoMemory>
     Ok(text)
 }
 
-/// An empty text with room for so many bytes.
+/// An empty text with room for the given number of bytes.
 fn roomy_text(alloc: Global, bytes: usize) -> Result<Text, NoMemory>
     ensures { IfOk result (λ t. t ≡ []) }
 {

@@ -124,7 +124,7 @@ fn resource(alloc: Global, sort: Sort, number: u32) -> Result<RawResource, NoMem
     })
 }
 
-/// Adds so many resources of a sort.
+/// Adds the given number of resources of a sort.
 fn add_resources(
     alloc: Global,
     list: &mut Seq<RawResource>,

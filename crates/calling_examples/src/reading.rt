@@ -17,7 +17,7 @@ use xhstt_shape::Archive;
 use xhstt_shape::reading::archive;
 use xhstt_text::elements;
 
-/// More instances than so many have no numbers.
+/// The most instances that can be numbered.
 const MOST_INSTANCES: usize = u32::MAX as usize;
 
 /// An archive with its instances.

@@ -42,7 +42,7 @@ const ROWS: &[Row] = &[
     ),
 ];
 
-/// Whether a run ends well, and each of the first so many numbers passes its gate once, and no other does.
+/// Whether a run ends well, and each number below the given one passes its gate once, and no other does.
 fn passes_first<R: Threads + Sync>(
     rt: &R,
     alloc: Global,

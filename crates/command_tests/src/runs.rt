@@ -315,5 +315,5 @@ pub(crate) const REPAIRED: &[&Run] = &[&REPAIR, &SOLVE];
 /// Those of which a new timetable is written.
 pub(crate) const RENEWED: &[&Run] = &[&CONSTRUCT, &MATCH];
 
-/// Those that write an archive as it is read or drawn.
+/// The runs that write an archive as it is read or drawn.
 pub(crate) const SPELLED: &[&Run] = &[&CHECK, &MAKE];

@@ -154,7 +154,7 @@ meet 8 event "K" duration 1 time -
 "#,
         )],
     },
-    // Followers go where the meets that a swap exchanges go, and a split or a merge is refused to who leads or follows.
+    // Followers go where the meets that a swap exchanges go, and a split or a merge of a leader or follower is refused.
     Row {
         words: &["tied", "archive", "0", "script"],
         script: r#"assign 0 0

@@ -231,7 +231,7 @@ fn all_by(option: &str) -> Option<(bool, u32)>
     }
 }
 
-/// All monitors by so many workers, where the words are both options in any order.
+/// All monitors, and the number of workers, where the words are both options in any order.
 #[tactic(auto, unfolding(crate::specs::Words::both_by))]
 fn both_by(first: &str, second: &str, third: &str) -> Option<(bool, u32)>
     ensures options { result ≡ both_by first.now second.now third.now }
@@ -531,7 +531,7 @@ fn make_by<'a>(seed: &str, words: &[String]) -> Option<Request<'a>>
     }
 }
 
-/// The archive that is made from a seed and with so many events.
+/// The archive that is made from a seed with the given number of events.
 #[tactic(auto, unfolding(crate::specs::Words::made_by))]
 fn made_by<'a>(seed: &str, size: &str) -> Option<Request<'a>>
     ensures asked { MatchOption result (made_by seed.now size.now ≡ None) (λ r. made_by seed.now size.now ≡ Some (asked_of r)) }

@@ -45,7 +45,7 @@ fn list_meets(alloc: Global, inst: &Instance, amounts: &[u32]) -> Result<Seq<Mee
     Ok(meets)
 }
 
-/// How long the meet with a number is of so many that an event is cut into.
+/// How long the meet with a number is, where an event is cut into `amount`.
 #[tactic(auto, unfolding(crate::specs::Cuts::part))]
 fn part(duration: u32, amount: u32, number: u32) -> u32
     requires some { 0 < amount }
@@ -60,7 +60,7 @@ fn part(duration: u32, amount: u32, number: u32) -> u32
     }
 }
 
-/// The meet with a number of so many that an event is cut into.
+/// The meet with a number, where an event is cut into `amount`.
 fn meet_of(event: EventId, info: &EventInfo, amount: u32, number: u32) -> Meet
     requires some { number < amount }
     requires slots { info.now.first_meet + number < 2 ^ 32 }

@@ -61,21 +61,21 @@ pub(crate) fn widest(duration: u32) -> Bounds
     }
 }
 
-/// Whether so many meets of a length last no longer together than a duration.
+/// Whether `amount` meets of a length together last no longer than a duration.
 fn fit_in(amount: u32, length: u32, duration: u32) -> bool
     ensures { result ≡ nat_le (amount * length) duration }
 {
     u64::from(amount) * u64::from(length) <= u64::from(duration)
 }
 
-/// Whether so many meets of a length last as long together as a duration, or longer.
+/// Whether `amount` meets of a length together last at least as long as a duration.
 fn fill(amount: u32, length: u32, duration: u32) -> bool
     ensures { result ≡ nat_le duration (amount * length) }
 {
     u64::from(duration) <= u64::from(amount) * u64::from(length)
 }
 
-/// Whether so many meets may be cut of a duration.
+/// Whether a duration may be cut into `amount` meets.
 #[tactic(auto, unfolding(crate::specs::Cuts::allows))]
 fn allows(bounds: Bounds, duration: u32, amount: u32) -> bool
     ensures { result ≡ spec.allows bounds duration amount }

@@ -21,7 +21,7 @@ ghost use Rattle.khe_told.specs.Agreement.{deviation_in};
 ghost use Rattle.khe_told.specs.Lists.{meets_in};
 ghost use Rattle.khe_told.specs.declared.edits.Edit.{Edit};
 
-// Of some edits the one that is taken is accepted, lowers the totals, and is the first of those that leave the
+// Of some edits the one that is taken is accepted, lowers the totals, and is the first of the edits that leave the
 // least; where none is taken, none that is accepted lowers the totals, and the state stays.
 fn the_first_of_the_least_is_taken()
     ensures taken { (p : Parts) (s : State) (es : List Edit) (e : Edit) → lowering p s es ≡ Some e → IsTaken p s es e }

@@ -25,7 +25,7 @@ use std::mem;
 /// of resources, and the domain of each demand.
 ///
 /// It takes memory in proportion to the demands, the supplies, and the sets with their members.
-/// The order has those that are left out first, then the others of the set that is kept, then all
+/// The order has the unserved demands first, then the others of the set that is kept, then all
 /// other demands. One row of bits has those of the supplies outside of that set; the other has all
 /// bits set between calls.
 #[derive(Drop)]
@@ -112,7 +112,7 @@ impl Matching {
     /// time, where the demand is made absent and is left out or stands outside of the set; and
     /// where it stands outside of the set and its new domain admits the supply that it has.
     ///
-    /// Else there is a search from those that are left out, where a demand of the set loses its
+    /// Else there is a search from the unserved demands, where a demand of the set loses its
     /// supply, and one from the demand itself, where it gets a domain. A search meets each demand
     /// once at most, from the demand itself none of the set, and ends at the first free supply.
     /// For each demand met it takes one look at each resource of the domain for each 64 of its
@@ -149,8 +149,8 @@ impl Matching {
     /// Where the deficit is 0 it is empty, and is answered in constant time and without memory.
     /// Else it takes memory for a mark of one bit for each demand and for the demands of the set,
     /// and time in proportion to these, to a 64th of all demands, and to the supplies that the
-    /// demands may have which are followed: first those that are left out, and none any more once
-    /// all demands of the kept set were met.
+    /// followed demands may have: first the unserved ones, and none any more once all demands of
+    /// the kept set were met.
     pub fn hall_set(&self) -> Result<Seq<u32>, NoMemory>
         ensures ascending { IfOk result (λ hall. IsStrictlyIncreasing hall) }
         ensures least { IfOk result (λ hall. IsHallSet self.now (λ demand. list_any (λ member. member == demand) hall)) }
@@ -167,9 +167,8 @@ impl Matching {
     ///
     /// It fails where memory is refused; the matching stays as it was in any case. It takes memory for
     /// a mark of one bit for each demand and for the demands of the set, and time in proportion to
-    /// these, to a 64th of all demands, and to the supplies that the demands may have which are
-    /// followed: first those that are left out, and none any more once all demands of the kept set
-    /// were met.
+    /// these, to a 64th of all demands, and to the supplies that the followed demands may
+    /// have: first the unserved ones, and none any more once all demands of the kept set were met.
     pub fn hall_marks(&self) -> Result<IdSet, NoMemory>
         ensures size { IfOk result (λ marks. length marks ≡ length self.now.demands) }
         ensures least { IfOk result (λ marks. IsHallSet self.now (has_member marks)) }
@@ -193,7 +192,7 @@ impl Matching {
     }
 
     /// Takes away the domain of a demand. Where it has a supply and is in the set that is kept, one
-    /// of those that are left out may have a supply then.
+    /// of the unserved demands may get a supply then.
     fn remove(&mut self, demand: u32)
         requires { demand < length self.old.demands }
         ensures { self.new ≡ with_domain self.old demand None }

@@ -1,4 +1,4 @@
-//! Which demands compete for the supplies of those that are left out.
+//! Which demands compete with the unserved ones for supplies.
 
 ghost use Rattle.std.specs.Prelude.{◌≡◌, ◌+◌, ◌*◌, ◌<◌, ℕ, true, length, slice_index, Some, IfOk, OnOk};
 ghost use Rattle.khe_base.specs.IdSet.{has_member};
@@ -22,7 +22,7 @@ pub(crate) struct Reach {
 }
 
 impl Reach {
-    /// None of so many demands.
+    /// No demand is reached yet, of the given number.
     fn new(alloc: Global, count: u32) -> Result<Reach, NoMemory>
         ensures demands { IfOk result (λ r. length r.demands ≡ 0) }
         ensures size { IfOk result (λ r. length r.marks ≡ count) }
@@ -34,7 +34,7 @@ impl Reach {
         })
     }
 
-    /// The demand that was reached after so many others.
+    /// The demand that was reached at a place of the order.
     fn demand(&self, k: usize) -> u32
         requires { k < length self.now.demands }
         ensures { result ≡ slice_index self.now.demands k }
@@ -59,7 +59,7 @@ impl Reach {
         Ok(())
     }
 
-    /// Whoever has a supply is reached, which a demand that was reached may have.
+    /// Reaches the demand that has a supply, which a reached demand may have.
     fn follow_supply(&mut self, table: &Table, from: u32, supply: usize) -> Result<(), NoMemory>
         requires table { IsTable table.now }
         requires reach { IsReach table.now self.old.demands self.old.marks }
@@ -131,7 +131,7 @@ impl Reach {
         Ok(())
     }
 
-    /// All that can be are reached, which so many are at most. It ends as soon as so many are.
+    /// Reaches all demands that can be reached. It ends as soon as `most` are, which is a bound on them.
     fn follow_all(&mut self, table: &Table, most: u32) -> Result<(), NoMemory>
         requires table { IsTable table.now }
         requires reach { IsReach table.now self.old.demands self.old.marks }
@@ -152,7 +152,7 @@ impl Reach {
     }
 }
 
-/// The marks of all demands that are reached from those that are left out. They are among the first
+/// The marks of all demands that are reached from the unserved ones. They are among the first
 /// demands of the order, `met` of them; where all of these are reached, none is followed any more.
 pub(crate) fn reached_from(
     alloc: Global,

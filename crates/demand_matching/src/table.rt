@@ -1,4 +1,4 @@
-//! The domains of demands, and who has which supply.
+//! The domains of demands, and which demand has which supply.
 
 ghost use Rattle.std.specs.Prelude.{◌≡◌, ◌≢◌, ◌+◌, ◌-◌, ◌*◌, ◌^◌, ◌<◌, ◌≤◌, ℕ, true, false, length, slice_index};
 ghost use Rattle.std.specs.Prelude.{Option, None, Some, IfSome, MatchOption};
@@ -17,7 +17,7 @@ use crate::sets::Sets;
 use crate::windows::window;
 use khe_base::bits::{clear_bit, has_bit, set_bit};
 
-/// The domains of the demands, who has which supply, and the bits of the supplies that are free.
+/// The domains of the demands, which demand has which supply, and the bits of the free supplies.
 pub(crate) struct Table {
     pub(crate) times: Sets,
     pub(crate) resources: Sets,
@@ -287,7 +287,7 @@ impl Table {
     }
 
     /// Looks for a free supply, from the first demands of the order that stand at `head` or later:
-    /// those are met, and whoever has a supply that a demand met may have. The demands before
+    /// these are met, and each demand that has a supply which a met one may have. The demands before
     /// `head` count as met, and nothing is looked at for them. The bits of the supplies that those
     /// met have are cleared, and set again where a free supply is found.
     ///

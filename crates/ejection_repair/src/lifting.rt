@@ -8,7 +8,7 @@ use crate::moving::is_same;
 use khe_told::Edit;
 use repair_moves::Moved;
 
-/// The first of several moves: so many of them that lift the same, or one by itself.
+/// The first of several moves: a run of them that lift the same meet or task, or one by itself.
 #[derive(Clone, Copy)]
 pub(crate) struct Run {
     /// What all of them lift.

@@ -112,7 +112,7 @@ pub(crate) fn is_same(a: Moved, b: Moved) -> bool
     }
 }
 
-/// Whether a meet or task is among those that were moved.
+/// Whether a meet or task was moved before.
 #[tactic(auto, unfolding(crate::specs::Trails::was_moved))]
 fn was_moved(moved: &[Moved], x: Moved) -> bool
     ensures { result ≡ spec.was_moved moved.now x }
@@ -120,7 +120,7 @@ fn was_moved(moved: &[Moved], x: Moved) -> bool
     moved.iter().any(|other| is_same(x, *other))
 }
 
-/// Whether one of these is among those that were moved.
+/// Whether one of these meets or tasks was moved before.
 fn were_moved(moved: &[Moved], movings: Movings) -> bool
     ensures { result ≡ list_any (spec.was_moved moved.now) (movings.first ∷ cons_option movings.second []) }
 {

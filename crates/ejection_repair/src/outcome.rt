@@ -3,7 +3,7 @@
 /// How a repair ended.
 #[derive(Clone, Copy, PartialEq, Eq)]
 pub enum Outcome {
-    /// No chain of at most so many moves as were asked for leaves lower totals.
+    /// No chain of at most `depth` moves leaves lower totals.
     Done {
         /// How many chains were taken.
         accepted: u64,
@@ -16,7 +16,7 @@ pub enum Outcome {
         accepted: u64,
         /// How many chains were looked at: the budget.
         tried: u64,
-        /// No chain of at most so many moves leaves lower totals.
+        /// No chain of at most this many moves leaves lower totals.
         complete_to: u32,
     },
 }
@@ -28,6 +28,6 @@ pub(crate) enum Round {
     Settled,
     /// A chain was taken.
     Taken,
-    /// No try is left, and so many lengths were gone through.
+    /// No try is left, and this many lengths were gone through.
     Spent(u32),
 }

@@ -14,14 +14,14 @@ use khe_solution::Solution;
 use khe_told::Edit;
 use repair_moves::{Cursor, moves, next_move};
 
-/// A cursor that went on by so many moves.
+/// A cursor that went on by the given number of moves.
 #[derive(Clone, Copy)]
 struct Passed {
     cursor: Cursor,
     count: u64,
 }
 
-/// Goes past so many moves, or past all where there are fewer.
+/// Goes past the given number of moves, or past all where there are fewer.
 fn pass_by(inst: &Instance, solution: &Solution<'_>, first: Cursor, count: u64) -> Passed
     requires of { solution.now.parts ≡ inst.now }
     requires cursor { IsCursor inst.now first }
@@ -44,7 +44,8 @@ fn pass_by(inst: &Instance, solution: &Solution<'_>, first: Cursor, count: u64) 
 
 /// The list of a monitor's moves, begun at the place of a number.
 ///
-/// It goes past at most as many moves as the number, and where there are fewer past so many again.
+/// It goes past at most as many moves as the number. Where there are fewer it goes past the
+/// remainder of the number by how many there are.
 pub(crate) fn moves_from(
     inst: &Instance,
     solution: &Solution<'_>,
@@ -68,7 +69,7 @@ pub(crate) fn moves_from(
     }
 }
 
-/// A list of so many moves, begun at the place of a number that is no less.
+/// A list of known length, begun at the place of a number that is no less.
 fn begun_round(
     inst: &Instance,
     solution: &Solution<'_>,

@@ -19,14 +19,14 @@ use khe_engine::Engine;
 use khe_told::{Family, Steps};
 use std::sync::ledger::Ledger;
 
-/// A number that so many defects stand below.
+/// The least number that the given number of defects stand below.
 #[derive(Clone, Copy)]
 struct PassedDefects {
     from: u32,
     count: u64,
 }
 
-/// Goes past so many defects, or past all where there are fewer.
+/// Goes past the given number of defects, or past all where there are fewer.
 fn pass_defects<F: Family>(engine: &Engine<'_, F>, count: u64) -> PassedDefects
     ensures count { result.count ≡ min count (length (defects (costs_at engine.now.parts engine.now.state))) }
     ensures from { defects_from (costs_at engine.now.parts engine.now.state) result.from

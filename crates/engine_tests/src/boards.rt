@@ -50,7 +50,7 @@ fn a_claim_raises_the_next_number(rt: HostRuntime) -> Result<(), Fail> {
     Ok(())
 }
 
-/// What 10,000 jobs came to that so many workers claimed: how the board was closed, and whether each
+/// What 10,000 jobs came to that several workers claimed: how the board was closed, and whether each
 /// job was claimed once.
 fn all_claimed<R: Threads + Sync>(
     rt: &R,

@@ -52,7 +52,7 @@ fn gather(board: &Board, mine: Drawn, theirs: Drawn) -> Result<Drawn, NoMemory>
     Ok(Drawn { seat, jobs })
 }
 
-/// Claims numbers until there is no job left, by so many workers, of which this thread is one.
+/// Claims numbers until there is no job left, by several workers, of which this thread is one.
 pub(crate) fn draw_together<R: Threads + Sync>(
     rt: &R,
     alloc: Global,

@@ -33,7 +33,7 @@ fn told_of(verdict: &Verdict) -> Told {
     }
 }
 
-/// What comes of the solutions of an archive, by so many workers.
+/// What comes of the solutions of an archive, by the given number of workers.
 fn at_once<R: Threads + Sync, G: Gate>(
     rt: &R,
     alloc: Global,
@@ -98,7 +98,7 @@ fn in_turn<R: Threads + Sync, G: Gate>(
     Ok((all, count))
 }
 
-/// The archive with so many solutions that place nothing, one that costs nothing and one that is
+/// The archive with `empty` solutions that place nothing, one that costs nothing and one that is
 /// invalid.
 fn read_with(alloc: Global, empty: usize) -> Result<Option<Worked>, NoMemory>
     ensures formed { IfOk result (λ found. IfSome found (λ w. IsInForm w.archive)) }

@@ -12,7 +12,7 @@ const FAR: &[u32] = &[
     0, 63, 64, 4_095, 4_096, 4_160, 262_143, 262_144, 700_001, 999_999,
 ];
 
-/// Those that are left without two of them.
+/// The defects that are left without two of them.
 const LEFT: &[u32] = &[0, 63, 4_095, 4_096, 4_160, 262_143, 700_001, 999_999];
 
 /// Whether the last of a million monitors goes into each of the 200 groups.

@@ -22,7 +22,7 @@ const LAST: &str =
 
 const TAIL: &str = "</SolutionGroup></SolutionGroups>\n</HighSchoolTimetableArchive>\n";
 
-/// The text of the archive with so many solutions that place nothing, then one that places the event,
+/// The text of the archive with `empty` solutions that place nothing, then one that places the event,
 /// and one that is invalid.
 pub(crate) fn text_of(alloc: Global, empty: usize) -> Result<String, AllocError> {
     let mut text = String::new(alloc);

@@ -100,7 +100,7 @@ fn wrong_of<L: Ledger>(hand: &mut Hand<'_>, play: &Play, blank: Blank) -> Option
     None
 }
 
-/// Whether an edit is refused so, by a check and when it is made, and nothing is heard of it.
+/// Whether an edit is refused so, by a check and when it is made, and no change is noted.
 fn is_refused<L: Ledger>(
     hand: &mut Hand<'_>,
     act: Act,

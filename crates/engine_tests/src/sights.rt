@@ -115,7 +115,7 @@ fn found(
     Some(from)
 }
 
-/// Whether these are the changes that were heard last, in this order.
+/// Whether these are the changes that were noted last, in this order.
 pub(crate) fn heard(hand: &Hand<'_>, moves: &[Move]) -> bool {
     let heard = hand.heard();
     heard.len() == moves.len()

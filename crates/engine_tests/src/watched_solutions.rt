@@ -64,7 +64,7 @@ impl Watcher for Listener {
     ghost same_rest_trans = { λ x y z a b. tt };
 }
 
-/// A timetable, and who listens to it. Contracts see the timetable.
+/// A timetable with its listener. Contracts see the timetable.
 #[derive(Drop)]
 pub(crate) struct Hand<'i> {
     solution: Solution<'i>,

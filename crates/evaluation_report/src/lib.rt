@@ -1,4 +1,4 @@
-//! The lines of the report on an archive's solutions, and those that answer a script: each call makes one line, or
+//! The lines of the report on an archive's solutions, and of the answers to a script: each call makes one line, or
 //! adds one to a text, and the line ends with a line feed. The source of the rules is this project's own form of a
 //! report.
 #![tactic(auto)]

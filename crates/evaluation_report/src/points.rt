@@ -76,7 +76,7 @@ fn push_role(alloc: Global, line: &mut Text, event: &EventInfo, place: u32) -> R
     push_id(alloc, line, " role \"", role, "\"")
 }
 
-/// Adds the pair with this number of those that a rule lists.
+/// Adds the pair with this number among a rule's pairs.
 fn push_listed_pair(
     alloc: Global,
     line: &mut Text,

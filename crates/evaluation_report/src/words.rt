@@ -12,7 +12,7 @@ use khe_instance::Kind;
 use std::alloc::Global;
 use xhstt_text::escape;
 
-/// Adds an Id in quotes, escaped. It takes time linear in the Id, and no memory of its own where the Id is plain.
+/// Adds an Id in quotes, escaped. It takes time linear in the Id, and no further memory where the Id is plain.
 pub(crate) fn push_quoted(alloc: Global, line: &mut Text, id: &Text) -> Result<(), NoMemory>
     ensures { OnOk result (line.new ≡ line.old ++ quoted id.now) }
 {
@@ -20,7 +20,7 @@ pub(crate) fn push_quoted(alloc: Global, line: &mut Text, id: &Text) -> Result<(
 }
 
 /// Adds an Id, escaped, between two texts that bring the quotes along, as `event "` and `"`: a line has fewer pieces
-/// so. It takes time linear in what is added, and no memory of its own where the Id is plain.
+/// so. It takes time linear in what is added, and no further memory where the Id is plain.
 pub(crate) fn push_id(
     alloc: Global,
     line: &mut Text,

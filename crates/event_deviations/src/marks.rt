@@ -33,7 +33,7 @@ impl Model for Marks {
 }
 
 impl Marks {
-    /// The value 0 for so many numbers. It takes time and memory in proportion to the size.
+    /// The value 0 for the given number of numbers. It takes time and memory in proportion to the size.
     pub(crate) fn new(alloc: Global, size: u32) -> Result<Marks, NoMemory>
         ensures { IfOk result (λ m. m ≡ replicate size 0) }
     {
@@ -79,7 +79,7 @@ impl Marks {
         self.values[n as usize] = value;
     }
 
-    /// Gives all numbers the value 0 again, in the time of those that had another one.
+    /// Gives all numbers the value 0 again, in time linear in the numbers that had another one.
     pub(crate) fn clear(&mut self)
         ensures { self.new ≡ replicate (length self.old) 0 }
     {

@@ -111,7 +111,7 @@ fn turns<F: Family + Drop>(bench: &mut Bench<'_, F>, monitors: Monitors) -> bool
         && stand(bench, monitors, EMPTY)
 }
 
-/// Whether they do so many times over.
+/// Whether they do so the given number of times over.
 fn turns_often<F: Family + Drop>(
     bench: &mut Bench<'_, F>,
     monitors: Monitors,
@@ -140,7 +140,7 @@ fn turns_from<F: Family + Drop>(
     Ok(turns_often(&mut bench, monitors, rounds))
 }
 
-/// Whether a family's monitors deviate so, so many times over.
+/// Whether a family's monitors deviate so, the given number of times over.
 fn holds<F: Family + Drop>(alloc: Global, monitors: Monitors, rounds: u32) -> Result<bool, NoMemory>
     requires { F.IsWellJoined }
 {

@@ -12,7 +12,7 @@ pub(crate) struct Marks {
     pub(crate) calls: u64,
 }
 
-/// A deviation of 0 for each of so many monitors.
+/// A deviation of 0 for each of the given number of monitors.
 pub(crate) fn no_marks(alloc: Global, monitors: u32) -> Result<Marks, NoMemory>
     ensures { IfOk result (λ m. length m.values.items ≡ monitors) }
 {

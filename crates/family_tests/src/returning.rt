@@ -88,7 +88,7 @@ fn are_alike<F: Family + Drop>(first: &Bench<'_, F>, second: &Bench<'_, F>) -> b
     true
 }
 
-/// Whether so many of the changes fit, from the first on.
+/// Whether the first `count` changes fit.
 fn noted<F: Family + Drop>(bench: &mut Bench<'_, F>, count: usize) -> bool {
     for each in FORTY.iter().take(count) {
         if !bench.note(each.change()) {

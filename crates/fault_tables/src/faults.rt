@@ -40,7 +40,7 @@ pub const REPEATED_CHILD: u32 = 9;
 /// A number that is not in form or not in its range, at the first byte of the element's value.
 pub const BAD_NUMBER: u32 = 10;
 
-/// A word that is not one of those that may stand there or an empty role, at the first byte of the
+/// A word that may not stand there, or an empty role, at the first byte of the
 /// element's value; or text where elements are to stand, at its first byte that is not white.
 pub const BAD_WORD: u32 = 11;
 

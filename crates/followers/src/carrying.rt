@@ -34,7 +34,7 @@ pub(crate) fn make<F: Family, L: Ledger>(
     number
 }
 
-/// A start that is so much later.
+/// The start that is `offset` times later.
 pub(crate) fn later(start: Option<TimeId>, offset: u32) -> Option<TimeId>
     requires { IfSome start (λ t. t.0 + offset < 2 ^ 32) }
     ensures { result ≡ later offset start }

@@ -35,7 +35,7 @@ use khe_told::{Edit, Family, Refusal, Steps};
 use std::sync::ledger::Ledger;
 use undo_paths::Journal;
 
-/// Room for so many records, where a mark is open.
+/// Room for the given number of records, where a mark is open.
 pub(crate) fn room_for<F: Family>(engine: &mut Engine<'_, F>, n: u32) -> Result<(), NoMemory>
     ensures parts { engine.new.parts ≡ engine.old.parts }
     ensures state { engine.new.state ≡ engine.old.state }

@@ -7,7 +7,7 @@ ghost use Rattle.khe_base.specs.Text.{is_ascii};
 use khe_base::MeetId;
 use khe_told::{Edit, Refusal};
 
-/// What a follower is tied to: it starts so much later than its leader.
+/// What a follower is tied to: it starts `offset` times later than its leader.
 #[derive(Clone, Copy, PartialEq, Eq)]
 pub struct Tie {
     pub leader: MeetId,

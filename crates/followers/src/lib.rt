@@ -1,5 +1,5 @@
-//! Meets that are tied to meets: a follower starts so much later than its leader, whatever becomes of
-//! that one.
+//! Meets that are tied to meets: a follower starts a fixed number of times later than its leader, wherever that
+//! one goes.
 #![tactic(auto)]
 
 mod bars;

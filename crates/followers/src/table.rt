@@ -61,7 +61,7 @@ pub(crate) struct Links<'t> {
 }
 
 impl Ties {
-    /// No ties of so many meets.
+    /// No ties, for the given number of meets.
     #[tactic(auto, using(crate::proofs::LinkLaws::open_linked))]
     pub fn open(alloc: Global, slots: u32) -> Result<Ties, NoMemory>
         requires { 2 * slots + 1 < 2 ^ 32 }

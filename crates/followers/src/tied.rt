@@ -91,7 +91,7 @@ impl<'i, F: Family> Tied<'i, F> {
         self.ties.as_slice()
     }
 
-    /// Opens a mark inside those that are open. It is refused where as many are open as may be.
+    /// Opens a mark inside all open ones. It is refused where as many are open as may be.
     #[tactic(auto, using(crate::proofs::MarkLaws::kept_fresh, crate::proofs::MarkLaws::long_saved, crate::proofs::MarkLaws::long_states))]
     pub fn begin(&mut self) -> Result<(), Refusal>
         ensures parts { self.new.parts ≡ self.old.parts }

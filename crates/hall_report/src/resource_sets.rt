@@ -100,7 +100,7 @@ fn narrow_all(alloc: Global, inst: &Instance, found: &mut ResourceSets) -> Resul
     Ok(())
 }
 
-// Narrows the set of a monitor's event resource to those that its constraint lets it have.
+// Narrows the set of a monitor's event resource to the resources that its constraint allows.
 fn narrow_by(
     alloc: Global,
     inst: &Instance,

@@ -23,7 +23,7 @@ fn common(alloc: Global, one: &IdSet, other: &IdSet) -> Result<IdSet, NoMemory>
 }
 
 /// Narrows the set of one entry to the numbers that are allowed too; those of all other entries
-/// stay. The first sets, so many, are shared: an entry gets a set of its own when it is narrowed for
+/// stay. The first `shared` sets are shared: an entry gets a set of its own when it is narrowed for
 /// the first time. It takes time in proportion to the size of the sets.
 pub(crate) fn narrow(
     alloc: Global,

@@ -59,7 +59,7 @@ fn whole_sets(alloc: Global, times: u32) -> Result<Seq<IdSet>, NoMemory>
     Ok(sets)
 }
 
-// The set of the first times, so many.
+// The set of the first `count` times.
 #[tactic(auto, using(crate::proofs::SetLaws::upto_none, crate::proofs::SetLaws::upto_with, crate::proofs::SetLaws::upto_all))]
 fn first_times(alloc: Global, times: u32, count: u32) -> Result<IdSet, NoMemory>
     requires { count ≤ times }
@@ -152,7 +152,7 @@ fn event_of(point: Point) -> Option<EventId>
     }
 }
 
-// Narrows the sets of so many durations from an entry on, or of one of them, to the preferred times.
+// Narrows the sets of `count` durations from an entry on, or of one of them, to the preferred times.
 fn narrow_event(
     alloc: Global,
     shared: u32,

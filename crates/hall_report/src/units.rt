@@ -114,7 +114,7 @@ impl Units {
     }
 }
 
-// The unit that is so many units after this one.
+// The unit that is `count` units after this one.
 #[tactic(auto, using(crate::proofs::UnitLaws::walk_next, crate::proofs::UnitLaws::walk_zero))]
 fn after(next: &[u32], unit: u32, count: u32) -> u32
     requires { (i : ℕ) → i < count → walk next.now unit i < length next.now }
@@ -127,7 +127,7 @@ fn after(next: &[u32], unit: u32, count: u32) -> u32
     at
 }
 
-// The unit after each unit, so many.
+// The unit after each of the given number of units.
 #[tactic(auto, using(crate::proofs::UnitsOpened::range_next))]
 fn followers(alloc: Global, count: u32) -> Result<Vec<u32>, NoMemory>
     requires { count < 2 ^ 32 - 1 }

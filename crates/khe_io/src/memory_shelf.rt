@@ -9,7 +9,7 @@ use crate::named::{Place, copy_from, number_of};
 use crate::{Failed, Named, Shelf};
 use khe_base::Seq;
 
-/// A shelf of files in memory, which gives at most so many bytes in a read and fails at the calls
+/// A shelf of files in memory, which gives at most the given number of bytes in a read and fails at the calls
 /// that it is told to fail at. It tells everything.
 #[derive(Drop)]
 pub struct MemoryShelf {

@@ -7,7 +7,7 @@ use crate::{Failed, Sink};
 use khe_base::{NoMemory, Seq};
 use std::alloc::Global;
 
-/// A sink that keeps what it takes in memory. It takes at most so many bytes in all and so many in
+/// A sink that keeps what it takes in memory. It takes a given number of bytes at most in all and in
 /// a write, and fails at the calls that it is told to fail at. It tells everything.
 #[derive(Drop)]
 pub struct MemorySink {
@@ -23,7 +23,7 @@ impl MemorySink {
     ghost use Rattle.std.specs.Prelude.{[], Some, IfOk};
     ghost use Rattle.khe_io.specs.MemorySink.{state_of};
 
-    /// A sink with room for so many bytes, all of which is taken from memory here. It took nothing,
+    /// A sink with room for the given number of bytes, all of which is taken from memory here. It took nothing,
     /// and no fault is counted. A write takes at most `piece` bytes. `failing` has the numbers of
     /// the calls that fail: the calls of `write` are counted from 1.
     ///

@@ -26,7 +26,7 @@ impl<'a, R: Print> StdSink<'a, R> {
     }
 }
 
-/// Writes bytes from the front of a piece, all of it in one call where the system takes so many,
+/// Writes bytes from the front of a piece, all of it in one call where the system takes all,
 /// and flushes them.
 fn write_flushed<R: Print>(system: &R, piece: &[u8]) -> io::Result<usize>
     ensures { IfOk result (λ count. count ≤ length piece.now) }

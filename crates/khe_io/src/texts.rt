@@ -54,7 +54,7 @@ impl From<AllocError> for TakeFault {
 /// and then no bytes are answered; reading stops with the first piece beyond the limit.
 /// `NoMemory` comes where memory is refused. After any answer the shelf holds what it held.
 ///
-/// The cost is that of the reads, of `PIECE_BYTES` each where the shelf gives so many, and of copying
+/// The cost is that of the reads, of `PIECE_BYTES` each where the shelf gives as much, and of copying
 /// each byte once; the memory is at most about twice the text's, and a piece.
 pub fn take_all<S: Shelf>(
     alloc: Global,

@@ -10,7 +10,7 @@ use khe_told::Edit;
 /// How many times there are.
 const TIMES: u32 = 40;
 
-/// An edit of a job of a size whose events have so many meet slots.
+/// An edit of a job whose events have the given number of meet slots.
 #[tactic(auto, unfolding(crate::specs::Commands::edit))]
 pub(crate) fn draw_edit(draws: &mut Draws, size: u32, slots: u32) -> Edit
     requires { 0 < slots }

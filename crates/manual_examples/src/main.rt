@@ -1,6 +1,6 @@
 //! Compares what comes of the programs with what is to come, on the files that lie in this crate's `data/`, where the
-//! gate runs it: the examples of the manual, each command by `khe`; pages and reports beside those that programs
-//! gave which were written apart from this one; the manual's talk; and statuses. `checks/documents.py --copy` copies
+//! gate runs it: the examples of the manual, each command by `khe`; pages and reports beside the ones of
+//! programs written apart from this one; the manual's talk; and statuses. `checks/documents.py --copy` copies
 //! the manual and the example files there, and `checks/page_reference.py` makes the pages. It prints each example that
 //! differs, and how many there are and how many differ.
 #![tactic(auto)]

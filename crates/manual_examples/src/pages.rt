@@ -1,4 +1,4 @@
-//! Pages beside those that a reference program gave, which was written apart from this one: `checks/page_reference.py`.
+//! Pages beside the pages of a reference program, which was written apart from this one: `checks/page_reference.py`.
 
 use crate::comparing::{Tally, note_unrun};
 use crate::ends::{End, Ran, front_of, note_run};
@@ -11,7 +11,7 @@ use std::rt::Files;
 use timetable_page::page;
 
 /// Commands of `khe-page`, the status that each is to end with, how many bytes can be written then, and the file with
-/// the page of which so many first bytes are to come.
+/// the page of which a number of first bytes is to come.
 const MADE: &[(&str, u8, u64, &str)] = &[
     (
         "khe-page examples/school_week.xml",
@@ -63,8 +63,8 @@ pub(crate) fn compare_pages<R: Files + Print + Alloc>(rt: &R, alloc: Global, tal
     }
 }
 
-/// Compares what comes of a command where so many bytes can be written with a status and the first bytes of the page
-/// in a file.
+/// Compares what comes of a command, where a number of bytes can be written, with a status and the first bytes of the
+/// page in a file.
 fn compare_made<R: Files + Print + Alloc>(
     rt: &R,
     alloc: Global,
@@ -87,7 +87,7 @@ fn compare_made<R: Files + Print + Alloc>(
     }
 }
 
-/// Writes the page that a command asks for to a sink with room for so many bytes.
+/// Writes the page that a command asks for to a sink with room for the given number of bytes.
 fn run<R: Files>(rt: &R, alloc: Global, command: &str, room: u64) -> Ran {
     let words = words_of(alloc, command)?;
     let mut sink = MemorySink::new(alloc, room, 1_000_000, Seq::new(alloc))?;

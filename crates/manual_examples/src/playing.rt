@@ -118,7 +118,7 @@ fn number_of(word: &str) -> usize {
     word.parse::<usize>().unwrap_or(0)
 }
 
-/// Adds so many lines of a text, after those that are left out.
+/// Adds lines of a text, after a number of lines that are left out.
 fn push_lines(came: &mut Text, text: &str, left_out: usize, count: usize) -> Result<(), NoMemory> {
     for line in text.lines().skip(left_out).take(count) {
         came.push_str(line)?;

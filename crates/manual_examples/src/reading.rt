@@ -82,7 +82,7 @@ fn compare_report<R: Threads + Files + Print + Alloc + Sync>(
     }
 }
 
-/// Carries out a command that reads an archive, with a sink that has room for so many bytes.
+/// Carries out a command that reads an archive, with a sink that has room for the given number of bytes.
 fn run<R: Threads + Files + Sync>(rt: &R, alloc: Global, command: &str, room: u64) -> Ran {
     let words = words_of(alloc, command)?;
     let mut sink = MemorySink::new(alloc, room, 1_000_000, Seq::new(alloc))?;

@@ -129,7 +129,7 @@ fn run_unread<R: Files>(rt: &R, alloc: Global) -> Ran {
     }
 }
 
-/// Compares what comes of a talk of these lines where so many bytes can be written with what is to come.
+/// Compares what comes of a talk of these lines where a number of bytes can be written with what is to come.
 fn compare<R: Files + Print>(
     rt: &R,
     alloc: Global,
@@ -144,7 +144,7 @@ fn compare<R: Files + Print>(
     note_run(rt, tally, command, &ran, wanted);
 }
 
-/// Talks as a command asks for, with a sink that has room for so many bytes.
+/// Talks as a command asks for, with a sink that has room for the given number of bytes.
 fn run<R: Files, B: BufRead>(
     rt: &R,
     alloc: Global,

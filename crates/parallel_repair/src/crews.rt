@@ -51,7 +51,7 @@ pub(crate) struct Shared {
     pub(crate) workers: u32,
 }
 
-/// Shares the jobs among so many workers, of which one is in a thread of its own and the others go on
+/// Shares the jobs among the given number of workers, of which one is in a thread of its own and the others go on
 /// from this thread. Where no thread can be had, this one does the work of both.
 pub(crate) fn crew<R: Threads + Sync, W: Work, G: Gate>(
     rt: &R,

@@ -41,7 +41,7 @@ pub trait SolutionJob: Sync {
     /// What it makes of the solutions of a batch with their numbers.
     ghost made: { Self → Resolved → List (ℕ × RawSolution) → Self.Made };
 
-    /// Does it for so many of all solutions from a first one on. It passes the gate before each of them, with its
+    /// Does it for `count` of all solutions from a first one on. It passes the gate before each of them, with its
     /// number. The only error is want of memory.
     fn make<G: Gate>(
         &self,

@@ -20,7 +20,7 @@ pub(crate) struct Span {
 }
 
 impl Span {
-    /// How many of so many workers are needed: not many more than there are batches.
+    /// How many of the workers are needed: not many more than there are batches.
     pub(crate) fn needed(self, workers: u32) -> u32 {
         let others = (self.end - self.first) / self.batch;
         others.min(workers as usize) as u32

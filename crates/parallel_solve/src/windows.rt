@@ -25,7 +25,7 @@ const MOST_MONITORS: usize = 1 << 13;
 /// How many solutions a batch has at most.
 const MOST_SOLUTIONS: usize = 64;
 
-/// Into how many batches the solutions that are left are cut for each worker, where they are so many: so a worker
+/// Into how many batches the solutions that are left are cut for each worker, where there are enough: so a worker
 /// that is late, or has solutions that cost more, leaves batches to the others.
 const BATCHES: usize = 16;
 
@@ -35,7 +35,7 @@ const LAST: usize = 8;
 
 /// Makes windows over the solutions of an archive: what a job makes of solutions that follow one another, by workers
 /// who draw batches of them until that comes to 2 MiB for each worker. A single worker's window is one batch. So who
-/// reads window after window needs the memory of those that are held, and not of what all solutions come to.
+/// reads window after window needs the memory of the windows that it holds, and not of all results.
 #[derive(Clone, Copy)]
 pub struct WindowMaker {
     /// How many solutions a batch has at most.
@@ -56,7 +56,7 @@ fn most_in_batch(resolved: &Resolved) -> usize
     (MOST_MONITORS / most).clamp(1, MOST_SOLUTIONS)
 }
 
-/// How many solutions a worker draws at a time, where so many are left for so many workers.
+/// How many solutions a worker draws at a time, by how many are left and how many workers there are.
 pub(crate) fn batch_for(left: usize, workers: u32) -> usize
     requires { 1 ≤ workers }
     ensures { 1 ≤ result }
@@ -80,7 +80,7 @@ impl WindowMaker {
         self.workers
     }
 
-    /// The solutions of the window that begins with this one, where there are so many in all. Where there is a single
+    /// The solutions of the window that begins with this one. Where there is a single
     /// worker that is one batch. Else it is all that are left, but that the last ones of all are a window of their own.
     fn span(&self, first: usize, all: usize) -> Span
         requires { first ≤ all }

@@ -8,7 +8,7 @@ use khe_io::{Gate, MemoryShelf, MemorySink, Named, OpenGate};
 use std::alloc::Global;
 use std::thread::Threads;
 
-/// Runs the program. The sink has room for a text of so many bytes, or for as many as the devices say where that is
+/// Runs the program. The sink has room for a text of `room` bytes, or for as many as the devices say where that is
 /// less. It answers the status, and the sink with what it took.
 pub fn run<R: Threads + Sync>(
     rt: &R,

@@ -19,7 +19,7 @@ enum Ended {
     Whole,
     /// For a fault of the shelf, with nothing written.
     Unread,
-    /// For a fault of the sink, after so many first bytes of the text.
+    /// For a fault of the sink, after this many first bytes of the text.
     CutAt(u64),
     /// Otherwise.
     Wrong,
@@ -51,7 +51,7 @@ fn end_on<R: Threads + Sync>(
     Ok(judged(end, status, sink.taken()))
 }
 
-/// The number of the first call of the shelf that a run on reads of at most so many bytes does not make, where each
+/// The number of the first call of the shelf that a run on reads of at most `piece` bytes does not make, where each
 /// call before it from `from` on, when it fails, ends the run with nothing written. `None` where a run ends
 /// otherwise.
 pub fn reads_made<R: Threads + Sync>(
@@ -82,7 +82,7 @@ pub fn reads_made<R: Threads + Sync>(
     Ok(None)
 }
 
-/// The number of the first write that a run on writes of at most so many bytes does not make, where each write
+/// The number of the first write that a run on writes of at most `piece` bytes does not make, where each write
 /// before it from `from` on, when it fails, ends the run after what the earlier ones took. The text is given in one
 /// piece. `None` where a run ends otherwise.
 pub fn writes_made<R: Threads + Sync>(

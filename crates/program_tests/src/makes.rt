@@ -1,4 +1,4 @@
-//! Archives that are made, and the runs of their jobs. The texts are those that a program written apart from this one
+//! Archives that are made, and the runs of their jobs. The texts are as a program written apart from this one
 //! gave.
 
 use crate::ends::must_answer;

@@ -81,7 +81,7 @@ fn refuse_words<K: Sink>(out: &mut K) -> Status
     put(out, 2, not_understood())
 }
 
-/// Writes the report of the archive under a name, by so many workers. The archive stays in memory: a run is the
+/// Writes the report of the archive under a name, by the crew's workers. The archive stays in memory: a run is the
 /// end of a process.
 fn evaluate<R: Threads + Sync, S: Shelf, K: Sink, G: Gate>(
     alloc: Global,

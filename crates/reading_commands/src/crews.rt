@@ -1,4 +1,4 @@
-//! Who shares the work of a run.
+//! The workers that share a run.
 
 use khe_io::Gate;
 use std::thread::Threads;

@@ -118,7 +118,7 @@ fn push_solution(
 }
 
 /// The job of writing the part of a report on each solution of a batch: its line with the Id of its group, and what
-/// comes of it: its evaluation, with the lines of all monitors or of those that have a deviation, or why it is
+/// comes of it: its evaluation, with the lines of all monitors or of the deviating ones, or why it is
 /// invalid.
 #[derive(Clone, Copy)]
 pub(crate) struct Outcomes<'a> {

@@ -332,7 +332,7 @@ fn report<R: Threads + Sync, K: Sink, G: Gate>(
     write_parts(alloc, out, crew, archive, &parts)
 }
 
-/// Writes the report of an archive, by so many workers, or the line that refuses it, and answers the status: that of
+/// Writes the report of an archive, by the crew's workers, or the line that refuses it, and answers the status: that of
 /// the answer, or 5 where the sink refused a call after some first bytes of the text, or 6 where memory ran out. It
 /// takes what evaluating the solutions takes, divided among the workers that run at the same time.
 pub fn write_report<R: Threads + Sync, K: Sink, G: Gate>(

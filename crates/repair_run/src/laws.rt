@@ -21,7 +21,7 @@ ghost use Rattle.xhstt_shape.specs.declared.records.Archive.{Archive};
 ghost use Rattle.xhstt_writer.specs.Archives.{IsReadAs};
 
 // A repair never leaves a timetable that costs more, and where a chain was taken it costs less. Where the
-// repair is done, no chain of so many moves leaves lower totals; where the budget is spent, none of as many
+// repair is done, no chain of at most `depth` moves leaves lower totals; where the budget is spent, none of as many
 // moves as it tells.
 fn a_repair_never_costs_more()
     ensures no_dearer { (p : Parts) (plain : Plain) (depth budget : ℕ) (m : Mended) → IsMended p plain depth budget m → IsNoDearer p plain m }

@@ -38,7 +38,7 @@ impl Drop for Mended {
     }
 }
 
-/// Repairs a timetable by chains of at most so many moves, 1 to `CHAIN_MOVES`, of which so many may be tried, at
+/// Repairs a timetable by chains of at most `depth` moves, 1 to `CHAIN_MOVES`, of which `budget` may be tried, at
 /// least 1. Each list of defects and of moves is begun at its first.
 ///
 /// Its only error is want of memory. It opens an engine on the timetable, which it takes no longer than

@@ -14,7 +14,7 @@ use khe_instance::{Duty, Instance};
 use std::alloc::Global;
 use timetables::Timetable;
 
-/// A workload of 0 for each of so many rows.
+/// A workload of 0 for each of the given number of rows.
 pub(crate) fn no_workloads(alloc: Global, rows: u32) -> Result<Vec<u128>, NoMemory>
     ensures { IfOk result (λ w. w.items ≡ replicate rows 0) }
 {
@@ -91,7 +91,7 @@ fn product(workload: u32, duration: u32, rate: u64) -> u128
     u128::from(workload) * u128::from(duration) * u128::from(rate)
 }
 
-/// One more task of the resource at each of so many times.
+/// One more task of the resource at each of `duration` times from a start on.
 fn occupy(table: &mut Timetable, resource: ResourceId, start: TimeId, duration: u32)
     requires resource { resource.0 < length table.old }
     requires times { start.0 + duration ≤ length (row_of table.old resource.0) }

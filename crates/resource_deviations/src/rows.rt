@@ -18,7 +18,7 @@ pub(crate) struct Rows {
     pub count: u32,
 }
 
-/// The rows for so many resources with these tasks, numbered as the tasks first name the resources. It takes time
+/// The rows for the resources with these tasks, numbered as the tasks first name the resources. It takes time
 /// in proportion to the resources and the tasks, and memory for a number for each resource.
 pub(crate) fn rows_of(alloc: Global, resources: u32, duties: &[Duty]) -> Result<Rows, NoMemory>
     requires resources { All (IsResource resources) duties.now }
@@ -58,7 +58,7 @@ fn with_row(of: &mut Vec<u32>, count: u32, duty: &Duty) -> u32
 }
 
 impl Rows {
-    /// The number of a resource's row, as a table of so many rows has it.
+    /// The number of a resource's row in its table.
     pub(crate) fn row(&self, resource: ResourceId) -> ResourceId
         requires { resource.0 < length self.now.of.items }
         ensures { result.0 ≡ slice_index self.now.of.items resource.0 }

@@ -210,7 +210,7 @@ fn solves_are_written(rt: HostRuntime) -> Result<(), Fail> {
     Ok(())
 }
 
-/// The test fails unless a solve by so many workers ends as it should.
+/// The test fails unless a solve by the given number of workers ends as it should.
 fn must_solve_by<R: Threads + Sync + Abort>(
     rt: &R,
     alloc: Global,

@@ -55,7 +55,7 @@ const INVALID: Play = Play {
     text: &[Once("khe: archive refused: 19 Invalid 4 OffEnd entry 0\n")],
 };
 
-/// The invalid solution keeps nobody from the other one.
+/// The invalid solution does not bar the other one.
 const BESIDE_INVALID: Play = Play {
     archive: OFF_END,
     solution: "1",

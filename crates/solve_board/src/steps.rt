@@ -8,11 +8,10 @@ use crate::states::{BoardState, BoardStep};
 use khe_base::{NoMemory, Seq};
 use std::alloc::Global;
 
-/// The state that a step leads to, in memory of its own; the state that was handed in stays as it
-/// is. A claim adds the next number to the worker's claims and raises the next number by one, an
-/// offer adds the job to the worker's offers, and a look changes nothing. From a state in order,
-/// in which each number below the next was claimed once and each worker has claimed what it offers,
-/// it leads to a state in order.
+/// The state that a step leads to, as a copy; the state that was handed in stays as it is. A claim adds the
+/// next number to the worker's claims and raises the next number by one, an offer adds the job to the
+/// worker's offers, and a look changes nothing. From a state in order, in which each number below the next
+/// was claimed once and each worker has claimed what it offers, it leads to a state in order.
 ///
 /// The step's worker has to be there, a claim needs a next number below 2^64 - 1, and an offer a
 /// job that the worker has claimed. The only error is want of memory. It takes time and memory in

@@ -24,7 +24,7 @@ pub struct Terminals {
 /// What the workers pass the gate with.
 #[derive(Clone, Copy)]
 pub enum Work<'a> {
-    /// The numbers of jobs, of which there are so many, as the words write it.
+    /// The numbers of jobs, and how many there are as the words write it.
     Jobs(&'a str),
     /// The numbers of solutions.
     Solutions,

@@ -6,7 +6,7 @@ use std::sync::atomic::{AtomicBool, AtomicU64, Ordering};
 /// How often the first job at a gate looks for the others.
 const MOST_TURNS: u32 = 4_000_000_000;
 
-/// A gate at which the first job waits until so many others have come, and which notes whether they did.
+/// A gate at which the first job waits until a number of others have come, and which notes whether they did.
 #[derive(Drop)]
 pub struct Meeting {
     others: u64,
@@ -15,7 +15,7 @@ pub struct Meeting {
 }
 
 impl Meeting {
-    /// A gate at which no job has come yet, and the first one will wait for so many others.
+    /// A gate at which no job has come yet, and the first one will wait for the given number of others.
     pub fn of(others: u64) -> Meeting {
         Meeting {
             others,
@@ -24,7 +24,7 @@ impl Meeting {
         }
     }
 
-    /// Whether so many others came while the first job waited.
+    /// Whether all awaited others came while the first job waited.
     pub fn came(&self) -> bool {
         self.came.load(Ordering::SeqCst)
     }

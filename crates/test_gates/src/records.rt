@@ -44,7 +44,7 @@ impl Record {
         self.others.load(Ordering::SeqCst)
     }
 
-    /// Whether it was called once with each of the first so many numbers, and with no other.
+    /// Whether it was called once with each number below the given one, and with no other.
     pub fn is_of_first(&self, count: usize) -> bool {
         for job in 0..JOBS {
             if self.calls_of(job) != u64::from(job < count) {

@@ -22,7 +22,7 @@ pub struct Journal<E> {
     records: Vec<E>,
     /// How many of the records came since each open mark and before the next, outermost first.
     counts: Vec<usize>,
-    /// How many records there is room for beside those that stand.
+    /// How many more records there is room for.
     spare: usize,
 }
 
@@ -91,7 +91,7 @@ impl<E: Copy + Drop> Journal<E> {
         self.spare -= 1;
     }
 
-    /// Opens a mark inside those that are open. It is refused where as many are open as may be, and
+    /// Opens a mark inside all open ones. It is refused where as many are open as may be, and
     /// the journal stays as it was.
     #[tactic(auto, using(crate::proofs::StackLemmas::stack_mark, crate::proofs::StackLemmas::length_stack))]
     pub fn mark(&mut self) -> Result<(), Refusal>

@@ -35,7 +35,7 @@ pub(crate) fn optional<T: Build>(
     }
 }
 
-/// An empty list with room for so many elements. It takes memory for these alone, and none where
+/// An empty list with room for the given number of elements. It takes memory for these alone, and none where
 /// there are none.
 pub(crate) fn with_room<T>(alloc: Global, count: usize) -> Result<Seq<T>, NoMemory>
     ensures { IfOk result (λ list. list ≡ []) }

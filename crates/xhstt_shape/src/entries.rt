@@ -51,7 +51,7 @@ impl Entries {
         }
     }
 
-    /// No entries, with room for so many. It takes memory for these alone, and none where there are none.
+    /// No entries, with room for the given number. It takes memory for these alone, and none where there are none.
     pub(crate) fn with_room(alloc: Global, count: usize) -> Result<Entries, NoMemory>
         ensures { IfOk result (λ e. e ≡ []) }
     {
@@ -137,7 +137,7 @@ impl Entries {
         Ok(list)
     }
 
-    /// The entries one by one, each in memory of its own. It takes time and memory in proportion to all texts.
+    /// The entries one by one, each as an owned copy. It takes time and memory in proportion to all texts.
     pub fn unpacked(&self, alloc: Global) -> Result<Seq<RawEntry>, NoMemory>
         ensures { IfOk result (λ list. list ≡ self.now) }
     {
@@ -249,7 +249,7 @@ impl<'a> EntryView<'a> {
         }
     }
 
-    /// The entry in memory of its own. It takes time and memory in proportion to its texts.
+    /// An owned copy of the entry. It takes time and memory in proportion to its texts.
     pub fn unpacked(&self, alloc: Global) -> Result<RawEntry, NoMemory>
         ensures { IfOk result (λ e. e ≡ self.now) }
     {
@@ -328,7 +328,7 @@ impl<'a> GivenViews<'a> {
         Ok(list)
     }
 
-    /// The resources that are left, each in memory of its own. It takes time and memory in proportion to their texts.
+    /// The resources that are left, each as an owned copy. It takes time and memory in proportion to their texts.
     pub fn unpacked(self, alloc: Global) -> Result<Seq<RawGiven>, NoMemory>
         ensures { IfOk result (λ list. list ≡ self.entry) }
     {
@@ -379,7 +379,7 @@ impl<'a> GivenView<'a> {
         }
     }
 
-    /// The resource in memory of its own. It takes time and memory in proportion to its texts.
+    /// An owned copy of the resource. It takes time and memory in proportion to its texts.
     pub fn unpacked(&self, alloc: Global) -> Result<RawGiven, NoMemory>
         ensures { IfOk result (λ g. g ≡ self.now) }
     {
@@ -410,7 +410,7 @@ fn view_of(letters: &[u8], name: PackedName) -> NameView<'_>
     }
 }
 
-/// A reference in memory of its own.
+/// An owned copy of a reference.
 fn reference_of(alloc: Global, seen: NameView<'_>) -> Result<Ref, NoMemory>
     ensures { IfOk result (λ r. r ≡ seen_reference seen.entry) }
 {
@@ -420,7 +420,7 @@ fn reference_of(alloc: Global, seen: NameView<'_>) -> Result<Ref, NoMemory>
     })
 }
 
-/// A reference in memory of its own, where there is one.
+/// An owned copy of a reference, where there is one.
 fn optional_reference(alloc: Global, seen: Option<NameView<'_>>) -> Result<Option<Ref>, NoMemory>
     ensures { IfOk result (λ r. r ≡ option_map seen_reference seen.entry) }
 {
@@ -430,7 +430,7 @@ fn optional_reference(alloc: Global, seen: Option<NameView<'_>>) -> Result<Optio
     }
 }
 
-/// A role in memory of its own, where there is one.
+/// An owned copy of a role, where there is one.
 fn optional_role(alloc: Global, seen: Option<NameView<'_>>) -> Result<Option<Name>, NoMemory>
     ensures { IfOk result (λ r. r ≡ option_map seen_role seen.entry) }
 {

@@ -71,8 +71,7 @@ impl Drop for MetaData {
     }
 }
 
-/// What is said of a whole, in memory of its own: a whole of which nothing is said takes a few bytes for
-/// it. Contracts see what is said.
+/// Boxed metadata: where there is none it takes a few bytes. Contracts see the metadata.
 #[derive(Drop)]
 pub struct About {
     said: Box<MetaData>,
@@ -87,7 +86,7 @@ impl Model for About {
 }
 
 impl About {
-    /// Moves what is said into memory of its own.
+    /// Boxes the metadata.
     pub fn new(alloc: Global, said: MetaData) -> Result<About, NoMemory>
         ensures { IfOk result (λ a. a ≡ said) }
     {

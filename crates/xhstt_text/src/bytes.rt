@@ -77,7 +77,7 @@ fn quoted_length(quote: u8, bytes: &[u8]) -> usize
         .count()
 }
 
-/// The place so many bytes later.
+/// The place the given number of bytes later.
 pub fn skip<'a>(here: Cursor<'a>, count: usize) -> Cursor<'a>
     requires { count ≤ length here.rest.now }
     ensures at { result.at ≡ here.entry.at + count }

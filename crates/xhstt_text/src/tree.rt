@@ -110,7 +110,7 @@ impl Row {
         }
     }
 
-    /// The row of an element whose end tag begins at a place, where there are so many elements.
+    /// The row of an element whose end tag begins at a place, where there are that many elements.
     pub(crate) fn closed(&self, at: u32, end: u32) -> Row
         ensures { result ≡ closed_row self.now at end }
     {

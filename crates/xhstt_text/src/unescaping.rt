@@ -38,7 +38,7 @@ pub(crate) enum Part {
 
 /// The text that bytes between two tags or two quotes stand for: references are replaced by their
 /// characters, comments are left out, and each other character stands for itself, as the grammar of
-/// XML says. Its characters are those that a text of the grammar may have.
+/// XML says. All its characters may stand in a text of the grammar.
 ///
 /// It has an answer for other bytes too: a reference of a form that is not known stands for nothing,
 /// and bytes that stand for no UTF-8 give the empty text. It takes time and memory linear in the

@@ -108,7 +108,7 @@ fn event_lists<O: Output>(out: &mut O, opened: bool, groups: &Seq<Ref>, events: 
     list(out, inside, Tag::Events, Tag::Event, events)
 }
 
-/// Writes the children of a constraint after those that each constraint has.
+/// Writes the children of a constraint that its kind alone has.
 fn put_rule<O: Output>(out: &mut O, rule: &RawRule) -> bool
     ensures { (t : AnyTag) (rest : List ℕ) (whole : Aim)
         → O.said out.old (filled (parts.row (spec.rule_parts rule.now)) false t rest) whole
