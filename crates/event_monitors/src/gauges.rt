@@ -64,10 +64,10 @@ pub trait Gauge {
     /// What is read is the definition's deviation.
     ghost exact: { (g : Self) (p : Parts) (m : Monitor) (s : List Slot) → Keeps g p m s → deviation_in p s m ≡ value g p m };
 
-    /// A turn that it does not hear leaves it right as it is.
+    /// A change the gauge does not observe keeps it valid.
     ghost deaf: { (g : Self) (p : Parts) (m : Monitor) (s : List Slot) (t : SlotTurn) → IsUnheard t → IsTurn p s t → Keeps g p m s → Keeps g p m (turned s t) };
 
-    /// A turn of a slot of an event that the monitor does not name leaves it right as it is.
+    /// A change of a slot of an event that the monitor does not name keeps it valid.
     ghost elsewhere: { (g : Self) (p : Parts) (m : Monitor) (s : List Slot) (k : ℕ) (x : Slot) → k < length s → emptied x ≡ emptied (slot_at s k)
         → names p (slot_at s k).event.0 m ≡ false → Keeps g p m s → Keeps g p m (slice_set s k x) };
 }

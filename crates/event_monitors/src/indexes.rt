@@ -10,8 +10,8 @@ use khe_base::{MonitorId, NoMemory, Seq, beside, both};
 use khe_instance::Instance;
 use std::alloc::Global;
 
-/// The served monitors by their numbers, for each event the places among them of those that
-/// name it, and for each monitor its own place.
+/// The served monitors by their numbers, for each event the places among them of the monitors
+/// that name it, and for each monitor its own place.
 #[derive(Drop)]
 pub(crate) struct Index {
     pub(crate) posts: Seq<Post>,

@@ -31,7 +31,7 @@ pub trait Share {
     fn hears(turn: &Turn<'_>) -> bool
         ensures { result ≡ false → IsUnheard turn.now };
 
-    /// One that it does not hear leaves what the slot counts for.
+    /// A turn that it does not observe keeps what the slot counts for.
     ghost unheard: { (rule : Rule) (point : Point) (t : SlotTurn) → IsUnheard t
         → share rule t.after.span (given_at point t.after.given) ≡ share rule t.before.span (given_at point t.before.given) };
 

@@ -19,8 +19,8 @@ use std::alloc::Global;
 ///
 /// The changes of an edit are told to a second state first, which is then taken over slot by slot: so the
 /// keeper follows each slot once, whatever the number of changes of it. The slot of one change alone is taken
-/// over at once; of several changes those that make a meet shorter come first. Of a slot's places it looks at those
-/// that the changes name, and at all of them only where its meet is another.
+/// over at once; of several changes the ones that make a meet shorter come first. It looks at the places that
+/// the changes name, and at all places of the slot only where its meet changed.
 pub struct Keeping<K> {
     /// What the keeper follows.
     told: Told,
@@ -40,8 +40,7 @@ impl<K: Drop> Drop for Keeping<K> {
     }
 }
 
-/// Takes a slot over from the state that was told, where it is another there, and other places than these are
-/// given the same.
+/// Copies a slot from the new state if it changed. At all places but these it is given the same.
 fn take<K: Keeper, W: Waits>(
     inst: &Instance,
     keeper: &mut K,

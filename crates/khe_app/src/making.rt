@@ -27,8 +27,8 @@ use std::mem::ManuallyDrop;
 use xhstt_resolve::{ResolveFault, Resolved, resolve};
 use xhstt_shape::Archive;
 
-/// Writes the archive that is made from a seed, with so many events. It stays in memory, as what is read for a report does:
-/// a run is the end of a process.
+/// Writes the archive that is made from a seed, with the given number of events. It stays in memory, as what is read
+/// for a report does: a run is the end of a process.
 pub(crate) fn make<K: Sink>(alloc: Global, out: &mut K, seed: u64, size: u32) -> Status
     ensures end { (h : Holdings) (sound : Bool) (faults : ℕ) → IsEnd (Some (making seed size)) h sound faults faults (K.taken out.old) (K.taken out.new) (K.faults out.old) (K.faults out.new) result.0 }
     ensures status { result.0 ≡ 2 → ⊥ }
@@ -45,7 +45,7 @@ pub(crate) fn make<K: Sink>(alloc: Global, out: &mut K, seed: u64, size: u32) ->
     }
 }
 
-/// Writes the line on the run of the job that is made from a seed, with so many events.
+/// Writes the line on the run of the job that is made from a seed, with the given number of events.
 pub(crate) fn make_run<K: Sink>(alloc: Global, out: &mut K, seed: u64, size: u32) -> Status
     requires { (1 ≤ size) × (size ≤ MADE_EVENTS) }
     ensures end { (h : Holdings) (sound : Bool) (faults : ℕ) → IsEnd (Some (running seed size)) h sound faults faults (K.taken out.old) (K.taken out.new) (K.faults out.old) (K.faults out.new) result.0 }

@@ -68,7 +68,7 @@ pub enum Play {
 ///
 /// A repaired timetable takes the place of the entries of its solution, and the line after the archive
 /// tells how the repair ended. It never costs more than the solution did; where the repair is done no
-/// chain of so many moves leaves lower totals, and where the budget is spent none of as many moves as the
+/// chain of at most D moves leaves lower totals, and where the budget is spent none of as many moves as the
 /// line names. Of many repairs, which begin their lists of defects and moves at the number of their job, the
 /// one with the least totals takes that place, of equal ones the lowest; the line names its job.
 ///
@@ -290,7 +290,7 @@ fn script_too_large() -> &'static [u8]
     b"script fault 4 TooLarge\n"
 }
 
-/// Writes the report of the archive under a name, by so many workers. The archive stays in memory: a run is the
+/// Writes the report of the archive under a name, by the crew's workers. The archive stays in memory: a run is the
 /// end of a process.
 #[tactic(auto, using(crate::proofs::EndsLemmas::end_starved, crate::proofs::EndsLemmas::end_stopped, crate::proofs::EndsLemmas::report_lacks))]
 fn evaluate<R: Threads + Sync, S: Shelf, K: Sink, G: Gate>(

@@ -44,7 +44,7 @@ pub(crate) struct Solving {
     pub jobs: u32,
 }
 
-/// Writes the archive under a name with the least result of so many jobs in place of the solution of a
+/// Writes the archive under a name with the least result of several jobs in place of the solution of a
 /// number, and the line on its job; or the line that refuses the archive or the solution.
 #[tactic(auto, using(crate::proofs::EndsLemmas::end_starved, crate::proofs::EndsLemmas::end_stopped, crate::proofs::SolveEnds::solve_lacks))]
 pub(crate) fn solve<R: Threads + Sync, S: Shelf, K: Sink, G: Gate>(
@@ -141,7 +141,7 @@ fn solve_in<R: Threads + Sync, K: Sink, G: Gate>(
     }
 }
 
-/// Repairs a timetable by so many jobs, and writes the archive with the least result in place of the
+/// Repairs a timetable by several jobs, and writes the archive with the least result in place of the
 /// solution.
 fn put_solve<R: Threads + Sync, K: Sink, G: Gate>(
     alloc: Global,
@@ -178,7 +178,7 @@ fn put_solve<R: Threads + Sync, K: Sink, G: Gate>(
     }
 }
 
-/// What so many repairs of a timetable come to, over all families.
+/// What several repairs of a timetable come to, over all families.
 fn solve_jobs<R: Threads + Sync, G: Gate>(
     alloc: Global,
     crew: &Crew<'_, R, G>,

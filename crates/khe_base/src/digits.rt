@@ -6,7 +6,7 @@ ghost use Rattle.khe_base.specs.Digits as spec;
 
 use crate::limits::DIGITS;
 
-/// The number that a word of 1 to so many digits writes, or `None` where it writes none, or one of
+/// The number that a word of 1 to `most` digits writes, or `None` where it writes none, or one of
 /// 2^32 or more. Leading zeros are allowed, a sign is not. It takes time in proportion to the word,
 /// and no memory.
 #[tactic(auto, unfolding(crate::specs::Digits::number_of))]

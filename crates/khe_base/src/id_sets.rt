@@ -45,7 +45,7 @@ impl IdSet {
         })
     }
 
-    /// A copy of this set in memory of its own. It takes time and memory for one bit for each number of the size.
+    /// A copy of this set. It takes time and memory for one bit for each number of the size.
     pub fn copy(&self, alloc: Global) -> Result<IdSet, NoMemory>
         ensures { IfOk result (λ s. s ≡ self.now) }
     {

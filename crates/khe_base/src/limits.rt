@@ -90,7 +90,7 @@ pub const MADE_EVENTS: u32 = 2_000;
 /// The greatest number of bytes of a script: 16 MiB.
 pub const SCRIPT_BYTES: u64 = 16_777_216;
 
-/// The greatest number of digits of a number on the command line: what so many write fits 64 bits.
+/// The greatest number of digits of a number on the command line: what they write fits 64 bits.
 pub const DIGITS: usize = 18;
 
 /// How many bytes are read or written at a time: 64 KiB.

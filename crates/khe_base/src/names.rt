@@ -191,7 +191,7 @@ fn make_room(names: &[Text], heads: &mut Vec<usize>, nexts: &mut Vec<usize>) -> 
     Ok(())
 }
 
-// Gives a row at least so many numbers, of which the new ones are 0. Where memory is refused, the
+// Gives a row at least `size` numbers, of which the new ones are 0. Where memory is refused, the
 // row stays as it was.
 fn lengthen(row: &mut Vec<usize>, size: usize) -> Result<(), NoMemory>
     ensures ok { OnOk result (size ≤ length row.new.items) }
@@ -242,7 +242,7 @@ fn link(heads: &mut Vec<usize>, nexts: &mut Vec<usize>, place: usize, name: &Tex
     heads[bucket] = place + 1;
 }
 
-// The bucket of a name, of so many, which are best a power of 2. It takes time in proportion to
+// The bucket of a name among `size`, best a power of 2. It takes time in proportion to
 // the name.
 #[tactic(auto, unfolding(crate::specs::NameTable::bucket))]
 fn bucket_of(name: &str, size: usize) -> usize

@@ -54,7 +54,7 @@ impl Text {
         }
     }
 
-    /// A copy of this text in memory of its own. It takes time and memory in proportion to the
+    /// A copy of this text. It takes time and memory in proportion to the
     /// text.
     pub fn copy(&self, alloc: Global) -> Result<Text, NoMemory>
         ensures { IfOk result (λ t. t ≡ self.now) }
@@ -140,8 +140,8 @@ impl Text {
     }
 
     /// Adds a number in decimal digits at the end, with no leading zero. Where memory is refused,
-    /// the text stays as it was. Few numbers are beyond 64 bits, and those that are not are written by
-    /// the shorter way.
+    /// the text stays as it was. Numbers of at most 64 bits, nearly all, are written by the
+    /// shorter way.
     pub fn push_number(&mut self, number: u128) -> Result<(), NoMemory>
         ensures ok { OnOk result (self.new ≡ self.old ++ decimal number) }
         ensures err { OnErr result (self.new ≡ self.old) }

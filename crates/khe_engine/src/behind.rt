@@ -16,15 +16,15 @@ use std::marker::Model;
 use std::sync::ledger::Ledger;
 use undo_paths::Journal;
 
-/// An engine of which nobody asks what the timetable costs for a while. It is edited, and has marks, as an engine has
+/// An engine that is not asked for a while what the timetable costs. It is edited, and has marks, as an engine has
 /// (`Edited`), and answers as that does; but its families follow, and its monitors are measured, only once it has
 /// caught up: each slot and each monitor once, whatever the number of edits that it was in, and for what was undone
 /// before not at all. Contracts see the world of an engine.
 ///
 /// An edit takes the time of its check and of its changes. A thousand changes are kept; the edit that finds no room
-/// for its own takes the time of all of them. Where an event has more than 64 places each edit is followed at once: of
-/// many changes all places of their meets are looked at, of one edit's those that it names. A ledger counts the steps of engines that measure at once: what is
-/// measured later is counted in none.
+/// for its own takes the time of all of them. Where an event has more than 64 places each edit is followed at once:
+/// many changes are compared at all places of their meets, one edit's changes at the places that it names. A ledger
+/// counts the steps of engines that measure at once; what is measured later is counted in none.
 pub struct Behind<'i, F: Family> {
     pub(crate) inst: &'i Instance,
     pub(crate) solution: Solution<'i>,

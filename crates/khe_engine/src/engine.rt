@@ -191,7 +191,7 @@ impl<'i, F: Family> Engine<'i, F> {
         )
     }
 
-    /// Opens a mark inside those that are open. It is refused where as many are open as may be.
+    /// Opens a mark inside all open ones. It is refused where as many are open as may be.
     #[tactic(auto, using(crate::proofs::RecordLaws::length_saved))]
     pub fn begin(&mut self) -> Result<(), Refusal>
         ensures parts { self.new.parts ≡ self.old.parts }

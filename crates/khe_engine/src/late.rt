@@ -17,8 +17,8 @@ use monitor_graph::Graph;
 use std::marker::Brand;
 use std::sync::ledger::Ledger;
 
-/// Who is noted of each change, and the changes that they were not told of yet. A change that takes the last of
-/// these back takes it from them; so what is made and undone before anyone asks costs next to nothing. Once there
+/// The listeners, and the changes that they were not told of yet. A change that takes the last of these back
+/// removes it; so what is made and undone before a value is asked for costs next to nothing. Once there
 /// is no room for the changes of an edit, all are told.
 ///
 /// The deviations of the graph are those of the state that the families were told.

@@ -1,4 +1,4 @@
-//! Who is notified of each change: the families, and through them the graph.
+//! The listeners of each change: the families, and through them the graph.
 
 use crate::regrouping::GraphWatcher;
 use crate::settling::settle;
@@ -8,7 +8,7 @@ use khe_told::{Back, Change, Edit, Family, Steps, Waiting, Watcher};
 use monitor_graph::Graph;
 use std::sync::ledger::Ledger;
 
-/// Who is noted of each change: the families, and through them the graph, which has the deviation
+/// The listeners of each change: the families, and through them the graph, which has the deviation
 /// of every monitor in the state that was told.
 #[derive(Drop)]
 pub(crate) struct Listeners<F: Family> {

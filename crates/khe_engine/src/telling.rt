@@ -1,4 +1,4 @@
-//! Who listens is told of a timetable, one meet after the other.
+//! Listeners are told of a timetable, one meet after the other.
 
 ghost use Rattle.std.specs.Prelude.{◌≡◌, ◌<◌, ◌+◌, Some, true, length, slice_set};
 ghost use Rattle.khe_instance.specs.declared.parts.Parts.{Parts};

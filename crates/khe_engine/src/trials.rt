@@ -22,7 +22,7 @@ use khe_solution::{Solution, invert};
 use khe_told::{Change, Edit, Family, Unheard, Waiting};
 use monitor_graph::Graph;
 
-/// Turns the families back, the last change first, and empties the list. Nobody is told who would wait.
+/// Turns the families back, the last change first, and empties the list. No monitor is queued.
 fn turn_back<F: Family>(inst: &Instance, list: &mut Vec<Change>, families: &mut F)
     requires of { F.IsOf families.old inst.now }
     requires fit { AllFit inst.now (F.told families.old) (inverses list.old.items) }
@@ -38,7 +38,7 @@ fn turn_back<F: Family>(inst: &Instance, list: &mut Vec<Change>, families: &mut 
     list.clear();
 }
 
-/// The totals with the deviations of those that wait as the families have them. It takes constant time
+/// The totals with the queued monitors' deviations as the families have them. It takes constant time
 /// for each.
 fn measured<F: Family>(
     inst: &Instance,
@@ -62,8 +62,7 @@ fn measured<F: Family>(
     totals
 }
 
-/// Measures of a list of those that wait each that deviates now, and changes totals by what it costs then. It
-/// takes constant time for each.
+/// Re-evaluates the queued monitors that are now defects, adjusting `totals`. It takes constant time for each.
 fn measure_defects<F: Family>(
     inst: &Instance,
     families: &F,
@@ -87,7 +86,7 @@ fn measure_defects<F: Family>(
     }
 }
 
-/// Lets nobody wait.
+/// Empties the queue.
 fn clear(waiting: &mut Waiting)
     ensures long { length waiting.new.flags ≡ length waiting.old.flags }
     ensures amount { waiting.new.amount ≡ 0 }
@@ -96,8 +95,8 @@ fn clear(waiting: &mut Waiting)
     while let Some(_) = waiting.pop() {}
 }
 
-/// Whether the totals with the deviations of those that wait as the families have them are lower than others. Those
-/// that deviate now are measured first. The others cost nothing now, so they only add: once the totals are not
+/// Whether the totals with the queued monitors' deviations are lower than others. Monitors that deviate now are
+/// measured first. The others cost nothing now, so they only add: once the totals are not
 /// lower, the rest is not measured. It takes constant time for each.
 fn is_lower_measured<F: Family>(
     inst: &Instance,

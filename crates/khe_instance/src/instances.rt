@@ -23,8 +23,8 @@ use std::marker::Model;
 
 /// An instance: parts that are well made. It does not change. Contracts see its parts.
 ///
-/// No call but `new` takes memory, and each takes constant time but for those that look an Id up,
-/// and `task`.
+/// No call but `new` takes memory. Each takes constant time, but for `task` and the calls that look
+/// an Id up.
 pub struct Instance {
     parts: Parts,
     slots: SlotTable,

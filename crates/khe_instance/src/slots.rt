@@ -127,7 +127,7 @@ fn slots_of(alloc: Global, events: &[EventInfo]) -> Result<Vec<u32>, NoMemory>
     Ok(slots)
 }
 
-/// Adds so many slots of the event with this number.
+/// Adds `count` slots of the event with this number.
 fn push_slots(slots: &mut Vec<u32>, event: u32, count: u32) -> Result<(), NoMemory>
     ensures { OnOk result (slots.new.items ≡ slots.old.items ++ replicate count event) }
 {

@@ -32,7 +32,7 @@ fn whole(told: &Told, meet: MeetId) -> Part
     }
 }
 
-/// A time that is so much later.
+/// The time that is `count` times later.
 fn later(count: u32, time: Option<TimeId>) -> Option<TimeId>
     requires { IfSome time (λ t. t.0 + count < 2 ^ 32) }
     ensures { result ≡ later count time }

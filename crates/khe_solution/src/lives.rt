@@ -32,7 +32,7 @@ pub(crate) fn live_rows(alloc: Global, told: &Told) -> Result<LiveRows, NoMemory
     Ok(rows)
 }
 
-/// Bits for so many slots, none of them set.
+/// Bits for the given number of slots, none of them set.
 fn no_rows(alloc: Global, slots: usize) -> Result<LiveRows, NoMemory>
     requires { slots < 2 ^ 32 }
     ensures rows { IfOk result (λ rows. AreLiveRows slots rows) }

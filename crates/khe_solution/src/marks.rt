@@ -32,7 +32,7 @@ pub(crate) fn put_bit(words: &mut Vec<u64>, marks: &mut Vec<u64>, n: usize, is_i
 }
 
 /// The first set bit of these numbers. It looks at each word between them once, and at the bits of
-/// those that are not 0.
+/// words that are not 0.
 fn first_within(words: &[u64], from: usize, end: usize) -> Option<usize>
     requires few { (length words.now < 2 ^ 32) × (end < 2 ^ 32) }
     ensures { MatchOption result (AreClear words.now from end) (λ n. IsFirst words.now from n × (n < end)) }

@@ -38,7 +38,7 @@ fn row_of(given: Option<ResourceId>) -> usize
     }
 }
 
-/// Where the bit of a task slot stands in a row, where a row has so many words.
+/// Where the bit of a task slot stands in a row, where a row has `stride` words.
 #[tactic(auto, unfolding(crate::specs::TaskRows::spot_of), using(crate::proofs::SpotLaws::spot_small))]
 fn spot_of(stride: usize, row: usize, number: usize) -> usize
     requires row { row < 257 }
@@ -199,7 +199,7 @@ pub(crate) fn keep_tasks(rows: &mut TaskRows, inst: &Instance, told: &Told, chan
     }
 }
 
-/// Rows without a bit, for so many task slots.
+/// Rows without a bit, for the given number of task slots.
 fn no_rows(alloc: Global, tasks: u32) -> Result<TaskRows, NoMemory>
     requires { tasks < 2 ^ 24 }
     ensures rows { IfOk result (λ t. AreRows t) }

@@ -6,7 +6,7 @@ ghost use Rattle.khe_told.specs.Changes.{meet_of, inverse, span_after};
 use crate::slots::Span;
 use khe_base::{MeetId, ResourceId, TaskId, TimeId};
 
-/// A change of the meets and tasks: the smallest step of an edit, and what those that listen are
+/// A change of the meets and tasks: the smallest step of an edit, and what listeners are
 /// told. Add and Drop, Place and Lift, and Give and Take are inverses.
 #[derive(Clone, Copy, PartialEq, Eq)]
 pub enum Change {

@@ -46,9 +46,9 @@ pub trait Family {
     fn serves(&self, kind: Kind) -> bool
         ensures { result ≡ serves_kind kind };
 
-    /// Follows changes that fit one after the other, as an edit makes them, and measures nothing: each monitor
-    /// that it serves whose deviation may be another after them waits then, and nobody waits who watches none of
-    /// them. It takes no memory, and time in proportion to the changes and to what is kept for who watches them.
+    /// Follows changes that fit one after the other, as an edit makes them, and measures nothing. It queues each
+    /// monitor that it serves whose deviation may have changed, and none that watches none of them. It takes no
+    /// memory, and time linear in the changes and in what is kept for the monitors that watch them.
     fn turn_all<W: Waits>(&mut self, inst: &Instance, changes: &[Change], waits: &mut W)
         requires of { IsOf self.old inst.now }
         requires fit { AllFit inst.now (told self.old) changes.now }

@@ -40,7 +40,7 @@ fn slots_list_a_state()
 {}
 
 // Slots of the instance that list a told state, with nothing given in free ones, are told, and
-// those that list a valid state are valid.
+// slots that list a valid state are valid.
 fn a_state_is_listed_by_slots()
     ensures told { (p : Parts) (s : List Slot) → AreWellMade p → map emptied s ≡ no_meets p → All IsBareIfFree s → IsTold p (meets_in s) (tasks_in s) → AreTold p s }
     ensures valid { (p : Parts) (s : List Slot) (plain : Plain) → AreWellMade p → map emptied s ≡ no_meets p → All IsBareIfFree s → plain.meets ≡ meets_in s → plain.tasks ≡ tasks_in s → IsValid p plain → AreValid p s }

@@ -1,6 +1,6 @@
 //! What is told of a timetable while it changes: the state as a list of slots, the six changes of
-//! it, the sixteen edits with their refusals, what becomes of a slot at an edit, and the traits of those
-//! that listen: a family that keeps the deviations of some kinds, who waits to be measured, and a watcher.
+//! it, the sixteen edits with their refusals, what becomes of a slot at an edit, and the traits of
+//! listeners: a family that keeps the deviations of some kinds, the queue of monitors to be measured, and a watcher.
 #![tactic(auto)]
 
 mod changes;

@@ -110,8 +110,7 @@ impl<'a> Turn<'a> {
         self.gives_other
     }
 
-    /// The places of which something is another: those that may be given something else, and all where the meet
-    /// is another.
+    /// The places that changed: the ones that may be given another resource, and all where the meet changed.
     pub fn altered(&self) -> Places
         ensures { (j : ℕ) → is_named result j ≡ false → (slice_get self.now.before.given j ≡ slice_get self.now.after.given j) × (self.now.before.span ≡ self.now.after.span) }
     {

@@ -51,7 +51,7 @@ impl Model for Waiting {
 }
 
 impl Waiting {
-    /// None of so many monitors. It takes time and memory in proportion to them; no other call takes
+    /// No monitor is queued, of the given number. It takes time and memory in proportion to them; no other call takes
     /// memory.
     pub fn open(alloc: Global, monitors: u32) -> Result<Waiting, NoMemory>
         ensures flags { IfOk result (λ w. w.flags ≡ replicate monitors false) }
@@ -69,7 +69,7 @@ impl Waiting {
         let _ = &self.list;
     }
 
-    /// Those that wait, each once, in the order in which they came. It takes constant time.
+    /// The queued monitors, each once, in the order in which they came. It takes constant time.
     pub fn as_slice(&self) -> &[MonitorId]
         ensures { AreListedOnce result.now self.now.flags }
     {

@@ -233,7 +233,7 @@ impl Graph {
         self.groups.has(group)
     }
 
-    /// The child of a group at a place, from 0; `None` where it has no so many.
+    /// The child of a group at a place, from 0; `None` where it has fewer children.
     pub fn child(&self, group: GroupId, k: u32) -> Option<MonitorId>
         requires { has_group self.now.groups group.0 ≡ true }
         ensures { result ≡ child_at self.now.groups group.0 k }

@@ -52,7 +52,7 @@ impl Model for Groups {
 }
 
 impl Groups {
-    /// No groups of so many monitors, without room for children. It takes time and
+    /// No groups, for the given number of monitors and without room for children. It takes time and
     /// memory in proportion to the monitors.
     pub(crate) fn open(alloc: Global, monitors: usize) -> Result<Groups, NoMemory>
         requires { monitors ≤ MONITORS }

@@ -16,7 +16,7 @@ use std::alloc::Global;
 
 impl Graph {
     /// The monitors that are detached, in the order of their numbers. It takes time in proportion to
-    /// the monitors, and memory in proportion to those that are detached.
+    /// the monitors, and memory in proportion to the detached ones.
     pub fn detached(&self, alloc: Global) -> Result<Seq<MonitorId>, NoMemory>
         ensures { IfOk result (λ d. d ≡ detached_from 0 (grouping_of self.now).attached) }
     {

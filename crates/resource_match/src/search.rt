@@ -95,7 +95,7 @@ fn no_labels(alloc: Global, count: usize, label: Label) -> Result<Vec<Label>, No
     Ok(vec![in alloc; label; count]?)
 }
 
-/// Room for so many ways out.
+/// Room for the given number of ways out.
 fn no_ways(alloc: Global, count: usize) -> Result<Vec<Exit>, NoMemory>
     ensures { IfOk result (λ v. length v.items ≡ count) }
 {
@@ -126,8 +126,8 @@ fn step(costs: &Costs, cost: Price, from: u32, resource: u32, to: u32) -> Price
         .minus(price_with(costs, to, resource))
 }
 
-/// The labels and marks of all tasks: paths of one step from the new task to those that have a
-/// resource.
+/// The labels and marks of all tasks: paths of one step from the new task to the tasks that have
+/// a resource.
 fn start(
     costs: &Costs,
     chosen: &[Option<u32>],
@@ -278,7 +278,7 @@ fn better_end(end: End, task: u32, cost: Price, exit: Exit) -> End
     }
 }
 
-/// The tasks that are settled, as a search sees them: what each has, who has each resource, and the
+/// The tasks that are settled, as a search sees them: what each has, which has each resource, and the
 /// prices of the tasks.
 #[derive(Drop)]
 pub(crate) struct Settled<'a> {

@@ -18,7 +18,7 @@ use khe_base::{ResourceId, Seq, TimeId};
 use khe_instance::{Instance, Kind, Monitor};
 use khe_told::Waits;
 
-/// Who may wait where the cells of a resource change: the monitors at each resource, with the times that their
+/// The monitors that may be queued where the cells of a resource change, listed by resource, with the times that their
 /// constraints list.
 #[derive(Clone, Copy)]
 pub(crate) struct Audience<'a> {
@@ -142,8 +142,8 @@ fn is_low(table: &CellTable, r: ResourceId, start: u32, end: u32, limit: u32) ->
     false
 }
 
-/// Lets those at what a place is given wait that list one of the times. Where the resource's counts are all above a
-/// limit, those that are measured by busy times alone are passed over.
+/// Queues the monitors of a place's resource that list one of the times. Where the resource's counts are all above a
+/// limit, monitors that are measured by busy times alone are passed over.
 pub(crate) fn add_place<K: CellKinds, W: Waits>(
     audience: &Audience<'_>,
     table: &CellTable,

@@ -51,7 +51,7 @@ impl<K> Drop for Cells<K> {
     }
 }
 
-/// Turns the counts where a slot becomes another, and lets the monitors wait that list one of the times. What
+/// Turns the counts where a slot changes, and queues the monitors that list one of the times. What
 /// was told is the state before. It takes time in proportion to the altered places times the times, and for each
 /// monitor at what these are given time in proportion to the times at most; where the meet has no start before and
 /// none after it takes constant time.

@@ -42,7 +42,7 @@ struct Handed {
     later: Option<ResourceId>,
 }
 
-/// Raises the workload of the resource that a place is given, or lowers it, and lets the monitors on it wait.
+/// Raises or lowers the workload of the resource that a place is given, and queues the monitors on it.
 fn follow_place<W: Waits>(
     inst: &Instance,
     lists: &[Seq<Post>],
@@ -173,7 +173,7 @@ fn follow_all<W: Waits>(
     }
 }
 
-/// Turns the workloads where a slot becomes another, and lets the monitors on them wait. It takes time in proportion
+/// Turns the workloads where a slot changes, and queues the monitors on them. It takes time in proportion
 /// to the places that are altered and the monitors on their workloads.
 pub(crate) fn turn_loads<W: Waits>(
     inst: &Instance,

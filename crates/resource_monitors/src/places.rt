@@ -22,8 +22,8 @@ use crate::tables::CellTable;
 use khe_base::ResourceId;
 use khe_told::Waits;
 
-/// Fills or empties the cells of the resource that a place is given, and lets the monitors at it wait that list one
-/// of the times.
+/// Fills or empties the cells of the resource that a place is given, and queues its monitors that list one of the
+/// times.
 fn follow_place<K: CellKinds, W: Waits>(
     audience: &Audience<'_>,
     place: Option<ResourceId>,

@@ -1,4 +1,4 @@
-//! One command by itself, for who asks line by line.
+//! One command by itself, for callers that ask line by line.
 
 ghost use Rattle.std.specs.Prelude.{◌≡◌, ◌++◌, ◌<◌, OnOk};
 ghost use Rattle.script_run.specs.Answers as spec;

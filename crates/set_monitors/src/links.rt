@@ -24,7 +24,7 @@ pub struct Links {
     pub(crate) apart: u32,
 }
 
-/// So many events, of which none has a meet, and so many times. It takes time and memory in
+/// The given numbers of events, none with a meet, and of times. It takes time and memory in
 /// proportion to events times times.
 pub(crate) fn no_links(alloc: Global, events: u32, times: u32) -> Result<Links, NoMemory>
     requires { times ≤ TIMES }
@@ -51,7 +51,7 @@ fn none_running(alloc: Global, times: u32) -> Result<Seq<u32>, NoMemory>
     Ok(Seq { items })
 }
 
-/// Whether some of so many events run, and not all.
+/// Whether some of the events run, and not all.
 fn is_apart(running: u32, events: u32) -> bool
     ensures { result ≡ is_apart running events }
 {

@@ -19,7 +19,7 @@ pub(crate) struct Edges {
 }
 
 impl Edges {
-    /// Those of an event of so many slots, while there are no meets.
+    /// The edges of an event with the given number of slots, while there are no meets.
     pub(crate) fn open(alloc: Global, slots: u32) -> Result<Edges, NoMemory>
         ensures starts { IfOk result (λ a. a.starts ≡ replicate slots NOTHING) }
         ensures ends { IfOk result (λ a. a.ends ≡ replicate slots NOTHING) }

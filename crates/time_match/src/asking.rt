@@ -255,7 +255,7 @@ fn pairs_of<F: Family>(
     pairs_with(alloc, engine, &reads)
 }
 
-/// A cost for each of so many tasks.
+/// A cost for each of the given number of tasks.
 fn none_of(alloc: Global, count: usize, cost: Totals) -> Result<Seq<Totals>, NoMemory>
     ensures { IfOk result (λ none. none ≡ replicate count cost) }
 {

@@ -1,4 +1,4 @@
-//! What is read of tasks to find those that are alike.
+//! What is read of tasks to find the ones that are alike.
 
 ghost use Rattle.std.specs.Prelude.{◌≡◌, ◌≤◌, ◌<◌, ◌*◌, ◌/◌, true, not, false, All, IfOk, MatchOption, length, slice_index_or};
 ghost use Rattle.std.specs.List.{list_any};

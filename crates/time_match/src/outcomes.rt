@@ -33,7 +33,7 @@ impl Drop for Matched {
 /// Why there is no matching. The timetable is as it was.
 #[derive(Clone, Copy)]
 pub enum MatchFault {
-    /// More than 200 tasks run at the time: so many.
+    /// More than 200 tasks run at the time: this many.
     TooManyTasks(u32),
     /// Memory was refused.
     NoMemory,

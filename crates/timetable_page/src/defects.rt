@@ -110,7 +110,7 @@ fn push_cell_link(page: &mut Draft, view: &View<'_>, resource: u32, time: u32, b
     }
 }
 
-/// Whether a cell is one of those that a monitor of this kind is about.
+/// Whether a monitor of this kind is about a cell.
 fn is_cell(kind: Kind, busy: usize, closed: bool, idle: bool) -> bool {
     match kind {
         Kind::AvoidClashes => busy > 1,

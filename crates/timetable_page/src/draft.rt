@@ -10,7 +10,7 @@ use std::alloc::Global;
 
 /// The page in the making: a text that takes pieces until memory is refused, and remembers that it was.
 ///
-/// Who writes a page adds piece after piece and asks once in the end, by `into_text`. After the first refusal nothing
+/// A writer of a page adds piece after piece and asks once in the end, by `into_text`. After the first refusal nothing
 /// more is added: loops run on to their ends and write nothing, which takes at most the time of the whole page.
 #[derive(Drop)]
 pub(crate) struct Draft {

@@ -1,4 +1,4 @@
-//! The events of a solution: when they run and with whom, and those that lack a time or a resource.
+//! The events of a solution: when they run and with whom, and which lack a time or a resource.
 
 use crate::busy::list_at;
 use crate::defects::{push_event_link, push_resource_link, role_of};
@@ -78,7 +78,7 @@ fn lacks_resource(view: &View<'_>, event: u32) -> bool {
     })
 }
 
-/// Adds a list of the events that lack a time, or of those that lack a resource.
+/// Adds a list of the events that lack a time, or of the events that lack a resource.
 fn push_lacking(page: &mut Draft, view: &View<'_>, times: bool) {
     let mut any = false;
     for event in 0..view.inst.events() {

@@ -37,7 +37,7 @@ use xhstt_completion::{SolutionFault, numbered_solution};
 use xhstt_resolve::Resolved;
 use xhstt_shape::{Archive, RawSolution};
 
-/// After so many bytes of sections no further solution is shown: 50 MB.
+/// Once sections come to this many bytes no further solution is shown: 50 MB.
 pub const PAGE_BYTES: u64 = 50_000_000;
 
 /// The status that a run ends with.
@@ -252,7 +252,7 @@ fn group_of<'a>(archive: &'a Archive, groups: &[u32], number: u32, other: &'a Te
     }
 }
 
-/// Writes the section of the solution with a number, where so many bytes of sections were sent before, and answers
+/// Writes the section of the solution with a number, after a number of bytes of sections, and answers
 /// how many were sent then.
 fn write_section<K: Sink>(
     alloc: Global,

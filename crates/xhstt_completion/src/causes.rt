@@ -118,7 +118,7 @@ fn ends_late(
 }
 
 /// The first cause at the resources that an entry gives, which have these numbers: each is looked for
-/// among all places of the event, and its role among those that came before.
+/// among all places of the event, and its role among the earlier ones.
 fn first_given_cause(
     inst: &Instance,
     event: &EventInfo,

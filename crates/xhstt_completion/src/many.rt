@@ -177,7 +177,7 @@ fn first_at(
     None
 }
 
-/// The cause at the resource with this number among those that an entry gives.
+/// The cause at the resource with this number in an entry.
 fn cause_at(
     inst: &Instance,
     event: &EventInfo,
@@ -243,7 +243,7 @@ fn place_of<'a>(
     }
 }
 
-/// Whether one of the first resources of an entry, so many, is given for a role.
+/// Whether one of the first `number` resources of an entry is given for a role.
 fn came_earlier(_given: &[GivenView<'_>], number: usize, role: &str, roles: &RoleTable) -> bool
     requires number { number ≤ length _given.now }
     requires roles { Finds roles.now (map role_of _given.now) }

@@ -12,7 +12,7 @@ use khe_base::{Names, NoMemory, Text};
 use std::alloc::Global;
 use xhstt_shape::GivenView;
 
-/// Up to so many resources of an entry, or places of its event, are few: each resource is then looked
+/// Up to this many resources of an entry, or places of its event, are few: each resource is then looked
 /// for among all places, and each place among all resources, which takes time in proportion to both
 /// together, and neither memory nor a hash. Whether a role came before is asked only for a resource
 /// that has its place, so no more than once for each place, and once again.

@@ -4,8 +4,8 @@ use khe_base::Names;
 
 /// The Ids of an instance's parts, each numbered in the order of the text.
 ///
-/// Weeks and days are time groups, and courses are event groups; those that are have names of their
-/// own besides.
+/// Weeks and days are time groups, and courses are event groups; each has
+/// its name in a list of its own besides.
 pub struct Directory {
     pub time_groups: Names,
     pub weeks: Names,

@@ -32,7 +32,7 @@ impl Model for Members {
 }
 
 impl Members {
-    /// These members, of a group of so many items. It takes time in proportion to them.
+    /// These members, of a group of `size` items. It takes time in proportion to them.
     pub fn new(alloc: Global, size: u32, numbers: Seq<u32>) -> Result<Members, NoMemory>
         ensures { IfOk result (λ m. m ≡ numbers) }
     {
@@ -60,7 +60,7 @@ impl Members {
     }
 }
 
-/// The set of the numbers of a group of so many items, where a word of 64 items has one of them on average.
+/// The set of the numbers of a group of `size` items, where a word of 64 items has one of them on average.
 fn kept_set(alloc: Global, size: u32, numbers: &[u32]) -> Result<Option<IdSet>, NoMemory>
     ensures { IfOk result (λ o. IsSetOf o numbers.now) }
 {

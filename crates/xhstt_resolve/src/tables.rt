@@ -121,7 +121,7 @@ fn table_of<'a, T: Grouped>(
     })
 }
 
-/// Lists of members of groups of so many items, as members.
+/// Lists of members of groups of `size` items, as members.
 fn with_sets(alloc: Global, size: u32, lists: Seq<Seq<u32>>) -> Result<Seq<Members>, NoMemory>
     ensures { IfOk result (λ members. members ≡ lists) }
 {
