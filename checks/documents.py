@@ -87,7 +87,9 @@ def definitions():
         if layer:
             parts.append("\n## %s\n" % layer)
             layer = ""
-        parts.append("\n### %s\n\n" % crate.group(1))
+        links = [(said, os.path.join("crates", crate.group(1), to)) for said, to in (("code", "src"), ("proofs", "proofs"))]
+        there = ["[%s](../%s)" % (said, to) for said, to in links if os.path.isdir(os.path.join(TOP, to))]
+        parts.append("\n### %s\n\n%s.\n\n" % (crate.group(1), ", ".join(there)))
         for name in told:
             path = os.path.join(specs, name + ".antt")
             parts.append("- [%s](../%s). %s\n" % (name, path, first_comment(os.path.join(TOP, path))))
