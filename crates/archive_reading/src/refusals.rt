@@ -32,7 +32,7 @@ pub enum Refusal {
     NoSuchTime,
     /// Its instance has no resource type of the number that is asked for.
     NoSuchType,
-    /// So many tasks run at the time, more than can be matched.
+    /// More tasks run at the time than can be matched: this many.
     TooManyTasks { tasks: u32 },
 }
 

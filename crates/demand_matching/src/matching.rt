@@ -53,7 +53,7 @@ impl Model for Matching {
 }
 
 impl Matching {
-    /// So many demands, numbered from 0, all absent. `last` is the number of times, `width` that
+    /// The given number of demands, numbered from 0, all absent. `last` is the number of times, `width` that
     /// of the resources; a domain names the given sets by their numbers in the two lists. It takes
     /// all memory that later changes need, and time in proportion to it. Supplies are numbered
     /// below 2^32, and more count as memory that is refused.
@@ -134,7 +134,7 @@ impl Matching {
     }
 
     /// The greatest excess of a set of present demands: its size less the number of supplies that
-    /// at least one of them may have. So many present demands are left without a supply of their
+    /// at least one of them may have. That many present demands are left without a supply of their
     /// own. It takes constant time and no memory.
     pub fn deficit(&self) -> u32
         ensures greatest { IsDeficit self.now result }

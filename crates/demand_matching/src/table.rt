@@ -57,7 +57,7 @@ struct Stage {
 pub(crate) enum Found {
     /// The demand at this place of the order may have this free supply.
     Open(u32, u32),
-    /// So many demands are met, and whatever they may have is theirs.
+    /// This many demands are met, and all supplies that they may have are theirs.
     Closed(u32),
 }
 

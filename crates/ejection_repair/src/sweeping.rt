@@ -57,7 +57,7 @@ fn round_of<F: Family>(engine: &Engine<'_, F>, diversifier: u64) -> DefectRound
     }
 }
 
-/// So many defects, begun at the place of a number that is no less.
+/// All defects, of known number, begun at the place of a number that is no less.
 fn begun_round<F: Family>(engine: &Engine<'_, F>, count: u64, diversifier: u64) -> DefectRound
     requires { length (defects (costs_at engine.now.parts engine.now.state)) ≡ count }
     ensures { defects_ahead (costs_at engine.now.parts engine.now.state) result

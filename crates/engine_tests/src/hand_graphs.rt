@@ -16,7 +16,7 @@ use std::sync::ledger::Ledger;
 /// The weights of monitors, and which of them are hard.
 pub(crate) type Row = (u32, bool);
 
-/// So many times the lines of these rows, attached, as far as they are within the limits.
+/// The lines of these rows, repeated the given number of times, attached, as far as they are within the limits.
 #[tactic(auto, using(crate::proofs::FreshLaws::fresh_push))]
 pub(crate) fn lines_of(alloc: Global, rows: &[Row], times: u32) -> Result<Vec<Line>, NoMemory>
     ensures { IfOk result (λ lines. AreFresh lines.items) }

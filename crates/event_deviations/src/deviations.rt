@@ -53,7 +53,7 @@ impl<'a> EventDeviations<'a> {
     }
 
     /// The deviation of a monitor of the instance whose point isn't a resource, with the room for
-    /// the instance, which is as good after the call as before it.
+    /// the instance, which the call leaves as it was.
     ///
     /// At an event it takes the time of the event's meets, at a place of an event that of the
     /// place's duties, and at a pair that of the meets of both events. AvoidSplitAssignments takes

@@ -141,7 +141,7 @@ fn set_one<F: Family>(inst: &Instance, family: &F, marks: &mut Marks, number: Mo
     }
 }
 
-/// So many numbers of 0.
+/// The given number of numbers of 0.
 fn zeros(alloc: Global, count: u32) -> Result<Vec<u32>, NoMemory>
     ensures { IfOk result (λ v. v.items ≡ replicate count 0) }
 {

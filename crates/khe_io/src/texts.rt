@@ -49,10 +49,10 @@ impl From<AllocError> for TakeFault {
 /// Takes all bytes under a name of a shelf.
 ///
 /// `ReadFault` comes only with a fault that the shelf counted, and on a sound shelf exactly where
-/// the name is missing; with every other answer the shelf counted none, so no call is made again
-/// after a fault. `TooLarge` comes only where more than `limit` bytes stand under the name,
-/// and then no bytes are answered; reading stops with the first piece beyond the limit.
-/// `NoMemory` comes where memory is refused. After any answer the shelf holds what it held.
+/// the name is missing; with every other answer the shelf counted none. `TooLarge` comes only where
+/// more than `limit` bytes stand under the name, and then no bytes are answered; reading stops with
+/// the first piece beyond the limit. `NoMemory` comes where memory is refused. After any answer the
+/// shelf holds what it held.
 ///
 /// The cost is that of the reads, of `PIECE_BYTES` each where the shelf gives as much, and of copying
 /// each byte once; the memory is at most about twice the text's, and a piece.
@@ -93,7 +93,7 @@ pub fn take_all<S: Shelf>(
 
 /// Gives a sink all these bytes, piece by piece. It takes no memory.
 ///
-/// After `Ok` the sink took them all and counted no fault, so no call is made again after one.
+/// After `Ok` the sink took them all and counted no fault.
 /// `Failed` comes only with a fault that the sink counted, and then the sink took some first bytes
 /// of these. Where there are none, the sink is not called.
 pub fn put_all<K: Sink>(out: &mut K, bytes: &[u8]) -> Result<(), Failed>

@@ -44,7 +44,7 @@ fn gather(board: &Board, mine: Found, theirs: Found) -> Result<Found, NoMemory>
     })
 }
 
-/// So many jobs, numbered from 0, and how many workers share them.
+/// How many jobs there are, numbered from 0, and how many workers share them.
 #[derive(Clone, Copy)]
 pub(crate) struct Shared {
     pub(crate) jobs: u64,

@@ -20,7 +20,7 @@ use xhstt_shape::RawSolution;
 /// What comes of a solution.
 #[derive(Drop)]
 pub enum Verdict {
-    /// It is completed, and costs so much.
+    /// It is completed, with what it costs.
     Valid(Values),
     /// It is invalid, for the first cause, 1 to 7, of the first entry that has one.
     Invalid { cause: u32, entry: u32 },

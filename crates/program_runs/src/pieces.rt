@@ -8,9 +8,9 @@ use std::alloc::Global;
 pub enum Piece {
     /// This text.
     Once(&'static str),
-    /// So many copies of this text.
+    /// This many copies of this text.
     Copies(u32, &'static str),
-    /// So many copies of two texts, with the copy's number between them. The numbers start at 0.
+    /// This many copies of two texts, with the copy's number between them. The numbers start at 0.
     Numbered(u32, &'static str, &'static str),
 }
 
