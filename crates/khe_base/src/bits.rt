@@ -7,7 +7,7 @@ ghost use Rattle.khe_base.specs.Bits.{has_bit, is_set};
 use crate::NoMemory;
 use std::alloc::Global;
 
-/// So many words with no bit set, in time and memory in proportion to their number.
+/// The given number of words with no bit set, in time and memory in proportion to their number.
 pub fn no_bits(alloc: Global, words: usize) -> Result<Vec<u64>, NoMemory>
     ensures { IfOk result (λ w. w.items ≡ replicate words 0) }
 {

@@ -31,7 +31,7 @@ pub(crate) fn rows_of(alloc: Global, inst: &Instance) -> Result<Vec<Row>, NoMemo
     Ok(rows)
 }
 
-/// So many task slots to which nothing is given.
+/// The given number of task slots to which nothing is given.
 pub(crate) fn no_tasks(alloc: Global, tasks: u32) -> Result<Vec<Option<ResourceId>>, NoMemory>
     ensures { IfOk result (λ given. given.items ≡ replicate tasks None) }
 {

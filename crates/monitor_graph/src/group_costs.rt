@@ -185,7 +185,7 @@ impl GroupCosts {
     }
 }
 
-/// So many costs, all 0.
+/// The given number of costs, all 0.
 fn no_costs(alloc: Global, n: usize) -> Result<Vec<u128>, NoMemory>
     ensures long { IfOk result (λ v. length v.items ≡ n) }
     ensures none { IfOk result (λ v. (g : ℕ) → slice_index_or v.items g 0 ≡ 0) }

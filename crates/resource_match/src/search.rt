@@ -88,7 +88,7 @@ impl Search {
     }
 }
 
-/// So many times this label.
+/// This label, the given number of times.
 fn no_labels(alloc: Global, count: usize, label: Label) -> Result<Vec<Label>, NoMemory>
     ensures { IfOk result (λ v. length v.items ≡ count) }
 {
@@ -106,7 +106,7 @@ fn no_ways(alloc: Global, count: usize) -> Result<Vec<Exit>, NoMemory>
     Ok(vec![in alloc; exit; count]?)
 }
 
-/// So many marks that are not set.
+/// The given number of marks, none set.
 fn no_marks(alloc: Global, count: usize) -> Result<Vec<bool>, NoMemory>
     ensures { IfOk result (λ v. length v.items ≡ count) }
 {

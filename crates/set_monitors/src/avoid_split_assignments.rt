@@ -120,7 +120,7 @@ fn nothing_held(
     Ok((counts, candidates))
 }
 
-// So many counts of no tasks.
+// The given number of counts of no tasks.
 fn no_tasks(alloc: Global, size: usize) -> Result<Vec<u32>, NoMemory>
     ensures { IfOk result (λ counts. counts.items ≡ replicate size 0) }
 {

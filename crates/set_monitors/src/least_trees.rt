@@ -31,7 +31,7 @@ impl Model for Least {
 }
 
 impl Least {
-    /// So many places without a number. It takes time and memory in proportion to them.
+    /// The given number of places without a number. It takes time and memory in proportion to them.
     pub(crate) fn open(alloc: Global, size: u32) -> Result<Least, NoMemory>
         ensures { IfOk result (λ t. t ≡ replicate size NOTHING) }
     {

@@ -29,7 +29,7 @@ pub(crate) fn lists_of(
     Ok(lists)
 }
 
-/// So many empty lists.
+/// The given number of empty lists.
 fn no_lists(alloc: Global, count: u32) -> Result<Seq<Seq<u32>>, NoMemory>
     ensures { IfOk result (λ lists. lists ≡ replicate count []) }
 {

@@ -99,7 +99,7 @@ pub(crate) fn wished<F: Family>(
     sum_of(engine.instance(), wishes, resource)
 }
 
-/// A deviation that is so much greater, or the greatest one.
+/// A deviation raised by the given number, or the greatest one.
 fn capped(deviation: u64, more: u32) -> u64
     ensures is { result ≡ capped (deviation + more) }
     ensures small { result ≤ GREATEST_DEVIATION }
@@ -115,7 +115,7 @@ fn capped(deviation: u64, more: u32) -> u64
     }
 }
 
-/// What a monitor would cost if it deviated by so much more.
+/// What a monitor would cost if its deviation rose by the given number.
 fn cost_more<F: Family>(engine: &Engine<'_, F>, number: MonitorId, more: u32) -> u128
     requires { number.0 < length engine.now.parts.monitors }
     ensures is { result ≡ cost_more engine.now.parts engine.now.state more number.0 }
@@ -139,7 +139,7 @@ fn is_hard(inst: &Instance, monitor: Monitor) -> bool
     monitor.constraint < inst.constraints() && inst.constraint(monitor.constraint).required
 }
 
-/// What a monitor costs as it is, and what it would cost if it deviated by so much more.
+/// What a monitor costs as it is, and what it would cost if its deviation rose by the given number.
 fn wish_of<F: Family>(engine: &Engine<'_, F>, number: MonitorId, more: u32) -> Wish
     requires { number.0 < length engine.now.parts.monitors }
     ensures is { result ≡ wish_at engine.now.parts engine.now.state more number.0 }

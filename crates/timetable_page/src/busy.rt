@@ -34,7 +34,7 @@ pub(crate) struct Timetable {
     pub parts: Seq<Seq<u32>>,
 }
 
-/// So many empty lists.
+/// The given number of empty lists.
 pub(crate) fn empty_lists<T: Drop>(alloc: Global, count: usize) -> Result<Seq<Seq<T>>, NoMemory>
     ensures { IfOk result (λ lists. lists ≡ replicate count []) }
 {

@@ -52,7 +52,7 @@ fn group_names(alloc: Global, raw: &RawInstance) -> Result<Names, NoMemory> {
     Ok(names)
 }
 
-/// So many columns, empty, each called after the time group with its number, and a last one without a name.
+/// The given number of columns, empty, each called after the time group with its number, and a last one without a name.
 fn empty_columns(alloc: Global, groups: usize) -> Result<Seq<Column>, NoMemory> {
     let mut columns = Seq::new(alloc);
     for group in 0..groups {

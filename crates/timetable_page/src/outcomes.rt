@@ -16,7 +16,7 @@ use xhstt_shape::RawSolution;
 /// What comes of a solution.
 #[derive(Clone, Copy)]
 pub enum Outcome {
-    /// It costs so much.
+    /// What it costs.
     Valid(Totals),
     /// It is invalid, for the first cause of the first entry that has one.
     Invalid { cause: u32, entry: u32 },

@@ -21,7 +21,7 @@ use khe_instance::{EventInfo, Instance, Place};
 use std::alloc::Global;
 use xhstt_shape::{EntryView, GivenView};
 
-/// The first cause at an entry of an event, of which earlier entries used so much, by the time and the
+/// The first cause at an entry of an event, of which earlier entries used a part, by the time and the
 /// resources that it names. It takes time in proportion to the resources of the entry and the places
 /// of the event, on average, and memory in proportion to the resources, and to both where both are many.
 pub(crate) fn cause_in(

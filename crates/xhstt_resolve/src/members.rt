@@ -67,7 +67,7 @@ pub(crate) fn members_of<T: Grouped>(
     Ok(Seq { items: lists })
 }
 
-/// So many empty lists.
+/// The given number of empty lists.
 fn no_members(alloc: Global, count: usize) -> Result<Vec<Seq<u32>>, NoMemory>
     ensures { IfOk result (λ lists. lists.items ≡ replicate count []) }
 {
