@@ -1,5 +1,7 @@
--- All chains of at most some moves, in the order in which they are tried: a chain before its extensions, otherwise
--- by defects and then by moves, each list begun at the diversifier's place and taken round.
+-- A chain begins with a move of a defect, each further one is a move of the only monitor that is dearer than at the
+-- start, and nothing is moved twice. Here are all chains of at most some moves, in the order in which they are
+-- tried: a chain before its extensions, otherwise by defects and then by moves, each list begun at the diversifier's
+-- place and taken round.
 use Rattle.std.specs.Prelude.{ℕ, zero, suc, ◌%◌, List, [], ◌∷◌, ◌++◌, length, take, drop}
 use Rattle.std.specs.List.{filter, flat_map}
 use Rattle.std.specs.Option.{option_map_or}

@@ -1,5 +1,6 @@
 -- The fifteen limits on an instance in the order of their numbers, each with the value that is counted. The first
--- that is above its greatest value is told.
+-- that is above its greatest value is told; of listed time groups that of the first constraint above it, of the unit
+-- the first running multiple above it.
 use Rattle.std.specs.Prelude.{ℕ, ◌*◌, ◌==◌, if◌then◌else◌, nat_lt, Option, Some, None, List, [], ◌∷◌, map, length, find}
 use Rattle.std.specs.Prelude.{slice_get}
 use Rattle.std.specs.List.{sum_by}
