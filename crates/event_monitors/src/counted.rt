@@ -12,7 +12,7 @@ use std::alloc::Global;
 
 /// A keeper that has a gauge for each monitor that it serves. What was told is lent to it.
 ///
-/// A slot that becomes another turns the gauges of the monitors that name its event, and no other; where
+/// A slot that changes turns the gauges of the monitors that name its event, and no others; where
 /// there are none, or where they hear no such turn, it takes constant time.
 pub struct Counted<G> {
     index: Index,

@@ -18,7 +18,7 @@ use khe_told::{Told, Turn};
 use std::alloc::Global;
 
 /// What is kept for one monitor of some kinds, from which its deviation is read. It is turned where a meet
-/// slot of an event that the monitor names becomes another.
+/// slot of an event that the monitor names changes.
 pub trait Gauge {
     /// The kinds whose monitors have such a gauge.
     ghost serves_kind: { Kind → Bool };

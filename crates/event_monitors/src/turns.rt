@@ -11,7 +11,7 @@ use crate::posts::Post;
 use khe_instance::Instance;
 use khe_told::{Told, Turn, Waits};
 
-/// Turns the gauge of one monitor, which then waits where its deviation may be another.
+/// Turns the gauge of one monitor, and queues the monitor if its deviation may have changed.
 fn turn_one<G: Gauge, W: Waits>(
     inst: &Instance,
     told: &Told,
@@ -36,7 +36,7 @@ fn turn_one<G: Gauge, W: Waits>(
     waits.add(post.number);
 }
 
-/// Turns the gauges of the monitors that name the event of a slot that becomes another. What was told is the
+/// Turns the gauges of the monitors that name the event of a slot that changes. What was told is the
 /// state before. It takes the time of these monitors.
 pub(crate) fn turn_all<G: Gauge, W: Waits>(
     inst: &Instance,

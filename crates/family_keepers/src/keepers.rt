@@ -16,7 +16,7 @@ use khe_instance::{Instance, Kind};
 use khe_told::{Told, Turn, Waits};
 use std::alloc::Global;
 
-/// Keeps what the deviations of the monitors of some kinds are read from, while slot by slot becomes another.
+/// Keeps what the deviations of the monitors of some kinds are read from, while slots change one by one.
 /// The meets and tasks themselves are told in one place for several keepers, and each is lent them as they stand
 /// before.
 pub trait Keeper {

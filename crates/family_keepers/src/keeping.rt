@@ -109,7 +109,7 @@ impl Taken {
     }
 }
 
-/// A meet slot that may be another, and the places of it that may be given something else.
+/// A meet slot that may have changed, and its places that may be given another resource.
 #[derive(Clone, Copy)]
 struct Altered {
     meet: MeetId,

@@ -129,7 +129,7 @@ fn is_lower_measured<F: Family>(
 }
 
 /// Turns the families by the changes of an accepted edit of meets and tasks, which are listed. Those whose
-/// deviations may be others then wait.
+/// deviations may have changed are queued.
 fn turn_by<F: Family>(
     inst: &Instance,
     solution: &Solution<'_>,

@@ -9,7 +9,7 @@ use crate::slots::Span;
 use khe_base::{EventId, MeetId, ResourceId};
 use std::marker::Model;
 
-/// A meet slot that becomes another at once, whatever changes lead there. Contracts see both slots. Each
+/// A meet slot before and after an edit, whatever changes lead there. Contracts see both slots. Each
 /// call takes constant time.
 #[derive(Drop)]
 pub struct Turn<'a> {
@@ -23,7 +23,7 @@ pub struct Turn<'a> {
     pub(crate) places: Places,
     /// Whether a place is given something else.
     pub(crate) gives_other: bool,
-    /// Whether the meet is another. This and the next are asked by each keeper, and so looked at once.
+    /// Whether the meet changed. This and the next are asked by each keeper, and so looked at once.
     pub(crate) moves: bool,
     /// Whether the meet comes or goes, or lasts longer or shorter.
     pub(crate) resizes: bool,
@@ -120,7 +120,7 @@ impl<'a> Turn<'a> {
         self.places
     }
 
-    /// Whether the slot becomes another at all.
+    /// Whether the slot changes at all.
     pub fn is_still(&self) -> bool
         ensures { result ≡ true → self.now.before ≡ self.now.after }
     {
@@ -139,7 +139,7 @@ pub(crate) fn is_resized(before: Option<Span>, after: Option<Span>) -> bool
     }
 }
 
-/// Whether a meet is another.
+/// Whether a meet changed.
 pub(crate) fn is_moved(before: Option<Span>, after: Option<Span>) -> bool
     ensures { result ≡ false → before ≡ after }
 {

@@ -171,9 +171,9 @@ impl Graph {
         }
     }
 
-    /// Changes totals that are this graph's with other deviations, where the deviation of a monitor
-    /// that is still the graph's becomes another. It takes constant time. Where the graph is of an
-    /// instance such totals are the definitions' (`totals_with`).
+    /// Adjusts totals of this graph with other deviations to a new deviation of one monitor, which is
+    /// still the graph's own in these totals. It takes constant time. Where the graph is of an instance
+    /// such totals are the definitions' (`totals_with`).
     pub fn shift(&self, monitor: MonitorId, deviation: u64, totals: &mut Totals)
         requires known { monitor.0 < length self.now.lines }
         requires small { deviation ≤ GREATEST_DEVIATION }

@@ -141,7 +141,7 @@ impl GroupCosts {
         self.swap_at(group.0 as usize, &line, &freed(&line));
     }
 
-    /// Adds up what one group costs, where its children alone are others than before, in time in
+    /// Adds up what one group costs, where its children alone changed, in time in
     /// proportion to them.
     pub(crate) fn renew(&mut self, groups: &Groups, group: GroupId, lines: &[Line])
         requires costs { (gs : List (Option (List MonitorId))) × (o : Option (List MonitorId)) × AreGroupCosts lines.now gs self.old.hard.items self.old.soft.items × (groups.now.groups ≡ slice_set gs group.0 o) }

@@ -126,7 +126,7 @@ pub(crate) fn replace(
     add_cost(hard, soft, &line, after);
 }
 
-/// Changes totals as they change where the deviation at a place becomes another.
+/// Adjusts totals to a new deviation at a place.
 pub(crate) fn shift(lines: &[Line], place: usize, deviation: u64, totals: &mut Totals)
     requires known { place < length lines.now }
     requires each { All IsLine lines.now }

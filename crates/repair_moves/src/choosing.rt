@@ -98,7 +98,7 @@ pub(crate) fn edit_of(
     }
 }
 
-/// Whether a time is another one than the start, or there is no start.
+/// Whether a time differs from the start, or there is no start.
 fn is_elsewhere(start: Option<TimeId>, time: u32) -> bool
     ensures { is_time time start ≡ not result }
 {

@@ -1,4 +1,4 @@
-//! Filling and emptying cells where a slot becomes another.
+//! Filling and emptying cells where a slot changes.
 
 ghost use Rattle.std.specs.Prelude.{◌≡◌, ◌≤◌, ◌<◌, ℕ, true, length, ◌∷◌, [], Some};
 ghost use Rattle.khe_base.specs.declared.limits.TheConstants.{GREATEST_COUNT};

@@ -1,4 +1,4 @@
-//! Raising and lowering workloads where a slot becomes another.
+//! Raising and lowering workloads where a slot changes.
 
 ghost use Rattle.std.specs.Prelude.{◌≡◌, ◌<◌, ℕ, true, false, length, slice_get, Some};
 ghost use Rattle.khe_base.specs.declared.numbers.ResourceId.{ResourceId};

@@ -1,4 +1,4 @@
-//! Turning the gauge of Link Events where a slot becomes another.
+//! Turning the gauge of Link Events where a slot changes.
 
 ghost use Rattle.std.specs.Prelude.{◌≡◌, ◌<◌, ◌≤◌, ℕ, true, Some, length, slice_get};
 ghost use Rattle.khe_base.specs.declared.limits.TheConstants.{EVENTS};

@@ -129,7 +129,7 @@ fn starts_in(times: &IdSet, start: Option<TimeId>) -> bool
     }
 }
 
-// Turns the counts of all listed groups where a meet's start is another. What is returned is by how many too
+// Turns the counts of all listed groups where a meet's start changed. What is returned is by how many too
 // few or too many start in them then, by how many it was before.
 fn turn_counts(
     spreads: &[Spread],
