@@ -30,7 +30,7 @@ pub data Asked : Type 0 where
   -- an archive with a timetable that is constructed: the archive's name, the number of the instance, and where it is
   -- repaired the greatest number of moves of a chain and how many chains may be tried
   constructing : List ℕ → ℕ → Option (ℕ × ℕ) → Asked
-  -- the archive that is made from a seed, with so many events
+  -- the archive that is made from a seed, with a number of events
   making : ℕ → ℕ → Asked
   -- the line on the run of the same
   running : ℕ → ℕ → Asked

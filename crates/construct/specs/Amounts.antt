@@ -8,7 +8,7 @@ use Rattle.khe_instance.specs.declared.parts.EventInfo.{EventInfo}
 use Rattle.khe_instance.specs.declared.parts.Parts.{Parts}
 use Rattle.khe_instance.specs.declared.points.Monitor.{Monitor}
 
--- the widest bounds of so many events
+-- the widest bounds of the first n events
 pub record AreWidest (p : Parts) (n : ℕ) (table : List Bounds) : Type 0 where
   pub many : length table ≡ n
   pub each : (e : ℕ) (event : EventInfo) (b : Bounds) → slice_get p.events e ≡ Some event → slice_get table e ≡ Some b
@@ -29,7 +29,7 @@ pub record AreNarrowed (p : Parts) (m : Monitor) (old new : List Bounds) : Type 
   pub many : length new ≡ length old
   pub each : (e : ℕ) → slice_get new e ≡ option_map (narrowed_by p e m) (slice_get old e)
 
--- the amounts of so many events
+-- the amounts of the first n events
 pub record AreAmounts (p : Parts) (n : ℕ) (amounts : List ℕ) : Type 0 where
   pub many : length amounts ≡ n
   pub each : (e : ℕ) (event : EventInfo) (k : ℕ) → slice_get p.events e ≡ Some event → slice_get amounts e ≡ Some k

@@ -20,7 +20,7 @@ cut_slot m e event d = record {
       map (λ (place : Place). place.fixed) event.places;
 }
 
--- a slot of an event that is cut into so many meets, by its place among the event's slots
+-- a slot of an event that is cut into a number of meets, by its place among the event's slots
 unfoldable pub begun_slot : ℕ → EventInfo → ℕ → ℕ → Slot
 begun_slot e event n k =
     if nat_lt k n then cut_slot (event.first_meet + k) e event (part event.duration n k)

@@ -48,7 +48,7 @@ widest d = record { min_duration = 1; max_duration = d; min_amount = 1; max_amou
 unfoldable pub bounds_of : Parts → ℕ → ℕ → Bounds
 bounds_of p e d = fold narrowed (widest d) (filter_map (set_by p e) p.monitors)
 
--- whether so many meets may be cut of a duration
+-- whether a duration may be cut into n meets
 unfoldable pub allows : Bounds → ℕ → ℕ → Bool
 allows b d n = nat_le b.min_amount n && nat_le n b.max_amount
     && (nat_le (n * b.min_duration) d && nat_le d (n * b.max_duration))
@@ -61,12 +61,12 @@ least_amount b d = unwrap_or (find (allows b d) (range_with_len 1 d)) 1
 unfoldable pub amount_of : Parts → ℕ → EventInfo → ℕ
 amount_of p e event = if is_some event.fixed then 1 else least_amount (bounds_of p e event.duration) event.duration
 
--- how long the meet with a number is of so many among which a duration is divided: the first ones last one
--- time more, where there is a remainder
+-- how long the meet with a number is, where a duration is divided among n: the first ones last one time more,
+-- where there is a remainder
 unfoldable pub part : ℕ → ℕ → ℕ → ℕ
 part d n k = d / n + (if nat_lt k (d % n) then 1 else 0)
 
--- the durations of so many meets that are cut of a duration
+-- the durations of the n meets into which a duration is cut
 unfoldable pub parts : ℕ → ℕ → List ℕ
 parts d n = map (part d n) (range_with_len 0 n)
 

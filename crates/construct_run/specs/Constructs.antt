@@ -31,7 +31,7 @@ pub record IsBuiltText (a : Archive) (p : Parts) (text : List ℕ) : Type 0 wher
   pub is : IsBuilt p built
   pub bytes_are : encode_utf8_all text ≡ built_bytes a p built
 
--- and for a repair of it by chains of at most so many moves, of which so many may be tried
+-- and for a repair of it by chains of at most `depth` moves, of which `budget` may be tried
 pub record IsMendedText (a : Archive) (p : Parts) (depth budget : ℕ) (text : List ℕ) : Type 0 where
   pub built : Built
   pub is : IsBuilt p built

@@ -58,7 +58,7 @@ pub record IsInRange (w : Domains) (d : Domain) : Type 0 where
 abbrev pub with_domain : Domains → ℕ → Option Domain → Domains
 with_domain w demand domain = record w { demands = slice_set w.demands demand domain }
 
--- so many demands without a domain
+-- the given number of demands without a domain
 abbrev pub no_domains : List (List Bool) → List (List Bool) → ℕ → ℕ → ℕ → Domains
 no_domains times resources last width demands =
     record { times = times; resources = resources; last = last; width = width; demands = replicate demands None }

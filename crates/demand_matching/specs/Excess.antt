@@ -34,7 +34,7 @@ pub record IsHallSet (w : Domains) (set : ℕ → Bool) : Type 0 where
   pub least : (other : ℕ → Bool) → HasGreatestExcess w other → (demand : ℕ) → IsTrue (set demand)
       → IsTrue (other demand)
 
--- each present demand has a supply of its own, which it may have, but for so many that have none
+-- each present demand has a supply of its own, which it may have, but for `left_out` that have none
 pub record IsAssignment (w : Domains) (supply : ℕ → Option (ℕ × ℕ)) (left_out : ℕ) : Type 0 where
   pub admissible : (demand resource time : ℕ) → supply demand ≡ Some (resource, time)
       → IsTrue (may_have w demand resource time)

@@ -6,7 +6,7 @@ use Rattle.demand_matching.specs.Domains.{is_present}
 use Rattle.demand_matching.specs.Order.{IsOrder}
 use Rattle.demand_matching.specs.Table.{domains_of, supply_of, demands_in}
 
--- the first demands of the order, so many, are those that are present and have no supply
+-- the first `left` demands of the order are the present ones that have no supply
 pub record IsListing (t : Table) (o : Order) (left : ℕ) : Type 0 where
   pub order : IsOrder (demands_in t) o.demands.items o.spots.items
   pub met_length : length o.met_from.items ≡ demands_in t

@@ -7,7 +7,7 @@ use Rattle.demand_matching.specs.Listing.{IsListing}
 use Rattle.demand_matching.specs.Search.{IsReached, IsMarked}
 use Rattle.demand_matching.specs.Table.{IsTable, domains_of, may_take, demands_in, supplies_in}
 
--- the first demands of the order, so many, are present, and each supply that one of them may have
+-- the first `met` demands of the order are present, and each supply that one of them may have
 -- is that of one of them
 pub record IsShut (t : Table) (spots : List ℕ) (met : ℕ) : Type 0 where
   pub fits : met ≤ demands_in t
@@ -16,7 +16,7 @@ pub record IsShut (t : Table) (spots : List ℕ) (met : ℕ) : Type 0 where
   pub saturated : (demand supply : ℕ) → demand < demands_in t → slice_index spots demand < met → supply < supplies_in t
       → may_take (domains_of t) demand supply ≡ true → IsReached t spots met supply
 
--- so many are left out, and they are among demands that have all supplies that these may have: no
+-- `left` demands are left out, and they are among demands that have all supplies that these may have: no
 -- matching leaves out fewer
 pub record IsMaximum (t : Table) (o : Order) (left met : ℕ) : Type 0 where
   pub table : IsTable t

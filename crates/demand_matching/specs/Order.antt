@@ -17,7 +17,7 @@ pub record ChangesPlaces (order spots order' spots' : List ℕ) (d place : ℕ) 
   pub other_spots : (e : ℕ) → e ≢ d → e ≢ slice_index order place → slice_index spots' e ≡ slice_index spots e
   pub other_places : (k : ℕ) → k ≢ place → k ≢ slice_index spots d → slice_index order' k ≡ slice_index order k
 
--- the same numbers below n stand at the first places, so many
+-- the same numbers below n stand at the first `count` places
 pub record HasSameFirst (n : ℕ) (spots spots' : List ℕ) (count : ℕ) : Type 0 where
   pub into : (d : ℕ) → d < n → slice_index spots d < count → slice_index spots' d < count
   pub back : (d : ℕ) → d < n → slice_index spots' d < count → slice_index spots d < count
@@ -27,6 +27,6 @@ pub record IsCountedUp (n : ℕ) (numbers : List ℕ) : Type 0 where
   pub count : length numbers ≡ n
   pub number : (k : ℕ) → k < n → slice_index numbers k ≡ k
 
--- whether the number is below n and stands among the first of the order, so many
+-- whether the number is below n and stands at one of the first places of the order
 abbrev pub is_first : List ℕ → ℕ → ℕ → ℕ → Bool
 is_first spots count n d = nat_lt d n && nat_lt (slice_index spots d) count

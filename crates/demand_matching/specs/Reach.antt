@@ -23,7 +23,7 @@ pub record IsReach (t : Table) (demands : List ℕ) (marks : List Bool) : Type 0
   pub there : (demand : ℕ) → has_member marks demand ≡ true → is_present (domains_of t) demand ≡ true
   pub all : (demand : ℕ) → has_member marks demand ≡ true → IsInAll t demand
 
--- where so many are reached, whoever has a supply that one of them may have is reached
+-- where this number are reached, each demand that has a supply which one of them may have is reached
 abbrev pub AreAll : Table → ℕ → Type 0
 AreAll t met = (r : Reach) → IsReach t r.demands r.marks → met ≤ length r.demands
     → (demand supply by : ℕ) → has_member r.marks demand ≡ true → may_take (domains_of t) demand supply ≡ true

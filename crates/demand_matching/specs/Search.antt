@@ -39,12 +39,12 @@ pub record IsReached (t : Table) (spots : List ℕ) (len supply : ℕ) : Type 0 
   pub owner : owner_of t supply ≡ Some by
   pub within : slice_index spots by < len
 
--- whoever has a supply that one of the first demands of an order may have is one of these
+-- a demand that has a supply which one of the first demands of an order may have is one of these
 abbrev pub IsFenced : Table → List ℕ → ℕ → Type 0
 IsFenced t spots count = (demand supply by : ℕ) → demand < demands_in t → slice_index spots demand < count
     → may_take (domains_of t) demand supply ≡ true → owner_of t supply ≡ Some by → slice_index spots by < count
 
--- where whoever is met is one of the first demands, so many, these stay the first
+-- where each demand that is met is one of the first, these stay the first
 abbrev pub IsWithin : Table → Order → Order → ℕ → ℕ → Type 0
 IsWithin t o o' len more = (count : ℕ) → len ≤ count → IsFenced t o.spots.items count
     → (more ≤ count) × HasSameFirst (demands_in t) o.spots.items o'.spots.items count

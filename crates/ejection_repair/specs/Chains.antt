@@ -37,7 +37,7 @@ longer c e = record { moved = c.moved ++ moved_by c.state.slots e; state = edite
 unfoldable pub tried : (Chain → List Chain) → Chain → List Edit → List Chain
 tried on c es = flat_map (λ e. longer c e ∷ on (longer c e)) (filter (is_fresh c.state.slots c.moved) es)
 
--- the extensions of a chain by at most so many moves, the first of them a move of this monitor, and
+-- the extensions of a chain by at most a number of moves, the first of them a move of this monitor, and
 -- each further one a move of the only monitor that is dearer than marked then
 unfoldable pub extensions : Parts → List ℕ → ℕ → ℕ → Chain → ℕ → List Chain
 extensions p marked v zero c m = []
@@ -45,7 +45,7 @@ extensions p marked v (suc k) c m =
     tried (λ d. option_map_or (extensions p marked v k d) (only (dearer marked (costs_at p d.state))) []) c
     (rotated v (moves p c.state.slots m))
 
--- all chains of at most so many moves
+-- all chains of at most a number of moves
 unfoldable pub chains : Parts → State → ℕ → ℕ → List Chain
 chains p s v k = flat_map (extensions p (costs_at p s) v k (unmoved s)) (rotated v (defects (costs_at p s)))
 

@@ -36,7 +36,7 @@ put_of (MoveTo m t) = Assign m t
 put_of (Regive k r) = Give k r
 put_of e = e
 
--- all of these moves lift this, for which so many marks are free; or there is one move alone
+-- all of these moves lift this, and the marks for it are free; or there is one move alone
 abbrev pub IsRun : Option Moved → List Edit → ℕ → Type 0
 IsRun None es free = length es ≡ 1
 IsRun (Some x) es free = (1 ≤ free) × All (λ e. lifted_by e ≡ Some x) es

@@ -11,7 +11,7 @@ use Rattle.ejection_repair.specs.declared.looked.Looked.{Looked}
 use Rattle.ejection_repair.specs.declared.looked.Looked.TheVariants.{Through, Found, Spent}
 use Rattle.ejection_repair.specs.declared.trails.Trail.{Trail}
 
--- all were looked at, and so many tries are left; the first that is lower, and how many are left
+-- all were looked at, and how many tries are left; the first that is lower, and how many are left
 -- after it; or there is one more than there were tries
 pub data Looking : Type 0 where
   through : ℕ → Looking

@@ -20,7 +20,7 @@ pub record Try : Type 0 where
 abbrev pub try_at : ℕ → Chain → Try
 try_at gone c = record { state = c.state; gone = gone }
 
--- what is to be looked at in a state by so many lengths, after so many that were gone through
+-- what is to be looked at in a state by further lengths, after those that were gone through
 unfoldable pub tries_from : Parts → State → ℕ → ℕ → ℕ → List Try
 tries_from p s v gone zero = []
 tries_from p s v gone (suc n) = map (try_at gone) (chains p s v (gone + 1)) ++ tries_from p s v (gone + 1) n
@@ -48,7 +48,7 @@ run p depth v (suc left) accepted tried s (x ∷ xs) =
 unfoldable pub repaired : Parts → State → ℕ → ℕ → ℕ → Repaired
 repaired p s depth budget v = run p depth v budget 0 0 s (tries_from p s v 0 depth)
 
--- from a state with so many tries left, all that is ahead
+-- from a state with a number of tries left, all that is ahead
 abbrev pub runs_from : Parts → ℕ → ℕ → ℕ → ℕ → ℕ → State → Repaired
 runs_from p depth v left accepted tried s = run p depth v left accepted tried s (tries_from p s v 0 depth)
 

@@ -30,7 +30,7 @@ abbrev pub IsChain : Parts → State → Edit → List Edit → Chain → Type 0
 IsChain p s e es d = (m : ℕ) × Among m (defects (costs_at p s))
     × LeadsOn p (costs_at p s) (unmoved s) (Some m) (e ∷ es) d
 
--- no chain of at most so many moves leaves lower totals
+-- no chain of at most this many moves leaves lower totals
 abbrev pub IsSettled : Parts → State → ℕ → Type 0
 IsSettled p s k = (e : Edit) (es : List Edit) (d : Chain) → length es < k → IsChain p s e es d
     → are_lower (totals_at p d.state) (totals_at p s) ≡ false

@@ -7,7 +7,7 @@ use Rattle.solve_board.specs.declared.views.BoardView.{BoardView}
 abbrev pub budget : BoardView → ℕ
 budget v = v.left + v.weight
 
--- a seat that has claimed jobs alone, of so many that there are
+-- a seat that has claimed jobs alone, below `jobs`
 pub record IsDrawing (jobs : ℕ) (v : BoardView) : Type 0 where
   pub jobs_are : v.jobs ≡ jobs
   pub weight : 0 < v.weight

@@ -4,7 +4,7 @@ use Rattle.khe_base.specs.declared.limits.TheConstants.{MONITORS}
 use Rattle.monitor_graph.specs.Opened.{IsFresh}
 use Rattle.monitor_graph.specs.declared.lines.Line.{Line}
 
--- so many that they may be monitors, and none of them costs anything yet
+-- no more than there may be monitors, and none of them costs anything yet
 pub record AreFresh (lines : List Line) : Type 0 where
   pub few : length lines ≤ MONITORS
   pub each : All IsFresh lines

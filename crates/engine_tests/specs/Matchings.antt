@@ -8,7 +8,7 @@ pub record SameSizes (old new : Domains) : Type 0 where
   pub last : new.last ≡ old.last
   pub width : new.width ≡ old.width
 
--- so many demands, times and resources
+-- the numbers of demands, times and resources
 pub record IsSized (w : Domains) (demands last width : ℕ) : Type 0 where
   pub demands_are : length w.demands ≡ demands
   pub last_is : w.last ≡ last

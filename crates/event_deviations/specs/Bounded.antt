@@ -3,7 +3,7 @@ use Rattle.std.specs.Prelude.{ℕ, ◌+◌, ◌≤◌, List, All, IfSome}
 use Rattle.std.specs.List.{sum_by}
 use Rattle.khe_instance.specs.declared.states.Meet.{Meet}
 
--- the meets of one event of this duration, at so many times
+-- the meets of one event of this duration, where there are `times` times
 pub record AreOfOneEvent (times duration : ℕ) (meets : List Meet) : Type 0 where
   pub together : sum_by (λ m. m.duration) meets ≤ duration
   pub each : All (λ m. 1 ≤ m.duration) meets

@@ -2,7 +2,7 @@
 use Rattle.std.specs.Prelude.{ℕ, length}
 use Rattle.khe_instance.specs.declared.parts.Parts.{Parts}
 
--- so many resources, and so many times
+-- how many resources, and how many times
 pub record Room : Type 0 where
   pub resources : ℕ
   pub times : ℕ

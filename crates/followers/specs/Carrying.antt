@@ -26,7 +26,7 @@ abbrev pub carried : ℕ → Option TimeId → Option Tie → Slot → Slot
 carried leader start None x = x
 carried leader start (Some t) x = if t.leader.0 == leader then with_start x (later t.offset start) else x
 
--- so many followers from this one on are left, and the others are at their places
+-- `count` followers from this one on are left, and the others are at their places
 pub record AreLeft (ties : List (Option Tie)) (next prev : List ℕ) (leader : ℕ) (start : Option TimeId) (at count : ℕ)
     (s s2 : List Slot) : Type 0 where
   pub list : List ℕ

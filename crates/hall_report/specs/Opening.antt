@@ -24,7 +24,7 @@ use Rattle.hall_report.specs.Sets.{set_at, AreSets}
 use Rattle.hall_report.specs.Strict.{lets_start, monitor_lets_have, monitor_lets_start, monitor_wants_free}
 use Rattle.hall_report.specs.Units.{units_of, tasks_of}
 
--- for each of the first durations, so many, the times from which a meet ends with the last or before
+-- for each of the first `count` durations the times from which a meet ends with the last or before
 pub record AreWholeStarts (last count : ℕ) (sets : List (List Bool)) : Type 0 where
   pub amount : length sets ≡ count
   pub sized : All (λ set. length set ≡ last) sets
@@ -36,7 +36,7 @@ pub record ServesFor (last d number : ℕ) : Type 0 where
   pub there : number < last + 2
   pub same : (t : ℕ) → nat_le (t + number) last ≡ nat_le (t + d) last
 
--- each of the first meet slots, so many, has the set of the duration that it stands for
+-- each of the first n meet slots has the set of the duration that it stands for
 pub record AreStartEntries (events : List EventInfo) (last n : ℕ) (entries : List ℕ) : Type 0 where
   pub amount : length entries ≡ n
   pub below : (i : ℕ) → i < n → slice_index_or entries i 0 < last + 2
@@ -44,7 +44,7 @@ pub record AreStartEntries (events : List EventInfo) (last n : ℕ) (entries : L
       → i < event.first_meet + event.duration → i < n
       → ServesFor last (i - event.first_meet + 1) (slice_index_or entries i 0)
 
--- the sets of starts, as the first monitors narrow them, so many
+-- the sets of starts, as the first n monitors narrow them
 pub record AreStartsTo (p : Parts) (n : ℕ) (sets : List (List Bool)) (entries : List ℕ) : Type 0 where
   pub are : AreSets (length p.times + 2) (length p.times) sets entries
   pub amount : length entries ≡ units_of p.events
@@ -52,7 +52,7 @@ pub record AreStartsTo (p : Parts) (n : ℕ) (sets : List (List Bool)) (entries 
       → has_member (set_at sets entries (start_entry p.events e d)) t
       ≡ nat_le (t + d) (length p.times) && list_all (monitor_lets_start p e d t) (take n p.monitors)
 
--- the sets of an event's first durations, so many, narrowed to what a rule lets start
+-- the sets of `count` durations of an event, narrowed to what a rule lets start
 pub record AreNarrowedBy (rule : Rule) (first count : ℕ) (olds : List (List Bool)) (old : List ℕ)
     (sets : List (List Bool)) (entries : List ℕ) : Type 0 where
   pub amount : length entries ≡ length old
@@ -64,20 +64,20 @@ pub record AreNarrowedBy (rule : Rule) (first count : ℕ) (olds : List (List Bo
 abbrev pub is_of_type : Parts → ℕ → ℕ → Bool
 is_of_type p w r = option_map_or (λ x. w == x.rtype) (slice_get p.resources r) false
 
--- for each of the first types, so many, its resources
+-- for each of the first `count` types its resources
 pub record AreTypeSets (p : Parts) (count : ℕ) (sets : List (List Bool)) : Type 0 where
   pub amount : length sets ≡ count
   pub sized : All (λ set. length set ≡ length p.resources) sets
   pub members : (w r : ℕ) → w < count → has_member (slice_index_or sets w []) r ≡ is_of_type p w r
 
--- each place of the first meet slots, so many, has the set of its type
+-- each place of the first n meet slots has the set of its type
 pub record AreTypeEntries (p : Parts) (n : ℕ) (entries : List ℕ) : Type 0 where
   pub amount : length entries ≡ first_task p.events n
   pub below : All (λ y. y < p.types) entries
   pub types : (u e k : ℕ) (place : Place) → u < n → HasSlot p.events e u → place_at p.events e k ≡ Some place
       → slice_index_or entries (first_task p.events u + k) 0 ≡ place.rtype
 
--- the sets of resources, as the first monitors narrow them, so many
+-- the sets of resources, as the first n monitors narrow them
 pub record AreResourcesTo (p : Parts) (n : ℕ) (sets : List (List Bool)) (entries : List ℕ) : Type 0 where
   pub are : AreSets p.types (length p.resources) sets entries
   pub amount : length entries ≡ tasks_of p.events
@@ -85,7 +85,7 @@ pub record AreResourcesTo (p : Parts) (n : ℕ) (sets : List (List Bool)) (entri
       → has_member (set_at sets entries (resource_entry p.events e k)) r
       ≡ has_type p (Some place) r && list_all (monitor_lets_have p e k r) (take n p.monitors)
 
--- the cells that the first monitors, so many, want free
+-- the cells that the first n monitors want free
 pub record AreCellsTo (p : Parts) (n : ℕ) (cells : List Bool) : Type 0 where
   pub size : length cells ≡ length p.resources * length p.times
   pub members : (r t : ℕ) → r < length p.resources → t < length p.times
@@ -104,7 +104,7 @@ abbrev pub resource_of : Point → Option ResourceId
 resource_of (Resource x) = Some x
 resource_of _ = None
 
--- the cells from a first one on, so many, are marked at these times too
+-- `count` cells from a first one on are marked at these times too
 pub record AreMarkedTo (first count : ℕ) (times old cells : List Bool) : Type 0 where
   pub size : length cells ≡ length old
   pub members : (t : ℕ) → t < count → has_member cells (first + t) ≡ has_member old (first + t) || has_member times t

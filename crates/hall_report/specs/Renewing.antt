@@ -42,7 +42,7 @@ abbrev pub AreApart : (ℕ → ℕ → ℕ) → ℕ → ℕ → ℕ → Type 0
 AreApart number from end count =
     (k o j i : ℕ) → k < end → o < count → j < end → i < count → number k o ≡ number j i → (k ≡ j) × (o ≡ i)
 
--- each number is one of so many, and each domain is in range
+-- each number is a demand's, and each domain is in range
 pub record AreWritable (w : Domains) (number : ℕ → ℕ → ℕ) (domain : ℕ → ℕ → Option Domain) (from end count : ℕ) : Type
     0 where
   pub below : (k o : ℕ) → from ≤ k → k < end → o < count → number k o < length w.demands

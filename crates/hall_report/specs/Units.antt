@@ -7,7 +7,7 @@ use Rattle.khe_instance.specs.declared.parts.EventInfo.{EventInfo}
 use Rattle.khe_told.specs.Slots.{slot_at, length_of, held}
 use Rattle.khe_told.specs.declared.slots.Slot.{Slot}
 
--- the unit that is so many units after this one
+-- the unit that is a number of units after this one
 unfoldable pub walk : List ℕ → ℕ → ℕ → ℕ
 walk next u zero = u
 walk next u (suc n) = slice_index_or next (walk next u n) 0

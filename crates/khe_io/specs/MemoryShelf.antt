@@ -54,7 +54,7 @@ after_open s name = record {
   left = if is_listed s then None else bytes_under s.files name;
 }
 
--- how many bytes a read gives into a buffer of so many: as many as are left, fit, and may be given at once
+-- how many bytes a read gives into a buffer: as many as are left, fit, and may be given at once
 abbrev pub given : ShelfState → ℕ → ℕ
 given s room = option_map_or (λ rest. min (min (length rest) room) s.piece) s.left 0
 

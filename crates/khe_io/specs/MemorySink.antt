@@ -24,11 +24,11 @@ state_of s = record {
   faults = s.calls.faults;
 }
 
--- how many of so many bytes a write takes that does not fail: as many as there are, may be taken at once, and fit
+-- how many bytes a write takes that does not fail: as many as there are, may be taken at once, and fit
 abbrev pub fitting : SinkState → ℕ → ℕ
 fitting s offered = min (min offered s.piece) (s.room - length s.taken)
 
--- a write of so many bytes fails by its number, or where none of them fits
+-- a write of this many bytes fails by its number, or where none of them fits
 abbrev pub fails_to_take : SinkState → ℕ → Bool
 fails_to_take s offered = fails_next s.failing s.made || fitting s offered == 0
 

@@ -32,7 +32,7 @@ task_edit size sort meet x = (
   next (next x),
 )
 
--- an edit of a job of a size whose events have so many meet slots: its sort, its meet and the rest
+-- an edit of a job, by its size and how many meet slots its events have: its sort, its meet and the rest
 unfoldable pub edit : ℕ → ℕ → ℕ → Edit × ℕ
 edit size count x =
     let sort = drawn 4 x in

@@ -22,7 +22,7 @@ pub record IsFound (p : Parts) (plain : Plain) (time rtype : ℕ) (f : Found) : 
   pub listed : IsStateOf p f.plain (left_by p state time rtype f.matched)
   pub totals_are : f.totals ≡ totals p (left_by p state time rtype f.matched)
 
--- so many tasks run at the time, more than can be matched
+-- n tasks run at the time, more than can be matched
 pub record AreTooMany (p : Parts) (plain : Plain) (time rtype n : ℕ) : Type 0 where
   pub state : State
   pub begins : IsStateOf p plain state

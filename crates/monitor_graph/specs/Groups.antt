@@ -19,7 +19,7 @@ has_group groups g = is_some (group_at groups g)
 abbrev pub children_at : Groups → ℕ → List MonitorId
 children_at groups g = option_map_or (λ x. x) (group_at groups g) []
 
--- the child of a group at a place, if it has so many
+-- the child of a group at a place, if there is one
 abbrev pub child_at : Groups → ℕ → ℕ → Option MonitorId
 child_at groups g k = slice_get (children_at groups g) k
 

@@ -34,7 +34,7 @@ pub record IsRepairFrom (number : ℕ) (bytes text : List ℕ) : Type 0 where
   pub solution : IsTimetableOf archive instances number parts timetable
   pub repaired : IsReadRepaired archive instances number parts timetable (encode_utf8_all text)
 
--- or with the least result of so many jobs in its place
+-- or with the least result of many jobs in its place
 pub record IsSolveFrom (number jobs : ℕ) (bytes text : List ℕ) : Type 0 where
   pub archive : Archive
   pub instances : Resolved

@@ -4,7 +4,7 @@ use Rattle.std.specs.Prelude.{ℕ, ◌≡◌, ◌+◌, ◌≤◌, ◌<◌, List,
 use Rattle.std.specs.List.{enumerate_from}
 use Rattle.xhstt_shape.specs.declared.records.RawSolution.{RawSolution}
 
--- of all solutions, so many from this number on
+-- of all solutions a number of them, from this one on
 abbrev pub batch_of : ℕ → ℕ → List RawSolution → List (ℕ × RawSolution)
 batch_of first count raws = enumerate_from first (take count (drop first raws))
 

@@ -18,7 +18,7 @@ pub record IsNoDearer (p : Parts) (plain : Plain) (m : Mended) : Type 0 where
   pub cost : ((accepted_of m.outcome ≡ 0) × (m.totals ≡ totals p before))
       ⊎ ((0 < accepted_of m.outcome) × (is_lower m.totals (totals p before) ≡ true))
 
--- no chain of at most so many moves leaves it cheaper
+-- no chain of at most `depth` moves leaves it cheaper
 pub record IsSettledTo (p : Parts) (depth : ℕ) (m : Mended) : Type 0 where
   pub after : State
   pub listed : IsStateOf p m.plain after

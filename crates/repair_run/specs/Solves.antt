@@ -14,7 +14,7 @@ use Rattle.repair_run.specs.Placed.{respelled}
 abbrev pub solve_bytes : Archive → ℕ → Parts → Solved → List ℕ
 solve_bytes a number p s = canonical (respelled a number p s.plain) ++ encode_utf8_all (solve_line s.job s.totals)
 
--- a text that these bytes spell, for so many repairs of this timetable, each with its job as diversifier
+-- a text that these bytes spell, for `jobs` repairs of this timetable, each with its job as diversifier
 pub record IsSolveText (a : Archive) (number : ℕ) (p : Parts) (plain : Plain) (depth budget jobs : ℕ) (text : List ℕ)
     : Type 0 where
   pub solved : Solved

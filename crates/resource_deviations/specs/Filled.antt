@@ -8,7 +8,7 @@ use Rattle.khe_instance.specs.declared.states.Duty.{Duty}
 use Rattle.resource_deviations.specs.Rows.{AreRows}
 use Rattle.timetables.specs.Counts.{row_of, count_at}
 
--- so many rows of counts, each with a count for each time
+-- `count` rows of counts, each with a count for each time
 pub record HasRows (p : Parts) (count : ℕ) (table : List (List ℕ)) : Type 0 where
   pub all : length table ≡ count
   pub times : (k : ℕ) → k < count → length (row_of table k) ≡ length p.times

@@ -9,7 +9,7 @@ use Rattle.solve_board.specs.declared.views.BoardView.{BoardView}
 abbrev pub Seated : Type 0
 Seated = Me (Unit {0}) BoardView
 
--- the number was claimed by nobody, and the seat has claimed no more numbers than it says
+-- the number was claimed by no seat, and the seat has claimed no more numbers than it says
 abbrev pub Claims : Step (Unit {0}) → Seated → ℕ → Seated → Type 0
 Claims st me n me' = (me' ≡ (claimed me.0 n, me.1)) × (times n me.0.claims ≡ 0) × (length me.0.claims ≤ n)
 

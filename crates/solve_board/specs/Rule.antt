@@ -47,6 +47,6 @@ pub record IsKept (jobs next low : ℕ) (views : List BoardView) : Type 0 where
 abbrev pub Table : Type 0
 Table = State (Unit {0}) BoardView
 
--- the rule of a board with so many jobs
+-- the rule of a board with this many jobs
 abbrev pub Holds : ℕ → Table → Type 0
 Holds jobs s = (next : ℕ) × (low : ℕ) × (s.words ≡ next ∷ low ∷ []) × IsKept jobs next low s.views

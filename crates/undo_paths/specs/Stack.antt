@@ -36,7 +36,7 @@ dropped [] = 0
 dropped (records ∷ []) = length records
 dropped (records ∷ around ∷ rest) = 0
 
--- records, newest first, cut into so many of them for each mark
+-- records, newest first, cut by how many belong to each mark
 abbrev pub cut : {E : Type 0} → List E → List ℕ → List (List E)
 cut records [] = []
 cut records (count ∷ counts) = take count records ∷ cut (drop count records) counts

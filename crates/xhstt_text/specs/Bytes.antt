@@ -46,16 +46,16 @@ abbrev pub IsName : List ℕ → Type 0
 IsName [] = ⊥
 IsName (b ∷ bs) = (is_first b ≡ true) × AllAre is_name bs
 
--- how many dashes stand before the next byte, after a byte that so many stand before
+-- how many dashes stand before the next byte, by how many stand before this one
 abbrev pub dashes : ℕ → ℕ → ℕ
 dashes count b = if b == 45 then suc count else 0
 
--- how many dashes stand at the end of these bytes, which so many stand before
+-- how many dashes stand at the end of these bytes, by how many stand before them
 abbrev pub dashes_after : ℕ → List ℕ → ℕ
 dashes_after count [] = count
 dashes_after count (b ∷ bs) = dashes_after (dashes count b) bs
 
--- no `>` in these bytes, which so many dashes stand before, has two dashes before it
+-- no `>` in these bytes has two dashes before it, the dashes before the bytes included
 abbrev pub stays_open : ℕ → List ℕ → Bool
 stays_open count [] = true
 stays_open count (b ∷ bs) = not (nat_le 2 count && b == 62) && stays_open (dashes count b) bs

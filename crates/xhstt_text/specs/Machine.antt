@@ -144,7 +144,7 @@ open_element t r from = record {
   attributes = r.attributes;
 }
 
--- the row of an element whose end tag begins at a place, where there are so many elements
+-- the row of an element whose end tag begins at a place, by how many elements there are
 abbrev pub closed_row : Node → ℕ → ℕ → Node
 closed_row n at last = record n { end = last; value = span n.value.from at }
 

@@ -131,8 +131,8 @@ NoOtherTag (f ∷ fs) bs = (begins (is_byte 33) bs ≡ false) × (begins (is_byt
 abbrev pub with_loose_text : Frame → Option ℕ → Frame
 with_loose_text f o = record f { node = record f.node { loose = o } }
 
--- the row of an element whose content begins at a place, where so many elements came before it, and
--- so many attributes up to its last one
+-- the row of an element whose content begins at a place, by how many elements came before it and how many
+-- attributes there are up to its last one
 abbrev pub row_from : StartTag → ℕ → ℕ → ℕ → Node
 row_from tag number attributes from = record {
   at = tag.at;
