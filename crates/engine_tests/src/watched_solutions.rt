@@ -1,4 +1,4 @@
-//! A timetable beside a watcher that keeps what it was noted of.
+//! A timetable beside a watcher that keeps what it was notified of.
 
 ghost use Rattle.std.specs.Prelude.{◌≡◌, true, IfOk};
 ghost use Rattle.khe_instance.specs.States.{IsValid};
@@ -15,7 +15,7 @@ use std::alloc::Global;
 use std::marker::Model;
 use std::sync::ledger::Ledger;
 
-/// Keeps the changes that it was noted of, in order. A change for which there is no memory is left
+/// Keeps the changes that it was notified of, in order. A change for which there is no memory is left
 /// out, and then the list is not what a test wants.
 #[derive(Drop)]
 struct Listener {
@@ -131,7 +131,7 @@ impl<'i> Hand<'i> {
         }
     }
 
-    /// What the listener was noted of by the last edit or by what undid it.
+    /// What the listener was notified of by the last edit or by what undid it.
     pub(crate) fn heard(&self) -> &[Change] {
         self.listener.list.as_slice()
     }

@@ -10,7 +10,7 @@ use khe_instance::{Instance, Kind};
 use khe_told::{Told, Turn, Waits};
 use std::alloc::Global;
 
-/// A keeper that has a gauge for each monitor that it serves. What was told is lent to it.
+/// A keeper that has a gauge for each monitor that it serves. It is lent the told state.
 ///
 /// A slot that changes turns the gauges of the monitors that name its event, and no others; where
 /// there are none, or where they hear no such turn, it takes constant time.

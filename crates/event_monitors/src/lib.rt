@@ -1,6 +1,6 @@
 //! The families of the kinds at events and at places of events, whose deviations are told by one
 //! event's own meets and tasks; and the keeper that such families share: the served monitors by the
-//! events that they name, and a gauge for each. What was told is lent to it.
+//! events that they name, and a gauge for each. It is lent the told state.
 #![tactic(auto)]
 
 mod assign_resource;

@@ -1,5 +1,5 @@
 //! A timetable that is edited: the ten edits of meets and tasks, each refused for the first cause of
-//! its row or carried out as a list of changes, of which a watcher is noted one by one, and the way
+//! its row or carried out as a list of changes, of which a watcher is notified one by one, and the way
 //! back from each.
 #![tactic(auto)]
 

@@ -145,10 +145,10 @@ impl<'i> Solution<'i> {
         check(self.inst, self.slots.told(), edit)
     }
 
-    /// Makes an edit of meets and tasks, and notes the watcher of its changes in their order.
+    /// Makes an edit of meets and tasks, and notifies the watcher of its changes in order.
     ///
     /// The answer is the number of the new meet after a Split, and otherwise none. Where the edit
-    /// is refused nothing changes, and the watcher is noted of nothing.
+    /// is refused nothing changes, and the watcher is not notified.
     #[tactic(auto, using(crate::proofs::EditLaws::edit_room, crate::proofs::EditLaws::edit_cuts, crate::proofs::EditLaws::edit_fits, crate::proofs::EditLaws::edit_slots, crate::proofs::EditLaws::edit_valid))]
     pub fn edit<V: Watcher, L: Ledger>(
         &mut self,
@@ -218,7 +218,7 @@ impl<'i> Solution<'i> {
         back_of(self.inst, &self.slots, edit)
     }
 
-    /// Undoes the edit of a record that leads back, and notes the watcher of the inverses of the
+    /// Undoes the edit of a record that leads back, and notifies the watcher of the inverses of the
     /// edit's changes, the last one first.
     #[tactic(auto, using(crate::proofs::EditLaws::edit_room, crate::proofs::EditLaws::undo_cuts, crate::proofs::EditLaws::undo_fits, crate::proofs::EditLaws::undo_slots, crate::proofs::EditLaws::undo_valid, crate::proofs::EditLaws::undo_steps))]
     pub fn undo<V: Watcher, L: Ledger>(&mut self, back: Back, watcher: &mut V, steps: &mut Steps<L>)

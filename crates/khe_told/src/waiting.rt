@@ -8,7 +8,7 @@ use khe_base::{MonitorId, NoMemory};
 use std::alloc::Global;
 use std::marker::Model;
 
-/// Is told of monitors whose deviations a change may have changed.
+/// Is told of monitors whose deviations may have changed.
 pub trait Waits {
     /// Whether it keeps what it is told.
     ghost hears: { Bool };

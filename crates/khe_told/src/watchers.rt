@@ -14,7 +14,7 @@ use crate::steps::Steps;
 use khe_instance::Instance;
 use std::sync::ledger::Ledger;
 
-/// Is noted of each change of a timetable.
+/// Is notified of each change of a timetable.
 ///
 /// A change and then its inverse leave the told state as it was, since `note` gives `after`.
 pub trait Watcher {
@@ -24,7 +24,7 @@ pub trait Watcher {
     /// That it was opened on the instance with these parts.
     ghost IsOf: { Self → Parts → Type 0 };
 
-    /// The changes that it was noted of, in order, where it keeps them.
+    /// The changes that it was notified of, in order, where it keeps them.
     ghost noted: { Self → Option (List Change) };
 
     /// Whether it never takes a step.

@@ -1,4 +1,4 @@
-//! Which monitors are dirty where the cells of a resource change.
+//! Which monitors are queued where the cells of a resource change.
 
 ghost use Rattle.std.specs.Prelude.{◌≡◌, ◌≤◌, ◌<◌, ◌&&◌, ◌||◌, ℕ, true, length, nat_eq, Some};
 ghost use Rattle.khe_base.specs.declared.numbers.ResourceId.{ResourceId};

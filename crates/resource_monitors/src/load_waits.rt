@@ -1,4 +1,4 @@
-//! Marking the monitors of a list as dirty.
+//! Queueing the monitors of a list.
 
 ghost use Rattle.std.specs.Prelude.{◌≡◌, ◌<◌, ℕ, length, slice_get, Some};
 ghost use Rattle.resource_monitors.specs.Posts.{AreAdded};

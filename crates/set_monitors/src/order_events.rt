@@ -21,7 +21,7 @@ use std::alloc::Global;
 /// event's meets to the start of its second's lie outside the bounds, while both have a start.
 pub type OrderEvents = Keeping<OrderEdges>;
 
-/// The keeper of Order Events. What was told is lent to it.
+/// The keeper of Order Events. It is lent the told state.
 ///
 /// It keeps, for each event that a served monitor names, when the meet of each meet slot starts and
 /// ends, four numbers a slot. A turn that moves a meet takes time of the logarithm of its event's meet
@@ -107,7 +107,7 @@ fn slots_for(list: &Seq<u32>, event: &EventInfo) -> u32
     if list.is_empty() { 0 } else { event.duration }
 }
 
-/// Follows a turn of one of an event's meet slots. What was told is the state before it.
+/// Follows a turn of one of an event's meet slots. The told state is the one before it.
 fn follow(inst: &Instance, told: &Told, turn: &Turn<'_>, edges: &mut Edges)
     requires turns { IsTurn inst.now told.now turn.now }
     requires of { IsEdges turn.now.before.event.0 told.now edges.old }

@@ -1,4 +1,4 @@
-//! Marking the monitors of a list as dirty.
+//! Queueing the monitors of a list.
 
 ghost use Rattle.std.specs.Prelude.{◌≡◌, [], true, length};
 ghost use Rattle.event_monitors.specs.Posts.{ArePosts, posts_at};
