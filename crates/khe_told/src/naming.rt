@@ -8,8 +8,8 @@ ghost use Rattle.khe_told.specs.declared.slots.Slot.{Slot};
 
 use crate::changes::Change;
 
-/// The places that may be given something else, in whichever meet: so that a follower of a meet looks at no other
-/// place. Each call takes constant time but `of`.
+/// The places that may be given something else, in whichever meet, so that a keeper looks at no other place. Each call
+/// takes constant time but `of`.
 #[derive(Clone, Copy)]
 pub enum Places {
     /// No place.
