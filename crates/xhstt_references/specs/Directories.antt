@@ -1,5 +1,4 @@
--- The directory of an instance has the Ids of its parts, each class in the order of the text. Weeks and days are
--- time groups, and courses are event groups.
+-- The directory of an instance: the Ids of its parts, each list in the order of the text.
 use Rattle.std.specs.Prelude.{◌≡◌, [], map}
 use Rattle.khe_instance.specs.declared.parts.Parts.{Parts}
 use Rattle.xhstt_references.specs.Ids.{time_group_ids, week_ids, day_ids, time_ids, resource_type_ids}

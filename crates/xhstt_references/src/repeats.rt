@@ -14,7 +14,7 @@ use khe_base::{Names, NoMemory};
 use std::alloc::Global;
 use xhstt_shape::{EventGroup, GroupSort, Name, RawEvent, TimeGroup, TimeSort};
 
-/// Adds a name to the earlier ones, and notes its place if it is among them.
+/// Adds a name to those that came before, and notes its place if it is among them.
 fn note_repeated(names: &mut Names, name: &Name, first: &mut First) -> Result<(), NoMemory>
     ensures names { OnOk result (names.new ≡ with_name name.now.text names.old) }
     ensures first { OnOk result (first.new.at ≡ first_of first.old.at (if is_among_names name.now.text names.old then name.now.at ∷ [] else [])) }
@@ -25,7 +25,7 @@ fn note_repeated(names: &mut Names, name: &Name, first: &mut First) -> Result<()
     Ok(())
 }
 
-/// The Ids of some items with their numbers; the places of repeated ones are noted. It
+/// The Ids of some items with their numbers; the places of those that came before are noted. It
 /// takes time and memory in proportion to the Ids, on average.
 pub(crate) fn names_of<T: HasId>(
     alloc: Global,
@@ -104,7 +104,7 @@ fn note_repeated_roles(alloc: Global, event: &RawEvent, first: &mut First) -> Re
     Ok(())
 }
 
-/// Adds a role that may be missing to the earlier ones, and notes its place if it is among
+/// Adds a role that may be missing to those that came before, and notes its place if it is among
 /// them.
 #[tactic(auto, using(crate::proofs::FirstLemmas::first_of_nil))]
 fn note_repeated_role(

@@ -99,7 +99,7 @@ fn made_instances(alloc: Global, raws: &[RawInstance]) -> Result<Seq<Instance>, 
     Ok(made)
 }
 
-/// An empty list with room for the given number of instances.
+/// An empty list with room for so many instances.
 fn with_room(alloc: Global, count: usize) -> Result<Seq<Instance>, NoMemory>
     ensures { IfOk result (λ list. list ≡ []) }
 {
