@@ -87,7 +87,8 @@ def definitions():
         if layer:
             parts.append("\n## %s\n" % layer)
             layer = ""
-        links = [(said, os.path.join("crates", crate.group(1), to)) for said, to in (("code", "src"), ("proofs", "proofs"))]
+        top = os.path.join("crates", crate.group(1))
+        links = [("code", os.path.join(top, "src")), ("proofs", os.path.join(top, "proofs"))]
         there = ["[%s](../%s)" % (said, to) for said, to in links if os.path.isdir(os.path.join(TOP, to))]
         parts.append("\n### %s\n\n%s.\n\n" % (crate.group(1), ", ".join(there)))
         for name in told:
