@@ -234,8 +234,8 @@ class Comparison:
     def copies(self):
         """Compares the gate's copies with the files themselves."""
         for path, other in copied():
-            found = "the same bytes" if bytes_of(path) == bytes_of(other) else "others"
-            self.compare(os.path.relpath(path, TOP), "its copy for the gate", "the same bytes", found)
+            found = "the same bytes\n" if bytes_of(path) == bytes_of(other) else "others\n"
+            self.compare(os.path.relpath(path, TOP), "its copy for the gate", "the same bytes\n", found)
 
     def definitions(self):
         """Compares docs/definitions.md with the first comments of the spec files."""
@@ -263,7 +263,7 @@ class Comparison:
                         headings = re.findall(r"(?m)^#+ (.*)$", file.read())
                     if heading not in [slug(one) for one in headings]:
                         lost.append(link)
-            self.compare(name, "its links", [], lost)
+            self.compare(name, "links that lead nowhere", "", lines_of(lost))
 
     def files(self):
         """Compares all that needs no program."""
