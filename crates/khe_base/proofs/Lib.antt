@@ -3,8 +3,6 @@ pub mod Characters
 pub mod IdSetLemmas
 pub mod ListLemmas
 pub mod MembersLemmas
-pub mod NameTableLemmas
-pub mod NamesLemmas
 pub mod ResultLemmas
 pub mod TextLemmas
 pub mod UnitsLemmas

@@ -5,7 +5,6 @@ pub mod Busy
 pub mod Costs
 pub mod Digits
 pub mod IdSet
-pub mod NameTable
 pub mod Names
 pub mod StoredSets
 pub mod Text

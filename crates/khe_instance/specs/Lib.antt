@@ -3,7 +3,6 @@ pub mod Deviation
 pub mod Evaluated
 pub mod EventDeviation
 pub mod Examples
-pub mod Ids
 pub mod KindLaws
 pub mod Kinds
 pub mod Laws

@@ -4,12 +4,9 @@ ghost use Rattle.std.specs.Prelude.{◌≡◌, ◌<◌, ◌*◌, Some, length, m
 ghost use Rattle.std.specs.Option.{option_map};
 ghost use Rattle.std.specs.List.{sum_by};
 ghost use Rattle.khe_base.specs.IdSet.{members_of};
-ghost use Rattle.khe_base.specs.Text.{characters};
-ghost use Rattle.khe_instance.specs.Named.{time_named, resource_named, event_named};
 ghost use Rattle.khe_instance.specs.Slots.{HasSlot, all_tasks, first_task};
 ghost use Rattle.khe_instance.specs.WellMade.{AreWellMade};
 
-use crate::ids::{Ids, ids_of};
 use crate::parts::{EventInfo, GroupInfo, Parts};
 use crate::points::Monitor;
 use crate::rules::Constraint;
@@ -23,15 +20,14 @@ use std::marker::Model;
 
 /// An instance: parts that are well made. It does not change. Contracts see its parts.
 ///
-/// No call but `new` takes memory. Each takes constant time, but for `task` and the calls that look
-/// an Id up.
+/// It has the Ids of its parts by their numbers, and no table that leads from an Id to a number: references are
+/// followed where an archive is read, once. No call but `new` takes memory, and each takes constant time but for
+/// `task`.
 pub struct Instance {
     parts: Parts,
     slots: SlotTable,
     /// The members of each event group, ascending.
     members: Seq<Seq<u32>>,
-    /// The Ids of the times, resources and events.
-    ids: Ids,
 }
 
 // By hand: an exit of a caller then has one call to prove, and not a drop for each field.
@@ -41,7 +37,6 @@ impl Drop for Instance {
             parts: _parts,
             slots: _slots,
             members: _members,
-            ids: _ids,
         } = self;
     }
 }
@@ -49,7 +44,6 @@ impl Drop for Instance {
 impl Model for Instance {
     ghost use Rattle.khe_instance.specs.declared.parts.Parts.{Parts};
     ghost use Rattle.khe_base.specs.IdSet.{members_of};
-    ghost use Rattle.khe_instance.specs.Ids.{ids_of};
     ghost use Rattle.khe_instance.specs.SlotTables.{IsSlotTable};
     ghost use Rattle.khe_instance.specs.WellMade.{AreWellMade};
     ghost use Rattle.std.specs.Prelude.{◌≡◌, map};
@@ -58,25 +52,22 @@ impl Model for Instance {
 
     ghost view = { λ i. i.parts };
 
-    ghost invariant = { λ i. AreWellMade i.parts × IsSlotTable i.parts.events i.slots × (i.members ≡ map (λ g. members_of g.events) i.parts.groups) × (i.ids ≡ ids_of i.parts) };
+    ghost invariant = { λ i. AreWellMade i.parts × IsSlotTable i.parts.events i.slots × (i.members ≡ map (λ g. members_of g.events) i.parts.groups) };
 }
 
 impl Instance {
     /// The instance with these parts. It takes time and memory in proportion to the meet slots of all
-    /// events, the members of the event groups, and the Ids of all times, resources and events
-    /// together, on average, and to a 64th of the events for each event group.
+    /// events and the members of the event groups, and to a 64th of the events for each event group.
     pub fn new(alloc: Global, parts: Parts) -> Result<Instance, NoMemory>
         requires { AreWellMade parts }
         ensures { IfOk result (λ i. i ≡ parts) }
     {
         let slots = slot_table(alloc, parts.events.as_slice())?;
         let members = members_by_group(alloc, parts.groups.as_slice())?;
-        let ids = ids_of(alloc, &parts)?;
         Ok(Instance {
             parts,
             slots,
             members,
-            ids,
         })
     }
 
@@ -237,54 +228,6 @@ impl Instance {
         ensures { option_map (λ g. members_of g.events) (slice_get self.now.groups group) ≡ Some result.now }
     {
         self.members.as_slice()[group as usize].as_slice()
-    }
-
-    /// The time with this Id, or `None` where no time has it. It takes the time of a hash of the
-    /// Id on average, whatever the number of times.
-    pub fn time_named(&self, id: &Text) -> Option<TimeId>
-        ensures { result ≡ time_named self.now id.now }
-    {
-        self.time_spelled(id.spelling())
-    }
-
-    /// The time with the Id that these bytes spell, as `time_named` finds it.
-    pub fn time_spelled(&self, id: &str) -> Option<TimeId>
-        ensures { result ≡ time_named self.now (characters id.now) }
-    {
-        let number = self.ids.time(id)?;
-        Some(TimeId(number as u32))
-    }
-
-    /// The resource with this Id, or `None` where no resource has it. It takes the time of a hash
-    /// of the Id on average, whatever the number of resources.
-    pub fn resource_named(&self, id: &Text) -> Option<ResourceId>
-        ensures { result ≡ resource_named self.now id.now }
-    {
-        self.resource_spelled(id.spelling())
-    }
-
-    /// The resource with the Id that these bytes spell, as `resource_named` finds it.
-    pub fn resource_spelled(&self, id: &str) -> Option<ResourceId>
-        ensures { result ≡ resource_named self.now (characters id.now) }
-    {
-        let number = self.ids.resource(id)?;
-        Some(ResourceId(number as u32))
-    }
-
-    /// The event with this Id, or `None` where no event has it. It takes the time of a hash of the
-    /// Id on average, whatever the number of events.
-    pub fn event_named(&self, id: &Text) -> Option<EventId>
-        ensures { result ≡ event_named self.now id.now }
-    {
-        self.event_spelled(id.spelling())
-    }
-
-    /// The event with the Id that these bytes spell, as `event_named` finds it.
-    pub fn event_spelled(&self, id: &str) -> Option<EventId>
-        ensures { result ≡ event_named self.now (characters id.now) }
-    {
-        let number = self.ids.event(id)?;
-        Some(EventId(number as u32))
     }
 
     /// The Id of a time.

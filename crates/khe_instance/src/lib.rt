@@ -3,7 +3,6 @@
 #![tactic(auto)]
 
 mod examples;
-mod ids;
 mod instances;
 mod laws;
 mod parts;

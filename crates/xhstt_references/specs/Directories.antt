@@ -1,9 +1,9 @@
 -- The directory of an instance: the Ids of its parts, each list in the order of the text.
-use Rattle.std.specs.Prelude.{◌≡◌, [], map}
-use Rattle.khe_instance.specs.declared.parts.Parts.{Parts}
+use Rattle.std.specs.Prelude.{◌≡◌, ◌<◌, ◌^◌, [], length}
 use Rattle.xhstt_references.specs.Ids.{time_group_ids, week_ids, day_ids, time_ids, resource_type_ids}
 use Rattle.xhstt_references.specs.Ids.{resource_group_ids, resource_ids, event_group_ids, course_ids, event_ids}
 use Rattle.xhstt_references.specs.declared.directories.Directory.{Directory}
+use Rattle.xhstt_references.specs.declared.part_names.PartNames.{PartNames}
 use Rattle.xhstt_shape.specs.declared.records.RawInstance.{RawInstance}
 
 abbrev pub directory_of : RawInstance → Directory
@@ -38,17 +38,33 @@ named_in d = record {
   events = d.events;
 }
 
--- the same of an instance that was made
-abbrev pub named_by : Parts → Directory
-named_by p = record {
+-- the names of an instance that its solutions use, which may be taken from its directory
+abbrev pub part_names : RawInstance → PartNames
+part_names i = record { times = time_ids i; resources = resource_ids i; events = event_ids i }
+
+abbrev pub names_in : Directory → PartNames
+names_in d = record { times = d.times; resources = d.resources; events = d.events }
+
+abbrev pub no_parts : PartNames
+no_parts = record { times = []; resources = []; events = [] }
+
+-- each sort of parts is numbered in 32 bits
+pub record AreFew (n : PartNames) : Type 0 where
+  pub times : length n.times < 2 ^ 32
+  pub resources : length n.resources < 2 ^ 32
+  pub events : length n.events < 2 ^ 32
+
+-- the directory of these names alone
+abbrev pub named_by : PartNames → Directory
+named_by n = record {
   time_groups = [];
   weeks = [];
   days = [];
-  times = p.times;
+  times = n.times;
   resource_types = [];
   resource_groups = [];
-  resources = map (λ r. r.id) p.resources;
+  resources = n.resources;
   event_groups = [];
   courses = [];
-  events = map (λ e. e.id) p.events;
+  events = n.events;
 }

@@ -1,6 +1,10 @@
 //! The names of all parts of an instance.
 
-use khe_base::Names;
+ghost use Rattle.std.specs.Prelude.{◌≡◌};
+ghost use Rattle.xhstt_references.specs.Directories.{names_in};
+
+use crate::names::Names;
+use crate::part_names::PartNames;
 
 /// The Ids of an instance's parts, each numbered in the order of the text.
 ///
@@ -34,5 +38,30 @@ impl Drop for Directory {
             courses: _courses,
             events: _events,
         } = self;
+    }
+}
+
+impl Directory {
+    /// The names that solutions use, of times, resources and events. The memory of the others is free again.
+    pub(crate) fn into_part_names(self) -> PartNames
+        ensures { result ≡ names_in self }
+    {
+        let Directory {
+            time_groups: _time_groups,
+            weeks: _weeks,
+            days: _days,
+            times,
+            resource_types: _resource_types,
+            resource_groups: _resource_groups,
+            resources,
+            event_groups: _event_groups,
+            courses: _courses,
+            events,
+        } = self;
+        PartNames {
+            times,
+            resources,
+            events,
+        }
     }
 }

@@ -7,7 +7,8 @@ ghost use Rattle.xhstt_references.specs.First.{noted, first_of};
 ghost use Rattle.xhstt_references.specs.References as spec;
 
 use crate::faults::ReferenceFault;
-use khe_base::{Names, Seq};
+use crate::names::Names;
+use khe_base::Seq;
 use xhstt_shape::Ref;
 
 /// The first of the places that were noted, if there is one. It stands for the whole list of them.

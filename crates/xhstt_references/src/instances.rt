@@ -14,10 +14,11 @@ use crate::directories::Directory;
 use crate::faults::ReferenceFault;
 use crate::first::First;
 use crate::looking_up::unknown_reference;
+use crate::names::Names;
 use crate::numbering::{event_names, resource_names, time_names};
 use crate::repeats::{names_of, repeated_roles};
 use fault_tables::{DUPLICATE_ID, DUPLICATE_ROLE, EVENT_OFF_END, UNKNOWN_REFERENCE};
-use khe_base::{Names, NoMemory, Text, both};
+use khe_base::{NoMemory, Text, both};
 use std::alloc::Global;
 use xhstt_shape::{Archive, RawEvent, RawInstance, Ref};
 

@@ -6,8 +6,9 @@ ghost use Rattle.xhstt_references.specs.Ids as ids;
 ghost use Rattle.xhstt_references.specs.References as spec;
 
 use crate::first::First;
+use crate::names::Names;
 use crate::repeats::{courses_of, days_of, names_of, weeks_of};
-use khe_base::{Names, NoMemory, both};
+use khe_base::{NoMemory, both};
 use std::alloc::Global;
 use xhstt_shape::RawInstance;
 

@@ -9,10 +9,12 @@ ghost use Rattle.xhstt_references.specs.Ids.{is_week, is_day, is_course};
 ghost use Rattle.xhstt_references.specs.References as spec;
 
 use crate::first::First;
+use crate::hashing::Seed;
 use crate::ids::HasId;
-use khe_base::{Names, NoMemory};
+use crate::names::Names;
+use khe_base::NoMemory;
 use std::alloc::Global;
-use xhstt_shape::{EventGroup, GroupSort, Name, RawEvent, TimeGroup, TimeSort};
+use xhstt_shape::{EventGroup, GroupSort, Name, RawEvent, RawEventResource, TimeGroup, TimeSort};
 
 /// Adds a name to those that came before, and notes its place if it is among them.
 fn note_repeated(names: &mut Names, name: &Name, first: &mut First) -> Result<(), NoMemory>
@@ -25,6 +27,26 @@ fn note_repeated(names: &mut Names, name: &Name, first: &mut First) -> Result<()
     Ok(())
 }
 
+/// The number that hashes of the Ids of some items begin with, in time in proportion to the Ids.
+fn seed_of<T: HasId>(items: &[T]) -> u64 {
+    let mut seed = Seed::new();
+    for item in items {
+        seed.add(item.id().text.spelling());
+    }
+    seed.number()
+}
+
+/// The number that hashes of the roles of some places begin with, in time in proportion to the roles.
+fn seed_of_roles(places: &[RawEventResource]) -> u64 {
+    let mut seed = Seed::new();
+    for place in places {
+        if let Some(role) = &place.role {
+            seed.add(role.text.spelling());
+        }
+    }
+    seed.number()
+}
+
 /// The Ids of some items with their numbers; the places of those that came before are noted. It
 /// takes time and memory in proportion to the Ids, on average.
 pub(crate) fn names_of<T: HasId>(
@@ -35,7 +57,7 @@ pub(crate) fn names_of<T: HasId>(
     ensures names { IfOk result (λ names. spec.repeated (map T.id items.now) ≡ [] → names ≡ map (λ item. (T.id item).text) items.now) }
     ensures first { OnOk result (first.new.at ≡ first_of first.old.at (spec.repeated (map T.id items.now))) }
 {
-    let mut names = Names::new(alloc);
+    let mut names = Names::new(alloc, seed_of(items));
     for item in items {
         note_repeated(&mut names, item.id(), first)?;
     }
@@ -46,7 +68,7 @@ pub(crate) fn names_of<T: HasId>(
 pub(crate) fn weeks_of(alloc: Global, groups: &[TimeGroup]) -> Result<Names, NoMemory>
     ensures { IfOk result (λ names. spec.repeated (map (λ g. g.id) groups.now) ≡ [] → names ≡ map (λ g. g.id.text) (filter (λ g. is_week g.sort) groups.now)) }
 {
-    let mut names = Names::new(alloc);
+    let mut names = Names::new(alloc, seed_of(groups));
     for group in groups {
         if let TimeSort::Week = group.sort {
             names.insert(&group.id.text)?;
@@ -59,7 +81,7 @@ pub(crate) fn weeks_of(alloc: Global, groups: &[TimeGroup]) -> Result<Names, NoM
 pub(crate) fn days_of(alloc: Global, groups: &[TimeGroup]) -> Result<Names, NoMemory>
     ensures { IfOk result (λ names. spec.repeated (map (λ g. g.id) groups.now) ≡ [] → names ≡ map (λ g. g.id.text) (filter (λ g. is_day g.sort) groups.now)) }
 {
-    let mut names = Names::new(alloc);
+    let mut names = Names::new(alloc, seed_of(groups));
     for group in groups {
         if let TimeSort::Day = group.sort {
             names.insert(&group.id.text)?;
@@ -72,7 +94,7 @@ pub(crate) fn days_of(alloc: Global, groups: &[TimeGroup]) -> Result<Names, NoMe
 pub(crate) fn courses_of(alloc: Global, groups: &[EventGroup]) -> Result<Names, NoMemory>
     ensures { IfOk result (λ names. spec.repeated (map (λ g. g.id) groups.now) ≡ [] → names ≡ map (λ g. g.id.text) (filter (λ g. is_course g.sort) groups.now)) }
 {
-    let mut names = Names::new(alloc);
+    let mut names = Names::new(alloc, seed_of(groups));
     for group in groups {
         if let GroupSort::Course = group.sort {
             names.insert(&group.id.text)?;
@@ -97,7 +119,7 @@ pub(crate) fn repeated_roles(alloc: Global, events: &[RawEvent]) -> Result<First
 fn note_repeated_roles(alloc: Global, event: &RawEvent, first: &mut First) -> Result<(), NoMemory>
     ensures { OnOk result (first.new.at ≡ first_of first.old.at (spec.repeated (spec.roles_of event.now))) }
 {
-    let mut names = Names::new(alloc);
+    let mut names = Names::new(alloc, seed_of_roles(event.resources.as_slice()));
     for place in event.resources.as_slice() {
         note_repeated_role(&mut names, &place.role, first)?;
     }

@@ -1,9 +1,10 @@
 -- The first fault of looks for one, in their order.
 use Rattle.std.proofs.Common.{◌≡◌, ◌∙◌, ap, refl, sym, Option, Some, None, Result, Ok, Err, map, option_map, subst}
-use Rattle.std.proofs.Common.{IsErrAnd, IfErr, ℕ, List, [], ◌∷◌, ◌++◌, append_assoc}
+use Rattle.std.proofs.Common.{IsErrAnd, IfErr, IfOk, ℕ, List, [], ◌∷◌, ◌++◌, append_assoc}
 use Rattle.std.specs.Prelude.{unwrap_or}
 use Rattle.std.specs.Option.{option_map_or, option_or}
 use Rattle.xhstt_references.specs.Faults.{IsTold}
+use Rattle.xhstt_references.specs.Followed.{followed_of}
 use Rattle.xhstt_references.specs.declared.faults.ReferenceFault.{ReferenceFault}
 use Rattle.xhstt_references.specs.declared.faults.ReferenceFault.TheVariants as reference
 use Rattle.xhstt_resolve.specs.Answers.{IsFirst, IsFaultOf}
@@ -14,6 +15,11 @@ use Rattle.xhstt_resolve.specs.declared.faults.ResolveFault.{ResolveFault}
 use Rattle.xhstt_resolve.specs.declared.faults.ResolveFault.TheVariants.{Bad, Limit, NoMemory}
 use Rattle.xhstt_resolve.specs.declared.resolving.Resolved.{Resolved}
 use Rattle.xhstt_shape.specs.declared.records.Archive.{Archive}
+
+-- what holds in any case holds where a call went well
+pub as_well : {A E P : Type 0} (r : Result A E) → P → IfOk r (λ _. P)
+as_well (Ok a) p = p
+as_well (Err e) p = tt
 
 -- the first look finds it
 pub this-first : (x rest : Option ResolveFault) (e : ResolveFault) → IsFirst x e → IsFirst (option_or x rest) e
@@ -49,16 +55,16 @@ reference-none x is = ap (option_map as_fault) is
 -- the first fault of an archive is the answer of resolving
 pub fault-of : (a : Archive) (e : ResolveFault) → IsFirst (archive_fault a) e → IsFaultOf (resolved a) e
 fault-of a (Bad kind at) is = ap (λ o. option_map_or Err o
-    (Ok (record { instances = map parts_of a.instances; of = instances_of a }))) is
+    (Ok (record { instances = map parts_of a.instances; of = instances_of a; followed = followed_of a }))) is
 fault-of a (Limit which value) is = ap (λ o. option_map_or Err o
-    (Ok (record { instances = map parts_of a.instances; of = instances_of a }))) is
+    (Ok (record { instances = map parts_of a.instances; of = instances_of a; followed = followed_of a }))) is
 fault-of a NoMemory is = tt
 
 pub resolved-sound : (a : Archive) (r : Resolved) → archive_fault a ≡ None → r.instances ≡ map parts_of a.instances
-    → r.of ≡ instances_of a → resolved a ≡ Ok r
-resolved-sound a r none instances of =
-    ap (λ o. option_map_or Err o (Ok (record { instances = map parts_of a.instances; of = instances_of a }))) none
-    ∙ (λ j. Ok (record { instances = sym instances j; of = sym of j }))
+    → r.of ≡ instances_of a → r.followed ≡ followed_of a → resolved a ≡ Ok r
+resolved-sound a r none instances of followed =
+    ap (λ o. option_map_or Err o (Ok (record { instances = map parts_of a.instances; of = instances_of a; followed = followed_of a }))) none
+    ∙ (λ j. Ok (record { instances = sym instances j; of = sym of j; followed = sym followed j }))
 
 -- an error that is passed on is the first fault as it was
 pub passed-first : {A : Type 0} (r : Result A ResolveFault) (e : ResolveFault) (first : Option ResolveFault)

@@ -5,6 +5,7 @@ use Rattle.std.specs.Prelude.{ℕ, Option, unwrap_or, Result, Ok, Err, List, [],
 use Rattle.std.specs.Option.{option_map, option_map_or, option_or}
 use Rattle.khe_base.specs.Names.{number_of}
 use Rattle.xhstt_references.specs.Faults.{fault_of_ids, fault_of_instance, fault_of_solutions}
+use Rattle.xhstt_references.specs.Followed.{followed_of}
 use Rattle.xhstt_references.specs.Ids.{instance_ids}
 use Rattle.xhstt_references.specs.References.{solutions_of}
 use Rattle.xhstt_resolve.specs.Faults.{as_fault}
@@ -39,7 +40,7 @@ archive_fault a = earliest
 abbrev pub instances_of : Archive → List ℕ
 instances_of a = map (λ s. unwrap_or (number_of s.reference.id (instance_ids a)) 0) (solutions_of a)
 
--- the instances and each solution's instance, or the first fault
+-- the instances, and each solution's instance and what its entries name there; or the first fault
 abbrev pub resolved : Archive → Result Resolved ResolveFault
 resolved a = option_map_or Err (archive_fault a)
-    (Ok (record { instances = map parts_of a.instances; of = instances_of a }))
+    (Ok (record { instances = map parts_of a.instances; of = instances_of a; followed = followed_of a }))

@@ -48,6 +48,7 @@ pub(crate) fn instance_of(
     requires formed { IsInstance raw.now }
     ensures made { IfOk result (λ i. i ≡ parts.parts_of raw.now) }
     ensures within { IfOk result (λ i. spec.limit_fault raw.now ≡ None) }
+    ensures kept { IfOk result (λ i. HasKeptCounts raw.now) }
     ensures fault { IfErr result (IsFirst (spec.limit_fault raw.now)) }
 {
     let parts = parts_named(alloc, raw, names)?;
@@ -61,6 +62,7 @@ fn parts_named(alloc: Global, raw: &RawInstance, names: &Directory) -> Result<Pa
     requires formed { IsInstance raw.now }
     ensures made { IfOk result (λ p. p ≡ parts.parts_of raw.now) }
     ensures within { IfOk result (λ p. spec.limit_fault raw.now ≡ None) }
+    ensures kept { IfOk result (λ p. HasKeptCounts raw.now) }
     ensures fault { IfErr result (IsFirst (spec.limit_fault raw.now)) }
 {
     counts_within(raw)?;

@@ -6,8 +6,9 @@ ghost use Rattle.khe_base.specs.Names.{are_distinct};
 ghost use Rattle.xhstt_resolve.specs.Joined.{ends_with, with_last, joined};
 ghost use Rattle.xhstt_resolve.specs.Members.{named, members, groups_of_time, groups_of_resource, groups_of_event};
 
-use khe_base::{Names, NoMemory, Seq};
+use khe_base::{NoMemory, Seq};
 use std::alloc::Global;
+use xhstt_references::Names;
 use xhstt_shape::{RawEvent, RawResource, Ref, Time};
 
 /// What may be in groups.

@@ -6,9 +6,10 @@ ghost use Rattle.xhstt_resolve.specs.Parts.{type_named, type_at, type_of_resourc
 ghost use Rattle.xhstt_resolve.specs.Tables.{IsLookup};
 
 use crate::tables::Lookup;
-use khe_base::{Names, NoMemory, Seq};
+use khe_base::{NoMemory, Seq};
 use khe_instance::{GroupInfo, ResourceInfo};
 use std::alloc::Global;
+use xhstt_references::Names;
 use xhstt_shape::{RawResource, Ref};
 
 /// The numbers of the types of resources, 0 where no type is named. It takes time in proportion to

@@ -10,8 +10,9 @@ ghost use Rattle.xhstt_resolve.specs.Points.{has_role};
 ghost use Rattle.xhstt_resolve.specs.Roles.{AreRolesOf, held, is_at, role_place};
 ghost use Rattle.xhstt_resolve.specs.Tables.{HasFewPlaces};
 
-use khe_base::{Names, NoMemory, Seq, Text};
+use khe_base::{NoMemory, Seq, Text};
 use std::alloc::Global;
+use xhstt_references::{Names, Seed};
 use xhstt_shape::{RawEventResource, RawInstance};
 
 /// An event resource that has a role.
@@ -46,7 +47,7 @@ pub(crate) fn roles_of(alloc: Global, instance: &RawInstance) -> Result<Roles, N
     requires events { length instance.now.events < 2 ^ 32 }
     ensures { IfOk result (AreRolesOf instance.now) }
 {
-    let mut names = Names::new(alloc);
+    let mut names = Names::new(alloc, seed_of_roles(instance));
     let mut lists = Vec::new(alloc);
     for (event, raw) in instance.events.as_slice().iter().enumerate() {
         note_event(
@@ -59,6 +60,19 @@ pub(crate) fn roles_of(alloc: Global, instance: &RawInstance) -> Result<Roles, N
     }
     let places = Seq { items: lists };
     Ok(Roles { names, places })
+}
+
+/// The number that hashes of the roles of an instance begin with, in time in proportion to the roles.
+fn seed_of_roles(instance: &RawInstance) -> u64 {
+    let mut seed = Seed::new();
+    for event in instance.events.as_slice() {
+        for place in event.resources.as_slice() {
+            if let Some(role) = &place.role {
+                seed.add(role.text.spelling());
+            }
+        }
+    }
+    seed.number()
 }
 
 /// Adds the event resources of an event to the lists of their roles.

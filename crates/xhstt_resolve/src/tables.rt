@@ -10,9 +10,9 @@ use crate::collecting::{Collect, Mentions};
 use crate::grouped_sets::{Members, add_all};
 use crate::members::{Grouped, members_of};
 use crate::resources::types_of;
-use khe_base::{IdSet, Names, NoMemory, Seq, Text, both};
+use khe_base::{IdSet, NoMemory, Seq, Text, both};
 use std::alloc::Global;
-use xhstt_references::Directory;
+use xhstt_references::{Directory, Names};
 use xhstt_shape::{RawInstance, Ref};
 
 /// One sort of items, as the times of an instance, with the groups of them.

@@ -4,6 +4,7 @@ use Rattle.std.specs.List.{filter_map, flat_map}
 use Rattle.khe_base.specs.Names.{number_of}
 use Rattle.xhstt_references.specs.Directories.{named_by}
 use Rattle.xhstt_references.specs.First.{first_of}
+use Rattle.xhstt_references.specs.Followed.{followed_in}
 use Rattle.xhstt_references.specs.References.{unknown_in_solution, solutions_of}
 use Rattle.xhstt_references.proofs.solutions.instances_of_solutions.Given as goal
 
@@ -14,5 +15,7 @@ invariant-loop-group l =
     let unknown = flat_map (unknown_in_solution l.instances (map named_by l.made)) in
     record {
       numbers : l.numbers ++ numbers rest ≡ numbers (solutions_of l.archive);
+      followed : l.followed ++ map (followed_in l.made l.instances) rest
+          ≡ map (followed_in l.made l.instances) (solutions_of l.archive);
       first : first_of l.first.at (unknown rest) ≡ first_of None (unknown (solutions_of l.archive));
     }
