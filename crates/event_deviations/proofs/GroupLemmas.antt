@@ -5,11 +5,11 @@ use Rattle.std.proofs.Common.{cond, ◌&&◌, ◌||◌, Option, Some, None, List
 use Rattle.std.proofs.Common.{arith, zero-add, ◌⊎◌, inl, inr, filter, sum_by, count_by, option_map, option_and_then}
 use Rattle.std.specs.List.{list_any, range_with_len}
 use Rattle.std.specs.Option.{option_map_or}
-use Rattle.std.proofs.lemmas.Bool.{and_parts, cases_eq, cases_lt, eq-eqb, eqb-true, false≢true, ne_eqb}
+use Rattle.std.proofs.lemmas.Bool.{and_parts, cases_eq, eq-eqb, eqb-true, false≢true, ne_eqb}
 use Rattle.std.proofs.lemmas.List.{get_or_past}
 use Rattle.std.proofs.lemmas.List.Folds.{Any-from_list_any, list_any-from_Any, list_any-append, list_any_more}
 use Rattle.std.proofs.lemmas.List.Sums.{sum_by-cons}
-use Rattle.std.proofs.lemmas.Option.{slice_get_past, none-some, same_Some}
+use Rattle.std.proofs.lemmas.Option.{none-some, same_Some}
 use Rattle.khe_base.proofs.ListLemmas.{range_more}
 use Rattle.khe_base.specs.IdSet.{has_member}
 use Rattle.khe_base.specs.declared.numbers.ResourceId.{ResourceId}
@@ -31,6 +31,7 @@ use Rattle.event_deviations.proofs.Kit.{count_by-agree, sum_by-filter, sum_one}
 use Rattle.event_deviations.proofs.MarkLemmas.{or_false, or_assoc, is_marked-set}
 use Rattle.khe_base.proofs.IdSetLemmas.{member_below}
 use Rattle.khe_instance.proofs.DutiesLemmas.{sum_by-plus}
+use Rattle.khe_instance.proofs.PlaceLemmas.{place_within}
 
 -- one more duty
 module _ (vs start : List ℕ) (ds : List Duty) (i : ℕ) (d : Duty) (l : i < length ds)
@@ -81,25 +82,6 @@ pub role_there : (infos : List EventInfo) (e k : ℕ) (event : EventInfo) → sl
     → role_at infos e k ≡ option_and_then (λ p. p.role) (slice_get event.places k)
 role_there infos e k event there = ap (option_and_then
     (λ event. option_and_then (λ p. p.role) (slice_get event.places k))) there
-
--- a role stands only at a place that is there
-place_within : (infos : List EventInfo) (e k : ℕ) (role : List ℕ) → role_at infos e k ≡ Some role
-    → k < places_at infos e
-place_within infos e k role h = by (slice_get infos e) h
-  where
-    at_place : (event : EventInfo) → option_and_then (λ p. p.role) (slice_get event.places k) ≡ Some role
-        → k < length event.places
-    at_place event g = found (cases_lt k (length event.places))
-      where
-        found : (k < length event.places) ⊎ (length event.places ≤ k) → k < length event.places
-        found (inl l) = l
-        found (inr l) = absurd (none-some role (sym (ap (option_and_then (λ p. p.role))
-            (slice_get_past event.places k l)) ∙ g))
-
-    by : (o : Option EventInfo) → option_and_then (λ event. option_and_then (λ p. p.role) (slice_get event.places k)) o
-        ≡ Some role → k < option_map_or (λ event. length event.places) o 0
-    by None g = absurd (none-some role g)
-    by (Some event) g = at_place event g
 
 role_within : (infos : List EventInfo) (role : List ℕ) (e k : ℕ) → is_role role (role_at infos e k) ≡ true
     → k < places_at infos e

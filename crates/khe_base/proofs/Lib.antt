@@ -2,6 +2,7 @@ pub mod BitsLemmas
 pub mod Characters
 pub mod IdSetLemmas
 pub mod ListLemmas
+pub mod ListedSetLemmas
 pub mod MembersLemmas
 pub mod ResultLemmas
 pub mod TextLemmas

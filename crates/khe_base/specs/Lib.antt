@@ -5,6 +5,7 @@ pub mod Busy
 pub mod Costs
 pub mod Digits
 pub mod IdSet
+pub mod ListedSets
 pub mod Names
 pub mod StoredSets
 pub mod Text

@@ -2,8 +2,10 @@ pub mod CostsLaws
 pub mod DeviationBounds
 pub mod DutiesLemmas
 pub mod EventBounds
+pub mod ListingLemmas
 pub mod MadeLemmas
 pub mod MeetsLemmas
+pub mod PlaceLemmas
 pub mod ResourceBounds
 pub mod SlotsLemmas
 pub mod SumsLemmas

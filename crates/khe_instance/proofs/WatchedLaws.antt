@@ -160,7 +160,7 @@ with-role events e place role h = by (slice_get events e) refl
         (λ event. option_and_then (λ x. x.role) (slice_get event.places place)) o) is) ∙ h))
     by (Some event) is = slice_get_within events e event is
 
-place-there : (p : Parts) (rule : Rule) (e : EventId) (place : ℕ) → IsPointOf p rule (EventResource e place)
+pub place-there : (p : Parts) (rule : Rule) (e : EventId) (place : ℕ) → IsPointOf p rule (EventResource e place)
     → e.0 < length p.events
 place-there p (AssignResource role) e place h = with-role p.events e.0 place role h
 place-there p (PreferResources resources role) e place h = with-role p.events e.0 place role h

@@ -1,3 +1,5 @@
+pub mod ByPlace
+pub mod ByType
 pub mod Costs
 pub mod Deviation
 pub mod Evaluated
@@ -6,6 +8,7 @@ pub mod Examples
 pub mod KindLaws
 pub mod Kinds
 pub mod Laws
+pub mod Listing
 pub mod Lookups
 pub mod Named
 pub mod ResourceDeviation

@@ -1,18 +1,20 @@
 //! An instance, which does not change, and what is asked of it.
 
-ghost use Rattle.std.specs.Prelude.{◌≡◌, ◌<◌, ◌*◌, Some, length, map, slice_get, IfOk};
+ghost use Rattle.std.specs.Prelude.{◌≡◌, ◌<◌, ◌*◌, Some, length, slice_get, IfOk};
 ghost use Rattle.std.specs.Option.{option_map};
 ghost use Rattle.std.specs.List.{sum_by};
 ghost use Rattle.khe_base.specs.IdSet.{members_of};
+ghost use Rattle.khe_instance.specs.ByType.{resources_of_type};
 ghost use Rattle.khe_instance.specs.Slots.{HasSlot, all_tasks, first_task};
 ghost use Rattle.khe_instance.specs.WellMade.{AreWellMade};
 
-use crate::parts::{EventInfo, GroupInfo, Parts};
+use crate::by_type::by_type;
+use crate::parts::{EventInfo, Parts};
 use crate::points::Monitor;
 use crate::rules::Constraint;
 use crate::slots::{SlotTable, slot_table};
 use khe_base::{
-    EventId, IdSet, MeetId, MonitorId, NoMemory, ResourceId, Seq, TaskId, Text, TimeId,
+    EventId, ListedSet, MeetId, MonitorId, NoMemory, ResourceId, Seq, TaskId, Text, TimeId,
     lends_to_threads,
 };
 use std::alloc::Global;
@@ -26,8 +28,8 @@ use std::marker::Model;
 pub struct Instance {
     parts: Parts,
     slots: SlotTable,
-    /// The members of each event group, ascending.
-    members: Seq<Seq<u32>>,
+    /// The resources of each type, ascending.
+    by_type: Seq<Seq<u32>>,
 }
 
 // By hand: an exit of a caller then has one call to prove, and not a drop for each field.
@@ -36,38 +38,38 @@ impl Drop for Instance {
         let Instance {
             parts: _parts,
             slots: _slots,
-            members: _members,
+            by_type: _by_type,
         } = self;
     }
 }
 
 impl Model for Instance {
     ghost use Rattle.khe_instance.specs.declared.parts.Parts.{Parts};
-    ghost use Rattle.khe_base.specs.IdSet.{members_of};
+    ghost use Rattle.khe_instance.specs.ByType.{AreByType};
     ghost use Rattle.khe_instance.specs.SlotTables.{IsSlotTable};
     ghost use Rattle.khe_instance.specs.WellMade.{AreWellMade};
-    ghost use Rattle.std.specs.Prelude.{◌≡◌, map};
+    ghost use Rattle.std.specs.Prelude.{◌≡◌};
 
     ghost Value = { Parts };
 
     ghost view = { λ i. i.parts };
 
-    ghost invariant = { λ i. AreWellMade i.parts × IsSlotTable i.parts.events i.slots × (i.members ≡ map (λ g. members_of g.events) i.parts.groups) };
+    ghost invariant = { λ i. AreWellMade i.parts × IsSlotTable i.parts.events i.slots × AreByType i.parts i.by_type };
 }
 
 impl Instance {
     /// The instance with these parts. It takes time and memory in proportion to the meet slots of all
-    /// events and the members of the event groups, and to a 64th of the events for each event group.
+    /// events and to the resource types.
     pub fn new(alloc: Global, parts: Parts) -> Result<Instance, NoMemory>
         requires { AreWellMade parts }
         ensures { IfOk result (λ i. i ≡ parts) }
     {
         let slots = slot_table(alloc, parts.events.as_slice())?;
-        let members = members_by_group(alloc, parts.groups.as_slice())?;
+        let by_type = by_type(alloc, &parts)?;
         Ok(Instance {
             parts,
             slots,
-            members,
+            by_type,
         })
     }
 
@@ -214,8 +216,16 @@ impl Instance {
         self.parts.resources.as_slice()[resource.0 as usize].rtype
     }
 
+    /// The numbers of the resources of a type, ascending.
+    pub fn resources_of_type(&self, rtype: u32) -> &[u32]
+        requires { rtype < self.now.types }
+        ensures { result.now ≡ resources_of_type self.now rtype }
+    {
+        self.by_type.as_slice()[rtype as usize].as_slice()
+    }
+
     /// The events of an event group.
-    pub fn event_group(&self, group: u32) -> &IdSet
+    pub fn event_group(&self, group: u32) -> &ListedSet
         requires { group < length self.now.groups }
         ensures { option_map (λ g. g.events) (slice_get self.now.groups group) ≡ Some result.now }
     {
@@ -227,7 +237,7 @@ impl Instance {
         requires { group < length self.now.groups }
         ensures { option_map (λ g. members_of g.events) (slice_get self.now.groups group) ≡ Some result.now }
     {
-        self.members.as_slice()[group as usize].as_slice()
+        self.event_group(group).members()
     }
 
     /// The Id of a time.
@@ -253,18 +263,6 @@ impl Instance {
     {
         &self.parts.groups.as_slice()[group as usize].id
     }
-}
-
-/// The members of each event group, in time and memory of the members and of a 64th of the sizes of
-/// the sets.
-fn members_by_group(alloc: Global, groups: &[GroupInfo]) -> Result<Seq<Seq<u32>>, NoMemory>
-    ensures { IfOk result (λ lists. lists ≡ map (λ g. members_of g.events) groups.now) }
-{
-    let mut lists = Seq::new(alloc);
-    for group in groups {
-        lists.push(group.events.members(alloc)?)?;
-    }
-    Ok(lists)
 }
 
 // Workers read an instance and timetables of it together: the types show it, and no program calls

@@ -2,7 +2,7 @@
 
 use crate::points::Monitor;
 use crate::rules::Constraint;
-use khe_base::{IdSet, ResourceId, Seq, Text, TimeId};
+use khe_base::{ListedSet, ResourceId, Seq, Text, TimeId};
 
 /// A resource: a teacher, a class or a room.
 #[derive(Drop)]
@@ -17,7 +17,7 @@ pub struct ResourceInfo {
 pub struct GroupInfo {
     pub id: Text,
     /// As large as the instance has events.
-    pub events: IdSet,
+    pub events: ListedSet,
 }
 
 /// One of the resources that an event wants.

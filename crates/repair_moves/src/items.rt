@@ -45,7 +45,7 @@ fn pair_names(rule: &Rule, pair: u32, event: EventId) -> bool
     }
 }
 
-/// Whether a point names an event. It takes constant time.
+/// Whether a point names an event, in the time in which a group knows its events.
 fn names(inst: &Instance, rule: &Rule, point: Point, event: EventId) -> bool
     ensures { result ≡ names_event inst.now rule.now point event.0 }
 {

@@ -3,10 +3,11 @@
 ghost use Rattle.std.specs.Prelude.{◌≡◌, ◌<◌, ◌^◌, length, map, unwrap_or, IfOk};
 ghost use Rattle.khe_base.specs.Names.{number_of};
 ghost use Rattle.xhstt_resolve.specs.Parts.{type_named, type_at, type_of_resource, resource_of, group_of};
-ghost use Rattle.xhstt_resolve.specs.Tables.{IsLookup};
+ghost use Rattle.xhstt_resolve.specs.Members.{set_of};
+ghost use Rattle.xhstt_resolve.specs.Tables.{IsLookup, IsTable, members_at};
 
-use crate::tables::Lookup;
-use khe_base::{NoMemory, Seq};
+use crate::tables::{Lookup, Table};
+use khe_base::{ListedSet, NoMemory, Seq, Text};
 use khe_instance::{GroupInfo, ResourceInfo};
 use std::alloc::Global;
 use xhstt_references::Names;
@@ -88,8 +89,8 @@ pub(crate) fn resources_of(
     Ok(resources)
 }
 
-/// The event groups with their events. It takes time and memory in proportion to their Ids, and to
-/// the groups times the events, since each group has a set of its own.
+/// The event groups with their events. It takes time and memory in proportion to their Ids and members,
+/// and time in proportion to a 64th of the events for each group.
 pub(crate) fn groups_of(alloc: Global, lookup: &Lookup<'_>) -> Result<Seq<GroupInfo>, NoMemory>
     requires { IsLookup lookup.now }
     ensures { IfOk result (λ gs. gs ≡ map (group_of lookup.now.instance.now) lookup.now.instance.now.event_groups) }
@@ -97,8 +98,17 @@ pub(crate) fn groups_of(alloc: Global, lookup: &Lookup<'_>) -> Result<Seq<GroupI
     let mut groups = Seq::new(alloc);
     for group in lookup.instance.event_groups.as_slice() {
         let id = group.id.text.copy(alloc)?;
-        let events = lookup.tables.events.group_set(alloc, &group.id.text)?;
+        let events = group_events(alloc, &lookup.tables.events, &group.id.text)?;
         groups.push(GroupInfo { id, events })?;
     }
     Ok(groups)
+}
+
+/// The set of the events of the group with an Id, as an instance keeps it.
+fn group_events(alloc: Global, events: &Table<'_>, group: &Text) -> Result<ListedSet, NoMemory>
+    requires { IsTable events.now }
+    ensures { IfOk result (λ s. s ≡ set_of (length events.now.names.now) (members_at events.now group.now)) }
+{
+    let set = events.group_set(alloc, group)?;
+    ListedSet::new(alloc, set)
 }
