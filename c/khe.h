@@ -133,6 +133,11 @@ uint32_t khe_totals(khe_session *session, khe_costs *costs);
  *   KHE_CLOSED_STATUS  the handle was closed */
 uint32_t khe_close(khe_session *session);
 
+/* Tells whether this library was proved as it was made: 1 for what `make -C c` makes, and 0 for what `make -C c quick`
+ * does, which is of the same code and stops the process at an index out of bounds, at a sum that overflows and the
+ * like. */
+uint32_t khe_is_proved(void);
+
 #ifdef __cplusplus
 }
 #endif
