@@ -74,8 +74,9 @@ pub enum Play {
 ///
 /// A timetable that is constructed is the only solution of its archive, and the line after it tells how many meets
 /// and which totals it has, as it is before it is repaired; the line of the repair follows. A matching gives the tasks
-/// that run at the time resources of the type, each at most one, so that the totals are the least; it stays only where
-/// they are lower than before, and its lines show a proof of the least by prices.
+/// that run at the time resources of the type, each at most one, so that the sum of what each pair costs by itself is
+/// the least, which its lines prove by prices. It stays only where the totals are then lower than before; another
+/// choice may leave lower ones.
 ///
 /// A report takes time about linear in the archive's bytes, in what its instances follow out, and, for
 /// each solution, in the meets, tasks, covered times, watches and monitors; the workers that run at the
@@ -113,9 +114,9 @@ pub fn khe<R: Threads + Sync, S: Shelf, K: Sink, G: Gate>(
     ensures line { result.0 ≡ 2 → Took (K.taken out.old) (K.taken out.new) (encode_utf8_all not_understood_line) }
     ensures line_cut_off { asked (map string_bytes words.now) ≡ None → result.0 ≡ 5 → TookFront (K.taken out.old) (K.taken out.new) (encode_utf8_all not_understood_line) }
 
-    // Status 4 comes by a fault of the shelf and always where it counted one, so no call is made
-    // again after it. On a sound shelf it comes exactly where nothing stands under a name whose
-    // reading is reached; nothing was written.
+    // Status 4 comes by a fault of the shelf, and a run in which the shelf counted one ends with it. On a
+    // sound shelf it comes exactly where nothing stands under a name whose reading is reached, unless memory
+    // runs out; nothing was written.
     ensures read_fault { result.0 ≡ 4 → Rose (S.faults shelf.old) (S.faults shelf.new) }
     ensures read_fault_ends { (result.0 ≡ 4) ⊎ (S.faults shelf.new ≡ S.faults shelf.old) }
     ensures nothing_written { result.0 ≡ 4 → K.taken out.new ≡ K.taken out.old }

@@ -8,7 +8,7 @@ use std::io::{BufReader, Input};
 use std::process::ExitCode;
 use std::rt::{Env, Files};
 use std::{env, io};
-use talk_app::talk_by_words;
+use talk_app::{Lines, talk_by_words};
 
 /// The words after the program's name. A word that is not UTF-8 leaves none of them, since such
 /// words have no reading.
@@ -32,16 +32,17 @@ fn run<R: Env + Files + Print + Input + AllocGlobal>(rt: &R) -> Status {
     let Ok(words) = words(rt) else {
         return Status(6);
     };
-    let Ok(mut reader) = BufReader::new(rt.alloc(), rt.reader()) else {
+    let Ok(reader) = BufReader::new(rt.alloc(), rt.reader()) else {
         return Status(6);
     };
+    let mut lines = Lines::new(reader);
     let mut shelf = FileShelf::new(rt);
     let mut out = StdSink::new(rt);
     talk_by_words(
         rt.alloc(),
         words.as_slice(),
         &mut shelf,
-        &mut reader,
+        &mut lines,
         &mut out,
     )
 }

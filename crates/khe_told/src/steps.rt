@@ -1,4 +1,4 @@
-//! The count of monitors that were measured anew.
+//! The count of deviations that were set anew.
 
 ghost use Rattle.std.specs.Prelude.{◌≡◌, ◌+◌, ◌<◌};
 
@@ -6,7 +6,8 @@ use std::marker::Model;
 pub use std::sync::ledger::Blank;
 use std::sync::ledger::{Book, Ledger, Share};
 
-/// How many steps were taken; one step is one monitor that is measured anew. Contracts see the number.
+/// How many steps were taken; one step is one deviation that is set in a graph. Contracts see the number. What is
+/// measured for a trial sets none, and counts in none.
 /// It takes no bytes and no time when the program runs, and no call changes it but `tick`.
 #[derive(Drop)]
 pub struct Steps<L: Ledger> {

@@ -9,7 +9,7 @@ use std::alloc::Global;
 use std::fs;
 use std::io::{BufRead, BufReader};
 use std::rt::Files;
-use talk_app::talk_by_words;
+use talk_app::{Lines, talk_by_words};
 
 /// The command of the talk that the manual shows.
 const SHOWN: &str = "khe-talk examples/first.xml 0";
@@ -124,7 +124,7 @@ fn run_unread<R: Files>(rt: &R, alloc: Global) -> Ran {
         return Err(NoMemory);
     };
     match BufReader::new(alloc, folder) {
-        Ok(mut reader) => run(rt, alloc, SHOWN, &mut reader, ROOM),
+        Ok(reader) => run(rt, alloc, SHOWN, &mut Lines::new(reader), ROOM),
         Err(_) => Err(NoMemory),
     }
 }
@@ -139,8 +139,7 @@ fn compare<R: Files + Print>(
     room: u64,
     wanted: End<'_>,
 ) {
-    let mut reader = lines;
-    let ran = run(rt, alloc, command, &mut reader, room);
+    let ran = run(rt, alloc, command, &mut Lines::new(lines), room);
     note_run(rt, tally, command, &ran, wanted);
 }
 
@@ -149,12 +148,12 @@ fn run<R: Files, B: BufRead>(
     rt: &R,
     alloc: Global,
     command: &str,
-    reader: &mut B,
+    lines: &mut Lines<B>,
     room: u64,
 ) -> Ran {
     let words = words_of(alloc, command)?;
     let mut sink = MemorySink::new(alloc, room, 1_000_000, Seq::new(alloc))?;
     let mut shelf = FileShelf::new(rt);
-    let status = talk_by_words(alloc, words.as_slice(), &mut shelf, reader, &mut sink);
+    let status = talk_by_words(alloc, words.as_slice(), &mut shelf, lines, &mut sink);
     Ok((status.0, sink))
 }

@@ -202,9 +202,10 @@ fn choice_of(matching: Matching) -> choices::Cheapest
 /// A choice of a resource or none for each task, of which no other has a lower sum, with prices
 /// that show it.
 ///
-/// It takes memory in proportion to the tasks and the resources. Each task takes time in proportion
-/// to the square of the tasks before it, and for each of them that the search reaches to the blocks
-/// of resources and to those blocks whose cheapest resource was taken.
+/// Where memory is refused it answers `NoMemory`. It asks for memory before the first task alone: in proportion to
+/// the tasks, to the resources, and for each task to the blocks of a hundred resources. Each task takes time in
+/// proportion to the square of the tasks before it, and for each of them that the search reaches to the blocks of
+/// resources and to those blocks whose cheapest resource was taken. No clause bounds its memory or its time.
 pub fn cheapest(alloc: Global, costs: &Costs) -> Result<choices::Cheapest, NoMemory>
     requires { AreCosts costs.now }
     ensures certified { IfOk result (IsCertified costs.now) }

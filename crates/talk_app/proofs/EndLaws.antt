@@ -1,13 +1,14 @@
 -- How a run ends.
-use Rattle.std.proofs.Common.{ℕ, ◌≡◌, ◌⊎◌, Option, None, Some, Result, Ok, Err, OnOk, OnErr, IfSome, List, [], inl, inr, refl, sym, ap, map, subst, ◌∙◌}
+use Rattle.std.proofs.Common.{ℕ, ◌≡◌, ◌⊎◌, Bool, Option, None, Some, Result, Ok, Err, OnOk, OnErr, IfSome, IsTrue, List, [], inl, inr, refl, sym, ap, map, subst, ◌∙◌, arith}
 use Rattle.std.specs.Result.{IsErrOf}
 use Rattle.edit_script.specs.Lines.{lines}
 use Rattle.reading_commands.specs.Answers.{IsAnswerOf, reading_of}
-use Rattle.reading_commands.specs.Ends.{Written}
+use Rattle.khe_io.specs.Shelf.{IsMissing}
+use Rattle.reading_commands.specs.Ends.{Holdings, Written}
 use Rattle.archive_reading.specs.Starting.{Start, begins}
 use Rattle.reading_commands.specs.declared.answers.Answer.{Answer}
 use Rattle.khe_io.specs.Faults.{Rose, Took, TookFront}
-use Rattle.talk_app.specs.Ends.{IsEnd, Wrote, status_after}
+use Rattle.talk_app.specs.Ends.{EndedOf, IsEnd, LacksArchiveOf, Wrote, status_after}
 use Rattle.khe_engine.specs.Openings.{IsStateOf}
 use Rattle.khe_engine.specs.Worlds.{Saved, World}
 use Rattle.khe_instance.specs.declared.parts.Parts.{Parts}
@@ -16,6 +17,7 @@ use Rattle.script_run.specs.Plays.{begun, play_of}
 use Rattle.talk_run.specs.Answers.{archive_bytes}
 use Rattle.talk_run.specs.Talks.{talk_bytes}
 use Rattle.xhstt_shape.specs.declared.records.Archive.{Archive}
+use Rattle.talk_app.specs.Words.{Asked}
 use Rattle.talk_app.specs.Outcome.{IsOutcome, IsTalkIn, IsTalkOf, IsTalkOn, IsTalkTo, not_understood_line}
 use Rattle.talk_run.specs.Between.{HadLeft, IsCutOff, IsTalked}
 use Rattle.talk_run.specs.declared.faults.TalkFault.{TalkFault}
@@ -202,6 +204,96 @@ pub each_held : (h : Option (List ℕ → Option (List ℕ))) (P : (List ℕ →
 each_held None P all = tt
 each_held (Some under) P all = all under
 
+-- nothing was written
+pub stopped_end : (h : Holdings) (name : List ℕ) (number : ℕ) (left before : Option (List ℕ)) (faults status : ℕ)
+    → (status ≡ 4) ⊎ (status ≡ 6)
+    → IfSome h (λ under. IsEnd (IsTalkTo number (under name)) left before before faults faults status)
+stopped_end h name number left before faults status s = each_held h
+    (λ under. IsEnd (IsTalkTo number (under name)) left before before faults faults status) (λ under. inl (s, refl))
+
 -- words that have a reading are not without one
 pub never : {A : Type 0} (o : Option A) (a : A) → o ≡ Some a → o ≡ None → ⊥
 never o a e f = cc
+
+-- a talk ended with status 4 where a line could not be read, and no fault of a line is counted before another status
+pub talked_unread : (ended : Result (Unit {0}) TalkFault) (lines lines2 result : ℕ)
+    → (IsErrOf ended ReadFault → Rose lines lines2) → result ≡ status_after ended → result ≡ 4 → Rose lines lines2
+talked_unread (Ok u) lines lines2 result rose same four = absurd (omega (arith, same, four))
+talked_unread (Err ReadFault) lines lines2 result rose same four = rose refl
+talked_unread (Err WriteFault) lines lines2 result rose same four = absurd (omega (arith, same, four))
+talked_unread (Err NoMemory) lines lines2 result rose same four = absurd (omega (arith, same, four))
+
+pub talked_read : (ended : Result (Unit {0}) TalkFault) (lines lines2 result : ℕ) → OnOk ended (lines2 ≡ lines)
+    → (IsErrOf ended WriteFault → lines2 ≡ lines) → (IsErrOf ended NoMemory → lines2 ≡ lines)
+    → result ≡ status_after ended → (result ≡ 4) ⊎ (lines2 ≡ lines)
+talked_read (Ok u) lines lines2 result ok unwritten starved same = inr ok
+talked_read (Err ReadFault) lines lines2 result ok unwritten starved same = inl same
+talked_read (Err WriteFault) lines lines2 result ok unwritten starved same = inr (unwritten refl)
+talked_read (Err NoMemory) lines lines2 result ok unwritten starved same = inr (starved refl)
+
+-- the name of the archive that words ask for is missing, or none is
+pub lacks_by : (o : Option Asked) (a : Asked) (h : Holdings) → o ≡ Some a → IsMissing h a.archive → LacksArchiveOf o h
+lacks_by o a h e missing = subst (λ x. LacksArchiveOf x h) (sym e) missing
+
+pub lacking : (o : Option Asked) (a : Asked) (h : Holdings) → o ≡ Some a → LacksArchiveOf o h → IsMissing h a.archive
+lacking o a h e lacks = subst (λ x. LacksArchiveOf x h) e lacks
+
+pub lacks_none : {P : Type 0} (o : Option Asked) (h : Holdings) → o ≡ None → LacksArchiveOf o h → P
+lacks_none o h e lacks = absurd (subst (λ x. LacksArchiveOf x h) e lacks)
+
+-- a run that neither a device nor a line stopped
+pub completed : (a : Option Asked) (h : Holdings) (sound : Bool) (shelf shelf2 lines lines2 : ℕ)
+    (left before after : Option (List ℕ)) (sink sink2 result : ℕ)
+    → IfSome h (λ under. IsEnd (IsOutcome a under) left before after sink sink2 result)
+    → (result ≡ 4 → Rose shelf shelf2 ⊎ Rose lines lines2) → (result ≡ 4 → (after ≡ before) ⊎ Rose lines lines2)
+    → (IsTrue sound → result ≡ 4 → LacksArchiveOf a h ⊎ Rose lines lines2)
+    → IsTrue sound ⊎ (Rose shelf shelf2 → ⊥) → (Rose sink sink2 → ⊥) → (Rose lines lines2 → ⊥)
+    → (result ≡ 6) ⊎ EndedOf a h left before after result
+completed a None sound shelf shelf2 lines lines2 left before after sink sink2 result end fault nothing missing q taken read =
+    inr (inr tt)
+completed a (Some under) sound shelf shelf2 lines lines2 left before after sink sink2 result end fault nothing missing q taken read =
+    by end
+  where
+    Done : Type 0
+    Done = (result ≡ 6) ⊎ EndedOf a (Some under) left before after result
+
+    unchanged : (after ≡ before) ⊎ Rose lines lines2 → after ≡ before
+    unchanged (inl same) = same
+    unchanged (inr rose) = absurd (read rose)
+
+    lacked : result ≡ 4 → LacksArchiveOf a (Some under) ⊎ Rose lines lines2 → Done
+    lacked four (inl lacks) = inr (inl (four, lacks, unchanged (nothing four)))
+    lacked four (inr rose) = absurd (read rose)
+
+    risen : (Rose shelf shelf2 → ⊥) → Rose shelf shelf2 ⊎ Rose lines lines2 → Done
+    risen calm (inl rose) = absurd (calm rose)
+    risen calm (inr rose) = absurd (read rose)
+
+    stopped : result ≡ 4 → IsTrue sound ⊎ (Rose shelf shelf2 → ⊥) → Done
+    stopped four (inl s) = lacked four (missing s four)
+    stopped four (inr calm) = risen calm (fault four)
+
+    short : (result ≡ 4) ⊎ (result ≡ 6) → Done
+    short (inl four) = stopped four q
+    short (inr six) = inl six
+
+    wrote : (input bytes : List ℕ) (status : ℕ) → HadLeft left input → IsOutcome a under input status bytes
+        → Wrote before after sink sink2 bytes status result → Done
+    wrote input bytes status all is (inl whole) = inr (inr (record {
+      input = input;
+      all = all;
+      bytes = bytes;
+      is = subst (λ s. IsOutcome a under input s bytes) (sym whole.0) is;
+      took = whole.1;
+    }))
+    wrote input bytes status all is (inr (inl cut)) = absurd (taken cut.1)
+    wrote input bytes status all is (inr (inr cut)) = short cut.0
+
+    by : IsEnd (IsOutcome a under) left before after sink sink2 result → Done
+    by (inl nothing_done) = short nothing_done.0
+    by (inr w) = wrote w.input w.bytes w.status w.all w.is w.wrote
+
+-- the line that refuses words never ends with status 4
+pub never_four : (result : ℕ) (A B : Type 0) (C : Type 0) → ((result ≡ 2) × A) ⊎ ((result ≡ 5) × B × C) → result ≡ 4 → ⊥
+never_four result A B C (inl whole) four = let two = whole.0 in omega (arith, two, four)
+never_four result A B C (inr cut) four = let five = cut.0 in omega (arith, five, four)

@@ -7,3 +7,4 @@ mod program;
 mod words;
 
 pub use program::talk_by_words;
+pub use talk_run::Lines;

@@ -4,6 +4,7 @@ ghost use Rattle.std.specs.Prelude.{◌≡◌, ◌≤◌, ◌⊎◌};
 ghost use Rattle.archive_reading.specs.Starting.{start_of};
 ghost use Rattle.archive_reading.specs.Ready.{IsReady};
 ghost use Rattle.khe_engine.specs.Values.{ServesAll};
+ghost use Rattle.khe_io.specs.Faults.{Rose};
 ghost use Rattle.khe_instance.specs.States.{IsValid};
 ghost use Rattle.talk_app.specs.Ends.{IsEnd, status_after};
 ghost use Rattle.talk_app.specs.Outcome.{IsTalkOf, IsTalkOn};
@@ -19,13 +20,13 @@ use script_run::Shortages;
 use sixteen_families::Families;
 use std::alloc::Global;
 use std::io::BufRead;
-use talk_run::{Speaker, TalkFault, talk};
+use talk_run::{Lines, Speaker, TalkFault, talk};
 use xhstt_shape::Archive;
 
 /// Talks on the solution with this number, or writes the line that refuses it, with demands that are kept or not.
 pub(crate) fn talk_on<R: BufRead, K: Sink>(
     alloc: Global,
-    reader: &mut R,
+    lines: &mut Lines<R>,
     out: &mut K,
     read: ReadArchive,
     solution: u32,
@@ -33,21 +34,23 @@ pub(crate) fn talk_on<R: BufRead, K: Sink>(
 ) -> Status
     requires { IsReady read.archive read.resolved }
     ensures end { IsEnd (IsTalkOf read.archive solution (start_of read.archive read.resolved solution))
-        (R.remaining reader.old) (K.taken out.old) (K.taken out.new) (K.faults out.old) (K.faults out.new) result.0 }
+        (R.remaining lines.old.reader) (K.taken out.old) (K.taken out.new) (K.faults out.old) (K.faults out.new) result.0 }
     ensures write_fault_ends { (result.0 ≡ 5) ⊎ (K.faults out.new ≡ K.faults out.old) }
     ensures sink_faults { K.faults out.old ≤ K.faults out.new }
+    ensures read_fault { result.0 ≡ 4 → Rose lines.old.faults lines.new.faults }
+    ensures line_fault_ends { (result.0 ≡ 4) ⊎ (lines.new.faults ≡ lines.old.faults) }
 {
     if demands {
-        talk_with::<R, K, WithDemands<Families>>(alloc, reader, out, read, solution)
+        talk_with::<R, K, WithDemands<Families>>(alloc, lines, out, read, solution)
     } else {
-        talk_with::<R, K, Families>(alloc, reader, out, read, solution)
+        talk_with::<R, K, Families>(alloc, lines, out, read, solution)
     }
 }
 
 /// Talks on the solution with this number with these families, or writes the line that refuses it.
 fn talk_with<R: BufRead, K: Sink, F: Shortages + Drop>(
     alloc: Global,
-    reader: &mut R,
+    lines: &mut Lines<R>,
     out: &mut K,
     read: ReadArchive,
     solution: u32,
@@ -56,15 +59,17 @@ fn talk_with<R: BufRead, K: Sink, F: Shortages + Drop>(
     requires joined { F.IsWellJoined }
     requires serves { ServesAll F.serves_kind }
     ensures end { IsEnd (IsTalkOf read.archive solution (start_of read.archive read.resolved solution))
-        (R.remaining reader.old) (K.taken out.old) (K.taken out.new) (K.faults out.old) (K.faults out.new) result.0 }
+        (R.remaining lines.old.reader) (K.taken out.old) (K.taken out.new) (K.faults out.old) (K.faults out.new) result.0 }
     ensures write_fault_ends { (result.0 ≡ 5) ⊎ (K.faults out.new ≡ K.faults out.old) }
     ensures sink_faults { K.faults out.old ≤ K.faults out.new }
+    ensures read_fault { result.0 ≡ 4 → Rose lines.old.faults lines.new.faults }
+    ensures line_fault_ends { (result.0 ≡ 4) ⊎ (lines.new.faults ≡ lines.old.faults) }
 {
     match begin(alloc, &read.archive, &read.resolved, solution) {
         Ok((instance, plain)) => {
             let ReadArchive { archive, resolved } = read;
             let inst = instance_numbered(&resolved, instance);
-            let status = talk_by::<R, K, F>(alloc, reader, out, inst, &plain, archive, solution);
+            let status = talk_by::<R, K, F>(alloc, lines, out, inst, &plain, archive, solution);
             drop(resolved);
             drop(plain);
             status
@@ -84,7 +89,7 @@ fn talk_with<R: BufRead, K: Sink, F: Shortages + Drop>(
 /// Talks on a timetable with these families.
 fn talk_by<R: BufRead, K: Sink, F: Shortages + Drop>(
     alloc: Global,
-    reader: &mut R,
+    lines: &mut Lines<R>,
     out: &mut K,
     inst: &Instance,
     plain: &Plain,
@@ -94,10 +99,12 @@ fn talk_by<R: BufRead, K: Sink, F: Shortages + Drop>(
     requires joined { F.IsWellJoined }
     requires serves { ServesAll F.serves_kind }
     requires valid { IsValid inst.now plain.now }
-    ensures end { IsEnd (IsTalkOn archive solution inst.now plain.now) (R.remaining reader.old) (K.taken out.old)
+    ensures end { IsEnd (IsTalkOn archive solution inst.now plain.now) (R.remaining lines.old.reader) (K.taken out.old)
         (K.taken out.new) (K.faults out.old) (K.faults out.new) result.0 }
     ensures write_fault_ends { (result.0 ≡ 5) ⊎ (K.faults out.new ≡ K.faults out.old) }
     ensures sink_faults { K.faults out.old ≤ K.faults out.new }
+    ensures read_fault { result.0 ≡ 4 → Rose lines.old.faults lines.new.faults }
+    ensures line_fault_ends { (result.0 ≡ 4) ⊎ (lines.new.faults ≡ lines.old.faults) }
 {
     match Engine::<F>::open(alloc, inst, plain) {
         Ok(engine) => {
@@ -106,7 +113,7 @@ fn talk_by<R: BufRead, K: Sink, F: Shortages + Drop>(
                 archive,
                 solution,
             };
-            let ended = talk(alloc, &mut speaker, reader, out);
+            let ended = talk(alloc, &mut speaker, lines, out);
             drop(speaker);
             status_after(ended)
         }

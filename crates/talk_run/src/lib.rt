@@ -13,5 +13,6 @@ mod talking;
 
 pub use commands::{Chains, TalkCommand, read_talk_line};
 pub use faults::TalkFault;
+pub use reading::Lines;
 pub use speakers::{Speaker, answer_bare};
 pub use talking::{Talker, talk};

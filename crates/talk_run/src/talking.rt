@@ -5,7 +5,7 @@ ghost use Rattle.khe_io.specs.Faults.{Rose, TookFront};
 ghost use Rattle.talk_run.specs.Between.{IsBetween, IsCutOff, IsTalked};
 
 use crate::faults::TalkFault;
-use crate::reading::{Found, next_line};
+use crate::reading::{Found, Lines, count_fault, next_line};
 use khe_base::Text;
 use khe_io::{Cut, Sink, flush};
 use std::alloc::Global;
@@ -44,36 +44,40 @@ pub trait Talker {
 /// the last one where that is not empty; lines are numbered from 1.
 ///
 /// After `Ok` the sink took what all lines are answered that the reader had. Each answer is given to the sink before
-/// the next line is read. The errors are that a line could not be read, or that 2^64 - 1 lines were (`ReadFault`);
-/// that the sink refused a call (`WriteFault`), and then it counted a fault; and want of memory (`NoMemory`). After an
-/// error the sink took some first bytes of what the lines are answered, and with any other answer than `WriteFault`
-/// it counted no fault. It takes the time of the answers, and the memory of the longest line and of
-/// the longest answer.
+/// the next line is read. The errors are that a line could not be read, or that 2^64 - 1 lines were (`ReadFault`), and
+/// then a fault of the lines is counted; that the sink refused a call (`WriteFault`), and then it counted a fault; and
+/// want of memory (`NoMemory`). After an error the sink took some first bytes of what the lines are answered. With any
+/// other answer than `WriteFault` it counted no fault, and with any other than `ReadFault` none of the lines is
+/// counted. It takes the time of the answers, and the memory of the longest line and of the longest answer.
 pub fn talk<T: Talker, R: BufRead, K: Sink>(
     alloc: Global,
     talker: &mut T,
-    reader: &mut R,
+    lines: &mut Lines<R>,
     out: &mut K,
 ) -> Result<(), TalkFault>
-    ensures whole { OnOk result (IsTalked (R.remaining reader.old) (K.taken out.old) (K.taken out.new) (T.said talker.old 1)) }
-    ensures front { OnErr result (IsCutOff (R.remaining reader.old) (K.taken out.old) (K.taken out.new) (T.said talker.old 1)) }
+    ensures whole { OnOk result (IsTalked (R.remaining lines.old.reader) (K.taken out.old) (K.taken out.new) (T.said talker.old 1)) }
+    ensures front { OnErr result (IsCutOff (R.remaining lines.old.reader) (K.taken out.old) (K.taken out.new) (T.said talker.old 1)) }
     ensures fault { IsErrOf result TalkFault.WriteFault → Rose (K.faults out.old) (K.faults out.new) }
     ensures faultless { OnOk result (K.faults out.new ≡ K.faults out.old) }
     ensures faultless_unread { IsErrOf result TalkFault.ReadFault → K.faults out.new ≡ K.faults out.old }
     ensures faultless_starved { IsErrOf result TalkFault.NoMemory → K.faults out.new ≡ K.faults out.old }
     ensures counted { K.faults out.old ≤ K.faults out.new }
+    ensures unread { IsErrOf result TalkFault.ReadFault → Rose lines.old.faults lines.new.faults }
+    ensures read { OnOk result (lines.new.faults ≡ lines.old.faults) }
+    ensures read_unwritten { IsErrOf result TalkFault.WriteFault → lines.new.faults ≡ lines.old.faults }
+    ensures read_starved { IsErrOf result TalkFault.NoMemory → lines.new.faults ≡ lines.old.faults }
 {
     let mut line = Vec::new(alloc);
     let mut number: u64 = 0;
     while number < u64::MAX {
         number += 1;
-        match next_line(reader, &mut line)? {
+        match next_line(lines, &mut line)? {
             Found::Line => answer(alloc, talker, line.as_slice(), number, out)?,
             Found::Last => return Ok(answer(alloc, talker, line.as_slice(), number, out)?),
             Found::End => return Ok(()),
         }
     }
-    Err(TalkFault::ReadFault)
+    Err(count_fault(&mut lines.faults))
 }
 
 /// Answers a line, and gives the answer to the sink.

@@ -188,14 +188,15 @@ fn match_few<F: Family, L: Ledger>(
 /// which the tasks have no resources but this one. Where the timetable with the whole choice costs less than before,
 /// it becomes that one; else it stays as it was.
 ///
-/// `TooManyTasks` comes exactly where more than 200 tasks run then, with their number, and `NoMemory` only where
-/// memory was refused. After either the timetable is as it was. No mark is open before, and none is after. It takes
-/// memory for the table of costs, 32 bytes for each task and resource, for one row of it more, for the numbers of all
-/// Prefer Resources and Avoid Split Assignments monitors, and for 400 records. It takes time in proportion to the task
-/// slots and the monitors, for each task to those two kinds of monitors, and to the table, for each pair with the
-/// Prefer Resources monitors at the task's place; and what asking for the totals after an edit takes, once for each
-/// task, and for each resource once for all tasks that are alike. These run at the same times, are worth the same and
-/// are in no group with an Avoid Split Assignments monitor; any other task is alike to none.
+/// `TooManyTasks` comes exactly where more than 200 tasks run then, with their number; else the only error
+/// is `NoMemory`, where memory was refused. After either the timetable is as it was. No mark is open before, and
+/// none is after. No clause bounds its memory or its time: it takes memory for the table of costs, 32 bytes for each
+/// task and resource, for one row of it more, for what the choice is looked for with, for the numbers of all Prefer
+/// Resources and Avoid Split Assignments monitors, and for 400 records. It takes time in proportion to the task slots
+/// and the monitors, for each task to those two kinds of monitors, and to the table, for each pair with the Prefer
+/// Resources monitors at the task's place; and what asking for the totals after an edit takes, once for each task, and
+/// for each resource once for all tasks that are alike. These run at the same times, are worth the same and are in no
+/// group with an Avoid Split Assignments monitor; any other task is alike to none.
 pub fn match_at<F: Family, L: Ledger>(
     alloc: Global,
     engine: &mut Engine<'_, F>,

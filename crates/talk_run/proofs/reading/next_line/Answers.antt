@@ -4,7 +4,7 @@ use Rattle.talk_run.proofs.reading.next_line.Goals as goal
 
 pub returns-in-Ok-clause-found : goal.returns-in-Ok-clause-found
 returns-in-Ok-clause-found g c =
-    let left = g.R.Read.remaining c.args.reader.now in
+    let left = g.R.Read.remaining c.args.lines.now.reader in
     let left2 = g.R.Read.remaining c.read_until.new.self in
     let old = c.clear.new.self.items in
     let bytes = c.read_until.new.buf.items in
